@@ -1,0 +1,4 @@
+pub mod Bag
+pub mod Given
+pub mod Order
+pub mod Pair

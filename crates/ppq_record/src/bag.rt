@@ -1,0 +1,23 @@
+//! Bags of records and their fronts.
+ghost use Rattle.std.specs.Prelude.{◌≡◌, OnOk};
+ghost use Rattle.ppq_record.specs.Bag.{ascending, HasOneFront};
+
+use crate::{Record, record_laws};
+
+/// The law of fronts, as a clause for the proof of whoever calls it: each bag has exactly one front
+/// of each size, and bags in which each record stands as often are the same bag. It does nothing.
+#[inline]
+pub fn one_front<R: Record>()
+    ensures { HasOneFront R.Ord.cmp }
+{
+    record_laws::<R>();
+}
+
+/// Puts records into ascending order in place. It takes about `n log n` comparisons and no memory;
+/// std's unstable sort serves, since equal records are identical.
+pub fn sort<R: Record>(records: &mut [R])
+    ensures { records.new ≡ ascending R.Ord.cmp records.old }
+{
+    record_laws::<R>();
+    records.sort_unstable();
+}

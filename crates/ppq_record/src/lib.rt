@@ -1,0 +1,18 @@
+//! Records of a fixed width, their order, and bags and fronts of records.
+//!
+//! A record is a small value with bytes and a total order. A bag is a list of records of which
+//! only the counts matter; its front of size `k` is the one ascending list of its least `k`
+//! records. Everything that the queue promises is said in these words.
+#![tactic(auto)]
+
+mod bag;
+mod bytes;
+mod memory;
+mod pair;
+mod record;
+
+pub use bag::{one_front, sort};
+pub use bytes::{put_all, take_at, taken_back};
+pub use memory::Memory;
+pub use pair::Pair;
+pub use record::{Record, record_laws};

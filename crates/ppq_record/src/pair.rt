@@ -1,0 +1,56 @@
+//! The record of this project: a key and a value, each of eight bytes, the highest byte first.
+ghost use Rattle.std.specs.Prelude.{◌≡◌, ◌≤◌, ◌<◌, List, ℕ, length, refl};
+ghost use Rattle.std.proofs.Common.{lit≤};
+ghost use Rattle.ppq_record.specs.Pair.{IsPairValue, pair_bytes, pair_of, pair_take_put, pair_put_take, pair_same};
+
+use crate::Record;
+
+/// A key and a value. The key decides the order, then the value; so the order of pairs is the order of
+/// their 16 bytes.
+#[derive(Clone, Copy, Debug, PartialEq, Eq, PartialOrd, Ord)]
+pub struct Pair {
+    pub key: u64,
+    pub value: u64,
+}
+
+impl Record for Pair {
+    const WIDTH: usize = 16;
+
+    ghost WIDTH = { 16 };
+
+    ghost is_value = { IsPairValue };
+
+    ghost bytes_of = { pair_bytes };
+
+    ghost record_of = { pair_of };
+
+    fn put(&self, into: &mut [u8]) {
+        into[..8].copy_from_slice(&self.key.to_be_bytes());
+        into[8..].copy_from_slice(&self.value.to_be_bytes());
+    }
+
+    fn take(from: &[u8]) -> Self {
+        let key = u64::from_be_bytes([
+            from[0], from[1], from[2], from[3], from[4], from[5], from[6], from[7],
+        ]);
+        let value = u64::from_be_bytes([
+            from[8], from[9], from[10], from[11], from[12], from[13], from[14], from[15],
+        ]);
+        Pair { key, value }
+    }
+
+    fn known(&self) {
+        let _key = self.key;
+        let _value = self.value;
+    }
+
+    ghost bytes_length = { λ p. refl };
+
+    ghost take_put = { pair_take_put };
+
+    ghost put_take = { pair_put_take };
+
+    ghost same = { pair_same };
+
+    ghost width = { (lit≤ tt, lit≤ tt) };
+}
