@@ -1,0 +1,16 @@
+//! Scripts: lines of commands, and the first line that is bad.
+//!
+//! A script is bytes. Its lines are cut at line feeds; each line is a command or bad. The whole
+//! script is read before anything runs, so a bad line costs nothing but its report.
+#![tactic(auto)]
+
+mod command;
+mod digits;
+mod numbered;
+mod reader;
+mod script;
+
+pub use command::Command;
+pub use numbered::Numbered;
+pub use reader::read;
+pub use script::Script;
