@@ -1,0 +1,72 @@
+-- What a library and a sink tell, and the counts of their faults.
+use Rattle.std.specs.Prelude.{◌≡◌, ℕ, ◌+◌, ◌-◌, ◌^◌, ◌≤◌, List, [], ◌++◌, length, take, drop, min, Option, Some, None, Result, OnErr, IsErrOf, IfSome, IsSome, OnOk}
+use Rattle.ppq_outside.specs.declared.fault.OutsideFault.{OutsideFault}
+use Rattle.ppq_outside.specs.declared.fault.OutsideFault.TheVariants.{Failed}
+
+-- the count went up, or stands at its last value
+abbrev pub Rose : ℕ → ℕ → Type 0
+Rose before now = min (before + 1) (2 ^ 64 - 1) ≤ now
+
+-- the count did not fall, and rose where the call failed
+pub record HasCause {T : Type 0} (before now : ℕ) (result : Result T OutsideFault) : Type 0 where
+  pub later : before ≤ now
+  pub failed : IsErrOf result Failed → Rose before now
+
+-- the same for a call with one error
+pub record HasOneCause {T E : Type 0} (before now : ℕ) (result : Result T E) : Type 0 where
+  pub later : before ≤ now
+  pub failed : OnErr result (Rose before now)
+
+-- the length that a map from names to bytes gives
+abbrev pub length_of : Option (List ℕ) → Option ℕ
+length_of None = None
+length_of (Some bytes) = Some (length bytes)
+
+-- the bytes that it gives, none for an absent name
+abbrev pub bytes_or_none : Option (List ℕ) → List ℕ
+bytes_or_none None = []
+bytes_or_none (Some bytes) = bytes
+
+-- where the library tells, the length is that of the file
+abbrev pub TellsLength : Option (List ℕ → Option (List ℕ)) → List ℕ → Option ℕ → Type 0
+TellsLength told name size = IfSome told (λ files. size ≡ length_of (files name))
+
+-- the first count bytes of into are those of the file from a place on, and none only at its end or for an empty into
+pub record ReadsAt (bytes : List ℕ) (at : ℕ) (into : List ℕ) (count : ℕ) : Type 0 where
+  pub bytes_are : take count into ≡ take count (drop at bytes)
+  pub in_file : count ≤ length bytes - at
+  pub end : count ≡ 0 → min (length into) (length bytes - at) ≡ 0
+
+abbrev pub TellsBytes : Option (List ℕ → Option (List ℕ)) → List ℕ → ℕ → List ℕ → ℕ → Type 0
+TellsBytes told name at into count = IfSome told (λ files. ReadsAt (bytes_or_none (files name)) at into count)
+
+-- where the sink tells, it took the whole piece
+abbrev pub TakesAll : Option (List ℕ) → Option (List ℕ) → List ℕ → Type 0
+TakesAll None new piece = new ≡ None
+TakesAll (Some had) new piece = new ≡ Some (had ++ piece)
+
+-- where the sink tells, it took the first bytes of the piece
+abbrev pub TakesPart : Option (List ℕ) → Option (List ℕ) → List ℕ → Type 0
+TakesPart None new piece = new ≡ None
+TakesPart (Some had) new piece = (n : ℕ) × (n ≤ length piece) × (new ≡ Some (had ++ take n piece))
+
+-- the count went up by one where the call answered Ok, and stands still at its type's end
+pub record Counts {T E : Type 0} (result : Result T E) (before now : ℕ) : Type 0 where
+  pub ok : OnOk result (now ≡ min (before + 1) (2 ^ 64 - 1))
+  pub err : OnErr result (now ≡ before)
+
+-- where the slot tells, these are its bytes afterwards
+abbrev pub Keeps : Option (List ℕ) → Option (List ℕ) → List ℕ → Type 0
+Keeps None new bytes = new ≡ None
+Keeps (Some had) new bytes = new ≡ Some bytes
+
+-- a slot that tells goes on telling, whatever a call answers
+abbrev pub StillTells : Option (List ℕ) → Option (List ℕ) → Type 0
+StillTells None new = new ≡ None
+StillTells (Some had) new = IsSome new
+
+-- no call was made yet
+pub record IsFresh (faults writes reads : ℕ) : Type 0 where
+  pub no_fault : faults ≡ 0
+  pub no_write : writes ≡ 0
+  pub no_read : reads ≡ 0

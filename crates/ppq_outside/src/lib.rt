@@ -1,0 +1,30 @@
+//! The traits of the outside, and their implementations in memory.
+//!
+//! A device is blocks of equal size (`Slot`) that a `Rack` makes. Files are read through a
+//! `Library`, output goes to a `Sink`, and workers pass a `Gate`. The contracts of these traits
+//! have two kinds of clauses. Counts are kept whatever happens, and an answer `Failed` always
+//! raises one. What a call does to bytes is said only where the implementation tells: those in
+//! memory (`MemSlot`, `MemRack`, `MemLibrary`, `MemSink`) tell, and those over real files do not.
+#![tactic(auto)]
+
+mod fault;
+mod gate;
+mod host;
+mod library;
+mod memory_library;
+mod memory_rack;
+mod memory_sink;
+mod rack;
+mod sink;
+mod slot;
+
+pub use fault::{Failed, Memory, OutsideFault};
+pub use gate::{Gate, OpenGate};
+pub use host::Host;
+pub use library::Library;
+pub use memory_library::MemLibrary;
+pub use memory_rack::{MemRack, MemSlot};
+pub use memory_sink::MemSink;
+pub use rack::Rack;
+pub use sink::Sink;
+pub use slot::Slot;

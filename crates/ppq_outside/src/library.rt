@@ -1,0 +1,51 @@
+//! Named files that are read.
+ghost use Rattle.std.specs.Prelude.{◌≡◌, ◌≤◌, List, ℕ, Option, length, IfOk};
+ghost use Rattle.ppq_outside.specs.Told.{HasCause, TellsLength, TellsBytes};
+
+use crate::{Host, OutsideFault};
+use std::alloc::Global;
+
+/// Reads named files.
+///
+/// A library that tells is a map from names to bytes, and no call changes it. One that does not
+/// tell says nothing of what its calls give.
+pub trait Library {
+    /// Where it tells, the bytes of each name, and none for the name of no file.
+    ghost told: { Self → Option (List ℕ → Option (List ℕ)) };
+
+    /// How many calls failed.
+    ghost faults: { Self → ℕ };
+
+    /// How many calls failed. It stands still at its last value, 2^64 - 1.
+    fn faults(&self) -> u64
+        ensures { result ≡ faults self.now };
+
+    /// The length of a file in bytes, or `None` where there is no such file. `Failed` comes only
+    /// where the count of faults rose.
+    fn length<H: Host>(
+        &mut self,
+        rt: &H,
+        alloc: Global,
+        name: &str,
+    ) -> Result<Option<u64>, OutsideFault>
+        ensures length { IfOk result (λ size. TellsLength (told self.old) name.now size) }
+        ensures kept { told self.new ≡ told self.old }
+        ensures cause { HasCause (faults self.old) (faults self.new) result };
+
+    /// Puts bytes of a file from place `at` on over the first bytes of `into`, and gives their
+    /// number. It may give fewer than `into` has room for, but gives 0 only at or past the end of
+    /// the file, where there is no such file, or where `into` is empty. `Failed` comes only where
+    /// the count of faults rose, and nothing is then known of `into`.
+    fn read_at<H: Host>(
+        &mut self,
+        rt: &H,
+        alloc: Global,
+        name: &str,
+        at: u64,
+        into: &mut [u8],
+    ) -> Result<usize, OutsideFault>
+        ensures bound { IfOk result (λ count. count ≤ length into.new) }
+        ensures bytes { IfOk result (λ count. TellsBytes (told self.old) name.now at into.new count) }
+        ensures kept { told self.new ≡ told self.old }
+        ensures cause { HasCause (faults self.old) (faults self.new) result };
+}

@@ -1,0 +1,38 @@
+//! Who makes the blocks of a device.
+ghost use Rattle.std.specs.Prelude.{◌≡◌, ℕ, IfOk, IsSome};
+ghost use Rattle.ppq_outside.specs.Told.{HasCause, IsFresh};
+
+use crate::{Host, OutsideFault, Slot};
+use std::alloc::Global;
+
+/// Makes the blocks of a device.
+pub trait Rack {
+    type Slot: Slot;
+
+    /// Whether every slot that it makes tells its bytes.
+    ghost tells: { Self → Type 0 };
+
+    /// How many calls failed.
+    ghost faults: { Self → ℕ };
+
+    /// How many calls failed. It stands still at its last value, 2^64 - 1.
+    fn faults(&self) -> u64
+        ensures { result ≡ faults self.now };
+
+    /// A block of the device with this number and of so many bytes. `Failed` comes only where the
+    /// count of faults rose.
+    fn block<H: Host>(
+        &mut self,
+        rt: &H,
+        alloc: Global,
+        device: &str,
+        number: u32,
+        bytes: usize,
+    ) -> Result<Self::Slot, OutsideFault>
+        ensures number { IfOk result (λ slot. Self.Slot.number slot ≡ number) }
+        ensures size { IfOk result (λ slot. Self.Slot.size slot ≡ bytes) }
+        ensures fresh { IfOk result (λ slot. IsFresh (Self.Slot.faults slot) (Self.Slot.writes slot) (Self.Slot.reads slot)) }
+        ensures tells { IfOk result (λ slot. tells self.old → IsSome (Self.Slot.told slot)) }
+        ensures kept { tells self.old → tells self.new }
+        ensures cause { HasCause (faults self.old) (faults self.new) result };
+}
