@@ -1,0 +1,5 @@
+pub mod Buffers
+pub mod Places
+pub mod Runs
+pub mod Slots
+pub mod Trade

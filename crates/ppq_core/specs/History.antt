@@ -42,6 +42,13 @@ module _ {R : Type 0} where
   pushed_by q (Draw p s ∷ h) = pushed_by q h
   pushed_by q (Store p s ∷ h) = pushed_by q h
 
+  abbrev pub IsPush : Event R → Type 0
+  IsPush (Push p x) = Unit {0}
+  IsPush (Take p b) = ⊥
+  IsPush (Give p b) = ⊥
+  IsPush (Draw p s) = ⊥
+  IsPush (Store p s) = ⊥
+
   -- the event is legal after the history, for so many buffers, slots and passes
   abbrev pub MayCome : ℕ → ℕ → ℕ → Event R → List (Event R) → Type 0
   MayCome buffers slots passes (Take p b) h = (p < passes) × (b < buffers) × (buffer_at b h ≡ Free)

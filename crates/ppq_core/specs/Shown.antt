@@ -1,5 +1,5 @@
 -- A table of places, and the histories that it shows.
-use Rattle.std.specs.Prelude.{◌≡◌, ℕ, ◌<◌, List, [], ◌∷◌, length, slice_index_or}
+use Rattle.std.specs.Prelude.{◌≡◌, ℕ, ◌<◌, Bool, true, false, List, [], ◌∷◌, length, slice_index_or}
 use Rattle.ppq_core.specs.declared.place.Place.{Place}
 use Rattle.ppq_core.specs.declared.place.Place.TheVariants.{Free}
 use Rattle.ppq_core.specs.declared.event.Event.{Event}
@@ -32,3 +32,10 @@ module _ {R : Type 0} where
   -- as many buffers, slots and passes
   abbrev pub IsSameSize : Table R → Table R → Type 0
   IsSameSize old new = (length new.buffers ≡ length old.buffers) × (length new.slots ≡ length old.slots) × (length new.pushed ≡ length old.pushed)
+
+  -- where it was done the event was added, and else nothing changed and the event may not follow
+  pub record IsStep (old : Table R) (e : Event R) (done : Bool) (new : Table R) : Type 0 where
+    pub size : IsSameSize old new
+    pub added : done ≡ true → Adds old e new
+    pub unchanged : done ≡ false → new ≡ old
+    pub refused : done ≡ false → (h : List (Event R)) → Shows old h → ¬ (MayFollow old e h)

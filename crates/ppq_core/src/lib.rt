@@ -11,8 +11,15 @@
 
 mod event;
 mod fault;
+mod laws;
 mod place;
+mod pushed;
+mod state;
+#[cfg(test)]
+mod tests;
 
 pub use event::Event;
 pub use fault::StepFault;
+pub use laws::{buffer_laws, order_laws, run_laws, slot_laws};
 pub use place::Place;
+pub use state::State;

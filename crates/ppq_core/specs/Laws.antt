@@ -1,0 +1,98 @@
+-- Laws over every list of events.
+use Rattle.std.specs.Prelude.{◌≡◌, ◌<◌, ◌⊎◌, ◌↔◌, ℕ, List, [], ◌∷◌, ◌++◌}
+use Rattle.ppq_core.specs.declared.event.Event.{Event}
+use Rattle.ppq_core.specs.declared.event.Event.TheVariants.{Take, Give, Draw, Push, Store}
+use Rattle.ppq_core.specs.History.{buffer_at, slot_at, draws, pushed_by, IsLegal}
+use Rattle.ppq_core.specs.Shown.{Table, Shows, Adds}
+
+module _ {R : Type 0} where
+  -- the event is among the events
+  abbrev pub Among : Event R → List (Event R) → Type 0
+  Among e [] = ⊥
+  Among e (x ∷ h) = (x ≡ e) ⊎ Among e h
+
+  -- the pass of an event
+  abbrev pub pass_of : Event R → ℕ
+  pass_of (Take p b) = p
+  pass_of (Give p b) = p
+  pass_of (Draw p s) = p
+  pass_of (Push p x) = p
+  pass_of (Store p s) = p
+
+  abbrev pub IsDraw : Event R → Type 0
+  IsDraw (Take p b) = ⊥
+  IsDraw (Give p b) = ⊥
+  IsDraw (Draw p s) = Unit {0}
+  IsDraw (Push p x) = ⊥
+  IsDraw (Store p s) = ⊥
+
+  -- the event takes or gives the buffer
+  abbrev pub Names : ℕ → Event R → Type 0
+  Names b (Take p c) = c ≡ b
+  Names b (Give p c) = c ≡ b
+  Names b (Draw p s) = ⊥
+  Names b (Push p x) = ⊥
+  Names b (Store p s) = ⊥
+
+  -- two neighbours may change their order: of different passes, not two Draws, not at one buffer
+  pub record MayTrade (e f : Event R) : Type 0 where
+    pub other_pass : ¬ (pass_of e ≡ pass_of f)
+    pub not_both_draw : ¬ (IsDraw e × IsDraw f)
+    pub other_buffer : (b : ℕ) → Names b e → ¬ (Names b f)
+
+  -- the histories end in the same places, with the same items of each pass
+  pub record EndsAs (g h : List (Event R)) : Type 0 where
+    pub buffers : (i : ℕ) → buffer_at i g ≡ buffer_at i h
+    pub slots : (i : ℕ) → slot_at i g ≡ slot_at i h
+    pub pushed : (p : ℕ) → pushed_by p g ≡ pushed_by p h
+    pub drawn : draws g ≡ draws h
+
+  -- each step of the way from the table `start` to the table `end` added one event of the history
+  abbrev pub IsRun : Table R → List (Event R) → Table R → Type 0
+  IsRun start [] end = end ≡ start
+  IsRun start (e ∷ h) end = (before : Table R) × IsRun start h before × Adds before e end
+
+-- between two Takes of one buffer stands a Give of it by the pass of the first
+abbrev pub HasGiveBetween : Type 0 → Type 0
+HasGiveBetween R =
+    (buffers slots passes b p q : ℕ) (later between before : List (Event R))
+    → IsLegal buffers slots passes (later ++ Take q b ∷ between ++ Take p b ∷ before)
+    → Among (Give p b) between
+
+-- the slots that were drawn are those with the numbers below the count of Draws
+abbrev pub DrawsInOrder : Type 0 → Type 0
+DrawsInOrder R =
+    (buffers slots passes s : ℕ) (h : List (Event R))
+    → IsLegal buffers slots passes h
+    → ((p : ℕ) × Among (Draw p s) h) ↔ (s < draws h)
+
+-- no slot is drawn twice
+abbrev pub DrawsOnce : Type 0 → Type 0
+DrawsOnce R =
+    (buffers slots passes s p q : ℕ) (later between before : List (Event R))
+    → ¬ (IsLegal buffers slots passes (later ++ Draw q s ∷ between ++ Draw p s ∷ before))
+
+-- no slot is stored twice
+abbrev pub StoresOnce : Type 0 → Type 0
+StoresOnce R =
+    (buffers slots passes s p q : ℕ) (later between before : List (Event R))
+    → ¬ (IsLegal buffers slots passes (later ++ Store q s ∷ between ++ Store p s ∷ before))
+
+-- a slot is stored after it was drawn, and by the pass that drew it
+abbrev pub StoresItsDraw : Type 0 → Type 0
+StoresItsDraw R =
+    (buffers slots passes s p : ℕ) (later before : List (Event R))
+    → IsLegal buffers slots passes (later ++ Store p s ∷ before)
+    → Among (Draw p s) before
+
+-- with two neighbours exchanged that may trade, a history is legal too and ends in the same places
+abbrev pub NeighboursTrade : Type 0 → Type 0
+NeighboursTrade R =
+    (buffers slots passes : ℕ) (e f : Event R) (later before : List (Event R))
+    → IsLegal buffers slots passes (later ++ f ∷ e ∷ before)
+    → MayTrade e f
+    → IsLegal buffers slots passes (later ++ e ∷ f ∷ before) × EndsAs (later ++ f ∷ e ∷ before) (later ++ e ∷ f ∷ before)
+
+-- a run from a fresh table shows its own history: its places, and each pass's own items
+abbrev pub RunsShowTheirHistory : Type 0 → Type 0
+RunsShowTheirHistory R = (start end : Table R) (h : List (Event R)) → Shows start [] → IsRun start h end → Shows end h

@@ -1,0 +1,34 @@
+//! Laws over every list of events, each the contract of a call that does nothing and costs nothing.
+ghost use Rattle.ppq_core.specs.Laws.{HasGiveBetween, DrawsInOrder, DrawsOnce, StoresOnce, StoresItsDraw, NeighboursTrade, RunsShowTheirHistory};
+
+use ppq_record::Record;
+
+/// A buffer is given back, by the pass that took it, before it is taken again.
+#[inline]
+pub fn buffer_laws<R: Record>()
+    ensures { HasGiveBetween R }
+{}
+
+/// Slots are drawn in the order of their numbers, each at most once, and stored at most once, by the
+/// pass that drew them.
+#[inline]
+pub fn slot_laws<R: Record>()
+    ensures in_order { DrawsInOrder R }
+    ensures drawn_once { DrawsOnce R }
+    ensures stored_once { StoresOnce R }
+    ensures stored_after { StoresItsDraw R }
+{}
+
+/// Neighbours of different passes may change their order, unless both draw or both are at one buffer.
+/// So the schedules of a session differ by the order of the draws and the order at each buffer alone.
+#[inline]
+pub fn order_laws<R: Record>()
+    ensures { NeighboursTrade R }
+{}
+
+/// A run of steps that all answered Ok, from a new state, ends in the places of its history, and each
+/// pass has the items that it pushed, in order, and no other.
+#[inline]
+pub fn run_laws<R: Record>()
+    ensures { RunsShowTheirHistory R }
+{}
