@@ -1,0 +1,39 @@
+//! How a run ends.
+
+/// How a run of a script ends. Each end but `Memory` has a cause that the caller can see.
+#[derive(Clone, Copy, Debug, PartialEq, Eq)]
+pub enum End {
+    /// The whole script was run, and all its output was taken.
+    Done,
+    /// The script's first bad line.
+    BadLine { line: u32 },
+    /// The words of the command line have no reading.
+    Usage,
+    /// The library failed.
+    ReadFault,
+    /// The sink failed.
+    WriteFault,
+    /// The block with this number failed.
+    DeviceFault { number: u32 },
+    /// A run of records found no free block.
+    NoFreeBlock,
+    /// The budget is below its fixed part, which is `need` records.
+    BudgetTooSmall { need: u64 },
+    /// Memory was wanting.
+    Memory,
+    /// A file ended at `got`, before the length that it had, which was `said`, both in bytes.
+    FileChanged { line: u32, said: u64, got: u64 },
+    /// The device could not be made.
+    NoDevice,
+    /// The library has no script of that name.
+    NoScript,
+    /// The script is longer than 1,048,576 bytes.
+    ScriptTooLong,
+}
+
+/// How a run ended, and the blocks that it made, each once.
+#[derive(Drop)]
+pub struct Ended<S> {
+    pub end: End,
+    pub blocks: Vec<S>,
+}
