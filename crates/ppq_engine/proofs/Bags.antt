@@ -1,16 +1,16 @@
 -- A bag in an ascending vector, and what commands make of equal bags.
-use Rattle.std.proofs.Common.{◌≡◌, ℕ, zero, suc, ◌+◌, ◌<◌, ◌≤◌, Bool, true, false, cond, List, [], ◌∷◌, ◌++◌, length, take, drop, get_or, Option, Some, None, refl, sym, ap, ap₂, ◌∙◌, subst, arith, Ordering}
-use Rattle.std.specs.Prelude.{insert, count_by, MatchOption, IfNone}
+use Rattle.std.proofs.Common.{◌≡◌, ℕ, zero, suc, ◌<◌, ◌≤◌, Bool, true, false, List, [], ◌∷◌, length, take, drop, get_or, Option, Some, None, refl, sym, ap, ◌∙◌, subst, arith, Ordering}
+use Rattle.std.specs.Prelude.{insert, MatchOption, IfNone}
 use Rattle.std.specs.Cmp.{IsTotalOrder}
 use Rattle.std.proofs.lemmas.Cmp.{then_total, on_total, nat_cmp_total}
 use Rattle.std.specs.declared.cmp.Ordering.TheVariants.{Equal}
 use Rattle.ppq_record.specs.declared.pair.Pair.{Pair}
-use Rattle.ppq_record.specs.Pair.{pair_cmp, pair_same}
-use Rattle.ppq_record.specs.Order.{is_before, Ascends, put_in_order, in_order}
-use Rattle.ppq_record.specs.Bag.{IsSameBag, front, without_front, least, first_of, ascending}
+use Rattle.ppq_record.specs.Pair.{pair_cmp}
+use Rattle.ppq_record.specs.Order.{is_before, Ascends, put_in_order}
+use Rattle.ppq_record.specs.Bag.{IsSameBag, without_front, least, first_of, ascending}
 use Rattle.ppq_record.proofs.Order.{IsSameBag-length, in_order-same_bag}
 use Rattle.std.proofs.lemmas.List.{length-drop}
-use Rattle.ppq_record.proofs.Fronts.{ranks, ascending_is, ascending-same_bag}
+use Rattle.ppq_record.proofs.Fronts.{ranks, ascending_is}
 
 -- the place of the first item that is not before y is where y is put in order
 pub put_at :

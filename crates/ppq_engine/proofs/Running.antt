@@ -1,11 +1,11 @@
 -- What a run has written, what it has gathered, and what is still to come.
-use Rattle.std.proofs.Common.{◌≡◌, ℕ, ◌+◌, ◌<◌, ◌≤◌, List, [], ◌∷◌, ◌++◌, length, take, drop, get_or, Option, Some, refl, sym, ap, ap₂, ◌∙◌, subst, append_assoc, append-nil, add-one, suc, drop-cons}
+use Rattle.std.proofs.Common.{◌≡◌, ℕ, ◌+◌, ◌<◌, ◌≤◌, List, [], ◌∷◌, ◌++◌, length, take, drop, Option, Some, refl, sym, ap, ap₂, ◌∙◌, subst, append_assoc, append-nil, add-one, suc, drop-cons}
 use Rattle.std.specs.Prelude.{slice_get, Result, Ok, Err, OnOk}
 use Rattle.std.proofs.lemmas.List.{drop_all}
 use Rattle.std.proofs.lemmas.Option.{get_or_from_slice_get}
 use Rattle.ppq_record.specs.declared.pair.Pair.{Pair}
-use Rattle.ppq_record.specs.Pair.{pair_cmp, pair_same}
-use Rattle.ppq_record.specs.Bag.{IsSameBag, front, without_front}
+use Rattle.ppq_record.specs.Pair.{pair_same}
+use Rattle.ppq_record.specs.Bag.{IsSameBag}
 use Rattle.ppq_record.proofs.Order.{IsSameBag-cons}
 use Rattle.ppq_record.proofs.Fronts.{ascending-same_bag}
 use Rattle.ppq_outside.specs.Told.{TakesAll, TakesPart}
@@ -14,7 +14,6 @@ use Rattle.ppq_script.specs.declared.command.Command.{Command}
 use Rattle.ppq_script.specs.declared.command.Command.TheVariants.{Push, Pop}
 use Rattle.ppq_engine.specs.Output.{pop_text, text_of, after, output_from, Gathers}
 use Rattle.ppq_engine.proofs.Bags.{pair_total}
-
 
 -- equal bags print the same, and stay equal
 pub output-same_bag : (one other : List Pair) (commands : List Command) → IsSameBag one other → output_from one commands ≡ output_from other commands

@@ -1,7 +1,7 @@
-use Rattle.std.proofs.Common.{◌≡◌, ◌≤◌, ◌<◌, length, arith, map, drop, OnOk, ap, ◌∙◌}
+use Rattle.std.proofs.Common.{length, arith, drop, ap, ◌∙◌}
 use Rattle.std.proofs.lemmas.List.{length-map}
 use Rattle.ppq_script.specs.Reading.{command_list}
-use Rattle.ppq_engine.proofs.Running.{IsRunning, run-begin-at, run-step-at, run-failed, run-done-ok}
+use Rattle.ppq_engine.proofs.Running.{run-begin-at, run-step-at, run-failed, run-done-ok}
 use Rattle.ppq_engine.proofs.run.run_commands.Goals as goal
 
 pub loop-i-init : goal.loop-i-init

@@ -1,4 +1,4 @@
-use Rattle.std.proofs.Common.{◌≤◌, ◌+◌, ◌∷◌, length, arith}
+use Rattle.std.proofs.Common.{◌∷◌, arith}
 use Rattle.ppq_record.proofs.Order.{IsSameBag-length}
 use Rattle.ppq_engine.proofs.Bags.{length-without_front}
 use Rattle.ppq_engine.proofs.run.step.Goals as goal

@@ -1,4 +1,4 @@
-use Rattle.std.proofs.Common.{◌≡◌, ◌∙◌, List, ap, subst, arith}
+use Rattle.std.proofs.Common.{◌∙◌, ap, arith}
 use Rattle.std.specs.Prelude.{count_by}
 use Rattle.ppq_record.specs.Bag.{least, without_front}
 use Rattle.ppq_engine.proofs.Bags.{first-least, first-rest, first-ascends}

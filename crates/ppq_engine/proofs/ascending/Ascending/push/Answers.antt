@@ -1,4 +1,4 @@
-use Rattle.std.proofs.Common.{◌≡◌, ◌∙◌, ◌∷◌, List, ap, sym, subst, arith}
+use Rattle.std.proofs.Common.{◌∙◌, ◌∷◌, ap, sym, subst, arith}
 use Rattle.std.specs.Prelude.{count_by}
 use Rattle.ppq_record.specs.Order.{is_before, Ascends}
 use Rattle.ppq_record.proofs.Order.{Rising-put, count_by-put, count_by-cons}
