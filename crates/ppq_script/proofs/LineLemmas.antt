@@ -1,8 +1,10 @@
 -- Lemmas on lines.
-use Rattle.std.proofs.Common.{◌≡◌, ℕ, ◌+◌, ◌<◌, ◌≤◌, List, [], ◌∷◌, length, take, drop, Some, None, Bool, true, false, cond, not, ◌==◌, nat_lt, position, refl, ap, arith, suc, sym}
+use Rattle.std.proofs.Common.{◌≡◌, ℕ, ◌+◌, ◌<◌, ◌≤◌, List, [], ◌∷◌, ◌++◌, length, take, drop, Some, None, Bool, true, false, cond, not, ◌==◌, nat_lt, position, refl, ap, arith, suc, sym}
 use Rattle.std.specs.List.{prefix_len}
 use Rattle.std.proofs.lemmas.Bool.Decides.{nat_tests}
+use Rattle.std.proofs.lemmas.Bool.{ne_eqb}
 use Rattle.ppq_script.specs.Lines.{lines_of, onto}
+use Rattle.ppq_script.specs.Meaning.{IsOneLine}
 
 -- how many bytes stand before the first line feed
 abbrev front_len : List ℕ → ℕ
@@ -48,3 +50,18 @@ lines-at bytes i e =
 pub lines-last : (bytes : List ℕ) → 0 < length bytes → position (λ b. b == 10) bytes ≡ None → lines_of bytes ≡ bytes ∷ []
 lines-last [] h e = absurd (omega arith)
 lines-last (b ∷ bs) h e = cut-none b bs (no_place (front_len (b ∷ bs)) (length (b ∷ bs)) (nat_lt (front_len (b ∷ bs)) (length (b ∷ bs))) refl e)
+
+-- a line feed ends the first line
+pub lines_of-first : (line rest : List ℕ) → IsOneLine line → lines_of (line ++ 10 ∷ rest) ≡ line ∷ lines_of rest
+lines_of-first [] rest h = refl
+lines_of-first (b ∷ bs) rest h =
+    let other : (b == 10) ≡ false = ne_eqb b 10 h.0 in
+    rw other (ap (onto b) (lines_of-first bs rest h.1))
+
+-- the last line may lack its line feed
+pub lines_of-last : (line : List ℕ) → IsOneLine line → 1 ≤ length line → lines_of line ≡ line ∷ []
+lines_of-last [] h some = absurd (omega arith)
+lines_of-last (b ∷ []) h some = rw (ne_eqb b 10 h.0) refl
+lines_of-last (b ∷ x ∷ xs) h some =
+    let other : (b == 10) ≡ false = ne_eqb b 10 h.0 in
+    rw other (ap (onto b) (lines_of-last (x ∷ xs) h.1 (omega arith)))

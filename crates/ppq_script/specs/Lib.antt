@@ -1,4 +1,5 @@
 pub mod Command
 pub mod Lines
+pub mod Meaning
 pub mod Number
 pub mod Reading

@@ -6,11 +6,13 @@
 
 mod command;
 mod digits;
+mod laws;
 mod numbered;
 mod reader;
 mod script;
 
 pub use command::Command;
+pub use laws::lines_mean;
 pub use numbered::Numbered;
 pub use reader::read;
 pub use script::Script;
