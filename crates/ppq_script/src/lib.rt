@@ -10,6 +10,8 @@ mod laws;
 mod numbered;
 mod reader;
 mod script;
+#[cfg(test)]
+mod tests;
 
 pub use command::Command;
 pub use laws::lines_mean;

@@ -24,7 +24,7 @@ impl Script {
     ghost use Rattle.ppq_script.specs.Reading.{command_list, line_list};
 
     /// A script of these parts.
-    pub fn from_parts(commands: Vec<Numbered>, bad: Option<u32>, workers: u32) -> Script
+    pub(crate) fn from_parts(commands: Vec<Numbered>, bad: Option<u32>, workers: u32) -> Script
         ensures commands { result.commands ≡ commands.items }
         ensures bad { result.bad ≡ bad }
         ensures workers { result.workers ≡ workers }
