@@ -1,12 +1,12 @@
 -- Lemmas on the first bad line and the commands before it, the first line numbered m.
-use Rattle.std.proofs.Common.{◌≡◌, ℕ, zero, suc, ◌+◌, ◌-◌, ◌<◌, ◌≤◌, ◌⊎◌, inl, inr, List, [], ◌∷◌, length, get_or, Option, Some, None, MatchOption, refl, sym, ap, ◌∙◌, subst, arith}
+use Rattle.std.proofs.Common.{◌≡◌, ℕ, zero, suc, ◌+◌, ◌-◌, ◌<◌, ◌≤◌, inl, inr, List, [], ◌∷◌, length, get_or, Option, Some, None, MatchOption, refl, sym, ap, subst, arith}
 use Rattle.std.specs.List.{AllByRecursion as Each}
 use Rattle.std.proofs.lemmas.Bool.{cases_eq}
 use Rattle.ppq_script.specs.declared.command.Command.{Command}
 use Rattle.ppq_script.specs.declared.numbered.Numbered.{Numbered}
 use Rattle.ppq_script.specs.Command.{command_of}
 use Rattle.ppq_script.specs.Lines.{numbered_of, first_bad, before_bad, bad_or}
-use Rattle.ppq_script.specs.Meaning.{Reads, IsGood, IsBad, IsFirstBad, AreCommands, line_at}
+use Rattle.ppq_script.specs.Meaning.{Reads, IsGood, IsBad, IsFirstBad, AreCommands}
 use Rattle.ppq_script.proofs.Spelling.{Reads-command_of, command_of-Reads}
 
 pub IsBad-None : (line : List ℕ) → command_of line ≡ None → IsBad line
@@ -31,7 +31,7 @@ bad_first m n l ls e same = record {
   from = omega arith;
   there = omega arith;
   bad = subst IsBad (sym (at_first m n l ls same)) (IsBad-None l e);
-  before = λ k low high. absurd (omega (arith, same, low, high))
+  before = λ k low high. absurd (omega (arith, same, low, high));
 }
 
 bad_later : (m n : ℕ) (l : List ℕ) (ls : List (List ℕ)) → IsGood l → FirstBadFrom (m + 1) ls n → FirstBadFrom m (l ∷ ls) n
@@ -42,7 +42,7 @@ bad_later m n l ls good h = record {
   before = λ k low high. elim (cases_eq m k) as (λ _. IsGood (get_or (l ∷ ls) (k - m) [])) [
     | inl e ↦ subst IsGood (sym (at_first m k l ls e)) good
     | inr e ↦ (let above : m + 1 ≤ k = omega (arith, e, low) in subst IsGood (sym (shifted m k l ls above)) (h.before k above high))
-  ]
+  ];
 }
 
 is_first_bad : (m : ℕ) (lines : List (List ℕ)) (n : ℕ) → first_bad m lines ≡ Some n → FirstBadFrom m lines n
@@ -65,11 +65,11 @@ first_bad_is m (l ∷ ls) n h = by_command (command_of l) refl (λ (k : FirstBad
     by_command (Some c) is rest = elim (cases_eq m n) as (λ _. first_bad (m + 1) ls ≡ Some n) [
       | inl e ↦ absurd (subst IsBad (at_first m n l ls e) h.bad c (Reads-command_of l c is))
       | inr e ↦ (let above : m + 1 ≤ n = omega (arith, e, h.from) in rest (record {
-          from = above;
-          there = omega (arith, h.there);
-          bad = subst IsBad (shifted m n l ls above) h.bad;
-          before = λ k low high. subst IsGood (shifted m k l ls low) (h.before k (omega (arith, low)) high)
-        }))
+        from = above;
+        there = omega (arith, h.there);
+        bad = subst IsBad (shifted m n l ls above) h.bad;
+        before = λ k low high. subst IsGood (shifted m k l ls low) (h.before k (omega (arith, low)) high);
+      }))
     ]
 
 pub IsFirstBad-first_bad : (lines : List (List ℕ)) (n : ℕ) → first_bad 1 lines ≡ Some n → IsFirstBad lines n
@@ -113,14 +113,14 @@ commands_by : (m : ℕ) (l : List ℕ) (ls : List (List ℕ)) (o : Option Comman
 commands_by m l ls None cs is rest = record {
   all = rw is (omega arith);
   number = λ i d below. absurd (omega (arith, below));
-  command = λ i d below. absurd (omega (arith, below))
+  command = λ i d below. absurd (omega (arith, below));
 }
 commands_by m l ls (Some c) cs is rest =
     let more = commands_more m l ls c cs (Reads-command_of l c is) rest in
     record {
       all = rw is (one_more (first_bad (m + 1) ls) (length cs) (length ls) m rest.all);
       number = λ i d below. (more i d below).0;
-      command = λ i d below. (more i d below).1
+      command = λ i d below. (more i d below).1;
     }
 
 commands_from : (m : ℕ) (lines : List (List ℕ)) → CommandsFrom m lines (numbered_of m lines)
@@ -133,5 +133,5 @@ AreCommands-numbered_of lines =
     record {
       all = h.all;
       number = h.number;
-      command = λ i d below. subst (λ (k : ℕ). Reads (get_or lines k []) (get_or (numbered_of 1 lines) i d).command) (let e : i ≡ i + 1 - 1 = omega arith in e) (h.command i d below)
+      command = λ i d below. subst (λ (k : ℕ). Reads (get_or lines k []) (get_or (numbered_of 1 lines) i d).command) (let e : i ≡ i + 1 - 1 = omega arith in e) (h.command i d below);
     }

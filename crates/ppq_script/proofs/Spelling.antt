@@ -1,5 +1,5 @@
 -- Lemmas on numbers and commands as they are spelled.
-use Rattle.std.proofs.Common.{◌≡◌, ◌≢◌, ℕ, ◌+◌, ◌*◌, ◌-◌, ◌<◌, ◌≤◌, ◌^◌, ◌↔◌, List, [], ◌∷◌, ◌++◌, length, get_or, take, drop, Option, Some, None, Bool, true, false, cond, not, ◌&&◌, ◌==◌, nat_eq, nat_lt, nat_le, refl, sym, ap, ap₂, ◌∙◌, subst, arith, suc, add-one, codes, position, bytes_eq, append_assoc, length-append}
+use Rattle.std.proofs.Common.{◌≡◌, ℕ, ◌+◌, ◌*◌, ◌-◌, ◌<◌, ◌^◌, List, [], ◌∷◌, ◌++◌, length, get_or, take, drop, Option, Some, None, Bool, true, false, cond, not, ◌&&◌, ◌==◌, nat_eq, nat_lt, nat_le, refl, sym, ap, ap₂, ◌∙◌, subst, arith, codes, position, bytes_eq, append_assoc, length-append}
 use Rattle.std.specs.List.{list_all, prefix_len, starts_with, AllByRecursion as Each}
 use Rattle.std.specs.Char.{is_ascii_digit}
 use Rattle.std.proofs.lemmas.Bool.{and_parts, and_from, leb-true, le-leb, lt-ltb, ltb-true, ne_eqb, eqb-true}
@@ -7,7 +7,6 @@ use Rattle.std.proofs.lemmas.Bool.Decides.{Decides-eqb}
 use Rattle.std.proofs.lemmas.List.{take_at, drop_at, take-append-drop, drop_more}
 use Rattle.std.proofs.lemmas.List.Quantifiers.{position-Some}
 use Rattle.std.proofs.lemmas.Slice.Eq.{bytes_eq-Decides, starts_is}
-use Rattle.ppq_record.specs.declared.pair.Pair.{Pair}
 use Rattle.ppq_script.specs.declared.command.Command.{Command}
 use Rattle.ppq_script.specs.declared.command.Command.TheVariants.{Push, Pop}
 use Rattle.ppq_script.specs.Number.{value_from, number_of}
@@ -43,7 +42,7 @@ Spells-number_of digits n e =
       some = leb-true 1 (length digits) parts.2;
       few = leb-true (length digits) 20 parts.3;
       value = parts.4;
-      fits = subst (λ (v : ℕ). v < 2 ^ 64) parts.4 below
+      fits = subst (λ (v : ℕ). v < 2 ^ 64) parts.4 below;
     }
 
 pub number_of-Spells : (digits : List ℕ) (n : ℕ) → Spells digits n → number_of digits ≡ Some n
@@ -88,13 +87,13 @@ Reads-fields line text None c s p e = cc
 Reads-fields line text (Some i) c s p e =
     let parts = push_parts (number_of (take i text)) (number_of (drop (i + 1) text)) c e in
     let spelled : line ≡ codes "push " ++ take i text ++ codes " " ++ drop (i + 1) text =
-        s ∙ ap (λ (z : List ℕ). codes "push " ++ z) (at_space text i p) ∙ sym (four_texts (codes "push ") (take i text) (codes " ") (drop (i + 1) text)) in
+    s ∙ ap (λ (z : List ℕ). codes "push " ++ z) (at_space text i p) ∙ sym (four_texts (codes "push ") (take i text) (codes " ") (drop (i + 1) text)) in
     let push : IsPush line (record { key = parts.0; value = parts.1 }) = record {
       key = take i text;
       value = drop (i + 1) text;
       spelled = spelled;
       spells_key = Spells-number_of (take i text) parts.0 parts.2;
-      spells_value = Spells-number_of (drop (i + 1) text) parts.1 parts.3
+      spells_value = Spells-number_of (drop (i + 1) text) parts.1 parts.3;
     } in
     subst (λ (d : Command). Reads line d) parts.4 push
 
@@ -116,8 +115,8 @@ command_of-Reads line (Push item) h =
     let front : take (length h.key) text ≡ h.key = take_at h.key (32 ∷ h.value) (length h.key) refl in
     let one : length (h.key ++ 32 ∷ []) ≡ length h.key + 1 = length-append h.key (32 ∷ []) in
     let back : drop (length h.key + 1) text ≡ h.value =
-        ap (drop (length h.key + 1)) (sym (append_assoc h.key (32 ∷ []) h.value)) ∙ drop_at (h.key ++ 32 ∷ []) h.value (length h.key + 1) one in
+    ap (drop (length h.key + 1)) (sym (append_assoc h.key (32 ∷ []) h.value)) ∙ drop_at (h.key ++ 32 ∷ []) h.value (length h.key + 1) one in
     let fields : fields_of text (Some (length h.key)) ≡ Some (Push item) =
-        ap₂ push_of (ap number_of front ∙ number_of-Spells h.key item.key h.spells_key) (ap number_of back ∙ number_of-Spells h.value item.value h.spells_value) in
+    ap₂ push_of (ap number_of front ∙ number_of-Spells h.key item.key h.spells_key) (ap number_of back ∙ number_of-Spells h.value item.value h.spells_value) in
     ap command_of (h.spelled ∙ four_texts (codes "push ") h.key (codes " ") h.value) ∙ (ap (fields_of text) (position-space h.key h.value h.spells_key.all_digits) ∙ fields)
 command_of-Reads line Pop h = ap command_of h

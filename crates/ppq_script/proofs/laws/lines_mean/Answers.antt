@@ -15,5 +15,5 @@ returns c = record {
   last_line = lines_of-last;
   bad = λ lines n. (IsFirstBad-first_bad lines n, first_bad-IsFirstBad lines n);
   none_bad = λ lines. (all_good 1 lines, first_bad-all_good 1 lines);
-  commands = AreCommands-numbered_of
+  commands = AreCommands-numbered_of;
 }
