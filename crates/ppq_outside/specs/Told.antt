@@ -3,9 +3,13 @@ use Rattle.std.specs.Prelude.{◌≡◌, ℕ, ◌+◌, ◌-◌, ◌^◌, ◌≤�
 use Rattle.ppq_outside.specs.declared.fault.OutsideFault.{OutsideFault}
 use Rattle.ppq_outside.specs.declared.fault.OutsideFault.TheVariants.{Failed}
 
+-- a count that goes up by one, and stands still at its last value
+abbrev pub next_count : ℕ → ℕ
+next_count before = min (before + 1) (2 ^ 64 - 1)
+
 -- the count went up, or stands at its last value
 abbrev pub Rose : ℕ → ℕ → Type 0
-Rose before now = min (before + 1) (2 ^ 64 - 1) ≤ now
+Rose before now = next_count before ≤ now
 
 -- the count did not fall, and rose where the call failed
 pub record HasCause {T : Type 0} (before now : ℕ) (result : Result T OutsideFault) : Type 0 where
@@ -52,7 +56,7 @@ TakesPart (Some had) new piece = (n : ℕ) × (n ≤ length piece) × (new ≡ S
 
 -- the count went up by one where the call answered Ok, and stands still at its type's end
 pub record Counts {T E : Type 0} (result : Result T E) (before now : ℕ) : Type 0 where
-  pub ok : OnOk result (now ≡ min (before + 1) (2 ^ 64 - 1))
+  pub ok : OnOk result (now ≡ next_count before)
   pub err : OnErr result (now ≡ before)
 
 -- where the slot tells, these are its bytes afterwards

@@ -14,6 +14,7 @@ mod library;
 mod memory_library;
 mod memory_rack;
 mod memory_sink;
+mod memory_slot;
 mod rack;
 mod sink;
 mod slot;
@@ -23,8 +24,12 @@ pub use gate::{Gate, OpenGate};
 pub use host::Host;
 pub use library::Library;
 pub use memory_library::MemLibrary;
-pub use memory_rack::{MemRack, MemSlot};
+pub use memory_rack::MemRack;
 pub use memory_sink::MemSink;
+pub use memory_slot::MemSlot;
 pub use rack::Rack;
 pub use sink::Sink;
 pub use slot::Slot;
+
+#[cfg(test)]
+mod tests;

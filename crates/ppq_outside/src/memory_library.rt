@@ -1,45 +1,63 @@
 //! A library in memory.
-ghost use Rattle.std.specs.Prelude.{◌≡◌, ◌≤◌, ◌<◌, List, ℕ, Option, Some, None, length, IfOk, OnOk, OnErr, IsTrue, if◌then◌else◌, bytes_eq};
-ghost use Rattle.ppq_outside.specs.Told.{Rose, ReadsAt};
+ghost use Rattle.std.specs.Prelude.{◌≡◌, ◌≤◌, ◌<◌, ◌∷◌, ◌++◌, [], List, ℕ, Option, Some, None, length, IfOk, OnOk, OnErr, IsTrue, min, ◌-◌, if◌then◌else◌, bytes_eq};
+ghost use Rattle.ppq_outside.specs.Told.{Rose, ReadsAt, HasCause, TellsLength, TellsBytes, length_of};
+ghost use Rattle.ppq_outside.specs.MemoryLibrary.{lookup};
+ghost use Rattle.ppq_outside.specs.Entries.{files_of, Finds};
 
 use crate::{Host, Library, Memory, OutsideFault};
 use std::alloc::Global;
+use std::marker::Model;
 
+/// A name and its bytes.
 #[derive(Drop)]
-pub struct Entry {
-    pub name: String,
-    pub bytes: Vec<u8>,
+struct Entry {
+    name: String,
+    bytes: Vec<u8>,
 }
 
+/// Named files in memory. It tells.
+///
+/// Its calls `length` and `read_at` are numbered together from 1. A call fails exactly where that
+/// was planned by `fail_call`, and takes no memory.
 #[derive(Drop)]
 pub struct MemLibrary {
+    /// The latest entry of a name stands first.
     entries: Vec<Entry>,
-    failing: Vec<u64>,
+    /// The numbers of the calls that are to fail.
+    plan: Vec<u64>,
     calls: u64,
     faults: u64,
 }
 
-impl MemLibrary {
-    ghost use Rattle.ppq_outside.specs.Memory.{lookup, Finds};
+impl Model for MemLibrary {
+    ghost use Rattle.ppq_outside.specs.MemoryLibrary.{LibraryState};
 
-    /// An empty library.
+    ghost Value = { LibraryState };
+
+    ghost use Rattle.ppq_outside.specs.Entries.{files_of};
+
+    ghost view = { λ m. record { files = files_of m.entries.items; plan = m.plan.items; calls = m.calls; faults = m.faults } };
+}
+
+impl MemLibrary {
+    ghost use Rattle.ppq_outside.specs.MemoryLibrary.{empty_library, fails_next, after_call};
+
+    /// A library with no file, of which no call is planned to fail.
     pub fn new(alloc: Global) -> Self
-        ensures empty { (name : List ℕ) → lookup result.entries.items name ≡ None }
-        ensures faults { result.faults ≡ 0 }
+        ensures { result ≡ empty_library }
     {
         MemLibrary {
             entries: Vec::new(alloc),
-            failing: Vec::new(alloc),
+            plan: Vec::new(alloc),
             calls: 0,
             faults: 0,
         }
     }
 
-    /// Gives a name these bytes.
+    /// Gives a name these bytes, also where it has others. It costs a move of every entry.
     pub fn add(&mut self, alloc: Global, name: &str, bytes: &[u8]) -> Result<(), Memory>
-        ensures ok { OnOk result ((n : List ℕ) → lookup self.new.entries.items n ≡ (if bytes_eq name.now n then Some bytes.now else lookup self.old.entries.items n)) }
-        ensures faults { self.new.faults ≡ self.old.faults }
-        ensures err { OnErr result (self.new.entries.items ≡ self.old.entries.items) }
+        ensures ok { OnOk result (self.new ≡ record self.old { files = (name.now, bytes.now) ∷ self.old.files }) }
+        ensures err { OnErr result (self.new ≡ self.old) }
     {
         let entry = Entry {
             name: name.to_string(alloc)?,
@@ -48,44 +66,46 @@ impl MemLibrary {
         Ok(self.entries.insert(0, entry)?)
     }
 
-    /// The call with this number, from 1, fails.
+    /// Plans that the call with this number, from 1, fails.
     pub fn fail_call(&mut self, number: u64) -> Result<(), Memory>
-        ensures entries { self.new.entries ≡ self.old.entries }
-        ensures faults { self.new.faults ≡ self.old.faults }
+        ensures ok { OnOk result (self.new ≡ record self.old { plan = self.old.plan ++ number ∷ [] }) }
+        ensures err { OnErr result (self.new ≡ self.old) }
     {
-        Ok(self.failing.push(number)?)
+        Ok(self.plan.push(number)?)
     }
 
     /// Counts a call, and says whether it is to fail.
     fn fails(&mut self) -> bool
-        ensures entries { self.new.entries ≡ self.old.entries }
+        ensures answer { result ≡ fails_next self.old }
+        ensures after { self.new ≡ after_call self.old }
         ensures later { self.old.faults ≤ self.new.faults }
         ensures rose { IsTrue result → Rose self.old.faults self.new.faults }
     {
         self.calls = self.calls.saturating_add(1);
-        let fails = self.failing.as_slice().contains(&self.calls);
+        let fails = self.plan.as_slice().contains(&self.calls);
         if fails {
             self.faults = self.faults.saturating_add(1);
         }
         fails
     }
+}
 
-    /// The bytes of a name.
-    fn find(&self, name: &str) -> Option<&[u8]>
-        ensures { Finds (lookup self.now.entries.items name.now) result }
-    {
-        for entry in &self.entries {
-            if entry.name.as_str() == name {
-                return Some(&entry.bytes);
-            }
+/// The bytes of a name. It looks at the entries one after the other.
+fn find<'a>(entries: &'a [Entry], name: &str) -> Option<&'a [u8]>
+    ensures { Finds (lookup (files_of entries.now) name.now) result }
+{
+    for entry in entries {
+        if entry.name.as_str() == name {
+            return Some(&entry.bytes);
         }
-        None
     }
+    None
 }
 
 /// Copies what stands from a place on.
 fn copy_from(bytes: &[u8], at: u64, into: &mut [u8]) -> usize
-    ensures { ReadsAt bytes.now at into.new result }
+    ensures count { result ≡ min (length into.new) (length bytes.now - at) }
+    ensures bytes { ReadsAt bytes.now at into.new result }
 {
     if at >= bytes.len() as u64 {
         return 0;
@@ -97,9 +117,9 @@ fn copy_from(bytes: &[u8], at: u64, into: &mut [u8]) -> usize
 }
 
 impl Library for MemLibrary {
-    ghost use Rattle.ppq_outside.specs.Memory.{lookup};
+    ghost use Rattle.ppq_outside.specs.MemoryLibrary.{lookup, answer, after_call, count_at};
 
-    ghost told = { λ m. Some (lookup m.entries.items) };
+    ghost told = { λ m. Some (lookup m.files) };
 
     ghost faults = { λ m. m.faults };
 
@@ -107,21 +127,28 @@ impl Library for MemLibrary {
         self.faults
     }
 
+    /// Takes no memory, and fails exactly where that was planned.
     fn length<H: Host>(
         &mut self,
         _rt: &H,
         _alloc: Global,
         name: &str,
-    ) -> Result<Option<u64>, OutsideFault> {
+    ) -> Result<Option<u64>, OutsideFault>
+        ensures answer { result ≡ answer self.old (length_of (lookup self.old.files name.now)) }
+        ensures after { self.new ≡ after_call self.old }
+        ensures cause { HasCause self.old.faults self.new.faults result }
+    {
         if self.fails() {
             return Err(OutsideFault::Failed);
         }
-        match self.find(name) {
+        match find(&self.entries, name) {
             None => Ok(None),
             Some(bytes) => Ok(Some(bytes.len() as u64)),
         }
     }
 
+    /// Takes no memory, fails exactly where that was planned, and gives as many bytes as there are
+    /// and `into` has room for.
     fn read_at<H: Host>(
         &mut self,
         _rt: &H,
@@ -129,11 +156,16 @@ impl Library for MemLibrary {
         name: &str,
         at: u64,
         into: &mut [u8],
-    ) -> Result<usize, OutsideFault> {
+    ) -> Result<usize, OutsideFault>
+        ensures answer { result ≡ answer self.old (count_at (lookup self.old.files name.now) at into.new) }
+        ensures bytes { IfOk result (λ count. TellsBytes (Some (lookup self.old.files)) name.now at into.new count) }
+        ensures after { self.new ≡ after_call self.old }
+        ensures cause { HasCause self.old.faults self.new.faults result }
+    {
         if self.fails() {
             return Err(OutsideFault::Failed);
         }
-        match self.find(name) {
+        match find(&self.entries, name) {
             None => Ok(0),
             Some(bytes) => Ok(copy_from(bytes, at, into)),
         }

@@ -1,73 +1,30 @@
 //! A device in memory.
-ghost use Rattle.std.specs.Prelude.{◌≡◌, Some, length};
+ghost use Rattle.std.specs.Prelude.{◌≡◌, ◌≤◌, ◌+◌, List, ℕ, Option, Some, length, replicate, IfOk, OnOk, IsOk, IsErrOf, is_ok};
+ghost use Rattle.ppq_outside.specs.Told.{next_count, HasCause, HasOneCause, Counts, Keeps, StillTells, IsFresh};
 
-use crate::{Failed, Host, OutsideFault, Rack, Slot};
+use crate::{Host, MemSlot, OutsideFault, Rack};
 use std::alloc::Global;
+use std::marker::Model;
 
-/// A block in memory.
-#[derive(Drop)]
-pub struct MemSlot {
-    number: u32,
-    bytes: Vec<u8>,
-    writes: u64,
-    reads: u64,
-}
-
-impl Slot for MemSlot {
-    ghost told = { λ s. Some s.bytes.items };
-
-    ghost number = { λ s. s.number };
-
-    ghost size = { λ s. length s.bytes.items };
-
-    ghost faults = { λ s. 0 };
-
-    ghost writes = { λ s. s.writes };
-
-    ghost reads = { λ s. s.reads };
-
-    fn number(&self) -> u32 {
-        self.number
-    }
-
-    fn size(&self) -> usize {
-        self.bytes.len()
-    }
-
-    fn faults(&self) -> u64 {
-        0
-    }
-
-    fn writes(&self) -> u64 {
-        self.writes
-    }
-
-    fn reads(&self) -> u64 {
-        self.reads
-    }
-
-    fn write<H: Host>(&mut self, _rt: &H, bytes: &[u8]) -> Result<(), Failed> {
-        self.bytes.as_mut_slice().copy_from_slice(bytes);
-        self.writes = self.writes.saturating_add(1);
-        Ok(())
-    }
-
-    fn read<H: Host>(&mut self, _rt: &H, into: &mut [u8]) -> Result<(), Failed> {
-        into.copy_from_slice(&self.bytes);
-        self.reads = self.reads.saturating_add(1);
-        Ok(())
-    }
-}
-
-/// A device in memory.
+/// A device in memory. Its slots tell, and it fails never.
 #[derive(Drop)]
 pub struct MemRack {
     faults: u64,
 }
 
+impl Model for MemRack {
+    ghost use Rattle.ppq_outside.specs.MemoryDevice.{RackState};
+
+    ghost Value = { RackState };
+
+    ghost view = { λ r. record { faults = r.faults } };
+}
+
 impl MemRack {
-    /// A device that never fails.
-    pub fn new() -> Self {
+    /// A device that fails never.
+    pub fn new() -> Self
+        ensures { result.faults ≡ 0 }
+    {
         MemRack { faults: 0 }
     }
 }
@@ -83,6 +40,7 @@ impl Rack for MemRack {
         self.faults
     }
 
+    /// A slot that holds so many zeros. The only other answer is want of memory.
     fn block<H: Host>(
         &mut self,
         _rt: &H,
@@ -90,12 +48,11 @@ impl Rack for MemRack {
         _device: &str,
         number: u32,
         bytes: usize,
-    ) -> Result<MemSlot, OutsideFault> {
-        Ok(MemSlot {
-            number,
-            bytes: vec![in alloc; 0; bytes]?,
-            writes: 0,
-            reads: 0,
-        })
+    ) -> Result<MemSlot, OutsideFault>
+        ensures slot { IfOk result (λ slot. slot ≡ record { number = number; held = replicate bytes 0; writes = 0; reads = 0 }) }
+        ensures fails_never { IsErrOf result OutsideFault.Failed → ⊥ }
+        ensures same { self.new ≡ self.old }
+    {
+        Ok(MemSlot::zeros(alloc, number, bytes)?)
     }
 }

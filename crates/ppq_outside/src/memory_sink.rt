@@ -1,84 +1,117 @@
 //! A sink in memory.
-ghost use Rattle.std.specs.Prelude.{◌≡◌, ◌≤◌, ◌<◌, ◌+◌, List, [], ℕ, Option, Some, None, length, IfOk, OnOk, vec_len, vec_capacity};
+ghost use Rattle.std.specs.Prelude.{◌≡◌, ◌≤◌, ◌+◌, ◌-◌, List, [], ℕ, Option, Some, None, length, IfOk, OnOk, is_ok, vec_len, vec_capacity};
+ghost use Rattle.ppq_outside.specs.MemorySink.{at_most, limit_from};
 
 use crate::{Failed, Host, Memory, Sink};
 use std::alloc::Global;
+use std::marker::Model;
 
+/// A sink that keeps what it took in memory. It tells.
+///
+/// Its memory is taken when it is made, so that no put takes any. A put fails where that was
+/// planned, or where its piece is longer than the room that is left; no other put fails.
 #[derive(Drop)]
 pub struct MemSink {
     bytes: Vec<u8>,
+    /// How many bytes fit in all.
     room: usize,
-    failing: Vec<(u64, usize)>,
+    /// The puts that are to fail, numbered from 1, each with how many bytes it may take.
+    plan: Vec<(u64, usize)>,
     puts: u64,
     faults: u64,
-    ghost has_room: { room ≤ vec_capacity bytes },
-    ghost within: { vec_len bytes ≤ room },
+}
+
+impl Model for MemSink {
+    ghost use Rattle.std.specs.Prelude.{◌≤◌, vec_len, vec_capacity};
+    ghost use Rattle.ppq_outside.specs.MemorySink.{SinkState};
+
+    ghost Value = { SinkState };
+
+    ghost view = { λ s. record { taken = s.bytes.items; room = s.room; plan = s.plan.items; puts = s.puts; faults = s.faults } };
+
+    ghost invariant = { λ s. (vec_len s.bytes ≤ s.room) × (s.room ≤ vec_capacity s.bytes) };
 }
 
 impl MemSink {
-    /// An empty sink with memory for so many bytes.
+    ghost use Rattle.ppq_outside.specs.MemorySink.{fresh_sink};
+
+    /// An empty sink with room for so many bytes, of which no put is planned to fail.
     pub fn new(alloc: Global, room: usize) -> Result<MemSink, Memory>
-        ensures bytes { IfOk result (λ sink. sink.bytes.items ≡ []) }
-        ensures faults { IfOk result (λ sink. sink.faults ≡ 0) }
+        ensures { IfOk result (λ sink. sink ≡ fresh_sink room []) }
     {
-        Ok(MemSink {
-            bytes: Vec::with_capacity(alloc, room)?,
-            room,
-            failing: Vec::new(alloc),
-            puts: 0,
-            faults: 0,
-        })
+        MemSink::failing(alloc, room, Vec::new(alloc))
     }
 
-    /// The same, where some puts fail after so many bytes.
+    /// An empty sink with room for so many bytes. For each pair of `puts`, the put with that number,
+    /// from 1, takes at most so many bytes of its piece and fails.
     pub fn failing(alloc: Global, room: usize, puts: Vec<(u64, usize)>) -> Result<MemSink, Memory>
-        ensures bytes { IfOk result (λ sink. sink.bytes.items ≡ []) }
-        ensures faults { IfOk result (λ sink. sink.faults ≡ 0) }
+        ensures { IfOk result (λ sink. sink ≡ fresh_sink room puts.items) }
     {
         Ok(MemSink {
             bytes: Vec::with_capacity(alloc, room)?,
             room,
-            failing: puts,
+            plan: puts,
             puts: 0,
             faults: 0,
         })
     }
 
+    /// All bytes that it took.
+    #[inline]
     pub fn bytes(&self) -> &[u8]
-        ensures { result.now ≡ self.now.bytes.items }
+        ensures { result.now ≡ self.now.taken }
     {
         &self.bytes
     }
+}
 
-    /// How many bytes a put may append.
-    fn limit(&self, count: usize) -> usize
-        ensures piece { result ≤ count }
-        ensures room { result + vec_len self.now.bytes ≤ self.now.room }
-    {
-        let mut limit = count.min(self.room - self.bytes.len());
-        for (put, most) in &self.failing {
-            if *put == self.puts {
-                limit = limit.min(*most);
-            }
+/// How many bytes a plan leaves to a put, and `None` where it is not planned to fail.
+fn limit_of(plan: &[(u64, usize)], put: u64) -> Option<usize>
+    ensures { result ≡ limit_from None plan.now put }
+{
+    let mut limit = None;
+    for (planned, most) in plan {
+        if *planned == put {
+            limit = Some(no_more(limit, *most));
         }
-        limit
+    }
+    limit
+}
+
+/// No more than a limit, where there is one.
+fn no_more(limit: Option<usize>, count: usize) -> usize
+    ensures { result ≡ at_most limit count }
+{
+    match limit {
+        None => count,
+        Some(most) => most.min(count),
     }
 }
 
 impl Sink for MemSink {
-    ghost told = { λ m. Some m.bytes.items };
+    ghost use Rattle.ppq_outside.specs.MemorySink.{after_put, takes_whole};
+    ghost use Rattle.ppq_outside.specs.Told.{HasOneCause};
 
-    ghost faults = { λ m. m.faults };
+    ghost told = { λ s. Some s.taken };
+
+    ghost faults = { λ s. s.faults };
 
     fn faults(&self) -> u64 {
         self.faults
     }
 
-    fn put<H: Host>(&mut self, _rt: &H, bytes: &[u8]) -> Result<(), Failed> {
+    fn put<H: Host>(&mut self, _rt: &H, bytes: &[u8]) -> Result<(), Failed>
+        ensures ok { is_ok result ≡ takes_whole self.old bytes.now }
+        ensures after { self.new ≡ after_put self.old bytes.now }
+        ensures cause { HasOneCause self.old.faults self.new.faults result }
+    {
         self.puts = self.puts.saturating_add(1);
-        let count = self.limit(bytes.len());
-        let taken = self.bytes.extend_from_slice(&bytes[..count]);
-        if taken.is_ok() && count == bytes.len() {
+        let limit = limit_of(&self.plan, self.puts);
+        let fitting = bytes.len().min(self.room - self.bytes.len());
+        let taken = self
+            .bytes
+            .extend_from_slice(&bytes[..no_more(limit, fitting)]);
+        if taken.is_ok() && limit.is_none() && fitting == bytes.len() {
             return Ok(());
         }
         self.faults = self.faults.saturating_add(1);

@@ -1,0 +1,13 @@
+-- What contracts see of a block and of a rack in memory.
+use Rattle.std.specs.Prelude.{ℕ, List}
+
+-- a block in memory: its number, the bytes that it holds, and how many writes and reads answered Ok
+pub record SlotState : Type 0 where
+  pub number : ℕ
+  pub held : List ℕ
+  pub writes : ℕ
+  pub reads : ℕ
+
+-- a rack in memory: how many of its calls failed
+pub record RackState : Type 0 where
+  pub faults : ℕ

@@ -1,0 +1,44 @@
+-- What contracts see of a library in memory, and what its calls answer.
+use Rattle.std.specs.Prelude.{ℕ, ◌-◌, Bool, nat_eq, List, [], ◌∷◌, length, min, Option, Some, None, Result, Ok, Err, bytes_eq, if◌then◌else◌}
+use Rattle.std.specs.List.{list_any}
+use Rattle.ppq_outside.specs.Told.{next_count, bytes_or_none}
+use Rattle.ppq_outside.specs.declared.fault.OutsideFault.{OutsideFault}
+use Rattle.ppq_outside.specs.declared.fault.OutsideFault.TheVariants.{Failed}
+
+-- a library in memory: names with their bytes, of which the first entry of a name counts, the numbers of the calls that are to fail, how many calls were made, and how many failed
+pub record LibraryState : Type 0 where
+  pub files : List (List ℕ × List ℕ)
+  pub plan : List ℕ
+  pub calls : ℕ
+  pub faults : ℕ
+
+abbrev pub empty_library : LibraryState
+empty_library = record { files = []; plan = []; calls = 0; faults = 0 }
+
+-- the bytes of a name
+abbrev pub lookup : List (List ℕ × List ℕ) → List ℕ → Option (List ℕ)
+lookup [] name = None
+lookup (file ∷ files) name = if bytes_eq file.0 name then Some file.1 else lookup files name
+
+-- the call with this number is to fail
+abbrev pub fails_at : List ℕ → ℕ → Bool
+fails_at plan call = list_any (λ planned. nat_eq planned call) plan
+
+-- the next call fails
+abbrev pub fails_next : LibraryState → Bool
+fails_next library = fails_at library.plan (next_count library.calls)
+
+-- the library after a call
+abbrev pub after_call : LibraryState → LibraryState
+after_call library = record library {
+  calls = next_count library.calls;
+  faults = if fails_next library then next_count library.faults else library.faults;
+}
+
+-- what the next call answers, if it gives this where it does not fail
+abbrev pub answer : {T : Type 0} → LibraryState → T → Result T OutsideFault
+answer library given = if fails_next library then Err Failed else Ok given
+
+-- how many bytes a read from a place on gives
+abbrev pub count_at : Option (List ℕ) → ℕ → List ℕ → ℕ
+count_at file at into = min (length into) (length (bytes_or_none file) - at)

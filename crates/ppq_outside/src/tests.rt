@@ -1,0 +1,151 @@
+//! The implementations in memory, each public call at a concrete type and through its bound.
+ghost use Rattle.std.specs.Prelude.{◌≡◌, length};
+
+use super::*;
+use std::test::Fail;
+use std::thread::join_mut;
+
+/// Writes a slot, and says whether that went well.
+fn fill<H: Host, S: Slot>(rt: &H, slot: &mut S, bytes: &[u8]) -> bool
+    requires { length bytes.now ≡ S.size slot.old }
+{
+    slot.write(rt, bytes).is_ok()
+}
+
+/// Writes two slots, each in a thread of its own.
+fn fill_both<H: Host, S: Slot>(rt: &H, one: &mut S, other: &mut S, bytes: &[u8]) -> bool
+where
+    H::Dir: Send,
+    requires one { length bytes.now ≡ S.size one.old }
+    requires other { length bytes.now ≡ S.size other.old }
+{
+    let (a, b) = join_mut(
+        rt,
+        &mut || -> bool
+            requires { length bytes.now ≡ S.size one.now }
+        { fill(rt, one, bytes) },
+        &mut || -> bool
+            requires { length bytes.now ≡ S.size other.now }
+        { fill(rt, other, bytes) },
+    );
+    a & b
+}
+
+/// Puts two pieces, and says whether both were taken.
+fn put_both<H: Host, O: Sink>(rt: &H, out: &mut O, one: &[u8], other: &[u8]) -> (bool, bool) {
+    (out.put(rt, one).is_ok(), out.put(rt, other).is_ok())
+}
+
+#[test]
+fn two_slots_are_written_beside_each_other(rt: HostRuntime) -> Result<(), Fail> {
+    let alloc = rt.alloc();
+    let mut rack = MemRack::new();
+    let mut one = rack.block(&rt, alloc, "ppq.device", 0, 2)?;
+    let mut other = rack.block(&rt, alloc, "ppq.device", 1, 2)?;
+    assert_eq!(rt; one.size(), 2);
+    assert_eq!(rt; other.size(), 2);
+    assert!(rt; fill_both(&rt, &mut one, &mut other, &[5, 6]));
+    assert_eq!(rt; one.writes(), 1);
+    assert_eq!(rt; other.writes(), 1);
+    Ok(())
+}
+
+#[test]
+fn a_slot_is_zeros_until_it_is_written(rt: HostRuntime) -> Result<(), Fail> {
+    let alloc = rt.alloc();
+    let mut rack = MemRack::new();
+    let mut slot = rack.block(&rt, alloc, "ppq.device", 7, 3)?;
+    let mut into = [9; 3];
+    slot.read(&rt, &mut into)?;
+    assert_eq!(rt; into, [0; 3]);
+    slot.write(&rt, &[1, 2, 3])?;
+    slot.read(&rt, &mut into)?;
+    assert_eq!(rt; into, [1, 2, 3]);
+    assert_eq!(rt; (slot.number(), slot.size()), (7, 3));
+    assert_eq!(rt; (slot.faults(), slot.writes(), slot.reads()), (0, 1, 2));
+    assert_eq!(rt; rack.faults(), 0);
+    Ok(())
+}
+
+#[test]
+fn a_name_that_is_added_again_has_the_new_bytes(rt: HostRuntime) -> Result<(), Fail> {
+    let alloc = rt.alloc();
+    let mut library = MemLibrary::new(alloc);
+    library.add(alloc, "f", b"old")?;
+    library.add(alloc, "g", b"other")?;
+    library.add(alloc, "f", b"newer")?;
+    assert_eq!(rt; library.length(&rt, alloc, "f")?, Some(5));
+    assert_eq!(rt; library.length(&rt, alloc, "g")?, Some(5));
+    assert_eq!(rt; library.length(&rt, alloc, "h")?, None);
+    let mut into = [0; 4];
+    assert_eq!(rt; library.read_at(&rt, alloc, "f", 0, &mut into)?, 4);
+    assert_eq!(rt; into, *b"newe");
+    assert_eq!(rt; library.read_at(&rt, alloc, "f", 3, &mut into)?, 2);
+    assert_eq!(rt; into, *b"erwe");
+    for (name, at) in [("f", 5), ("f", u64::MAX), ("h", 0)] {
+        assert_eq!(rt; library.read_at(&rt, alloc, name, at, &mut into)?, 0);
+    }
+    assert_eq!(rt; library.faults(), 0);
+    Ok(())
+}
+
+#[test]
+fn calls_of_both_kinds_are_numbered_together(rt: HostRuntime) -> Result<(), Fail> {
+    let alloc = rt.alloc();
+    let mut library = MemLibrary::new(alloc);
+    library.add(alloc, "f", b"abc")?;
+    library.fail_call(1)?;
+    library.fail_call(3)?;
+    let mut into = [0; 3];
+    let failed = Err(OutsideFault::Failed);
+    assert_eq!(rt; library.length(&rt, alloc, "f"), failed);
+    assert_eq!(rt; library.length(&rt, alloc, "f"), Ok(Some(3)));
+    assert_eq!(rt;
+        library.read_at(&rt, alloc, "f", 0, &mut into).is_err(),
+        true
+    );
+    assert_eq!(rt; library.read_at(&rt, alloc, "f", 0, &mut into), Ok(3));
+    assert_eq!(rt; library.faults(), 2);
+    Ok(())
+}
+
+#[test]
+fn a_planned_put_takes_a_part_and_fails(rt: HostRuntime) -> Result<(), Fail> {
+    let alloc = rt.alloc();
+    let plan = vec![in alloc; (1, 3)]?;
+    let mut sink = MemSink::failing(alloc, 1_048_576, plan)?;
+    assert_eq!(rt;
+        put_both(&rt, &mut sink, b"empty\n", b"7 7\n"),
+        (false, true)
+    );
+    assert_eq!(rt; sink.bytes(), b"emp7 7\n".as_slice());
+    assert_eq!(rt; sink.faults(), 1);
+    Ok(())
+}
+
+#[test]
+fn a_planned_put_fails_though_its_piece_fits(rt: HostRuntime) -> Result<(), Fail> {
+    let alloc = rt.alloc();
+    let plan = vec![in alloc; (2, 9)]?;
+    let mut sink = MemSink::failing(alloc, 100, plan)?;
+    assert_eq!(rt; put_both(&rt, &mut sink, b"ab", b"cd"), (true, false));
+    assert_eq!(rt; sink.bytes(), b"abcd".as_slice());
+    Ok(())
+}
+
+#[test]
+fn a_piece_past_the_room_is_cut_and_fails(rt: HostRuntime) -> Result<(), Fail> {
+    let mut sink = MemSink::new(rt.alloc(), 4)?;
+    assert_eq!(rt; put_both(&rt, &mut sink, b"abc", b"def"), (true, false));
+    assert_eq!(rt; sink.bytes(), b"abcd".as_slice());
+    assert_eq!(rt; put_both(&rt, &mut sink, b"", b"e"), (true, false));
+    assert_eq!(rt; sink.faults(), 2);
+    Ok(())
+}
+
+#[test]
+fn every_worker_passes_an_open_gate() {
+    for worker in 0..64 {
+        OpenGate.enter(worker);
+    }
+}
