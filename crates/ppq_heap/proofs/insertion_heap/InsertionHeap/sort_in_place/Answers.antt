@@ -1,0 +1,25 @@
+use Rattle.std.proofs.Common.{◌≡◌, ◌++◌, take, drop, length, sym, subst, ◌∙◌, rules}
+use Rattle.std.proofs.lemmas.List.{take_at}
+use Rattle.ppq_record.specs.Order.{is_before, Rising}
+use Rattle.ppq_record.proofs.Order.{Rising-in_order}
+use Rattle.ppq_record.proofs.Fronts.{ranks}
+use Rattle.ppq_heap.specs.Heap.{IsMinHeap}
+use Rattle.ppq_heap.proofs.Heap.{heap_rising}
+use Rattle.ppq_heap.proofs.insertion_heap.InsertionHeap.sort_in_place.Goals as goal
+
+pub invariant_of-self : goal.invariant_of-self
+invariant_of-self g c =
+    let lt = is_before g.R.Ord.cmp in
+    let i = c.self.invariant in
+    let sorted = c.sort.new.records in
+    let long : length sorted ≡ c.self.inside.records.len = search rules in
+    let whole : take c.self.inside.records.len (sorted ++ drop (length sorted) c.self.inside.records.items) ≡ sorted = take_at sorted _ _ long in
+    (i.0, i.1, i.2, subst (IsMinHeap lt) (sym (whole ∙ c.sort.ensures)) (heap_rising lt _ (Rising-in_order lt (ranks c.record_laws.ensures.order) c.as_mut_slice.result.now)))
+
+pub returns-clause-ascends : goal.returns-clause-ascends
+returns-clause-ascends g c =
+    let lt = is_before g.R.Ord.cmp in
+    let sorted = c.sort.new.records in
+    let long : length sorted ≡ c.self.inside.records.len = search rules in
+    let whole : take c.self.inside.records.len (sorted ++ drop (length sorted) c.self.inside.records.items) ≡ sorted = take_at sorted _ _ long in
+    subst (Rising lt) (sym (whole ∙ c.sort.ensures)) (Rising-in_order lt (ranks c.record_laws.ensures.order) c.as_mut_slice.result.now)
