@@ -6,7 +6,8 @@ use Rattle.ppq_core.specs.declared.place.Place.TheVariants.{Held}
 use Rattle.ppq_core.specs.declared.event.Event.{Event}
 use Rattle.ppq_core.specs.declared.event.Event.TheVariants.{Take, Give, Draw, Push, Store}
 use Rattle.ppq_core.specs.History.{buffer_at, IsLegal}
-use Rattle.ppq_core.specs.Laws.{Among, HasGiveBetween}
+use Rattle.ppq_core.specs.Laws.{HasGiveBetween}
+use Rattle.ppq_core.proofs.Among.{Among, among_contains}
 use Rattle.ppq_core.proofs.Places.{free_not_held, held_same, hit, miss, legal_middle}
 
 module _ {R : Type 0} where
@@ -30,4 +31,4 @@ module _ {R : Type 0} where
 pub has_give_between : (R : Type 0) → HasGiveBetween R
 has_give_between R n d k b p q later between before legal =
     let l = legal_middle n d k later (Take q b ∷ between) (Take p b ∷ before) legal in
-    ⊎_elim (λ a. a) (λ (held : buffer_at b (between ++ Take p b ∷ before) ≡ Held p). absurd (free_not_held p (sym l.0.2 ∙ held))) (since n d k b p between before l.1)
+    ⊎_elim (among_contains (Give p b) between) (λ (held : buffer_at b (between ++ Take p b ∷ before) ≡ Held p). absurd (free_not_held p (sym l.0.2 ∙ held))) (since n d k b p between before l.1)

@@ -1,3 +1,4 @@
+pub mod Among
 pub mod Buffers
 pub mod Places
 pub mod Runs

@@ -1,5 +1,5 @@
 -- What one event does to a place, to a pass's items and to the count of draws; places told apart.
-use Rattle.std.proofs.Common.{◌≡◌, ◌≢◌, ℕ, ◌+◌, ◌≤◌, List, [], ◌∷◌, ◌++◌, refl, sym, ap, ◌∙◌, cond, eqb, eq-eqb, ne_eqb, arith}
+use Rattle.std.proofs.Common.{◌≡◌, ◌≢◌, ℕ, ◌+◌, List, [], ◌∷◌, ◌++◌, refl, ap, cond, eqb, eq-eqb, ne_eqb}
 use native.Mathlib.Decide.{ℕ_discrete}
 use Rattle.ppq_core.specs.declared.place.Place.{Place}
 use Rattle.ppq_core.specs.declared.place.Place.TheVariants.{Free, Held, Stored}

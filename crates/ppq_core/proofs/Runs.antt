@@ -1,8 +1,7 @@
 -- A run of steps shows its history.
-use Rattle.std.proofs.Common.{◌≡◌, List, [], ◌∷◌, sym, subst}
-use Rattle.ppq_core.specs.declared.event.Event.{Event}
+use Rattle.std.proofs.Common.{[], ◌∷◌, sym, subst}
 use Rattle.ppq_core.specs.Shown.{Table, Shows}
-use Rattle.ppq_core.specs.Laws.{IsRun, RunsShowTheirHistory}
+use Rattle.ppq_core.specs.Laws.{RunsShowTheirHistory}
 
 pub runs_show : (R : Type 0) → RunsShowTheirHistory R
 runs_show R start end [] fresh run = subst (λ (t : Table R). Shows t []) (sym run) fresh

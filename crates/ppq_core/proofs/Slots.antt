@@ -1,12 +1,13 @@
 -- Slots are drawn in order, each once, and stored once by who drew them.
-use Rattle.std.proofs.Common.{◌≡◌, ◌≢◌, ◌⊎◌, ◌↔◌, ℕ, ◌+◌, ◌<◌, ◌≤◌, List, [], ◌∷◌, ◌++◌, refl, sym, ap, ap₂, ◌∙◌, inl, inr, ⊎_elim, arith}
+use Rattle.std.proofs.Common.{◌≡◌, ℕ, ◌<◌, ◌≤◌, List, [], ◌∷◌, ◌++◌, refl, sym, ap, ap₂, ◌∙◌, inl, inr, ⊎_elim, arith}
 use mathlib.Core.Logic.{dite}
 use native.Mathlib.Decide.{ℕ_discrete}
 use Rattle.ppq_core.specs.declared.place.Place.TheVariants.{Free, Held, Stored}
 use Rattle.ppq_core.specs.declared.event.Event.{Event}
 use Rattle.ppq_core.specs.declared.event.Event.TheVariants.{Take, Give, Draw, Push, Store}
 use Rattle.ppq_core.specs.History.{slot_at, draws, IsLegal}
-use Rattle.ppq_core.specs.Laws.{Among, DrawsInOrder, DrawsOnce, StoresOnce, StoresItsDraw}
+use Rattle.ppq_core.specs.Laws.{DrawsInOrder, DrawsOnce, StoresOnce, StoresItsDraw}
+use Rattle.ppq_core.proofs.Among.{Among, among_contains, contains_among}
 use Rattle.ppq_core.proofs.Places.{free_not_held, free_not_stored, stored_not_held, held_same, hit, miss, legal_older, legal_middle}
 
 module _ {R : Type 0} where
@@ -78,7 +79,10 @@ module _ {R : Type 0} where
       (λ ne. let at = l.0.2 in let w = below_drawn n d k s h l.1 (omega arith) in (w.0, inr w.1))
 
 pub draws_in_order : (R : Type 0) → DrawsInOrder R
-draws_in_order R n d k s h l = ((λ w. drawn_below n d k s w.0 h l w.1), below_drawn n d k s h l)
+draws_in_order R n d k s h l = (
+  (λ w. drawn_below n d k s w.0 h l (contains_among (Draw w.0 s) h w.1)),
+  (λ lt. let w = below_drawn n d k s h l lt in (w.0, among_contains (Draw w.0 s) h w.1)),
+)
 
 pub draws_once : (R : Type 0) → DrawsOnce R
 draws_once R n d k s p q later between before legal =
@@ -95,4 +99,4 @@ stores_once R n d k s p q later between before legal =
 pub stores_its_draw : (R : Type 0) → StoresItsDraw R
 stores_its_draw R n d k s p later before legal =
     let l = legal_older n d k later (Store p s ∷ before) legal in
-    held_drawn p s before l.0.2
+    among_contains (Draw p s) before (held_drawn p s before l.0.2)

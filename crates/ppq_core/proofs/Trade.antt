@@ -3,12 +3,12 @@ use Rattle.std.proofs.Common.{◌≡◌, ◌≢◌, ℕ, List, [], ◌∷◌, �
 use mathlib.Core.Logic.{dite}
 use native.Mathlib.Decide.{ℕ_discrete}
 use Rattle.ppq_core.specs.declared.place.Place.{Place}
-use Rattle.ppq_core.specs.declared.place.Place.TheVariants.{Free, Held, Stored}
+use Rattle.ppq_core.specs.declared.place.Place.TheVariants.{Held, Stored}
 use Rattle.ppq_core.specs.declared.event.Event.{Event}
 use Rattle.ppq_core.specs.declared.event.Event.TheVariants.{Take, Give, Draw, Push, Store}
 use Rattle.ppq_core.specs.History.{buffer_at, slot_at, draws, pushed_by, MayCome, IsLegal}
-use Rattle.ppq_core.specs.Laws.{pass_of, IsDraw, Names, MayTrade, EndsAs, NeighboursTrade}
-use Rattle.ppq_core.proofs.Places.{free_not_held, stored_not_held, held_same, hit, buffer_by, slot_by, push_by, draw_by, buffer_step, slot_step, push_step, draw_step, Marks, named, marked, buffer_miss, slot_miss, push_miss, draw_miss, legal_older}
+use Rattle.ppq_core.specs.Laws.{pass_of, IsDraw, MayTrade, EndsAs, NeighboursTrade}
+use Rattle.ppq_core.proofs.Places.{free_not_held, stored_not_held, held_same, hit, buffer_by, slot_by, push_by, draw_by, buffer_step, slot_step, push_step, draw_step, Marks, named, marked, buffer_miss, slot_miss, push_miss, draw_miss}
 use Rattle.ppq_core.proofs.Slots.{undrawn}
 
 module _ {R : Type 0} where

@@ -1,16 +1,12 @@
 -- Laws over every list of events.
-use Rattle.std.specs.Prelude.{◌≡◌, ◌<◌, ◌⊎◌, ◌↔◌, ℕ, List, [], ◌∷◌, ◌++◌}
+use Rattle.std.specs.Prelude.{◌≡◌, ◌<◌, ◌↔◌, ℕ, List, [], ◌∷◌, ◌++◌}
+use Rattle.std.specs.List.{Contains}
 use Rattle.ppq_core.specs.declared.event.Event.{Event}
 use Rattle.ppq_core.specs.declared.event.Event.TheVariants.{Take, Give, Draw, Push, Store}
 use Rattle.ppq_core.specs.History.{buffer_at, slot_at, draws, pushed_by, IsLegal}
 use Rattle.ppq_core.specs.Shown.{Table, Shows, Adds}
 
 module _ {R : Type 0} where
-  -- the event is among the events
-  abbrev pub Among : Event R → List (Event R) → Type 0
-  Among e [] = ⊥
-  Among e (x ∷ h) = (x ≡ e) ⊎ Among e h
-
   -- the pass of an event
   abbrev pub pass_of : Event R → ℕ
   pass_of (Take p b) = p
@@ -57,14 +53,14 @@ abbrev pub HasGiveBetween : Type 0 → Type 0
 HasGiveBetween R =
     (buffers slots passes b p q : ℕ) (later between before : List (Event R))
     → IsLegal buffers slots passes (later ++ Take q b ∷ between ++ Take p b ∷ before)
-    → Among (Give p b) between
+    → Contains between (Give p b)
 
 -- the slots that were drawn are those with the numbers below the count of Draws
 abbrev pub DrawsInOrder : Type 0 → Type 0
 DrawsInOrder R =
     (buffers slots passes s : ℕ) (h : List (Event R))
     → IsLegal buffers slots passes h
-    → ((p : ℕ) × Among (Draw p s) h) ↔ (s < draws h)
+    → ((p : ℕ) × Contains h (Draw p s)) ↔ (s < draws h)
 
 -- no slot is drawn twice
 abbrev pub DrawsOnce : Type 0 → Type 0
@@ -83,7 +79,7 @@ abbrev pub StoresItsDraw : Type 0 → Type 0
 StoresItsDraw R =
     (buffers slots passes s p : ℕ) (later before : List (Event R))
     → IsLegal buffers slots passes (later ++ Store p s ∷ before)
-    → Among (Draw p s) before
+    → Contains before (Draw p s)
 
 -- with two neighbours exchanged that may trade, a history is legal too and ends in the same places
 abbrev pub NeighboursTrade : Type 0 → Type 0
