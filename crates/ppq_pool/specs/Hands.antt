@@ -1,0 +1,68 @@
+-- What a seat knows, and how each step changes it.
+use Rattle.std.specs.Prelude.{◌≡◌, ℕ, zero, suc, ◌+◌, ◌-◌, ◌==◌, cond, not, List, [], ◌∷◌, ◌++◌, if◌then◌else◌, Option, Some, None}
+use Rattle.ppq_pool.specs.declared.hand.Hand.{Hand}
+use Rattle.ppq_pool.specs.declared.hand.Move.{Move}
+use Rattle.ppq_pool.specs.declared.hand.Move.TheVariants.{Took, Gave}
+use Rattle.ppq_table.specs.Sums.{all_shares}
+
+-- the numbers below n, in order
+abbrev pub below : ℕ → List ℕ
+below zero = []
+below (suc n) = below n ++ n ∷ []
+
+-- the first of the members i is taken out
+abbrev pub without : ℕ → List ℕ → List ℕ
+without i [] = []
+without i (x ∷ xs) = if x == i then xs else x ∷ without i xs
+
+module _ {T : Type 0} where
+  -- the items with their numbers, which count up from n
+  abbrev pub numbered : ℕ → List T → List (ℕ × T)
+  numbered n [] = []
+  numbered n (x ∷ xs) = (n, x) ∷ numbered (n + 1) xs
+
+  -- the shape of all, where all have one
+  abbrev pub common_shape : (T → ℕ) → List T → ℕ
+  common_shape shape_of [] = 0
+  common_shape shape_of (x ∷ xs) = shape_of x
+
+  -- what is known of other numbers
+  abbrev pub elsewhere : ℕ → List (ℕ × T) → List (ℕ × T)
+  elsewhere i [] = []
+  elsewhere i (p ∷ ps) = if p.0 == i then elsewhere i ps else p ∷ elsewhere i ps
+
+  -- the first seat of a pool of these items
+  abbrev pub first_hand : ℕ → List T → Hand T
+  first_hand shape items = record { shares = all_shares; shape = shape; numbers = []; put = numbered 0 items; moves = []; looks = 0; noted = []; in_hand = None }
+
+  -- a seat after a split
+  abbrev pub less_one : Hand T → Hand T
+  less_one v = record v { shares = v.shares - 1 }
+
+  -- the seat that was split off: one share, and nothing taken, put in or found
+  abbrev pub newcomer : Hand T → Hand T
+  newcomer v = record { shares = 1; shape = v.shape; numbers = []; put = []; moves = []; looks = 0; noted = []; in_hand = None }
+
+  -- two seats in one
+  abbrev pub together : Hand T → Hand T → Hand T
+  together v w = record v { shares = v.shares + w.shares; numbers = v.numbers ++ w.numbers; put = v.put ++ w.put; moves = w.moves ++ v.moves }
+
+  -- what a seat that was joined leaves behind
+  abbrev pub spent : Hand T
+  spent = record { shares = 0; shape = 0; numbers = []; put = []; moves = []; looks = 0; noted = []; in_hand = None }
+
+  -- the item i was found free and is held now, with its place in hand
+  abbrev pub with_claim : ℕ → Hand T → Hand T
+  with_claim i v = record v { numbers = v.numbers ++ i ∷ []; put = elsewhere i v.put; moves = Took i ∷ v.moves; in_hand = Some i }
+
+  -- the item i was found held. The item 0 is the first that a call looks at
+  abbrev pub with_note : ℕ → Hand T → Hand T
+  with_note i v = record v { looks = cond (i == 0) (v.looks + 1) v.looks; noted = cond (i == 0) [] v.noted ++ i ∷ [] }
+
+  -- another place is in hand, or none
+  abbrev pub with_place : Option ℕ → Hand T → Hand T
+  with_place place v = record v { in_hand = place }
+
+  -- the item x was put in with the number i, which is held no more
+  abbrev pub with_give : ℕ → T → Hand T → Hand T
+  with_give i x v = record v { numbers = without i v.numbers; put = v.put ++ (i, x) ∷ []; moves = Gave i ∷ v.moves; in_hand = None }

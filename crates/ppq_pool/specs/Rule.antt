@@ -1,0 +1,103 @@
+-- The rule of a pool, which holds between any two steps, and what each kind of step tells.
+-- The word i + 1 and the slot i are those of the item i. The word 0 is spare: splits and joins read it. The last slot keeps an empty list with room for all items.
+use Rattle.std.specs.Prelude.{◌≡◌, ◌≢◌, ◌⊎◌, ℕ, ◌+◌, ◌-◌, ◌<◌, ◌≤◌, ◌==◌, List, [], ◌∷◌, All, Contains, length, slice_index, if◌then◌else◌, Vec, Some, None}
+use mathlib.Core.Option.{Option, some}
+use lib.ListN.{get_elem?}
+use Rattle.std.specs.Global.{Global}
+use Rattle.atomic_table.specs.Table.{State, Me, Step, rest}
+use Rattle.ppq_core.specs.declared.event.Event.{Event}
+use Rattle.ppq_core.specs.declared.event.Event.TheVariants.{Take, Give, Draw, Push, Store}
+use Rattle.ppq_core.specs.declared.place.Place.TheVariants.{Free, Held}
+use Rattle.ppq_core.specs.History.{buffer_at, IsLegal}
+use Rattle.ppq_table.specs.declared.place.Place.{Place}
+use Rattle.ppq_table.specs.declared.place.Place.TheVariants.{Empty, Item, Room}
+use Rattle.ppq_table.specs.Places.{IsRoom}
+use Rattle.ppq_table.specs.Sums.{total, times, all_shares}
+use Rattle.ppq_pool.specs.declared.hand.Hand.{Hand}
+use Rattle.ppq_pool.specs.declared.hand.Move.{Move}
+use Rattle.ppq_pool.specs.declared.hand.Move.TheVariants.{Took, Gave}
+use Rattle.ppq_pool.specs.Hands.{with_claim, with_note, with_place, with_give}
+
+module _ {T : Type 0} where
+  -- how often the views list the item i, all together
+  abbrev pub holders : ℕ → List (Hand T) → ℕ
+  holders i views = total (λ v. times i v.numbers) views
+
+  -- the moves of pass j in a history, the newest first
+  abbrev pub moves_of : ℕ → List (Event T) → List Move
+  moves_of j [] = []
+  moves_of j (Take p b ∷ h) = if p == j then Took b ∷ moves_of j h else moves_of j h
+  moves_of j (Give p b ∷ h) = if p == j then Gave b ∷ moves_of j h else moves_of j h
+  moves_of j (Draw p s ∷ h) = moves_of j h
+  moves_of j (Push p x ∷ h) = moves_of j h
+  moves_of j (Store p s ∷ h) = moves_of j h
+
+  -- A legal history of n buffers, with the number of each view for a pass. A buffer is free in it where its word is 0, and held by the pass whose view lists it. The moves of each pass are those that its view has
+  pub record ShowsHistory (n : ℕ) (words : List ℕ) (views : List (Hand T)) (h : List (Event T)) : Type 0 where
+    pub legal : IsLegal n 0 (length views) h
+    pub when_free : (i : ℕ) → i < n → slice_index words (i + 1) ≡ 0 → buffer_at i h ≡ Free
+    pub when_held : (i j : ℕ) (v : Hand T) → get_elem? views j ≡ some v → 0 < times i v.numbers → buffer_at i h ≡ Held j
+    pub moved : (j : ℕ) (v : Hand T) → get_elem? views j ≡ some v → moves_of j h ≡ v.moves
+
+  -- no two seats were joined
+  abbrev pub NoneSpent : List (Hand T) → Type 0
+  NoneSpent views = (j : ℕ) (v : Hand T) → get_elem? views j ≡ some v → 0 < v.shares
+
+  -- some view put in the item x with the number i
+  abbrev pub WasPut : ℕ → T → List (Hand T) → Type 0
+  WasPut i x views = (j : ℕ) × (v : Hand T) × (get_elem? views j ≡ some v) × Contains v.put (i, x)
+
+  -- what the rule says of one view. A view with no share is spent
+  pub record Fits (shape : ℕ) (homes : List (Option (Place T))) (v : Hand T) : Type 0 where
+    pub same_shape : 0 < v.shares → v.shape ≡ shape
+    pub spent_nothing : v.shares ≡ 0 → (v.numbers ≡ []) × (v.put ≡ [])
+    pub in_range : All (λ i. i + 1 < length homes) v.numbers
+    -- the place of an item that it lists and has not in hand is at home, and empty
+    pub places_home : (i : ℕ) → 0 < times i v.numbers → ¬ (v.in_hand ≡ Some i) → get_elem? homes i ≡ some (some Empty)
+
+  module _ (shape_of : T → ℕ) (shape : ℕ) where
+    -- the word is 0: nobody lists the item, which is at home and has the pool's shape
+    abbrev pub IsFree : ℕ → ℕ → Option (Option (Place T)) → Type 0
+    IsFree word holding home = (word ≡ 0) × (holding ≡ 0) × ((x : T) × (home ≡ some (some (Item x))) × (shape_of x ≡ shape))
+
+    -- the word is 1: just one view lists the item, once
+    abbrev pub IsHeld : ℕ → ℕ → Type 0
+    IsHeld word holding = (word ≡ 1) × (holding ≡ 1)
+
+    pub record PoolRule (s : State (Place T) (Hand T)) : Type 0 where
+      pub wide : length s.words ≡ length s.homes
+      pub some_slot : 0 < length s.homes
+      pub short : length s.homes ≤ 4294967296
+      pub room_home : (room : Vec T Global) × (get_elem? s.homes (length s.homes - 1) ≡ some (some (Room room))) × IsRoom (length s.homes - 1) room
+      pub shares_add : total (λ v. v.shares) s.views ≡ all_shares
+      pub each_item : (i : ℕ) → i + 1 < length s.homes → IsFree (slice_index s.words (i + 1)) (holders i s.views) (get_elem? s.homes i) ⊎ IsHeld (slice_index s.words (i + 1)) (holders i s.views)
+      pub each_view : (j : ℕ) (v : Hand T) → get_elem? s.views j ≡ some v → Fits shape s.homes v
+      pub each_put : (i : ℕ) (x : T) → get_elem? s.homes i ≡ some (some (Item x)) → WasPut i x s.views
+      pub shown : NoneSpent s.views → (h : List (Event T)) × ShowsHistory (length s.homes - 1) s.words s.views h
+
+  -- what an exchange of the word of the item i for 1 tells. The only seat put in itself what it finds
+  abbrev pub claimed_at : (T → ℕ) → ℕ → Me (Place T) (Hand T) → ℕ → Me (Place T) (Hand T) → Type 0
+  claimed_at shape_of i m n m' =
+      (n ≡ 0 → (x : T) × (shape_of x ≡ m.0.shape) × (times i m.0.numbers ≡ 0) × (m'.0 ≡ with_claim i m.0) × (m'.1 ≡ (i, Item x) ∷ m.1) × (m.0.shares ≡ all_shares → Contains m.0.put (i, x)))
+      × (n ≢ 0 → (n ≡ 1) × (m'.0 ≡ with_note i m.0) × (m'.1 ≡ m.1))
+
+  abbrev pub claimed : (T → ℕ) → Step (Place T) → Me (Place T) (Hand T) → ℕ → Me (Place T) (Hand T) → Type 0
+  claimed shape_of st m n m' = claimed_at shape_of (st.word - 1) m n m'
+
+  -- the empty place goes home
+  abbrev pub settled : Step (Place T) → Me (Place T) (Hand T) → ℕ → Me (Place T) (Hand T) → Type 0
+  settled st m n m' = (m'.0 ≡ with_place None m.0) × (m'.1 ≡ rest m.1)
+
+  -- the empty place of the item i comes into the hands
+  abbrev pub reached_at : ℕ → Me (Place T) (Hand T) → Me (Place T) (Hand T) → Type 0
+  reached_at i m m' = (m'.0 ≡ with_place (Some i) m.0) × (m'.1 ≡ (i, Empty) ∷ m.1)
+
+  abbrev pub reached : Step (Place T) → Me (Place T) (Hand T) → ℕ → Me (Place T) (Hand T) → Type 0
+  reached st m n m' = reached_at (st.word - 1) m m'
+
+  -- the place of the item i goes home with its item, and the word to 0
+  abbrev pub cleared_at : ℕ → Me (Place T) (Hand T) → Me (Place T) (Hand T) → Type 0
+  cleared_at i m m' = ((x : T) → m.1 ≡ (i, Item x) ∷ rest m.1 → m'.0 ≡ with_give i x m.0) × (m'.1 ≡ rest m.1)
+
+  abbrev pub cleared : Step (Place T) → Me (Place T) (Hand T) → ℕ → Me (Place T) (Hand T) → Type 0
+  cleared st m n m' = cleared_at (st.word - 1) m m'

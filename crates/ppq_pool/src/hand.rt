@@ -1,0 +1,32 @@
+//! What a seat knows of its pool.
+
+use std::collections::LinkedList;
+
+/// What a seat did to an item.
+pub enum Move {
+    /// It took the item with this number.
+    Took(u64),
+    /// It gave back the item with this number.
+    Gave(u64),
+}
+
+/// What a seat knows of its pool. Clauses speak of it; no value of it is made.
+pub struct Hand<T> {
+    /// How many of the pool's `2^32` shares it has.
+    pub shares: u64,
+    /// The shape of the pool's items.
+    pub shape: u64,
+    /// The numbers of the items that it holds.
+    pub numbers: LinkedList<u64>,
+    /// The items that it put in, each with its number. Taking an item ends what it knows of that
+    /// number.
+    pub put: LinkedList<(u64, T)>,
+    /// What it did, the newest first.
+    pub moves: LinkedList<Move>,
+    /// How often it began to look at all items.
+    pub looks: u64,
+    /// The items that it found held, in order, since it last began to look.
+    pub noted: LinkedList<u64>,
+    /// The item whose place it has in hand, within a call.
+    pub in_hand: Option<u64>,
+}

@@ -1,0 +1,27 @@
+//! A pool of items that many threads take from and give back to, with no lock.
+//!
+//! Each item has a number, a word and a place. The word is 0 while the item lies in its place, and
+//! 1 while a seat holds it. [`Pool::take`] exchanges the words for 1, one after another, until it
+//! finds a 0; [`Pool::give`] puts the item back and exchanges its word for 0. Neither waits for
+//! another thread.
+//!
+//! What a thread may do it does by a seat, a token of no bytes. One rule (`specs/Rule`) ties the
+//! words, the places and what all seats know; it holds between any two steps of any threads, and
+//! the lemmas of `proofs/Steps` say so of each kind of step. It has a part on histories: the words
+//! and the seats show one legal history of `ppq_core`, in which each seat is a pass and has just the
+//! moves that it made.
+#![tactic(auto)]
+
+mod ending;
+mod hand;
+mod moving;
+mod plays;
+mod pool;
+mod rule;
+mod seat;
+mod shaped;
+
+pub use hand::{Hand, Move};
+pub use pool::Pool;
+pub use seat::PoolSeat;
+pub use shaped::Shaped;
