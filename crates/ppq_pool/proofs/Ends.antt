@@ -62,12 +62,15 @@ module _ {T : Type 0} where
           each_item = λ i h. let it = at_within xs i (omega arith) in inl (zeros (i + 1), refl, (it.0, laid_item xs (Room r) i it.0 it.1, all_at (λ x. shape_of x ≡ shape) xs i it.0 shapes it.1));
           each_view = at_only (Fits shape _) first (record { same_shape = λ _. refl; spent_nothing = λ z. absurd (omega arith); in_range = All-nil (λ i. i + 1 < _); places_home = λ i lists away. absurd (omega arith) });
           each_put = λ i x home. (0, first, refl, subst (λ (k : ℕ). Contains first.put (k, x)) (let e : 0 + i ≡ i = omega arith in e) (Contains-numbered 0 i x xs (laid_back xs r i x home)));
-          shown = λ _. ([], record {
-            legal = tt;
-            when_free = λ i lt z. refl;
-            when_held = λ i j v e. at_only (λ (u : Hand T). 0 < times i u.numbers → buffer_at {R = T} i [] ≡ Held j) first (λ lists. absurd (omega arith)) j v e;
-            moved = λ j v e. at_only (λ (u : Hand T). moves_of {T = T} j [] ≡ u.moves) first refl j v e;
-          });
+          shown = λ _. (
+            [],
+            record {
+              legal = tt;
+              when_free = λ i lt z. refl;
+              when_held = λ i j v e. at_only (λ (u : Hand T). 0 < times i u.numbers → buffer_at {R = T} i [] ≡ Held j) first (λ lists. absurd (omega arith)) j v e;
+              moved = λ j v e. at_only (λ (u : Hand T). moves_of {T = T} j [] ≡ u.moves) first refl j v e;
+            },
+          );
         })
 
     -- a place at the end: an item that nobody lists, which the last seat put in, or empty, and listed by the last seat
@@ -90,22 +93,22 @@ module _ {T : Type 0} where
     counted ps v zero told = record { left = ([], refl, refl, All-nil (Contains v.put)); count = refl; shaped = All-nil (λ x. shape_of x ≡ v.shape) }
     counted ps v (suc n) told = let before = counted ps v n (λ i h. told i (omega arith)) in let ok = before.left in ⊎_elim
         (λ (f : (x : T) × (get_elem? ps n ≡ some (Item x)) × (shape_of x ≡ v.shape) × (times n v.numbers ≡ 0) × Contains v.put (n, x)).
-            let more : items_in (take (suc n) ps) ≡ items_in (take n ps) ++ f.0 ∷ [] = items_in-more ps 0 n (Item f.0) (omega arith) f.1 in let nobody = f.3 in record {
-              left = (
-                ok.0 ++ (n, f.0) ∷ [],
-                map-append (λ (p : ℕ × T). p.1) ok.0 ((n, f.0) ∷ []) ∙ ap (λ l. l ++ f.0 ∷ []) ok.1 ∙ sym more,
-                map-append (λ (p : ℕ × T). p.0) ok.0 ((n, f.0) ∷ []) ∙ ap (λ l. l ++ n ∷ []) ok.2 ∙ sym (others_below-free n v.numbers nobody),
-                All-push (Contains v.put) ok.0 (n, f.0) ok.3 f.4,
-              );
-              count = omega (arith, before.count, nobody, ap length more, length-append (items_in (take n ps)) (f.0 ∷ []));
-              shaped = subst (All (λ x. shape_of x ≡ v.shape)) (sym more) (All-push (λ x. shape_of x ≡ v.shape) (items_in (take n ps)) f.0 before.shaped f.2);
-            })
+        let more : items_in (take (suc n) ps) ≡ items_in (take n ps) ++ f.0 ∷ [] = items_in-more ps 0 n (Item f.0) (omega arith) f.1 in let nobody = f.3 in record {
+          left = (
+            ok.0 ++ (n, f.0) ∷ [],
+            map-append (λ (p : ℕ × T). p.1) ok.0 ((n, f.0) ∷ []) ∙ ap (λ l. l ++ f.0 ∷ []) ok.1 ∙ sym more,
+            map-append (λ (p : ℕ × T). p.0) ok.0 ((n, f.0) ∷ []) ∙ ap (λ l. l ++ n ∷ []) ok.2 ∙ sym (others_below-free n v.numbers nobody),
+            All-push (Contains v.put) ok.0 (n, f.0) ok.3 f.4,
+          );
+          count = omega (arith, before.count, nobody, ap length more, length-append (items_in (take n ps)) (f.0 ∷ []));
+          shaped = subst (All (λ x. shape_of x ≡ v.shape)) (sym more) (All-push (λ x. shape_of x ≡ v.shape) (items_in (take n ps)) f.0 before.shaped f.2);
+        })
         (λ (e : (get_elem? ps n ≡ some Empty) × (times n v.numbers ≡ 1)).
-            let more : items_in (take (suc n) ps) ≡ items_in (take n ps) = items_in-more ps 0 n Empty (omega arith) e.0 ∙ append-nil (items_in (take n ps)) in let one = e.1 in record {
-              left = (ok.0, ok.1 ∙ sym more, ok.2 ∙ sym (others_below-held n v.numbers one), ok.3);
-              count = omega (arith, before.count, one, ap length more);
-              shaped = subst (All (λ x. shape_of x ≡ v.shape)) (sym more) before.shaped;
-            })
+        let more : items_in (take (suc n) ps) ≡ items_in (take n ps) = items_in-more ps 0 n Empty (omega arith) e.0 ∙ append-nil (items_in (take n ps)) in let one = e.1 in record {
+          left = (ok.0, ok.1 ∙ sym more, ok.2 ∙ sym (others_below-held n v.numbers one), ok.3);
+          count = omega (arith, before.count, one, ap length more);
+          shaped = subst (All (λ x. shape_of x ≡ v.shape)) (sym more) before.shaped;
+        })
         (told n (omega arith))
 
     -- what the last seat finds
@@ -120,11 +123,11 @@ module _ {T : Type 0} where
         let last : length s.homes - 1 ≡ n = omega arith in
         let alone : (i : ℕ) → holders i s.views ≡ times i v.numbers = λ i. total_alone (λ u. u.shares) (λ u. times i u.numbers) s.views id v at (λ j u e z. ap (times i) ((r.each_view j u e).spent_nothing z).0) (r.shares_add ∙ sym only) in
         let told : (i : ℕ) → i < n → Told v ps i = λ i h. ⊎_elim
-            (λ (f : IsFree shape_of shape (slice_index s.words (i + 1)) (holders i s.views) (get_elem? s.homes i)). let it = f.2 in
-            inl (it.0, final.4 i (Item it.0) it.1, it.2 ∙ sym (mine.same_shape (omega arith)), sym (alone i) ∙ f.1, own_item shape_of shape s r id i v it.0 at it.1 only))
-            (λ (k : IsHeld shape_of shape (slice_index s.words (i + 1)) (holders i s.views)). let one : times i v.numbers ≡ 1 = sym (alone i) ∙ k.1 in
-            inr (final.4 i Empty (mine.places_home i (omega arith) (λ e. None-ne-Some i (sym free ∙ e))), one))
-            (r.each_item i (omega arith)) in
+        (λ (f : IsFree shape_of shape (slice_index s.words (i + 1)) (holders i s.views) (get_elem? s.homes i)). let it = f.2 in
+        inl (it.0, final.4 i (Item it.0) it.1, it.2 ∙ sym (mine.same_shape (omega arith)), sym (alone i) ∙ f.1, own_item shape_of shape s r id i v it.0 at it.1 only))
+        (λ (k : IsHeld shape_of shape (slice_index s.words (i + 1)) (holders i s.views)). let one : times i v.numbers ≡ 1 = sym (alone i) ∙ k.1 in
+        inr (final.4 i Empty (mine.places_home i (omega arith) (λ e. None-ne-Some i (sym free ∙ e))), one))
+        (r.each_item i (omega arith)) in
         let c = counted ps v n told in record {
           room = (wide, (r.room_home.0, ap (λ (k : ℕ). get_elem? ps k) (sym last) ∙ final.4 (length s.homes - 1) (Room r.room_home.0) r.room_home.1, (r.room_home.2.0, let cap = r.room_home.2.1 in omega arith)));
           left = c.left;

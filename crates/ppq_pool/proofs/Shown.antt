@@ -103,10 +103,10 @@ module _ {T : Type 0} where
             (λ ne. buffer_at-Take_else id i k h (λ e. ne (sym e)) ∙ old.when_free k lt (sym (get_or-set_other ws (i + 1) (k + 1) 1 0 (λ e. ne (omega arith))) ∙ zero_word));
         when_held = λ k j u e lists. ⊎_elim
             (λ (own : (j ≡ id) × (w ≡ u)). dite (ℕ_discrete i k)
-                (λ same. buffer_at-Take_here id i k h same ∙ ap Held (sym own.0))
-                (λ ne. buffer_at-Take_else id i k h ne ∙ old.when_held k id v at (omega (arith, lists, ap (λ (z : Hand T). times k z.numbers) own.1, count k, times-other i k ne)) ∙ ap Held (sym own.0)))
+            (λ same. buffer_at-Take_here id i k h same ∙ ap Held (sym own.0))
+            (λ ne. buffer_at-Take_else id i k h ne ∙ old.when_held k id v at (omega (arith, lists, ap (λ (z : Hand T). times k z.numbers) own.1, count k, times-other i k ne)) ∙ ap Held (sym own.0)))
             (λ (past : (j ≢ id) × (get_elem? vs j ≡ some u)). buffer_at-Take_else id i k h
-                (λ same. omega (arith, lists, nobody, one_of_total (λ (z : Hand T). times i z.numbers) vs j u past.1, ap (λ (z : ℕ). times z u.numbers) same)) ∙ old.when_held k j u past.1 lists)
+            (λ same. omega (arith, lists, nobody, one_of_total (λ (z : Hand T). times i z.numbers) vs j u past.1, ap (λ (z : ℕ). times z u.numbers) same)) ∙ old.when_held k j u past.1 lists)
             (at_set vs id j w u e);
         moved = λ j u e. ⊎_elim
             (λ (own : (j ≡ id) × (w ≡ u)). moves_of-Take_own id i j h (sym own.0) ∙ ap (λ (k : ℕ). Took i ∷ moves_of k h) own.0 ∙ ap (λ l. Took i ∷ l) (old.moved id v at) ∙ sym moves ∙ ap (λ (z : Hand T). z.moves) own.1)
@@ -125,10 +125,10 @@ module _ {T : Type 0} where
         (λ ne. buffer_at-Give_else id i k h ne ∙ old.when_free k lt (sym (get_or-set_other ws (i + 1) (k + 1) 0 0 (λ e. ne (omega arith))) ∙ zero_word));
     when_held = λ k j u e lists. ⊎_elim
         (λ (own : (j ≡ id) × (w ≡ u)). let here : 0 < times k w.numbers = subst (λ (z : Hand T). 0 < times k z.numbers) (sym own.1) lists in
-            let ne : i ≢ k = λ same. omega (arith, here, gone, ap (λ (z : ℕ). times z w.numbers) same) in
-            buffer_at-Give_else id i k h ne ∙ old.when_held k id v at (omega (arith, here, others k (λ same. ne (sym same)))) ∙ ap Held (sym own.0))
+        let ne : i ≢ k = λ same. omega (arith, here, gone, ap (λ (z : ℕ). times z w.numbers) same) in
+        buffer_at-Give_else id i k h ne ∙ old.when_held k id v at (omega (arith, here, others k (λ same. ne (sym same)))) ∙ ap Held (sym own.0))
         (λ (past : (j ≢ id) × (get_elem? vs j ≡ some u)). buffer_at-Give_else id i k h
-            (λ same. omega (arith, lists, alone, two_of_total (λ (z : Hand T). times i z.numbers) vs id j v u at past.1 past.0, ap (λ (z : ℕ). times z u.numbers) same)) ∙ old.when_held k j u past.1 lists)
+        (λ same. omega (arith, lists, alone, two_of_total (λ (z : Hand T). times i z.numbers) vs id j v u at past.1 past.0, ap (λ (z : ℕ). times z u.numbers) same)) ∙ old.when_held k j u past.1 lists)
         (at_set vs id j w u e);
     moved = λ j u e. ⊎_elim
         (λ (own : (j ≡ id) × (w ≡ u)). moves_of-Give_own id i j h (sym own.0) ∙ ap (λ (k : ℕ). Gave i ∷ moves_of k h) own.0 ∙ ap (λ l. Gave i ∷ l) (old.moved id v at) ∙ sym moves ∙ ap (λ (z : Hand T). z.moves) own.1)

@@ -139,8 +139,12 @@ module _ {T : Type 0} where
               })
               (at_set s.views id j w u e);
           each_put = λ k x home. dite (ℕ_discrete k i)
-              (λ e. subst (λ (z : ℕ). WasPut z x vs) (sym e) (id, w, set_here s.views id w (within_at s.views id v at),
-              put_here x (some-injective h (some (Item x)) (sym (set_here s.homes i h (omega arith)) ∙ ap (get_elem? hs) (sym e) ∙ home))))
+              (λ e. subst (λ (z : ℕ). WasPut z x vs) (sym e) (
+                id,
+                w,
+                set_here s.views id w (within_at s.views id v at),
+                put_here x (some-injective h (some (Item x)) (sym (set_here s.homes i h (omega arith)) ∙ ap (get_elem? hs) (sym e) ∙ home)),
+              ))
               (λ ne. put_kept s.views id k x v w at (puts k x ne) (r.each_put k x (sym (set_else s.homes i k h ne) ∙ home)));
           shown = subst (λ (k : ℕ). NoneSpent vs → (e : List (Event T)) × ShowsHistory (k - 1) ws vs e) (sym same_length) shown;
         }

@@ -16,10 +16,7 @@ impl<T: Shaped + Send + Drop> Pool<T> {
     ///
     /// It takes memory for a word and a place each. `Err` gives the items back as they were; it
     /// comes for want of memory alone.
-    pub fn new(
-        alloc: Global,
-        items: Vec<T>,
-    ) -> Result<(Pool<T>, PoolSeat<T>), (Vec<T>, Memory)>
+    pub fn new(alloc: Global, items: Vec<T>) -> Result<(Pool<T>, PoolSeat<T>), (Vec<T>, Memory)>
         requires few { vec_len items < 4294967296 }
         requires one_shape { (shape : ℕ) × All (λ x. T.shape_of x ≡ shape) items.items }
         ensures pool { IfOk result (λ r. IsSeatOf r.0 r.1 × (count_of r.0 ≡ vec_len items)) }

@@ -9,5 +9,5 @@ invariant-loop-number g l = record {
   same : l.seat.hand ≡ record l.initial.seat.hand { looks = l.seat.hand.looks; noted = l.seat.hand.noted };
   one_look : 0 < l.number → l.seat.hand.looks ≡ l.initial.seat.hand.looks + 1;
   each_noted : 0 < l.number → l.seat.hand.noted ≡ below l.number;
-  no_look : l.number ≡ 0 → l.seat.hand.looks ≡ l.initial.seat.hand.looks
+  no_look : l.number ≡ 0 → l.seat.hand.looks ≡ l.initial.seat.hand.looks;
 }
