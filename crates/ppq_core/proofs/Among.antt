@@ -1,5 +1,5 @@
 -- Being among the events, by recursion, and std's word for it.
-use Rattle.std.proofs.Common.{◌≡◌, ◌⊎◌, ℕ, zero, suc, ◌<◌, List, [], ◌∷◌, length, slice_index_or, inl, inr, ⊎_elim, arith}
+use Rattle.std.proofs.Common.{◌≡◌, ◌⊎◌, ℕ, zero, suc, ◌<◌, List, [], ◌∷◌, ◌++◌, refl, length, slice_index_or, inl, inr, ⊎_elim, arith}
 use Rattle.std.specs.List.{Contains}
 
 module _ {X : Type 0} where
@@ -20,3 +20,7 @@ module _ {X : Type 0} where
 
   pub contains_among : (e : X) (h : List X) → Contains h e → Among e h
   contains_among e h w = contains_at e h w.0 w.1 w.2
+
+  pub among_later : (e : X) (m h : List X) → Among e (m ++ e ∷ h)
+  among_later e [] h = inl refl
+  among_later e (x ∷ m) h = inr (among_later e m h)

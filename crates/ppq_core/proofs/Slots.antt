@@ -2,12 +2,13 @@
 use Rattle.std.proofs.Common.{◌≡◌, ℕ, ◌<◌, ◌≤◌, List, [], ◌∷◌, ◌++◌, refl, sym, ap, ap₂, ◌∙◌, inl, inr, ⊎_elim, arith}
 use mathlib.Core.Logic.{dite}
 use native.Mathlib.Decide.{ℕ_discrete}
+use Rattle.ppq_core.specs.declared.place.Place.{Place}
 use Rattle.ppq_core.specs.declared.place.Place.TheVariants.{Free, Held, Stored}
 use Rattle.ppq_core.specs.declared.event.Event.{Event}
 use Rattle.ppq_core.specs.declared.event.Event.TheVariants.{Take, Give, Draw, Push, Store}
 use Rattle.ppq_core.specs.History.{slot_at, draws, IsLegal}
-use Rattle.ppq_core.specs.Laws.{DrawsInOrder, DrawsOnce, StoresOnce, StoresItsDraw}
-use Rattle.ppq_core.proofs.Among.{Among, among_contains, contains_among}
+use Rattle.ppq_core.specs.Laws.{DrawsInOrder, DrawsOnce, StoresOnce, StoresItsDraw, TellsSlots}
+use Rattle.ppq_core.proofs.Among.{Among, among_contains, contains_among, among_later}
 use Rattle.ppq_core.proofs.Places.{free_not_held, free_not_stored, stored_not_held, held_same, hit, miss, legal_older, legal_middle}
 
 module _ {R : Type 0} where
@@ -42,21 +43,33 @@ module _ {R : Type 0} where
       (λ a. absurd (stored_not_held q p (sym (hit t s (Stored q) (slot_at s h) a) ∙ e)))
       (λ a. inr (held_drawn p s h (sym (miss t s (Stored q) (slot_at s h) a) ∙ e)))
 
-  -- a stored slot stays stored
-  stays_stored : (n d k p s : ℕ) (m h : List (Event R)) → IsLegal n d k (m ++ Store p s ∷ h) → slot_at s (m ++ Store p s ∷ h) ≡ Stored p
-  stays_stored n d k p s [] h l = hit s s (Stored p) (slot_at s h) refl
-  stays_stored n d k p s (Take q b ∷ m) h l = stays_stored n d k p s m h l.1
-  stays_stored n d k p s (Give q b ∷ m) h l = stays_stored n d k p s m h l.1
-  stays_stored n d k p s (Push q x ∷ m) h l = stays_stored n d k p s m h l.1
-  stays_stored n d k p s (Draw q t ∷ m) h l =
-      let rest = m ++ Store p s ∷ h in
-      let was = stays_stored n d k p s m h l.1 in
+  -- a slot that was stored stays stored
+  stored_at : (n d k p s : ℕ) (h : List (Event R)) → IsLegal n d k h → Among (Store p s) h → slot_at s h ≡ Stored p
+  stored_at n d k p s [] l a = absurd a
+  stored_at n d k p s (Take q b ∷ h) l a = ⊎_elim (λ (e : Take q b ≡ Store p s). cc) (λ a. stored_at n d k p s h l.1 a) a
+  stored_at n d k p s (Give q b ∷ h) l a = ⊎_elim (λ (e : Give q b ≡ Store p s). cc) (λ a. stored_at n d k p s h l.1 a) a
+  stored_at n d k p s (Push q x ∷ h) l a = ⊎_elim (λ (e : Push q x ≡ Store p s). cc) (λ a. stored_at n d k p s h l.1 a) a
+  stored_at n d k p s (Draw q t ∷ h) l a =
       let at = l.0.2 in
-      miss t s (Held q) (slot_at s rest) (λ e. free_not_stored p (sym (undrawn n d k rest s l.1 (omega arith)) ∙ was)) ∙ was
-  stays_stored n d k p s (Store q t ∷ m) h l =
-      let rest = m ++ Store p s ∷ h in
-      let was = stays_stored n d k p s m h l.1 in
-      miss t s (Stored q) (slot_at s rest) (λ e. stored_not_held p q (sym was ∙ ap (λ (j : ℕ). slot_at j rest) (sym e) ∙ l.0.2)) ∙ was
+      ⊎_elim (λ (e : Draw q t ≡ Store p s). cc) (λ a. let was = stored_at n d k p s h l.1 a in
+      miss t s (Held q) (slot_at s h) (λ e. free_not_stored p (sym (undrawn n d k h s l.1 (omega arith)) ∙ was)) ∙ was) a
+  stored_at n d k p s (Store q t ∷ h) l a = ⊎_elim
+      (λ (e : Store q t ≡ Store p s). let same : q ≡ p = cc in hit t s (Stored q) (slot_at s h) (cc) ∙ ap (λ (r : ℕ). let v : Place = Stored r in v) same)
+      (λ a. let was = stored_at n d k p s h l.1 a in
+      miss t s (Stored q) (slot_at s h) (λ e. stored_not_held p q (sym was ∙ ap (λ (j : ℕ). slot_at j h) (sym e) ∙ l.0.2)) ∙ was) a
+
+  -- a slot that was drawn and not stored is held
+  held_at : (n d k s : ℕ) (h : List (Event R)) → IsLegal n d k h → s < draws h → ((p : ℕ) → ¬ (Among (Store p s) h)) → (p : ℕ) × (slot_at s h ≡ Held p)
+  held_at n d k s [] l lt not = absurd (omega arith)
+  held_at n d k s (Take q b ∷ h) l lt not = held_at n d k s h l.1 lt (λ p a. not p (inr a))
+  held_at n d k s (Give q b ∷ h) l lt not = held_at n d k s h l.1 lt (λ p a. not p (inr a))
+  held_at n d k s (Push q x ∷ h) l lt not = held_at n d k s h l.1 lt (λ p a. not p (inr a))
+  held_at n d k s (Draw q t ∷ h) l lt not = dite (ℕ_discrete t s)
+      (λ e. (q, hit t s (Held q) (slot_at s h) e))
+      (λ ne. let at = l.0.2 in let w = held_at n d k s h l.1 (omega arith) (λ p a. not p (inr a)) in (w.0, miss t s (Held q) (slot_at s h) ne ∙ w.1))
+  held_at n d k s (Store q t ∷ h) l lt not = dite (ℕ_discrete t s)
+      (λ e. absurd (not q (inl (ap (λ (y : ℕ). let v : Event R = Store q y in v) e))))
+      (λ ne. let w = held_at n d k s h l.1 lt (λ p a. not p (inr a)) in (w.0, miss t s (Stored q) (slot_at s h) ne ∙ w.1))
 
   drawn_below : (n d k s p : ℕ) (h : List (Event R)) → IsLegal n d k h → Among (Draw p s) h → s < draws h
   drawn_below n d k s p [] l a = absurd a
@@ -94,9 +107,16 @@ draws_once R n d k s p q later between before legal =
 pub stores_once : (R : Type 0) → StoresOnce R
 stores_once R n d k s p q later between before legal =
     let l = legal_middle n d k later (Store q s ∷ between) (Store p s ∷ before) legal in
-    stored_not_held p q (sym (stays_stored n d k p s between before l.1) ∙ l.0.2)
+    stored_not_held p q (sym (stored_at n d k p s (between ++ Store p s ∷ before) l.1 (among_later (Store p s) between before)) ∙ l.0.2)
 
 pub stores_its_draw : (R : Type 0) → StoresItsDraw R
 stores_its_draw R n d k s p later before legal =
     let l = legal_older n d k later (Store p s ∷ before) legal in
     among_contains (Draw p s) before (held_drawn p s before l.0.2)
+
+pub tells_slots : (R : Type 0) → TellsSlots R
+tells_slots R n d k s h l = record {
+  free = λ le. undrawn n d k h s l le;
+  stored = λ p a. stored_at n d k p s h l (contains_among (Store p s) h a);
+  held = λ lt not. let w = held_at n d k s h l lt (λ p a. not p (among_contains (Store p s) h a)) in (w.0, among_contains (Draw w.0 s) h (held_drawn w.0 s h w.1), w.1);
+}

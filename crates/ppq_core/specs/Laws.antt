@@ -1,6 +1,7 @@
 -- Laws over every list of events.
-use Rattle.std.specs.Prelude.{◌≡◌, ◌<◌, ◌↔◌, ℕ, List, [], ◌∷◌, ◌++◌}
+use Rattle.std.specs.Prelude.{◌≡◌, ◌<◌, ◌≤◌, ◌↔◌, ℕ, List, [], ◌∷◌, ◌++◌}
 use Rattle.std.specs.List.{Contains}
+use Rattle.ppq_core.specs.declared.place.Place.TheVariants.{Free, Held, Stored}
 use Rattle.ppq_core.specs.declared.event.Event.{Event}
 use Rattle.ppq_core.specs.declared.event.Event.TheVariants.{Take, Give, Draw, Push, Store}
 use Rattle.ppq_core.specs.History.{buffer_at, slot_at, draws, pushed_by, IsLegal}
@@ -80,6 +81,16 @@ StoresItsDraw R =
     (buffers slots passes s p : ℕ) (later before : List (Event R))
     → IsLegal buffers slots passes (later ++ Store p s ∷ before)
     → Contains before (Draw p s)
+
+-- a slot is free where there are at most as many Draws as its number, stored where it was stored, and
+-- else held by the pass that drew it
+pub record TellsSlot {R : Type 0} (s : ℕ) (h : List (Event R)) : Type 0 where
+  pub free : draws h ≤ s → slot_at s h ≡ Free
+  pub stored : (p : ℕ) → Contains h (Store p s) → slot_at s h ≡ Stored p
+  pub held : s < draws h → ((p : ℕ) → ¬ (Contains h (Store p s))) → (p : ℕ) × Contains h (Draw p s) × (slot_at s h ≡ Held p)
+
+abbrev pub TellsSlots : Type 0 → Type 0
+TellsSlots R = (buffers slots passes s : ℕ) (h : List (Event R)) → IsLegal buffers slots passes h → TellsSlot s h
 
 -- with two neighbours exchanged that may trade, a history is legal too and ends in the same places
 abbrev pub NeighboursTrade : Type 0 → Type 0

@@ -1,5 +1,5 @@
 //! Laws over every list of events, each the contract of a call that does nothing and costs nothing.
-ghost use Rattle.ppq_core.specs.Laws.{HasGiveBetween, DrawsInOrder, DrawsOnce, StoresOnce, StoresItsDraw, NeighboursTrade, RunsShowTheirHistory};
+ghost use Rattle.ppq_core.specs.Laws.{HasGiveBetween, DrawsInOrder, DrawsOnce, StoresOnce, StoresItsDraw, TellsSlots, NeighboursTrade, RunsShowTheirHistory};
 
 use ppq_record::Record;
 
@@ -10,13 +10,14 @@ pub fn buffer_laws<R: Record>()
 {}
 
 /// Slots are drawn in the order of their numbers, each at most once, and stored at most once, by the
-/// pass that drew them.
+/// pass that drew them. A slot is free, held or stored as these events tell.
 #[inline]
 pub fn slot_laws<R: Record>()
     ensures in_order { DrawsInOrder R }
     ensures drawn_once { DrawsOnce R }
     ensures stored_once { StoresOnce R }
     ensures stored_after { StoresItsDraw R }
+    ensures places { TellsSlots R }
 {}
 
 /// Neighbours of different passes may change their order, unless both draw or both are at one buffer.

@@ -1,4 +1,4 @@
-use Rattle.ppq_core.proofs.Slots.{draws_in_order, draws_once, stores_once, stores_its_draw}
+use Rattle.ppq_core.proofs.Slots.{draws_in_order, draws_once, stores_once, stores_its_draw, tells_slots}
 use Rattle.ppq_core.proofs.laws.slot_laws.Goals as goal
 
 pub returns : goal.returns
@@ -7,4 +7,5 @@ returns g c = record {
   drawn_once = draws_once _;
   stored_once = stores_once _;
   stored_after = stores_its_draw _;
+  places = tells_slots _;
 }
