@@ -1,0 +1,4 @@
+pub mod Histories
+pub mod Steps
+pub mod Ends
+pub mod Shown

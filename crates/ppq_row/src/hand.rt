@@ -1,0 +1,16 @@
+//! What a seat knows of its row.
+use std::collections::LinkedList;
+
+/// What a seat knows of its row: its view, in proofs alone. No value of it is made.
+pub struct Hand<T> {
+    /// Its part of the 2^32 shares. A view with none is spent.
+    pub shares: u64,
+    /// How many of its draws found the end of the row.
+    pub nones: u64,
+    /// Whether the row is known to be drawn to its end.
+    pub noted: bool,
+    /// The places that it drew, in order, and those of the seats that it took in.
+    pub places: LinkedList<u64>,
+    /// The items as they were put into the row.
+    pub items: LinkedList<T>,
+}
