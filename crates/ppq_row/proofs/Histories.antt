@@ -1,16 +1,15 @@
 -- The history that a counter and the views show: it is legal, and how it changes with one view.
-use Rattle.std.proofs.Common.{◌≡◌, ◌≢◌, ℕ, zero, suc, ◌+◌, ◌<◌, ◌≤◌, min, nat_lt, cond, List, [], ◌∷◌, ◌++◌, length, set, sym, refl, ap, ◌∙◌, subst, arith, eq-eqb, ne_eqb, add-one}
+use Rattle.std.proofs.Common.{◌≡◌, ◌≢◌, ℕ, zero, suc, ◌<◌, ◌≤◌, min, cond, List, [], ◌∷◌, ◌++◌, length, set, sym, refl, ap, ◌∙◌, arith, eq-eqb, ne_eqb}
 use Rattle.std.proofs.lemmas.Bool.Decides.{nat_tests}
 use mathlib.Core.Option.{some, some-injective, some-ne-none}
 use mathlib.Core.Logic.{dite}
-use native.Mathlib.Decide.{dec_le, ℕ_discrete}
+use native.Mathlib.Decide.{ℕ_discrete}
 use lib.ListN.{get_elem?}
 use Rattle.ppq_table.specs.Sums.{total, times, once_below}
 use Rattle.ppq_table.proofs.Sums.{within_at}
-use Rattle.ppq_table.proofs.Numbers.{once-in, once-out}
+use Rattle.ppq_table.proofs.Numbers.{once-in}
 use Rattle.ppq_core.specs.declared.event.Event.{Event}
 use Rattle.ppq_core.specs.declared.event.Event.TheVariants.{Draw}
-use Rattle.ppq_core.specs.declared.place.Place.{Place}
 use Rattle.ppq_core.specs.declared.place.Place.TheVariants.{Free, Held}
 use Rattle.ppq_core.specs.History.{slot_at, draws, IsLegal}
 use Rattle.ppq_row.specs.declared.hand.Hand.{Hand}

@@ -1,18 +1,16 @@
 -- What each kind of step does to the history that a state shows.
-use Rattle.std.proofs.Common.{◌≡◌, ℕ, suc, ◌+◌, ◌<◌, ◌≤◌, min, List, [], ◌∷◌, ◌++◌, length, slice_index, slice_set, set, sym, refl, ap, ◌∙◌, subst, arith, add-one, length-set}
+use Rattle.std.proofs.Common.{◌≡◌, ℕ, ◌+◌, ◌<◌, min, List, [], ◌∷◌, ◌++◌, length, set, refl, ap, ◌∙◌, arith, add-one}
 use mathlib.Core.Option.{some}
 use lib.ListN.{get_elem?}
-use Rattle.atomic_table.specs.Table.{State, Me, Act}
-use Rattle.ppq_table.specs.declared.place.Place.{Place}
-use Rattle.ppq_table.specs.Sums.{times, once_below}
+use Rattle.ppq_table.specs.Sums.{times}
 use Rattle.ppq_table.proofs.Sums.{total-set}
 use Rattle.ppq_table.proofs.Numbers.{times-append, times-same, times-other, once-in, once-out}
 use Rattle.ppq_core.specs.declared.event.Event.{Event}
 use Rattle.ppq_core.specs.declared.event.Event.TheVariants.{Draw}
 use Rattle.ppq_row.specs.declared.hand.Hand.{Hand}
 use Rattle.ppq_row.specs.Hands.{less_one, newcomer, with_place, with_none}
-use Rattle.ppq_row.specs.Histories.{holder, draws_of}
-use Rattle.ppq_row.specs.Rule.{counter, RowRule}
+use Rattle.ppq_row.specs.Histories.{draws_of}
+use Rattle.ppq_row.specs.Rule.{counter}
 use Rattle.ppq_row.specs.Shown.{StepsAreEvents}
 use Rattle.ppq_row.proofs.Histories.{listed, holder-set, holder-new, holder-more, draws_of-same, shows}
 use Rattle.ppq_row.proofs.Steps.{word_set}

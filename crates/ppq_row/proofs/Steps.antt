@@ -1,5 +1,5 @@
 -- Each kind of step keeps the rule.
-use Rattle.std.proofs.Common.{◌≡◌, ◌≢◌, ◌⊎◌, ℕ, zero, suc, ◌+◌, ◌-◌, ◌%◌, ◌^◌, ◌<◌, ◌≤◌, ◌||◌, min, Bool, true, false, cond, List, [], ◌∷◌, ◌++◌, length, slice_index, slice_set, set, sym, refl, ap, ◌∙◌, subst, ⊎_elim, arith, true≢false, length-set, mod-eq_of_lt, lt_of_not-le}
+use Rattle.std.proofs.Common.{◌≡◌, ◌≢◌, ◌⊎◌, ℕ, ◌+◌, ◌-◌, ◌%◌, ◌^◌, ◌<◌, ◌≤◌, ◌||◌, min, Bool, true, false, cond, List, [], ◌∷◌, ◌++◌, length, slice_index, slice_set, set, sym, refl, ap, ◌∙◌, subst, ⊎_elim, arith, true≢false, length-set, mod-eq_of_lt, lt_of_not-le}
 use Rattle.std.proofs.lemmas.List.Elements.{All-append, All-weaker, All-push, All-nil}
 use mathlib.Core.Option.{none, some}
 use mathlib.Core.Logic.{dite}
@@ -13,7 +13,7 @@ use Rattle.ppq_table.specs.Sums.{total, times, once_below}
 use Rattle.ppq_table.proofs.Sums.{at_within, total-set, total-split, total-set_two}
 use Rattle.ppq_table.proofs.Numbers.{times-append, once-more}
 use Rattle.ppq_row.specs.declared.hand.Hand.{Hand}
-use Rattle.ppq_row.specs.Hands.{hand, less_one, newcomer, together, spent, with_place, with_none, open_shares}
+use Rattle.ppq_row.specs.Hands.{less_one, newcomer, together, spent, with_place, with_none, open_shares}
 use Rattle.ppq_row.specs.Rule.{counter, Fits, RowRule, draw_tells}
 use Rattle.ppq_row.proofs.Histories.{shows}
 

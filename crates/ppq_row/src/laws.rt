@@ -7,5 +7,4 @@ ghost use Rattle.ppq_row.specs.Shown.{StepsAreEvents};
 #[inline]
 pub fn steps_are_events<T, R>()
     ensures { StepsAreEvents T R }
-{
-}
+{}

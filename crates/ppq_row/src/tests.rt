@@ -84,6 +84,7 @@ fn draw_all(alloc: Global, row: &Row<u64>, mut seat: RowSeat<u64>) -> Drawn
 }
 
 // Draws with so many seats more, each in a thread of its own.
+#[cycle(beside)]
 fn draw_beside<R: Threads + Sync>(
     rt: &R,
     alloc: Global,
@@ -103,11 +104,11 @@ fn draw_beside<R: Threads + Sync>(
         rt,
         move || -> Drawn
             requires { IsSync R.row × IsSeatOf row.now seat × (more ≤ seat.hand.shares) × (0 < more) }
-            ensures { IfOk result (λ r. IsSeatOf row.entry.now r.1 × (r.1.hand.shares ≡ seat.entry.hand.shares)) }
+            ensures { IfOk result (λ r. IsSeatOf row.entry.now r.1 × (r.1.hand.shares ≡ seat.hand.shares)) }
         { draw_beside(rt, alloc, row, seat, more - 1) },
         move || -> Drawn
             requires { IsSeatOf row.now other }
-            ensures { IfOk result (λ r. IsSeatOf row.entry.now r.1 × (r.1.hand.shares ≡ other.entry.hand.shares)) }
+            ensures { IfOk result (λ r. IsSeatOf row.entry.now r.1 × (r.1.hand.shares ≡ other.hand.shares)) }
         { draw_all(alloc, row, other) },
     );
     let (mut drawn, mut seat) = mine?;

@@ -1,4 +1,4 @@
-use Rattle.std.proofs.Common.{◌≡◌, ◌∙◌, ap}
+use Rattle.std.proofs.Common.{◌∙◌, ap}
 use Rattle.ppq_row.proofs.Ends.{ends}
 use Rattle.ppq_row.proofs.row.Row.close.Goals as goal
 

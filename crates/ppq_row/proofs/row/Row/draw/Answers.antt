@@ -1,4 +1,4 @@
-use Rattle.std.proofs.Common.{◌≡◌, sym, ap, ◌∙◌, arith, length, ◌<◌, ◌∷◌}
+use Rattle.std.proofs.Common.{sym, ap, ◌∙◌, arith, length, ◌<◌, ◌∷◌}
 use Rattle.atomic_table.specs.Table.{rest}
 use Rattle.ppq_table.specs.declared.place.Place.TheVariants.{Item}
 use Rattle.ppq_row.proofs.Steps.{draws_one}

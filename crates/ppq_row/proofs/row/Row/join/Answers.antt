@@ -1,4 +1,4 @@
-use Rattle.std.proofs.Common.{◌≡◌, sym, ap, ◌∙◌, arith}
+use Rattle.std.proofs.Common.{sym, ap, ◌∙◌, arith}
 use Rattle.ppq_row.proofs.Steps.{splits_whole, joins}
 use Rattle.ppq_row.proofs.row.Row.join.Goals as goal
 

@@ -1,4 +1,4 @@
-use Rattle.std.proofs.Common.{◌≡◌, ◌<◌, sym, ap, ◌∙◌, arith, subst}
+use Rattle.std.proofs.Common.{◌<◌, sym, ap, ◌∙◌, arith, subst}
 use Rattle.ppq_row.proofs.Steps.{splits_share}
 use Rattle.ppq_row.proofs.row.Row.split.Goals as goal
 
