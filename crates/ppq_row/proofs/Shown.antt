@@ -10,7 +10,7 @@ use Rattle.ppq_core.specs.declared.event.Event.TheVariants.{Draw}
 use Rattle.ppq_row.specs.declared.hand.Hand.{Hand}
 use Rattle.ppq_row.specs.Hands.{less_one, newcomer, with_place, with_none}
 use Rattle.ppq_row.specs.Histories.{draws_of}
-use Rattle.ppq_row.specs.Rule.{counter}
+use Rattle.ppq_row.specs.Rule.{counter, NeverWraps}
 use Rattle.ppq_row.specs.Shown.{StepsAreEvents}
 use Rattle.ppq_row.proofs.Histories.{listed, holder-set, holder-new, holder-more, draws_of-same, shows}
 use Rattle.ppq_row.proofs.Steps.{word_set}
@@ -45,3 +45,7 @@ module _ {T R : Type 0} where
     splits = λ items s id v r at. same_shown (min (counter s) (length items)) id s.views (newcomer v ∷ []) v (less_one v) at refl
         (λ i h. omega (arith, r.each_once i, once-in i (min (counter s) (length items)) h));
   }
+
+-- each share counts one None at most
+pub never_wraps : (T : Type 0) → NeverWraps T
+never_wraps T items s r = let a = r.within in let b = r.budget in let d = r.short in omega arith

@@ -1,6 +1,6 @@
 -- The rule of a row, and what a step on its counter tells.
 -- The one word is the counter of draws. The last slot keeps an empty list with room for all items.
-use Rattle.std.specs.Prelude.{◌≡◌, ℕ, ◌+◌, ◌<◌, ◌≤◌, true, List, ◌∷◌, All, length, min, slice_index, Vec}
+use Rattle.std.specs.Prelude.{◌≡◌, ℕ, ◌+◌, ◌^◌, ◌<◌, ◌≤◌, true, List, ◌∷◌, All, length, min, slice_index, Vec}
 use mathlib.Core.Option.{some}
 use lib.ListN.{get_elem?}
 use Rattle.std.specs.Global.{Global}
@@ -55,3 +55,7 @@ module _ {T : Type 0} where
       (st.slots ≡ length m.0.items + 1)
       × (n < length m.0.items → (x : T) × Found m.0 n x m'.0 × (m'.1 ≡ (n, Item x) ∷ m.1))
       × (length m.0.items ≤ n → (m'.0 ≡ with_none m.0) × (m'.1 ≡ m.1))
+
+-- in each state that meets the rule the counter is far below its end
+abbrev pub NeverWraps : Type 0 → Type 0
+NeverWraps T = (items : List T) (s : State (Place T) (Hand T)) → RowRule items s → counter s < 2 ^ 33

@@ -4,15 +4,11 @@ use mathlib.Core.Option.{some}
 use lib.ListN.{get_elem?}
 use Rattle.atomic_table.specs.Seated.{TableId}
 use Rattle.ppq_row.specs.declared.hand.Hand.{Hand}
+use Rattle.ppq_row.specs.Known.{Known}
 use Rattle.ppq_row.specs.Hands.{with_place, with_none}
 
--- which row a seat is of, and what it knows
-pub record Seated (T : Type 0) : Type 0 where
-  pub row : TableId
-  pub hand : Hand T
-
 module _ {T : Type 0} where
-  abbrev pub IsSeatOf : TableId → Seated T → Type 0
+  abbrev pub IsSeatOf : TableId → Known T → Type 0
   IsSeatOf row seat = seat.row ≡ row
 
   -- the place i was drawn, with the item that was put in there. It is greater than each place before

@@ -6,9 +6,9 @@
 //! that were not drawn.
 //!
 //! What holds between any two steps of any threads is the rule in `specs/Rule`: each place below
-//! the counter stands in the view of exactly one seat, and the counter cannot wrap. The places and
-//! the counter show a history of draws, of which each step is one event or none
-//! ([`steps_are_events`]).
+//! the counter stands in the view of exactly one seat, and the counter cannot wrap
+//! ([`counter_never_wraps`]). Counter and views show a history of draws, of which each step is one
+//! event or none ([`steps_are_events`]).
 //!
 //! | Call | Steps on the counter |
 //! |---|---|
@@ -27,7 +27,7 @@ mod seat;
 mod tests;
 
 pub use hand::Hand;
-pub use laws::steps_are_events;
+pub use laws::{counter_never_wraps, steps_are_events};
 pub use row::Row;
 pub use rule::DrawnOnce;
 pub use seat::RowSeat;

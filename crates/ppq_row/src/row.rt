@@ -65,6 +65,8 @@ impl<T: Send + Drop> Row<T> {
         ensures row { IsSeatOf self.now seat.new }
         ensures drawn { IfSome result (λ p. (seat.old.hand.noted ≡ false) × Drew seat.old.hand p.0 p.1 seat.new.hand) }
         ensures none { IfNone result (NoneLeft seat.old.hand seat.new.hand) }
+        ensures noted { IfNone result (seat.new.hand.noted ≡ true) }
+        ensures shares { seat.new.hand.shares ≡ seat.old.hand.shares }
     {
         if seat.noted {
             return None;

@@ -16,9 +16,9 @@ pub struct RowSeat<T> {
 
 impl<T> Model for RowSeat<T> {
     ghost use Rattle.std.specs.Prelude.{◌≡◌, ◌<◌};
-    ghost use Rattle.ppq_row.specs.Seats.{Seated};
+    ghost use Rattle.ppq_row.specs.Known.{Known};
 
-    ghost Value = { Seated T };
+    ghost Value = { Known T };
 
     ghost view = { λ s. record { row = s.seat.table_id; hand = s.seat.me.0 } };
 
