@@ -5,13 +5,15 @@ use Rattle.ppq_outside.specs.Told.{next_count, bytes_or_none}
 use Rattle.ppq_outside.specs.declared.fault.OutsideFault.{OutsideFault}
 use Rattle.ppq_outside.specs.declared.fault.OutsideFault.TheVariants.{Failed}
 
--- a library in memory: names with their bytes, of which the first entry of a name counts, the numbers of the calls that are to fail, how many calls were made, and how many failed
+-- a library in memory: names with their bytes, of which the first entry of a name counts, the numbers
+-- of the calls that are to fail, how many calls were made, and how many of them failed
 pub record LibraryState : Type 0 where
   pub files : List (List ℕ × List ℕ)
   pub plan : List ℕ
   pub calls : ℕ
   pub faults : ℕ
 
+-- no file, no call that is to fail, and no call yet
 abbrev pub empty_library : LibraryState
 empty_library = record { files = []; plan = []; calls = 0; faults = 0 }
 

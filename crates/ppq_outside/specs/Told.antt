@@ -1,4 +1,4 @@
--- What a library and a sink tell, and the counts of their faults.
+-- What slots, libraries and sinks tell, and how their counts rise.
 use Rattle.std.specs.Prelude.{◌≡◌, ℕ, ◌+◌, ◌-◌, ◌^◌, ◌≤◌, List, [], ◌++◌, length, take, drop, min, Option, Some, None, Result, OnErr, IsErrOf, IfSome, IsSome, OnOk}
 use Rattle.ppq_outside.specs.declared.fault.OutsideFault.{OutsideFault}
 use Rattle.ppq_outside.specs.declared.fault.OutsideFault.TheVariants.{Failed}
@@ -35,12 +35,14 @@ bytes_or_none (Some bytes) = bytes
 abbrev pub TellsLength : Option (List ℕ → Option (List ℕ)) → List ℕ → Option ℕ → Type 0
 TellsLength told name size = IfSome told (λ files. size ≡ length_of (files name))
 
--- the first count bytes of into are those of the file from a place on, and none only at its end or for an empty into
+-- the first count bytes of into are those of a file from a place on; count is 0 only at or past the
+-- file's end, or for an empty into
 pub record ReadsAt (bytes : List ℕ) (at : ℕ) (into : List ℕ) (count : ℕ) : Type 0 where
   pub bytes_are : take count into ≡ take count (drop at bytes)
   pub in_file : count ≤ length bytes - at
   pub end : count ≡ 0 → min (length into) (length bytes - at) ≡ 0
 
+-- where the library tells, a read gave the file's bytes from a place on
 abbrev pub TellsBytes : Option (List ℕ → Option (List ℕ)) → List ℕ → ℕ → List ℕ → ℕ → Type 0
 TellsBytes told name at into count = IfSome told (λ files. ReadsAt (bytes_or_none (files name)) at into count)
 

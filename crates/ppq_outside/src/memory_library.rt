@@ -1,8 +1,8 @@
 //! A library in memory.
-ghost use Rattle.std.specs.Prelude.{◌≡◌, ◌≤◌, ◌<◌, ◌∷◌, ◌++◌, [], List, ℕ, Option, Some, None, length, IfOk, OnOk, OnErr, IsTrue, min, ◌-◌, if◌then◌else◌, bytes_eq};
-ghost use Rattle.ppq_outside.specs.Told.{Rose, ReadsAt, HasCause, TellsLength, TellsBytes, length_of};
-ghost use Rattle.ppq_outside.specs.MemoryLibrary.{lookup};
+ghost use Rattle.std.specs.Prelude.{◌≡◌, ◌≤◌, ◌-◌, ◌∷◌, ◌++◌, [], Some, length, min, IfOk, OnOk, OnErr, IsTrue};
+ghost use Rattle.ppq_outside.specs.Told.{Rose, ReadsAt, HasCause, TellsBytes, length_of};
 ghost use Rattle.ppq_outside.specs.Entries.{files_of, Finds};
+ghost use Rattle.ppq_outside.specs.MemoryLibrary.{lookup};
 
 use crate::{Host, Library, Memory, OutsideFault};
 use std::alloc::Global;
@@ -25,7 +25,9 @@ pub struct MemLibrary {
     entries: Vec<Entry>,
     /// The numbers of the calls that are to fail.
     plan: Vec<u64>,
+    /// How many calls were made.
     calls: u64,
+    /// How many of them failed.
     faults: u64,
 }
 
@@ -54,7 +56,8 @@ impl MemLibrary {
         }
     }
 
-    /// Gives a name these bytes, also where it has others. It costs a move of every entry.
+    /// Gives a name these bytes, also where it has others. It costs a move of every entry. Where
+    /// memory is wanting, the library is as before.
     pub fn add(&mut self, alloc: Global, name: &str, bytes: &[u8]) -> Result<(), Memory>
         ensures ok { OnOk result (self.new ≡ record self.old { files = (name.now, bytes.now) ∷ self.old.files }) }
         ensures err { OnErr result (self.new ≡ self.old) }
@@ -66,7 +69,8 @@ impl MemLibrary {
         Ok(self.entries.insert(0, entry)?)
     }
 
-    /// Plans that the call with this number, from 1, fails.
+    /// Plans that the call with this number, from 1, fails. Where memory is wanting, the library is as
+    /// before.
     pub fn fail_call(&mut self, number: u64) -> Result<(), Memory>
         ensures ok { OnOk result (self.new ≡ record self.old { plan = self.old.plan ++ number ∷ [] }) }
         ensures err { OnErr result (self.new ≡ self.old) }
@@ -102,7 +106,7 @@ fn find<'a>(entries: &'a [Entry], name: &str) -> Option<&'a [u8]>
     None
 }
 
-/// Copies what stands from a place on.
+/// Copies bytes from a place on over the first of `into`, as many as there are and fit.
 fn copy_from(bytes: &[u8], at: u64, into: &mut [u8]) -> usize
     ensures count { result ≡ min (length into.new) (length bytes.now - at) }
     ensures bytes { ReadsAt bytes.now at into.new result }
@@ -117,7 +121,7 @@ fn copy_from(bytes: &[u8], at: u64, into: &mut [u8]) -> usize
 }
 
 impl Library for MemLibrary {
-    ghost use Rattle.ppq_outside.specs.MemoryLibrary.{lookup, answer, after_call, count_at};
+    ghost use Rattle.ppq_outside.specs.MemoryLibrary.{answer, after_call, count_at};
 
     ghost told = { λ m. Some (lookup m.files) };
 

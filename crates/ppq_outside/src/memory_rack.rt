@@ -1,6 +1,5 @@
 //! A device in memory.
-ghost use Rattle.std.specs.Prelude.{◌≡◌, ◌≤◌, ◌+◌, List, ℕ, Option, Some, length, replicate, IfOk, OnOk, IsOk, IsErrOf, is_ok};
-ghost use Rattle.ppq_outside.specs.Told.{next_count, HasCause, HasOneCause, Counts, Keeps, StillTells, IsFresh};
+ghost use Rattle.std.specs.Prelude.{◌≡◌, IfOk, IsErrOf};
 
 use crate::{Host, MemSlot, OutsideFault, Rack};
 use std::alloc::Global;
@@ -32,6 +31,8 @@ impl MemRack {
 impl Rack for MemRack {
     type Slot = MemSlot;
 
+    ghost use Rattle.ppq_outside.specs.MemoryDevice.{zero_slot};
+
     ghost tells = { λ _. Unit {0} };
 
     ghost faults = { λ r. r.faults };
@@ -49,7 +50,7 @@ impl Rack for MemRack {
         number: u32,
         bytes: usize,
     ) -> Result<MemSlot, OutsideFault>
-        ensures slot { IfOk result (λ slot. slot ≡ record { number = number; held = replicate bytes 0; writes = 0; reads = 0 }) }
+        ensures slot { IfOk result (λ slot. slot ≡ zero_slot number bytes) }
         ensures fails_never { IsErrOf result OutsideFault.Failed → ⊥ }
         ensures same { self.new ≡ self.old }
     {

@@ -1,5 +1,5 @@
 //! A sink in memory.
-ghost use Rattle.std.specs.Prelude.{◌≡◌, ◌≤◌, ◌+◌, ◌-◌, List, [], ℕ, Option, Some, None, length, IfOk, OnOk, is_ok, vec_len, vec_capacity};
+ghost use Rattle.std.specs.Prelude.{◌≡◌, [], Some, None, IfOk, is_ok};
 ghost use Rattle.ppq_outside.specs.MemorySink.{at_most, limit_from};
 
 use crate::{Failed, Host, Memory, Sink};
@@ -12,12 +12,15 @@ use std::marker::Model;
 /// planned, or where its piece is longer than the room that is left; no other put fails.
 #[derive(Drop)]
 pub struct MemSink {
+    /// What it took.
     bytes: Vec<u8>,
     /// How many bytes fit in all.
     room: usize,
     /// The puts that are to fail, numbered from 1, each with how many bytes it may take.
     plan: Vec<(u64, usize)>,
+    /// How many puts were made.
     puts: u64,
+    /// How many of them failed.
     faults: u64,
 }
 
@@ -65,7 +68,7 @@ impl MemSink {
     }
 }
 
-/// How many bytes a plan leaves to a put, and `None` where it is not planned to fail.
+/// How many bytes a put may take by a plan, and `None` where it is not planned to fail.
 fn limit_of(plan: &[(u64, usize)], put: u64) -> Option<usize>
     ensures { result ≡ limit_from None plan.now put }
 {
@@ -89,7 +92,7 @@ fn no_more(limit: Option<usize>, count: usize) -> usize
 }
 
 impl Sink for MemSink {
-    ghost use Rattle.ppq_outside.specs.MemorySink.{after_put, takes_whole};
+    ghost use Rattle.ppq_outside.specs.MemorySink.{after_put, put_succeeds};
     ghost use Rattle.ppq_outside.specs.Told.{HasOneCause};
 
     ghost told = { λ s. Some s.taken };
@@ -100,8 +103,10 @@ impl Sink for MemSink {
         self.faults
     }
 
+    /// Takes no memory. It appends what fits and the plan leaves, and answers Ok exactly where that is
+    /// the whole piece and no failure was planned. It looks through the plan once.
     fn put<H: Host>(&mut self, _rt: &H, bytes: &[u8]) -> Result<(), Failed>
-        ensures ok { is_ok result ≡ takes_whole self.old bytes.now }
+        ensures ok { is_ok result ≡ put_succeeds self.old bytes.now }
         ensures after { self.new ≡ after_put self.old bytes.now }
         ensures cause { HasOneCause self.old.faults self.new.faults result }
     {

@@ -1,6 +1,6 @@
 //! A block in memory.
-ghost use Rattle.std.specs.Prelude.{◌≡◌, ◌≤◌, ◌+◌, List, ℕ, Option, Some, length, replicate, IfOk, OnOk, IsOk};
-ghost use Rattle.ppq_outside.specs.Told.{next_count, HasOneCause, Counts, Keeps, StillTells};
+ghost use Rattle.std.specs.Prelude.{◌≡◌, Some, length, IfOk, IsOk};
+ghost use Rattle.ppq_outside.specs.Told.{next_count};
 
 use crate::{Failed, Host, Slot};
 use std::alloc::{AllocError, Global};
@@ -24,9 +24,11 @@ impl Model for MemSlot {
 }
 
 impl MemSlot {
+    ghost use Rattle.ppq_outside.specs.MemoryDevice.{zero_slot};
+
     /// A block that holds so many zeros, for which no call was made yet.
     pub(crate) fn zeros(alloc: Global, number: u32, size: usize) -> Result<MemSlot, AllocError>
-        ensures { IfOk result (λ slot. slot ≡ record { number = number; held = replicate size 0; writes = 0; reads = 0 }) }
+        ensures { IfOk result (λ slot. slot ≡ zero_slot number size) }
     {
         Ok(MemSlot {
             number,
@@ -70,7 +72,7 @@ impl Slot for MemSlot {
         self.reads
     }
 
-    /// Answers Ok always.
+    /// Answers Ok always, and the slot holds the bytes.
     fn write<H: Host>(&mut self, _rt: &H, bytes: &[u8]) -> Result<(), Failed>
         requires { length bytes.now ≡ length self.old.held }
         ensures ok { IsOk result }
@@ -81,7 +83,7 @@ impl Slot for MemSlot {
         Ok(())
     }
 
-    /// Answers Ok always.
+    /// Answers Ok always, and gives what the slot holds.
     fn read<H: Host>(&mut self, _rt: &H, into: &mut [u8]) -> Result<(), Failed>
         requires { length into.old ≡ length self.old.held }
         ensures ok { IsOk result }
