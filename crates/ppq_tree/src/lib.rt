@@ -1,0 +1,15 @@
+//! The tree of minima: the least of a fixed number of leaves, each of which has a record or none.
+//!
+//! A tournament tree after Knuth (The Art of Computer Programming, volume 3, section 5.4.1): each
+//! inner node is a match between its two children and knows the leaf that won. A leaf that changes
+//! plays its matches again, one on each level, which is counted by `Steps`.
+#![tactic(auto)]
+
+mod matches;
+mod min_tree;
+mod steps;
+#[cfg(test)]
+mod tests;
+
+pub use min_tree::MinTree;
+pub use steps::Steps;
