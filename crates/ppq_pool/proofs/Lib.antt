@@ -2,3 +2,4 @@ pub mod Lists
 pub mod Shown
 pub mod Steps
 pub mod Ends
+pub mod Holding

@@ -20,6 +20,8 @@ mod pool;
 mod rule;
 mod seat;
 mod shaped;
+#[cfg(test)]
+mod tests;
 
 pub use hand::{Hand, Move};
 pub use pool::Pool;

@@ -80,7 +80,8 @@ impl<T: Shaped + Send + Drop> Pool<T> {
         ensures old { seat.new.hand ≡ less_one seat.old.hand }
         ensures new { result.hand ≡ newcomer seat.old.hand }
     {
-        let new = self.table.shared.split_seat::<OneShare>(&mut seat.seat);
+        let shared = &self.table.shared;
+        let new = shared.split_seat::<OneShare>(&mut seat.seat);
         PoolSeat { seat: new }
     }
 
@@ -91,8 +92,7 @@ impl<T: Shaped + Send + Drop> Pool<T> {
         ensures both { seat.new.hand ≡ together seat.old.hand other.hand }
     {
         let PoolSeat { seat: theirs } = other;
-        self.table
-            .shared
-            .join_seat::<Together>(&mut seat.seat, theirs);
+        let shared = &self.table.shared;
+        shared.join_seat::<Together>(&mut seat.seat, theirs);
     }
 }

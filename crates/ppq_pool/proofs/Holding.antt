@@ -1,0 +1,40 @@
+-- What a seat still holds after it took or gave another item, for callers.
+use Rattle.std.proofs.Common.{◌≡◌, ◌≢◌, ℕ, ◌+◌, ◌<◌, List, [], ◌∷◌, sym, ap, subst, refl, arith}
+use Rattle.ppq_table.specs.Sums.{times}
+use Rattle.ppq_table.proofs.Numbers.{times-append, times-same, times-other}
+use Rattle.ppq_pool.specs.declared.hand.Hand.{Hand}
+use Rattle.ppq_pool.specs.Hands.{together, with_give}
+use Rattle.ppq_pool.specs.Seats.{Holds, Takes, FoundHeld}
+use Rattle.ppq_pool.proofs.Lists.{times-without}
+
+module _ {T : Type 0} where
+  -- how often an item is listed after a take of i
+  pub Takes-times : (v w : Hand T) (i k : ℕ) → Takes v i w → times k w.numbers ≡ times k v.numbers + times k (i ∷ [])
+  Takes-times v w i k t = subst (λ (l : List ℕ). times k l ≡ times k v.numbers + times k (i ∷ [])) (sym t.numbers) (times-append k v.numbers (i ∷ []))
+
+  -- what was taken is held
+  pub Takes-holds : (v w : Hand T) (i : ℕ) → Takes v i w → Holds w i
+  Takes-holds v w i t = omega (arith, Takes-times v w i i t, times-same i i refl)
+
+  -- what was held is held after a take
+  pub Takes-keeps : (v w : Hand T) (i k : ℕ) → Takes v i w → Holds v k → Holds w k
+  Takes-keeps v w i k t h = omega (arith, Takes-times v w i k t, h)
+
+  -- what was held is held after a None
+  pub FoundHeld-keeps : (n : ℕ) (v w : Hand T) (k : ℕ) → FoundHeld n v w → Holds v k → Holds w k
+  FoundHeld-keeps n v w k f h = subst (λ (z : Hand T). Holds z k) (sym f.same) h
+
+  -- two numbers that were taken one after another differ
+  pub Takes-apart : (v w : Hand T) (i k : ℕ) → Takes v i w → Holds v k → k ≢ i
+  Takes-apart v w i k t h e = let nobody = t.was_free in omega (arith, nobody, h, ap (λ (z : ℕ). times z v.numbers) e)
+
+  -- what was held is held after another item is given back
+  pub with_give-keeps : (v : Hand T) (i k : ℕ) (x : T) → Holds v i → k ≢ i → Holds v k → Holds (with_give i x v) k
+  with_give-keeps v i k x held ne h = omega (arith, h, times-without i k v.numbers held, times-other i k (λ e. ne (sym e)))
+
+  -- a join keeps what both held
+  pub together-keeps : (v w : Hand T) (k : ℕ) → Holds v k → Holds (together v w) k
+  together-keeps v w k h = omega (arith, h, times-append k v.numbers w.numbers)
+
+  pub together-takes_over : (v w : Hand T) (k : ℕ) → Holds w k → Holds (together v w) k
+  together-takes_over v w k h = omega (arith, h, times-append k v.numbers w.numbers)
