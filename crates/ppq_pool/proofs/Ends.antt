@@ -1,23 +1,24 @@
 -- The rule at the start, and what is left when the last seat closes the pool.
-use Rattle.std.proofs.Common.{◌≡◌, ◌⊎◌, ℕ, zero, suc, ◌+◌, ◌-◌, ◌<◌, ◌≤◌, ◌==◌, if◌then◌else◌, List, [], ◌∷◌, ◌++◌, All, Contains, map, take, length, get_or, slice_index, sym, refl, ap, ◌∙◌, subst, inl, inr, ⊎_elim, arith, eq-eqb, ne_eqb, Vec, None, Some, replicate, length-append, append-nil}
+use Rattle.std.proofs.Common.{◌≡◌, ◌⊎◌, ℕ, zero, suc, ◌+◌, ◌-◌, ◌<◌, if◌then◌else◌, List, [], ◌∷◌, ◌++◌, All, Contains, map, take, length, get_or, slice_index, sym, refl, ap, ◌∙◌, subst, inl, inr, ⊎_elim, arith, eq-eqb, ne_eqb, Vec, None, replicate, length-append, append-nil}
 use Rattle.std.specs.Global.{Global}
 use Rattle.std.proofs.lemmas.List.{map-append}
 use Rattle.std.proofs.lemmas.List.Elements.{All-nil, All-push, All-weaker, All-head, All-tail}
 use mathlib.Core.Option.{some, some-injective, some-ne-none}
 use lib.ListN.{get_elem?}
-use Rattle.atomic_table.specs.Table.{State, Final, Seen, opening}
+use Rattle.atomic_table.specs.Table.{Final, Seen, opening}
 use Rattle.ppq_core.specs.History.{buffer_at}
 use Rattle.ppq_core.specs.declared.place.Place.TheVariants.{Held}
 use Rattle.ppq_table.specs.declared.place.Place.{Place}
 use Rattle.ppq_table.specs.declared.place.Place.TheVariants.{Empty, Item, Room}
 use Rattle.ppq_table.specs.Places.{IsLaid, HasRoom, items_in}
-use Rattle.ppq_table.specs.Sums.{total, times, all_shares}
+use Rattle.ppq_table.specs.Sums.{times, all_shares}
 use Rattle.ppq_table.proofs.Sums.{at_only, at_within, total_alone}
 use Rattle.ppq_table.proofs.Numbers.{upto, upto-times}
 use Rattle.ppq_table.proofs.Places.{item-injective, laid_item, laid_last, laid_length, items_in-more}
 use Rattle.ppq_pool.specs.declared.hand.Hand.{Hand}
 use Rattle.ppq_pool.specs.Hands.{first_hand, common_shape}
-use Rattle.ppq_pool.specs.Rule.{holders, moves_of, WasPut, Fits, IsFree, IsHeld, PoolRule}
+use Rattle.ppq_pool.specs.Histories.{moves_of}
+use Rattle.ppq_pool.specs.Rule.{holders, Fits, IsFree, IsHeld, PoolRule}
 use Rattle.ppq_pool.specs.Seats.{others_below, IsLeft}
 use Rattle.ppq_pool.proofs.Lists.{None-ne-Some, Contains-numbered}
 use Rattle.ppq_pool.proofs.Steps.{Room-ne-Item, own_item}
@@ -60,7 +61,7 @@ module _ {T : Type 0} where
           room_home = (r, ap (λ (k : ℕ). get_elem? (map some (map Item xs ++ Room r ∷ [])) k) last ∙ laid_last xs (Room r), (laid.2.0, let c = laid.2.1 in omega arith));
           shares_add = refl;
           each_item = λ i h. let it = at_within xs i (omega arith) in inl (zeros (i + 1), refl, (it.0, laid_item xs (Room r) i it.0 it.1, all_at (λ x. shape_of x ≡ shape) xs i it.0 shapes it.1));
-          each_view = at_only (Fits shape _) first (record { same_shape = λ _. refl; spent_nothing = λ z. absurd (omega arith); in_range = All-nil (λ i. i + 1 < _); places_home = λ i lists away. absurd (omega arith) });
+          each_view = at_only (Fits shape _) first (record { same_shape = λ _. refl; spent_nothing = λ z. absurd (omega arith); in_range = All-nil (λ i. i + 1 < _); places_home = λ i lists away. absurd (omega arith); place_out = λ i e. absurd (None-ne-Some i e) });
           each_put = λ i x home. (0, first, refl, subst (λ (k : ℕ). Contains first.put (k, x)) (let e : 0 + i ≡ i = omega arith in e) (Contains-numbered 0 i x xs (laid_back xs r i x home)));
           shown = λ _. (
             [],
@@ -68,7 +69,7 @@ module _ {T : Type 0} where
               legal = tt;
               when_free = λ i lt z. refl;
               when_held = λ i j v e. at_only (λ (u : Hand T). 0 < times i u.numbers → buffer_at {R = T} i [] ≡ Held j) first (λ lists. absurd (omega arith)) j v e;
-              moved = λ j v e. at_only (λ (u : Hand T). moves_of {T = T} j [] ≡ u.moves) first refl j v e;
+              moved = λ j v e. at_only (λ (u : Hand T). moves_of {R = T} j [] ≡ u.moves) first refl j v e;
             },
           );
         })

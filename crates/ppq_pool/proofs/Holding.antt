@@ -1,5 +1,5 @@
 -- What a seat still holds after it took or gave another item, for callers.
-use Rattle.std.proofs.Common.{◌≡◌, ◌≢◌, ℕ, ◌+◌, ◌<◌, List, [], ◌∷◌, sym, ap, subst, refl, arith}
+use Rattle.std.proofs.Common.{◌≡◌, ◌≢◌, ℕ, ◌+◌, List, [], ◌∷◌, sym, ap, subst, refl, arith}
 use Rattle.ppq_table.specs.Sums.{times}
 use Rattle.ppq_table.proofs.Numbers.{times-append, times-same, times-other}
 use Rattle.ppq_pool.specs.declared.hand.Hand.{Hand}

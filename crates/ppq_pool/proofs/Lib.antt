@@ -3,3 +3,4 @@ pub mod Shown
 pub mod Steps
 pub mod Ends
 pub mod Holding
+pub mod Events

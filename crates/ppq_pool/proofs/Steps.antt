@@ -1,5 +1,5 @@
 -- Each kind of step keeps the rule, and tells what it says it tells.
-use Rattle.std.proofs.Common.{◌≡◌, ◌≢◌, ◌⊎◌, ℕ, zero, suc, ◌+◌, ◌-◌, ◌<◌, ◌≤◌, List, [], ◌∷◌, ◌++◌, All, Contains, length, slice_index, set, get_or, sym, refl, ap, ◌∙◌, subst, inl, inr, ⊎_elim, arith, length-set, get_or-set_other, get_or-set_same, Vec, Some, None, true, false, true≢false, Bool}
+use Rattle.std.proofs.Common.{◌≡◌, ◌≢◌, ◌⊎◌, ℕ, zero, suc, ◌+◌, ◌-◌, ◌<◌, ◌≤◌, List, [], ◌∷◌, ◌++◌, All, Contains, length, slice_index, set, sym, refl, ap, ◌∙◌, subst, inl, inr, ⊎_elim, arith, length-set, get_or-set_other, get_or-set_same, Vec, Some, None, true, false, true≢false, Bool}
 use Rattle.std.specs.Global.{Global}
 use Rattle.std.proofs.lemmas.List.Elements.{All-append, All-push, All-nil, Contains-append_left, Contains-append_right, Contains-push}
 use mathlib.Core.Option.{Option, none, some, some-injective, some-ne-none}
@@ -7,7 +7,7 @@ use mathlib.Core.Logic.{dite}
 use native.Mathlib.Decide.{ℕ_discrete}
 use lib.ListN.{get_elem?}
 use Rattle.atomic_table.specs.Table.{State, Me, step, Act, keeps, takes, gives, Valid, carried_after, stepped, Allows, Splits, Joins, rest}
-use Rattle.atomic_table.proofs.Lists.{at_set, at_longer, at_last, at_snoc, set_else, set_here, set_again}
+use Rattle.atomic_table.proofs.Lists.{at_set, at_longer, at_snoc, set_else, set_here, set_again}
 use Rattle.ppq_core.specs.declared.event.Event.{Event}
 use Rattle.ppq_core.specs.declared.event.Event.TheVariants.{Take, Give}
 use Rattle.ppq_table.specs.declared.place.Place.{Place}
@@ -18,8 +18,9 @@ use Rattle.ppq_table.proofs.Sums.{within_at, total-set, total-snoc, one_of_total
 use Rattle.ppq_table.proofs.Numbers.{times-append, times-same, times-other}
 use Rattle.ppq_table.proofs.Places.{item-injective}
 use Rattle.ppq_pool.specs.declared.hand.Hand.{Hand}
-use Rattle.ppq_pool.specs.Hands.{without, elsewhere, less_one, newcomer, together, spent, with_claim, with_note, with_place, with_give}
-use Rattle.ppq_pool.specs.Rule.{holders, ShowsHistory, NoneSpent, WasPut, Fits, IsFree, IsHeld, PoolRule, claimed_at, claimed, settled, reached_at, reached, cleared_at, cleared}
+use Rattle.ppq_pool.specs.Hands.{less_one, newcomer, together, spent, with_claim, with_note, with_place, with_give}
+use Rattle.ppq_pool.specs.Histories.{ShowsHistory}
+use Rattle.ppq_pool.specs.Rule.{holders, NoneSpent, WasPut, Fits, IsFree, IsHeld, PoolRule, claimed_at, claimed, settled, reached_at, reached, cleared_at, cleared}
 use Rattle.ppq_pool.proofs.Lists.{Some-injective, None-ne-Some, times-without, All-without, Contains-none, Contains-elsewhere}
 use Rattle.ppq_pool.proofs.Shown.{none_spent_before, none_spent_before_split, some_spent, shown_still, shown_take, shown_give, shown_split}
 
@@ -94,12 +95,12 @@ module _ {T : Type 0} where
     moves : (s : St) (r : Rule s) (id : ℕ) (v w : Hand T) (i m : ℕ) (h : Option (Place T)) → get_elem? s.views id ≡ some v → i + 1 < length s.homes
         → 0 < v.shares → w.shares ≡ v.shares → w.shape ≡ v.shape → holders i s.views ≡ times i v.numbers
         → ((k : ℕ) → k ≢ i → times k w.numbers ≡ times k v.numbers) → All (λ k. k + 1 < length s.homes) w.numbers
-        → ((k : ℕ) → k ≢ i → 0 < times k w.numbers → get_elem? s.homes k ≡ some (some Empty)) → (0 < times i w.numbers → ¬ (w.in_hand ≡ Some i) → h ≡ some Empty)
+        → ((k : ℕ) → k ≢ i → 0 < times k w.numbers → get_elem? s.homes k ≡ some (some Empty)) → (0 < times i w.numbers → ¬ (w.in_hand ≡ Some i) → h ≡ some Empty) → ((k : ℕ) → w.in_hand ≡ Some k → (k ≡ i) × (0 < times i w.numbers) × (h ≡ none))
         → ((k : ℕ) (x : T) → k ≢ i → Contains v.put (k, x) → Contains w.put (k, x)) → ((x : T) → h ≡ some (Item x) → Contains w.put (i, x))
         → (NoneSpent (set s.views id w) → (e : List (Event T)) × ShowsHistory (length s.homes - 1) (set s.words (i + 1) m) (set s.views id w) e)
         → IsFree shape_of shape m (times i w.numbers) (some h) ⊎ IsHeld shape_of shape m (times i w.numbers)
         → Rule record { words = set s.words (i + 1) m; homes = set s.homes i h; views = set s.views id w }
-    moves s r id v w i m h at near some_share same_shares same_shape alone others ranged homes_else home_here puts put_here shown now = let vs : List (Hand T) = set s.views id w in let hs : Homes = set s.homes i h in
+    moves s r id v w i m h at near some_share same_shares same_shape alone others ranged homes_else home_here out puts put_here shown now = let vs : List (Hand T) = set s.views id w in let hs : Homes = set s.homes i h in
         let n : ℕ = length s.homes in let same_length : length hs ≡ n = length-set s.homes i h in
         let ws : List ℕ = set s.words (i + 1) m in
         let Ok : ℕ → Type 0 = λ k. IsFree shape_of shape (slice_index ws (k + 1)) (holders k vs) (get_elem? hs k) ⊎ IsHeld shape_of shape (slice_index ws (k + 1)) (holders k vs) in
@@ -115,6 +116,8 @@ module _ {T : Type 0} where
               (λ e. subst (λ (z : ℕ). get_elem? hs z ≡ some (some Empty)) (sym e) (set_here s.homes i h (omega arith) ∙ ap (λ (z : Option (Place T)). some z)
               (home_here (subst (λ (z : ℕ). 0 < times z w.numbers) e lists) (λ own. away (own ∙ ap (λ (z : ℕ). Some z) (sym e))))))
               (λ ne. set_else s.homes i k h ne ∙ homes_else k ne lists);
+          place_out = λ k own. let o = out k own in
+              (subst (λ (z : ℕ). 0 < times z w.numbers) (sym o.0) o.1, subst (λ (z : ℕ). get_elem? hs z ≡ some none) (sym o.0) (set_here s.homes i h (omega arith) ∙ ap (λ (z : Option (Place T)). some z) o.2));
         } in
         let count : (k : ℕ) → holders k vs + times k v.numbers ≡ holders k s.views + times k w.numbers = λ k. total-set (λ u. times k u.numbers) s.views id v w at in
         record {
@@ -136,6 +139,7 @@ module _ {T : Type 0} where
                 spent_nothing = f.spent_nothing;
                 in_range = subst (λ (z : ℕ). All (λ k. k + 1 < z) u.numbers) (sym same_length) f.in_range;
                 places_home = λ k lists away. set_else s.homes i k h (λ same. absurd (omega (arith, none_here, ap (λ (z : ℕ). times z u.numbers) same))) ∙ f.places_home k lists away;
+                place_out = λ k own. let o = f.place_out k own in let lists = o.0 in (lists, set_else s.homes i k h (λ same. absurd (omega (arith, lists, none_here, ap (λ (z : ℕ). times z u.numbers) same))) ∙ o.1);
               })
               (at_set s.views id j w u e);
           each_put = λ k x home. dite (ℕ_discrete k i)
@@ -150,7 +154,7 @@ module _ {T : Type 0} where
         }
 
     -- a held item is with the view that lists it, alone, and its word is 1
-    listed : (s : St) (r : Rule s) (id : ℕ) (v : Hand T) (i : ℕ) → get_elem? s.views id ≡ some v → i + 1 < length s.homes → 0 < times i v.numbers
+    pub listed : (s : St) (r : Rule s) (id : ℕ) (v : Hand T) (i : ℕ) → get_elem? s.views id ≡ some v → i + 1 < length s.homes → 0 < times i v.numbers
         → (holders i s.views ≡ times i v.numbers) × (times i v.numbers ≡ 1) × (slice_index s.words (i + 1) ≡ 1)
     listed s r id v i at near lists = ⊎_elim
         (λ (f : IsFree shape_of shape (slice_index s.words (i + 1)) (holders i s.views) (get_elem? s.homes i)). let nobody = f.1 in absurd (omega (arith, nobody, one_of_total (λ u. times i u.numbers) s.views id v at)))
@@ -159,7 +163,7 @@ module _ {T : Type 0} where
         (r.each_item i near)
 
     -- a word that is 1 stays as it was
-    same_words : (s : St) (r : Rule s) (i : ℕ) → i + 1 < length s.homes → slice_index s.words (i + 1) ≡ 1 → set s.words (i + 1) 1 ≡ s.words
+    pub same_words : (s : St) (r : Rule s) (i : ℕ) → i + 1 < length s.homes → slice_index s.words (i + 1) ≡ 1 → set s.words (i + 1) 1 ≡ s.words
     same_words s r i near word = set_again s.words (i + 1) 1 (at_word s.words (i + 1) 1 (subst (λ (z : ℕ). i + 1 < z) (sym r.wide) near) word)
 
     -- a step that changes neither words nor numbers is no event
@@ -194,6 +198,7 @@ module _ {T : Type 0} where
           it.1,
           moves s r id v w i 1 none at near some_share refl refl (omega (arith, holding, nobody)) others (All-push (λ k. k + 1 < length s.homes) v.numbers i old.in_range near)
               (λ k ne lists. old.places_home k (omega (arith, others k ne, lists)) (λ e. None-ne-Some k (sym no_place ∙ e))) (λ lists away. absurd (away refl))
+              (λ k e. (sym (Some-injective i k e), omega (arith, times-append i v.numbers (i ∷ []), times-same i i refl), refl))
               (λ k x ne has. Contains-elsewhere i k x v.put ne has) (λ x e. absurd (some-ne-none (Item x) (sym e)))
               (λ alive. let was = r.shown (none_spent_before s.views id v w at some_share alive) in
               (Take id i ∷ was.0, shown_take (length s.homes - 1) s.words s.views id i v w at (omega arith) (subst (λ (z : ℕ). i + 1 < z) (sym r.wide) near) word holding refl refl was.0 was.1))
@@ -209,7 +214,7 @@ module _ {T : Type 0} where
       tt,
       subst (λ (ws : List ℕ). Rule record { words = ws; homes = s.homes; views = set s.views id w }) (sym (same_words s r i near word))
           (viewed s r (set s.views id w) (omega (arith, total-set (λ u. u.shares) s.views id v w at)) (λ k. omega (arith, total-set (λ u. times k u.numbers) s.views id v w at))
-          (λ j u e. ⊎_elim (λ (x : (j ≡ id) × (w ≡ u)). subst (Fits shape s.homes) x.1 (record { same_shape = old.same_shape; spent_nothing = old.spent_nothing; in_range = old.in_range; places_home = old.places_home }))
+          (λ j u e. ⊎_elim (λ (x : (j ≡ id) × (w ≡ u)). subst (Fits shape s.homes) x.1 (record { same_shape = old.same_shape; spent_nothing = old.spent_nothing; in_range = old.in_range; places_home = old.places_home; place_out = old.place_out }))
           (λ (x : (j ≢ id) × (get_elem? s.views j ≡ some u)). r.each_view j u x.1) (at_set s.views id j w u e))
           (λ k x was. put_kept s.views id k x v w at (λ has. has) was)
           (still s r id v w at some_share refl refl)),
@@ -229,7 +234,7 @@ module _ {T : Type 0} where
           w,
           gives,
           tt,
-          moves s r id v w i 1 (some Empty) at near some_share refl refl one.0 (λ k ne. refl) old.in_range (λ k ne l. old.places_home k l (λ e. ne (Some-injective k i (sym e ∙ place)))) (λ _ _. refl)
+          moves s r id v w i 1 (some Empty) at near some_share refl refl one.0 (λ k ne. refl) old.in_range (λ k ne l. old.places_home k l (λ e. ne (Some-injective k i (sym e ∙ place)))) (λ _ _. refl) (λ k e. absurd (None-ne-Some k e))
               (λ k x ne has. has) (λ x e. absurd (Empty-ne-Item x (some-injective Empty (Item x) e))) (still_held s r id v w i near one.2 at some_share refl refl) (inr (refl, one.1)),
           (refl, refl),
         )
@@ -241,7 +246,7 @@ module _ {T : Type 0} where
           w,
           takes i Empty,
           old.places_home i lists (free i),
-          moves s r id v w i 1 none at near some_share refl refl one.0 (λ k ne. refl) old.in_range (λ k ne l. old.places_home k l (free k)) (λ l away. absurd (away refl))
+          moves s r id v w i 1 none at near some_share refl refl one.0 (λ k ne. refl) old.in_range (λ k ne l. old.places_home k l (free k)) (λ l away. absurd (away refl)) (λ k e. (sym (Some-injective i k e), lists, refl))
               (λ k x ne has. has) (λ x e. absurd (some-ne-none (Item x) (sym e))) (still_held s r id v w i near one.2 at some_share refl refl) (inr (refl, one.1)),
           (refl, refl),
         )
@@ -258,7 +263,7 @@ module _ {T : Type 0} where
           gives,
           tt,
           moves s r id v w i 0 (some (Item x)) at near some_share refl refl one.0 others (All-without (λ k. k + 1 < length s.homes) i v.numbers old.in_range)
-              (λ k ne l. old.places_home k (omega (arith, others k ne, l)) (λ e. ne (Some-injective k i (sym e ∙ place)))) (λ l away. absurd (omega (arith, l, gone)))
+              (λ k ne l. old.places_home k (omega (arith, others k ne, l)) (λ e. ne (Some-injective k i (sym e ∙ place)))) (λ l away. absurd (omega (arith, l, gone))) (λ k e. absurd (None-ne-Some k e))
               (λ k y ne has. Contains-append_left v.put ((i, x) ∷ []) (k, y) has)
               (λ y e. subst (λ (z : T). Contains w.put (i, z)) (item-injective x y (some-injective (Item x) (Item y) e)) (Contains-push v.put (i, x)))
               (λ alive. let was = r.shown (none_spent_before s.views id v w at some_share alive) in
@@ -272,9 +277,9 @@ module _ {T : Type 0} where
         viewed s r (vs ++ n ∷ []) (omega (arith, total-snoc (λ u. u.shares) vs n, total-set (λ u. u.shares) s.views id v l at))
         (λ k. omega (arith, total-snoc (λ u. times k u.numbers) vs n, total-set (λ u. times k u.numbers) s.views id v l at))
         (λ j u e. ⊎_elim (λ (old : get_elem? vs j ≡ some u). ⊎_elim
-        (λ (h : (j ≡ id) × (l ≡ u)). subst (Fits shape s.homes) h.1 (record { same_shape = λ _. f.same_shape (omega arith); spent_nothing = λ z. absurd (omega arith); in_range = f.in_range; places_home = f.places_home }))
+        (λ (h : (j ≡ id) × (l ≡ u)). subst (Fits shape s.homes) h.1 (record { same_shape = λ _. f.same_shape (omega arith); spent_nothing = λ z. absurd (omega arith); in_range = f.in_range; places_home = f.places_home; place_out = f.place_out }))
         (λ (h : (j ≢ id) × (get_elem? s.views j ≡ some u)). r.each_view j u h.1) (at_set s.views id j l u old))
-        (λ (new : n ≡ u). subst (Fits shape s.homes) new (record { same_shape = λ _. f.same_shape (omega arith); spent_nothing = λ z. absurd (omega arith); in_range = All-nil (λ i. i + 1 < length s.homes); places_home = λ i lists away. absurd (omega arith) }))
+        (λ (new : n ≡ u). subst (Fits shape s.homes) new (record { same_shape = λ _. f.same_shape (omega arith); spent_nothing = λ z. absurd (omega arith); in_range = All-nil (λ i. i + 1 < length s.homes); places_home = λ i lists away. absurd (omega arith); place_out = λ i e. absurd (None-ne-Some i e) }))
         (at_snoc vs n u j e))
         (λ i x was. let kept = put_kept s.views id i x v l at (λ has. has) was in (kept.0, kept.1, at_longer vs (n ∷ []) kept.0 kept.1 kept.2, kept.3))
         (λ alive. let was = r.shown (none_spent_before_split s.views id v l n at (omega arith) alive) in (was.0, shown_split (length s.homes - 1) s.words s.views id v at was.0 was.1))
@@ -300,8 +305,9 @@ module _ {T : Type 0} where
           places_home = λ i lists away. dite (ℕ_discrete (times i v.numbers) 0)
               (λ nothing. g.places_home i (omega (arith, nothing, lists, times-append i v.numbers w.numbers)) (λ e. None-ne-Some i (sym free_w ∙ e)))
               (λ some_times. f.places_home i (omega (arith, some_times)) (λ e. None-ne-Some i (sym free_v ∙ e)));
+          place_out = λ i e. absurd (None-ne-Some i (sym free_v ∙ e));
         } in
-        let idle : Fits shape s.homes spent = record { same_shape = λ h. absurd (omega arith); spent_nothing = λ _. (refl, refl); in_range = All-nil (λ i. i + 1 < length s.homes); places_home = λ i lists away. absurd (omega arith) } in
+        let idle : Fits shape s.homes spent = record { same_shape = λ h. absurd (omega arith); spent_nothing = λ _. (refl, refl); in_range = All-nil (λ i. i + 1 < length s.homes); places_home = λ i lists away. absurd (omega arith); place_out = λ i e. absurd (None-ne-Some i e) } in
         let sums : (h : Hand T → ℕ) → total h (set vs other spent) + h w + h v ≡ total h s.views + h b + h spent = λ h. omega (arith, total-set h s.views id v b at, total-set h vs other w spent at') in
         viewed s r (set vs other spent) (omega (arith, sums (λ u. u.shares))) (λ k. omega (arith, sums (λ u. times k u.numbers), times-append k v.numbers w.numbers))
         (λ j u e. ⊎_elim (λ (h : (j ≡ other) × (spent ≡ u)). subst (Fits shape s.homes) h.1 idle)

@@ -1,7 +1,6 @@
 -- What a seat knows, and how each step changes it.
-use Rattle.std.specs.Prelude.{◌≡◌, ℕ, zero, suc, ◌+◌, ◌-◌, ◌==◌, cond, not, List, [], ◌∷◌, ◌++◌, if◌then◌else◌, Option, Some, None}
+use Rattle.std.specs.Prelude.{ℕ, zero, suc, ◌+◌, ◌-◌, ◌==◌, cond, List, [], ◌∷◌, ◌++◌, if◌then◌else◌, Option, Some, None}
 use Rattle.ppq_pool.specs.declared.hand.Hand.{Hand}
-use Rattle.ppq_pool.specs.declared.hand.Move.{Move}
 use Rattle.ppq_pool.specs.declared.hand.Move.TheVariants.{Took, Gave}
 use Rattle.ppq_table.specs.Sums.{all_shares}
 
@@ -21,12 +20,12 @@ module _ {T : Type 0} where
   numbered n [] = []
   numbered n (x ∷ xs) = (n, x) ∷ numbered (n + 1) xs
 
-  -- the shape of all, where all have one
+  -- the shape of the first, which all have; 0 where there is none
   abbrev pub common_shape : (T → ℕ) → List T → ℕ
   common_shape shape_of [] = 0
   common_shape shape_of (x ∷ xs) = shape_of x
 
-  -- what is known of other numbers
+  -- the pairs with other numbers
   abbrev pub elsewhere : ℕ → List (ℕ × T) → List (ℕ × T)
   elsewhere i [] = []
   elsewhere i (p ∷ ps) = if p.0 == i then elsewhere i ps else p ∷ elsewhere i ps

@@ -1,5 +1,5 @@
 -- What is true of a seat between calls.
-use Rattle.std.specs.Prelude.{◌≡◌, ℕ, ◌+◌, ◌<◌, None, [], All}
+use Rattle.std.specs.Prelude.{◌≡◌, ◌+◌, ◌<◌, None, [], All}
 use Rattle.atomic_table.specs.declared.shared.Seat.{Seat}
 use Rattle.ppq_table.specs.declared.place.Place.{Place}
 use Rattle.ppq_pool.specs.declared.hand.Hand.{Hand}

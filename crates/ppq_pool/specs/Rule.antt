@@ -1,43 +1,23 @@
 -- The rule of a pool, which holds between any two steps, and what each kind of step tells.
 -- The word i + 1 and the slot i are those of the item i. The word 0 is spare: splits and joins read it. The last slot keeps an empty list with room for all items.
-use Rattle.std.specs.Prelude.{◌≡◌, ◌≢◌, ◌⊎◌, ℕ, ◌+◌, ◌-◌, ◌<◌, ◌≤◌, ◌==◌, List, [], ◌∷◌, All, Contains, length, slice_index, if◌then◌else◌, Vec, Some, None}
-use mathlib.Core.Option.{Option, some}
+use Rattle.std.specs.Prelude.{◌≡◌, ◌≢◌, ◌⊎◌, ℕ, ◌+◌, ◌-◌, ◌<◌, ◌≤◌, List, [], ◌∷◌, All, Contains, length, slice_index, Vec, Some, None}
+use mathlib.Core.Option.{Option, none, some}
 use lib.ListN.{get_elem?}
 use Rattle.std.specs.Global.{Global}
 use Rattle.atomic_table.specs.Table.{State, Me, Step, rest}
 use Rattle.ppq_core.specs.declared.event.Event.{Event}
-use Rattle.ppq_core.specs.declared.event.Event.TheVariants.{Take, Give, Draw, Push, Store}
-use Rattle.ppq_core.specs.declared.place.Place.TheVariants.{Free, Held}
-use Rattle.ppq_core.specs.History.{buffer_at, IsLegal}
 use Rattle.ppq_table.specs.declared.place.Place.{Place}
 use Rattle.ppq_table.specs.declared.place.Place.TheVariants.{Empty, Item, Room}
 use Rattle.ppq_table.specs.Places.{IsRoom}
 use Rattle.ppq_table.specs.Sums.{total, times, all_shares}
 use Rattle.ppq_pool.specs.declared.hand.Hand.{Hand}
-use Rattle.ppq_pool.specs.declared.hand.Move.{Move}
-use Rattle.ppq_pool.specs.declared.hand.Move.TheVariants.{Took, Gave}
+use Rattle.ppq_pool.specs.Histories.{ShowsHistory}
 use Rattle.ppq_pool.specs.Hands.{with_claim, with_note, with_place, with_give}
 
 module _ {T : Type 0} where
   -- how often the views list the item i, all together
   abbrev pub holders : ℕ → List (Hand T) → ℕ
   holders i views = total (λ v. times i v.numbers) views
-
-  -- the moves of pass j in a history, the newest first
-  abbrev pub moves_of : ℕ → List (Event T) → List Move
-  moves_of j [] = []
-  moves_of j (Take p b ∷ h) = if p == j then Took b ∷ moves_of j h else moves_of j h
-  moves_of j (Give p b ∷ h) = if p == j then Gave b ∷ moves_of j h else moves_of j h
-  moves_of j (Draw p s ∷ h) = moves_of j h
-  moves_of j (Push p x ∷ h) = moves_of j h
-  moves_of j (Store p s ∷ h) = moves_of j h
-
-  -- A legal history of n buffers, with the number of each view for a pass. A buffer is free in it where its word is 0, and held by the pass whose view lists it. The moves of each pass are those that its view has
-  pub record ShowsHistory (n : ℕ) (words : List ℕ) (views : List (Hand T)) (h : List (Event T)) : Type 0 where
-    pub legal : IsLegal n 0 (length views) h
-    pub when_free : (i : ℕ) → i < n → slice_index words (i + 1) ≡ 0 → buffer_at i h ≡ Free
-    pub when_held : (i j : ℕ) (v : Hand T) → get_elem? views j ≡ some v → 0 < times i v.numbers → buffer_at i h ≡ Held j
-    pub moved : (j : ℕ) (v : Hand T) → get_elem? views j ≡ some v → moves_of j h ≡ v.moves
 
   -- no two seats were joined
   abbrev pub NoneSpent : List (Hand T) → Type 0
@@ -52,8 +32,9 @@ module _ {T : Type 0} where
     pub same_shape : 0 < v.shares → v.shape ≡ shape
     pub spent_nothing : v.shares ≡ 0 → (v.numbers ≡ []) × (v.put ≡ [])
     pub in_range : All (λ i. i + 1 < length homes) v.numbers
-    -- the place of an item that it lists and has not in hand is at home, and empty
+    -- the place of an item that it lists is at home, and empty, or it has it in hand
     pub places_home : (i : ℕ) → 0 < times i v.numbers → ¬ (v.in_hand ≡ Some i) → get_elem? homes i ≡ some (some Empty)
+    pub place_out : (i : ℕ) → v.in_hand ≡ Some i → (0 < times i v.numbers) × (get_elem? homes i ≡ some none)
 
   module _ (shape_of : T → ℕ) (shape : ℕ) where
     -- the word is 0: nobody lists the item, which is at home and has the pool's shape

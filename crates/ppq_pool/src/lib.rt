@@ -14,6 +14,7 @@
 
 mod ending;
 mod hand;
+mod laws;
 mod moving;
 mod plays;
 mod pool;
@@ -24,6 +25,7 @@ mod shaped;
 mod tests;
 
 pub use hand::{Hand, Move};
+pub use laws::steps_are_events;
 pub use pool::Pool;
 pub use seat::PoolSeat;
 pub use shaped::Shaped;

@@ -1,11 +1,9 @@
-use Rattle.std.proofs.Common.{◌≡◌, ◌<◌, ◌-◌, ◌+◌, ℕ, List, All, length, take, sym, ap, ◌∙◌, arith, subst}
+use Rattle.std.proofs.Common.{◌≡◌, ◌-◌, ◌+◌, ℕ, All, length, sym, ap, ◌∙◌, arith, subst}
 use Rattle.std.specs.Slots.{slots_items, slots_counts}
-use Rattle.ppq_table.specs.declared.place.Place.{Place}
-use Rattle.ppq_table.specs.Places.{HasRoom, items_in}
 use Rattle.ppq_table.specs.Sums.{all_shares}
 use Rattle.ppq_pool.specs.declared.hand.Hand.{Hand}
 use Rattle.ppq_pool.specs.Seats.{IsLeft}
-use Rattle.ppq_pool.proofs.Ends.{Ended, ends}
+use Rattle.ppq_pool.proofs.Ends.{ends}
 use Rattle.ppq_pool.proofs.pool.Pool.close.Goals as goal
 
 pub items_from-requires-clause-room : goal.items_from-requires-clause-room

@@ -1,4 +1,4 @@
-use Rattle.std.proofs.Common.{◌≡◌, ℕ, ◌+◌, ◌<◌, arith, refl, sym, ap, ◌∙◌, subst, ◌∷◌, All, Some}
+use Rattle.std.proofs.Common.{◌≡◌, ℕ, ◌+◌, ◌<◌, arith, sym, ap, ◌∙◌, subst, All, Some}
 use Rattle.atomic_table.specs.Table.{rest}
 use Rattle.ppq_table.specs.declared.place.Place.TheVariants.{Item, Empty}
 use Rattle.ppq_table.specs.Sums.{times}

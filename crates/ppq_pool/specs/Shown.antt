@@ -1,0 +1,37 @@
+-- What each kind of step does to the histories that a pool shows.
+use Rattle.std.specs.Prelude.{◌≡◌, ℕ, ◌+◌, ◌-◌, ◌<◌, List, [], ◌∷◌, ◌++◌, length, slice_index, slice_set, Option}
+use mathlib.Core.Option.{some}
+use lib.ListN.{get_elem?}
+use Rattle.atomic_table.specs.Table.{State}
+use Rattle.ppq_core.specs.declared.event.Event.{Event}
+use Rattle.ppq_core.specs.declared.event.Event.TheVariants.{Take, Give}
+use Rattle.ppq_table.specs.declared.place.Place.{Place}
+use Rattle.ppq_table.specs.Sums.{times}
+use Rattle.ppq_pool.specs.declared.hand.Hand.{Hand}
+use Rattle.ppq_pool.specs.Hands.{less_one, newcomer, with_claim, with_note, with_place, with_give}
+use Rattle.ppq_pool.specs.Histories.{ShowsHistory}
+use Rattle.ppq_pool.specs.Rule.{NoneSpent, PoolRule}
+
+module _ {T : Type 0} (shape_of : T → ℕ) (shape : ℕ) where
+  -- the state meets the rule, the seat id has the view v, and i is the number of an item
+  abbrev pub Stands : State (Place T) (Hand T) → ℕ → Hand T → ℕ → Type 0
+  Stands s id v i = PoolRule shape_of shape s × (get_elem? s.views id ≡ some v) × (i + 1 < length s.homes)
+
+module _ (T R : Type 0) where
+  -- the history that these words and views show, for as many items as the state has
+  abbrev pub ShowsWith : State (Place T) (Hand T) → List ℕ → List (Hand T) → List (Event R) → Type 0
+  ShowsWith s words views h = ShowsHistory (length s.homes - 1) words views h
+
+  -- A claim that finds the item free is one Take by its seat, and a clear is one Give. No other step, and no split, is an event. Every state that meets the rule shows a legal history, unless seats were joined
+  pub record StepsAreEvents : Type 0 where
+    pub shown : (shape_of : T → ℕ) (shape : ℕ) (s : State (Place T) (Hand T)) → PoolRule shape_of shape s → NoneSpent s.views → (h : List (Event R)) × ShowsWith s s.words s.views h
+    pub claims : (shape_of : T → ℕ) (shape : ℕ) (s : State (Place T) (Hand T)) (id : ℕ) (v : Hand T) (i : ℕ) (h : List (Event R)) → Stands shape_of shape s id v i → slice_index s.words (i + 1) ≡ 0
+        → ShowsWith s s.words s.views h → ShowsWith s (slice_set s.words (i + 1) 1) (slice_set s.views id (with_claim i v)) (Take id i ∷ h)
+    pub notes : (shape_of : T → ℕ) (shape : ℕ) (s : State (Place T) (Hand T)) (id : ℕ) (v : Hand T) (i : ℕ) (h : List (Event R)) → Stands shape_of shape s id v i → slice_index s.words (i + 1) ≡ 1
+        → ShowsWith s s.words s.views h → ShowsWith s (slice_set s.words (i + 1) 1) (slice_set s.views id (with_note i v)) h
+    pub settles_and_reaches : (shape_of : T → ℕ) (shape : ℕ) (s : State (Place T) (Hand T)) (id : ℕ) (v : Hand T) (i : ℕ) (place : Option ℕ) (h : List (Event R)) → Stands shape_of shape s id v i → 0 < times i v.numbers
+        → ShowsWith s s.words s.views h → ShowsWith s (slice_set s.words (i + 1) 1) (slice_set s.views id (with_place place v)) h
+    pub clears : (shape_of : T → ℕ) (shape : ℕ) (s : State (Place T) (Hand T)) (id : ℕ) (v : Hand T) (i : ℕ) (x : T) (h : List (Event R)) → Stands shape_of shape s id v i → 0 < times i v.numbers
+        → ShowsWith s s.words s.views h → ShowsWith s (slice_set s.words (i + 1) 0) (slice_set s.views id (with_give i x v)) (Give id i ∷ h)
+    pub splits : (s : State (Place T) (Hand T)) (id : ℕ) (v : Hand T) (h : List (Event R)) → get_elem? s.views id ≡ some v
+        → ShowsWith s s.words s.views h → ShowsWith s s.words (slice_set s.views id (less_one v) ++ newcomer v ∷ []) h
