@@ -1,0 +1,15 @@
+use Rattle.std.proofs.Common.{◌≡◌, ◌≤◌, ◌-◌, length}
+use Rattle.ppq_cli.specs.Load.{IsReadTo}
+use Rattle.ppq_cli.proofs.load.load.Given as goal
+
+abbrev pub invariant-reading : goal.invariant-reading
+invariant-reading g l = record {
+  read : IsReadTo (g.L.Library.told l.fn.library) l.fn.name l.got l.bytes.items;
+  kept : g.L.Library.told l.library ≡ g.L.Library.told l.fn.library;
+  later : g.L.Library.faults l.fn.library ≤ g.L.Library.faults l.library;
+  long : length l.bytes.items ≡ l.size;
+  within : l.got ≤ l.size
+}
+
+abbrev pub decreases-reading : goal.decreases-reading
+decreases-reading g l = l.size - l.got

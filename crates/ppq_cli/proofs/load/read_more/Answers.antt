@@ -1,0 +1,6 @@
+use Rattle.std.proofs.Common.{◌≤◌, length, arith}
+use Rattle.ppq_cli.proofs.Growing.{grows}
+use Rattle.ppq_cli.proofs.load.read_more.Goals as goal
+
+pub returns-clause-bytes : goal.returns-clause-bytes
+returns-clause-bytes g c = grows (g.L.Library.told c.args.library.now) c.args.name.now c.args.bytes.now c.read_at.new.into c.args.got c.in_ok-count.count _ (omega arith) c.in_ok-count.ensures.bound c.in_ok-count.ensures.bytes

@@ -1,0 +1,4 @@
+pub mod Load
+pub mod Report
+pub mod Status
+pub mod Words

@@ -1,0 +1,98 @@
+-- The words of the command line, and what a run answers.
+use Rattle.std.specs.Prelude.{◌≡◌, ◌⊎◌, ◌<◌, ℕ, List, [], ◌∷◌, length, Option, Some, None, if◌then◌else◌, bytes_eq, codes, string_bytes, String, IfSome, nat_lt, ⊤, MatchOption, ◌==◌, IsSomeAnd, map}
+use Rattle.std.specs.Borrow.{Bor}
+use Rattle.std.specs.declared.alloc.Global.{Global}
+use Rattle.ppq_engine.specs.declared.end.End.{End}
+use Rattle.ppq_engine.specs.declared.end.End.TheVariants.{Done, BadLine, Usage, ReadFault, WriteFault, DeviceFault, NoFreeBlock, BudgetTooSmall, Memory, FileChanged, NoDevice, NoScript, ScriptTooLong}
+use Rattle.ppq_engine.specs.Output.{output_of}
+use Rattle.ppq_cli.specs.declared.load.LoadFault.{LoadFault}
+use Rattle.ppq_cli.specs.declared.load.LoadFault.TheVariants as load
+use Rattle.ppq_script.specs.declared.numbered.Numbered.{Numbered}
+use Rattle.ppq_script.specs.Lines.{lines_of, numbered_of, first_bad}
+
+-- a word that may name a script: it is not empty and does not begin with `-`
+abbrev pub plain_word : List ℕ → Option (List ℕ)
+plain_word [] = None
+plain_word (b ∷ bs) = if b == 45 then None else Some (b ∷ bs)
+
+-- the name of the script: the words are `run` and a plain word
+abbrev pub script_name : List (String Global) → Option (List ℕ)
+script_name (first ∷ second ∷ []) = if bytes_eq (string_bytes first) (codes "run") then plain_word (string_bytes second) else None
+script_name words = None
+
+-- the answer that refuses a script before it is run, and none to a script that is run: first that it is not there, then that
+-- it is too long, then its first bad line
+abbrev pub refusal_of_bad : Option ℕ → Option End
+refusal_of_bad None = None
+refusal_of_bad (Some line) = Some (BadLine line)
+
+abbrev pub refusal_of_file : Option (List ℕ) → Option End
+refusal_of_file None = Some NoScript
+refusal_of_file (Some bytes) = if nat_lt 1048576 (length bytes) then Some ScriptTooLong else refusal_of_bad (first_bad 1 (lines_of bytes))
+
+-- before all of them, that the words have no reading
+abbrev pub refusal_of : Option (List ℕ) → (List ℕ → Option (List ℕ)) → Option End
+refusal_of None files = Some Usage
+refusal_of (Some name) files = refusal_of_file (files name)
+
+-- want of memory or a failed read
+abbrev pub IsGivenUp : End → Type 0
+IsGivenUp end = (end ≡ Memory) ⊎ (end ≡ ReadFault)
+
+-- the run was begun and ended
+abbrev pub IsRun : End → Type 0
+IsRun end = (end ≡ Done) ⊎ (end ≡ WriteFault)
+
+-- the refusal, where there is one, and only then; or it gave up
+abbrev pub IsAnswer : Option End → End → Type 0
+IsAnswer refusal end = MatchOption refusal (IsRun end) (λ e. end ≡ e) ⊎ IsGivenUp end
+
+-- what a script of these bytes writes
+abbrev pub script_output : List ℕ → List ℕ
+script_output bytes = output_of (map (λ n. n.command) (numbered_of 1 (lines_of bytes)))
+
+-- a text that is the name, where there is one
+abbrev pub Named : Option (List ℕ) → Option (Bor (List ℕ)) → Type 0
+Named None text = text ≡ None
+Named (Some name) text = IsSomeAnd text (λ t. t.now ≡ name)
+
+-- the fact holds of the script's bytes, where the words name a script that is there
+abbrev pub ScriptIn : (List ℕ → Option (List ℕ)) → Option (List ℕ) → (List ℕ → Type 0) → Type 0
+ScriptIn files None P = ⊤
+ScriptIn files (Some name) P = IfSome (files name) P
+
+-- and where the library tells
+abbrev pub OfScript : Option (List ℕ → Option (List ℕ)) → Option (List ℕ) → (List ℕ → Type 0) → Type 0
+OfScript told name P = IfSome told (λ files. ScriptIn files name P)
+
+-- the end is done or want of memory
+abbrev pub IsCompleted : End → Type 0
+IsCompleted end = (end ≡ Done) ⊎ (end ≡ Memory)
+
+-- a file that changed is the script itself, at line 0, cut short before its length, and in a library that does not tell
+abbrev pub IsScriptCut : Option (List ℕ → Option (List ℕ)) → End → Type 0
+IsScriptCut told end = (line said got : ℕ) → end ≡ FileChanged line said got → (line ≡ 0) × ((got < said) × (told ≡ None))
+
+-- the ends that can come so far
+abbrev pub MayCome : End → Type 0
+MayCome Done = ⊤
+MayCome (BadLine line) = ⊤
+MayCome Usage = ⊤
+MayCome ReadFault = ⊤
+MayCome WriteFault = ⊤
+MayCome (DeviceFault number) = ⊥
+MayCome NoFreeBlock = ⊥
+MayCome (BudgetTooSmall need) = ⊥
+MayCome Memory = ⊤
+MayCome (FileChanged line said got) = ⊤
+MayCome NoDevice = ⊥
+MayCome NoScript = ⊤
+MayCome ScriptTooLong = ⊤
+
+-- a fault of loading as an end
+abbrev pub load_end : LoadFault → End
+load_end load.ReadFault = ReadFault
+load_end load.Memory = Memory
+load_end load.NoScript = NoScript
+load_end load.ScriptTooLong = ScriptTooLong
+load_end (load.FileChanged said got) = FileChanged 0 said got

@@ -1,0 +1,310 @@
+//! The top call over memory, and the program over real files.
+ghost use Rattle.std.specs.Prelude.{◌<◌, ◌^◌, length};
+
+use crate::program::run_and_report;
+use crate::real_library::DirLibrary;
+use crate::real_sink::StdSink;
+use crate::report::put_report;
+use crate::status::status_number;
+use crate::top::run_words;
+use ppq_engine::{End, Ended};
+use ppq_outside::{Host, Library, MemLibrary, MemRack, MemSink, MemSlot, OpenGate, Sink};
+use std::alloc::Global;
+use std::test::Fail;
+
+/// How much a sink of these tests has room for.
+const ROOM: usize = 1_048_576;
+
+fn strings(alloc: Global, words: &[&str]) -> Result<Vec<String>, Fail> {
+    let mut all = Vec::new(alloc);
+    for word in words {
+        all.push(word.to_string(alloc)?)?;
+    }
+    Ok(all)
+}
+
+fn run<H: Host>(
+    rt: &H,
+    alloc: Global,
+    words: &[&str],
+    library: &mut MemLibrary,
+    sink: &mut MemSink,
+) -> Result<Ended<MemSlot>, Fail>
+where
+    H::Dir: Send,
+    requires library { ⟦<MemLibrary as Library>⟧.faults library.old < 2 ^ 63 }
+    requires sink { ⟦<MemSink as Sink>⟧.faults sink.old < 2 ^ 63 }
+{
+    let words = strings(alloc, words)?;
+    Ok(run_words(
+        rt,
+        alloc,
+        &words,
+        library,
+        &mut MemRack::new(),
+        &OpenGate,
+        sink,
+    ))
+}
+
+/// The end of a script and what it wrote.
+fn outcome<H: Host>(rt: &H, alloc: Global, script: &[u8]) -> Result<(End, Vec<u8>), Fail>
+where
+    H::Dir: Send,
+{
+    let mut library = MemLibrary::new(alloc);
+    library.add(alloc, "s", script)?;
+    let mut sink = MemSink::new(alloc, ROOM)?;
+    let ended = run(rt, alloc, &["run", "s"], &mut library, &mut sink)?;
+    Ok((ended.end, sink.bytes().to_vec(alloc)?))
+}
+
+#[test]
+fn two_pushes_pop_the_least(rt: HostRuntime) -> Result<(), Fail> {
+    let (end, wrote) = outcome(&rt, rt.alloc(), b"push 5 1\npush 3 9\npop\n")?;
+    assert_eq!(rt; end, End::Done);
+    assert_eq!(rt; wrote.as_slice(), b"3 9\n".as_slice());
+    Ok(())
+}
+
+#[test]
+fn the_greatest_pair_is_pushed_and_popped(rt: HostRuntime) -> Result<(), Fail> {
+    let script = b"push 18446744073709551615 18446744073709551615\npop\n";
+    let (end, wrote) = outcome(&rt, rt.alloc(), script)?;
+    assert_eq!(rt; end, End::Done);
+    assert_eq!(rt; wrote.as_slice(), b"18446744073709551615 18446744073709551615\n".as_slice());
+    Ok(())
+}
+
+#[test]
+fn a_number_past_the_last_is_a_bad_line(rt: HostRuntime) -> Result<(), Fail> {
+    let (end, wrote) = outcome(&rt, rt.alloc(), b"pop\npush 18446744073709551616 0\n")?;
+    assert_eq!(rt; end, End::BadLine { line: 2 });
+    assert_eq!(rt; wrote.len(), 0);
+    Ok(())
+}
+
+#[test]
+fn a_bad_last_line_writes_nothing(rt: HostRuntime) -> Result<(), Fail> {
+    let (end, wrote) = outcome(&rt, rt.alloc(), b"push 5 1\npop\npop\npush x 1\n")?;
+    assert_eq!(rt; end, End::BadLine { line: 4 });
+    assert_eq!(rt; wrote.len(), 0);
+    Ok(())
+}
+
+#[test]
+fn equal_records_are_popped_as_often_as_pushed(rt: HostRuntime) -> Result<(), Fail> {
+    let (end, wrote) = outcome(
+        &rt,
+        rt.alloc(),
+        b"push 7 7\npush 7 7\npush 7 6\npop\npop\npop\npop",
+    )?;
+    assert_eq!(rt; end, End::Done);
+    assert_eq!(rt; wrote.as_slice(), b"7 6\n7 7\n7 7\nempty\n".as_slice());
+    Ok(())
+}
+
+#[test]
+fn a_script_of_no_bytes_is_done(rt: HostRuntime) -> Result<(), Fail> {
+    let (end, wrote) = outcome(&rt, rt.alloc(), b"")?;
+    assert_eq!(rt; end, End::Done);
+    assert_eq!(rt; wrote.len(), 0);
+    Ok(())
+}
+
+#[test]
+fn a_sink_that_fails_holds_a_prefix(rt: HostRuntime) -> Result<(), Fail> {
+    let alloc = rt.alloc();
+    let mut library = MemLibrary::new(alloc);
+    library.add(alloc, "s", b"pop\npop\n")?;
+    let mut plan = Vec::new(alloc);
+    plan.push((1, 3))?;
+    let mut sink = MemSink::failing(alloc, ROOM, plan)?;
+    let ended = run(&rt, alloc, &["run", "s"], &mut library, &mut sink)?;
+    assert_eq!(rt; ended.end, End::WriteFault);
+    assert_eq!(rt; sink.bytes(), b"emp".as_slice());
+    assert_eq!(rt; sink.faults(), 1);
+    Ok(())
+}
+
+#[test]
+fn a_library_that_fails_is_a_read_fault(rt: HostRuntime) -> Result<(), Fail> {
+    let alloc = rt.alloc();
+    let mut library = MemLibrary::new(alloc);
+    library.add(alloc, "s", b"pop\n")?;
+    library.fail_call(1)?;
+    let mut sink = MemSink::new(alloc, ROOM)?;
+    let ended = run(&rt, alloc, &["run", "s"], &mut library, &mut sink)?;
+    assert_eq!(rt; ended.end, End::ReadFault);
+    assert_eq!(rt; sink.bytes().len(), 0);
+    assert_eq!(rt; library.faults(), 1);
+    Ok(())
+}
+
+#[test]
+fn a_read_that_fails_is_a_read_fault(rt: HostRuntime) -> Result<(), Fail> {
+    let alloc = rt.alloc();
+    let mut library = MemLibrary::new(alloc);
+    library.add(alloc, "s", b"pop\n")?;
+    library.fail_call(2)?;
+    let mut sink = MemSink::new(alloc, ROOM)?;
+    let ended = run(&rt, alloc, &["run", "s"], &mut library, &mut sink)?;
+    assert_eq!(rt; ended.end, End::ReadFault);
+    assert_eq!(rt; sink.bytes().len(), 0);
+    Ok(())
+}
+
+#[test]
+fn an_absent_script_is_named(rt: HostRuntime) -> Result<(), Fail> {
+    let alloc = rt.alloc();
+    let mut library = MemLibrary::new(alloc);
+    let mut sink = MemSink::new(alloc, ROOM)?;
+    let ended = run(&rt, alloc, &["run", "s"], &mut library, &mut sink)?;
+    assert_eq!(rt; ended.end, End::NoScript);
+    assert_eq!(rt; sink.bytes().len(), 0);
+    Ok(())
+}
+
+#[test]
+fn a_script_one_byte_too_long_is_refused(rt: HostRuntime) -> Result<(), Fail> {
+    let alloc = rt.alloc();
+    let script = vec![in alloc; b'x'; 1_048_577]?;
+    let (end, wrote) = outcome(&rt, alloc, &script)?;
+    assert_eq!(rt; end, End::ScriptTooLong);
+    assert_eq!(rt; wrote.len(), 0);
+    Ok(())
+}
+
+#[test]
+fn a_script_of_the_greatest_length_is_read(rt: HostRuntime) -> Result<(), Fail> {
+    let alloc = rt.alloc();
+    let script = vec![in alloc; b'x'; 1_048_576]?;
+    let (end, _) = outcome(&rt, alloc, &script)?;
+    assert_eq!(rt; end, End::BadLine { line: 1 });
+    Ok(())
+}
+
+#[test]
+fn other_words_have_no_reading(rt: HostRuntime) -> Result<(), Fail> {
+    let alloc = rt.alloc();
+    let refused: [&[&str]; 6] = [
+        &["run"],
+        &["run", "s", "--help"],
+        &["run", "-s"],
+        &["run", ""],
+        &["walk", "s"],
+        &[],
+    ];
+    for words in refused {
+        let mut library = MemLibrary::new(alloc);
+        library.add(alloc, "s", b"pop\n")?;
+        let mut sink = MemSink::new(alloc, ROOM)?;
+        let ended = run(&rt, alloc, words, &mut library, &mut sink)?;
+        assert_eq!(rt; ended.end, End::Usage);
+        assert_eq!(rt; sink.bytes().len(), 0);
+    }
+    Ok(())
+}
+
+/// The status and the report of the program over real files.
+fn program<H: Host>(rt: &H, alloc: Global, words: &[&str]) -> Result<(u8, Vec<u8>), Fail>
+where
+    H::Dir: Send,
+{
+    let words = strings(alloc, words)?;
+    let mut out = MemSink::new(alloc, ROOM)?;
+    let mut errors = MemSink::new(alloc, ROOM)?;
+    let status = run_and_report(
+        rt,
+        alloc,
+        &words,
+        &mut DirLibrary::new(),
+        &mut MemRack::new(),
+        &OpenGate,
+        &mut out,
+        &mut errors,
+    );
+    Ok((status, errors.bytes().to_vec(alloc)?))
+}
+
+#[test]
+fn an_absent_file_is_reported(rt: HostRuntime) -> Result<(), Fail> {
+    let (status, report) = program(&rt, rt.alloc(), &["run", "no-such-script.ppq"])?;
+    assert_eq!(rt; status, 11);
+    assert_eq!(rt; report.as_slice(), b"ppq: no such script\n".as_slice());
+    Ok(())
+}
+
+#[test]
+fn no_words_are_reported(rt: HostRuntime) -> Result<(), Fail> {
+    let (status, report) = program(&rt, rt.alloc(), &[])?;
+    let usage = b"ppq: usage: ppq run SCRIPT --device FILE --blocks D --workers P --block B --heap H --memory M\n";
+    assert_eq!(rt; status, 2);
+    assert_eq!(rt; report.as_slice(), usage.as_slice());
+    Ok(())
+}
+
+/// The report of an end, and its status.
+fn reported<H: Host>(rt: &H, alloc: Global, end: End) -> Result<(u8, Vec<u8>), Fail> {
+    let mut errors = MemSink::new(alloc, ROOM)?;
+    if put_report(rt, &end, &mut errors).is_err() {
+        return Err(Fail::from("the report was not taken"));
+    }
+    Ok((status_number(&end), errors.bytes().to_vec(alloc)?))
+}
+
+#[test]
+fn each_end_has_its_line_and_its_status(rt: HostRuntime) -> Result<(), Fail> {
+    let rows: [(End, u8, &[u8]); 13] = [
+        (End::Done, 0, b""),
+        (End::BadLine { line: 7 }, 1, b"ppq: line 7: bad line\n"),
+        (
+            End::Usage,
+            2,
+            b"ppq: usage: ppq run SCRIPT --device FILE --blocks D --workers P --block B --heap H --memory M\n",
+        ),
+        (End::ReadFault, 3, b"ppq: cannot read\n"),
+        (End::WriteFault, 4, b"ppq: cannot write\n"),
+        (
+            End::DeviceFault { number: 3 },
+            5,
+            b"ppq: device block 3 failed\n",
+        ),
+        (End::NoFreeBlock, 6, b"ppq: no free block\n"),
+        (
+            End::BudgetTooSmall { need: 172 },
+            7,
+            b"ppq: memory too small, need 172\n",
+        ),
+        (End::Memory, 8, b"ppq: out of memory\n"),
+        (
+            End::FileChanged {
+                line: 1,
+                said: 32,
+                got: 16,
+            },
+            9,
+            b"ppq: line 1: file changed, said 32, got 16\n",
+        ),
+        (End::NoDevice, 10, b"ppq: cannot make the device\n"),
+        (End::NoScript, 11, b"ppq: no such script\n"),
+        (End::ScriptTooLong, 12, b"ppq: script too long\n"),
+    ];
+    for (end, status, line) in rows {
+        let (number, report) = reported(&rt, rt.alloc(), end)?;
+        assert_eq!(rt; number, status);
+        assert_eq!(rt; report.as_slice(), line);
+    }
+    Ok(())
+}
+
+#[test]
+fn the_real_streams_take_text(rt: HostRuntime) -> Result<(), Fail> {
+    let mut out = StdSink::out();
+    assert_eq!(rt; out.put(&rt, b"").is_ok(), true);
+    assert_eq!(rt; out.faults(), 0);
+    let mut errors = StdSink::err();
+    assert_eq!(rt; errors.put(&rt, b"\xff").is_err(), true);
+    assert_eq!(rt; errors.faults(), 1);
+    Ok(())
+}

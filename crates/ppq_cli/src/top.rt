@@ -1,0 +1,128 @@
+//! The top call.
+ghost use Rattle.std.specs.Prelude.{◌≡◌, ◌≤◌, ◌<◌, ◌↔◌, ◌⊎◌, ◌^◌, [], None, IfSome};
+ghost use Rattle.ppq_outside.specs.Told.{TakesAll, TakesPart, Rose};
+ghost use Rattle.ppq_cli.specs.Words.{script_name, refusal_of, IsAnswer, IsRun, IsCompleted, IsScriptCut, MayCome, script_output, Named, OfScript, load_end};
+ghost use Rattle.ppq_engine.specs.declared.end.End.TheVariants.{Done, Usage, ReadFault, WriteFault};
+
+use crate::load::{LoadFault, load};
+use ppq_engine::{End, Ended, run_script};
+use ppq_outside::{Gate, Host, Library, Rack, Sink};
+use ppq_script::read;
+use std::alloc::Global;
+
+/// The workers for which a script is read until the words name a number.
+const WORKERS: u32 = 4;
+
+/// The name of the script: the words are `run` and a name that is not empty and does not begin
+/// with `-`.
+fn name_of(words: &[String]) -> Option<&str>
+    ensures { Named (script_name words.now) result }
+{
+    match words {
+        [first, second] => {
+            if first.as_str() != "run" || second.is_empty() || second.as_str().starts_with('-') {
+                None
+            } else {
+                Some(second.as_str())
+            }
+        }
+        _ => None,
+    }
+}
+
+/// Why a script was not loaded, as an end.
+fn end_of(fault: LoadFault) -> End
+    ensures { result ≡ load_end fault }
+{
+    match fault {
+        LoadFault::ReadFault => End::ReadFault,
+        LoadFault::Memory => End::Memory,
+        LoadFault::NoScript => End::NoScript,
+        LoadFault::ScriptTooLong => End::ScriptTooLong,
+        LoadFault::FileChanged { said, got } => End::FileChanged { line: 0, said, got },
+    }
+}
+
+/// Loads the script that the words name, reads it whole, and runs it.
+fn load_and_run<H: Host, L: Library, O: Sink>(
+    rt: &H,
+    alloc: Global,
+    words: &[String],
+    library: &mut L,
+    out: &mut O,
+) -> End
+    ensures usage { (result ≡ Usage) ↔ (script_name words.now ≡ None) }
+    ensures answer { IfSome (L.told library.old) (λ files. IsAnswer (refusal_of (script_name words.now) files) result) }
+    ensures done { result ≡ Done → OfScript (L.told library.old) (script_name words.now) (λ bytes. TakesAll (O.told out.old) (O.told out.new) (script_output bytes)) }
+    ensures part { OfScript (L.told library.old) (script_name words.now) (λ bytes. TakesPart (O.told out.old) (O.told out.new) (script_output bytes)) }
+    ensures nothing { IsRun result ⊎ (O.told out.new ≡ O.told out.old) }
+    ensures changed { IsScriptCut (L.told library.old) result }
+    ensures may { MayCome result }
+    ensures read { result ≡ ReadFault → Rose (L.faults library.old) (L.faults library.new) }
+    ensures write { result ≡ WriteFault → Rose (O.faults out.old) (O.faults out.new) }
+    ensures library_later { L.faults library.old ≤ L.faults library.new }
+    ensures sink_later { O.faults out.old ≤ O.faults out.new }
+{
+    let Some(name) = name_of(words) else {
+        return End::Usage;
+    };
+    let bytes = match load(rt, alloc, library, name) {
+        Ok(bytes) => bytes,
+        Err(fault) => return end_of(fault),
+    };
+    let Ok(script) = read(alloc, &bytes, WORKERS) else {
+        return End::Memory;
+    };
+    match script.bad() {
+        Some(line) => End::BadLine { line },
+        None => run_script(rt, alloc, &script, out),
+    }
+}
+
+/// Does all that the program does, with the outside handed in: reads the words, loads the script,
+/// finds its first bad line, runs it, and writes its output to the sink.
+///
+/// `Done`: the sink took exactly the script's output, which is that of one bag ordered by whole
+/// records. On every other end it took a prefix of it, and nothing but on `WriteFault`. `Usage`,
+/// `NoScript`, `ScriptTooLong` and `BadLine` come exactly where they should, in that order;
+/// `ReadFault` only where the library's count of faults rose in this call, `WriteFault` only where
+/// the sink's did; `FileChanged` only for a library that does not tell, where a read gave nothing
+/// before the length that was said. Every other script ends `Done`, or `Memory`.
+pub fn run_words<H: Host, L: Library, K: Rack, O: Sink, G: Gate>(
+    rt: &H,
+    alloc: Global,
+    words: &[String],
+    library: &mut L,
+    _rack: &mut K,
+    _gate: &G,
+    out: &mut O,
+) -> Ended<K::Slot>
+where
+    H::Dir: Send,
+    requires library { L.faults library.old < 2 ^ 63 }
+    requires sink { O.faults out.old < 2 ^ 63 }
+
+    // The headline, where library and sink tell.
+    ensures done { result.end ≡ Done → OfScript (L.told library.old) (script_name words.now) (λ bytes. TakesAll (O.told out.old) (O.told out.new) (script_output bytes)) }
+    ensures part { OfScript (L.told library.old) (script_name words.now) (λ bytes. TakesPart (O.told out.old) (O.told out.new) (script_output bytes)) }
+    ensures nothing { IsRun result.end ⊎ (O.told out.new ≡ O.told out.old) }
+
+    // When each end comes.
+    ensures usage { (result.end ≡ Usage) ↔ (script_name words.now ≡ None) }
+    ensures answer { IfSome (L.told library.old) (λ files. IsAnswer (refusal_of (script_name words.now) files) result.end) }
+    ensures read { result.end ≡ ReadFault → L.faults library.old < L.faults library.new }
+    ensures write { result.end ≡ WriteFault → O.faults out.old < O.faults out.new }
+    ensures changed { IsScriptCut (L.told library.old) result.end }
+    ensures may { MayCome result.end }
+
+    // A well-formed script without a fault of the outside ends done, or for want of memory.
+    ensures complete { IfSome (L.told library.old) (λ files. refusal_of (script_name words.now) files ≡ None → L.faults library.new ≡ L.faults library.old → O.faults out.new ≡ O.faults out.old → IsCompleted result.end) }
+
+    ensures blocks { result.blocks.items ≡ [] }
+{
+    let end = load_and_run(rt, alloc, words, library, out);
+    Ended {
+        end,
+        blocks: Vec::new(alloc),
+    }
+}
