@@ -1,5 +1,5 @@
 -- Bags and fronts by the order of a record.
-use Rattle.std.proofs.Common.{◌≡◌, ℕ, ◌-◌, ◌<◌, true, false, cond, List, [], ◌∷◌, length, get_or, add-one, suc, min, refl, sym, ap, ap₂, ◌∙◌, arith, Ordering, IsPermutation, IsSorted, true≢false}
+use Rattle.std.proofs.Common.{◌≡◌, ◌+◌, ℕ, ◌-◌, ◌<◌, true, false, cond, List, [], ◌∷◌, length, get_or, add-one, suc, min, refl, sym, ap, ap₂, ◌∙◌, arith, Ordering, IsPermutation, IsSorted, true≢false}
 use Rattle.std.specs.Prelude.{count_by}
 use Rattle.std.specs.declared.cmp.Ordering.TheVariants.{Less, Equal, Greater}
 use Rattle.std.specs.Ordering.{is_eq, is_lt, ordering_reverse}
@@ -85,3 +85,7 @@ Ascends-sorted {R} {cmp} o (x ∷ xs) up = (
 -- what a sort leaves
 pub sorted_is : {R : Type 0} {cmp : R → R → Ordering} → IsTotalOrder cmp → ((x y : R) → cmp x y ≡ Equal → x ≡ y) → (xs ys : List R) → IsPermutation xs ys → IsSorted cmp ys → ys ≡ ascending cmp xs
 sorted_is o same_is xs ys moved up = ascending_is o same_is xs ys (Ascends-sorted o ys up) (λ p. sym (IsSameBag-permutation xs ys moved p))
+
+-- neighbours in order make the whole list ascend
+pub Ascends-adjacent : {R : Type 0} {cmp : R → R → Ordering} → IsTotalOrder cmp → (xs : List R) → ((k : ℕ) (d : R) → k + 1 < length xs → Le (is_before cmp) (get_or xs k d) (get_or xs (k + 1) d)) → Ascends cmp xs
+Ascends-adjacent o xs each = Ascends-sorted o xs (λ k d low h. each k d h)

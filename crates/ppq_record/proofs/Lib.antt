@@ -1,3 +1,5 @@
 pub mod Order
 pub mod Fronts
 pub mod Taken
+pub mod Counting
+pub mod Listed

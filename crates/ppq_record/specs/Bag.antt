@@ -1,5 +1,5 @@
 -- Bags of records: lists of which only the counts matter.
-use Rattle.std.specs.Prelude.{◌≡◌, ℕ, ◌-◌, Bool, List, [], ◌∷◌, min, count_by, take, drop, Option, Some, None}
+use Rattle.std.specs.Prelude.{◌≡◌, ℕ, ◌-◌, Bool, List, [], ◌∷◌, min, count_by, nat_eq, take, drop, Option, Some, None}
 use Rattle.std.specs.declared.cmp.Ordering.{Ordering}
 use Rattle.std.specs.Ordering.{is_eq}
 use Rattle.ppq_record.specs.Order.{is_before, Ascends, in_order}
@@ -16,10 +16,18 @@ size_below cmp bag l = count_by (λ x. is_before cmp x l) bag
 abbrev pub IsSameBag : {X : Type 0} → List X → List X → Type 0
 IsSameBag {X} xs ys = (p : X → Bool) → count_by p xs ≡ count_by p ys
 
+-- r stands in out as often as among the least k records of the bag
+abbrev pub IsCounted : {R : Type 0} → (R → R → Ordering) → List R → ℕ → List R → R → Type 0
+IsCounted cmp bag k out r = count cmp out r ≡ min (count cmp bag r) (k - size_below cmp bag r)
+
+-- the test of it
+abbrev pub counted_test : {R : Type 0} → (R → R → Ordering) → List R → ℕ → List R → R → Bool
+counted_test cmp bag k out r = nat_eq (count cmp out r) (min (count cmp bag r) (k - size_below cmp bag r))
+
 -- out is the ascending list of the least k records of the bag, told by counting
 pub record IsFront {R : Type 0} (cmp : R → R → Ordering) (bag : List R) (k : ℕ) (out : List R) : Type 0 where
   pub ascends : Ascends cmp out
-  pub counts : (r : R) → count cmp out r ≡ min (count cmp bag r) (k - size_below cmp bag r)
+  pub counts : (r : R) → IsCounted cmp bag k out r
 
 -- the records of a bag in ascending order
 abbrev pub ascending : {R : Type 0} → (R → R → Ordering) → List R → List R

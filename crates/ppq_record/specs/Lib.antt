@@ -2,3 +2,4 @@ pub mod Bag
 pub mod Given
 pub mod Order
 pub mod Pair
+pub mod Runs

@@ -7,12 +7,20 @@
 
 mod bag;
 mod bytes;
+mod least;
+mod listing;
+mod lists;
 mod memory;
 mod pair;
 mod record;
+#[cfg(test)]
+mod tests;
 
 pub use bag::{one_front, sort};
 pub use bytes::{put_all, take_at, taken_back};
+pub use least::{ascends, is_least};
+pub use listing::Listing;
+pub use lists::Lists;
 pub use memory::Memory;
 pub use pair::Pair;
 pub use record::{Record, record_laws};
