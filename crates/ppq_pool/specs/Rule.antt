@@ -29,6 +29,7 @@ module _ {T : Type 0} where
 
   -- what the rule says of one view. A view with no share is spent
   pub record Fits (shape : ℕ) (homes : List (Option (Place T))) (v : Hand T) : Type 0 where
+    -- it knows the pool's shape
     pub same_shape : 0 < v.shares → v.shape ≡ shape
     pub spent_nothing : v.shares ≡ 0 → (v.numbers ≡ []) × (v.put ≡ [])
     pub in_range : All (λ i. i + 1 < length homes) v.numbers
@@ -49,11 +50,16 @@ module _ {T : Type 0} where
       pub wide : length s.words ≡ length s.homes
       pub some_slot : 0 < length s.homes
       pub short : length s.homes ≤ 4294967296
+      -- the emptied list lies in the last slot, with room for all items
       pub room_home : (room : Vec T Global) × (get_elem? s.homes (length s.homes - 1) ≡ some (some (Room room))) × IsRoom (length s.homes - 1) room
+      -- no share is made or lost, so a seat with all of them is the only one
       pub shares_add : total (λ v. v.shares) s.views ≡ all_shares
+      -- each item is free, or just one view lists it
       pub each_item : (i : ℕ) → i + 1 < length s.homes → IsFree (slice_index s.words (i + 1)) (holders i s.views) (get_elem? s.homes i) ⊎ IsHeld (slice_index s.words (i + 1)) (holders i s.views)
       pub each_view : (j : ℕ) (v : Hand T) → get_elem? s.views j ≡ some v → Fits shape s.homes v
+      -- an item at home was put in with its number, by some seat
       pub each_put : (i : ℕ) (x : T) → get_elem? s.homes i ≡ some (some (Item x)) → WasPut i x s.views
+      -- until seats are joined, words and views show a legal history
       pub shown : NoneSpent s.views → (h : List (Event T)) × ShowsHistory (length s.homes - 1) s.words s.views h
 
   -- what an exchange of the word of the item i for 1 tells. The only seat put in itself what it finds
