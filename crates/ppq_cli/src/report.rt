@@ -50,7 +50,13 @@ fn put_changed<H: Host, O: Sink>(
     ensures part { TakesPart (O.told out.old) (O.told out.new) (changed_text line said got) }
     ensures cause { HasOneCause (O.faults out.old) (O.faults out.new) result }
 {
-    put_number(rt, b"ppq: line ", line as u64, b": file changed, said ", out)?;
+    put_number(
+        rt,
+        b"ppq: line ",
+        line as u64,
+        b": file changed, said ",
+        out,
+    )?;
     put_number(rt, b"", said, b", got ", out)?;
     put_number(rt, b"", got, b"\n", out)
 }

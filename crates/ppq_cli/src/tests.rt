@@ -72,7 +72,10 @@ fn the_greatest_pair_is_pushed_and_popped(rt: HostRuntime) -> Result<(), Fail> {
     let script = b"push 18446744073709551615 18446744073709551615\npop\n";
     let (end, wrote) = outcome(&rt, rt.alloc(), script)?;
     assert_eq!(rt; end, End::Done);
-    assert_eq!(rt; wrote.as_slice(), b"18446744073709551615 18446744073709551615\n".as_slice());
+    assert_eq!(rt;
+        wrote.as_slice(),
+        b"18446744073709551615 18446744073709551615\n".as_slice()
+    );
     Ok(())
 }
 
@@ -238,7 +241,8 @@ fn an_absent_file_is_reported(rt: HostRuntime) -> Result<(), Fail> {
 #[test]
 fn no_words_are_reported(rt: HostRuntime) -> Result<(), Fail> {
     let (status, report) = program(&rt, rt.alloc(), &[])?;
-    let usage = b"ppq: usage: ppq run SCRIPT --device FILE --blocks D --workers P --block B --heap H --memory M\n";
+    let usage =
+        b"ppq: usage: ppq run SCRIPT --device FILE --blocks D --workers P --block B --heap H --memory M\n";
     assert_eq!(rt; status, 2);
     assert_eq!(rt; report.as_slice(), usage.as_slice());
     Ok(())

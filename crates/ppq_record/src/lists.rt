@@ -4,6 +4,7 @@ ghost use Rattle.std.specs.Prelude.{◌≡◌, ◌<◌, ◌^◌, length, map};
 use crate::{Listing, Record};
 
 /// Plain lists, shown as runs.
+#[derive(Drop)]
 pub struct Lists<'a, R: Record> {
     lists: &'a [Vec<R>],
     ghost few: { length lists.now < 2 ^ 32 },

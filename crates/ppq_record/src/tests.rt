@@ -65,11 +65,20 @@ fn a_sort_ascends(rt: HostRuntime) -> Result<(), Fail> {
 fn a_front_is_told_by_counting(rt: HostRuntime) -> Result<(), Fail> {
     let all = [pair(5, 0), pair(3, 0), pair(5, 0), pair(4, 0)];
     assert_eq!(rt; is_least(&all, 2, &[pair(3, 0), pair(4, 0)]), true);
-    assert_eq!(rt; is_least(&all, 3, &[pair(3, 0), pair(4, 0), pair(5, 0)]), true);
-    assert_eq!(rt; is_least(&all, 9, &[pair(3, 0), pair(4, 0), pair(5, 0), pair(5, 0)]), true);
+    assert_eq!(rt;
+        is_least(&all, 3, &[pair(3, 0), pair(4, 0), pair(5, 0)]),
+        true
+    );
+    assert_eq!(rt;
+        is_least(&all, 9, &[pair(3, 0), pair(4, 0), pair(5, 0), pair(5, 0)]),
+        true
+    );
     assert_eq!(rt; is_least(&all, 2, &[pair(4, 0), pair(3, 0)]), false);
     assert_eq!(rt; is_least(&all, 2, &[pair(3, 0), pair(5, 0)]), false);
-    assert_eq!(rt; is_least(&all, 4, &[pair(3, 0), pair(4, 0), pair(5, 0)]), false);
+    assert_eq!(rt;
+        is_least(&all, 4, &[pair(3, 0), pair(4, 0), pair(5, 0)]),
+        false
+    );
     assert_eq!(rt; is_least(&all, 0, &[]), true);
     Ok(())
 }

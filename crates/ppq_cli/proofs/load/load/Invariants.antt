@@ -8,7 +8,7 @@ invariant-reading g l = record {
   kept : g.L.Library.told l.library ≡ g.L.Library.told l.fn.library;
   later : g.L.Library.faults l.fn.library ≤ g.L.Library.faults l.library;
   long : length l.bytes.items ≡ l.size;
-  within : l.got ≤ l.size
+  within : l.got ≤ l.size;
 }
 
 abbrev pub decreases-reading : goal.decreases-reading

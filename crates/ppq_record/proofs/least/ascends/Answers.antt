@@ -16,7 +16,7 @@ returns-then-is_lt g c = (
       let d = c.index-items-i.result in
       let low : 1 ≤ i = c.loop-i.auto.i in
       let here : lt (get_or xs i d) (get_or xs (i - 1) d) ≡ true =
-          ap₂ lt (sym (get_or_read xs i _ c.loop-i-test.true c.index-items-i.is d)) (sym (get_or_read xs (i - 1) _ (omega arith) c.index-items-i-in-loop-i.is d)) ∙ ap is_lt (sym c.cmp.ensures) ∙ sym c.is_lt.ensures ∙ c.if-is_lt.true in
+      ap₂ lt (sym (get_or_read xs i _ c.loop-i-test.true c.index-items-i.is d)) (sym (get_or_read xs (i - 1) _ (omega arith) c.index-items-i-in-loop-i.is d)) ∙ ap is_lt (sym c.cmp.ensures) ∙ sym c.is_lt.ensures ∙ c.if-is_lt.true in
       let step : suc (i - 1) ≡ i = omega arith in
       let never : lt (get_or xs i d) (get_or xs (i - 1) d) ≡ false = subst (λ (j : ℕ). Le lt (get_or xs (i - 1) d) (get_or xs j d)) step (rising_at lt xs (i - 1) d up (omega arith)) in
       absurd (true≢false (sym here ∙ never))),

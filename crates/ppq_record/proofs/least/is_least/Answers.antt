@@ -23,8 +23,7 @@ returns g c =
     let laws = c.record_laws.ensures in
     let is = least_by_counts laws.order laws.same c.args.all.now c.args.k c.args.out.now in
     let of_out = each_counted g.R.Ord.cmp c.args.all.now c.args.k c.args.out.now c.args.out.now in
-    let of_all = each_counted g.R.Ord.cmp c.args.all.now c.args.k c.args.out.now c.args.all.now in
-    (
+    let of_all = each_counted g.R.Ord.cmp c.args.all.now c.args.k c.args.out.now c.args.all.now in (
       (λ h. is.0 (c.ascends.ensures.0 c.if-not-ascends.false, of_out.0 (sym c.are_counted.ensures ∙ c.if-not-are_counted.false), of_all.0 (sym c.are_counted-2.ensures ∙ h))),
       (λ e. c.are_counted-2.ensures ∙ of_all.1 (is.1 e).2),
     )
