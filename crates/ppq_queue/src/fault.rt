@@ -1,0 +1,19 @@
+//! Why a call of the queue was refused.
+
+/// Why a call of an open queue was refused. The queue is as it was before the call.
+#[derive(Clone, Copy, Debug, PartialEq, Eq)]
+pub enum QueueFault {
+    /// A run of records found neither buffers nor blocks.
+    NoFreeBlock,
+    /// The block with this number failed. It comes once a queue has blocks.
+    Device { number: u32 },
+}
+
+/// Why a queue was not opened.
+#[derive(Clone, Copy, Debug, PartialEq, Eq)]
+pub enum OpenFault {
+    /// The budget is below its fixed part, which is `need` records.
+    TooSmall { need: u64 },
+    /// Memory was wanting.
+    Memory,
+}
