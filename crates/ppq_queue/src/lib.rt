@@ -13,6 +13,8 @@ mod flush;
 mod queue;
 mod reclaim;
 mod stored;
+#[cfg(test)]
+mod tests;
 
 pub use fault::{OpenFault, QueueFault};
 pub use queue::Queue;
