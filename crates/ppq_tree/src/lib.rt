@@ -1,6 +1,6 @@
 //! The tree of minima: the least of a fixed number of leaves, each of which has a record or none.
 //!
-//! A tournament tree after Knuth (The Art of Computer Programming, volume 3, section 5.4.1): each
+//! A tournament tree after Knuth (The Art of Computer Programming, volume 3): each
 //! inner node is a match between its two children and knows the leaf that won. A leaf that changes
 //! plays its matches again, one on each level, which is counted by `Steps`.
 #![tactic(auto)]
