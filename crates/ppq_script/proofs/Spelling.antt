@@ -8,7 +8,7 @@ use Rattle.std.proofs.lemmas.List.{take_at, drop_at, take-append-drop, drop_more
 use Rattle.std.proofs.lemmas.List.Quantifiers.{position-Some}
 use Rattle.std.proofs.lemmas.Slice.Eq.{bytes_eq-Decides, starts_is}
 use Rattle.ppq_script.specs.declared.command.Command.{Command}
-use Rattle.ppq_script.specs.declared.command.Command.TheVariants.{Push, Pop}
+use Rattle.ppq_script.specs.declared.command.Command.TheVariants.{Push, Pop, Top, Size}
 use Rattle.ppq_script.specs.Number.{value_from, number_of}
 use Rattle.ppq_script.specs.Command.{command_of, fields_of, push_of}
 use Rattle.ppq_script.specs.Meaning.{IsDigit, Spells, IsPush, Reads}
@@ -97,16 +97,23 @@ Reads-fields line text (Some i) c s p e =
     } in
     subst (λ (d : Command). Reads line d) parts.4 push
 
-Reads-tests : (line : List ℕ) (c : Command) (is_pop is_push : Bool) → bytes_eq line (codes "pop") ≡ is_pop → starts_with nat_eq line (codes "push ") ≡ is_push
-    → cond is_pop (Some Pop) (cond is_push (fields_of (drop 5 line) (position (λ b. b == 32) (drop 5 line))) None) ≡ Some c → Reads line c
-Reads-tests line c true is_push pop push e = let same : Pop ≡ c = cc in subst (λ (d : Command). Reads line d) same ((bytes_eq-Decides line (codes "pop")).0 pop)
-Reads-tests line c false true pop push e =
+-- a command of one word
+Reads-word : (line word : List ℕ) (command c : Command) → (line ≡ word → Reads line command) → bytes_eq line word ≡ true → Some command ≡ Some c → Reads line c
+Reads-word line word command c reads same e = let is : command ≡ c = cc in subst (λ (d : Command). Reads line d) is (reads ((bytes_eq-Decides line word).0 same))
+
+Reads-tests : (line : List ℕ) (c : Command) (is_pop is_top is_size is_push : Bool)
+    → bytes_eq line (codes "pop") ≡ is_pop → bytes_eq line (codes "top") ≡ is_top → bytes_eq line (codes "size") ≡ is_size → starts_with nat_eq line (codes "push ") ≡ is_push
+    → cond is_pop (Some Pop) (cond is_top (Some Top) (cond is_size (Some Size) (cond is_push (fields_of (drop 5 line) (position (λ b. b == 32) (drop 5 line))) None))) ≡ Some c → Reads line c
+Reads-tests line c true is_top is_size is_push pop top size push e = Reads-word line (codes "pop") Pop c (λ (h : line ≡ codes "pop"). h) pop e
+Reads-tests line c false true is_size is_push pop top size push e = Reads-word line (codes "top") Top c (λ (h : line ≡ codes "top"). h) top e
+Reads-tests line c false false true is_push pop top size push e = Reads-word line (codes "size") Size c (λ (h : line ≡ codes "size"). h) size e
+Reads-tests line c false false false true pop top size push e =
     Reads-fields line (drop 5 line) (position (λ b. b == 32) (drop 5 line)) c ((starts_is Decides-eqb line (codes "push ") (starts_with nat_eq line (codes "push ")) refl).0 push) refl e
-Reads-tests line c false false pop push e = cc
+Reads-tests line c false false false false pop top size push e = cc
 
 -- a line that is read as a command is spelled as it
 pub Reads-command_of : (line : List ℕ) (c : Command) → command_of line ≡ Some c → Reads line c
-Reads-command_of line c e = Reads-tests line c (bytes_eq line (codes "pop")) (starts_with nat_eq line (codes "push ")) refl refl e
+Reads-command_of line c e = Reads-tests line c (bytes_eq line (codes "pop")) (bytes_eq line (codes "top")) (bytes_eq line (codes "size")) (starts_with nat_eq line (codes "push ")) refl refl refl refl e
 
 -- and the other way round
 pub command_of-Reads : (line : List ℕ) (c : Command) → Reads line c → command_of line ≡ Some c
@@ -120,3 +127,5 @@ command_of-Reads line (Push item) h =
     ap₂ push_of (ap number_of front ∙ number_of-Spells h.key item.key h.spells_key) (ap number_of back ∙ number_of-Spells h.value item.value h.spells_value) in
     ap command_of (h.spelled ∙ four_texts (codes "push ") h.key (codes " ") h.value) ∙ (ap (fields_of text) (position-space h.key h.value h.spells_key.all_digits) ∙ fields)
 command_of-Reads line Pop h = ap command_of h
+command_of-Reads line Top h = ap command_of h
+command_of-Reads line Size h = ap command_of h

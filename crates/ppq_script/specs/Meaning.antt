@@ -3,7 +3,7 @@ use Rattle.std.specs.Prelude.{◌≡◌, ◌≢◌, ℕ, ◌+◌, ◌-◌, ◌*�
 use Rattle.std.specs.List.{AllByRecursion as Each}
 use Rattle.ppq_record.specs.declared.pair.Pair.{Pair}
 use Rattle.ppq_script.specs.declared.command.Command.{Command}
-use Rattle.ppq_script.specs.declared.command.Command.TheVariants.{Push, Pop}
+use Rattle.ppq_script.specs.declared.command.Command.TheVariants.{Push, Pop, Top, Size}
 use Rattle.ppq_script.specs.declared.numbered.Numbered.{Numbered}
 use Rattle.ppq_script.specs.Number.{value_from, number_of}
 use Rattle.ppq_script.specs.Command.{command_of}
@@ -33,6 +33,8 @@ pub record IsPush (line : List ℕ) (item : Pair) : Type 0 where
 abbrev pub Reads : List ℕ → Command → Type 0
 Reads line (Push item) = IsPush line item
 Reads line Pop = line ≡ codes "pop"
+Reads line Top = line ≡ codes "top"
+Reads line Size = line ≡ codes "size"
 
 -- a line that is spelled as some command
 abbrev pub IsGood : List ℕ → Type 0

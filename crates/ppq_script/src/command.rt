@@ -5,13 +5,17 @@ ghost use Rattle.ppq_script.specs.Command.{command_of, push_of, fields_of};
 use crate::digits::number;
 use ppq_record::Pair;
 
-/// What a line of a script asks for. Each command changes one bag of records and gives one text.
+/// What a line of a script asks for. Each command acts on one bag of records and gives one text.
 #[derive(Clone, Copy, Debug, PartialEq, Eq)]
 pub enum Command {
     /// `push K V`: adds the record with that key and value.
     Push { item: Pair },
     /// `pop`: removes the least record, if there is one, and prints it.
     Pop,
+    /// `top`: prints the least record, if there is one, and leaves it in the bag.
+    Top,
+    /// `size`: prints how many records are in the bag.
+    Size,
 }
 
 /// The command that pushes two numbers, where both are there.
@@ -49,6 +53,12 @@ pub fn read_line(line: &[u8]) -> Option<Command>
 {
     if line == b"pop".as_slice() {
         return Some(Command::Pop);
+    }
+    if line == b"top".as_slice() {
+        return Some(Command::Top);
+    }
+    if line == b"size".as_slice() {
+        return Some(Command::Size);
     }
     match line.strip_prefix(b"push ".as_slice()) {
         None => None,
