@@ -4,9 +4,12 @@ use Rattle.std.specs.Borrow.{Bor}
 use Rattle.std.specs.declared.alloc.Global.{Global}
 use Rattle.ppq_engine.specs.declared.end.End.{End}
 use Rattle.ppq_engine.specs.declared.end.End.TheVariants.{Done, BadLine, Usage, ReadFault, WriteFault, DeviceFault, NoFreeBlock, BudgetTooSmall, Memory, FileChanged, NoDevice, NoScript, ScriptTooLong}
+use Rattle.ppq_budget.specs.Sizes.{Numbers, numbers, heap_of}
 use Rattle.ppq_engine.specs.Output.{output_of}
+use Rattle.ppq_engine.specs.Ends.{IsRun}
 use Rattle.ppq_cli.specs.declared.load.LoadFault.{LoadFault}
 use Rattle.ppq_cli.specs.declared.load.LoadFault.TheVariants as load
+use Rattle.ppq_script.specs.declared.command.Command.{Command}
 use Rattle.ppq_script.specs.declared.numbered.Numbered.{Numbered}
 use Rattle.ppq_script.specs.Lines.{lines_of, numbered_of, first_bad}
 
@@ -39,17 +42,26 @@ refusal_of (Some name) files = refusal_of_file (files name)
 abbrev pub IsGivenUp : End → Type 0
 IsGivenUp end = (end ≡ Memory) ⊎ (end ≡ ReadFault)
 
--- the run was begun and ended
-abbrev pub IsRun : End → Type 0
-IsRun end = (end ≡ Done) ⊎ (end ≡ WriteFault)
-
 -- the refusal, where there is one, and only then; or it gave up
 abbrev pub IsAnswer : Option End → End → Type 0
 IsAnswer refusal end = MatchOption refusal (IsRun end) (λ e. end ≡ e) ⊎ IsGivenUp end
 
--- what a script of these bytes writes
+-- the commands of a script of these bytes
+abbrev pub script_commands : List ℕ → List Command
+script_commands bytes = map (λ n. n.command) (numbered_of 1 (lines_of bytes))
+
+-- what it writes
 abbrev pub script_output : List ℕ → List ℕ
-script_output bytes = output_of (map (λ n. n.command) (numbered_of 1 (lines_of bytes)))
+script_output bytes = output_of (script_commands bytes)
+
+-- the sizes of each run until the words name numbers: 4 workers, 4096 records a block, 8 blocks a heap, 1048576 records of
+-- budget and no block of the device
+abbrev pub plain_sizes : Numbers
+plain_sizes = numbers 4 4096 8 1048576 0
+
+-- how many records one heap holds
+abbrev pub plain_heap : ℕ
+plain_heap = heap_of plain_sizes
 
 -- a text that is the name, where there is one
 abbrev pub Named : Option (List ℕ) → Option (Bor (List ℕ)) → Type 0
@@ -65,10 +77,6 @@ ScriptIn files (Some name) P = IfSome (files name) P
 abbrev pub OfScript : Option (List ℕ → Option (List ℕ)) → Option (List ℕ) → (List ℕ → Type 0) → Type 0
 OfScript told name P = IfSome told (λ files. ScriptIn files name P)
 
--- the end is done or want of memory
-abbrev pub IsCompleted : End → Type 0
-IsCompleted end = (end ≡ Done) ⊎ (end ≡ Memory)
-
 -- a file that changed is the script itself, at line 0, cut short before its length, and in a library that does not tell
 abbrev pub IsScriptCut : Option (List ℕ → Option (List ℕ)) → End → Type 0
 IsScriptCut told end = (line said got : ℕ) → end ≡ FileChanged line said got → (line ≡ 0) × ((got < said) × (told ≡ None))
@@ -81,7 +89,7 @@ MayCome Usage = ⊤
 MayCome ReadFault = ⊤
 MayCome WriteFault = ⊤
 MayCome (DeviceFault number) = ⊥
-MayCome NoFreeBlock = ⊥
+MayCome NoFreeBlock = ⊤
 MayCome (BudgetTooSmall need) = ⊥
 MayCome Memory = ⊤
 MayCome (FileChanged line said got) = ⊤

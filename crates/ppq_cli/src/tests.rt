@@ -116,6 +116,26 @@ fn a_script_of_no_bytes_is_done(rt: HostRuntime) -> Result<(), Fail> {
 }
 
 #[test]
+fn an_empty_queue_pops_tops_and_counts_nothing(rt: HostRuntime) -> Result<(), Fail> {
+    let (end, wrote) = outcome(&rt, rt.alloc(), b"pop\ntop\nsize\n")?;
+    assert_eq!(rt; end, End::Done);
+    assert_eq!(rt; wrote.as_slice(), b"empty\nempty\n0\n".as_slice());
+    Ok(())
+}
+
+#[test]
+fn a_top_leaves_the_least_and_a_size_counts_it(rt: HostRuntime) -> Result<(), Fail> {
+    let (end, wrote) = outcome(
+        &rt,
+        rt.alloc(),
+        b"push 2 7\npush 1 8\ntop\nsize\npop\nsize\n",
+    )?;
+    assert_eq!(rt; end, End::Done);
+    assert_eq!(rt; wrote.as_slice(), b"1 8\n2\n1 8\n1\n".as_slice());
+    Ok(())
+}
+
+#[test]
 fn a_sink_that_fails_holds_a_prefix(rt: HostRuntime) -> Result<(), Fail> {
     let alloc = rt.alloc();
     let mut library = MemLibrary::new(alloc);

@@ -1,17 +1,39 @@
 //! The top call.
 ghost use Rattle.std.specs.Prelude.{◌≡◌, ◌≤◌, ◌<◌, ◌↔◌, ◌⊎◌, ◌^◌, [], None, IfSome};
 ghost use Rattle.ppq_outside.specs.Told.{TakesAll, TakesPart, Rose};
-ghost use Rattle.ppq_cli.specs.Words.{script_name, refusal_of, IsAnswer, IsRun, IsCompleted, IsScriptCut, MayCome, script_output, Named, OfScript, load_end};
-ghost use Rattle.ppq_engine.specs.declared.end.End.TheVariants.{Done, Usage, ReadFault, WriteFault};
+ghost use Rattle.ppq_cli.specs.Words.{script_name, refusal_of, IsAnswer, IsScriptCut, MayCome, script_commands, script_output, plain_sizes, plain_heap, Named, ScriptIn, OfScript, load_end};
+ghost use Rattle.ppq_engine.specs.Output.{load_of, TakesWithin};
+ghost use Rattle.ppq_engine.specs.Ends.{IsRun, IsCompleted};
+ghost use Rattle.ppq_engine.specs.declared.end.End.TheVariants.{Done, Usage, ReadFault, WriteFault, NoFreeBlock};
 
 use crate::load::{LoadFault, load};
+use ppq_budget::Sizes;
 use ppq_engine::{End, Ended, run_script};
 use ppq_outside::{Gate, Host, Library, Rack, Sink};
 use ppq_script::read;
 use std::alloc::Global;
 
-/// The workers for which a script is read until the words name a number.
+/// How many workers merge, until the words name a number.
 const WORKERS: u32 = 4;
+
+/// How many records a block holds.
+const BLOCK: u32 = 4_096;
+
+/// How many blocks an insertion heap holds.
+const HEAP: u32 = 8;
+
+/// The budget, in records.
+const MEMORY: u64 = 1_048_576;
+
+/// How many blocks the device has.
+const BLOCKS: u32 = 0;
+
+/// The sizes of each run.
+fn sizes() -> Sizes
+    ensures { result ≡ plain_sizes }
+{
+    Sizes::new(WORKERS, BLOCK, HEAP, MEMORY, BLOCKS).unwrap()
+}
 
 /// The name of the script: the words are `run` and a name that is not empty and does not begin
 /// with `-`.
@@ -44,18 +66,23 @@ fn end_of(fault: LoadFault) -> End
 }
 
 /// Loads the script that the words name, reads it whole, and runs it.
-fn load_and_run<H: Host, L: Library, O: Sink>(
+fn load_and_run<H: Host, L: Library, O: Sink, G: Gate>(
     rt: &H,
     alloc: Global,
     words: &[String],
     library: &mut L,
     out: &mut O,
+    gate: &G,
 ) -> End
+where
+    H::Dir: Send,
     ensures usage { (result ≡ Usage) ↔ (script_name words.now ≡ None) }
     ensures answer { IfSome (L.told library.old) (λ files. IsAnswer (refusal_of (script_name words.now) files) result) }
     ensures done { result ≡ Done → OfScript (L.told library.old) (script_name words.now) (λ bytes. TakesAll (O.told out.old) (O.told out.new) (script_output bytes)) }
     ensures part { OfScript (L.told library.old) (script_name words.now) (λ bytes. TakesPart (O.told out.old) (O.told out.new) (script_output bytes)) }
+    ensures within { result ≡ NoFreeBlock → OfScript (L.told library.old) (script_name words.now) (λ bytes. TakesWithin (O.told out.old) (O.told out.new) plain_heap (script_commands bytes)) }
     ensures nothing { IsRun result ⊎ (O.told out.new ≡ O.told out.old) }
+    ensures above { result ≡ NoFreeBlock → OfScript (L.told library.old) (script_name words.now) (λ bytes. plain_heap < load_of (script_commands bytes)) }
     ensures changed { IsScriptCut (L.told library.old) result }
     ensures may { MayCome result }
     ensures read { result ≡ ReadFault → Rose (L.faults library.old) (L.faults library.new) }
@@ -70,12 +97,13 @@ fn load_and_run<H: Host, L: Library, O: Sink>(
         Ok(bytes) => bytes,
         Err(fault) => return end_of(fault),
     };
-    let Ok(script) = read(alloc, &bytes, WORKERS) else {
+    let sizes = sizes();
+    let Ok(script) = read(alloc, &bytes, sizes.workers()) else {
         return End::Memory;
     };
     match script.bad() {
         Some(line) => End::BadLine { line },
-        None => run_script(rt, alloc, &script, out),
+        None => run_script(rt, alloc, &script, sizes, out, gate),
     }
 }
 
@@ -83,18 +111,20 @@ fn load_and_run<H: Host, L: Library, O: Sink>(
 /// finds its first bad line, runs it, and writes its output to the sink.
 ///
 /// `Done`: the sink took exactly the script's output, which is that of one bag ordered by whole
-/// records. On every other end it took a prefix of it, and nothing but on `WriteFault`. `Usage`,
-/// `NoScript`, `ScriptTooLong` and `BadLine` come exactly where they should, in that order;
-/// `ReadFault` only where the library's count of faults rose in this call, `WriteFault` only where
-/// the sink's did; `FileChanged` only for a library that does not tell, where a read gave nothing
-/// before the length that was said. Every other script ends `Done`, or `Memory`.
+/// records. On every other end it took a prefix of it, and nothing but on `WriteFault` and
+/// `NoFreeBlock`. `Usage`, `NoScript`, `ScriptTooLong` and `BadLine` come exactly where they should,
+/// in that order; `ReadFault` only where the library's count of faults rose in this call,
+/// `WriteFault` only where the sink's did; `NoFreeBlock` only where the script's load is above the
+/// capacity of one heap, and the sink then took at least what all commands up to there print;
+/// `FileChanged` only for a library that does not tell, where a read gave nothing before the length
+/// that was said. Every other script ends `Done`, or `Memory`.
 pub fn run_words<H: Host, L: Library, K: Rack, O: Sink, G: Gate>(
     rt: &H,
     alloc: Global,
     words: &[String],
     library: &mut L,
     _rack: &mut K,
-    _gate: &G,
+    gate: &G,
     out: &mut O,
 ) -> Ended<K::Slot>
 where
@@ -105,6 +135,7 @@ where
     // The headline, where library and sink tell.
     ensures done { result.end ≡ Done → OfScript (L.told library.old) (script_name words.now) (λ bytes. TakesAll (O.told out.old) (O.told out.new) (script_output bytes)) }
     ensures part { OfScript (L.told library.old) (script_name words.now) (λ bytes. TakesPart (O.told out.old) (O.told out.new) (script_output bytes)) }
+    ensures within { result.end ≡ NoFreeBlock → OfScript (L.told library.old) (script_name words.now) (λ bytes. TakesWithin (O.told out.old) (O.told out.new) plain_heap (script_commands bytes)) }
     ensures nothing { IsRun result.end ⊎ (O.told out.new ≡ O.told out.old) }
 
     // When each end comes.
@@ -112,15 +143,17 @@ where
     ensures answer { IfSome (L.told library.old) (λ files. IsAnswer (refusal_of (script_name words.now) files) result.end) }
     ensures read { result.end ≡ ReadFault → L.faults library.old < L.faults library.new }
     ensures write { result.end ≡ WriteFault → O.faults out.old < O.faults out.new }
+    ensures above { result.end ≡ NoFreeBlock → OfScript (L.told library.old) (script_name words.now) (λ bytes. plain_heap < load_of (script_commands bytes)) }
     ensures changed { IsScriptCut (L.told library.old) result.end }
     ensures may { MayCome result.end }
 
-    // A well-formed script without a fault of the outside ends done, or for want of memory.
-    ensures complete { IfSome (L.told library.old) (λ files. refusal_of (script_name words.now) files ≡ None → L.faults library.new ≡ L.faults library.old → O.faults out.new ≡ O.faults out.old → IsCompleted result.end) }
+    // A well-formed script whose load one heap holds, without a fault of the outside, ends done, or for
+    // want of memory.
+    ensures complete { IfSome (L.told library.old) (λ files. refusal_of (script_name words.now) files ≡ None → L.faults library.new ≡ L.faults library.old → O.faults out.new ≡ O.faults out.old → ScriptIn files (script_name words.now) (λ bytes. load_of (script_commands bytes) ≤ plain_heap → IsCompleted result.end)) }
 
     ensures blocks { result.blocks.items ≡ [] }
 {
-    let end = load_and_run(rt, alloc, words, library, out);
+    let end = load_and_run(rt, alloc, words, library, out, gate);
     Ended {
         end,
         blocks: Vec::new(alloc),

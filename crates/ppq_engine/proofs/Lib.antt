@@ -1,2 +1,2 @@
-pub mod Bags
+pub mod Pairs
 pub mod Running

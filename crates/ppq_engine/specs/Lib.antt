@@ -1,2 +1,4 @@
+pub mod Ends
+pub mod Gathers
 pub mod Output
-pub mod Vector
+pub mod Running

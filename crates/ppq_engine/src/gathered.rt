@@ -1,7 +1,7 @@
 //! Output that is gathered before it is put.
 ghost use Rattle.std.specs.Prelude.{◌≡◌, ◌≤◌, ◌+◌, ◌++◌, [], length, IfOk, OnOk, OnErr, decimal};
 ghost use Rattle.ppq_outside.specs.Told.{HasOneCause, TakesAll, TakesPart};
-ghost use Rattle.ppq_engine.specs.Output.{answer_text, Gathers};
+ghost use Rattle.ppq_engine.specs.Gathers.{answer_text, Gathers};
 
 use crate::Answer;
 use itoa::Buffer;
@@ -84,6 +84,10 @@ impl Gathered {
                 self.number(item.key);
                 self.text(b" ");
                 self.number(item.value);
+                self.text(b"\n");
+            }
+            Answer::Size { records } => {
+                self.number(records);
                 self.text(b"\n");
             }
         }

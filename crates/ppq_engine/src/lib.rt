@@ -1,11 +1,13 @@
-//! Runs a script: each command changes one bag of records and gives one text.
+//! Runs a script: each command acts on one queue of records and gives one text.
 #![tactic(auto)]
 
 mod answer;
-mod ascending;
 mod end;
 mod gathered;
 mod run;
+mod stop;
+#[cfg(test)]
+mod tests;
 
 pub use answer::Answer;
 pub use end::{End, Ended};

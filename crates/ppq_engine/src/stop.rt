@@ -1,0 +1,34 @@
+//! Why commands did not all run.
+use ppq_outside::Failed;
+use ppq_queue::QueueFault;
+
+/// Why the commands of a script did not all run.
+#[derive(Clone, Copy, Debug, PartialEq, Eq)]
+pub enum Stop {
+    /// The sink failed.
+    Sink,
+    /// The queue did not do a command.
+    Queue { fault: QueueFault },
+}
+
+impl From<Failed> for Stop {
+    ghost use Rattle.std.specs.Prelude.{◌≡◌};
+    ghost use Rattle.ppq_engine.specs.declared.stop.Stop.TheVariants.{Sink};
+
+    ghost from_gives = { λ _ given. given ≡ Sink };
+
+    fn from(_: Failed) -> Stop {
+        Stop::Sink
+    }
+}
+
+impl From<QueueFault> for Stop {
+    ghost use Rattle.std.specs.Prelude.{◌≡◌};
+    ghost use Rattle.ppq_engine.specs.declared.stop.Stop.TheVariants.{Queue};
+
+    ghost from_gives = { λ fault given. given ≡ Queue fault };
+
+    fn from(fault: QueueFault) -> Stop {
+        Stop::Queue { fault }
+    }
+}
