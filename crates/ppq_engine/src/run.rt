@@ -141,7 +141,7 @@ where
 ///
 /// `Done`: the sink took the script's output. `WriteFault`: the sink failed; it took a prefix of
 /// it. `NoFreeBlock`: a push found no room, which comes only where the script's load is above the
-/// capacity of one heap; what the commands before it print was taken. `BudgetTooSmall` comes
+/// capacity of one heap; at least what the commands up to such a load print was taken. `BudgetTooSmall` comes
 /// exactly where the budget is below its fixed part, unless memory was wanting; there and on
 /// `Memory` nothing was written. No other end comes.
 pub fn run_script<H: Host, O: Sink, G: Gate>(

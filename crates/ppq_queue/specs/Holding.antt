@@ -21,6 +21,10 @@ pub record Holding (R : Type 0) : Type 0 where
 abbrev pub resident_of : {R : Type 0} → Holding R → ℕ
 resident_of q = q.in_heap + 2 * batch_of q.sizes + q.buffers * q.sizes.block
 
+-- a call took no more buffers than the records of the heap fill, the last perhaps in part
+abbrev pub TakesFew : {R : Type 0} → Holding R → Holding R → Type 0
+TakesFew old new = old.idle * old.sizes.block < new.idle * old.sizes.block + old.in_heap + old.sizes.block
+
 -- a refusal of an opening says that the budget is too small exactly where it is, and how much it needs
 abbrev pub NamesNeed : Numbers → OpenFault → Type 0
 NamesNeed sizes (TooSmall need) = (sizes.memory < fixed_of sizes) × (need ≡ fixed_of sizes)

@@ -1,6 +1,6 @@
 //! Why a call of the queue was refused.
 
-/// Why a call of an open queue was refused. The queue is as it was before the call.
+/// Why a call of an open queue was refused. Its bag is as it was before the call.
 #[derive(Clone, Copy, Debug, PartialEq, Eq)]
 pub enum QueueFault {
     /// A run of records found neither buffers nor blocks.

@@ -2,7 +2,7 @@
 ghost use Rattle.std.specs.Prelude.{◌≡◌, ◌≤◌, ◌<◌, ◌+◌, ◌↔◌, ◌∷◌, [], length, Ok, IfOk, IfErr, OnOk, OnErr, IsErr, max};
 ghost use Rattle.ppq_record.specs.Bag.{IsSameBag, least, without_front};
 ghost use Rattle.ppq_budget.specs.Sizes.{fixed_of, heap_of, pool_of};
-ghost use Rattle.ppq_queue.specs.Holding.{resident_of, NamesNeed};
+ghost use Rattle.ppq_queue.specs.Holding.{resident_of, NamesNeed, TakesFew};
 ghost use Rattle.ppq_queue.specs.declared.fault.QueueFault.TheVariants.{NoFreeBlock};
 
 use crate::choice::goes_first;
@@ -106,6 +106,9 @@ impl<S: Slot, R: Record> Queue<S, R> {
         ensures peak { self.new.peak ≡ max self.old.peak (length self.old.bag + 1) }
         ensures sizes { self.new.sizes ≡ self.old.sizes }
         ensures buffers { self.new.buffers ≡ self.old.buffers }
+
+        // A push takes no more buffers than the heap's records fill, the last perhaps in part.
+        ensures idle { OnOk result (TakesFew self.old self.new) }
     {
         fixed_parts();
         let size = u64::from(self.heap.len()) + self.stored.len();
@@ -144,6 +147,7 @@ impl<S: Slot, R: Record> Queue<S, R> {
         ensures peak { self.new.peak ≡ self.old.peak }
         ensures sizes { self.new.sizes ≡ self.old.sizes }
         ensures buffers { self.new.buffers ≡ self.old.buffers }
+        ensures idle { self.old.idle ≤ self.new.idle }
     {
         record_laws::<R>();
         if goes_first(self.heap.min(), self.stored.least()) {

@@ -22,3 +22,9 @@ returns-clause-bag g c p =
     let same = in_order-same_bag (is_before g.R.Ord.cmp) (ranks c.record_laws.ensures.order) c.args.heap.now.items in
     let sorted = c.as_slice.ensures ∙ c.sort_in_place.ensures.items in
     omega (arith, c.store.ensures.items p, count_by-append p c.as_slice.result.now c.args.stored.now.items, count_by-append p c.args.heap.now.items c.args.stored.now.items, ap (count_by p) sorted, same p)
+
+pub returns-clause-idle : goal.returns-clause-idle
+returns-clause-idle g c =
+    let same = in_order-same_bag (is_before g.R.Ord.cmp) (ranks c.record_laws.ensures.order) c.args.heap.now.items in
+    let long = ap length (c.as_slice.ensures ∙ c.sort_in_place.ensures.items) ∙ IsSameBag-length _ c.args.heap.now.items same in
+    omega (arith, long, c.store.ensures.idle)
