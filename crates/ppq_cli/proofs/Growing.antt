@@ -1,10 +1,10 @@
 -- A file that is read piece by piece into its place.
-use Rattle.std.proofs.Common.{◌≡◌, ℕ, ◌+◌, ◌<◌, ◌≤◌, List, ◌++◌, length, take, drop, Option, Some, None, refl, sym, ap, ap₂, ◌∙◌, subst, arith, length-take-le}
+use Rattle.std.proofs.Common.{◌≡◌, ℕ, ◌+◌, ◌<◌, ◌≤◌, List, ◌++◌, length, take, Option, Some, None, refl, sym, ap, ap₂, ◌∙◌, subst, arith, length-take-le}
 use Rattle.std.specs.Prelude.{IfSome}
 use Rattle.std.proofs.lemmas.List.{take-append-le, take_all}
 use Rattle.std.proofs.Math.Seq.{take-append-add, take-add}
 use borrow.Rule.Slice.PartMut.{put_mid, post_of}
-use Rattle.ppq_outside.specs.Told.{bytes_or_none, length_of, TellsBytes, ReadsAt}
+use Rattle.ppq_outside.specs.Told.{bytes_or_none, length_of, TellsBytes}
 use Rattle.ppq_cli.specs.Load.{GrowsTo, IsThere, IsReadTo, IsLoaded}
 
 -- the beginning of a list with a piece written into it

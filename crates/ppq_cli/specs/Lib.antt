@@ -1,4 +1,5 @@
 pub mod Load
+pub mod Replies
 pub mod Report
 pub mod Status
 pub mod Words

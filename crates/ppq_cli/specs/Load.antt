@@ -1,8 +1,10 @@
 -- Loading a file of a library.
-use Rattle.std.specs.Prelude.{◌≡◌, ℕ, ◌<◌, ◌≤◌, List, length, take, Option, Some, None, IfSome, ⊤}
+use Rattle.std.specs.Prelude.{◌≡◌, ℕ, ◌<◌, List, length, take, Option, Some, None, IfSome, ⊤}
 use Rattle.ppq_outside.specs.Told.{bytes_or_none, length_of}
 use Rattle.ppq_outside.specs.declared.fault.OutsideFault.{OutsideFault}
 use Rattle.ppq_outside.specs.declared.fault.OutsideFault.TheVariants as outside
+use Rattle.ppq_engine.specs.declared.end.End.{End}
+use Rattle.ppq_engine.specs.declared.end.End.TheVariants as end
 use Rattle.ppq_cli.specs.declared.load.LoadFault.{LoadFault}
 use Rattle.ppq_cli.specs.declared.load.LoadFault.TheVariants.{ReadFault, Memory, NoScript, ScriptTooLong, FileChanged}
 
@@ -39,10 +41,10 @@ Refuses file (FileChanged said got) = ⊥
 abbrev pub IsNotLoaded : Option (List ℕ → Option (List ℕ)) → List ℕ → LoadFault → Type 0
 IsNotLoaded told name fault = IfSome told (λ files. Refuses (files name) fault)
 
--- a read gave nothing only before the length that was said, and only where the library does not tell
-abbrev pub IsCutShort : Option (List ℕ → Option (List ℕ)) → LoadFault → Type 0
-IsCutShort told ReadFault = ⊤
-IsCutShort told Memory = ⊤
-IsCutShort told NoScript = ⊤
-IsCutShort told ScriptTooLong = ⊤
-IsCutShort told (FileChanged said got) = (got < said) × (said ≤ 1048576) × (told ≡ None)
+-- a fault of loading as an end
+abbrev pub load_end : LoadFault → End
+load_end ReadFault = end.ReadFault
+load_end Memory = end.Memory
+load_end NoScript = end.NoScript
+load_end ScriptTooLong = end.ScriptTooLong
+load_end (FileChanged said got) = end.FileChanged 0 said got

@@ -1,5 +1,5 @@
 -- The words of the command line, and what a run answers.
-use Rattle.std.specs.Prelude.{◌≡◌, ◌⊎◌, ◌<◌, ℕ, List, [], ◌∷◌, length, Option, Some, None, if◌then◌else◌, bytes_eq, codes, string_bytes, String, IfSome, nat_lt, ⊤, MatchOption, ◌==◌, IsSomeAnd, map}
+use Rattle.std.specs.Prelude.{◌≡◌, ◌⊎◌, ℕ, List, [], ◌∷◌, length, Option, Some, None, if◌then◌else◌, bytes_eq, codes, string_bytes, String, IfSome, nat_lt, ⊤, MatchOption, ◌==◌, IsSomeAnd, map}
 use Rattle.std.specs.Borrow.{Bor}
 use Rattle.std.specs.declared.alloc.Global.{Global}
 use Rattle.ppq_engine.specs.declared.end.End.{End}
@@ -7,10 +7,7 @@ use Rattle.ppq_engine.specs.declared.end.End.TheVariants.{Done, BadLine, Usage, 
 use Rattle.ppq_budget.specs.Sizes.{Numbers, numbers, heap_of}
 use Rattle.ppq_engine.specs.Output.{output_of}
 use Rattle.ppq_engine.specs.Ends.{IsRun}
-use Rattle.ppq_cli.specs.declared.load.LoadFault.{LoadFault}
-use Rattle.ppq_cli.specs.declared.load.LoadFault.TheVariants as load
 use Rattle.ppq_script.specs.declared.command.Command.{Command}
-use Rattle.ppq_script.specs.declared.numbered.Numbered.{Numbered}
 use Rattle.ppq_script.specs.Lines.{lines_of, numbered_of, first_bad}
 
 -- a word that may name a script: it is not empty and does not begin with `-`
@@ -68,6 +65,11 @@ abbrev pub Named : Option (List ℕ) → Option (Bor (List ℕ)) → Type 0
 Named None text = text ≡ None
 Named (Some name) text = IsSomeAnd text (λ t. t.now ≡ name)
 
+-- the fact holds of the script's name, where the words have one
+abbrev pub OfName : Option (List ℕ) → (List ℕ → Type 0) → Type 0
+OfName None P = ⊤
+OfName (Some name) P = P name
+
 -- the fact holds of the script's bytes, where the words name a script that is there
 abbrev pub ScriptIn : (List ℕ → Option (List ℕ)) → Option (List ℕ) → (List ℕ → Type 0) → Type 0
 ScriptIn files None P = ⊤
@@ -76,10 +78,6 @@ ScriptIn files (Some name) P = IfSome (files name) P
 -- and where the library tells
 abbrev pub OfScript : Option (List ℕ → Option (List ℕ)) → Option (List ℕ) → (List ℕ → Type 0) → Type 0
 OfScript told name P = IfSome told (λ files. ScriptIn files name P)
-
--- a file that changed is the script itself, at line 0, cut short before its length, and in a library that does not tell
-abbrev pub IsScriptCut : Option (List ℕ → Option (List ℕ)) → End → Type 0
-IsScriptCut told end = (line said got : ℕ) → end ≡ FileChanged line said got → (line ≡ 0) × ((got < said) × (told ≡ None))
 
 -- the ends that can come so far
 abbrev pub MayCome : End → Type 0
@@ -96,11 +94,3 @@ MayCome (FileChanged line said got) = ⊤
 MayCome NoDevice = ⊥
 MayCome NoScript = ⊤
 MayCome ScriptTooLong = ⊤
-
--- a fault of loading as an end
-abbrev pub load_end : LoadFault → End
-load_end load.ReadFault = ReadFault
-load_end load.Memory = Memory
-load_end load.NoScript = NoScript
-load_end load.ScriptTooLong = ScriptTooLong
-load_end (load.FileChanged said got) = FileChanged 0 said got

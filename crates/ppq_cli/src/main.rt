@@ -14,29 +14,40 @@ mod status;
 mod tests;
 mod top;
 
+use ppq_engine::End;
 use ppq_outside::{MemRack, OpenGate};
-use program::run_and_report;
+use program::{report_end, run_and_report};
 use real_library::DirLibrary;
 use real_sink::StdSink;
 use std::env;
+use std::io::ErrorKind;
 use std::process::ExitCode;
 
+/// The words after the program's name. A word that is no UTF-8 text has no reading.
+fn words_of(rt: &HostRuntime) -> Result<Vec<String>, End> {
+    let arguments = match env::args(rt) {
+        Ok(arguments) => arguments,
+        Err(error) if error.kind() == ErrorKind::OutOfMemory => return Err(End::Memory),
+        Err(_) => return Err(End::Usage),
+    };
+    let words = arguments.skip(1).collect(rt.alloc());
+    words.map_err(|_| End::Memory)
+}
+
 fn main(rt: HostRuntime) -> ExitCode {
-    let alloc = rt.alloc();
-    let Ok(arguments) = env::args(&rt) else {
-        return ExitCode::from(2);
+    let mut errors = StdSink::err();
+    let status = match words_of(&rt) {
+        Ok(words) => run_and_report(
+            &rt,
+            rt.alloc(),
+            &words,
+            &mut DirLibrary::new(),
+            &mut MemRack::new(),
+            &OpenGate,
+            &mut StdSink::out(),
+            &mut errors,
+        ),
+        Err(end) => report_end(&rt, &end, &mut errors),
     };
-    let Ok(words) = arguments.skip(1).collect::<Vec<String>>(alloc) else {
-        return ExitCode::from(8);
-    };
-    ExitCode::from(run_and_report(
-        &rt,
-        alloc,
-        &words,
-        &mut DirLibrary::new(),
-        &mut MemRack::new(),
-        &OpenGate,
-        &mut StdSink::out(),
-        &mut StdSink::err(),
-    ))
+    ExitCode::from(status)
 }

@@ -1,14 +1,29 @@
 //! The program over any outside.
-ghost use Rattle.std.specs.Prelude.{◌≡◌, ◌≤◌, ◌<◌, ◌^◌};
+ghost use Rattle.std.specs.Prelude.{◌≡◌, ◌<◌, ◌↔◌, ◌^◌, None, IfSome};
+ghost use Rattle.ppq_outside.specs.Told.{TakesAll, TakesPart};
+ghost use Rattle.ppq_cli.specs.Report.{report_of};
+ghost use Rattle.ppq_cli.specs.Status.{status_of, IsReported};
+ghost use Rattle.ppq_cli.specs.Words.{script_name, refusal_of, IsAnswer, script_output, OfScript};
 
-use crate::report::put_report;
-use crate::status::status_number;
+use crate::report::report;
+use crate::status::status;
 use crate::top::run_words;
+use ppq_engine::End;
 use ppq_outside::{Gate, Host, Library, Rack, Sink};
 use std::alloc::Global;
 
-/// Runs the words, reports how that ended, and gives the status. A report that could not be put
-/// changes nothing of the status.
+/// Reports an end, and gives its status. A report that could not be put changes nothing of the
+/// status; its beginning was then taken.
+pub fn report_end<H: Host, E: Sink>(rt: &H, end: &End, errors: &mut E) -> u8
+    ensures status { result ≡ status_of end.now }
+    ensures part { TakesPart (E.told errors.old) (E.told errors.new) (report_of end.now) }
+{
+    let _ = report(rt, end, errors);
+    status(end)
+}
+
+/// Runs the words, reports how that ended, and gives the status of that end. Status 0 says that the
+/// sink took the whole output of the script, every other that it took a prefix of it.
 pub fn run_and_report<H: Host, L: Library, K: Rack, O: Sink, E: Sink, G: Gate>(
     rt: &H,
     alloc: Global,
@@ -23,9 +38,11 @@ where
     H::Dir: Send,
     requires library { L.faults library.old < 2 ^ 63 }
     requires sink { O.faults out.old < 2 ^ 63 }
-    ensures { result ≤ 12 }
+    ensures done { result ≡ 0 → OfScript (L.told library.old) (script_name words.now) (λ bytes. TakesAll (O.told out.old) (O.told out.new) (script_output bytes)) }
+    ensures part { OfScript (L.told library.old) (script_name words.now) (λ bytes. TakesPart (O.told out.old) (O.told out.new) (script_output bytes)) }
+    ensures usage { (result ≡ 2) ↔ (script_name words.now ≡ None) }
+    ensures answer { IfSome (L.told library.old) (λ files. IsReported (E.told errors.old) (E.told errors.new) result (IsAnswer (refusal_of (script_name words.now) files))) }
 {
     let ended = run_words(rt, alloc, words, library, rack, gate, out);
-    let _ = put_report(rt, &ended.end, errors);
-    status_number(&ended.end)
+    report_end(rt, &ended.end, errors)
 }

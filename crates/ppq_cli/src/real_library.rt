@@ -1,5 +1,5 @@
 //! Files below the working folder, as a library.
-ghost use Rattle.std.specs.Prelude.{None, ◌≡◌, ◌≤◌};
+ghost use Rattle.std.specs.Prelude.{None, ◌≡◌, ◌≤◌, ⊤};
 ghost use Rattle.ppq_outside.specs.Told.{Rose};
 
 use ppq_outside::{Host, Library, OutsideFault};
@@ -9,7 +9,7 @@ use std::io::ErrorKind;
 use std::os::unix::fs::FileExt;
 
 /// The files of the machine; a name is a path from the working folder. It tells nothing of what
-/// they hold.
+/// they hold, and keeps no reply apart from another.
 #[derive(Drop)]
 pub struct DirLibrary {
     /// How many calls failed.
@@ -36,6 +36,8 @@ impl DirLibrary {
 
 impl Library for DirLibrary {
     ghost told = { λ _. None };
+
+    ghost replied = { λ _ _. ⊤ };
 
     ghost faults = { λ d. d.faults };
 

@@ -9,7 +9,7 @@ use ppq_outside::{Failed, Host, Sink};
 
 /// Puts the line that reports an end; nothing for `Done`. `Failed` comes only where the sink's
 /// count of faults rose, and a prefix of the line was then taken.
-pub fn put_report<H: Host, O: Sink>(rt: &H, end: &End, out: &mut O) -> Result<(), Failed>
+pub fn report<H: Host, O: Sink>(rt: &H, end: &End, out: &mut O) -> Result<(), Failed>
     ensures all { OnOk result (TakesAll (O.told out.old) (O.told out.new) (report_of end.now)) }
     ensures part { TakesPart (O.told out.old) (O.told out.new) (report_of end.now) }
     ensures cause { HasOneCause (O.faults out.old) (O.faults out.new) result }

@@ -6,7 +6,7 @@ use ppq_engine::End;
 
 /// The number of an end, with which the program ends: 0 for `Done`, else 1 to 12 in the order in
 /// which `End` lists them.
-pub fn status_number(end: &End) -> u8
+pub fn status(end: &End) -> u8
     ensures { result ≡ status_of end.now }
 {
     match end {

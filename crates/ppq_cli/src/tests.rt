@@ -1,16 +1,19 @@
 //! The top call over memory, and the program over real files.
-ghost use Rattle.std.specs.Prelude.{◌<◌, ◌^◌, length};
+ghost use Rattle.std.specs.Prelude.{◌≡◌, ◌<◌, ◌^◌, None, ⊤};
 
 use crate::program::run_and_report;
 use crate::real_library::DirLibrary;
 use crate::real_sink::StdSink;
-use crate::report::put_report;
-use crate::status::status_number;
+use crate::report::report;
+use crate::status::status;
 use crate::top::run_words;
 use ppq_engine::{End, Ended};
-use ppq_outside::{Host, Library, MemLibrary, MemRack, MemSink, MemSlot, OpenGate, Sink};
+use ppq_outside::{
+    Host, Library, MemLibrary, MemRack, MemSink, MemSlot, OpenGate, OutsideFault, Sink,
+};
 use std::alloc::Global;
 use std::test::Fail;
+use std::{env, fs, process};
 
 /// How much a sink of these tests has room for.
 const ROOM: usize = 1_048_576;
@@ -23,16 +26,16 @@ fn strings(alloc: Global, words: &[&str]) -> Result<Vec<String>, Fail> {
     Ok(all)
 }
 
-fn run<H: Host>(
+fn run<H: Host, L: Library>(
     rt: &H,
     alloc: Global,
     words: &[&str],
-    library: &mut MemLibrary,
+    library: &mut L,
     sink: &mut MemSink,
 ) -> Result<Ended<MemSlot>, Fail>
 where
     H::Dir: Send,
-    requires library { ⟦<MemLibrary as Library>⟧.faults library.old < 2 ^ 63 }
+    requires library { L.faults library.old < 2 ^ 63 }
     requires sink { ⟦<MemSink as Sink>⟧.faults sink.old < 2 ^ 63 }
 {
     let words = strings(alloc, words)?;
@@ -177,6 +180,62 @@ fn a_read_that_fails_is_a_read_fault(rt: HostRuntime) -> Result<(), Fail> {
     Ok(())
 }
 
+/// A library whose only file ends before the length that it says. It does not tell.
+#[derive(Drop)]
+struct CutLibrary {
+    said: u64,
+    held: u64,
+}
+
+impl Library for CutLibrary {
+    ghost told = { λ _. None };
+
+    ghost replied = { λ _ _. ⊤ };
+
+    ghost faults = { λ _. 0 };
+
+    fn faults(&self) -> u64 {
+        0
+    }
+
+    fn length<H: Host>(
+        &mut self,
+        _rt: &H,
+        _alloc: Global,
+        _name: &str,
+    ) -> Result<Option<u64>, OutsideFault> {
+        Ok(Some(self.said))
+    }
+
+    fn read_at<H: Host>(
+        &mut self,
+        _rt: &H,
+        _alloc: Global,
+        _name: &str,
+        at: u64,
+        into: &mut [u8],
+    ) -> Result<usize, OutsideFault> {
+        let left = self.held.saturating_sub(at);
+        Ok((into.len() as u64).min(left) as usize)
+    }
+}
+
+#[test]
+fn a_script_that_ends_before_its_length_has_changed(rt: HostRuntime) -> Result<(), Fail> {
+    let alloc = rt.alloc();
+    let mut library = CutLibrary { said: 32, held: 16 };
+    let mut sink = MemSink::new(alloc, ROOM)?;
+    let ended = run(&rt, alloc, &["run", "s"], &mut library, &mut sink)?;
+    let changed = End::FileChanged {
+        line: 0,
+        said: 32,
+        got: 16,
+    };
+    assert_eq!(rt; ended.end, changed);
+    assert_eq!(rt; sink.bytes().len(), 0);
+    Ok(())
+}
+
 #[test]
 fn an_absent_script_is_named(rt: HostRuntime) -> Result<(), Fail> {
     let alloc = rt.alloc();
@@ -229,8 +288,15 @@ fn other_words_have_no_reading(rt: HostRuntime) -> Result<(), Fail> {
     Ok(())
 }
 
-/// The status and the report of the program over real files.
-fn program<H: Host>(rt: &H, alloc: Global, words: &[&str]) -> Result<(u8, Vec<u8>), Fail>
+/// What a run of the program over real files gives: its status, what it writes and what it reports.
+#[derive(Drop)]
+struct ProgramRun {
+    status: u8,
+    wrote: Vec<u8>,
+    reported: Vec<u8>,
+}
+
+fn program<H: Host>(rt: &H, alloc: Global, words: &[&str]) -> Result<ProgramRun, Fail>
 where
     H::Dir: Send,
 {
@@ -247,34 +313,86 @@ where
         &mut out,
         &mut errors,
     );
-    Ok((status, errors.bytes().to_vec(alloc)?))
+    Ok(ProgramRun {
+        status,
+        wrote: out.bytes().to_vec(alloc)?,
+        reported: errors.bytes().to_vec(alloc)?,
+    })
+}
+
+/// The same of a script that is written to a file first, and removed afterwards.
+fn program_of_file<H: Host>(
+    rt: &H,
+    alloc: Global,
+    path: &str,
+    script: &[u8],
+) -> Result<ProgramRun, Fail>
+where
+    H::Dir: Send,
+{
+    fs::write(rt, path, script)?;
+    let outcome = program(rt, alloc, &["run", path])?;
+    fs::remove_file(rt, path)?;
+    Ok(outcome)
+}
+
+#[test]
+fn a_file_is_run(rt: HostRuntime) -> Result<(), Fail> {
+    let folder = env::temp_dir(&rt)?;
+    let number = process::id(rt.process());
+    let path = format!(in rt.alloc(); "{}/{}-good.ppq", folder.as_str(), number)?;
+    let script = b"push 5 1\npush 3 9\npop\n";
+    let outcome = program_of_file(&rt, rt.alloc(), &path, script)?;
+    assert_eq!(rt; outcome.status, 0);
+    assert_eq!(rt; outcome.wrote.as_slice(), b"3 9\n".as_slice());
+    assert_eq!(rt; outcome.reported.len(), 0);
+    Ok(())
+}
+
+#[test]
+fn a_bad_line_of_a_file_is_reported(rt: HostRuntime) -> Result<(), Fail> {
+    let folder = env::temp_dir(&rt)?;
+    let number = process::id(rt.process());
+    let path = format!(in rt.alloc(); "{}/{}-bad.ppq", folder.as_str(), number)?;
+    let script = b"push 5 1\npop\npush x 1\n";
+    let outcome = program_of_file(&rt, rt.alloc(), &path, script)?;
+    assert_eq!(rt; outcome.status, 1);
+    assert_eq!(rt; outcome.wrote.len(), 0);
+    assert_eq!(rt;
+        outcome.reported.as_slice(),
+        b"ppq: line 3: bad line\n".as_slice()
+    );
+    Ok(())
 }
 
 #[test]
 fn an_absent_file_is_reported(rt: HostRuntime) -> Result<(), Fail> {
-    let (status, report) = program(&rt, rt.alloc(), &["run", "no-such-script.ppq"])?;
-    assert_eq!(rt; status, 11);
-    assert_eq!(rt; report.as_slice(), b"ppq: no such script\n".as_slice());
+    let outcome = program(&rt, rt.alloc(), &["run", "no-such-script.ppq"])?;
+    assert_eq!(rt; outcome.status, 11);
+    assert_eq!(rt;
+        outcome.reported.as_slice(),
+        b"ppq: no such script\n".as_slice()
+    );
     Ok(())
 }
 
 #[test]
 fn no_words_are_reported(rt: HostRuntime) -> Result<(), Fail> {
-    let (status, report) = program(&rt, rt.alloc(), &[])?;
+    let outcome = program(&rt, rt.alloc(), &[])?;
     let usage =
         b"ppq: usage: ppq run SCRIPT --device FILE --blocks D --workers P --block B --heap H --memory M\n";
-    assert_eq!(rt; status, 2);
-    assert_eq!(rt; report.as_slice(), usage.as_slice());
+    assert_eq!(rt; outcome.status, 2);
+    assert_eq!(rt; outcome.reported.as_slice(), usage.as_slice());
     Ok(())
 }
 
 /// The report of an end, and its status.
 fn reported<H: Host>(rt: &H, alloc: Global, end: End) -> Result<(u8, Vec<u8>), Fail> {
     let mut errors = MemSink::new(alloc, ROOM)?;
-    if put_report(rt, &end, &mut errors).is_err() {
+    if report(rt, &end, &mut errors).is_err() {
         return Err(Fail::from("the report was not taken"));
     }
-    Ok((status_number(&end), errors.bytes().to_vec(alloc)?))
+    Ok((status(&end), errors.bytes().to_vec(alloc)?))
 }
 
 #[test]

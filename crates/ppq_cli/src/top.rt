@@ -1,7 +1,9 @@
 //! The top call.
 ghost use Rattle.std.specs.Prelude.{◌≡◌, ◌≤◌, ◌<◌, ◌↔◌, ◌⊎◌, ◌^◌, [], None, IfSome};
 ghost use Rattle.ppq_outside.specs.Told.{TakesAll, TakesPart, Rose};
-ghost use Rattle.ppq_cli.specs.Words.{script_name, refusal_of, IsAnswer, IsScriptCut, MayCome, script_commands, script_output, plain_sizes, plain_heap, Named, ScriptIn, OfScript, load_end};
+ghost use Rattle.ppq_cli.specs.Words.{script_name, refusal_of, IsAnswer, MayCome, script_commands, script_output, plain_sizes, plain_heap, Named, OfName, ScriptIn, OfScript};
+ghost use Rattle.ppq_cli.specs.Load.{load_end};
+ghost use Rattle.ppq_cli.specs.Replies.{RestsOnReplies};
 ghost use Rattle.ppq_engine.specs.Output.{load_of, TakesWithin};
 ghost use Rattle.ppq_engine.specs.Ends.{IsRun, IsCompleted};
 ghost use Rattle.ppq_engine.specs.declared.end.End.TheVariants.{Done, Usage, ReadFault, WriteFault, NoFreeBlock};
@@ -83,7 +85,7 @@ where
     ensures within { result ≡ NoFreeBlock → OfScript (L.told library.old) (script_name words.now) (λ bytes. TakesWithin (O.told out.old) (O.told out.new) plain_heap (script_commands bytes)) }
     ensures nothing { IsRun result ⊎ (O.told out.new ≡ O.told out.old) }
     ensures above { result ≡ NoFreeBlock → OfScript (L.told library.old) (script_name words.now) (λ bytes. plain_heap < load_of (script_commands bytes)) }
-    ensures changed { IsScriptCut (L.told library.old) result }
+    ensures replies { OfName (script_name words.now) (λ name. RestsOnReplies (L.told library.old) (L.replied library.new) name result) }
     ensures may { MayCome result }
     ensures read { result ≡ ReadFault → Rose (L.faults library.old) (L.faults library.new) }
     ensures write { result ≡ WriteFault → Rose (O.faults out.old) (O.faults out.new) }
@@ -116,8 +118,9 @@ where
 /// in that order; `ReadFault` only where the library's count of faults rose in this call,
 /// `WriteFault` only where the sink's did; `NoFreeBlock` only where the script's load is above the
 /// capacity of one heap, and the sink then took at least what all commands up to there print;
-/// `FileChanged` only for a library that does not tell, where a read gave nothing before the length
-/// that was said. Every other script ends `Done`, or `Memory`.
+/// `FileChanged` only for a library that does not tell, with line 0, where the library said that
+/// length of the script, and a read before it gave nothing at that place. Every other script ends
+/// `Done`, or `Memory`.
 pub fn run_words<H: Host, L: Library, K: Rack, O: Sink, G: Gate>(
     rt: &H,
     alloc: Global,
@@ -144,7 +147,7 @@ where
     ensures read { result.end ≡ ReadFault → L.faults library.old < L.faults library.new }
     ensures write { result.end ≡ WriteFault → O.faults out.old < O.faults out.new }
     ensures above { result.end ≡ NoFreeBlock → OfScript (L.told library.old) (script_name words.now) (λ bytes. plain_heap < load_of (script_commands bytes)) }
-    ensures changed { IsScriptCut (L.told library.old) result.end }
+    ensures replies { OfName (script_name words.now) (λ name. RestsOnReplies (L.told library.old) (L.replied library.new) name result.end) }
     ensures may { MayCome result.end }
 
     // A well-formed script whose load one heap holds, without a fault of the outside, ends done, or for

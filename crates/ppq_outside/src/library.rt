@@ -1,6 +1,6 @@
 //! Named files that are read.
 ghost use Rattle.std.specs.Prelude.{◌≡◌, ◌≤◌, List, ℕ, Option, length, IfOk};
-ghost use Rattle.ppq_outside.specs.Told.{HasCause, TellsLength, TellsBytes};
+ghost use Rattle.ppq_outside.specs.Told.{HasCause, TellsLength, TellsBytes, Reply, OfLength, OfRead, Remembers};
 
 use crate::{Host, OutsideFault};
 use std::alloc::Global;
@@ -12,6 +12,11 @@ use std::alloc::Global;
 pub trait Library {
     /// Where it tells, the bytes of each name, and none for the name of no file.
     ghost told: { Self → Option (List ℕ → Option (List ℕ)) };
+
+    /// Whether it gave this reply: true of each reply that it gave, and of others only as far as it
+    /// keeps no account of them. No code can ask it, so a caller that is proved for every library
+    /// knows it of no reply but those of its own calls.
+    ghost replied: { Self → Reply → Type 0 };
 
     /// How many calls failed.
     ghost faults: { Self → ℕ };
@@ -29,6 +34,8 @@ pub trait Library {
         name: &str,
     ) -> Result<Option<u64>, OutsideFault>
         ensures length { IfOk result (λ size. TellsLength (told self.old) name.now size) }
+        ensures replied { IfOk result (λ size. replied self.new (OfLength name.now size)) }
+        ensures remembers { Remembers (replied self.old) (replied self.new) }
         ensures kept { told self.new ≡ told self.old }
         ensures cause { HasCause (faults self.old) (faults self.new) result };
 
@@ -46,6 +53,8 @@ pub trait Library {
     ) -> Result<usize, OutsideFault>
         ensures bound { IfOk result (λ count. count ≤ length into.new) }
         ensures bytes { IfOk result (λ count. TellsBytes (told self.old) name.now at into.new count) }
+        ensures replied { IfOk result (λ count. replied self.new (OfRead name.now at (length into.new) count)) }
+        ensures remembers { Remembers (replied self.old) (replied self.new) }
         ensures kept { told self.new ≡ told self.old }
         ensures cause { HasCause (faults self.old) (faults self.new) result };
 }

@@ -121,9 +121,11 @@ fn copy_from(bytes: &[u8], at: u64, into: &mut [u8]) -> usize
 }
 
 impl Library for MemLibrary {
-    ghost use Rattle.ppq_outside.specs.MemoryLibrary.{answer, after_call, count_at};
+    ghost use Rattle.ppq_outside.specs.MemoryLibrary.{answer, after_call, count_at, IsTrueReply};
 
     ghost told = { λ m. Some (lookup m.files) };
+
+    ghost replied = { λ m. IsTrueReply m.files };
 
     ghost faults = { λ m. m.faults };
 
@@ -161,7 +163,7 @@ impl Library for MemLibrary {
         at: u64,
         into: &mut [u8],
     ) -> Result<usize, OutsideFault>
-        ensures answer { result ≡ answer self.old (count_at (lookup self.old.files name.now) at into.new) }
+        ensures answer { result ≡ answer self.old (count_at (lookup self.old.files name.now) at (length into.new)) }
         ensures bytes { IfOk result (λ count. TellsBytes (Some (lookup self.old.files)) name.now at into.new count) }
         ensures after { self.new ≡ after_call self.old }
         ensures cause { HasCause self.old.faults self.new.faults result }

@@ -1,4 +1,4 @@
-use Rattle.std.proofs.Common.{◌≤◌, length, arith}
+use Rattle.std.proofs.Common.{arith}
 use Rattle.ppq_cli.proofs.Growing.{grows}
 use Rattle.ppq_cli.proofs.load.read_more.Goals as goal
 

@@ -1,4 +1,4 @@
-use Rattle.std.proofs.Common.{◌++◌, List, ℕ, decimal}
+use Rattle.std.proofs.Common.{◌++◌, decimal}
 use Rattle.std.specs.Prelude.{codes}
 use Rattle.ppq_outside.proofs.Takes.{takes_and_part, part_of_more}
 use Rattle.ppq_cli.proofs.report.put_changed.Goals as goal

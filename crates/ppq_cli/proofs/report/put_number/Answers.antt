@@ -1,4 +1,4 @@
-use Rattle.std.proofs.Common.{◌≡◌, ◌++◌, ◌∙◌, List, ℕ, decimal, subst, rules}
+use Rattle.std.proofs.Common.{◌≡◌, ◌++◌, decimal, subst, rules}
 use Rattle.ppq_outside.specs.Told.{TakesAll, TakesPart}
 use Rattle.ppq_outside.proofs.Takes.{takes_two, takes_and_part, part_of_more}
 use Rattle.ppq_cli.proofs.report.put_number.Goals as goal

@@ -1,4 +1,4 @@
-use Rattle.ppq_cli.proofs.report.put_report.Goals as goal
+use Rattle.ppq_cli.proofs.report.report.Goals as goal
 
 pub returns-in-BudgetTooSmall-clause-part : goal.returns-in-BudgetTooSmall-clause-part
 returns-in-BudgetTooSmall-clause-part g c = rw c.in-BudgetTooSmall.is c.put_number-in-BudgetTooSmall.ensures.part
