@@ -8,7 +8,7 @@ use Rattle.ppq_outside.specs.Told.{bytes_or_none, length_of, TellsBytes}
 use Rattle.ppq_cli.specs.Load.{GrowsTo, IsThere, IsReadTo, IsLoaded}
 
 -- the beginning of a list with a piece written into it
-take-put : (a k n : ℕ) (xs ys : List ℕ) → a ≤ length xs → n ≤ length ys → take (a + n) (put_mid a k xs ys) ≡ take a xs ++ take n ys
+pub take-put : (a k n : ℕ) (xs ys : List ℕ) → a ≤ length xs → n ≤ length ys → take (a + n) (put_mid a k xs ys) ≡ take a xs ++ take n ys
 take-put a k n xs ys h l =
     ap (λ m. take (m + n) (put_mid a k xs ys)) (sym (length-take-le a xs h)) ∙ take-append-add (take a xs) (ys ++ post_of a k xs) n ∙ ap (λ (t : List ℕ). take a xs ++ t) (take-append-le n ys (post_of a k xs) l)
 

@@ -1,8 +1,8 @@
 //! Loads a script from a library.
-ghost use Rattle.std.specs.Prelude.{◌≡◌, ◌≤◌, ◌<◌, ◌+◌, Some, length, IfOk, IfErr, IsErrOf, IfSome, vec_len};
+ghost use Rattle.std.specs.Prelude.{◌≡◌, ◌≤◌, ◌<◌, ◌+◌, Some, length, take, IfOk, IfErr, IsErrOf, IfSome, vec_len};
 ghost use Rattle.ppq_outside.specs.Told.{HasCause, Rose, OfLength, Remembers, bytes_or_none};
 ghost use Rattle.ppq_cli.specs.Load.{GrowsTo, IsThere, IsLoaded, IsNotLoaded, load_end};
-ghost use Rattle.ppq_cli.specs.Replies.{EndsAt, RestsOnReplies};
+ghost use Rattle.ppq_cli.specs.Replies.{EndsAt, IsGiven, IsReplied, IsRefusal};
 ghost use Rattle.ppq_cli.specs.declared.load.LoadFault.TheVariants.{ReadFault};
 
 use ppq_outside::{Host, Library, OutsideFault};
@@ -52,6 +52,7 @@ fn read_more<H: Host, L: Library>(
     ensures count { IfOk result (λ count. got + count ≤ length bytes.new) }
     ensures bytes { IfOk result (λ count. GrowsTo (L.told library.old) name.now got bytes.old (got + count) bytes.new) }
     ensures end { IfOk result (λ count. count ≡ 0 → IfSome (L.told library.old) (λ files. length (bytes_or_none (files name.now)) ≤ got)) }
+    ensures given { IfOk result (λ count. IsGiven (L.replied library.old) name.now (take got bytes.old) → IsGiven (L.replied library.new) name.now (take (got + count) bytes.new)) }
     ensures ends { IfOk result (λ count. count ≡ 0 → EndsAt (L.replied library.new) name.now got) }
     ensures remembers { Remembers (L.replied library.old) (L.replied library.new) }
     ensures kept { L.told library.new ≡ L.told library.old }
@@ -73,7 +74,7 @@ fn length_of_script<H: Host, L: Library>(
     ensures there { IfOk result (IsThere (L.told library.old) name.now) }
     ensures said { IfOk result (λ size. L.replied library.new (OfLength name.now (Some size))) }
     ensures not { IfErr result (IsNotLoaded (L.told library.old) name.now) }
-    ensures replies { IfErr result (λ fault. RestsOnReplies (L.told library.old) (L.replied library.new) name.now (load_end fault)) }
+    ensures refused { IfErr result (λ fault. IsRefusal (L.told library.old) (L.replied library.new) name.now (load_end fault)) }
     ensures kept { L.told library.new ≡ L.told library.old }
     ensures later { L.faults library.old ≤ L.faults library.new }
     ensures read { IsErrOf result ReadFault → Rose (L.faults library.old) (L.faults library.new) }
@@ -99,8 +100,9 @@ pub fn load<H: Host, L: Library>(
 ) -> Result<Vec<u8>, LoadFault>
     ensures short { IfOk result (λ bytes. vec_len bytes ≤ 1_048_576) }
     ensures loaded { IfOk result (λ bytes. IsLoaded (L.told library.old) name.now bytes.items) }
+    ensures replied { IfOk result (λ bytes. IsReplied (L.replied library.new) name.now bytes.items) }
     ensures not { IfErr result (IsNotLoaded (L.told library.old) name.now) }
-    ensures replies { IfErr result (λ fault. RestsOnReplies (L.told library.old) (L.replied library.new) name.now (load_end fault)) }
+    ensures refused { IfErr result (λ fault. IsRefusal (L.told library.old) (L.replied library.new) name.now (load_end fault)) }
     ensures later { L.faults library.old ≤ L.faults library.new }
     ensures read { IsErrOf result ReadFault → Rose (L.faults library.old) (L.faults library.new) }
 {

@@ -1,9 +1,10 @@
 //! The program over any outside.
 ghost use Rattle.std.specs.Prelude.{◌≡◌, ◌<◌, ◌↔◌, ◌^◌, None, IfSome};
 ghost use Rattle.ppq_outside.specs.Told.{TakesAll, TakesPart};
+ghost use Rattle.ppq_cli.specs.Replies.{IsRefusal, IsRunOf};
 ghost use Rattle.ppq_cli.specs.Report.{report_of};
 ghost use Rattle.ppq_cli.specs.Status.{status_of, IsReported};
-ghost use Rattle.ppq_cli.specs.Words.{script_name, refusal_of, IsAnswer, script_output, OfScript};
+ghost use Rattle.ppq_cli.specs.Words.{script_name, refusal_of, IsAnswer, script_output, OfName, OfScript};
 
 use crate::report::report;
 use crate::status::status;
@@ -22,8 +23,9 @@ pub fn report_end<H: Host, E: Sink>(rt: &H, end: &End, errors: &mut E) -> u8
     status(end)
 }
 
-/// Runs the words, reports how that ended, and gives the status of that end. Status 0 says that the
-/// sink took the whole output of the script, every other that it took a prefix of it.
+/// Runs the words, reports how that ended, and gives the status of that end. Where library and sink
+/// tell, status 0 says that the sink took the whole output of the script, and every other that it
+/// took a prefix of it. What the library gave as the script decides, whether it tells or not.
 pub fn run_and_report<H: Host, L: Library, K: Rack, O: Sink, E: Sink, G: Gate>(
     rt: &H,
     alloc: Global,
@@ -41,6 +43,7 @@ where
     ensures done { result ≡ 0 → OfScript (L.told library.old) (script_name words.now) (λ bytes. TakesAll (O.told out.old) (O.told out.new) (script_output bytes)) }
     ensures part { OfScript (L.told library.old) (script_name words.now) (λ bytes. TakesPart (O.told out.old) (O.told out.new) (script_output bytes)) }
     ensures usage { (result ≡ 2) ↔ (script_name words.now ≡ None) }
+    ensures reported { IsReported (E.told errors.old) (E.told errors.new) result (λ end. OfName (script_name words.now) (λ name. IsRefusal (L.told library.old) (L.replied library.new) name end × IsRunOf (L.replied library.new) name (O.told out.old) (O.told out.new) end)) }
     ensures answer { IfSome (L.told library.old) (λ files. IsReported (E.told errors.old) (E.told errors.new) result (IsAnswer (refusal_of (script_name words.now) files))) }
 {
     let ended = run_words(rt, alloc, words, library, rack, gate, out);

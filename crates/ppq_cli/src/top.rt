@@ -3,7 +3,7 @@ ghost use Rattle.std.specs.Prelude.{◌≡◌, ◌≤◌, ◌<◌, ◌↔◌, �
 ghost use Rattle.ppq_outside.specs.Told.{TakesAll, TakesPart, Rose};
 ghost use Rattle.ppq_cli.specs.Words.{script_name, refusal_of, IsAnswer, MayCome, script_commands, script_output, plain_sizes, plain_heap, Named, OfName, ScriptIn, OfScript};
 ghost use Rattle.ppq_cli.specs.Load.{load_end};
-ghost use Rattle.ppq_cli.specs.Replies.{RestsOnReplies};
+ghost use Rattle.ppq_cli.specs.Replies.{IsRefusal, IsRunOf};
 ghost use Rattle.ppq_engine.specs.Output.{load_of, TakesWithin};
 ghost use Rattle.ppq_engine.specs.Ends.{IsRun, IsCompleted};
 ghost use Rattle.ppq_engine.specs.declared.end.End.TheVariants.{Done, Usage, ReadFault, WriteFault, NoFreeBlock};
@@ -85,7 +85,8 @@ where
     ensures within { result ≡ NoFreeBlock → OfScript (L.told library.old) (script_name words.now) (λ bytes. TakesWithin (O.told out.old) (O.told out.new) plain_heap (script_commands bytes)) }
     ensures nothing { IsRun result ⊎ (O.told out.new ≡ O.told out.old) }
     ensures above { result ≡ NoFreeBlock → OfScript (L.told library.old) (script_name words.now) (λ bytes. plain_heap < load_of (script_commands bytes)) }
-    ensures replies { OfName (script_name words.now) (λ name. RestsOnReplies (L.told library.old) (L.replied library.new) name result) }
+    ensures refused { OfName (script_name words.now) (λ name. IsRefusal (L.told library.old) (L.replied library.new) name result) }
+    ensures ran { OfName (script_name words.now) (λ name. IsRunOf (L.replied library.new) name (O.told out.old) (O.told out.new) result) }
     ensures may { MayCome result }
     ensures read { result ≡ ReadFault → Rose (L.faults library.old) (L.faults library.new) }
     ensures write { result ≡ WriteFault → Rose (O.faults out.old) (O.faults out.new) }
@@ -121,6 +122,9 @@ where
 /// `FileChanged` only for a library that does not tell, with line 0, where the library said that
 /// length of the script, and a read before it gave nothing at that place. Every other script ends
 /// `Done`, or `Memory`.
+///
+/// Of a library that does not tell, the same is said of the bytes that it gave as the script: it
+/// said their number, and its reads gave just these, one piece after the other.
 pub fn run_words<H: Host, L: Library, K: Rack, O: Sink, G: Gate>(
     rt: &H,
     alloc: Global,
@@ -147,8 +151,11 @@ where
     ensures read { result.end ≡ ReadFault → L.faults library.old < L.faults library.new }
     ensures write { result.end ≡ WriteFault → O.faults out.old < O.faults out.new }
     ensures above { result.end ≡ NoFreeBlock → OfScript (L.told library.old) (script_name words.now) (λ bytes. plain_heap < load_of (script_commands bytes)) }
-    ensures replies { OfName (script_name words.now) (λ name. RestsOnReplies (L.told library.old) (L.replied library.new) name result.end) }
     ensures may { MayCome result.end }
+
+    // The same of what the library gave, also where it does not tell.
+    ensures refused { OfName (script_name words.now) (λ name. IsRefusal (L.told library.old) (L.replied library.new) name result.end) }
+    ensures ran { OfName (script_name words.now) (λ name. IsRunOf (L.replied library.new) name (O.told out.old) (O.told out.new) result.end) }
 
     // A well-formed script whose load one heap holds, without a fault of the outside, ends done, or for
     // want of memory.

@@ -46,11 +46,11 @@ pub record ReadsAt (bytes : List ℕ) (at : ℕ) (into : List ℕ) (count : ℕ)
 abbrev pub TellsBytes : Option (List ℕ → Option (List ℕ)) → List ℕ → ℕ → List ℕ → ℕ → Type 0
 TellsBytes told name at into count = IfSome told (λ files. ReadsAt (bytes_or_none (files name)) at into count)
 
--- what a library replied: of a name the length, none where there is no such file; or how many bytes a read of a name from a place
--- on gave, into room for so many
+-- what a library replied: of a name the length, none where there is no such file; or the bytes that a read of a name from a place on
+-- gave, into room for so many
 pub data Reply : Type 0 where
   OfLength : (name : List ℕ) (size : Option ℕ) → Reply
-  OfRead : (name : List ℕ) (at room count : ℕ) → Reply
+  OfRead : (name : List ℕ) (at room : ℕ) (given : List ℕ) → Reply
 
 -- what was replied before is not forgotten
 abbrev pub Remembers : (Reply → Type 0) → (Reply → Type 0) → Type 0

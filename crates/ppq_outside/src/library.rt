@@ -1,5 +1,5 @@
 //! Named files that are read.
-ghost use Rattle.std.specs.Prelude.{◌≡◌, ◌≤◌, List, ℕ, Option, length, IfOk};
+ghost use Rattle.std.specs.Prelude.{◌≡◌, ◌≤◌, List, ℕ, Option, length, take, IfOk};
 ghost use Rattle.ppq_outside.specs.Told.{HasCause, TellsLength, TellsBytes, Reply, OfLength, OfRead, Remembers};
 
 use crate::{Host, OutsideFault};
@@ -53,7 +53,7 @@ pub trait Library {
     ) -> Result<usize, OutsideFault>
         ensures bound { IfOk result (λ count. count ≤ length into.new) }
         ensures bytes { IfOk result (λ count. TellsBytes (told self.old) name.now at into.new count) }
-        ensures replied { IfOk result (λ count. replied self.new (OfRead name.now at (length into.new) count)) }
+        ensures replied { IfOk result (λ count. replied self.new (OfRead name.now at (length into.new) (take count into.new))) }
         ensures remembers { Remembers (replied self.old) (replied self.new) }
         ensures kept { told self.new ≡ told self.old }
         ensures cause { HasCause (faults self.old) (faults self.new) result };

@@ -1,0 +1,30 @@
+-- The bytes that reads of a library gave, piece by piece.
+use Rattle.std.proofs.Common.{◌≡◌, ℕ, ◌+◌, ◌≤◌, List, [], ◌∷◌, ◌++◌, length, take, sym, ap, ap₂, ◌∙◌, subst, arith, length-append, length-take-le, append-nil}
+use Rattle.std.specs.List.{concat}
+use Rattle.std.proofs.lemmas.List.Folds.{concat-append}
+use borrow.Rule.Slice.PartMut.{put_mid}
+use Rattle.ppq_outside.specs.Told.{Reply, OfRead, Remembers}
+use Rattle.ppq_cli.specs.Replies.{AreGiven, IsGiven}
+use Rattle.ppq_cli.proofs.Growing.{take-put}
+
+-- nothing is forgotten
+AreGiven-remembered : (before now : Reply → Type 0) (name : List ℕ) (at : ℕ) (pieces : List (List ℕ)) → Remembers before now → AreGiven before name at pieces → AreGiven now name at pieces
+AreGiven-remembered before now name at [] kept given = tt
+AreGiven-remembered before now name at (piece ∷ pieces) kept ((room, reply), given) = ((room, kept (OfRead name at room piece) reply), AreGiven-remembered before now name (at + length piece) pieces kept given)
+
+-- one piece more, at the end
+AreGiven-push : (replied : Reply → Type 0) (name : List ℕ) (at room : ℕ) (pieces : List (List ℕ)) (last : List ℕ) → AreGiven replied name at pieces → replied (OfRead name (at + length (concat pieces)) room last) → AreGiven replied name at (pieces ++ last ∷ [])
+AreGiven-push replied name at room [] last given reply = ((room, let P : ℕ → Type 0 = λ n. replied (OfRead name n room last) in subst P (omega arith) reply), tt)
+AreGiven-push replied name at room (piece ∷ pieces) last (first, given) reply =
+    (first, AreGiven-push replied name (at + length piece) room pieces last given (let P : ℕ → Type 0 = λ n. replied (OfRead name n room last) in subst P (omega (arith, length-append piece (concat pieces))) reply))
+
+-- what reads gave so far, and one piece more
+pub given_more : (before now : Reply → Type 0) (name old into : List ℕ) (got count k : ℕ) → got ≤ length old → count ≤ length into → Remembers before now → now (OfRead name got (length into) (take count into)) → IsGiven before name (take got old) → IsGiven now name (take (got + count) (put_mid got k old into))
+given_more before now name old into got count k h l kept reply so_far =
+    let long : length (concat so_far.pieces) ≡ got = ap (λ (t : List ℕ). length t) so_far.all ∙ length-take-le got old h in
+    let P : ℕ → Type 0 = λ n. now (OfRead name n (length into) (take count into)) in
+    record {
+      pieces = so_far.pieces ++ take count into ∷ [];
+      given = AreGiven-push now name 0 (length into) so_far.pieces (take count into) (AreGiven-remembered before now name 0 so_far.pieces kept so_far.given) (subst P (omega (arith, long)) reply);
+      all = concat-append so_far.pieces (take count into ∷ []) ∙ ap₂ (λ (x y : List ℕ). x ++ y) so_far.all (append-nil (take count into)) ∙ sym (take-put got k count old into h l);
+    }
