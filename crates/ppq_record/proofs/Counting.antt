@@ -1,14 +1,14 @@
 -- Fronts that are told by counting the records at hand.
-use Rattle.std.proofs.Common.{◌≡◌, ℕ, ◌+◌, ◌-◌, ◌<◌, ◌≤◌, zero, suc, Bool, true, false, cond, List, [], ◌∷◌, length, get_or, min, refl, sym, ap, ◌∙◌, subst, inl, inr, arith, Ordering, true≢false}
-use Rattle.std.specs.Prelude.{◌⊎◌, ◌↔◌, ◌&&◌, IsTrue, nat_eq, count_by}
+use Rattle.std.proofs.Common.{◌≡◌, ℕ, ◌+◌, ◌-◌, ◌<◌, zero, suc, Bool, true, false, cond, List, [], ◌∷◌, length, get_or, min, refl, sym, ap, ◌∙◌, subst, inl, inr, arith, Ordering, true≢false}
+use Rattle.std.specs.Prelude.{◌⊎◌, ◌↔◌, ◌&&◌, IsTrue, nat_eq}
 use Rattle.std.specs.List.{list_all}
 use Rattle.std.proofs.lemmas.Bool.Decides.{nat_tests}
 use Rattle.std.specs.declared.cmp.Ordering.TheVariants.{Less, Equal, Greater}
-use Rattle.std.specs.Ordering.{is_eq, is_lt}
+use Rattle.std.specs.Ordering.{is_eq}
 use Rattle.std.specs.List.{AllByRecursion as Each}
 use Rattle.std.specs.Cmp.{IsTotalOrder}
 use Rattle.std.proofs.lemmas.Bool.{cases_Bool}
-use Rattle.ppq_record.specs.Order.{is_before, Le, Rising, Ascends}
+use Rattle.ppq_record.specs.Order.{Le, Rising, Ascends}
 use Rattle.ppq_record.specs.Bag.{count, size_below, IsCounted, counted_test, IsFront, front}
 use Rattle.ppq_record.proofs.Order.{count_by-cons}
 use Rattle.ppq_record.proofs.Fronts.{IsFront-front, IsFront-is}

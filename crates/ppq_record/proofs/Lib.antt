@@ -3,3 +3,4 @@ pub mod Fronts
 pub mod Taken
 pub mod Counting
 pub mod Listed
+pub mod ByteOrder

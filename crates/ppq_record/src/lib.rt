@@ -22,5 +22,5 @@ pub use least::{ascends, is_least};
 pub use listing::Listing;
 pub use lists::Lists;
 pub use memory::Memory;
-pub use pair::Pair;
+pub use pair::{Pair, pair_order};
 pub use record::{Record, record_laws};

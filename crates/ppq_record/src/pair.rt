@@ -2,6 +2,7 @@
 ghost use Rattle.std.specs.Prelude.{◌≡◌, ◌≤◌, ◌<◌, List, ℕ, length, refl};
 ghost use Rattle.std.proofs.Common.{lit≤};
 ghost use Rattle.ppq_record.specs.Pair.{IsPairValue, pair_bytes, pair_of, pair_take_put, pair_put_take, pair_same};
+ghost use Rattle.ppq_record.specs.PairOrder.{IsPairOrder};
 
 use crate::Record;
 
@@ -54,3 +55,10 @@ impl Record for Pair {
 
     ghost width = { (lit≤ tt, lit≤ tt) };
 }
+
+/// The law of the order of pairs, as a clause for the proof of whoever calls it, and for a reader:
+/// the key decides, and then the value, and that is the order of their 16 bytes. It does nothing.
+#[inline]
+pub fn pair_order()
+    ensures { IsPairOrder ⟦<Pair as Ord>⟧.cmp }
+{}

@@ -1,7 +1,7 @@
 //! Records, their bytes, their order and their fronts, at pairs.
 use crate::{
-    Listing, Lists, Pair, Record, ascends, is_least, one_front, put_all, record_laws, sort,
-    take_at, taken_back,
+    Listing, Lists, Pair, Record, ascends, is_least, one_front, pair_order, put_all, record_laws,
+    sort, take_at, taken_back,
 };
 use std::alloc::Global;
 use std::test::Fail;
@@ -41,6 +41,7 @@ fn the_key_decides_and_then_the_value(rt: HostRuntime) -> Result<(), Fail> {
 fn records_are_put_and_taken_one_after_the_other(rt: HostRuntime) -> Result<(), Fail> {
     record_laws::<Pair>();
     one_front::<Pair>();
+    pair_order();
     taken_back::<Pair>();
     let mut bytes = [0u8; 32];
     put_all(&[pair(5, 1), pair(3, 9)], &mut bytes);

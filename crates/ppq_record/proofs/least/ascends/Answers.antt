@@ -1,7 +1,7 @@
-use Rattle.std.proofs.Common.{◌≡◌, ◌∙◌, ◌-◌, ◌+◌, ◌<◌, ◌≤◌, ℕ, true, false, sym, refl, ap, ap₂, subst, suc, add-one, arith, get_or, true≢false}
+use Rattle.std.proofs.Common.{◌≡◌, ◌∙◌, ◌-◌, ◌≤◌, ℕ, true, false, sym, refl, ap, ap₂, subst, suc, arith, get_or, true≢false}
 use Rattle.std.specs.Ordering.{is_lt}
 use Rattle.std.proofs.lemmas.List.{get_or_read}
-use Rattle.ppq_record.specs.Order.{is_before, Le, Ascends}
+use Rattle.ppq_record.specs.Order.{is_before, Le}
 use Rattle.ppq_record.proofs.Fronts.{Ascends-adjacent}
 use Rattle.ppq_record.proofs.Counting.{rising_at}
 use Rattle.ppq_record.proofs.least.ascends.Goals as goal

@@ -1,4 +1,4 @@
-use Rattle.std.proofs.Common.{◌≡◌, ◌<◌, ◌+◌, ℕ, get_or}
+use Rattle.std.proofs.Common.{◌<◌, ◌+◌, ℕ, get_or}
 use Rattle.ppq_record.specs.Order.{is_before, Le}
 use Rattle.ppq_record.proofs.least.ascends.Given as goal
 

@@ -1,4 +1,4 @@
-use Rattle.std.proofs.Common.{◌≡◌, ◌<◌, ◌≤◌, length, ap, arith}
+use Rattle.std.proofs.Common.{length, ap, arith}
 use Rattle.ppq_record.proofs.Listed.{run_is, item_is}
 use Rattle.ppq_record.proofs.lists.ListsListing.at.Goals as goal
 

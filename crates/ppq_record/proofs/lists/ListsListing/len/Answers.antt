@@ -1,4 +1,4 @@
-use Rattle.std.proofs.Common.{◌≡◌, length, ap}
+use Rattle.std.proofs.Common.{length, ap}
 use Rattle.ppq_record.proofs.Listed.{run_is}
 use Rattle.ppq_record.proofs.lists.ListsListing.len.Goals as goal
 
