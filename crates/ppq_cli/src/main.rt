@@ -4,6 +4,9 @@
 //! one, reports on standard error and ends with the status.
 #![tactic(auto)]
 
+ghost use Rattle.std.specs.Prelude.{◌≡◌, ◌⊎◌, IfErr};
+ghost use Rattle.ppq_engine.specs.declared.end.End.TheVariants.{Usage, Memory};
+
 mod load;
 mod program;
 mod real_library;
@@ -24,7 +27,9 @@ use std::io::ErrorKind;
 use std::process::ExitCode;
 
 /// The words after the program's name. A word that is no UTF-8 text has no reading.
-fn words_of(rt: &HostRuntime) -> Result<Vec<String>, End> {
+fn words_of(rt: &HostRuntime) -> Result<Vec<String>, End>
+    ensures { IfErr result (λ end. (end ≡ Usage) ⊎ (end ≡ Memory)) }
+{
     let arguments = match env::args(rt) {
         Ok(arguments) => arguments,
         Err(error) if error.kind() == ErrorKind::OutOfMemory => return Err(End::Memory),

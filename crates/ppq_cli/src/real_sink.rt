@@ -38,6 +38,7 @@ impl StdSink {
 
     /// Counts a failed call.
     fn fault(&mut self) -> Failed
+        ensures stream { self.new.error ≡ self.old.error }
         ensures later { self.old.faults ≤ self.new.faults }
         ensures rose { Rose self.old.faults self.new.faults }
     {
