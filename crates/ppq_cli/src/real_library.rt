@@ -8,8 +8,11 @@ use std::fs::{self, File};
 use std::io::ErrorKind;
 use std::os::unix::fs::FileExt;
 
-/// The files of the machine; a name is a path from the working folder. It tells nothing of what
-/// they hold, and keeps no reply apart from another.
+/// The plain files of the machine; a name is a path from the working folder. It tells nothing of
+/// what they hold, and keeps no reply apart from another.
+///
+/// A folder, a pipe or a device is there and has no length that its reads could keep to, so it is
+/// a fault to ask for it.
 #[derive(Drop)]
 pub struct DirLibrary {
     /// How many calls failed.
@@ -52,7 +55,8 @@ impl Library for DirLibrary {
         name: &str,
     ) -> Result<Option<u64>, OutsideFault> {
         match fs::metadata(rt, name) {
-            Ok(data) => Ok(Some(data.len())),
+            Ok(data) if data.is_file() => Ok(Some(data.len())),
+            Ok(_) => Err(self.fault()),
             Err(error) => {
                 if error.kind() == ErrorKind::NotFound {
                     Ok(None)

@@ -377,6 +377,19 @@ fn an_absent_file_is_reported(rt: HostRuntime) -> Result<(), Fail> {
 }
 
 #[test]
+fn a_folder_and_a_device_cannot_be_read(rt: HostRuntime) -> Result<(), Fail> {
+    for name in ["/", "/dev/null"] {
+        let outcome = program(&rt, rt.alloc(), &["run", name])?;
+        assert_eq!(rt; outcome.status, 3);
+        assert_eq!(rt;
+            outcome.reported.as_slice(),
+            b"ppq: cannot read\n".as_slice()
+        );
+    }
+    Ok(())
+}
+
+#[test]
 fn no_words_are_reported(rt: HostRuntime) -> Result<(), Fail> {
     let outcome = program(&rt, rt.alloc(), &[])?;
     let usage =
