@@ -1,6 +1,6 @@
 -- Loading a file of a library.
-use Rattle.std.specs.Prelude.{◌≡◌, ℕ, ◌<◌, List, length, take, Option, Some, None, IfSome, ⊤}
-use Rattle.ppq_outside.specs.Told.{bytes_or_none, length_of}
+use Rattle.std.specs.Prelude.{◌≡◌, ℕ, ◌<◌, List, length, Option, Some, None, IfSome, ⊤}
+use Rattle.ppq_outside.specs.Told.{bytes_or_none}
 use Rattle.ppq_outside.specs.declared.fault.OutsideFault.{OutsideFault}
 use Rattle.ppq_outside.specs.declared.fault.OutsideFault.TheVariants as outside
 use Rattle.ppq_engine.specs.declared.end.End.{End}
@@ -12,18 +12,6 @@ use Rattle.ppq_cli.specs.declared.load.LoadFault.TheVariants.{ReadFault, Memory,
 abbrev pub load_fault_of : OutsideFault → LoadFault
 load_fault_of outside.Failed = ReadFault
 load_fault_of outside.Memory = Memory
-
--- where the library tells, the first m bytes are the file's if the first n were
-abbrev pub GrowsTo : Option (List ℕ → Option (List ℕ)) → List ℕ → ℕ → List ℕ → ℕ → List ℕ → Type 0
-GrowsTo told name n old m new = IfSome told (λ files. take n old ≡ take n (bytes_or_none (files name)) → take m new ≡ take m (bytes_or_none (files name)))
-
--- where the library tells, the first n bytes are the file's
-abbrev pub IsReadTo : Option (List ℕ → Option (List ℕ)) → List ℕ → ℕ → List ℕ → Type 0
-IsReadTo told name n bytes = IfSome told (λ files. take n bytes ≡ take n (bytes_or_none (files name)))
-
--- where the library tells, there is such a file, of this length
-abbrev pub IsThere : Option (List ℕ → Option (List ℕ)) → List ℕ → ℕ → Type 0
-IsThere told name size = IfSome told (λ files. length_of (files name) ≡ Some size)
 
 -- where the library tells, these are the file's bytes
 abbrev pub IsLoaded : Option (List ℕ → Option (List ℕ)) → List ℕ → List ℕ → Type 0

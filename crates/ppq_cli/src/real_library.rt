@@ -83,4 +83,6 @@ impl Library for DirLibrary {
             Err(_) => Err(self.fault()),
         }
     }
+
+    ghost truth = { λ _ _ _. tt };
 }

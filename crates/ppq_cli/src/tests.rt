@@ -218,6 +218,8 @@ impl Library for CutLibrary {
         let left = self.held.saturating_sub(at);
         Ok((into.len() as u64).min(left) as usize)
     }
+
+    ghost truth = { λ _ _ _. tt };
 }
 
 #[test]

@@ -1,7 +1,7 @@
 -- What contracts see of a library in memory, and what its calls answer.
-use Rattle.std.specs.Prelude.{◌≡◌, ℕ, ◌-◌, Bool, nat_eq, List, [], ◌∷◌, length, take, drop, min, Option, Some, None, Result, Ok, Err, bytes_eq, if◌then◌else◌}
+use Rattle.std.specs.Prelude.{ℕ, ◌-◌, Bool, nat_eq, List, [], ◌∷◌, length, min, Option, Some, None, Result, Ok, Err, bytes_eq, if◌then◌else◌}
 use Rattle.std.specs.List.{list_any}
-use Rattle.ppq_outside.specs.Told.{next_count, length_of, bytes_or_none, Reply, OfLength, OfRead}
+use Rattle.ppq_outside.specs.Told.{next_count, bytes_or_none}
 use Rattle.ppq_outside.specs.declared.fault.OutsideFault.{OutsideFault}
 use Rattle.ppq_outside.specs.declared.fault.OutsideFault.TheVariants.{Failed}
 
@@ -44,8 +44,3 @@ answer library given = if fails_next library then Err Failed else Ok given
 -- how many bytes a read from a place on gives, into room for so many
 abbrev pub count_at : Option (List ℕ) → ℕ → ℕ → ℕ
 count_at file at room = min room (length (bytes_or_none file) - at)
-
--- files of which this reply is true
-abbrev pub IsTrueReply : List (List ℕ × List ℕ) → Reply → Type 0
-IsTrueReply files (OfLength name size) = size ≡ length_of (lookup files name)
-IsTrueReply files (OfRead name at room given) = given ≡ take room (drop at (bytes_or_none (lookup files name)))

@@ -1,5 +1,5 @@
 -- What slots, libraries and sinks tell, and how their counts rise.
-use Rattle.std.specs.Prelude.{◌≡◌, ℕ, ◌+◌, ◌-◌, ◌^◌, ◌≤◌, List, [], ◌++◌, length, take, drop, min, Option, Some, None, Result, OnErr, IsErrOf, IfSome, IsSome, OnOk}
+use Rattle.std.specs.Prelude.{◌≡◌, ℕ, ◌+◌, ◌-◌, ◌^◌, ◌≤◌, List, [], ◌++◌, length, take, drop, min, Option, Some, None, Result, OnErr, IsErrOf, IsSome, OnOk, ⊤}
 use Rattle.ppq_outside.specs.declared.fault.OutsideFault.{OutsideFault}
 use Rattle.ppq_outside.specs.declared.fault.OutsideFault.TheVariants.{Failed}
 
@@ -31,21 +31,6 @@ abbrev pub bytes_or_none : Option (List ℕ) → List ℕ
 bytes_or_none None = []
 bytes_or_none (Some bytes) = bytes
 
--- where the library tells, the length is that of the file
-abbrev pub TellsLength : Option (List ℕ → Option (List ℕ)) → List ℕ → Option ℕ → Type 0
-TellsLength told name size = IfSome told (λ files. size ≡ length_of (files name))
-
--- the first count bytes of into are those of a file from a place on; count is 0 only at or past the
--- file's end, or for an empty into
-pub record ReadsAt (bytes : List ℕ) (at : ℕ) (into : List ℕ) (count : ℕ) : Type 0 where
-  pub bytes_are : take count into ≡ take count (drop at bytes)
-  pub in_file : count ≤ length bytes - at
-  pub end : count ≡ 0 → min (length into) (length bytes - at) ≡ 0
-
--- where the library tells, a read gave the file's bytes from a place on
-abbrev pub TellsBytes : Option (List ℕ → Option (List ℕ)) → List ℕ → ℕ → List ℕ → ℕ → Type 0
-TellsBytes told name at into count = IfSome told (λ files. ReadsAt (bytes_or_none (files name)) at into count)
-
 -- what a library replied: of a name the length, none where there is no such file; or the bytes that a read of a name from a place on
 -- gave, into room for so many
 pub data Reply : Type 0 where
@@ -55,6 +40,18 @@ pub data Reply : Type 0 where
 -- what was replied before is not forgotten
 abbrev pub Remembers : (Reply → Type 0) → (Reply → Type 0) → Type 0
 Remembers before now = (reply : Reply) → before reply → now reply
+
+-- these are the bytes of a file from a place on, or its first so many that are left there; none only at or past the file's end, or
+-- for no room
+pub record ReadsAt (bytes : List ℕ) (at room : ℕ) (given : List ℕ) : Type 0 where
+  pub bytes_are : given ≡ take (length given) (drop at bytes)
+  pub end : given ≡ [] → min room (length bytes - at) ≡ 0
+
+-- where the library tells, the reply is true of its files
+abbrev pub TellsReply : Option (List ℕ → Option (List ℕ)) → Reply → Type 0
+TellsReply None reply = ⊤
+TellsReply (Some files) (OfLength name size) = size ≡ length_of (files name)
+TellsReply (Some files) (OfRead name at room given) = ReadsAt (bytes_or_none (files name)) at room given
 
 -- where the sink tells, it took the whole piece
 abbrev pub TakesAll : Option (List ℕ) → Option (List ℕ) → List ℕ → Type 0

@@ -1,14 +1,14 @@
 //! Named files that are read.
 ghost use Rattle.std.specs.Prelude.{◌≡◌, ◌≤◌, List, ℕ, Option, length, take, IfOk};
-ghost use Rattle.ppq_outside.specs.Told.{HasCause, TellsLength, TellsBytes, Reply, OfLength, OfRead, Remembers};
+ghost use Rattle.ppq_outside.specs.Told.{HasCause, TellsReply, Reply, OfLength, OfRead, Remembers};
 
 use crate::{Host, OutsideFault};
 use std::alloc::Global;
 
 /// Reads named files.
 ///
-/// A library that tells is a map from names to bytes, and no call changes it. One that does not
-/// tell says nothing of what its calls give.
+/// A library that tells is a map from names to bytes; no call changes it, and each of its replies is
+/// true of it. One that does not tell may reply anything.
 pub trait Library {
     /// Where it tells, the bytes of each name, and none for the name of no file.
     ghost told: { Self → Option (List ℕ → Option (List ℕ)) };
@@ -33,7 +33,6 @@ pub trait Library {
         alloc: Global,
         name: &str,
     ) -> Result<Option<u64>, OutsideFault>
-        ensures length { IfOk result (λ size. TellsLength (told self.old) name.now size) }
         ensures replied { IfOk result (λ size. replied self.new (OfLength name.now size)) }
         ensures remembers { Remembers (replied self.old) (replied self.new) }
         ensures kept { told self.new ≡ told self.old }
@@ -52,9 +51,11 @@ pub trait Library {
         into: &mut [u8],
     ) -> Result<usize, OutsideFault>
         ensures bound { IfOk result (λ count. count ≤ length into.new) }
-        ensures bytes { IfOk result (λ count. TellsBytes (told self.old) name.now at into.new count) }
         ensures replied { IfOk result (λ count. replied self.new (OfRead name.now at (length into.new) (take count into.new))) }
         ensures remembers { Remembers (replied self.old) (replied self.new) }
         ensures kept { told self.new ≡ told self.old }
         ensures cause { HasCause (faults self.old) (faults self.new) result };
+
+    /// Where it tells, each of its replies is true of its files.
+    ghost truth: { (s : Self) (reply : Reply) → replied s reply → TellsReply (told s) reply };
 }

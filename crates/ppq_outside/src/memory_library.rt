@@ -1,6 +1,6 @@
 //! A library in memory.
-ghost use Rattle.std.specs.Prelude.{◌≡◌, ◌≤◌, ◌-◌, ◌∷◌, ◌++◌, [], Some, length, min, IfOk, OnOk, OnErr, IsTrue};
-ghost use Rattle.ppq_outside.specs.Told.{Rose, ReadsAt, HasCause, TellsBytes, length_of};
+ghost use Rattle.std.specs.Prelude.{◌≡◌, ◌≤◌, ◌-◌, ◌∷◌, ◌++◌, [], Some, length, take, min, IfOk, OnOk, OnErr, IsTrue};
+ghost use Rattle.ppq_outside.specs.Told.{Rose, ReadsAt, HasCause, TellsReply, length_of, bytes_or_none};
 ghost use Rattle.ppq_outside.specs.Entries.{files_of, Finds};
 ghost use Rattle.ppq_outside.specs.MemoryLibrary.{lookup};
 
@@ -109,7 +109,7 @@ fn find<'a>(entries: &'a [Entry], name: &str) -> Option<&'a [u8]>
 /// Copies bytes from a place on over the first of `into`, as many as there are and fit.
 fn copy_from(bytes: &[u8], at: u64, into: &mut [u8]) -> usize
     ensures count { result ≡ min (length into.new) (length bytes.now - at) }
-    ensures bytes { ReadsAt bytes.now at into.new result }
+    ensures given { ReadsAt bytes.now at (length into.new) (take result into.new) }
 {
     if at >= bytes.len() as u64 {
         return 0;
@@ -121,11 +121,11 @@ fn copy_from(bytes: &[u8], at: u64, into: &mut [u8]) -> usize
 }
 
 impl Library for MemLibrary {
-    ghost use Rattle.ppq_outside.specs.MemoryLibrary.{answer, after_call, count_at, IsTrueReply};
+    ghost use Rattle.ppq_outside.specs.MemoryLibrary.{answer, after_call, count_at};
 
     ghost told = { λ m. Some (lookup m.files) };
 
-    ghost replied = { λ m. IsTrueReply m.files };
+    ghost replied = { λ m. TellsReply (Some (lookup m.files)) };
 
     ghost faults = { λ m. m.faults };
 
@@ -164,7 +164,7 @@ impl Library for MemLibrary {
         into: &mut [u8],
     ) -> Result<usize, OutsideFault>
         ensures answer { result ≡ answer self.old (count_at (lookup self.old.files name.now) at (length into.new)) }
-        ensures bytes { IfOk result (λ count. TellsBytes (Some (lookup self.old.files)) name.now at into.new count) }
+        ensures given { IfOk result (λ count. ReadsAt (bytes_or_none (lookup self.old.files name.now)) at (length into.new) (take count into.new)) }
         ensures after { self.new ≡ after_call self.old }
         ensures cause { HasCause self.old.faults self.new.faults result }
     {
@@ -176,4 +176,6 @@ impl Library for MemLibrary {
             Some(bytes) => Ok(copy_from(bytes, at, into)),
         }
     }
+
+    ghost truth = { λ m reply is. is };
 }

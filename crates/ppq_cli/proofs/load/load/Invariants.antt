@@ -1,12 +1,10 @@
 use Rattle.std.proofs.Common.{◌≡◌, ◌≤◌, ◌-◌, length, take, Some}
 use Rattle.ppq_outside.specs.Told.{OfLength}
-use Rattle.ppq_cli.specs.Load.{IsReadTo}
 use Rattle.ppq_cli.specs.Replies.{IsGiven}
 use Rattle.ppq_cli.proofs.load.load.Given as goal
 
 abbrev pub invariant-reading : goal.invariant-reading
 invariant-reading g l = record {
-  read : IsReadTo (g.L.Library.told l.fn.library) l.fn.name l.got l.bytes.items;
   kept : g.L.Library.told l.library ≡ g.L.Library.told l.fn.library;
   given : IsGiven (g.L.Library.replied l.library) l.fn.name (take l.got l.bytes.items);
   said : g.L.Library.replied l.library (OfLength l.fn.name (Some l.size));

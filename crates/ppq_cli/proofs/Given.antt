@@ -1,11 +1,17 @@
 -- The bytes that reads of a library gave, piece by piece.
 use Rattle.std.proofs.Common.{◌≡◌, ℕ, ◌+◌, ◌≤◌, List, [], ◌∷◌, ◌++◌, length, take, sym, ap, ap₂, ◌∙◌, subst, arith, length-append, length-take-le, append-nil}
 use Rattle.std.specs.List.{concat}
+use Rattle.std.proofs.lemmas.List.{take-append-le}
 use Rattle.std.proofs.lemmas.List.Folds.{concat-append}
-use borrow.Rule.Slice.PartMut.{put_mid}
+use Rattle.std.proofs.Math.Seq.{take-append-add}
+use borrow.Rule.Slice.PartMut.{put_mid, post_of}
 use Rattle.ppq_outside.specs.Told.{Reply, OfRead, Remembers}
 use Rattle.ppq_cli.specs.Replies.{AreGiven, IsGiven}
-use Rattle.ppq_cli.proofs.Growing.{take-put}
+
+-- the beginning of a list with a piece written into it
+take-put : (a k n : ℕ) (xs ys : List ℕ) → a ≤ length xs → n ≤ length ys → take (a + n) (put_mid a k xs ys) ≡ take a xs ++ take n ys
+take-put a k n xs ys h l =
+    ap (λ m. take (m + n) (put_mid a k xs ys)) (sym (length-take-le a xs h)) ∙ take-append-add (take a xs) (ys ++ post_of a k xs) n ∙ ap (λ (t : List ℕ). take a xs ++ t) (take-append-le n ys (post_of a k xs) l)
 
 -- nothing is forgotten
 AreGiven-remembered : (before now : Reply → Type 0) (name : List ℕ) (at : ℕ) (pieces : List (List ℕ)) → Remembers before now → AreGiven before name at pieces → AreGiven now name at pieces
