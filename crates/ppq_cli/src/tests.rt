@@ -180,14 +180,16 @@ fn a_read_that_fails_is_a_read_fault(rt: HostRuntime) -> Result<(), Fail> {
     Ok(())
 }
 
-/// A library whose only file ends before the length that it says. It does not tell.
+/// A library whose only file comes in pieces of a few bytes, and has maybe fewer than it says. It does
+/// not tell.
 #[derive(Drop)]
-struct CutLibrary {
+struct PieceLibrary {
+    bytes: &'static [u8],
     said: u64,
-    held: u64,
+    piece: usize,
 }
 
-impl Library for CutLibrary {
+impl Library for PieceLibrary {
     ghost told = { λ _. None };
 
     ghost replied = { λ _ _. ⊤ };
@@ -215,19 +217,41 @@ impl Library for CutLibrary {
         at: u64,
         into: &mut [u8],
     ) -> Result<usize, OutsideFault> {
-        let left = self.held.saturating_sub(at);
-        Ok((into.len() as u64).min(left) as usize)
+        if at >= self.bytes.len() as u64 {
+            return Ok(0);
+        }
+        let rest = &self.bytes[at as usize..];
+        let count = rest.len().min(into.len()).min(self.piece);
+        into[..count].copy_from_slice(&rest[..count]);
+        Ok(count)
     }
 
     ghost truth = { λ _ _ _. tt };
 }
 
 #[test]
+fn a_script_that_comes_in_pieces_is_run(rt: HostRuntime) -> Result<(), Fail> {
+    let mut library = PieceLibrary {
+        bytes: b"push 5 1\npush 3 9\npop\n",
+        said: 22,
+        piece: 5,
+    };
+    let mut sink = MemSink::new(rt.alloc(), ROOM)?;
+    let ended = run(&rt, rt.alloc(), &["run", "s"], &mut library, &mut sink)?;
+    assert_eq!(rt; ended.end, End::Done);
+    assert_eq!(rt; sink.bytes(), b"3 9\n".as_slice());
+    Ok(())
+}
+
+#[test]
 fn a_script_that_ends_before_its_length_has_changed(rt: HostRuntime) -> Result<(), Fail> {
-    let alloc = rt.alloc();
-    let mut library = CutLibrary { said: 32, held: 16 };
-    let mut sink = MemSink::new(alloc, ROOM)?;
-    let ended = run(&rt, alloc, &["run", "s"], &mut library, &mut sink)?;
+    let mut library = PieceLibrary {
+        bytes: b"pop\npop\npop\npop\n",
+        said: 32,
+        piece: 7,
+    };
+    let mut sink = MemSink::new(rt.alloc(), ROOM)?;
+    let ended = run(&rt, rt.alloc(), &["run", "s"], &mut library, &mut sink)?;
     let changed = End::FileChanged {
         line: 0,
         said: 32,
