@@ -1,5 +1,6 @@
--- The line that reports an end.
-use Rattle.std.specs.Prelude.{ℕ, List, [], ◌++◌, codes, decimal}
+-- The line that reports an end, and a line that was taken.
+use Rattle.std.specs.Prelude.{◌⊎◌, ℕ, List, [], ◌++◌, Option, codes, decimal}
+use Rattle.ppq_outside.specs.Told.{TakesAll, TakesPart, Rose}
 use Rattle.ppq_engine.specs.declared.end.End.{End}
 use Rattle.ppq_engine.specs.declared.end.End.TheVariants.{Done, BadLine, Usage, ReadFault, WriteFault, DeviceFault, NoFreeBlock, BudgetTooSmall, Memory, FileChanged, NoDevice, NoScript, ScriptTooLong}
 
@@ -22,3 +23,7 @@ report_of (FileChanged line said got) = changed_text line said got
 report_of NoDevice = codes "ppq: cannot make the device\n"
 report_of NoScript = codes "ppq: no such script\n"
 report_of ScriptTooLong = codes "ppq: script too long\n"
+
+-- where the sink tells, it took the whole line; or its count of faults rose, and it took the beginning
+abbrev pub TakesLine : Option (List ℕ) → Option (List ℕ) → ℕ → ℕ → List ℕ → Type 0
+TakesLine before now faults faults_now line = TakesAll before now line ⊎ (Rose faults faults_now × TakesPart before now line)

@@ -65,15 +65,9 @@ abbrev pub Named : Option (List ℕ) → Option (Bor (List ℕ)) → Type 0
 Named None text = text ≡ None
 Named (Some name) text = IsSomeAnd text (λ t. t.now ≡ name)
 
--- the fact holds of the script's name, where the words have one
-abbrev pub OfName : Option (List ℕ) → (List ℕ → Type 0) → Type 0
-OfName None P = ⊤
-OfName (Some name) P = P name
-
 -- the fact holds of the script's bytes, where the words name a script that is there
 abbrev pub ScriptIn : (List ℕ → Option (List ℕ)) → Option (List ℕ) → (List ℕ → Type 0) → Type 0
-ScriptIn files None P = ⊤
-ScriptIn files (Some name) P = IfSome (files name) P
+ScriptIn files name P = IfSome name (λ n. IfSome (files n) P)
 
 -- and where the library tells
 abbrev pub OfScript : Option (List ℕ → Option (List ℕ)) → Option (List ℕ) → (List ℕ → Type 0) → Type 0

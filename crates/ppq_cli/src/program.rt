@@ -2,9 +2,9 @@
 ghost use Rattle.std.specs.Prelude.{◌≡◌, ◌<◌, ◌↔◌, ◌^◌, None, IfSome};
 ghost use Rattle.ppq_outside.specs.Told.{TakesAll, TakesPart};
 ghost use Rattle.ppq_cli.specs.Replies.{IsRefusal, IsRunOf};
-ghost use Rattle.ppq_cli.specs.Report.{report_of};
+ghost use Rattle.ppq_cli.specs.Report.{report_of, TakesLine};
 ghost use Rattle.ppq_cli.specs.Status.{status_of, IsReported};
-ghost use Rattle.ppq_cli.specs.Words.{script_name, refusal_of, IsAnswer, script_output, OfName, OfScript};
+ghost use Rattle.ppq_cli.specs.Words.{script_name, refusal_of, IsAnswer, script_output, OfScript};
 
 use crate::report::report;
 use crate::status::status;
@@ -13,11 +13,11 @@ use ppq_engine::End;
 use ppq_outside::{Gate, Host, Library, Rack, Sink};
 use std::alloc::Global;
 
-/// Reports an end, and gives its status. A report that could not be put changes nothing of the
-/// status; its beginning was then taken.
+/// Reports an end, and gives its status. The whole line is taken, or the sink's count of faults
+/// rose and its beginning was; that changes nothing of the status.
 pub fn report_end<H: Host, E: Sink>(rt: &H, end: &End, errors: &mut E) -> u8
     ensures status { result ≡ status_of end.now }
-    ensures part { TakesPart (E.told errors.old) (E.told errors.new) (report_of end.now) }
+    ensures line { TakesLine (E.told errors.old) (E.told errors.new) (E.faults errors.old) (E.faults errors.new) (report_of end.now) }
 {
     let _ = report(rt, end, errors);
     status(end)
@@ -43,8 +43,8 @@ where
     ensures done { result ≡ 0 → OfScript (L.told library.old) (script_name words.now) (λ bytes. TakesAll (O.told out.old) (O.told out.new) (script_output bytes)) }
     ensures part { OfScript (L.told library.old) (script_name words.now) (λ bytes. TakesPart (O.told out.old) (O.told out.new) (script_output bytes)) }
     ensures usage { (result ≡ 2) ↔ (script_name words.now ≡ None) }
-    ensures reported { IsReported (E.told errors.old) (E.told errors.new) result (λ end. OfName (script_name words.now) (λ name. IsRefusal (L.told library.old) (L.replied library.new) name end × IsRunOf (L.replied library.new) name (O.told out.old) (O.told out.new) end)) }
-    ensures answer { IfSome (L.told library.old) (λ files. IsReported (E.told errors.old) (E.told errors.new) result (IsAnswer (refusal_of (script_name words.now) files))) }
+    ensures reported { IsReported (TakesLine (E.told errors.old) (E.told errors.new) (E.faults errors.old) (E.faults errors.new)) result (λ end. IfSome (script_name words.now) (λ name. IsRefusal (L.told library.old) (L.replied library.new) name end × IsRunOf (L.replied library.new) name (O.told out.old) (O.told out.new) end)) }
+    ensures answer { IfSome (L.told library.old) (λ files. IsReported (TakesLine (E.told errors.old) (E.told errors.new) (E.faults errors.old) (E.faults errors.new)) result (IsAnswer (refusal_of (script_name words.now) files))) }
 {
     let ended = run_words(rt, alloc, words, library, rack, gate, out);
     report_end(rt, &ended.end, errors)

@@ -1,7 +1,7 @@
 //! The top call over memory, and the program over real files.
 ghost use Rattle.std.specs.Prelude.{◌≡◌, ◌<◌, ◌^◌, None, ⊤};
 
-use crate::program::run_and_report;
+use crate::program::{report_end, run_and_report};
 use crate::real_library::DirLibrary;
 use crate::real_sink::StdSink;
 use crate::report::report;
@@ -476,6 +476,17 @@ fn each_end_has_its_line_and_its_status(rt: HostRuntime) -> Result<(), Fail> {
         assert_eq!(rt; number, status);
         assert_eq!(rt; report.as_slice(), line);
     }
+    Ok(())
+}
+
+#[test]
+fn a_report_that_is_cut_keeps_the_status(rt: HostRuntime) -> Result<(), Fail> {
+    let alloc = rt.alloc();
+    let plan = vec![in alloc; (1, 3)]?;
+    let mut errors = MemSink::failing(alloc, ROOM, plan)?;
+    assert_eq!(rt; report_end(&rt, &End::NoScript, &mut errors), 11);
+    assert_eq!(rt; errors.bytes(), b"ppq".as_slice());
+    assert_eq!(rt; errors.faults(), 1);
     Ok(())
 }
 

@@ -1,7 +1,7 @@
 //! The top call.
 ghost use Rattle.std.specs.Prelude.{◌≡◌, ◌≤◌, ◌<◌, ◌↔◌, ◌⊎◌, ◌^◌, [], None, IfSome};
 ghost use Rattle.ppq_outside.specs.Told.{TakesAll, TakesPart, Rose};
-ghost use Rattle.ppq_cli.specs.Words.{script_name, refusal_of, IsAnswer, MayCome, script_commands, script_output, plain_sizes, plain_heap, Named, OfName, ScriptIn, OfScript};
+ghost use Rattle.ppq_cli.specs.Words.{script_name, refusal_of, IsAnswer, MayCome, script_commands, script_output, plain_sizes, plain_heap, Named, ScriptIn, OfScript};
 ghost use Rattle.ppq_cli.specs.Load.{load_end};
 ghost use Rattle.ppq_cli.specs.Replies.{IsRefusal, IsRunOf};
 ghost use Rattle.ppq_engine.specs.Output.{load_of, TakesWithin};
@@ -85,8 +85,8 @@ where
     ensures within { result ≡ NoFreeBlock → OfScript (L.told library.old) (script_name words.now) (λ bytes. TakesWithin (O.told out.old) (O.told out.new) plain_heap (script_commands bytes)) }
     ensures nothing { IsRun result ⊎ (O.told out.new ≡ O.told out.old) }
     ensures above { result ≡ NoFreeBlock → OfScript (L.told library.old) (script_name words.now) (λ bytes. plain_heap < load_of (script_commands bytes)) }
-    ensures refused { OfName (script_name words.now) (λ name. IsRefusal (L.told library.old) (L.replied library.new) name result) }
-    ensures ran { OfName (script_name words.now) (λ name. IsRunOf (L.replied library.new) name (O.told out.old) (O.told out.new) result) }
+    ensures refused { IfSome (script_name words.now) (λ name. IsRefusal (L.told library.old) (L.replied library.new) name result) }
+    ensures ran { IfSome (script_name words.now) (λ name. IsRunOf (L.replied library.new) name (O.told out.old) (O.told out.new) result) }
     ensures may { MayCome result }
     ensures read { result ≡ ReadFault → Rose (L.faults library.old) (L.faults library.new) }
     ensures write { result ≡ WriteFault → Rose (O.faults out.old) (O.faults out.new) }
@@ -154,8 +154,8 @@ where
     ensures may { MayCome result.end }
 
     // The same of what the library gave, also where it does not tell.
-    ensures refused { OfName (script_name words.now) (λ name. IsRefusal (L.told library.old) (L.replied library.new) name result.end) }
-    ensures ran { OfName (script_name words.now) (λ name. IsRunOf (L.replied library.new) name (O.told out.old) (O.told out.new) result.end) }
+    ensures refused { IfSome (script_name words.now) (λ name. IsRefusal (L.told library.old) (L.replied library.new) name result.end) }
+    ensures ran { IfSome (script_name words.now) (λ name. IsRunOf (L.replied library.new) name (O.told out.old) (O.told out.new) result.end) }
 
     // A well-formed script whose load one heap holds, without a fault of the outside, ends done, or for
     // want of memory.
