@@ -1,5 +1,6 @@
 pub mod Among
 pub mod Buffers
+pub mod Parts
 pub mod Places
 pub mod Runs
 pub mod Slots

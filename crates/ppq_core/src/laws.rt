@@ -1,5 +1,5 @@
 //! Laws over every list of events, each the contract of a call that does nothing and costs nothing.
-ghost use Rattle.ppq_core.specs.Laws.{HasGiveBetween, DrawsInOrder, DrawsOnce, StoresOnce, StoresItsDraw, TellsSlots, NeighboursTrade, RunsShowTheirHistory};
+ghost use Rattle.ppq_core.specs.Laws.{HasGiveBetween, DrawsInOrder, DrawsOnce, StoresOnce, StoresItsDraw, TellsSlots, NeighboursTrade, RunsShowTheirHistory, PartsInterleave, PartsAreLegal};
 
 use ppq_record::Record;
 
@@ -32,4 +32,14 @@ pub fn order_laws<R: Record>()
 #[inline]
 pub fn run_laws<R: Record>()
     ensures { RunsShowTheirHistory R }
+{}
+
+/// What happens to the buffers and what happens to the slots and items are apart. A legal history of
+/// the one kind and a legal history of the other kind, of the same passes, make one legal history
+/// however their events are interleaved, and it ends in the places of both. Each legal history comes
+/// apart so.
+#[inline]
+pub fn interleaving_laws<R: Record>()
+    ensures together { PartsInterleave R }
+    ensures apart { PartsAreLegal R }
 {}

@@ -1,7 +1,9 @@
 //! One buffer, two slots and two passes, and what each of them may do.
 ghost use Rattle.std.specs.Prelude.{◌≡◌, IfOk, length};
 
-use crate::{Event, Place, State, StepFault, buffer_laws, order_laws, run_laws, slot_laws};
+use crate::{
+    Event, Place, State, StepFault, buffer_laws, interleaving_laws, order_laws, run_laws, slot_laws,
+};
 use ppq_record::{Memory, Pair};
 use std::test::Fail;
 
@@ -140,4 +142,5 @@ fn the_laws_hold_of_pairs() {
     slot_laws::<Pair>();
     order_laws::<Pair>();
     run_laws::<Pair>();
+    interleaving_laws::<Pair>();
 }

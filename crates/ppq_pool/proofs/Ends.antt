@@ -17,7 +17,7 @@ use Rattle.ppq_table.proofs.Numbers.{upto, upto-times}
 use Rattle.ppq_table.proofs.Places.{item-injective, laid_item, laid_last, laid_length, items_in-more}
 use Rattle.ppq_pool.specs.declared.hand.Hand.{Hand}
 use Rattle.ppq_pool.specs.Hands.{first_hand, common_shape}
-use Rattle.ppq_pool.specs.Histories.{moves_of}
+use Rattle.ppq_pool.specs.Histories.{moves_of, trail_of}
 use Rattle.ppq_pool.specs.Rule.{holders, Fits, IsFree, IsHeld, PoolRule}
 use Rattle.ppq_pool.specs.Seats.{others_below, IsLeft}
 use Rattle.ppq_pool.proofs.Lists.{None-ne-Some, Contains-numbered}
@@ -60,12 +60,19 @@ module _ {T : Type 0} where
           short = omega arith;
           room_home = (r, ap (λ (k : ℕ). get_elem? (map some (map Item xs ++ Room r ∷ [])) k) last ∙ laid_last xs (Room r), (laid.2.0, let c = laid.2.1 in omega arith));
           shares_add = refl;
+          joins_add = refl;
           each_item = λ i h. let it = at_within xs i (omega arith) in inl (zeros (i + 1), refl, (it.0, laid_item xs (Room r) i it.0 it.1, all_at (λ x. shape_of x ≡ shape) xs i it.0 shapes it.1));
           each_view = at_only (Fits shape _) first (record { same_shape = λ _. refl; spent_nothing = λ z. absurd (omega arith); in_range = All-nil (λ i. i + 1 < _); places_home = λ i lists away. absurd (omega arith); place_out = λ i e. absurd (None-ne-Some i e) });
           each_put = λ i x home. (0, first, refl, subst (λ (k : ℕ). Contains first.put (k, x)) (let e : 0 + i ≡ i = omega arith in e) (Contains-numbered 0 i x xs (laid_back xs r i x home)));
-          shown = λ _. (
+          logged = (
             [],
             record {
+              is_true = tt;
+              is_free = λ i lt z. refl;
+              is_out = λ i lt one. absurd (let z = zeros (i + 1) in omega arith);
+              on_trail = λ j v e. at_only (λ (u : Hand T). 0 < u.shares → trail_of j [] ≡ u.trail) first (λ some_share. refl) j v e;
+            },
+            λ _. record {
               legal = tt;
               when_free = λ i lt z. refl;
               when_held = λ i j v e. at_only (λ (u : Hand T). 0 < times i u.numbers → buffer_at {R = T} i [] ≡ Held j) first (λ lists. absurd (omega arith)) j v e;

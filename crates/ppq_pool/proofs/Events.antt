@@ -10,7 +10,7 @@ use Rattle.ppq_table.specs.Sums.{times}
 use Rattle.ppq_table.proofs.Numbers.{times-same, times-other}
 use Rattle.ppq_pool.specs.declared.hand.Hand.{Hand}
 use Rattle.ppq_pool.specs.Hands.{with_claim, with_note, with_place, with_give}
-use Rattle.ppq_pool.specs.Histories.{ShowsHistory}
+use Rattle.ppq_pool.specs.Histories.{ShowsHistory, events_of}
 use Rattle.ppq_pool.specs.Rule.{holders, IsFree, IsHeld, PoolRule}
 use Rattle.ppq_pool.specs.Shown.{StepsAreEvents}
 use Rattle.ppq_pool.proofs.Lists.{times-without}
@@ -37,7 +37,7 @@ module _ {T : Type 0} (shape_of : T → ℕ) (shape : ℕ) (s : State (Place T) 
 
 pub steps_are_events : (T R : Type 0) → StepsAreEvents T R
 steps_are_events T R = record {
-  shown = λ shape_of shape s r alive. shown_same R (length s.homes - 1) s.words s.views (r.shown alive);
+  shown = λ shape_of shape s r alive. shown_same R (length s.homes - 1) s.words s.views (events_of r.logged.0, r.logged.2 alive);
   claims = λ shape_of shape s id v i h st word old. let near = st.2 in
       shown_take (length s.homes - 1) s.words s.views id i v (with_claim i v) st.1 (omega arith) (subst (λ (z : ℕ). i + 1 < z) (sym st.0.wide) near) word (nobody shape_of shape s st.0 i near word) refl refl h old;
   notes = λ shape_of shape s id v i h st word old. still_held shape_of shape s st.0 id i v (with_note i v) h st.1 st.2 word refl refl old;

@@ -1,9 +1,12 @@
 -- What a seat still holds after it took or gave another item, for callers.
-use Rattle.std.proofs.Common.{◌≡◌, ◌≢◌, ℕ, ◌+◌, List, [], ◌∷◌, sym, ap, subst, refl, arith}
+use Rattle.std.proofs.Common.{◌≡◌, ◌≢◌, ℕ, ◌+◌, List, [], ◌∷◌, ◌++◌, sym, ap, ◌∙◌, subst, refl, arith}
+use Rattle.std.proofs.lemmas.List.{append_assoc}
 use Rattle.ppq_table.specs.Sums.{times}
 use Rattle.ppq_table.proofs.Numbers.{times-append, times-same, times-other}
 use Rattle.ppq_pool.specs.declared.hand.Hand.{Hand}
-use Rattle.ppq_pool.specs.Hands.{together, with_give}
+use Rattle.ppq_pool.specs.declared.hand.Move.{Move}
+use Rattle.ppq_pool.specs.declared.hand.Move.TheVariants.{Took}
+use Rattle.ppq_pool.specs.Hands.{elsewhere, together, with_give}
 use Rattle.ppq_pool.specs.Seats.{Holds, Takes, FoundHeld}
 use Rattle.ppq_pool.proofs.Lists.{times-without}
 
@@ -11,6 +14,19 @@ module _ {T : Type 0} where
   -- how often an item is listed after a take of i
   pub Takes-times : (v w : Hand T) (i k : ℕ) → Takes v i w → times k w.numbers ≡ times k v.numbers + times k (i ∷ [])
   Takes-times v w i k t = subst (λ (l : List ℕ). times k l ≡ times k v.numbers + times k (i ∷ [])) (sym t.numbers) (times-append k v.numbers (i ∷ []))
+
+  -- a take after looks
+  pub Takes-after_looks : (v u w : Hand T) (i : ℕ) (looks : List Move) → u ≡ record v { trail = u.trail } → u.trail ≡ looks ++ v.trail → Takes u i w → Takes v i w
+  Takes-after_looks v u w i looks same looked t = record {
+    was_free = ap (λ (h : Hand T). times i h.numbers) (sym same) ∙ t.was_free;
+    numbers = t.numbers ∙ ap (λ (h : Hand T). h.numbers ++ i ∷ []) same;
+    moves = t.moves ∙ ap (λ (h : Hand T). Took i ∷ h.moves) same;
+    put = t.put ∙ ap (λ (h : Hand T). elsewhere i h.put) same;
+    shares = t.shares ∙ ap (λ (h : Hand T). h.shares) same;
+    shape = t.shape ∙ ap (λ (h : Hand T). h.shape) same;
+    joins = t.joins ∙ ap (λ (h : Hand T). h.joins) same;
+    trail = (t.trail.0 ++ looks, t.trail.1 ∙ ap (λ l. Took i ∷ t.trail.0 ++ l) looked ∙ ap (λ l. Took i ∷ l) (sym (append_assoc t.trail.0 looks v.trail)));
+  }
 
   -- what was taken is held
   pub Takes-holds : (v w : Hand T) (i : ℕ) → Takes v i w → Holds w i

@@ -15,10 +15,10 @@ Some-injective a b e = ap (λ (o : Option ℕ). unwrap_or o 0) e
 pub None-ne-Some : (a : ℕ) → None ≡ Some a → ⊥
 None-ne-Some a e = true≢false (sym (ap is_some e))
 
-without-here : (i y : ℕ) (ys : List ℕ) → y ≡ i → without i (y ∷ ys) ≡ ys
+pub without-here : (i y : ℕ) (ys : List ℕ) → y ≡ i → without i (y ∷ ys) ≡ ys
 without-here i y ys e = ap (λ b. cond b ys (y ∷ without i ys)) (eq-eqb y i e)
 
-without-past : (i y : ℕ) (ys : List ℕ) → y ≢ i → without i (y ∷ ys) ≡ y ∷ without i ys
+pub without-past : (i y : ℕ) (ys : List ℕ) → y ≢ i → without i (y ∷ ys) ≡ y ∷ without i ys
 without-past i y ys n = ap (λ b. cond b ys (y ∷ without i ys)) (ne_eqb y i n)
 
 pub times-without : (i k : ℕ) (xs : List ℕ) → 0 < times i xs → times k (without i xs) + times k (i ∷ []) ≡ times k xs

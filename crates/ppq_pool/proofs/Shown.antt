@@ -20,16 +20,16 @@ use Rattle.ppq_pool.specs.Rule.{holders, NoneSpent}
 use Rattle.ppq_pool.proofs.Lists.{at_end}
 
 module _ {R : Type 0} where
-  buffer_at-Take_here : (p b i : ℕ) (h : List (Event R)) → b ≡ i → buffer_at i (Take p b ∷ h) ≡ Held p
+  pub buffer_at-Take_here : (p b i : ℕ) (h : List (Event R)) → b ≡ i → buffer_at i (Take p b ∷ h) ≡ Held p
   buffer_at-Take_here p b i h e = ap (λ c. cond c (Held p) (buffer_at i h)) (eq-eqb b i e)
 
-  buffer_at-Take_else : (p b i : ℕ) (h : List (Event R)) → b ≢ i → buffer_at i (Take p b ∷ h) ≡ buffer_at i h
+  pub buffer_at-Take_else : (p b i : ℕ) (h : List (Event R)) → b ≢ i → buffer_at i (Take p b ∷ h) ≡ buffer_at i h
   buffer_at-Take_else p b i h n = ap (λ c. cond c (Held p) (buffer_at i h)) (ne_eqb b i n)
 
-  buffer_at-Give_here : (p b i : ℕ) (h : List (Event R)) → b ≡ i → buffer_at i (Give p b ∷ h) ≡ Free
+  pub buffer_at-Give_here : (p b i : ℕ) (h : List (Event R)) → b ≡ i → buffer_at i (Give p b ∷ h) ≡ Free
   buffer_at-Give_here p b i h e = ap (λ c. cond c Free (buffer_at i h)) (eq-eqb b i e)
 
-  buffer_at-Give_else : (p b i : ℕ) (h : List (Event R)) → b ≢ i → buffer_at i (Give p b ∷ h) ≡ buffer_at i h
+  pub buffer_at-Give_else : (p b i : ℕ) (h : List (Event R)) → b ≢ i → buffer_at i (Give p b ∷ h) ≡ buffer_at i h
   buffer_at-Give_else p b i h n = ap (λ c. cond c Free (buffer_at i h)) (ne_eqb b i n)
 
   moves_of-Take_own : (p b j : ℕ) (h : List (Event R)) → p ≡ j → moves_of j (Take p b ∷ h) ≡ Took b ∷ moves_of j h

@@ -1,5 +1,5 @@
 -- Each kind of step keeps the rule, and tells what it says it tells.
-use Rattle.std.proofs.Common.{◌≡◌, ◌≢◌, ◌⊎◌, ℕ, zero, suc, ◌+◌, ◌-◌, ◌<◌, ◌≤◌, List, [], ◌∷◌, ◌++◌, All, Contains, length, slice_index, set, sym, refl, ap, ◌∙◌, subst, inl, inr, ⊎_elim, arith, length-set, get_or-set_other, get_or-set_same, Vec, Some, None, true, false, true≢false, Bool}
+use Rattle.std.proofs.Common.{◌≡◌, ◌≢◌, ◌⊎◌, ℕ, zero, suc, ◌+◌, ◌-◌, ◌<◌, ◌≤◌, List, [], ◌∷◌, ◌++◌, All, Contains, length, slice_index, set, sym, refl, ap, ◌∙◌, cond, eqb, ne_eqb, subst, inl, inr, ⊎_elim, arith, length-set, get_or-set_other, get_or-set_same, Vec, Some, None, true, false, true≢false, Bool}
 use Rattle.std.specs.Global.{Global}
 use Rattle.std.proofs.lemmas.List.Elements.{All-append, All-push, All-nil, Contains-append_left, Contains-append_right, Contains-push}
 use mathlib.Core.Option.{Option, none, some, some-injective, some-ne-none}
@@ -8,8 +8,6 @@ use native.Mathlib.Decide.{ℕ_discrete}
 use lib.ListN.{get_elem?}
 use Rattle.atomic_table.specs.Table.{State, Me, step, Act, keeps, takes, gives, Valid, carried_after, stepped, Allows, Splits, Joins, rest}
 use Rattle.atomic_table.proofs.Lists.{at_set, at_longer, at_snoc, set_else, set_here, set_again}
-use Rattle.ppq_core.specs.declared.event.Event.{Event}
-use Rattle.ppq_core.specs.declared.event.Event.TheVariants.{Take, Give}
 use Rattle.ppq_table.specs.declared.place.Place.{Place}
 use Rattle.ppq_table.specs.declared.place.Place.TheVariants.{Empty, Item, Room}
 use Rattle.ppq_table.specs.Places.{IsRoom}
@@ -18,10 +16,12 @@ use Rattle.ppq_table.proofs.Sums.{within_at, total-set, total-snoc, one_of_total
 use Rattle.ppq_table.proofs.Numbers.{times-append, times-same, times-other}
 use Rattle.ppq_table.proofs.Places.{item-injective}
 use Rattle.ppq_pool.specs.declared.hand.Hand.{Hand}
-use Rattle.ppq_pool.specs.Hands.{less_one, newcomer, together, spent, with_claim, with_note, with_place, with_give}
-use Rattle.ppq_pool.specs.Histories.{ShowsHistory}
-use Rattle.ppq_pool.specs.Rule.{holders, NoneSpent, WasPut, Fits, IsFree, IsHeld, PoolRule, claimed_at, claimed, settled, reached_at, reached, cleared_at, cleared}
+use Rattle.ppq_pool.specs.Hands.{less_one, newcomer, together, spent, spent_once, with_claim, with_note, with_place, with_give}
+use Rattle.ppq_pool.specs.declared.hand.Move.TheVariants.{Took, Gave, Saw}
+use Rattle.ppq_pool.specs.Histories.{events_of}
+use Rattle.ppq_pool.specs.Rule.{holders, HasLog, WasPut, Fits, IsFree, IsHeld, PoolRule, claimed_at, claimed, settled, reached_at, reached, cleared_at, cleared}
 use Rattle.ppq_pool.proofs.Lists.{Some-injective, None-ne-Some, times-without, All-without, Contains-none, Contains-elsewhere}
+use Rattle.ppq_pool.proofs.Logged.{log_still, log_look, log_take, log_give, log_split, log_join}
 use Rattle.ppq_pool.proofs.Shown.{none_spent_before, none_spent_before_split, some_spent, shown_still, shown_take, shown_give, shown_split}
 
 pub back : (i : ℕ) → i + 1 - 1 ≡ i
@@ -61,6 +61,13 @@ module _ {T : Type 0} where
       (λ same. (id, w, set_here vs id w (within_at vs id v at), more (subst (λ (z : Hand T). Contains z.put (i, x)) (some-injective was.1 v (sym was.2 ∙ ap (get_elem? vs) same ∙ at)) was.3)))
       (λ ne. (was.0, was.1, set_else vs id was.0 w ne ∙ was.2, was.3))
 
+  -- a view with a share is not spent
+  not_spent : (v : Hand T) → 0 < v.shares → spent_once v ≡ 0
+  not_spent v some_share = ap (λ b. cond b 1 0) (ne_eqb v.shares 0 (λ e. omega arith))
+
+  same_spent : (v w : Hand T) → w.shares ≡ v.shares → spent_once w ≡ spent_once v
+  same_spent v w e = ap (λ (k : ℕ). cond (eqb k 0) 1 0) e
+
   module _ (shape_of : T → ℕ) (shape : ℕ) where
     abbrev St : Type 0
     St = State (Place T) (Hand T)
@@ -75,32 +82,33 @@ module _ {T : Type 0} where
     M = Me (Place T) (Hand T)
 
     -- the views change, and neither the shares nor who holds what
-    viewed : (s : St) (r : Rule s) (vs : List (Hand T)) → total (λ v. v.shares) vs ≡ total (λ v. v.shares) s.views → ((i : ℕ) → holders i vs ≡ holders i s.views)
+    viewed : (s : St) (r : Rule s) (vs : List (Hand T)) → total (λ v. v.shares) vs ≡ total (λ v. v.shares) s.views → total (λ v. v.joins) vs ≡ total spent_once vs → ((i : ℕ) → holders i vs ≡ holders i s.views)
         → ((j : ℕ) (v : Hand T) → get_elem? vs j ≡ some v → Fits shape s.homes v) → ((i : ℕ) (x : T) → WasPut i x s.views → WasPut i x vs)
-        → (NoneSpent vs → (h : List (Event T)) × ShowsHistory (length s.homes - 1) s.words vs h)
+        → HasLog (length s.homes - 1) s.words vs
         → Rule record { words = s.words; homes = s.homes; views = vs }
-    viewed s r vs shares held fits puts shown = record {
+    viewed s r vs shares joined held fits puts logged = record {
       wide = r.wide;
       some_slot = r.some_slot;
       short = r.short;
       room_home = r.room_home;
       shares_add = shares ∙ r.shares_add;
+      joins_add = joined;
       each_item = λ i h. subst (λ (n : ℕ). IsFree shape_of shape (slice_index s.words (i + 1)) n (get_elem? s.homes i) ⊎ IsHeld shape_of shape (slice_index s.words (i + 1)) n) (sym (held i)) (r.each_item i h);
       each_view = fits;
       each_put = λ i x home. puts i x (r.each_put i x home);
-      shown = shown;
+      logged = logged;
     }
 
     -- one view alone lists the item i, or none does. Its word, its place and this view change
     moves : (s : St) (r : Rule s) (id : ℕ) (v w : Hand T) (i m : ℕ) (h : Option (Place T)) → get_elem? s.views id ≡ some v → i + 1 < length s.homes
-        → 0 < v.shares → w.shares ≡ v.shares → w.shape ≡ v.shape → holders i s.views ≡ times i v.numbers
+        → 0 < v.shares → w.shares ≡ v.shares → w.shape ≡ v.shape → w.joins ≡ v.joins → holders i s.views ≡ times i v.numbers
         → ((k : ℕ) → k ≢ i → times k w.numbers ≡ times k v.numbers) → All (λ k. k + 1 < length s.homes) w.numbers
         → ((k : ℕ) → k ≢ i → 0 < times k w.numbers → get_elem? s.homes k ≡ some (some Empty)) → (0 < times i w.numbers → ¬ (w.in_hand ≡ Some i) → h ≡ some Empty) → ((k : ℕ) → w.in_hand ≡ Some k → (k ≡ i) × (0 < times i w.numbers) × (h ≡ none))
         → ((k : ℕ) (x : T) → k ≢ i → Contains v.put (k, x) → Contains w.put (k, x)) → ((x : T) → h ≡ some (Item x) → Contains w.put (i, x))
-        → (NoneSpent (set s.views id w) → (e : List (Event T)) × ShowsHistory (length s.homes - 1) (set s.words (i + 1) m) (set s.views id w) e)
+        → HasLog (length s.homes - 1) (set s.words (i + 1) m) (set s.views id w)
         → IsFree shape_of shape m (times i w.numbers) (some h) ⊎ IsHeld shape_of shape m (times i w.numbers)
         → Rule record { words = set s.words (i + 1) m; homes = set s.homes i h; views = set s.views id w }
-    moves s r id v w i m h at near some_share same_shares same_shape alone others ranged homes_else home_here out puts put_here shown now = let vs : List (Hand T) = set s.views id w in let hs : Homes = set s.homes i h in
+    moves s r id v w i m h at near some_share same_shares same_shape same_joins alone others ranged homes_else home_here out puts put_here logged now = let vs : List (Hand T) = set s.views id w in let hs : Homes = set s.homes i h in
         let n : ℕ = length s.homes in let same_length : length hs ≡ n = length-set s.homes i h in
         let ws : List ℕ = set s.words (i + 1) m in
         let Ok : ℕ → Type 0 = λ k. IsFree shape_of shape (slice_index ws (k + 1)) (holders k vs) (get_elem? hs k) ⊎ IsHeld shape_of shape (slice_index ws (k + 1)) (holders k vs) in
@@ -127,6 +135,7 @@ module _ {T : Type 0} where
           room_home = subst (λ (k : ℕ). (x : Vec T Global) × (get_elem? hs (k - 1) ≡ some (some (Room x))) × IsRoom (k - 1) x) (sym same_length)
               (r.room_home.0, set_else s.homes i (n - 1) h (λ e. omega arith) ∙ r.room_home.1, r.room_home.2);
           shares_add = omega (arith, total-set (λ u. u.shares) s.views id v w at, r.shares_add);
+          joins_add = omega (arith, total-set (λ u. u.joins) s.views id v w at, total-set spent_once s.views id v w at, r.joins_add, same_spent v w same_shares, same_joins);
           each_item = λ k h'. let inside : k + 1 < n = subst (λ (z : ℕ). k + 1 < z) same_length h' in dite (ℕ_discrete k i)
               (λ e. subst Ok (sym e) (ok_by i m (times i w.numbers) (some h) (get_or-set_same s.words (i + 1) m 0 (subst (λ (z : ℕ). i + 1 < z) (sym r.wide) near))
               (omega (arith, count i, alone)) (set_here s.homes i h (omega arith)) now))
@@ -150,7 +159,7 @@ module _ {T : Type 0} where
                 put_here x (some-injective h (some (Item x)) (sym (set_here s.homes i h (omega arith)) ∙ ap (get_elem? hs) (sym e) ∙ home)),
               ))
               (λ ne. put_kept s.views id k x v w at (puts k x ne) (r.each_put k x (sym (set_else s.homes i k h ne) ∙ home)));
-          shown = subst (λ (k : ℕ). NoneSpent vs → (e : List (Event T)) × ShowsHistory (k - 1) ws vs e) (sym same_length) shown;
+          logged = subst (λ (k : ℕ). HasLog (k - 1) ws vs) (sym same_length) logged;
         }
 
     -- a held item is with the view that lists it, alone, and its word is 1
@@ -167,16 +176,28 @@ module _ {T : Type 0} where
     same_words s r i near word = set_again s.words (i + 1) 1 (at_word s.words (i + 1) 1 (subst (λ (z : ℕ). i + 1 < z) (sym r.wide) near) word)
 
     -- a step that changes neither words nor numbers is no event
-    still : (s : St) (r : Rule s) (id : ℕ) (v w : Hand T) → get_elem? s.views id ≡ some v → 0 < v.shares → w.numbers ≡ v.numbers → w.moves ≡ v.moves
-        → NoneSpent (set s.views id w) → (h : List (Event T)) × ShowsHistory (length s.homes - 1) s.words (set s.views id w) h
-    still s r id v w at some_share numbers same_moves alive = let old = r.shown (none_spent_before s.views id v w at some_share alive) in
-        (old.0, shown_still (length s.homes - 1) s.words s.views id v w at numbers same_moves old.0 old.1)
+    still : (s : St) (r : Rule s) (id : ℕ) (v w : Hand T) → get_elem? s.views id ≡ some v → 0 < v.shares → w.numbers ≡ v.numbers → w.moves ≡ v.moves → w.trail ≡ v.trail
+        → HasLog (length s.homes - 1) s.words (set s.views id w)
+    still s r id v w at some_share numbers same_moves same_trail = let was = r.logged in let n : ℕ = length s.homes - 1 in (
+      was.0,
+      log_still n s.words s.views id v w at some_share same_trail was.0 was.1,
+      λ alive. shown_still n s.words s.views id v w at numbers same_moves (events_of {R = T} was.0) (was.2 (none_spent_before s.views id v w at some_share alive)),
+    )
+
+    -- a look that found the item i held goes into the log, and is no event
+    looks : (s : St) (r : Rule s) (id : ℕ) (v w : Hand T) (i : ℕ) → get_elem? s.views id ≡ some v → 0 < v.shares → i + 1 < length s.homes → slice_index s.words (i + 1) ≡ 1 → w.numbers ≡ v.numbers → w.moves ≡ v.moves → w.trail ≡ Saw i ∷ v.trail
+        → HasLog (length s.homes - 1) s.words (set s.views id w)
+    looks s r id v w i at some_share near word numbers same_moves trail = let was = r.logged in let n : ℕ = length s.homes - 1 in (
+      (id, Saw i) ∷ was.0,
+      log_look n s.words s.views id i v w at some_share (omega arith) word trail was.0 was.1,
+      λ alive. shown_still n s.words s.views id v w at numbers same_moves (events_of {R = T} was.0) (was.2 (none_spent_before s.views id v w at some_share alive)),
+    )
 
     -- the same where a word is exchanged for the 1 that it was
-    still_held : (s : St) (r : Rule s) (id : ℕ) (v w : Hand T) (i : ℕ) → i + 1 < length s.homes → slice_index s.words (i + 1) ≡ 1 → get_elem? s.views id ≡ some v → 0 < v.shares → w.numbers ≡ v.numbers → w.moves ≡ v.moves
-        → NoneSpent (set s.views id w) → (h : List (Event T)) × ShowsHistory (length s.homes - 1) (set s.words (i + 1) 1) (set s.views id w) h
-    still_held s r id v w i near word at some_share numbers same_moves alive =
-        subst (λ (ws : List ℕ). (h : List (Event T)) × ShowsHistory (length s.homes - 1) ws (set s.views id w) h) (sym (same_words s r i near word)) (still s r id v w at some_share numbers same_moves alive)
+    still_held : (s : St) (r : Rule s) (id : ℕ) (v w : Hand T) (i : ℕ) → i + 1 < length s.homes → slice_index s.words (i + 1) ≡ 1 → get_elem? s.views id ≡ some v → 0 < v.shares → w.numbers ≡ v.numbers → w.moves ≡ v.moves → w.trail ≡ v.trail
+        → HasLog (length s.homes - 1) (set s.words (i + 1) 1) (set s.views id w)
+    still_held s r id v w i near word at some_share numbers same_moves same_trail =
+        subst (λ (ws : List ℕ). HasLog (length s.homes - 1) ws (set s.views id w)) (sym (same_words s r i near word)) (still s r id v w at some_share numbers same_moves same_trail)
 
     abbrev Goes : St → ℕ → ℕ → Hand T → List (ℕ × Place T) → ℕ → (M → Type 0) → Type 0
     Goes s id i v c m then = (w : Hand T) × (a : Act (Place T)) × Valid s.homes c a × Rule (stepped s (i + 1) m id c w a) × then (w, carried_after c a)
@@ -196,12 +217,15 @@ module _ {T : Type 0} where
           w,
           takes i (Item it.0),
           it.1,
-          moves s r id v w i 1 none at near some_share refl refl (omega (arith, holding, nobody)) others (All-push (λ k. k + 1 < length s.homes) v.numbers i old.in_range near)
+          moves s r id v w i 1 none at near some_share refl refl refl (omega (arith, holding, nobody)) others (All-push (λ k. k + 1 < length s.homes) v.numbers i old.in_range near)
               (λ k ne lists. old.places_home k (omega (arith, others k ne, lists)) (λ e. None-ne-Some k (sym no_place ∙ e))) (λ lists away. absurd (away refl))
               (λ k e. (sym (Some-injective i k e), omega (arith, times-append i v.numbers (i ∷ []), times-same i i refl), refl))
               (λ k x ne has. Contains-elsewhere i k x v.put ne has) (λ x e. absurd (some-ne-none (Item x) (sym e)))
-              (λ alive. let was = r.shown (none_spent_before s.views id v w at some_share alive) in
-              (Take id i ∷ was.0, shown_take (length s.homes - 1) s.words s.views id i v w at (omega arith) (subst (λ (z : ℕ). i + 1 < z) (sym r.wide) near) word holding refl refl was.0 was.1))
+              (let was = r.logged in let m : ℕ = length s.homes - 1 in let wide : i + 1 < length s.words = subst (λ (z : ℕ). i + 1 < z) (sym r.wide) near in (
+                (id, Took i) ∷ was.0,
+                log_take m s.words s.views id i v w at some_share (omega arith) wide word refl was.0 was.1,
+                λ alive. shown_take m s.words s.views id i v w at (omega arith) wide word holding refl refl (events_of {R = T} was.0) (was.2 (none_spent_before s.views id v w at some_share alive)),
+              ))
               (inr (refl, omega (arith, times-append i v.numbers (i ∷ []), times-same i i refl, nobody))),
           ((λ _. (it.0, it.2 ∙ sym (old.same_shape some_share), nobody, refl, refl, own_item s r id i v it.0 at it.1)), λ ne. absurd (ne word)),
         )
@@ -213,11 +237,12 @@ module _ {T : Type 0} where
       keeps,
       tt,
       subst (λ (ws : List ℕ). Rule record { words = ws; homes = s.homes; views = set s.views id w }) (sym (same_words s r i near word))
-          (viewed s r (set s.views id w) (omega (arith, total-set (λ u. u.shares) s.views id v w at)) (λ k. omega (arith, total-set (λ u. times k u.numbers) s.views id v w at))
+          (viewed s r (set s.views id w) (omega (arith, total-set (λ u. u.shares) s.views id v w at))
+          (omega (arith, total-set (λ u. u.joins) s.views id v w at, total-set spent_once s.views id v w at, r.joins_add, same_spent v w refl)) (λ k. omega (arith, total-set (λ u. times k u.numbers) s.views id v w at))
           (λ j u e. ⊎_elim (λ (x : (j ≡ id) × (w ≡ u)). subst (Fits shape s.homes) x.1 (record { same_shape = old.same_shape; spent_nothing = old.spent_nothing; in_range = old.in_range; places_home = old.places_home; place_out = old.place_out }))
           (λ (x : (j ≢ id) × (get_elem? s.views j ≡ some u)). r.each_view j u x.1) (at_set s.views id j w u e))
           (λ k x was. put_kept s.views id k x v w at (λ has. has) was)
-          (still s r id v w at some_share refl refl)),
+          (looks s r id v w i at some_share near word refl refl refl)),
       ((λ zero_word. absurd (omega (arith, zero_word, word))), λ _. (word, refl, refl)),
     )
 
@@ -234,8 +259,8 @@ module _ {T : Type 0} where
           w,
           gives,
           tt,
-          moves s r id v w i 1 (some Empty) at near some_share refl refl one.0 (λ k ne. refl) old.in_range (λ k ne l. old.places_home k l (λ e. ne (Some-injective k i (sym e ∙ place)))) (λ _ _. refl) (λ k e. absurd (None-ne-Some k e))
-              (λ k x ne has. has) (λ x e. absurd (Empty-ne-Item x (some-injective Empty (Item x) e))) (still_held s r id v w i near one.2 at some_share refl refl) (inr (refl, one.1)),
+          moves s r id v w i 1 (some Empty) at near some_share refl refl refl one.0 (λ k ne. refl) old.in_range (λ k ne l. old.places_home k l (λ e. ne (Some-injective k i (sym e ∙ place)))) (λ _ _. refl) (λ k e. absurd (None-ne-Some k e))
+              (λ k x ne has. has) (λ x e. absurd (Empty-ne-Item x (some-injective Empty (Item x) e))) (still_held s r id v w i near one.2 at some_share refl refl refl) (inr (refl, one.1)),
           (refl, refl),
         )
 
@@ -246,8 +271,8 @@ module _ {T : Type 0} where
           w,
           takes i Empty,
           old.places_home i lists (free i),
-          moves s r id v w i 1 none at near some_share refl refl one.0 (λ k ne. refl) old.in_range (λ k ne l. old.places_home k l (free k)) (λ l away. absurd (away refl)) (λ k e. (sym (Some-injective i k e), lists, refl))
-              (λ k x ne has. has) (λ x e. absurd (some-ne-none (Item x) (sym e))) (still_held s r id v w i near one.2 at some_share refl refl) (inr (refl, one.1)),
+          moves s r id v w i 1 none at near some_share refl refl refl one.0 (λ k ne. refl) old.in_range (λ k ne l. old.places_home k l (free k)) (λ l away. absurd (away refl)) (λ k e. (sym (Some-injective i k e), lists, refl))
+              (λ k x ne has. has) (λ x e. absurd (some-ne-none (Item x) (sym e))) (still_held s r id v w i near one.2 at some_share refl refl refl) (inr (refl, one.1)),
           (refl, refl),
         )
 
@@ -262,12 +287,15 @@ module _ {T : Type 0} where
           w,
           gives,
           tt,
-          moves s r id v w i 0 (some (Item x)) at near some_share refl refl one.0 others (All-without (λ k. k + 1 < length s.homes) i v.numbers old.in_range)
+          moves s r id v w i 0 (some (Item x)) at near some_share refl refl refl one.0 others (All-without (λ k. k + 1 < length s.homes) i v.numbers old.in_range)
               (λ k ne l. old.places_home k (omega (arith, others k ne, l)) (λ e. ne (Some-injective k i (sym e ∙ place)))) (λ l away. absurd (omega (arith, l, gone))) (λ k e. absurd (None-ne-Some k e))
               (λ k y ne has. Contains-append_left v.put ((i, x) ∷ []) (k, y) has)
               (λ y e. subst (λ (z : T). Contains w.put (i, z)) (item-injective x y (some-injective (Item x) (Item y) e)) (Contains-push v.put (i, x)))
-              (λ alive. let was = r.shown (none_spent_before s.views id v w at some_share alive) in
-              (Give id i ∷ was.0, shown_give (length s.homes - 1) s.words s.views id i v w at (omega arith) lists one.0 gone others refl was.0 was.1))
+              (let was = r.logged in let m : ℕ = length s.homes - 1 in (
+                (id, Gave i) ∷ was.0,
+                log_give m s.words s.views id i v w at some_share (omega arith) (subst (λ (z : ℕ). i + 1 < z) (sym r.wide) near) one.2 refl was.0 was.1,
+                λ alive. shown_give m s.words s.views id i v w at (omega arith) lists one.0 gone others refl (events_of {R = T} was.0) (was.2 (none_spent_before s.views id v w at some_share alive)),
+              ))
               (inl (refl, gone, (x, refl, same_shape ∙ old.same_shape some_share))),
           ((λ y top. ap (λ (z : T). with_give i z v) (carried_item (rest me.1) (rest me.1) i x y top)), refl),
         ))
@@ -275,6 +303,7 @@ module _ {T : Type 0} where
     pub splits : (id : ℕ) (v : Hand T) → 1 < v.shares → Splits Rule id v (less_one v) (newcomer v)
     splits id v two s r at = let l : Hand T = less_one v in let n : Hand T = newcomer v in let vs : List (Hand T) = set s.views id l in let f = r.each_view id v at in
         viewed s r (vs ++ n ∷ []) (omega (arith, total-snoc (λ u. u.shares) vs n, total-set (λ u. u.shares) s.views id v l at))
+        (omega (arith, total-snoc (λ u. u.joins) vs n, total-set (λ u. u.joins) s.views id v l at, total-snoc spent_once vs n, total-set spent_once s.views id v l at, r.joins_add, not_spent v (omega arith), not_spent l (omega arith), not_spent n (omega arith)))
         (λ k. omega (arith, total-snoc (λ u. times k u.numbers) vs n, total-set (λ u. times k u.numbers) s.views id v l at))
         (λ j u e. ⊎_elim (λ (old : get_elem? vs j ≡ some u). ⊎_elim
         (λ (h : (j ≡ id) × (l ≡ u)). subst (Fits shape s.homes) h.1 (record { same_shape = λ _. f.same_shape (omega arith); spent_nothing = λ z. absurd (omega arith); in_range = f.in_range; places_home = f.places_home; place_out = f.place_out }))
@@ -282,7 +311,11 @@ module _ {T : Type 0} where
         (λ (new : n ≡ u). subst (Fits shape s.homes) new (record { same_shape = λ _. f.same_shape (omega arith); spent_nothing = λ z. absurd (omega arith); in_range = All-nil (λ i. i + 1 < length s.homes); places_home = λ i lists away. absurd (omega arith); place_out = λ i e. absurd (None-ne-Some i e) }))
         (at_snoc vs n u j e))
         (λ i x was. let kept = put_kept s.views id i x v l at (λ has. has) was in (kept.0, kept.1, at_longer vs (n ∷ []) kept.0 kept.1 kept.2, kept.3))
-        (λ alive. let was = r.shown (none_spent_before_split s.views id v l n at (omega arith) alive) in (was.0, shown_split (length s.homes - 1) s.words s.views id v at was.0 was.1))
+        (let was = r.logged in let m : ℕ = length s.homes - 1 in (
+          was.0,
+          log_split m s.words s.views id v at (omega arith) was.0 was.1,
+          λ alive. shown_split m s.words s.views id v at (events_of {R = T} was.0) (was.2 (none_spent_before_split s.views id v l n at (omega arith) alive)),
+        ))
 
     -- who put an item in knows of it after a join
     put_joined : (s : St) (id other i : ℕ) (x : T) (v w : Hand T) → get_elem? s.views id ≡ some v → ¬ (other ≡ id) → get_elem? s.views other ≡ some w → WasPut i x s.views → WasPut i x (set (set s.views id (together v w)) other spent)
@@ -294,8 +327,8 @@ module _ {T : Type 0} where
         (λ e. (id, b, here, Contains-append_left v.put w.put (i, x) (subst (λ (z : Hand T). Contains z.put (i, x)) (some-injective was.1 v (sym was.2 ∙ ap (get_elem? s.views) e ∙ at)) was.3)))
         (λ ne. (was.0, was.1, set_else vs other was.0 spent past ∙ set_else s.views id was.0 b ne ∙ was.2, was.3)))
 
-    pub joins : (id : ℕ) (v : Hand T) (other : ℕ) (w : Hand T) → 0 < v.shares → v.in_hand ≡ None → w.in_hand ≡ None → Joins Rule id v other w (together v w) spent
-    joins id v other w some_share free_v free_w s r at two at' = let b : Hand T = together v w in let vs : List (Hand T) = set s.views id b in
+    pub joins : (id : ℕ) (v : Hand T) (other : ℕ) (w : Hand T) → 0 < v.shares → 0 < w.shares → v.in_hand ≡ None → w.in_hand ≡ None → Joins Rule id v other w (together v w) spent
+    joins id v other w some_share some_other free_v free_w s r at two at' = let b : Hand T = together v w in let vs : List (Hand T) = set s.views id b in
         let was : get_elem? s.views other ≡ some w = ⊎_elim (λ (h : (other ≡ id) × (b ≡ w)). absurd (two h.0)) (λ (h : (other ≢ id) × (get_elem? s.views other ≡ some w)). h.1) (at_set s.views id other b w at') in
         let f = r.each_view id v at in let g = r.each_view other w was in
         let mine : Fits shape s.homes b = record {
@@ -307,11 +340,11 @@ module _ {T : Type 0} where
               (λ some_times. f.places_home i (omega (arith, some_times)) (λ e. None-ne-Some i (sym free_v ∙ e)));
           place_out = λ i e. absurd (None-ne-Some i (sym free_v ∙ e));
         } in
-        let idle : Fits shape s.homes spent = record { same_shape = λ h. absurd (omega arith); spent_nothing = λ _. (refl, refl); in_range = All-nil (λ i. i + 1 < length s.homes); places_home = λ i lists away. absurd (omega arith); place_out = λ i e. absurd (None-ne-Some i e) } in
+        let idle : Fits shape s.homes spent = record { same_shape = λ h. absurd (omega arith); spent_nothing = λ _. (refl, refl, refl); in_range = All-nil (λ i. i + 1 < length s.homes); places_home = λ i lists away. absurd (omega arith); place_out = λ i e. absurd (None-ne-Some i e) } in
         let sums : (h : Hand T → ℕ) → total h (set vs other spent) + h w + h v ≡ total h s.views + h b + h spent = λ h. omega (arith, total-set h s.views id v b at, total-set h vs other w spent at') in
-        viewed s r (set vs other spent) (omega (arith, sums (λ u. u.shares))) (λ k. omega (arith, sums (λ u. times k u.numbers), times-append k v.numbers w.numbers))
+        viewed s r (set vs other spent) (omega (arith, sums (λ u. u.shares))) (omega (arith, sums (λ u. u.joins), sums spent_once, r.joins_add, not_spent v some_share, not_spent w some_other, not_spent b (omega arith))) (λ k. omega (arith, sums (λ u. times k u.numbers), times-append k v.numbers w.numbers))
         (λ j u e. ⊎_elim (λ (h : (j ≡ other) × (spent ≡ u)). subst (Fits shape s.homes) h.1 idle)
         (λ (h : (j ≢ other) × (get_elem? vs j ≡ some u)). ⊎_elim (λ (k : (j ≡ id) × (b ≡ u)). subst (Fits shape s.homes) k.1 mine) (λ (k : (j ≢ id) × (get_elem? s.views j ≡ some u)). r.each_view j u k.1) (at_set s.views id j b u h.1))
         (at_set vs other j spent u e))
         (λ i x put. put_joined s id other i x v w at two was put)
-        (λ alive. absurd (some_spent vs other (within_at vs other w at') alive))
+        (r.logged.0, log_join (length s.homes - 1) s.words s.views id other v w at some_share r.logged.0 r.logged.1, λ alive. absurd (some_spent vs other (within_at vs other w at') alive))

@@ -1,13 +1,14 @@
 -- What a seat knows, and how each step changes it.
-use Rattle.std.specs.Prelude.{ℕ, zero, suc, ◌+◌, ◌-◌, ◌==◌, cond, List, [], ◌∷◌, ◌++◌, if◌then◌else◌, Option, Some, None}
+use Rattle.std.specs.Prelude.{ℕ, zero, suc, ◌+◌, ◌-◌, ◌==◌, List, [], ◌∷◌, ◌++◌, if◌then◌else◌, Option, Some, None}
 use Rattle.ppq_pool.specs.declared.hand.Hand.{Hand}
-use Rattle.ppq_pool.specs.declared.hand.Move.TheVariants.{Took, Gave}
+use Rattle.ppq_pool.specs.declared.hand.Move.{Move}
+use Rattle.ppq_pool.specs.declared.hand.Move.TheVariants.{Took, Gave, Saw}
 use Rattle.ppq_table.specs.Sums.{all_shares}
 
--- the numbers below n, in order
-abbrev pub below : ℕ → List ℕ
-below zero = []
-below (suc n) = below n ++ n ∷ []
+-- one look at each item below n, in the order of their numbers, each of which found it held; the newest look first
+abbrev pub looks_below : ℕ → List Move
+looks_below zero = []
+looks_below (suc n) = Saw n ∷ looks_below n
 
 -- the first of the members i is taken out
 abbrev pub without : ℕ → List ℕ → List ℕ
@@ -32,7 +33,7 @@ module _ {T : Type 0} where
 
   -- the first seat of a pool of these items
   abbrev pub first_hand : ℕ → List T → Hand T
-  first_hand shape items = record { shares = all_shares; shape = shape; numbers = []; put = numbered 0 items; moves = []; looks = 0; noted = []; in_hand = None }
+  first_hand shape items = record { shares = all_shares; shape = shape; numbers = []; put = numbered 0 items; moves = []; trail = []; joins = 0; in_hand = None }
 
   -- a seat after a split
   abbrev pub less_one : Hand T → Hand T
@@ -40,23 +41,27 @@ module _ {T : Type 0} where
 
   -- the seat that was split off: one share, and nothing taken, put in or found
   abbrev pub newcomer : Hand T → Hand T
-  newcomer v = record { shares = 1; shape = v.shape; numbers = []; put = []; moves = []; looks = 0; noted = []; in_hand = None }
+  newcomer v = record { shares = 1; shape = v.shape; numbers = []; put = []; moves = []; trail = []; joins = 0; in_hand = None }
 
-  -- two seats in one
+  -- two seats in one. The trail is that of the first
   abbrev pub together : Hand T → Hand T → Hand T
-  together v w = record v { shares = v.shares + w.shares; numbers = v.numbers ++ w.numbers; put = v.put ++ w.put; moves = w.moves ++ v.moves }
+  together v w = record v { shares = v.shares + w.shares; numbers = v.numbers ++ w.numbers; put = v.put ++ w.put; moves = w.moves ++ v.moves; joins = v.joins + w.joins + 1 }
+
+  -- 1 for a view that is spent, and else 0
+  abbrev pub spent_once : Hand T → ℕ
+  spent_once v = if v.shares == 0 then 1 else 0
 
   -- what a seat that was joined leaves behind
   abbrev pub spent : Hand T
-  spent = record { shares = 0; shape = 0; numbers = []; put = []; moves = []; looks = 0; noted = []; in_hand = None }
+  spent = record { shares = 0; shape = 0; numbers = []; put = []; moves = []; trail = []; joins = 0; in_hand = None }
 
   -- the item i was found free and is held now, with its place in hand
   abbrev pub with_claim : ℕ → Hand T → Hand T
-  with_claim i v = record v { numbers = v.numbers ++ i ∷ []; put = elsewhere i v.put; moves = Took i ∷ v.moves; in_hand = Some i }
+  with_claim i v = record v { numbers = v.numbers ++ i ∷ []; put = elsewhere i v.put; moves = Took i ∷ v.moves; trail = Took i ∷ v.trail; in_hand = Some i }
 
-  -- the item i was found held. The item 0 is the first that a call looks at
+  -- the item i was found held
   abbrev pub with_note : ℕ → Hand T → Hand T
-  with_note i v = record v { looks = cond (i == 0) (v.looks + 1) v.looks; noted = cond (i == 0) [] v.noted ++ i ∷ [] }
+  with_note i v = record v { trail = Saw i ∷ v.trail }
 
   -- another place is in hand, or none
   abbrev pub with_place : Option ℕ → Hand T → Hand T
@@ -64,4 +69,4 @@ module _ {T : Type 0} where
 
   -- the item x was put in with the number i, which is held no more
   abbrev pub with_give : ℕ → T → Hand T → Hand T
-  with_give i x v = record v { numbers = without i v.numbers; put = v.put ++ (i, x) ∷ []; moves = Gave i ∷ v.moves; in_hand = None }
+  with_give i x v = record v { numbers = without i v.numbers; put = v.put ++ (i, x) ∷ []; moves = Gave i ∷ v.moves; trail = Gave i ∷ v.trail; in_hand = None }

@@ -5,14 +5,14 @@ use mathlib.Core.Option.{Option, none, some}
 use lib.ListN.{get_elem?}
 use Rattle.std.specs.Global.{Global}
 use Rattle.atomic_table.specs.Table.{State, Me, Step, rest}
-use Rattle.ppq_core.specs.declared.event.Event.{Event}
 use Rattle.ppq_table.specs.declared.place.Place.{Place}
 use Rattle.ppq_table.specs.declared.place.Place.TheVariants.{Empty, Item, Room}
 use Rattle.ppq_table.specs.Places.{IsRoom}
 use Rattle.ppq_table.specs.Sums.{total, times, all_shares}
 use Rattle.ppq_pool.specs.declared.hand.Hand.{Hand}
-use Rattle.ppq_pool.specs.Histories.{ShowsHistory}
-use Rattle.ppq_pool.specs.Hands.{with_claim, with_note, with_place, with_give}
+use Rattle.ppq_pool.specs.declared.hand.Move.{Move}
+use Rattle.ppq_pool.specs.Histories.{ShowsHistory, ShowsLog, events_of}
+use Rattle.ppq_pool.specs.Hands.{spent_once, with_claim, with_note, with_place, with_give}
 
 module _ {T : Type 0} where
   -- how often the views list the item i, all together
@@ -23,6 +23,10 @@ module _ {T : Type 0} where
   abbrev pub NoneSpent : List (Hand T) → Type 0
   NoneSpent views = (j : ℕ) (v : Hand T) → get_elem? views j ≡ some v → 0 < v.shares
 
+  -- A log of all that the seats did and found, in which each look found its item held. Until seats are joined its events are a legal history, which the words and the views show
+  abbrev pub HasLog : ℕ → List ℕ → List (Hand T) → Type 0
+  HasLog n words views = (log : List (ℕ × Move)) × ShowsLog T n words views log × (NoneSpent views → ShowsHistory {R = T} n words views (events_of log))
+
   -- some view put in the item x with the number i
   abbrev pub WasPut : ℕ → T → List (Hand T) → Type 0
   WasPut i x views = (j : ℕ) × (v : Hand T) × (get_elem? views j ≡ some v) × Contains v.put (i, x)
@@ -31,7 +35,7 @@ module _ {T : Type 0} where
   pub record Fits (shape : ℕ) (homes : List (Option (Place T))) (v : Hand T) : Type 0 where
     -- it knows the pool's shape
     pub same_shape : 0 < v.shares → v.shape ≡ shape
-    pub spent_nothing : v.shares ≡ 0 → (v.numbers ≡ []) × (v.put ≡ [])
+    pub spent_nothing : v.shares ≡ 0 → (v.numbers ≡ []) × (v.put ≡ []) × (v.joins ≡ 0)
     pub in_range : All (λ i. i + 1 < length homes) v.numbers
     -- the place of an item that it lists is at home, and empty, or it has it in hand
     pub places_home : (i : ℕ) → 0 < times i v.numbers → ¬ (v.in_hand ≡ Some i) → get_elem? homes i ≡ some (some Empty)
@@ -54,13 +58,15 @@ module _ {T : Type 0} where
       pub room_home : (room : Vec T Global) × (get_elem? s.homes (length s.homes - 1) ≡ some (some (Room room))) × IsRoom (length s.homes - 1) room
       -- no share is made or lost, so a seat with all of them is the only one
       pub shares_add : total (λ v. v.shares) s.views ≡ all_shares
+      -- each spent view is counted as a join by one that is not, so no step spends a view unseen
+      pub joins_add : total (λ v. v.joins) s.views ≡ total spent_once s.views
       -- each item is free, or just one view lists it
       pub each_item : (i : ℕ) → i + 1 < length s.homes → IsFree (slice_index s.words (i + 1)) (holders i s.views) (get_elem? s.homes i) ⊎ IsHeld (slice_index s.words (i + 1)) (holders i s.views)
       pub each_view : (j : ℕ) (v : Hand T) → get_elem? s.views j ≡ some v → Fits shape s.homes v
       -- an item at home was put in with its number, by some seat
       pub each_put : (i : ℕ) (x : T) → get_elem? s.homes i ≡ some (some (Item x)) → WasPut i x s.views
-      -- until seats are joined, words and views show a legal history
-      pub shown : NoneSpent s.views → (h : List (Event T)) × ShowsHistory (length s.homes - 1) s.words s.views h
+      -- every step of every seat is logged, and no look is noted that did not find its item held
+      pub logged : HasLog (length s.homes - 1) s.words s.views
 
   -- what an exchange of the word of the item i for 1 tells. The only seat put in itself what it finds
   abbrev pub claimed_at : (T → ℕ) → ℕ → Me (Place T) (Hand T) → ℕ → Me (Place T) (Hand T) → Type 0

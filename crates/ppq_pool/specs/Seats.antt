@@ -1,10 +1,11 @@
 -- What a clause says of a pool and its seats.
-use Rattle.std.specs.Prelude.{◌≡◌, ℕ, zero, suc, ◌+◌, ◌-◌, ◌<◌, ◌==◌, if◌then◌else◌, List, [], ◌∷◌, ◌++◌, All, Contains, map}
+use Rattle.std.specs.Prelude.{◌≡◌, ℕ, zero, suc, ◌-◌, ◌<◌, ◌==◌, if◌then◌else◌, List, [], ◌∷◌, ◌++◌, All, Contains, map}
 use Rattle.atomic_table.specs.Seated.{TableId}
 use Rattle.ppq_table.specs.Sums.{times, all_shares}
 use Rattle.ppq_pool.specs.declared.hand.Hand.{Hand}
+use Rattle.ppq_pool.specs.declared.hand.Move.{Move}
 use Rattle.ppq_pool.specs.declared.hand.Move.TheVariants.{Took}
-use Rattle.ppq_pool.specs.Hands.{below, elsewhere}
+use Rattle.ppq_pool.specs.Hands.{looks_below, elsewhere}
 use Rattle.ppq_pool.specs.Known.{Known}
 
 -- how many items the pool has, at home or held
@@ -35,12 +36,14 @@ module _ {T : Type 0} where
     pub put : w.put ≡ elsewhere i v.put
     pub shares : w.shares ≡ v.shares
     pub shape : w.shape ≡ v.shape
+    pub joins : w.joins ≡ v.joins
+    -- behind it on the trail stand the looks that this call made before, and then what stood there
+    pub trail : (looks : List Move) × (w.trail ≡ Took i ∷ looks ++ v.trail)
 
-  -- each of n items was found held, one step for each, in one new look. Nothing else changed
+  -- One look of its own at each of n items, all after what stood on its trail before, found the item held. Nothing else changed
   pub record FoundHeld (n : ℕ) (v w : Hand T) : Type 0 where
-    pub same : w ≡ record v { looks = w.looks; noted = w.noted }
-    pub one_look : 0 < n → w.looks ≡ v.looks + 1
-    pub each_noted : 0 < n → w.noted ≡ below n
+    pub same : w ≡ record v { trail = w.trail }
+    pub looked : w.trail ≡ looks_below n ++ v.trail
 
   -- of n items these are the ones that it does not hold, in the order of their numbers, and each was put in with its number
   abbrev pub IsLeft : ℕ → Hand T → List T → Type 0

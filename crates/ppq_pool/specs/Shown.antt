@@ -1,15 +1,18 @@
 -- What each kind of step does to the histories that a pool shows.
-use Rattle.std.specs.Prelude.{◌≡◌, ℕ, ◌+◌, ◌-◌, ◌<◌, List, [], ◌∷◌, ◌++◌, length, slice_index, slice_set, Option}
+use Rattle.std.specs.Prelude.{◌≡◌, ℕ, ◌+◌, ◌-◌, ◌<◌, List, [], ◌∷◌, ◌++◌, All, length, slice_index, slice_set, Option}
 use mathlib.Core.Option.{some}
 use lib.ListN.{get_elem?}
-use Rattle.atomic_table.specs.Table.{State}
+use Rattle.atomic_table.specs.Table.{State, Allows}
 use Rattle.ppq_core.specs.declared.event.Event.{Event}
 use Rattle.ppq_core.specs.declared.event.Event.TheVariants.{Take, Give}
 use Rattle.ppq_table.specs.declared.place.Place.{Place}
+use Rattle.ppq_table.specs.Places.{IsLaid}
 use Rattle.ppq_table.specs.Sums.{times}
 use Rattle.ppq_pool.specs.declared.hand.Hand.{Hand}
-use Rattle.ppq_pool.specs.Hands.{less_one, newcomer, with_claim, with_note, with_place, with_give}
-use Rattle.ppq_pool.specs.Histories.{ShowsHistory}
+use Rattle.ppq_pool.specs.declared.hand.Move.{Move}
+use Rattle.ppq_pool.specs.declared.hand.Move.TheVariants.{Saw}
+use Rattle.ppq_pool.specs.Hands.{first_hand, common_shape, less_one, newcomer, with_claim, with_note, with_place, with_give}
+use Rattle.ppq_pool.specs.Histories.{ShowsHistory, ShowsLog, IsOut, events_of, trail_of}
 use Rattle.ppq_pool.specs.Rule.{NoneSpent, PoolRule}
 
 module _ {T : Type 0} (shape_of : T → ℕ) (shape : ℕ) where
@@ -35,3 +38,27 @@ module _ (T R : Type 0) where
         → ShowsWith s s.words s.views h → ShowsWith s (slice_set s.words (i + 1) 0) (slice_set s.views id (with_give i x v)) (Give id i ∷ h)
     pub splits : (s : State (Place T) (Hand T)) (id : ℕ) (v : Hand T) (h : List (Event R)) → get_elem? s.views id ≡ some v
         → ShowsWith s s.words s.views h → ShowsWith s s.words (slice_set s.views id (less_one v) ++ newcomer v ∷ []) h
+
+-- In every state that meets the rule there is one true log of all steps so far. Each look on the trail of a seat that is not spent stands in it: what this seat did before it is what stands behind it on the trail, and at that moment somebody held the item
+abbrev pub LooksAreTrue : Type 0 → Type 0
+LooksAreTrue T = (shape_of : T → ℕ) (shape : ℕ) (s : State (Place T) (Hand T)) → PoolRule shape_of shape s
+    → (log : List (ℕ × Move)) × ShowsLog T (length s.homes - 1) s.words s.views log
+    × ((j : ℕ) (v : Hand T) (i : ℕ) (later earlier : List Move) → get_elem? s.views j ≡ some v → 0 < v.shares → v.trail ≡ later ++ Saw i ∷ earlier
+    → (after : List (ℕ × Move)) × (before : List (ℕ × Move)) × (log ≡ after ++ (j, Saw i) ∷ before) × (trail_of j before ≡ earlier) × IsOut {R = T} i (events_of before))
+
+-- In a new pool, whose items are all free, the rule lets no step of the first seat put a look on its trail, whatever word the step is on and whatever the word becomes
+abbrev pub NoBlindLook : Type 0 → Type 0
+NoBlindLook T = (shape_of : T → ℕ) (shape : ℕ) (items : List T) (places : List (Place T)) (i word : ℕ) (becomes : ℕ → ℕ)
+    → length items < 4294967296 → All (λ x. shape_of x ≡ shape) items → IsLaid items places
+    → ¬ (Allows (PoolRule shape_of (common_shape shape_of items)) (length items + 1) 0 (first_hand (common_shape shape_of items) items, []) word becomes (λ _ after. after.0.trail ≡ Saw i ∷ []))
+
+-- Nor is there such a step later, while a pool has one seat alone: whatever that seat did before, the rule lets it put no look at a free item on its trail
+abbrev pub NoBlindLookAlone : Type 0 → Type 0
+NoBlindLookAlone T = (shape_of : T → ℕ) (shape : ℕ) (s : State (Place T) (Hand T)) (v : Hand T) (carried : List (ℕ × Place T)) (i word : ℕ) (becomes : ℕ → ℕ)
+    → PoolRule shape_of shape s → s.views ≡ v ∷ [] → i + 1 < length s.homes → slice_index s.words (i + 1) ≡ 0 → slice_index s.words word < 18446744073709551616
+    → ¬ (Allows (PoolRule shape_of shape) (length s.homes) 0 (v, carried) word becomes (λ _ after. after.0.trail ≡ Saw i ∷ v.trail))
+
+-- Where no seat that has shares counts a join, no seats were joined, so words and views show a legal history
+abbrev pub JoinsAreCounted : Type 0 → Type 0
+JoinsAreCounted T = (shape_of : T → ℕ) (shape : ℕ) (s : State (Place T) (Hand T)) → PoolRule shape_of shape s
+    → ((j : ℕ) (v : Hand T) → get_elem? s.views j ≡ some v → 0 < v.shares → v.joins ≡ 0) → NoneSpent s.views

@@ -10,7 +10,7 @@ use ppq_table::{items_from, lay, unlay};
 use std::alloc::Global;
 use std::snapshot::Snapshot;
 
-impl<T: Shaped + Send + Drop> Pool<T> {
+impl<T: Shaped + Drop> Pool<T> {
     /// A pool of these items, and its first seat, which has all `2^32` shares. The item at `i` has
     /// the number `i`.
     ///

@@ -2,12 +2,14 @@
 
 use std::collections::LinkedList;
 
-/// What a seat did to an item.
+/// What a seat did to an item, or found.
 pub enum Move {
     /// It took the item with this number.
     Took(u64),
     /// It gave back the item with this number.
     Gave(u64),
+    /// It looked at the item with this number, and found it held.
+    Saw(u64),
 }
 
 /// What a seat knows of its pool. Clauses speak of it; no value of it is made.
@@ -21,12 +23,12 @@ pub struct Hand<T> {
     /// The items that it put in, each with its number. Taking an item ends what it knows of that
     /// number.
     pub put: LinkedList<(u64, T)>,
-    /// What it did, the newest first.
+    /// What it took and gave, the newest first, with what the seats that joined it took and gave.
     pub moves: LinkedList<Move>,
-    /// How often it began to look at all items.
-    pub looks: u64,
-    /// The items that it found held, in order, since it last began to look.
-    pub noted: LinkedList<u64>,
+    /// What it took, gave and found held itself, the newest first.
+    pub trail: LinkedList<Move>,
+    /// How many seats were joined, in all, to make it.
+    pub joins: u64,
     /// The item whose place it has in hand, within a call.
     pub in_hand: Option<u64>,
 }

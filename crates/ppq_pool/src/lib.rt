@@ -9,7 +9,8 @@
 //! words, the places and what all seats know; it holds between any two steps of any threads, and
 //! the lemmas of `proofs/Steps` say so of each kind of step. It has a part on histories: the words
 //! and the seats show one legal history of `ppq_core`, in which each seat is a pass and has just the
-//! moves that it made.
+//! moves that it made. The history is the takes and gives of a log, in which also each look stands
+//! that found an item held.
 #![tactic(auto)]
 
 mod ending;
@@ -25,7 +26,7 @@ mod shaped;
 mod tests;
 
 pub use hand::{Hand, Move};
-pub use laws::steps_are_events;
+pub use laws::{looks_are_true, steps_are_events};
 pub use pool::Pool;
 pub use seat::PoolSeat;
 pub use shaped::Shaped;

@@ -7,7 +7,7 @@ use crate::plays::{Claims, Clears, OneShare, Reaches, Settles, Together};
 use crate::{Pool, PoolSeat, Shaped};
 use ppq_table::Place;
 
-impl<T: Shaped + Send + Drop> Pool<T> {
+impl<T: Shaped + Drop> Pool<T> {
     // One exchange on the item's word. Where the item was free it comes out of its place, which goes
     // home empty.
     fn claim(&self, seat: &mut PoolSeat<T>, number: usize) -> Option<T>

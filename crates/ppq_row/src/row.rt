@@ -34,7 +34,7 @@ impl<T> Model for Row<T> {
     ghost invariant = { λ r. (r.table.shared.table_id.words ≡ 1) × (0 < r.table.shared.table_id.slots) × (r.table.shared.table_id.slots ≤ 4294967296) };
 }
 
-impl<T: Send + Drop> Row<T> {
+impl<T: Drop> Row<T> {
     /// A row of the items, and the seat that has all its 2^32 shares.
     ///
     /// `Err` gives the items back as they were; it comes for want of memory alone.

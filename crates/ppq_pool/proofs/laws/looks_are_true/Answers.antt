@@ -1,0 +1,10 @@
+use Rattle.ppq_pool.proofs.Looks as looks
+use Rattle.ppq_pool.proofs.laws.looks_are_true.Goals as goal
+
+pub returns : goal.returns
+returns g c = record {
+  looks = looks.looks_are_true _;
+  blind = looks.no_blind_look _;
+  alone = looks.no_blind_look_alone _;
+  joins = looks.joins_are_counted _;
+}
