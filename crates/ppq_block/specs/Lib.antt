@@ -1,3 +1,4 @@
 pub mod Block
 pub mod Chain
 pub mod Queue
+pub mod Told

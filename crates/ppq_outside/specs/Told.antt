@@ -63,8 +63,9 @@ abbrev pub TakesPart : Option (List ℕ) → Option (List ℕ) → List ℕ → 
 TakesPart None new piece = new ≡ None
 TakesPart (Some had) new piece = (n : ℕ) × (n ≤ length piece) × (new ≡ Some (had ++ take n piece))
 
--- the count went up by one where the call answered Ok, and stands still at its type's end
+-- the count went up by one where the call answered Ok, and stands still at its type's end; it did not fall
 pub record Counts {T E : Type 0} (result : Result T E) (before now : ℕ) : Type 0 where
+  pub later : before ≤ now
   pub ok : OnOk result (now ≡ next_count before)
   pub err : OnErr result (now ≡ before)
 

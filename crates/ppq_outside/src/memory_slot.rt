@@ -1,5 +1,5 @@
 //! A block in memory.
-ghost use Rattle.std.specs.Prelude.{◌≡◌, Some, length, IfOk, IsOk};
+ghost use Rattle.std.specs.Prelude.{◌≡◌, ◌≤◌, Some, length, IfOk, IsOk};
 ghost use Rattle.ppq_outside.specs.Told.{next_count};
 
 use crate::{Failed, Host, Slot};
@@ -40,17 +40,7 @@ impl MemSlot {
 }
 
 impl Slot for MemSlot {
-    ghost told = { λ s. Some s.held };
-
-    ghost number = { λ s. s.number };
-
-    ghost size = { λ s. length s.held };
-
-    ghost faults = { λ s. 0 };
-
-    ghost writes = { λ s. s.writes };
-
-    ghost reads = { λ s. s.reads };
+    ghost shown = { λ s. record { told = Some s.held; number = s.number; size = length s.held; faults = 0; writes = s.writes; reads = s.reads } };
 
     fn number(&self) -> u32 {
         self.number
@@ -77,6 +67,7 @@ impl Slot for MemSlot {
         requires { length bytes.now ≡ length self.old.held }
         ensures ok { IsOk result }
         ensures after { self.new ≡ record self.old { held = bytes.now; writes = next_count self.old.writes } }
+        ensures later { self.old.writes ≤ self.new.writes }
     {
         self.bytes.as_mut_slice().copy_from_slice(bytes);
         self.writes = self.writes.saturating_add(1);
@@ -89,6 +80,7 @@ impl Slot for MemSlot {
         ensures ok { IsOk result }
         ensures given { into.new ≡ self.old.held }
         ensures after { self.new ≡ record self.old { reads = next_count self.old.reads } }
+        ensures later { self.old.reads ≤ self.new.reads }
     {
         into.copy_from_slice(&self.bytes);
         self.reads = self.reads.saturating_add(1);

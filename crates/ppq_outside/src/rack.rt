@@ -1,6 +1,7 @@
 //! Who makes the blocks of a device.
-ghost use Rattle.std.specs.Prelude.{◌≡◌, ℕ, IfOk, IsSome};
+ghost use Rattle.std.specs.Prelude.{◌≡◌, ℕ, IfOk};
 ghost use Rattle.ppq_outside.specs.Told.{HasCause, IsFresh};
+ghost use Rattle.ppq_outside.specs.Shown.{Tells};
 
 use crate::{Host, OutsideFault, Slot};
 use std::alloc::Global;
@@ -29,10 +30,10 @@ pub trait Rack {
         number: u32,
         bytes: usize,
     ) -> Result<Self::Slot, OutsideFault>
-        ensures number { IfOk result (λ slot. Self.Slot.number slot ≡ number) }
-        ensures size { IfOk result (λ slot. Self.Slot.size slot ≡ bytes) }
-        ensures fresh { IfOk result (λ slot. IsFresh (Self.Slot.faults slot) (Self.Slot.writes slot) (Self.Slot.reads slot)) }
-        ensures tells { IfOk result (λ slot. tells self.old → IsSome (Self.Slot.told slot)) }
+        ensures number { IfOk result (λ slot. (Self.Slot.shown slot).number ≡ number) }
+        ensures size { IfOk result (λ slot. (Self.Slot.shown slot).size ≡ bytes) }
+        ensures fresh { IfOk result (λ slot. IsFresh (Self.Slot.shown slot).faults (Self.Slot.shown slot).writes (Self.Slot.shown slot).reads) }
+        ensures tells { IfOk result (λ slot. tells self.old → Tells (Self.Slot.shown slot)) }
         ensures kept { tells self.old → tells self.new }
         ensures cause { HasCause (faults self.old) (faults self.new) result };
 }

@@ -7,7 +7,7 @@ use std::thread::join_mut;
 
 /// Writes a slot, and says whether that went well.
 fn fill<H: Host, S: Slot>(rt: &H, slot: &mut S, bytes: &[u8]) -> bool
-    requires { length bytes.now ≡ S.size slot.old }
+    requires { length bytes.now ≡ (S.shown slot.old).size }
 {
     slot.write(rt, bytes).is_ok()
 }
@@ -16,16 +16,16 @@ fn fill<H: Host, S: Slot>(rt: &H, slot: &mut S, bytes: &[u8]) -> bool
 fn fill_both<H: Host, S: Slot>(rt: &H, one: &mut S, other: &mut S, bytes: &[u8]) -> bool
 where
     H::Dir: Send,
-    requires one { length bytes.now ≡ S.size one.old }
-    requires other { length bytes.now ≡ S.size other.old }
+    requires one { length bytes.now ≡ (S.shown one.old).size }
+    requires other { length bytes.now ≡ (S.shown other.old).size }
 {
     let (a, b) = join_mut(
         rt,
         &mut || -> bool
-            requires { length bytes.now ≡ S.size one.now }
+            requires { length bytes.now ≡ (S.shown one.now).size }
         { fill(rt, one, bytes) },
         &mut || -> bool
-            requires { length bytes.now ≡ S.size other.now }
+            requires { length bytes.now ≡ (S.shown other.now).size }
         { fill(rt, other, bytes) },
     );
     a & b

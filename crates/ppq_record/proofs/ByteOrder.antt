@@ -28,7 +28,7 @@ low-below (suc k) n =
     omega (arith, m, suc-mul (byte_at k n) (256 ^ k), pow-suc 256 k, low-below k n)
 
 -- a higher digit decides, and else the rest
-digits : (x y p a b : ℕ) (r s : Ordering) → MatchOrdering r (x < y) (x ≡ y) (y < x) → MatchOrdering s (a < b) (a ≡ b) (b < a) → a < p → b < p → MatchOrdering (ordering_then r s) (x * p + a < y * p + b) (x * p + a ≡ y * p + b) (y * p + b < x * p + a)
+pub digits : (x y p a b : ℕ) (r s : Ordering) → MatchOrdering r (x < y) (x ≡ y) (y < x) → MatchOrdering s (a < b) (a ≡ b) (b < a) → a < p → b < p → MatchOrdering (ordering_then r s) (x * p + a < y * p + b) (x * p + a ≡ y * p + b) (y * p + b < x * p + a)
 digits x y p a b Less s h k ha hb = let m : suc x * p ≤ y * p = mul-le-mul_right p h in omega (arith, m, suc-mul x p)
 digits x y p a b Greater s h k ha hb = let m : suc y * p ≤ x * p = mul-le-mul_right p h in omega (arith, m, suc-mul y p)
 digits x y p a b Equal Less h k ha hb = let e : x * p ≡ y * p = ap (λ n. n * p) h in omega (arith, e)

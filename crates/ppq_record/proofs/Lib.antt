@@ -4,3 +4,4 @@ pub mod Taken
 pub mod Counting
 pub mod Listed
 pub mod ByteOrder
+pub mod Joined

@@ -5,12 +5,12 @@ use crate::{Listing, Record};
 
 /// Plain lists, shown as runs.
 #[derive(Drop)]
-pub struct Lists<'a, R: Record> {
+pub struct Lists<'a, R: Record + Sync> {
     lists: &'a [Vec<R>],
     ghost few: { length lists.now < 2 ^ 32 },
 }
 
-impl<'a, R: Record> Lists<'a, R> {
+impl<'a, R: Record + Sync> Lists<'a, R> {
     /// Shows lists as runs; it borrows them and copies nothing.
     pub fn new(lists: &'a [Vec<R>]) -> Lists<'a, R>
         requires { length lists.now < 2 ^ 32 }
@@ -20,7 +20,7 @@ impl<'a, R: Record> Lists<'a, R> {
     }
 }
 
-impl<'a, R: Record> Listing<R> for Lists<'a, R> {
+impl<'a, R: Record + Sync> Listing<R> for Lists<'a, R> {
     ghost lists = { λ s. map (λ v. v.items) s.lists.now };
 
     #[inline]

@@ -1,5 +1,5 @@
 //! The record of this project: a key and a value, each of eight bytes, the highest byte first.
-ghost use Rattle.std.specs.Prelude.{◌≡◌, ◌≤◌, ◌<◌, List, ℕ, length, refl};
+ghost use Rattle.std.specs.Prelude.{◌≡◌, ◌+◌, ◌*◌, ◌^◌, ◌≤◌, ◌<◌, List, ℕ, length, refl, if◌then◌else◌};
 ghost use Rattle.std.proofs.Common.{lit≤};
 ghost use Rattle.ppq_record.specs.Pair.{IsPairValue, pair_bytes, pair_of, pair_take_put, pair_put_take, pair_same};
 ghost use Rattle.ppq_record.specs.PairOrder.{IsPairOrder};
@@ -40,6 +40,21 @@ impl Record for Pair {
         Pair { key, value }
     }
 
+    #[inline]
+    fn either(is_other: bool, one: Self, other: Self) -> Self {
+        Pair {
+            key: choose(is_other, one.key, other.key),
+            value: choose(is_other, one.value, other.value),
+        }
+    }
+
+    #[inline]
+    fn is_less(&self, other: &Self) -> bool {
+        let one = *self;
+        let two = *other;
+        joined(one) < joined(two)
+    }
+
     fn known(&self) {
         let _key = self.key;
         let _value = self.value;
@@ -54,6 +69,23 @@ impl Record for Pair {
     ghost same = { pair_same };
 
     ghost width = { (lit≤ tt, lit≤ tt) };
+}
+
+/// Key and value as one number, which has the order of the pair.
+#[inline]
+fn joined(pair: Pair) -> u128
+    ensures number { result ≡ pair.key * 2 ^ 64 + pair.value }
+    ensures value { pair.value < 2 ^ 64 }
+{
+    u128::from(pair.key) * 18446744073709551616 + u128::from(pair.value)
+}
+
+/// One of two numbers, chosen with no branch.
+#[inline]
+fn choose(is_other: bool, one: u64, other: u64) -> u64
+    ensures { result ≡ (if is_other then other else one) }
+{
+    if is_other { other } else { one }
 }
 
 /// The law of the order of pairs, as a clause for the proof of whoever calls it, and for a reader:

@@ -1,13 +1,14 @@
 //! A record of fixed width, with bytes and an order.
-ghost use Rattle.std.specs.Prelude.{◌≡◌, ◌≤◌, ◌<◌, List, ℕ, length, All};
+ghost use Rattle.std.specs.Prelude.{◌≡◌, ◌≤◌, ◌<◌, List, ℕ, length, All, if◌then◌else◌};
 ghost use Rattle.std.specs.Cmp.{IsTotalOrder};
+ghost use Rattle.std.specs.Ordering.{is_lt};
 ghost use Rattle.std.specs.declared.cmp.Ordering.TheVariants.{Equal};
 
 /// A value of `WIDTH` bytes, from 1 to 64, with a total order.
 ///
 /// Bytes and values are inverse both ways, and two values are equal exactly where their bytes are,
 /// which is exactly where the order calls them equal.
-pub trait Record: Copy + Ord + Send + Sync {
+pub trait Record: Copy + Ord {
     /// How many bytes a record has, from 1 to 64.
     const WIDTH: usize;
 
@@ -32,6 +33,16 @@ pub trait Record: Copy + Ord + Send + Sync {
         requires { length from.now ≡ WIDTH }
         ensures record { result ≡ record_of from.now }
         ensures value { is_value result };
+
+    /// One of two records. It is to choose field by field, which compiles to code with no branch: in a
+    /// merge it cannot be foreseen which record goes first.
+    fn either(is_other: bool, one: Self, other: Self) -> Self
+        ensures { result ≡ (if is_other then other else one) };
+
+    /// Whether the record is before another. It is to be as few steps as can be: a merge asks it at
+    /// every match.
+    fn is_less(&self, other: &Self) -> bool
+        ensures { result ≡ is_lt (Self.Ord.cmp self.now other.now) };
 
     /// Does nothing; it promises that its record is a value.
     fn known(&self)

@@ -22,7 +22,7 @@ not_before j i h =
     elim (cases_lt j i) as (λ _. i ≤ j) [ inr e ↦ e | inl e ↦ (let m = nat_cmp_is j i Less e in let k : true ≡ is_lt (nat_cmp j i) = ap is_lt m in cc) ]
 
 module _ {X : Type 0} (cmp : X → X → Ordering) (o : IsTotalOrder cmp) where
-  ahead_order : IsStrictWeakOrder (ahead cmp)
+  pub ahead_order : IsStrictWeakOrder (ahead cmp)
   ahead_order = ranks_by (then_total (on_total (λ (p : X × ℕ). p.0) o) (on_total (λ (p : X × ℕ). p.1) nat_cmp_total)) (λ p. p)
 
   -- b is not ahead of a
@@ -56,7 +56,7 @@ module _ {X : Type 0} (cmp : X → X → Ordering) (o : IsTotalOrder cmp) where
         | inr e ↦ rw e (subst (λ v. Beats (named one v) (Some (x, one))) (sym h) (Beats-refl (Some (x, one))), subst (λ v. Beats (named one v) (Some (y, other))) (sym h) e)
       ]
 
-  not_ahead : (x y : X) (i j : ℕ) → ahead cmp (y, j) (x, i) ≡ false → (is_lt (cmp y x) ≡ false) × (is_lt (cmp x y) ≡ false → i ≤ j)
+  pub not_ahead : (x y : X) (i j : ℕ) → ahead cmp (y, j) (x, i) ≡ false → (is_lt (cmp y x) ≡ false) × (is_lt (cmp x y) ≡ false → i ≤ j)
   not_ahead x y i j h =
       let turn = o.antisymm x y in
       let P : Ordering → Type 0 = λ r. is_lt (ordering_then r (nat_cmp j i)) ≡ false → (is_lt r ≡ false) × (is_lt (ordering_reverse r) ≡ false → i ≤ j) in

@@ -1,9 +1,9 @@
 //! The matches of a tournament: who wins at a node, and how a leaf plays its matches again.
-ghost use Rattle.std.specs.Prelude.{◌≡◌, ◌+◌, ◌-◌, ◌*◌, ◌^◌, ◌<◌, ◌≤◌, if◌then◌else◌, length, slice_set};
-ghost use Rattle.ppq_tree.specs.Tree.{better, winner_at, IsMinTree, IsTreeAbove};
+ghost use Rattle.std.specs.Prelude.{◌≡◌, ◌+◌, ◌-◌, ◌*◌, ◌/◌, ◌^◌, ◌<◌, ◌≤◌, if◌then◌else◌, length, slice_set};
+ghost use Rattle.ppq_tree.specs.Tree.{ahead, better, winner_at, HasItem, IsMinTree, IsTreeAbove};
 
 use crate::Steps;
-use ppq_record::Record;
+use ppq_record::{Record, record_laws};
 use std::sync::ledger::Ledger;
 
 /// The winner of a match between two leaves: the one with the lesser item, the lower leaf among
@@ -65,6 +65,69 @@ fn climb<R: Record, L: Ledger>(
     }
 }
 
+/// Whether an item is less than another, or equal with a lower leaf.
+#[inline]
+fn is_ahead<R: Record>(other: &R, rival: u32, item: &R, best: u32) -> bool
+    ensures { result ≡ ahead R.Ord.cmp (other.now, rival) (item.now, best) }
+{
+    record_laws::<R>();
+    let is_less = other.is_less(item);
+    let is_more = item.is_less(other);
+    is_less | (!is_more & (rival < best))
+}
+
+/// The winner of a match between a leaf with an item and a rival, with the item that won.
+#[inline]
+fn duel<R: Record>(items: &[Option<R>], rival: u32, best: u32, item: R) -> (u32, R)
+    requires rival { rival < length items.now }
+    requires item { HasItem items.now best item }
+    ensures winner { result.0 ≡ better R.Ord.cmp items.now best rival }
+    ensures item { HasItem items.now result.0 result.1 }
+{
+    let found = items[rival as usize];
+    let Some(other) = found else {
+        return (best, item);
+    };
+    record_laws::<R>();
+    let wins = is_ahead(&other, rival, &item, best);
+    // Equal items are identical, so the item need not wait for the leaves' numbers.
+    let is_less = other.is_less(&item);
+    (either(wins, best, rival), R::either(is_less, item, other))
+}
+
+/// Plays the matches of a leaf that has an item, up to the root, while it carries the winner and its
+/// item along: so a match waits for nothing but the one before it. The other matches stand.
+fn climb_with<R: Record, L: Ledger>(
+    items: &[Option<R>],
+    winners: &mut [u32],
+    leaf: u32,
+    item: R,
+    steps: &mut Steps<L>,
+)
+    requires leaf { leaf < length items.now }
+    requires room { length items.now < 2 ^ 32 }
+    requires item { HasItem items.now leaf item }
+    requires tree { IsTreeAbove R.Ord.cmp items.now winners.old ((length items.now + leaf) / 2) }
+    ensures tree { IsMinTree R.Ord.cmp items.now winners.new }
+    ensures cost { 2 ^ (steps.new - steps.old) ≤ 2 * length items.now }
+    ensures grows { steps.old ≤ steps.new }
+{
+    record_laws::<R>();
+    let mut child = items.len() + leaf as usize;
+    let mut best = leaf;
+    let mut best_item = item;
+    while child > 1 {
+        steps.tick();
+        let parent = child / 2;
+        let rival = winners[4 * parent + 1 - child];
+        let won = duel(items, rival, best, best_item);
+        best = won.0;
+        best_item = won.1;
+        winners[parent] = best;
+        child = parent;
+    }
+}
+
 /// Writes the item of a leaf and plays the leaf's matches again.
 pub(crate) fn write_leaf<R: Record, L: Ledger>(
     items: &mut [Option<R>],
@@ -83,7 +146,11 @@ pub(crate) fn write_leaf<R: Record, L: Ledger>(
 {
     let first = (items.len() + leaf as usize) / 2;
     items[leaf as usize] = item;
-    climb(items, winners, first, steps);
+    let Some(some) = item else {
+        climb(items, winners, first, steps);
+        return;
+    };
+    climb_with(items, winners, leaf, some, steps);
 }
 
 /// Plays every match, the last first, where each leaf has its own number.

@@ -13,8 +13,8 @@ pub overflow_sub-behind : goal.overflow_sub-behind
 overflow_sub-behind g c =
     omega (arith, c.requires.within, c.records.ensures, length-all_items_reverse (chain_items c.args.chain.now))
 
-pub from_end-requires-after_bounds : goal.from_end-requires-after_bounds
-from_end-requires-after_bounds g c κs within =
+pub from_end-requires : goal.from_end-requires
+from_end-requires g c =
     omega (arith, c.requires.within, c.records.ensures, length-all_items_reverse (chain_items c.args.chain.now))
 
 pub returns-clause-record : goal.returns-clause-record

@@ -6,13 +6,13 @@ use Rattle.ppq_record.proofs.Fronts.{ranks}
 use Rattle.ppq_queue.proofs.flush.flush.Goals as goal
 
 pub store-requires-clause-some : goal.store-requires-clause-some
-store-requires-clause-some g c κs within =
+store-requires-clause-some g c =
     let same = in_order-same_bag (is_before g.R.Ord.cmp) (ranks c.record_laws.ensures.order) c.args.heap.now.items in
     let long = ap length (c.as_slice.ensures ∙ c.sort_in_place.ensures.items) ∙ IsSameBag-length _ c.args.heap.now.items same in
     omega (arith, long, c.requires.some)
 
 pub store-requires-clause-room : goal.store-requires-clause-room
-store-requires-clause-room g c κs within =
+store-requires-clause-room g c =
     let same = in_order-same_bag (is_before g.R.Ord.cmp) (ranks c.record_laws.ensures.order) c.args.heap.now.items in
     let long = ap length (c.as_slice.ensures ∙ c.sort_in_place.ensures.items) ∙ IsSameBag-length _ c.args.heap.now.items same in
     omega (arith, long, c.requires.room)

@@ -3,8 +3,8 @@ use Rattle.ppq_record.proofs.record.record_laws.Goals as goal
 
 pub returns : goal.returns
 returns g c =
-    let order = g.met.R.Ord g.world.𝓛 g.world.𝓜 g.world.𝓡 ((λ s x. x), (λ x. x), (λ x. x), λ x. x) in
-    let laws = g.met.R.Record g.world.𝓛 g.world.𝓜 g.world.𝓡 ((λ s x. x), (λ x. x), (λ x. x), λ x. x) in
+    let order = g.met.R.Ord in
+    let laws = g.met.R.Record in
     record {
       order = order.total;
       same = laws.same;

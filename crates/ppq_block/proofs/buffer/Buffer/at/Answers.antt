@@ -2,8 +2,8 @@ use Rattle.std.proofs.Common.{◌+◌, ◌*◌, ◌≤◌, length, take, drop, S
 use Rattle.ppq_block.proofs.Buffers.{length-items, slice_get-items, fits}
 use Rattle.ppq_block.proofs.buffer.Buffer.at.Goals as goal
 
-pub take_at-requires-after_bounds : goal.take_at-requires-after_bounds
-take_at-requires-after_bounds g c κs within =
+pub take_at-requires : goal.take_at-requires
+take_at-requires g c =
     let s = c.self.inside in
     let e = length-items g.R.Record.record_of g.R.Record.WIDTH s.block s.count s.bytes.items c.args.self.now s.settled c.self.view_is c.self.invariant.none in
     let h : c.args.i + 1 ≤ s.block = omega (arith, c.requires, e, c.self.invariant.fits) in

@@ -4,8 +4,8 @@ use Rattle.ppq_block.specs.Block.{IsBuffer, seen}
 use Rattle.ppq_block.proofs.Buffers.{room-one, settled-is, written, length-written, IsBuffer-push, holding-push}
 use Rattle.ppq_block.proofs.buffer.Buffer.push.Goals as goal
 
-pub write_at-requires-after_bounds : goal.write_at-requires-after_bounds
-write_at-requires-after_bounds g c κs within =
+pub write_at-requires : goal.write_at-requires
+write_at-requires g c =
     let s = c.self.inside in
     let w = g.R.Record.WIDTH in
     let room = room-one g.R.Record.record_of w s.block s.count s.bytes.items c.args.self.now s.settled c.self.view_is c.self.invariant c.requires.room in

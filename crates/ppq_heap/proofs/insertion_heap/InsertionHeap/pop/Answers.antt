@@ -14,7 +14,7 @@ invariant_of-self-then-is_empty g c =
     (search rules, search rules, i.2, heap_of_few (is_before g.R.Ord.cmp) c.pop.new.self.items none)
 
 pub replace_root-requires-clause-heap : goal.replace_root-requires-clause-heap
-replace_root-requires-clause-heap g c κs within =
+replace_root-requires-clause-heap g c =
     let lt = is_before g.R.Ord.cmp in
     subst (IsMinHeap lt) (sym c.as_mut_slice.ensures.value) (heap_without_last lt c.pop.new.self.items (c.in-Some-2.last ∷ []) (subst (IsMinHeap lt) c.in-Some-2.ensures.items c.self.invariant.3))
 

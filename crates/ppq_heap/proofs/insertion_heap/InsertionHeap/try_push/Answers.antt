@@ -7,7 +7,7 @@ use Rattle.ppq_heap.proofs.Heap.{heap_pushed, pushed_bag}
 use Rattle.ppq_heap.proofs.insertion_heap.InsertionHeap.try_push.Goals as goal
 
 pub rise-requires-clause-heap : goal.rise-requires-clause-heap
-rise-requires-clause-heap g c κs within =
+rise-requires-clause-heap g c =
     let lt = is_before g.R.Ord.cmp in
     let longer : c.as_mut_slice.result.now ≡ c.self.inside.records.items ++ c.args.item ∷ [] = c.as_mut_slice.ensures.value ∙ c.push_reserved.ensures.items in
     let place : length c.self.inside.records.items ≡ c.len-place.result = search rules in

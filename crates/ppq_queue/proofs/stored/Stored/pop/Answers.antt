@@ -22,7 +22,7 @@ overflow_sub-self g c =
     c.self.invariant.0 c.in-Some.ensures.some (sym c.index_mut-run.ensures.value) c.consume_first.ensures.retires c.consume_first.ensures.items c.consume_first.ensures.run
 
 pub drop_run-requires-clause-fits : goal.drop_run-requires-clause-fits
-drop_run-requires-clause-fits g c κs within =
+drop_run-requires-clause-fits g c =
     let s = c.self.inside in
     let store = c.self.invariant.0 in
     omega (arith, length-set s.runs.items c.in-Some.best.0 c.consume_first.new.run, runs-le g.R.Ord.cmp s.block s.runs.items store.stored, store.buffers)

@@ -15,8 +15,8 @@ overflow_cast-len g c =
     let place : length s.runs.items < length s.tree = has_place laws.order laws.same s.block s.runs.items s.tree s.idle s.count store some in
     omega (arith, c.len.ensures, s.runs.ok, store.few)
 
-pub put-requires-after_bounds : goal.put-requires-after_bounds
-put-requires-after_bounds g c κs within =
+pub put-requires : goal.put-requires
+put-requires g c =
     let laws = c.record_laws.ensures in
     let s = c.self.inside in
     let store = c.self.invariant.0 in
