@@ -19,7 +19,7 @@ use Rattle.ppq_tree.specs.Tree.{HasItem, IsLeastLeaf, HasNoItems}
 use Rattle.ppq_queue.specs.Stored.{IsIdle, IsStored, records_in, HasHeads, in_use, IsStore, Retires, IsWithout}
 use Rattle.ppq_queue.proofs.Runs.{all-snoc, all-head}
 use Rattle.ppq_queue.proofs.Least.{least_member}
-use Rattle.ppq_queue.proofs.Stores.{record_taken, empty_taken, run_added, in_use-set, in_use-snoc, heads-set, heads-push, all-without, idle_again, own_still, retired_count, live_empty, records-le, runs-le, sum_product}
+use Rattle.ppq_queue.proofs.Stores.{record_taken, empty_taken, run_added, in_use-set, in_use-snoc, heads-set, heads-push, all-without, idle_again, own_still, retired_count, live_empty, records-le, runs-le, in_use-le, sum_product}
 
 module _ {R : Type 0} where
   no_run : Run R
@@ -126,7 +126,7 @@ module _ {R : Type 0} {cmp : R → R → Ordering} (o : IsTotalOrder cmp) (same 
     pub popped_on : (next : Option R) → next ≡ first_of (items_of new) → 0 < length (items_of new) → leaf < length tree → IsStore cmp block (set runs leaf new) (set tree leaf next) now (count - 1)
     popped_on next e some low = record {
       size = store.size;
-      stored = All-set (IsStored cmp block) runs leaf new (record { some = some; ascends = rising; unspent = gone.unspent; own = own_still block old new idle now gone was.own }) store.stored;
+      stored = All-set (IsStored cmp block) runs leaf new (record { some = some; ascends = rising; unspent = gone.unspent; own = own_still block old new idle now gone was.own; used = good }) store.stored;
       heads = heads-set tree runs leaf new next store.heads there low (sym e);
       empty = idle_again block old new idle now gone was.own store.empty;
       buffers = omega (arith, store.buffers, in_use-set runs leaf old new there is, retired_count old new idle now gone, length-set tree leaf next);
@@ -194,6 +194,10 @@ module _ {R : Type 0} {cmp : R → R → Ordering} (o : IsTotalOrder cmp) (same 
           ap (λ (t : List (Option R)). get_or {A = Option R} t i None) e
           ∙ elim (cases_lt i n) as (λ _. get_or {A = Option R} (replicate {A = Option R} n None) i None ≡ None) [ inl h ↦ get_or-replicate {A = Option R} n i None None h | inr h ↦ get_or_past (replicate {A = Option R} n None) i None (omega (arith, length-replicate {A = Option R} n None)) ]
 
+  -- each buffer is idle or has a record
+  pub used_buffers : (block : ℕ) (runs : List (Run R)) (tree : List (Option R)) (idle : List (Block R)) (count : ℕ) → IsStore cmp block runs tree idle count → length tree ≤ length idle + count
+  used_buffers block runs tree idle count store = omega (arith, store.buffers, store.counted, in_use-le cmp block runs store.stored)
+
   -- the records and the idle buffers fit into all buffers
   pub within_buffers : (block : ℕ) (runs : List (Run R)) (tree : List (Option R)) (idle : List (Block R)) (count : ℕ) → IsStore cmp block runs tree idle count → count + length idle * block ≤ length tree * block
   within_buffers block runs tree idle count store =
@@ -227,6 +231,12 @@ idle_some n (suc k) block h l = omega arith
 pub count_fits : (count n idle buffers block : ℕ) → count + idle * block ≤ buffers * block → n ≤ idle * block → buffers ≤ 65536 → block ≤ 65536 → count + n < 2 ^ 64
 count_fits count n idle buffers block whole room few small =
     let most : buffers * block ≤ 65536 * 65536 = mul-le-mul few small in
+    omega arith
+
+-- buffers that were taken hold the records
+pub idle_held : (before after live n block : ℕ) → after + live ≡ before → n ≤ live * block → after * block + n ≤ before * block
+idle_held before after live n block moved held =
+    let e : before * block ≡ after * block + live * block = ap (λ m. m * block) (sym moved) ∙ sum_product after live block in
     omega arith
 
 -- buffers that were taken were all but the last filled

@@ -1,11 +1,11 @@
 -- Runs in buffers: what moves between a run and the idle buffers.
-use Rattle.std.proofs.Common.{◌≡◌, ℕ, zero, suc, ◌+◌, ◌*◌, List, [], ◌∷◌, ◌++◌, All, refl, sym, ap, ◌∙◌, arith, append_assoc, append-nil, add-one}
+use Rattle.std.proofs.Common.{◌≡◌, ℕ, zero, suc, ◌+◌, ◌*◌, ◌≤◌, List, [], ◌∷◌, ◌++◌, All, refl, sym, ap, ◌∙◌, subst, arith, append_assoc, append-nil, add-one}
 use Rattle.std.proofs.Math.Nat.{suc-mul}
 use Rattle.std.specs.Prelude.{map}
 use Rattle.std.proofs.lemmas.List.{map-append}
 use Rattle.ppq_block.specs.Block.{Block}
-use Rattle.ppq_array.specs.Run.{Run}
-use Rattle.ppq_queue.specs.Stored.{Retires, Reclaims, emptied}
+use Rattle.ppq_array.specs.Run.{Run, IsRun, IsInFirst}
+use Rattle.ppq_queue.specs.Stored.{IsOwn, Retires, Reclaims, emptied}
 
 module _ {R : Type 0} where
   -- nothing was moved yet
@@ -41,3 +41,15 @@ module _ {X : Type 0} where
 
   pub all-head : (P : X → Type 0) (x : X) (xs : List X) → All P (x ∷ xs) → P x
   all-head P x xs all = all 0 x (omega arith)
+
+module _ {R : Type 0} where
+  none_taken : (block : ℕ) (bs : List (Block R)) → All (IsOwn block) bs → IsInFirst 0 bs
+  none_taken block [] own = refl
+  none_taken block (b ∷ bs) own = (all-head (IsOwn block) b bs own).some
+
+  -- a run whose buffers have records, and none of which was consumed
+  pub fresh_run : (block : ℕ) (run : Run R) → block ≤ 65536 → run.taken ≡ 0 → All (IsOwn block) run.live → IsRun run
+  fresh_run block run small none own = record {
+    used = λ k d h. (let b = own k d h in record { some = b.some; small = omega (arith, b.within) });
+    taken = subst (λ (n : ℕ). IsInFirst n run.live) (sym none) (none_taken block run.live own);
+  }

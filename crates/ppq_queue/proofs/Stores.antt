@@ -11,7 +11,7 @@ use Rattle.std.proofs.Math.Nat.{suc-mul}
 use Rattle.ppq_record.specs.Bag.{IsSameBag, first_of}
 use Rattle.ppq_record.proofs.Order.{count_by-cons, count_by-append}
 use Rattle.ppq_block.specs.Block.{Block, holding, all_items}
-use Rattle.ppq_array.specs.Run.{Run, items_of, IsRun, IsInFirst}
+use Rattle.ppq_array.specs.Run.{Run, items_of, IsRun, IsInFirst, IsUsed}
 use Rattle.ppq_queue.specs.Stored.{IsIdle, IsOwn, IsStored, records_in, HasHeads, HasHeadsBut, in_use, emptied, Retires, IsWithout}
 use Rattle.ppq_queue.proofs.Runs.{all-head}
 
@@ -172,6 +172,21 @@ module _ {R : Type 0} where
   pub items-le : (block : ℕ) (run : Run R) → All (IsOwn block) run.live → length (items_of run) ≤ length run.live * block
   items-le block run all = omega (arith, length-drop run.taken (all_items run.live), all_items-le block run.live all)
 
+module _ {R : Type 0} where
+  all_items-ge : (bs : List (Block R)) → All IsUsed bs → length bs ≤ length (all_items bs)
+  all_items-ge [] all = omega arith
+  all_items-ge (b ∷ bs) all =
+      omega (arith, ap length (flat_map-cons (λ (c : Block R). c.items) b bs), length-append b.items (all_items bs), (all-head IsUsed b bs all).some, all_items-ge bs (All-tail IsUsed b bs all))
+
+  items_ge : (live : List (Block R)) (taken : ℕ) → All IsUsed live → IsInFirst taken live → length live ≤ length (drop taken (all_items live))
+  items_ge [] taken all low = omega arith
+  items_ge (b ∷ bs) taken all low =
+      omega (arith, low, length-drop taken (all_items (b ∷ bs)), ap length (flat_map-cons (λ (c : Block R). c.items) b bs), length-append b.items (all_items bs), all_items-ge bs (All-tail IsUsed b bs all))
+
+  -- each buffer in use has a record that was not consumed
+  pub items-ge : (run : Run R) → IsRun run → length run.live ≤ length (items_of run)
+  items-ge run is = items_ge run.live run.taken is.used is.taken
+
 pub sum_product : (a b c : ℕ) → (a + b) * c ≡ a * c + b * c
 sum_product zero b c =
     let h : zero + b ≡ b = omega arith in
@@ -200,3 +215,9 @@ module _ {R : Type 0} (cmp : R → R → Ordering) (block : ℕ) where
   pub runs-le : (runs : List (Run R)) → All (IsStored cmp block) runs → length runs ≤ in_use runs
   runs-le [] all = omega arith
   runs-le (run ∷ runs) all = omega (arith, sum_by-cons (λ (r : Run R). length r.live) run runs, live_some run (all-head (IsStored cmp block) run runs all), runs-le runs (All-tail (IsStored cmp block) run runs all))
+
+  -- each buffer in use has a record
+  pub in_use-le : (runs : List (Run R)) → All (IsStored cmp block) runs → in_use runs ≤ length (records_in runs)
+  in_use-le [] all = omega arith
+  in_use-le (run ∷ runs) all =
+      omega (arith, sum_by-cons (λ (r : Run R). length r.live) run runs, ap length (flat_map-cons items_of run runs), length-append (items_of run) (records_in runs), items-ge run (all-head (IsStored cmp block) run runs all).used, in_use-le runs (All-tail (IsStored cmp block) run runs all))

@@ -21,9 +21,25 @@ pub record Holding (R : Type 0) : Type 0 where
 abbrev pub resident_of : {R : Type 0} → Holding R → ℕ
 resident_of q = q.in_heap + 2 * batch_of q.sizes + q.buffers * q.sizes.block
 
--- a call took no more buffers than the records of the heap fill, the last perhaps in part
-abbrev pub TakesFew : {R : Type 0} → Holding R → Holding R → Type 0
-TakesFew old new = old.idle * old.sizes.block < new.idle * old.sizes.block + old.in_heap + old.sizes.block
+-- heap and buffers are as they were
+abbrev pub Stays : {R : Type 0} → Holding R → Holding R → Type 0
+Stays old new = (new.in_heap ≡ old.in_heap) × (new.idle ≡ old.idle)
+
+-- the heap took one record in; the buffers are as they were
+abbrev pub EntersHeap : {R : Type 0} → Holding R → Holding R → Type 0
+EntersHeap old new = (new.in_heap ≡ old.in_heap + 1) × (new.idle ≡ old.idle)
+
+-- the heap was stored, in as many buffers as it has blocks, and then took one record in
+abbrev pub EntersStoredHeap : {R : Type 0} → Holding R → Holding R → Type 0
+EntersStoredHeap old new = (new.in_heap ≡ 1) × (new.idle + old.sizes.heap ≡ old.idle)
+
+-- one record left the heap; the buffers are as they were
+abbrev pub LeavesHeap : {R : Type 0} → Holding R → Holding R → Type 0
+LeavesHeap old new = (new.in_heap + 1 ≡ old.in_heap) × (new.idle ≡ old.idle)
+
+-- the heap is as it was, and no buffer went into use
+abbrev pub LeavesRuns : {R : Type 0} → Holding R → Holding R → Type 0
+LeavesRuns old new = (new.in_heap ≡ old.in_heap) × (old.idle ≤ new.idle)
 
 -- a refusal of an opening says that the budget is too small exactly where it is, and how much it needs
 abbrev pub NamesNeed : Numbers → OpenFault → Type 0

@@ -4,7 +4,7 @@ use Rattle.std.specs.declared.cmp.Ordering.{Ordering}
 use Rattle.ppq_record.specs.Order.{Ascends}
 use Rattle.ppq_record.specs.Bag.{first_of}
 use Rattle.ppq_block.specs.Block.{Block, holding}
-use Rattle.ppq_array.specs.Run.{Run, items_of}
+use Rattle.ppq_array.specs.Run.{Run, items_of, IsRun}
 
 -- the records of all runs, how many buffers are idle, of how many, and how many records a buffer can hold
 pub record Storing (R : Type 0) : Type 0 where
@@ -18,17 +18,20 @@ module _ {R : Type 0} where
   abbrev pub IsIdle : ℕ → Block R → Type 0
   IsIdle block b = b ≡ holding block []
 
-  -- a buffer of a run is of the block size, and holds no more records than that
+  -- a buffer of a run is of the block size, and holds a record, and no more records than that
   pub record IsOwn (block : ℕ) (b : Block R) : Type 0 where
     pub size : b.block ≡ block
+    pub some : 0 < length b.items
     pub within : length b.items ≤ block
 
-  -- a stored run has a record, ascends, and lies in buffers of the block size none of which is spent
+  -- a stored run has a record, ascends, and lies in buffers of the block size; each has a record that was not consumed, and none is
+  -- spent
   pub record IsStored (cmp : R → R → Ordering) (block : ℕ) (run : Run R) : Type 0 where
     pub some : 0 < length (items_of run)
     pub ascends : Ascends cmp (items_of run)
     pub unspent : run.spent ≡ []
     pub own : All (IsOwn block) run.live
+    pub used : IsRun run
 
   -- the records of all runs
   abbrev pub records_in : List (Run R) → List R

@@ -1,7 +1,7 @@
 //! Records that go into idle buffers, as a run.
 ghost use Rattle.std.specs.Prelude.{◌≡◌, ◌≤◌, ◌<◌, ◌+◌, ◌*◌, [], ◌∷◌, ◌++◌, All, length};
 ghost use Rattle.ppq_block.specs.Block.{holding};
-ghost use Rattle.ppq_array.specs.Run.{items_of};
+ghost use Rattle.ppq_array.specs.Run.{items_of, IsRun};
 ghost use Rattle.ppq_queue.specs.Stored.{IsIdle, IsOwn};
 
 use ppq_array::InternalArray;
@@ -18,6 +18,7 @@ pub fn fill<R: Record>(idle: &mut BufList<R>, records: &[R], block: u32) -> Inte
     ensures items { items_of result ≡ records.now }
     ensures unspent { result.spent ≡ [] }
     ensures own { All (IsOwn block) result.live }
+    ensures run { IsRun result }
     ensures idle { All (IsIdle block) idle.new }
     ensures buffers { length idle.new + length result.live ≡ length idle.old }
     ensures full { length result.live * block < length records.now + block }

@@ -16,6 +16,7 @@ pub fn flush<R: Record>(heap: &mut InsertionHeap<R>, stored: &mut Stored<R>)
     ensures bag { IsSameBag stored.new.items (heap.old.items ++ stored.old.items) }
     ensures buffers { stored.new.buffers ≡ stored.old.buffers }
     ensures block { stored.new.block ≡ stored.old.block }
+    ensures held { stored.new.idle * stored.old.block + length heap.old.items ≤ stored.old.idle * stored.old.block }
     ensures idle { stored.old.idle * stored.old.block < stored.new.idle * stored.old.block + length heap.old.items + stored.old.block }
 {
     record_laws::<R>();

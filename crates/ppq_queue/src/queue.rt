@@ -1,8 +1,8 @@
 //! The queue.
-ghost use Rattle.std.specs.Prelude.{◌≡◌, ◌≤◌, ◌<◌, ◌+◌, ◌↔◌, ◌∷◌, [], length, Ok, IfOk, IfErr, OnOk, OnErr, IsErr, max};
+ghost use Rattle.std.specs.Prelude.{◌≡◌, ◌≤◌, ◌<◌, ◌+◌, ◌*◌, ◌↔◌, ◌⊎◌, ◌∷◌, [], length, Ok, IfOk, IfErr, OnOk, OnErr, IsErr, max};
 ghost use Rattle.ppq_record.specs.Bag.{IsSameBag, least, without_front};
-ghost use Rattle.ppq_budget.specs.Sizes.{fixed_of, heap_of, pool_of};
-ghost use Rattle.ppq_queue.specs.Holding.{resident_of, NamesNeed, TakesFew};
+ghost use Rattle.ppq_budget.specs.Sizes.{AreInRange, fixed_of, heap_of, pool_of};
+ghost use Rattle.ppq_queue.specs.Holding.{resident_of, NamesNeed, Stays, EntersHeap, EntersStoredHeap, LeavesHeap, LeavesRuns};
 ghost use Rattle.ppq_queue.specs.declared.fault.QueueFault.TheVariants.{NoFreeBlock};
 
 use crate::choice::goes_first;
@@ -97,6 +97,8 @@ impl<S: Slot, R: Record> Queue<S, R> {
         r: R,
         _gate: &G,
     ) -> Result<(), (R, QueueFault)>
+    where
+        H::Dir: Send,
         ensures added { OnOk result (IsSameBag self.new.bag (r ∷ self.old.bag)) }
         ensures back { IfErr result (λ refused. refused.0 ≡ r) }
         ensures fault { IfErr result (λ refused. refused.1 ≡ NoFreeBlock) }
@@ -107,8 +109,10 @@ impl<S: Slot, R: Record> Queue<S, R> {
         ensures sizes { self.new.sizes ≡ self.old.sizes }
         ensures buffers { self.new.buffers ≡ self.old.buffers }
 
-        // A push takes no more buffers than the heap's records fill, the last perhaps in part.
-        ensures idle { OnOk result (TakesFew self.old self.new) }
+        // A heap that is not full takes the record in. A full one is stored first.
+        ensures room { self.old.in_heap < heap_of self.old.sizes → EntersHeap self.old self.new }
+        ensures stored { OnOk result (self.old.in_heap ≡ heap_of self.old.sizes → EntersStoredHeap self.old self.new) }
+        ensures stays { OnErr result (Stays self.old self.new) }
     {
         fixed_parts();
         let size = u64::from(self.heap.len()) + self.stored.len();
@@ -127,6 +131,8 @@ impl<S: Slot, R: Record> Queue<S, R> {
     /// The least record, left in the queue; none exactly where the bag is empty. It costs one
     /// comparison.
     pub fn top<H: Host, G: Gate>(&mut self, _rt: &H, _gate: &G) -> Result<Option<R>, QueueFault>
+    where
+        H::Dir: Send,
         ensures answer { result ≡ Ok (least R.Ord.cmp self.old.bag) }
         ensures same { self.new ≡ self.old }
     {
@@ -142,12 +148,14 @@ impl<S: Slot, R: Record> Queue<S, R> {
     /// The least record, removed; none exactly where the bag is empty. It costs one sift of the
     /// heap, or one path of the tree.
     pub fn pop<H: Host, G: Gate>(&mut self, _rt: &H, _gate: &G) -> Result<Option<R>, QueueFault>
+    where
+        H::Dir: Send,
         ensures answer { result ≡ Ok (least R.Ord.cmp self.old.bag) }
         ensures rest { IsSameBag self.new.bag (without_front R.Ord.cmp self.old.bag 1) }
         ensures peak { self.new.peak ≡ self.old.peak }
         ensures sizes { self.new.sizes ≡ self.old.sizes }
         ensures buffers { self.new.buffers ≡ self.old.buffers }
-        ensures idle { self.old.idle ≤ self.new.idle }
+        ensures part { LeavesHeap self.old self.new ⊎ LeavesRuns self.old self.new }
     {
         record_laws::<R>();
         if goes_first(self.heap.min(), self.stored.least()) {
@@ -174,6 +182,28 @@ impl<S: Slot, R: Record> Queue<S, R> {
         let batches = 2 * u64::from(self.sizes.batch());
         let buffers = u64::from(self.stored.buffers()) * u64::from(self.sizes.block());
         u64::from(self.heap.len()) + batches + buffers
+    }
+
+    /// What holds of every queue, as clauses for the proof of whoever calls it. It does nothing.
+    #[inline]
+    pub fn known(&self)
+        // The heap has no more records than it has room for.
+        ensures heap { self.now.in_heap ≤ heap_of self.now.sizes }
+        ensures part { self.now.in_heap ≤ length self.now.bag }
+        ensures peak { length self.now.bag ≤ self.now.peak }
+        ensures idle { self.now.idle ≤ self.now.buffers }
+
+        // A buffer that is not idle has a record, and no more than a block of them.
+        ensures used { self.now.buffers + self.now.in_heap ≤ self.now.idle + length self.now.bag }
+        ensures filled { length self.now.bag + self.now.idle * self.now.sizes.block ≤ self.now.in_heap + self.now.buffers * self.now.sizes.block }
+
+        // All buffers are within the budget.
+        ensures range { AreInRange self.now.sizes }
+        ensures budget { fixed_of self.now.sizes + self.now.buffers * self.now.sizes.block ≤ self.now.sizes.memory }
+    {
+        let _in_heap = self.heap.len();
+        let _in_runs = self.stored.len();
+        let _idle = self.stored.idle();
     }
 
     /// Ends the queue, and gives back every slot that was handed in, each once: none, for now.

@@ -69,6 +69,7 @@ impl<R: Record> Stored<R> {
     pub fn len(&self) -> u64
         ensures len { result ≡ length self.now.items }
         ensures within { result + self.now.idle * self.now.block ≤ self.now.buffers * self.now.block }
+        ensures used { self.now.buffers ≤ self.now.idle + result }
     {
         record_laws::<R>();
         self.count
@@ -137,6 +138,7 @@ impl<R: Record> Stored<R> {
         ensures items { IsSameBag self.new.items (sorted.now ++ self.old.items) }
         ensures buffers { self.new.buffers ≡ self.old.buffers }
         ensures block { self.new.block ≡ self.old.block }
+        ensures held { self.new.idle * self.old.block + length sorted.now ≤ self.old.idle * self.old.block }
         ensures idle { self.old.idle * self.old.block < self.new.idle * self.old.block + length sorted.now + self.old.block }
     {
         record_laws::<R>();

@@ -1,5 +1,6 @@
 //! The queue over pairs, at small sizes. A key `n` stands for the pair of `n` and 0.
-ghost use Rattle.std.specs.Prelude.{◌≡◌, IfSome};
+ghost use Rattle.std.specs.Prelude.{◌≡◌, ◌≤◌, IfSome, length};
+ghost use Rattle.ppq_budget.specs.Sizes.{heap_of};
 
 use crate::{OpenFault, Queue, QueueFault};
 use ppq_budget::Sizes;
@@ -28,8 +29,20 @@ fn opened(alloc: Global, sizes: Sizes) -> Result<Queue<MemSlot, Pair>, OpenFault
     }
 }
 
+/// A caller that only borrows a queue gets what holds of every queue.
+fn holds(queue: &Queue<MemSlot, Pair>)
+    ensures heap { queue.now.in_heap ≤ heap_of queue.now.sizes }
+    ensures idle { queue.now.idle ≤ queue.now.buffers }
+    ensures peak { length queue.now.bag ≤ queue.now.peak }
+{
+    queue.known();
+}
+
 /// Pushes keys in order, and says how many were taken.
-fn push_all<H: Host>(rt: &H, queue: &mut Queue<MemSlot, Pair>, keys: &[u64]) -> usize {
+fn push_all<H: Host>(rt: &H, queue: &mut Queue<MemSlot, Pair>, keys: &[u64]) -> usize
+where
+    H::Dir: Send,
+{
     for (taken, key) in keys.iter().enumerate() {
         if queue.push(rt, pair(*key), &OpenGate).is_err() {
             return taken;
@@ -128,6 +141,7 @@ fn buffers_come_back_and_are_used_again(rt: HostRuntime) -> Result<(), Fail> {
             );
         }
     }
+    holds(&queue);
     assert_eq!(rt; queue.size(), 0);
     Ok(())
 }

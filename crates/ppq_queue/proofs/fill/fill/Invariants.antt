@@ -7,6 +7,7 @@ abbrev pub invariant-filling : goal.invariant-filling
 invariant-filling g l = record {
   items : items_of l.run ≡ take l.at l.records;
   unspent : l.run.spent ≡ [];
+  taken : l.run.taken ≡ 0;
   own : All (IsOwn l.block) l.run.live;
   idle : All (IsIdle l.block) l.idle;
   buffers : length l.idle + length l.run.live ≡ length l.fn.idle;

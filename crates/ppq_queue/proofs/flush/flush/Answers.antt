@@ -28,3 +28,9 @@ returns-clause-idle g c =
     let same = in_order-same_bag (is_before g.R.Ord.cmp) (ranks c.record_laws.ensures.order) c.args.heap.now.items in
     let long = ap length (c.as_slice.ensures ∙ c.sort_in_place.ensures.items) ∙ IsSameBag-length _ c.args.heap.now.items same in
     omega (arith, long, c.store.ensures.idle)
+
+pub returns-clause-held : goal.returns-clause-held
+returns-clause-held g c =
+    let same = in_order-same_bag (is_before g.R.Ord.cmp) (ranks c.record_laws.ensures.order) c.args.heap.now.items in
+    let long = ap length (c.as_slice.ensures ∙ c.sort_in_place.ensures.items) ∙ IsSameBag-length _ c.args.heap.now.items same in
+    omega (arith, long, c.store.ensures.held)

@@ -1,8 +1,8 @@
-use Rattle.std.proofs.Common.{◌∙◌, ◌*◌, cond, ap, sym, arith}
-use Rattle.std.specs.Prelude.{Ok, count_by}
+use Rattle.std.proofs.Common.{◌≡◌, ◌∙◌, ◌+◌, ◌*◌, cond, length, ap, sym, subst, arith}
+use Rattle.std.specs.Prelude.{◌⊎◌, Ok, count_by}
 use Rattle.ppq_record.specs.Bag.{least, without_front}
 use Rattle.ppq_queue.proofs.Least.{least_of_two}
-use Rattle.ppq_queue.proofs.TwoParts.{no_more, none_stays, none_is, first_part, second_part}
+use Rattle.ppq_queue.proofs.TwoParts.{no_more, one_fewer, left_heap, none_stays, none_is, first_part, second_part}
 use Rattle.ppq_queue.proofs.queue.Queue.pop.Goals as goal
 
 pub invariant_of-self : goal.invariant_of-self
@@ -32,6 +32,14 @@ returns-then-goes_first-clause-rest g c p =
     let answer = pop.value ∙ sym c.min.ensures.value ∙ sym (two ∙ ap (λ b. cond b c.min.result c.least.result) c.if-goes_first.true) in
     first_part laws.order laws.same s.heap.items c.pop.new.self.items s.stored.items c.pop.result pop.taken (none_stays laws.order laws.same s.heap.items c.pop.new.self.items c.pop.result pop.value (λ e. pop.left (none_is c.pop.result e))) answer p
     ∙ ap (λ v. count_by p (without_front g.R.Ord.cmp v.bag 1)) c.self.view_is
+
+pub returns-then-goes_first-clause-part : goal.returns-then-goes_first-clause-part
+returns-then-goes_first-clause-part g c =
+    let laws = c.record_laws.ensures in
+    let s = c.self.inside in
+    let pop = c.pop.ensures in
+    let fewer = one_fewer s.heap.items c.pop.new.self.items c.pop.result pop.taken (none_stays laws.order laws.same s.heap.items c.pop.new.self.items c.pop.result pop.value (λ e. pop.left (none_is c.pop.result e))) in
+    left_heap c.args.self.now.in_heap (length c.pop.new.self.items) c.args.self.now.idle s.stored.idle (subst (λ n. (length c.pop.new.self.items + 1 ≡ n) ⊎ (length c.pop.new.self.items ≡ n)) (ap (λ q. q.in_heap) c.self.view_is) fewer) (ap (λ q. q.idle) c.self.view_is)
 
 pub invariant_of-self-2 : goal.invariant_of-self-2
 invariant_of-self-2 g c =

@@ -1,7 +1,8 @@
 use Rattle.std.proofs.Common.{◌≡◌, ◌∙◌, ◌+◌, ◌*◌, ◌<◌, ◌≤◌, length, ap, sym, subst, arith, length-set, set}
 use Rattle.ppq_record.specs.Order.{Ascends}
 use Rattle.ppq_queue.specs.Stored.{IsStored, IsStore}
-use Rattle.ppq_queue.proofs.Popped.{stored_more, has_place, within_buffers, idle_some, count_fits, idle_kept}
+use Rattle.ppq_queue.proofs.Stores.{items-le}
+use Rattle.ppq_queue.proofs.Popped.{stored_more, has_place, within_buffers, idle_some, count_fits, idle_held, idle_kept}
 use Rattle.ppq_queue.proofs.stored.Stored.store.Goals as goal
 
 pub overflow_cast-len : goal.overflow_cast-len
@@ -65,6 +66,7 @@ invariant_of-self g c =
       ascends = subst (Ascends g.R.Ord.cmp) (sym fill.items) c.requires.ascends;
       unspent = fill.unspent;
       own = fill.own;
+      used = fill.run;
     } in
     let at : c.len.result ≡ length s.runs.items = omega (arith, c.len.ensures, s.runs.ok) in
     let more = stored_more laws.order laws.same s.block s.runs.items s.tree s.idle c.fill-run.new.idle s.count n run c.first.result store is fill.idle fill.buffers (sym (ap length fill.items)) c.first.ensures.first place in
@@ -84,3 +86,11 @@ returns-clause-idle g c =
     let some : 0 < length s.idle = idle_some n (length s.idle) s.block c.requires.some room in
     let place : length s.runs.items < length s.tree = has_place laws.order laws.same s.block s.runs.items s.tree s.idle s.count store some in
     subst (λ v. v.idle * v.block < length c.fill-run.new.idle * v.block + n + v.block) c.self.view_is (idle_kept (length s.idle) (length c.fill-run.new.idle) (length c.fill-run.result.live) n s.block c.fill-run.ensures.buffers c.fill-run.ensures.full)
+
+pub returns-clause-held : goal.returns-clause-held
+returns-clause-held g c =
+    let s = c.self.inside in
+    let n = length c.args.sorted.now in
+    let fill = c.fill-run.ensures in
+    let held : n ≤ length c.fill-run.result.live * s.block = omega (arith, ap length fill.items, items-le s.block c.fill-run.result fill.own) in
+    subst (λ v. length c.fill-run.new.idle * v.block + n ≤ v.idle * v.block) c.self.view_is (idle_held (length s.idle) (length c.fill-run.new.idle) (length c.fill-run.result.live) n s.block fill.buffers held)
