@@ -1,6 +1,6 @@
 //! The five numbers from which a queue's sizes follow.
 ghost use Rattle.std.specs.Prelude.{◌≡◌, ℕ, ◌+◌, ◌-◌, ◌*◌, ◌^◌, ◌<◌, ◌≤◌, ◌↔◌, IsSome, IsErr, IfSome, IfOk, IfErr};
-ghost use Rattle.ppq_budget.specs.Sizes.{Numbers, numbers, AreInRange, heap_of, batch_of, fixed_of, room_of, pool_of, ArePartsOfFixed};
+ghost use Rattle.ppq_budget.specs.Sizes.{Numbers, numbers, AreInRange, heap_of, batch_of, fixed_of, blocks_for, room_of, pool_of, ArePartsOfFixed};
 
 use crate::TooSmall;
 use std::marker::Model;
@@ -139,6 +139,7 @@ impl Sizes {
         ensures need { IfErr result (λ e. e.need ≡ fixed_of self.now) }
         ensures buffers { IfOk result (λ n. n ≡ pool_of self.now) }
         ensures budget { IfOk result (λ n. fixed_of self.now + n * self.now.block ≤ self.now.memory) }
+        ensures most { IfOk result (λ n. (k : ℕ) → k ≤ 65536 → fixed_of self.now + k * self.now.block ≤ self.now.memory → k ≤ n) }
     {
         let fixed = self.fixed();
         if self.memory < fixed {
@@ -148,13 +149,25 @@ impl Sizes {
         Ok(buffers.min(65_536) as u32)
     }
 
+    /// How many blocks so many records fill, the last perhaps in part: the least number of blocks that
+    /// hold them.
+    #[inline]
+    pub fn blocks_for(&self, load: u64) -> u64
+        requires { load ≤ 2 ^ 56 }
+        ensures same { result ≡ blocks_for self.now load }
+        ensures enough { load ≤ result * self.now.block }
+        ensures least { (k : ℕ) → load ≤ k * self.now.block → result ≤ k }
+    {
+        load.div_ceil(u64::from(self.block))
+    }
+
     /// How many blocks of a device are enough for a load of so many records: twice the blocks that they
     /// fill, 72 for the blocks in part that runs end with, and four for each worker.
     pub fn room(&self, load: u64) -> u64
         requires { load ≤ 2 ^ 56 }
         ensures { result ≡ room_of self.now load }
     {
-        2 * load.div_ceil(u64::from(self.block)) + 72 + 4 * u64::from(self.workers)
+        2 * self.blocks_for(load) + 72 + 4 * u64::from(self.workers)
     }
 }
 

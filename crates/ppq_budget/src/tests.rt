@@ -38,6 +38,16 @@ fn worked_sizes_have_their_fixed_part_pool_and_room(rt: HostRuntime) -> Result<(
 }
 
 #[test]
+fn a_last_block_in_part_is_a_block(rt: HostRuntime) -> Result<(), Fail> {
+    let sizes = Sizes::new(1, 4, 1, 1_000, 0).ok_or("a number is out of range")?;
+    for (load, blocks) in [(0, 0), (1, 1), (4, 1), (5, 2), (8, 2), (9, 3)] {
+        assert!(rt; load <= 1 << 56);
+        assert_eq!(rt; sizes.blocks_for(load), blocks);
+    }
+    Ok(())
+}
+
+#[test]
 fn each_range_has_its_two_ends(rt: HostRuntime) {
     assert!(rt; Sizes::new(1, 2, 1, 0, 0).is_some());
     assert!(rt; Sizes::new(64, 65_536, 64, 268_435_456, 65_536).is_some());
