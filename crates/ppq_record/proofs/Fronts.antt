@@ -1,5 +1,5 @@
 -- Bags and fronts by the order of a record.
-use Rattle.std.proofs.Common.{◌≡◌, ◌+◌, ℕ, ◌-◌, ◌<◌, true, false, cond, List, [], ◌∷◌, length, get_or, add-one, suc, min, refl, sym, ap, ap₂, ◌∙◌, arith, Ordering, IsPermutation, IsSorted, true≢false}
+use Rattle.std.proofs.Common.{◌≡◌, ◌+◌, ℕ, ◌-◌, ◌<◌, true, false, cond, List, [], ◌∷◌, length, get_or, add-one, suc, min, refl, sym, ap, ap₂, ◌∙◌, arith, Ordering, IsPermutation, IsSorted, true≢false, ◌++◌, take-append-drop}
 use Rattle.std.specs.Prelude.{count_by}
 use Rattle.std.specs.declared.cmp.Ordering.TheVariants.{Less, Equal, Greater}
 use Rattle.std.specs.Ordering.{is_eq, is_lt, ordering_reverse}
@@ -7,7 +7,7 @@ use Rattle.std.specs.List.{AllByRecursion as Each}
 use Rattle.std.specs.Cmp.{IsTotalOrder, IsStrictWeakOrder}
 use Rattle.std.proofs.lemmas.List.Sorted.{sorted_far, ranks_by}
 use Rattle.ppq_record.specs.Order.{is_before, Le, Ascends}
-use Rattle.ppq_record.specs.Bag.{count, IsSameBag, IsFront, ascending, front}
+use Rattle.ppq_record.specs.Bag.{count, IsSameBag, IsFront, ascending, front, without_front}
 use Rattle.ppq_record.proofs.Order.{same, count_by-same_test, counts_of_take, Rising-take, Rising-in_order, in_order-same_bag, same_counts, same_rising, IsSameBag-permutation}
 
 -- the order of a record ranks
@@ -89,3 +89,7 @@ sorted_is o same_is xs ys moved up = ascending_is o same_is xs ys (Ascends-sorte
 -- neighbours in order make the whole list ascend
 pub Ascends-adjacent : {R : Type 0} {cmp : R → R → Ordering} → IsTotalOrder cmp → (xs : List R) → ((k : ℕ) (d : R) → k + 1 < length xs → Le (is_before cmp) (get_or xs k d) (get_or xs (k + 1) d)) → Ascends cmp xs
 Ascends-adjacent o xs each = Ascends-sorted o xs (λ k d low h. each k d h)
+
+-- the front and the rest are the bag
+pub front-parts : {R : Type 0} {cmp : R → R → Ordering} → IsTotalOrder cmp → (bag : List R) (k : ℕ) → IsSameBag (front cmp bag k ++ without_front cmp bag k) bag
+front-parts {R} {cmp} o bag k p = ap (count_by p) (take-append-drop k (ascending cmp bag)) ∙ in_order-same_bag (is_before cmp) (ranks o) bag p

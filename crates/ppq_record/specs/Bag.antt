@@ -1,5 +1,5 @@
 -- Bags of records: lists of which only the counts matter.
-use Rattle.std.specs.Prelude.{◌≡◌, ℕ, ◌-◌, Bool, List, [], ◌∷◌, min, count_by, nat_eq, take, drop, Option, Some, None}
+use Rattle.std.specs.Prelude.{◌≡◌, ℕ, ◌-◌, Bool, List, [], ◌∷◌, ◌++◌, min, count_by, nat_eq, take, drop, Option, Some, None}
 use Rattle.std.specs.declared.cmp.Ordering.{Ordering}
 use Rattle.std.specs.Ordering.{is_eq}
 use Rattle.ppq_record.specs.Order.{is_before, Ascends, in_order}
@@ -50,8 +50,9 @@ first_of (x ∷ xs) = Some x
 abbrev pub least : {R : Type 0} → (R → R → Ordering) → List R → Option R
 least cmp bag = first_of (front cmp bag 1)
 
--- the front is what counting tells, and nothing else is
+-- the front is what counting tells, and nothing else is; the front and the rest are the bag
 pub record HasOneFront {R : Type 0} (cmp : R → R → Ordering) : Type 0 where
   pub there_is : (bag : List R) (k : ℕ) → IsFront cmp bag k (front cmp bag k)
   pub only : (bag : List R) (k : ℕ) (out : List R) → IsFront cmp bag k out → out ≡ front cmp bag k
+  pub parts : (bag : List R) (k : ℕ) → IsSameBag (front cmp bag k ++ without_front cmp bag k) bag
   pub same_bag : (one other : List R) → ((r : R) → count cmp one r ≡ count cmp other r) → IsSameBag one other

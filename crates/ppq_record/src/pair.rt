@@ -10,7 +10,9 @@ use crate::Record;
 /// their 16 bytes.
 #[derive(Clone, Copy, Debug, PartialEq, Eq, PartialOrd, Ord)]
 pub struct Pair {
+    /// What the order looks at first; the first eight bytes.
     pub key: u64,
+    /// What decides between equal keys; the last eight bytes.
     pub value: u64,
 }
 
@@ -48,6 +50,7 @@ impl Record for Pair {
         }
     }
 
+    /// One comparison of 128 bits.
     #[inline]
     fn is_less(&self, other: &Self) -> bool {
         let one = *self;

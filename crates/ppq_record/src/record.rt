@@ -1,8 +1,8 @@
 //! A record of fixed width, with bytes and an order.
 ghost use Rattle.std.specs.Prelude.{◌≡◌, ◌≤◌, ◌<◌, List, ℕ, length, All, if◌then◌else◌};
 ghost use Rattle.std.specs.Cmp.{IsTotalOrder};
-ghost use Rattle.std.specs.Ordering.{is_lt};
 ghost use Rattle.std.specs.declared.cmp.Ordering.TheVariants.{Equal};
+ghost use Rattle.ppq_record.specs.Order.{is_before};
 
 /// A value of `WIDTH` bytes, from 1 to 64, with a total order.
 ///
@@ -34,15 +34,15 @@ pub trait Record: Copy + Ord {
         ensures record { result ≡ record_of from.now }
         ensures value { is_value result };
 
-    /// One of two records. It is to choose field by field, which compiles to code with no branch: in a
-    /// merge it cannot be foreseen which record goes first.
+    /// One of two records: the other where `is_other`, and else the one. Choose field by field: this
+    /// compiles to code with no branch, and in a merge it cannot be foreseen which record goes first.
     fn either(is_other: bool, one: Self, other: Self) -> Self
         ensures { result ≡ (if is_other then other else one) };
 
-    /// Whether the record is before another. It is to be as few steps as can be: a merge asks it at
-    /// every match.
+    /// Whether the record is before another in the order of `cmp`. A merge asks it at every match:
+    /// compare numbers as wide as can be, since a comparison field by field compiles to branches.
     fn is_less(&self, other: &Self) -> bool
-        ensures { result ≡ is_lt (Self.Ord.cmp self.now other.now) };
+        ensures { result ≡ is_before Self.Ord.cmp self.now other.now };
 
     /// Does nothing; it promises that its record is a value.
     fn known(&self)

@@ -38,6 +38,25 @@ fn the_key_decides_and_then_the_value(rt: HostRuntime) -> Result<(), Fail> {
 }
 
 #[test]
+fn is_less_compares_the_key_and_then_the_value(rt: HostRuntime) -> Result<(), Fail> {
+    assert_eq!(rt; pair(1, 9).is_less(&pair(2, 0)), true);
+    assert_eq!(rt; pair(2, 0).is_less(&pair(1, 9)), false);
+    assert_eq!(rt; pair(2, 0).is_less(&pair(2, 1)), true);
+    assert_eq!(rt; pair(2, 1).is_less(&pair(2, 0)), false);
+    assert_eq!(rt; pair(2, 1).is_less(&pair(2, 1)), false);
+    assert_eq!(rt; pair(0, u64::MAX).is_less(&pair(1, 0)), true);
+    assert_eq!(rt; pair(u64::MAX, 0).is_less(&pair(u64::MAX, u64::MAX)), true);
+    Ok(())
+}
+
+#[test]
+fn either_is_the_other_if_it_is_asked_for(rt: HostRuntime) -> Result<(), Fail> {
+    assert_eq!(rt; Pair::either(true, pair(1, 2), pair(3, 4)), pair(3, 4));
+    assert_eq!(rt; Pair::either(false, pair(1, 2), pair(3, 4)), pair(1, 2));
+    Ok(())
+}
+
+#[test]
 fn records_are_put_and_taken_one_after_the_other(rt: HostRuntime) -> Result<(), Fail> {
     record_laws::<Pair>();
     one_front::<Pair>();
