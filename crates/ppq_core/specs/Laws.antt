@@ -1,5 +1,5 @@
 -- Laws over every list of events.
-use Rattle.std.specs.Prelude.{◌≡◌, ◌<◌, ◌≤◌, ◌↔◌, ℕ, Bool, true, false, not, List, [], ◌∷◌, ◌++◌, filter}
+use Rattle.std.specs.Prelude.{◌≡◌, ◌<◌, ◌≤◌, ◌↔◌, ℕ, List, [], ◌∷◌, ◌++◌}
 use Rattle.std.specs.List.{Contains}
 use Rattle.ppq_core.specs.declared.place.Place.TheVariants.{Free, Held, Stored}
 use Rattle.ppq_core.specs.declared.event.Event.{Event}
@@ -43,25 +43,6 @@ module _ {R : Type 0} where
     pub slots : (i : ℕ) → slot_at i g ≡ slot_at i h
     pub pushed : (p : ℕ) → pushed_by p g ≡ pushed_by p h
     pub drawn : draws g ≡ draws h
-
-  abbrev pub is_at_buffer : Event R → Bool
-  is_at_buffer (Take p b) = true
-  is_at_buffer (Give p b) = true
-  is_at_buffer (Draw p s) = false
-  is_at_buffer (Push p x) = false
-  is_at_buffer (Store p s) = false
-
-  -- the Takes and Gives of the whole history are the one list, and all its other events the other, each in order
-  pub record Interleaves (one other whole : List (Event R)) : Type 0 where
-    pub at_buffers : filter is_at_buffer whole ≡ one
-    pub elsewhere : filter (λ e. not (is_at_buffer e)) whole ≡ other
-
-  -- it ends with the buffers of the one part, and with the slots, the items and the count of draws of the other
-  pub record EndsAsParts (one other whole : List (Event R)) : Type 0 where
-    pub buffers : (i : ℕ) → buffer_at i whole ≡ buffer_at i one
-    pub slots : (i : ℕ) → slot_at i whole ≡ slot_at i other
-    pub pushed : (p : ℕ) → pushed_by p whole ≡ pushed_by p other
-    pub drawn : draws whole ≡ draws other
 
   -- each step of the way from the table `start` to the table `end` added one event of the history
   abbrev pub IsRun : Table R → List (Event R) → Table R → Type 0
@@ -122,19 +103,3 @@ NeighboursTrade R =
 -- a run from a fresh table shows its own history: its places, and each pass's own items
 abbrev pub RunsShowTheirHistory : Type 0 → Type 0
 RunsShowTheirHistory R = (start end : Table R) (h : List (Event R)) → Shows start [] → IsRun start h end → Shows end h
-
--- A history of Takes and Gives that is legal with no slots, and one of Draws, Pushes and Stores that is legal with no buffers, for as many passes: however they are interleaved, the whole is legal with the buffers of the one and the slots of the other, and ends as they do
-abbrev pub PartsInterleave : Type 0 → Type 0
-PartsInterleave R =
-    (buffers slots passes : ℕ) (one other whole : List (Event R))
-    → IsLegal buffers 0 passes one
-    → IsLegal 0 slots passes other
-    → Interleaves one other whole
-    → IsLegal buffers slots passes whole × EndsAsParts one other whole
-
--- and each legal history is such a whole of its own two parts
-abbrev pub PartsAreLegal : Type 0 → Type 0
-PartsAreLegal R =
-    (buffers slots passes : ℕ) (whole : List (Event R))
-    → IsLegal buffers slots passes whole
-    → IsLegal buffers 0 passes (filter is_at_buffer whole) × IsLegal 0 slots passes (filter (λ e. not (is_at_buffer e)) whole)

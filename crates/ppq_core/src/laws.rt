@@ -1,5 +1,6 @@
 //! Laws over every list of events, each the contract of a call that does nothing and costs nothing.
-ghost use Rattle.ppq_core.specs.Laws.{HasGiveBetween, DrawsInOrder, DrawsOnce, StoresOnce, StoresItsDraw, TellsSlots, NeighboursTrade, RunsShowTheirHistory, PartsInterleave, PartsAreLegal};
+ghost use Rattle.ppq_core.specs.Laws.{HasGiveBetween, DrawsInOrder, DrawsOnce, StoresOnce, StoresItsDraw, TellsSlots, NeighboursTrade, RunsShowTheirHistory};
+ghost use Rattle.ppq_core.specs.Parts.{PartsInterleave, PartsAreLegal, PartsGoOn, PassesRenumber};
 
 use ppq_record::Record;
 
@@ -34,12 +35,19 @@ pub fn run_laws<R: Record>()
     ensures { RunsShowTheirHistory R }
 {}
 
-/// What happens to the buffers and what happens to the slots and items are apart. A legal history of
-/// the one kind and a legal history of the other kind, of the same passes, make one legal history
-/// however their events are interleaved, and it ends in the places of both. Each legal history comes
-/// apart so.
+/// One history of a pool and a row. A pool shows a legal history of takes and gives, a row one of
+/// draws; pushes and stores go with the draws.
+///
+/// Such two histories of the same passes make one legal history, in whatever order their events come
+/// together, and it ends with the buffers of the one and the slots and items of the other
+/// (`together`); each legal history comes apart so (`apart`). Where a [`State`](crate::State) shows
+/// the whole, an event by which one part goes on may follow in it, so `State::step` does not refuse
+/// it (`go_on`). A pool and a row number their seats each for itself: with other numbers for its
+/// passes, or more of them, a legal history stays legal and ends as it did (`renumbered`).
 #[inline]
 pub fn interleaving_laws<R: Record>()
     ensures together { PartsInterleave R }
     ensures apart { PartsAreLegal R }
+    ensures go_on { PartsGoOn R }
+    ensures renumbered { PassesRenumber R }
 {}

@@ -78,9 +78,10 @@ impl<R: Record> State<R> {
         })
     }
 
-    /// Takes in one event, at constant cost (amortized, for a push). `Illegal` comes exactly where
-    /// the event is not legal after the history that the state shows, and `Memory` only for a push.
-    /// After either the state is unchanged.
+    /// Takes in one event, at constant cost (amortized, for a push). `Illegal` comes if and only if
+    /// the event is not legal after the history that the state shows. Only a push allocates, from
+    /// the allocator that the state was made with, so only a push can answer `Memory`. After either
+    /// refusal the state is unchanged.
     pub fn step(&mut self, e: &Event<R>) -> Result<(), StepFault>
         ensures ok { IfOk result (λ _. Adds self.old e.now self.new) }
         ensures illegal { (h : List (Event R)) → Shows self.old h → (result ≡ Err StepFault.Illegal) ↔ ¬ (MayFollow self.old e.now h) }

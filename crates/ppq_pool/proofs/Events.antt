@@ -1,18 +1,21 @@
 -- The law of steps: each is one event of the history that words and views show, or none.
-use Rattle.std.proofs.Common.{◌≡◌, ℕ, ◌+◌, ◌-◌, ◌<◌, List, ◌∷◌, length, slice_index, set, sym, refl, subst, ⊎_elim, arith}
+use Rattle.std.proofs.Common.{◌≡◌, ℕ, ◌+◌, ◌-◌, ◌<◌, List, ◌∷◌, length, slice_index, set, sym, refl, ap, cond, eq-eqb, subst, ⊎_elim, arith}
 use mathlib.Core.Option.{some}
+use mathlib.Core.Logic.{dite}
+use native.Mathlib.Decide.{ℕ_discrete}
 use lib.ListN.{get_elem?}
 use Rattle.atomic_table.specs.Table.{State}
 use Rattle.ppq_core.specs.declared.event.Event.{Event}
 use Rattle.ppq_core.specs.declared.event.Event.TheVariants.{Give}
 use Rattle.ppq_table.specs.declared.place.Place.{Place}
-use Rattle.ppq_table.specs.Sums.{times}
+use Rattle.ppq_table.specs.Sums.{total, times}
+use Rattle.ppq_table.proofs.Sums.{total_zero, one_of_total}
 use Rattle.ppq_table.proofs.Numbers.{times-same, times-other}
 use Rattle.ppq_pool.specs.declared.hand.Hand.{Hand}
-use Rattle.ppq_pool.specs.Hands.{with_claim, with_note, with_place, with_give}
+use Rattle.ppq_pool.specs.Hands.{spent_once, with_claim, with_note, with_place, with_give}
 use Rattle.ppq_pool.specs.Histories.{ShowsHistory, events_of}
 use Rattle.ppq_pool.specs.Rule.{holders, IsFree, IsHeld, PoolRule}
-use Rattle.ppq_pool.specs.Shown.{StepsAreEvents}
+use Rattle.ppq_pool.specs.Shown.{StepsAreEvents, JoinsAreCounted}
 use Rattle.ppq_pool.proofs.Lists.{times-without}
 use Rattle.ppq_pool.proofs.Shown.{shown_still, shown_take, shown_give, shown_split, shown_same}
 use Rattle.ppq_pool.proofs.Steps.{listed, same_words}
@@ -45,3 +48,11 @@ steps_are_events T R = record {
   clears = λ shape_of shape s id v i x h st lists old. gives shape_of shape s st.0 id i v x h st.1 st.2 lists old;
   splits = λ s id v h at old. shown_split (length s.homes - 1) s.words s.views id v at h old;
 }
+
+pub joins_are_counted : (T : Type 0) → JoinsAreCounted T
+joins_are_counted T shape_of shape s r none j v e = dite (ℕ_discrete v.shares 0)
+    (λ z. absurd (let one : spent_once v ≡ 1 = ap (λ b. cond b 1 0) (eq-eqb v.shares 0 z) in omega (arith, one, nobody, r.joins_add, one_of_total spent_once s.views j v e)))
+    (λ ne. omega arith)
+  where
+    nobody : total (λ (v : Hand T). v.joins) s.views ≡ 0
+    nobody = total_zero (λ (v : Hand T). v.joins) s.views (λ j v e. dite (ℕ_discrete v.shares 0) (λ z. ((r.each_view j v e).spent_nothing z).2) (λ ne. none j v e (omega arith)))

@@ -1,14 +1,18 @@
 -- What a seat still holds after it took or gave another item, for callers.
-use Rattle.std.proofs.Common.{◌≡◌, ◌≢◌, ℕ, ◌+◌, List, [], ◌∷◌, ◌++◌, sym, ap, ◌∙◌, subst, refl, arith}
+use Rattle.std.proofs.Common.{◌≡◌, ◌≢◌, ℕ, zero, suc, ◌+◌, List, All, [], ◌∷◌, ◌++◌, sym, ap, ◌∙◌, subst, refl, arith}
 use Rattle.std.proofs.lemmas.List.{append_assoc}
+use Rattle.std.proofs.lemmas.List.Elements.{All-append, All-cons, All-nil}
 use Rattle.ppq_table.specs.Sums.{times}
 use Rattle.ppq_table.proofs.Numbers.{times-append, times-same, times-other}
 use Rattle.ppq_pool.specs.declared.hand.Hand.{Hand}
-use Rattle.ppq_pool.specs.declared.hand.Move.{Move}
-use Rattle.ppq_pool.specs.declared.hand.Move.TheVariants.{Took}
-use Rattle.ppq_pool.specs.Hands.{elsewhere, together, with_give}
-use Rattle.ppq_pool.specs.Seats.{Holds, Takes, FoundHeld}
+use Rattle.ppq_pool.specs.declared.hand.Move.TheVariants.{Took, Saw}
+use Rattle.ppq_pool.specs.Hands.{looks_below, elsewhere, together, with_give}
+use Rattle.ppq_pool.specs.Seats.{Holds, IsLook, Takes, FoundHeld}
 use Rattle.ppq_pool.proofs.Lists.{times-without}
+
+looks_below-looks : (n : ℕ) → All IsLook (looks_below n)
+looks_below-looks zero = All-nil IsLook
+looks_below-looks (suc n) = All-cons IsLook (Saw n) (looks_below n) tt (looks_below-looks n)
 
 module _ {T : Type 0} where
   -- how often an item is listed after a take of i
@@ -16,8 +20,8 @@ module _ {T : Type 0} where
   Takes-times v w i k t = subst (λ (l : List ℕ). times k l ≡ times k v.numbers + times k (i ∷ [])) (sym t.numbers) (times-append k v.numbers (i ∷ []))
 
   -- a take after looks
-  pub Takes-after_looks : (v u w : Hand T) (i : ℕ) (looks : List Move) → u ≡ record v { trail = u.trail } → u.trail ≡ looks ++ v.trail → Takes u i w → Takes v i w
-  Takes-after_looks v u w i looks same looked t = record {
+  pub Takes-after_looks : (v u w : Hand T) (i : ℕ) (n : ℕ) → u ≡ record v { trail = u.trail } → u.trail ≡ looks_below n ++ v.trail → Takes u i w → Takes v i w
+  Takes-after_looks v u w i n same looked t = record {
     was_free = ap (λ (h : Hand T). times i h.numbers) (sym same) ∙ t.was_free;
     numbers = t.numbers ∙ ap (λ (h : Hand T). h.numbers ++ i ∷ []) same;
     moves = t.moves ∙ ap (λ (h : Hand T). Took i ∷ h.moves) same;
@@ -25,7 +29,11 @@ module _ {T : Type 0} where
     shares = t.shares ∙ ap (λ (h : Hand T). h.shares) same;
     shape = t.shape ∙ ap (λ (h : Hand T). h.shape) same;
     joins = t.joins ∙ ap (λ (h : Hand T). h.joins) same;
-    trail = (t.trail.0 ++ looks, t.trail.1 ∙ ap (λ l. Took i ∷ t.trail.0 ++ l) looked ∙ ap (λ l. Took i ∷ l) (sym (append_assoc t.trail.0 looks v.trail)));
+    trail = (
+      t.trail.0 ++ looks_below n,
+      All-append IsLook t.trail.0 (looks_below n) t.trail.1 (looks_below-looks n),
+      t.trail.2 ∙ ap (λ l. Took i ∷ t.trail.0 ++ l) looked ∙ ap (λ l. Took i ∷ l) (sym (append_assoc t.trail.0 (looks_below n) v.trail)),
+    );
   }
 
   -- what was taken is held

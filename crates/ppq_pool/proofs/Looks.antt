@@ -11,14 +11,13 @@ use Rattle.ppq_table.specs.declared.place.Place.{Place}
 use Rattle.ppq_table.specs.declared.place.Place.TheVariants.{Room}
 use Rattle.ppq_table.specs.Sums.{total}
 use Rattle.ppq_table.proofs.Places.{laid_length}
-use Rattle.ppq_table.proofs.Sums.{one_of_total}
 use Rattle.ppq_pool.specs.declared.hand.Hand.{Hand}
 use Rattle.ppq_pool.specs.declared.hand.Move.{Move}
 use Rattle.ppq_pool.specs.declared.hand.Move.TheVariants.{Saw}
-use Rattle.ppq_pool.specs.Hands.{spent_once, first_hand, common_shape}
+use Rattle.ppq_pool.specs.Hands.{first_hand, common_shape}
 use Rattle.ppq_pool.specs.Histories.{events_of, IsOut, MayMove, trail_of, IsTrueLog}
 use Rattle.ppq_pool.specs.Rule.{PoolRule}
-use Rattle.ppq_pool.specs.Shown.{LooksAreTrue, NoBlindLook, NoBlindLookAlone, JoinsAreCounted}
+use Rattle.ppq_pool.specs.Shown.{LooksAreTrue, NoBlindLook, NoBlindLookAlone}
 use Rattle.ppq_pool.proofs.Logged.{Log, trail_of-own, trail_of-other}
 use Rattle.ppq_pool.proofs.Ends.{starts, zero_at}
 
@@ -80,16 +79,6 @@ no_blind_look T shape_of shape items places i word becomes short shapes laid all
     let some_share : 0 < w.shares = omega (arith, after.shares_add) in
     let found = stood T 1 0 i log [] [] shows.is_true (shows.on_trail 0 w refl some_share ∙ step.4) in
     nothing_out T i found.before found.is_true found.trail found.out
-
-total_zero : {V : Type 0} (f : V → ℕ) (vs : List V) → ((j : ℕ) (v : V) → get_elem? vs j ≡ some v → f v ≡ 0) → total f vs ≡ 0
-total_zero f [] all = refl
-total_zero f (v ∷ vs) all = omega (arith, all 0 v refl, total_zero f vs (λ j u e. all (suc j) u e))
-
-pub joins_are_counted : (T : Type 0) → JoinsAreCounted T
-joins_are_counted T shape_of shape s r none = let nobody : total (λ (v : Hand T). v.joins) s.views ≡ 0 = total_zero (λ (v : Hand T). v.joins) s.views (λ j v e. dite (ℕ_discrete v.shares 0) (λ z. ((r.each_view j v e).spent_nothing z).2) (λ ne. none j v e (omega arith))) in
-    λ j v e. dite (ℕ_discrete v.shares 0)
-    (λ z. absurd (let one : spent_once v ≡ 1 = ap (λ b. cond b 1 0) (eq-eqb v.shares 0 z) in omega (arith, one, nobody, r.joins_add, one_of_total spent_once s.views j v e)))
-    (λ ne. omega arith)
 
 -- a log of one seat is what stands on its trail
 alone_log : (R : Type 0) (log : Log) → IsTrueLog R 1 log → log ≡ map (λ (m : Move). (0, m)) (trail_of 0 log)

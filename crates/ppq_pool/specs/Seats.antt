@@ -4,7 +4,7 @@ use Rattle.atomic_table.specs.Seated.{TableId}
 use Rattle.ppq_table.specs.Sums.{times, all_shares}
 use Rattle.ppq_pool.specs.declared.hand.Hand.{Hand}
 use Rattle.ppq_pool.specs.declared.hand.Move.{Move}
-use Rattle.ppq_pool.specs.declared.hand.Move.TheVariants.{Took}
+use Rattle.ppq_pool.specs.declared.hand.Move.TheVariants.{Took, Gave, Saw}
 use Rattle.ppq_pool.specs.Hands.{looks_below, elsewhere}
 use Rattle.ppq_pool.specs.Known.{Known}
 
@@ -16,6 +16,12 @@ count_of pool = pool.slots - 1
 abbrev pub others_below : ℕ → List ℕ → List ℕ
 others_below zero held = []
 others_below (suc n) held = others_below n held ++ (if times n held == 0 then n ∷ [] else [])
+
+-- the move is a look, which found an item held
+abbrev pub IsLook : Move → Type 0
+IsLook (Took i) = ⊥
+IsLook (Gave i) = ⊥
+IsLook (Saw i) = Unit {0}
 
 module _ {T : Type 0} where
   abbrev pub IsSeatOf : TableId → Known T → Type 0
@@ -38,7 +44,7 @@ module _ {T : Type 0} where
     pub shape : w.shape ≡ v.shape
     pub joins : w.joins ≡ v.joins
     -- behind it on the trail stand the looks that this call made before, and then what stood there
-    pub trail : (looks : List Move) × (w.trail ≡ Took i ∷ looks ++ v.trail)
+    pub trail : (looks : List Move) × All IsLook looks × (w.trail ≡ Took i ∷ looks ++ v.trail)
 
   -- One look of its own at each of n items, all after what stood on its trail before, found the item held. Nothing else changed
   pub record FoundHeld (n : ℕ) (v w : Hand T) : Type 0 where

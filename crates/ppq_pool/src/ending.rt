@@ -20,6 +20,7 @@ impl<T: Shaped + Drop> Pool<T> {
         requires few { vec_len items < 4294967296 }
         requires one_shape { (shape : ℕ) × All (λ x. T.shape_of x ≡ shape) items.items }
         ensures pool { IfOk result (λ r. IsSeatOf r.0 r.1 × (count_of r.0 ≡ vec_len items)) }
+        ensures pass { IfOk result (λ r. r.1.pass ≡ 0) }
         ensures seat { IfOk result (λ r. r.1.hand ≡ first_hand (common_shape T.shape_of items.items) items.items) }
         ensures shape { IfOk result (λ r. All (λ x. T.shape_of x ≡ r.1.hand.shape) items.items) }
         ensures unchanged { IfErr result (λ r. r.0.items ≡ items.items) }

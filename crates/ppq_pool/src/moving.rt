@@ -14,6 +14,7 @@ impl<T: Shaped + Drop> Pool<T> {
         requires pool { IsSeatOf self.now seat.old }
         requires number { number < count_of self.now }
         ensures pool { IsSeatOf self.now seat.new }
+        ensures pass { seat.new.pass ≡ seat.old.pass }
         ensures shape { IfSome result (λ x. T.shape_of x ≡ seat.old.hand.shape) }
         ensures taken { IfSome result (λ _. Takes seat.old.hand number seat.new.hand) }
         ensures own { IfSome result (λ x. IsOnly seat.old.hand → Contains seat.old.hand.put (number, x)) }
@@ -39,6 +40,7 @@ impl<T: Shaped + Drop> Pool<T> {
     pub fn take(&self, seat: &mut PoolSeat<T>) -> Option<(u32, T)>
         requires pool { IsSeatOf self.now seat.old }
         ensures pool { IsSeatOf self.now seat.new }
+        ensures pass { seat.new.pass ≡ seat.old.pass }
         ensures number { IfSome result (λ p. p.0 < count_of self.now) }
         ensures taken { IfSome result (λ p. Takes seat.old.hand p.0 seat.new.hand) }
         ensures holds { IfSome result (λ p. Holds seat.new.hand p.0) }
@@ -63,6 +65,7 @@ impl<T: Shaped + Drop> Pool<T> {
         requires holds { Holds seat.old.hand number }
         requires shape { T.shape_of item ≡ seat.old.hand.shape }
         ensures pool { IsSeatOf self.now seat.new }
+        ensures pass { seat.new.pass ≡ seat.old.pass }
         ensures given { seat.new.hand ≡ with_give number item seat.old.hand }
     {
         let shared = &self.table.shared;
@@ -77,6 +80,7 @@ impl<T: Shaped + Drop> Pool<T> {
         requires pool { IsSeatOf self.now seat.old }
         requires shares { 1 < seat.old.hand.shares }
         ensures pool { IsSeatOf self.now seat.new × IsSeatOf self.now result }
+        ensures pass { seat.new.pass ≡ seat.old.pass }
         ensures old { seat.new.hand ≡ less_one seat.old.hand }
         ensures new { result.hand ≡ newcomer seat.old.hand }
     {
@@ -89,6 +93,7 @@ impl<T: Shaped + Drop> Pool<T> {
     pub fn join(&self, seat: &mut PoolSeat<T>, other: PoolSeat<T>)
         requires pool { IsSeatOf self.now seat.old × IsSeatOf self.now other }
         ensures pool { IsSeatOf self.now seat.new }
+        ensures pass { seat.new.pass ≡ seat.old.pass }
         ensures both { seat.new.hand ≡ together seat.old.hand other.hand }
     {
         let PoolSeat { seat: theirs } = other;

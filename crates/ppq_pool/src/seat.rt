@@ -7,7 +7,7 @@ use std::marker::Model;
 /// The right to take from one pool, and the numbers that are taken by it. It has no bytes, and may
 /// go to another thread.
 ///
-/// Contracts see which pool it is of, and what it knows of it.
+/// Contracts see which pool it is of, which pass it is in the pool's history, and what it knows.
 #[derive(Drop)]
 pub struct PoolSeat<T> {
     pub(crate) seat: atomic_table::Seat<Place<T>, Hand<T>>,
@@ -20,7 +20,7 @@ impl<T> Model for PoolSeat<T> {
 
     ghost use Rattle.ppq_pool.specs.Idle.{IsIdle};
 
-    ghost view = { λ s. record { pool = s.seat.table_id; hand = s.seat.me.0 } };
+    ghost view = { λ s. record { pool = s.seat.table_id; pass = s.seat.id; hand = s.seat.me.0 } };
 
     ghost invariant = { λ s. IsIdle s.seat };
 }

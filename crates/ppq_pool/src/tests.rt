@@ -2,7 +2,7 @@ ghost use Rattle.std.specs.Prelude.{◌≡◌, ◌-◌, ◌<◌, ℕ, IfOk};
 ghost use Rattle.std.specs.Thread.{IsSync};
 ghost use Rattle.ppq_pool.specs.Seats.{IsSeatOf, IsOnly, count_of};
 
-use crate::{Pool, PoolSeat, Shaped};
+use crate::{Pool, PoolSeat, Shaped, looks_are_true, steps_are_events};
 use std::alloc::{AllocError, Global};
 use std::test::Fail;
 use std::thread::{Threads, join};
@@ -176,4 +176,10 @@ fn sixty_four_seats_share_three_tiles(rt: HostRuntime) -> Result<(), Fail> {
         left.len() == 3 && left[0].value == 10 && left[1].value == 11 && left[2].value == 12
     );
     Ok(())
+}
+
+#[test]
+fn the_laws_hold_of_a_pool_of_tiles() {
+    steps_are_events::<Tile, u64>();
+    looks_are_true::<Tile>();
 }

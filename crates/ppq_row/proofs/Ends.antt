@@ -31,6 +31,7 @@ module _ {T : Type 0} where
     rest_home = λ i x le e. laid_item xs (Room laid.0) i x e;
     room_home = (laid.0, laid_last xs (Room laid.0), laid.2);
     shares_add = refl;
+    joins_add = refl;
     each_once = once;
     within = omega arith;
     budget = omega arith;

@@ -1,18 +1,20 @@
 -- What each kind of step does to the history that a state shows.
-use Rattle.std.proofs.Common.{◌≡◌, ℕ, ◌+◌, ◌<◌, min, List, [], ◌∷◌, ◌++◌, length, set, refl, ap, ◌∙◌, arith, add-one}
+use Rattle.std.proofs.Common.{◌≡◌, ℕ, ◌+◌, ◌<◌, min, List, [], ◌∷◌, ◌++◌, length, set, refl, ap, ◌∙◌, ◌≤◌, cond, eq-eqb, arith, add-one}
 use mathlib.Core.Option.{some}
+use mathlib.Core.Logic.{dite}
+use native.Mathlib.Decide.{ℕ_discrete}
 use lib.ListN.{get_elem?}
-use Rattle.ppq_table.specs.Sums.{times}
-use Rattle.ppq_table.proofs.Sums.{total-set}
+use Rattle.ppq_table.specs.Sums.{total, times}
+use Rattle.ppq_table.proofs.Sums.{total-set, total_zero, one_of_total}
 use Rattle.ppq_table.proofs.Numbers.{times-append, times-same, times-other, once-in, once-out}
 use Rattle.ppq_core.specs.declared.event.Event.{Event}
 use Rattle.ppq_core.specs.declared.event.Event.TheVariants.{Draw}
 use Rattle.ppq_row.specs.declared.hand.Hand.{Hand}
-use Rattle.ppq_row.specs.Hands.{less_one, newcomer, with_place, with_none}
+use Rattle.ppq_row.specs.Hands.{less_one, newcomer, spent_once, with_place, with_none}
 use Rattle.ppq_row.specs.Histories.{draws_of}
 use Rattle.ppq_row.specs.Rule.{counter, NeverWraps}
-use Rattle.ppq_row.specs.Shown.{StepsAreEvents}
-use Rattle.ppq_row.proofs.Histories.{listed, holder-set, holder-new, holder-more, draws_of-same, shows}
+use Rattle.ppq_row.specs.Shown.{StepsAreEvents, NotesAreTrue, JoinsAreCounted}
+use Rattle.ppq_row.proofs.Histories.{listed, holder-set, holder-new, holder-more, draws_of-same, draws_of-count, shows}
 use Rattle.ppq_row.proofs.Steps.{word_set}
 
 module _ {T R : Type 0} where
@@ -45,6 +47,18 @@ module _ {T R : Type 0} where
     splits = λ items s id v r at. same_shown (min (counter s) (length items)) id s.views (newcomer v ∷ []) v (less_one v) at refl
         (λ i h. omega (arith, r.each_once i, once-in i (min (counter s) (length items)) h));
   }
+
+pub notes_are_true : (T R : Type 0) → NotesAreTrue T R
+notes_are_true T R items s j v r at noted = let end : length items ≤ counter s = (r.each_view j v at).all_drawn noted in
+    (end, draws_of-count R (min (counter s) (length items)) s.views ∙ (let e : min (counter s) (length items) ≡ length items = omega arith in e))
+
+pub joins_are_counted : (T : Type 0) → JoinsAreCounted T
+joins_are_counted T items s r none j v e = dite (ℕ_discrete v.shares 0)
+    (λ z. absurd (let one : spent_once v ≡ 1 = ap (λ b. cond b 1 0) (eq-eqb v.shares 0 z) in omega (arith, one, nobody, r.joins_add, one_of_total spent_once s.views j v e)))
+    (λ ne. omega arith)
+  where
+    nobody : total (λ (v : Hand T). v.joins) s.views ≡ 0
+    nobody = total_zero (λ (v : Hand T). v.joins) s.views (λ j v e. dite (ℕ_discrete v.shares 0) (λ z. ap (λ (h : Hand T). h.joins) ((r.each_view j v e).spent_bare z)) (λ ne. none j v e (omega arith)))
 
 -- each share counts one None at most
 pub never_wraps : (T : Type 0) → NeverWraps T

@@ -1,5 +1,5 @@
 -- Each kind of step keeps the rule.
-use Rattle.std.proofs.Common.{◌≡◌, ◌≢◌, ◌⊎◌, ℕ, ◌+◌, ◌-◌, ◌%◌, ◌^◌, ◌<◌, ◌≤◌, ◌||◌, min, Bool, true, false, cond, List, [], ◌∷◌, ◌++◌, length, slice_index, slice_set, set, sym, refl, ap, ◌∙◌, subst, ⊎_elim, arith, true≢false, length-set, mod-eq_of_lt, lt_of_not-le}
+use Rattle.std.proofs.Common.{◌≡◌, ◌≢◌, ◌⊎◌, ℕ, ◌+◌, ◌-◌, ◌%◌, ◌^◌, ◌<◌, ◌≤◌, ◌||◌, min, Bool, true, false, cond, eqb, ne_eqb, List, [], ◌∷◌, ◌++◌, length, slice_index, slice_set, set, sym, refl, ap, ◌∙◌, subst, ⊎_elim, arith, true≢false, length-set, mod-eq_of_lt, lt_of_not-le}
 use Rattle.std.proofs.lemmas.List.Elements.{All-append, All-weaker, All-push, All-nil}
 use mathlib.Core.Option.{none, some}
 use mathlib.Core.Logic.{dite}
@@ -10,10 +10,10 @@ use Rattle.atomic_table.proofs.Lists.{at_set, at_snoc, set_else}
 use Rattle.ppq_table.specs.declared.place.Place.{Place}
 use Rattle.ppq_table.specs.declared.place.Place.TheVariants.{Item}
 use Rattle.ppq_table.specs.Sums.{total, times, once_below}
-use Rattle.ppq_table.proofs.Sums.{at_within, total-set, total-split, total-set_two}
+use Rattle.ppq_table.proofs.Sums.{at_within, total-set, total-snoc, total-split, total-set_two}
 use Rattle.ppq_table.proofs.Numbers.{times-append, once-more}
 use Rattle.ppq_row.specs.declared.hand.Hand.{Hand}
-use Rattle.ppq_row.specs.Hands.{less_one, newcomer, together, spent, with_place, with_none, open_shares}
+use Rattle.ppq_row.specs.Hands.{less_one, newcomer, moved, together, spent, spent_once, with_place, with_none, open_shares}
 use Rattle.ppq_row.specs.Rule.{counter, Fits, RowRule, draw_tells}
 use Rattle.ppq_row.proofs.Histories.{shows}
 
@@ -30,6 +30,13 @@ open-both : (a b : Bool) (n m : ℕ) → cond (a || b) 0 (n + m) ≤ cond a 0 n 
 open-both true b n m = omega arith
 open-both false true n m = omega arith
 open-both false false n m = omega arith
+
+same_spent : {T : Type 0} (v w : Hand T) → w.shares ≡ v.shares → spent_once w ≡ spent_once v
+same_spent v w e = ap (λ (k : ℕ). cond (eqb k 0) 1 0) e
+
+-- a view with a share is not spent
+not_spent : {T : Type 0} (v : Hand T) → 0 < v.shares → spent_once v ≡ 0
+not_spent v some_share = ap (λ b. cond b 1 0) (ne_eqb v.shares 0 (λ e. omega arith))
 
 note_of : (a b : Bool) → (a || b) ≡ true → (a ≡ true) ⊎ (b ≡ true)
 note_of a b e = grind arith
@@ -51,16 +58,17 @@ module _ {T : Type 0} (xs : List T) where
   spent_fits c = record { same_items = λ h. absurd (omega arith); spent_bare = λ _. refl; all_drawn = λ e. absurd (true≢false (sym e)); behind = All-nil (λ p. p < c) }
 
   -- the views change, and no total that the rule speaks of
-  viewed : (s : St) (r : RowRule xs s) (vs : List (Hand T)) → total (λ v. v.shares) vs ≡ total (λ v. v.shares) s.views → ((x : ℕ) → total (λ v. times x v.places) vs ≡ total (λ v. times x v.places) s.views)
+  viewed : (s : St) (r : RowRule xs s) (vs : List (Hand T)) → total (λ v. v.shares) vs ≡ total (λ v. v.shares) s.views → total (λ v. v.joins) vs ≡ total spent_once vs → ((x : ℕ) → total (λ v. times x v.places) vs ≡ total (λ v. times x v.places) s.views)
       → total (λ v. v.nones) vs ≡ total (λ v. v.nones) s.views → total open_shares vs ≤ total open_shares s.views
       → ((j : ℕ) (v : Hand T) → get_elem? vs j ≡ some v → Fits xs (counter s) v) → RowRule xs record { words = s.words; homes = s.homes; views = vs }
-  viewed s r vs shares places nones kept fits = let once = λ (x : ℕ). places x ∙ r.each_once x in record {
+  viewed s r vs shares joined places nones kept fits = let once = λ (x : ℕ). places x ∙ r.each_once x in record {
     one_word = r.one_word;
     wide = r.wide;
     short = r.short;
     rest_home = r.rest_home;
     room_home = r.room_home;
     shares_add = shares ∙ r.shares_add;
+    joins_add = joined;
     each_once = once;
     within = let a = r.within in omega arith;
     budget = let a = r.budget in omega arith;
@@ -68,26 +76,29 @@ module _ {T : Type 0} (xs : List T) where
     each_view = fits;
   }
 
-  splits : (id : ℕ) (v l r : Hand T) → l.shares + r.shares ≡ v.shares → l.nones + r.nones ≡ v.nones → open_shares l + open_shares r ≡ open_shares v
+  splits : (id : ℕ) (v l r : Hand T) → l.shares + r.shares ≡ v.shares → l.joins + r.joins + spent_once v ≡ v.joins + spent_once l + spent_once r → l.nones + r.nones ≡ v.nones → open_shares l + open_shares r ≡ open_shares v
       → ((x : ℕ) → times x l.places + times x r.places ≡ times x v.places) → ((c : ℕ) → Fits xs c v → Fits xs c l × Fits xs c r) → Splits (RowRule xs) id v l r
-  splits id v l r shares nones kept places fits s rule at = let vs : List (Hand T) = set s.views id l in let mine = fits (counter s) (rule.each_view id v at) in
-      viewed s rule (vs ++ r ∷ []) (total-split (λ u. u.shares) s.views id v l r at shares) (λ x. total-split (λ u. times x u.places) s.views id v l r at (places x))
+  splits id v l r shares joined nones kept places fits s rule at = let vs : List (Hand T) = set s.views id l in let mine = fits (counter s) (rule.each_view id v at) in
+      viewed s rule (vs ++ r ∷ []) (total-split (λ u. u.shares) s.views id v l r at shares)
+      (omega (arith, total-snoc (λ u. u.joins) vs r, total-set (λ u. u.joins) s.views id v l at, total-snoc spent_once vs r, total-set spent_once s.views id v l at, rule.joins_add, joined))
+      (λ x. total-split (λ u. times x u.places) s.views id v l r at (places x))
       (total-split (λ u. u.nones) s.views id v l r at nones) (let e = total-split open_shares s.views id v l r at kept in omega arith)
       (λ j u e. ⊎_elim (λ (old : get_elem? vs j ≡ some u). ⊎_elim (λ (h : (j ≡ id) × (l ≡ u)). subst (Fits xs (counter s)) h.1 mine.0) (λ (h : (j ≢ id) × (get_elem? s.views j ≡ some u)). rule.each_view j u h.1) (at_set s.views id j l u old))
       (λ (new : r ≡ u). subst (Fits xs (counter s)) new mine.1) (at_snoc vs r u j e))
 
   pub splits_share : (id : ℕ) (v : Hand T) → 1 < v.shares → Splits (RowRule xs) id v (less_one v) (newcomer v)
-  splits_share id v h = splits id v (less_one v) (newcomer v) (omega arith) (omega arith) (open-less v.noted v.shares (omega arith)) (λ x. omega arith)
+  splits_share id v h = splits id v (less_one v) (newcomer v) (omega arith) (omega (arith, not_spent v (omega arith), not_spent (less_one v) (omega arith))) (omega arith) (open-less v.noted v.shares (omega arith)) (λ x. omega arith)
       (λ c f. (
         record { same_items = λ _. f.same_items (omega arith); spent_bare = λ e. absurd (omega arith); all_drawn = f.all_drawn; behind = f.behind },
         record { same_items = λ _. f.same_items (omega arith); spent_bare = λ e. absurd (omega arith); all_drawn = f.all_drawn; behind = All-nil (λ p. p < c) },
       ))
 
-  pub splits_whole : (id : ℕ) (v : Hand T) → Splits (RowRule xs) id v spent v
-  splits_whole id v = splits id v spent v (omega arith) (omega arith) (omega arith) (λ x. omega arith) (λ c f. (spent_fits c, f))
+  pub splits_moved : (id : ℕ) (v : Hand T) → 0 < v.shares → Splits (RowRule xs) id v spent (moved v)
+  splits_moved id v some_share = splits id v spent (moved v) (omega arith) (omega (arith, same_spent v (moved v) refl)) (omega arith) (omega arith) (λ x. omega arith)
+      (λ c f. (spent_fits c, record { same_items = f.same_items; spent_bare = λ z. absurd (omega arith); all_drawn = f.all_drawn; behind = f.behind }))
 
-  pub joins : (id : ℕ) (v : Hand T) (other : ℕ) (w : Hand T) → 0 < v.shares → Joins (RowRule xs) id v other w (together v w) spent
-  joins id v other w some_share s r at two at' = let b : Hand T = together v w in let vs : List (Hand T) = set s.views id b in let c : ℕ = counter s in
+  pub joins : (id : ℕ) (v : Hand T) (other : ℕ) (w : Hand T) → 0 < v.shares → 0 < w.shares → Joins (RowRule xs) id v other w (together v w) spent
+  joins id v other w some_share some_other s r at two at' = let b : Hand T = together v w in let vs : List (Hand T) = set s.views id b in let c : ℕ = counter s in
       let was : get_elem? s.views other ≡ some w = ⊎_elim (λ (h : (other ≡ id) × (b ≡ w)). absurd (two h.0)) (λ (h : (other ≢ id) × (get_elem? s.views other ≡ some w)). h.1) (at_set s.views id other b w at') in
       let f = r.each_view id v at in let g = r.each_view other w was in
       let mine : Fits xs c b = record {
@@ -97,7 +108,8 @@ module _ {T : Type 0} (xs : List T) where
         behind = All-append (λ p. p < c) v.places w.places f.behind g.behind;
       } in
       let sums : (h : Hand T → ℕ) → total h (set vs other spent) + h v + h w ≡ total h s.views + h b + h spent = λ h. total-set_two h s.views id other v w b spent at at' in
-      viewed s r (set vs other spent) (omega (arith, sums (λ u. u.shares))) (λ x. omega (arith, sums (λ u. times x u.places), times-append x v.places w.places))
+      viewed s r (set vs other spent) (omega (arith, sums (λ u. u.shares)))
+      (omega (arith, sums (λ u. u.joins), sums spent_once, r.joins_add, not_spent v some_share, not_spent w some_other, not_spent b (omega arith))) (λ x. omega (arith, sums (λ u. times x u.places), times-append x v.places w.places))
       (omega (arith, sums (λ u. u.nones))) (omega (arith, sums open_shares, open-both v.noted w.noted v.shares w.shares))
       (λ j u e. ⊎_elim (λ (h : (j ≡ other) × (spent ≡ u)). subst (Fits xs c) h.1 (spent_fits c))
       (λ (h : (j ≢ other) × (get_elem? vs j ≡ some u)). ⊎_elim (λ (k : (j ≡ id) × (b ≡ u)). subst (Fits xs c) k.1 mine) (λ (k : (j ≢ id) × (get_elem? s.views j ≡ some u)). r.each_view j u k.1) (at_set s.views id j b u h.1))
@@ -130,6 +142,7 @@ module _ {T : Type 0} (xs : List T) where
           rest_home = λ i x le e. set_else s.homes c i none (λ h. omega arith) ∙ r.rest_home i x (omega arith) e;
           room_home = (r.room_home.0, set_else s.homes c (length xs) none (λ h. omega arith) ∙ r.room_home.1, r.room_home.2);
           shares_add = omega (arith, total-set (λ u. u.shares) s.views id v w at, r.shares_add);
+          joins_add = omega (arith, total-set (λ u. u.joins) s.views id v w at, total-set spent_once s.views id v w at, r.joins_add, same_spent v w refl);
           each_once = once;
           within = omega (arith, total-set (λ u. u.nones) s.views id v w at, r.within);
           budget = omega (arith, total-set (λ u. u.nones) s.views id v w at, total-set open_shares s.views id v w at, r.budget);
@@ -167,6 +180,7 @@ module _ {T : Type 0} (xs : List T) where
           rest_home = λ i x le e. r.rest_home i x (omega arith) e;
           room_home = r.room_home;
           shares_add = omega (arith, total-set (λ u. u.shares) s.views id v w at, r.shares_add);
+          joins_add = omega (arith, total-set (λ u. u.joins) s.views id v w at, total-set spent_once s.views id v w at, r.joins_add, same_spent v w refl);
           each_once = once;
           within = omega (arith, total-set (λ u. u.nones) s.views id v w at, r.within);
           budget = omega (arith, total-set (λ u. u.nones) s.views id v w at, total-set open_shares s.views id v w at, r.budget);

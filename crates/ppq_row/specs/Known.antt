@@ -1,8 +1,10 @@
 -- What contracts see of a seat.
+use Rattle.std.specs.Prelude.{ℕ}
 use Rattle.atomic_table.specs.Seated.{TableId}
 use Rattle.ppq_row.specs.declared.hand.Hand.{Hand}
 
--- which row the seat is of, and what it knows of it
+-- which row the seat is of, which pass it is in the history that the row shows, and what it knows
 pub record Known (T : Type 0) : Type 0 where
   pub row : TableId
+  pub pass : ℕ
   pub hand : Hand T

@@ -13,4 +13,7 @@ pub struct Hand<T> {
     pub places: LinkedList<u64>,
     /// The items as they were put into the row.
     pub items: LinkedList<T>,
+    /// How many views were spent to make it: two for each seat that was joined, its own and the
+    /// one in which it left the places that it had in hand.
+    pub joins: u64,
 }

@@ -1,12 +1,12 @@
 //! A row, and its calls.
 ghost use Rattle.std.specs.Prelude.{◌≡◌, ℕ, ◌<◌, true, false, [], length, drop, IfSome, IfNone, IfOk, IfErr, vec_len};
 ghost use Rattle.ppq_table.specs.Sums.{all_shares, times, once_below};
-ghost use Rattle.ppq_row.specs.Hands.{first_hand, less_one, newcomer, together};
+ghost use Rattle.ppq_row.specs.Hands.{first_hand, less_one, newcomer, moved, together};
 ghost use Rattle.ppq_row.specs.Seats.{IsSeatOf, Drew, NoneLeft};
 
-use crate::rule::{Draws, OneShare, Together, Whole};
+use crate::rule::{Draws, Moved, OneShare, Together};
 use crate::{DrawnOnce, Hand, RowSeat};
-use atomic_table::{Refused, Table};
+use atomic_table::{Refused, Seat, Table};
 use ppq_record::Memory;
 use ppq_table::{Place, items_from, lay, unlay};
 use std::alloc::Global;
@@ -40,7 +40,7 @@ impl<T: Drop> Row<T> {
     /// `Err` gives the items back as they were; it comes for want of memory alone.
     pub fn new(alloc: Global, items: Vec<T>) -> Result<(Row<T>, RowSeat<T>), (Vec<T>, Memory)>
         requires { vec_len items < 4294967296 }
-        ensures seat { IfOk result (λ r. IsSeatOf r.0 r.1 × (r.1.hand ≡ first_hand items.items)) }
+        ensures seat { IfOk result (λ r. IsSeatOf r.0 r.1 × (r.1.pass ≡ 0) × (r.1.hand ≡ first_hand items.items)) }
         ensures unchanged { IfErr result (λ r. r.0.items ≡ items.items) }
     {
         let about = Snapshot::of(&items);
@@ -63,6 +63,7 @@ impl<T: Drop> Row<T> {
     pub fn draw(&self, seat: &mut RowSeat<T>) -> Option<(u32, T)>
         requires row { IsSeatOf self.now seat.old }
         ensures row { IsSeatOf self.now seat.new }
+        ensures pass { seat.new.pass ≡ seat.old.pass }
         ensures drawn { IfSome result (λ p. (seat.old.hand.noted ≡ false) × Drew seat.old.hand p.0 p.1 seat.new.hand) }
         ensures none { IfNone result (NoneLeft seat.old.hand seat.new.hand) }
         ensures noted { IfNone result (seat.new.hand.noted ≡ true) }
@@ -89,6 +90,7 @@ impl<T: Drop> Row<T> {
         requires row { IsSeatOf self.now seat.old }
         requires shares { 1 < seat.old.hand.shares }
         ensures row { IsSeatOf self.now seat.new × IsSeatOf self.now result }
+        ensures pass { seat.new.pass ≡ seat.old.pass }
         ensures old { seat.new.hand ≡ less_one seat.old.hand }
         ensures new { result.hand ≡ newcomer seat.old.hand }
     {
@@ -99,20 +101,33 @@ impl<T: Drop> Row<T> {
         }
     }
 
-    /// The seat takes over the shares and the places of the other, and its note.
+    /// The seat takes over the shares and the places of the other, and its note. Two loads of the
+    /// counter.
     pub fn join(&self, seat: &mut RowSeat<T>, other: RowSeat<T>)
         requires row { IsSeatOf self.now seat.old × IsSeatOf self.now other }
         ensures row { IsSeatOf self.now seat.new }
-        ensures both { seat.new.hand ≡ together seat.old.hand other.hand }
+        ensures pass { seat.new.pass ≡ seat.old.pass }
+        ensures both { seat.new.hand ≡ together seat.old.hand (moved other.hand) }
     {
         let RowSeat {
             seat: mut theirs,
             noted,
         } = other;
+        let bare = self.moved(&mut theirs);
         let shared = &self.table.shared;
-        let bare = shared.split_seat::<Whole>(&mut theirs);
         shared.join_seat::<Together>(&mut seat.seat, bare);
         seat.noted = seat.noted || noted;
+    }
+
+    // All that the seat knows goes to a new one that has no slot out, as a join asks. The slots of
+    // the items that it drew stay with the old one.
+    fn moved(&self, seat: &mut Seat<Place<T>, Hand<T>>) -> Seat<Place<T>, Hand<T>>
+        requires row { seat.old.table_id ≡ self.now }
+        requires shares { 0 < seat.old.me.0.shares }
+        ensures row { result.table_id ≡ self.now }
+        ensures moved { result.me ≡ (moved seat.old.me.0, []) }
+    {
+        self.table.shared.split_seat::<Moved>(seat)
     }
 
     /// The items that were not drawn, in order, in the list in which they came.

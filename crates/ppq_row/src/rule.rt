@@ -36,15 +36,15 @@ impl<T> Split<Hand<T>> for OneShare {
     ghost right = { newcomer };
 }
 
-/// The whole view goes to a new seat, so that the slots that are out with the old one stay behind.
-pub(crate) struct Whole;
+/// A new seat gets all that the old one knows. The slots that are out stay with the old one.
+pub(crate) struct Moved;
 
-impl<T> Split<Hand<T>> for Whole {
-    ghost use Rattle.ppq_row.specs.Hands.{spent};
+impl<T> Split<Hand<T>> for Moved {
+    ghost use Rattle.ppq_row.specs.Hands.{spent, moved};
 
     ghost left = { λ v. spent };
 
-    ghost right = { λ v. v };
+    ghost right = { moved };
 }
 
 /// One seat takes over what the other knows.

@@ -2,7 +2,7 @@ ghost use Rattle.std.specs.Prelude.{◌≡◌, ◌<◌, ◌≤◌, IfOk};
 ghost use Rattle.std.specs.Thread.{IsSync};
 ghost use Rattle.ppq_row.specs.Seats.{IsSeatOf};
 
-use crate::{Row, RowSeat};
+use crate::{Row, RowSeat, counter_never_wraps, steps_are_events};
 use std::alloc::{AllocError, Global};
 use std::test::Fail;
 use std::thread::{Threads, join};
@@ -166,4 +166,10 @@ fn more_seats_than_items_draw_each_place_once(rt: HostRuntime) -> Result<(), Fai
     assert!(rt; left.is_empty());
     assert!(rt; drawn.as_slice() == [(0, 0), (1, 7), (2, 14)].as_slice());
     Ok(())
+}
+
+#[test]
+fn the_laws_hold_of_a_row_of_letters() {
+    counter_never_wraps::<char>();
+    steps_are_events::<char, u64>();
 }

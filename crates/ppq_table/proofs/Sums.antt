@@ -56,6 +56,11 @@ module _ {V : Type 0} where
   two_of_total f (x ∷ xs) (suc i) zero v u a b n = let e : f x ≡ f u = ap f (some-injective x u b) in omega (arith, one_of_total f xs i v a)
   two_of_total f (x ∷ xs) (suc i) (suc j) v u a b n = omega (arith, two_of_total f xs i j v u a b (λ e. n (ap suc e)))
 
+  -- where f is 0 of each view, it counts nothing
+  pub total_zero : (f : V → ℕ) (vs : List V) → ((j : ℕ) (v : V) → get_elem? vs j ≡ some v → f v ≡ 0) → total f vs ≡ 0
+  total_zero f [] all = refl
+  total_zero f (v ∷ vs) all = omega (arith, all 0 v refl, total_zero f vs (λ j u e. all (suc j) u e))
+
   -- where f counts nothing, and g is 0 wherever f is, g counts nothing
   pub total_none : (f g : V → ℕ) (vs : List V) → ((j : ℕ) (u : V) → get_elem? vs j ≡ some u → f u ≡ 0 → g u ≡ 0) → total f vs ≡ 0 → total g vs ≡ 0
   total_none f g [] idle nothing = refl

@@ -6,5 +6,4 @@ returns g c = record {
   looks = looks.looks_are_true _;
   blind = looks.no_blind_look _;
   alone = looks.no_blind_look_alone _;
-  joins = looks.joins_are_counted _;
 }

@@ -4,14 +4,14 @@ use Rattle.ppq_pool.proofs.Holding.{Takes-keeps, Takes-apart, with_give-keeps}
 use Rattle.ppq_pool.proofs.tests.numbers_are_given_back_in_any_order.Goals as goal
 
 pub give-requires-clause-holds : goal.give-requires-clause-holds
-give-requires-clause-holds g c = λ κ. let s = c.in-Some-Some-Some in Takes-keeps _ _ _ _ s.ensures''.taken s.ensures'.holds
+give-requires-clause-holds g c = let s = c.in-Some-Some-Some in Takes-keeps _ _ _ _ s.ensures''.taken s.ensures'.holds
 
 pub give-requires-2-clause-holds : goal.give-requires-2-clause-holds
-give-requires-2-clause-holds g c = λ κ. let s = c.in-Some-Some-Some in subst (λ h. Holds h s.c) (sym c.give.ensures.given)
+give-requires-2-clause-holds g c = let s = c.in-Some-Some-Some in subst (λ h. Holds h s.c) (sym c.give.ensures.given)
     (with_give-keeps c.take-3.new.seat.hand s.b s.c s.y (Takes-keeps _ _ _ _ s.ensures''.taken s.ensures'.holds) (λ e. Takes-apart _ _ _ _ s.ensures''.taken s.ensures'.holds (sym e)) s.ensures''.holds)
 
 pub give-requires-3-clause-holds : goal.give-requires-3-clause-holds
-give-requires-3-clause-holds g c = λ κ. let s = c.in-Some-Some-Some in let v = c.take-3.new.seat.hand in let w = c.give.new.seat.hand in
+give-requires-3-clause-holds g c = let s = c.in-Some-Some-Some in let v = c.take-3.new.seat.hand in let w = c.give.new.seat.hand in
     let b = Takes-keeps _ _ _ _ s.ensures''.taken s.ensures'.holds in let a = Takes-keeps _ _ _ _ s.ensures'.taken s.ensures.holds in
     let first = with_give-keeps v s.b s.a s.y b (Takes-apart _ _ _ _ s.ensures'.taken s.ensures.holds) (Takes-keeps _ _ _ _ s.ensures''.taken a) in
     let last = with_give-keeps v s.b s.c s.y b (λ e. Takes-apart _ _ _ _ s.ensures''.taken s.ensures'.holds (sym e)) s.ensures''.holds in
