@@ -16,6 +16,7 @@ mod status;
 #[cfg(test)]
 mod tests;
 mod top;
+mod twice;
 
 use ppq_engine::End;
 use ppq_outside::{MemRack, OpenGate};
