@@ -2,4 +2,5 @@ pub mod Load
 pub mod Replies
 pub mod Report
 pub mod Status
+pub mod Twice
 pub mod Words

@@ -1,8 +1,9 @@
 //! Loads a script from a library.
-ghost use Rattle.std.specs.Prelude.{◌≡◌, ◌≤◌, ◌<◌, ◌+◌, Some, length, take, IfOk, IfErr, IsErrOf, vec_len};
+ghost use Rattle.std.specs.Prelude.{◌≡◌, ◌≤◌, ◌<◌, ◌+◌, Some, length, take, IfOk, OnOk, IfErr, IsErrOf, vec_len};
 ghost use Rattle.ppq_outside.specs.Told.{HasCause, Rose, OfLength, Remembers};
 ghost use Rattle.ppq_cli.specs.Load.{IsLoaded, IsNotLoaded, load_end};
 ghost use Rattle.ppq_cli.specs.Replies.{EndsAt, IsGiven, IsReplied, IsRefusal};
+ghost use Rattle.ppq_engine.specs.Ends.{NoFault};
 ghost use Rattle.ppq_cli.specs.declared.load.LoadFault.TheVariants.{ReadFault};
 
 use ppq_outside::{Host, Library, OutsideFault};
@@ -71,8 +72,11 @@ fn length_of_script<H: Host, L: Library>(
     ensures short { IfOk result (λ size. size ≤ 1_048_576) }
     ensures said { IfOk result (λ size. L.replied library.new (OfLength name.now (Some size))) }
     ensures refused { IfErr result (λ fault. IsRefusal (L.told library.old) (L.replied library.new) name.now (load_end fault)) }
+    ensures remembers { Remembers (L.replied library.old) (L.replied library.new) }
     ensures kept { L.told library.new ≡ L.told library.old }
     ensures later { L.faults library.old ≤ L.faults library.new }
+    ensures stays { OnOk result (L.faults library.new ≡ L.faults library.old) }
+    ensures unless { IfErr result (λ fault. NoFault (load_end fault) → L.faults library.new ≡ L.faults library.old) }
     ensures read { IsErrOf result ReadFault → Rose (L.faults library.old) (L.faults library.new) }
 {
     match library.length(rt, alloc, name)? {
@@ -99,7 +103,11 @@ pub fn load<H: Host, L: Library>(
     ensures replied { IfOk result (λ bytes. IsReplied (L.replied library.new) name.now bytes.items) }
     ensures not { IfErr result (IsNotLoaded (L.told library.old) name.now) }
     ensures refused { IfErr result (λ fault. IsRefusal (L.told library.old) (L.replied library.new) name.now (load_end fault)) }
+    ensures remembers { Remembers (L.replied library.old) (L.replied library.new) }
+    ensures kept { L.told library.new ≡ L.told library.old }
     ensures later { L.faults library.old ≤ L.faults library.new }
+    ensures stays { OnOk result (L.faults library.new ≡ L.faults library.old) }
+    ensures unless { IfErr result (λ fault. NoFault (load_end fault) → L.faults library.new ≡ L.faults library.old) }
     ensures read { IsErrOf result ReadFault → Rose (L.faults library.old) (L.faults library.new) }
 {
     let size = length_of_script(rt, alloc, library, name)?;

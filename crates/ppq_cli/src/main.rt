@@ -16,6 +16,7 @@ mod status;
 #[cfg(test)]
 mod tests;
 mod top;
+mod twice;
 
 use ppq_engine::End;
 use ppq_outside::{MemRack, OpenGate};
@@ -23,11 +24,12 @@ use program::{report_end, run_and_report};
 use real_library::DirLibrary;
 use real_sink::StdSink;
 use std::env;
+use std::env::Env;
 use std::io::ErrorKind;
 use std::process::ExitCode;
 
 /// The words after the program's name. A word that is no UTF-8 text has no reading.
-fn words_of(rt: &HostRuntime) -> Result<Vec<String>, End>
+fn words_of<R: Env + AllocGlobal>(rt: &R) -> Result<Vec<String>, End>
     ensures { IfErr result (λ end. (end ≡ Usage) ⊎ (end ≡ Memory)) }
 {
     let arguments = match env::args(rt) {

@@ -1,5 +1,5 @@
 //! The program over any outside.
-ghost use Rattle.std.specs.Prelude.{◌≡◌, ◌<◌, ◌↔◌, ◌^◌, None, IfSome};
+ghost use Rattle.std.specs.Prelude.{◌≡◌, ◌≤◌, ◌<◌, ◌↔◌, ◌^◌, None, IfSome};
 ghost use Rattle.ppq_outside.specs.Told.{TakesAll, TakesPart};
 ghost use Rattle.ppq_cli.specs.Replies.{IsRefusal, IsRunOf};
 ghost use Rattle.ppq_cli.specs.Report.{report_of, TakesLine};
@@ -17,6 +17,7 @@ use std::alloc::Global;
 /// rose and its beginning was; that changes nothing of the status.
 pub fn report_end<H: Host, E: Sink>(rt: &H, end: &End, errors: &mut E) -> u8
     ensures status { result ≡ status_of end.now }
+    ensures later { E.faults errors.old ≤ E.faults errors.new }
     ensures line { TakesLine (E.told errors.old) (E.told errors.new) (E.faults errors.old) (E.faults errors.new) (report_of end.now) }
 {
     let _ = report(rt, end, errors);
@@ -25,7 +26,8 @@ pub fn report_end<H: Host, E: Sink>(rt: &H, end: &End, errors: &mut E) -> u8
 
 /// Runs the words, reports how that ended, and gives the status of that end. Where library and sink
 /// tell, status 0 says that the sink took the whole output of the script, and every other that it
-/// took a prefix of it. What the library gave as the script decides, whether it tells or not.
+/// took a prefix of it. What the library gave as the script decides, whether it tells or not. Status 0
+/// says besides that no call of library, rack and sink failed.
 pub fn run_and_report<H: Host, L: Library, K: Rack, O: Sink, E: Sink, G: Gate>(
     rt: &H,
     alloc: Global,
@@ -45,6 +47,14 @@ where
     ensures usage { (result ≡ 2) ↔ (script_name words.now ≡ None) }
     ensures reported { IsReported (TakesLine (E.told errors.old) (E.told errors.new) (E.faults errors.old) (E.faults errors.new)) result (λ end. IfSome (script_name words.now) (λ name. IsRefusal (L.told library.old) (L.replied library.new) name end × IsRunOf (L.replied library.new) name (O.told out.old) (O.told out.new) end)) }
     ensures answer { IfSome (L.told library.old) (λ files. IsReported (TakesLine (E.told errors.old) (E.told errors.new) (E.faults errors.old) (E.faults errors.new)) result (IsAnswer (refusal_of (script_name words.now) files))) }
+    ensures files { L.told library.new ≡ L.told library.old }
+    ensures library_later { L.faults library.old ≤ L.faults library.new }
+    ensures rack_later { K.faults rack.old ≤ K.faults rack.new }
+    ensures sink_later { O.faults out.old ≤ O.faults out.new }
+    ensures errors_later { E.faults errors.old ≤ E.faults errors.new }
+    ensures library_stays { result ≡ 0 → L.faults library.new ≡ L.faults library.old }
+    ensures rack_stays { result ≡ 0 → K.faults rack.new ≡ K.faults rack.old }
+    ensures sink_stays { result ≡ 0 → O.faults out.new ≡ O.faults out.old }
 {
     let ended = run_words(rt, alloc, words, library, rack, gate, out);
     report_end(rt, &ended.end, errors)

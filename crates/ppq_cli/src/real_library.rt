@@ -29,6 +29,7 @@ impl DirLibrary {
 
     /// Counts a failed call.
     fn fault(&mut self) -> OutsideFault
+        ensures failed { result ≡ OutsideFault.Failed }
         ensures later { self.old.faults ≤ self.new.faults }
         ensures rose { Rose self.old.faults self.new.faults }
     {

@@ -7,11 +7,16 @@ use crate::real_sink::StdSink;
 use crate::report::report;
 use crate::status::status;
 use crate::top::run_words;
+use crate::twice::run_twice;
+use crate::words_of;
 use ppq_engine::{End, Ended};
 use ppq_outside::{
     Host, Library, MemLibrary, MemRack, MemSink, MemSlot, OpenGate, OutsideFault, Sink,
 };
 use std::alloc::Global;
+use std::env::{Env, FillError};
+use std::fs::{File, Permissions};
+use std::os::unix::fs::PermissionsExt;
 use std::test::Fail;
 use std::{env, fs, process};
 
@@ -412,6 +417,183 @@ fn a_folder_and_a_device_cannot_be_read(rt: HostRuntime) -> Result<(), Fail> {
             b"ppq: cannot read\n".as_slice()
         );
     }
+    Ok(())
+}
+
+/// A path among the temporary files that no other run of these tests has.
+fn scratch(rt: &HostRuntime, name: &str) -> Result<String, Fail> {
+    let folder = env::temp_dir(rt)?;
+    let number = process::id(rt.process());
+    let path = format!(in rt.alloc(); "{}/{}-{}", folder.as_str(), number, name)?;
+    Ok(path)
+}
+
+#[test]
+fn a_file_that_may_not_be_opened_cannot_be_read(rt: HostRuntime) -> Result<(), Fail> {
+    let path = scratch(&rt, "closed.ppq")?;
+    fs::write(&rt, &path, b"pop\n")?;
+    fs::set_permissions(&rt, &path, Permissions::from_mode(0))?;
+    // The system's own user may open every file.
+    let opens = File::open(&rt, &path).is_ok();
+    let outcome = program(&rt, rt.alloc(), &["run", &path])?;
+    fs::remove_file(&rt, &path)?;
+    if opens {
+        assert_eq!(rt; outcome.status, 0);
+        assert_eq!(rt; outcome.wrote.as_slice(), b"empty\n".as_slice());
+    } else {
+        assert_eq!(rt; outcome.status, 3);
+        assert_eq!(rt; outcome.wrote.len(), 0);
+    }
+    Ok(())
+}
+
+#[test]
+fn a_path_through_a_plain_file_cannot_be_read(rt: HostRuntime) -> Result<(), Fail> {
+    let path = scratch(&rt, "plain.ppq")?;
+    fs::write(&rt, &path, b"pop\n")?;
+    let through = format!(in rt.alloc(); "{}/s.ppq", path.as_str())?;
+    let outcome = program(&rt, rt.alloc(), &["run", &through])?;
+    fs::remove_file(&rt, &path)?;
+    assert_eq!(rt; outcome.status, 3);
+    assert_eq!(rt;
+        outcome.reported.as_slice(),
+        b"ppq: cannot read\n".as_slice()
+    );
+    Ok(())
+}
+
+/// So many bytes, each its place modulo 251.
+fn bytes_by_place(alloc: Global, count: u32) -> Result<Vec<u8>, Fail> {
+    let mut bytes = Vec::new(alloc);
+    for place in 0..count {
+        bytes.push((place % 251) as u8)?;
+    }
+    Ok(bytes)
+}
+
+#[test]
+fn a_long_file_is_read_from_any_place_on(rt: HostRuntime) -> Result<(), Fail> {
+    let path = scratch(&rt, "long")?;
+    fs::write(&rt, &path, &bytes_by_place(rt.alloc(), 200_000)?)?;
+    let rows: [(u64, [u8; 5], usize); 7] = [
+        (0, [0, 1, 2, 3, 4], 5),
+        (1, [1, 2, 3, 4, 5], 5),
+        (65_535, [24, 25, 26, 27, 28], 5),
+        (65_536, [25, 26, 27, 28, 29], 5),
+        (131_073, [51, 52, 53, 54, 55], 5),
+        (199_997, [201, 202, 203, 0, 0], 3),
+        (200_000, [0, 0, 0, 0, 0], 0),
+    ];
+    let mut library = DirLibrary::new();
+    let size = library.length(&rt, rt.alloc(), &path);
+    assert_eq!(rt; size, Ok(Some(200_000)));
+    for (at, bytes, count) in rows {
+        let mut into = [0; 5];
+        let came = library.read_at(&rt, rt.alloc(), &path, at, &mut into);
+        assert_eq!(rt; came, Ok(count));
+        assert_eq!(rt; into, bytes);
+    }
+    assert_eq!(rt; library.faults(), 0);
+    fs::remove_file(&rt, &path)?;
+    Ok(())
+}
+
+#[test]
+fn a_file_and_an_output_of_more_than_64_kilobytes(rt: HostRuntime) -> Result<(), Fail> {
+    let alloc = rt.alloc();
+    let first = 18_446_744_073_709_550_000;
+    let mut script = Vec::new(alloc);
+    let mut output = Vec::new(alloc);
+    for i in 0..1_600u64 {
+        let (low, high) = (first + i, first + 1_599 - i);
+        let push = format!(in alloc; "push {high} {high}\n")?;
+        let line = format!(in alloc; "{low} {low}\n")?;
+        script.extend_from_slice(push.as_bytes())?;
+        output.extend_from_slice(line.as_bytes())?;
+    }
+    for _ in 0..1_600 {
+        script.extend_from_slice(b"pop\n")?;
+    }
+    assert_eq!(rt; (script.len(), output.len()), (81_600, 67_200));
+    let path = scratch(&rt, "many.ppq")?;
+    let outcome = program_of_file(&rt, alloc, &path, &script)?;
+    assert_eq!(rt; outcome.status, 0);
+    assert_eq!(rt; outcome.wrote.as_slice(), output.as_slice());
+    Ok(())
+}
+
+/// The words of a command line, as bytes that may be no text.
+#[derive(Drop)]
+struct CommandLine {
+    words: &'static [&'static [u8]],
+}
+
+impl Env for CommandLine {
+    fn arg(&self, i: usize, buf: &mut [u8]) -> Result<usize, FillError> {
+        let Some(word) = self.words.get(i) else {
+            return Err(FillError::NotPresent);
+        };
+        if word.len() > buf.len() {
+            return Err(FillError::TooLong);
+        }
+        buf[..word.len()].copy_from_slice(word);
+        Ok(word.len())
+    }
+
+    fn var(&self, _name: &str, _buf: &mut [u8]) -> Result<usize, FillError> {
+        Err(FillError::NotPresent)
+    }
+
+    fn var_at(&self, _i: usize, _buf: &mut [u8]) -> Result<usize, FillError> {
+        Err(FillError::NotPresent)
+    }
+}
+
+#[test]
+fn words_are_those_after_the_name_of_the_program(rt: HostRuntime) -> Result<(), Fail> {
+    let line = CommandLine {
+        words: &[b"ppq", b"run", b"s.ppq"],
+    };
+    let words = words_of(&(line, rt.alloc()));
+    assert_eq!(rt; words, Ok(strings(rt.alloc(), &["run", "s.ppq"])?));
+    Ok(())
+}
+
+#[test]
+fn a_word_that_is_no_text_has_no_reading(rt: HostRuntime) -> Result<(), Fail> {
+    let line = CommandLine {
+        words: &[b"ppq", b"run", b"\xff.ppq"],
+    };
+    let words = words_of(&(line, rt.alloc()));
+    assert_eq!(rt; words, Err(End::Usage));
+    Ok(())
+}
+
+#[test]
+fn two_runs_write_the_same(rt: HostRuntime) -> Result<(), Fail> {
+    let alloc = rt.alloc();
+    let mut library = MemLibrary::new(alloc);
+    library.add(alloc, "s", b"push 5 1\npush 3 9\npop\npop\n")?;
+    let words = strings(alloc, &["run", "s"])?;
+    let mut one = MemSink::new(alloc, ROOM)?;
+    let mut other = MemSink::new(alloc, ROOM)?;
+    let (mut rack, mut other_rack) = (MemRack::new(), MemRack::new());
+    let end = run_twice(
+        &rt,
+        alloc,
+        &words,
+        &mut library,
+        &mut rack,
+        &OpenGate,
+        &mut one,
+        &mut other_rack,
+        &OpenGate,
+        &mut other,
+    );
+    assert_eq!(rt; end, End::Done);
+    assert_eq!(rt; one.bytes(), b"3 9\n5 1\n".as_slice());
+    assert_eq!(rt; other.bytes(), b"3 9\n5 1\n".as_slice());
+    assert_eq!(rt; rack.made().len(), 0);
     Ok(())
 }
 

@@ -1,11 +1,12 @@
 //! The top call.
-ghost use Rattle.std.specs.Prelude.{◌≡◌, ◌≤◌, ◌<◌, ◌↔◌, ◌⊎◌, ◌^◌, [], None, IfSome};
-ghost use Rattle.ppq_outside.specs.Told.{TakesAll, TakesPart, Rose};
+ghost use Rattle.std.specs.Prelude.{◌≡◌, ◌≤◌, ◌<◌, ◌↔◌, ◌⊎◌, ◌^◌, [], None, IfSome, map};
+ghost use Rattle.ppq_outside.specs.Told.{TakesAll, TakesPart, Rose, Remembers};
+ghost use Rattle.ppq_outside.specs.Made.{HasMadeJust};
 ghost use Rattle.ppq_cli.specs.Words.{script_name, refusal_of, IsAnswer, MayCome, script_commands, script_output, plain_sizes, plain_heap, Named, ScriptIn, OfScript};
 ghost use Rattle.ppq_cli.specs.Load.{load_end};
 ghost use Rattle.ppq_cli.specs.Replies.{IsRefusal, IsRunOf};
 ghost use Rattle.ppq_engine.specs.Output.{load_of, TakesWithin};
-ghost use Rattle.ppq_engine.specs.Ends.{IsRun, IsCompleted};
+ghost use Rattle.ppq_engine.specs.Ends.{IsRun, IsCompleted, NoFault};
 ghost use Rattle.ppq_engine.specs.declared.end.End.TheVariants.{Done, Usage, ReadFault, WriteFault, NoFreeBlock};
 
 use crate::load::{LoadFault, load};
@@ -90,8 +91,12 @@ where
     ensures may { MayCome result }
     ensures read { result ≡ ReadFault → Rose (L.faults library.old) (L.faults library.new) }
     ensures write { result ≡ WriteFault → Rose (O.faults out.old) (O.faults out.new) }
+    ensures files { L.told library.new ≡ L.told library.old }
+    ensures remembers { Remembers (L.replied library.old) (L.replied library.new) }
     ensures library_later { L.faults library.old ≤ L.faults library.new }
+    ensures library_stays { NoFault result → L.faults library.new ≡ L.faults library.old }
     ensures sink_later { O.faults out.old ≤ O.faults out.new }
+    ensures sink_stays { NoFault result → O.faults out.new ≡ O.faults out.old }
 {
     let Some(name) = name_of(words) else {
         return End::Usage;
@@ -130,7 +135,7 @@ pub fn run_words<H: Host, L: Library, K: Rack, O: Sink, G: Gate>(
     alloc: Global,
     words: &[String],
     library: &mut L,
-    _rack: &mut K,
+    rack: &mut K,
     gate: &G,
     out: &mut O,
 ) -> Ended<K::Slot>
@@ -161,6 +166,20 @@ where
     // want of memory.
     ensures complete { IfSome (L.told library.old) (λ files. refusal_of (script_name words.now) files ≡ None → L.faults library.new ≡ L.faults library.old → O.faults out.new ≡ O.faults out.old → ScriptIn files (script_name words.now) (λ bytes. load_of (script_commands bytes) ≤ plain_heap → IsCompleted result.end)) }
 
+    // What stands of the outside afterwards, so that it can be handed in again: no file changes, no reply is
+    // forgotten, no count falls, and none rises but where the end names a fault.
+    ensures files { L.told library.new ≡ L.told library.old }
+    ensures remembers { Remembers (L.replied library.old) (L.replied library.new) }
+    ensures library_later { L.faults library.old ≤ L.faults library.new }
+    ensures library_stays { NoFault result.end → L.faults library.new ≡ L.faults library.old }
+    ensures sink_later { O.faults out.old ≤ O.faults out.new }
+    ensures sink_stays { NoFault result.end → O.faults out.new ≡ O.faults out.old }
+    ensures rack_later { K.faults rack.old ≤ K.faults rack.new }
+    ensures rack_stays { NoFault result.end → K.faults rack.new ≡ K.faults rack.old }
+    ensures rack_tells { K.tells rack.old → K.tells rack.new }
+
+    // The blocks: the rack made just those that come back, and today none.
+    ensures made { HasMadeJust (K.made rack.old) (K.made rack.new) (map (λ slot. (K.Slot.shown slot).number) result.blocks.items) }
     ensures blocks { result.blocks.items ≡ [] }
 {
     let end = load_and_run(rt, alloc, words, library, out, gate);

@@ -1,8 +1,8 @@
 -- When a run ends how.
-use Rattle.std.specs.Prelude.{◌≡◌, ◌⊎◌, Option, Some, None, MatchOption, if◌then◌else◌, nat_lt}
+use Rattle.std.specs.Prelude.{◌≡◌, ◌⊎◌, Option, Some, None, MatchOption, if◌then◌else◌, nat_lt, ⊤}
 use Rattle.ppq_budget.specs.Sizes.{Numbers, fixed_of}
 use Rattle.ppq_engine.specs.declared.end.End.{End}
-use Rattle.ppq_engine.specs.declared.end.End.TheVariants.{Done, WriteFault, NoFreeBlock, BudgetTooSmall, Memory}
+use Rattle.ppq_engine.specs.declared.end.End.TheVariants.{Done, BadLine, Usage, ReadFault, WriteFault, DeviceFault, NoFreeBlock, BudgetTooSmall, Memory, FileChanged, NoDevice, NoScript, ScriptTooLong}
 
 -- the answer to a budget below its fixed part, and none to another
 abbrev pub budget_refusal : Numbers → Option End
@@ -19,3 +19,19 @@ IsRunOrRefusal refusal end = MatchOption refusal (IsRun end) (λ e. end ≡ e) �
 -- the end is done or want of memory
 abbrev pub IsCompleted : End → Type 0
 IsCompleted end = (end ≡ Done) ⊎ (end ≡ Memory)
+
+-- the end names no fault of library, sink, rack or block
+abbrev pub NoFault : End → Type 0
+NoFault Done = ⊤
+NoFault (BadLine line) = ⊤
+NoFault Usage = ⊤
+NoFault ReadFault = ⊥
+NoFault WriteFault = ⊥
+NoFault (DeviceFault number) = ⊥
+NoFault NoFreeBlock = ⊤
+NoFault (BudgetTooSmall need) = ⊤
+NoFault Memory = ⊤
+NoFault (FileChanged line said got) = ⊤
+NoFault NoDevice = ⊥
+NoFault NoScript = ⊤
+NoFault ScriptTooLong = ⊤

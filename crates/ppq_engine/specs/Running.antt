@@ -1,5 +1,5 @@
 -- What stands while the commands of a script are run.
-use Rattle.std.specs.Prelude.{◌≡◌, ◌≤◌, ◌<◌, ◌+◌, ℕ, List, ◌++◌, take, Option}
+use Rattle.std.specs.Prelude.{◌≡◌, ◌≤◌, ◌<◌, ◌+◌, ℕ, List, ◌++◌, take, Option, ⊤}
 use Rattle.ppq_record.specs.declared.pair.Pair.{Pair}
 use Rattle.ppq_record.specs.Bag.{IsSameBag}
 use Rattle.ppq_outside.specs.Told.{TakesAll, TakesPart}
@@ -35,6 +35,11 @@ abbrev pub HasStopped : Option (List ℕ) → Option (List ℕ) → List ℕ →
 HasStopped before now gathered room commands Sink = TakesPart before now (output_of commands)
 HasStopped before now gathered room commands (Queue NoFreeBlock) = IsRefused before now gathered room commands
 HasStopped before now gathered room commands (Queue (Device number)) = ⊥
+
+-- the sink's count stayed where it was not the sink that stopped the commands
+abbrev pub StaysUnlessSink : ℕ → ℕ → Stop → Type 0
+StaysUnlessSink before now Sink = ⊤
+StaysUnlessSink before now (Queue fault) = now ≡ before
 
 -- a queue's fault as an end
 abbrev pub queue_end : QueueFault → End

@@ -6,8 +6,8 @@ ghost use Rattle.ppq_budget.specs.Sizes.{heap_of, fixed_of};
 ghost use Rattle.ppq_script.specs.Reading.{command_list};
 ghost use Rattle.ppq_engine.specs.Output.{least_text, text_of, after, output_of, load_of, TakesWithin};
 ghost use Rattle.ppq_engine.specs.Gathers.{answer_text};
-ghost use Rattle.ppq_engine.specs.Running.{IsGathered, HasStopped, queue_end};
-ghost use Rattle.ppq_engine.specs.Ends.{budget_refusal, IsRun, IsRunOrRefusal, IsCompleted};
+ghost use Rattle.ppq_engine.specs.Running.{IsGathered, HasStopped, StaysUnlessSink, queue_end};
+ghost use Rattle.ppq_engine.specs.Ends.{budget_refusal, IsRun, IsRunOrRefusal, IsCompleted, NoFault};
 ghost use Rattle.ppq_engine.specs.declared.stop.Stop.TheVariants.{Sink};
 ghost use Rattle.ppq_queue.specs.declared.fault.QueueFault.TheVariants as queue_fault;
 ghost use Rattle.ppq_engine.specs.declared.end.End.TheVariants.{Done, WriteFault, NoFreeBlock};
@@ -81,6 +81,8 @@ where
     ensures all { OnOk result (IsGathered (O.told out.old) (O.told out.new) gathered.new (output_of (command_list script.now))) }
     ensures stopped { IfErr result (HasStopped (O.told out.old) (O.told out.new) gathered.new (heap_of queue.old.sizes) (command_list script.now)) }
     ensures later { O.faults out.old ≤ O.faults out.new }
+    ensures stays { OnOk result (O.faults out.new ≡ O.faults out.old) }
+    ensures unless { IfErr result (StaysUnlessSink (O.faults out.old) (O.faults out.new)) }
     ensures cause { IsErrOf result Sink → Rose (O.faults out.old) (O.faults out.new) }
 {
     for i in 0..script.len() {
@@ -122,6 +124,7 @@ where
     ensures above { result ≡ NoFreeBlock → heap_of queue.old.sizes < load_of (command_list script.now) }
     ensures within { result ≡ NoFreeBlock → TakesWithin (O.told out.old) (O.told out.new) (heap_of queue.old.sizes) (command_list script.now) }
     ensures later { O.faults out.old ≤ O.faults out.new }
+    ensures stays { NoFault result → O.faults out.new ≡ O.faults out.old }
 {
     match run_commands(rt, script, queue, gathered, out, gate) {
         Ok(()) => match gathered.put(rt, out) {
@@ -169,6 +172,7 @@ where
     ensures write { result ≡ WriteFault → Rose (O.faults out.old) (O.faults out.new) }
     ensures above { result ≡ NoFreeBlock → heap_of sizes < load_of (command_list script.now) }
     ensures later { O.faults out.old ≤ O.faults out.new }
+    ensures stays { NoFault result → O.faults out.new ≡ O.faults out.old }
 
     // A budget that is large enough for its fixed part, a load that one heap holds, and no fault of the sink.
     ensures complete { fixed_of sizes ≤ sizes.memory → load_of (command_list script.now) ≤ heap_of sizes → O.faults out.old < 2 ^ 63 → O.faults out.new ≡ O.faults out.old → IsCompleted result }

@@ -1,7 +1,7 @@
 -- What slots, libraries and sinks tell, and how their counts rise.
 use Rattle.std.specs.Prelude.{◌≡◌, ℕ, ◌+◌, ◌-◌, ◌^◌, ◌≤◌, List, [], ◌++◌, length, take, drop, min, Option, Some, None, Result, OnErr, IsErrOf, IsSome, OnOk, ⊤}
 use Rattle.ppq_outside.specs.declared.fault.OutsideFault.{OutsideFault}
-use Rattle.ppq_outside.specs.declared.fault.OutsideFault.TheVariants.{Failed}
+use Rattle.ppq_outside.specs.declared.fault.OutsideFault.TheVariants.{Failed, Memory}
 
 -- a count that goes up by one, and stands still at its last value
 abbrev pub next_count : ℕ → ℕ
@@ -11,15 +11,18 @@ next_count before = min (before + 1) (2 ^ 64 - 1)
 abbrev pub Rose : ℕ → ℕ → Type 0
 Rose before now = next_count before ≤ now
 
--- the count did not fall, and rose where the call failed
+-- the count did not fall; it rose where the call failed, and stayed where it did not
 pub record HasCause {T : Type 0} (before now : ℕ) (result : Result T OutsideFault) : Type 0 where
   pub later : before ≤ now
   pub failed : IsErrOf result Failed → Rose before now
+  pub ok : OnOk result (now ≡ before)
+  pub memory : IsErrOf result Memory → now ≡ before
 
 -- the same for a call with one error
 pub record HasOneCause {T E : Type 0} (before now : ℕ) (result : Result T E) : Type 0 where
   pub later : before ≤ now
   pub failed : OnErr result (Rose before now)
+  pub ok : OnOk result (now ≡ before)
 
 -- the length that a map from names to bytes gives
 abbrev pub length_of : Option (List ℕ) → Option ℕ

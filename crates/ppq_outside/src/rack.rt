@@ -1,7 +1,8 @@
 //! Who makes the blocks of a device.
-ghost use Rattle.std.specs.Prelude.{◌≡◌, ℕ, IfOk};
+ghost use Rattle.std.specs.Prelude.{◌≡◌, ℕ, List, IfOk};
 ghost use Rattle.ppq_outside.specs.Told.{HasCause, IsFresh};
 ghost use Rattle.ppq_outside.specs.Shown.{Tells};
+ghost use Rattle.ppq_outside.specs.Made.{made_by, HasMade};
 
 use crate::{Host, OutsideFault, Slot};
 use std::alloc::Global;
@@ -12,6 +13,12 @@ pub trait Rack {
 
     /// Whether every slot that it makes tells its bytes.
     ghost tells: { Self → Type 0 };
+
+    /// Whether these are the blocks that it made, by number, in the order in which it made them: true of
+    /// the list of all of them, and of others only as far as it keeps no account of them. No code can
+    /// ask it, so a caller that is proved for every rack knows it of no list but that which its own
+    /// calls make longer.
+    ghost made: { Self → List ℕ → Type 0 };
 
     /// How many calls failed.
     ghost faults: { Self → ℕ };
@@ -34,6 +41,7 @@ pub trait Rack {
         ensures size { IfOk result (λ slot. (Self.Slot.shown slot).size ≡ bytes) }
         ensures fresh { IfOk result (λ slot. IsFresh (Self.Slot.shown slot).faults (Self.Slot.shown slot).writes (Self.Slot.shown slot).reads) }
         ensures tells { IfOk result (λ slot. tells self.old → Tells (Self.Slot.shown slot)) }
+        ensures made { HasMade (made self.old) (made self.new) (made_by result number) }
         ensures kept { tells self.old → tells self.new }
         ensures cause { HasCause (faults self.old) (faults self.new) result };
 }

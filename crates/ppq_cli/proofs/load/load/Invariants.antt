@@ -1,5 +1,5 @@
 use Rattle.std.proofs.Common.{◌≡◌, ◌≤◌, ◌-◌, length, take, Some}
-use Rattle.ppq_outside.specs.Told.{OfLength}
+use Rattle.ppq_outside.specs.Told.{OfLength, Remembers}
 use Rattle.ppq_cli.specs.Replies.{IsGiven}
 use Rattle.ppq_cli.proofs.load.load.Given as goal
 
@@ -8,7 +8,8 @@ invariant-reading g l = record {
   kept : g.L.Library.told l.library ≡ g.L.Library.told l.fn.library;
   given : IsGiven (g.L.Library.replied l.library) l.fn.name (take l.got l.bytes.items);
   said : g.L.Library.replied l.library (OfLength l.fn.name (Some l.size));
-  later : g.L.Library.faults l.fn.library ≤ g.L.Library.faults l.library;
+  remembers : Remembers (g.L.Library.replied l.fn.library) (g.L.Library.replied l.library);
+  stays : g.L.Library.faults l.library ≡ g.L.Library.faults l.fn.library;
   long : length l.bytes.items ≡ l.size;
   within : l.got ≤ l.size;
 }

@@ -28,5 +28,5 @@ loop-i-preserved g c = record {
       run-step (g.O.Sink.told c.args.out.now) (g.O.Sink.told c.loop-i.out) (g.O.Sink.told c.print.new.out) c.loop-i.gathered c.print.new.self _ c.loop-i.queue.bag c.step.new.queue.bag c.loop-i.queue.peak c.step.new.queue.peak (command_list c.args.script.now) c.loop-i.i c.at.result
       (omega (arith, length-map c.args.script.now.commands (λ n. n.command))) c.at.ensures c.loop-i.invariant.run c.in_ok-print.ensures.ok c.in_ok-answer.ensures.text c.in_ok-answer.ensures.bag c.step.ensures.peak;
   sizes = c.step.ensures.sizes ∙ c.loop-i.invariant.sizes;
-  later = omega (arith, c.in_ok-print.ensures.cause.later, c.loop-i.invariant.later);
+  stays = c.in_ok-print.ensures.cause.ok ∙ c.loop-i.invariant.stays;
 }

@@ -1,0 +1,50 @@
+//! Two runs of one script.
+ghost use Rattle.std.specs.Prelude.{◌≡◌, ◌<◌, ◌^◌, IfSome};
+ghost use Rattle.ppq_cli.specs.Twice.{WriteTheSame};
+ghost use Rattle.ppq_engine.specs.declared.end.End.TheVariants.{Done};
+
+use crate::top::run_words;
+use ppq_engine::End;
+use ppq_outside::{Gate, Host, Library, Rack, Sink};
+use std::alloc::Global;
+
+/// Runs the words twice over one library, each time with a rack, a gate and a sink of its own, and
+/// gives the end of the first run that was not done, or `Done`.
+///
+/// It is here for its contract: two runs of one script that both end `Done` write the same bytes,
+/// whatever their gates and racks do. What the second run asks of the library follows from how the
+/// first one ended.
+pub fn run_twice<
+    H: Host,
+    L: Library,
+    K: Rack,
+    O: Sink,
+    G: Gate,
+    OtherK: Rack,
+    OtherO: Sink,
+    OtherG: Gate,
+>(
+    rt: &H,
+    alloc: Global,
+    words: &[String],
+    library: &mut L,
+    rack: &mut K,
+    gate: &G,
+    out: &mut O,
+    other_rack: &mut OtherK,
+    other_gate: &OtherG,
+    other_out: &mut OtherO,
+) -> End
+where
+    H::Dir: Send,
+    requires library { L.faults library.old < 2 ^ 63 }
+    requires sink { O.faults out.old < 2 ^ 63 }
+    requires other_sink { OtherO.faults other_out.old < 2 ^ 63 }
+    ensures same { result ≡ Done → IfSome (L.told library.old) (λ _. WriteTheSame (O.told out.old) (O.told out.new) (OtherO.told other_out.old) (OtherO.told other_out.new)) }
+{
+    let first = run_words(rt, alloc, words, library, rack, gate, out).end;
+    match first {
+        End::Done => { run_words(rt, alloc, words, library, other_rack, other_gate, other_out).end }
+        _ => first,
+    }
+}
