@@ -1,5 +1,5 @@
 -- How many matches a leaf plays.
-use Rattle.std.specs.Prelude.{◌≡◌, ℕ, zero, suc, ◌+◌, ◌*◌, ◌/◌, ◌^◌, ◌<◌, ◌≤◌, if◌then◌else◌, nat_lt}
+use Rattle.std.specs.Prelude.{ℕ, zero, suc, ◌+◌, ◌/◌, if◌then◌else◌, nat_lt}
 
 -- how often a node's number can be halved until it is 1, in at most so many halvings
 abbrev pub halvings : ℕ → ℕ → ℕ

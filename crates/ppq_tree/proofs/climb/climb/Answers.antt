@@ -1,5 +1,4 @@
-use Rattle.std.proofs.Common.{◌≡◌, ◌+◌, ◌*◌, ◌/◌, ◌<◌, ◌≤◌, length, refl, sym, subst, arith}
-use Rattle.ppq_tree.specs.Levels.{leaf_level}
+use Rattle.std.proofs.Common.{◌≡◌, ◌/◌, ◌<◌, refl, sym, subst, arith}
 use Rattle.ppq_tree.specs.Tree.{IsTreeAbove}
 use Rattle.ppq_tree.proofs.Levels.{levels_above-parent, levels_above-root}
 use Rattle.ppq_tree.proofs.Tree.{climbed, climbed_out}

@@ -1,6 +1,6 @@
 use Rattle.std.proofs.Common.{◌≡◌, ◌/◌, ◌<◌, length, subst, arith}
 use Rattle.std.proofs.lemmas.List.{get_or-set_same}
-use Rattle.ppq_tree.specs.Tree.{IsTreeAbove, winner_at, better}
+use Rattle.ppq_tree.specs.Tree.{IsTreeAbove}
 use Rattle.ppq_tree.proofs.Levels.{levels_above-parent, levels_above-root}
 use Rattle.ppq_tree.proofs.Tree.{climbed_out}
 use Rattle.ppq_tree.proofs.Carried.{climbed_with}

@@ -1,4 +1,4 @@
-use Rattle.std.proofs.Common.{◌≡◌, ap₂, ◌∙◌, nat_lt}
+use Rattle.std.proofs.Common.{ap₂, ◌∙◌, nat_lt}
 use Rattle.std.specs.Prelude.{◌||◌, ◌&&◌, not}
 use Rattle.ppq_tree.proofs.Carried.{ahead_is}
 use Rattle.ppq_tree.proofs.matches.is_ahead.Goals as goal

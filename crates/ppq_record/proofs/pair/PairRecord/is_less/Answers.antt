@@ -1,4 +1,4 @@
-use Rattle.std.proofs.Common.{◌≡◌, ◌<◌, ◌^◌, ℕ, sym, ap, ap₂, ◌∙◌, nat_lt}
+use Rattle.std.proofs.Common.{ap₂, ◌∙◌, nat_lt}
 use Rattle.ppq_record.proofs.Joined.{joined_less}
 use Rattle.ppq_record.proofs.pair.PairRecord.is_less.Goals as goal
 
