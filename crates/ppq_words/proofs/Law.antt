@@ -42,7 +42,7 @@ range_from n r =
     and_from _ _ (le-leb 1 n.workers r.some_worker) (and_from _ _ (le-leb n.workers 64 r.workers) (and_from _ _ (le-leb 2 n.block r.two_records) (and_from _ _ (le-leb n.block 65536 r.block)
     (and_from _ _ (le-leb 1 n.heap r.some_heap) (and_from _ _ (le-leb n.heap 64 r.heap) (and_from _ _ (le-leb n.memory 268435456 r.memory) (le-leb n.blocks 65536 r.blocks)))))))
 
-reading_parts : (a b : Option (Text)) (c : Option Numbers) (r : Reading) → reading_from a b c ≡ Some r → (a ≡ Some r.script) × (b ≡ Some r.device) × (c ≡ Some r.sizes)
+reading_parts : (a b : Option Text) (c : Option Numbers) (r : Reading) → reading_from a b c ≡ Some r → (a ≡ Some r.script) × (b ≡ Some r.device) × (c ≡ Some r.sizes)
 reading_parts None b c r e = cc
 reading_parts (Some s) None c r e = cc
 reading_parts (Some s) (Some d) None r e = cc
@@ -51,7 +51,7 @@ reading_parts (Some s) (Some d) (Some n) r e =
     let same : made ≡ r = cc in
     (ap (λ (z : Reading). Some z.script) same, ap (λ (z : Reading). Some z.device) same, ap (λ (z : Reading). Some z.sizes) same)
 
-name_parts : (t : Option (Text)) (s : Text) → option_and_then not_empty t ≡ Some s → (t ≡ Some s) × (1 ≤ length s)
+name_parts : (t : Option Text) (s : Text) → option_and_then not_empty t ≡ Some s → (t ≡ Some s) × (1 ≤ length s)
 name_parts None s e = cc
 name_parts (Some []) s e = cc
 name_parts (Some (b ∷ bs)) s e = let same : b ∷ bs ≡ s = cc in (e, subst (λ (z : Text). 1 ≤ length z) same (omega arith))

@@ -17,11 +17,11 @@ pub record AreUses (names words : List Text) (uses : List Use) : Type 0 where
 
 module _ (names : List Text) (all : AreNames names) where
   -- an option word, by its arguments
-  option_word : (word name : Text) (vo : Option (Text)) (words : List Text) → begins_with_hyphen word ≡ true → before_equals word ≡ name → is_option names name ≡ true → after_equals word ≡ vo
+  option_word : (word name : Text) (vo : Option Text) (words : List Text) → begins_with_hyphen word ≡ true → before_equals word ≡ name → is_option names name ≡ true → after_equals word ≡ vo
       → uses_of names None (word ∷ words) ≡ option_use name vo (uses_of names None words) (uses_of names (Some name) words)
   option_word word name vo words hyphen before known after =
       ap (λ (b : Bool). cond b (cond (is_option names (before_equals word)) (option_use (before_equals word) (after_equals word) (uses_of names None words) (uses_of names (Some (before_equals word)) words)) None) (with_use alone word (uses_of names None words))) hyphen
-      ∙ (ap₂ (λ (n : Text) (v : Option (Text)). cond (is_option names n) (option_use n v (uses_of names None words) (uses_of names (Some n) words)) None) before after
+      ∙ (ap₂ (λ (n : Text) (v : Option Text). cond (is_option names n) (option_use n v (uses_of names None words) (uses_of names (Some n) words)) None) before after
       ∙ ap (λ (b : Bool). cond b (option_use name vo (uses_of names None words) (uses_of names (Some name) words)) None) known)
 
   tidy_use : (name v : Text) (us : List Use) → begins_with_hyphen v ≡ false → with_use name v (Some us) ≡ Some ((name, v) ∷ us)
@@ -77,7 +77,7 @@ module _ (names : List Text) (all : AreNames names) where
   word_arguments : (word : Text) (words : List Text) → ArgumentsFrom words (uses_of names None words) → ((name : Text) → is_option names name ≡ true → ArgumentsFrom (name ∷ words) (uses_of names (Some name) words)) → ArgumentsFrom (word ∷ words) (uses_of names None (word ∷ words))
   word_arguments word words behind waiting us e = go (begins_with_hyphen word) (is_option names (before_equals word)) (after_equals word) refl refl e
     where
-      go : (hyphen known : Bool) (vo : Option (Text)) → is_option names (before_equals word) ≡ known → after_equals word ≡ vo
+      go : (hyphen known : Bool) (vo : Option Text) → is_option names (before_equals word) ≡ known → after_equals word ≡ vo
           → cond hyphen (cond known (option_use (before_equals word) vo (uses_of names None words) (uses_of names (Some (before_equals word)) words)) None) (with_use alone word (uses_of names None words)) ≡ Some us → AreUses names (word ∷ words) us
       go false known vo is at e =
           let first = with_use-Some alone word (uses_of names None words) us e in

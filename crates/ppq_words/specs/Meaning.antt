@@ -22,22 +22,23 @@ spelled_as (joined name value) = (name ++ codes "=" ++ value) ∷ []
 abbrev pub options : List Text
 options = map (λ n. codes "--" ++ n) option_names
 
--- an option has one of these names
+-- an option's name is one of these
 abbrev pub IsNamed : Argument → Type 0
 IsNamed (bare value) = ⊤
 IsNamed (apart name value) = Contains options name
 IsNamed (joined name value) = Contains options name
 
+-- its value
 abbrev pub value_in : Argument → Text
 value_in (bare value) = value
 value_in (apart name value) = value
 value_in (joined name value) = value
 
--- no value begins with `-`
+-- a text that does not begin with `-`
 abbrev pub IsPlain : Text → Type 0
-IsPlain value = begins_with_hyphen value ≡ false
+IsPlain text = begins_with_hyphen text ≡ false
 
--- the words that stand alone
+-- the values of the words that stand alone
 abbrev pub scripts_in : List Argument → List Text
 scripts_in [] = []
 scripts_in (bare value ∷ arguments) = value ∷ scripts_in arguments
@@ -57,7 +58,8 @@ pub record HasNumber (arguments : List Argument) (name : Text) (n : ℕ) : Type 
   pub once : values_of name arguments ≡ digits ∷ []
   pub spelled : Spells digits n
 
--- The words are `run` and, in any order, the script's name and the six options, each once.
+-- The words are `run` and, in any order, the script's name and the six options, each once. No value begins with `-`, no name is
+-- empty, and each number is in its range.
 pub record Reads (words : List Text) (r : Reading) : Type 0 where
   pub arguments : List Argument
   pub spelled : words ≡ codes "run" ∷ flat_map spelled_as arguments

@@ -24,6 +24,7 @@ as_reading a = record { script = a.script.now; device = a.device.now; sizes = a.
 abbrev pub texts_of : List (String Global) → List Text
 texts_of words = map (λ w. string_bytes w) words
 
+-- a text that is not empty
 abbrev pub not_empty : Text → Option Text
 not_empty [] = None
 not_empty (b ∷ bs) = Some (b ∷ bs)
@@ -33,6 +34,7 @@ abbrev pub are_in_range : Numbers → Bool
 are_in_range n = nat_le 1 n.workers && (nat_le n.workers 64 && (nat_le 2 n.block && (nat_le n.block 65536
     && (nat_le 1 n.heap && (nat_le n.heap 64 && (nat_le n.memory 268435456 && nat_le n.blocks 65536))))))
 
+-- these numbers, where each is in its range
 abbrev pub in_range : Numbers → Option Numbers
 in_range n = if are_in_range n then Some n else None
 
@@ -41,9 +43,11 @@ abbrev pub sizes_of : Option ℕ → Option ℕ → Option ℕ → Option ℕ �
 sizes_of (Some blocks) (Some workers) (Some block) (Some heap) (Some memory) = in_range (numbers workers block heap memory blocks)
 sizes_of blocks workers block heap memory = None
 
+-- the number that a value spells
 abbrev pub number_in : Option Text → Option ℕ
 number_in text = option_and_then number_of text
 
+-- two names and the sizes, where none is missing
 abbrev pub reading_from : Option Text → Option Text → Option Numbers → Option Reading
 reading_from (Some script) (Some device) (Some sizes) = Some (record { script = script; device = device; sizes = sizes })
 reading_from script device sizes = None
@@ -55,7 +59,7 @@ reading_by value =
     (sizes_of (number_in (value (codes "--blocks"))) (number_in (value (codes "--workers"))) (number_in (value (codes "--block")))
     (number_in (value (codes "--heap"))) (number_in (value (codes "--memory"))))
 
--- no name stands twice
+-- the reading of values under names of which none stands twice
 abbrev pub reading_of_uses : List Use → Option Reading
 reading_of_uses uses = if names_differ uses then reading_by (λ name. value_under name uses) else None
 

@@ -8,10 +8,12 @@ abbrev pub has_stray_value : Option Text → Bool
 has_stray_value None = false
 has_stray_value (Some value) = begins_with_hyphen value
 
+-- of a word that begins with `--`, by what is after that
 abbrev pub is_stray_long : Text → Bool
 is_stray_long [] = true
 is_stray_long (b ∷ bs) = has_stray_value (after_equals (b ∷ bs))
 
+-- of a word that begins with `-`, by what is after that
 abbrev pub is_stray_option : Text → Bool
 is_stray_option [] = true
 is_stray_option (b ∷ bs) = if b == 45 then is_stray_long bs else true

@@ -6,11 +6,12 @@ ghost use Rattle.ppq_words.specs.Meaning.{Reads, IsUsageOf};
 
 use ppq_script::lines_mean;
 
-/// The law of the words, as clauses for the proof of whoever calls it, and for a reader. Words have a
-/// reading if and only if they are `run` and, in any order, the script's name and the six options, each
-/// once, an option's value in the next word or after `=`; the names are not empty, no value begins
-/// with `-`, and each number is spelled and in its range. The reading is then the one that they
-/// spell, and there is no other. It does nothing.
+/// The law of the words, as clauses for the proof of whoever calls it, and for a reader.
+///
+/// Words have a reading if and only if they are `run` and, in any order, the script's name and the
+/// six options, each once. An option's value is the next word or follows `=`. The names are not
+/// empty, no value begins with `-`, and each number is 1 to 20 decimal digits and in its range. The
+/// reading is the one that the words spell, and there is no other. It does nothing.
 #[inline]
 pub fn words_mean()
     ensures meaning { (words : List Text) (r : Reading) → (reading_of words ≡ Some r) ↔ Reads words r }

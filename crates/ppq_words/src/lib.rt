@@ -1,10 +1,10 @@
-//! The words of the command line, read with `clap`.
+//! The arguments of the command line, read with `clap`.
 //!
-//! The words are `run` and, in any order, the script's name and six options of one value each, each
-//! once: `run SCRIPT --device FILE --blocks D --workers P --block B --heap H --memory M`. An option's
-//! value is the next word (`--heap 1`), or stands after `=` in the same word (`--heap=1`). `clap`
-//! parts the words; the crate itself looks for `run` and for stray hyphens before the parse, and
-//! reads the numbers by the grammar of scripts after it.
+//! `run SCRIPT --device FILE --blocks D --workers P --block B --heap H --memory M`: the word `run`
+//! and, in any order, the script's name and six options, each once. An option's value is the next
+//! word (`--heap 1`), or follows `=` in the same word (`--heap=1`). There is no help and no version
+//! option. The crate looks for `run` and for stray hyphens first, `clap` then splits the words into
+//! names and values, and the crate reads the numbers by the grammar of scripts.
 #![tactic(auto)]
 
 mod command;
