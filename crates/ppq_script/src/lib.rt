@@ -14,6 +14,7 @@ mod script;
 mod tests;
 
 pub use command::Command;
+pub use digits::number;
 pub use laws::lines_mean;
 pub use numbered::Numbered;
 pub use reader::read;

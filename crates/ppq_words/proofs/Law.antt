@@ -1,0 +1,339 @@
+-- The reading of words, against what they mean to a reader.
+use Rattle.std.proofs.Common.{◌≡◌, ◌∙◌, ◌↔◌, ◌≤◌, ℕ, Bool, true, false, not, cond, ◌||◌, nat_le, refl, sym, ap, ap₂, subst, arith, List, [], ◌∷◌, map, flat_map, length, Option, Some, None, codes, bytes_eq, Contains, inl, inr}
+use Rattle.std.specs.List.{list_any, AllByRecursion as Each}
+use Rattle.std.specs.Option.{option_and_then}
+use Rattle.std.proofs.lemmas.Bool.{and_parts, and_from, or_parts, or_cases, or_right, leb-true, le-leb, not-true, not_from_false}
+use Rattle.std.proofs.lemmas.Slice.Eq.{bytes_eq-Decides}
+use Rattle.ppq_budget.specs.Sizes.{Numbers, numbers, AreInRange}
+use Rattle.ppq_script.specs.Number.{number_of}
+use Rattle.ppq_script.specs.Meaning.{Spells}
+use Rattle.ppq_words.specs.Uses.{Text, Use, alone, is_option, uses_of, names_differ, value_under}
+use Rattle.ppq_words.specs.Reading.{Reading, option_names, not_empty, number_in, are_in_range, in_range, sizes_of, reading_from, reading_by, reading_of_uses, reading_of}
+use Rattle.ppq_words.specs.Meaning.{Argument, bare, apart, joined, spelled_as, HasNumber, Reads, scripts_in, values_of, options, IsUsageOf}
+use Rattle.ppq_words.proofs.Names.{names_are}
+use Rattle.ppq_words.proofs.Arguments.{use_of, IsKnown, values_under, is_option-Contains, all_known, all_named, values_under-scripts_in, values_under-values_of, Spells-IsPlain}
+use Rattle.ppq_words.proofs.Spelled.{AreUses, uses_mean}
+
+abbrev pub NumberLaw : Type 0
+NumberLaw = (digits : Text) (n : ℕ) → (number_of digits ≡ Some n) ↔ Spells digits n
+
+range_is : (n : Numbers) → are_in_range n ≡ true → AreInRange n
+range_is n e =
+    let a = and_parts (nat_le 1 n.workers) _ e in
+    let b = and_parts (nat_le n.workers 64) _ a.1 in
+    let c = and_parts (nat_le 2 n.block) _ b.1 in
+    let d = and_parts (nat_le n.block 65536) _ c.1 in
+    let f = and_parts (nat_le 1 n.heap) _ d.1 in
+    let g = and_parts (nat_le n.heap 64) _ f.1 in
+    let h = and_parts (nat_le n.memory 268435456) (nat_le n.blocks 65536) g.1 in
+    record {
+      some_worker = leb-true 1 n.workers a.0;
+      workers = leb-true n.workers 64 b.0;
+      two_records = leb-true 2 n.block c.0;
+      block = leb-true n.block 65536 d.0;
+      some_heap = leb-true 1 n.heap f.0;
+      heap = leb-true n.heap 64 g.0;
+      memory = leb-true n.memory 268435456 h.0;
+      blocks = leb-true n.blocks 65536 h.1;
+    }
+
+range_from : (n : Numbers) → AreInRange n → are_in_range n ≡ true
+range_from n r =
+    and_from _ _ (le-leb 1 n.workers r.some_worker) (and_from _ _ (le-leb n.workers 64 r.workers) (and_from _ _ (le-leb 2 n.block r.two_records) (and_from _ _ (le-leb n.block 65536 r.block)
+    (and_from _ _ (le-leb 1 n.heap r.some_heap) (and_from _ _ (le-leb n.heap 64 r.heap) (and_from _ _ (le-leb n.memory 268435456 r.memory) (le-leb n.blocks 65536 r.blocks)))))))
+
+reading_parts : (a b : Option Text) (c : Option Numbers) (r : Reading) → reading_from a b c ≡ Some r → (a ≡ Some r.script) × (b ≡ Some r.device) × (c ≡ Some r.sizes)
+reading_parts None b c r e = cc
+reading_parts (Some s) None c r e = cc
+reading_parts (Some s) (Some d) None r e = cc
+reading_parts (Some s) (Some d) (Some n) r e =
+    let made : Reading = record { script = s; device = d; sizes = n } in
+    let same : made ≡ r = cc in
+    (ap (λ (z : Reading). Some z.script) same, ap (λ (z : Reading). Some z.device) same, ap (λ (z : Reading). Some z.sizes) same)
+
+name_parts : (t : Option Text) (s : Text) → option_and_then not_empty t ≡ Some s → (t ≡ Some s) × (1 ≤ length s)
+name_parts None s e = cc
+name_parts (Some []) s e = cc
+name_parts (Some (b ∷ bs)) s e = let same : b ∷ bs ≡ s = cc in (e, subst (λ (z : Text). 1 ≤ length z) same (omega arith))
+
+range_parts : (m n : Numbers) → in_range m ≡ Some n → (m ≡ n) × (are_in_range n ≡ true)
+range_parts m n e = go (are_in_range m) refl e
+  where
+    go : (b : Bool) → are_in_range m ≡ b → cond b (Some m) None ≡ Some n → (m ≡ n) × (are_in_range n ≡ true)
+    go true is e = let same : m ≡ n = cc in (same, sym (ap are_in_range same) ∙ is)
+    go false is e = cc
+
+sizes_parts : (a b c d e : Option ℕ) (n : Numbers) → sizes_of a b c d e ≡ Some n
+    → (a ≡ Some n.blocks) × (b ≡ Some n.workers) × (c ≡ Some n.block) × (d ≡ Some n.heap) × (e ≡ Some n.memory) × (are_in_range n ≡ true)
+sizes_parts None b c d e n h = cc
+sizes_parts (Some a) None c d e n h = cc
+sizes_parts (Some a) (Some b) None d e n h = cc
+sizes_parts (Some a) (Some b) (Some c) None e n h = cc
+sizes_parts (Some a) (Some b) (Some c) (Some d) None n h = cc
+sizes_parts (Some a) (Some b) (Some c) (Some d) (Some e) n h =
+    let parts = range_parts (numbers b c d e a) n h in
+    (ap (λ (z : Numbers). Some z.blocks) parts.0, ap (λ (z : Numbers). Some z.workers) parts.0, ap (λ (z : Numbers). Some z.block) parts.0, ap (λ (z : Numbers). Some z.heap) parts.0, ap (λ (z : Numbers). Some z.memory) parts.0, parts.1)
+
+bytes_eq-swap : (x y : Text) → bytes_eq x y ≡ bytes_eq y x
+bytes_eq-swap x y = go (bytes_eq x y) (bytes_eq y x) refl refl
+  where
+    go : (a b : Bool) → bytes_eq x y ≡ a → bytes_eq y x ≡ b → a ≡ b
+    go true true p q = refl
+    go false false p q = refl
+    go true false p q = sym ((bytes_eq-Decides y x).1 (sym ((bytes_eq-Decides x y).0 p))) ∙ q
+    go false true p q = sym (sym ((bytes_eq-Decides x y).1 (sym ((bytes_eq-Decides y x).0 q))) ∙ p)
+
+-- ---- each name once
+
+-- the name stands once, with this value
+abbrev StandsOnce : List Use → Text → Text → Type 0
+StandsOnce uses name value = values_under name uses ≡ value ∷ []
+
+-- no other value stands under the name of a first
+none_under : (name : Text) (us : List Use) → list_any (λ v. bytes_eq name v.0) us ≡ false → values_under name us ≡ []
+none_under name [] e = refl
+none_under name (u ∷ us) e =
+    let parts = or_parts (bytes_eq name u.0) (list_any (λ v. bytes_eq name v.0) us) e in
+    let other : bytes_eq u.0 name ≡ false = bytes_eq-swap u.0 name ∙ parts.0 in
+    ap (λ (b : Bool). cond b (u.1 ∷ values_under name us) (values_under name us)) other ∙ none_under name us parts.1
+
+-- where names differ, the value under a name is the only one
+once_under : (name v : Text) (us : List Use) → names_differ us ≡ true → value_under name us ≡ Some v → StandsOnce us name v
+once_under name v [] differ e = cc
+once_under name v (u ∷ us) differ e =
+    let parts = and_parts (not (list_any (λ w. bytes_eq u.0 w.0) us)) (names_differ us) differ in
+    go (bytes_eq u.0 name) refl e (not-true (list_any (λ w. bytes_eq u.0 w.0) us) parts.0) (once_under name v us parts.1)
+  where
+    go : (b : Bool) → bytes_eq u.0 name ≡ b → cond b (Some u.1) (value_under name us) ≡ Some v → list_any (λ w. bytes_eq u.0 w.0) us ≡ false → (value_under name us ≡ Some v → StandsOnce us name v)
+        → cond b (u.1 ∷ values_under name us) (values_under name us) ≡ v ∷ []
+    go true is e none ih =
+        let same : u.0 ≡ name = (bytes_eq-Decides u.0 name).0 is in
+        let value : u.1 ≡ v = cc in
+        ap₂ (λ (x : Text) (xs : List Text). x ∷ xs) value (none_under name us (ap (λ (n : Text). list_any (λ w. bytes_eq n w.0) us) (sym same) ∙ none))
+    go false is e none ih = ih e
+
+value_once : (name v : Text) (us : List Use) → StandsOnce us name v → value_under name us ≡ Some v
+value_once name v [] h = cc
+value_once name v (u ∷ us) h = go (bytes_eq u.0 name) h (value_once name v us)
+  where
+    go : (b : Bool) → cond b (u.1 ∷ values_under name us) (values_under name us) ≡ v ∷ [] → (StandsOnce us name v → value_under name us ≡ Some v) → cond b (Some u.1) (value_under name us) ≡ Some v
+    go true h ih = let same : u.1 ≡ v = cc in ap (λ (z : Text). Some z) same
+    go false h ih = ih h
+
+-- SCRIPT and the options, by the names under which they are kept
+abbrev keys : List Text
+keys = alone ∷ map (λ n. 45 ∷ 45 ∷ n) option_names
+
+abbrev is_key : Text → Bool
+is_key name = list_any (λ n. bytes_eq n name) keys
+
+among : (ns : List Text) (name : Text) (P : Text → Type 0) → list_any (λ n. bytes_eq n name) ns ≡ true → Each P ns → P name
+among [] name P e all = cc
+among (n ∷ ns) name P e all = elim (or_cases (bytes_eq n name) (list_any (λ m. bytes_eq m name) ns) e) [
+  | inl here ↦ subst P ((bytes_eq-Decides n name).0 here) all.0
+  | inr there ↦ among ns name P there all.1
+]
+
+-- at most one value stands under each name
+AtMostOnce : List Use → Type 0
+AtMostOnce us = (name : Text) → is_key name ≡ true → length (values_under name us) ≤ 1
+
+rest_once : (u : Use) (us : List Use) → AtMostOnce (u ∷ us) → AtMostOnce us
+unfolding AtMostOnce
+rest_once u us h name key = go (bytes_eq u.0 name) (h name key)
+  where
+    go : (b : Bool) → length (cond b (u.1 ∷ values_under name us) (values_under name us)) ≤ 1 → length (values_under name us) ≤ 1
+    go true h = omega arith
+    go false h = h
+
+stands_under : (name : Text) (us : List Use) → list_any (λ v. bytes_eq name v.0) us ≡ true → 1 ≤ length (values_under name us)
+stands_under name [] e = cc
+stands_under name (u ∷ us) e = go (bytes_eq u.0 name) (ap (λ (b : Bool). b || list_any (λ v. bytes_eq name v.0) us) (bytes_eq-swap u.0 name) ∙ e) (stands_under name us)
+  where
+    go : (b : Bool) → (b || list_any (λ v. bytes_eq name v.0) us) ≡ true → (list_any (λ v. bytes_eq name v.0) us ≡ true → 1 ≤ length (values_under name us)) → 1 ≤ length (cond b (u.1 ∷ values_under name us) (values_under name us))
+    go true e ih = omega arith
+    go false e ih = ih e
+
+first_once : (u : Use) (us : List Use) → is_key u.0 ≡ true → AtMostOnce (u ∷ us) → list_any (λ v. bytes_eq u.0 v.0) us ≡ false
+unfolding AtMostOnce
+first_once u us key h = go (list_any (λ v. bytes_eq u.0 v.0) us) refl
+  where
+    go : (b : Bool) → list_any (λ v. bytes_eq u.0 v.0) us ≡ b → b ≡ false
+    go false e = refl
+    go true e =
+        let here : values_under u.0 (u ∷ us) ≡ u.1 ∷ values_under u.0 us = ap (λ (t : Bool). cond t (u.1 ∷ values_under u.0 us) (values_under u.0 us)) ((bytes_eq-Decides u.0 u.0).1 refl) in
+        let most = h u.0 key in
+        absurd (omega (arith, ap length here, most, stands_under u.0 us e))
+
+argument_key : (a : Argument) → IsKnown option_names a → is_key (use_of a).0 ≡ true
+argument_key (bare v) known = refl
+argument_key (apart name v) known = or_right (bytes_eq alone name) (is_option option_names name) known
+argument_key (joined name v) known = or_right (bytes_eq alone name) (is_option option_names name) known
+
+differ_once : (args : List Argument) → Each (IsKnown option_names) args → AtMostOnce (map use_of args) → names_differ (map use_of args) ≡ true
+differ_once [] known h = refl
+differ_once (a ∷ args) known h =
+    and_from (not (list_any (λ v. bytes_eq (use_of a).0 v.0) (map use_of args))) (names_differ (map use_of args))
+    (not_from_false (list_any (λ v. bytes_eq (use_of a).0 v.0) (map use_of args)) (first_once (use_of a) (map use_of args) (argument_key a known.0) h))
+    (differ_once args known.1 (rest_once (use_of a) (map use_of args) h))
+
+-- ---- the law
+
+script_once : (words : List Text) (us : List Use) (h : AreUses option_names words us) (v : Text) → StandsOnce us alone v → scripts_in h.arguments ≡ v ∷ []
+script_once words us h v e = sym (values_under-scripts_in option_names names_are h.arguments h.known) ∙ (ap (values_under alone) h.values ∙ e)
+
+option_once : (words : List Text) (us : List Use) (h : AreUses option_names words us) (name v : Text) → bytes_eq alone name ≡ false → StandsOnce us name v → values_of name h.arguments ≡ v ∷ []
+option_once words us h name v other e = sym (values_under-values_of name other h.arguments) ∙ (ap (values_under name) h.values ∙ e)
+
+number_once : NumberLaw → (words : List Text) (us : List Use) (h : AreUses option_names words us) (name : Text) (n : ℕ) → bytes_eq alone name ≡ false → names_differ us ≡ true → number_in (value_under name us) ≡ Some n → HasNumber h.arguments name n
+number_once law words us h name n other differ e = go (value_under name us) refl e
+  where
+    go : (o : Option Text) → value_under name us ≡ o → number_in o ≡ Some n → HasNumber h.arguments name n
+    go None at e = cc
+    go (Some digits) at e = record {
+      digits = digits;
+      once = option_once words us h name digits other (once_under name digits us differ at);
+      spelled = (law digits n).0 e;
+    }
+
+uses_read : NumberLaw → (rest : List Text) (us : List Use) (r : Reading) → uses_of option_names None rest ≡ Some us → names_differ us ≡ true → reading_by (λ name. value_under name us) ≡ Some r → Reads (codes "run" ∷ rest) r
+uses_read law rest us r is differ e =
+    let f : Text → Option Text = λ name. value_under name us in
+    let three = reading_parts (option_and_then not_empty (f alone)) (option_and_then not_empty (f (codes "--device")))
+    (sizes_of (number_in (f (codes "--blocks"))) (number_in (f (codes "--workers"))) (number_in (f (codes "--block"))) (number_in (f (codes "--heap"))) (number_in (f (codes "--memory")))) r e in
+    let s = name_parts (f alone) r.script three.0 in
+    let d = name_parts (f (codes "--device")) r.device three.1 in
+    let n = sizes_parts (number_in (f (codes "--blocks"))) (number_in (f (codes "--workers"))) (number_in (f (codes "--block"))) (number_in (f (codes "--heap"))) (number_in (f (codes "--memory"))) r.sizes three.2 in
+    let h = (uses_mean option_names names_are rest us).0 is in
+    record {
+      arguments = h.arguments;
+      spelled = ap (λ (z : List Text). codes "run" ∷ z) h.spelled;
+      named = all_named h.arguments h.known;
+      plain = h.plain;
+      script = script_once rest us h r.script (once_under alone r.script us differ s.0);
+      some_script = s.1;
+      device = option_once rest us h (codes "--device") r.device refl (once_under (codes "--device") r.device us differ d.0);
+      some_device = d.1;
+      blocks = number_once law rest us h (codes "--blocks") r.sizes.blocks refl differ n.0;
+      workers = number_once law rest us h (codes "--workers") r.sizes.workers refl differ n.1;
+      block = number_once law rest us h (codes "--block") r.sizes.block refl differ n.2;
+      heap = number_once law rest us h (codes "--heap") r.sizes.heap refl differ n.3;
+      memory = number_once law rest us h (codes "--memory") r.sizes.memory refl differ n.4;
+      in_range = range_is r.sizes n.5;
+    }
+
+-- words with a reading mean it
+pub reading-Reads : NumberLaw → (words : List Text) (r : Reading) → reading_of words ≡ Some r → Reads words r
+reading-Reads law [] r e = cc
+reading-Reads law (first ∷ rest) r e = go (bytes_eq first (codes "run")) (uses_of option_names None rest) refl refl e
+  where
+    differ : (us : List Use) (b : Bool) → uses_of option_names None rest ≡ Some us → names_differ us ≡ b → cond b (reading_by (λ name. value_under name us)) None ≡ Some r → Reads (codes "run" ∷ rest) r
+    differ us false at is e = cc
+    differ us true at is e = uses_read law rest us r at is e
+
+    go : (run : Bool) (o : Option (List Use)) → bytes_eq first (codes "run") ≡ run → uses_of option_names None rest ≡ o → cond run (option_and_then reading_of_uses o) None ≡ Some r → Reads (first ∷ rest) r
+    go false o is at e = cc
+    go true None is at e = cc
+    go true (Some us) is at e = subst (λ (z : Text). Reads (z ∷ rest) r) (sym ((bytes_eq-Decides first (codes "run")).0 is)) (differ us (names_differ us) at refl e)
+
+some_name : (s : Text) → 1 ≤ length s → not_empty s ≡ Some s
+some_name [] h = absurd (omega arith)
+some_name (b ∷ bs) h = refl
+
+name_once : (us : List Use) (name s : Text) → StandsOnce us name s → 1 ≤ length s → option_and_then not_empty (value_under name us) ≡ Some s
+name_once us name s h some = ap (option_and_then not_empty) (value_once name s us h) ∙ some_name s some
+
+-- an option's values are those under its name
+under_option : (name : Text) (args : List Argument) (v : Text) → bytes_eq alone name ≡ false → values_of name args ≡ v ∷ [] → StandsOnce (map use_of args) name v
+under_option name args v other e = values_under-values_of name other args ∙ e
+
+number_is : NumberLaw → (args : List Argument) (name : Text) (n : ℕ) → bytes_eq alone name ≡ false → HasNumber args name n → number_in (value_under name (map use_of args)) ≡ Some n
+number_is law args name n other h = ap number_in (value_once name h.digits (map use_of args) (under_option name args h.digits other h.once)) ∙ (law h.digits n).1 h.spelled
+
+at_most : (us : List Use) (name v : Text) → StandsOnce us name v → length (values_under name us) ≤ 1
+at_most us name v h = let one = ap length h in omega (arith, one)
+
+at_most_number : (args : List Argument) (name : Text) (n : ℕ) → bytes_eq alone name ≡ false → HasNumber args name n → length (values_under name (map use_of args)) ≤ 1
+at_most_number args name n other h = at_most (map use_of args) name h.digits (under_option name args h.digits other h.once)
+
+scripts_under : (words : List Text) (r : Reading) (h : Reads words r) → StandsOnce (map use_of h.arguments) alone r.script
+scripts_under words r h = values_under-scripts_in option_names names_are h.arguments (all_known h.arguments h.named) ∙ h.script
+
+uses_once : (words : List Text) (r : Reading) (h : Reads words r) → AtMostOnce (map use_of h.arguments)
+unfolding AtMostOnce
+uses_once words r h name key =
+    let args = h.arguments in
+    let s = at_most (map use_of args) alone r.script (scripts_under words r h) in
+    let d = at_most (map use_of args) (codes "--device") r.device (under_option (codes "--device") args r.device refl h.device) in
+    let blocks = at_most_number args (codes "--blocks") r.sizes.blocks refl h.blocks in
+    let workers = at_most_number args (codes "--workers") r.sizes.workers refl h.workers in
+    let block = at_most_number args (codes "--block") r.sizes.block refl h.block in
+    let heap = at_most_number args (codes "--heap") r.sizes.heap refl h.heap in
+    let memory = at_most_number args (codes "--memory") r.sizes.memory refl h.memory in
+    among keys name (λ z. length (values_under z (map use_of args)) ≤ 1) key (s, (d, (blocks, (workers, (block, (heap, (memory, tt)))))))
+
+-- and the other way round
+pub Reads-reading : NumberLaw → (words : List Text) (r : Reading) → Reads words r → reading_of words ≡ Some r
+Reads-reading law words r h =
+    let args = h.arguments in
+    let us = map use_of args in
+    let rest = flat_map spelled_as args in
+    let known = all_known args h.named in
+    let uses : uses_of option_names None rest ≡ Some us = (uses_mean option_names names_are rest us).1 (record { arguments = args; spelled = refl; known = known; plain = h.plain; values = refl }) in
+    let differ : names_differ us ≡ true = differ_once args known (uses_once words r h) in
+    let s = name_once us alone r.script (scripts_under words r h) h.some_script in
+    let d = name_once us (codes "--device") r.device (under_option (codes "--device") args r.device refl h.device) h.some_device in
+    let sizes : in_range r.sizes ≡ Some r.sizes = ap (λ (b : Bool). cond b (Some r.sizes) None) (range_from r.sizes h.in_range) in
+    let n : sizes_of (number_in (value_under (codes "--blocks") us)) (number_in (value_under (codes "--workers") us)) (number_in (value_under (codes "--block") us)) (number_in (value_under (codes "--heap") us)) (number_in (value_under (codes "--memory") us)) ≡ Some r.sizes =
+    rw (number_is law args (codes "--blocks") r.sizes.blocks refl h.blocks, number_is law args (codes "--workers") r.sizes.workers refl h.workers, number_is law args (codes "--block") r.sizes.block refl h.block, number_is law args (codes "--heap") r.sizes.heap refl h.heap, number_is law args (codes "--memory") r.sizes.memory refl h.memory) sizes in
+    let read : reading_by (λ name. value_under name us) ≡ Some r = rw (s, d, n) refl in
+    ap reading_of h.spelled ∙ (ap (option_and_then reading_of_uses) uses ∙ (ap (λ (b : Bool). cond b (reading_by (λ name. value_under name us)) None) differ ∙ read))
+
+-- words have no reading where nothing can be read from them
+pub no_reading : NumberLaw → (words : List Text) → (reading_of words ≡ None) ↔ ((r : Reading) → ¬ Reads words r)
+no_reading law words = (λ e r h. some_none r (sym (Reads-reading law words r h) ∙ e), go (reading_of words) refl)
+  where
+    some_none : (r : Reading) → Some r ≡ None → ⊥
+    some_none r e = cc
+
+    go : (o : Option Reading) → reading_of words ≡ o → ((r : Reading) → ¬ Reads words r) → o ≡ None
+    go None e none = refl
+    go (Some r) e none = absurd (none r (reading-Reads law words r e))
+
+pub one_reading : NumberLaw → (words : List Text) (r s : Reading) → Reads words r → Reads words s → r ≡ s
+one_reading law words r s h k = let both : Some r ≡ Some s = sym (Reads-reading law words r h) ∙ Reads-reading law words s k in cc
+
+-- ---- the words of the usage line
+
+option_is : (name : Text) → is_option option_names name ≡ true → Contains options name
+option_is name e = is_option-Contains option_names name e
+
+pub usage_read : (words : List Text) (r : Reading) → IsUsageOf words r → Reads words r
+usage_read words r h =
+    let device = option_is (codes "--device") refl in
+    let blocks = option_is (codes "--blocks") refl in
+    let workers = option_is (codes "--workers") refl in
+    let block = option_is (codes "--block") refl in
+    let heap = option_is (codes "--heap") refl in
+    let memory = option_is (codes "--memory") refl in
+    let plain_blocks = Spells-IsPlain h.blocks r.sizes.blocks h.spelled_blocks in
+    let plain_workers = Spells-IsPlain h.workers r.sizes.workers h.spelled_workers in
+    let plain_block = Spells-IsPlain h.block r.sizes.block h.spelled_block in
+    let plain_heap = Spells-IsPlain h.heap r.sizes.heap h.spelled_heap in
+    let plain_memory = Spells-IsPlain h.memory r.sizes.memory h.spelled_memory in
+    record {
+      arguments = bare r.script ∷ apart (codes "--device") r.device ∷ apart (codes "--blocks") h.blocks ∷ apart (codes "--workers") h.workers ∷ apart (codes "--block") h.block ∷ apart (codes "--heap") h.heap ∷ apart (codes "--memory") h.memory ∷ [];
+      spelled = h.spelled;
+      named = (tt, (device, (blocks, (workers, (block, (heap, (memory, tt)))))));
+      plain = (h.script.1, (h.device.1, (plain_blocks, (plain_workers, (plain_block, (plain_heap, (plain_memory, tt)))))));
+      script = refl;
+      some_script = h.script.0;
+      device = refl;
+      some_device = h.device.0;
+      blocks = record { digits = h.blocks; once = refl; spelled = h.spelled_blocks };
+      workers = record { digits = h.workers; once = refl; spelled = h.spelled_workers };
+      block = record { digits = h.block; once = refl; spelled = h.spelled_block };
+      heap = record { digits = h.heap; once = refl; spelled = h.spelled_heap };
+      memory = record { digits = h.memory; once = refl; spelled = h.spelled_memory };
+      in_range = h.in_range;
+    }

@@ -1,0 +1,9 @@
+mod Arguments
+mod Cuts
+mod Law
+mod Names
+mod Parse
+mod Read
+mod Rows
+mod Spelled
+mod StrayWords

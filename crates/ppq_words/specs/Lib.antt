@@ -1,0 +1,5 @@
+pub mod Command
+pub mod Meaning
+pub mod Reading
+pub mod Strays
+pub mod Uses

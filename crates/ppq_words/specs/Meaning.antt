@@ -1,0 +1,99 @@
+-- What the words of the command line mean to a reader: a relation above the definition that computes.
+use Rattle.std.specs.Prelude.{◌≡◌, ℕ, ⊤, ◌≤◌, length, bytes_eq, if◌then◌else◌, false, List, [], ◌∷◌, ◌++◌, map, flat_map, codes, Contains}
+use Rattle.std.specs.List.{AllByRecursion as Each}
+use Rattle.ppq_budget.specs.Sizes.{AreInRange}
+use Rattle.ppq_script.specs.Meaning.{Spells}
+use Rattle.ppq_words.specs.Uses.{Text, begins_with_hyphen}
+use Rattle.ppq_words.specs.Reading.{Reading, option_names}
+
+-- the script's name, or an option with its value: in the next word, as `--heap 1`, or after `=`, as `--heap=1`
+pub data Argument : Type 0 where
+  bare : Text → Argument
+  apart : Text → Text → Argument
+  joined : Text → Text → Argument
+
+-- the words of an argument
+abbrev pub spelled_as : Argument → List Text
+spelled_as (bare value) = value ∷ []
+spelled_as (apart name value) = name ∷ value ∷ []
+spelled_as (joined name value) = (name ++ codes "=" ++ value) ∷ []
+
+-- `--device`, `--blocks`, `--workers`, `--block`, `--heap`, `--memory`
+abbrev pub options : List Text
+options = map (λ n. codes "--" ++ n) option_names
+
+-- an option's name is one of these
+abbrev pub IsNamed : Argument → Type 0
+IsNamed (bare value) = ⊤
+IsNamed (apart name value) = Contains options name
+IsNamed (joined name value) = Contains options name
+
+-- its value
+abbrev pub value_in : Argument → Text
+value_in (bare value) = value
+value_in (apart name value) = value
+value_in (joined name value) = value
+
+-- a text that does not begin with `-`
+abbrev pub IsPlain : Text → Type 0
+IsPlain text = begins_with_hyphen text ≡ false
+
+-- the values of the words that stand alone
+abbrev pub scripts_in : List Argument → List Text
+scripts_in [] = []
+scripts_in (bare value ∷ arguments) = value ∷ scripts_in arguments
+scripts_in (apart name value ∷ arguments) = scripts_in arguments
+scripts_in (joined name value ∷ arguments) = scripts_in arguments
+
+-- the values of the options with this name
+abbrev pub values_of : Text → List Argument → List Text
+values_of name [] = []
+values_of name (bare value ∷ arguments) = values_of name arguments
+values_of name (apart n value ∷ arguments) = if bytes_eq n name then value ∷ values_of name arguments else values_of name arguments
+values_of name (joined n value ∷ arguments) = if bytes_eq n name then value ∷ values_of name arguments else values_of name arguments
+
+-- the option stands once, and its value spells this number
+pub record HasNumber (arguments : List Argument) (name : Text) (n : ℕ) : Type 0 where
+  pub digits : Text
+  pub once : values_of name arguments ≡ digits ∷ []
+  pub spelled : Spells digits n
+
+-- The words are `run` and, in any order, the script's name and the six options, each once. No value begins with `-`, no name is
+-- empty, and each number is in its range.
+pub record Reads (words : List Text) (r : Reading) : Type 0 where
+  pub arguments : List Argument
+  pub spelled : words ≡ codes "run" ∷ flat_map spelled_as arguments
+  pub named : Each IsNamed arguments
+  pub plain : Each (λ a. IsPlain (value_in a)) arguments
+  pub script : scripts_in arguments ≡ r.script ∷ []
+  pub some_script : 1 ≤ length r.script
+  pub device : values_of (codes "--device") arguments ≡ r.device ∷ []
+  pub some_device : 1 ≤ length r.device
+  pub blocks : HasNumber arguments (codes "--blocks") r.sizes.blocks
+  pub workers : HasNumber arguments (codes "--workers") r.sizes.workers
+  pub block : HasNumber arguments (codes "--block") r.sizes.block
+  pub heap : HasNumber arguments (codes "--heap") r.sizes.heap
+  pub memory : HasNumber arguments (codes "--memory") r.sizes.memory
+  pub in_range : AreInRange r.sizes
+
+-- a name that words can say: it is not empty and does not begin with `-`
+abbrev pub IsName : Text → Type 0
+IsName name = (1 ≤ length name) × IsPlain name
+
+-- `run SCRIPT --device FILE --blocks D --workers P --block B --heap H --memory M`, with the names and numbers of this reading
+pub record IsUsageOf (words : List Text) (r : Reading) : Type 0 where
+  pub blocks : Text
+  pub workers : Text
+  pub block : Text
+  pub heap : Text
+  pub memory : Text
+  pub spelled : words ≡ codes "run" ∷ r.script ∷ codes "--device" ∷ r.device ∷ codes "--blocks" ∷ blocks ∷ codes "--workers" ∷ workers
+      ∷ codes "--block" ∷ block ∷ codes "--heap" ∷ heap ∷ codes "--memory" ∷ memory ∷ []
+  pub script : IsName r.script
+  pub device : IsName r.device
+  pub spelled_blocks : Spells blocks r.sizes.blocks
+  pub spelled_workers : Spells workers r.sizes.workers
+  pub spelled_block : Spells block r.sizes.block
+  pub spelled_heap : Spells heap r.sizes.heap
+  pub spelled_memory : Spells memory r.sizes.memory
+  pub in_range : AreInRange r.sizes

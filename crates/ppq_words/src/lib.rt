@@ -1,0 +1,21 @@
+//! The arguments of the command line, read with `clap`.
+//!
+//! `run SCRIPT --device FILE --blocks D --workers P --block B --heap H --memory M`: the word `run`
+//! and, in any order, the script's name and six options, each once. An option's value is the next
+//! word (`--heap 1`), or follows `=` in the same word (`--heap=1`). There is no help and no version
+//! option. The crate looks for `run` and for stray hyphens first, `clap` then splits the words into
+//! names and values, and the crate reads the numbers by the grammar of scripts.
+#![tactic(auto)]
+
+mod command;
+mod laws;
+mod run_arguments;
+mod strays;
+#[cfg(test)]
+mod tests;
+mod values;
+mod words;
+
+pub use laws::words_mean;
+pub use run_arguments::RunArguments;
+pub use words::read_words;

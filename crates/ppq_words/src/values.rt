@@ -1,0 +1,64 @@
+//! What the values of a parse say.
+ghost use Rattle.std.specs.Prelude.{◌≡◌, option_map, option_and_then, codes};
+ghost use Rattle.clap.specs.Words.{first_value, found_of};
+ghost use Rattle.ppq_budget.specs.Sizes.{numbers};
+ghost use Rattle.ppq_words.specs.Reading.{as_reading, not_empty, number_in, sizes_of, in_range, reading_by};
+
+use crate::RunArguments;
+use clap::ArgMatches;
+use ppq_budget::Sizes;
+use ppq_script::number;
+
+/// The value under a name, where it is not empty.
+fn name_under<'a>(matches: &ArgMatches<'a>, id: &str) -> Option<&'a str>
+    ensures { option_map (λ s. s.now) result ≡ option_and_then not_empty (first_value (found_of matches.now) id.now) }
+{
+    let text = matches.get_str(id)?;
+    if text.is_empty() { None } else { Some(text) }
+}
+
+/// The value under a name, where it is a number of 1 to 20 decimal digits.
+fn number_under(matches: &ArgMatches<'_>, id: &str) -> Option<u64>
+    ensures { result ≡ number_in (first_value (found_of matches.now) id.now) }
+{
+    number(matches.get_str(id)?.as_bytes())
+}
+
+/// The sizes of these numbers, where each is in its range.
+fn sizes_in(workers: u64, block: u64, heap: u64, memory: u64, blocks: u64) -> Option<Sizes>
+    ensures { result ≡ in_range (numbers workers block heap memory blocks) }
+{
+    let workers = u32::try_from(workers).ok()?;
+    let block = u32::try_from(block).ok()?;
+    let heap = u32::try_from(heap).ok()?;
+    let blocks = u32::try_from(blocks).ok()?;
+    Sizes::new(workers, block, heap, memory, blocks)
+}
+
+/// The sizes that the values say.
+fn sizes_of(matches: &ArgMatches<'_>) -> Option<Sizes>
+    ensures { let value = first_value (found_of matches.now) in
+        result ≡ sizes_of (number_in (value (codes "--blocks"))) (number_in (value (codes "--workers"))) (number_in (value (codes "--block"))) (number_in (value (codes "--heap"))) (number_in (value (codes "--memory"))) }
+{
+    let blocks = number_under(matches, "--blocks")?;
+    let workers = number_under(matches, "--workers")?;
+    let block = number_under(matches, "--block")?;
+    let heap = number_under(matches, "--heap")?;
+    let memory = number_under(matches, "--memory")?;
+    sizes_in(workers, block, heap, memory, blocks)
+}
+
+/// What the values of a parse say, where none is missing, no name is empty, and each number is
+/// spelled and in its range.
+pub fn arguments_of<'a>(matches: &ArgMatches<'a>) -> Option<RunArguments<'a>>
+    ensures { option_map as_reading result ≡ reading_by (first_value (found_of matches.now)) }
+{
+    let script = name_under(matches, "SCRIPT")?;
+    let device = name_under(matches, "--device")?;
+    let sizes = sizes_of(matches)?;
+    Some(RunArguments {
+        script,
+        device,
+        sizes,
+    })
+}
