@@ -35,9 +35,9 @@ impl<R: Record> Model for Stored<R> {
 
     ghost Value = { Storing R };
 
-    ghost view = { λ s. record { items = records_in s.runs.items; idle = length s.idle; buffers = length s.tree; block = s.block } };
+    ghost view = { λ s. record { items = records_in s.runs.items; idle = length s.idle; buffers = length s.tree.items; block = s.block } };
 
-    ghost invariant = { λ s. IsStore R.Ord.cmp s.block s.runs.items s.tree s.idle s.count × (length s.tree ≤ vec_capacity s.runs) };
+    ghost invariant = { λ s. IsStore R.Ord.cmp s.block s.runs.items s.tree.items s.idle s.count × (length s.tree.items ≤ vec_capacity s.runs) };
 }
 
 impl<R: Record> Stored<R> {
@@ -151,12 +151,12 @@ impl<R: Record> Stored<R> {
 /// tree.
 fn drop_run<R: Record>(runs: &mut Vec<InternalArray<R>>, tree: &mut MinTree<R>, leaf: u32)
     requires leaf { leaf < length runs.old.items }
-    requires heads { HasHeadsBut leaf tree.old runs.old.items }
-    requires fits { length runs.old.items ≤ length tree.old }
-    requires few { length tree.old ≤ 65536 }
+    requires heads { HasHeadsBut leaf tree.old.items runs.old.items }
+    requires fits { length runs.old.items ≤ length tree.old.items }
+    requires few { length tree.old.items ≤ 65536 }
     ensures runs { IsWithout runs.old.items leaf runs.new.items }
-    ensures heads { HasHeads tree.new runs.new.items }
-    ensures leaves { length tree.new ≡ length tree.old }
+    ensures heads { HasHeads tree.new.items runs.new.items }
+    ensures leaves { length tree.new.items ≡ length tree.old.items }
     ensures capacity { vec_capacity runs.new ≡ vec_capacity runs.old }
 {
     let _spare = runs.swap_remove(leaf as usize);

@@ -1,3 +1,4 @@
+pub mod Levels
 pub mod Order
 pub mod Tree
 pub mod Carried

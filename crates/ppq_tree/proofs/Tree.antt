@@ -1,10 +1,9 @@
 -- Playing matches: which are out of date when a leaf changes, and how one match after the other is put right.
-use Rattle.std.proofs.Common.{◌≡◌, ◌≢◌, ℕ, zero, suc, ◌+◌, ◌-◌, ◌*◌, ◌/◌, ◌^◌, ◌<◌, ◌≤◌, true, false, cond, List, length, get_or, set, Option, None, refl, sym, ap, ap₂, subst, inl, inr, ◌∙◌, arith, add-one}
+use Rattle.std.proofs.Common.{◌≡◌, ◌≢◌, ℕ, zero, suc, ◌+◌, ◌-◌, ◌*◌, ◌/◌, ◌<◌, ◌≤◌, true, false, cond, List, length, get_or, set, Option, None, refl, sym, ap, ap₂, subst, inl, inr, ◌∙◌, arith}
 use Rattle.std.specs.Prelude.{◌⊎◌}
 use Rattle.std.specs.declared.cmp.Ordering.{Ordering}
 use Rattle.std.proofs.lemmas.Bool.{cases_lt, cases_eq}
 use Rattle.std.proofs.lemmas.List.{get_or-set_same, get_or-set_other, length-set}
-use Rattle.std.proofs.Math.Nat.{mul_assoc, mul-le-mul_left, pow-suc}
 use Rattle.ppq_tree.specs.Tree.{other_wins, chosen, better, winner_at, IsPlayed, IsMinTree, up, IsOnWayUp, IsTreeAbove}
 
 up_half : (levels node : ℕ) → up levels (node / 2) ≡ up levels node / 2
@@ -14,16 +13,6 @@ up_half (suc levels) node = up_half levels (node / 2)
 up_zero : (levels : ℕ) → up levels 0 ≡ 0
 up_zero zero = refl
 up_zero (suc levels) = up_zero levels
-
--- one step on the way up costs one step, and halves what is left
-pub cost_step : (steps node from : ℕ) → 0 < node → 2 ^ steps * node ≤ from → (2 ^ (steps + 1) * (node / 2) ≤ from) × (2 ^ (steps + 1) ≤ 2 * from)
-cost_step s n at z h =
-    let e : 2 ^ (s + 1) ≡ 2 ^ s * 2 = ap (λ x. 2 ^ x) (add-one s) ∙ pow-suc 2 s in
-    let half : 2 * (n / 2) ≤ n = omega arith in
-    let p : 2 ^ s * (2 * (n / 2)) ≤ 2 ^ s * n = mul-le-mul_left (2 ^ s) half in
-    let q : 2 ^ s * 1 ≤ 2 ^ s * n = mul-le-mul_left (2 ^ s) z in
-    let r : 2 ^ (s + 1) * (n / 2) ≡ 2 ^ s * (2 * (n / 2)) = ap (λ x. x * (n / 2)) e ∙ mul_assoc (2 ^ s) 2 (n / 2) in
-    (omega arith, omega arith)
 
 module _ {X : Type 0} (cmp : X → X → Ordering) where
   -- one of the two wins
@@ -110,7 +99,7 @@ module _ {X : Type 0} (cmp : X → X → Ordering) where
       ]
 
   -- a leaf's item is written: only the matches above the leaf may be out of date
-  pub leaf_written :
+  leaf_written :
       (items : List (Option X)) (winners : List ℕ) (leaf : ℕ) (x : Option X) → leaf < length items → IsMinTree cmp items winners
       → IsTreeAbove cmp (set items leaf x) winners ((length items + leaf) / 2)
   unfolding IsPlayed
@@ -131,6 +120,13 @@ module _ {X : Type 0} (cmp : X → X → Ordering) where
             (sym (get_or-set_other items leaf (winner_at winners (2 * u)) x None (other u (2 * u) not (omega arith) (omega arith) (omega arith))))
             (sym (get_or-set_other items leaf (winner_at winners (2 * u + 1)) x None (other u (2 * u + 1) not (omega arith) (omega arith) (omega arith))));
       }
+
+  -- the same with the node's number by the items that stand now
+  pub leaf_written_at :
+      (items : List (Option X)) (winners : List ℕ) (leaf : ℕ) (x : Option X) → leaf < length items → IsMinTree cmp items winners
+      → IsTreeAbove cmp (set items leaf x) winners ((length (set items leaf x) + leaf) / 2)
+  leaf_written_at items winners leaf x l t =
+      subst (λ n. IsTreeAbove cmp (set items leaf x) winners ((n + leaf) / 2)) (sym (length-set items leaf x)) (leaf_written items winners leaf x l t)
 
 -- a tree whose matches from a node on were played
 pub record IsPlayedFrom {X : Type 0} (cmp : X → X → Ordering) (items : List (Option X)) (winners : List ℕ) (from : ℕ) : Type 0 where

@@ -3,6 +3,11 @@ use Rattle.std.specs.Prelude.{◌≡◌, ℕ, ◌+◌, ◌*◌, ◌/◌, ◌<◌
 use Rattle.std.specs.declared.cmp.Ordering.{Ordering}
 use Rattle.std.specs.Ordering.{is_lt, nat_cmp, then_cmp, on}
 
+-- the items of a tree's leaves, and how many leaves its memory has room for
+pub record Leaves (X : Type 0) : Type 0 where
+  pub items : List (Option X)
+  pub room : ℕ
+
 -- the leaf has that item
 abbrev pub HasItem : {X : Type 0} → List (Option X) → ℕ → X → Type 0
 HasItem items leaf x = get_or items leaf None ≡ Some x

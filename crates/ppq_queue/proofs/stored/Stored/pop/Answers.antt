@@ -11,14 +11,14 @@ pub returns-in_default-clause-value : goal.returns-in_default-clause-value
 returns-in_default-clause-value g c =
     let laws = c.record_laws.ensures in
     let store = c.self.invariant.0 in
-    let none = no_winner laws.order laws.same c.self.inside.block c.self.inside.tree c.self.inside.runs.items store.heads store.stored (c.in_default.ensures.none.0 refl) in
+    let none = no_winner laws.order laws.same c.self.inside.block c.self.inside.tree.items c.self.inside.runs.items store.heads store.stored (c.in_default.ensures.none.0 refl) in
     sym (least_of_empty laws.order laws.same (records_in c.self.inside.runs.items) (ap (λ runs. length (records_in runs)) none)) ∙ ap (λ v. least g.R.Ord.cmp v.items) c.self.view_is
 
 pub overflow_sub-self : goal.overflow_sub-self
 overflow_sub-self g c =
     let laws = c.record_laws.ensures in
     let s = c.self.inside in
-    popped_some laws.order laws.same s.block s.runs.items s.tree s.idle c.consume_first.new.idle s.count c.in-Some.best.0 c.in-Some.best.1 c.index_mut-run.result.now c.consume_first.new.run
+    popped_some laws.order laws.same s.block s.runs.items s.tree.items s.idle c.consume_first.new.idle s.count c.in-Some.best.0 c.in-Some.best.1 c.index_mut-run.result.now c.consume_first.new.run
     c.self.invariant.0 c.in-Some.ensures.some (sym c.index_mut-run.ensures.value) c.consume_first.ensures.retires c.consume_first.ensures.items c.consume_first.ensures.run
 
 pub drop_run-requires-clause-fits : goal.drop_run-requires-clause-fits
@@ -33,9 +33,9 @@ invariant_of-self g c =
     let s = c.self.inside in
     let dropped = c.drop_run.ensures in
     let empty : c.first-next.result ≡ None = is_none c.first-next.result (c.is_none.ensures ∙ ap (λ b. not b) c.if-is_none.true) in (
-      ended laws.order laws.same s.block s.runs.items s.tree s.idle c.consume_first.new.idle s.count c.in-Some.best.0 c.in-Some.best.1 c.index_mut-run.result.now c.consume_first.new.run
+      ended laws.order laws.same s.block s.runs.items s.tree.items s.idle c.consume_first.new.idle s.count c.in-Some.best.0 c.in-Some.best.1 c.index_mut-run.result.now c.consume_first.new.run
           c.self.invariant.0 c.in-Some.ensures.some (sym c.index_mut-run.ensures.value) c.consume_first.ensures.retires c.consume_first.ensures.items c.consume_first.ensures.run
-          c.drop_run.new.runs.items c.drop_run.new.tree (none_first _ (sym c.first-next.ensures.first ∙ empty)) dropped.runs dropped.heads dropped.leaves,
+          c.drop_run.new.runs.items c.drop_run.new.tree.items (none_first _ (sym c.first-next.ensures.first ∙ empty)) dropped.runs dropped.heads dropped.leaves,
       omega (arith, dropped.capacity, dropped.leaves, c.self.invariant.1),
     )
 
@@ -43,7 +43,7 @@ pub returns-then-is_none-clause-value : goal.returns-then-is_none-clause-value
 returns-then-is_none-clause-value g c =
     let laws = c.record_laws.ensures in
     let store = c.self.invariant.0 in
-    sym (winner_least laws.order laws.same c.self.inside.block c.self.inside.tree c.self.inside.runs.items c.in-Some.best.0 c.in-Some.best.1 store.heads store.stored c.in-Some.ensures.some) ∙ ap (λ v. least g.R.Ord.cmp v.items) c.self.view_is
+    sym (winner_least laws.order laws.same c.self.inside.block c.self.inside.tree.items c.self.inside.runs.items c.in-Some.best.0 c.in-Some.best.1 store.heads store.stored c.in-Some.ensures.some) ∙ ap (λ v. least g.R.Ord.cmp v.items) c.self.view_is
 
 pub returns-then-is_none-clause-taken : goal.returns-then-is_none-clause-taken
 returns-then-is_none-clause-taken g c p =
@@ -52,9 +52,9 @@ returns-then-is_none-clause-taken g c p =
     let dropped = c.drop_run.ensures in
     let empty : c.first-next.result ≡ None = is_none c.first-next.result (c.is_none.ensures ∙ ap (λ b. not b) c.if-is_none.true) in
     ap (λ v. count_by p v.items) (sym c.self.view_is)
-    ∙ ended_bag laws.order laws.same s.block s.runs.items s.tree s.idle c.consume_first.new.idle s.count c.in-Some.best.0 c.in-Some.best.1 c.index_mut-run.result.now c.consume_first.new.run
+    ∙ ended_bag laws.order laws.same s.block s.runs.items s.tree.items s.idle c.consume_first.new.idle s.count c.in-Some.best.0 c.in-Some.best.1 c.index_mut-run.result.now c.consume_first.new.run
     c.self.invariant.0 c.in-Some.ensures.some (sym c.index_mut-run.ensures.value) c.consume_first.ensures.retires c.consume_first.ensures.items c.consume_first.ensures.run
-    c.drop_run.new.runs.items c.drop_run.new.tree (none_first _ (sym c.first-next.ensures.first ∙ empty)) dropped.runs dropped.heads dropped.leaves p
+    c.drop_run.new.runs.items c.drop_run.new.tree.items (none_first _ (sym c.first-next.ensures.first ∙ empty)) dropped.runs dropped.heads dropped.leaves p
 
 pub invariant_of-self-2 : goal.invariant_of-self-2
 invariant_of-self-2 g c =
@@ -62,23 +62,23 @@ invariant_of-self-2 g c =
     let s = c.self.inside in
     let there = is_not_none c.first-next.result (c.is_none.ensures ∙ ap (λ b. not b) c.if-is_none.false) in
     let on =
-    popped_on laws.order laws.same s.block s.runs.items s.tree s.idle c.consume_first.new.idle s.count c.in-Some.best.0 c.in-Some.best.1 c.index_mut-run.result.now c.consume_first.new.run
+    popped_on laws.order laws.same s.block s.runs.items s.tree.items s.idle c.consume_first.new.idle s.count c.in-Some.best.0 c.in-Some.best.1 c.index_mut-run.result.now c.consume_first.new.run
     c.self.invariant.0 c.in-Some.ensures.some (sym c.index_mut-run.ensures.value) c.consume_first.ensures.retires c.consume_first.ensures.items c.consume_first.ensures.run
     c.first-next.result c.first-next.ensures.first (some_length _ c.first-next.result c.first-next.ensures.first there) c.in-Some.ensures.leaf in (
-      subst (λ t. IsStore g.R.Ord.cmp s.block (set s.runs.items c.in-Some.best.0 c.consume_first.new.run) t c.consume_first.new.idle (s.count - 1)) (sym c.put.ensures) on,
-      omega (arith, ap length c.put.ensures, length-set s.tree c.in-Some.best.0 c.first-next.result, c.self.invariant.1),
+      subst (λ t. IsStore g.R.Ord.cmp s.block (set s.runs.items c.in-Some.best.0 c.consume_first.new.run) t c.consume_first.new.idle (s.count - 1)) (sym c.put.ensures.items) on,
+      omega (arith, ap length c.put.ensures.items, length-set s.tree.items c.in-Some.best.0 c.first-next.result, c.self.invariant.1),
     )
 
 pub returns-clause-value : goal.returns-clause-value
 returns-clause-value g c =
     let laws = c.record_laws.ensures in
     let store = c.self.invariant.0 in
-    sym (winner_least laws.order laws.same c.self.inside.block c.self.inside.tree c.self.inside.runs.items c.in-Some.best.0 c.in-Some.best.1 store.heads store.stored c.in-Some.ensures.some) ∙ ap (λ v. least g.R.Ord.cmp v.items) c.self.view_is
+    sym (winner_least laws.order laws.same c.self.inside.block c.self.inside.tree.items c.self.inside.runs.items c.in-Some.best.0 c.in-Some.best.1 store.heads store.stored c.in-Some.ensures.some) ∙ ap (λ v. least g.R.Ord.cmp v.items) c.self.view_is
 
 pub returns-clause-taken : goal.returns-clause-taken
 returns-clause-taken g c p =
     let laws = c.record_laws.ensures in
     let s = c.self.inside in
     ap (λ v. count_by p v.items) (sym c.self.view_is)
-    ∙ popped_bag laws.order laws.same s.block s.runs.items s.tree s.idle c.consume_first.new.idle s.count c.in-Some.best.0 c.in-Some.best.1 c.index_mut-run.result.now c.consume_first.new.run
+    ∙ popped_bag laws.order laws.same s.block s.runs.items s.tree.items s.idle c.consume_first.new.idle s.count c.in-Some.best.0 c.in-Some.best.1 c.index_mut-run.result.now c.consume_first.new.run
     c.self.invariant.0 c.in-Some.ensures.some (sym c.index_mut-run.ensures.value) c.consume_first.ensures.retires c.consume_first.ensures.items c.consume_first.ensures.run p

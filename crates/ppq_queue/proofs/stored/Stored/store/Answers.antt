@@ -12,7 +12,7 @@ overflow_cast-len g c =
     let n = length c.args.sorted.now in
     let room : n ≤ length s.idle * s.block = subst (λ v. n ≤ v.idle * v.block) (sym c.self.view_is) c.requires.room in
     let some : 0 < length s.idle = idle_some n (length s.idle) s.block c.requires.some room in
-    let place : length s.runs.items < length s.tree = has_place laws.order laws.same s.block s.runs.items s.tree s.idle s.count store some in
+    let place : length s.runs.items < length s.tree.items = has_place laws.order laws.same s.block s.runs.items s.tree.items s.idle s.count store some in
     omega (arith, c.len.ensures, s.runs.ok, store.few)
 
 pub put-requires : goal.put-requires
@@ -23,7 +23,7 @@ put-requires g c =
     let n = length c.args.sorted.now in
     let room : n ≤ length s.idle * s.block = subst (λ v. n ≤ v.idle * v.block) (sym c.self.view_is) c.requires.room in
     let some : 0 < length s.idle = idle_some n (length s.idle) s.block c.requires.some room in
-    let place : length s.runs.items < length s.tree = has_place laws.order laws.same s.block s.runs.items s.tree s.idle s.count store some in
+    let place : length s.runs.items < length s.tree.items = has_place laws.order laws.same s.block s.runs.items s.tree.items s.idle s.count store some in
     omega (arith, c.len.ensures, s.runs.ok)
 
 pub push_reserved-requires : goal.push_reserved-requires
@@ -34,7 +34,7 @@ push_reserved-requires g c =
     let n = length c.args.sorted.now in
     let room : n ≤ length s.idle * s.block = subst (λ v. n ≤ v.idle * v.block) (sym c.self.view_is) c.requires.room in
     let some : 0 < length s.idle = idle_some n (length s.idle) s.block c.requires.some room in
-    let place : length s.runs.items < length s.tree = has_place laws.order laws.same s.block s.runs.items s.tree s.idle s.count store some in
+    let place : length s.runs.items < length s.tree.items = has_place laws.order laws.same s.block s.runs.items s.tree.items s.idle s.count store some in
     omega (arith, c.len.ensures, s.runs.ok, c.self.invariant.1)
 
 pub overflow_add-self : goal.overflow_add-self
@@ -45,8 +45,8 @@ overflow_add-self g c =
     let n = length c.args.sorted.now in
     let room : n ≤ length s.idle * s.block = subst (λ v. n ≤ v.idle * v.block) (sym c.self.view_is) c.requires.room in
     let some : 0 < length s.idle = idle_some n (length s.idle) s.block c.requires.some room in
-    let place : length s.runs.items < length s.tree = has_place laws.order laws.same s.block s.runs.items s.tree s.idle s.count store some in
-    let h = count_fits s.count n (length s.idle) (length s.tree) s.block (within_buffers laws.order laws.same s.block s.runs.items s.tree s.idle s.count store) room store.few store.size.1 in
+    let place : length s.runs.items < length s.tree.items = has_place laws.order laws.same s.block s.runs.items s.tree.items s.idle s.count store some in
+    let h = count_fits s.count n (length s.idle) (length s.tree.items) s.block (within_buffers laws.order laws.same s.block s.runs.items s.tree.items s.idle s.count store) room store.few store.size.1 in
     omega (arith, h)
 
 pub invariant_of-self : goal.invariant_of-self
@@ -57,7 +57,7 @@ invariant_of-self g c =
     let n = length c.args.sorted.now in
     let room : n ≤ length s.idle * s.block = subst (λ v. n ≤ v.idle * v.block) (sym c.self.view_is) c.requires.room in
     let some : 0 < length s.idle = idle_some n (length s.idle) s.block c.requires.some room in
-    let place : length s.runs.items < length s.tree = has_place laws.order laws.same s.block s.runs.items s.tree s.idle s.count store some in
+    let place : length s.runs.items < length s.tree.items = has_place laws.order laws.same s.block s.runs.items s.tree.items s.idle s.count store some in
     let run = c.fill-run.result in
     let fill = c.fill-run.ensures in
     let is : IsStored g.R.Ord.cmp s.block run = record {
@@ -67,11 +67,11 @@ invariant_of-self g c =
       own = fill.own;
     } in
     let at : c.len.result ≡ length s.runs.items = omega (arith, c.len.ensures, s.runs.ok) in
-    let more = stored_more laws.order laws.same s.block s.runs.items s.tree s.idle c.fill-run.new.idle s.count n run c.first.result store is fill.idle fill.buffers (sym (ap length fill.items)) c.first.ensures.first place in
-    let tree : c.put.new.self ≡ set s.tree (length s.runs.items) c.first.result = c.put.ensures ∙ ap (λ i. set s.tree i c.first.result) at in
-    let leaves = length-set s.tree c.len.result c.first.result in (
-      subst (λ t. IsStore g.R.Ord.cmp s.block c.push_reserved.new.self.items t c.fill-run.new.idle (s.count + n)) (sym tree) (subst (λ runs. IsStore g.R.Ord.cmp s.block runs (set s.tree (length s.runs.items) c.first.result) c.fill-run.new.idle (s.count + n)) (sym c.push_reserved.ensures.items) more),
-      omega (arith, ap length c.put.ensures, leaves, c.push_reserved.ensures.capacity, c.self.invariant.1),
+    let more = stored_more laws.order laws.same s.block s.runs.items s.tree.items s.idle c.fill-run.new.idle s.count n run c.first.result store is fill.idle fill.buffers (sym (ap length fill.items)) c.first.ensures.first place in
+    let tree : c.put.new.self.items ≡ set s.tree.items (length s.runs.items) c.first.result = c.put.ensures.items ∙ ap (λ i. set s.tree.items i c.first.result) at in
+    let leaves = length-set s.tree.items c.len.result c.first.result in (
+      subst (λ t. IsStore g.R.Ord.cmp s.block c.push_reserved.new.self.items t c.fill-run.new.idle (s.count + n)) (sym tree) (subst (λ runs. IsStore g.R.Ord.cmp s.block runs (set s.tree.items (length s.runs.items) c.first.result) c.fill-run.new.idle (s.count + n)) (sym c.push_reserved.ensures.items) more),
+      omega (arith, ap length c.put.ensures.items, leaves, c.push_reserved.ensures.capacity, c.self.invariant.1),
     )
 
 pub returns-clause-idle : goal.returns-clause-idle
@@ -82,5 +82,5 @@ returns-clause-idle g c =
     let n = length c.args.sorted.now in
     let room : n ≤ length s.idle * s.block = subst (λ v. n ≤ v.idle * v.block) (sym c.self.view_is) c.requires.room in
     let some : 0 < length s.idle = idle_some n (length s.idle) s.block c.requires.some room in
-    let place : length s.runs.items < length s.tree = has_place laws.order laws.same s.block s.runs.items s.tree s.idle s.count store some in
+    let place : length s.runs.items < length s.tree.items = has_place laws.order laws.same s.block s.runs.items s.tree.items s.idle s.count store some in
     subst (λ v. v.idle * v.block < length c.fill-run.new.idle * v.block + n + v.block) c.self.view_is (idle_kept (length s.idle) (length c.fill-run.new.idle) (length c.fill-run.result.live) n s.block c.fill-run.ensures.buffers c.fill-run.ensures.full)

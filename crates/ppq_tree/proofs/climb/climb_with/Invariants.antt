@@ -1,6 +1,7 @@
-use Rattle.std.proofs.Common.{◌≡◌, ◌+◌, ◌-◌, ◌*◌, ◌/◌, ◌^◌, ◌<◌, ◌≤◌, length}
+use Rattle.std.proofs.Common.{◌≡◌, ◌+◌, ◌*◌, ◌/◌, ◌<◌, length}
+use Rattle.ppq_tree.specs.Levels.{levels_above, leaf_level}
 use Rattle.ppq_tree.specs.Tree.{winner_at, HasItem, IsTreeAbove}
-use Rattle.ppq_tree.proofs.matches.climb_with.Given as goal
+use Rattle.ppq_tree.proofs.climb.climb_with.Given as goal
 
 abbrev pub invariant-loop-child : goal.invariant-loop-child
 invariant-loop-child g l =
@@ -10,8 +11,7 @@ invariant-loop-child g l =
       tree : IsTreeAbove g.R.Ord.cmp l.items l.winners (l.child / 2);
       here : winner_at l.winners l.child ≡ l.best;
       item : HasItem l.items l.best l.best_item;
-      grows : l.fn.steps ≤ l.steps;
-      left : 2 ^ (l.steps - l.fn.steps) * l.child ≤ length l.items + l.leaf;
+      left : l.steps + levels_above l.child ≡ l.fn.steps + leaf_level (length l.items) l.leaf;
     }
 
 abbrev pub decreases-loop-child : goal.decreases-loop-child

@@ -1,9 +1,10 @@
-use Rattle.std.proofs.Common.{◌≡◌, ◌+◌, ◌-◌, ◌*◌, ◌/◌, ◌^◌, ◌<◌, ◌≤◌, length, refl, sym, subst, arith, rules}
+use Rattle.std.proofs.Common.{◌≡◌, ◌/◌, ◌<◌, length, subst, arith}
 use Rattle.std.proofs.lemmas.List.{get_or-set_same}
 use Rattle.ppq_tree.specs.Tree.{IsTreeAbove, winner_at, better}
-use Rattle.ppq_tree.proofs.Tree.{climbed_out, cost_step}
+use Rattle.ppq_tree.proofs.Levels.{levels_above-parent, levels_above-root}
+use Rattle.ppq_tree.proofs.Tree.{climbed_out}
 use Rattle.ppq_tree.proofs.Carried.{climbed_with}
-use Rattle.ppq_tree.proofs.matches.climb_with.Goals as goal
+use Rattle.ppq_tree.proofs.climb.climb_with.Goals as goal
 
 pub loop-child-preserved : goal.loop-child-preserved
 loop-child-preserved g c =
@@ -12,11 +13,8 @@ loop-child-preserved g c =
     let some : 1 < child = c.loop-child-test.true in
     let place = i.place in
     let size = i.tree.size in
-    let grows = i.grows in
-    let ticks = c.tick.ensures in
-    let z : 0 < child = omega arith in
-    let cost = cost_step (c.loop-child.steps - c.args.steps.now) child (length c.args.items.now + c.args.leaf) z i.left in
-    let more : c.tick.new.self - c.args.steps.now ≡ (c.loop-child.steps - c.args.steps.now) + 1 = omega arith in
+    let left = i.left in
+    let steps = c.duel-won.ensures.cost in
     let tree = climbed_with g.R.Ord.cmp c.record_laws.ensures.order c.args.items.now c.loop-child.winners child c.loop-child.best c.duel-won.result.0 c.loop-child.best_item some place i.tree i.here i.item c.duel-won.ensures.winner in
     let there : child / 2 < length c.loop-child.winners = omega arith in
     record {
@@ -25,8 +23,7 @@ loop-child-preserved g c =
       tree = tree;
       here = get_or-set_same c.loop-child.winners (child / 2) c.duel-won.result.0 0 there;
       item = c.duel-won.ensures.item;
-      grows = omega arith;
-      left = subst (λ s. 2 ^ s * (child / 2) ≤ length c.args.items.now + c.args.leaf) (sym more) cost.0;
+      left = omega (arith, levels_above-parent child some);
     }
 
 pub returns-clause-tree : goal.returns-clause-tree
@@ -35,3 +32,6 @@ returns-clause-tree g c =
     let some = i.some in
     let root : c.loop-child.child / 2 ≡ 0 = omega (arith, c.loop-child-test.false) in
     climbed_out g.R.Ord.cmp c.args.items.now c.loop-child.winners (subst (IsTreeAbove g.R.Ord.cmp c.args.items.now c.loop-child.winners) root i.tree)
+
+pub returns-clause-cost : goal.returns-clause-cost
+returns-clause-cost g c = omega (arith, c.loop-child.invariant.left, levels_above-root c.loop-child.child c.loop-child-test.false)

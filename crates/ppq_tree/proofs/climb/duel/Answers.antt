@@ -4,7 +4,7 @@ use Rattle.std.specs.Prelude.{if◌then◌else◌}
 use Rattle.std.specs.Ordering.{is_lt}
 use Rattle.ppq_tree.specs.Tree.{ahead, HasItem}
 use Rattle.ppq_tree.proofs.Carried.{duel_item}
-use Rattle.ppq_tree.proofs.matches.duel.Goals as goal
+use Rattle.ppq_tree.proofs.climb.duel.Goals as goal
 
 pub returns-clause-item : goal.returns-clause-item
 returns-clause-item g c =

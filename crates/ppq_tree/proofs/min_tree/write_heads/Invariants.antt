@@ -1,0 +1,9 @@
+use Rattle.std.proofs.Common.{◌≡◌, take, vec_capacity}
+use Rattle.ppq_tree.proofs.min_tree.write_heads.Given as goal
+
+abbrev pub invariant-loop-leaf : goal.invariant-loop-leaf
+invariant-loop-leaf g l =
+    record {
+      items : l.items.items ≡ take l.leaf (g.H.Heads.heads l.heads);
+      capacity : vec_capacity l.items ≡ vec_capacity l.fn.items;
+    }
