@@ -62,6 +62,14 @@ module _ {X : Type 0} where
   some_of [] h = absurd (omega arith)
   some_of (x ∷ xs) h = x
 
+  pub starts-length : (qs : List (List X)) → length (starts qs) ≡ length qs
+  starts-length [] = refl
+  starts-length (q ∷ qs) = ap suc (starts-length qs)
+
+  pub ends-length : (qs : List (List X)) → length (ends qs) ≡ length qs
+  ends-length [] = refl
+  ends-length (q ∷ qs) = ap suc (ends-length qs)
+
   pub starts-within : (qs : List (List X)) → AreWithin (starts qs) qs
   starts-within [] = tt
   starts-within (q ∷ qs) = (omega arith, starts-within qs)

@@ -16,7 +16,7 @@ use Rattle.ppq_split.specs.declared.edge.Edge.TheVariants.{Start, End, At}
 use Rattle.ppq_split.specs.declared.mark.Mark.{Mark}
 use Rattle.ppq_split.specs.Edge.{starts, ends, mark_places, edge_places, IsPartedBy, IsEdge}
 use Rattle.ppq_split.specs.Mark.{IsMark}
-use Rattle.ppq_split.proofs.Cuts.{starts-cut, ends-cut, starts-total, IsCut-rises, total-le}
+use Rattle.ppq_split.proofs.Cuts.{starts-length, ends-length, starts-cut, ends-cut, starts-total, IsCut-rises, total-le}
 use Rattle.ppq_split.proofs.Marks.{mark_cut, mark_own, total_one, mark_length}
 use Rattle.ppq_split.proofs.Windows.{at_get}
 
@@ -38,17 +38,9 @@ pub end_edge : {X : Type 0} (lt : X → X → Bool) (qs : List (List X)) → IsE
 unfolding IsEdge
 end_edge lt qs = tt
 
-starts_length : {X : Type 0} (qs : List (List X)) → length (starts qs) ≡ length qs
-starts_length [] = refl
-starts_length (q ∷ qs) = ap suc (starts_length qs)
-
-ends_length : {X : Type 0} (qs : List (List X)) → length (ends qs) ≡ length qs
-ends_length [] = refl
-ends_length (q ∷ qs) = ap suc (ends_length qs)
-
 pub edge_length : {X : Type 0} (lt : X → X → Bool) (qs : List (List X)) (e : Edge X) → length (edge_places lt qs e) ≡ length qs
-edge_length lt qs Start = starts_length qs
-edge_length lt qs End = ends_length qs
+edge_length lt qs Start = starts-length qs
+edge_length lt qs End = ends-length qs
 edge_length lt qs (At x i p) = mark_length lt x p i qs
 
 module _ {X : Type 0} (lt : X → X → Bool) (o : IsStrictWeakOrder lt) where
