@@ -1,0 +1,6 @@
+pub mod Between
+pub mod Heads
+pub mod Merged
+pub mod Merging
+pub mod Pieces
+pub mod Planned

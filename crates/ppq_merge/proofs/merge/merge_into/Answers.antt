@@ -1,0 +1,19 @@
+use Rattle.std.proofs.Common.{◌≡◌, ◌+◌, length, arith}
+use Rattle.ppq_record.specs.Order.{is_before}
+use Rattle.ppq_record.proofs.Fronts.{ranks}
+use Rattle.ppq_merge.specs.Parts.{size_between}
+use Rattle.ppq_merge.proofs.Heads.{spent}
+use Rattle.ppq_merge.proofs.Merging.{merging_all}
+use Rattle.ppq_merge.proofs.merge.merge_into.Goals as goal
+
+pub returns-clause-merge : goal.returns-clause-merge
+returns-clause-merge g c =
+    let e = c.merge_front.ensures in
+    let nothing : size_between c.merge_front.new.from c.args.to.now ≡ 0 = omega (arith, e.left, c.requires.size) in
+    merging_all (is_before g.R.Ord.cmp) (ranks c.record_laws.ensures.order) (g.Q.Listing.lists c.args.runs.now) c.args.from.now c.args.to.now c.merge_front.new.from c.merge_front.new.out e.parts nothing e.merging
+
+pub returns-clause-spent : goal.returns-clause-spent
+returns-clause-spent g c =
+    let e = c.merge_front.ensures in
+    let nothing : size_between c.merge_front.new.from c.args.to.now ≡ 0 = omega (arith, e.left, c.requires.size) in
+    spent c.merge_front.new.from c.args.to.now (g.Q.Listing.lists c.args.runs.now) e.parts nothing

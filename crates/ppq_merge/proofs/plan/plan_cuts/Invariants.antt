@@ -1,0 +1,19 @@
+use Rattle.std.proofs.Common.{◌≡◌, ◌*◌, ◌/◌, List, length, take, true}
+use Rattle.std.specs.Prelude.{All}
+use Rattle.ppq_record.specs.Order.{is_before}
+use Rattle.ppq_split.specs.Cut.{AllAscend, AreWithin, total}
+use Rattle.ppq_merge.specs.Plan.{IsPlan, IsCutPlan}
+use Rattle.ppq_merge.specs.Seat.{IsSized}
+use Rattle.ppq_merge.proofs.plan.plan_cuts.Given as goal
+
+abbrev pub invariant-loop-place : goal.invariant-loop-place
+invariant-loop-place g l =
+    let qs = g.Q.Listing.lists l.runs in
+    let rank = l.count * l.place / l.workers in
+    record {
+      within : AreWithin l.carry qs;
+      adds_up : total l.carry ≡ rank;
+      sized : All (IsSized l.leaves) l.seats;
+      plan : l.ok ≡ true → IsPlan qs l.fn.carry (take l.place l.seats) l.carry rank;
+      rising : AllAscend g.R.Ord.cmp qs → (l.ok ≡ true) × IsCutPlan (is_before g.R.Ord.cmp) qs (take l.place l.seats) l.carry rank;
+    }

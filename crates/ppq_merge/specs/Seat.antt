@@ -1,0 +1,27 @@
+-- A worker's seat: its places and its tree.
+use Rattle.std.specs.Prelude.{◌≡◌, ℕ, ◌≤◌, List, length, All}
+use Rattle.ppq_merge.specs.Parts.{places_for}
+use Rattle.ppq_merge.specs.declared.seat.Seat.{Seat}
+
+module _ {R : Type 0} where
+  -- the places where a worker's piece begins, as many as there are runs
+  abbrev pub from_of : List (List R) → Seat R → List ℕ
+  from_of qs s = places_for qs s.from.items
+
+  -- and those where it ends
+  abbrev pub to_of : List (List R) → Seat R → List ℕ
+  to_of qs s = places_for qs s.to.items
+
+  -- a seat has places and leaves for n runs
+  pub record IsSized (n : ℕ) (s : Seat R) : Type 0 where
+    pub from : length s.from.items ≡ n
+    pub to : length s.to.items ≡ n
+    pub leaves : s.tree.room ≡ n
+
+  -- each of some seats
+  unfoldable pub AreSized : ℕ → List (Seat R) → Type 0
+  AreSized n ss = All (IsSized n) ss
+
+  -- a seat has at least as many places and leaves as there are runs
+  abbrev pub HasRoom : List (List R) → Seat R → Type 0
+  HasRoom qs s = (length qs ≤ length s.from.items) × (length qs ≤ length s.to.items) × (length qs ≤ s.tree.room)

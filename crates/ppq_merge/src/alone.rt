@@ -1,0 +1,106 @@
+//! Merging by one of the workers alone, which needs no cut.
+ghost use Rattle.std.specs.Prelude.{◌≡◌, ◌+◌, ◌^◌, ◌<◌, ◌≤◌, length};
+ghost use Rattle.std.specs.Thread.{IsSync, IsSend};
+ghost use Rattle.ppq_record.specs.Runs.{all_of};
+ghost use Rattle.ppq_split.specs.Edge.{ends};
+ghost use Rattle.ppq_merge.specs.Merged.{IsMerged};
+
+use crate::idle::enter_all;
+use crate::merge::merge_front;
+use crate::seat::Seat;
+use ppq_outside::Gate;
+use ppq_record::{Listing, Record, record_laws};
+use ppq_tree::MinTree;
+use std::thread::{Threads, join_mut};
+
+/// Writes the end of each run.
+fn write_ends<R: Record, Q: Listing<R>>(runs: &Q, to: &mut [u64])
+    requires { length to.old ≡ length (Q.lists runs.now) }
+    ensures { to.new ≡ ends (Q.lists runs.now) }
+{
+    for run in 0..runs.runs() {
+        to[run as usize] = runs.len(run);
+    }
+}
+
+/// Merges the smallest records of all runs into `out`, as many as it has room for. The places move to
+/// the first records that are left; the first of the ends are written over.
+fn merge_smallest<R: Record, Q: Listing<R>>(
+    runs: &Q,
+    places: &mut [u64],
+    ends: &mut [u64],
+    tree: &mut MinTree<R>,
+    out: &mut [R],
+)
+    requires places { length places.old ≡ length (Q.lists runs.now) }
+    requires ends { length (Q.lists runs.now) ≤ length ends.old }
+    requires leaves { length (Q.lists runs.now) ≤ tree.old.room }
+    requires count { length out.old ≤ length (all_of (Q.lists runs.now)) }
+    ensures merged { IsMerged R.Ord.cmp (Q.lists runs.now) (length out.old) places.new out.new }
+    ensures room { tree.new.room ≡ tree.old.room }
+{
+    record_laws::<R>();
+    let part = &mut ends[..places.len()];
+    places.fill(0);
+    write_ends(runs, part);
+    merge_front(runs, places, part, tree, out);
+}
+
+/// Enters the gate as worker 0 and merges by its seat.
+fn merge_by_first<R: Record, Q: Listing<R>, G: Gate>(
+    runs: &Q,
+    gate: &G,
+    seat: &mut Seat<R>,
+    places: &mut [u64],
+    out: &mut [R],
+)
+    requires places { length places.old ≡ length (Q.lists runs.now) }
+    requires to { length (Q.lists runs.now) ≤ length seat.old.to.items }
+    requires leaves { length (Q.lists runs.now) ≤ seat.old.tree.room }
+    requires count { length out.old ≤ length (all_of (Q.lists runs.now)) }
+    ensures merged { IsMerged R.Ord.cmp (Q.lists runs.now) (length out.old) places.new out.new }
+    ensures from { length seat.new.from.items ≡ length seat.old.from.items }
+    ensures to { length seat.new.to.items ≡ length seat.old.to.items }
+    ensures leaves { seat.new.tree.room ≡ seat.old.tree.room }
+{
+    gate.enter(0);
+    let Seat { to, tree, .. } = seat;
+    merge_smallest(runs, places, to.as_mut_slice(), tree, out);
+}
+
+/// Merges the smallest records by worker 0, while the others enter the gate.
+pub(crate) fn merge_alone<H: Threads + Sync, R: Record + Send, Q: Listing<R>, G: Gate>(
+    rt: &H,
+    runs: &Q,
+    gate: &G,
+    workers: u32,
+    seat: &mut Seat<R>,
+    places: &mut [u64],
+    out: &mut [R],
+)
+    requires some { 1 ≤ workers }
+    requires places { length places.old ≡ length (Q.lists runs.now) }
+    requires to { length (Q.lists runs.now) ≤ length seat.old.to.items }
+    requires leaves { length (Q.lists runs.now) ≤ seat.old.tree.room }
+    requires count { length out.old ≤ length (all_of (Q.lists runs.now)) }
+    ensures merged { IsMerged R.Ord.cmp (Q.lists runs.now) (length out.old) places.new out.new }
+    ensures from { length seat.new.from.items ≡ length seat.old.from.items }
+    ensures to { length seat.new.to.items ≡ length seat.old.to.items }
+    ensures leaves { seat.new.tree.room ≡ seat.old.tree.room }
+{
+    if workers == 1 {
+        merge_by_first(runs, gate, seat, places, out);
+        return;
+    }
+    let idle = workers - 1;
+    join_mut(
+        rt,
+        &mut ||
+            requires { IsSync Q.row × IsSync G.row × IsSend R.row × (length places.now ≡ length (Q.lists runs.now)) × (length (Q.lists runs.now) ≤ length seat.now.to.items) × (length (Q.lists runs.now) ≤ seat.now.tree.room) × (length out.now ≤ length (all_of (Q.lists runs.now))) }
+            ensures { IsMerged R.Ord.cmp (Q.lists runs.entry.now) (length out.entry.now) places.exit.now out.exit.now × (length seat.exit.now.from.items ≡ length seat.entry.now.from.items) × (length seat.exit.now.to.items ≡ length seat.entry.now.to.items) × (seat.exit.now.tree.room ≡ seat.entry.now.tree.room) }
+        { merge_by_first(runs, gate, seat, places, out) },
+        &mut ||
+            requires { IsSync H.row × IsSync G.row × (1 + idle < 2 ^ 32) }
+        { enter_all(rt, gate, 1, idle) },
+    );
+}

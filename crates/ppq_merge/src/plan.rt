@@ -1,0 +1,119 @@
+//! Which piece each worker merges.
+ghost use Rattle.std.specs.Prelude.{◌≡◌, ◌+◌, ◌*◌, ◌/◌, ◌^◌, ◌<◌, ◌≤◌, length, All, true, min, max};
+ghost use Rattle.ppq_record.specs.Order.{is_before};
+ghost use Rattle.ppq_record.specs.Runs.{all_of};
+ghost use Rattle.ppq_split.specs.Cut.{AllAscend, AreWithin, IsCut, total};
+ghost use Rattle.ppq_merge.specs.Plan.{IsPlan, IsCutPlan, Rises};
+ghost use Rattle.ppq_merge.specs.Seat.{IsSized, from_of, to_of};
+
+use crate::seat::{Seat, copy_front};
+use ppq_record::{Listing, Record, record_laws};
+use ppq_split::cut_at;
+
+/// How many records a piece has at least, beside those for each run. Starting a thread takes some
+/// twenty microseconds, in which one worker merges about so many.
+const LEAST_PIECE: u64 = 1024;
+
+/// How many records a piece has at least for each run. A cut looks about forty times into each run,
+/// which takes as long as the merge of so many records.
+const LEAST_PIECE_OF_A_RUN: u64 = 8;
+
+/// How many of the workers get a piece: so many that each piece pays for its cut and its thread, and
+/// one at least.
+pub(crate) fn active_workers(count: u64, runs: u32, workers: u32) -> u32
+    requires { 1 ≤ workers }
+    ensures { result ≡ max 1 (min workers (count / (1024 + 8 * runs))) }
+{
+    let piece = LEAST_PIECE + LEAST_PIECE_OF_A_RUN * u64::from(runs);
+    (count / piece).min(u64::from(workers)).max(1) as u32
+}
+
+/// The rank at which the piece of worker number `place` begins, where so many workers share the
+/// records evenly.
+#[inline]
+fn rank_of(count: u64, place: u32, workers: u32) -> u64
+    requires { (place ≤ workers) × (0 < workers) }
+    ensures rank { result ≡ count * place / workers }
+    ensures within { result ≤ count }
+{
+    (u128::from(count) * u128::from(place) / u128::from(workers)) as u64
+}
+
+/// Whether no place falls.
+fn all_rise(from: &[u64], to: &[u64]) -> bool
+    requires { length from.now ≡ length to.now }
+    ensures rises { result ≡ true → Rises from.now to.now }
+    ensures stays { Rises from.now to.now → result ≡ true }
+{
+    for i in 0..from.len() {
+        if from[i] > to[i] {
+            return false;
+        }
+    }
+    true
+}
+
+/// Gives a worker the piece from the places so far up to the cut at a rank, to which the places move.
+/// Says whether no place falls.
+fn plan_seat<R: Record, Q: Listing<R>>(
+    runs: &Q,
+    rank: u64,
+    carry: &mut [u64],
+    seat: &mut Seat<R>,
+) -> bool
+    requires places { length carry.old ≡ length (Q.lists runs.now) }
+    requires rank { rank ≤ length (all_of (Q.lists runs.now)) }
+    requires room { length (all_of (Q.lists runs.now)) < 2 ^ 64 }
+    requires from_room { length carry.old ≤ length seat.old.from.items }
+    requires to_room { length carry.old ≤ length seat.old.to.items }
+    ensures from { from_of (Q.lists runs.now) seat.new ≡ carry.old }
+    ensures to { to_of (Q.lists runs.now) seat.new ≡ carry.new }
+    ensures end { seat.new.end ≡ rank }
+    ensures tree { seat.new.tree ≡ seat.old.tree }
+    ensures from_length { length seat.new.from.items ≡ length seat.old.from.items }
+    ensures to_length { length seat.new.to.items ≡ length seat.old.to.items }
+    ensures within { AreWithin carry.new (Q.lists runs.now) }
+    ensures adds_up { total carry.new ≡ rank }
+    ensures cut { AllAscend R.Ord.cmp (Q.lists runs.now) → IsCut R.Ord.cmp (Q.lists runs.now) rank carry.new }
+    ensures rises { result ≡ true → Rises carry.old carry.new }
+    ensures stays { Rises carry.old carry.new → result ≡ true }
+{
+    copy_front(carry, seat.from.as_mut_slice());
+    cut_at(runs, rank, carry);
+    copy_front(carry, seat.to.as_mut_slice());
+    seat.end = rank;
+    all_rise(&seat.from.as_slice()[..carry.len()], carry)
+}
+
+/// Gives each worker the piece between two neighbouring cuts, and says whether no place falls, as it
+/// never does if the runs ascend.
+pub(crate) fn plan_cuts<R: Record, Q: Listing<R>>(
+    runs: &Q,
+    count: u64,
+    carry: &mut [u64],
+    seats: &mut [Seat<R>],
+    leaves: usize,
+) -> bool
+    requires some { (0 < length seats.old) × (length seats.old < 2 ^ 32) }
+    requires places { length carry.old ≡ length (Q.lists runs.now) }
+    requires zeros { total carry.old ≡ 0 }
+    requires rank { count ≤ length (all_of (Q.lists runs.now)) }
+    requires room { length (all_of (Q.lists runs.now)) < 2 ^ 64 }
+    requires seat_room { length carry.old ≤ leaves }
+    requires sized { All (IsSized leaves) seats.old }
+    ensures sized { All (IsSized leaves) seats.new }
+    ensures within { AreWithin carry.new (Q.lists runs.now) }
+    ensures adds_up { total carry.new ≡ count }
+    ensures plan { result ≡ true → IsPlan (Q.lists runs.now) carry.old seats.new carry.new count }
+    ensures rising { AllAscend R.Ord.cmp (Q.lists runs.now) → (result ≡ true) × IsCutPlan (is_before R.Ord.cmp) (Q.lists runs.now) seats.new carry.new count }
+{
+    record_laws::<R>();
+    let workers = seats.len() as u32;
+    let mut ok = true;
+    for place in 0..workers {
+        let rank = rank_of(count, place + 1, workers);
+        let rises = plan_seat(runs, rank, carry, &mut seats[place as usize]);
+        ok = ok & rises;
+    }
+    ok
+}

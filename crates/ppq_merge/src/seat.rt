@@ -1,0 +1,95 @@
+//! What one worker needs.
+ghost use Rattle.std.specs.Prelude.{◌≡◌, ◌≤◌, length, take, replicate, IfOk};
+ghost use Rattle.ppq_merge.specs.Parts.{AreParts, IsMerge, size_between, places_for};
+ghost use Rattle.ppq_merge.specs.Seat.{IsSized, HasRoom, from_of, to_of};
+
+use crate::merge::merge_into;
+use ppq_record::{Listing, Memory, Record};
+use ppq_tree::MinTree;
+use std::alloc::Global;
+
+/// A worker's places and tree. Of the places and leaves as many are used as there are runs.
+#[derive(Drop)]
+pub(crate) struct Seat<R: Record> {
+    /// Where the worker's piece begins in each run.
+    pub(crate) from: Vec<u64>,
+    /// Where it ends in each run.
+    pub(crate) to: Vec<u64>,
+    /// The rank of that end: how many records stand in front of it in all runs.
+    pub(crate) end: u64,
+    /// The tree with which the worker merges.
+    pub(crate) tree: MinTree<R>,
+}
+
+/// So many zeros.
+pub(crate) fn zeros(alloc: Global, runs: u32) -> Result<Vec<u64>, Memory>
+    ensures { IfOk result (λ places. places.items ≡ replicate runs 0) }
+{
+    let mut places = Vec::with_capacity(alloc, runs as usize)?;
+    for _run in 0..runs {
+        places.push(0)?;
+    }
+    Ok(places)
+}
+
+impl<R: Record> Seat<R> {
+    /// A seat for so many runs.
+    pub(crate) fn new(alloc: Global, runs: u32) -> Result<Self, Memory>
+        ensures { IfOk result (λ seat. IsSized runs seat) }
+    {
+        let from = zeros(alloc, runs)?;
+        let to = zeros(alloc, runs)?;
+        let tree = MinTree::new(alloc, runs)?;
+        Ok(Seat {
+            from,
+            to,
+            end: 0,
+            tree,
+        })
+    }
+}
+
+/// Copies places over the first of others.
+pub(crate) fn copy_front(places: &[u64], into: &mut [u64])
+    requires { length places.now ≤ length into.old }
+    ensures { take (length places.now) into.new ≡ places.now }
+{
+    let part = &mut into[..places.len()];
+    part.copy_from_slice(places);
+}
+
+/// Merges what lies between the first of some places, as many as there are runs.
+fn merge_between<R: Record, Q: Listing<R>>(
+    runs: &Q,
+    from: &mut [u64],
+    to: &[u64],
+    tree: &mut MinTree<R>,
+    out: &mut [R],
+)
+    requires from { length (Q.lists runs.now) ≤ length from.old }
+    requires to { length (Q.lists runs.now) ≤ length to.now }
+    requires leaves { length (Q.lists runs.now) ≤ tree.old.room }
+    requires parts { AreParts (places_for (Q.lists runs.now) from.old) (places_for (Q.lists runs.now) to.now) (Q.lists runs.now) }
+    requires size { length out.old ≡ size_between (places_for (Q.lists runs.now) from.old) (places_for (Q.lists runs.now) to.now) }
+    ensures merge { IsMerge R.Ord.cmp (Q.lists runs.now) (places_for (Q.lists runs.now) from.old) (places_for (Q.lists runs.now) to.now) out.new }
+    ensures room { tree.new.room ≡ tree.old.room }
+{
+    let count = runs.runs() as usize;
+    let part = &mut from[..count];
+    let ends = &to[..count];
+    merge_into(runs, part, ends, tree, out);
+}
+
+/// Merges a worker's piece.
+pub(crate) fn merge_piece<R: Record, Q: Listing<R>>(runs: &Q, seat: &mut Seat<R>, out: &mut [R])
+    requires room { HasRoom (Q.lists runs.now) seat.old }
+    requires parts { AreParts (from_of (Q.lists runs.now) seat.old) (to_of (Q.lists runs.now) seat.old) (Q.lists runs.now) }
+    requires size { length out.old ≡ size_between (from_of (Q.lists runs.now) seat.old) (to_of (Q.lists runs.now) seat.old) }
+    ensures merge { IsMerge R.Ord.cmp (Q.lists runs.now) (from_of (Q.lists runs.now) seat.old) (to_of (Q.lists runs.now) seat.old) out.new }
+    ensures from { length seat.new.from.items ≡ length seat.old.from.items }
+    ensures to { length seat.new.to.items ≡ length seat.old.to.items }
+    ensures leaves { seat.new.tree.room ≡ seat.old.tree.room }
+{
+    let Seat { from, to, tree, .. } = seat;
+    merge_between(runs, from.as_mut_slice(), to.as_slice(), tree, out);
+}

@@ -1,0 +1,4 @@
+pub mod Bounds
+pub mod Cut
+pub mod Edge
+pub mod Mark
