@@ -128,6 +128,10 @@ where
 /// length of the script, and a read before it gave nothing at that place. Every other script ends
 /// `Done`, or `Memory`.
 ///
+/// The same outside can be handed in again: no file changes, no count falls, and one rises only where
+/// the end names a fault, so a failed call is never dropped. The rack made just the blocks that come
+/// back.
+///
 /// Of a library that does not tell, the same is said of the bytes that it gave as the script: it
 /// said their number, and its reads gave just these, one piece after the other.
 pub fn run_words<H: Host, L: Library, K: Rack, O: Sink, G: Gate>(

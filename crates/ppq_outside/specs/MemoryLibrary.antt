@@ -1,7 +1,7 @@
 -- What contracts see of a library in memory, and what its calls answer.
-use Rattle.std.specs.Prelude.{ℕ, ◌-◌, Bool, nat_eq, List, [], ◌∷◌, length, min, Option, Some, None, Result, Ok, Err, bytes_eq, if◌then◌else◌}
-use Rattle.std.specs.List.{list_any}
+use Rattle.std.specs.Prelude.{ℕ, ◌-◌, Bool, List, [], ◌∷◌, length, min, Option, Some, None, Result, Ok, Err, bytes_eq, if◌then◌else◌}
 use Rattle.ppq_outside.specs.Told.{next_count, bytes_or_none}
+use Rattle.ppq_outside.specs.Plan.{fails_at}
 use Rattle.ppq_outside.specs.declared.fault.OutsideFault.{OutsideFault}
 use Rattle.ppq_outside.specs.declared.fault.OutsideFault.TheVariants.{Failed}
 
@@ -21,10 +21,6 @@ empty_library = record { files = []; plan = []; calls = 0; faults = 0 }
 abbrev pub lookup : List (List ℕ × List ℕ) → List ℕ → Option (List ℕ)
 lookup [] name = None
 lookup (file ∷ files) name = if bytes_eq file.0 name then Some file.1 else lookup files name
-
--- the call with this number is to fail
-abbrev pub fails_at : List ℕ → ℕ → Bool
-fails_at plan call = list_any (λ planned. nat_eq planned call) plan
 
 -- the next call fails
 abbrev pub fails_next : LibraryState → Bool

@@ -1,34 +1,65 @@
 //! A device in memory.
-ghost use Rattle.std.specs.Prelude.{◌≡◌, IfOk, OnOk, IsErrOf};
+ghost use Rattle.std.specs.Prelude.{◌≡◌, ◌↔◌, ◌++◌, [], IfOk, IsErrOf, IsTrue};
+ghost use Rattle.ppq_outside.specs.Told.{HasCause};
+ghost use Rattle.ppq_outside.specs.Plan.{calls_of};
+ghost use Rattle.ppq_outside.specs.Made.{made_by};
+ghost use Rattle.ppq_outside.specs.MemoryDevice.{numbers_in};
 
 use crate::{Host, MemSlot, OutsideFault, Rack};
 use std::alloc::{AllocError, Global};
 use std::marker::Model;
 
-/// A device in memory. Its slots tell, and it fails never.
+/// What is to fail.
+#[derive(Drop)]
+struct Plan {
+    /// Calls of blocks: a block's number, and the number of its call, from 1.
+    calls: Vec<(u32, u64)>,
+    /// The numbers of the blocks whose making fails.
+    makes: Vec<u32>,
+}
+
+/// A device in memory. Its slots tell. The making of a block fails exactly where that was planned, and
+/// so do the calls of its blocks.
 #[derive(Drop)]
 pub struct MemRack {
+    /// The planned failures, where there are any.
+    plan: Option<Plan>,
     /// The numbers of the blocks that it made, in order; no list before the first.
     made: Option<Vec<u32>>,
+    /// How many calls failed.
     faults: u64,
 }
 
 impl Model for MemRack {
-    ghost use Rattle.ppq_outside.specs.MemoryDevice.{RackState, numbers_in};
+    ghost use Rattle.ppq_outside.specs.MemoryDevice.{RackState, calls_in, makes_in, numbers_in};
 
     ghost Value = { RackState };
 
-    ghost view = { λ r. record { made = numbers_in r.made; faults = r.faults } };
+    ghost view = { λ r. record { calls = calls_in r.plan; makes = makes_in r.plan; made = numbers_in r.made; faults = r.faults } };
 }
 
 impl MemRack {
-    ghost use Rattle.ppq_outside.specs.MemoryDevice.{fresh_rack, after_make};
+    ghost use Rattle.ppq_outside.specs.MemoryDevice.{fresh_rack, make_fails};
 
-    /// A device that fails never.
+    /// A device of which nothing is planned to fail.
     pub fn new() -> Self
-        ensures { result ≡ fresh_rack }
+        ensures { result ≡ fresh_rack [] [] }
     {
         MemRack {
+            plan: None,
+            made: None,
+            faults: 0,
+        }
+    }
+
+    /// A device that fails as planned. For each pair of `calls`, the block with that number fails its
+    /// call with that number, from 1, reads and writes counted together. The making of each block of
+    /// `makes` fails.
+    pub fn failing(calls: Vec<(u32, u64)>, makes: Vec<u32>) -> Self
+        ensures { result ≡ fresh_rack calls.items makes.items }
+    {
+        MemRack {
+            plan: Some(Plan { calls, makes }),
             made: None,
             faults: 0,
         }
@@ -44,26 +75,60 @@ impl MemRack {
         }
     }
 
-    /// Notes a block that it made.
-    fn note(&mut self, alloc: Global, number: u32) -> Result<(), AllocError>
-        ensures after { self.new ≡ after_make self.old result number }
+    /// Whether the making of a block is to fail.
+    fn fails(&self, number: u32) -> bool
+        ensures { result ≡ make_fails self.now number }
     {
-        match &mut self.made {
-            None => {
-                let mut numbers = Vec::new(alloc);
-                numbers.push(number)?;
-                self.made = Some(numbers);
-            }
-            Some(numbers) => numbers.push(number)?,
+        match &self.plan {
+            None => false,
+            Some(plan) => plan.makes.as_slice().contains(&number),
         }
-        Ok(())
     }
+
+    /// The numbers of the calls of a block that are to fail.
+    fn plan_of(&self, alloc: Global, number: u32) -> Result<Vec<u64>, AllocError>
+        ensures { IfOk result (λ plan. plan.items ≡ calls_of self.now.calls number) }
+    {
+        match &self.plan {
+            None => Ok(Vec::new(alloc)),
+            Some(plan) => calls_of_block(alloc, &plan.calls, number),
+        }
+    }
+}
+
+/// Of pairs of a block's number and the number of a call, the calls of one block.
+fn calls_of_block(alloc: Global, calls: &[(u32, u64)], number: u32) -> Result<Vec<u64>, AllocError>
+    ensures { IfOk result (λ plan. plan.items ≡ calls_of calls.now number) }
+{
+    let mut plan = Vec::new(alloc);
+    for (block, call) in calls {
+        if *block == number {
+            plan.push(*call)?;
+        }
+    }
+    Ok(plan)
+}
+
+/// A list of numbers with one more, which is made where there is none. Where memory is wanting, it is
+/// as before.
+fn note(alloc: Global, numbers: &mut Option<Vec<u32>>, number: u32) -> Result<(), AllocError>
+    ensures { numbers_in numbers.new ≡ numbers_in numbers.old ++ made_by result number }
+{
+    match numbers {
+        None => {
+            let mut first = Vec::new(alloc);
+            first.push(number)?;
+            *numbers = Some(first);
+        }
+        Some(numbers) => numbers.push(number)?,
+    }
+    Ok(())
 }
 
 impl Rack for MemRack {
     type Slot = MemSlot;
 
-    ghost use Rattle.ppq_outside.specs.MemoryDevice.{zero_slot, after_make};
+    ghost use Rattle.ppq_outside.specs.MemoryDevice.{zero_slot, make_fails, after_make};
 
     ghost tells = { λ _. Unit {0} };
 
@@ -75,7 +140,8 @@ impl Rack for MemRack {
         self.faults
     }
 
-    /// A slot that holds so many zeros. The only other answer is want of memory.
+    /// A slot that holds so many zeros. It fails exactly where that was planned; the only other answer
+    /// is want of memory.
     fn block<H: Host>(
         &mut self,
         _rt: &H,
@@ -84,12 +150,18 @@ impl Rack for MemRack {
         number: u32,
         bytes: usize,
     ) -> Result<MemSlot, OutsideFault>
-        ensures slot { IfOk result (λ slot. slot ≡ zero_slot number bytes) }
-        ensures fails_never { IsErrOf result OutsideFault.Failed → ⊥ }
+        ensures slot { IfOk result (λ slot. slot ≡ zero_slot number bytes (calls_of self.old.calls number)) }
+        ensures failed { IsErrOf result OutsideFault.Failed ↔ IsTrue (make_fails self.old number) }
         ensures after { self.new ≡ after_make self.old result number }
+        ensures cause { HasCause self.old.faults self.new.faults result }
     {
-        let slot = MemSlot::zeros(alloc, number, bytes)?;
-        self.note(alloc, number)?;
+        if self.fails(number) {
+            self.faults = self.faults.saturating_add(1);
+            return Err(OutsideFault::Failed);
+        }
+        let plan = self.plan_of(alloc, number)?;
+        let slot = MemSlot::zeros(alloc, number, bytes, plan)?;
+        note(alloc, &mut self.made, number)?;
         Ok(slot)
     }
 }

@@ -1,16 +1,24 @@
 //! A block in memory.
-ghost use Rattle.std.specs.Prelude.{◌≡◌, ◌≤◌, Some, length, IfOk, IsOk};
-ghost use Rattle.ppq_outside.specs.Told.{next_count};
+ghost use Rattle.std.specs.Prelude.{◌≡◌, ◌≤◌, Some, length, IfOk, OnOk, OnErr, not, is_ok, IsTrue};
+ghost use Rattle.ppq_outside.specs.Told.{Rose};
 
 use crate::{Failed, Host, Slot};
 use std::alloc::{AllocError, Global};
 use std::marker::Model;
 
-/// A block in memory. It tells, and no call of it fails.
+/// A block in memory. It tells, and a call of it fails exactly where that was planned.
+///
+/// Its reads and writes are numbered together from 1.
 #[derive(Drop)]
 pub struct MemSlot {
     number: u32,
     bytes: Vec<u8>,
+    /// The numbers of the calls that are to fail.
+    plan: Vec<u64>,
+    /// How many calls were made.
+    calls: u64,
+    /// How many of them failed.
+    faults: u64,
     writes: u64,
     reads: u64,
 }
@@ -20,27 +28,54 @@ impl Model for MemSlot {
 
     ghost Value = { SlotState };
 
-    ghost view = { λ s. record { number = s.number; held = s.bytes.items; writes = s.writes; reads = s.reads } };
+    ghost view = { λ s. record { number = s.number; held = s.bytes.items; plan = s.plan.items; calls = s.calls; faults = s.faults; writes = s.writes; reads = s.reads } };
 }
 
 impl MemSlot {
-    ghost use Rattle.ppq_outside.specs.MemoryDevice.{zero_slot};
+    ghost use Rattle.ppq_outside.specs.MemoryDevice.{zero_slot, slot_fails, after_call};
 
-    /// A block that holds so many zeros, for which no call was made yet.
-    pub(crate) fn zeros(alloc: Global, number: u32, size: usize) -> Result<MemSlot, AllocError>
-        ensures { IfOk result (λ slot. slot ≡ zero_slot number size) }
+    /// A block that holds so many zeros, for which no call was made yet, and whose calls with these
+    /// numbers are to fail.
+    pub(crate) fn zeros(
+        alloc: Global,
+        number: u32,
+        size: usize,
+        plan: Vec<u64>,
+    ) -> Result<MemSlot, AllocError>
+        ensures { IfOk result (λ slot. slot ≡ zero_slot number size plan.items) }
     {
         Ok(MemSlot {
             number,
             bytes: vec![in alloc; 0; size]?,
+            plan,
+            calls: 0,
+            faults: 0,
             writes: 0,
             reads: 0,
         })
     }
+
+    /// Counts a call, and says whether it is to fail.
+    fn fails(&mut self) -> bool
+        ensures answer { result ≡ slot_fails self.old }
+        ensures after { self.new ≡ after_call self.old }
+        ensures later { self.old.faults ≤ self.new.faults }
+        ensures rose { IsTrue result → Rose self.old.faults self.new.faults }
+    {
+        self.calls = self.calls.saturating_add(1);
+        let fails = self.plan.as_slice().contains(&self.calls);
+        if fails {
+            self.faults = self.faults.saturating_add(1);
+        }
+        fails
+    }
 }
 
 impl Slot for MemSlot {
-    ghost shown = { λ s. record { told = Some s.held; number = s.number; size = length s.held; faults = 0; writes = s.writes; reads = s.reads } };
+    ghost use Rattle.ppq_outside.specs.MemoryDevice.{slot_shown, slot_fails, after_write, after_read};
+    ghost use Rattle.ppq_outside.specs.Shown.{IsWritten, IsRead};
+
+    ghost shown = { slot_shown };
 
     fn number(&self) -> u32 {
         self.number
@@ -51,7 +86,7 @@ impl Slot for MemSlot {
     }
 
     fn faults(&self) -> u64 {
-        0
+        self.faults
     }
 
     fn writes(&self) -> u64 {
@@ -62,26 +97,35 @@ impl Slot for MemSlot {
         self.reads
     }
 
-    /// Answers Ok always, and the slot holds the bytes.
+    /// Fails exactly where that was planned, and the slot then holds what it held; else it holds the
+    /// bytes.
     fn write<H: Host>(&mut self, _rt: &H, bytes: &[u8]) -> Result<(), Failed>
         requires { length bytes.now ≡ length self.old.held }
-        ensures ok { IsOk result }
-        ensures after { self.new ≡ record self.old { held = bytes.now; writes = next_count self.old.writes } }
-        ensures later { self.old.writes ≤ self.new.writes }
+        ensures ok { is_ok result ≡ not (slot_fails self.old) }
+        ensures after { self.new ≡ after_write self.old bytes.now }
+        ensures shown { IsWritten result bytes.now (slot_shown self.old) (slot_shown self.new) }
     {
+        if self.fails() {
+            return Err(Failed);
+        }
         self.bytes.as_mut_slice().copy_from_slice(bytes);
         self.writes = self.writes.saturating_add(1);
         Ok(())
     }
 
-    /// Answers Ok always, and gives what the slot holds.
+    /// Fails exactly where that was planned, and `into` is then as before; else it gives what the slot
+    /// holds.
     fn read<H: Host>(&mut self, _rt: &H, into: &mut [u8]) -> Result<(), Failed>
         requires { length into.old ≡ length self.old.held }
-        ensures ok { IsOk result }
-        ensures given { into.new ≡ self.old.held }
-        ensures after { self.new ≡ record self.old { reads = next_count self.old.reads } }
-        ensures later { self.old.reads ≤ self.new.reads }
+        ensures ok { is_ok result ≡ not (slot_fails self.old) }
+        ensures given { OnOk result (into.new ≡ self.old.held) }
+        ensures unread { OnErr result (into.new ≡ into.old) }
+        ensures after { self.new ≡ after_read self.old }
+        ensures shown { IsRead result into.new (slot_shown self.old) (slot_shown self.new) }
     {
+        if self.fails() {
+            return Err(Failed);
+        }
         into.copy_from_slice(&self.bytes);
         self.reads = self.reads.saturating_add(1);
         Ok(())

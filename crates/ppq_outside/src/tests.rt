@@ -13,7 +13,7 @@ fn fill<H: Host, S: Slot>(rt: &H, slot: &mut S, bytes: &[u8]) -> bool
 }
 
 /// Writes two slots, each in a thread of its own.
-fn fill_both<H: Host, S: Slot>(rt: &H, one: &mut S, other: &mut S, bytes: &[u8]) -> bool
+fn fill_both<H: Host, S: Slot + Send>(rt: &H, one: &mut S, other: &mut S, bytes: &[u8]) -> bool
 where
     H::Dir: Send,
     requires one { length bytes.now ≡ (S.shown one.old).size }
@@ -64,6 +64,37 @@ fn a_slot_is_zeros_until_it_is_written(rt: HostRuntime) -> Result<(), Fail> {
     assert_eq!(rt; (slot.number(), slot.size()), (7, 3));
     assert_eq!(rt; (slot.faults(), slot.writes(), slot.reads()), (0, 1, 2));
     assert_eq!(rt; rack.faults(), 0);
+    Ok(())
+}
+
+#[test]
+fn a_planned_call_of_a_block_fails_and_changes_no_bytes(rt: HostRuntime) -> Result<(), Fail> {
+    let alloc = rt.alloc();
+    let calls = vec![in alloc; (0, 2), (1, 1), (0, 3)]?;
+    let mut rack = MemRack::failing(calls, Vec::new(alloc));
+    let mut slot = rack.block(&rt, alloc, "ppq.device", 0, 2)?;
+    let mut into = [9; 2];
+    assert_eq!(rt; slot.write(&rt, &[1, 2]), Ok(()));
+    assert_eq!(rt; slot.write(&rt, &[3, 4]), Err(Failed));
+    assert_eq!(rt; slot.read(&rt, &mut into), Err(Failed));
+    assert_eq!(rt; into, [9; 2]);
+    assert_eq!(rt; slot.read(&rt, &mut into), Ok(()));
+    assert_eq!(rt; into, [1, 2]);
+    assert_eq!(rt; (slot.faults(), slot.writes(), slot.reads()), (2, 1, 1));
+    assert_eq!(rt; rack.faults(), 0);
+    Ok(())
+}
+
+#[test]
+fn a_planned_block_is_not_made(rt: HostRuntime) -> Result<(), Fail> {
+    let alloc = rt.alloc();
+    let mut rack = MemRack::failing(Vec::new(alloc), vec![in alloc; 3]?);
+    for number in 0..5 {
+        let made = rack.block(&rt, alloc, "ppq.device", number, 2);
+        assert_eq!(rt; made.is_ok(), number != 3);
+    }
+    assert_eq!(rt; rack.made(), [0, 1, 2, 4].as_slice());
+    assert_eq!(rt; rack.faults(), 1);
     Ok(())
 }
 
