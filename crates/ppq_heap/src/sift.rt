@@ -25,7 +25,7 @@ pub(crate) fn rise<R: Record>(items: &mut [R], from: usize, item: R)
     while hole > 0 {
         let parent = (hole - 1) / 2;
         let above = items[parent];
-        if !item.cmp(&above).is_lt() {
+        if !item.is_less(&above) {
             break;
         }
         items[hole] = above;
@@ -66,7 +66,7 @@ fn lesser_child<R: Record>(items: &[R], parent: usize) -> usize
 {
     record_laws::<R>();
     let child = 2 * parent + 1;
-    if child + 1 < items.len() && items[child + 1].cmp(&items[child]).is_lt() {
+    if child + 1 < items.len() && items[child + 1].is_less(&items[child]) {
         child + 1
     } else {
         child

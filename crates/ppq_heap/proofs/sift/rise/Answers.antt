@@ -1,11 +1,10 @@
 use Rattle.std.proofs.Common.{◌≡◌, ◌-◌, ◌/◌, ◌<◌, true, refl, sym, ap, ◌∙◌, arith}
 use Rattle.std.proofs.lemmas.List.{length-set, get_or_read}
-use Rattle.std.specs.Ordering.{is_lt}
 use Rattle.ppq_record.specs.Order.{is_before}
 use Rattle.ppq_record.proofs.Fronts.{ranks}
 use Rattle.ppq_heap.proofs.Heap.{hole_moves, rises, filled}
 use Rattle.ppq_heap.proofs.sift.rise.Goals as goal
-use Rattle.ppq_heap.proofs.sift.rise.Goals.{else-loop-hole-test, then-loop-hole-test+then-not-is_lt}
+use Rattle.ppq_heap.proofs.sift.rise.Goals.{else-loop-hole-test, then-loop-hole-test+then-not-is_less}
 
 pub loop-hole-preserved : goal.loop-hole-preserved
 loop-hole-preserved g c =
@@ -16,7 +15,7 @@ loop-hole-preserved g c =
     let above = c.index-items-parent.result in
     let long = length-set c.loop-hole.items c.loop-hole.hole above in
     let z : 0 < c.loop-hole.hole = omega arith in
-    let less : lt c.args.item above ≡ true = ap is_lt (sym c.cmp.ensures) ∙ sym c.is_lt.ensures ∙ c.if-not-is_lt.false in
+    let less : lt c.args.item above ≡ true = sym c.is_less.ensures ∙ c.if-not-is_less.false in
     let step = rises lt (ranks c.record_laws.ensures.order) c.loop-hole.items c.loop-hole.hole parent above c.args.item z within refl c.index-items-parent.is i.heap i.below less in
     record {
       within = omega (arith, long);
@@ -33,6 +32,6 @@ returns-clause-heap g c =
     filled lt (ranks c.record_laws.ensures.order) c.loop-hole.items c.loop-hole.hole c.args.item i.within i.heap i.below
     (elim c.loop-hole-test.branch [
       | else-loop-hole-test w ↦ (λ z d. let top = w.loop-hole-test.false in absurd (omega arith))
-      | then-loop-hole-test+then-not-is_lt w ↦ (λ z d. let within = i.within in
-          ap (lt c.args.item) (sym (get_or_read c.loop-hole.items ((c.loop-hole.hole - 1) / 2) w.index-items-parent.result (omega arith) w.index-items-parent.is d)) ∙ ap is_lt (sym w.cmp.ensures) ∙ sym w.is_lt.ensures ∙ w.if-not-is_lt.true)
+      | then-loop-hole-test+then-not-is_less w ↦ (λ z d. let within = i.within in
+          ap (lt c.args.item) (sym (get_or_read c.loop-hole.items ((c.loop-hole.hole - 1) / 2) w.index-items-parent.result (omega arith) w.index-items-parent.is d)) ∙ sym w.is_less.ensures ∙ w.if-not-is_less.true)
     ])
