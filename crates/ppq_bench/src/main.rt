@@ -23,10 +23,11 @@ const RUNS: [u32; 3] = [8, 64, 512];
 /// The numbers of workers.
 const WORKERS: [u32; 2] = [1, 4];
 
-/// How many records the small merges have, and the large ones.
+/// How many records the small merges have.
 const FEW: u64 = 4096;
 
-const MANY: u64 = 2097152;
+/// How many records the timed merges have: 4 and 32 MiB.
+const SIZES: [u64; 2] = [262144, 2097152];
 
 /// Makes the small merges, and says of each whether it is that of a sort.
 fn check<H: Threads + Sync + Print>(rt: &H, alloc: Global) -> io::Result<()> {
@@ -44,14 +45,16 @@ fn check<H: Threads + Sync + Print>(rt: &H, alloc: Global) -> io::Result<()> {
     Ok(())
 }
 
-/// Times the large merges: for each number of runs the picoseconds a record, by one worker and by
-/// four.
+/// Times large merges: for each number of records and of runs the picoseconds a record, by one worker
+/// and by four.
 fn time<H: Threads + Sync + Clock + Print>(rt: &H, alloc: Global) -> io::Result<()> {
-    for runs in RUNS {
-        let load = Load::new(alloc, runs, MANY)?;
-        let one = picoseconds(rt, alloc, &load, 1)?;
-        let four = picoseconds(rt, alloc, &load, 4)?;
-        println!(rt; "{runs} {one} {four}")?;
+    for records in SIZES {
+        for runs in RUNS {
+            let load = Load::new(alloc, runs, records)?;
+            let one = picoseconds(rt, alloc, &load, 1)?;
+            let four = picoseconds(rt, alloc, &load, 4)?;
+            println!(rt; "{records} {runs} {one} {four}")?;
+        }
     }
     Ok(())
 }

@@ -10,8 +10,8 @@ use std::rt::Clock;
 use std::thread::Threads;
 use std::time::Instant;
 
-/// How often a merge is timed; the least time counts.
-const TURNS: u32 = 20;
+/// How many records are merged in all to time one merge, again and again; the least time counts.
+const MERGED: u64 = 67108864;
 
 /// Room for so many records.
 fn room(alloc: Global, records: u64) -> io::Result<Vec<Pair>> {
@@ -72,7 +72,7 @@ pub(crate) fn picoseconds<H: Threads + Sync + Clock>(
     let mut out = room(alloc, load.size)?;
     let mut bench = bench_for(alloc, load, workers)?;
     let mut best = u64::MAX;
-    for _turn in 0..TURNS {
+    for _turn in 0..MERGED / load.size.max(1) {
         let start = Instant::now(rt)?;
         merge_all(rt, load, &mut bench, out.as_mut_slice());
         let took = start.elapsed(rt)?.as_nanos().min(u128::from(u64::MAX)) as u64;
