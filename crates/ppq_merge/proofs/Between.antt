@@ -10,7 +10,7 @@ use Rattle.ppq_record.proofs.Order.{count_by-append, Each-append, Each-append_le
 use Rattle.ppq_split.specs.Cut.{AreWithin, total, IsCutBy}
 use Rattle.ppq_split.specs.Edge.{ends}
 use Rattle.ppq_split.proofs.Cuts.{IsCut-rises}
-use Rattle.ppq_merge.specs.Parts.{between, before, after, AreParts, size_between, IsParted}
+use Rattle.ppq_merge.specs.Parts.{between, before, after, AreParts, IsParted}
 
 pub count_by-nil : {X : Type 0} (p : X → Bool) → count_by p [] ≡ 0
 count_by-nil p = refl

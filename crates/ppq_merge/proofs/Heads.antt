@@ -1,17 +1,16 @@
 -- The next records of runs: what is left once one of them is taken.
-use Rattle.std.proofs.Common.{◌≡◌, ◌≢◌, ℕ, zero, suc, ◌+◌, ◌-◌, ◌<◌, ◌≤◌, Bool, true, false, cond, List, [], ◌∷◌, ◌++◌, length, take, drop, get_or, set, Option, Some, None, refl, sym, ap, ap₂, subst, inl, inr, ◌∙◌, arith, rules, min}
+use Rattle.std.proofs.Common.{◌≡◌, ℕ, zero, suc, ◌+◌, ◌<◌, ◌≤◌, Bool, List, [], ◌∷◌, ◌++◌, length, take, drop, get_or, set, Option, Some, None, refl, sym, ap, ap₂, inl, inr, ◌∙◌, arith}
 use Rattle.std.specs.Prelude.{slice_get}
 use Rattle.std.specs.List.{AllByRecursion as Each}
 use Rattle.std.specs.Cmp.{IsStrictWeakOrder}
-use Rattle.std.proofs.lemmas.Bool.{cases_Bool, cases_lt, cases_eq}
-use Rattle.std.proofs.lemmas.List.{length-take, length-drop, length-append, drop_all, append_assoc, get_or-set_same, get_or-set_other, length-set, get_or_past, nil_from_length, append-nil, take_all}
+use Rattle.std.proofs.lemmas.Bool.{cases_lt}
+use Rattle.std.proofs.lemmas.List.{length-take, length-drop, length-append, drop_all, get_or_past}
 use Rattle.std.specs.Prelude.{count_by}
 use Rattle.ppq_record.specs.Order.{Le, Rising}
 use Rattle.ppq_record.specs.Bag.{IsSameBag, first_of}
 use Rattle.ppq_record.specs.Runs.{list_at}
-use Rattle.ppq_merge.specs.Parts.{between, AreParts, size_between, IsMergeBy}
-use Rattle.ppq_record.proofs.Order.{count_by-cons, count_by-append, Le-refl, Le-trans, Each-append, Each-weaker, Each-same_bag, Rising-append, IsSameBag-length}
-use Rattle.ppq_merge.proofs.Between.{count_by-nil}
+use Rattle.ppq_merge.specs.Parts.{between, AreParts, size_between}
+use Rattle.ppq_record.proofs.Order.{count_by-cons, count_by-append, Le-trans, Each-append, Each-weaker}
 use Rattle.ppq_merge.specs.Heads.{heads, head}
 
 nothing_below : (ts : List ℕ) (i : ℕ) → length ts ≡ 0 → 0 < get_or ts i 0 → ⊥

@@ -1,5 +1,5 @@
 -- What the workers made, together or one alone.
-use Rattle.std.proofs.Common.{◌≡◌, ℕ, ◌+◌, ◌≤◌, Bool, List, ◌++◌, length, take, refl, sym, ap, subst, ◌∙◌, arith}
+use Rattle.std.proofs.Common.{◌≡◌, ℕ, ◌+◌, List, ◌++◌, length, take, sym, ap, subst, ◌∙◌, arith}
 use Rattle.std.specs.Prelude.{count_by, replicate}
 use Rattle.std.specs.declared.cmp.Ordering.{Ordering}
 use Rattle.std.specs.declared.cmp.Ordering.TheVariants.{Equal}
@@ -10,7 +10,7 @@ use Rattle.ppq_record.specs.Order.{is_before, Le, in_order}
 use Rattle.ppq_record.specs.Bag.{IsSameBag}
 use Rattle.ppq_record.specs.Runs.{all_of}
 use Rattle.ppq_record.proofs.Fronts.{ranks, no_tie}
-use Rattle.ppq_record.proofs.Order.{count_by-append, Each_le-same_bag, front_is}
+use Rattle.ppq_record.proofs.Order.{count_by-append, front_is}
 use Rattle.ppq_split.specs.Cut.{AllAscend, AreWithin, total, IsCutBy}
 use Rattle.ppq_split.specs.Edge.{ends}
 use Rattle.ppq_split.proofs.Cuts.{ends-total}

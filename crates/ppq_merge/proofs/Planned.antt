@@ -1,22 +1,22 @@
 -- Plans: which piece each worker merges.
-use Rattle.std.proofs.Common.{◌≡◌, ℕ, zero, suc, ◌+◌, ◌-◌, ◌*◌, ◌/◌, ◌<◌, ◌≤◌, Bool, true, false, List, [], ◌∷◌, ◌++◌, length, take, drop, get_or, set, refl, sym, ap, subst, inl, inr, ◌∙◌, arith, rules}
-use Rattle.std.specs.Prelude.{◌&&◌, All, replicate, count_by}
+use Rattle.std.proofs.Common.{◌≡◌, ℕ, zero, suc, ◌+◌, ◌-◌, ◌*◌, ◌/◌, ◌<◌, ◌≤◌, Bool, true, false, List, [], ◌∷◌, ◌++◌, length, take, drop, get_or, set, refl, sym, ap, subst, inl, inr, ◌∙◌, arith}
+use Rattle.std.specs.Prelude.{◌&&◌, replicate, count_by}
 use Rattle.std.specs.declared.cmp.Ordering.{Ordering}
 use Rattle.std.specs.declared.cmp.Ordering.TheVariants.{Equal}
 use Rattle.std.specs.Cmp.{IsTotalOrder, IsStrictWeakOrder}
 use Rattle.std.specs.List.{AllByRecursion as Each}
 use Rattle.std.proofs.lemmas.Bool.{cases_lt}
-use Rattle.std.proofs.lemmas.List.{get_or_past, get_or-drop, take_more_set, length-set}
+use Rattle.std.proofs.lemmas.List.{get_or_past, get_or-drop, take_more_set}
 use Rattle.std.proofs.Math.Nat.{mul-le-mul_left, div-mul-le_self}
 use Rattle.std.proofs.lemmas.Nat.{le-div}
-use Rattle.ppq_record.specs.Order.{is_before, Le, Rising, in_order}
+use Rattle.ppq_record.specs.Order.{is_before, Rising, in_order}
 use Rattle.ppq_record.specs.Bag.{IsSameBag, front}
-use Rattle.ppq_record.specs.Runs.{list_at, all_of}
+use Rattle.ppq_record.specs.Runs.{all_of}
 use Rattle.ppq_record.proofs.Fronts.{ranks, no_tie}
 use Rattle.ppq_split.specs.Cut.{AreWithin, total, IsCutBy}
-use Rattle.ppq_split.proofs.Cuts.{IsCut-rises, AreWithin-length}
+use Rattle.ppq_split.proofs.Cuts.{IsCut-rises}
 use Rattle.ppq_merge.specs.declared.seat.Seat.{Seat}
-use Rattle.ppq_merge.specs.Parts.{before, AreParts, size_between, IsParted, IsMergeBy}
+use Rattle.ppq_merge.specs.Parts.{before, AreParts, size_between, IsParted}
 use Rattle.ppq_merge.specs.Plan.{Fill, PiecesBy, Chain, AllParted, IsPlan, IsCutPlan, Rises}
 use Rattle.ppq_merge.specs.Seat.{from_of, to_of, HasRoom}
 use Rattle.ppq_merge.proofs.Between.{parts_from_places, IsCut-parted, between-zeros}

@@ -5,7 +5,6 @@ use Rattle.ppq_record.specs.Order.{Le, Rising}
 use Rattle.ppq_record.specs.Bag.{IsSameBag, first_of}
 use Rattle.ppq_split.specs.Cut.{total, IsCutBy}
 use Rattle.ppq_split.specs.Edge.{ends}
-use Rattle.ppq_merge.specs.Parts.{between}
 
 -- each run's first record between its two places, or none if there is none
 unfoldable pub heads : {X : Type 0} → List ℕ → List ℕ → List (List X) → List (Option X)

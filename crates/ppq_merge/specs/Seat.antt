@@ -12,11 +12,11 @@ module _ {R : Type 0} where
   abbrev pub to_of : List (List R) → Seat R → List ℕ
   to_of qs s = places_for qs s.to.items
 
-  -- a seat has places and leaves for n runs
+  -- a seat has a place for each of n runs, and room for as many leaves
   pub record IsSized (n : ℕ) (s : Seat R) : Type 0 where
     pub from : length s.from.items ≡ n
     pub to : length s.to.items ≡ n
-    pub leaves : s.tree.room ≡ n
+    pub leaves : n ≤ s.tree.room
 
   -- each of some seats
   unfoldable pub AreSized : ℕ → List (Seat R) → Type 0

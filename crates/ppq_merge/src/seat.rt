@@ -21,11 +21,16 @@ pub(crate) struct Seat<R: Record> {
     pub(crate) tree: MinTree<R>,
 }
 
-/// So many zeros.
+/// How much more room than is used the places and the tree of a worker have. Workers write to theirs
+/// at each record; 16 places are 128 bytes, so no two workers write to one line of the cache, however
+/// the allocator lays them.
+const APART: u32 = 16;
+
+/// So many zeros, with room behind them that is not used.
 pub(crate) fn zeros(alloc: Global, runs: u32) -> Result<Vec<u64>, Memory>
     ensures { IfOk result (λ places. places.items ≡ replicate runs 0) }
 {
-    let mut places = Vec::with_capacity(alloc, runs as usize)?;
+    let mut places = Vec::with_capacity(alloc, runs as usize + APART as usize)?;
     for _run in 0..runs {
         places.push(0)?;
     }
@@ -39,7 +44,7 @@ impl<R: Record> Seat<R> {
     {
         let from = zeros(alloc, runs)?;
         let to = zeros(alloc, runs)?;
-        let tree = MinTree::new(alloc, runs)?;
+        let tree = MinTree::new(alloc, runs.saturating_add(APART))?;
         Ok(Seat {
             from,
             to,

@@ -1,4 +1,4 @@
-use Rattle.std.proofs.Common.{◌≡◌, ◌≤◌, length, sym, ap, ◌∙◌, arith, rules}
+use Rattle.std.proofs.Common.{◌≡◌, length, ap, ◌∙◌, arith, rules}
 use Rattle.std.specs.Prelude.{replicate}
 use Rattle.ppq_merge.proofs.Merged.{merged_alone, whole_parts, whole_size}
 use Rattle.ppq_merge.proofs.alone.merge_smallest.Goals as goal

@@ -1,4 +1,4 @@
-use Rattle.std.proofs.Common.{◌≡◌, ◌<◌, ◌≤◌, length, get_or, sym, ◌∙◌, arith, rules}
+use Rattle.std.proofs.Common.{◌≡◌, ◌<◌, ◌≤◌, length, sym, ◌∙◌, arith, rules}
 use Rattle.ppq_record.specs.Runs.{list_at}
 use Rattle.ppq_split.proofs.Cuts.{same_places, ends-at, ends-length}
 use Rattle.ppq_split.specs.Edge.{ends}

@@ -1,4 +1,4 @@
-use Rattle.std.proofs.Common.{◌≡◌, ◌≤◌, length, arith, rules}
+use Rattle.std.proofs.Common.{◌≡◌, length, arith, rules}
 use Rattle.std.specs.Prelude.{replicate}
 use Rattle.ppq_merge.proofs.Planned.{zeros_behind}
 use Rattle.ppq_merge.proofs.bench.merge_by_seats.Goals as goal

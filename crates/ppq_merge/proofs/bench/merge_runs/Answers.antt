@@ -1,4 +1,4 @@
-use Rattle.std.proofs.Common.{◌≡◌, length, drop, get_or, sym, subst, ◌∙◌, rules}
+use Rattle.std.proofs.Common.{arith, drop, get_or, sym, subst, ◌∙◌, rules}
 use Rattle.std.specs.Prelude.{All}
 use Rattle.std.proofs.lemmas.List.Elements.{All-append, All-drop, All-set}
 use Rattle.ppq_merge.specs.Seat.{IsSized}
@@ -15,4 +15,4 @@ returns-clause-sized g c =
       | else-active-gt1 w ↦ subst (All (IsSized n)) (sym w.seats-is) c.requires.sized
     ] in
     let old : IsSized n (get_or c.if-active-gt1.seats 0 c.index-seats-0.result) = all 0 c.index-seats-0.result (search rules) in
-    All-set (IsSized n) c.if-active-gt1.seats 0 c.merge_alone.new.seat (record { from = e.from ∙ old.from; to = e.to ∙ old.to; leaves = e.leaves ∙ old.leaves }) all
+    All-set (IsSized n) c.if-active-gt1.seats 0 c.merge_alone.new.seat (record { from = e.from ∙ old.from; to = e.to ∙ old.to; leaves = omega (arith, e.leaves, old.leaves) }) all

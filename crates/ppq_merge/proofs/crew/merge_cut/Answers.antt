@@ -1,5 +1,4 @@
-use Rattle.std.proofs.Common.{◌≡◌, length, sym, ap, refl, ◌∙◌, rules}
-use Rattle.std.proofs.lemmas.List.{length-replicate}
+use Rattle.std.proofs.Common.{◌≡◌, length, rules}
 use Rattle.ppq_merge.proofs.Merged.{merged_pieces}
 use Rattle.ppq_merge.proofs.Pieces.{are_sized, all_sized}
 use Rattle.ppq_merge.proofs.Planned.{total_zeros}

@@ -1,6 +1,4 @@
-use Rattle.std.proofs.Common.{rules, ◌≡◌, ℕ, suc, ◌+◌, ◌^◌, ◌<◌, ◌≤◌, ◌-◌, ◌/◌, List, length, get_or, take, drop, ◌++◌, arith, sym, ap, subst, ◌∙◌, refl, add-one}
-use Rattle.std.proofs.lemmas.Grind.{common_steps}
-use Rattle.ppq_merge.specs.Plan.{PiecesBy, Fill}
+use Rattle.std.proofs.Common.{rules, ◌≡◌, ◌+◌, ◌<◌, ◌-◌, ◌/◌, length, get_or, arith, sym, subst, ◌∙◌, refl}
 use Rattle.ppq_merge.specs.Seat.{IsSized}
 use Rattle.std.specs.Prelude.{All}
 use Rattle.std.proofs.lemmas.List.Elements.{All-set, All-append, All-take, All-drop}
@@ -40,7 +38,7 @@ merge_pieces-returns-then-count-eq1 g t c =
       sized = λ n h.
           let all = all_sized n c.args.seats.now h in
           let old = all 0 c.index-seats-0.result some in
-          are_sized n _ (All-set (IsSized n) c.args.seats.now 0 c.merge_piece.new.seat (record { from = e.from ∙ old.from; to = e.to ∙ old.to; leaves = e.leaves ∙ old.leaves }) all);
+          are_sized n _ (All-set (IsSized n) c.args.seats.now 0 c.merge_piece.new.seat (record { from = e.from ∙ old.from; to = e.to ∙ old.to; leaves = omega (arith, e.leaves, old.leaves) }) all);
     }
 
 pub merge_pieces-overflow_sub-end-2 : goal.merge_pieces-overflow_sub-end-2

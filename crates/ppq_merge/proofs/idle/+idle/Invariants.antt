@@ -1,4 +1,4 @@
-use Rattle.std.proofs.Common.{◌+◌, ◌*◌}
+use Rattle.std.proofs.Common.{◌*◌}
 use Rattle.ppq_merge.proofs.idle.+idle.Given as goal
 
 abbrev pub decreases-enter_all : goal.decreases-enter_all

@@ -1,11 +1,11 @@
-use Rattle.std.proofs.Common.{rules, ◌≡◌, ℕ, ◌+◌, ◌<◌, ◌≤◌, length, take, sym, ap, subst, ◌∙◌, arith}
-use Rattle.std.proofs.lemmas.List.{take_more_set, length-set, take_all}
+use Rattle.std.proofs.Common.{rules, ◌<◌, ◌≤◌, length, take, subst, ◌∙◌, arith}
+use Rattle.std.proofs.lemmas.List.{take_more_set, take_all}
 use Rattle.ppq_record.specs.Order.{is_before}
 use Rattle.ppq_record.proofs.Fronts.{ranks}
 use Rattle.ppq_merge.specs.Heads.{IsMerging}
-use Rattle.ppq_merge.specs.Parts.{size_between, between}
+use Rattle.ppq_merge.specs.Parts.{between}
 use Rattle.ppq_merge.proofs.Heads.{heads-length}
-use Rattle.ppq_merge.proofs.Merging.{merged_one, merging_none}
+use Rattle.ppq_merge.proofs.Merging.{merged_one}
 use Rattle.ppq_merge.proofs.merge.merge_front.Goals as goal
 
 pub loop-at-preserved : goal.loop-at-preserved

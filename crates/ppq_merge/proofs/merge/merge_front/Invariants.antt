@@ -1,4 +1,4 @@
-use Rattle.std.proofs.Common.{◌≡◌, ◌+◌, length, take}
+use Rattle.std.proofs.Common.{◌≡◌, ◌+◌, take}
 use Rattle.ppq_record.specs.Order.{is_before}
 use Rattle.ppq_merge.specs.Heads.{heads, IsMerging, LeadsToCut}
 use Rattle.ppq_merge.specs.Parts.{AreParts, size_between, between}

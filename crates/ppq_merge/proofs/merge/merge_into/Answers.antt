@@ -1,4 +1,4 @@
-use Rattle.std.proofs.Common.{◌≡◌, ◌+◌, length, arith}
+use Rattle.std.proofs.Common.{◌≡◌, arith}
 use Rattle.ppq_record.specs.Order.{is_before}
 use Rattle.ppq_record.proofs.Fronts.{ranks}
 use Rattle.ppq_merge.specs.Parts.{size_between}

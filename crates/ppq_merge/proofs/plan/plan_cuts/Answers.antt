@@ -1,11 +1,10 @@
-use Rattle.std.proofs.Common.{rules, ◌≡◌, ℕ, ◌+◌, ◌*◌, ◌/◌, ◌<◌, ◌≤◌, List, length, take, get_or, [], refl, sym, ap, subst, ◌∙◌, arith, true}
-use Rattle.std.specs.Prelude.{All}
+use Rattle.std.proofs.Common.{sym, ◌≤◌, rules, ◌≡◌, ◌+◌, ◌*◌, ◌/◌, ◌<◌, length, take, get_or, [], refl, ap, subst, ◌∙◌, arith}
 use Rattle.std.proofs.Math.Nat.{mul-div_cancel}
 use Rattle.std.proofs.lemmas.List.{take_all}
 use Rattle.std.proofs.lemmas.List.Elements.{All-set}
 use Rattle.ppq_record.specs.Order.{is_before}
-use Rattle.ppq_split.specs.Cut.{AreWithin, IsCutBy, total}
-use Rattle.ppq_merge.specs.Plan.{IsPlan, IsCutPlan, Rises}
+use Rattle.ppq_split.specs.Cut.{IsCutBy, total}
+use Rattle.ppq_merge.specs.Plan.{IsPlan, IsCutPlan}
 use Rattle.ppq_merge.specs.Seat.{IsSized}
 use Rattle.ppq_merge.proofs.Planned.{plan_none, cut_plan_none, AreWithin-zeros, plan_step, cut_step, rank_rises}
 use Rattle.ppq_merge.proofs.plan.plan_cuts.Goals as goal
@@ -37,7 +36,7 @@ loop-place-preserved g c =
     let t = c.args.count * (c.loop-place.place + 1) / length c.args.seats.now in
     let old : IsSized n (get_or c.loop-place.seats c.loop-place.place c.index-seats-place.result) = i.sized c.loop-place.place c.index-seats-place.result k in
     let sum : total c.plan_seat-rises.new.carry ≡ t = e.adds_up ∙ r.rank in
-    let sized : IsSized n s = record { from = e.from_length ∙ old.from; to = e.to_length ∙ old.to; leaves = ap (λ t. t.room) e.tree ∙ old.leaves } in
+    let sized : IsSized n s = record { from = e.from_length ∙ old.from; to = e.to_length ∙ old.to; leaves = subst (λ t. n ≤ t.room) (sym e.tree) old.leaves } in
     let a = c.requires.seat_room in
     let b = c.requires.places in
     record {

@@ -1,4 +1,4 @@
-use Rattle.std.proofs.Common.{◌≡◌, ◌*◌, ◌/◌, List, length, take, true}
+use Rattle.std.proofs.Common.{◌≡◌, ◌*◌, ◌/◌, take, true}
 use Rattle.std.specs.Prelude.{All}
 use Rattle.ppq_record.specs.Order.{is_before}
 use Rattle.ppq_split.specs.Cut.{AllAscend, AreWithin, total}

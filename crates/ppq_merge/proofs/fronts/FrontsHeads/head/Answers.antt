@@ -1,4 +1,4 @@
-use Rattle.std.proofs.Common.{◌≡◌, ◌<◌, ◌≤◌, length, sym, ◌∙◌, arith}
+use Rattle.std.proofs.Common.{sym, ◌∙◌, arith}
 use Rattle.ppq_merge.proofs.Heads.{heads-length, AreParts-length, AreParts-at, head_some, head_none}
 use Rattle.ppq_merge.proofs.fronts.FrontsHeads.head.Goals as goal
 

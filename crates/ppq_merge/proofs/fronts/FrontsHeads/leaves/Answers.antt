@@ -1,4 +1,4 @@
-use Rattle.std.proofs.Common.{◌≡◌, length, sym, ◌∙◌, arith}
+use Rattle.std.proofs.Common.{sym, ◌∙◌}
 use Rattle.ppq_merge.proofs.Heads.{heads-length, AreParts-length}
 use Rattle.ppq_merge.proofs.fronts.FrontsHeads.leaves.Goals as goal
 
