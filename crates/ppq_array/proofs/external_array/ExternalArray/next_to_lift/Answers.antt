@@ -1,0 +1,22 @@
+use Rattle.std.proofs.Common.{All, take, drop, length, refl, sym, ap, ◌∙◌, subst, arith}
+use Rattle.ppq_array.specs.External.{IsNoted}
+use Rattle.ppq_array.proofs.Noted.{none_at, some_at, all_right, is_noted}
+use Rattle.ppq_array.proofs.external_array.ExternalArray.next_to_lift.Goals as goal
+
+pub returns-in-Some-clause-none : goal.returns-in-Some-clause-none
+returns-in-Some-clause-none g c =
+    let s = c.self.inside in
+    let noted = all_right (IsNoted g.R.Record.record_of g.R.Record.WIDTH g.S.Slot.shown) (take s.lifted (drop s.accepted s.was.value)) s.stored c.self.invariant.noted in
+    let first = some_at s.stored c.in-Some.block.now (sym c.in-Some.ensures) in
+    let some = (first.1 (IsNoted g.R.Record.record_of g.R.Record.WIDTH g.S.Slot.shown) noted).noted in
+    (λ none. absurd (is_noted c.in-Some.block.now.minimum some none), λ e. absurd (omega (arith, first.0, ap length (ap (λ a. a.stored) c.self.view_is ∙ e))))
+
+pub returns-in-Some-clause-noted : goal.returns-in-Some-clause-noted
+returns-in-Some-clause-noted g c =
+    let s = c.self.inside in
+    let noted = all_right (IsNoted g.R.Record.record_of g.R.Record.WIDTH g.S.Slot.shown) (take s.lifted (drop s.accepted s.was.value)) s.stored c.self.invariant.noted in
+    subst (λ a. All (IsNoted g.R.Record.record_of g.R.Record.WIDTH g.S.Slot.shown) a.stored) c.self.view_is noted
+
+pub returns-in-None-clause-none : goal.returns-in-None-clause-none
+returns-in-None-clause-none g c =
+    (λ _. sym (ap (λ a. a.stored) c.self.view_is) ∙ none_at c.self.inside.stored (sym c.in-None.ensures), λ _. refl)

@@ -1,0 +1,132 @@
+-- A run that was stored in blocks.
+use Rattle.std.proofs.Common.{◌≡◌, inr, ℕ, ◌+◌, ◌-◌, ◌*◌, ◌<◌, List, [], ◌∷◌, ◌++◌, length, sum_by, Option, Some, None, IsSome, refl, sym, ap, ◌∙◌, subst, arith, length-append, append-nil}
+use Rattle.std.specs.Prelude.{count_by}
+use Rattle.std.proofs.lemmas.List.Sums.{sum_by-cons, sum_by-append}
+use Rattle.std.proofs.lemmas.List.Elements.{All-cons, All-head, All-tail, All-nil}
+use Rattle.std.specs.declared.cmp.Ordering.{Ordering}
+use Rattle.ppq_record.proofs.Order.{IsSameBag-append_comm}
+use Rattle.ppq_outside.specs.Shown.{Shown, Tells, AllTell}
+use Rattle.ppq_outside.specs.Told.{Rose}
+use Rattle.ppq_array.specs.declared.berth.DeviceBlock.{DeviceBlock}
+use Rattle.ppq_array.specs.Run.{Run}
+use Rattle.ppq_array.specs.External.{External, size_of, records_in, IsPacked}
+use Rattle.ppq_array.specs.Supply.{Stock}
+use Rattle.ppq_array.specs.Owner.{slots_shown}
+use Rattle.ppq_array.specs.Holdings.{internal_items}
+use Rattle.ppq_array.proofs.Noted.{all_left}
+use Rattle.ppq_spill.specs.declared.body.PassBody.{PassBody}
+use Rattle.ppq_spill.specs.Body.{body_slots}
+use Rattle.ppq_spill.specs.Moves.{SameSums, DrewSlots, FoundScant}
+use Rattle.ppq_spill.specs.Storing.{RunsAscend, BlocksStored, IsStored, SameScant, TooFew}
+use Rattle.ppq_spill.specs.Writing.{Writing, left_in}
+use Rattle.ppq_spill.proofs.Keeping.{slots_long}
+
+abbrev untold_of : Option (List ℕ) → ℕ
+untold_of None = 1
+untold_of (Some bytes) = 0
+
+abbrev untold : Shown → ℕ
+untold s = untold_of s.told
+
+told_none : (told : Option (List ℕ)) → IsSome told → untold_of told ≡ 0
+told_none None t = absurd (cc)
+told_none (Some bytes) t = refl
+
+none_told : (told : Option (List ℕ)) → untold_of told ≡ 0 → IsSome told
+none_told None e = absurd (omega (arith, e))
+none_told (Some bytes) e = refl
+
+tell_sum : (xs : List Shown) → AllTell xs → sum_by untold xs ≡ 0
+tell_sum [] t = refl
+tell_sum (x ∷ xs) t = let e : sum_by untold (x ∷ xs) ≡ 0 = omega (arith, sum_by-cons untold x xs, told_none x.told (All-head Tells x xs t), tell_sum xs (All-tail Tells x xs t)) in e
+
+sum_tell : (xs : List Shown) → sum_by untold xs ≡ 0 → AllTell xs
+sum_tell [] e = All-nil Tells
+sum_tell (x ∷ xs) e =
+    let here : untold_of x.told ≡ 0 = omega (arith, e, sum_by-cons untold x xs) in
+    let rest : sum_by untold xs ≡ 0 = omega (arith, e, sum_by-cons untold x xs) in
+    All-cons Tells x xs (none_told x.told here) (sum_tell xs rest)
+
+-- slots that were only moved tell as before
+tell_moved : (xs ys : List Shown) → SameSums xs ys → AllTell xs → AllTell ys
+tell_moved xs ys same t = sum_tell ys (sym (same untold) ∙ tell_sum xs t)
+
+nothing : {X : Type 0} (xs : List X) → length xs ≡ 0 → xs ≡ []
+nothing [] e = refl
+nothing (x ∷ xs) e = absurd (omega (arith, e))
+
+module _ {S R : Type 0} (cmp : R → R → Ordering) (record_of : List ℕ → R) (width block : ℕ) (shown : S → Shown) where
+  pub blocks_stored :
+      (sorted : List R) (old new : PassBody S R) (o d r : Stock) (slots0 : List (DeviceBlock S R)) (runs : List (Run R)) (array : External S R) → DrewSlots shown width o d slots0 → r.drawn ≡ d.drawn
+      → Writing cmp record_of width block shown slots0 old.runs.internal.items sorted [] runs [] array → block ≡ o.block → length slots0 * block < length sorted + length (internal_items old.runs.internal.items) + block → RunsAscend cmp shown sorted old o
+      → new.runs.internal.items ≡ [] → new.runs.external.items ≡ old.runs.external.items ++ array ∷ []
+      → BlocksStored cmp record_of width shown sorted old new o r
+  blocks_stored sorted old new o d r slots0 runs array drew drawn writing same least up none more =
+      let items = internal_items old.runs.internal.items in
+      let left = left_in runs [] in
+      let z : 0 * block ≡ 0 = omega arith in
+      let empty : left ≡ [] = nothing left (omega (arith, writing.room, z)) in
+      let told : AllTell (body_slots shown old ++ o.kept ++ r.drawn) → AllTell (slots_shown shown slots0) = λ t.
+      let kept : AllTell (o.kept ++ r.drawn) = tell_right (body_slots shown old) o.kept r.drawn t in
+      let moved = tell_moved (o.kept ++ d.drawn) (slots_shown shown slots0 ++ d.kept ++ o.drawn) drew.moved (subst (λ (x : List Shown). AllTell (o.kept ++ x)) drawn kept) in
+      all_left Tells (slots_shown shown slots0) d.kept (all_left Tells (slots_shown shown slots0 ++ d.kept) o.drawn moved) in
+      let long : length array.stored ≡ length slots0 = omega (arith, writing.same.length, length-append (slots_shown shown array.stored) [], slots_long shown array.stored, slots_long shown slots0) in
+      let size : size_of array ≡ length sorted + length items = omega (arith, writing.size, ap length empty, length-append items sorted) in
+      let few : length array.stored * block < size_of array + block = subst (λ k. k * block < size_of array + block) (sym long) (omega (arith, least, size)) in
+      record {
+        array = array;
+        level = ap (λ a. a.level) writing.shape;
+        loaded = ap (λ a. a.loaded) writing.shape;
+        lifted = ap (λ a. a.lifted) writing.shape;
+        size = size;
+        ascends = λ t.
+            let before = all_left Tells (body_slots shown old ++ o.kept) r.drawn t in
+            (writing.ascends (told t) (up.internal before, up.run before)).1;
+        records = λ t p.
+            ap (count_by p) (sym (append-nil (records_in record_of width shown array)) ∙ ap (λ xs. records_in record_of width shown array ++ xs) (sym empty))
+            ∙ sym (writing.records (told t) p) ∙ IsSameBag-append_comm items sorted p;
+        blocks = subst (λ b. length array.stored * b < size_of array + b) same few;
+        packed = subst (λ b. IsPacked b array.stored) same writing.packed;
+        written = writing.written;
+        internal = none;
+        external = more;
+      }
+    where
+      tell_right : (a b c : List Shown) → AllTell (a ++ b ++ c) → AllTell (b ++ c)
+      tell_right a b c t = sum_tell (b ++ c) (let s : sum_by untold (b ++ c) ≡ 0 = omega (arith, tell_sum (a ++ b ++ c) t, sum_by-append untold (a ++ b) c, sum_by-append untold a b, sum_by-append untold b c) in s)
+
+  -- after too few buffers were had
+  pub stored_after :
+      (sorted : List R) (old new : PassBody S R) (o m r : Stock) → FoundScant (length sorted) o m → SameScant m r → BlocksStored cmp record_of width shown sorted old new m r → IsStored cmp record_of width shown sorted old new o r
+  stored_after sorted old new o m r found same blocks =
+      let kept : m.kept ≡ o.kept = ap (λ s. s.kept) found.stock in
+      let same_block : m.block ≡ o.block = ap (λ s. s.block) found.stock in
+      let as_before : AllTell (body_slots shown old ++ o.kept ++ r.drawn) → AllTell (body_slots shown old ++ m.kept ++ r.drawn) = subst (λ (k : List Shown). AllTell (body_slots shown old ++ k ++ r.drawn)) (sym kept) in
+      inr record {
+        short = record {
+          counted = subst (λ n. Rose o.scant n) (sym same.scant) found.short.counted;
+          unsure = found.short.unsure;
+          few = subst (λ n. TooFew (n - o.buffer_room) o.block (length sorted)) (sym same.room) found.short.few;
+        };
+        blocks = record {
+          array = blocks.array;
+          level = blocks.level;
+          loaded = blocks.loaded;
+          lifted = blocks.lifted;
+          size = blocks.size;
+          ascends = λ t. blocks.ascends (as_before t);
+          records = λ t. blocks.records (as_before t);
+          blocks = subst (λ b. length blocks.array.stored * b < size_of blocks.array + b) same_block blocks.blocks;
+          packed = subst (λ b. IsPacked b blocks.array.stored) same_block blocks.packed;
+          written = blocks.written;
+          internal = blocks.internal;
+          external = blocks.external;
+        };
+      }
+
+pub ascend_still :
+    {S R : Type 0} (cmp : R → R → Ordering) (shown : S → Shown) (sorted : List R) (body : PassBody S R) (o m : Stock) → FoundScant (length sorted) o m → RunsAscend cmp shown sorted body o → RunsAscend cmp shown sorted body m
+ascend_still cmp shown sorted body o m found up =
+    let kept : m.kept ≡ o.kept = ap (λ s. s.kept) found.stock in
+    let as_before : AllTell (body_slots shown body ++ m.kept) → AllTell (body_slots shown body ++ o.kept) = subst (λ (k : List Shown). AllTell (body_slots shown body ++ k)) kept in
+    record { run = λ t. up.run (as_before t); internal = λ t. up.internal (as_before t) }

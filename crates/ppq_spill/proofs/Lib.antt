@@ -1,0 +1,15 @@
+pub mod Choosing
+pub mod Composing
+pub mod Counted
+pub mod Filling
+pub mod Fresh
+pub mod Heads
+pub mod InBlocks
+pub mod Keeping
+pub mod Mergings
+pub mod Moving
+pub mod SameSlots
+pub mod Storings
+pub mod Written
+pub mod Transfers
+pub mod Writings

@@ -1,0 +1,64 @@
+-- A job that wrote a buffer, as a block that is stored.
+use Rattle.std.proofs.Common.{◌≡◌, ℕ, ◌≤◌, List, [], ◌∷◌, ◌++◌, length, Option, Some, None, Result, Ok, Err, IsSome, refl, sym, ap, ◌∙◌, subst, arith}
+use Rattle.std.specs.Prelude.{unwrap_or}
+use Rattle.std.proofs.lemmas.Result.{IfOk-at_ok, IfErr-at_err}
+use Rattle.ppq_block.specs.Block.{Block}
+use Rattle.ppq_block.specs.Told.{records_told}
+use Rattle.ppq_outside.specs.Shown.{Shown, Tells}
+use Rattle.ppq_outside.specs.Told.{StillTells, Rose, next_count}
+use Rattle.ppq_lane.specs.Jobs.{IsWrittenFrom}
+use Rattle.ppq_array.specs.declared.berth.DeviceBlock.{DeviceBlock}
+use Rattle.ppq_array.specs.External.{External, external}
+use Rattle.ppq_array.specs.Kept.{MoreWrites}
+use Rattle.ppq_spill.specs.Writing.{Grew, BlockStored, BlockFailed}
+use Rattle.ppq_spill.proofs.Transfers.{one_slot}
+
+pub some_is : {X : Type 0} (d x y : X) → Some x ≡ Some y → x ≡ y
+some_is d x y e = ap (λ o. unwrap_or o d) e
+
+still : (told told' : Option (List ℕ)) → StillTells told told' → IsSome told → IsSome told'
+still None told' h t = absurd (cc)
+still (Some had) told' h t = h
+
+module _ {S R : Type 0} (bytes_of : R → List ℕ) (record_of : List ℕ → R) (width : ℕ) (shown : S → Shown) where
+  pub grew_written : {T E : Type 0} (answer : Result T E) (slot slot' : Shown) (buf buf' : Block R) → IsWrittenFrom bytes_of record_of width answer slot slot' buf buf' → Grew slot slot'
+  grew_written answer slot slot' buf buf' w =
+      record {
+        number = w.wrote.number;
+        size = w.wrote.size;
+        faults = w.wrote.cause.later;
+        writes = w.wrote.writes.later;
+        reads = omega (arith, w.wrote.reads);
+        tells = λ t. still slot.told slot'.told w.wrote.tells t;
+      }
+
+  pub block_stored :
+      {T E : Type 0} (answer : Result T E) (u : T) → answer ≡ Ok u → (slot slot' : S) (buf buf' : Block R) → IsWrittenFrom bytes_of record_of width answer (shown slot) (shown slot') buf buf'
+      → (old new : External S R) (last : DeviceBlock S R) → new ≡ external old.level old.loaded [] (old.stored ++ last ∷ []) → last.slot ≡ slot' → last.count ≡ length buf.items
+      → BlockStored record_of width shown slot buf.items old new
+  block_stored answer u e slot slot' buf buf' w old new last run at count =
+      let grew : Grew (shown slot) (shown last.slot) = subst (λ s. Grew (shown slot) (shown s)) (sym at) (grew_written answer (shown slot) (shown slot') buf buf' w) in
+      let back : Tells (shown slot) → records_told record_of width (length buf.items) (shown slot').told ≡ buf.items = IfOk-at_ok (λ _. Tells (shown slot) → records_told record_of width (length buf.items) (shown slot').told ≡ buf.items) e w.back in
+      let once : (shown slot').writes ≡ next_count (shown slot).writes = IfOk-at_ok (λ _. (shown slot').writes ≡ next_count (shown slot).writes) e w.wrote.writes.ok in
+      record {
+        last = last;
+        run = run;
+        count = count;
+        grew = grew;
+        written = subst (λ s. 1 ≤ (shown s).writes) (sym at) (omega (arith, once));
+        transfers = subst (λ s. MoreWrites 1 (shown slot ∷ []) (shown s ∷ [])) (sym at) (one_slot 1 (shown slot) (shown slot') (omega (arith, once)) (omega (arith, w.wrote.reads)));
+        items_are = λ t. ap (λ s. records_told record_of width last.count (shown s).told) at ∙ ap (λ n. records_told record_of width n (shown slot').told) count ∙ back t;
+      }
+
+  pub block_failed :
+      {T E : Type 0} (answer : Result T E) (x : E) → answer ≡ Err x → (slot : S) (berth : DeviceBlock S R) (buf buf' : Block R) → IsWrittenFrom bytes_of record_of width answer (shown slot) (shown berth.slot) buf buf'
+      → (array : External S R) → BlockFailed shown slot array array berth
+  block_failed answer x e slot berth buf buf' w array =
+      let same : (shown berth.slot).writes ≡ (shown slot).writes = IfErr-at_err (λ _. (shown berth.slot).writes ≡ (shown slot).writes) e w.wrote.writes.err in
+      let rose : Rose (shown slot).faults (shown berth.slot).faults = IfErr-at_err (λ _. Rose (shown slot).faults (shown berth.slot).faults) e w.wrote.cause.failed in
+      record {
+        run = refl;
+        grew = grew_written answer (shown slot) (shown berth.slot) buf buf' w;
+        transfers = one_slot 0 (shown slot) (shown berth.slot) (omega (arith, same)) (omega (arith, w.wrote.reads));
+        failed = omega (arith, rose);
+      }

@@ -1,0 +1,41 @@
+use Rattle.std.proofs.Common.{◌≡◌, ◌*◌, All, sym, ap, subst, arith}
+use Rattle.std.proofs.lemmas.List.Elements.{All-push}
+use Rattle.ppq_array.specs.Holdings.{RunHasBlock}
+use Rattle.ppq_spill.proofs.Storings.{sizes_after}
+use Rattle.std.proofs.lemmas.Result.{on_ok_weaker}
+use Rattle.ppq_spill.specs.Storing.{BlocksStored}
+use Rattle.ppq_spill.specs.Body.{body_slots}
+use Rattle.ppq_spill.proofs.Transfers.{untouched}
+use Rattle.ppq_spill.proofs.InBlocks.{stored_after, ascend_still}
+use Rattle.ppq_spill.proofs.store.store_sorted.Goals as goal
+
+pub store_in_blocks-requires-clause-ascend : goal.store_in_blocks-requires-clause-ascend
+store_in_blocks-requires-clause-ascend g c κs within =
+    ascend_still g.R.Ord.cmp g.S.Slot.shown c.args.sorted.now c.args.body.now (g.P.Supply.stock c.args.supply.now) (g.P.Supply.stock c.store_in_buffers.new.supply) c.in-None.ensures.scant c.requires.ascend
+
+pub returns-in-None-clause-stored : goal.returns-in-None-clause-stored
+returns-in-None-clause-stored g c =
+    on_ok_weaker c.store_in_blocks.result
+    (λ (b : BlocksStored g.R.Ord.cmp g.R.Record.record_of g.R.Record.WIDTH g.S.Slot.shown c.args.sorted.now c.args.body.now c.store_in_blocks.new.body (g.P.Supply.stock c.store_in_buffers.new.supply) (g.P.Supply.stock c.store_in_blocks.new.supply)).
+    stored_after g.R.Ord.cmp g.R.Record.record_of g.R.Record.WIDTH c.block-block.result g.S.Slot.shown c.args.sorted.now c.args.body.now c.store_in_blocks.new.body (g.P.Supply.stock c.args.supply.now) (g.P.Supply.stock c.store_in_buffers.new.supply) (g.P.Supply.stock c.store_in_blocks.new.supply)
+    c.in-None.ensures.scant c.store_in_blocks.ensures.scant b)
+    c.store_in_blocks.ensures.stored
+
+pub returns-in-Some-clause-size : goal.returns-in-Some-clause-size
+returns-in-Some-clause-size g c =
+    let is = c.requires.room.size in
+    let old = g.P.Supply.stock c.args.supply.now in
+    sizes_after g.S.Slot.shown g.R.Record.WIDTH c.args.body.now _ old (g.P.Supply.stock c.store_in_buffers.new.supply) is (ap (λ s. s.block) c.in-Some.ensures.stored.stock) is.idle
+    (subst (All (RunHasBlock old.block)) (sym c.push_reserved.ensures.items) (All-push (RunHasBlock old.block) c.args.body.now.runs.internal.items c.in-Some.run' is.internal c.in-Some.ensures.stored.blocks)) is.external
+
+pub returns-in-Some-clause-writes : goal.returns-in-Some-clause-writes
+returns-in-Some-clause-writes g c =
+    let o = g.P.Supply.stock c.args.supply.now in
+    let n = g.P.Supply.stock c.store_in_buffers.new.supply in
+    let is = c.in-Some.ensures.stored.stock in
+    let slots = body_slots g.S.Slot.shown c.args.body.now in
+    record {
+      blocks = 0;
+      few = omega (arith, c.requires.some, (let z : 0 * o.block ≡ 0 = omega arith in z));
+      transfers = untouched slots o n (ap (λ s. s.kept) is) (ap (λ s. s.drawn) is);
+    }

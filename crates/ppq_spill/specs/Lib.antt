@@ -1,0 +1,5 @@
+pub mod Body
+pub mod Choosing
+pub mod Moves
+pub mod Storing
+pub mod Writing

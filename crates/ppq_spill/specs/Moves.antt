@@ -1,0 +1,60 @@
+-- Slots and buffers that are taken from a supply and given back.
+use Rattle.std.specs.Prelude.{◌≡◌, ℕ, ◌+◌, ◌-◌, ◌*◌, ◌<◌, ◌≤◌, List, [], ◌++◌, length, sum_by, All}
+use Rattle.ppq_block.specs.Block.{Block, holding}
+use Rattle.ppq_outside.specs.Shown.{Shown}
+use Rattle.ppq_outside.specs.Told.{Rose}
+use Rattle.ppq_array.specs.declared.berth.DeviceBlock.{DeviceBlock}
+use Rattle.ppq_array.specs.Run.{Run, items_of, buffers_of}
+use Rattle.ppq_array.specs.Supply.{Stock}
+use Rattle.ppq_array.specs.Owner.{slots_shown, HasSize}
+use Rattle.ppq_array.specs.Holdings.{RunHasBlock}
+use Rattle.ppq_spill.specs.Storing.{IsShortOfBuffers}
+
+-- the supply with other buffers
+abbrev pub with_buffers : Stock → ℕ → ℕ → Stock
+with_buffers old sure room = record old { sure_buffers = sure; buffer_room = room }
+
+-- the same slots as they are, in any order: they add up to the same, whatever is added
+abbrev pub SameSums : List Shown → List Shown → Type 0
+SameSums before now = (f : Shown → ℕ) → sum_by f before ≡ sum_by f now
+
+module _ {R : Type 0} where
+  -- these empty buffers were taken
+  pub record TookBuffers (old new : Stock) (taken : List (Block R)) : Type 0 where
+    pub empty : All (λ b. b ≡ holding old.block []) taken
+    pub stock : new ≡ with_buffers old new.sure_buffers (old.buffer_room + length taken)
+    pub sure : old.sure_buffers ≤ new.sure_buffers + length taken
+
+  -- the records lie in buffers that were taken
+  pub record FilledRun (sorted : List R) (old new : Stock) (run : Run R) : Type 0 where
+    pub items : items_of run ≡ sorted
+    pub blocks : RunHasBlock old.block run
+    pub stock : new ≡ with_buffers old new.sure_buffers (old.buffer_room + length (buffers_of run))
+
+-- A take answered None, before which fewer than so many buffers were taken; all went back
+pub record FoundFewBuffers (need : ℕ) (old new : Stock) : Type 0 where
+  pub counted : Rose old.scant new.scant
+  pub unsure : old.sure_buffers < need
+  pub few : new.room_when_scant - old.buffer_room < need
+  pub stock : new ≡ record old { sure_buffers = new.sure_buffers; scant = new.scant; room_when_scant = new.room_when_scant }
+
+-- the same, told by records
+pub record FoundScant (n : ℕ) (old new : Stock) : Type 0 where
+  pub short : IsShortOfBuffers n old new
+  pub stock : new ≡ record old { sure_buffers = new.sure_buffers; scant = new.scant; room_when_scant = new.room_when_scant }
+
+module _ {S R : Type 0} where
+  -- these slots were drawn
+  pub record DrewSlots (shown : S → Shown) (width : ℕ) (old new : Stock) (berths : List (DeviceBlock S R)) : Type 0 where
+    pub moved : SameSums (old.kept ++ new.drawn) (slots_shown shown berths ++ new.kept ++ old.drawn)
+    pub sizes : All (HasSize shown (old.block * width)) berths
+    pub stock : new ≡ record old { kept = new.kept; drawn = new.drawn; slot_room = old.slot_room + length berths }
+    pub sure : length old.kept ≤ length berths + length new.kept
+
+-- A draw answered None, before which fewer than so many slots were drawn; all went back
+pub record FoundFewSlots (need : ℕ) (old new : Stock) : Type 0 where
+  pub moved : SameSums (old.kept ++ new.drawn) (new.kept ++ old.drawn)
+  pub dry : Rose old.dry new.dry
+  pub still : length old.kept ≤ length new.kept
+  pub few : length new.kept < need
+  pub stock : new ≡ record old { kept = new.kept; drawn = new.drawn; dry = new.dry }

@@ -1,0 +1,142 @@
+-- What it takes to store a run, and what stands afterwards.
+use Rattle.std.specs.Prelude.{◌≡◌, ◌⊎◌, ℕ, ◌+◌, ◌-◌, ◌*◌, ◌<◌, ◌≤◌, ◌^◌, List, [], ◌∷◌, ◌++◌, length, All, vec_capacity}
+use Rattle.std.specs.declared.cmp.Ordering.{Ordering}
+use Rattle.ppq_record.specs.Order.{Ascends}
+use Rattle.ppq_record.specs.Bag.{IsSameBag}
+use Rattle.ppq_outside.specs.Shown.{Shown, AllTell}
+use Rattle.ppq_outside.specs.Told.{Rose}
+use Rattle.ppq_lane.specs.declared.lanes.Lanes.{Lanes}
+use Rattle.ppq_array.specs.declared.berth.DeviceBlock.{DeviceBlock}
+use Rattle.ppq_array.specs.Supply.{Stock, sure_slots}
+use Rattle.ppq_array.specs.Owner.{HasBlock}
+use Rattle.ppq_array.specs.Run.{Run, run_of, items_of}
+use Rattle.ppq_array.specs.External.{External, size_of, records_in, IsPacked}
+use Rattle.ppq_array.specs.Kept.{HasFailed, MoreWrites}
+use Rattle.ppq_array.specs.Holdings.{internal_items, RunHasBlock, ArrayHasSize, CanTakeBack}
+use Rattle.ppq_spill.specs.Body.{body_slots}
+use Rattle.ppq_spill.specs.declared.body.PassBody.{PassBody}
+
+-- so many blocks have no room for so many records
+abbrev pub TooFew : ℕ → ℕ → ℕ → Type 0
+TooFew blocks block records = blocks * block < records
+
+-- The call found too few buffers for n records: a take answered None, the supply was not sure of enough at the beginning, and when a take
+-- last answered None fewer than enough were out more than at the beginning
+pub record IsShortOfBuffers (n : ℕ) (old new : Stock) : Type 0 where
+  pub counted : Rose old.scant new.scant
+  pub unsure : TooFew old.sure_buffers old.block n
+  pub few : TooFew (new.room_when_scant - old.buffer_room) old.block n
+
+-- No slot was drawn, and none came back
+pub record SlotsUntouched (old new : Stock) : Type 0 where
+  pub kept : new.kept ≡ old.kept
+  pub drawn : new.drawn ≡ old.drawn
+  pub slot_room : new.slot_room ≡ old.slot_room
+  pub dry : new.dry ≡ old.dry
+
+module _ {S R : Type 0} where
+  -- How many records a body has in runs in buffers
+  abbrev pub in_buffers : PassBody S R → ℕ
+  in_buffers body = length (internal_items body.runs.internal.items)
+
+  -- all slots and buffers of a body are of one block size, that of its supply
+  pub record HasOneSize (shown : S → Shown) (width : ℕ) (body : PassBody S R) (stock : Stock) : Type 0 where
+    pub some : 1 ≤ stock.block
+    pub small : stock.block ≤ 65536
+    pub idle : All (HasBlock stock.block) body.lanes.idle
+    pub internal : All (RunHasBlock stock.block) body.runs.internal.items
+    pub external : All (ArrayHasSize shown (stock.block * width)) body.runs.external.items
+
+  -- a body can store a run of n records more
+  pub record MayStore (shown : S → Shown) (width n : ℕ) (body : PassBody S R) (stock : Stock) : Type 0 where
+    pub size : HasOneSize shown width body stock
+    pub buffer : 2 ≤ length body.lanes.idle
+    pub few_idle : length body.lanes.idle < 2 ^ 32 - 1
+    pub no_job : body.lanes.jobs.items ≡ []
+    pub takes_back : CanTakeBack shown stock body.runs.internal.items body.runs.external.items
+    pub internal_room : length body.runs.internal.items < vec_capacity body.runs.internal
+    pub external_room : length body.runs.external.items < vec_capacity body.runs.external
+    pub leaves : length body.runs.internal.items < length body.tree
+    pub few : n + in_buffers body < 2 ^ 32 - 1
+
+  -- no job is left; as many buffers are idle, and batch and room are as they were
+  pub record LanesRest (old new : Lanes (DeviceBlock S R) R) : Type 0 where
+    pub no_job : new.jobs.items ≡ []
+    pub idle : length new.idle ≡ length old.idle
+    pub batch : length new.batch.items ≡ length old.batch.items
+    pub room : vec_capacity new.jobs ≡ vec_capacity old.jobs
+
+  -- the lists of runs have the room that they had, and the tree as many leaves
+  pub record RoomsRest (old new : PassBody S R) : Type 0 where
+    pub internal : vec_capacity new.runs.internal ≡ vec_capacity old.runs.internal
+    pub external : vec_capacity new.runs.external ≡ vec_capacity old.runs.external
+    pub tree : length new.tree ≡ length old.tree
+
+  -- the run is one more run in buffers, and no slot was drawn or called
+  pub record IsInBuffers (sorted : List R) (old new : PassBody S R) (before now : Stock) : Type 0 where
+    pub run : Run R
+    pub items : items_of run ≡ sorted
+    pub internal : new.runs.internal.items ≡ old.runs.internal.items ++ run ∷ []
+    pub external : new.runs.external.items ≡ old.runs.external.items
+    pub slots : SlotsUntouched before now
+
+  -- the run and all runs in buffers are one more run in blocks, of level 0, with nothing loaded; it ascends where slots tell
+  pub record BlocksStored (cmp : R → R → Ordering) (record_of : List ℕ → R) (width : ℕ) (shown : S → Shown) (sorted : List R) (old new : PassBody S R) (before now : Stock) : Type 0 where
+    pub array : External S R
+    pub level : array.level ≡ 0
+    pub loaded : array.loaded ≡ run_of [] 0 []
+    pub lifted : array.lifted ≡ []
+    pub size : size_of array ≡ length sorted + in_buffers old
+    pub ascends : AllTell (body_slots shown old ++ before.kept ++ now.drawn) → Ascends cmp (records_in record_of width shown array)
+    pub records : AllTell (body_slots shown old ++ before.kept ++ now.drawn) → IsSameBag (records_in record_of width shown array) (sorted ++ internal_items old.runs.internal.items)
+    pub blocks : length array.stored * before.block < size_of array + before.block
+    pub packed : IsPacked before.block array.stored
+    pub written : All (λ (b : DeviceBlock S R). 1 ≤ (shown b.slot).writes) array.stored
+    pub internal : new.runs.internal.items ≡ []
+    pub external : new.runs.external.items ≡ old.runs.external.items ++ array ∷ []
+
+  -- the same, and the call was short of buffers
+  pub record IsInBlocks (cmp : R → R → Ordering) (record_of : List ℕ → R) (width : ℕ) (shown : S → Shown) (sorted : List R) (old new : PassBody S R) (before now : Stock) : Type 0 where
+    pub short : IsShortOfBuffers (length sorted) before now
+    pub blocks : BlocksStored cmp record_of width shown sorted old new before now
+
+  -- the run is one more run of the body
+  abbrev pub IsStored : (R → R → Ordering) → (List ℕ → R) → ℕ → (S → Shown) → List R → PassBody S R → PassBody S R → Stock → Stock → Type 0
+  IsStored cmp record_of width shown sorted old new before now = IsInBuffers sorted old new before now ⊎ IsInBlocks cmp record_of width shown sorted old new before now
+
+  -- too few slots were to be had, and nothing has changed but the supply's counts, its slots, and the order of its buffers
+  pub record NoSlots (n : ℕ) (old new : PassBody S R) (before now : Stock) : Type 0 where
+    pub dry : Rose before.dry now.dry
+    pub unsure : TooFew (sure_slots before) before.block (n + in_buffers old)
+    pub still : sure_slots before ≤ sure_slots now
+    pub still_few : TooFew (sure_slots now) before.block (n + in_buffers old)
+    pub internal : new.runs.internal.items ≡ old.runs.internal.items
+    pub external : new.runs.external.items ≡ old.runs.external.items
+    pub idle : new.lanes.idle ≡ old.lanes.idle
+    pub buffers : now.buffer_room ≡ before.buffer_room
+
+  -- the same, and the call was short of buffers
+  pub record NoneFree (n : ℕ) (old new : PassBody S R) (before now : Stock) : Type 0 where
+    pub short : IsShortOfBuffers n before now
+    pub slots : NoSlots n old new before now
+
+  -- no more blocks were written than n records and those in buffers take, and none was read
+  pub record WritesFew (shown : S → Shown) (n : ℕ) (old new : PassBody S R) (before now : Stock) : Type 0 where
+    pub blocks : ℕ
+    pub few : blocks * before.block < n + in_buffers old + before.block
+    pub transfers : MoreWrites blocks (body_slots shown old ++ before.kept ++ now.drawn) (body_slots shown new ++ now.kept ++ before.drawn)
+
+  -- where the slots tell, the run to be stored and the runs in buffers ascend
+  pub record RunsAscend (cmp : R → R → Ordering) (shown : S → Shown) (sorted : List R) (body : PassBody S R) (stock : Stock) : Type 0 where
+    pub run : AllTell (body_slots shown body ++ stock.kept) → Ascends cmp sorted
+    pub internal : AllTell (body_slots shown body ++ stock.kept) → All (λ (run : Run R). Ascends cmp (items_of run)) body.runs.internal.items
+
+  -- a slot with this number is in the body or kept by its supply, and a call of it failed
+  abbrev pub DeviceFailed : (S → Shown) → ℕ → PassBody S R → Stock → Type 0
+  DeviceFailed shown number body stock = HasFailed number (body_slots shown body ++ stock.kept)
+
+-- no buffer was taken
+pub record SameScant (before now : Stock) : Type 0 where
+  pub scant : now.scant ≡ before.scant
+  pub room : now.room_when_scant ≡ before.room_when_scant
+  pub block : now.block ≡ before.block

@@ -1,0 +1,126 @@
+//! Buffers that are taken from a supply, filled, or given back.
+ghost use Rattle.std.specs.Prelude.{◌≡◌, ◌+◌, ◌-◌, ◌*◌, ◌<◌, ◌≤◌, ◌^◌, ◌∷◌, ◌++◌, [], length, All, IfSome, IfNone};
+ghost use Rattle.ppq_block.specs.Block.{holding};
+ghost use Rattle.ppq_array.specs.Owner.{HasBlock};
+ghost use Rattle.ppq_array.specs.Run.{items_of};
+ghost use Rattle.ppq_spill.specs.Moves.{TookBuffers, FilledRun, FoundFewBuffers, FoundScant, with_buffers};
+
+use ppq_array::{InternalArray, Supply, give_buffer};
+use ppq_block::{BlockBuf, BufList};
+use ppq_outside::Slot;
+use ppq_record::Record;
+
+/// Puts records into buffers of the supply, as a run. None comes where it has too few, and they are all
+/// given back.
+pub fn store_in_buffers<S: Slot, R: Record, P: Supply<S, R>>(
+    supply: &mut P,
+    sorted: &[R],
+    block: u32,
+) -> Option<InternalArray<R>>
+    requires block { block ≡ (P.stock supply.old).block }
+    requires size { 1 ≤ block }
+    requires small { block ≤ 65536 }
+    requires few { length sorted.now < 2 ^ 32 - 1 }
+    ensures stored { IfSome result (FilledRun sorted.now (P.stock supply.old) (P.stock supply.new)) }
+    ensures scant { IfNone result (FoundScant (length sorted.now) (P.stock supply.old) (P.stock supply.new)) }
+    ensures home { P.home supply.new ≡ P.home supply.old }
+{
+    let need = blocks_for(sorted.len() as u32, block);
+    match take_buffers(supply, need) {
+        Some(taken) => Some(fill(taken, sorted, block)),
+        None => None,
+    }
+}
+
+/// How many blocks have room for so many records.
+pub fn blocks_for(records: u32, block: u32) -> u32
+    requires size { 1 ≤ block }
+    requires small { block ≤ 65536 }
+    ensures enough { records ≤ result * block }
+    ensures least { result * block < records + block }
+    ensures few { result ≤ records }
+{
+    let whole = records / block;
+    if whole * block < records {
+        whole + 1
+    } else {
+        whole
+    }
+}
+
+// Takes so many buffers, and empties them. None comes where fewer are had, and they are given back.
+fn take_buffers<S: Slot, R: Record, P: Supply<S, R>>(
+    supply: &mut P,
+    need: u32,
+) -> Option<BufList<R>>
+    requires { need < 2 ^ 32 - 1 }
+    ensures all { IfSome result (λ taken. length taken ≡ need) }
+    ensures taken { IfSome result (TookBuffers (P.stock supply.old) (P.stock supply.new)) }
+    ensures few { IfNone result (FoundFewBuffers need (P.stock supply.old) (P.stock supply.new)) }
+    ensures home { P.home supply.new ≡ P.home supply.old }
+{
+    let mut taken = BufList::empty();
+    while taken.len() < need {
+        match supply.take_buffer() {
+            Some(mut buf) => {
+                buf.clear();
+                taken.push_back(buf);
+            }
+            None => {
+                give_buffers(supply, taken);
+                return None;
+            }
+        }
+    }
+    Some(taken)
+}
+
+/// Gives buffers back.
+pub fn give_buffers<S: Slot, R: Record, P: Supply<S, R>>(supply: &mut P, bufs: BufList<R>)
+    requires room { length bufs ≤ (P.stock supply.old).buffer_room }
+    requires block { All (HasBlock (P.stock supply.old).block) bufs }
+    ensures stock { P.stock supply.new ≡ with_buffers (P.stock supply.old) (P.stock supply.new).sure_buffers ((P.stock supply.old).buffer_room - length bufs) }
+    ensures sure { (P.stock supply.old).sure_buffers ≤ (P.stock supply.new).sure_buffers }
+    ensures home { P.home supply.new ≡ P.home supply.old }
+{
+    let mut bufs = bufs;
+    while let Some(buf) = bufs.pop_front() {
+        give_buffer(supply, buf);
+    }
+}
+
+// Puts records into empty buffers, in order, each full but the last: just as many buffers as it takes.
+fn fill<R: Record>(bufs: BufList<R>, records: &[R], block: u32) -> InternalArray<R>
+    requires block { 1 ≤ block }
+    requires small { block ≤ 65536 }
+    requires empty { All (λ b. b ≡ holding block []) bufs }
+    requires few { length bufs < 2 ^ 32 - 1 }
+    requires room { length records.now ≤ length bufs * block }
+    requires least { length bufs * block < length records.now + block }
+    ensures items { items_of result ≡ records.now }
+    ensures unspent { result.spent ≡ [] }
+    ensures blocks { All (HasBlock block) result.live }
+    ensures buffers { length result.live ≡ length bufs }
+{
+    let mut bufs = bufs;
+    let mut run = InternalArray::empty();
+    let mut at = 0;
+    'filling: while let Some(mut buf) = bufs.pop_front() {
+        let end = records.len().min(at + block as usize);
+        put_records(&mut buf, &records[at..end]);
+        run.add(buf);
+        at = end;
+    }
+    run
+}
+
+// Puts records into an empty buffer.
+fn put_records<R: Record>(buf: &mut BlockBuf<R>, records: &[R])
+    requires empty { buf.old ≡ holding buf.old.block [] }
+    requires room { length records.now ≤ buf.old.block }
+    ensures { buf.new ≡ holding buf.old.block records.now }
+{
+    for record in records {
+        buf.push(*record);
+    }
+}

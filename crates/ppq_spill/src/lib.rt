@@ -1,0 +1,23 @@
+//! Storing runs: in buffers where the supply has enough, and else in blocks of a device.
+//!
+//! [`store_sorted`] stores a sorted list of records as one more run of a [`PassBody`], after Sanders'
+//! sequence heap (Fast Priority Queues for Cached Memory, 2000) and its form with many workers by
+//! Bingmann, Keh and Sanders (A Bulk-Parallel Priority Queue in External Memory with STXXL, 2015). It
+//! takes buffers from a `Supply`. Where there are too few, the list is merged with all runs in buffers,
+//! by a tree of minima, into one run in blocks. The slots for it are all drawn before the first block is
+//! written, so a device that is full changes nothing.
+//!
+//! Whatever the answer, no slot and no buffer is lost or made.
+#![tactic(auto)]
+
+mod body;
+mod buffers;
+mod merging;
+mod slots;
+mod store;
+#[cfg(test)]
+mod tests;
+mod writing;
+
+pub use body::PassBody;
+pub use store::store_sorted;

@@ -1,0 +1,127 @@
+//! Storing a sorted run.
+ghost use Rattle.std.specs.Prelude.{◌≡◌, ◌+◌, ◌^◌, ◌<◌, OnOk, OnErr, IsErrOf, length, ℕ};
+ghost use Rattle.ppq_array.specs.Kept.{Kept};
+ghost use Rattle.ppq_array.specs.Holdings.{CanTakeBack, internal_items};
+ghost use Rattle.ppq_spill.specs.Body.{held_by};
+ghost use Rattle.ppq_spill.specs.Storing.{MayStore, WritesFew, HasOneSize, RoomsRest, LanesRest, IsStored, BlocksStored, NoneFree, NoSlots, RunsAscend, DeviceFailed, SameScant};
+
+use crate::PassBody;
+use crate::buffers::{blocks_for, store_in_buffers};
+use crate::slots::{draw_slots, free_slots};
+use crate::writing::{release_runs, write_runs};
+use ppq_array::{ExternalArray, InternalArray, StoreFault, Supply, free_slot};
+use ppq_outside::{Host, Slot};
+use ppq_record::Record;
+
+/// Stores a list of records as one more run of a body. Where the list and the runs in buffers ascend, so
+/// does the new run.
+///
+/// With `n` the length of the list and `m` the records of the body's runs in buffers: the run takes
+/// `ceil(n / block)` buffers of the supply, and no slot is drawn or called. Where the supply has too few,
+/// they are given back, and the list is merged with all runs in buffers into one run of level 0 in
+/// `ceil((n + m) / block)` blocks, with nothing loaded. All its slots are drawn before the first block is
+/// written. So there are at most `ceil((n + m) / block)` block writes, and no block is read. A record
+/// that is merged costs a match on each level of the tree.
+///
+/// `NoFreeBlock` only if buffers were short, a draw returned `None`, and the supply was sure of fewer
+/// slots than the blocks need. Nothing has changed then but the supply's counts and slots and the order
+/// of its buffers: slots that were drawn are kept by the supply.
+///
+/// `Device` only if a write of the slot with that number failed; the supply keeps that slot. Records may
+/// be lost then, but no slot and no buffer.
+pub fn store_sorted<H: Host, S: Slot, R: Record, P: Supply<S, R>>(
+    rt: &H,
+    body: &mut PassBody<S, R>,
+    supply: &mut P,
+    sorted: &[R],
+) -> Result<(), StoreFault>
+    requires some { 0 < length sorted.now }
+    requires room { MayStore S.shown R.WIDTH (length sorted.now) body.old (P.stock supply.old) }
+    requires ascend { RunsAscend R.Ord.cmp S.shown sorted.now body.old (P.stock supply.old) }
+    ensures kept { Kept (P.stock supply.old) (P.stock supply.new) (held_by S.shown body.old) (held_by S.shown body.new) }
+    ensures takes_back { CanTakeBack S.shown (P.stock supply.new) body.new.runs.internal.items body.new.runs.external.items }
+    ensures home { P.home supply.new ≡ P.home supply.old }
+    ensures stored { OnOk result (IsStored R.Ord.cmp R.record_of R.WIDTH S.shown sorted.now body.old body.new (P.stock supply.old) (P.stock supply.new)) }
+    ensures none_free { IsErrOf result StoreFault.NoFreeBlock → NoneFree (length sorted.now) body.old body.new (P.stock supply.old) (P.stock supply.new) }
+    ensures device { (number : ℕ) → IsErrOf result (StoreFault.Device number) → DeviceFailed S.shown number body.new (P.stock supply.new) }
+    ensures writes { WritesFew S.shown (length sorted.now) body.old body.new (P.stock supply.old) (P.stock supply.new) }
+    ensures lanes { LanesRest body.old.lanes body.new.lanes }
+    ensures size { HasOneSize S.shown R.WIDTH body.new (P.stock supply.new) }
+    ensures rooms { RoomsRest body.old body.new }
+{
+    let block = body.lanes.idle.at(0).block();
+    match store_in_buffers(supply, sorted, block) {
+        Some(run) => {
+            body.runs.internal.push_reserved(run);
+            Ok(())
+        }
+        None => store_in_blocks(rt, body, supply, sorted, block),
+    }
+}
+
+// Stores a list and all runs in buffers as one run in blocks.
+fn store_in_blocks<H: Host, S: Slot, R: Record, P: Supply<S, R>>(
+    rt: &H,
+    body: &mut PassBody<S, R>,
+    supply: &mut P,
+    sorted: &[R],
+    block: u32,
+) -> Result<(), StoreFault>
+    requires some { 0 < length sorted.now }
+    requires block { block ≡ (P.stock supply.old).block }
+    requires room { MayStore S.shown R.WIDTH (length sorted.now) body.old (P.stock supply.old) }
+    requires ascend { RunsAscend R.Ord.cmp S.shown sorted.now body.old (P.stock supply.old) }
+    ensures kept { Kept (P.stock supply.old) (P.stock supply.new) (held_by S.shown body.old) (held_by S.shown body.new) }
+    ensures takes_back { CanTakeBack S.shown (P.stock supply.new) body.new.runs.internal.items body.new.runs.external.items }
+    ensures home { P.home supply.new ≡ P.home supply.old }
+    ensures stored { OnOk result (BlocksStored R.Ord.cmp R.record_of R.WIDTH S.shown sorted.now body.old body.new (P.stock supply.old) (P.stock supply.new)) }
+    ensures none_free { IsErrOf result StoreFault.NoFreeBlock → NoSlots (length sorted.now) body.old body.new (P.stock supply.old) (P.stock supply.new) }
+    ensures device { (number : ℕ) → IsErrOf result (StoreFault.Device number) → DeviceFailed S.shown number body.new (P.stock supply.new) }
+    ensures writes { WritesFew S.shown (length sorted.now) body.old body.new (P.stock supply.old) (P.stock supply.new) }
+    ensures lanes { LanesRest body.old.lanes body.new.lanes }
+    ensures size { HasOneSize S.shown R.WIDTH body.new (P.stock supply.new) }
+    ensures rooms { RoomsRest body.old body.new }
+    ensures buffers { OnErr result ((P.stock supply.new).buffer_room ≡ (P.stock supply.old).buffer_room) }
+    ensures scant { SameScant (P.stock supply.old) (P.stock supply.new) }
+{
+    let total = sorted.len() as u32 + count_records(&body.runs.internal);
+    let Some(mut berths) = draw_slots(supply, blocks_for(total, block)) else {
+        return Err(StoreFault::NoFreeBlock);
+    };
+    let mut array = ExternalArray::empty(0);
+    let failed = write_runs(
+        rt,
+        &mut body.tree,
+        &mut body.lanes.idle,
+        &mut body.runs.internal,
+        sorted,
+        &mut berths,
+        &mut array,
+        block,
+    );
+    body.runs.external.push_reserved(array);
+    match failed {
+        None => {
+            release_runs(supply, &mut body.runs.internal);
+            Ok(())
+        }
+        Some(berth) => {
+            let number = berth.number();
+            free_slot(supply, berth);
+            free_slots(supply, berths);
+            Err(StoreFault::Device { number })
+        }
+    }
+}
+
+// How many records runs have.
+fn count_records<R: Record>(internal: &[InternalArray<R>]) -> u32
+    requires { length (internal_items internal.now) < 2 ^ 32 }
+    ensures { result ≡ length (internal_items internal.now) }
+{
+    let mut count = 0;
+    for run in internal {
+        count += run.len();
+    }
+    count as u32
+}

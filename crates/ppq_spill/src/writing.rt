@@ -1,0 +1,142 @@
+//! Merging runs into blocks, and writing them.
+ghost use Rattle.std.specs.Prelude.{◌≡◌, ◌+◌, ◌-◌, ◌*◌, ◌<◌, ◌≤◌, ◌^◌, ◌++◌, ◌∷◌, [], length, drop, map, All, vec_capacity, IfSome, IfNone};
+ghost use Rattle.ppq_block.specs.Block.{IsSettled, holding};
+ghost use Rattle.ppq_outside.specs.Shown.{Tells};
+ghost use Rattle.ppq_array.specs.Owner.{HasBlock, HasSize, slots_shown};
+ghost use Rattle.ppq_array.specs.Kept.{SameSlots};
+ghost use Rattle.ppq_array.specs.Run.{run_of, buffers_of};
+ghost use Rattle.ppq_array.specs.External.{external, size_of};
+ghost use Rattle.ppq_array.specs.Holdings.{internal_buffers, internal_items, RunHasBlock};
+ghost use Rattle.ppq_spill.specs.Moves.{with_buffers};
+ghost use Rattle.ppq_spill.specs.Writing.{Merged, BlockStored, BlockFailed, Writing, left_in, WriteFailed};
+
+use crate::merging::{merge_least, write_heads};
+use ppq_array::{Berth, BerthList, ExternalArray, InternalArray, Supply, give_buffer};
+use ppq_block::{BlockBuf, BufList};
+use ppq_lane::{Job, JobKind, run_job};
+use ppq_outside::{Host, Slot};
+use ppq_record::{Record, record_laws};
+use ppq_tree::MinTree;
+
+/// Merges runs and a sorted list into blocks, and writes them to these slots, a block for each. Where a
+/// write fails, it ends there and gives that slot. It costs as many block writes as there are slots, and
+/// for each record a match on each level of the tree.
+pub fn write_runs<H: Host, S: Slot, R: Record>(
+    rt: &H,
+    tree: &mut MinTree<R>,
+    idle: &mut BufList<R>,
+    internal: &mut Vec<InternalArray<R>>,
+    sorted: &[R],
+    berths: &mut BerthList<S, R>,
+    array: &mut ExternalArray<S, R>,
+    block: u32,
+) -> Option<Berth<S, R>>
+    requires block { 1 ≤ block }
+    requires leaves { length internal.old.items < length tree.old }
+    requires idle { 0 < length idle.old }
+    requires few_idle { length idle.old < 2 ^ 32 - 1 }
+    requires blocks { All (HasBlock block) idle.old }
+    requires empty { array.old ≡ external 0 (run_of [] 0 []) [] [] }
+    requires few { length sorted.now + length (internal_items internal.old.items) < 2 ^ 32 - 1 }
+    requires few_slots { length berths.old < 2 ^ 32 - 1 }
+    requires sizes { All (HasSize S.shown (block * R.WIDTH)) berths.old }
+    requires room { length (left_in internal.old.items sorted.now) ≤ length berths.old * block }
+    requires least { length berths.old * block < length (left_in internal.old.items sorted.now) + block }
+    ensures leaves { length tree.new ≡ length tree.old }
+    ensures idle { length idle.new ≡ length idle.old }
+    ensures blocks { All (HasBlock block) idle.new }
+    ensures room { vec_capacity internal.new ≡ vec_capacity internal.old }
+    ensures written { IfNone result (Writing R.Ord.cmp R.record_of R.WIDTH block S.shown berths.old internal.old.items sorted.now [] internal.new.items [] array.new) }
+    ensures failed { IfSome result (WriteFailed S.shown (block * R.WIDTH) berths.old internal.old.items berths.new internal.new.items array.new) }
+{
+    record_laws::<R>();
+    write_heads(tree, &*internal, sorted);
+    let mut at = 0;
+    while let Some(berth) = berths.pop_front() {
+        let mut buf = idle.pop_front().unwrap();
+        buf.clear();
+        merge_least(tree, internal, sorted, &mut at, &mut buf);
+        let (buf, failed) = write_block(rt, array, berth, buf);
+        idle.push_back(buf);
+        match failed {
+            Some(berth) => return Some(berth),
+            None => {}
+        }
+    }
+    None
+}
+
+// Writes a buffer's records to a slot, as the last block of a run. Where that fails, it gives the slot.
+fn write_block<H: Host, S: Slot, R: Record>(
+    rt: &H,
+    array: &mut ExternalArray<S, R>,
+    berth: Berth<S, R>,
+    buf: BlockBuf<R>,
+) -> (BlockBuf<R>, Option<Berth<S, R>>)
+    requires none_lifted { array.old.lifted ≡ [] }
+    requires some { 0 < length buf.items }
+    requires settled { IsSettled buf }
+    requires within { length buf.items ≤ buf.block }
+    requires size { buf.block * R.WIDTH ≡ (S.shown berth.slot).size }
+    requires room { length array.old.stored < 2 ^ 32 - 1 }
+    requires few { size_of array.old + length buf.items < 2 ^ 64 }
+    ensures buf { result.0 ≡ buf }
+    ensures stored { IfNone result.1 (BlockStored R.record_of R.WIDTH S.shown berth.slot buf.items array.old array.new) }
+    ensures failed { IfSome result.1 (BlockFailed S.shown berth.slot array.old array.new) }
+{
+    let minimum = buf.at(0);
+    let count = buf.len();
+    let mut job = Job {
+        slot: berth,
+        buf,
+        kind: JobKind::Write,
+        done: None,
+    };
+    run_job(rt, &mut job);
+    let Job {
+        slot,
+        buf,
+        kind: _,
+        done,
+    } = job;
+    let Some(answer) = done else { unreachable!() };
+    match answer {
+        Ok(()) => {
+            array.append(slot, minimum, count);
+            (buf, None)
+        }
+        Err(_) => (buf, Some(slot)),
+    }
+}
+
+/// Gives all buffers of runs back, and with them what records they have left.
+pub fn release_runs<S: Slot, R: Record, P: Supply<S, R>>(
+    supply: &mut P,
+    internal: &mut Vec<InternalArray<R>>,
+)
+    requires room { internal_buffers internal.old.items ≤ (P.stock supply.old).buffer_room }
+    requires blocks { All (RunHasBlock (P.stock supply.old).block) internal.old.items }
+    ensures none { internal.new.items ≡ [] }
+    ensures room { vec_capacity internal.new ≡ vec_capacity internal.old }
+    ensures stock { P.stock supply.new ≡ with_buffers (P.stock supply.old) (P.stock supply.new).sure_buffers ((P.stock supply.old).buffer_room - internal_buffers internal.old.items) }
+    ensures home { P.home supply.new ≡ P.home supply.old }
+{
+    while let Some(mut run) = internal.pop() {
+        run.consume(run.len());
+        release_run(supply, run);
+    }
+}
+
+// Gives all buffers of a run back that was consumed.
+fn release_run<S: Slot, R: Record, P: Supply<S, R>>(supply: &mut P, run: InternalArray<R>)
+    requires spent { run.live ≡ [] }
+    requires room { length run.spent ≤ (P.stock supply.old).buffer_room }
+    requires blocks { All (HasBlock (P.stock supply.old).block) run.spent }
+    ensures stock { P.stock supply.new ≡ with_buffers (P.stock supply.old) (P.stock supply.new).sure_buffers ((P.stock supply.old).buffer_room - length run.spent) }
+    ensures home { P.home supply.new ≡ P.home supply.old }
+{
+    let mut run = run;
+    while let Some(buf) = run.take_spent() {
+        give_buffer(supply, buf);
+    }
+}
