@@ -18,7 +18,7 @@ pub record IsNewBody {S R : Type 0} (block internal external : ℕ) (body : Pass
   pub two : length body.lanes.idle ≡ 2
   pub blocks : All (HasBlock block) body.lanes.idle
   pub no_job : body.lanes.jobs.items ≡ []
-  pub leaves : length body.tree ≡ internal + 1
+  pub leaves : length body.tree.items ≡ internal + 1
 
 module _ {S R : Type 0} (shown : S → Shown) where
   -- the slots of jobs

@@ -56,7 +56,7 @@ module _ {S R : Type 0} where
     pub takes_back : CanTakeBack shown stock body.runs.internal.items body.runs.external.items
     pub internal_room : length body.runs.internal.items < vec_capacity body.runs.internal
     pub external_room : length body.runs.external.items < vec_capacity body.runs.external
-    pub leaves : length body.runs.internal.items < length body.tree
+    pub leaves : length body.runs.internal.items < length body.tree.items
     pub few : n + in_buffers body < 2 ^ 32 - 1
 
   -- no job is left; as many buffers are idle, and batch and room are as they were
@@ -70,7 +70,7 @@ module _ {S R : Type 0} where
   pub record RoomsRest (old new : PassBody S R) : Type 0 where
     pub internal : vec_capacity new.runs.internal ≡ vec_capacity old.runs.internal
     pub external : vec_capacity new.runs.external ≡ vec_capacity old.runs.external
-    pub tree : length new.tree ≡ length old.tree
+    pub tree : length new.tree.items ≡ length old.tree.items
 
   -- the run is one more run in buffers, and no slot was drawn or called
   pub record IsInBuffers (sorted : List R) (old new : PassBody S R) (before now : Stock) : Type 0 where

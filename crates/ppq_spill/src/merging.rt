@@ -14,9 +14,9 @@ use ppq_tree::MinTree;
 /// Gives each run a leaf with its first record, and the leaf behind them the first of a list. The other
 /// leaves have none. It costs a look at each leaf, and for each one that changes its matches.
 pub fn write_heads<R: Record>(tree: &mut MinTree<R>, internal: &[InternalArray<R>], sorted: &[R])
-    requires { length internal.now < length tree.old }
-    ensures leaves { length tree.new ≡ length tree.old }
-    ensures heads { HasHeads internal.now sorted.now tree.new }
+    requires { length internal.now < length tree.old.items }
+    ensures leaves { length tree.new.items ≡ length tree.old.items }
+    ensures heads { HasHeads internal.now sorted.now tree.new.items }
 {
     for leaf in 0..tree.leaves() {
         let first = head_at(internal, sorted, leaf as usize);
@@ -39,8 +39,8 @@ fn head_at<R: Record>(internal: &[InternalArray<R>], sorted: &[R], at: usize) ->
 
 // Gives a leaf an item, or none. It plays no match where the leaf had none before.
 fn write_head<R: Record>(tree: &mut MinTree<R>, leaf: u32, first: Option<R>)
-    requires { leaf < length tree.old }
-    ensures { tree.new ≡ slice_set tree.old leaf first }
+    requires { leaf < length tree.old.items }
+    ensures { tree.new.items ≡ slice_set tree.old.items leaf first }
 {
     if first.is_none() && tree.item(leaf).is_none() {
         return;
@@ -59,12 +59,12 @@ pub fn merge_least<R: Record>(
 )
     requires empty { buf.old ≡ holding buf.old.block [] }
     requires within { at.old ≤ length sorted.now }
-    requires leaves { length internal.old.items < length tree.old }
-    requires heads { HasHeads internal.old.items (drop at.old sorted.now) tree.old }
+    requires leaves { length internal.old.items < length tree.old.items }
+    requires heads { HasHeads internal.old.items (drop at.old sorted.now) tree.old.items }
     ensures within { at.new ≤ length sorted.now }
-    ensures leaves { length tree.new ≡ length tree.old }
+    ensures leaves { length tree.new.items ≡ length tree.old.items }
     ensures runs { length internal.new.items ≡ length internal.old.items }
-    ensures heads { HasHeads internal.new.items (drop at.new sorted.now) tree.new }
+    ensures heads { HasHeads internal.new.items (drop at.new sorted.now) tree.new.items }
     ensures room { vec_capacity internal.new ≡ vec_capacity internal.old }
     ensures buf { buf.new ≡ holding buf.old.block buf.new.items }
     ensures merged { Merged R.Ord.cmp buf.old.block internal.old.items internal.new.items (drop at.old sorted.now) (drop at.new sorted.now) buf.new.items }
@@ -86,12 +86,12 @@ fn take_least<R: Record>(
     at: &mut usize,
 ) -> Option<R>
     requires within { at.old ≤ length sorted.now }
-    requires leaves { length internal.old.items < length tree.old }
-    requires heads { HasHeads internal.old.items (drop at.old sorted.now) tree.old }
+    requires leaves { length internal.old.items < length tree.old.items }
+    requires heads { HasHeads internal.old.items (drop at.old sorted.now) tree.old.items }
     ensures within { at.new ≤ length sorted.now }
-    ensures leaves { length tree.new ≡ length tree.old }
+    ensures leaves { length tree.new.items ≡ length tree.old.items }
     ensures runs { length internal.new.items ≡ length internal.old.items }
-    ensures heads { HasHeads internal.new.items (drop at.new sorted.now) tree.new }
+    ensures heads { HasHeads internal.new.items (drop at.new sorted.now) tree.new.items }
     ensures room { vec_capacity internal.new ≡ vec_capacity internal.old }
     ensures merged { IfSome result (λ r. Merged R.Ord.cmp 1 internal.old.items internal.new.items (drop at.old sorted.now) (drop at.new sorted.now) (r ∷ [])) }
     ensures none { IfNone result (left_in internal.old.items (drop at.old sorted.now) ≡ []) }

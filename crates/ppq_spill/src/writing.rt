@@ -32,7 +32,7 @@ pub fn write_runs<H: Host, S: Slot, R: Record>(
     block: u32,
 ) -> Option<Berth<S, R>>
     requires block { 1 ≤ block }
-    requires leaves { length internal.old.items < length tree.old }
+    requires leaves { length internal.old.items < length tree.old.items }
     requires idle { 0 < length idle.old }
     requires few_idle { length idle.old < 2 ^ 32 - 1 }
     requires blocks { All (HasBlock block) idle.old }
@@ -42,7 +42,7 @@ pub fn write_runs<H: Host, S: Slot, R: Record>(
     requires sizes { All (HasSize S.shown (block * R.WIDTH)) berths.old }
     requires room { length (left_in internal.old.items sorted.now) ≤ length berths.old * block }
     requires least { length berths.old * block < length (left_in internal.old.items sorted.now) + block }
-    ensures leaves { length tree.new ≡ length tree.old }
+    ensures leaves { length tree.new.items ≡ length tree.old.items }
     ensures idle { length idle.new ≡ length idle.old }
     ensures blocks { All (HasBlock block) idle.new }
     ensures room { vec_capacity internal.new ≡ vec_capacity internal.old }

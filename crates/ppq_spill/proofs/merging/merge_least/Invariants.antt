@@ -7,9 +7,9 @@ use Rattle.ppq_spill.proofs.merging.merge_least.Given as goal
 
 abbrev pub invariant-loop-tree : goal.invariant-loop-tree
 invariant-loop-tree g l = record {
-  leaves : length l.tree ≡ length l.fn.tree;
+  leaves : length l.tree.items ≡ length l.fn.tree.items;
   runs : length l.internal.items ≡ length l.fn.internal.items;
-  heads : HasHeads l.internal.items (drop l.at l.sorted) l.tree;
+  heads : HasHeads l.internal.items (drop l.at l.sorted) l.tree.items;
   capacity : vec_capacity l.internal ≡ vec_capacity l.fn.internal;
   within : l.at ≤ length l.sorted;
   fits : length l.buf.items ≤ l.fn.buf.block;
