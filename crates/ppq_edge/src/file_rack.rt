@@ -1,0 +1,85 @@
+//! A device file.
+ghost use Rattle.std.specs.Prelude.{◌≡◌, ◌≤◌};
+ghost use Rattle.ppq_outside.specs.Told.{Rose};
+
+use crate::FileSlot;
+use ppq_outside::{Host, OutsideFault, Rack};
+use std::alloc::Global;
+use std::fs::{File, Files};
+use std::io;
+use std::sync::Arc;
+
+/// A device in a file; its name is a path from the working folder.
+///
+/// The file is created, or cut to length 0, when block 0 is made. So block 0 is to be made first; making
+/// any other block before it fails.
+#[derive(Drop)]
+pub struct FileRack {
+    // the device file, once block 0 was made
+    file: Option<Arc<File, Global>>,
+    // how many calls failed
+    faults: u64,
+}
+
+impl FileRack {
+    /// A device of which no block was made yet. It opens no file.
+    pub fn new() -> Self
+        ensures { result.faults ≡ 0 }
+    {
+        FileRack {
+            file: None,
+            faults: 0,
+        }
+    }
+
+    // Counts a failed call.
+    fn fault(&mut self) -> OutsideFault
+        ensures later { self.old.faults ≤ self.new.faults }
+        ensures rose { Rose self.old.faults self.new.faults }
+    {
+        self.faults = self.faults.saturating_add(1);
+        OutsideFault::Failed
+    }
+}
+
+// Opens the file to read and to write. It creates a file that is not there, and cuts one that is.
+fn create_device<F: Files<File = File>>(files: &F, device: &str) -> io::Result<File> {
+    File::options()
+        .read(true)
+        .write(true)
+        .create(true)
+        .truncate(true)
+        .open(files, device)
+}
+
+impl Rack for FileRack {
+    type Slot = FileSlot;
+
+    ghost tells = { λ _. ⊥ };
+
+    ghost faults = { λ r. r.faults };
+
+    fn faults(&self) -> u64 {
+        self.faults
+    }
+
+    fn block<H: Host>(
+        &mut self,
+        rt: &H,
+        alloc: Global,
+        device: &str,
+        number: u32,
+        bytes: usize,
+    ) -> Result<FileSlot, OutsideFault> {
+        if number == 0 {
+            let Ok(file) = create_device(rt, device) else {
+                return Err(self.fault());
+            };
+            self.file = Some(Arc::new(alloc, file)?);
+        }
+        match &self.file {
+            Some(file) => Ok(FileSlot::new(Arc::try_clone(file)?, number, bytes)),
+            None => Err(self.fault()),
+        }
+    }
+}
