@@ -1,5 +1,5 @@
 //! A device file.
-ghost use Rattle.std.specs.Prelude.{◌≡◌, ◌≤◌};
+ghost use Rattle.std.specs.Prelude.{◌≡◌, ◌≤◌, ⊤};
 ghost use Rattle.ppq_outside.specs.Told.{Rose};
 
 use crate::FileSlot;
@@ -12,7 +12,7 @@ use std::sync::Arc;
 /// A device in a file; its name is a path from the working folder.
 ///
 /// The file is created, or cut to length 0, when block 0 is made. So block 0 is to be made first; making
-/// any other block before it fails.
+/// any other block before it fails. It keeps no account of the blocks that it made.
 #[derive(Drop)]
 pub struct FileRack {
     // the device file, once block 0 was made
@@ -34,6 +34,7 @@ impl FileRack {
 
     // Counts a failed call.
     fn fault(&mut self) -> OutsideFault
+        ensures failed { result ≡ OutsideFault.Failed }
         ensures later { self.old.faults ≤ self.new.faults }
         ensures rose { Rose self.old.faults self.new.faults }
     {
@@ -56,6 +57,8 @@ impl Rack for FileRack {
     type Slot = FileSlot;
 
     ghost tells = { λ _. ⊥ };
+
+    ghost made = { λ _ _. ⊤ };
 
     ghost faults = { λ r. r.faults };
 
