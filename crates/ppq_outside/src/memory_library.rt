@@ -1,8 +1,9 @@
 //! A library in memory.
 ghost use Rattle.std.specs.Prelude.{◌≡◌, ◌≤◌, ◌-◌, ◌∷◌, ◌++◌, [], Some, length, take, min, IfOk, OnOk, OnErr, IsTrue};
+ghost use Rattle.std.specs.List.{AllZip};
 ghost use Rattle.ppq_outside.specs.Told.{Rose, ReadsAt, HasCause, TellsReply, length_of, bytes_or_none};
-ghost use Rattle.ppq_outside.specs.Entries.{files_of, Finds};
-ghost use Rattle.ppq_outside.specs.MemoryLibrary.{lookup};
+ghost use Rattle.ppq_outside.specs.Entries.{file_of, files_of, Finds, IsShrunk};
+ghost use Rattle.ppq_outside.specs.MemoryLibrary.{lookup, bytes_in, readable, readable_in, told_by};
 
 use crate::{Host, Library, Memory, OutsideFault};
 use std::alloc::Global;
@@ -13,9 +14,11 @@ use std::marker::Model;
 struct Entry {
     name: String,
     bytes: Vec<u8>,
+    /// Where reads end, in bytes, if the file was shrunk.
+    end: Option<u64>,
 }
 
-/// Named files in memory. It tells.
+/// Named files in memory. It tells, until `shrink` is called.
 ///
 /// Its calls `length` and `read_at` are numbered together from 1. A call fails exactly where that
 /// was planned by `fail_call`, and takes no memory.
@@ -23,6 +26,8 @@ struct Entry {
 pub struct MemLibrary {
     /// The latest entry of a name stands first.
     entries: Vec<Entry>,
+    /// Whether reads end where the entries say.
+    shrunk: bool,
     /// The numbers of the calls that are to fail.
     plan: Vec<u64>,
     /// How many calls were made.
@@ -38,11 +43,11 @@ impl Model for MemLibrary {
 
     ghost use Rattle.ppq_outside.specs.Entries.{files_of};
 
-    ghost view = { λ m. record { files = files_of m.entries.items; plan = m.plan.items; calls = m.calls; faults = m.faults } };
+    ghost view = { λ m. record { files = files_of m.entries.items; shrunk = m.shrunk; plan = m.plan.items; calls = m.calls; faults = m.faults } };
 }
 
 impl MemLibrary {
-    ghost use Rattle.ppq_outside.specs.MemoryLibrary.{empty_library, fails_next, after_call};
+    ghost use Rattle.ppq_outside.specs.MemoryLibrary.{empty_library, whole_file, shrunk_library, fails_next, after_call};
 
     /// A library with no file, of which no call is planned to fail.
     pub fn new(alloc: Global) -> Self
@@ -50,6 +55,7 @@ impl MemLibrary {
     {
         MemLibrary {
             entries: Vec::new(alloc),
+            shrunk: false,
             plan: Vec::new(alloc),
             calls: 0,
             faults: 0,
@@ -59,12 +65,13 @@ impl MemLibrary {
     /// Gives a name these bytes, also where it has others. It costs a move of every entry. Where
     /// memory is wanting, the library is as before.
     pub fn add(&mut self, alloc: Global, name: &str, bytes: &[u8]) -> Result<(), Memory>
-        ensures ok { OnOk result (self.new ≡ record self.old { files = (name.now, bytes.now) ∷ self.old.files }) }
+        ensures ok { OnOk result (self.new ≡ record self.old { files = whole_file name.now bytes.now ∷ self.old.files }) }
         ensures err { OnErr result (self.new ≡ self.old) }
     {
         let entry = Entry {
             name: name.to_string(alloc)?,
             bytes: bytes.to_vec(alloc)?,
+            end: None,
         };
         Ok(self.entries.insert(0, entry)?)
     }
@@ -76,6 +83,17 @@ impl MemLibrary {
         ensures err { OnErr result (self.new ≡ self.old) }
     {
         Ok(self.plan.push(number)?)
+    }
+
+    /// Makes reads of a file end at a place, in bytes, or at its own end if that comes first. Its
+    /// length stays what it was, also where there is no such file. From then on the library does not
+    /// tell, as a file that others write while it is read. It takes no memory, and costs a look at
+    /// every entry.
+    pub fn shrink(&mut self, name: &str, to: u64)
+        ensures { self.new ≡ shrunk_library self.old name.now to }
+    {
+        end_reads(&mut self.entries, name, to);
+        self.shrunk = true;
     }
 
     /// Counts a call, and says whether it is to fail.
@@ -94,16 +112,47 @@ impl MemLibrary {
     }
 }
 
-/// The bytes of a name. It looks at the entries one after the other.
-fn find<'a>(entries: &'a [Entry], name: &str) -> Option<&'a [u8]>
+/// The entry of a name. It looks at the entries one after the other.
+fn find<'a>(entries: &'a [Entry], name: &str) -> Option<&'a Entry>
     ensures { Finds (lookup (files_of entries.now) name.now) result }
 {
     for entry in entries {
         if entry.name.as_str() == name {
-            return Some(&entry.bytes);
+            return Some(entry);
         }
     }
     None
+}
+
+/// Makes reads of the entries of a name end at a place.
+fn end_reads(entries: &mut [Entry], name: &str, to: u64)
+    ensures { AllZip (IsShrunk name.now to) entries.old entries.new }
+{
+    for entry in entries.iter_mut() {
+        end_reads_of(entry, name, to);
+    }
+}
+
+/// Makes reads of an entry end at a place, if it has this name.
+fn end_reads_of(entry: &mut Entry, name: &str, to: u64)
+    ensures { IsShrunk name.now to entry.old entry.new }
+{
+    if entry.name.as_str() == name {
+        entry.end = Some(to);
+    }
+}
+
+/// The bytes of an entry that reads give, in a library that was shrunk or not.
+fn readable_bytes(entry: &Entry, shrunk: bool) -> &[u8]
+    ensures { result.now ≡ readable shrunk (file_of entry.now) }
+{
+    if !shrunk {
+        return &entry.bytes;
+    }
+    match entry.end {
+        None => &entry.bytes,
+        Some(end) => &entry.bytes[..end.min(entry.bytes.len() as u64) as usize],
+    }
 }
 
 /// Copies bytes from a place on over the first of `into`, as many as there are and fit.
@@ -123,9 +172,9 @@ fn copy_from(bytes: &[u8], at: u64, into: &mut [u8]) -> usize
 impl Library for MemLibrary {
     ghost use Rattle.ppq_outside.specs.MemoryLibrary.{answer, after_call, count_at};
 
-    ghost told = { λ m. Some (lookup m.files) };
+    ghost told = { told_by };
 
-    ghost replied = { λ m. TellsReply (Some (lookup m.files)) };
+    ghost replied = { λ m. TellsReply (told_by m) };
 
     ghost faults = { λ m. m.faults };
 
@@ -140,7 +189,7 @@ impl Library for MemLibrary {
         _alloc: Global,
         name: &str,
     ) -> Result<Option<u64>, OutsideFault>
-        ensures answer { result ≡ answer self.old (length_of (lookup self.old.files name.now)) }
+        ensures answer { result ≡ answer self.old (length_of (bytes_in (lookup self.old.files name.now))) }
         ensures after { self.new ≡ after_call self.old }
         ensures cause { HasCause self.old.faults self.new.faults result }
     {
@@ -149,12 +198,12 @@ impl Library for MemLibrary {
         }
         match find(&self.entries, name) {
             None => Ok(None),
-            Some(bytes) => Ok(Some(bytes.len() as u64)),
+            Some(entry) => Ok(Some(entry.bytes.len() as u64)),
         }
     }
 
     /// Takes no memory, fails exactly where that was planned, and gives as many bytes as there are
-    /// and `into` has room for.
+    /// before the file's end, or the end that `shrink` gave it, and as `into` has room for.
     fn read_at<H: Host>(
         &mut self,
         _rt: &H,
@@ -163,8 +212,8 @@ impl Library for MemLibrary {
         at: u64,
         into: &mut [u8],
     ) -> Result<usize, OutsideFault>
-        ensures answer { result ≡ answer self.old (count_at (lookup self.old.files name.now) at (length into.new)) }
-        ensures given { IfOk result (λ count. ReadsAt (bytes_or_none (lookup self.old.files name.now)) at (length into.new) (take count into.new)) }
+        ensures answer { result ≡ answer self.old (count_at (readable_in self.old.shrunk (lookup self.old.files name.now)) at (length into.new)) }
+        ensures given { IfOk result (λ count. ReadsAt (bytes_or_none (readable_in self.old.shrunk (lookup self.old.files name.now))) at (length into.new) (take count into.new)) }
         ensures after { self.new ≡ after_call self.old }
         ensures cause { HasCause self.old.faults self.new.faults result }
     {
@@ -173,7 +222,7 @@ impl Library for MemLibrary {
         }
         match find(&self.entries, name) {
             None => Ok(0),
-            Some(bytes) => Ok(copy_from(bytes, at, into)),
+            Some(entry) => Ok(copy_from(readable_bytes(entry, self.shrunk), at, into)),
         }
     }
 

@@ -121,6 +121,26 @@ fn a_name_that_is_added_again_has_the_new_bytes(rt: HostRuntime) -> Result<(), F
 }
 
 #[test]
+fn a_file_that_is_shrunk_keeps_its_length_and_ends_early(rt: HostRuntime) -> Result<(), Fail> {
+    let alloc = rt.alloc();
+    let mut library = MemLibrary::new(alloc);
+    library.add(alloc, "f", b"0123456789abcdefghijklmnopqrstuv")?;
+    library.add(alloc, "g", b"other")?;
+    library.shrink("f", 16);
+    assert_eq!(rt; library.length(&rt, alloc, "f")?, Some(32));
+    let mut into = [0; 20];
+    assert_eq!(rt; library.read_at(&rt, alloc, "f", 16, &mut into)?, 0);
+    assert_eq!(rt; library.read_at(&rt, alloc, "f", 0, &mut into)?, 16);
+    assert_eq!(rt; into, *b"0123456789abcdef\0\0\0\0");
+    assert_eq!(rt; library.length(&rt, alloc, "g")?, Some(5));
+    assert_eq!(rt; library.read_at(&rt, alloc, "g", 0, &mut into)?, 5);
+    library.shrink("f", 40);
+    assert_eq!(rt; library.read_at(&rt, alloc, "f", 31, &mut into)?, 1);
+    assert_eq!(rt; library.faults(), 0);
+    Ok(())
+}
+
+#[test]
 fn calls_of_both_kinds_are_numbered_together(rt: HostRuntime) -> Result<(), Fail> {
     let alloc = rt.alloc();
     let mut library = MemLibrary::new(alloc);
