@@ -4,3 +4,4 @@ pub mod Merged
 pub mod Merging
 pub mod Pieces
 pub mod Planned
+pub mod Used

@@ -1,20 +1,24 @@
 -- A worker's seat: its places and its tree.
-use Rattle.std.specs.Prelude.{◌≡◌, ℕ, ◌≤◌, List, length, All}
+use Rattle.std.specs.Prelude.{◌≡◌, ℕ, ◌+◌, ◌≤◌, List, drop, length, All}
 use Rattle.ppq_merge.specs.Parts.{places_for}
 use Rattle.ppq_merge.specs.declared.seat.Seat.{Seat}
+
+-- of the places where a worker's piece begins those that are used: those behind the first 16
+unfoldable pub used : List ℕ → List ℕ
+used places = drop 16 places
 
 module _ {R : Type 0} where
   -- the places where a worker's piece begins, as many as there are runs
   abbrev pub from_of : List (List R) → Seat R → List ℕ
-  from_of qs s = places_for qs s.from.items
+  from_of qs s = places_for qs (used s.from.items)
 
   -- and those where it ends
   abbrev pub to_of : List (List R) → Seat R → List ℕ
   to_of qs s = places_for qs s.to.items
 
-  -- a seat has a place for each of n runs, and room for as many leaves
+  -- a seat has a place for each of n runs, behind 16 that are not used, and room for as many leaves
   pub record IsSized (n : ℕ) (s : Seat R) : Type 0 where
-    pub from : length s.from.items ≡ n
+    pub from : length s.from.items ≡ 16 + n
     pub to : length s.to.items ≡ n
     pub leaves : n ≤ s.tree.room
 
@@ -24,4 +28,4 @@ module _ {R : Type 0} where
 
   -- a seat has at least as many places and leaves as there are runs
   abbrev pub HasRoom : List (List R) → Seat R → Type 0
-  HasRoom qs s = (length qs ≤ length s.from.items) × (length qs ≤ length s.to.items) × (length qs ≤ s.tree.room)
+  HasRoom qs s = (16 + length qs ≤ length s.from.items) × (length qs ≤ length s.to.items) × (length qs ≤ s.tree.room)

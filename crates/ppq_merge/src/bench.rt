@@ -55,15 +55,16 @@ fn seats_for<R: Record>(alloc: Global, workers: u32, runs: u32) -> Result<Vec<Se
 }
 
 impl<R: Record> Bench<R> {
-    /// A bench for so many workers and at most so many runs. It allocates 16 bytes for each run, and
-    /// for each worker and run a leaf of a tree and two places; no other call allocates.
+    /// A bench for so many workers and at most so many runs. It allocates a place for each run, and for
+    /// each worker and run a leaf of a tree and two places, beside a hundred cells or so for each worker
+    /// that keep what it writes apart; no other call allocates.
     pub fn new(alloc: Global, workers: u32, runs: u32) -> Result<Self, Memory>
         requires { 1 ≤ workers }
         ensures places { IfOk result (λ bench. bench.places ≡ replicate runs 0) }
         ensures workers { IfOk result (λ bench. bench.workers ≡ workers) }
     {
         let seats = seats_for(alloc, workers, runs)?;
-        let places = zeros(alloc, runs)?;
+        let places = zeros(alloc, runs as usize)?;
         Ok(Bench { seats, places })
     }
 

@@ -6,7 +6,7 @@ ghost use Rattle.ppq_split.specs.Cut.{AllAscend, AreWithin, IsCut, total};
 ghost use Rattle.ppq_merge.specs.Plan.{IsPlan, IsCutPlan, Rises};
 ghost use Rattle.ppq_merge.specs.Seat.{IsSized, from_of, to_of};
 
-use crate::seat::{Seat, copy_front};
+use crate::seat::{Seat, copy_front, copy_used, first_used};
 use ppq_record::{Listing, Record, record_laws};
 use ppq_split::cut_at;
 
@@ -64,7 +64,7 @@ fn plan_seat<R: Record, Q: Listing<R>>(
     requires places { length carry.old ≡ length (Q.lists runs.now) }
     requires rank { rank ≤ length (all_of (Q.lists runs.now)) }
     requires room { length (all_of (Q.lists runs.now)) < 2 ^ 64 }
-    requires from_room { length carry.old ≤ length seat.old.from.items }
+    requires from_room { 16 + length carry.old ≤ length seat.old.from.items }
     requires to_room { length carry.old ≤ length seat.old.to.items }
     ensures from { from_of (Q.lists runs.now) seat.new ≡ carry.old }
     ensures to { to_of (Q.lists runs.now) seat.new ≡ carry.new }
@@ -78,11 +78,11 @@ fn plan_seat<R: Record, Q: Listing<R>>(
     ensures rises { result ≡ true → Rises carry.old carry.new }
     ensures stays { Rises carry.old carry.new → result ≡ true }
 {
-    copy_front(carry, seat.from.as_mut_slice());
+    copy_used(carry, seat.from.as_mut_slice());
     cut_at(runs, rank, carry);
     copy_front(carry, seat.to.as_mut_slice());
     seat.end = rank;
-    all_rise(&seat.from.as_slice()[..carry.len()], carry)
+    all_rise(first_used(seat.from.as_slice(), carry.len()), carry)
 }
 
 /// Gives each worker the piece between two neighbouring cuts, and says whether no place falls, as it

@@ -1,7 +1,7 @@
 //! What one worker needs.
-ghost use Rattle.std.specs.Prelude.{◌≡◌, ◌≤◌, length, take, replicate, IfOk};
+ghost use Rattle.std.specs.Prelude.{◌≡◌, ◌+◌, ◌≤◌, ◌<◌, ◌^◌, length, take, replicate, IfOk};
 ghost use Rattle.ppq_merge.specs.Parts.{AreParts, IsMerge, size_between, places_for};
-ghost use Rattle.ppq_merge.specs.Seat.{IsSized, HasRoom, from_of, to_of};
+ghost use Rattle.ppq_merge.specs.Seat.{IsSized, HasRoom, from_of, to_of, used};
 
 use crate::merge::merge_into;
 use ppq_record::{Listing, Memory, Record};
@@ -11,7 +11,7 @@ use std::alloc::Global;
 /// A worker's places and tree. Of the places and leaves as many are used as there are runs.
 #[derive(Drop)]
 pub(crate) struct Seat<R: Record> {
-    /// Where the worker's piece begins in each run.
+    /// Places that are not used, and then where the worker's piece begins in each run.
     pub(crate) from: Vec<u64>,
     /// Where it ends in each run.
     pub(crate) to: Vec<u64>,
@@ -21,17 +21,19 @@ pub(crate) struct Seat<R: Record> {
     pub(crate) tree: MinTree<R>,
 }
 
-/// How much more room than is used the places and the tree of a worker have. Workers write to theirs
-/// at each record; 16 places are 128 bytes, so no two workers write to one line of the cache, however
-/// the allocator lays them.
-const APART: u32 = 16;
+/// How many places stand unused in front of those where a worker's piece begins, and how many there
+/// is room for behind all places. A worker moves its own at each record: 16 places are 128 bytes, so
+/// no line of the cache that it writes, nor its neighbour, has what others read, as the runs or what
+/// is known of the other workers, wherever the allocator lays them. The tree does likewise.
+const APART: usize = 16;
 
 /// So many zeros, with room behind them that is not used.
-pub(crate) fn zeros(alloc: Global, runs: u32) -> Result<Vec<u64>, Memory>
-    ensures { IfOk result (λ places. places.items ≡ replicate runs 0) }
+pub(crate) fn zeros(alloc: Global, count: usize) -> Result<Vec<u64>, Memory>
+    requires { count < 2 ^ 33 }
+    ensures { IfOk result (λ places. places.items ≡ replicate count 0) }
 {
-    let mut places = Vec::with_capacity(alloc, runs as usize + APART as usize)?;
-    for _run in 0..runs {
+    let mut places = Vec::with_capacity(alloc, count + APART)?;
+    for _place in 0..count {
         places.push(0)?;
     }
     Ok(places)
@@ -42,9 +44,9 @@ impl<R: Record> Seat<R> {
     pub(crate) fn new(alloc: Global, runs: u32) -> Result<Self, Memory>
         ensures { IfOk result (λ seat. IsSized runs seat) }
     {
-        let from = zeros(alloc, runs)?;
-        let to = zeros(alloc, runs)?;
-        let tree = MinTree::new(alloc, runs.saturating_add(APART))?;
+        let from = zeros(alloc, APART + runs as usize)?;
+        let to = zeros(alloc, runs as usize)?;
+        let tree = MinTree::new(alloc, runs)?;
         Ok(Seat {
             from,
             to,
@@ -61,6 +63,24 @@ pub(crate) fn copy_front(places: &[u64], into: &mut [u64])
 {
     let part = &mut into[..places.len()];
     part.copy_from_slice(places);
+}
+
+/// Copies places over the first of those that are used.
+pub(crate) fn copy_used(places: &[u64], into: &mut [u64])
+    requires { 16 + length places.now ≤ length into.old }
+    ensures { take (length places.now) (used into.new) ≡ places.now }
+{
+    let (_front, cells) = into.split_at_mut(APART);
+    copy_front(places, cells);
+}
+
+/// The first of the places that are used, so many.
+pub(crate) fn first_used(all: &[u64], count: usize) -> &[u64]
+    requires { 16 + count ≤ length all.now }
+    ensures { result.now ≡ take count (used all.now) }
+{
+    let (_front, cells) = all.split_at(APART);
+    &cells[..count]
 }
 
 /// Merges what lies between the first of some places, as many as there are runs.
@@ -85,6 +105,26 @@ fn merge_between<R: Record, Q: Listing<R>>(
     merge_into(runs, part, ends, tree, out);
 }
 
+/// Merges what lies between the first of the places that are used and others.
+fn merge_used<R: Record, Q: Listing<R>>(
+    runs: &Q,
+    from: &mut [u64],
+    to: &[u64],
+    tree: &mut MinTree<R>,
+    out: &mut [R],
+)
+    requires from { 16 + length (Q.lists runs.now) ≤ length from.old }
+    requires to { length (Q.lists runs.now) ≤ length to.now }
+    requires leaves { length (Q.lists runs.now) ≤ tree.old.room }
+    requires parts { AreParts (places_for (Q.lists runs.now) (used from.old)) (places_for (Q.lists runs.now) to.now) (Q.lists runs.now) }
+    requires size { length out.old ≡ size_between (places_for (Q.lists runs.now) (used from.old)) (places_for (Q.lists runs.now) to.now) }
+    ensures merge { IsMerge R.Ord.cmp (Q.lists runs.now) (places_for (Q.lists runs.now) (used from.old)) (places_for (Q.lists runs.now) to.now) out.new }
+    ensures room { tree.new.room ≡ tree.old.room }
+{
+    let (_front, places) = from.split_at_mut(APART);
+    merge_between(runs, places, to, tree, out);
+}
+
 /// Merges a worker's piece.
 pub(crate) fn merge_piece<R: Record, Q: Listing<R>>(runs: &Q, seat: &mut Seat<R>, out: &mut [R])
     requires room { HasRoom (Q.lists runs.now) seat.old }
@@ -96,5 +136,5 @@ pub(crate) fn merge_piece<R: Record, Q: Listing<R>>(runs: &Q, seat: &mut Seat<R>
     ensures leaves { seat.new.tree.room ≡ seat.old.tree.room }
 {
     let Seat { from, to, tree, .. } = seat;
-    merge_between(runs, from.as_mut_slice(), to.as_slice(), tree, out);
+    merge_used(runs, from.as_mut_slice(), to.as_slice(), tree, out);
 }

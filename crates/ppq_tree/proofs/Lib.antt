@@ -1,3 +1,4 @@
+pub mod Used
 pub mod Levels
 pub mod Order
 pub mod Tree

@@ -131,18 +131,13 @@ module _ {X : Type 0} (cmp : X → X → Ordering) (o : IsTotalOrder cmp) where
         let top : won 1 ≡ None = ap (named (winner_at winners 1)) h in
         let b : Beats None (Some (y, j)) = subst (λ c. Beats c (Some (y, j))) top (beaten j y k) in b
 
-    -- the same of the leaf that was read at the root
-    root_read : (leaf : ℕ) → 0 < length items → leaf ≡ get_or winners 1 leaf → leaf ≡ winner_at winners 1
-    root_read leaf z e = let size = t.size in get_or_read winners 1 leaf (omega arith) e 0
+    -- the same of the item that was read there, where the items are those that the tree shows
+    module _ (shown : List (Option X)) (item : Option X) (same : items ≡ shown) (some : 0 < length items) (read : item ≡ get_or items (winner_at winners 1) item) where
+      root_item : get_or items (winner_at winners 1) None ≡ item
+      root_item = sym (get_or_read items (winner_at winners 1) item (root_within cmp items winners some t) read None)
 
-    pub within_read : (leaf : ℕ) → 0 < length items → leaf ≡ get_or winners 1 leaf → leaf < length items
-    within_read leaf z e = subst (λ w. w < length items) (sym (root_read leaf z e)) (root_within cmp items winners z t)
+      pub least_read : (x : X) → item ≡ Some x → IsLeastLeaf cmp shown (winner_at winners 1) x
+      least_read x is = subst (λ xs. IsLeastLeaf cmp xs (winner_at winners 1) x) same (root_is_least x (root_item ∙ is))
 
-    item_read : (leaf : ℕ) (item : Option X) → 0 < length items → leaf ≡ get_or winners 1 leaf → item ≡ get_or items leaf item → get_or items (winner_at winners 1) None ≡ item
-    item_read leaf item z e f = ap (λ w. get_or items w None) (sym (root_read leaf z e)) ∙ sym (get_or_read items leaf item (within_read leaf z e) f None)
-
-    pub least_read : (leaf : ℕ) (item : Option X) (x : X) → 0 < length items → leaf ≡ get_or winners 1 leaf → item ≡ get_or items leaf item → item ≡ Some x → IsLeastLeaf cmp items leaf x
-    least_read leaf item x z e f is = subst (λ w. IsLeastLeaf cmp items w x) (sym (root_read leaf z e)) (root_is_least x (item_read leaf item z e f ∙ is))
-
-    pub none_read : (leaf : ℕ) (item : Option X) → 0 < length items → leaf ≡ get_or winners 1 leaf → item ≡ get_or items leaf item → item ≡ None → HasNoItems items
-    none_read leaf item z e f is = root_is_none (item_read leaf item z e f ∙ is)
+      pub none_read : item ≡ None → HasNoItems shown
+      none_read is = subst HasNoItems same (root_is_none (root_item ∙ is))

@@ -6,6 +6,7 @@
 //! counted by `Steps`: no match is played by a function that does not take them.
 #![tactic(auto)]
 
+mod apart;
 mod climb;
 mod heads;
 mod matches;

@@ -1,12 +1,12 @@
 //! The tree of minima.
 ghost use Rattle.std.specs.Prelude.{◌≡◌, ◌↔◌, ℕ, ◌+◌, ◌-◌, ◌*◌, ◌^◌, ◌<◌, ◌≤◌, None, length, replicate, slice_index_or, slice_set, vec_capacity, IfOk, IfSome, IsNone};
 ghost use Rattle.ppq_tree.specs.Levels.{leaf_level};
+ghost use Rattle.ppq_tree.specs.Used.{used};
 ghost use Rattle.ppq_tree.specs.Tree.{winner_at, HasNoItems, IsLeastLeaf};
 
 use crate::Steps;
-use crate::climb::write_leaf;
+use crate::apart::{APART, apart, play_used, used, write_used};
 use crate::heads::{Heads, NoHeads};
-use crate::matches::play_all;
 use ppq_record::{Memory, Record, record_laws};
 use std::alloc::Global;
 use std::marker::{Brand, Model};
@@ -18,24 +18,25 @@ use std::sync::ledger::{Blank, Ledger};
 /// to that. Contracts see `items`, the list of the leaves' items, and `room`.
 #[derive(Drop)]
 pub struct MinTree<R: Record> {
-    /// The item of each leaf.
+    /// Unused cells, and then the item of each leaf.
     items: Vec<Option<R>>,
-    /// The leaf that won at each node: node 1 is the root, the children of node u are 2u and 2u + 1,
-    /// and with n leaves the leaf i is the node n + i. Entry 0 is not used.
+    /// Unused cells, and then the leaf that won at each node: node 1 is the root, the children of node
+    /// u are 2u and 2u + 1, and with n leaves the leaf i is the node n + i. Entry 0 is not used.
     winners: Vec<u32>,
     /// How many leaves there may be; both vectors have room for so many from the beginning.
     room: u32,
 }
 
 impl<R: Record> Model for MinTree<R> {
-    ghost use Rattle.std.specs.Prelude.{◌*◌, ◌≤◌, ◌<◌, ◌^◌, length, vec_capacity};
+    ghost use Rattle.std.specs.Prelude.{◌+◌, ◌*◌, ◌≤◌, ◌<◌, ◌^◌, length, vec_capacity};
+    ghost use Rattle.ppq_tree.specs.Used.{used};
     ghost use Rattle.ppq_tree.specs.Tree.{Leaves, IsMinTree};
 
     ghost Value = { Leaves R };
 
-    ghost view = { λ t. record { items = t.items.items; room = t.room } };
+    ghost view = { λ t. record { items = used t.items.items; room = t.room } };
 
-    ghost invariant = { λ t. (length t.items.items ≤ t.room) × (t.room < 2 ^ 32) × (t.room ≤ vec_capacity t.items) × (2 * t.room ≤ vec_capacity t.winners) × IsMinTree R.Ord.cmp t.items.items t.winners.items };
+    ghost invariant = { λ t. (32 ≤ length t.items.items) × (32 ≤ length t.winners.items) × (length (used t.items.items) ≤ t.room) × (t.room < 2 ^ 32) × (32 + t.room ≤ vec_capacity t.items) × (32 + 2 * t.room ≤ vec_capacity t.winners) × IsMinTree R.Ord.cmp (used t.items.items) (used t.winners.items) };
 }
 
 impl<R: Record> MinTree<R> {
@@ -45,8 +46,8 @@ impl<R: Record> MinTree<R> {
         ensures items { IfOk result (λ tree. tree.items ≡ replicate leaves None) }
         ensures room { IfOk result (λ tree. tree.room ≡ leaves) }
     {
-        let items = Vec::with_capacity(alloc, leaves as usize)?;
-        let winners = Vec::with_capacity(alloc, 2 * leaves as usize)?;
+        let items = apart(alloc, leaves as usize, None)?;
+        let winners = apart(alloc, 2 * leaves as usize, 0)?;
         let mut tree = MinTree {
             items,
             winners,
@@ -62,7 +63,7 @@ impl<R: Record> MinTree<R> {
         ensures leaves { result ≡ length self.now.items }
         ensures within { result ≤ self.now.room }
     {
-        self.items.len() as u32
+        used(self.items.as_slice()).len() as u32
     }
 
     /// How many leaves there may be.
@@ -79,7 +80,7 @@ impl<R: Record> MinTree<R> {
         requires { leaf < length self.now.items }
         ensures { result ≡ slice_index_or self.now.items leaf None }
     {
-        self.items[leaf as usize]
+        used(self.items.as_slice())[leaf as usize]
     }
 
     /// Gives a leaf an item, or none, and plays its matches again. A step is a match of two leaves;
@@ -92,7 +93,7 @@ impl<R: Record> MinTree<R> {
         ensures room { self.new.room ≡ self.old.room }
         ensures cost { steps.new ≡ steps.old + leaf_level (length self.old.items) leaf }
     {
-        write_leaf(
+        write_used(
             self.items.as_mut_slice(),
             self.winners.as_mut_slice(),
             leaf,
@@ -135,7 +136,7 @@ impl<R: Record> MinTree<R> {
     {
         write_heads(&mut self.items, heads);
         write_numbers(&mut self.winners, heads.leaves());
-        play_all(self.items.as_slice(), self.winners.as_mut_slice(), steps);
+        play_used(self.items.as_slice(), self.winners.as_mut_slice(), steps);
     }
 
     /// `set_all` for a caller that counts nothing.
@@ -179,11 +180,14 @@ impl<R: Record> MinTree<R> {
         ensures none { IsNone result ↔ HasNoItems self.now.items }
     {
         record_laws::<R>();
-        if self.items.is_empty() {
+        let items = used(self.items.as_slice());
+        if items.is_empty() {
             return None;
         }
-        let leaf = self.winners[1];
-        match self.items[leaf as usize] {
+        let winners = used(self.winners.as_slice());
+        let leaf = winners[1];
+        let found = items[leaf as usize];
+        match found {
             Some(item) => Some((leaf, item)),
             None => None,
         }
@@ -202,11 +206,13 @@ pub fn leaf_levels()
 
 /// Writes the item of each leaf.
 fn write_heads<R: Record, H: Heads<R>>(items: &mut Vec<Option<R>>, heads: &H)
-    requires { length (H.heads heads.now) ≤ vec_capacity items.old }
-    ensures items { items.new.items ≡ H.heads heads.now }
+    requires apart { 32 ≤ length items.old.items }
+    requires room { 32 + length (H.heads heads.now) ≤ vec_capacity items.old }
+    ensures items { used items.new.items ≡ H.heads heads.now }
+    ensures apart { 32 ≤ length items.new.items }
     ensures capacity { vec_capacity items.new ≡ vec_capacity items.old }
 {
-    items.clear();
+    items.truncate(APART);
     for leaf in 0..heads.leaves() {
         items.push_reserved(heads.head(leaf));
     }
@@ -214,12 +220,14 @@ fn write_heads<R: Record, H: Heads<R>>(items: &mut Vec<Option<R>>, heads: &H)
 
 /// Writes a place for each inner node, and then each leaf's number at the leaf.
 fn write_numbers(winners: &mut Vec<u32>, leaves: u32)
-    requires { 2 * leaves ≤ vec_capacity winners.old }
-    ensures size { length winners.new.items ≡ 2 * leaves }
-    ensures leaves { (leaf : _) → leaf < leaves → winner_at winners.new.items (leaves + leaf) ≡ leaf }
+    requires apart { 32 ≤ length winners.old.items }
+    requires room { 32 + 2 * leaves ≤ vec_capacity winners.old }
+    ensures apart { 32 ≤ length winners.new.items }
+    ensures size { length (used winners.new.items) ≡ 2 * leaves }
+    ensures leaves { (leaf : _) → leaf < leaves → winner_at (used winners.new.items) (leaves + leaf) ≡ leaf }
     ensures capacity { vec_capacity winners.new ≡ vec_capacity winners.old }
 {
-    winners.clear();
+    winners.truncate(APART);
     for _node in 0..leaves {
         winners.push_reserved(0);
     }
