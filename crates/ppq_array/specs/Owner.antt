@@ -1,5 +1,5 @@
 -- The lists of one owner, as a supply.
-use Rattle.std.specs.Prelude.{◌≡◌, ℕ, ◌-◌, ◌*◌, ◌<◌, ◌≤◌, ◌^◌, List, [], length, map, All}
+use Rattle.std.specs.Prelude.{◌≡◌, ℕ, ◌+◌, ◌-◌, ◌*◌, ◌<◌, ◌≤◌, ◌^◌, List, [], length, map, All}
 use Rattle.ppq_block.specs.Block.{Block}
 use Rattle.ppq_outside.specs.Shown.{Shown}
 use Rattle.ppq_array.specs.Supply.{Stock}
@@ -45,3 +45,7 @@ module _ {S R : Type 0} where
 -- an owner of so many slots and buffers that has none of them yet
 abbrev pub new_owner : ℕ → ℕ → ℕ → Stock
 new_owner block slots buffers = record { block = block; kept = []; drawn = []; slot_room = slots; sure_buffers = 0; buffer_room = buffers; dry = 0; scant = 0; room_when_scant = 0 }
+
+-- how many slots an owner has, free or not, and how many buffers, idle or not
+abbrev pub owner_home : Stock → ℕ × ℕ
+owner_home o = (length o.kept + o.slot_room, o.sure_buffers + o.buffer_room)

@@ -1,6 +1,6 @@
 //! The free slots and idle buffers of one owner.
 ghost use Rattle.std.specs.Prelude.{◌≡◌, ◌-◌, ◌<◌, ◌^◌, [], length};
-ghost use Rattle.ppq_array.specs.Owner.{new_owner};
+ghost use Rattle.ppq_array.specs.Owner.{new_owner, owner_home};
 
 use crate::berth::Berth;
 use crate::berth_list::BerthList;
@@ -85,9 +85,10 @@ impl<S: Slot, R: Record> OwnerLists<S, R> {
 }
 
 impl<S: Slot, R: Record> Supply<S, R> for OwnerLists<S, R> {
-    type Home = ();
+    // how many slots there are, and how many buffers, free or not
+    type Home = (u32, u32);
 
-    ghost home = { λ _. tt };
+    ghost home = { λ o. owner_home o };
 
     ghost stock = { λ o. o };
 
