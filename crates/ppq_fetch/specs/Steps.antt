@@ -1,0 +1,125 @@
+-- What a turn does to its runs: records leave their fronts, or a block is loaded.
+use Rattle.std.specs.Prelude.{◌≡◌, ℕ, ◌+◌, ◌*◌, ◌<◌, ◌≤◌, List, [], ◌∷◌, ◌++◌, length, drop, map, All}
+use Rattle.std.specs.declared.cmp.Ordering.{Ordering}
+use Rattle.std.specs.List.{AllByRecursion as Each, AllZip}
+use Rattle.ppq_record.specs.Order.{Ascends}
+use Rattle.ppq_record.specs.Bag.{IsSameBag, front}
+use Rattle.ppq_record.specs.Runs.{all_of}
+use Rattle.ppq_block.specs.Block.{Block}
+use Rattle.ppq_outside.specs.Shown.{Shown, Tells}
+use Rattle.ppq_array.specs.declared.berth.DeviceBlock.{DeviceBlock}
+use Rattle.ppq_array.specs.Run.{Run, run_of, items_of, buffers_of}
+use Rattle.ppq_array.specs.External.{External, external, records_in}
+use Rattle.ppq_array.specs.Supply.{Stock, GetsSlot}
+use Rattle.ppq_array.specs.Owner.{HasBlock}
+use Rattle.ppq_array.specs.Holdings.{internal_buffers, external_buffers, RunHasBlock}
+use Rattle.ppq_split.specs.Cut.{AreWithin}
+use Rattle.ppq_merge.specs.Parts.{before}
+use Rattle.ppq_fetch.specs.Parts.{firsts, rests}
+use Rattle.ppq_fetch.specs.Fetching.{one_if_some, fronts_in, IsFitting, loaded_lists}
+
+-- Buffers went to the supply
+pub record BuffersGiven (old new : Stock) : Type 0 where
+  pub stock : new ≡ record old { sure_buffers = new.sure_buffers; buffer_room = new.buffer_room }
+  pub sure : old.sure_buffers ≤ new.sure_buffers
+
+module _ {R : Type 0} where
+  -- A run in buffers lost its first records, and its spent buffers went to the supply
+  pub record RunConsumed (place : ℕ) (old new : Run R) (before now : Stock) : Type 0 where
+    pub items : items_of new ≡ drop place (items_of old)
+    pub spent : new.spent ≡ []
+    pub blocks : (block : ℕ) → RunHasBlock block old → RunHasBlock block new
+    pub fitting : All IsFitting (buffers_of old) → All IsFitting (buffers_of new)
+    pub buffers : length (buffers_of new) + before.buffer_room ≡ length (buffers_of old) + now.buffer_room
+    pub given : BuffersGiven before now
+
+  -- several did
+  pub record RunsConsumed (places : List ℕ) (old new : List (Run R)) (before now : Stock) : Type 0 where
+    pub long : length new ≡ length old
+    pub items : map items_of new ≡ rests places (map items_of old)
+    pub spent : Each (λ (run : Run R). run.spent ≡ []) new
+    pub blocks : (block : ℕ) → Each (RunHasBlock block) old → Each (RunHasBlock block) new
+    pub fitting : Each (λ (run : Run R). All IsFitting (buffers_of run)) old → Each (λ (run : Run R). All IsFitting (buffers_of run)) new
+    pub buffers : internal_buffers new + before.buffer_room ≡ internal_buffers old + now.buffer_room
+    pub given : BuffersGiven before now
+
+module _ {S R : Type 0} where
+  -- A run in blocks lost its first loaded records, and its spent buffers are idle
+  pub record ArrayConsumed (place : ℕ) (old new : External S R) (before now : List (Block R)) : Type 0 where
+    pub rest : new ≡ external old.level new.loaded old.lifted old.stored
+    pub items : items_of new.loaded ≡ drop place (items_of old.loaded)
+    pub spent : new.loaded.spent ≡ []
+    pub buffers : length (buffers_of new.loaded) + length now ≡ length (buffers_of old.loaded) + length before
+    pub blocks : (block : ℕ) → Each (HasBlock block) before → RunHasBlock block old.loaded → Each (HasBlock block) now × RunHasBlock block new.loaded
+    pub fitting : All IsFitting (buffers_of old.loaded) → All IsFitting (buffers_of new.loaded)
+    -- where nothing is loaded any more, no buffer is
+    pub bounded : length (buffers_of new.loaded) + one_if_some (items_of old.loaded) ≤ length (buffers_of old.loaded) + one_if_some (items_of new.loaded)
+
+  -- but for what is loaded, the run is the same
+  abbrev pub SameBlocks : External S R → External S R → Type 0
+  SameBlocks old new = new ≡ external old.level new.loaded old.lifted old.stored
+
+  -- several did
+  pub record ArraysConsumed (places : List ℕ) (old new : List (External S R)) (before now : List (Block R)) : Type 0 where
+    pub rest : AllZip SameBlocks old new
+    pub items : map (λ (a : External S R). items_of a.loaded) new ≡ rests places (map (λ (a : External S R). items_of a.loaded) old)
+    pub spent : Each (λ (a : External S R). a.loaded.spent ≡ []) new
+    pub buffers : external_buffers new + length now ≡ external_buffers old + length before
+    pub blocks : (block : ℕ) → Each (HasBlock block) before → Each (λ (a : External S R). RunHasBlock block a.loaded) old → Each (HasBlock block) now × Each (λ (a : External S R). RunHasBlock block a.loaded) new
+    pub fitting : Each (λ (a : External S R). All IsFitting (buffers_of a.loaded)) old → Each (λ (a : External S R). All IsFitting (buffers_of a.loaded)) new
+    pub bounded : external_buffers new + fronts_in old ≤ external_buffers old + fronts_in new
+
+  -- The least records of those in front of the bounds were merged into out, and left their runs
+  pub record TakesSafe (cmp : R → R → Ordering) (bounds : List ℕ) (internal internal' : List (Run R)) (external external' : List (External S R)) (idle idle' : List (Block R)) (stock stock' : Stock) (out : List R) : Type 0 where
+    pub places : List ℕ
+    pub more : List ℕ
+    pub within : AreWithin (places ++ more) (firsts bounds (loaded_lists internal external))
+    pub bag : IsSameBag out (before (places ++ more) (firsts bounds (loaded_lists internal external)))
+    pub least : Each (Ascends cmp) (firsts bounds (loaded_lists internal external)) → out ≡ front cmp (all_of (firsts bounds (loaded_lists internal external))) (length out)
+    pub internal_long : length places ≡ length internal
+    pub runs : RunsConsumed places internal internal' stock stock'
+    pub arrays : ArraysConsumed more external external' idle idle'
+
+  module _ (record_of : List ℕ → R) (width : ℕ) (shown : S → Shown) where
+    -- The slot of a block was read once, and went to the supply
+    pub record SlotRead (block : DeviceBlock S R) (before now : Stock) : Type 0 where
+      pub slot : Shown
+      pub told : slot.told ≡ (shown block.slot).told
+      pub number : slot.number ≡ (shown block.slot).number
+      pub size : slot.size ≡ (shown block.slot).size
+      pub faults : (shown block.slot).faults ≤ slot.faults
+      pub writes : slot.writes ≡ (shown block.slot).writes
+      pub least_reads : (shown block.slot).reads ≤ slot.reads
+      pub reads : slot.reads ≤ (shown block.slot).reads + 1
+      pub freed : GetsSlot before slot now
+
+    -- The first stored block of a run was loaded into the first idle buffer
+    pub record BlockLoaded (old new : External S R) (idle idle' : List (Block R)) (before now : Stock) : Type 0 where
+      pub block : DeviceBlock S R
+      pub buf : Block R
+      pub filled : Block R
+      pub stored : old.stored ≡ block ∷ new.stored
+      pub taken : idle ≡ buf ∷ idle'
+      pub room : filled.block ≡ buf.block
+      pub count : length filled.items ≡ block.count
+      pub some : 1 ≤ block.count
+      pub fits : block.count * width ≤ (shown block.slot).size
+      pub array : new ≡ external old.level (run_of (old.loaded.live ++ filled ∷ []) old.loaded.taken old.loaded.spent) [] new.stored
+      pub items : items_of new.loaded ≡ items_of old.loaded ++ filled.items
+      pub same : Tells (shown block.slot) → records_in record_of width shown new ≡ records_in record_of width shown old
+      pub read : SlotRead block before now
+
+    -- The read failed: the block is lost to its run, and the buffer is idle again, behind the others
+    pub record BlockLost (number : ℕ) (old new : External S R) (idle idle' : List (Block R)) (before now : Stock) : Type 0 where
+      pub block : DeviceBlock S R
+      pub buf : Block R
+      pub back : Block R
+      pub left : List (Block R)
+      pub stored : old.stored ≡ block ∷ new.stored
+      pub taken : idle ≡ buf ∷ left
+      pub returned : idle' ≡ left ++ back ∷ []
+      pub room : back.block ≡ buf.block
+      pub array : new ≡ external old.level old.loaded (block ∷ []) new.stored
+      pub named : number ≡ (shown block.slot).number
+      pub read : SlotRead block before now
+      pub failed : 0 < read.slot.faults

@@ -1,0 +1,74 @@
+-- One turn of a refill: which block is next, and what is to be done.
+use Rattle.std.specs.Prelude.{◌≡◌, ◌≢◌, ◌⊎◌, ℕ, ◌+◌, ◌<◌, ◌≤◌, ⊤, ◌==◌, if◌then◌else◌, cond, List, [], length, Option, Some, None, slice_get}
+use Rattle.std.specs.declared.cmp.Ordering.{Ordering}
+use Rattle.std.specs.List.{AllByRecursion as Each}
+use Rattle.ppq_record.specs.Order.{Le, is_before}
+use Rattle.ppq_array.specs.Run.{items_of}
+use Rattle.ppq_array.specs.External.{External, next_of}
+use Rattle.ppq_array.specs.Holdings.{external_buffers}
+use Rattle.ppq_fetch.specs.Fetching.{fronts_in}
+use Rattle.ppq_fetch.specs.declared.edge.Edge.{Edge}
+use Rattle.ppq_fetch.specs.declared.turn.NextBlock.{NextBlock}
+use Rattle.ppq_fetch.specs.declared.turn.Step.{Step}
+use Rattle.ppq_fetch.specs.declared.turn.Step.TheVariants.{Took, Ended, Failed}
+use Rattle.ppq_fetch.specs.declared.turn.Turn.{Turn}
+use Rattle.ppq_fetch.specs.declared.turn.Turn.TheVariants.{End, Load, Take, Odd}
+
+-- this record is not after the first of the run's blocks that are not loaded, where there are any
+abbrev pub NotAfter : {R : Type 0} → (R → R → Ordering) → R → Option R → Type 0
+NotAfter cmp u None = ⊤
+NotAfter cmp u (Some m) = Le (is_before cmp) u m
+
+abbrev pub minimum_of : {R : Type 0} → Option (NextBlock R) → Option R
+minimum_of None = None
+minimum_of (Some next) = Some next.minimum
+
+-- of a block and the next block of another array the one with the lesser record
+abbrev pub lesser_block : {R : Type 0} → (R → R → Ordering) → Option (NextBlock R) → ℕ → Option R → Option (NextBlock R)
+lesser_block cmp best at None = best
+lesser_block cmp None at (Some m) = Some record { place = at; minimum = m }
+lesser_block cmp (Some one) at (Some m) = cond (is_before cmp m one.minimum) (Some record { place = at; minimum = m }) (Some one)
+
+-- what is taken where nothing can be loaded
+abbrev pub rest_turn : ℕ → Turn
+rest_turn safe = if safe == 0 then End else Take safe
+
+module _ {S R : Type 0} (cmp : R → R → Ordering) where
+  -- the block's record is the first one noted of its run's blocks, and no other run's first one is before it
+  pub record IsLeastNext (arrays : List (External S R)) (next : NextBlock R) : Type 0 where
+    pub array : External S R
+    pub here : slice_get arrays next.place ≡ Some array
+    pub minimum : next_of array.stored ≡ Some next.minimum
+    pub stored : 0 < length array.stored
+    pub least : Each (λ (a : External S R). NotAfter cmp next.minimum (next_of a.stored)) arrays
+
+  abbrev pub IsNext : List (External S R) → Option (NextBlock R) → Type 0
+  IsNext arrays None = Each (λ (a : External S R). a.stored ≡ []) arrays
+  IsNext arrays (Some next) = IsLeastNext arrays next
+
+-- The next block of a run may be loaded: it is to be the run's front, or fewer than so many blocks are loaded beyond the fronts
+abbrev pub HasBuffer : {S R : Type 0} → List (External S R) → ℕ → External S R → Type 0
+HasBuffer arrays ahead a = (items_of a.loaded ≡ []) ⊎ (external_buffers arrays < fronts_in arrays + ahead)
+
+-- what a turn does: it takes safe records, as many as are wanted or all that are; or it loads the next block; or nothing is left within reach
+abbrev pub IsTurn : {S R : Type 0} → List (External S R) → Option (NextBlock R) → Edge R → ℕ → ℕ → ℕ → Turn → Type 0
+IsTurn arrays next edge safe room ahead (Take n) = (0 < n) × (n ≤ safe) × (n ≤ room)
+IsTurn {S} {R} arrays next edge safe room ahead (Load at) = (b : NextBlock R) × (a : External S R) × (next ≡ Some b) × (b.place ≡ at) × (slice_get arrays at ≡ Some a) × HasBuffer arrays ahead a
+IsTurn {S} {R} arrays next edge safe room ahead Odd = (safe ≡ 0) × ((b : NextBlock R) × (a : External S R) × (next ≡ Some b) × (edge ≡ Edge.AtMost b.minimum) × (slice_get arrays b.place ≡ Some a) × (0 < length (items_of a.loaded)))
+IsTurn {S} {R} arrays next edge safe room ahead End = (safe ≡ 0) × ((u : R) → edge ≢ Edge.AtMost u)
+
+-- a turn gave so many records; it found no more; a read failed
+abbrev pub IfTook : Step → (ℕ → Type 0) → Type 0
+IfTook (Took n) P = P n
+IfTook Ended P = ⊤
+IfTook (Failed number) P = ⊤
+
+abbrev pub IfEnded : Step → Type 0 → Type 0
+IfEnded (Took n) P = ⊤
+IfEnded Ended P = P
+IfEnded (Failed number) P = ⊤
+
+abbrev pub IfFailed : Step → (ℕ → Type 0) → Type 0
+IfFailed (Took n) P = ⊤
+IfFailed Ended P = ⊤
+IfFailed (Failed number) P = P number

@@ -1,0 +1,153 @@
+//! Taking the least records of runs.
+ghost use Rattle.std.specs.Prelude.{◌≡◌, ◌+◌, ◌<◌, ◌≤◌, ℕ, min, length, take, Option, None, IfOk, OnOk, IsErrOf};
+ghost use Rattle.ppq_record.specs.Bag.{front};
+ghost use Rattle.ppq_fetch.specs.Taking.{wanted, NoneBelow};
+ghost use Rattle.ppq_fetch.specs.Turns.{IfTook, IfEnded, IfFailed};
+ghost use Rattle.ppq_fetch.specs.Fetching.{state, source_items, AreSources, MayFetch, Fetched, FetchFailed, SourcesTell, RunsRise, count_in, blocks_in};
+
+use crate::edge::{Edge, choose_edge};
+use crate::load::load_block;
+use crate::mark::mark_runs;
+use crate::take::take_safe;
+use crate::turn::{Step, Turn, choose, first_of, next_block};
+use ppq_array::{ExternalArray, InternalArray, StoreFault, Supply};
+use ppq_block::BufList;
+use ppq_merge::Bench;
+use ppq_outside::{Gate, Host, Slot};
+use ppq_record::{Record, record_laws};
+
+/// Takes the least records of all runs, as many as `out` has room for, or all there are; with a limit
+/// only those below it. They stand at the beginning of `out` in ascending order, and it gives how many.
+///
+/// A loaded record is safe where it is not after the first record of any block that is not loaded. While
+/// fewer safe records are at hand than are wanted, the block with the least first record is loaded into
+/// an idle buffer, where its run has nothing loaded, or where fewer than `ahead` blocks are loaded beyond
+/// one a run. Then the workers of the bench merge all that is safe at once. The slot of a block that was
+/// read goes to the supply, and so do the spent buffers of runs in buffers; those of runs in blocks are
+/// idle again.
+///
+/// `places` has a place for each run; what stands in it has no meaning before and after.
+///
+/// Each loaded block is read once, and no block is written. It takes no memory. A merge costs what
+/// `merge_workers` says; a turn besides a look at each run, and a binary search in its loaded records.
+///
+/// `Device` only if the read of the slot with that number failed; the supply keeps that slot. Nothing
+/// else is answered. The records of that block and those that were taken before are lost then, but no
+/// slot and no buffer. Over slots that give back other bytes it returns too, with some of the records.
+pub fn take_least<H: Host, S: Slot + Sync, R: Record + Send + Sync, P: Supply<S, R>, G: Gate>(
+    rt: &H,
+    internal: &mut [InternalArray<R>],
+    external: &mut [ExternalArray<S, R>],
+    idle: &mut BufList<R>,
+    places: &mut [u64],
+    bench: &mut Bench<R>,
+    supply: &mut P,
+    below: Option<R>,
+    ahead: u32,
+    out: &mut [R],
+    gate: &G,
+) -> Result<usize, StoreFault>
+    requires may { MayFetch S.shown R.WIDTH ahead (state internal.old external.old idle.old (P.stock supply.old)) }
+    requires places { length places.old ≡ length internal.old + length external.old }
+    requires bench { length places.old ≤ length bench.old.places }
+    ensures count { IfOk result (λ n. n ≤ length out.new) }
+    ensures fetched { IfOk result (λ n. Fetched R.Ord.cmp R.record_of R.WIDTH S.shown below (state internal.old external.old idle.old (P.stock supply.old)) (state internal.new external.new idle.new (P.stock supply.new)) (take n out.new)) }
+    ensures front { IfOk result (λ n. SourcesTell S.shown (state internal.old external.old idle.old (P.stock supply.old)) → RunsRise R.record_of R.WIDTH S.shown R.Ord.cmp (state internal.old external.old idle.old (P.stock supply.old)) → take n out.new ≡ front R.Ord.cmp (source_items R.record_of R.WIDTH S.shown (state internal.old external.old idle.old (P.stock supply.old))) (wanted R.Ord.cmp (length out.old) below (source_items R.record_of R.WIDTH S.shown (state internal.old external.old idle.old (P.stock supply.old))))) }
+    ensures all { IfOk result (λ n. below ≡ None → n ≡ min (length out.old) (count_in internal.old external.old)) }
+    ensures may { OnOk result (MayFetch S.shown R.WIDTH ahead (state internal.new external.new idle.new (P.stock supply.new))) }
+    ensures sources { AreSources S.shown R.WIDTH ahead (state internal.new external.new idle.new (P.stock supply.new)) }
+    ensures device_alone { IsErrOf result StoreFault.NoFreeBlock → ⊥ }
+    ensures device { (number : ℕ) → IsErrOf result (StoreFault.Device number) → FetchFailed S.shown number (state internal.old external.old idle.old (P.stock supply.old)) (state internal.new external.new idle.new (P.stock supply.new)) }
+    ensures home { P.home supply.new ≡ P.home supply.old }
+    ensures out { length out.new ≡ length out.old }
+    ensures places { length places.new ≡ length places.old }
+    ensures bench { length bench.new.places ≡ length bench.old.places }
+    ensures workers { bench.new.workers ≡ bench.old.workers }
+{
+    record_laws::<R>();
+    straighten(internal);
+    let mut to = 0;
+    while to < out.len() {
+        let rest = &mut out[to..];
+        let step = take_turn(
+            rt, internal, external, idle, places, bench, supply, below, ahead, rest, gate,
+        );
+        match step {
+            Step::Took(count) => to += count,
+            Step::Ended => return Ok(to),
+            Step::Failed(number) => return Err(StoreFault::Device { number }),
+        }
+    }
+    Ok(to)
+}
+
+/// Makes ready to read each run from its first buffer on.
+fn straighten<R: Record>(internal: &mut [InternalArray<R>])
+    ensures { internal.new ≡ internal.old }
+{
+    for i in 0..internal.len() {
+        internal[i].straighten();
+    }
+}
+
+/// One turn: it loads a block, or takes safe records into the beginning of `out`.
+fn take_turn<H: Host, S: Slot + Sync, R: Record + Send + Sync, P: Supply<S, R>, G: Gate>(
+    rt: &H,
+    internal: &mut [InternalArray<R>],
+    external: &mut [ExternalArray<S, R>],
+    idle: &mut BufList<R>,
+    places: &mut [u64],
+    bench: &mut Bench<R>,
+    supply: &mut P,
+    below: Option<R>,
+    ahead: u32,
+    out: &mut [R],
+    gate: &G,
+) -> Step
+    requires may { MayFetch S.shown R.WIDTH ahead (state internal.old external.old idle.old (P.stock supply.old)) }
+    requires places { length places.old ≡ length internal.old + length external.old }
+    requires bench { length places.old ≤ length bench.old.places }
+    requires room { 0 < length out.old }
+    ensures within { IfTook result (λ n. n ≤ length out.old) }
+    ensures fetched { IfTook result (λ n. Fetched R.Ord.cmp R.record_of R.WIDTH S.shown below (state internal.old external.old idle.old (P.stock supply.old)) (state internal.new external.new idle.new (P.stock supply.new)) (take n out.new)) }
+    ensures may { IfTook result (λ n. MayFetch S.shown R.WIDTH ahead (state internal.new external.new idle.new (P.stock supply.new))) }
+    ensures less { IfTook result (λ n. blocks_in external.new + length out.old < blocks_in external.old + length out.old + n) }
+    ensures same { IfEnded result (state internal.new external.new idle.new (P.stock supply.new) ≡ state internal.old external.old idle.old (P.stock supply.old)) }
+    ensures none { IfEnded result (SourcesTell S.shown (state internal.old external.old idle.old (P.stock supply.old)) → RunsRise R.record_of R.WIDTH S.shown R.Ord.cmp (state internal.old external.old idle.old (P.stock supply.old)) → NoneBelow R.Ord.cmp below (source_items R.record_of R.WIDTH S.shown (state internal.old external.old idle.old (P.stock supply.old)))) }
+    ensures all { IfEnded result (below ≡ None → count_in internal.old external.old ≡ 0) }
+    ensures failed { IfFailed result (λ number. FetchFailed S.shown number (state internal.old external.old idle.old (P.stock supply.old)) (state internal.new external.new idle.new (P.stock supply.new))) }
+    ensures sources { IfFailed result (λ number. AreSources S.shown R.WIDTH ahead (state internal.new external.new idle.new (P.stock supply.new))) }
+    ensures home { P.home supply.new ≡ P.home supply.old }
+    ensures out { length out.new ≡ length out.old }
+    ensures places { length places.new ≡ length places.old }
+    ensures bench { length bench.new.places ≡ length bench.old.places }
+    ensures workers { bench.new.workers ≡ bench.old.workers }
+{
+    record_laws::<R>();
+    let next = next_block(&*external);
+    let edge = choose_edge(first_of(next), below);
+    let safe = mark_runs(&*internal, &*external, &edge, places);
+    let turn = choose(&*external, next, edge, safe, out.len() as u64, ahead);
+    match turn {
+        Turn::End => Step::Ended,
+        Turn::Load(place) => match load_block(rt, &mut external[place], idle, supply) {
+            None => Step::Took(0),
+            Some(number) => Step::Failed(number),
+        },
+        Turn::Take(count) => {
+            let part = &mut out[..count as usize];
+            take_safe(
+                rt, internal, external, idle, places, bench, supply, part, gate,
+            );
+            Step::Took(count as usize)
+        }
+        Turn::Odd => {
+            mark_runs(&*internal, &*external, &Edge::Whole, places);
+            let part = &mut out[..1];
+            take_safe(
+                rt, internal, external, idle, places, bench, supply, part, gate,
+            );
+            Step::Took(1)
+        }
+    }
+}

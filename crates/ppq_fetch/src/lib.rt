@@ -1,0 +1,16 @@
+//! Taking the least records of stored runs.
+//!
+//! [`take_least`] merges the least records of runs in buffers and runs in blocks into a slice. It loads the
+//! blocks that it needs, and its workers merge all that is safe at once. A refill of the extract buffer
+//! and a merge of runs in blocks are made of it.
+#![tactic(auto)]
+
+mod edge;
+mod fetch;
+mod load;
+mod loaded;
+mod mark;
+mod take;
+mod turn;
+
+pub use fetch::take_least;

@@ -1,0 +1,63 @@
+//! Loading the next block of a run.
+ghost use Rattle.std.specs.Prelude.{◌≡◌, ◌*◌, ◌-◌, ◌<◌, ◌^◌, [], length, IfSome, IfNone, All};
+ghost use Rattle.ppq_array.specs.Run.{buffers_of};
+ghost use Rattle.ppq_array.specs.Owner.{HasBlock, HasSize};
+ghost use Rattle.ppq_fetch.specs.Steps.{BlockLoaded, BlockLost};
+
+use ppq_array::{ExternalArray, Supply, free_slot};
+use ppq_block::BufList;
+use ppq_lane::{Job, JobKind, run_job};
+use ppq_outside::{Host, Slot};
+use ppq_record::{Record, record_laws};
+
+/// Loads the next block of a run into an idle buffer; its slot goes to the supply. Where the read fails,
+/// it gives the slot's number.
+pub(crate) fn load_block<H: Host, S: Slot, R: Record, P: Supply<S, R>>(
+    rt: &H,
+    array: &mut ExternalArray<S, R>,
+    idle: &mut BufList<R>,
+    supply: &mut P,
+) -> Option<u32>
+    requires stored { 0 < length array.old.stored }
+    requires none_lifted { array.old.lifted ≡ [] }
+    requires idle { 0 < length idle.old }
+    requires blocks { All (HasBlock (P.stock supply.old).block) idle.old }
+    requires sizes { All (HasSize S.shown ((P.stock supply.old).block * R.WIDTH)) array.old.stored }
+    requires room { 0 < (P.stock supply.old).slot_room }
+    requires few { length (buffers_of array.old.loaded) < 2 ^ 32 - 1 }
+    requires few_idle { length idle.old < 2 ^ 32 - 1 }
+    ensures loaded { IfNone result (BlockLoaded R.record_of R.WIDTH S.shown array.old array.new idle.old idle.new (P.stock supply.old) (P.stock supply.new)) }
+    ensures lost { IfSome result (λ number. BlockLost R.record_of R.WIDTH S.shown number array.old array.new idle.old idle.new (P.stock supply.old) (P.stock supply.new)) }
+    ensures home { P.home supply.new ≡ P.home supply.old }
+{
+    record_laws::<R>();
+    let (slot, count) = array.lift();
+    let buf = idle.pop_front().unwrap();
+    let kind = JobKind::Read { count };
+    let mut job = Job {
+        slot,
+        buf,
+        kind,
+        done: None,
+    };
+    run_job(rt, &mut job);
+    let Job {
+        slot,
+        buf,
+        kind: _,
+        done,
+    } = job;
+    let number = slot.number();
+    free_slot(supply, slot);
+    let Some(answer) = done else { unreachable!() };
+    match answer {
+        Ok(()) => {
+            array.accept_block(buf);
+            None
+        }
+        Err(_) => {
+            idle.push_back(buf);
+            Some(number)
+        }
+    }
+}

@@ -1,0 +1,86 @@
+//! How many records of each run are safe.
+ghost use Rattle.std.specs.Prelude.{◌≡◌, ◌+◌, ◌<◌, ◌≤◌, ◌^◌, length, map, count_by};
+ghost use Rattle.std.specs.List.{AllByRecursion as Each};
+ghost use Rattle.ppq_record.specs.Order.{Ascends};
+ghost use Rattle.ppq_record.specs.Runs.{all_of};
+ghost use Rattle.ppq_split.specs.Cut.{AreWithin, total};
+ghost use Rattle.ppq_fetch.specs.Edges.{is_within};
+ghost use Rattle.ppq_fetch.specs.Parts.{passed};
+ghost use Rattle.ppq_fetch.specs.Fetching.{loaded_lists, count_in};
+
+use crate::edge::Edge;
+use crate::loaded::Loaded;
+use ppq_array::{ExternalArray, InternalArray};
+use ppq_outside::Slot;
+use ppq_record::{Record, record_laws};
+
+/// Whether a record is on this side of the edge.
+fn is_inside<R: Record>(x: R, edge: &Edge<R>) -> bool
+    ensures { result ≡ is_within R.Ord.cmp edge.now x }
+{
+    match edge {
+        Edge::Whole => true,
+        Edge::AtMost(u) => !u.cmp(&x).is_lt(),
+        Edge::Below(l) => x.cmp(l).is_lt(),
+    }
+}
+
+/// How many records of a run are on this side of the edge, where the run ascends; else some number of
+/// them. It looks at about the binary logarithm of them.
+fn count_inside<R: Record, Q: Loaded<R>>(run: &Q, edge: &Edge<R>) -> u64
+    ensures within { result ≤ length (Q.list run.now) }
+    ensures count { Ascends R.Ord.cmp (Q.list run.now) → result ≡ count_by (is_within R.Ord.cmp edge.now) (Q.list run.now) }
+    ensures whole { edge.now ≡ Edge.Whole → result ≡ length (Q.list run.now) }
+{
+    record_laws::<R>();
+    let mut low = 0;
+    let mut high = run.loaded_len();
+    while low < high {
+        let middle = low + (high - low) / 2;
+        if is_inside(run.get(middle), edge) {
+            low = middle + 1;
+        } else {
+            high = middle;
+        }
+    }
+    low
+}
+
+/// Notes how many records of each of some runs are on this side of the edge, and gives the sum.
+fn mark_all<R: Record, Q: Loaded<R>>(runs: &[Q], edge: &Edge<R>, places: &mut [u64]) -> u64
+    requires places { length places.old ≡ length runs.now }
+    requires few { length (all_of (map Q.list runs.now)) < 2 ^ 64 }
+    ensures length { length places.new ≡ length places.old }
+    ensures within { AreWithin places.new (map Q.list runs.now) }
+    ensures total { result ≡ total places.new }
+    ensures safe { Each (Ascends R.Ord.cmp) (map Q.list runs.now) → places.new ≡ passed (is_within R.Ord.cmp edge.now) (map Q.list runs.now) }
+    ensures whole { edge.now ≡ Edge.Whole → result ≡ length (all_of (map Q.list runs.now)) }
+{
+    let mut sum = 0;
+    for i in 0..runs.len() {
+        let count = count_inside(&runs[i], edge);
+        places[i] = count;
+        sum += count;
+    }
+    sum
+}
+
+/// Notes how many loaded records of each run are on this side of the edge, and gives the sum.
+pub(crate) fn mark_runs<S: Slot, R: Record>(
+    internal: &[InternalArray<R>],
+    external: &[ExternalArray<S, R>],
+    edge: &Edge<R>,
+    places: &mut [u64],
+) -> u64
+    requires places { length places.old ≡ length internal.now + length external.now }
+    requires few { count_in internal.now external.now < 2 ^ 64 }
+    ensures length { length places.new ≡ length places.old }
+    ensures within { AreWithin places.new (loaded_lists internal.now external.now) }
+    ensures total { result ≡ total places.new }
+    ensures safe { Each (Ascends R.Ord.cmp) (loaded_lists internal.now external.now) → places.new ≡ passed (is_within R.Ord.cmp edge.now) (loaded_lists internal.now external.now) }
+    ensures whole { edge.now ≡ Edge.Whole → result ≡ length (all_of (loaded_lists internal.now external.now)) }
+{
+    let (first, second) = places.split_at_mut(internal.len());
+    let inside = mark_all(internal, edge, first);
+    inside + mark_all(external, edge, second)
+}

@@ -1,0 +1,206 @@
+//! Taking safe records.
+ghost use Rattle.std.specs.Prelude.{◌≡◌, ◌+◌, ◌-◌, ◌<◌, ◌≤◌, ◌^◌, [], ◌++◌, length, map, take, All};
+ghost use Rattle.std.specs.List.{AllByRecursion as Each};
+ghost use Rattle.ppq_record.specs.Order.{Ascends};
+ghost use Rattle.ppq_record.specs.Bag.{IsSameBag, front};
+ghost use Rattle.ppq_record.specs.Runs.{all_of};
+ghost use Rattle.ppq_array.specs.Run.{run_of, items_of, buffers_of};
+ghost use Rattle.ppq_array.specs.External.{external};
+ghost use Rattle.ppq_array.specs.Owner.{HasBlock};
+ghost use Rattle.ppq_array.specs.Holdings.{internal_buffers, external_buffers, RunHasBlock};
+ghost use Rattle.ppq_split.specs.Cut.{AreWithin, total};
+ghost use Rattle.ppq_merge.specs.Parts.{before, places_for};
+ghost use Rattle.ppq_fetch.specs.Parts.{firsts};
+ghost use Rattle.ppq_fetch.specs.Steps.{BuffersGiven, RunConsumed, RunsConsumed, ArrayConsumed, ArraysConsumed, TakesSafe};
+ghost use Rattle.ppq_fetch.specs.Fetching.{loaded_lists, count_in};
+
+use crate::loaded::{Loaded, SafeParts};
+use ppq_array::{ExternalArray, InternalArray, Supply, give_buffer};
+use ppq_block::BufList;
+use ppq_merge::{Bench, merge_workers};
+use ppq_outside::{Gate, Host, Slot};
+use ppq_record::{Listing, Record};
+use std::thread::Threads;
+
+/// Merges the least of the safe records into `out`, and takes them out of their runs. The places say
+/// which are safe, and become those up to which records were taken.
+pub(crate) fn take_safe<H: Host, S: Slot + Sync, R: Record + Send + Sync, P: Supply<S, R>, G: Gate>(
+    rt: &H,
+    internal: &mut [InternalArray<R>],
+    external: &mut [ExternalArray<S, R>],
+    idle: &mut BufList<R>,
+    places: &mut [u64],
+    bench: &mut Bench<R>,
+    supply: &mut P,
+    out: &mut [R],
+    gate: &G,
+)
+    requires few_runs { length internal.old + length external.old < 2 ^ 32 }
+    requires few_records { count_in internal.old external.old < 2 ^ 64 }
+    requires within { AreWithin places.old (loaded_lists internal.old external.old) }
+    requires count { length out.old ≤ total places.old }
+    requires bench { length internal.old + length external.old ≤ length bench.old.places }
+    requires room { internal_buffers internal.old ≤ (P.stock supply.old).buffer_room }
+    requires blocks { All (RunHasBlock (P.stock supply.old).block) internal.old }
+    requires few_buffers { external_buffers external.old + length idle.old < 2 ^ 32 - 1 }
+    ensures taken { TakesSafe R.Ord.cmp places.old internal.old internal.new external.old external.new idle.old idle.new (P.stock supply.old) (P.stock supply.new) out.new }
+    ensures length { length out.new ≡ length out.old }
+    ensures places { length places.new ≡ length places.old }
+    ensures bench { length bench.new.places ≡ length bench.old.places }
+    ensures workers { bench.new.workers ≡ bench.old.workers }
+    ensures home { P.home supply.new ≡ P.home supply.old }
+{
+    merge_parts(rt, &*internal, &*external, places, bench, out, gate);
+    let (first, second) = places.split_at(internal.len());
+    consume_internal(internal, first, supply);
+    consume_external(external, second, idle);
+}
+
+/// Merges the least of the safe records; `places` say which are safe, and become the places up to which
+/// they were taken.
+pub(crate) fn merge_parts<H: Threads + Sync, S: Slot + Sync, R: Record + Send + Sync, G: Gate>(
+    rt: &H,
+    internal: &[InternalArray<R>],
+    external: &[ExternalArray<S, R>],
+    places: &mut [u64],
+    bench: &mut Bench<R>,
+    out: &mut [R],
+    gate: &G,
+)
+    requires few_runs { length internal.now + length external.now < 2 ^ 32 }
+    requires few_records { count_in internal.now external.now < 2 ^ 64 }
+    requires within { AreWithin places.old (loaded_lists internal.now external.now) }
+    requires count { length out.old ≤ total places.old }
+    requires bench { length internal.now + length external.now ≤ length bench.old.places }
+    ensures length { length out.new ≡ length out.old }
+    ensures places { length places.new ≡ length places.old }
+    ensures bench { length bench.new.places ≡ length bench.old.places }
+    ensures workers { bench.new.workers ≡ bench.old.workers }
+    ensures within { AreWithin places.new (firsts places.old (loaded_lists internal.now external.now)) }
+    ensures bag { IsSameBag out.new (before places.new (firsts places.old (loaded_lists internal.now external.now))) }
+    ensures front { Each (Ascends R.Ord.cmp) (firsts places.old (loaded_lists internal.now external.now)) → out.new ≡ front R.Ord.cmp (all_of (firsts places.old (loaded_lists internal.now external.now))) (length out.old) }
+{
+    let parts = SafeParts::new(internal, external, places);
+    merge_shown(rt, &parts, bench, out, gate);
+    copy_cuts(bench, places);
+}
+
+/// Merges the least of the records that are shown.
+fn merge_shown<
+    'a,
+    H: Threads + Sync,
+    R: Record + Send + Sync,
+    I: Loaded<R> + Sync,
+    E: Loaded<R> + Sync,
+    G: Gate,
+>(rt: &H, parts: &SafeParts<'a, R, I, E>, bench: &mut Bench<R>, out: &mut [R], gate: &G)
+    requires count { length out.old ≤ length (all_of (⟦<SafeParts<'a, R, I, E> as Listing<R>>⟧.lists parts.now)) }
+    requires room { length (all_of (⟦<SafeParts<'a, R, I, E> as Listing<R>>⟧.lists parts.now)) < 2 ^ 64 }
+    requires bench { length (⟦<SafeParts<'a, R, I, E> as Listing<R>>⟧.lists parts.now) ≤ length bench.old.places }
+    ensures length { length out.new ≡ length out.old }
+    ensures workers { bench.new.workers ≡ bench.old.workers }
+    ensures bench { length bench.new.places ≡ length bench.old.places }
+    ensures within { AreWithin (places_for (⟦<SafeParts<'a, R, I, E> as Listing<R>>⟧.lists parts.now) bench.new.places) (⟦<SafeParts<'a, R, I, E> as Listing<R>>⟧.lists parts.now) }
+    ensures bag { IsSameBag out.new (before (places_for (⟦<SafeParts<'a, R, I, E> as Listing<R>>⟧.lists parts.now) bench.new.places) (⟦<SafeParts<'a, R, I, E> as Listing<R>>⟧.lists parts.now)) }
+    ensures front { Each (Ascends R.Ord.cmp) (⟦<SafeParts<'a, R, I, E> as Listing<R>>⟧.lists parts.now) → out.new ≡ front R.Ord.cmp (all_of (⟦<SafeParts<'a, R, I, E> as Listing<R>>⟧.lists parts.now)) (length out.old) }
+{
+    merge_workers(rt, bench, parts, out.len() as u64, out, gate);
+}
+
+/// Copies the places up to which the last merge took the runs' records.
+fn copy_cuts<R: Record>(bench: &Bench<R>, places: &mut [u64])
+    requires long { length places.old ≤ length bench.now.places }
+    requires few { length places.old < 2 ^ 32 }
+    ensures { places.new ≡ take (length places.old) bench.now.places }
+{
+    for run in 0..places.len() {
+        places[run] = bench.cut(run as u32);
+    }
+}
+
+/// Takes the first records of each run away, up to its place; the buffers that are spent go to the supply.
+fn consume_internal<S: Slot, R: Record, P: Supply<S, R>>(
+    internal: &mut [InternalArray<R>],
+    places: &[u64],
+    supply: &mut P,
+)
+    requires within { AreWithin places.now (map items_of internal.old) }
+    requires room { internal_buffers internal.old ≤ (P.stock supply.old).buffer_room }
+    requires blocks { All (RunHasBlock (P.stock supply.old).block) internal.old }
+    ensures consumed { RunsConsumed places.now internal.old internal.new (P.stock supply.old) (P.stock supply.new) }
+    ensures home { P.home supply.new ≡ P.home supply.old }
+{
+    for i in 0..internal.len() {
+        consume_run(&mut internal[i], places[i], supply);
+    }
+}
+
+/// Takes the first records of a run away; its buffers that are spent go to the supply.
+fn consume_run<S: Slot, R: Record, P: Supply<S, R>>(
+    run: &mut InternalArray<R>,
+    place: u64,
+    supply: &mut P,
+)
+    requires within { place ≤ length (items_of run.old) }
+    requires room { length (buffers_of run.old) ≤ (P.stock supply.old).buffer_room }
+    requires blocks { RunHasBlock (P.stock supply.old).block run.old }
+    ensures consumed { RunConsumed place run.old run.new (P.stock supply.old) (P.stock supply.new) }
+    ensures home { P.home supply.new ≡ P.home supply.old }
+{
+    run.consume(place);
+    give_spent(run, supply);
+}
+
+/// Gives the spent buffers of a run back.
+fn give_spent<S: Slot, R: Record, P: Supply<S, R>>(run: &mut InternalArray<R>, supply: &mut P)
+    requires room { length run.old.spent ≤ (P.stock supply.old).buffer_room }
+    requires blocks { All (HasBlock (P.stock supply.old).block) run.old.spent }
+    ensures run { run.new ≡ run_of run.old.live run.old.taken [] }
+    ensures room { (P.stock supply.new).buffer_room + length run.old.spent ≡ (P.stock supply.old).buffer_room }
+    ensures given { BuffersGiven (P.stock supply.old) (P.stock supply.new) }
+    ensures home { P.home supply.new ≡ P.home supply.old }
+{
+    while let Some(buf) = run.take_spent() {
+        give_buffer(supply, buf);
+    }
+}
+
+/// Takes the first loaded records of each run away, up to its place; the buffers that are spent are idle.
+fn consume_external<S: Slot, R: Record>(
+    external: &mut [ExternalArray<S, R>],
+    places: &[u64],
+    idle: &mut BufList<R>,
+)
+    requires within { AreWithin places.now (map (λ a. items_of a.loaded) external.old) }
+    requires few { external_buffers external.old + length idle.old < 2 ^ 32 - 1 }
+    ensures consumed { ArraysConsumed places.now external.old external.new idle.old idle.new }
+{
+    for i in 0..external.len() {
+        consume_array(&mut external[i], places[i], idle);
+    }
+}
+
+/// Takes the first loaded records of a run away; its buffers that are spent are idle.
+fn consume_array<S: Slot, R: Record>(
+    array: &mut ExternalArray<S, R>,
+    place: u64,
+    idle: &mut BufList<R>,
+)
+    requires within { place ≤ length (items_of array.old.loaded) }
+    requires few { length (buffers_of array.old.loaded) + length idle.old < 2 ^ 32 - 1 }
+    ensures { ArrayConsumed place array.old array.new idle.old idle.new }
+{
+    array.consume(place);
+    keep_spent(array, idle);
+}
+
+/// The spent buffers of a run become idle.
+fn keep_spent<S: Slot, R: Record>(array: &mut ExternalArray<S, R>, idle: &mut BufList<R>)
+    requires few { length array.old.loaded.spent + length idle.old < 2 ^ 32 - 1 }
+    ensures array { array.new ≡ external array.old.level (run_of array.old.loaded.live array.old.loaded.taken []) array.old.lifted array.old.stored }
+    ensures idle { idle.new ≡ idle.old ++ array.old.loaded.spent }
+{
+    while let Some(buf) = array.take_spent() {
+        idle.push_back(buf);
+    }
+}

@@ -1,0 +1,172 @@
+//! What is done next.
+ghost use Rattle.std.specs.Prelude.{◌≡◌, ◌+◌, ◌<◌, ◌≤◌, ◌^◌, ◌↔◌, length, Some, All, IsTrue};
+ghost use Rattle.std.specs.List.{AllByRecursion as Each};
+ghost use Rattle.ppq_array.specs.External.{IsNoted};
+ghost use Rattle.ppq_array.specs.Holdings.{external_buffers};
+ghost use Rattle.ppq_fetch.specs.Fetching.{fronts_in};
+ghost use Rattle.ppq_fetch.specs.Edges.{edge_of};
+ghost use Rattle.ppq_fetch.specs.Turns.{IsNext, IsTurn, minimum_of, lesser_block, rest_turn};
+
+use crate::edge::Edge;
+use ppq_array::ExternalArray;
+use ppq_outside::Slot;
+use ppq_record::{Record, record_laws};
+
+/// The first block of a run that is not loaded.
+#[derive(Clone, Copy)]
+pub struct NextBlock<R> {
+    /// Which run it is of.
+    pub place: usize,
+    /// Its first record.
+    pub minimum: R,
+}
+
+/// What a turn does.
+#[derive(Clone, Copy)]
+pub enum Turn {
+    /// Nothing more: no record is within reach.
+    End,
+    /// It loads the next block of this run.
+    Load(usize),
+    /// It takes so many safe records.
+    Take(u64),
+    /// It takes any record; over slots that tell it never comes.
+    Odd,
+}
+
+/// How a turn ended.
+#[derive(Clone, Copy)]
+pub enum Step {
+    /// It gave so many records; none where it loaded a block.
+    Took(usize),
+    /// No record is within reach any more.
+    Ended,
+    /// The read of the slot with this number failed.
+    Failed(u32),
+}
+
+/// Of the blocks that are next in their runs, one with the least first record.
+pub(crate) fn next_block<S: Slot, R: Record>(
+    external: &[ExternalArray<S, R>],
+) -> Option<NextBlock<R>>
+    ensures next { IsNext R.Ord.cmp external.now result }
+    ensures noted { Each (λ a. All (IsNoted R.record_of R.WIDTH S.shown) a.stored) external.now }
+{
+    record_laws::<R>();
+    let mut best = None;
+    for i in 0..external.len() {
+        best = nearer_block(best, i, external[i].next_to_lift());
+    }
+    best
+}
+
+/// The one of two that has the lesser record.
+fn nearer_block<R: Record>(
+    best: Option<NextBlock<R>>,
+    place: usize,
+    minimum: Option<R>,
+) -> Option<NextBlock<R>>
+    ensures { result ≡ lesser_block R.Ord.cmp best place minimum }
+{
+    match (best, minimum) {
+        (_, None) => best,
+        (None, Some(minimum)) => Some(NextBlock { place, minimum }),
+        (Some(one), Some(minimum)) => {
+            if minimum.cmp(&one.minimum).is_lt() {
+                Some(NextBlock { place, minimum })
+            } else {
+                best
+            }
+        }
+    }
+}
+
+/// The first record of a block.
+pub(crate) fn first_of<R: Record>(next: Option<NextBlock<R>>) -> Option<R>
+    ensures { result ≡ minimum_of next }
+{
+    match next {
+        None => None,
+        Some(block) => Some(block.minimum),
+    }
+}
+
+/// Whether fewer than so many blocks are loaded beyond one a run that has something loaded.
+fn has_room_ahead<S: Slot, R: Record>(external: &[ExternalArray<S, R>], ahead: u32) -> bool
+    requires few { length external.now < 2 ^ 32 }
+    requires few_buffers { external_buffers external.now < 2 ^ 32 }
+    ensures { IsTrue result ↔ (external_buffers external.now < fronts_in external.now + ahead) }
+{
+    let mut buffers: u64 = 0;
+    let mut fronts: u64 = 0;
+    for array in external {
+        buffers += u64::from(array.buffers());
+        fronts += u64::from(array.loaded() > 0);
+    }
+    buffers < fronts + u64::from(ahead)
+}
+
+/// What is to be done: as long as fewer safe records are loaded than are wanted, the next block is loaded,
+/// where there is a buffer for it.
+pub(crate) fn choose<S: Slot, R: Record>(
+    external: &[ExternalArray<S, R>],
+    next: Option<NextBlock<R>>,
+    edge: Edge<R>,
+    safe: u64,
+    room: u64,
+    ahead: u32,
+) -> Turn
+    requires next { IsNext R.Ord.cmp external.now next }
+    requires edge { (u : _) → edge ≡ Edge.AtMost u → minimum_of next ≡ Some u }
+    requires room { 0 < room }
+    requires few { length external.now < 2 ^ 32 }
+    requires few_buffers { external_buffers external.now < 2 ^ 32 }
+    ensures { IsTurn external.now next edge safe room ahead result }
+{
+    if safe >= room {
+        return Turn::Take(room);
+    }
+    match edge {
+        Edge::AtMost(_) => choose_load(external, next, edge, safe, room, ahead),
+        _ => choose_rest(safe),
+    }
+}
+
+/// What is to be done where nothing can be loaded.
+fn choose_rest(safe: u64) -> Turn
+    ensures { result ≡ rest_turn safe }
+{
+    if safe == 0 {
+        Turn::End
+    } else {
+        Turn::Take(safe)
+    }
+}
+
+/// Whether the next block is loaded.
+fn choose_load<S: Slot, R: Record>(
+    external: &[ExternalArray<S, R>],
+    next: Option<NextBlock<R>>,
+    edge: Edge<R>,
+    safe: u64,
+    room: u64,
+    ahead: u32,
+) -> Turn
+    requires next { IsNext R.Ord.cmp external.now next }
+    requires edge { (u : _) → edge ≡ Edge.AtMost u → minimum_of next ≡ Some u }
+    requires near { (u : _) × (edge ≡ Edge.AtMost u) }
+    requires few_safe { safe < room }
+    requires few { length external.now < 2 ^ 32 }
+    requires few_buffers { external_buffers external.now < 2 ^ 32 }
+    ensures { IsTurn external.now next edge safe room ahead result }
+{
+    let Some(block) = next else { unreachable!() };
+    let loaded = external[block.place].loaded();
+    if loaded == 0 || has_room_ahead(external, ahead) {
+        return Turn::Load(block.place);
+    }
+    if safe == 0 {
+        return Turn::Odd;
+    }
+    Turn::Take(safe)
+}
