@@ -20,36 +20,7 @@ use Rattle.ppq_spill.specs.Moves.{SameSums, DrewSlots, FoundScant}
 use Rattle.ppq_spill.specs.Storing.{RunsAscend, BlocksStored, IsStored, SameScant, TooFew}
 use Rattle.ppq_spill.specs.Writing.{Writing, left_in}
 use Rattle.ppq_spill.proofs.Keeping.{slots_long}
-
-abbrev untold_of : Option (List ℕ) → ℕ
-untold_of None = 1
-untold_of (Some bytes) = 0
-
-abbrev untold : Shown → ℕ
-untold s = untold_of s.told
-
-told_none : (told : Option (List ℕ)) → IsSome told → untold_of told ≡ 0
-told_none None t = absurd (cc)
-told_none (Some bytes) t = refl
-
-none_told : (told : Option (List ℕ)) → untold_of told ≡ 0 → IsSome told
-none_told None e = absurd (omega (arith, e))
-none_told (Some bytes) e = refl
-
-tell_sum : (xs : List Shown) → AllTell xs → sum_by untold xs ≡ 0
-tell_sum [] t = refl
-tell_sum (x ∷ xs) t = let e : sum_by untold (x ∷ xs) ≡ 0 = omega (arith, sum_by-cons untold x xs, told_none x.told (All-head Tells x xs t), tell_sum xs (All-tail Tells x xs t)) in e
-
-sum_tell : (xs : List Shown) → sum_by untold xs ≡ 0 → AllTell xs
-sum_tell [] e = All-nil Tells
-sum_tell (x ∷ xs) e =
-    let here : untold_of x.told ≡ 0 = omega (arith, e, sum_by-cons untold x xs) in
-    let rest : sum_by untold xs ≡ 0 = omega (arith, e, sum_by-cons untold x xs) in
-    All-cons Tells x xs (none_told x.told here) (sum_tell xs rest)
-
--- slots that were only moved tell as before
-tell_moved : (xs ys : List Shown) → SameSums xs ys → AllTell xs → AllTell ys
-tell_moved xs ys same t = sum_tell ys (sym (same untold) ∙ tell_sum xs t)
+use Rattle.ppq_spill.proofs.Telling.{untold, tell_sum, sum_tell, tell_moved}
 
 nothing : {X : Type 0} (xs : List X) → length xs ≡ 0 → xs ≡ []
 nothing [] e = refl

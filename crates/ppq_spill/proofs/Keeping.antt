@@ -25,7 +25,7 @@ too_few k need n block h least =
     one_more : (k b : ℕ) → (k + 1) * b ≡ k * b + b
     one_more k b = let e : k + 1 ≡ suc k = omega arith in ap (λ n. n * b) e ∙ suc-mul k b
 
-sum_ones : (xs : List Shown) → sum_by (λ _. 1) xs ≡ length xs
+pub sum_ones : (xs : List Shown) → sum_by (λ _. 1) xs ≡ length xs
 sum_ones [] = refl
 sum_ones (x ∷ xs) = let e : sum_by (λ _. 1) (x ∷ xs) ≡ suc (length xs) = omega (arith, sum_by-cons (λ (_ : Shown). 1) x xs, sum_ones xs) in e
 

@@ -22,6 +22,8 @@ use Rattle.ppq_array.specs.Kept.{SameSlots, MoreWrites}
 use Rattle.ppq_array.proofs.Noted.{all_left, all_right, take_whole}
 use Rattle.ppq_spill.specs.Writing.{Grew, Merged, BlockStored, BlockFailed, WriteFailed, Writing, left_in, NoneAfter}
 use Rattle.ppq_spill.proofs.SameSlots.{SameSlots-trans, SameSlots-grown, SameSlots-refl}
+use Rattle.ppq_spill.specs.Went.{Went}
+use Rattle.ppq_spill.proofs.Going.{Went-refl, Went-more}
 use Rattle.ppq_spill.proofs.Transfers.{one_call_more, no_call}
 use Rattle.ppq_spill.proofs.Keeping.{slots_long}
 
@@ -55,6 +57,7 @@ module _ {S R : Type 0} (cmp : R → R → Ordering) (record_of : List ℕ → R
         buffers = refl;
         written = subst (λ bs. All (λ (b : DeviceBlock S R). 1 ≤ (shown b.slot).writes) bs) (sym none) (λ k d h. absurd (omega arith));
         transfers = subst (λ bs. MoreWrites (length bs) (slots_shown shown slots) (slots_shown shown bs ++ slots_shown shown slots)) (sym none) (no_call (slots_shown shown slots));
+        went = subst (λ bs. Went (length bs) 0 (slots_shown shown slots) (slots_shown shown bs ++ slots_shown shown slots)) (sym none) (Went-refl (slots_shown shown slots));
         full = λ some. subst (λ bs. All (λ (b : DeviceBlock S R). b.count ≡ block) bs) (sym none) (λ k d h. absurd (omega arith));
         packed = subst (IsPacked block) (sym none) (record { full = λ k d h. absurd (omega arith); last = λ k d h. absurd (omega arith) });
         tells = λ t. t;
@@ -91,6 +94,7 @@ module _ {S R : Type 0} (cmp : R → R → Ordering) (record_of : List ℕ → R
         buffers = merged.buffers ∙ is.buffers;
         written = subst (λ bs. All (λ (b : DeviceBlock S R). 1 ≤ (shown b.slot).writes) bs) (sym blocks) (All-push (λ (b : DeviceBlock S R). 1 ≤ (shown b.slot).writes) stored last is.written put.written);
         transfers = transfers_more slots0 stored b last slots put.transfers is.transfers blocks;
+        went = went_more slots0 stored b last slots put.grew put.transfers is.went blocks;
         full = λ h. subst (All IsFull) (sym blocks) (All-push IsFull stored last (is.full (omega arith)) (omega (arith, is.least (omega arith), more, sum, merged.count, at_least block (length slots) h, put.count)));
         packed = subst (IsPacked block) (sym blocks) (record {
           full = subst (All IsFull) (sym (but_last stored last)) (is.full (omega arith));
@@ -142,6 +146,14 @@ module _ {S R : Type 0} (cmp : R → R → Ordering) (record_of : List ℕ → R
           subst (MoreWrites (length stored') (slots_shown shown slots0)) (shown_more stored last slots e)
           (one_call_more (slots_shown shown slots0) (slots_shown shown stored) (slots_shown shown slots) (shown b.slot) (shown last.slot) (length stored) 1 (length stored') before one long)
 
+      went_more :
+          (slots0 stored : List (DeviceBlock S R)) (b last : DeviceBlock S R) (slots : List (DeviceBlock S R)) → Grew (shown b.slot) (shown last.slot) → MoreWrites 1 (shown b.slot ∷ []) (shown last.slot ∷ []) → Went (length stored) 0 (slots_shown shown slots0) (slots_shown shown stored ++ slots_shown shown (b ∷ slots)) → {stored' : List (DeviceBlock S R)} → stored' ≡ stored ++ last ∷ []
+          → Went (length stored') 0 (slots_shown shown slots0) (slots_shown shown stored' ++ slots_shown shown slots)
+      went_more slots0 stored b last slots grew one before {stored'} e =
+          let long : length stored' ≡ length stored + 1 = ap length e ∙ length-append stored (last ∷ []) in
+          subst (Went (length stored') 0 (slots_shown shown slots0)) (shown_more stored last slots e)
+          (Went-more (slots_shown shown slots0) (slots_shown shown stored) (slots_shown shown slots) (shown b.slot) (shown last.slot) (length stored) 1 (length stored') before grew one long)
+
       same_more :
           (slots0 stored : List (DeviceBlock S R)) (b last : DeviceBlock S R) (slots : List (DeviceBlock S R)) → Grew (shown b.slot) (shown last.slot) → SameSlots (slots_shown shown slots0) (slots_shown shown stored ++ slots_shown shown (b ∷ slots)) → {stored' : List (DeviceBlock S R)} → stored' ≡ stored ++ last ∷ []
           → SameSlots (slots_shown shown slots0) (slots_shown shown stored' ++ slots_shown shown slots)
@@ -183,6 +195,8 @@ module _ {S R : Type 0} (cmp : R → R → Ordering) (record_of : List ℕ → R
             (SameSlots-trans (slots_shown shown slots0) (xs ++ shown b.slot ∷ ys) (xs ++ shown failed.slot ∷ ys) is.same (SameSlots-grown xs ys (shown b.slot) (shown failed.slot) put.grew));
         transfers = subst (λ bs. MoreWrites (length bs) (slots_shown shown slots0) (slots_shown shown bs ++ shown failed.slot ∷ ys)) blocks
             (one_call_more (slots_shown shown slots0) xs ys (shown b.slot) (shown failed.slot) (length array.stored) 0 (length array.stored) is.transfers put.transfers (omega arith));
+        went = subst (λ bs. Went (length bs) 0 (slots_shown shown slots0) (slots_shown shown bs ++ shown failed.slot ∷ ys)) blocks
+            (Went-more (slots_shown shown slots0) xs ys (shown b.slot) (shown failed.slot) (length array.stored) 0 (length array.stored) is.went put.grew put.transfers (omega arith));
         few = omega (arith, ap length blocks, is.same.length, length-append xs (shown b.slot ∷ ys), slots_long shown array.stored, slots_long shown slots0);
         sizes = subst (λ bs. All P (bs ++ failed ∷ slots)) blocks sizes;
         shape = put.run ∙ is.shape ∙ ap (λ bs. external 0 (run_of [] 0 []) [] bs) blocks;

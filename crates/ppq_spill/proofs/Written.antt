@@ -20,6 +20,10 @@ still : (told told' : Option (List ℕ)) → StillTells told told' → IsSome to
 still None told' h t = absurd (cc)
 still (Some had) told' h t = h
 
+told_before : (told told' : Option (List ℕ)) → StillTells told told' → IsSome told' → IsSome told
+told_before None told' h t = absurd (cc)
+told_before (Some had) told' h t = refl
+
 module _ {S R : Type 0} (bytes_of : R → List ℕ) (record_of : List ℕ → R) (width : ℕ) (shown : S → Shown) where
   pub grew_written : {T E : Type 0} (answer : Result T E) (slot slot' : Shown) (buf buf' : Block R) → IsWrittenFrom bytes_of record_of width answer slot slot' buf buf' → Grew slot slot'
   grew_written answer slot slot' buf buf' w =
@@ -30,6 +34,7 @@ module _ {S R : Type 0} (bytes_of : R → List ℕ) (record_of : List ℕ → R)
         writes = w.wrote.writes.later;
         reads = omega (arith, w.wrote.reads);
         tells = λ t. still slot.told slot'.told w.wrote.tells t;
+        told = λ t. told_before slot.told slot'.told w.wrote.tells t;
       }
 
   pub block_stored :

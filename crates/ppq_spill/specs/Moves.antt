@@ -8,6 +8,7 @@ use Rattle.ppq_array.specs.Run.{Run, items_of, buffers_of}
 use Rattle.ppq_array.specs.Supply.{Stock}
 use Rattle.ppq_array.specs.Owner.{slots_shown, HasSize}
 use Rattle.ppq_array.specs.Holdings.{RunHasBlock}
+use Rattle.ppq_fetch.specs.Fetching.{IsFitting}
 use Rattle.ppq_spill.specs.Storing.{IsShortOfBuffers}
 
 -- the supply with other buffers
@@ -29,6 +30,8 @@ module _ {R : Type 0} where
   pub record FilledRun (sorted : List R) (old new : Stock) (run : Run R) : Type 0 where
     pub items : items_of run ≡ sorted
     pub blocks : RunHasBlock old.block run
+    pub spent : run.spent ≡ []
+    pub fitting : All IsFitting (buffers_of run)
     pub stock : new ≡ with_buffers old new.sure_buffers (old.buffer_room + length (buffers_of run))
 
 -- A take answered None, before which fewer than so many buffers were taken; all went back

@@ -1,5 +1,5 @@
 -- What it takes to store a run, and what stands afterwards.
-use Rattle.std.specs.Prelude.{◌≡◌, ◌⊎◌, ℕ, ◌+◌, ◌-◌, ◌*◌, ◌<◌, ◌≤◌, ◌^◌, List, [], ◌∷◌, ◌++◌, length, All, vec_capacity}
+use Rattle.std.specs.Prelude.{◌≡◌, ◌↔◌, ◌⊎◌, ℕ, ◌+◌, ◌-◌, ◌*◌, ◌<◌, ◌≤◌, ◌^◌, List, [], ◌∷◌, ◌++◌, length, All, vec_capacity}
 use Rattle.std.specs.declared.cmp.Ordering.{Ordering}
 use Rattle.ppq_record.specs.Order.{Ascends}
 use Rattle.ppq_record.specs.Bag.{IsSameBag}
@@ -9,10 +9,11 @@ use Rattle.ppq_lane.specs.declared.lanes.Lanes.{Lanes}
 use Rattle.ppq_array.specs.declared.berth.DeviceBlock.{DeviceBlock}
 use Rattle.ppq_array.specs.Supply.{Stock, sure_slots}
 use Rattle.ppq_array.specs.Owner.{HasBlock}
-use Rattle.ppq_array.specs.Run.{Run, run_of, items_of}
+use Rattle.ppq_array.specs.Run.{Run, run_of, items_of, buffers_of}
 use Rattle.ppq_array.specs.External.{External, size_of, records_in, IsPacked}
-use Rattle.ppq_array.specs.Kept.{HasFailed, MoreWrites}
+use Rattle.ppq_array.specs.Kept.{HasFailed, MoreWrites, all_writes}
 use Rattle.ppq_array.specs.Holdings.{internal_items, RunHasBlock, ArrayHasSize, CanTakeBack}
+use Rattle.ppq_fetch.specs.Fetching.{IsFitting}
 use Rattle.ppq_spill.specs.Body.{body_slots}
 use Rattle.ppq_spill.specs.declared.body.PassBody.{PassBody}
 
@@ -76,6 +77,8 @@ module _ {S R : Type 0} where
   pub record IsInBuffers (sorted : List R) (old new : PassBody S R) (before now : Stock) : Type 0 where
     pub run : Run R
     pub items : items_of run ≡ sorted
+    pub spent : run.spent ≡ []
+    pub fitting : All IsFitting (buffers_of run)
     pub internal : new.runs.internal.items ≡ old.runs.internal.items ++ run ∷ []
     pub external : new.runs.external.items ≡ old.runs.external.items
     pub slots : SlotsUntouched before now
@@ -120,11 +123,23 @@ module _ {S R : Type 0} where
     pub short : IsShortOfBuffers n before now
     pub slots : NoSlots n old new before now
 
+  -- all slots of a body and those that its supply keeps and gave: before a call, and after it
+  abbrev pub slots_before : (S → Shown) → PassBody S R → Stock → Stock → List Shown
+  slots_before shown body before now = body_slots shown body ++ before.kept ++ now.drawn
+
+  abbrev pub slots_after : (S → Shown) → PassBody S R → Stock → Stock → List Shown
+  slots_after shown body before now = body_slots shown body ++ now.kept ++ before.drawn
+
+  -- the slots tell just where they told before
+  abbrev pub StillTell : (S → Shown) → PassBody S R → PassBody S R → Stock → Stock → Type 0
+  StillTell shown old new before now = AllTell (slots_before shown old before now) ↔ AllTell (slots_after shown new before now)
+
   -- no more blocks were written than n records and those in buffers take, and none was read
   pub record WritesFew (shown : S → Shown) (n : ℕ) (old new : PassBody S R) (before now : Stock) : Type 0 where
     pub blocks : ℕ
     pub few : blocks * before.block < n + in_buffers old + before.block
-    pub transfers : MoreWrites blocks (body_slots shown old ++ before.kept ++ now.drawn) (body_slots shown new ++ now.kept ++ before.drawn)
+    pub transfers : MoreWrites blocks (slots_before shown old before now) (slots_after shown new before now)
+    pub stay : all_writes (slots_before shown old before now) ≤ all_writes (slots_after shown new before now)
 
   -- where the slots tell, the run to be stored and the runs in buffers ascend
   pub record RunsAscend (cmp : R → R → Ordering) (shown : S → Shown) (sorted : List R) (body : PassBody S R) (stock : Stock) : Type 0 where

@@ -11,6 +11,7 @@ use Rattle.ppq_array.specs.External.{External, external, size_of, records_in, bl
 use Rattle.ppq_array.specs.Owner.{slots_shown, HasSize}
 use Rattle.ppq_array.specs.Kept.{SameSlots, MoreWrites}
 use Rattle.ppq_array.specs.Holdings.{internal_items}
+use Rattle.ppq_spill.specs.Went.{Went}
 
 -- a slot after a call: the same slot, and no count of it fell
 pub record Grew (before now : Shown) : Type 0 where
@@ -20,6 +21,7 @@ pub record Grew (before now : Shown) : Type 0 where
   pub writes : before.writes ≤ now.writes
   pub reads : before.reads ≤ now.reads
   pub tells : Tells before → Tells now
+  pub told : Tells now → Tells before
 
 module _ {R : Type 0} where
   -- what is left to merge: the records of runs and those of a list
@@ -70,6 +72,7 @@ module _ {S R : Type 0} where
     pub buffers : map buffers_of runs ≡ map buffers_of runs0
     pub written : All (λ (b : DeviceBlock S R). 1 ≤ (shown b.slot).writes) array.stored
     pub transfers : MoreWrites (length array.stored) (slots_shown shown slots0) (slots_shown shown array.stored ++ slots_shown shown slots)
+    pub went : Went (length array.stored) 0 (slots_shown shown slots0) (slots_shown shown array.stored ++ slots_shown shown slots)
     pub full : 0 < length slots → All (λ (b : DeviceBlock S R). b.count ≡ block) array.stored
     pub packed : IsPacked block array.stored
     pub tells : AllTell (slots_shown shown slots0) → AllTell (slots_shown shown slots)
@@ -82,6 +85,7 @@ module _ {S R : Type 0} where
     pub sizes : All (HasSize shown bytes) (array.stored ++ failed ∷ slots)
     pub shape : array ≡ external 0 (run_of [] 0 []) [] array.stored
     pub transfers : MoreWrites (length array.stored) (slots_shown shown slots0) (slots_shown shown array.stored ++ (shown failed.slot ∷ slots_shown shown slots))
+    pub went : Went (length array.stored) 0 (slots_shown shown slots0) (slots_shown shown array.stored ++ (shown failed.slot ∷ slots_shown shown slots))
     pub few : length array.stored ≤ length slots0
     pub buffers : map buffers_of runs ≡ map buffers_of runs0
     pub fault : 0 < (shown failed.slot).faults

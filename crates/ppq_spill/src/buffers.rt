@@ -3,6 +3,7 @@ ghost use Rattle.std.specs.Prelude.{◌≡◌, ◌+◌, ◌-◌, ◌*◌, ◌<�
 ghost use Rattle.ppq_block.specs.Block.{holding};
 ghost use Rattle.ppq_array.specs.Owner.{HasBlock};
 ghost use Rattle.ppq_array.specs.Run.{items_of};
+ghost use Rattle.ppq_fetch.specs.Fetching.{IsFitting};
 ghost use Rattle.ppq_spill.specs.Moves.{TookBuffers, FilledRun, FoundFewBuffers, FoundScant, with_buffers};
 
 use ppq_array::{InternalArray, Supply, give_buffer};
@@ -99,6 +100,7 @@ fn fill<R: Record>(bufs: BufList<R>, records: &[R], block: u32) -> InternalArray
     requires least { length bufs * block < length records.now + block }
     ensures items { items_of result ≡ records.now }
     ensures unspent { result.spent ≡ [] }
+    ensures fitting { All IsFitting result.live }
     ensures blocks { All (HasBlock block) result.live }
     ensures buffers { length result.live ≡ length bufs }
 {
@@ -114,8 +116,8 @@ fn fill<R: Record>(bufs: BufList<R>, records: &[R], block: u32) -> InternalArray
     run
 }
 
-// Puts records into an empty buffer.
-fn put_records<R: Record>(buf: &mut BlockBuf<R>, records: &[R])
+/// Puts records into an empty buffer.
+pub fn put_records<R: Record>(buf: &mut BlockBuf<R>, records: &[R])
     requires empty { buf.old ≡ holding buf.old.block [] }
     requires room { length records.now ≤ buf.old.block }
     ensures { buf.new ≡ holding buf.old.block records.now }

@@ -1,4 +1,4 @@
-//! Storing runs: in buffers where the supply has enough, and else in blocks of a device.
+//! Storing runs, in buffers where the supply has enough and else in blocks of a device, and merging them.
 //!
 //! [`store_sorted`] stores a sorted list of records as one more run of a [`PassBody`], after Sanders'
 //! sequence heap (Fast Priority Queues for Cached Memory, 2000) and its form with many workers by
@@ -7,11 +7,18 @@
 //! by a tree of minima, into one run in blocks. The slots for it are all drawn before the first block is
 //! written, so a device that is full changes nothing.
 //!
+//! [`merge_level`] merges 8 runs in blocks of one level into one of the next. As many slots as their
+//! loaded blocks are drawn first; with those and with the slots of the blocks that are read it never wants
+//! another one, so a device that is full changes nothing here either.
+//!
 //! Whatever the answer, no slot and no buffer is lost or made.
 #![tactic(auto)]
 
 mod body;
 mod buffers;
+mod gathering;
+mod level;
+mod making;
 mod merging;
 mod slots;
 mod store;
@@ -20,4 +27,5 @@ mod tests;
 mod writing;
 
 pub use body::PassBody;
+pub use level::merge_level;
 pub use store::store_sorted;

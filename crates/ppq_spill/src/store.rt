@@ -3,7 +3,7 @@ ghost use Rattle.std.specs.Prelude.{◌≡◌, ◌+◌, ◌^◌, ◌<◌, OnOk, 
 ghost use Rattle.ppq_array.specs.Kept.{Kept};
 ghost use Rattle.ppq_array.specs.Holdings.{CanTakeBack, internal_items};
 ghost use Rattle.ppq_spill.specs.Body.{held_by};
-ghost use Rattle.ppq_spill.specs.Storing.{MayStore, WritesFew, HasOneSize, RoomsRest, LanesRest, IsStored, BlocksStored, NoneFree, NoSlots, RunsAscend, DeviceFailed, SameScant};
+ghost use Rattle.ppq_spill.specs.Storing.{MayStore, WritesFew, HasOneSize, RoomsRest, LanesRest, IsStored, BlocksStored, NoneFree, NoSlots, RunsAscend, DeviceFailed, SameScant, StillTell};
 
 use crate::PassBody;
 use crate::buffers::{blocks_for, store_in_buffers};
@@ -40,6 +40,7 @@ pub fn store_sorted<H: Host, S: Slot, R: Record, P: Supply<S, R>>(
     requires ascend { RunsAscend R.Ord.cmp S.shown sorted.now body.old (P.stock supply.old) }
     ensures kept { Kept (P.stock supply.old) (P.stock supply.new) (held_by S.shown body.old) (held_by S.shown body.new) }
     ensures takes_back { CanTakeBack S.shown (P.stock supply.new) body.new.runs.internal.items body.new.runs.external.items }
+    ensures tells { StillTell S.shown body.old body.new (P.stock supply.old) (P.stock supply.new) }
     ensures home { P.home supply.new ≡ P.home supply.old }
     ensures stored { OnOk result (IsStored R.Ord.cmp R.record_of R.WIDTH S.shown sorted.now body.old body.new (P.stock supply.old) (P.stock supply.new)) }
     ensures none_free { IsErrOf result StoreFault.NoFreeBlock → NoneFree (length sorted.now) body.old body.new (P.stock supply.old) (P.stock supply.new) }
@@ -73,6 +74,7 @@ fn store_in_blocks<H: Host, S: Slot, R: Record, P: Supply<S, R>>(
     requires ascend { RunsAscend R.Ord.cmp S.shown sorted.now body.old (P.stock supply.old) }
     ensures kept { Kept (P.stock supply.old) (P.stock supply.new) (held_by S.shown body.old) (held_by S.shown body.new) }
     ensures takes_back { CanTakeBack S.shown (P.stock supply.new) body.new.runs.internal.items body.new.runs.external.items }
+    ensures tells { StillTell S.shown body.old body.new (P.stock supply.old) (P.stock supply.new) }
     ensures home { P.home supply.new ≡ P.home supply.old }
     ensures stored { OnOk result (BlocksStored R.Ord.cmp R.record_of R.WIDTH S.shown sorted.now body.old body.new (P.stock supply.old) (P.stock supply.new)) }
     ensures none_free { IsErrOf result StoreFault.NoFreeBlock → NoSlots (length sorted.now) body.old body.new (P.stock supply.old) (P.stock supply.new) }

@@ -66,8 +66,8 @@ pub fn write_runs<H: Host, S: Slot, R: Record>(
     None
 }
 
-// Writes a buffer's records to a slot, as the last block of a run. Where that fails, it gives the slot.
-fn write_block<H: Host, S: Slot, R: Record>(
+/// Writes a buffer's records to a slot, as the last block of a run. Where that fails, it gives the slot.
+pub fn write_block<H: Host, S: Slot, R: Record>(
     rt: &H,
     array: &mut ExternalArray<S, R>,
     berth: Berth<S, R>,

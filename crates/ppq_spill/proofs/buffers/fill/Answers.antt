@@ -1,8 +1,10 @@
-use Rattle.std.proofs.Common.{◌≡◌, suc, ◌+◌, ◌-◌, ◌*◌, ◌∷◌, ◌++◌, [], All, List, length, take, drop, sym, ap, ap₂, ◌∙◌, subst, arith, length-append}
+use Rattle.std.proofs.Common.{◌≡◌, suc, ◌+◌, ◌-◌, ◌*◌, ◌≤◌, ◌∷◌, ◌++◌, [], All, List, length, take, drop, sym, ap, ap₂, ◌∙◌, subst, arith, length-append}
 use Rattle.std.proofs.Math.Seq.{take-add}
 use Rattle.std.proofs.lemmas.List.Elements.{All-head, All-tail, All-push}
 use Rattle.ppq_block.specs.Block.{holding}
+use Rattle.std.proofs.lemmas.List.{length-take}
 use Rattle.ppq_array.specs.Owner.{HasBlock}
+use Rattle.ppq_fetch.specs.Fetching.{IsFitting}
 use Rattle.ppq_spill.proofs.Filling.{sum_times, at_least_one}
 use Rattle.ppq_spill.proofs.buffers.fill.Goals as goal
 
@@ -26,6 +28,7 @@ filling-preserved g c =
     let new_block : c.put_records.new.buf.block ≡ block = ap (λ b. b.block) put ∙ of_block in
     let live : c.add.new.self.live ≡ c.filling.run.live ++ c.put_records.new.buf ∷ [] = ap (λ r. r.live) c.add.ensures.run in
     let count : length c.add.new.self.live ≡ lives + 1 = ap length live ∙ length-append c.filling.run.live (c.put_records.new.buf ∷ []) in
+    let fits : length c.put_records.new.buf.items ≤ c.put_records.new.buf.block = omega (arith, ap (λ b. length b.items) put, length-take (end - at) (drop at records), c.min-end.ensures, new_block) in
     let reach : at + (end - at) ≡ end = omega (arith, c.min-end.ensures, i.within) in
     let here : at ≡ lives * block = i.full (omega (arith, long)) in
     let all : length c.args.bufs ≡ lives + suc k = omega (arith, i.buffers, long) in
@@ -36,6 +39,7 @@ filling-preserved g c =
       items = c.add.ensures.items ∙ ap₂ (λ (xs ys : List g.row.R.Denot). xs ++ ys) i.items (ap (λ b. b.items) put) ∙ sym (take-add at (end - at) records) ∙ ap (λ n. take n records) reach;
       unspent = ap (λ r. r.spent) c.add.ensures.run ∙ i.unspent;
       blocks = subst (All (HasBlock block)) (sym live) (All-push (HasBlock block) c.filling.run.live c.put_records.new.buf i.blocks new_block);
+      fitting = subst (All (IsFitting {R = g.row.R.Denot})) (sym live) (All-push (IsFitting {R = g.row.R.Denot}) c.filling.run.live c.put_records.new.buf i.fitting fits);
       buffers = omega (arith, i.buffers, long, count);
       empty = All-tail (λ b. b ≡ holding block []) buf bufs empties;
       within = omega (arith, c.min-end.ensures);

@@ -6,7 +6,7 @@ use Rattle.ppq_array.proofs.Noted.{all_left, all_right}
 use Rattle.ppq_spill.specs.Body.{job_slots}
 use Rattle.ppq_spill.proofs.Keeping.{too_few, same_buffers, same_blocks, slots_more, buffers_more, slots_long}
 use Rattle.ppq_spill.proofs.InBlocks.{blocks_stored}
-use Rattle.ppq_spill.proofs.Storings.{kept_refused, kept_written, kept_failed, calls_refused, calls_written, calls_failed, sizes_after}
+use Rattle.ppq_spill.proofs.Storings.{kept_refused, kept_written, kept_failed, calls_refused, calls_written, calls_failed, went_refused, went_written, went_failed, sizes_after}
 use Rattle.ppq_spill.proofs.Transfers.{fewer}
 use Rattle.ppq_spill.proofs.store.store_in_blocks.Goals as goal
 
@@ -171,6 +171,7 @@ returns-in_default-clause-writes g c =
       blocks = 0;
       few = omega (arith, c.requires.some, (let z : 0 * stock.block ≡ 0 = omega arith in z));
       transfers = calls_refused stock (g.P.Supply.stock c.draw_slots.new.supply) c.blocks_for.result (external_slots g.S.Slot.shown body.runs.external.items) (job_slots g.S.Slot.shown body.lanes.jobs.items) c.in_default.ensures.few;
+      stay = (went_refused stock (g.P.Supply.stock c.draw_slots.new.supply) c.blocks_for.result (external_slots g.S.Slot.shown body.runs.external.items) (job_slots g.S.Slot.shown body.lanes.jobs.items) c.in_default.ensures.few).calls.stay;
     }
 
 pub returns-in-None-clause-writes : goal.returns-in-None-clause-writes
@@ -190,6 +191,10 @@ returns-in-None-clause-writes g c =
           (external_slots shown body.runs.external.items) (job_slots shown body.lanes.jobs.items) (external_slots shown c.push_reserved.new.self.items) c.in-Some.berths array
           (length array.stored) (g.P.Supply.stock c.release_runs.new.supply).sure_buffers _ c.in-Some.ensures.drawn writing.transfers c.release_runs.ensures.stock
           (ap (external_slots shown) c.push_reserved.ensures.items ∙ slots_more shown body.runs.external.items array);
+      stay = (went_written shown g.R.Record.WIDTH (g.P.Supply.stock c.args.supply.now) (g.P.Supply.stock c.draw_slots.new.supply) (g.P.Supply.stock c.release_runs.new.supply)
+          (external_slots shown body.runs.external.items) (job_slots shown body.lanes.jobs.items) (external_slots shown c.push_reserved.new.self.items) c.in-Some.berths array
+          (length array.stored) (g.P.Supply.stock c.release_runs.new.supply).sure_buffers _ c.in-Some.ensures.drawn writing.went c.release_runs.ensures.stock
+          (ap (external_slots shown) c.push_reserved.ensures.items ∙ slots_more shown body.runs.external.items array)).calls.stay;
     }
 
 pub returns-in-Some-failed-clause-writes : goal.returns-in-Some-failed-clause-writes
@@ -208,4 +213,43 @@ returns-in-Some-failed-clause-writes g c =
           (external_slots shown body.runs.external.items) (job_slots shown body.lanes.jobs.items) (external_slots shown c.push_reserved.new.self.items) c.in-Some.berths c.write_runs-failed.new.berths array c.in-Some-failed.berth
           (length array.stored) c.in-Some.ensures.drawn failed.transfers c.free_slot.ensures.back c.free_slots.ensures.stock
           (ap (external_slots shown) c.push_reserved.ensures.items ∙ slots_more shown body.runs.external.items array);
+      stay = (went_failed shown g.R.Record.WIDTH (g.P.Supply.stock c.args.supply.now) (g.P.Supply.stock c.draw_slots.new.supply) (g.P.Supply.stock c.free_slot.new.supply) (g.P.Supply.stock c.free_slots.new.supply)
+          (external_slots shown body.runs.external.items) (job_slots shown body.lanes.jobs.items) (external_slots shown c.push_reserved.new.self.items) c.in-Some.berths c.write_runs-failed.new.berths array c.in-Some-failed.berth
+          (length array.stored) c.in-Some.ensures.drawn failed.went c.free_slot.ensures.back c.free_slots.ensures.stock
+          (ap (external_slots shown) c.push_reserved.ensures.items ∙ slots_more shown body.runs.external.items array)).calls.stay;
     }
+
+pub returns-in_default-clause-tells : goal.returns-in_default-clause-tells
+returns-in_default-clause-tells g c =
+    let body = c.args.body.now in
+    let stock = g.P.Supply.stock c.args.supply.now in
+    ((went_refused stock (g.P.Supply.stock c.draw_slots.new.supply) c.blocks_for.result (external_slots g.S.Slot.shown body.runs.external.items) (job_slots g.S.Slot.shown body.lanes.jobs.items) c.in_default.ensures.few)).tells
+
+pub returns-in-None-clause-tells : goal.returns-in-None-clause-tells
+returns-in-None-clause-tells g c =
+    let body = c.args.body.now in
+    let shown = g.S.Slot.shown in
+    let array = c.write_runs-failed.new.array in
+    let writing = c.in-None.ensures.written in
+    let all = length c.args.sorted.now + length (internal_items body.runs.internal.items) in
+    let total : length c.args.sorted.now + c.count_records.result ≡ all = ap (λ n. length c.args.sorted.now + n) (c.count_records.ensures ∙ ap (λ xs. length (internal_items xs)) c.deref.ensures.value) in
+    let long : length array.stored ≡ c.blocks_for.result = omega (arith, writing.same.length, length-append (slots_shown shown array.stored) [], slots_long shown array.stored, slots_long shown c.in-Some.berths, c.in-Some.ensures.all) in
+    let few : length array.stored * c.args.block < all + c.args.block = subst (λ k. k * c.args.block < all + c.args.block) (sym long) (omega (arith, c.blocks_for.ensures.least, total)) in
+    ((went_written shown g.R.Record.WIDTH (g.P.Supply.stock c.args.supply.now) (g.P.Supply.stock c.draw_slots.new.supply) (g.P.Supply.stock c.release_runs.new.supply)
+    (external_slots shown body.runs.external.items) (job_slots shown body.lanes.jobs.items) (external_slots shown c.push_reserved.new.self.items) c.in-Some.berths array
+    (length array.stored) (g.P.Supply.stock c.release_runs.new.supply).sure_buffers _ c.in-Some.ensures.drawn writing.went c.release_runs.ensures.stock
+    (ap (external_slots shown) c.push_reserved.ensures.items ∙ slots_more shown body.runs.external.items array))).tells
+
+pub returns-in-Some-failed-clause-tells : goal.returns-in-Some-failed-clause-tells
+returns-in-Some-failed-clause-tells g c =
+    let body = c.args.body.now in
+    let shown = g.S.Slot.shown in
+    let array = c.write_runs-failed.new.array in
+    let failed = c.in-Some-failed.ensures.failed in
+    let all = length c.args.sorted.now + length (internal_items body.runs.internal.items) in
+    let total : length c.args.sorted.now + c.count_records.result ≡ all = ap (λ n. length c.args.sorted.now + n) (c.count_records.ensures ∙ ap (λ xs. length (internal_items xs)) c.deref.ensures.value) in
+    let few : length array.stored * c.args.block < all + c.args.block = fewer (length array.stored) c.blocks_for.result c.args.block (all + c.args.block) (omega (arith, failed.few, c.in-Some.ensures.all)) (omega (arith, c.blocks_for.ensures.least, total)) in
+    ((went_failed shown g.R.Record.WIDTH (g.P.Supply.stock c.args.supply.now) (g.P.Supply.stock c.draw_slots.new.supply) (g.P.Supply.stock c.free_slot.new.supply) (g.P.Supply.stock c.free_slots.new.supply)
+    (external_slots shown body.runs.external.items) (job_slots shown body.lanes.jobs.items) (external_slots shown c.push_reserved.new.self.items) c.in-Some.berths c.write_runs-failed.new.berths array c.in-Some-failed.berth
+    (length array.stored) c.in-Some.ensures.drawn failed.went c.free_slot.ensures.back c.free_slots.ensures.stock
+    (ap (external_slots shown) c.push_reserved.ensures.items ∙ slots_more shown body.runs.external.items array))).tells

@@ -1,10 +1,12 @@
-use Rattle.std.proofs.Common.{◌≡◌, ◌*◌, All, sym, ap, subst, arith}
+use Rattle.std.proofs.Common.{◌≡◌, ◌*◌, ◌++◌, List, All, sym, ap, subst, arith}
 use Rattle.std.proofs.lemmas.List.Elements.{All-push}
 use Rattle.ppq_array.specs.Holdings.{RunHasBlock}
 use Rattle.ppq_spill.proofs.Storings.{sizes_after}
 use Rattle.std.proofs.lemmas.Result.{on_ok_weaker}
 use Rattle.ppq_spill.specs.Storing.{BlocksStored}
 use Rattle.ppq_spill.specs.Body.{body_slots}
+use Rattle.ppq_outside.specs.Shown.{Shown, AllTell}
+use Rattle.ppq_spill.proofs.Going.{went_untouched}
 use Rattle.ppq_spill.proofs.Transfers.{untouched}
 use Rattle.ppq_spill.proofs.InBlocks.{stored_after, ascend_still}
 use Rattle.ppq_spill.proofs.store.store_sorted.Goals as goal
@@ -38,4 +40,26 @@ returns-in-Some-clause-writes g c =
       blocks = 0;
       few = omega (arith, c.requires.some, (let z : 0 * o.block ≡ 0 = omega arith in z));
       transfers = untouched slots o n (ap (λ s. s.kept) is) (ap (λ s. s.drawn) is);
+      stay = (went_untouched slots o n (ap (λ s. s.kept) is) (ap (λ s. s.drawn) is)).calls.stay;
     }
+
+pub returns-in-Some-clause-tells : goal.returns-in-Some-clause-tells
+returns-in-Some-clause-tells g c =
+    let o = g.P.Supply.stock c.args.supply.now in
+    let n = g.P.Supply.stock c.store_in_buffers.new.supply in
+    let is = c.in-Some.ensures.stored.stock in
+    (went_untouched (body_slots g.S.Slot.shown c.args.body.now) o n (ap (λ s. s.kept) is) (ap (λ s. s.drawn) is)).tells
+
+pub returns-in-None-clause-tells : goal.returns-in-None-clause-tells
+returns-in-None-clause-tells g c =
+    let shown = g.S.Slot.shown in
+    let o = g.P.Supply.stock c.args.supply.now in
+    let m = g.P.Supply.stock c.store_in_buffers.new.supply in
+    let r = g.P.Supply.stock c.store_in_blocks.new.supply in
+    let kept : m.kept ≡ o.kept = ap (λ s. s.kept) c.in-None.ensures.scant.stock in
+    let drawn : m.drawn ≡ o.drawn = ap (λ s. s.drawn) c.in-None.ensures.scant.stock in
+    let old : List Shown → Type 0 = λ k. AllTell (body_slots shown c.args.body.now ++ k ++ r.drawn) in
+    let new : List Shown → Type 0 = λ d. AllTell (body_slots shown c.store_in_blocks.new.body ++ r.kept ++ d) in (
+      (λ t. subst new drawn (c.store_in_blocks.ensures.tells.0 (subst old (sym kept) t))),
+      (λ t. subst old kept (c.store_in_blocks.ensures.tells.1 (subst new (sym drawn) t))),
+    )

@@ -1,0 +1,143 @@
+-- Records that are written as blocks, so many of them so far.
+use Rattle.std.proofs.Common.{◌≡◌, ℕ, zero, suc, ◌+◌, ◌-◌, ◌*◌, ◌<◌, ◌≤◌, ◌^◌, min, List, [], ◌∷◌, ◌++◌, length, take, drop, All, refl, sym, ap, ap₂, ◌∙◌, subst, arith, length-append}
+use Rattle.std.proofs.Math.Nat.{add-mul}
+use Rattle.std.proofs.lemmas.Nat.{mul-le}
+use Rattle.std.proofs.lemmas.Grind.{flat_map-append}
+use Rattle.std.proofs.lemmas.List.{take_all, length-take, length-drop}
+use Rattle.std.proofs.lemmas.List.Elements.{All-nil, All-append}
+use Rattle.ppq_outside.specs.Shown.{Shown, AllTell}
+use Rattle.ppq_array.specs.declared.berth.DeviceBlock.{DeviceBlock}
+use Rattle.ppq_array.specs.declared.store_fault.StoreFault.{StoreFault}
+use Rattle.ppq_array.specs.Run.{run_of}
+use Rattle.ppq_array.specs.External.{External, external, size_of, counts, block_items, blocks_items, IsPacked}
+use Rattle.ppq_spill.specs.Making.{Hand, hand_slots, Wrote, WroteAll, WroteSome, AllFull, AllFit}
+use Rattle.ppq_spill.proofs.Parts.{Wrote-trans, Wrote-none, hand_long}
+use Rattle.ppq_spill.proofs.Blocks.{counts_append, counts_full, full_fit, all_full, packed_append, packed_full, fewer_than}
+
+-- So many of the records were written, in blocks that are full as long as records are left
+pub record Batch {S R : Type 0} (record_of : List ℕ → R) (width block : ℕ) (shown : S → Shown) (bytes : ℕ) (records : List R) (at : ℕ) (old new : Hand S R) : Type 0 where
+  pub blocks : List (DeviceBlock S R)
+  pub wrote : Wrote shown bytes old new blocks
+  pub within : at ≤ length records
+  pub size : counts blocks ≡ at
+  pub packed : IsPacked block blocks
+  pub full : at < length records → AllFull block blocks
+  pub tight : length blocks * block < at + block
+  pub items : AllTell (hand_slots shown old) → blocks_items record_of width shown blocks ≡ take at records
+
+-- with more blocks at its end, an array still has nothing loaded and nothing lifted
+pub shape_on : {S R : Type 0} {a b : External S R} {xs : List (DeviceBlock S R)} → a ≡ external a.level (run_of [] 0 []) [] a.stored → b ≡ external a.level a.loaded a.lifted xs → b ≡ external b.level (run_of [] 0 []) [] b.stored
+shape_on {S} {R} {a} {b} {xs} shape e =
+    let loaded : b.loaded ≡ run_of [] 0 [] = ap (λ x. x.loaded) e ∙ ap (λ x. x.loaded) shape in
+    let lifted : b.lifted ≡ [] = ap (λ x. x.lifted) e ∙ ap (λ x. x.lifted) shape in
+    ap₂ (λ l m. external b.level l m b.stored) loaded lifted
+
+module _ {S R : Type 0} (record_of : List ℕ → R) (width block : ℕ) (shown : S → Shown) (bytes : ℕ) (records : List R) where
+  pub Batch-none : 1 ≤ block → (old : Hand S R) → Batch record_of width block shown bytes records 0 old old
+  Batch-none some old =
+      record {
+        blocks = [];
+        wrote = Wrote-none shown bytes old;
+        within = omega arith;
+        size = refl;
+        packed = packed_full block [] (All-nil (λ (b : DeviceBlock S R). b.count ≡ block));
+        full = λ _. All-nil (λ (b : DeviceBlock S R). b.count ≡ block);
+        tight = (let e : 0 * block ≡ 0 = omega arith in omega (arith, e, some));
+        items = λ t. refl;
+      }
+
+  pub Batch-more :
+      (at end : ℕ) (old now new : Hand S R) (part : List R) → 1 ≤ block → Batch record_of width block shown bytes records at old now → at < length records → end ≡ min (length records) (at + block)
+      → part ≡ take (end - at) (drop at records) → WroteAll record_of width block shown bytes part now new → Batch record_of width block shown bytes records end old new
+  Batch-more at end old now new part some batch more is part_is put =
+      let bs = batch.blocks in
+      let cs = put.blocks in
+      let full = batch.full more in
+      let long : length part ≡ end - at = ap length part_is ∙ part_long (end - at) at records (omega (arith, is, more)) in
+      let size : counts (bs ++ cs) ≡ end = omega (arith, counts_append block bs cs, batch.size, put.size, long, is, more) in
+      let before : length bs * block ≡ at = sym (counts_full block bs full) ∙ batch.size in
+      let sum : (length bs + length cs) * block ≡ length bs * block + length cs * block = add-mul (length bs) (length cs) block in
+      let tight : length (bs ++ cs) * block < end + block = subst (λ n. n * block < end + block) (sym (length-append bs cs)) (omega (arith, sum, before, put.tight, long, is, more)) in
+      record {
+        blocks = bs ++ cs;
+        wrote = Wrote-trans shown bytes old now new bs cs batch.wrote put.wrote;
+        within = omega (arith, is);
+        size = size;
+        packed = packed_append block bs cs full (some_block cs (omega (arith, put.size, long, is, more, some))) put.packed;
+        full = λ left. All-append (λ (b : DeviceBlock S R). b.count ≡ block) bs cs full
+            (all_full block cs put.packed.last
+            (let few : length cs < 2 = fewer_than (length cs) 2 block (let e : 2 * block ≡ block + block = omega arith in omega (arith, put.tight, long, is, left, e)) in
+            let e : length cs * block ≤ 1 * block = mul-le (length cs) block 1 block (omega (arith, few)) (omega arith) in
+            omega (arith, e, put.size, long, is, left)));
+        tight = tight;
+        items = λ t.
+            flat_map-append (block_items record_of width shown) bs cs
+            ∙ ap₂ (λ xs ys. xs ++ ys) (batch.items t) (put.items (batch.wrote.went.tells.0 t) ∙ part_is)
+            ∙ taken at (end - at) records ∙ ap (λ n. take n records) (let e : at + (end - at) ≡ end = omega (arith, is, more) in e);
+      }
+    where
+      some_block : (cs : List (DeviceBlock S R)) → 0 < counts cs → 0 < length cs
+      some_block [] h = absurd (omega (arith, h))
+      some_block (c ∷ cs) h = omega arith
+
+      part_long : (n at : ℕ) (xs : List R) → at + n ≤ length xs → length (take n (drop at xs)) ≡ n
+      part_long n at xs h = omega (arith, length-take n (drop at xs), length-drop at xs, h)
+
+      take_none : (n : ℕ) → take {A = R} n [] ≡ []
+      take_none zero = refl
+      take_none (suc n) = refl
+
+      taken : (at n : ℕ) (xs : List R) → take at xs ++ take n (drop at xs) ≡ take (at + n) xs
+      taken zero n xs = ap (λ k. take k xs) (let e : n ≡ 0 + n = omega arith in e)
+      taken (suc at) n [] = take_none n ∙ sym (take_none (suc at + n))
+      taken (suc at) n (x ∷ xs) = ap (λ ys. x ∷ ys) (taken at n xs) ∙ ap (λ k. take k (x ∷ xs)) (let e : suc (at + n) ≡ suc at + n = omega arith in e)
+
+  -- all records were written
+  pub Batch-all : (at : ℕ) (old new : Hand S R) → Batch record_of width block shown bytes records at old new → length records ≤ at → WroteAll record_of width block shown bytes records old new
+  Batch-all at old new batch h =
+      let e : at ≡ length records = omega (arith, h, batch.within) in
+      record {
+        blocks = batch.blocks;
+        wrote = batch.wrote;
+        size = batch.size ∙ e;
+        packed = batch.packed;
+        tight = omega (arith, batch.tight, e);
+        items = λ t. batch.items t ∙ take_all at records h;
+      }
+
+  -- a write failed
+  pub Batch-failed :
+      (at : ℕ) (old now new : Hand S R) (fault : StoreFault) → Batch record_of width block shown bytes records at old now → at < length records → WroteSome shown block bytes [] now new fault → WroteSome shown block bytes records old new fault
+  Batch-failed at old now new fault batch more put =
+      let bs = batch.blocks in
+      let cs = put.blocks in
+      let sum : (length bs + length cs) * block ≡ length bs * block + length cs * block = add-mul (length bs) (length cs) block in
+      let before : length bs * block ≡ at = sym (counts_full block bs (batch.full more)) ∙ batch.size in
+      let few : length (bs ++ cs) * block ≤ length records = subst (λ n. n * block ≤ length records) (sym (length-append bs cs)) (omega (arith, sum, before, put.few, batch.within)) in
+      record { blocks = bs ++ cs; wrote = Wrote-trans shown bytes old now new bs cs batch.wrote put.wrote; few = few; failed = put.failed }
+
+  -- there is a slot for one more block, room in the list of blocks, and the numbers fit
+  pub Batch-room :
+      (at end : ℕ) (old now : Hand S R) → block ≤ 65536 → 1 ≤ block → Batch record_of width block shown bytes records at old now → at < length records → end ≤ length records
+      → old.made ≡ external old.made.level (run_of [] 0 []) [] old.made.stored → AllFull block old.made.stored
+      → length records ≤ (length old.berths + length old.stock.kept) * block → length old.made.stored + length old.berths ≤ old.stock.slot_room → size_of old.made + length records ≤ (2 ^ 32 - 2) * block
+      → (0 < length now.berths + length now.stock.kept) × (length now.berths ≤ now.stock.slot_room) × (length now.made.stored < 2 ^ 32 - 1) × (size_of now.made + (end - at) < 2 ^ 64) × (now.made ≡ external now.made.level (run_of [] 0 []) [] now.made.stored)
+  Batch-room at end old now small some batch more ends shape full slots back few =
+      let bs = batch.blocks in
+      let stored : now.made.stored ≡ old.made.stored ++ bs = ap (λ a. a.stored) batch.wrote.made in
+      let long : length now.made.stored ≡ length old.made.stored + length bs = ap length stored ∙ length-append old.made.stored bs in
+      let before : length bs * block ≡ at = sym (counts_full block bs (batch.full more)) ∙ batch.size in
+      let all : length now.made.stored + length now.berths + length now.stock.kept ≡ length old.made.stored + length old.berths + length old.stock.kept = omega (arith, batch.wrote.went.same.length, hand_long shown old, hand_long shown now) in
+      let fewer : length bs < length old.berths + length old.stock.kept = fewer_than (length bs) (length old.berths + length old.stock.kept) block (omega (arith, before, more, slots)) in
+      let is : now.made ≡ external now.made.level (run_of [] 0 []) [] now.made.stored = shape_on shape batch.wrote.made in
+      let old_size : size_of old.made ≡ length old.made.stored * block = ap size_of shape ∙ (let e : 0 + counts old.made.stored ≡ length old.made.stored * block = omega (arith, counts_full block old.made.stored full) in e) in
+      let new_size : size_of now.made ≡ size_of old.made + at = ap size_of is ∙ (let e : 0 + counts now.made.stored ≡ size_of old.made + at = omega (arith, ap counts stored, counts_append block old.made.stored bs, counts_full block old.made.stored full, old_size, batch.size) in e) in
+      let sum : (length old.made.stored + length bs) * block ≡ length old.made.stored * block + length bs * block = add-mul (length old.made.stored) (length bs) block in
+      let most : (2 ^ 32 - 2) * block ≤ (2 ^ 32 - 2) * 65536 = mul-le (2 ^ 32 - 2) block (2 ^ 32 - 2) 65536 (omega arith) small in
+      let blocks : length old.made.stored + length bs < 2 ^ 32 - 2 = fewer_than (length old.made.stored + length bs) (2 ^ 32 - 2) block (omega (arith, sum, before, old_size, few, more)) in (
+        omega (arith, all, long, fewer),
+        omega (arith, batch.wrote.room, back),
+        omega (arith, long, blocks),
+        omega (arith, new_size, few, most, ends, more),
+        is,
+      )

@@ -1,0 +1,100 @@
+-- Slots that are moved, written and read, one step after the other.
+use Rattle.std.proofs.Common.{◌≡◌, ℕ, ◌+◌, ◌*◌, ◌≤◌, List, [], ◌∷◌, ◌++◌, length, sum_by, refl, sym, ap, ◌∙◌, subst, arith}
+use Rattle.std.proofs.lemmas.List.Sums.{sum_by-cons, sum_by-append}
+use Rattle.std.proofs.lemmas.List.Elements.{All-cons, All-head, All-nil}
+use Rattle.ppq_outside.specs.Shown.{Shown, Tells, AllTell}
+use Rattle.ppq_array.specs.Supply.{Stock}
+use Rattle.ppq_array.specs.Kept.{SameSlots, MoreWrites, weight_at}
+use Rattle.ppq_spill.specs.Leveling.{MoreCalls}
+use Rattle.ppq_spill.specs.Went.{Went}
+use Rattle.ppq_spill.specs.Writing.{Grew}
+use Rattle.ppq_spill.proofs.SameSlots.{SameSlots-refl, SameSlots-trans, SameSlots-grown}
+use Rattle.ppq_spill.proofs.Keeping.{sum_ones}
+use Rattle.ppq_spill.proofs.Telling.{untold, tell_sum, sum_tell}
+
+abbrev w_of : Shown → ℕ
+w_of s = s.writes
+
+abbrev r_of : Shown → ℕ
+r_of s = s.reads
+
+pub Went-refl : (xs : List Shown) → Went 0 0 xs xs
+Went-refl xs = record { same = SameSlots-refl xs; calls = record { written = omega arith; stay = omega arith; read = omega arith }; tells = (λ t. t, λ t. t) }
+
+pub Went-trans : (w r w' r' : ℕ) (a b c : List Shown) → Went w r a b → Went w' r' b c → Went (w + w') (r + r') a c
+Went-trans w r w' r' a b c h k =
+    record {
+      same = SameSlots-trans a b c h.same k.same;
+      calls = record { written = omega (arith, h.calls.written, k.calls.written); stay = omega (arith, h.calls.stay, k.calls.stay); read = omega (arith, h.calls.read, k.calls.read) };
+      tells = (λ t. k.tells.0 (h.tells.0 t), λ t. h.tells.1 (k.tells.1 t));
+    }
+
+-- the same slots among others, in any order
+pub Went-placed :
+    (w r : ℕ) (xs a b a' b' : List Shown) → ((f : Shown → ℕ) → sum_by f a' ≡ sum_by f xs + sum_by f a) → ((f : Shown → ℕ) → sum_by f b' ≡ sum_by f xs + sum_by f b) → Went w r a b
+    → Went w r a' b'
+Went-placed w r xs a b a' b' before now went =
+    let ones : Shown → ℕ = λ _. 1 in
+    record {
+      same = record {
+        length = (let e : length b' ≡ length a' = omega (arith, before ones, now ones, sum_ones a, sum_ones b, sum_ones a', sum_ones b', went.same.length) in e);
+        each_once = λ n. let f = weight_at (λ s. 1) n in omega (arith, before f, now f, went.same.each_once n);
+        faults = λ n. let f = weight_at (λ s. s.faults) n in omega (arith, before f, now f, went.same.faults n);
+        writes = λ n. let f = weight_at (λ s. s.writes) n in omega (arith, before f, now f, went.same.writes n);
+        reads = λ n. let f = weight_at (λ s. s.reads) n in omega (arith, before f, now f, went.same.reads n);
+      };
+      calls = record {
+        written = omega (arith, before w_of, now w_of, went.calls.written);
+        stay = omega (arith, before w_of, now w_of, went.calls.stay);
+        read = omega (arith, before r_of, now r_of, went.calls.read);
+      };
+      tells = (
+        (λ t.
+            let all = tell_sum a' t in
+            let old : sum_by untold a ≡ 0 = omega (arith, before untold, all) in
+            let new = tell_sum b (went.tells.0 (sum_tell a old)) in
+            sum_tell b' (let e : sum_by untold b' ≡ 0 = omega (arith, before untold, now untold, all, new) in e)),
+        (λ t.
+            let all = tell_sum b' t in
+            let new : sum_by untold b ≡ 0 = omega (arith, now untold, all) in
+            let old = tell_sum a (went.tells.1 (sum_tell b new)) in
+            sum_tell a' (let e : sum_by untold a' ≡ 0 = omega (arith, before untold, now untold, all, old) in e)),
+      );
+    }
+
+-- a call of one slot
+pub Went-one : (w : ℕ) (s t : Shown) → Grew s t → MoreWrites w (s ∷ []) (t ∷ []) → Went w 0 (s ∷ []) (t ∷ [])
+Went-one w s t grew calls =
+    record {
+      same = SameSlots-grown [] [] s t grew;
+      calls = record { written = calls.writes; stay = omega (arith, grew.writes, sum_by-cons w_of s [], sum_by-cons w_of t []); read = omega (arith, calls.reads) };
+      tells = ((λ t'. All-cons Tells t [] (grew.tells (All-head Tells s [] t')) (All-nil Tells)), (λ t'. All-cons Tells s [] (grew.told (All-head Tells t [] t')) (All-nil Tells)));
+    }
+
+-- one slot more was called
+pub Went-more : (base xs ys : List Shown) (s t : Shown) (n k m : ℕ) → Went n 0 base (xs ++ s ∷ ys) → Grew s t → MoreWrites k (s ∷ []) (t ∷ []) → m ≡ n + k → Went m 0 base (xs ++ t ∷ ys)
+Went-more base xs ys s t n k m before grew calls e =
+    let one = Went-placed k 0 (xs ++ ys) (s ∷ []) (t ∷ []) (xs ++ s ∷ ys) (xs ++ t ∷ ys)
+    (λ f. omega (arith, sum_by-append f xs (s ∷ ys), sum_by-cons f s ys, sum_by-append f xs ys, sum_by-cons f s []))
+    (λ f. omega (arith, sum_by-append f xs (t ∷ ys), sum_by-cons f t ys, sum_by-append f xs ys, sum_by-cons f t []))
+    (Went-one k s t grew calls) in
+    subst (λ w. Went w 0 base (xs ++ t ∷ ys)) (sym e) (Went-trans n 0 k 0 base (xs ++ s ∷ ys) (xs ++ t ∷ ys) before one)
+
+-- of what is held and kept, only slots that were drawn were called
+pub went_kept :
+    (most : ℕ) (e j k0 d1 b0 e' j' k1 d0 b k : List Shown) → ((f : Shown → ℕ) → sum_by f (k0 ++ d1) ≡ sum_by f (b0 ++ k ++ d0)) → Went most 0 b0 b
+    → ((f : Shown → ℕ) → sum_by f e' + sum_by f j' + sum_by f k1 ≡ sum_by f e + sum_by f j + sum_by f k + sum_by f b)
+    → Went most 0 (e ++ j ++ k0 ++ d1) (e' ++ j' ++ k1 ++ d0)
+went_kept most e j k0 d1 b0 e' j' k1 d0 b k moved went placed =
+    Went-placed most 0 (e ++ j ++ k ++ d0) b0 b (e ++ j ++ k0 ++ d1) (e' ++ j' ++ k1 ++ d0)
+    (λ f. omega (arith, four f e j k0 d1, four f e j k d0, moved f, sum_by-append f k0 d1, sum_by-append f (b0 ++ k) d0, sum_by-append f b0 k))
+    (λ f. omega (arith, four f e' j' k1 d0, four f e j k d0, placed f)) went
+  where
+    four : (f : Shown → ℕ) (a b c d : List Shown) → sum_by f (a ++ b ++ c ++ d) ≡ sum_by f a + sum_by f b + sum_by f c + sum_by f d
+    four f a b c d = omega (arith, sum_by-append f (a ++ b ++ c) d, sum_by-append f (a ++ b) c, sum_by-append f a b)
+
+-- the supply's slots are as they were
+pub went_untouched : (slots : List Shown) (o n : Stock) → n.kept ≡ o.kept → n.drawn ≡ o.drawn → Went 0 0 (slots ++ o.kept ++ n.drawn) (slots ++ n.kept ++ o.drawn)
+went_untouched slots o n kept drawn =
+    subst (λ d. Went 0 0 (slots ++ o.kept ++ d) (slots ++ n.kept ++ o.drawn)) (sym drawn)
+    (subst (λ k. Went 0 0 (slots ++ o.kept ++ o.drawn) (slots ++ k ++ o.drawn)) (sym kept) (Went-refl (slots ++ o.kept ++ o.drawn)))

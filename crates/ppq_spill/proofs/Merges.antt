@@ -1,0 +1,150 @@
+-- A batch of the least records of arrays that is written as blocks, and one batch after the other.
+use Rattle.std.proofs.Common.{◌≡◌, ℕ, zero, suc, ◌+◌, ◌-◌, ◌*◌, ◌<◌, ◌≤◌, ◌^◌, min, List, [], ◌∷◌, ◌++◌, length, sum_by, All, refl, sym, ap, ap₂, ◌∙◌, subst, arith, append_assoc, length-append, append-nil}
+use Rattle.std.specs.Prelude.{count_by}
+use Rattle.std.specs.Cmp.{IsStrictWeakOrder}
+use Rattle.std.specs.declared.cmp.Ordering.{Ordering}
+use Rattle.std.specs.List.{AllByRecursion as Each}
+use Rattle.std.proofs.Math.Nat.{add-mul}
+use Rattle.std.proofs.lemmas.List.Sums.{sum_by-cons, sum_by-append}
+use Rattle.std.proofs.lemmas.List.Elements.{All-nil, All-append}
+use Rattle.std.proofs.lemmas.Grind.{flat_map-append}
+use Rattle.ppq_record.specs.Order.{is_before, Ascends, Le}
+use Rattle.ppq_record.specs.Bag.{IsSameBag}
+use Rattle.ppq_record.proofs.Order.{IsSameBag-append, Each_le-same_bag, Each-append_left, Each-append_right, Each-weaker, Each-append, Rising-append}
+use Rattle.ppq_block.specs.Block.{Block}
+use Rattle.ppq_outside.specs.Shown.{Shown, AllTell}
+use Rattle.ppq_array.specs.declared.berth.DeviceBlock.{DeviceBlock}
+use Rattle.ppq_array.specs.declared.store_fault.StoreFault.{StoreFault}
+use Rattle.ppq_array.specs.Run.{run_of, items_of, buffers_of}
+use Rattle.ppq_array.specs.External.{External, external, size_of, counts, records_in, block_items, blocks_items, IsPacked}
+use Rattle.ppq_array.specs.Supply.{Stock}
+use Rattle.ppq_array.specs.Owner.{slots_shown, HasBlock, HasSize}
+use Rattle.ppq_array.specs.Holdings.{external_slots, external_buffers, internal_buffers, ArrayHasSize, RunHasBlock}
+use Rattle.ppq_fetch.specs.Fetching.{State, state, held_in, slots_in, AreSources, MayFetch, PartsKept, Fetched, RunsRise, SourcesTell, source_items, blocks_in, count_in, fronts_in, one_if_some}
+use Rattle.ppq_fetch.specs.Taking.{IsTaken}
+use Rattle.ppq_spill.specs.Writing.{NoneAfter}
+use Rattle.ppq_spill.specs.Went.{Went}
+use Rattle.ppq_spill.specs.Making.{Hand, hand, hand_slots, SameRest, Wrote, WroteAll, WroteSome, Table, table, table_slots, held_slots, total, loaded_count, IsReady, Merging, MergedOn, MergeFailed, IsRising, all_records, AllFull, AllFit, IsFaultOf}
+use Rattle.ppq_spill.proofs.Going.{Went-refl, Went-trans, Went-placed}
+use Rattle.ppq_spill.proofs.Parts.{SameRest-trans, Wrote-none, hand_sum, hand_long}
+use Rattle.ppq_spill.proofs.Blocks.{counts_append, counts_full, full_fit, all_full, full_exact, packed_append, packed_full, fewer_than}
+use Rattle.ppq_spill.proofs.Telling.{untold, tell_part}
+use Rattle.ppq_spill.proofs.Fetches.{went_fit, parts_counted, slots_counted, parts_went, parts_rest, stored_count}
+
+-- at most one for each list
+one_most : {X : Type 0} (xs : List X) → one_if_some xs ≤ 1
+one_most [] = omega arith
+one_most (x ∷ xs) = omega arith
+
+pub fronts_most : {S R : Type 0} (xs : List (External S R)) → fronts_in xs ≤ length xs
+fronts_most [] = omega arith
+fronts_most {S} {R} (x ∷ xs) = omega (arith, sum_by-cons (λ (a : External S R). one_if_some (items_of a.loaded)) x xs, one_most (items_of x.loaded), fronts_most xs)
+
+module _ {S R : Type 0} (shown : S → Shown) where
+  pub table_sum : (f : Shown → ℕ) (t : Table S R) → sum_by f (table_slots shown t) ≡ sum_by f (external_slots shown t.inputs) + (sum_by f (slots_shown shown t.hand.made.stored) + sum_by f (slots_shown shown t.hand.berths) + sum_by f t.hand.stock.kept)
+  table_sum f t = omega (arith, sum_by-append f (external_slots shown t.inputs) (hand_slots shown t.hand), hand_sum shown f t.hand)
+
+  -- there is an idle buffer
+  pub some_idle : (width workers : ℕ) (s : State S R) → AreSources shown width workers s → length s.external ≡ 8 → 2 * workers + 8 ≤ length s.idle + external_buffers s.external → 1 ≤ workers → 0 < length s.idle
+  some_idle width workers s is eight buffers some = omega (arith, is.bounded, fronts_most s.external, eight, buffers, some)
+
+  -- Blocks were loaded, and then blocks written
+  pub merging_of :
+      (width workers : ℕ) (o h n : Table S R) (blocks : List (DeviceBlock S R))
+      → IsReady shown width workers o → h.hand.made ≡ o.hand.made → h.hand.berths ≡ o.hand.berths
+      → PartsKept shown (state [] o.inputs o.idle o.hand.stock) (state [] h.inputs h.idle h.hand.stock) → AreSources shown width workers (state [] h.inputs h.idle h.hand.stock)
+      → blocks_in h.inputs ≤ blocks_in o.inputs → length h.inputs ≡ length o.inputs
+      → Wrote shown (o.hand.stock.block * width) h.hand n.hand blocks → n.inputs ≡ h.inputs → length n.idle ≡ length h.idle → All (HasBlock o.hand.stock.block) n.idle
+      → length n.hand.made.stored * o.hand.stock.block < total o + o.hand.stock.block
+      → Merging shown width o n
+  merging_of width workers o h n blocks ready made berths parts sources fewer eight wrote inputs idle is_idle few =
+      let so = state [] o.inputs o.idle o.hand.stock in
+      let sh = state [] h.inputs h.idle h.hand.stock in
+      let stored : h.hand.made.stored ≡ o.hand.made.stored = ap (λ a. a.stored) made in
+      let mid = table h.inputs h.idle h.hand.made h.hand.berths h.hand.stock in
+      let first : Went 0 (blocks_in o.inputs - blocks_in h.inputs) (table_slots shown o) (table_slots shown h) =
+      Went-placed 0 (blocks_in o.inputs - blocks_in h.inputs) (slots_shown shown o.hand.made.stored ++ slots_shown shown o.hand.berths) (slots_in shown so) (slots_in shown sh) (table_slots shown o) (table_slots shown h)
+      (λ f. omega (
+        arith,
+        table_sum f o,
+        sum_by-append f (slots_shown shown o.hand.made.stored) (slots_shown shown o.hand.berths),
+        sum_by-append f (external_slots shown o.inputs) o.hand.stock.kept,
+      ))
+      (λ f. omega (
+        arith,
+        table_sum f h,
+        sum_by-append f (slots_shown shown o.hand.made.stored) (slots_shown shown o.hand.berths),
+        sum_by-append f (external_slots shown h.inputs) h.hand.stock.kept,
+        ap (λ bs. sum_by f (slots_shown shown bs)) stored,
+        ap (λ bs. sum_by f (slots_shown shown bs)) berths,
+      ))
+      (parts_went shown so sh parts) in
+      let second : Went (length blocks) 0 (table_slots shown h) (table_slots shown n) =
+      Went-placed (length blocks) 0 (external_slots shown h.inputs) (hand_slots shown h.hand) (hand_slots shown n.hand) (table_slots shown h) (table_slots shown n)
+      (λ f. sum_by-append f (external_slots shown h.inputs) (hand_slots shown h.hand))
+      (λ f. sum_by-append f (external_slots shown n.inputs) (hand_slots shown n.hand) ∙ ap (λ xs. sum_by f (external_slots shown xs) + sum_by f (hand_slots shown n.hand)) inputs)
+      wrote.went in
+      let both = Went-trans 0 (blocks_in o.inputs - blocks_in h.inputs) (length blocks) 0 (table_slots shown o) (table_slots shown h) (table_slots shown n) first second in
+      let reads : blocks_in o.inputs - blocks_in h.inputs + 0 ≡ blocks_in o.inputs - blocks_in n.inputs = (let e : blocks_in n.inputs ≡ blocks_in h.inputs = ap blocks_in inputs in omega (arith, e)) in
+      let block : h.hand.stock.block ≡ o.hand.stock.block = parts.kept.block in
+      let ext : length (external_slots shown n.inputs) ≡ length (external_slots shown h.inputs) = ap (λ xs. length (external_slots shown xs)) inputs in
+      record {
+        blocks = blocks;
+        made = wrote.made ∙ ap (λ (a : External S R). external a.level a.loaded a.lifted (a.stored ++ blocks)) made;
+        few = few;
+        fewer = subst (λ xs. blocks_in xs ≤ blocks_in o.inputs) (sym inputs) fewer;
+        eight = ap length inputs ∙ eight;
+        went = subst (λ r. Went (length blocks) r (table_slots shown o) (table_slots shown n)) reads (subst (λ w. Went w (blocks_in o.inputs - blocks_in h.inputs + 0) (table_slots shown o) (table_slots shown n)) (let e : 0 + length blocks ≡ length blocks = omega arith in e) both);
+        rest = SameRest-trans o.hand.stock h.hand.stock n.hand.stock (parts_rest shown so sh refl refl parts) wrote.rest;
+        room = omega (arith, ext, wrote.room, parts.kept.slot_room, ap length stored, ap length berths);
+        buffers = omega (arith, parts.buffers, idle, ap external_buffers inputs);
+        sizes = wrote.sizes (subst (λ (a : External S R). All (HasSize shown (o.hand.stock.block * width)) (a.stored ++ h.hand.berths)) (sym made) (subst (λ bs. All (HasSize shown (o.hand.stock.block * width)) (o.hand.made.stored ++ bs)) (sym berths) ready.sizes));
+        written = wrote.written;
+        same_idle = is_idle;
+        same_external = subst (All (ArrayHasSize shown (o.hand.stock.block * width))) (sym inputs) (subst (λ b. All (ArrayHasSize shown (b * width)) h.inputs) block sources.external);
+        same_loaded = subst (All (λ (a : External S R). RunHasBlock o.hand.stock.block a.loaded)) (sym inputs) (subst (λ b. All (λ (a : External S R). RunHasBlock b a.loaded) h.inputs) block sources.loaded);
+      }
+
+  -- nothing was merged yet
+  pub Merging-none : (width workers : ℕ) (o : Table S R) → IsReady shown width workers o → Merging shown width o o
+  Merging-none width workers o ready =
+      record {
+        blocks = [];
+        made = ap (λ bs. external o.hand.made.level o.hand.made.loaded o.hand.made.lifted bs) (sym (append-nil o.hand.made.stored));
+        few = omega (arith, ready.tight);
+        fewer = omega arith;
+        eight = refl;
+        went = subst (λ r. Went 0 r (table_slots shown o) (table_slots shown o)) (let e : 0 ≡ blocks_in o.inputs - blocks_in o.inputs = omega arith in e) (Went-refl (table_slots shown o));
+        rest = record { block = refl; drawn = refl; buffers = refl };
+        room = omega arith;
+        buffers = refl;
+        sizes = ready.sizes;
+        written = All-nil (λ (b : DeviceBlock S R). 1 ≤ (shown b.slot).writes);
+        same_idle = ready.may.sources.idle;
+        same_external = ready.may.sources.external;
+        same_loaded = ready.may.sources.loaded;
+      }
+
+  -- one batch and some more
+  pub Merging-trans : (width : ℕ) (o h n : Table S R) → Merging shown width o h → total h ≡ total o → Merging shown width h n → Merging shown width o n
+  Merging-trans width o h n a same b =
+      let W : DeviceBlock S R → Type 0 = λ b. 1 ≤ (shown b.slot).writes in
+      let block : h.hand.stock.block ≡ o.hand.stock.block = a.rest.block in
+      let both = Went-trans (length a.blocks) (blocks_in o.inputs - blocks_in h.inputs) (length b.blocks) (blocks_in h.inputs - blocks_in n.inputs) (table_slots shown o) (table_slots shown h) (table_slots shown n) a.went b.went in
+      let reads : blocks_in o.inputs - blocks_in h.inputs + (blocks_in h.inputs - blocks_in n.inputs) ≡ blocks_in o.inputs - blocks_in n.inputs = omega (arith, a.fewer, b.fewer) in
+      record {
+        blocks = a.blocks ++ b.blocks;
+        made = b.made ∙ ap (λ (m : External S R). external m.level m.loaded m.lifted (m.stored ++ b.blocks)) a.made ∙ ap (λ bs. external o.hand.made.level o.hand.made.loaded o.hand.made.lifted bs) (append_assoc o.hand.made.stored a.blocks b.blocks);
+        few = subst (λ k. length n.hand.made.stored * k < total o + k) block (subst (λ t. length n.hand.made.stored * h.hand.stock.block < t + h.hand.stock.block) same b.few);
+        fewer = omega (arith, a.fewer, b.fewer);
+        eight = b.eight ∙ a.eight;
+        went = subst (λ w. Went w (blocks_in o.inputs - blocks_in n.inputs) (table_slots shown o) (table_slots shown n)) (sym (length-append a.blocks b.blocks)) (subst (λ r. Went (length a.blocks + length b.blocks) r (table_slots shown o) (table_slots shown n)) reads both);
+        rest = SameRest-trans o.hand.stock h.hand.stock n.hand.stock a.rest b.rest;
+        room = omega (arith, a.room, b.room);
+        buffers = b.buffers ∙ a.buffers;
+        sizes = subst (λ k. All (HasSize shown (k * width)) (n.hand.made.stored ++ n.hand.berths)) block b.sizes;
+        written = All-append W a.blocks b.blocks a.written b.written;
+        same_idle = subst (λ k. All (HasBlock k) n.idle) block b.same_idle;
+        same_external = subst (λ k. All (ArrayHasSize shown (k * width)) n.inputs) block b.same_external;
+        same_loaded = subst (λ k. All (λ (a : External S R). RunHasBlock k a.loaded) n.inputs) block b.same_loaded;
+      }

@@ -1,0 +1,12 @@
+-- Slots that are moved, written and read.
+use Rattle.std.specs.Prelude.{◌↔◌, ℕ, List}
+use Rattle.ppq_outside.specs.Shown.{Shown, AllTell}
+use Rattle.ppq_array.specs.Kept.{SameSlots}
+use Rattle.ppq_spill.specs.Leveling.{MoreCalls}
+
+-- The same slots, none lost or made. No count of a slot fell; they were written and read at most so many times more, and tell just where
+-- they told
+pub record Went (writes reads : ℕ) (before now : List Shown) : Type 0 where
+  pub same : SameSlots before now
+  pub calls : MoreCalls writes reads before now
+  pub tells : AllTell before ↔ AllTell now

@@ -1,0 +1,342 @@
+//! Merging 8 arrays of a level into one of the next.
+ghost use Rattle.std.specs.Prelude.{◌≡◌, ◌+◌, ◌-◌, ◌*◌, ◌^◌, ◌<◌, ◌≤◌, ℕ, [], length, take, drop, min, vec_capacity, All, OnOk, IfOk, IfErr, IfSome, IfNone, IsErrOf, None};
+ghost use Rattle.ppq_array.specs.Run.{run_of};
+ghost use Rattle.ppq_array.specs.External.{External, external, size_of};
+ghost use Rattle.ppq_array.specs.Kept.{Kept};
+ghost use Rattle.ppq_array.specs.Holdings.{external_buffers};
+ghost use Rattle.ppq_fetch.specs.Fetching.{state, count_in, MayFetch, AreSources, Fetched, PartsKept};
+ghost use Rattle.ppq_spill.specs.Moves.{DrewSlots, FoundFewSlots};
+ghost use Rattle.ppq_spill.specs.Making.{table, IsReady, IsFaultOf, MergedOn, MergeFailed, IsEmptied, LastMerged, LastFailed};
+ghost use Rattle.ppq_spill.specs.Leveling.{held_in, count_level, MayLevel, AreOneSize, LanesStay, LevelCalls, LevelMerged, NoneForLevel, ArraysAscend, LevelFailed, LevelTells};
+
+use crate::gathering::{count_buffers, gather_level};
+use crate::making::write_batch;
+use crate::slots::{draw_slots, free_slots};
+use ppq_array::{Berth, BerthList, ExternalArray, InternalArray, StoreFault, Supply};
+use ppq_fetch::take_least;
+use ppq_lane::Lanes;
+use ppq_merge::Bench;
+use ppq_outside::{Gate, Host, Slot};
+use ppq_record::{Record, record_laws};
+
+/// Merges 8 arrays of a level into one of the next level, and of level 7 into one of level 7. The new
+/// array stands behind the others, with nothing loaded. Where the 8 ascend, so does the new one.
+///
+/// As many slots as the 8 have loaded blocks are drawn before the first block is read or written. With
+/// those and with the slots of the blocks that it reads it never wants another one. `workers` blocks
+/// are read ahead, and the workers of the bench merge `workers * block` records at a time, which are then
+/// written. Each block of the 8 that is not loaded is read once, and of the blocks that are written all
+/// but the last are full. It takes no memory.
+///
+/// `NoFreeBlock` only if a draw returned `None`, and the supply was sure of fewer slots than the 8 have
+/// loaded blocks, which are at most 8 and one for each worker. Nothing has changed then but the order of
+/// the arrays and the supply's counts and slots: slots that were drawn are kept by the supply.
+///
+/// `Device` only if a read or write of the slot with that number failed. Records may be lost then, but no
+/// slot and no buffer; what was written of the new array stands behind the others.
+pub fn merge_level<
+    H: Host,
+    S: Slot + Send + Sync,
+    R: Record + Send + Sync,
+    P: Supply<S, R>,
+    G: Gate,
+>(
+    rt: &H,
+    arrays: &mut Vec<ExternalArray<S, R>>,
+    level: u32,
+    supply: &mut P,
+    lanes: &mut Lanes<Berth<S, R>, R>,
+    bench: &mut Bench<R>,
+    gate: &G,
+) -> Result<(), StoreFault>
+    requires level { level ≤ 7 }
+    requires more { 8 < count_level level arrays.old.items }
+    requires may { MayLevel S.shown R.WIDTH bench.old.workers arrays.old.items lanes.old (P.stock supply.old) }
+    requires worker { 1 ≤ bench.old.workers }
+    requires bench { 8 ≤ length bench.old.places }
+    requires room { length arrays.old.items < vec_capacity arrays.old }
+    requires ascend { ArraysAscend R.Ord.cmp R.record_of R.WIDTH S.shown arrays.old.items (P.stock supply.old) }
+    ensures kept { Kept (P.stock supply.old) (P.stock supply.new) (held_in S.shown arrays.old.items lanes.old) (held_in S.shown arrays.new.items lanes.new) }
+    ensures tells { LevelTells S.shown arrays.old.items arrays.new.items (P.stock supply.old) (P.stock supply.new) }
+    ensures calls { LevelCalls S.shown level arrays.old.items arrays.new.items (P.stock supply.old) (P.stock supply.new) }
+    ensures home { P.home supply.new ≡ P.home supply.old }
+    ensures merged { OnOk result (LevelMerged R.Ord.cmp R.record_of R.WIDTH S.shown level arrays.old.items arrays.new.items (P.stock supply.old) (P.stock supply.new)) }
+    ensures none_free { IsErrOf result StoreFault.NoFreeBlock → NoneForLevel S.shown level bench.old.workers arrays.old.items arrays.new.items lanes.old lanes.new (P.stock supply.old) (P.stock supply.new) }
+    ensures device { (number : ℕ) → IsErrOf result (StoreFault.Device number) → LevelFailed S.shown number arrays.new.items (P.stock supply.new) }
+    ensures again { OnOk result (MayLevel S.shown R.WIDTH bench.new.workers arrays.new.items lanes.new (P.stock supply.new)) }
+    ensures may_still { IsErrOf result StoreFault.NoFreeBlock → MayLevel S.shown R.WIDTH bench.new.workers arrays.new.items lanes.new (P.stock supply.new) }
+    ensures size { AreOneSize S.shown R.WIDTH arrays.new.items lanes.new (P.stock supply.new) }
+    ensures lanes { LanesStay lanes.old lanes.new }
+    ensures idle { OnOk result (length lanes.old.idle ≤ length lanes.new.idle) }
+    ensures rooms { vec_capacity arrays.new ≡ vec_capacity arrays.old }
+    ensures workers { bench.new.workers ≡ bench.old.workers }
+    ensures bench { length bench.new.places ≡ length bench.old.places }
+{
+    gather_level(arrays, level);
+    match draw_for_last(arrays, supply) {
+        None => Err(StoreFault::NoFreeBlock),
+        Some(berths) => {
+            match merge_last(rt, arrays, level, berths, supply, lanes, bench, gate) {
+                Ok(()) => Ok(()),
+                Err(fault) => Err(fault),
+            }
+        }
+    }
+}
+
+// Draws a slot for each loaded block of the last 8 arrays. None comes where fewer are had, and they all
+// go back.
+fn draw_for_last<S: Slot, R: Record, P: Supply<S, R>>(
+    arrays: &Vec<ExternalArray<S, R>>,
+    supply: &mut P,
+) -> Option<BerthList<S, R>>
+    requires eight { 8 ≤ length arrays.now.items }
+    requires few { external_buffers arrays.now.items < 2 ^ 32 - 1 }
+    ensures all { IfSome result (λ berths. length berths ≡ external_buffers (drop (length arrays.now.items - 8) arrays.now.items)) }
+    ensures drawn { IfSome result (DrewSlots S.shown R.WIDTH (P.stock supply.old) (P.stock supply.new)) }
+    ensures few { IfNone result (FoundFewSlots (external_buffers (drop (length arrays.now.items - 8) arrays.now.items)) (P.stock supply.old) (P.stock supply.new)) }
+    ensures home { P.home supply.new ≡ P.home supply.old }
+{
+    let first = arrays.len() - 8;
+    let need = count_buffers(&arrays[first..]);
+    draw_slots(supply, need)
+}
+
+// Merges the last 8 arrays into one, which stands in their place, and returns the slots that are left.
+fn merge_last<H: Host, S: Slot + Send + Sync, R: Record + Send + Sync, P: Supply<S, R>, G: Gate>(
+    rt: &H,
+    arrays: &mut Vec<ExternalArray<S, R>>,
+    level: u32,
+    berths: BerthList<S, R>,
+    supply: &mut P,
+    lanes: &mut Lanes<Berth<S, R>, R>,
+    bench: &mut Bench<R>,
+    gate: &G,
+) -> Result<(), StoreFault>
+    requires level { level ≤ 7 }
+    requires eight { 8 ≤ length arrays.old.items }
+    requires room { length arrays.old.items < vec_capacity arrays.old }
+    requires ready { IsReady S.shown R.WIDTH bench.old.workers (table (drop (length arrays.old.items - 8) arrays.old.items) lanes.old.idle (external (min (level + 1) 7) (run_of [] 0 []) [] []) berths (P.stock supply.old)) }
+    requires worker { 1 ≤ bench.old.workers }
+    requires bench { 8 ≤ length bench.old.places }
+    requires batch { length lanes.old.batch.items ≡ bench.old.workers * (P.stock supply.old).block }
+    ensures merged { OnOk result (LastMerged R.Ord.cmp R.record_of R.WIDTH bench.old.workers S.shown (take (length arrays.old.items - 8) arrays.old.items) (table (drop (length arrays.old.items - 8) arrays.old.items) lanes.old.idle (external (min (level + 1) 7) (run_of [] 0 []) [] []) berths (P.stock supply.old)) arrays.new.items lanes.new.idle (P.stock supply.new)) }
+    ensures failed { IfErr result (LastFailed S.shown R.WIDTH (take (length arrays.old.items - 8) arrays.old.items) (table (drop (length arrays.old.items - 8) arrays.old.items) lanes.old.idle (external (min (level + 1) 7) (run_of [] 0 []) [] []) berths (P.stock supply.old)) arrays.new.items lanes.new.idle (P.stock supply.new)) }
+    ensures home { P.home supply.new ≡ P.home supply.old }
+    ensures jobs { lanes.new.jobs ≡ lanes.old.jobs }
+    ensures batch { length lanes.new.batch.items ≡ length lanes.old.batch.items }
+    ensures rooms { vec_capacity arrays.new ≡ vec_capacity arrays.old }
+    ensures workers { bench.new.workers ≡ bench.old.workers }
+    ensures bench { length bench.new.places ≡ length bench.old.places }
+{
+    let first = arrays.len() - 8;
+    let mut berths = berths;
+    let mut made = ExternalArray::empty((level + 1).min(7));
+    match merge_behind(
+        rt,
+        arrays,
+        &mut made,
+        &mut berths,
+        supply,
+        lanes,
+        bench,
+        gate,
+    ) {
+        Ok(()) => {
+            free_slots(supply, berths);
+            arrays.truncate(first);
+            arrays.push_reserved(made);
+            Ok(())
+        }
+        Err(fault) => {
+            free_slots(supply, berths);
+            arrays.push_reserved(made);
+            Err(fault)
+        }
+    }
+}
+
+// Merges the last 8 arrays into a new one.
+fn merge_behind<H: Host, S: Slot + Send + Sync, R: Record + Send + Sync, P: Supply<S, R>, G: Gate>(
+    rt: &H,
+    arrays: &mut [ExternalArray<S, R>],
+    made: &mut ExternalArray<S, R>,
+    berths: &mut BerthList<S, R>,
+    supply: &mut P,
+    lanes: &mut Lanes<Berth<S, R>, R>,
+    bench: &mut Bench<R>,
+    gate: &G,
+) -> Result<(), StoreFault>
+    requires eight { 8 ≤ length arrays.old }
+    requires ready { IsReady S.shown R.WIDTH bench.old.workers (table (drop (length arrays.old - 8) arrays.old) lanes.old.idle made.old berths.old (P.stock supply.old)) }
+    requires worker { 1 ≤ bench.old.workers }
+    requires bench { 8 ≤ length bench.old.places }
+    requires batch { length lanes.old.batch.items ≡ bench.old.workers * (P.stock supply.old).block }
+    ensures others { take (length arrays.old - 8) arrays.new ≡ take (length arrays.old - 8) arrays.old }
+    ensures merged { OnOk result (MergedOn R.Ord.cmp R.record_of R.WIDTH bench.old.workers S.shown (table (drop (length arrays.old - 8) arrays.old) lanes.old.idle made.old berths.old (P.stock supply.old)) (table (drop (length arrays.old - 8) arrays.new) lanes.new.idle made.new berths.new (P.stock supply.new))) }
+    ensures emptied { OnOk result (All IsEmptied (drop (length arrays.old - 8) arrays.new)) }
+    ensures failed { IfErr result (MergeFailed S.shown R.WIDTH (table (drop (length arrays.old - 8) arrays.old) lanes.old.idle made.old berths.old (P.stock supply.old)) (table (drop (length arrays.old - 8) arrays.new) lanes.new.idle made.new berths.new (P.stock supply.new))) }
+    ensures home { P.home supply.new ≡ P.home supply.old }
+    ensures jobs { lanes.new.jobs ≡ lanes.old.jobs }
+    ensures batch { length lanes.new.batch.items ≡ length lanes.old.batch.items }
+    ensures workers { bench.new.workers ≡ bench.old.workers }
+    ensures bench { length bench.new.places ≡ length bench.old.places }
+{
+    let first = arrays.len() - 8;
+    merge_arrays(
+        rt,
+        &mut arrays[first..],
+        made,
+        berths,
+        supply,
+        lanes,
+        bench,
+        gate,
+    )
+}
+
+// Merges 8 arrays into a new one, until nothing is left of them.
+fn merge_arrays<H: Host, S: Slot + Send + Sync, R: Record + Send + Sync, P: Supply<S, R>, G: Gate>(
+    rt: &H,
+    inputs: &mut [ExternalArray<S, R>],
+    made: &mut ExternalArray<S, R>,
+    berths: &mut BerthList<S, R>,
+    supply: &mut P,
+    lanes: &mut Lanes<Berth<S, R>, R>,
+    bench: &mut Bench<R>,
+    gate: &G,
+) -> Result<(), StoreFault>
+    requires eight { length inputs.old ≡ 8 }
+    requires ready { IsReady S.shown R.WIDTH bench.old.workers (table inputs.old lanes.old.idle made.old berths.old (P.stock supply.old)) }
+    requires worker { 1 ≤ bench.old.workers }
+    requires bench { 8 ≤ length bench.old.places }
+    requires batch { length lanes.old.batch.items ≡ bench.old.workers * (P.stock supply.old).block }
+    ensures merged { OnOk result (MergedOn R.Ord.cmp R.record_of R.WIDTH bench.old.workers S.shown (table inputs.old lanes.old.idle made.old berths.old (P.stock supply.old)) (table inputs.new lanes.new.idle made.new berths.new (P.stock supply.new))) }
+    ensures emptied { OnOk result (All IsEmptied inputs.new) }
+    ensures failed { IfErr result (MergeFailed S.shown R.WIDTH (table inputs.old lanes.old.idle made.old berths.old (P.stock supply.old)) (table inputs.new lanes.new.idle made.new berths.new (P.stock supply.new))) }
+    ensures home { P.home supply.new ≡ P.home supply.old }
+    ensures jobs { lanes.new.jobs ≡ lanes.old.jobs }
+    ensures batch { length lanes.new.batch.items ≡ length lanes.old.batch.items }
+    ensures workers { bench.new.workers ≡ bench.old.workers }
+    ensures bench { length bench.new.places ≡ length bench.old.places }
+{
+    let block = lanes.idle.at(0).block();
+    let mut last = 1;
+    while 0 < last {
+        match merge_batch(rt, inputs, made, berths, supply, lanes, bench, block, gate) {
+            Ok(count) => last = count,
+            Err(fault) => return Err(fault),
+        }
+    }
+    see_emptied(inputs);
+    Ok(())
+}
+
+// Merges the least records of 8 arrays, a batch of them, and writes them as the next blocks of a new
+// array. It returns how many they were.
+fn merge_batch<H: Host, S: Slot + Send + Sync, R: Record + Send + Sync, P: Supply<S, R>, G: Gate>(
+    rt: &H,
+    inputs: &mut [ExternalArray<S, R>],
+    made: &mut ExternalArray<S, R>,
+    berths: &mut BerthList<S, R>,
+    supply: &mut P,
+    lanes: &mut Lanes<Berth<S, R>, R>,
+    bench: &mut Bench<R>,
+    block: u32,
+    gate: &G,
+) -> Result<usize, StoreFault>
+    requires eight { length inputs.old ≡ 8 }
+    requires block { block ≡ (P.stock supply.old).block }
+    requires ready { IsReady S.shown R.WIDTH bench.old.workers (table inputs.old lanes.old.idle made.old berths.old (P.stock supply.old)) }
+    requires worker { 1 ≤ bench.old.workers }
+    requires bench { 8 ≤ length bench.old.places }
+    requires batch { length lanes.old.batch.items ≡ bench.old.workers * block }
+    ensures merged { IfOk result (λ _. MergedOn R.Ord.cmp R.record_of R.WIDTH bench.old.workers S.shown (table inputs.old lanes.old.idle made.old berths.old (P.stock supply.old)) (table inputs.new lanes.new.idle made.new berths.new (P.stock supply.new))) }
+    ensures count { IfOk result (λ count. count + count_in [] inputs.new ≡ count_in [] inputs.old) }
+    ensures end { IfOk result (λ count. count ≡ 0 → count_in [] inputs.new ≡ 0) }
+    ensures failed { IfErr result (MergeFailed S.shown R.WIDTH (table inputs.old lanes.old.idle made.old berths.old (P.stock supply.old)) (table inputs.new lanes.new.idle made.new berths.new (P.stock supply.new))) }
+    ensures home { P.home supply.new ≡ P.home supply.old }
+    ensures jobs { lanes.new.jobs ≡ lanes.old.jobs }
+    ensures batch { length lanes.new.batch.items ≡ length lanes.old.batch.items }
+    ensures workers { bench.new.workers ≡ bench.old.workers }
+    ensures bench { length bench.new.places ≡ length bench.old.places }
+{
+    record_laws::<R>();
+    match take_batch(rt, inputs, supply, lanes, bench, gate) {
+        Ok(count) => {
+            let records = &lanes.batch[..count];
+            match write_batch(rt, supply, &mut lanes.idle, berths, made, records, block) {
+                Ok(()) => Ok(count),
+                Err(fault) => Err(fault),
+            }
+        }
+        Err(fault) => Err(fault),
+    }
+}
+
+// Takes the least records of 8 arrays into the batch, as many as it has room for, or all there are. It
+// returns how many.
+fn take_batch<H: Host, S: Slot + Send + Sync, R: Record + Send + Sync, P: Supply<S, R>, G: Gate>(
+    rt: &H,
+    inputs: &mut [ExternalArray<S, R>],
+    supply: &mut P,
+    lanes: &mut Lanes<Berth<S, R>, R>,
+    bench: &mut Bench<R>,
+    gate: &G,
+) -> Result<usize, StoreFault>
+    requires eight { length inputs.old ≡ 8 }
+    requires may { MayFetch S.shown R.WIDTH bench.old.workers (state [] inputs.old lanes.old.idle (P.stock supply.old)) }
+    requires bench { 8 ≤ length bench.old.places }
+    ensures within { IfOk result (λ count. count ≤ length lanes.new.batch.items) }
+    ensures taken { IfOk result (λ count. Fetched R.Ord.cmp R.record_of R.WIDTH S.shown None (state [] inputs.old lanes.old.idle (P.stock supply.old)) (state [] inputs.new lanes.new.idle (P.stock supply.new)) (take count lanes.new.batch.items)) }
+    ensures all { IfOk result (λ count. count ≡ min (length lanes.old.batch.items) (count_in [] inputs.old)) }
+    ensures may { OnOk result (MayFetch S.shown R.WIDTH bench.old.workers (state [] inputs.new lanes.new.idle (P.stock supply.new))) }
+    ensures sources { AreSources S.shown R.WIDTH bench.old.workers (state [] inputs.new lanes.new.idle (P.stock supply.new)) }
+    ensures failed { IfErr result (λ fault. IsFaultOf (P.stock supply.new) fault) }
+    ensures parts { IfErr result (λ _. PartsKept S.shown (state [] inputs.old lanes.old.idle (P.stock supply.old)) (state [] inputs.new lanes.new.idle (P.stock supply.new))) }
+    ensures home { P.home supply.new ≡ P.home supply.old }
+    ensures jobs { lanes.new.jobs ≡ lanes.old.jobs }
+    ensures batch { length lanes.new.batch.items ≡ length lanes.old.batch.items }
+    ensures workers { bench.new.workers ≡ bench.old.workers }
+    ensures bench { length bench.new.places ≡ length bench.old.places }
+{
+    let mut internal: [InternalArray<R>; 0] = [];
+    let mut places = [0; 8];
+    let ahead = bench.workers();
+    take_least(
+        rt,
+        &mut internal,
+        inputs,
+        &mut lanes.idle,
+        &mut places,
+        bench,
+        supply,
+        None,
+        ahead,
+        &mut lanes.batch,
+        gate,
+    )
+}
+
+// Arrays that have no record have no slot and no buffer.
+fn see_emptied<S: Slot, R: Record>(arrays: &[ExternalArray<S, R>])
+    requires none { count_in [] arrays.now ≡ 0 }
+    requires lifted { All (λ (a : External S R). a.lifted ≡ []) arrays.now }
+    requires spent { All (λ (a : External S R). a.loaded.spent ≡ []) arrays.now }
+    ensures { All IsEmptied arrays.now }
+{
+    for array in arrays {
+        see_one_emptied(array);
+    }
+}
+
+// An array that has no record has no slot and no buffer.
+fn see_one_emptied<S: Slot, R: Record>(array: &ExternalArray<S, R>)
+    requires none { size_of array.now ≡ 0 }
+    requires lifted { array.now.lifted ≡ [] }
+    requires spent { array.now.loaded.spent ≡ [] }
+    ensures { IsEmptied array.now }
+{
+    let _loaded = array.loaded();
+    let _next = array.next_minimum();
+}
