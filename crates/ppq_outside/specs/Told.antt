@@ -1,5 +1,5 @@
 -- What slots, libraries and sinks tell, and how their counts rise.
-use Rattle.std.specs.Prelude.{◌≡◌, ℕ, ◌+◌, ◌-◌, ◌^◌, ◌≤◌, List, [], ◌++◌, length, take, drop, min, Option, Some, None, Result, OnErr, IsErrOf, IsSome, OnOk, ⊤}
+use Rattle.std.specs.Prelude.{◌≡◌, ◌⊎◌, ℕ, ◌+◌, ◌-◌, ◌^◌, ◌≤◌, List, [], ◌++◌, length, take, drop, min, Option, Some, None, Result, OnErr, IsErrOf, IsSome, OnOk, ⊤}
 use Rattle.ppq_outside.specs.declared.fault.OutsideFault.{OutsideFault}
 use Rattle.ppq_outside.specs.declared.fault.OutsideFault.TheVariants.{Failed, Memory}
 
@@ -43,6 +43,20 @@ pub data Reply : Type 0 where
 -- what was replied before is not forgotten
 abbrev pub Remembers : (Reply → Type 0) → (Reply → Type 0) → Type 0
 Remembers before now = (reply : Reply) → before reply → now reply
+
+-- a reply on the length of this name
+abbrev pub IsOfLength : List ℕ → Reply → Type 0
+IsOfLength asked (OfLength name size) = name ≡ asked
+IsOfLength asked (OfRead name at room given) = ⊥
+
+-- a reply to a read of this name from this place on, into room for so many bytes
+abbrev pub IsOfRead : List ℕ → ℕ → ℕ → Reply → Type 0
+IsOfRead asked from most (OfLength name size) = ⊥
+IsOfRead asked from most (OfRead name at room given) = (name ≡ asked) × (at ≡ from) × (room ≡ most)
+
+-- nothing was replied since but of this kind
+abbrev pub RepliesOnly : (Reply → Type 0) → (Reply → Type 0) → (Reply → Type 0) → Type 0
+RepliesOnly before now kind = (reply : Reply) → now reply → before reply ⊎ kind reply
 
 -- these are the bytes of a file from a place on, or its first so many that are left there; none only at or past the file's end, or
 -- for no room

@@ -1,6 +1,6 @@
 //! Named files that are read.
 ghost use Rattle.std.specs.Prelude.{◌≡◌, ◌≤◌, List, ℕ, Option, length, take, IfOk};
-ghost use Rattle.ppq_outside.specs.Told.{HasCause, TellsReply, Reply, OfLength, OfRead, Remembers};
+ghost use Rattle.ppq_outside.specs.Told.{HasCause, TellsReply, Reply, OfLength, OfRead, Remembers, RepliesOnly, IsOfLength, IsOfRead};
 
 use crate::{Host, OutsideFault};
 use std::alloc::Global;
@@ -15,7 +15,7 @@ pub trait Library {
 
     /// Whether it gave this reply: true of each reply that it gave, and of others only as far as it
     /// keeps no account of them. No code can ask it, so a caller that is proved for every library
-    /// knows it of no reply but those of its own calls.
+    /// knows it of no reply but those of its own calls, and that its calls add none but theirs.
     ghost replied: { Self → Reply → Type 0 };
 
     /// How many calls failed.
@@ -35,6 +35,7 @@ pub trait Library {
     ) -> Result<Option<u64>, OutsideFault>
         ensures replied { IfOk result (λ size. replied self.new (OfLength name.now size)) }
         ensures remembers { Remembers (replied self.old) (replied self.new) }
+        ensures asks { RepliesOnly (replied self.old) (replied self.new) (IsOfLength name.now) }
         ensures kept { told self.new ≡ told self.old }
         ensures cause { HasCause (faults self.old) (faults self.new) result };
 
@@ -53,6 +54,7 @@ pub trait Library {
         ensures bound { IfOk result (λ count. count ≤ length into.new) }
         ensures replied { IfOk result (λ count. replied self.new (OfRead name.now at (length into.new) (take count into.new))) }
         ensures remembers { Remembers (replied self.old) (replied self.new) }
+        ensures asks { RepliesOnly (replied self.old) (replied self.new) (IsOfRead name.now at (length into.old)) }
         ensures kept { told self.new ≡ told self.old }
         ensures cause { HasCause (faults self.old) (faults self.new) result };
 
