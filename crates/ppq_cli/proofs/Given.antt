@@ -1,12 +1,19 @@
 -- The bytes that reads of a library gave, piece by piece.
-use Rattle.std.proofs.Common.{◌≡◌, ℕ, ◌+◌, ◌≤◌, List, [], ◌∷◌, ◌++◌, length, take, sym, ap, ap₂, ◌∙◌, subst, arith, length-append, length-take-le, append-nil}
+use Rattle.std.proofs.Common.{◌≡◌, ℕ, ◌+◌, ◌≤◌, List, [], ◌∷◌, ◌++◌, length, take, Option, Some, None, sym, ap, ap₂, ◌∙◌, subst, arith, length-append, length-take-le, append-nil}
 use Rattle.std.specs.List.{concat}
 use Rattle.std.proofs.lemmas.List.{take-append-le}
 use Rattle.std.proofs.lemmas.List.Folds.{concat-append}
 use Rattle.std.proofs.Math.Seq.{take-append-add}
 use borrow.Rule.Slice.PartMut.{put_mid, post_of}
-use Rattle.ppq_outside.specs.Told.{Reply, OfRead, Remembers}
-use Rattle.ppq_cli.specs.Replies.{AreGiven, IsGiven}
+use Rattle.ppq_outside.specs.Told.{Reply, OfLength, OfRead, Remembers}
+use Rattle.std.specs.List.{AllZip}
+use Rattle.ppq_script.specs.declared.command.Command.{Command}
+use Rattle.ppq_script.specs.declared.numbered.Numbered.{Numbered}
+use Rattle.ppq_script.specs.Lines.{lines_of, names_of, numbered_of}
+use Rattle.ppq_script.specs.Files.{file_in, name_at}
+use Rattle.ppq_script.specs.Checking.{IsAskedFile, IsAsked}
+use Rattle.ppq_script.specs.Reading.{Reading}
+use Rattle.ppq_cli.specs.Replies.{AreGiven, IsGiven, IsReplied, IsScript}
 
 -- the beginning of a list with a piece written into it
 take-put : (a k n : ℕ) (xs ys : List ℕ) → a ≤ length xs → n ≤ length ys → take (a + n) (put_mid a k xs ys) ≡ take a xs ++ take n ys
@@ -34,3 +41,39 @@ given_more before now name old into got count k h l kept reply so_far =
       given = AreGiven-push now name 0 (length into) so_far.pieces (take count into) (AreGiven-remembered before now name 0 so_far.pieces kept so_far.given) (subst P (omega (arith, long)) reply);
       all = concat-append so_far.pieces (take count into ∷ []) ∙ ap₂ (λ (x y : List ℕ). x ++ y) so_far.all (append-nil (take count into)) ∙ sym (take-put got k count old into h l);
     }
+
+asked_remembered : (before now : Reply → Type 0) (names : List (List ℕ)) (file : Option (ℕ × ℕ)) (old new : Command) → Remembers before now → IsAskedFile before names file old new → IsAskedFile now names file old new
+asked_remembered before now names None old new kept asked = asked
+asked_remembered before now names (Some file) old new kept (length, (is, (reply, records))) = (length, (is, (kept (OfLength (name_at names file.0) (Some length)) reply, records)))
+
+all_asked_remembered : (before now : Reply → Type 0) (names : List (List ℕ)) (old new : List Numbered) → Remembers before now → AllZip (IsAsked before names) old new → AllZip (IsAsked now names) old new
+all_asked_remembered before now names [] [] kept asked = tt
+all_asked_remembered before now names [] (y ∷ ys) kept asked = absurd asked
+all_asked_remembered before now names (x ∷ xs) [] kept asked = absurd asked
+all_asked_remembered before now names (x ∷ xs) (y ∷ ys) kept (one, rest) =
+    (record { line = one.line; command = asked_remembered before now names (file_in x.command) x.command y.command kept one.command }, all_asked_remembered before now names xs ys kept rest)
+
+-- bytes that were given stay given while nothing is forgotten
+pub replied_remembered : (before now : Reply → Type 0) (name bytes : List ℕ) → Remembers before now → IsReplied before name bytes → IsReplied now name bytes
+replied_remembered before now name bytes kept is = record {
+  said = kept (OfLength name (Some (length bytes))) is.said;
+  gave = record { pieces = is.gave.pieces; given = AreGiven-remembered before now name 0 is.gave.pieces kept is.gave.given; all = is.gave.all };
+}
+
+-- a script that was loaded stays one while nothing is forgotten
+pub script_remembered :
+    (told : Option (List ℕ → Option (List ℕ))) (before now : Reply → Type 0) (name : List ℕ) (workers : ℕ) (script : Reading)
+    → Remembers before now → IsScript told before name workers script → IsScript told now name workers script
+script_remembered told before now name workers script kept is = record {
+  bytes = is.bytes;
+  short = is.short;
+  loaded = is.loaded;
+  given = replied_remembered before now name is.bytes kept is.given;
+  good = is.good;
+  names = is.names;
+  asked = all_asked_remembered before now (names_of (lines_of is.bytes)) (numbered_of 1 (lines_of is.bytes)) script.commands kept is.asked;
+  usable = is.usable;
+  lengths = is.lengths;
+  ready = is.ready;
+  same_workers = is.same_workers;
+}

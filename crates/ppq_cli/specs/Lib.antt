@@ -1,3 +1,4 @@
+pub mod Device
 pub mod Load
 pub mod Replies
 pub mod Report

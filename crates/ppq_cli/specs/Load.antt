@@ -1,33 +1,49 @@
--- Loading a file of a library.
-use Rattle.std.specs.Prelude.{◌≡◌, ℕ, ◌<◌, List, length, Option, Some, None, IfSome, ⊤}
+-- Loading a script from a library.
+use Rattle.std.specs.Prelude.{◌≡◌, ℕ, ◌<◌, ◌≤◌, List, length, Option, Some, None, IfSome, ⊤}
 use Rattle.ppq_outside.specs.Told.{bytes_or_none}
 use Rattle.ppq_outside.specs.declared.fault.OutsideFault.{OutsideFault}
 use Rattle.ppq_outside.specs.declared.fault.OutsideFault.TheVariants as outside
+use Rattle.ppq_script.specs.Lines.{lines_of, first_bad_by}
+use Rattle.ppq_script.specs.Files.{is_usable}
+use Rattle.ppq_script.specs.declared.check.CheckFault.{CheckFault}
+use Rattle.ppq_script.specs.declared.check.CheckFault.TheVariants as check
 use Rattle.ppq_engine.specs.declared.end.End.{End}
 use Rattle.ppq_engine.specs.declared.end.End.TheVariants as end
 use Rattle.ppq_cli.specs.declared.load.LoadFault.{LoadFault}
-use Rattle.ppq_cli.specs.declared.load.LoadFault.TheVariants.{ReadFault, Memory, NoScript, ScriptTooLong, FileChanged}
+use Rattle.ppq_cli.specs.declared.load.LoadFault.TheVariants.{ReadFault, Memory, NoScript, ScriptTooLong, FileChanged, BadLine}
 
 -- a library's fault as a fault of loading
 abbrev pub load_fault_of : OutsideFault → LoadFault
 load_fault_of outside.Failed = ReadFault
 load_fault_of outside.Memory = Memory
 
+-- a fault of checking a script's files as a fault of loading
+abbrev pub check_fault_load : CheckFault → LoadFault
+check_fault_load (check.BadLine line) = BadLine line
+check_fault_load check.ReadFault = ReadFault
+check_fault_load check.Memory = Memory
+
 -- where the library tells, these are the file's bytes
 abbrev pub IsLoaded : Option (List ℕ → Option (List ℕ)) → List ℕ → List ℕ → Type 0
 IsLoaded told name bytes = IfSome told (λ files. files name ≡ Some bytes)
 
--- what a refusal says of the file that is told
-abbrev pub Refuses : Option (List ℕ) → LoadFault → Type 0
-Refuses file ReadFault = ⊤
-Refuses file Memory = ⊤
-Refuses file NoScript = file ≡ None
-Refuses file ScriptTooLong = 1048576 < length (bytes_or_none file)
-Refuses file (FileChanged said got) = ⊥
+-- a script of these bytes is not too long, and this is its first line that is bad or names a file that cannot be used
+pub record HasBadLine (files : List ℕ → Option (List ℕ)) (bytes : List ℕ) (line : ℕ) : Type 0 where
+  pub short : length bytes ≤ 1048576
+  pub first : first_bad_by (is_usable files) 1 (lines_of bytes) ≡ Some line
+
+-- what a refusal says of the file that is told, among these files
+abbrev pub Refuses : (List ℕ → Option (List ℕ)) → Option (List ℕ) → LoadFault → Type 0
+Refuses files file ReadFault = ⊤
+Refuses files file Memory = ⊤
+Refuses files file NoScript = file ≡ None
+Refuses files file ScriptTooLong = 1048576 < length (bytes_or_none file)
+Refuses files file (FileChanged said got) = ⊥
+Refuses files file (BadLine line) = (bytes : List ℕ) × (file ≡ Some bytes) × HasBadLine files bytes line
 
 -- where the library tells, the refusal is right
 abbrev pub IsNotLoaded : Option (List ℕ → Option (List ℕ)) → List ℕ → LoadFault → Type 0
-IsNotLoaded told name fault = IfSome told (λ files. Refuses (files name) fault)
+IsNotLoaded told name fault = IfSome told (λ files. Refuses files (files name) fault)
 
 -- a fault of loading as an end
 abbrev pub load_end : LoadFault → End
@@ -36,3 +52,4 @@ load_end Memory = end.Memory
 load_end NoScript = end.NoScript
 load_end ScriptTooLong = end.ScriptTooLong
 load_end (FileChanged said got) = end.FileChanged 0 said got
+load_end (BadLine line) = end.BadLine line

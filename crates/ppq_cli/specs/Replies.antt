@@ -1,12 +1,24 @@
 -- What a library replied of a file, and how a run ends for it. It is said of every library, also of one that does not tell.
-use Rattle.std.specs.Prelude.{◌≡◌, ℕ, ◌+◌, ◌<◌, List, [], ◌∷◌, length, Option, Some, None, ⊤}
-use Rattle.std.specs.List.{concat}
-use Rattle.ppq_outside.specs.Told.{Reply, OfLength, OfRead, TakesAll, TakesPart}
-use Rattle.ppq_script.specs.Lines.{lines_of, first_bad}
-use Rattle.ppq_engine.specs.Output.{load_of, TakesWithin}
+use Rattle.std.specs.Prelude.{◌≡◌, ◌⊎◌, ℕ, ◌+◌, ◌<◌, ◌≤◌, List, [], ◌∷◌, length, take, slice_get, Option, Some, None, IfSome, IsTrue, ⊤}
+use Rattle.std.specs.List.{AllZip, concat}
+use Rattle.ppq_record.specs.declared.pair.Pair.{Pair}
+use Rattle.ppq_outside.specs.Shown.{Shown}
+use Rattle.ppq_outside.specs.Told.{Reply, OfLength, OfRead, RepliesOnly, TakesAll, TakesPart}
+use Rattle.ppq_budget.specs.Sizes.{Numbers, fixed_of}
+use Rattle.ppq_script.specs.declared.command.Command.{Command}
+use Rattle.ppq_script.specs.declared.command.Command.TheVariants.{Bulk}
+use Rattle.ppq_script.specs.Lines.{lines_of, numbered_of, names_of, first_bad, first_bad_by}
+use Rattle.ppq_script.specs.Files.{is_usable, IsBadLine}
+use Rattle.ppq_script.specs.Checking.{IsAsked, with_sizes}
+use Rattle.ppq_script.specs.Reading.{Reading, command_list}
+use Rattle.ppq_engine.specs.Loads.{most_of, least_of, IsTooMuch, FitsWritten}
+use Rattle.ppq_engine.specs.Output.{AreFilesOf, given_of, output_of, load_of, crest_of, TakesWithin}
+use Rattle.ppq_engine.specs.Running.{EndsAt, HasChanged}
 use Rattle.ppq_engine.specs.declared.end.End.{End}
 use Rattle.ppq_engine.specs.declared.end.End.TheVariants.{Done, BadLine, Usage, ReadFault, WriteFault, DeviceFault, NoFreeBlock, BudgetTooSmall, Memory, FileChanged, NoDevice, NoScript, ScriptTooLong}
-use Rattle.ppq_cli.specs.Words.{script_commands, script_output, plain_heap}
+use Rattle.ppq_cli.specs.declared.load.LoadFault.{LoadFault}
+use Rattle.ppq_cli.specs.declared.load.LoadFault.TheVariants as load
+use Rattle.ppq_cli.specs.Load.{IsLoaded}
 
 -- reads of this file gave these pieces, one after the other with no gap, from a place on
 abbrev pub AreGiven : (Reply → Type 0) → List ℕ → ℕ → List (List ℕ) → Type 0
@@ -24,13 +36,18 @@ pub record IsReplied (replied : Reply → Type 0) (name bytes : List ℕ) : Type
   pub said : replied (OfLength name (Some (length bytes)))
   pub gave : IsGiven replied name bytes
 
+-- a reply on a length; or to a read that ends at or before a length that was said of its file
+abbrev pub IsInLength : (Reply → Type 0) → Reply → Type 0
+IsInLength replied (OfLength name size) = ⊤
+IsInLength replied (OfRead name at room given) = (said : ℕ) × (replied (OfLength name (Some said)) × (at + room ≤ said))
+
+-- since then only lengths were asked, and bytes at places before a length that was said of their file
+abbrev pub ReadsWithin : (Reply → Type 0) → (Reply → Type 0) → Type 0
+ReadsWithin before now = RepliesOnly before now (IsInLength now)
+
 -- the length of this file was said, and it is above that of the longest script
 abbrev pub IsTooLong : (Reply → Type 0) → List ℕ → Type 0
 IsTooLong replied name = (size : ℕ) × ((1048576 < size) × replied (OfLength name (Some size)))
-
--- a read of this file into room for a byte or more gave nothing at this place
-abbrev pub EndsAt : (Reply → Type 0) → List ℕ → ℕ → Type 0
-EndsAt replied name got = (room : ℕ) × ((0 < room) × replied (OfRead name got room []))
 
 -- the length of this file was said, and a read before it gave nothing; it is the script, and the library does not tell
 pub record IsCutShort (told : Option (List ℕ → Option (List ℕ))) (replied : Reply → Type 0) (name : List ℕ) (line said got : ℕ) : Type 0 where
@@ -40,39 +57,125 @@ pub record IsCutShort (told : Option (List ℕ → Option (List ℕ))) (replied 
   pub read : EndsAt replied name got
   pub untold : told ≡ None
 
--- the end refuses the script, and rests on what the library replied of it
-abbrev pub IsRefusal : Option (List ℕ → Option (List ℕ)) → (Reply → Type 0) → List ℕ → End → Type 0
-IsRefusal told replied name Done = ⊤
-IsRefusal told replied name (BadLine line) = (bytes : List ℕ) × (IsReplied replied name bytes × (first_bad 1 (lines_of bytes) ≡ Some line))
-IsRefusal told replied name Usage = ⊤
-IsRefusal told replied name ReadFault = ⊤
-IsRefusal told replied name WriteFault = ⊤
-IsRefusal told replied name (DeviceFault number) = ⊤
-IsRefusal told replied name NoFreeBlock = ⊤
-IsRefusal told replied name (BudgetTooSmall need) = ⊤
-IsRefusal told replied name Memory = ⊤
-IsRefusal told replied name (FileChanged line said got) = IsCutShort told replied name line said got
-IsRefusal told replied name NoDevice = ⊤
-IsRefusal told replied name NoScript = replied (OfLength name None)
-IsRefusal told replied name ScriptTooLong = IsTooLong replied name
+-- the library gave the script as bytes of which this is the first line that is bad, or names a file that by its reply cannot be used
+abbrev pub IsBadAt : (Reply → Type 0) → List ℕ → ℕ → Type 0
+IsBadAt replied name line = (bytes : List ℕ) × (IsReplied replied name bytes × IsBadLine replied 1 (lines_of bytes) line)
 
--- the fact holds of bytes as which the library gave a script without a bad line
-abbrev pub OfGood : (Reply → Type 0) → List ℕ → (List ℕ → Type 0) → Type 0
-OfGood replied name P = (bytes : List ℕ) × (IsReplied replied name bytes × ((first_bad 1 (lines_of bytes) ≡ None) × P bytes))
+-- why a script was not loaded rests on what the library replied of it
+abbrev pub IsUnloaded : Option (List ℕ → Option (List ℕ)) → (Reply → Type 0) → List ℕ → LoadFault → Type 0
+IsUnloaded told replied name load.ReadFault = ⊤
+IsUnloaded told replied name load.Memory = ⊤
+IsUnloaded told replied name load.NoScript = replied (OfLength name None)
+IsUnloaded told replied name load.ScriptTooLong = IsTooLong replied name
+IsUnloaded told replied name (load.FileChanged said got) = IsCutShort told replied name 0 said got
+IsUnloaded told replied name (load.BadLine line) = IsBadAt replied name line
 
--- the end is that of a run of the script as the library gave it: where the sink tells, it took all of the output, or a prefix of it
--- where the sink failed; or a push found no room, the load is above one heap, and it took what is printed within that load
-abbrev pub IsRunOf : (Reply → Type 0) → List ℕ → Option (List ℕ) → Option (List ℕ) → End → Type 0
-IsRunOf replied name before now Done = OfGood replied name (λ bytes. TakesAll before now (script_output bytes))
-IsRunOf replied name before now (BadLine line) = ⊤
-IsRunOf replied name before now Usage = ⊤
-IsRunOf replied name before now ReadFault = ⊤
-IsRunOf replied name before now WriteFault = OfGood replied name (λ bytes. TakesPart before now (script_output bytes))
-IsRunOf replied name before now (DeviceFault number) = ⊤
-IsRunOf replied name before now NoFreeBlock = OfGood replied name (λ bytes. (plain_heap < load_of (script_commands bytes)) × (TakesPart before now (script_output bytes) × TakesWithin before now plain_heap (script_commands bytes)))
-IsRunOf replied name before now (BudgetTooSmall need) = ⊤
-IsRunOf replied name before now Memory = ⊤
-IsRunOf replied name before now (FileChanged line said got) = ⊤
-IsRunOf replied name before now NoDevice = ⊤
-IsRunOf replied name before now NoScript = ⊤
-IsRunOf replied name before now ScriptTooLong = ⊤
+-- A script that was loaded and has no bad line, and the bytes as which the library gave it: its commands are those of the bytes, with
+-- the lengths that the library said of their files.
+pub record IsScript (told : Option (List ℕ → Option (List ℕ))) (replied : Reply → Type 0) (name : List ℕ) (workers : ℕ) (script : Reading) : Type 0 where
+  pub bytes : List ℕ
+  pub short : length bytes ≤ 1048576
+  pub loaded : IsLoaded told name bytes
+  pub given : IsReplied replied name bytes
+  pub good : first_bad 1 (lines_of bytes) ≡ None
+  pub names : script.names ≡ names_of (lines_of bytes)
+  pub asked : AllZip (IsAsked replied (names_of (lines_of bytes))) (numbered_of 1 (lines_of bytes)) script.commands
+  pub usable : IfSome told (λ files. first_bad_by (is_usable files) 1 (lines_of bytes) ≡ None)
+  pub lengths : IfSome told (λ files. script.commands ≡ with_sizes files (names_of (lines_of bytes)) (numbered_of 1 (lines_of bytes)))
+  pub ready : IsTrue script.checked
+  pub same_workers : script.workers ≡ workers
+
+-- the fact holds of a script as which the library gave this file
+abbrev pub OfGood : Option (List ℕ → Option (List ℕ)) → (Reply → Type 0) → List ℕ → Numbers → (Reading → Type 0) → Type 0
+OfGood told replied name sizes P = (script : Reading) × (IsScript told replied name sizes.workers script × P script)
+
+-- and the budget is no less than its fixed part
+abbrev pub OfRun : Option (List ℕ → Option (List ℕ)) → (Reply → Type 0) → List ℕ → Numbers → (Reading → Type 0) → Type 0
+OfRun told replied name sizes P = (fixed_of sizes ≤ sizes.memory) × OfGood told replied name sizes P
+
+-- the budget is below its fixed part, which is so many records
+abbrev pub IsTooSmall : Numbers → ℕ → Type 0
+IsTooSmall sizes need = (sizes.memory < fixed_of sizes) × (need ≡ fixed_of sizes)
+
+-- the end refuses the script, and rests on what the library replied of it and its files
+abbrev pub IsRefusal : Option (List ℕ → Option (List ℕ)) → (Reply → Type 0) → List ℕ → Numbers → End → Type 0
+IsRefusal told replied name sizes Done = ⊤
+IsRefusal told replied name sizes (BadLine line) = IsBadAt replied name line
+IsRefusal told replied name sizes Usage = ⊥
+IsRefusal told replied name sizes ReadFault = ⊤
+IsRefusal told replied name sizes WriteFault = ⊤
+IsRefusal told replied name sizes (DeviceFault number) = ⊤
+IsRefusal told replied name sizes NoFreeBlock = ⊤
+IsRefusal told replied name sizes (BudgetTooSmall need) = IsTooSmall sizes need × OfGood told replied name sizes (λ script. ⊤)
+IsRefusal told replied name sizes Memory = ⊤
+IsRefusal told replied name sizes (FileChanged line said got) =
+    IsCutShort told replied name line said got ⊎ OfRun told replied name sizes (λ script. HasChanged told replied script line said got)
+IsRefusal told replied name sizes NoDevice = OfRun told replied name sizes (λ script. ⊤)
+IsRefusal told replied name sizes NoScript = replied (OfLength name None)
+IsRefusal told replied name sizes ScriptTooLong = IsTooLong replied name
+
+-- What follows is of a script that was run: where blocks and sink tell, and for all files that the library tells, or any where the
+-- script reads none.
+
+-- the fact holds of the records of its files and its commands
+abbrev pub ForFiles : Type 0 → Option (List ℕ → Option (List ℕ)) → Reading → ((ℕ → List Pair) → List Command → Type 0) → Type 0
+ForFiles tells told script P = tells → (files : List ℕ → Option (List ℕ)) → AreFilesOf told script files → P (given_of files script) (command_list script)
+
+-- The sink took all of the output. The device was used: no more records than the budget and a block for each write were ever held.
+pub record HasRunWhole (tells : Type 0) (told : Option (List ℕ → Option (List ℕ))) (sizes : Numbers) (before now : Option (List ℕ)) (blocks : List Shown) (script : Reading) : Type 0 where
+  pub took : ForFiles tells told script (λ given commands. TakesAll before now (output_of given commands))
+  pub crest : ForFiles tells told script (λ given commands. FitsWritten (crest_of given commands) sizes blocks)
+  pub least : FitsWritten (least_of (command_list script)) sizes blocks
+
+-- the sink took a prefix of the output
+abbrev pub HasRunPart : Type 0 → Option (List ℕ → Option (List ℕ)) → Option (List ℕ) → Option (List ℕ) → Reading → Type 0
+HasRunPart tells told before now script = ForFiles tells told script (λ given commands. TakesPart before now (output_of given commands))
+
+-- the load is above one heap and the device has too few blocks for it; the sink took what is printed before that, and no more than a
+-- prefix of the output
+pub record HasRunFull (tells : Type 0) (told : Option (List ℕ → Option (List ℕ))) (sizes : Numbers) (before now : Option (List ℕ)) (script : Reading) : Type 0 where
+  pub part : HasRunPart tells told before now script
+  pub within : ForFiles tells told script (λ given commands. TakesWithin given before now sizes commands)
+  pub above : ForFiles tells told script (λ given commands. IsTooMuch sizes (load_of given commands))
+  pub above_any : IsTooMuch sizes (most_of (command_list script))
+
+-- the sink took the output of the commands before one that reads a file
+pub record HasRunToFile (tells : Type 0) (told : Option (List ℕ → Option (List ℕ))) (before now : Option (List ℕ)) (script : Reading) : Type 0 where
+  pub done : ℕ
+  pub file : ℕ
+  pub size : ℕ
+  pub here : slice_get (command_list script) done ≡ Some (Bulk file size)
+  pub took : ForFiles tells told script (λ given commands. TakesAll before now (output_of given (take done commands)))
+
+-- where a file could not be read, or had changed, the sink took the output of the commands before one that reads a file
+abbrev pub FaultToFile : Type 0 → Option (List ℕ → Option (List ℕ)) → Option (List ℕ) → Option (List ℕ) → Reading → End → Type 0
+FaultToFile tells told before now script Done = ⊤
+FaultToFile tells told before now script (BadLine line) = ⊤
+FaultToFile tells told before now script Usage = ⊤
+FaultToFile tells told before now script ReadFault = HasRunToFile tells told before now script
+FaultToFile tells told before now script WriteFault = ⊤
+FaultToFile tells told before now script (DeviceFault number) = ⊤
+FaultToFile tells told before now script NoFreeBlock = ⊤
+FaultToFile tells told before now script (BudgetTooSmall need) = ⊤
+FaultToFile tells told before now script Memory = ⊤
+FaultToFile tells told before now script (FileChanged line said got) = HasRunToFile tells told before now script
+FaultToFile tells told before now script NoDevice = ⊤
+FaultToFile tells told before now script NoScript = ⊤
+FaultToFile tells told before now script ScriptTooLong = ⊤
+
+-- The end is that of a run of the script as the library gave it. After `ReadFault`, `FileChanged` and `Memory` nothing was written, or
+-- the script reads a file and was run as far as that.
+abbrev pub IsRunOf : Type 0 → Option (List ℕ → Option (List ℕ)) → (Reply → Type 0) → List ℕ → Numbers → Option (List ℕ) → Option (List ℕ) → List Shown → End → Type 0
+IsRunOf tells told replied name sizes before now blocks Done = OfRun told replied name sizes (HasRunWhole tells told sizes before now blocks)
+IsRunOf tells told replied name sizes before now blocks (BadLine line) = ⊤
+IsRunOf tells told replied name sizes before now blocks Usage = ⊤
+IsRunOf tells told replied name sizes before now blocks ReadFault = (now ≡ before) ⊎ OfRun told replied name sizes (HasRunToFile tells told before now)
+IsRunOf tells told replied name sizes before now blocks WriteFault = OfRun told replied name sizes (HasRunPart tells told before now)
+IsRunOf tells told replied name sizes before now blocks (DeviceFault number) = OfRun told replied name sizes (HasRunPart tells told before now)
+IsRunOf tells told replied name sizes before now blocks NoFreeBlock = OfRun told replied name sizes (HasRunFull tells told sizes before now)
+IsRunOf tells told replied name sizes before now blocks (BudgetTooSmall need) = ⊤
+IsRunOf tells told replied name sizes before now blocks Memory = (now ≡ before) ⊎ OfGood told replied name sizes (HasRunToFile tells told before now)
+IsRunOf tells told replied name sizes before now blocks (FileChanged line said got) = (now ≡ before) ⊎ OfRun told replied name sizes (HasRunToFile tells told before now)
+IsRunOf tells told replied name sizes before now blocks NoDevice = ⊤
+IsRunOf tells told replied name sizes before now blocks NoScript = ⊤
+IsRunOf tells told replied name sizes before now blocks ScriptTooLong = ⊤

@@ -1,90 +1,90 @@
--- The words of the command line, and what a run answers.
-use Rattle.std.specs.Prelude.{◌≡◌, ◌⊎◌, ℕ, List, [], ◌∷◌, length, Option, Some, None, if◌then◌else◌, bytes_eq, codes, string_bytes, String, IfSome, nat_lt, ⊤, MatchOption, ◌==◌, IsSomeAnd, map}
-use Rattle.std.specs.Borrow.{Bor}
-use Rattle.std.specs.declared.alloc.Global.{Global}
-use Rattle.ppq_engine.specs.declared.end.End.{End}
-use Rattle.ppq_engine.specs.declared.end.End.TheVariants.{Done, BadLine, Usage, ReadFault, WriteFault, DeviceFault, NoFreeBlock, BudgetTooSmall, Memory, FileChanged, NoDevice, NoScript, ScriptTooLong}
-use Rattle.ppq_budget.specs.Sizes.{Numbers, numbers, heap_of}
-use Rattle.ppq_engine.specs.Output.{output_of}
-use Rattle.ppq_engine.specs.Ends.{IsRun}
+-- What a run answers to the words of the command line, and what its script writes.
+use Rattle.std.specs.Prelude.{◌≡◌, ◌⊎◌, ℕ, List, length, Option, Some, None, if◌then◌else◌, IfSome, nat_lt, MatchOption, map}
+use Rattle.ppq_record.specs.declared.pair.Pair.{Pair}
+use Rattle.ppq_record.specs.Given.{records_of}
+use Rattle.ppq_outside.specs.Told.{bytes_or_none}
+use Rattle.ppq_budget.specs.Sizes.{Numbers}
 use Rattle.ppq_script.specs.declared.command.Command.{Command}
-use Rattle.ppq_script.specs.Lines.{lines_of, numbered_of, first_bad}
+use Rattle.ppq_script.specs.Lines.{lines_of, numbered_of, names_of, first_bad_by}
+use Rattle.ppq_script.specs.Files.{name_at, is_usable}
+use Rattle.ppq_script.specs.Checking.{with_sizes}
+use Rattle.ppq_words.specs.Reading.{Reading}
+use Rattle.ppq_engine.specs.declared.end.End.{End}
+use Rattle.ppq_engine.specs.declared.end.End.TheVariants.{BadLine, Usage, ReadFault, Memory, NoDevice, NoScript, ScriptTooLong}
+use Rattle.ppq_engine.specs.Output.{output_of, load_of, crest_of, TakesWithin}
+use Rattle.ppq_engine.specs.Loads.{most_of, HasRoom}
+use Rattle.ppq_engine.specs.Ends.{IsRun, budget_refusal}
 
--- a word that may name a script: it is not empty and does not begin with `-`
-abbrev pub plain_word : List ℕ → Option (List ℕ)
-plain_word [] = None
-plain_word (b ∷ bs) = if b == 45 then None else Some (b ∷ bs)
+-- the commands of a script of these bytes, where these are the files: each that reads one has its length
+abbrev pub script_commands : (List ℕ → Option (List ℕ)) → List ℕ → List Command
+script_commands files bytes = map (λ n. n.command) (with_sizes files (names_of (lines_of bytes)) (numbered_of 1 (lines_of bytes)))
 
--- the name of the script: the words are `run` and a plain word
-abbrev pub script_name : List (String Global) → Option (List ℕ)
-script_name (first ∷ second ∷ []) = if bytes_eq (string_bytes first) (codes "run") then plain_word (string_bytes second) else None
-script_name words = None
+-- the records of its file with this number
+abbrev pub script_given : (List ℕ → Option (List ℕ)) → List ℕ → ℕ → List Pair
+script_given files bytes file = records_of (bytes_or_none (files (name_at (names_of (lines_of bytes)) file)))
 
--- the answer that refuses a script before it is run, and none to a script that is run: first that it is not there, then that
--- it is too long, then its first bad line
-abbrev pub refusal_of_bad : Option ℕ → Option End
-refusal_of_bad None = None
-refusal_of_bad (Some line) = Some (BadLine line)
+-- what it writes
+abbrev pub script_output : (List ℕ → Option (List ℕ)) → List ℕ → List ℕ
+script_output files bytes = output_of (script_given files bytes) (script_commands files bytes)
 
-abbrev pub refusal_of_file : Option (List ℕ) → Option End
-refusal_of_file None = Some NoScript
-refusal_of_file (Some bytes) = if nat_lt 1048576 (length bytes) then Some ScriptTooLong else refusal_of_bad (first_bad 1 (lines_of bytes))
+-- the greatest size of its bag, after any command and after one outside a session
+abbrev pub script_load : (List ℕ → Option (List ℕ)) → List ℕ → ℕ
+script_load files bytes = load_of (script_given files bytes) (script_commands files bytes)
+
+abbrev pub script_crest : (List ℕ → Option (List ℕ)) → List ℕ → ℕ
+script_crest files bytes = crest_of (script_given files bytes) (script_commands files bytes)
+
+-- the sink took what its first commands write, as long as there is room for their load
+abbrev pub TakesRoom : (List ℕ → Option (List ℕ)) → List ℕ → Option (List ℕ) → Option (List ℕ) → Numbers → Type 0
+TakesRoom files bytes before now sizes = TakesWithin (script_given files bytes) before now sizes (script_commands files bytes)
+
+-- the answer that refuses a script before its device is made, and none to another: first that it is not there, then that it is too
+-- long, then its first line that is bad or names a file that cannot be used, then that the budget is too small
+abbrev pub refusal_of_bad : Option ℕ → Numbers → Option End
+refusal_of_bad None sizes = budget_refusal sizes
+refusal_of_bad (Some line) sizes = Some (BadLine line)
+
+abbrev pub refusal_of_file : (List ℕ → Option (List ℕ)) → Option (List ℕ) → Numbers → Option End
+refusal_of_file files None sizes = Some NoScript
+refusal_of_file files (Some bytes) sizes = if nat_lt 1048576 (length bytes) then Some ScriptTooLong else refusal_of_bad (first_bad_by (is_usable files) 1 (lines_of bytes)) sizes
 
 -- before all of them, that the words have no reading
-abbrev pub refusal_of : Option (List ℕ) → (List ℕ → Option (List ℕ)) → Option End
+abbrev pub refusal_of : Option Reading → (List ℕ → Option (List ℕ)) → Option End
 refusal_of None files = Some Usage
-refusal_of (Some name) files = refusal_of_file (files name)
+refusal_of (Some reading) files = refusal_of_file files (files reading.script) reading.sizes
+
+-- the script was run, or its device could not be made
+abbrev pub IsTried : End → Type 0
+IsTried end = IsRun end ⊎ (end ≡ NoDevice)
 
 -- want of memory or a failed read
 abbrev pub IsGivenUp : End → Type 0
 IsGivenUp end = (end ≡ Memory) ⊎ (end ≡ ReadFault)
 
+-- the ends after which something may have been written
+abbrev pub MayWrite : End → Type 0
+MayWrite end = IsRun end ⊎ (end ≡ Memory)
+
 -- the refusal, where there is one, and only then; or it gave up
 abbrev pub IsAnswer : Option End → End → Type 0
-IsAnswer refusal end = MatchOption refusal (IsRun end) (λ e. end ≡ e) ⊎ IsGivenUp end
+IsAnswer refusal end = MatchOption refusal (IsTried end) (λ e. end ≡ e) ⊎ IsGivenUp end
 
--- the commands of a script of these bytes
-abbrev pub script_commands : List ℕ → List Command
-script_commands bytes = map (λ n. n.command) (numbered_of 1 (lines_of bytes))
+-- the same of a script that was loaded: or memory was wanting
+abbrev pub IsTriedOrRefusal : Option End → End → Type 0
+IsTriedOrRefusal refusal end = MatchOption refusal (IsTried end) (λ e. end ≡ e) ⊎ (end ≡ Memory)
 
--- what it writes
-abbrev pub script_output : List ℕ → List ℕ
-script_output bytes = output_of (script_commands bytes)
+-- where the library tells, the fact holds of its files and the bytes of the one with this name, if it is there
+abbrev pub OfFile : Option (List ℕ → Option (List ℕ)) → List ℕ → ((List ℕ → Option (List ℕ)) → List ℕ → Type 0) → Type 0
+OfFile told name P = IfSome told (λ files. IfSome (files name) (P files))
 
--- the sizes of each run until the words name numbers: 4 workers, 4096 records a block, 8 blocks a heap, 1048576 records of
--- budget and no block of the device
-abbrev pub plain_sizes : Numbers
-plain_sizes = numbers 4 4096 8 1048576 0
+-- the same of the script that the words name
+abbrev pub OfScript : Option (List ℕ → Option (List ℕ)) → Option Reading → (Reading → (List ℕ → Option (List ℕ)) → List ℕ → Type 0) → Type 0
+OfScript told reading P = IfSome reading (λ r. OfFile told r.script (P r))
 
--- how many records one heap holds
-abbrev pub plain_heap : ℕ
-plain_heap = heap_of plain_sizes
+-- there is room for the load of the script that the words name
+abbrev pub HasRoomIn : (List ℕ → Option (List ℕ)) → Option Reading → Type 0
+HasRoomIn files reading = IfSome reading (λ r. IfSome (files r.script) (λ bytes. HasRoom r.sizes (script_load files bytes)))
 
--- a text that is the name, where there is one
-abbrev pub Named : Option (List ℕ) → Option (Bor (List ℕ)) → Type 0
-Named None text = text ≡ None
-Named (Some name) text = IsSomeAnd text (λ t. t.now ≡ name)
-
--- the fact holds of the script's bytes, where the words name a script that is there
-abbrev pub ScriptIn : (List ℕ → Option (List ℕ)) → Option (List ℕ) → (List ℕ → Type 0) → Type 0
-ScriptIn files name P = IfSome name (λ n. IfSome (files n) P)
-
--- and where the library tells
-abbrev pub OfScript : Option (List ℕ → Option (List ℕ)) → Option (List ℕ) → (List ℕ → Type 0) → Type 0
-OfScript told name P = IfSome told (λ files. ScriptIn files name P)
-
--- the ends that can come so far
-abbrev pub MayCome : End → Type 0
-MayCome Done = ⊤
-MayCome (BadLine line) = ⊤
-MayCome Usage = ⊤
-MayCome ReadFault = ⊤
-MayCome WriteFault = ⊤
-MayCome (DeviceFault number) = ⊥
-MayCome NoFreeBlock = ⊤
-MayCome (BudgetTooSmall need) = ⊥
-MayCome Memory = ⊤
-MayCome (FileChanged line said got) = ⊤
-MayCome NoDevice = ⊥
-MayCome NoScript = ⊤
-MayCome ScriptTooLong = ⊤
+-- the same for the greatest load that its commands tell
+abbrev pub HasRoomForMost : (List ℕ → Option (List ℕ)) → Option Reading → Type 0
+HasRoomForMost files reading = IfSome reading (λ r. IfSome (files r.script) (λ bytes. HasRoom r.sizes (most_of (script_commands files bytes))))

@@ -1,12 +1,17 @@
 //! Loads a script from a library.
 ghost use Rattle.std.specs.Prelude.{◌≡◌, ◌≤◌, ◌<◌, ◌+◌, Some, length, take, IfOk, OnOk, IfErr, IsErrOf, vec_len};
-ghost use Rattle.ppq_outside.specs.Told.{HasCause, Rose, OfLength, Remembers};
+ghost use Rattle.ppq_outside.specs.Told.{HasCause, Rose, OfLength, Remembers, RepliesOnly};
 ghost use Rattle.ppq_cli.specs.Load.{IsLoaded, IsNotLoaded, load_end};
-ghost use Rattle.ppq_cli.specs.Replies.{EndsAt, IsGiven, IsReplied, IsRefusal};
+ghost use Rattle.ppq_engine.specs.Running.{EndsAt};
+ghost use Rattle.ppq_engine.specs.Files.{IsReadWithin};
+ghost use Rattle.ppq_script.specs.Files.{IsLength};
+ghost use Rattle.ppq_cli.specs.Replies.{IsGiven, IsReplied, IsUnloaded, IsScript, ReadsWithin};
 ghost use Rattle.ppq_engine.specs.Ends.{NoFault};
 ghost use Rattle.ppq_cli.specs.declared.load.LoadFault.TheVariants.{ReadFault};
 
+use ppq_engine::End;
 use ppq_outside::{Host, Library, OutsideFault};
+use ppq_script::{CheckFault, Script, check_files, read};
 use std::alloc::Global;
 
 /// The longest script, in bytes.
@@ -25,6 +30,8 @@ pub enum LoadFault {
     ScriptTooLong,
     /// It said a length, and a read at `got` gave nothing.
     FileChanged { said: u64, got: u64 },
+    /// Its first bad line.
+    BadLine { line: u32 },
 }
 
 impl From<OutsideFault> for LoadFault {
@@ -54,6 +61,7 @@ fn read_more<H: Host, L: Library>(
     ensures given { IfOk result (λ count. IsGiven (L.replied library.old) name.now (take got bytes.old) → IsGiven (L.replied library.new) name.now (take (got + count) bytes.new)) }
     ensures ends { IfOk result (λ count. count ≡ 0 → EndsAt (L.replied library.new) name.now got) }
     ensures remembers { Remembers (L.replied library.old) (L.replied library.new) }
+    ensures asks { RepliesOnly (L.replied library.old) (L.replied library.new) (IsReadWithin name.now (length bytes.old)) }
     ensures kept { L.told library.new ≡ L.told library.old }
     ensures cause { HasCause (L.faults library.old) (L.faults library.new) result }
 {
@@ -71,8 +79,10 @@ fn length_of_script<H: Host, L: Library>(
 ) -> Result<usize, LoadFault>
     ensures short { IfOk result (λ size. size ≤ 1_048_576) }
     ensures said { IfOk result (λ size. L.replied library.new (OfLength name.now (Some size))) }
-    ensures refused { IfErr result (λ fault. IsRefusal (L.told library.old) (L.replied library.new) name.now (load_end fault)) }
+    ensures not { IfErr result (IsNotLoaded (L.told library.old) name.now) }
+    ensures refused { IfErr result (IsUnloaded (L.told library.old) (L.replied library.new) name.now) }
     ensures remembers { Remembers (L.replied library.old) (L.replied library.new) }
+    ensures asks { RepliesOnly (L.replied library.old) (L.replied library.new) IsLength }
     ensures kept { L.told library.new ≡ L.told library.old }
     ensures later { L.faults library.old ≤ L.faults library.new }
     ensures stays { OnOk result (L.faults library.new ≡ L.faults library.old) }
@@ -91,7 +101,8 @@ fn length_of_script<H: Host, L: Library>(
     }
 }
 
-/// The bytes of a script of at most 1,048,576 bytes. Each byte is read once, into its place.
+/// The bytes of a script of at most 1,048,576 bytes. Each byte is read once, into its place, and none
+/// past the length that the library said of it.
 pub fn load<H: Host, L: Library>(
     rt: &H,
     alloc: Global,
@@ -102,15 +113,19 @@ pub fn load<H: Host, L: Library>(
     ensures loaded { IfOk result (λ bytes. IsLoaded (L.told library.old) name.now bytes.items) }
     ensures replied { IfOk result (λ bytes. IsReplied (L.replied library.new) name.now bytes.items) }
     ensures not { IfErr result (IsNotLoaded (L.told library.old) name.now) }
-    ensures refused { IfErr result (λ fault. IsRefusal (L.told library.old) (L.replied library.new) name.now (load_end fault)) }
+    ensures refused { IfErr result (IsUnloaded (L.told library.old) (L.replied library.new) name.now) }
     ensures remembers { Remembers (L.replied library.old) (L.replied library.new) }
+    ensures reads { ReadsWithin (L.replied library.old) (L.replied library.new) }
     ensures kept { L.told library.new ≡ L.told library.old }
     ensures later { L.faults library.old ≤ L.faults library.new }
     ensures stays { OnOk result (L.faults library.new ≡ L.faults library.old) }
     ensures unless { IfErr result (λ fault. NoFault (load_end fault) → L.faults library.new ≡ L.faults library.old) }
     ensures read { IsErrOf result ReadFault → Rose (L.faults library.old) (L.faults library.new) }
 {
-    let size = length_of_script(rt, alloc, library, name)?;
+    let size = match length_of_script(rt, alloc, library, name) {
+        Ok(size) => size,
+        Err(fault) => return Err(fault),
+    };
     let Ok(mut bytes) = vec![in alloc; 0u8; size] else {
         return Err(LoadFault::Memory);
     };
@@ -128,4 +143,65 @@ pub fn load<H: Host, L: Library>(
         }
     }
     Ok(bytes)
+}
+
+impl From<CheckFault> for LoadFault {
+    ghost use Rattle.ppq_cli.specs.Load.{check_fault_load};
+
+    ghost from_gives = { λ fault given. given ≡ check_fault_load fault };
+
+    fn from(fault: CheckFault) -> LoadFault {
+        match fault {
+            CheckFault::BadLine { line } => LoadFault::BadLine { line },
+            CheckFault::ReadFault => LoadFault::ReadFault,
+            CheckFault::Memory => LoadFault::Memory,
+        }
+    }
+}
+
+/// Loads a script, reads it whole, and asks the length of each file that it names. A script of which
+/// some line is bad, or names a file that cannot be used, is refused with the first such line.
+pub fn load_script<H: Host, L: Library>(
+    rt: &H,
+    alloc: Global,
+    library: &mut L,
+    name: &str,
+    workers: u32,
+) -> Result<Script, LoadFault>
+    ensures script { IfOk result (IsScript (L.told library.old) (L.replied library.new) name.now workers) }
+    ensures not { IfErr result (IsNotLoaded (L.told library.old) name.now) }
+    ensures refused { IfErr result (IsUnloaded (L.told library.old) (L.replied library.new) name.now) }
+    ensures remembers { Remembers (L.replied library.old) (L.replied library.new) }
+    ensures reads { ReadsWithin (L.replied library.old) (L.replied library.new) }
+    ensures kept { L.told library.new ≡ L.told library.old }
+    ensures later { L.faults library.old ≤ L.faults library.new }
+    ensures stays { OnOk result (L.faults library.new ≡ L.faults library.old) }
+    ensures unless { IfErr result (λ fault. NoFault (load_end fault) → L.faults library.new ≡ L.faults library.old) }
+    ensures read { IsErrOf result ReadFault → Rose (L.faults library.old) (L.faults library.new) }
+{
+    let bytes = match load(rt, alloc, library, name) {
+        Ok(bytes) => bytes,
+        Err(fault) => return Err(fault),
+    };
+    let Ok(mut script) = read(alloc, &bytes, workers) else {
+        return Err(LoadFault::Memory);
+    };
+    match check_files(rt, alloc, &mut script, library) {
+        Ok(()) => Ok(script),
+        Err(fault) => Err(LoadFault::from(fault)),
+    }
+}
+
+/// A fault of loading as an end.
+pub fn end_of(fault: LoadFault) -> End
+    ensures { result ≡ load_end fault }
+{
+    match fault {
+        LoadFault::ReadFault => End::ReadFault,
+        LoadFault::Memory => End::Memory,
+        LoadFault::NoScript => End::NoScript,
+        LoadFault::ScriptTooLong => End::ScriptTooLong,
+        LoadFault::FileChanged { said, got } => End::FileChanged { line: 0, said, got },
+        LoadFault::BadLine { line } => End::BadLine { line },
+    }
 }

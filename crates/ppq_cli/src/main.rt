@@ -7,22 +7,25 @@
 ghost use Rattle.std.specs.Prelude.{◌≡◌, ◌⊎◌, IfErr};
 ghost use Rattle.ppq_engine.specs.declared.end.End.TheVariants.{Usage, Memory};
 
+mod device;
+#[cfg(test)]
+mod file_tests;
 mod load;
 mod program;
-mod real_library;
-mod real_sink;
 mod report;
+mod run;
+#[cfg(test)]
+mod script_tests;
 mod status;
 #[cfg(test)]
 mod tests;
 mod top;
 mod twice;
 
+use ppq_edge::{DirLibrary, FileRack, StdSink};
 use ppq_engine::End;
-use ppq_outside::{MemRack, OpenGate};
+use ppq_outside::OpenGate;
 use program::{report_end, run_and_report};
-use real_library::DirLibrary;
-use real_sink::StdSink;
 use std::env;
 use std::env::Env;
 use std::io::ErrorKind;
@@ -49,7 +52,7 @@ fn main(rt: HostRuntime) -> ExitCode {
             rt.alloc(),
             &words,
             &mut DirLibrary::new(),
-            &mut MemRack::new(),
+            &mut FileRack::new(),
             &OpenGate,
             &mut StdSink::out(),
             &mut errors,

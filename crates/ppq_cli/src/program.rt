@@ -1,10 +1,11 @@
 //! The program over any outside.
-ghost use Rattle.std.specs.Prelude.{◌≡◌, ◌≤◌, ◌<◌, ◌↔◌, ◌^◌, None, IfSome};
+ghost use Rattle.std.specs.Prelude.{◌≡◌, ◌≤◌, ◌<◌, ◌⊎◌, ◌^◌, None, IfSome};
 ghost use Rattle.ppq_outside.specs.Told.{TakesAll, TakesPart};
-ghost use Rattle.ppq_cli.specs.Replies.{IsRefusal, IsRunOf};
+ghost use Rattle.ppq_words.specs.Reading.{reading_of, texts_of};
+ghost use Rattle.ppq_cli.specs.Replies.{IsRefusal, ReadsWithin};
 ghost use Rattle.ppq_cli.specs.Report.{report_of, TakesLine};
 ghost use Rattle.ppq_cli.specs.Status.{status_of, IsReported};
-ghost use Rattle.ppq_cli.specs.Words.{script_name, refusal_of, IsAnswer, script_output, OfScript};
+ghost use Rattle.ppq_cli.specs.Words.{refusal_of, IsAnswer, script_output, OfScript};
 
 use crate::report::report;
 use crate::status::status;
@@ -24,10 +25,10 @@ pub fn report_end<H: Host, E: Sink>(rt: &H, end: &End, errors: &mut E) -> u8
     status(end)
 }
 
-/// Runs the words, reports how that ended, and gives the status of that end. Where library and sink
-/// tell, status 0 says that the sink took the whole output of the script, and every other that it
-/// took a prefix of it. What the library gave as the script decides, whether it tells or not. Status 0
-/// says besides that no call of library, rack and sink failed.
+/// Runs the words, reports how that ended, and gives the status of that end. Where library, rack and
+/// sink tell, status 0 says that the sink took the whole output of the script, and every other that
+/// it took a prefix of it. What the library gave as the script decides, whether it tells or not.
+/// Status 0 says besides that no call of library, rack and sink failed.
 pub fn run_and_report<H: Host, L: Library, K: Rack, O: Sink, E: Sink, G: Gate>(
     rt: &H,
     alloc: Global,
@@ -40,14 +41,18 @@ pub fn run_and_report<H: Host, L: Library, K: Rack, O: Sink, E: Sink, G: Gate>(
 ) -> u8
 where
     H::Dir: Send,
+    K::Slot: Send + Sync,
     requires library { L.faults library.old < 2 ^ 63 }
+    requires rack { K.faults rack.old < 2 ^ 63 }
     requires sink { O.faults out.old < 2 ^ 63 }
-    ensures done { result ≡ 0 → OfScript (L.told library.old) (script_name words.now) (λ bytes. TakesAll (O.told out.old) (O.told out.new) (script_output bytes)) }
-    ensures part { OfScript (L.told library.old) (script_name words.now) (λ bytes. TakesPart (O.told out.old) (O.told out.new) (script_output bytes)) }
-    ensures usage { (result ≡ 2) ↔ (script_name words.now ≡ None) }
-    ensures reported { IsReported (TakesLine (E.told errors.old) (E.told errors.new) (E.faults errors.old) (E.faults errors.new)) result (λ end. IfSome (script_name words.now) (λ name. IsRefusal (L.told library.old) (L.replied library.new) name end × IsRunOf (L.replied library.new) name (O.told out.old) (O.told out.new) end)) }
-    ensures answer { IfSome (L.told library.old) (λ files. IsReported (TakesLine (E.told errors.old) (E.told errors.new) (E.faults errors.old) (E.faults errors.new)) result (IsAnswer (refusal_of (script_name words.now) files))) }
+    ensures done { result ≡ 0 → K.tells rack.old → OfScript (L.told library.old) (reading_of (texts_of words.now)) (λ r files bytes. TakesAll (O.told out.old) (O.told out.new) (script_output files bytes)) }
+    ensures part { K.tells rack.old → OfScript (L.told library.old) (reading_of (texts_of words.now)) (λ r files bytes. TakesPart (O.told out.old) (O.told out.new) (script_output files bytes)) }
+    ensures usage { result ≡ 2 → reading_of (texts_of words.now) ≡ None }
+    ensures no_reading { reading_of (texts_of words.now) ≡ None → (result ≡ 2) ⊎ (result ≡ 8) }
+    ensures refused { IfSome (reading_of (texts_of words.now)) (λ r. IsReported (TakesLine (E.told errors.old) (E.told errors.new) (E.faults errors.old) (E.faults errors.new)) result (IsRefusal (L.told library.old) (L.replied library.new) r.script r.sizes)) }
+    ensures answer { IfSome (L.told library.old) (λ files. IsReported (TakesLine (E.told errors.old) (E.told errors.new) (E.faults errors.old) (E.faults errors.new)) result (IsAnswer (refusal_of (reading_of (texts_of words.now)) files))) }
     ensures files { L.told library.new ≡ L.told library.old }
+    ensures reads { ReadsWithin (L.replied library.old) (L.replied library.new) }
     ensures library_later { L.faults library.old ≤ L.faults library.new }
     ensures rack_later { K.faults rack.old ≤ K.faults rack.new }
     ensures sink_later { O.faults out.old ≤ O.faults out.new }

@@ -1,187 +1,263 @@
 //! The top call over memory, and the program over real files.
-ghost use Rattle.std.specs.Prelude.{◌≡◌, ◌<◌, ◌^◌, None, ⊤};
+ghost use Rattle.std.specs.Prelude.{◌≡◌, ◌<◌, ◌^◌, None, IfOk, ⊤};
 
 use crate::program::{report_end, run_and_report};
-use crate::real_library::DirLibrary;
-use crate::real_sink::StdSink;
 use crate::report::report;
 use crate::status::status;
 use crate::top::run_words;
 use crate::twice::run_twice;
 use crate::words_of;
+use ppq_edge::{DirLibrary, FileRack};
 use ppq_engine::{End, Ended};
 use ppq_outside::{
-    Host, Library, MemLibrary, MemRack, MemSink, MemSlot, OpenGate, OutsideFault, Sink,
+    Host, Library, MemLibrary, MemRack, MemSink, MemSlot, OpenGate, OutsideFault, Rack, Sink, Slot,
 };
 use std::alloc::Global;
 use std::env::{Env, FillError};
-use std::fs::{File, Permissions};
-use std::os::unix::fs::PermissionsExt;
+use std::fs;
 use std::test::Fail;
-use std::{env, fs, process};
 
 /// How much a sink of these tests has room for.
-const ROOM: usize = 1_048_576;
+pub const ROOM: usize = 1_048_576;
 
-fn strings(alloc: Global, words: &[&str]) -> Result<Vec<String>, Fail> {
+/// Two workers, two records a block, a heap of one block, 200 blocks, and just the fixed part of the
+/// budget: the third record of a queue is written to a block.
+pub const SIZES: &str = "run s --device d --blocks 200 --workers 2 --block 2 --heap 1 --memory 372";
+
+/// The words of a line.
+pub fn words_in(alloc: Global, line: &str) -> Result<Vec<String>, Fail> {
     let mut all = Vec::new(alloc);
-    for word in words {
+    for word in line.split(' ') {
         all.push(word.to_string(alloc)?)?;
     }
     Ok(all)
 }
 
-fn run<H: Host, L: Library>(
+/// A library with one script.
+pub fn library_of(alloc: Global, script: &[u8]) -> Result<MemLibrary, Fail>
+    ensures { IfOk result (λ library. ⟦<MemLibrary as Library>⟧.faults library ≡ 0) }
+{
+    let mut library = MemLibrary::new(alloc);
+    library.add(alloc, "s", script)?;
+    Ok(library)
+}
+
+/// How a line of words ends, over a library, a rack and a sink.
+pub fn run<H: Host, L: Library>(
     rt: &H,
     alloc: Global,
-    words: &[&str],
+    line: &str,
     library: &mut L,
+    rack: &mut MemRack,
     sink: &mut MemSink,
 ) -> Result<Ended<MemSlot>, Fail>
 where
     H::Dir: Send,
     requires library { L.faults library.old < 2 ^ 63 }
+    requires rack { ⟦<MemRack as Rack>⟧.faults rack.old < 2 ^ 63 }
     requires sink { ⟦<MemSink as Sink>⟧.faults sink.old < 2 ^ 63 }
 {
-    let words = strings(alloc, words)?;
-    Ok(run_words(
-        rt,
-        alloc,
-        &words,
-        library,
-        &mut MemRack::new(),
-        &OpenGate,
-        sink,
-    ))
+    let words = words_in(alloc, line)?;
+    Ok(run_words(rt, alloc, &words, library, rack, &OpenGate, sink))
 }
 
-/// The end of a script and what it wrote.
+/// The end of a script under these sizes, and what it wrote.
 fn outcome<H: Host>(rt: &H, alloc: Global, script: &[u8]) -> Result<(End, Vec<u8>), Fail>
 where
     H::Dir: Send,
 {
-    let mut library = MemLibrary::new(alloc);
-    library.add(alloc, "s", script)?;
+    let mut library = library_of(alloc, script)?;
     let mut sink = MemSink::new(alloc, ROOM)?;
-    let ended = run(rt, alloc, &["run", "s"], &mut library, &mut sink)?;
+    let ended = run(
+        rt,
+        alloc,
+        SIZES,
+        &mut library,
+        &mut MemRack::new(),
+        &mut sink,
+    )?;
     Ok((ended.end, sink.bytes().to_vec(alloc)?))
 }
 
 #[test]
-fn two_pushes_pop_the_least(rt: HostRuntime) -> Result<(), Fail> {
-    let (end, wrote) = outcome(&rt, rt.alloc(), b"push 5 1\npush 3 9\npop\n")?;
-    assert_eq!(rt; end, End::Done);
-    assert_eq!(rt; wrote.as_slice(), b"3 9\n".as_slice());
+fn scripts_write_what_one_bag_writes(rt: HostRuntime) -> Result<(), Fail> {
+    let rows: [(&[u8], &[u8]); 7] = [
+        (b"push 5 1\npush 3 9\npop\n", b"3 9\n"),
+        (
+            b"push 18446744073709551615 18446744073709551615\npop\n",
+            b"18446744073709551615 18446744073709551615\n",
+        ),
+        (
+            b"push 7 7\npush 7 7\npush 7 6\npop\npop\npop\npop",
+            b"7 6\n7 7\n7 7\nempty\n",
+        ),
+        (b"", b""),
+        (b"pop\ntop\nsize\n", b"empty\nempty\n0\n"),
+        (
+            b"push 2 7\npush 1 8\ntop\nsize\npop\nsize\n",
+            b"1 8\n2\n1 8\n1\n",
+        ),
+        (
+            b"push 9 0\npush 8 0\npush 7 0\npush 6 0\npush 5 0\npush 4 0\npop\npop\npop\npop\npop\npop\n",
+            b"4 0\n5 0\n6 0\n7 0\n8 0\n9 0\n",
+        ),
+    ];
+    for (script, output) in rows {
+        let (end, wrote) = outcome(&rt, rt.alloc(), script)?;
+        assert_eq!(rt; end, End::Done);
+        assert_eq!(rt; wrote.as_slice(), output);
+    }
     Ok(())
 }
 
 #[test]
-fn the_greatest_pair_is_pushed_and_popped(rt: HostRuntime) -> Result<(), Fail> {
-    let script = b"push 18446744073709551615 18446744073709551615\npop\n";
-    let (end, wrote) = outcome(&rt, rt.alloc(), script)?;
-    assert_eq!(rt; end, End::Done);
-    assert_eq!(rt;
-        wrote.as_slice(),
-        b"18446744073709551615 18446744073709551615\n".as_slice()
-    );
+fn scripts_that_are_refused_write_nothing(rt: HostRuntime) -> Result<(), Fail> {
+    let alloc = rt.alloc();
+    let longest = vec![in alloc; b'x'; 1_048_576]?;
+    let too_long = vec![in alloc; b'x'; 1_048_577]?;
+    let rows: [(&[u8], End); 4] = [
+        (
+            b"pop\npush 18446744073709551616 0\n",
+            End::BadLine { line: 2 },
+        ),
+        (b"push 5 1\npop\npop\npush x 1\n", End::BadLine { line: 4 }),
+        (&longest, End::BadLine { line: 1 }),
+        (&too_long, End::ScriptTooLong),
+    ];
+    for (script, refusal) in rows {
+        let (end, wrote) = outcome(&rt, alloc, script)?;
+        assert_eq!(rt; end, refusal);
+        assert_eq!(rt; wrote.len(), 0);
+    }
     Ok(())
 }
 
 #[test]
-fn a_number_past_the_last_is_a_bad_line(rt: HostRuntime) -> Result<(), Fail> {
-    let (end, wrote) = outcome(&rt, rt.alloc(), b"pop\npush 18446744073709551616 0\n")?;
-    assert_eq!(rt; end, End::BadLine { line: 2 });
-    assert_eq!(rt; wrote.len(), 0);
+fn words_without_a_reading_are_usage(rt: HostRuntime) -> Result<(), Fail> {
+    let alloc = rt.alloc();
+    let refused = [
+        "run",
+        "run s",
+        "run s --help",
+        "walk s --device d --blocks 200 --workers 2 --block 2 --heap 1 --memory 372",
+        "run s --device d --blocks 200 --workers 65 --block 2 --heap 1 --memory 372",
+        "run s --device d --blocks 200 --workers 2 --block 2 --heap 1 --heap 1 --memory 372",
+        "run t s --device d --blocks 200 --workers 2 --block 2 --heap 1 --memory 372",
+    ];
+    for line in refused {
+        let mut library = library_of(alloc, b"pop\n")?;
+        let mut rack = MemRack::new();
+        let mut sink = MemSink::new(alloc, ROOM)?;
+        let ended = run(&rt, alloc, line, &mut library, &mut rack, &mut sink)?;
+        assert_eq!(rt; ended.end, End::Usage);
+        assert_eq!(rt; (sink.bytes().len(), rack.made().len()), (0, 0));
+    }
     Ok(())
 }
 
 #[test]
-fn a_bad_last_line_writes_nothing(rt: HostRuntime) -> Result<(), Fail> {
-    let (end, wrote) = outcome(&rt, rt.alloc(), b"push 5 1\npop\npop\npush x 1\n")?;
-    assert_eq!(rt; end, End::BadLine { line: 4 });
-    assert_eq!(rt; wrote.len(), 0);
+fn a_budget_below_its_fixed_part_makes_no_block(rt: HostRuntime) -> Result<(), Fail> {
+    let alloc = rt.alloc();
+    let line = "run --memory=371 --heap=1 --block=2 s --workers 2 --device d --blocks 200";
+    let mut library = library_of(alloc, b"pop\n")?;
+    let mut rack = MemRack::new();
+    let mut sink = MemSink::new(alloc, ROOM)?;
+    let ended = run(&rt, alloc, line, &mut library, &mut rack, &mut sink)?;
+    assert_eq!(rt; ended.end, End::BudgetTooSmall { need: 372 });
+    assert_eq!(rt; status(&ended.end), 7);
+    assert_eq!(rt; (sink.bytes().len(), rack.made().len()), (0, 0));
     Ok(())
 }
 
 #[test]
-fn equal_records_are_popped_as_often_as_pushed(rt: HostRuntime) -> Result<(), Fail> {
-    let (end, wrote) = outcome(
+fn blocks_before_one_that_cannot_be_made_come_back(rt: HostRuntime) -> Result<(), Fail> {
+    let alloc = rt.alloc();
+    let mut library = library_of(alloc, b"pop\n")?;
+    let mut rack = MemRack::failing(Vec::new(alloc), vec![in alloc; 3]?);
+    let mut sink = MemSink::new(alloc, ROOM)?;
+    let ended = run(&rt, alloc, SIZES, &mut library, &mut rack, &mut sink)?;
+    assert_eq!(rt; ended.end, End::NoDevice);
+    assert_eq!(rt; ended.blocks.len(), 3);
+    for (number, block) in ended.blocks.iter().enumerate() {
+        assert_eq!(rt; (block.number(), block.size()), (number as u32, 32));
+    }
+    assert_eq!(rt; (sink.bytes().len(), rack.faults()), (0, 1));
+    Ok(())
+}
+
+#[test]
+fn a_block_that_fails_is_named_and_comes_back(rt: HostRuntime) -> Result<(), Fail> {
+    let alloc = rt.alloc();
+    let script = b"push 6 0\npush 5 0\npush 4 0\npop\n";
+    let mut library = library_of(alloc, script)?;
+    let mut rack = MemRack::failing(vec![in alloc; (0, 1)]?, Vec::new(alloc));
+    let mut sink = MemSink::new(alloc, ROOM)?;
+    let ended = run(&rt, alloc, SIZES, &mut library, &mut rack, &mut sink)?;
+    assert_eq!(rt; ended.end, End::DeviceFault { number: 0 });
+    assert_eq!(rt; (ended.blocks.len(), sink.bytes().len()), (200, 0));
+    for block in ended.blocks.iter() {
+        assert_eq!(rt; block.faults() > 0, block.number() == 0);
+    }
+    Ok(())
+}
+
+#[test]
+fn a_device_without_blocks_is_too_small_for_three_records(rt: HostRuntime) -> Result<(), Fail> {
+    let alloc = rt.alloc();
+    let line = "run s --device d --blocks 0 --workers 1 --block 2 --heap 1 --memory 158";
+    let script = b"push 6 0\npush 5 0\nsize\npush 4 0\npop\n";
+    let mut library = library_of(alloc, script)?;
+    let mut sink = MemSink::new(alloc, ROOM)?;
+    let ended = run(
         &rt,
-        rt.alloc(),
-        b"push 7 7\npush 7 7\npush 7 6\npop\npop\npop\npop",
+        alloc,
+        line,
+        &mut library,
+        &mut MemRack::new(),
+        &mut sink,
     )?;
-    assert_eq!(rt; end, End::Done);
-    assert_eq!(rt; wrote.as_slice(), b"7 6\n7 7\n7 7\nempty\n".as_slice());
-    Ok(())
-}
-
-#[test]
-fn a_script_of_no_bytes_is_done(rt: HostRuntime) -> Result<(), Fail> {
-    let (end, wrote) = outcome(&rt, rt.alloc(), b"")?;
-    assert_eq!(rt; end, End::Done);
-    assert_eq!(rt; wrote.len(), 0);
-    Ok(())
-}
-
-#[test]
-fn an_empty_queue_pops_tops_and_counts_nothing(rt: HostRuntime) -> Result<(), Fail> {
-    let (end, wrote) = outcome(&rt, rt.alloc(), b"pop\ntop\nsize\n")?;
-    assert_eq!(rt; end, End::Done);
-    assert_eq!(rt; wrote.as_slice(), b"empty\nempty\n0\n".as_slice());
-    Ok(())
-}
-
-#[test]
-fn a_top_leaves_the_least_and_a_size_counts_it(rt: HostRuntime) -> Result<(), Fail> {
-    let (end, wrote) = outcome(
-        &rt,
-        rt.alloc(),
-        b"push 2 7\npush 1 8\ntop\nsize\npop\nsize\n",
-    )?;
-    assert_eq!(rt; end, End::Done);
-    assert_eq!(rt; wrote.as_slice(), b"1 8\n2\n1 8\n1\n".as_slice());
+    assert_eq!(rt; ended.end, End::NoFreeBlock);
+    assert_eq!(rt; sink.bytes(), b"2\n".as_slice());
     Ok(())
 }
 
 #[test]
 fn a_sink_that_fails_holds_a_prefix(rt: HostRuntime) -> Result<(), Fail> {
     let alloc = rt.alloc();
-    let mut library = MemLibrary::new(alloc);
-    library.add(alloc, "s", b"pop\npop\n")?;
-    let mut plan = Vec::new(alloc);
-    plan.push((1, 3))?;
-    let mut sink = MemSink::failing(alloc, ROOM, plan)?;
-    let ended = run(&rt, alloc, &["run", "s"], &mut library, &mut sink)?;
+    let mut library = library_of(alloc, b"pop\npop\n")?;
+    let mut sink = MemSink::failing(alloc, ROOM, vec![in alloc; (1, 3)]?)?;
+    let ended = run(
+        &rt,
+        alloc,
+        SIZES,
+        &mut library,
+        &mut MemRack::new(),
+        &mut sink,
+    )?;
     assert_eq!(rt; ended.end, End::WriteFault);
+    assert_eq!(rt; (ended.blocks.len(), sink.faults()), (200, 1));
     assert_eq!(rt; sink.bytes(), b"emp".as_slice());
-    assert_eq!(rt; sink.faults(), 1);
     Ok(())
 }
 
 #[test]
 fn a_library_that_fails_is_a_read_fault(rt: HostRuntime) -> Result<(), Fail> {
     let alloc = rt.alloc();
-    let mut library = MemLibrary::new(alloc);
-    library.add(alloc, "s", b"pop\n")?;
-    library.fail_call(1)?;
-    let mut sink = MemSink::new(alloc, ROOM)?;
-    let ended = run(&rt, alloc, &["run", "s"], &mut library, &mut sink)?;
-    assert_eq!(rt; ended.end, End::ReadFault);
-    assert_eq!(rt; sink.bytes().len(), 0);
-    assert_eq!(rt; library.faults(), 1);
-    Ok(())
-}
-
-#[test]
-fn a_read_that_fails_is_a_read_fault(rt: HostRuntime) -> Result<(), Fail> {
-    let alloc = rt.alloc();
-    let mut library = MemLibrary::new(alloc);
-    library.add(alloc, "s", b"pop\n")?;
-    library.fail_call(2)?;
-    let mut sink = MemSink::new(alloc, ROOM)?;
-    let ended = run(&rt, alloc, &["run", "s"], &mut library, &mut sink)?;
-    assert_eq!(rt; ended.end, End::ReadFault);
-    assert_eq!(rt; sink.bytes().len(), 0);
+    for call in [1, 2] {
+        let mut library = library_of(alloc, b"pop\n")?;
+        library.fail_call(call)?;
+        let mut sink = MemSink::new(alloc, ROOM)?;
+        let ended = run(
+            &rt,
+            alloc,
+            SIZES,
+            &mut library,
+            &mut MemRack::new(),
+            &mut sink,
+        )?;
+        assert_eq!(rt; ended.end, End::ReadFault);
+        assert_eq!(rt; (sink.bytes().len(), library.faults()), (0, 1));
+    }
     Ok(())
 }
 
@@ -235,91 +311,145 @@ impl Library for PieceLibrary {
 }
 
 #[test]
-fn a_script_that_comes_in_pieces_is_run(rt: HostRuntime) -> Result<(), Fail> {
-    let mut library = PieceLibrary {
-        bytes: b"push 5 1\npush 3 9\npop\n",
-        said: 22,
-        piece: 5,
-    };
-    let mut sink = MemSink::new(rt.alloc(), ROOM)?;
-    let ended = run(&rt, rt.alloc(), &["run", "s"], &mut library, &mut sink)?;
-    assert_eq!(rt; ended.end, End::Done);
-    assert_eq!(rt; sink.bytes(), b"3 9\n".as_slice());
-    Ok(())
-}
-
-#[test]
-fn a_script_that_ends_before_its_length_has_changed(rt: HostRuntime) -> Result<(), Fail> {
-    let mut library = PieceLibrary {
-        bytes: b"pop\npop\npop\npop\n",
-        said: 32,
-        piece: 7,
-    };
-    let mut sink = MemSink::new(rt.alloc(), ROOM)?;
-    let ended = run(&rt, rt.alloc(), &["run", "s"], &mut library, &mut sink)?;
+fn a_script_comes_in_pieces_or_ends_before_its_length(rt: HostRuntime) -> Result<(), Fail> {
+    let bytes = b"push 5 1\npush 3 9\npop\n";
     let changed = End::FileChanged {
         line: 0,
         said: 32,
+        got: 22,
+    };
+    let rows: [(u64, End, &[u8]); 2] = [(22, End::Done, b"3 9\n"), (32, changed, b"")];
+    for (said, end, output) in rows {
+        let mut library = PieceLibrary {
+            bytes,
+            said,
+            piece: 5,
+        };
+        let mut sink = MemSink::new(rt.alloc(), ROOM)?;
+        let mut rack = MemRack::new();
+        let ended = run(&rt, rt.alloc(), SIZES, &mut library, &mut rack, &mut sink)?;
+        assert_eq!(rt; ended.end, end);
+        assert_eq!(rt; sink.bytes(), output);
+    }
+    Ok(())
+}
+
+/// The end of a script under these sizes over a library, and what it wrote.
+fn outcome_over<H: Host>(
+    rt: &H,
+    alloc: Global,
+    library: &mut MemLibrary,
+) -> Result<(End, Vec<u8>), Fail>
+where
+    H::Dir: Send,
+    requires { ⟦<MemLibrary as Library>⟧.faults library.old < 2 ^ 63 }
+{
+    let mut sink = MemSink::new(alloc, ROOM)?;
+    let ended = run(rt, alloc, SIZES, library, &mut MemRack::new(), &mut sink)?;
+    Ok((ended.end, sink.bytes().to_vec(alloc)?))
+}
+
+/// A file of two records, `5 1` and `3 9`.
+const TWO: &[u8] = b"\0\0\0\0\0\0\0\x05\0\0\0\0\0\0\0\x01\0\0\0\0\0\0\0\x03\0\0\0\0\0\0\0\x09";
+
+/// A library with a script, the file `f` of two records, and the file `long` of 33 bytes.
+fn library_with_files(alloc: Global, script: &[u8]) -> Result<MemLibrary, Fail>
+    ensures { IfOk result (λ library. ⟦<MemLibrary as Library>⟧.faults library ≡ 0) }
+{
+    let mut library = library_of(alloc, script)?;
+    library.add(alloc, "f", TWO)?;
+    let longer = vec![in alloc; 0u8; 33]?;
+    library.add(alloc, "long", &longer)?;
+    Ok(library)
+}
+
+#[test]
+fn a_file_that_cannot_be_used_makes_its_line_bad(rt: HostRuntime) -> Result<(), Fail> {
+    let alloc = rt.alloc();
+    let rows: [(&[u8], u32); 4] = [
+        (b"bulk g\n", 1),
+        (b"bulk long\n", 1),
+        (b"bulk f\nbulk g\npush\n", 2),
+        (b"push\nbulk f\nbulk g\n", 1),
+    ];
+    for (script, line) in rows {
+        let mut library = library_with_files(alloc, script)?;
+        let (end, wrote) = outcome_over(&rt, alloc, &mut library)?;
+        assert_eq!(rt; end, End::BadLine { line });
+        assert_eq!(rt; wrote.len(), 0);
+    }
+    Ok(())
+}
+
+#[test]
+fn records_of_files_and_generated_ones_are_popped(rt: HostRuntime) -> Result<(), Fail> {
+    let alloc = rt.alloc();
+    let rows: [(&[u8], &[u8]); 2] = [
+        (b"bulk f\npop\npop\npop\n", b"3 9\n5 1\nempty\n"),
+        (
+            b"gen 1 2\ndrain 5\n",
+            b"count 2 first 7806831264735756412 0 last 9396908728118811419 1 sum 17203739992854567831\n",
+        ),
+    ];
+    for (script, output) in rows {
+        let mut library = library_with_files(alloc, script)?;
+        let (end, wrote) = outcome_over(&rt, alloc, &mut library)?;
+        assert_eq!(rt; end, End::Done);
+        assert_eq!(rt; wrote.as_slice(), output);
+    }
+    Ok(())
+}
+
+#[test]
+fn a_file_that_ends_early_has_changed(rt: HostRuntime) -> Result<(), Fail> {
+    let alloc = rt.alloc();
+    let mut library = library_with_files(alloc, b"bulk f\npop\n")?;
+    library.shrink("f", 16);
+    let (end, wrote) = outcome_over(&rt, alloc, &mut library)?;
+    let changed = End::FileChanged {
+        line: 1,
+        said: 32,
         got: 16,
     };
-    assert_eq!(rt; ended.end, changed);
-    assert_eq!(rt; sink.bytes().len(), 0);
-    Ok(())
-}
-
-#[test]
-fn an_absent_script_is_named(rt: HostRuntime) -> Result<(), Fail> {
-    let alloc = rt.alloc();
-    let mut library = MemLibrary::new(alloc);
-    let mut sink = MemSink::new(alloc, ROOM)?;
-    let ended = run(&rt, alloc, &["run", "s"], &mut library, &mut sink)?;
-    assert_eq!(rt; ended.end, End::NoScript);
-    assert_eq!(rt; sink.bytes().len(), 0);
-    Ok(())
-}
-
-#[test]
-fn a_script_one_byte_too_long_is_refused(rt: HostRuntime) -> Result<(), Fail> {
-    let alloc = rt.alloc();
-    let script = vec![in alloc; b'x'; 1_048_577]?;
-    let (end, wrote) = outcome(&rt, alloc, &script)?;
-    assert_eq!(rt; end, End::ScriptTooLong);
+    assert_eq!(rt; end, changed);
     assert_eq!(rt; wrote.len(), 0);
     Ok(())
 }
 
 #[test]
-fn a_script_of_the_greatest_length_is_read(rt: HostRuntime) -> Result<(), Fail> {
+fn other_sizes_write_the_same(rt: HostRuntime) -> Result<(), Fail> {
     let alloc = rt.alloc();
-    let script = vec![in alloc; b'x'; 1_048_576]?;
-    let (end, _) = outcome(&rt, alloc, &script)?;
-    assert_eq!(rt; end, End::BadLine { line: 1 });
+    let script = b"push 9 0\npush 8 0\npush 7 0\npush 6 0\npush 5 0\npop\npop\npop\npop\npop\n";
+    let mut library = library_of(alloc, script)?;
+    let words = words_in(alloc, SIZES)?;
+    let other_words = words_in(
+        alloc,
+        "run s --device e --blocks 100 --workers 4 --block 4 --heap 2 --memory 1000",
+    )?;
+    let mut one = MemSink::new(alloc, ROOM)?;
+    let mut other = MemSink::new(alloc, ROOM)?;
+    let (mut rack, mut other_rack) = (MemRack::new(), MemRack::new());
+    let end = run_twice(
+        &rt,
+        alloc,
+        &words,
+        &other_words,
+        &mut library,
+        &mut rack,
+        &OpenGate,
+        &mut one,
+        &mut other_rack,
+        &OpenGate,
+        &mut other,
+    );
+    assert_eq!(rt; end, End::Done);
+    assert_eq!(rt; one.bytes(), b"5 0\n6 0\n7 0\n8 0\n9 0\n".as_slice());
+    assert_eq!(rt; other.bytes(), one.bytes());
+    assert_eq!(rt; (rack.made().len(), other_rack.made().len()), (200, 100));
     Ok(())
 }
 
-#[test]
-fn other_words_have_no_reading(rt: HostRuntime) -> Result<(), Fail> {
-    let alloc = rt.alloc();
-    let refused: [&[&str]; 6] = [
-        &["run"],
-        &["run", "s", "--help"],
-        &["run", "-s"],
-        &["run", ""],
-        &["walk", "s"],
-        &[],
-    ];
-    for words in refused {
-        let mut library = MemLibrary::new(alloc);
-        library.add(alloc, "s", b"pop\n")?;
-        let mut sink = MemSink::new(alloc, ROOM)?;
-        let ended = run(&rt, alloc, words, &mut library, &mut sink)?;
-        assert_eq!(rt; ended.end, End::Usage);
-        assert_eq!(rt; sink.bytes().len(), 0);
-    }
-    Ok(())
-}
-
-/// What a run of the program over real files gives: its status, what it writes and what it reports.
+/// What the program over real files gives: its status, what it writes and what it reports.
 #[derive(Drop)]
 struct ProgramRun {
     status: u8,
@@ -327,11 +457,11 @@ struct ProgramRun {
     reported: Vec<u8>,
 }
 
-fn program<H: Host>(rt: &H, alloc: Global, words: &[&str]) -> Result<ProgramRun, Fail>
+fn program<H: Host>(rt: &H, alloc: Global, line: &str) -> Result<ProgramRun, Fail>
 where
     H::Dir: Send,
 {
-    let words = strings(alloc, words)?;
+    let words = words_in(alloc, line)?;
     let mut out = MemSink::new(alloc, ROOM)?;
     let mut errors = MemSink::new(alloc, ROOM)?;
     let status = run_and_report(
@@ -339,7 +469,7 @@ where
         alloc,
         &words,
         &mut DirLibrary::new(),
-        &mut MemRack::new(),
+        &mut FileRack::new(),
         &OpenGate,
         &mut out,
         &mut errors,
@@ -351,174 +481,44 @@ where
     })
 }
 
-/// The same of a script that is written to a file first, and removed afterwards.
-fn program_of_file<H: Host>(
-    rt: &H,
-    alloc: Global,
-    path: &str,
-    script: &[u8],
-) -> Result<ProgramRun, Fail>
-where
-    H::Dir: Send,
-{
-    fs::write(rt, path, script)?;
-    let outcome = program(rt, alloc, &["run", path])?;
-    fs::remove_file(rt, path)?;
-    Ok(outcome)
-}
+/// The folder of the tests over real files.
+const FOLDER: &str = "ppq_cli_test";
+
+/// The same sizes as in memory, with a script in the folder, and a device without its name.
+const REAL: &str =
+    "run ppq_cli_test/s.ppq --blocks 200 --workers 2 --block 2 --heap 1 --memory 372 --device";
 
 #[test]
-fn a_file_is_run(rt: HostRuntime) -> Result<(), Fail> {
-    let folder = env::temp_dir(&rt)?;
-    let number = process::id(rt.process());
-    let path = format!(in rt.alloc(); "{}/{}-good.ppq", folder.as_str(), number)?;
-    let script = b"push 5 1\npush 3 9\npop\n";
-    let outcome = program_of_file(&rt, rt.alloc(), &path, script)?;
-    assert_eq!(rt; outcome.status, 0);
-    assert_eq!(rt; outcome.wrote.as_slice(), b"3 9\n".as_slice());
-    assert_eq!(rt; outcome.reported.len(), 0);
-    Ok(())
-}
-
-#[test]
-fn a_bad_line_of_a_file_is_reported(rt: HostRuntime) -> Result<(), Fail> {
-    let folder = env::temp_dir(&rt)?;
-    let number = process::id(rt.process());
-    let path = format!(in rt.alloc(); "{}/{}-bad.ppq", folder.as_str(), number)?;
-    let script = b"push 5 1\npop\npush x 1\n";
-    let outcome = program_of_file(&rt, rt.alloc(), &path, script)?;
-    assert_eq!(rt; outcome.status, 1);
-    assert_eq!(rt; outcome.wrote.len(), 0);
-    assert_eq!(rt;
-        outcome.reported.as_slice(),
-        b"ppq: line 3: bad line\n".as_slice()
-    );
-    Ok(())
-}
-
-#[test]
-fn an_absent_file_is_reported(rt: HostRuntime) -> Result<(), Fail> {
-    let outcome = program(&rt, rt.alloc(), &["run", "no-such-script.ppq"])?;
-    assert_eq!(rt; outcome.status, 11);
-    assert_eq!(rt;
-        outcome.reported.as_slice(),
-        b"ppq: no such script\n".as_slice()
-    );
-    Ok(())
-}
-
-#[test]
-fn a_folder_and_a_device_cannot_be_read(rt: HostRuntime) -> Result<(), Fail> {
-    for name in ["/", "/dev/null"] {
-        let outcome = program(&rt, rt.alloc(), &["run", name])?;
-        assert_eq!(rt; outcome.status, 3);
-        assert_eq!(rt;
-            outcome.reported.as_slice(),
-            b"ppq: cannot read\n".as_slice()
-        );
-    }
-    Ok(())
-}
-
-/// A path among the temporary files that no other run of these tests has.
-fn scratch(rt: &HostRuntime, name: &str) -> Result<String, Fail> {
-    let folder = env::temp_dir(rt)?;
-    let number = process::id(rt.process());
-    let path = format!(in rt.alloc(); "{}/{}-{}", folder.as_str(), number, name)?;
-    Ok(path)
-}
-
-#[test]
-fn a_file_that_may_not_be_opened_cannot_be_read(rt: HostRuntime) -> Result<(), Fail> {
-    let path = scratch(&rt, "closed.ppq")?;
-    fs::write(&rt, &path, b"pop\n")?;
-    fs::set_permissions(&rt, &path, Permissions::from_mode(0))?;
-    // The system's own user may open every file.
-    let opens = File::open(&rt, &path).is_ok();
-    let outcome = program(&rt, rt.alloc(), &["run", &path])?;
-    fs::remove_file(&rt, &path)?;
-    if opens {
-        assert_eq!(rt; outcome.status, 0);
-        assert_eq!(rt; outcome.wrote.as_slice(), b"empty\n".as_slice());
-    } else {
-        assert_eq!(rt; outcome.status, 3);
-        assert_eq!(rt; outcome.wrote.len(), 0);
-    }
-    Ok(())
-}
-
-#[test]
-fn a_path_through_a_plain_file_cannot_be_read(rt: HostRuntime) -> Result<(), Fail> {
-    let path = scratch(&rt, "plain.ppq")?;
-    fs::write(&rt, &path, b"pop\n")?;
-    let through = format!(in rt.alloc(); "{}/s.ppq", path.as_str())?;
-    let outcome = program(&rt, rt.alloc(), &["run", &through])?;
-    fs::remove_file(&rt, &path)?;
-    assert_eq!(rt; outcome.status, 3);
-    assert_eq!(rt;
-        outcome.reported.as_slice(),
-        b"ppq: cannot read\n".as_slice()
-    );
-    Ok(())
-}
-
-/// So many bytes, each its place modulo 251.
-fn bytes_by_place(alloc: Global, count: u32) -> Result<Vec<u8>, Fail> {
-    let mut bytes = Vec::new(alloc);
-    for place in 0..count {
-        bytes.push((place % 251) as u8)?;
-    }
-    Ok(bytes)
-}
-
-#[test]
-fn a_long_file_is_read_from_any_place_on(rt: HostRuntime) -> Result<(), Fail> {
-    let path = scratch(&rt, "long")?;
-    fs::write(&rt, &path, &bytes_by_place(rt.alloc(), 200_000)?)?;
-    let rows: [(u64, [u8; 5], usize); 7] = [
-        (0, [0, 1, 2, 3, 4], 5),
-        (1, [1, 2, 3, 4, 5], 5),
-        (65_535, [24, 25, 26, 27, 28], 5),
-        (65_536, [25, 26, 27, 28, 29], 5),
-        (131_073, [51, 52, 53, 54, 55], 5),
-        (199_997, [201, 202, 203, 0, 0], 3),
-        (200_000, [0, 0, 0, 0, 0], 0),
-    ];
-    let mut library = DirLibrary::new();
-    let size = library.length(&rt, rt.alloc(), &path);
-    assert_eq!(rt; size, Ok(Some(200_000)));
-    for (at, bytes, count) in rows {
-        let mut into = [0; 5];
-        let came = library.read_at(&rt, rt.alloc(), &path, at, &mut into);
-        assert_eq!(rt; came, Ok(count));
-        assert_eq!(rt; into, bytes);
-    }
-    assert_eq!(rt; library.faults(), 0);
-    fs::remove_file(&rt, &path)?;
-    Ok(())
-}
-
-#[test]
-fn a_file_and_an_output_of_more_than_64_kilobytes(rt: HostRuntime) -> Result<(), Fail> {
+fn the_program_runs_over_real_files(rt: HostRuntime) -> Result<(), Fail> {
     let alloc = rt.alloc();
-    let first = 18_446_744_073_709_550_000;
-    let mut script = Vec::new(alloc);
-    let mut output = Vec::new(alloc);
-    for i in 0..1_600u64 {
-        let (low, high) = (first + i, first + 1_599 - i);
-        let push = format!(in alloc; "push {high} {high}\n")?;
-        let line = format!(in alloc; "{low} {low}\n")?;
-        script.extend_from_slice(push.as_bytes())?;
-        output.extend_from_slice(line.as_bytes())?;
+    fs::create_dir(&rt, FOLDER)?;
+    let script = "push 6 0\npush 5 0\npush 4 0\npop\npop\npop\n";
+    fs::write(&rt, "ppq_cli_test/s.ppq", script)?;
+    let line = format!(in alloc; "{REAL} ppq_cli_test/s.device")?;
+    let outcome = program(&rt, alloc, &line)?;
+    assert_eq!(rt; (outcome.status, outcome.reported.len()), (0, 0));
+    assert_eq!(rt; outcome.wrote.as_slice(), b"4 0\n5 0\n6 0\n".as_slice());
+    // a block of two records was written
+    let length = fs::metadata(&rt, "ppq_cli_test/s.device")?.len();
+    assert_eq!(rt; length, 32);
+    // a device that is a folder, and one in a folder that is not there
+    for device in [FOLDER, "ppq_cli_test/no/s.device"] {
+        let line = format!(in alloc; "{REAL} {device}")?;
+        let outcome = program(&rt, alloc, &line)?;
+        assert_eq!(rt; (outcome.status, outcome.wrote.len()), (10, 0));
+        let report = b"ppq: cannot make the device\n";
+        assert_eq!(rt; outcome.reported.as_slice(), report.as_slice());
     }
-    for _ in 0..1_600 {
-        script.extend_from_slice(b"pop\n")?;
-    }
-    assert_eq!(rt; (script.len(), output.len()), (81_600, 67_200));
-    let path = scratch(&rt, "many.ppq")?;
-    let outcome = program_of_file(&rt, alloc, &path, &script)?;
-    assert_eq!(rt; outcome.status, 0);
-    assert_eq!(rt; outcome.wrote.as_slice(), output.as_slice());
+    fs::remove_file(&rt, "ppq_cli_test/s.device")?;
+    fs::remove_file(&rt, "ppq_cli_test/s.ppq")?;
+    // a script that is not there, and one that is a folder
+    let outcome = program(&rt, alloc, &line)?;
+    assert_eq!(rt; outcome.status, 11);
+    fs::create_dir(&rt, "ppq_cli_test/s.ppq")?;
+    let outcome = program(&rt, alloc, &line)?;
+    assert_eq!(rt; outcome.status, 3);
+    fs::remove_dir(&rt, "ppq_cli_test/s.ppq")?;
+    fs::remove_dir(&rt, FOLDER)?;
     Ok(())
 }
 
@@ -555,7 +555,7 @@ fn words_are_those_after_the_name_of_the_program(rt: HostRuntime) -> Result<(), 
         words: &[b"ppq", b"run", b"s.ppq"],
     };
     let words = words_of(&(line, rt.alloc()));
-    assert_eq!(rt; words, Ok(strings(rt.alloc(), &["run", "s.ppq"])?));
+    assert_eq!(rt; words, Ok(words_in(rt.alloc(), "run s.ppq")?));
     Ok(())
 }
 
@@ -570,36 +570,8 @@ fn a_word_that_is_no_text_has_no_reading(rt: HostRuntime) -> Result<(), Fail> {
 }
 
 #[test]
-fn two_runs_write_the_same(rt: HostRuntime) -> Result<(), Fail> {
-    let alloc = rt.alloc();
-    let mut library = MemLibrary::new(alloc);
-    library.add(alloc, "s", b"push 5 1\npush 3 9\npop\npop\n")?;
-    let words = strings(alloc, &["run", "s"])?;
-    let mut one = MemSink::new(alloc, ROOM)?;
-    let mut other = MemSink::new(alloc, ROOM)?;
-    let (mut rack, mut other_rack) = (MemRack::new(), MemRack::new());
-    let end = run_twice(
-        &rt,
-        alloc,
-        &words,
-        &mut library,
-        &mut rack,
-        &OpenGate,
-        &mut one,
-        &mut other_rack,
-        &OpenGate,
-        &mut other,
-    );
-    assert_eq!(rt; end, End::Done);
-    assert_eq!(rt; one.bytes(), b"3 9\n5 1\n".as_slice());
-    assert_eq!(rt; other.bytes(), b"3 9\n5 1\n".as_slice());
-    assert_eq!(rt; rack.made().len(), 0);
-    Ok(())
-}
-
-#[test]
-fn no_words_are_reported(rt: HostRuntime) -> Result<(), Fail> {
-    let outcome = program(&rt, rt.alloc(), &[])?;
+fn words_without_a_reading_are_reported(rt: HostRuntime) -> Result<(), Fail> {
+    let outcome = program(&rt, rt.alloc(), "run s")?;
     let usage =
         b"ppq: usage: ppq run SCRIPT --device FILE --blocks D --workers P --block B --heap H --memory M\n";
     assert_eq!(rt; outcome.status, 2);
@@ -668,17 +640,6 @@ fn a_report_that_is_cut_keeps_the_status(rt: HostRuntime) -> Result<(), Fail> {
     let mut errors = MemSink::failing(alloc, ROOM, plan)?;
     assert_eq!(rt; report_end(&rt, &End::NoScript, &mut errors), 11);
     assert_eq!(rt; errors.bytes(), b"ppq".as_slice());
-    assert_eq!(rt; errors.faults(), 1);
-    Ok(())
-}
-
-#[test]
-fn the_real_streams_take_text(rt: HostRuntime) -> Result<(), Fail> {
-    let mut out = StdSink::out();
-    assert_eq!(rt; out.put(&rt, b"").is_ok(), true);
-    assert_eq!(rt; out.faults(), 0);
-    let mut errors = StdSink::err();
-    assert_eq!(rt; errors.put(&rt, b"\xff").is_err(), true);
     assert_eq!(rt; errors.faults(), 1);
     Ok(())
 }

@@ -1,6 +1,7 @@
 //! Two runs of one script.
 ghost use Rattle.std.specs.Prelude.{◌≡◌, ◌<◌, ◌^◌, IfSome};
-ghost use Rattle.ppq_cli.specs.Twice.{WriteTheSame};
+ghost use Rattle.ppq_words.specs.Reading.{reading_of, texts_of};
+ghost use Rattle.ppq_cli.specs.Twice.{WriteTheSame, NameOneScript};
 ghost use Rattle.ppq_engine.specs.declared.end.End.TheVariants.{Done};
 
 use crate::top::run_words;
@@ -8,12 +9,12 @@ use ppq_engine::End;
 use ppq_outside::{Gate, Host, Library, Rack, Sink};
 use std::alloc::Global;
 
-/// Runs the words twice over one library, each time with a rack, a gate and a sink of its own, and
+/// Runs two lists of words over one library, each with a rack, a gate and a sink of its own, and
 /// gives the end of the first run that was not done, or `Done`.
 ///
 /// It is here for its contract: two runs of one script that both end `Done` write the same bytes,
-/// whatever their gates and racks do. What the second run asks of the library follows from how the
-/// first one ended.
+/// with any sizes of their own, and whatever their gates do. What the second run asks of the library
+/// follows from how the first one ended.
 pub fn run_twice<
     H: Host,
     L: Library,
@@ -27,6 +28,7 @@ pub fn run_twice<
     rt: &H,
     alloc: Global,
     words: &[String],
+    other_words: &[String],
     library: &mut L,
     rack: &mut K,
     gate: &G,
@@ -37,14 +39,29 @@ pub fn run_twice<
 ) -> End
 where
     H::Dir: Send,
+    K::Slot: Send + Sync,
+    OtherK::Slot: Send + Sync,
     requires library { L.faults library.old < 2 ^ 63 }
+    requires rack { K.faults rack.old < 2 ^ 63 }
     requires sink { O.faults out.old < 2 ^ 63 }
+    requires other_rack { OtherK.faults other_rack.old < 2 ^ 63 }
     requires other_sink { OtherO.faults other_out.old < 2 ^ 63 }
-    ensures same { result ≡ Done → IfSome (L.told library.old) (λ _. WriteTheSame (O.told out.old) (O.told out.new) (OtherO.told other_out.old) (OtherO.told other_out.new)) }
+    ensures same { result ≡ Done → K.tells rack.old → OtherK.tells other_rack.old → NameOneScript (reading_of (texts_of words.now)) (reading_of (texts_of other_words.now)) → IfSome (L.told library.old) (λ _. WriteTheSame (O.told out.old) (O.told out.new) (OtherO.told other_out.old) (OtherO.told other_out.new)) }
 {
-    let first = run_words(rt, alloc, words, library, rack, gate, out).end;
-    match first {
-        End::Done => { run_words(rt, alloc, words, library, other_rack, other_gate, other_out).end }
-        _ => first,
+    let first = run_words(rt, alloc, words, library, rack, gate, out);
+    match first.end {
+        End::Done => {
+            let second = run_words(
+                rt,
+                alloc,
+                other_words,
+                library,
+                other_rack,
+                other_gate,
+                other_out,
+            );
+            second.end
+        }
+        end => end,
     }
 }

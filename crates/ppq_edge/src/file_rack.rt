@@ -24,7 +24,7 @@ pub struct FileRack {
 impl FileRack {
     /// A device of which no block was made yet. It opens no file.
     pub fn new() -> Self
-        ensures { result.faults ≡ 0 }
+        ensures { ⟦<FileRack as Rack>⟧.faults result ≡ 0 }
     {
         FileRack {
             file: None,

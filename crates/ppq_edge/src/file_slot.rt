@@ -1,5 +1,5 @@
 //! A block of a device file.
-ghost use Rattle.std.specs.Prelude.{None, ◌≡◌, ◌≤◌};
+ghost use Rattle.std.specs.Prelude.{None, ◌≡◌, ◌≤◌, ◌*◌, ◌-◌, ◌^◌, min};
 ghost use Rattle.ppq_outside.specs.Told.{Rose};
 
 use ppq_outside::{Failed, Host, Slot};
@@ -49,7 +49,9 @@ impl FileSlot {
     }
 
     // Where the block begins in the file, in bytes. Past the largest offset the machine refuses the call.
-    fn offset(&self) -> u64 {
+    fn offset(&self) -> u64
+        ensures { result ≡ min (self.now.number * self.now.size) (2 ^ 64 - 1) }
+    {
         u64::from(self.number).saturating_mul(self.size as u64)
     }
 

@@ -1,14 +1,19 @@
-//! The device as a real file.
+//! Device, files and streams of the machine.
 //!
-//! This is the trusted edge: what a file holds or takes is nothing that a contract can say, so the
-//! slots of [`FileRack`] tell nothing of their contents. What is proved of them is their counts, their
-//! numbers and their sizes, for every answer of the machine.
+//! This is the trusted edge: what a file or a stream holds, gives or takes is nothing that a contract
+//! can say, so none of these tells anything of contents. What is proved of them, for every answer of
+//! the machine, is that a call that fails raises its count and no other does, and the numbers and
+//! sizes of the blocks.
 #![tactic(auto)]
 
+mod dir_library;
 mod file_rack;
 mod file_slot;
+mod std_sink;
 #[cfg(test)]
 mod tests;
 
+pub use dir_library::DirLibrary;
 pub use file_rack::FileRack;
 pub use file_slot::FileSlot;
+pub use std_sink::StdSink;

@@ -1,2 +1,12 @@
+pub mod Ending
+pub mod Lengths
 pub mod Pairs
+pub mod Popped
+pub mod Pushed
+pub mod Reading
+pub mod Results
 pub mod Running
+pub mod Sizes
+pub mod Slots
+pub mod Steps
+pub mod Stops

@@ -1,16 +1,29 @@
 -- Output that is gathered before it is put.
-use Rattle.std.specs.Prelude.{◌≡◌, ℕ, List, [], ◌++◌, Option, codes}
+use Rattle.std.specs.Prelude.{◌≡◌, ℕ, List, [], ◌++◌, length, Option, codes}
+use Rattle.ppq_record.specs.declared.pair.Pair.{Pair}
+use Rattle.ppq_record.specs.Bag.{first_of}
 use Rattle.ppq_outside.specs.Told.{TakesAll}
-use Rattle.ppq_engine.specs.Output.{line_of, size_text}
+use Rattle.ppq_engine.specs.Output.{line_of, size_text, drained_text, last_of, key_sum}
 use Rattle.ppq_engine.specs.declared.answer.Answer.{Answer}
-use Rattle.ppq_engine.specs.declared.answer.Answer.TheVariants.{Nothing, Empty, Record, Size}
+use Rattle.ppq_engine.specs.declared.answer.Answer.TheVariants as answer
+use Rattle.ppq_engine.specs.declared.answer.Drained.{Drained}
 
 -- the text of an answer
 abbrev pub answer_text : Answer → List ℕ
-answer_text Nothing = []
-answer_text Empty = codes "empty\n"
-answer_text (Record item) = line_of item
-answer_text (Size records) = size_text records
+answer_text answer.Nothing = []
+answer_text answer.Empty = codes "empty\n"
+answer_text (answer.Record item) = line_of item
+answer_text (answer.Size records) = size_text records
+answer_text answer.All = codes "all\n"
+answer_text answer.More = codes "more\n"
+answer_text (answer.Drained drained) = drained_text drained.count drained.first drained.last drained.sum
+
+-- what is known of drained records
+pub record IsSummary (items : List Pair) (drained : Drained) : Type 0 where
+  pub count : drained.count ≡ length items
+  pub first : drained.first ≡ first_of items
+  pub last : drained.last ≡ last_of items
+  pub sum : drained.sum ≡ key_sum items
 
 -- what was gathered and a text behind it are what the sink took and then what is gathered now
 pub record Gathers (before now : Option (List ℕ)) (had text has : List ℕ) : Type 0 where

@@ -1,16 +1,51 @@
 -- What stands while the commands of a script are run.
-use Rattle.std.specs.Prelude.{◌≡◌, ◌≤◌, ◌<◌, ◌+◌, ℕ, List, ◌++◌, take, Option, ⊤}
+use Rattle.std.specs.Prelude.{◌≡◌, ◌≤◌, ◌<◌, ◌+◌, ℕ, List, [], ◌++◌, take, length, slice_get, Option, Some, None, ⊤}
 use Rattle.ppq_record.specs.declared.pair.Pair.{Pair}
 use Rattle.ppq_record.specs.Bag.{IsSameBag}
-use Rattle.ppq_outside.specs.Told.{TakesAll, TakesPart}
+use Rattle.ppq_outside.specs.Shown.{Shown, AllTell}
+use Rattle.ppq_outside.specs.Told.{Reply, OfRead, TakesAll, TakesPart, Rose}
+use Rattle.ppq_budget.specs.Sizes.{Numbers}
+use Rattle.ppq_array.specs.Kept.{SameSlots, HasFailed, all_writes}
 use Rattle.ppq_script.specs.declared.command.Command.{Command}
-use Rattle.ppq_engine.specs.Output.{output_of, bag_of, load_of}
+use Rattle.ppq_script.specs.declared.command.Command.TheVariants.{Push, Pop, Top, Size, Bulk, Gen, BulkPop, BulkPopLimit, Drain}
+use Rattle.ppq_script.specs.Files.{name_at}
+use Rattle.ppq_script.specs.Reading.{Reading, command_list, line_list}
+use Rattle.ppq_engine.specs.Loads.{none_go, all_go, size_from, most_of, least_of, IsTooMuch, FitsWritten}
+use Rattle.ppq_engine.specs.Output.{AreFilesOf, given_of, output_of, bag_of, load_of}
+use Rattle.ppq_engine.specs.Gathers.{Gathers}
+use Rattle.ppq_queue.specs.Holding.{Holding}
 use Rattle.ppq_queue.specs.declared.fault.QueueFault.{QueueFault}
 use Rattle.ppq_queue.specs.declared.fault.QueueFault.TheVariants.{NoFreeBlock, Device}
+use Rattle.ppq_queue.specs.declared.fault.OpenFault.{OpenFault}
+use Rattle.ppq_queue.specs.declared.fault.OpenFault.TheVariants as unopened
 use Rattle.ppq_engine.specs.declared.end.End.{End}
 use Rattle.ppq_engine.specs.declared.end.End.TheVariants as end
 use Rattle.ppq_engine.specs.declared.stop.Stop.{Stop}
-use Rattle.ppq_engine.specs.declared.stop.Stop.TheVariants.{Sink, Queue}
+use Rattle.ppq_engine.specs.declared.stop.Stop.TheVariants.{Sink, Queue, Read, Memory, Changed}
+
+-- a command that reads no file and prints one answer
+abbrev pub IsPlain : Command → Type 0
+IsPlain (Push item) = ⊤
+IsPlain Pop = ⊤
+IsPlain Top = ⊤
+IsPlain Size = ⊤
+IsPlain (Bulk file size) = ⊥
+IsPlain (Gen seed count) = ⊤
+IsPlain (BulkPop count) = ⊥
+IsPlain (BulkPopLimit limit count) = ⊥
+IsPlain (Drain count) = ⊤
+
+-- what calls of the queue keep, whatever they answer: its sizes, its slots, that these tell, and their writes
+pub record Keeps (old new : Holding Pair) : Type 0 where
+  pub sizes : new.sizes ≡ old.sizes
+  pub slots : SameSlots old.slots new.slots
+  pub tells : AllTell old.slots → AllTell new.slots
+  pub writes : all_writes old.slots ≤ all_writes new.slots
+
+-- what a refused call says of the queue: there is no room for its peak, or the block with this number failed
+abbrev pub IsRefusedBy : ℕ → Numbers → List Shown → QueueFault → Type 0
+IsRefusedBy peak sizes slots NoFreeBlock = IsTooMuch sizes peak
+IsRefusedBy peak sizes slots (Device number) = HasFailed number slots
 
 -- of a text the sink took the beginning, and the rest is gathered
 pub record IsGathered (before now : Option (List ℕ)) (gathered text : List ℕ) : Type 0 where
@@ -18,30 +53,133 @@ pub record IsGathered (before now : Option (List ℕ)) (gathered text : List ℕ
   pub told : TakesAll before now written
   pub all : text ≡ written ++ gathered
 
--- these commands were run: their output is gathered, the queue holds their bag, and held no more than their load
-pub record HasRun (before now : Option (List ℕ)) (gathered : List ℕ) (bag : List Pair) (peak : ℕ) (commands : List Command) : Type 0 where
-  pub output : IsGathered before now gathered (output_of commands)
-  pub holds : IsSameBag bag (bag_of commands)
-  pub highest : peak ≤ load_of commands
+-- what was gathered and the beginning of a text behind it are what the sink took and then what is gathered now
+pub record GathersPart (before now : Option (List ℕ)) (had text has : List ℕ) : Type 0 where
+  pub part : List ℕ
+  pub rest : List ℕ
+  pub all : text ≡ part ++ rest
+  pub gathers : Gathers before now had part has
 
--- a command was refused: the output of those before it is gathered, and with it the load is above this room
-pub record IsRefused (before now : Option (List ℕ)) (gathered : List ℕ) (room : ℕ) (commands : List Command) : Type 0 where
+-- these commands were run, with files that are given as these records: their output is gathered, the queue holds their bag, had no more
+-- records than their load, and that load fits into the budget and what was written
+pub record HasRun (given : ℕ → List Pair) (before now : Option (List ℕ)) (gathered : List ℕ) (bag : List Pair) (size peak : ℕ) (sizes : Numbers) (slots : List Shown) (commands : List Command) : Type 0 where
+  pub output : IsGathered before now gathered (output_of given commands)
+  pub holds : IsSameBag bag (bag_of given commands)
+  pub counted : size ≡ length (bag_of given commands)
+  pub highest : peak ≤ load_of given commands
+  pub crest : FitsWritten (load_of given commands) sizes slots
+
+-- the same of any files and slots, as far as the commands tell it
+pub record HasSizes (size peak : ℕ) (sizes : Numbers) (slots : List Shown) (commands : List Command) : Type 0 where
+  pub low : size_from all_go 0 commands ≤ size
+  pub high : size ≤ size_from none_go 0 commands
+  pub highest : peak ≤ most_of commands
+  pub crest : FitsWritten (least_of commands) sizes slots
+
+-- the first commands were run, the next wrote this text in part, and what is to come is open
+pub record IsCut (given : ℕ → List Pair) (before now : Option (List ℕ)) (gathered : List ℕ) (commands : List Command) (done : ℕ) (part : List ℕ) : Type 0 where
+  pub output : IsGathered before now gathered (output_of given (take done commands) ++ part)
+  pub rest : List ℕ
+  pub all : output_of given commands ≡ (output_of given (take done commands) ++ part) ++ rest
+
+-- the queue refused a command
+pub record IsRefused (told : Option (List ℕ → Option (List ℕ))) (script : Reading) (first : List Shown) (before now : Option (List ℕ)) (gathered : List ℕ) (sizes : Numbers) (slots : List Shown) (fault : QueueFault) : Type 0 where
   pub done : ℕ
-  pub output : IsGathered before now gathered (output_of (take done commands))
-  pub above : room < load_of (take (done + 1) commands)
+  pub cut :
+      AllTell first → (files : List ℕ → Option (List ℕ)) → AreFilesOf told script files
+      → (part : List ℕ) × IsCut (given_of files script) before now gathered (command_list script) done part
+  pub cause :
+      AllTell first → (files : List ℕ → Option (List ℕ)) → AreFilesOf told script files
+      → IsRefusedBy (load_of (given_of files script) (take (done + 1) (command_list script))) sizes slots fault
+  pub any : IsRefusedBy (most_of (take (done + 1) (command_list script))) sizes slots fault
 
--- what stands where the commands did not all run: the sink failed, or the queue refused a command
-abbrev pub HasStopped : Option (List ℕ) → Option (List ℕ) → List ℕ → ℕ → List Command → Stop → Type 0
-HasStopped before now gathered room commands Sink = TakesPart before now (output_of commands)
-HasStopped before now gathered room commands (Queue NoFreeBlock) = IsRefused before now gathered room commands
-HasStopped before now gathered room commands (Queue (Device number)) = ⊥
+-- a command that reads a file was not run: the output of those before it is gathered
+pub record IsBeforeFile (told : Option (List ℕ → Option (List ℕ))) (script : Reading) (first : List Shown) (before now : Option (List ℕ)) (gathered : List ℕ) : Type 0 where
+  pub done : ℕ
+  pub file : ℕ
+  pub size : ℕ
+  pub here : slice_get (command_list script) done ≡ Some (Bulk file size)
+  pub cut :
+      AllTell first → (files : List ℕ → Option (List ℕ)) → AreFilesOf told script files
+      → IsCut (given_of files script) before now gathered (command_list script) done []
 
--- the sink's count stayed where it was not the sink that stopped the commands
-abbrev pub StaysUnlessSink : ℕ → ℕ → Stop → Type 0
-StaysUnlessSink before now Sink = ⊤
-StaysUnlessSink before now (Queue fault) = now ≡ before
+-- a read of this file into room for a byte or more gave nothing at this place
+abbrev pub EndsAt : (Reply → Type 0) → List ℕ → ℕ → Type 0
+EndsAt replied name got = (room : ℕ) × ((0 < room) × replied (OfRead name got room []))
+
+-- the file of the command on this line ended before the length that was said of it; the library does not tell
+pub record HasChanged (told : Option (List ℕ → Option (List ℕ))) (replied : Reply → Type 0) (script : Reading) (line said got : ℕ) : Type 0 where
+  pub at : ℕ
+  pub file : ℕ
+  pub here : slice_get (command_list script) at ≡ Some (Bulk file said)
+  pub line_is : slice_get (line_list script) at ≡ Some line
+  pub before : got < said
+  pub read : EndsAt replied (name_at script.names file) got
+  pub untold : told ≡ None
+
+-- what stands where the commands did not all run
+abbrev pub HasStopped : Option (List ℕ → Option (List ℕ)) → Reading → List Shown → Option (List ℕ) → Option (List ℕ) → List ℕ → Numbers → List Shown → Stop → Type 0
+HasStopped told script first before now gathered sizes slots Sink =
+    AllTell first → (files : List ℕ → Option (List ℕ)) → AreFilesOf told script files → TakesPart before now (output_of (given_of files script) (command_list script))
+HasStopped told script first before now gathered sizes slots (Queue fault) = IsRefused told script first before now gathered sizes slots fault
+HasStopped told script first before now gathered sizes slots Read = IsBeforeFile told script first before now gathered
+HasStopped told script first before now gathered sizes slots Memory = IsBeforeFile told script first before now gathered
+HasStopped told script first before now gathered sizes slots (Changed line said got) = IsBeforeFile told script first before now gathered
+
+-- what a command wrote that did not run to its end: the sink took a part; or a part is gathered, and none of a command that reads a file
+abbrev pub WritesPart : Option (List ℕ) → Option (List ℕ) → List ℕ → List ℕ → List ℕ → Stop → Type 0
+WritesPart before now had text has Sink = TakesPart before now (had ++ text)
+WritesPart before now had text has (Queue fault) = GathersPart before now had text has
+WritesPart before now had text has Read = Gathers before now had [] has
+WritesPart before now had text has Memory = Gathers before now had [] has
+WritesPart before now had text has (Changed line said got) = Gathers before now had [] has
+
+-- a stop by a file comes from a command that reads one
+abbrev pub IsOfFile : Command → Stop → Type 0
+IsOfFile command Sink = ⊤
+IsOfFile command (Queue fault) = ⊤
+IsOfFile command Read = (file : ℕ) × ((size : ℕ) × (command ≡ Bulk file size))
+IsOfFile command Memory = (file : ℕ) × ((size : ℕ) × (command ≡ Bulk file size))
+IsOfFile command (Changed line said got) = (file : ℕ) × ((size : ℕ) × (command ≡ Bulk file size))
+
+-- where it was the queue, it says why
+abbrev pub StopsFor : ℕ → Numbers → List Shown → Stop → Type 0
+StopsFor peak sizes slots Sink = ⊤
+StopsFor peak sizes slots (Queue fault) = IsRefusedBy peak sizes slots fault
+StopsFor peak sizes slots Read = ⊤
+StopsFor peak sizes slots Memory = ⊤
+StopsFor peak sizes slots (Changed line said got) = ⊤
+
+-- where a file had changed, it says which
+abbrev pub ChangedIn : Option (List ℕ → Option (List ℕ)) → (Reply → Type 0) → Reading → Stop → Type 0
+ChangedIn told replied script Sink = ⊤
+ChangedIn told replied script (Queue fault) = ⊤
+ChangedIn told replied script Read = ⊤
+ChangedIn told replied script Memory = ⊤
+ChangedIn told replied script (Changed line said got) = HasChanged told replied script line said got
+
+-- the sink's count rose where it was the sink, and else stayed
+abbrev pub SinkAfter : ℕ → ℕ → Stop → Type 0
+SinkAfter before now Sink = Rose before now
+SinkAfter before now (Queue fault) = now ≡ before
+SinkAfter before now Read = now ≡ before
+SinkAfter before now Memory = now ≡ before
+SinkAfter before now (Changed line said got) = now ≡ before
+
+-- the library's count rose where a read failed, and else stayed
+abbrev pub LibraryAfter : ℕ → ℕ → Stop → Type 0
+LibraryAfter before now Sink = now ≡ before
+LibraryAfter before now (Queue fault) = now ≡ before
+LibraryAfter before now Read = Rose before now
+LibraryAfter before now Memory = now ≡ before
+LibraryAfter before now (Changed line said got) = now ≡ before
 
 -- a queue's fault as an end
 abbrev pub queue_end : QueueFault → End
 queue_end NoFreeBlock = end.NoFreeBlock
 queue_end (Device number) = end.DeviceFault number
+
+-- why a queue was not opened, as an end
+abbrev pub open_end : OpenFault → End
+open_end (unopened.TooSmall need) = end.BudgetTooSmall need
+open_end unopened.Memory = end.Memory

@@ -1,11 +1,25 @@
 //! What a command prints.
 use ppq_record::Pair;
 
-/// What a command prints: nothing, `empty`, a record's line, or how many records there are.
+/// What a command prints, or a line of it: nothing, `empty`, a record's line, how many records there
+/// are, whether a limited pop gave all, or what was drained.
 #[derive(Clone, Copy, Debug, PartialEq, Eq)]
 pub enum Answer {
     Nothing,
     Empty,
     Record { item: Pair },
     Size { records: u64 },
+    All,
+    More,
+    Drained { drained: Drained },
+}
+
+/// Records that were drained: how many, the first and the last of them, and the sum of their keys
+/// modulo 2^64.
+#[derive(Clone, Copy, Debug, PartialEq, Eq)]
+pub struct Drained {
+    pub count: u64,
+    pub first: Option<Pair>,
+    pub last: Option<Pair>,
+    pub sum: u64,
 }

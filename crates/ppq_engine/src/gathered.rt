@@ -1,12 +1,13 @@
 //! Output that is gathered before it is put.
 ghost use Rattle.std.specs.Prelude.{◌≡◌, ◌≤◌, ◌+◌, ◌++◌, [], length, IfOk, OnOk, OnErr, decimal};
 ghost use Rattle.ppq_outside.specs.Told.{HasOneCause, TakesAll, TakesPart};
+ghost use Rattle.ppq_engine.specs.Output.{pair_text, drained_text};
 ghost use Rattle.ppq_engine.specs.Gathers.{answer_text, Gathers};
 
-use crate::Answer;
+use crate::{Answer, Drained};
 use itoa::Buffer;
 use ppq_outside::{Failed, Host, Sink};
-use ppq_record::Memory;
+use ppq_record::{Memory, Pair};
 use std::alloc::Global;
 use std::marker::Model;
 
@@ -14,8 +15,9 @@ use std::marker::Model;
 /// beside its cost per byte.
 const ROOM: usize = 65_536;
 
-/// A length in bytes that no text of a command passes: two numbers of 20 digits and 2 signs more.
-const LONGEST: usize = 64;
+/// A length in bytes that no text of an answer passes: six numbers of 20 digits and 27 letters and signs
+/// more.
+const LONGEST: usize = 160;
 
 /// The bytes that were printed and not yet put. The memory for them is taken once.
 #[derive(Drop)]
@@ -74,23 +76,56 @@ impl Gathered {
     }
 
     fn append(&mut self, answer: Answer)
-        requires { length self.old + 64 ≤ 65536 }
+        requires { length self.old + 160 ≤ 65536 }
         ensures { self.new ≡ self.old ++ answer_text answer }
     {
         match answer {
             Answer::Nothing => {}
             Answer::Empty => self.text(b"empty\n"),
             Answer::Record { item } => {
-                self.number(item.key);
-                self.text(b" ");
-                self.number(item.value);
+                self.pair(item);
                 self.text(b"\n");
             }
             Answer::Size { records } => {
                 self.number(records);
                 self.text(b"\n");
             }
+            Answer::All => self.text(b"all\n"),
+            Answer::More => self.text(b"more\n"),
+            Answer::Drained { drained } => self.drained(drained),
         }
+    }
+
+    /// What was drained, as a line.
+    fn drained(&mut self, drained: Drained)
+        requires { length self.old + 160 ≤ 65536 }
+        ensures { self.new ≡ self.old ++ drained_text drained.count drained.first drained.last drained.sum }
+    {
+        match (drained.first, drained.last) {
+            (Some(first), Some(last)) => {
+                self.text(b"count ");
+                self.number(drained.count);
+                self.text(b" first ");
+                self.pair(first);
+                self.text(b" last ");
+                self.pair(last);
+                self.text(b" sum ");
+                self.number(drained.sum);
+                self.text(b"\n");
+            }
+            _ => self.text(b"count 0\n"),
+        }
+    }
+
+    /// A key and a value.
+    fn pair(&mut self, item: Pair)
+        requires { length self.old + 41 ≤ 65536 }
+        ensures text { self.new ≡ self.old ++ pair_text item }
+        ensures length { length self.new ≤ length self.old + 41 }
+    {
+        self.number(item.key);
+        self.text(b" ");
+        self.number(item.value);
     }
 
     fn number(&mut self, number: u64)

@@ -3,12 +3,19 @@
 
 mod answer;
 mod end;
+mod files;
+mod fill;
 mod gathered;
+mod pop;
+mod push;
 mod run;
+mod step;
 mod stop;
 #[cfg(test)]
 mod tests;
+#[cfg(test)]
+mod tests_generated;
 
-pub use answer::Answer;
+pub use answer::{Answer, Drained};
 pub use end::{End, Ended};
 pub use run::run_script;

@@ -1,99 +1,84 @@
 //! Runs the commands of a script.
-ghost use Rattle.std.specs.Prelude.{◌≡◌, ◌≤◌, ◌<◌, ◌⊎◌, ◌+◌, ◌^◌, [], None, OnOk, OnErr, IfOk, IfErr, IsErrOf, length, max};
-ghost use Rattle.ppq_record.specs.Bag.{IsSameBag};
-ghost use Rattle.ppq_outside.specs.Told.{TakesAll, TakesPart, Rose};
-ghost use Rattle.ppq_budget.specs.Sizes.{heap_of, fixed_of};
+ghost use Rattle.std.specs.Prelude.{◌≡◌, ◌≤◌, ◌<◌, ◌⊎◌, ◌*◌, ◌+◌, ◌^◌, List, ℕ, Option, [], Some, None, OnOk, IfErr, IsTrue, length, map, vec_len, IfOk};
+ghost use Rattle.ppq_outside.specs.Shown.{AllTell};
+ghost use Rattle.ppq_outside.specs.Told.{TakesAll, TakesPart, Rose, Remembers, RepliesOnly};
+ghost use Rattle.ppq_budget.specs.Sizes.{fixed_of, batch_of};
+ghost use Rattle.ppq_array.specs.Kept.{SameSlots, HasFailed};
 ghost use Rattle.ppq_script.specs.Reading.{command_list};
-ghost use Rattle.ppq_engine.specs.Output.{least_text, text_of, after, output_of, load_of, TakesWithin};
-ghost use Rattle.ppq_engine.specs.Gathers.{answer_text};
-ghost use Rattle.ppq_engine.specs.Running.{IsGathered, HasStopped, StaysUnlessSink, queue_end};
-ghost use Rattle.ppq_engine.specs.Ends.{budget_refusal, IsRun, IsRunOrRefusal, IsCompleted, NoFault};
-ghost use Rattle.ppq_engine.specs.declared.stop.Stop.TheVariants.{Sink};
-ghost use Rattle.ppq_queue.specs.declared.fault.QueueFault.TheVariants as queue_fault;
-ghost use Rattle.ppq_engine.specs.declared.end.End.TheVariants.{Done, WriteFault, NoFreeBlock};
+ghost use Rattle.ppq_queue.specs.Holding.{AreNewSlots};
+ghost use Rattle.ppq_engine.specs.Loads.{most_of, least_of, HasRoom, IsTooMuch, FitsWritten};
+ghost use Rattle.ppq_engine.specs.Output.{output_of, load_of, crest_of, given_of, AreFilesOf, KeepsLengths, TakesWithin};
+ghost use Rattle.ppq_engine.specs.Running.{IsGathered, HasStopped, ChangedIn, HasChanged, SinkAfter, LibraryAfter, queue_end, open_end};
+ghost use Rattle.ppq_engine.specs.Files.{IsReadInScript};
+ghost use Rattle.ppq_engine.specs.Outcome.{EndSays, TakesBeforeFile, FaultBeforeFile, PutsRest, PutsStopped};
+ghost use Rattle.ppq_engine.specs.Ends.{budget_refusal, IsRunOrRefusal, IsCompleted, IsQuiet, NoFault, NoneFailed};
+ghost use Rattle.ppq_engine.specs.declared.end.End.TheVariants.{Done, ReadFault, WriteFault, DeviceFault, NoFreeBlock, BudgetTooSmall, Memory, FileChanged};
 
 use crate::gathered::Gathered;
+use crate::step::step;
 use crate::stop::Stop;
-use crate::{Answer, End};
+use crate::{End, Ended};
 use ppq_budget::Sizes;
-use ppq_outside::{Failed, Gate, Host, MemSlot, Sink};
-use ppq_queue::{OpenFault, Queue, QueueFault};
+use ppq_outside::{Failed, Gate, Host, Library, Sink, Slot};
+use ppq_queue::{OpenFault, Out, Queue, QueueFault};
 use ppq_record::Pair;
-use ppq_script::{Command, Script};
+use ppq_script::Script;
 use std::alloc::Global;
 
-/// The queue of a script. It has no blocks so far.
-type Pairs = Queue<MemSlot, Pair>;
-
-/// What is printed of the least record.
-fn answer_of(item: Option<Pair>) -> Answer
-    ensures { answer_text result ≡ least_text item }
-{
-    match item {
-        Some(item) => Answer::Record { item },
-        None => Answer::Empty,
-    }
-}
-
-/// Runs one command on the queue.
-fn step<H: Host, G: Gate>(
+/// Runs the commands in order up to the first that does not run to its end, and gathers what they
+/// print.
+fn run_commands<H: Host, S: Slot + Send + Sync, L: Library, O: Sink, G: Gate>(
     rt: &H,
-    queue: &mut Pairs,
-    command: Command,
-    gate: &G,
-) -> Result<Answer, QueueFault>
-where
-    H::Dir: Send,
-    ensures text { IfOk result (λ answer. answer_text answer ≡ text_of queue.old.bag command) }
-    ensures bag { OnOk result (IsSameBag queue.new.bag (after queue.old.bag command)) }
-    ensures peak { queue.new.peak ≤ max queue.old.peak (length (after queue.old.bag command)) }
-    ensures fault { IfErr result (λ fault. fault ≡ queue_fault.NoFreeBlock) }
-    ensures cause { OnErr result (heap_of queue.new.sizes < queue.new.peak) }
-    ensures sizes { queue.new.sizes ≡ queue.old.sizes }
-{
-    match command {
-        Command::Push { item } => match queue.push(rt, item, gate) {
-            Ok(()) => Ok(Answer::Nothing),
-            Err(refused) => Err(refused.1),
-        },
-        Command::Pop => Ok(answer_of(queue.pop(rt, gate)?)),
-        Command::Top => Ok(answer_of(queue.top(rt, gate)?)),
-        Command::Size => Ok(Answer::Size {
-            records: queue.size(),
-        }),
-    }
-}
-
-/// Runs the commands in order up to the first that is refused, and gathers what they print.
-fn run_commands<H: Host, O: Sink, G: Gate>(
-    rt: &H,
+    alloc: Global,
     script: &Script,
-    queue: &mut Pairs,
+    library: &mut L,
+    room: &mut [u8],
+    queue: &mut Queue<S, Pair>,
+    list: &mut Out<Pair>,
     gathered: &mut Gathered,
     out: &mut O,
     gate: &G,
 ) -> Result<(), Stop>
 where
     H::Dir: Send,
+    requires checked { IsTrue script.now.checked }
+    requires lengths { (files : List ℕ → Option (List ℕ)) → L.told library.old ≡ Some files → KeepsLengths files script.now }
+    requires room { 16 ≤ length room.old }
     requires bag { queue.old.bag ≡ [] }
+    requires size { queue.old.size ≡ 0 }
     requires peak { queue.old.peak ≡ 0 }
+    requires sound { queue.old.failed ≡ None }
+    requires block { 0 < queue.old.sizes.block }
+    requires list { list.old.room ≡ batch_of queue.old.sizes }
     requires gathered { gathered.old ≡ [] }
-    ensures all { OnOk result (IsGathered (O.told out.old) (O.told out.new) gathered.new (output_of (command_list script.now))) }
-    ensures stopped { IfErr result (HasStopped (O.told out.old) (O.told out.new) gathered.new (heap_of queue.old.sizes) (command_list script.now)) }
+    ensures all { OnOk result (AllTell queue.old.slots → (files : List ℕ → Option (List ℕ)) → AreFilesOf (L.told library.old) script.now files → IsGathered (O.told out.old) (O.told out.new) gathered.new (output_of (given_of files script.now) (command_list script.now))) }
+    ensures crest { OnOk result (AllTell queue.old.slots → (files : List ℕ → Option (List ℕ)) → AreFilesOf (L.told library.old) script.now files → FitsWritten (crest_of (given_of files script.now) (command_list script.now)) queue.old.sizes queue.new.slots) }
+    ensures least { OnOk result (FitsWritten (least_of (command_list script.now)) queue.old.sizes queue.new.slots) }
+    ensures stopped { IfErr result (HasStopped (L.told library.old) script.now queue.old.slots (O.told out.old) (O.told out.new) gathered.new queue.old.sizes queue.new.slots) }
+    ensures changed { IfErr result (ChangedIn (L.told library.old) (L.replied library.new) script.now) }
+    ensures slots { SameSlots queue.old.slots queue.new.slots }
+    ensures remembers { Remembers (L.replied library.old) (L.replied library.new) }
+    ensures asks { RepliesOnly (L.replied library.old) (L.replied library.new) (IsReadInScript script.now) }
+    ensures told { L.told library.new ≡ L.told library.old }
+    ensures library_later { L.faults library.old ≤ L.faults library.new }
+    ensures library_stays { OnOk result (L.faults library.new ≡ L.faults library.old) }
+    ensures library_cause { IfErr result (LibraryAfter (L.faults library.old) (L.faults library.new)) }
     ensures later { O.faults out.old ≤ O.faults out.new }
     ensures stays { OnOk result (O.faults out.new ≡ O.faults out.old) }
-    ensures unless { IfErr result (StaysUnlessSink (O.faults out.old) (O.faults out.new)) }
-    ensures cause { IsErrOf result Sink → Rose (O.faults out.old) (O.faults out.new) }
+    ensures cause { IfErr result (SinkAfter (O.faults out.old) (O.faults out.new)) }
 {
     for i in 0..script.len() {
-        let answer = step(rt, queue, script.at(i), gate)?;
-        gathered.print(rt, answer, out)?;
+        let command = script.at(i);
+        step(
+            rt, alloc, script, i, command, library, room, queue, list, gathered, out, gate,
+        )?;
+        queue.known();
     }
     Ok(())
 }
 
 /// A fault of the queue as an end.
-fn end_of(fault: QueueFault) -> End
+fn fault_end(fault: QueueFault) -> End
     ensures { result ≡ queue_end fault }
 {
     match fault {
@@ -102,90 +87,228 @@ fn end_of(fault: QueueFault) -> End
     }
 }
 
-/// Runs the commands on an empty queue, and puts all that was gathered before every end but
-/// `WriteFault`.
-fn run_on<H: Host, O: Sink, G: Gate>(
+/// Why a queue was not opened, as an end.
+fn unopened(fault: OpenFault) -> End
+    ensures { result ≡ open_end fault }
+{
+    match fault {
+        OpenFault::TooSmall { need } => End::BudgetTooSmall { need },
+        OpenFault::Memory => End::Memory,
+    }
+}
+
+/// Puts what was gathered, before this end.
+fn put_rest<H: Host, O: Sink>(rt: &H, end: End, gathered: &mut Gathered, out: &mut O) -> End
+    ensures puts { PutsRest (O.told out.old) (O.told out.new) (O.faults out.old) (O.faults out.new) gathered.old end result }
+    ensures later { O.faults out.old ≤ O.faults out.new }
+{
+    match gathered.put(rt, out) {
+        Ok(()) => end,
+        Err(Failed) => End::WriteFault,
+    }
+}
+
+/// Puts what was gathered before the commands stopped, unless it was the sink that stopped them.
+fn put_stopped<H: Host, O: Sink>(rt: &H, stop: Stop, gathered: &mut Gathered, out: &mut O) -> End
+    ensures puts { PutsStopped (O.told out.old) (O.told out.new) (O.faults out.old) (O.faults out.new) gathered.old result stop }
+    ensures later { O.faults out.old ≤ O.faults out.new }
+{
+    match stop {
+        Stop::Sink => End::WriteFault,
+        Stop::Queue { fault } => put_rest(rt, fault_end(fault), gathered, out),
+        Stop::Read => put_rest(rt, End::ReadFault, gathered, out),
+        Stop::Memory => put_rest(rt, End::Memory, gathered, out),
+        Stop::Changed { line, said, got } => {
+            put_rest(rt, End::FileChanged { line, said, got }, gathered, out)
+        }
+    }
+}
+
+/// Runs the commands on an empty queue, and puts all that was gathered, also where they stop, unless
+/// it is the sink that stops them.
+fn run_on<H: Host, S: Slot + Send + Sync, L: Library, O: Sink, G: Gate>(
     rt: &H,
+    alloc: Global,
     script: &Script,
-    queue: &mut Pairs,
+    library: &mut L,
+    room: &mut [u8],
+    queue: &mut Queue<S, Pair>,
+    list: &mut Out<Pair>,
     gathered: &mut Gathered,
     out: &mut O,
     gate: &G,
 ) -> End
 where
     H::Dir: Send,
+    requires checked { IsTrue script.now.checked }
+    requires lengths { (files : List ℕ → Option (List ℕ)) → L.told library.old ≡ Some files → KeepsLengths files script.now }
+    requires room { 16 ≤ length room.old }
     requires bag { queue.old.bag ≡ [] }
+    requires size { queue.old.size ≡ 0 }
     requires peak { queue.old.peak ≡ 0 }
+    requires sound { queue.old.failed ≡ None }
+    requires block { 0 < queue.old.sizes.block }
+    requires list { list.old.room ≡ batch_of queue.old.sizes }
     requires gathered { gathered.old ≡ [] }
-    ensures done { result ≡ Done → TakesAll (O.told out.old) (O.told out.new) (output_of (command_list script.now)) }
-    ensures part { TakesPart (O.told out.old) (O.told out.new) (output_of (command_list script.now)) }
-    ensures run { IsRun result }
-    ensures write { result ≡ WriteFault → Rose (O.faults out.old) (O.faults out.new) }
-    ensures above { result ≡ NoFreeBlock → heap_of queue.old.sizes < load_of (command_list script.now) }
-    ensures within { result ≡ NoFreeBlock → TakesWithin (O.told out.old) (O.told out.new) (heap_of queue.old.sizes) (command_list script.now) }
+    ensures part { AllTell queue.old.slots → (files : List ℕ → Option (List ℕ)) → AreFilesOf (L.told library.old) script.now files → TakesPart (O.told out.old) (O.told out.new) (output_of (given_of files script.now) (command_list script.now)) }
+    ensures says { EndSays (L.told library.old) (L.replied library.new) script.now queue.old.slots queue.new.slots queue.old.sizes (O.told out.old) (O.told out.new) (O.faults out.old) (O.faults out.new) (L.faults library.old) (L.faults library.new) result }
+    ensures file { FaultBeforeFile (L.told library.old) script.now queue.old.slots (O.told out.old) (O.told out.new) result }
+    ensures slots { SameSlots queue.old.slots queue.new.slots }
+    ensures remembers { Remembers (L.replied library.old) (L.replied library.new) }
+    ensures asks { RepliesOnly (L.replied library.old) (L.replied library.new) (IsReadInScript script.now) }
+    ensures told { L.told library.new ≡ L.told library.old }
+    ensures library_later { L.faults library.old ≤ L.faults library.new }
     ensures later { O.faults out.old ≤ O.faults out.new }
-    ensures stays { NoFault result → O.faults out.new ≡ O.faults out.old }
 {
-    match run_commands(rt, script, queue, gathered, out, gate) {
+    match run_commands(
+        rt, alloc, script, library, room, queue, list, gathered, out, gate,
+    ) {
         Ok(()) => match gathered.put(rt, out) {
             Ok(()) => End::Done,
             Err(Failed) => End::WriteFault,
         },
-        Err(Stop::Sink) => End::WriteFault,
-        Err(Stop::Queue { fault }) => match gathered.put(rt, out) {
-            Ok(()) => end_of(fault),
-            Err(Failed) => End::WriteFault,
-        },
+        Err(stop) => put_stopped(rt, stop, gathered, out),
     }
 }
 
-/// Runs a script without a bad line on a queue of these sizes. Its output goes to the sink, gathered
-/// into pieces of tens of kilobytes.
-///
-/// `Done`: the sink took the script's output. `WriteFault`: the sink failed; it took a prefix of
-/// it. `NoFreeBlock`: a push found no room, which comes only where the script's load is above the
-/// capacity of one heap; at least what the commands up to such a load print was taken. `BudgetTooSmall` comes
-/// exactly where the budget is below its fixed part, unless memory was wanting; there and on
-/// `Memory` nothing was written. No other end comes.
-pub fn run_script<H: Host, O: Sink, G: Gate>(
+/// Takes the memory for output, for rounds of popped records and for pieces of files, and runs the commands on an empty queue.
+fn run_opened<H: Host, S: Slot + Send + Sync, L: Library, O: Sink, G: Gate>(
     rt: &H,
     alloc: Global,
     script: &Script,
     sizes: Sizes,
+    library: &mut L,
+    queue: &mut Queue<S, Pair>,
     out: &mut O,
     gate: &G,
 ) -> End
 where
     H::Dir: Send,
-    requires good { script.now.bad ≡ None }
-    requires workers { script.now.workers ≡ sizes.workers }
-    requires blocks { sizes.blocks ≡ 0 }
-
-    // What is written.
-    ensures done { result ≡ Done → TakesAll (O.told out.old) (O.told out.new) (output_of (command_list script.now)) }
-    ensures part { TakesPart (O.told out.old) (O.told out.new) (output_of (command_list script.now)) }
-    ensures within { result ≡ NoFreeBlock → TakesWithin (O.told out.old) (O.told out.new) (heap_of sizes) (command_list script.now) }
-    ensures nothing { IsRun result ⊎ (O.told out.new ≡ O.told out.old) }
-
-    // When each end comes.
-    ensures answer { IsRunOrRefusal (budget_refusal sizes) result }
-    ensures write { result ≡ WriteFault → Rose (O.faults out.old) (O.faults out.new) }
-    ensures above { result ≡ NoFreeBlock → heap_of sizes < load_of (command_list script.now) }
+    requires checked { IsTrue script.now.checked }
+    requires lengths { (files : List ℕ → Option (List ℕ)) → L.told library.old ≡ Some files → KeepsLengths files script.now }
+    requires bag { queue.old.bag ≡ [] }
+    requires size { queue.old.size ≡ 0 }
+    requires peak { queue.old.peak ≡ 0 }
+    requires sound { queue.old.failed ≡ None }
+    requires sizes { queue.old.sizes ≡ sizes }
+    ensures part { AllTell queue.old.slots → (files : List ℕ → Option (List ℕ)) → AreFilesOf (L.told library.old) script.now files → TakesPart (O.told out.old) (O.told out.new) (output_of (given_of files script.now) (command_list script.now)) }
+    ensures says { EndSays (L.told library.old) (L.replied library.new) script.now queue.old.slots queue.new.slots queue.old.sizes (O.told out.old) (O.told out.new) (O.faults out.old) (O.faults out.new) (L.faults library.old) (L.faults library.new) result }
+    ensures file { FaultBeforeFile (L.told library.old) script.now queue.old.slots (O.told out.old) (O.told out.new) result }
+    ensures slots { SameSlots queue.old.slots queue.new.slots }
+    ensures remembers { Remembers (L.replied library.old) (L.replied library.new) }
+    ensures asks { RepliesOnly (L.replied library.old) (L.replied library.new) (IsReadInScript script.now) }
+    ensures told { L.told library.new ≡ L.told library.old }
+    ensures library_later { L.faults library.old ≤ L.faults library.new }
     ensures later { O.faults out.old ≤ O.faults out.new }
-    ensures stays { NoFault result → O.faults out.new ≡ O.faults out.old }
-
-    // A budget that is large enough for its fixed part, a load that one heap holds, and no fault of the sink.
-    ensures complete { fixed_of sizes ≤ sizes.memory → load_of (command_list script.now) ≤ heap_of sizes → O.faults out.old < 2 ^ 63 → O.faults out.new ≡ O.faults out.old → IsCompleted result }
 {
-    let mut queue: Pairs = match Queue::open(alloc, sizes, Vec::new(alloc)) {
-        Ok(queue) => queue,
-        Err((_, OpenFault::TooSmall { need })) => return End::BudgetTooSmall { need },
-        Err((_, OpenFault::Memory)) => return End::Memory,
-    };
     let Ok(mut gathered) = Gathered::new(alloc) else {
         return End::Memory;
     };
-    let end = run_on(rt, script, &mut queue, &mut gathered, out, gate);
-    let _slots = queue.close();
-    end
+    let Ok(mut list) = Out::new(alloc, &sizes) else {
+        return End::Memory;
+    };
+    let bytes = sizes.batch() as usize * 16;
+    let Ok(mut room) = vec![in alloc; 0u8; bytes] else {
+        return End::Memory;
+    };
+    run_on(
+        rt,
+        alloc,
+        script,
+        library,
+        &mut room,
+        queue,
+        &mut list,
+        &mut gathered,
+        out,
+        gate,
+    )
+}
+
+/// Runs a checked script on a queue of these sizes over these blocks, which all come back. Its output
+/// goes to the sink, gathered into pieces of tens of kilobytes. Its files are read by pieces of as many
+/// records as each worker has a block, into memory that is taken before the first command.
+///
+/// `Done`: the sink took the script's output. `WriteFault`: the sink failed; it took a prefix of
+/// it. `ReadFault`: the library failed. `DeviceFault`: the block with that number failed.
+/// `NoFreeBlock`: a run of records found no free block, which comes only where the script's load is
+/// above the capacity of one heap and the device has fewer blocks than that load wants; at least what
+/// all commands up to such a load print was taken. `FileChanged`: the file of the command on that line
+/// ended at `got`, before the length `said` that the script keeps, which no library does that tells.
+/// `BudgetTooSmall` comes exactly where the budget is below its fixed part, unless memory was wanting;
+/// nothing was written there. On `Memory` nothing was written, or what the commands before one that
+/// reads a file print. No other end comes.
+///
+/// What is said of the output holds where the contents of the blocks and of the library are visible to
+/// proofs; where the script reads no file, the library's need not be. When each end comes, and which
+/// blocks come back, is said of all blocks and libraries.
+pub fn run_script<H: Host, S: Slot + Send + Sync, L: Library, O: Sink, G: Gate>(
+    rt: &H,
+    alloc: Global,
+    script: &Script,
+    sizes: Sizes,
+    slots: Vec<S>,
+    library: &mut L,
+    out: &mut O,
+    gate: &G,
+) -> Ended<S>
+where
+    H::Dir: Send,
+    requires checked { IsTrue script.now.checked }
+    requires workers { script.now.workers ≡ sizes.workers }
+    requires slots { AreNewSlots sizes 16 (map S.shown slots.items) }
+    requires lengths { (files : List ℕ → Option (List ℕ)) → L.told library.old ≡ Some files → KeepsLengths files script.now }
+
+    // What is written, where slots and library tell.
+    ensures done { result.end ≡ Done → AllTell (map S.shown slots.items) → (files : List ℕ → Option (List ℕ)) → AreFilesOf (L.told library.old) script.now files → TakesAll (O.told out.old) (O.told out.new) (output_of (given_of files script.now) (command_list script.now)) }
+    ensures part { AllTell (map S.shown slots.items) → (files : List ℕ → Option (List ℕ)) → AreFilesOf (L.told library.old) script.now files → TakesPart (O.told out.old) (O.told out.new) (output_of (given_of files script.now) (command_list script.now)) }
+    ensures within { result.end ≡ NoFreeBlock → AllTell (map S.shown slots.items) → (files : List ℕ → Option (List ℕ)) → AreFilesOf (L.told library.old) script.now files → TakesWithin (given_of files script.now) (O.told out.old) (O.told out.new) sizes (command_list script.now) }
+    ensures memory { result.end ≡ Memory → (O.told out.new ≡ O.told out.old) ⊎ TakesBeforeFile (L.told library.old) script.now (map S.shown slots.items) (O.told out.old) (O.told out.new) }
+    ensures file { FaultBeforeFile (L.told library.old) script.now (map S.shown slots.items) (O.told out.old) (O.told out.new) result.end }
+    ensures nothing { (need : ℕ) → result.end ≡ BudgetTooSmall need → O.told out.new ≡ O.told out.old }
+
+    // When each end comes.
+    ensures answer { IsRunOrRefusal (budget_refusal sizes) result.end }
+    ensures read { result.end ≡ ReadFault → Rose (L.faults library.old) (L.faults library.new) }
+    ensures write { result.end ≡ WriteFault → Rose (O.faults out.old) (O.faults out.new) }
+    ensures failed { (number : ℕ) → result.end ≡ DeviceFault number → HasFailed number (map S.shown result.blocks.items) }
+    ensures above { result.end ≡ NoFreeBlock → AllTell (map S.shown slots.items) → (files : List ℕ → Option (List ℕ)) → AreFilesOf (L.told library.old) script.now files → IsTooMuch sizes (load_of (given_of files script.now) (command_list script.now)) }
+    ensures above_any { result.end ≡ NoFreeBlock → IsTooMuch sizes (most_of (command_list script.now)) }
+    ensures changed { (line said got : ℕ) → result.end ≡ FileChanged line said got → HasChanged (L.told library.old) (L.replied library.new) script.now line said got }
+    ensures later { O.faults out.old ≤ O.faults out.new }
+    ensures stays { NoFault result.end → O.faults out.new ≡ O.faults out.old }
+
+    // A budget that is large enough for its fixed part, a load for which one heap or the device has room, and no
+    // fault of the sink, the library or a block.
+    ensures complete { fixed_of sizes ≤ sizes.memory → AllTell (map S.shown slots.items) → (files : List ℕ → Option (List ℕ)) → AreFilesOf (L.told library.old) script.now files → HasRoom sizes (load_of (given_of files script.now) (command_list script.now)) → IsQuiet (O.faults out.old) (O.faults out.new) → IsQuiet (L.faults library.old) (L.faults library.new) → NoneFailed (map S.shown result.blocks.items) → IsCompleted (L.told library.old) result.end }
+    ensures complete_any { fixed_of sizes ≤ sizes.memory → HasRoom sizes (most_of (command_list script.now)) → IsQuiet (O.faults out.old) (O.faults out.new) → IsQuiet (L.faults library.old) (L.faults library.new) → NoneFailed (map S.shown result.blocks.items) → IsCompleted (L.told library.old) result.end }
+
+    // All blocks come back, each once, and no count of a block falls. The device was used: each record above the
+    // budget, when the bag was greatest, was written.
+    ensures blocks { SameSlots (map S.shown slots.items) (map S.shown result.blocks.items) }
+    ensures used { result.end ≡ Done → AllTell (map S.shown slots.items) → (files : List ℕ → Option (List ℕ)) → AreFilesOf (L.told library.old) script.now files → FitsWritten (crest_of (given_of files script.now) (command_list script.now)) sizes (map S.shown result.blocks.items) }
+    ensures used_any { result.end ≡ Done → FitsWritten (least_of (command_list script.now)) sizes (map S.shown result.blocks.items) }
+
+    // No file changes, and the library's count rises only where the end names a fault. It is asked for no length, and for
+    // no byte past the length that the script keeps of a file.
+    ensures files { L.told library.new ≡ L.told library.old }
+    ensures remembers { Remembers (L.replied library.old) (L.replied library.new) }
+    ensures asks { RepliesOnly (L.replied library.old) (L.replied library.new) (IsReadInScript script.now) }
+    ensures library_later { L.faults library.old ≤ L.faults library.new }
+    ensures library_stays { NoFault result.end → L.faults library.new ≡ L.faults library.old }
+{
+    let mut queue: Queue<S, Pair> = match Queue::open(alloc, sizes, slots) {
+        Ok(queue) => queue,
+        Err((blocks, fault)) => {
+            return Ended {
+                end: unopened(fault),
+                blocks,
+            };
+        }
+    };
+    let end = run_opened(rt, alloc, script, sizes, library, &mut queue, out, gate);
+    Ended {
+        end,
+        blocks: queue.close(),
+    }
 }

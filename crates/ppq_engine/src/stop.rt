@@ -9,6 +9,12 @@ pub enum Stop {
     Sink,
     /// The queue did not do a command.
     Queue { fault: QueueFault },
+    /// The library failed.
+    Read,
+    /// Memory was wanting for a read.
+    Memory,
+    /// The file of a command on this line ended at `got`, before the length that it had.
+    Changed { line: u32, said: u64, got: u64 },
 }
 
 impl From<Failed> for Stop {

@@ -1,47 +1,93 @@
 //! Runs of small scripts over small queues.
-use crate::{End, run_script};
+ghost use Rattle.std.specs.Prelude.{◌≡◌, List, ℕ, Option, Some, IfOk, IsTrue, map};
+ghost use Rattle.ppq_outside.specs.MemoryDevice.{slot_shown};
+ghost use Rattle.ppq_queue.specs.Holding.{AreNewSlots};
+ghost use Rattle.ppq_engine.specs.Output.{KeepsLengths};
+
+use crate::{End, Ended, run_script};
 use ppq_budget::Sizes;
-use ppq_outside::{Host, MemSink, OpenGate, Sink};
-use ppq_record::Pair;
-use ppq_script::{Command, Script, read};
+use ppq_outside::{Host, Library, MemLibrary, MemRack, MemSink, MemSlot, OpenGate, Rack, Slot};
+use ppq_script::{Script, check_files, read};
 use std::alloc::Global;
 use std::test::Fail;
 
 /// How much a sink of these tests has room for, in bytes.
-const ROOM: usize = 4_096;
+const ROOM: usize = 65_536;
 
-/// A script without a bad line.
-fn script_of(alloc: Global, text: &[u8], workers: u32) -> Result<Script, Fail> {
+/// The blocks of a device in memory.
+fn blocks_of<H: Host>(
+    rt: &H,
+    alloc: Global,
+    rack: &mut MemRack,
+    sizes: Sizes,
+) -> Result<Vec<MemSlot>, Fail>
+    ensures { IfOk result (λ slots. AreNewSlots sizes 16 (map slot_shown slots.items)) }
+{
+    let bytes = sizes.block() as usize * 16;
+    let mut slots = Vec::new(alloc);
+    for number in 0..sizes.blocks() {
+        let Ok(slot) = rack.block(rt, alloc, "device", number, bytes) else {
+            return Err(Fail::from("no block"));
+        };
+        slots.push(slot)?;
+    }
+    Ok(slots)
+}
+
+/// A script that is checked over a library.
+fn checked_script<H: Host, L: Library>(
+    rt: &H,
+    alloc: Global,
+    text: &[u8],
+    workers: u32,
+    library: &mut L,
+) -> Result<Script, Fail>
+    ensures checked { IfOk result (λ script. IsTrue script.checked) }
+    ensures workers { IfOk result (λ script. script.workers ≡ workers) }
+    ensures lengths { IfOk result (λ script. (files : List ℕ → Option (List ℕ)) → L.told library.new ≡ Some files → KeepsLengths files script) }
+{
     if text.len() > 1_048_576 {
         return Err(Fail::from("the script is too long"));
     }
-    let Ok(script) = read(alloc, text, workers) else {
+    let Ok(mut script) = read(alloc, text, workers) else {
         return Err(Fail::from("no memory for the script"));
     };
-    Ok(script)
+    match check_files(rt, alloc, &mut script, library) {
+        Ok(()) => Ok(script),
+        Err(_) => Err(Fail::from("the script has a bad line")),
+    }
 }
 
-/// How a script ends over a queue of these sizes, and what it writes.
-fn outcome<H: Host>(
+/// How a text ends on a queue of these sizes, with its blocks, over such blocks and files; and what it
+/// writes.
+pub(crate) fn outcome<H: Host, L: Library>(
     rt: &H,
     alloc: Global,
-    script: &Script,
+    text: &[u8],
     sizes: Option<Sizes>,
-) -> Result<(End, Vec<u8>), Fail>
+    rack: &mut MemRack,
+    library: &mut L,
+) -> Result<(Ended<MemSlot>, Vec<u8>), Fail>
 where
     H::Dir: Send,
 {
     let sizes = sizes.ok_or("a number is out of range")?;
-    if script.bad().is_some() || script.workers() != sizes.workers() || sizes.blocks() != 0 {
-        return Err(Fail::from("the script is not to be run so"));
-    }
+    let script = checked_script(rt, alloc, text, sizes.workers(), library)?;
+    let slots = blocks_of(rt, alloc, rack, sizes)?;
     let mut sink = MemSink::new(alloc, ROOM)?;
-    let end = run_script(rt, alloc, script, sizes, &mut sink, &OpenGate);
-    Ok((end, sink.bytes().to_vec(alloc)?))
+    let ended = run_script(
+        rt, alloc, &script, sizes, slots, library, &mut sink, &OpenGate,
+    );
+    Ok((ended, sink.bytes().to_vec(alloc)?))
 }
 
-/// The same of a text.
-fn outcome_of_text<H: Host>(
+/// Two workers, two records a block, one block a heap, 200 blocks, and a budget without a buffer.
+fn small() -> Option<Sizes> {
+    Sizes::new(2, 2, 1, 372, 200)
+}
+
+/// How a text that reads no file ends on a device that never fails, and what it writes.
+pub(crate) fn plain<H: Host>(
     rt: &H,
     alloc: Global,
     text: &[u8],
@@ -50,166 +96,184 @@ fn outcome_of_text<H: Host>(
 where
     H::Dir: Send,
 {
-    let workers = sizes.ok_or("a number is out of range")?.workers();
-    let script = script_of(alloc, text, workers)?;
-    outcome(rt, alloc, &script, sizes)
+    let mut library = MemLibrary::new(alloc);
+    let (ended, wrote) = outcome(rt, alloc, text, sizes, &mut MemRack::new(), &mut library)?;
+    Ok((ended.end, wrote))
 }
 
 #[test]
-fn an_empty_queue_pops_tops_and_counts_nothing(rt: HostRuntime) -> Result<(), Fail> {
-    let sizes = Sizes::new(4, 4_096, 8, 1_048_576, 0);
-    let (end, wrote) = outcome_of_text(&rt, rt.alloc(), b"pop\ntop\nsize\n", sizes)?;
-    assert_eq!(rt; end, End::Done);
-    assert_eq!(rt; wrote.as_slice(), b"empty\nempty\n0\n".as_slice());
+fn scripts_without_files_write_what_they_should(rt: HostRuntime) -> Result<(), Fail> {
+    let table: [(&[u8], &[u8]); 11] = [
+        (b"", b""),
+        (b"pop\ntop\nsize\n", b"empty\nempty\n0\n"),
+        (
+            b"push 5 1\npush 3 9\npush 5 1\npush 3 2\nbulk_pop 3\nsize\n",
+            b"3 2\n3 9\n5 1\n1\n",
+        ),
+        (
+            b"push 18446744073709551615 18446744073709551615\npop\n",
+            b"18446744073709551615 18446744073709551615\n",
+        ),
+        (
+            b"push 2 2\npush 1 1\nbulk_pop 0\nbulk_pop 18446744073709551615\n",
+            b"1 1\n2 2\n",
+        ),
+        (
+            b"push 5 1\npush 3 9\npush 5 1\npush 3 2\nbulk_pop_limit 5 0 10\n",
+            b"3 2\n3 9\nall\n",
+        ),
+        (
+            b"push 5 1\npush 3 9\npush 5 1\npush 3 2\nbulk_pop_limit 5 0 1\n",
+            b"3 2\nmore\n",
+        ),
+        (
+            b"push 5 1\npush 3 9\npush 5 1\npush 3 2\nbulk_pop_limit 5 0 2\n",
+            b"3 2\n3 9\nall\n",
+        ),
+        (
+            b"push 5 1\npush 3 9\npush 5 1\npush 3 2\nbulk_pop_limit 5 0 0\nbulk_pop_limit 0 0 10\n",
+            b"more\nall\n",
+        ),
+        (
+            b"gen 1 1\npop\ngen 1 2\ndrain 5\n",
+            b"7806831264735756412 0\ncount 2 first 7806831264735756412 0 last 9396908728118811419 1 sum 17203739992854567831\n",
+        ),
+        (
+            b"push 18446744073709551615 0\npush 2 0\ndrain 9\ndrain 1\n",
+            b"count 2 first 2 0 last 18446744073709551615 0 sum 1\ncount 0\n",
+        ),
+    ];
+    for (text, wants) in table {
+        let (end, wrote) = plain(&rt, rt.alloc(), text, small())?;
+        assert_eq!(rt; end, End::Done);
+        assert_eq!(rt; wrote.as_slice(), wants);
+    }
     Ok(())
 }
 
 #[test]
 fn a_budget_below_its_fixed_part_names_its_need(rt: HostRuntime) -> Result<(), Fail> {
-    let (end, wrote) = outcome_of_text(&rt, rt.alloc(), b"pop\n", Sizes::new(2, 2, 1, 171, 0))?;
-    assert_eq!(rt; end, End::BudgetTooSmall { need: 172 });
+    let (end, wrote) = plain(&rt, rt.alloc(), b"pop\n", Sizes::new(2, 2, 1, 371, 200))?;
+    assert_eq!(rt; end, End::BudgetTooSmall { need: 372 });
     assert_eq!(rt; wrote.len(), 0);
     Ok(())
 }
 
 #[test]
-fn five_records_go_beyond_the_heap(rt: HostRuntime) -> Result<(), Fail> {
-    let text = b"push 5 0\npush 4 0\npush 3 0\npush 2 0\npush 1 0\nsize\npop\npop\ntop\n";
-    let (end, wrote) = outcome_of_text(&rt, rt.alloc(), text, Sizes::new(2, 2, 1, 180, 0))?;
-    assert_eq!(rt; end, End::Done);
-    assert_eq!(rt; wrote.as_slice(), b"5\n1 0\n2 0\n3 0\n".as_slice());
-    Ok(())
-}
-
-#[test]
-fn the_eleventh_record_finds_no_block(rt: HostRuntime) -> Result<(), Fail> {
-    let text =
-        b"size\npush 1 1\npush 1 1\npush 1 1\npush 1 1\npush 1 1\npush 1 1\npush 1 1\npush 1 1\npush 1 1\npush 1 1\nsize\npush 1 1\nsize\n";
-    let (end, wrote) = outcome_of_text(&rt, rt.alloc(), text, Sizes::new(2, 2, 1, 180, 0))?;
+fn the_third_record_finds_no_block_without_a_device(rt: HostRuntime) -> Result<(), Fail> {
+    let text = b"size\npush 1 0\npush 2 0\npush 3 0\n";
+    let (end, wrote) = plain(&rt, rt.alloc(), text, Sizes::new(1, 2, 1, 158, 0))?;
     assert_eq!(rt; end, End::NoFreeBlock);
-    assert_eq!(rt; wrote.as_slice(), b"0\n10\n".as_slice());
-    Ok(())
-}
-
-#[test]
-fn the_third_record_finds_no_block_without_buffers(rt: HostRuntime) -> Result<(), Fail> {
-    let text = b"push 1 0\npush 2 0\npush 3 0\n";
-    let (end, wrote) = outcome_of_text(&rt, rt.alloc(), text, Sizes::new(1, 2, 1, 158, 0))?;
-    assert_eq!(rt; end, End::NoFreeBlock);
-    assert_eq!(rt; wrote.len(), 0);
-    Ok(())
-}
-
-#[test]
-fn two_records_need_no_buffer(rt: HostRuntime) -> Result<(), Fail> {
-    let text = b"push 2 0\npush 1 0\npop\npop\n";
-    let (end, wrote) = outcome_of_text(&rt, rt.alloc(), text, Sizes::new(1, 2, 1, 158, 0))?;
+    assert_eq!(rt; wrote.as_slice(), b"0\n".as_slice());
+    let (end, wrote) = plain(
+        &rt,
+        rt.alloc(),
+        b"push 2 0\npush 1 0\npop\npop\n",
+        Sizes::new(1, 2, 1, 158, 0),
+    )?;
     assert_eq!(rt; end, End::Done);
     assert_eq!(rt; wrote.as_slice(), b"1 0\n2 0\n".as_slice());
     Ok(())
 }
 
-/// The next number of a sequence that looks random.
-fn next_number(number: u64) -> u64 {
-    number
-        .wrapping_mul(6_364_136_223_846_793_005)
-        .wrapping_add(1_442_695_040_888_963_407)
-}
-
-/// A line of a script: of eight, four push, two pop, one tops and one counts.
-fn random_line(alloc: Global, draw: u64) -> Result<String, Fail> {
-    let line = match draw % 8 {
-        0 | 1 => "pop\n".to_string(alloc)?,
-        2 => "top\n".to_string(alloc)?,
-        3 => "size\n".to_string(alloc)?,
-        _ => format!(in alloc; "push {} {}\n", draw / 8 % 4, draw / 32 % 3)?,
-    };
-    Ok(line)
-}
-
-/// A script of 24 lines that follows from a seed.
-fn random_script(alloc: Global, seed: u64) -> Result<Vec<u8>, Fail> {
-    let mut text = Vec::new(alloc);
-    let mut number = next_number(seed);
-    for _ in 0..24 {
-        number = next_number(number);
-        let line = random_line(alloc, number >> 33)?;
-        text.extend_from_slice(line.as_bytes())?;
+#[test]
+fn a_failed_call_of_a_block_ends_the_run_and_the_block_comes_back(
+    rt: HostRuntime,
+) -> Result<(), Fail> {
+    let six = b"push 6 0\npush 5 0\npush 4 0\npush 3 0\npush 2 0\npush 1 0\nbulk_pop 6\n";
+    let three = b"push 1 0\npush 2 0\npush 3 0\nbulk_pop 3\n";
+    let table: [(&[u8], u64); 2] = [(six, 1), (three, 2)];
+    for (text, call) in table {
+        let calls = vec![in rt.alloc(); (0, call)]?;
+        let mut rack = MemRack::failing(calls, Vec::new(rt.alloc()));
+        let mut library = MemLibrary::new(rt.alloc());
+        let (ended, wrote) = outcome(&rt, rt.alloc(), text, small(), &mut rack, &mut library)?;
+        assert_eq!(rt; ended.end, End::DeviceFault { number: 0 });
+        assert_eq!(rt; wrote.len(), 0);
+        assert_eq!(rt; ended.blocks.len(), 200);
+        let failed = |slot: &MemSlot| slot.number() == 0 && slot.faults() == 1;
+        assert!(rt; ended.blocks.iter().any(failed));
     }
-    Ok(text)
+    Ok(())
 }
 
-/// What a command prints of a vector of records, which it changes.
-fn plain_step(alloc: Global, bag: &mut Vec<Pair>, command: Command) -> Result<String, Fail> {
-    let text = match command {
-        Command::Push { item } => {
-            bag.push(item)?;
-            bag.sort_unstable();
-            String::new(alloc)
-        }
-        Command::Pop => {
-            let text = plain_line(alloc, bag)?;
-            if !bag.is_empty() {
-                let _ = bag.remove(0);
-            }
-            text
-        }
-        Command::Top => plain_line(alloc, bag)?,
-        Command::Size => format!(in alloc; "{}\n", bag.len())?,
-    };
-    Ok(text)
-}
-
-/// The line of the first record of a vector.
-fn plain_line(alloc: Global, bag: &[Pair]) -> Result<String, Fail> {
-    let text = match bag {
-        [] => "empty\n".to_string(alloc)?,
-        [item, ..] => format!(in alloc; "{} {}\n", item.key, item.value)?,
-    };
-    Ok(text)
-}
-
-/// What a script writes over a vector that is sorted at each push, and how many records the vector
-/// came to hold.
-fn plain_run(alloc: Global, script: &Script) -> Result<(Vec<u8>, usize), Fail> {
-    let mut bag = Vec::new(alloc);
-    let mut wrote = Vec::new(alloc);
-    let mut load = 0;
-    for i in 0..script.len() {
-        let text = plain_step(alloc, &mut bag, script.at(i))?;
-        wrote.extend_from_slice(text.as_bytes())?;
-        load = load.max(bag.len());
+/// A library with a file `f` of so many records `7 7`.
+fn sevens(alloc: Global, count: usize) -> Result<MemLibrary, Fail> {
+    let mut bytes = Vec::new(alloc);
+    for _ in 0..count {
+        bytes.extend_from_slice(&7u64.to_be_bytes())?;
+        bytes.extend_from_slice(&7u64.to_be_bytes())?;
     }
-    Ok((wrote, load))
+    let mut library = MemLibrary::new(alloc);
+    library.add(alloc, "f", &bytes)?;
+    Ok(library)
 }
 
-/// Whether a queue of two workers, or one, with a heap of two records, ends a script as a vector does,
-/// or stops at a record that has no room.
-fn agrees<H: Host>(
-    rt: &H,
-    alloc: Global,
-    seed: u64,
-    workers: u32,
-    memory: u64,
-) -> Result<bool, Fail>
-where
-    H::Dir: Send,
-{
-    let script = script_of(alloc, &random_script(alloc, seed)?, workers)?;
-    let (plain, load) = plain_run(alloc, &script)?;
-    let (end, wrote) = outcome(rt, alloc, &script, Sizes::new(workers, 2, 1, memory, 0))?;
-    match end {
-        End::Done => Ok(wrote.as_slice() == plain.as_slice()),
-        End::NoFreeBlock => Ok(load > 2 && plain.as_slice().starts_with(&wrote)),
-        _ => Ok(false),
+/// The lines of so many records `7 7`.
+fn lines_of_sevens(alloc: Global, count: usize) -> Result<Vec<u8>, Fail> {
+    let mut lines = Vec::new(alloc);
+    for _ in 0..count {
+        lines.extend_from_slice(b"7 7\n")?;
     }
+    Ok(lines)
 }
 
 #[test]
-fn a_thousand_scripts_write_what_a_vector_does(rt: HostRuntime) -> Result<(), Fail> {
-    for seed in 0..500 {
-        assert!(rt; agrees(&rt, rt.alloc(), seed, 2, 172 + seed % 29)?);
-        assert!(rt; agrees(&rt, rt.alloc(), 500 + seed, 1, 158 + seed % 2)?);
+fn records_of_a_file_are_pushed_and_come_back(rt: HostRuntime) -> Result<(), Fail> {
+    let sizes = Sizes::new(2, 2, 1, 2_372, 2_200);
+    for count in [0, 1, 4, 5, 2_000] {
+        let mut library = sevens(rt.alloc(), count)?;
+        let (ended, wrote) = outcome(
+            &rt,
+            rt.alloc(),
+            b"bulk f\nbulk_pop 2000\n",
+            sizes,
+            &mut MemRack::new(),
+            &mut library,
+        )?;
+        assert_eq!(rt; ended.end, End::Done);
+        assert_eq!(rt; wrote, lines_of_sevens(rt.alloc(), count)?);
     }
+    Ok(())
+}
+
+#[test]
+fn a_file_that_ended_early_is_named_by_its_line(rt: HostRuntime) -> Result<(), Fail> {
+    let mut library = sevens(rt.alloc(), 2)?;
+    library.shrink("f", 16);
+    let (ended, wrote) = outcome(
+        &rt,
+        rt.alloc(),
+        b"size\nbulk f\n",
+        small(),
+        &mut MemRack::new(),
+        &mut library,
+    )?;
+    assert_eq!(rt;
+        ended.end,
+        End::FileChanged {
+            line: 2,
+            said: 32,
+            got: 16
+        }
+    );
+    assert_eq!(rt; wrote.as_slice(), b"0\n".as_slice());
+    Ok(())
+}
+
+#[test]
+fn a_failed_read_of_a_file_keeps_what_was_printed(rt: HostRuntime) -> Result<(), Fail> {
+    let mut library = sevens(rt.alloc(), 3)?;
+    library.fail_call(3)?;
+    let (ended, wrote) = outcome(
+        &rt,
+        rt.alloc(),
+        b"size\nbulk f\nbulk f\n",
+        small(),
+        &mut MemRack::new(),
+        &mut library,
+    )?;
+    assert_eq!(rt; ended.end, End::ReadFault);
+    assert_eq!(rt; wrote.as_slice(), b"0\n".as_slice());
     Ok(())
 }

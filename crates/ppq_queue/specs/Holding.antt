@@ -1,57 +1,72 @@
 -- What a queue holds.
-use Rattle.std.specs.Prelude.{◌≡◌, ◌<◌, ◌≤◌, ◌+◌, ◌*◌, ℕ, List, length, ⊤}
-use Rattle.ppq_budget.specs.Sizes.{Numbers, AreInRange, fixed_of, batch_of, heap_of}
-use Rattle.ppq_heap.specs.Heap.{Contents}
-use Rattle.ppq_queue.specs.Stored.{Storing}
+use Rattle.std.specs.Prelude.{◌≡◌, ◌<◌, ◌+◌, ◌-◌, ◌*◌, ℕ, List, length, max, Option, Some, None, ⊤, All}
+use Rattle.ppq_record.specs.Bag.{IsSameBag}
+use Rattle.ppq_budget.specs.Sizes.{Numbers, fixed_of, batch_of, heap_of, blocks_for, room_of}
+use Rattle.ppq_outside.specs.Shown.{Shown, AllTell}
+use Rattle.ppq_array.specs.Kept.{HasFailed}
 use Rattle.ppq_queue.specs.declared.fault.OpenFault.{OpenFault}
 use Rattle.ppq_queue.specs.declared.fault.OpenFault.TheVariants.{TooSmall, Memory}
+use Rattle.ppq_queue.specs.declared.fault.QueueFault.{QueueFault}
+use Rattle.ppq_queue.specs.declared.fault.QueueFault.TheVariants.{NoFreeBlock, Device}
 
--- the bag of its records, its sizes, the greatest size that its bag had or was to get by a push, how many records its heap
--- has, and how many of its buffers are idle, of how many
+-- The bag of its records, as far as its slots tell; how many records it counts; its sizes; the greatest size that it had or was to get
+-- by a push; all its slots, in some order, and how many of them are free; the number of the slot a call of which failed first, if any;
+-- how many records its heap has, and how many its extract buffer; and how many buffers of a block each there are
 pub record Holding (R : Type 0) : Type 0 where
   pub bag : List R
+  pub size : ℕ
   pub sizes : Numbers
   pub peak : ℕ
+  pub slots : List Shown
+  pub free : ℕ
+  pub failed : Option ℕ
   pub in_heap : ℕ
-  pub idle : ℕ
+  pub in_extract : ℕ
   pub buffers : ℕ
 
--- the records that count against the budget: those of the heap, a batch that is dealt and one that is given out, both counted
--- as full, and a block for each buffer that exists
+-- how many slots are in use; of each the first record is kept in memory
+abbrev pub in_use : {R : Type 0} → Holding R → ℕ
+in_use q = length q.slots - q.free
+
+-- the records that count against the budget: those of the heap and the extract buffer, the first of each block in use, a batch that is
+-- dealt and one that is given out, both counted as full, and a block for each buffer that exists
 abbrev pub resident_of : {R : Type 0} → Holding R → ℕ
-resident_of q = q.in_heap + 2 * batch_of q.sizes + q.buffers * q.sizes.block
+resident_of q = q.in_heap + q.in_extract + in_use q + 2 * batch_of q.sizes + q.buffers * q.sizes.block
 
--- heap and buffers are as they were
-abbrev pub Stays : {R : Type 0} → Holding R → Holding R → Type 0
-Stays old new = (new.in_heap ≡ old.in_heap) × (new.idle ≡ old.idle)
+-- a slot of so many bytes that was not called yet
+pub record IsNewSlot (bytes : ℕ) (slot : Shown) : Type 0 where
+  pub size : slot.size ≡ bytes
+  pub no_fault : slot.faults ≡ 0
+  pub no_write : slot.writes ≡ 0
+  pub no_read : slot.reads ≡ 0
 
--- the heap took one record in; the buffers are as they were
-abbrev pub EntersHeap : {R : Type 0} → Holding R → Holding R → Type 0
-EntersHeap old new = (new.in_heap ≡ old.in_heap + 1) × (new.idle ≡ old.idle)
+-- as many slots as the device has blocks, each of the bytes of a block, and none called yet
+pub record AreNewSlots (sizes : Numbers) (width : ℕ) (slots : List Shown) : Type 0 where
+  pub count : length slots ≡ sizes.blocks
+  pub fresh : All (IsNewSlot (sizes.block * width)) slots
 
--- the heap was stored, in as many buffers as it has blocks, and then took one record in
-abbrev pub EntersStoredHeap : {R : Type 0} → Holding R → Holding R → Type 0
-EntersStoredHeap old new = (new.in_heap ≡ 1) × (new.idle + old.sizes.heap ≡ old.idle)
-
--- one record left the heap; the buffers are as they were
-abbrev pub LeavesHeap : {R : Type 0} → Holding R → Holding R → Type 0
-LeavesHeap old new = (new.in_heap + 1 ≡ old.in_heap) × (new.idle ≡ old.idle)
-
--- the heap is as it was, and no buffer went into use
-abbrev pub LeavesRuns : {R : Type 0} → Holding R → Holding R → Type 0
-LeavesRuns old new = (new.in_heap ≡ old.in_heap) × (old.idle ≤ new.idle)
-
--- a refusal of an opening says that the budget is too small exactly where it is, and how much it needs
+-- a refusal of an opening says that the budget is too small only where it is, and how much it needs
 abbrev pub NamesNeed : Numbers → OpenFault → Type 0
 NamesNeed sizes (TooSmall need) = (sizes.memory < fixed_of sizes) × (need ≡ fixed_of sizes)
 NamesNeed sizes Memory = ⊤
 
--- the parts of a queue fit its sizes: the heap's capacity, the buffers' size and number, all of it within the budget; the
--- peak is the greatest size so far, and no more than one record above the budget
-pub record IsQueue {R : Type 0} (sizes : Numbers) (heap : Contents R) (stored : Storing R) (peak : ℕ) : Type 0 where
-  pub range : AreInRange sizes
-  pub cap : heap.cap ≡ heap_of sizes
-  pub block : stored.block ≡ sizes.block
-  pub budget : fixed_of sizes + stored.buffers * sizes.block ≤ sizes.memory
-  pub size : length heap.items + length stored.items ≤ peak
-  pub most : peak ≤ sizes.memory + 1
+module _ {R : Type 0} where
+  -- No block was free: the bag is as it was, where slots tell. Fewer slots are free than a merge or a store may want; the device has fewer
+  -- blocks than are enough for the peak; and the peak is above what one heap holds
+  pub record FoundNoBlock (old new : Holding R) : Type 0 where
+    pub bag : AllTell old.slots → IsSameBag new.bag old.bag
+    pub size : new.size ≡ old.size
+    pub sound : new.failed ≡ None
+    pub free : new.free < max (8 + new.sizes.workers) (blocks_for new.sizes new.size)
+    pub room : new.sizes.blocks < room_of new.sizes new.peak
+    pub above : heap_of new.sizes < new.peak
+
+  -- a call of the slot with this number failed, now or before, and the queue keeps that number
+  pub record HasStopped (number : ℕ) (new : Holding R) : Type 0 where
+    pub fault : HasFailed number new.slots
+    pub kept : new.failed ≡ Some number
+
+  -- what stands after a refusal
+  abbrev pub IsRefusal : Holding R → Holding R → QueueFault → Type 0
+  IsRefusal old new NoFreeBlock = FoundNoBlock old new
+  IsRefusal old new (Device number) = HasStopped number new

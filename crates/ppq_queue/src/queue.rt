@@ -1,215 +1,591 @@
 //! The queue.
-ghost use Rattle.std.specs.Prelude.{◌≡◌, ◌≤◌, ◌<◌, ◌+◌, ◌*◌, ◌↔◌, ◌⊎◌, ◌∷◌, [], length, Ok, IfOk, IfErr, OnOk, OnErr, IsErr, max};
-ghost use Rattle.ppq_record.specs.Bag.{IsSameBag, least, without_front};
-ghost use Rattle.ppq_budget.specs.Sizes.{AreInRange, fixed_of, heap_of, pool_of};
-ghost use Rattle.ppq_queue.specs.Holding.{resident_of, NamesNeed, Stays, EntersHeap, EntersStoredHeap, LeavesHeap, LeavesRuns};
-ghost use Rattle.ppq_queue.specs.declared.fault.QueueFault.TheVariants.{NoFreeBlock};
+ghost use Rattle.std.specs.Prelude.{◌≡◌, ◌≤◌, ◌<◌, ◌+◌, ◌-◌, ◌*◌, ◌↔◌, ◌⊎◌, ◌∷◌, [], ℕ, length, map, All, Some, None, IsNone, Err, IfOk, IfErr, OnOk, OnErr, max, min, true, false};
+ghost use Rattle.ppq_record.specs.Bag.{IsSameBag, least, front, without_front, size_below};
+ghost use Rattle.ppq_budget.specs.Sizes.{AreInRange, fixed_of, heap_of, batch_of};
+ghost use Rattle.ppq_outside.specs.Shown.{AllTell};
+ghost use Rattle.ppq_array.specs.Kept.{SameSlots, HasFailed, all_writes};
+ghost use Rattle.ppq_fetch.specs.Taking.{wanted, NoneBelow};
+ghost use Rattle.ppq_queue.specs.Bulk.{IsEnd};
+ghost use Rattle.ppq_queue.specs.Holding.{resident_of, NamesNeed, AreNewSlots, IsRefusal};
+ghost use Rattle.ppq_queue.specs.declared.fault.QueueFault.TheVariants.{Device};
 
+use crate::berths::{berth_slots, give_back};
+use crate::bulk::{keep_below, take_out};
 use crate::choice::goes_first;
-use crate::flush::flush;
-use crate::stored::Stored;
-use crate::{OpenFault, QueueFault};
-use ppq_budget::{Sizes, fixed_parts};
+use crate::flush::flush_all;
+use crate::parts::Parts;
+use crate::refill::make_ready;
+use crate::{LimitEnd, OpenFault, Out, QueueFault};
+use ppq_array::{OwnerLists, StoreFault, Supply};
+use ppq_budget::Sizes;
+use ppq_extract::{Extract, Sources};
 use ppq_heap::InsertionHeap;
 use ppq_outside::{Gate, Host, Slot};
 use ppq_record::{Record, record_laws};
+use ppq_spill::PassBody;
 use std::alloc::Global;
 use std::marker::Model;
 
-/// A priority queue of one owner, the least record first, within a budget in records.
+/// A priority queue of one owner, the least record first, within a budget in records, with the blocks of
+/// a device behind it.
 ///
-/// Contracts see the bag of its records, its sizes, the greatest size that the bag had or was to
-/// get by a push, and how many records its heap and how many buffers it has.
+/// Contracts see the bag of its records as far as its slots tell, how many there are, its sizes, the
+/// greatest size that the bag had or was to get by a push, and all its slots.
 #[derive(Drop)]
-pub struct Queue<S: Slot, R: Record> {
+pub struct Queue<S: Slot + Send + Sync, R: Record + Send + Sync> {
     /// The five numbers from which all sizes follow.
     sizes: Sizes,
     /// The latest records.
     heap: InsertionHeap<R>,
-    /// Earlier ones, as sorted runs.
-    stored: Stored<R>,
+    /// The runs, and the buffers that blocks are written from and read into.
+    body: PassBody<S, R>,
+    /// The free slots, and the buffers that no run uses.
+    supply: OwnerLists<S, R>,
+    /// The least records of the runs, as they were when it was last refilled.
+    extract: Extract<R>,
+    /// What refills and merges need.
+    sources: Sources<R>,
+    /// How many records there are.
+    count: u64,
     /// The greatest size so far, in records.
     peak: u64,
+    /// The block that failed first; from then on the queue is stopped.
+    failed: Option<u32>,
     /// The emptied list of the slots that came in.
     slots: Vec<S>,
 }
 
-impl<S: Slot, R: Record> Model for Queue<S, R> {
-    ghost use Rattle.std.specs.Prelude.{◌≡◌, ◌++◌, [], length};
-    ghost use Rattle.ppq_queue.specs.Holding.{Holding, IsQueue};
+impl<S: Slot + Send + Sync, R: Record + Send + Sync> Model for Queue<S, R> {
+    ghost use Rattle.std.specs.Prelude.{◌≡◌, ◌+◌, ◌≤◌, ◌++◌, [], length, None, vec_capacity};
+    ghost use Rattle.ppq_budget.specs.Sizes.{pool_of};
+    ghost use Rattle.ppq_queue.specs.Holding.{Holding};
+    ghost use Rattle.ppq_queue.specs.Resting.{slots_of, runs_bag, lane_buffers};
+    ghost use Rattle.ppq_queue.specs.State.{IsQueue, IsSound};
 
     ghost Value = { Holding R };
 
-    ghost view = { λ q. record { bag = q.heap.items ++ q.stored.items; sizes = q.sizes; peak = q.peak; in_heap = length q.heap.items; idle = q.stored.idle; buffers = q.stored.buffers } };
+    ghost view = { λ q. record { bag = q.heap.items ++ q.extract.items ++ runs_bag S.shown R.record_of R.WIDTH q.body; size = q.count; sizes = q.sizes; peak = q.peak; slots = slots_of S.shown q.body q.supply; free = length q.supply.kept; failed = q.failed; in_heap = length q.heap.items; in_extract = length q.extract.items; buffers = lane_buffers q.sizes + pool_of q.sizes } };
 
-    ghost invariant = { λ q. IsQueue q.sizes q.heap q.stored q.peak × (q.slots.items ≡ []) };
+    ghost invariant = { λ q. IsQueue S.shown q.sizes q.heap q.extract q.body q.supply q.count q.peak q.failed × (q.failed ≡ None → IsSound S.shown R.Ord.cmp R.record_of R.WIDTH q.sizes q.heap q.extract q.body q.supply q.sources q.count q.peak) × (q.slots.items ≡ []) × (q.sizes.blocks ≤ vec_capacity q.slots) };
 }
 
-impl<S: Slot, R: Record> Queue<S, R> {
-    /// A queue without records. It takes all the memory that it will ever have: a heap of `H`
-    /// records, and as many buffers as the budget leaves room for.
+impl<S: Slot + Send + Sync, R: Record + Send + Sync> Queue<S, R> {
+    /// A queue without records over these slots, which are free in the order of the list. It takes all the
+    /// memory that it will ever have: a heap of `H` records, an extract buffer, the buffers of its lanes, as
+    /// many buffers more as the budget leaves room for, and a box for each slot.
     ///
-    /// `TooSmall` comes exactly where the budget is below its fixed part. A refusal hands the slots
-    /// back. For now a queue has no slots.
+    /// `TooSmall` comes exactly where the budget is below its fixed part, which it names, unless memory is
+    /// wanting. A refusal hands the slots back.
     pub fn open(
         alloc: Global,
         sizes: Sizes,
         slots: Vec<S>,
     ) -> Result<Queue<S, R>, (Vec<S>, OpenFault)>
-        requires blocks { sizes.blocks ≡ 0 }
-        requires slots { slots.items ≡ [] }
+        requires { AreNewSlots sizes R.WIDTH (map S.shown slots.items) }
         ensures bag { IfOk result (λ q. q.bag ≡ []) }
+        ensures size { IfOk result (λ q. q.size ≡ 0) }
         ensures sizes { IfOk result (λ q. q.sizes ≡ sizes) }
         ensures peak { IfOk result (λ q. q.peak ≡ 0) }
-        ensures heap { IfOk result (λ q. q.in_heap ≡ 0) }
-        ensures idle { IfOk result (λ q. (q.idle ≡ pool_of sizes) × (q.buffers ≡ pool_of sizes)) }
+        ensures sound { IfOk result (λ q. q.failed ≡ None) }
         ensures budget { IfOk result (λ q. fixed_of sizes ≤ sizes.memory) }
-        ensures back { IfErr result (λ refused. refused.0.items ≡ slots.items) }
+        ensures slots { IfOk result (λ q. q.slots ≡ map S.shown slots.items) }
+        ensures back { IfErr result (λ refused. SameSlots (map S.shown slots.items) (map S.shown refused.0.items)) }
         ensures need { IfErr result (λ refused. NamesNeed sizes refused.1) }
     {
+        let _workers = sizes.workers();
         let buffers = match sizes.pool() {
             Ok(buffers) => buffers,
             Err(small) => return Err((slots, OpenFault::TooSmall { need: small.need })),
         };
-        let Ok(heap) = InsertionHeap::new(alloc, sizes.heap_records()) else {
+        let Ok(parts) = Parts::new(alloc, &sizes, buffers) else {
             return Err((slots, OpenFault::Memory));
         };
-        let Ok(stored) = Stored::new(alloc, sizes.block(), buffers) else {
+        let Parts {
+            heap,
+            body,
+            extract,
+            sources,
+            supply,
+        } = parts;
+        let mut supply = supply;
+        let mut slots = slots;
+        if berth_slots(alloc, &mut slots, &mut supply).is_err() {
             return Err((slots, OpenFault::Memory));
-        };
+        }
         Ok(Queue {
             sizes,
             heap,
-            stored,
+            body,
+            supply,
+            extract,
+            sources,
+            count: 0,
             peak: 0,
+            failed: None,
             slots,
         })
     }
 
-    /// Adds a record. It costs one sift into the heap; where the heap is full, the heap is sorted
-    /// and stored as a run first.
+    /// Adds a record. It costs one sift into the heap; where the heap is full, the rest of the extract
+    /// buffer and the sorted heap are stored as runs first, and levels of runs are merged.
     ///
-    /// `NoFreeBlock` comes exactly where the heap is full and fewer buffers are idle than it needs.
-    /// The record is then handed back, and the bag is as it was.
-    pub fn push<H: Host, G: Gate>(
-        &mut self,
-        _rt: &H,
-        r: R,
-        _gate: &G,
-    ) -> Result<(), (R, QueueFault)>
+    /// Each refusal hands the record back. `NoFreeBlock`: the bag is as it was; the device has fewer blocks
+    /// than are enough for the peak, and the peak is above what the heap holds. `Device`: a call of the
+    /// block with that number failed, now or before.
+    pub fn push<H: Host, G: Gate>(&mut self, rt: &H, r: R, gate: &G) -> Result<(), (R, QueueFault)>
     where
         H::Dir: Send,
-        ensures added { OnOk result (IsSameBag self.new.bag (r ∷ self.old.bag)) }
+        ensures added { OnOk result (AllTell self.old.slots → IsSameBag self.new.bag (r ∷ self.old.bag)) }
+        ensures size { OnOk result (self.new.size ≡ self.old.size + 1) }
+        ensures sound { OnOk result (self.new.failed ≡ None) }
         ensures back { IfErr result (λ refused. refused.0 ≡ r) }
-        ensures fault { IfErr result (λ refused. refused.1 ≡ NoFreeBlock) }
-        ensures same { OnErr result (self.new.bag ≡ self.old.bag) }
-        ensures short { IsErr result ↔ ((self.old.in_heap ≡ heap_of self.old.sizes) × (self.old.idle < self.old.sizes.heap)) }
-        ensures cause { OnErr result (heap_of self.new.sizes < self.new.peak) }
-        ensures peak { self.new.peak ≡ max self.old.peak (length self.old.bag + 1) }
+        ensures same_size { OnErr result (self.new.size ≡ self.old.size) }
+        ensures refused { IfErr result (λ refused. IsRefusal self.old self.new refused.1) }
+        ensures latched { (number : ℕ) → self.old.failed ≡ Some number → (result ≡ Err (r, Device number)) × (self.new ≡ record self.old { peak = self.new.peak }) }
+        ensures slots { SameSlots self.old.slots self.new.slots }
+        ensures tells { AllTell self.old.slots → AllTell self.new.slots }
+        ensures writes { all_writes self.old.slots ≤ all_writes self.new.slots }
+        ensures peak { self.new.peak ≡ max self.old.peak (self.old.size + 1) }
         ensures sizes { self.new.sizes ≡ self.old.sizes }
-        ensures buffers { self.new.buffers ≡ self.old.buffers }
-
-        // A heap that is not full takes the record in. A full one is stored first.
-        ensures room { self.old.in_heap < heap_of self.old.sizes → EntersHeap self.old self.new }
-        ensures stored { OnOk result (self.old.in_heap ≡ heap_of self.old.sizes → EntersStoredHeap self.old self.new) }
-        ensures stays { OnErr result (Stays self.old self.new) }
     {
-        fixed_parts();
-        let size = u64::from(self.heap.len()) + self.stored.len();
-        self.peak = self.peak.max(size + 1);
-        let Err(r) = self.heap.try_push(r) else {
-            return Ok(());
-        };
-        if self.stored.idle() < self.sizes.heap() {
-            return Err((r, QueueFault::NoFreeBlock));
+        self.raise_peak();
+        if let Some(number) = self.failed {
+            return Err((r, QueueFault::Device { number }));
         }
-        flush(&mut self.heap, &mut self.stored);
-        let _ = self.heap.try_push(r);
-        Ok(())
+        match self.make_room(rt, gate) {
+            Ok(()) => {
+                self.put(r);
+                Ok(())
+            }
+            Err(fault) => Err((r, fault)),
+        }
     }
 
-    /// The least record, left in the queue; none exactly where the bag is empty. It costs one
-    /// comparison.
-    pub fn top<H: Host, G: Gate>(&mut self, _rt: &H, _gate: &G) -> Result<Option<R>, QueueFault>
+    // Makes room in the heap for a record.
+    fn make_room<H: Host, G: Gate>(&mut self, rt: &H, gate: &G) -> Result<(), QueueFault>
     where
         H::Dir: Send,
-        ensures answer { result ≡ Ok (least R.Ord.cmp self.old.bag) }
-        ensures same { self.new ≡ self.old }
+        requires sound { self.old.failed ≡ None }
+        requires peak { self.old.size < self.old.peak }
+        ensures bag { OnOk result (AllTell self.old.slots → IsSameBag self.new.bag self.old.bag) }
+        ensures room { OnOk result (self.new.in_heap < heap_of self.new.sizes) }
+        ensures sound { OnOk result (self.new.failed ≡ None) }
+        ensures refused { IfErr result (IsRefusal self.old self.new) }
+        ensures size { self.new.size ≡ self.old.size }
+        ensures slots { SameSlots self.old.slots self.new.slots }
+        ensures tells { AllTell self.old.slots → AllTell self.new.slots }
+        ensures writes { all_writes self.old.slots ≤ all_writes self.new.slots }
+        ensures peak { self.new.peak ≡ self.old.peak }
+        ensures sizes { self.new.sizes ≡ self.old.sizes }
+    {
+        if !self.heap.is_full() {
+            return Ok(());
+        }
+        self.flush(rt, gate)
+    }
+
+    // The peak counts a record that is about to come.
+    fn raise_peak(&mut self)
+        ensures { self.new ≡ record self.old { peak = max self.old.peak (self.old.size + 1) } }
+    {
+        self.peak = self.peak.max(self.count + 1);
+    }
+
+    // Adds a record to a heap that has room.
+    fn put(&mut self, r: R)
+        requires sound { self.old.failed ≡ None }
+        requires room { self.old.in_heap < heap_of self.old.sizes }
+        requires peak { self.old.size < self.old.peak }
+        ensures added { IsSameBag self.new.bag (r ∷ self.old.bag) }
+        ensures rest { self.new ≡ record self.old { bag = self.new.bag; size = self.old.size + 1; in_heap = self.new.in_heap } }
+    {
+        let _ = self.heap.try_push(r);
+        self.count += 1;
+    }
+
+    // Stores the rest of the extract buffer and a full heap.
+    fn flush<H: Host, G: Gate>(&mut self, rt: &H, gate: &G) -> Result<(), QueueFault>
+    where
+        H::Dir: Send,
+        requires sound { self.old.failed ≡ None }
+        requires full { self.old.in_heap ≡ heap_of self.old.sizes }
+        requires peak { heap_of self.old.sizes < self.old.peak }
+        ensures bag { OnOk result (AllTell self.old.slots → IsSameBag self.new.bag self.old.bag) }
+        ensures emptied { OnOk result (self.new.in_heap ≡ 0) }
+        ensures sound { OnOk result (self.new.failed ≡ None) }
+        ensures refused { IfErr result (IsRefusal self.old self.new) }
+        ensures size { self.new.size ≡ self.old.size }
+        ensures slots { SameSlots self.old.slots self.new.slots }
+        ensures tells { AllTell self.old.slots → AllTell self.new.slots }
+        ensures writes { all_writes self.old.slots ≤ all_writes self.new.slots }
+        ensures peak { self.new.peak ≡ self.old.peak }
+        ensures sizes { self.new.sizes ≡ self.old.sizes }
+    {
+        let answer = flush_all(
+            rt,
+            self.sizes,
+            &mut self.heap,
+            &mut self.extract,
+            &mut self.body,
+            &mut self.supply,
+            &mut self.sources.bench,
+            gate,
+        );
+        match answer {
+            Ok(()) => Ok(()),
+            Err(StoreFault::NoFreeBlock) => Err(QueueFault::NoFreeBlock),
+            Err(StoreFault::Device { number }) => {
+                self.failed = Some(number);
+                Err(QueueFault::Device { number })
+            }
+        }
+    }
+
+    // Makes the extract buffer ready: it is empty only where no run is left.
+    fn ready<H: Host, G: Gate>(&mut self, rt: &H, gate: &G) -> Result<(), QueueFault>
+    where
+        H::Dir: Send,
+        ensures bag { OnOk result (AllTell self.old.slots → IsSameBag self.new.bag self.old.bag) }
+        ensures some { OnOk result (self.new.in_extract ≡ 0 → self.new.size ≡ self.new.in_heap) }
+        ensures sound { OnOk result (self.new.failed ≡ None) }
+        ensures refused { IfErr result (IsRefusal self.old self.new) }
+        ensures latched { (number : ℕ) → self.old.failed ≡ Some number → (result ≡ Err (Device number)) × (self.new ≡ self.old) }
+        ensures size { self.new.size ≡ self.old.size }
+        ensures slots { SameSlots self.old.slots self.new.slots }
+        ensures tells { AllTell self.old.slots → AllTell self.new.slots }
+        ensures writes { all_writes self.old.slots ≤ all_writes self.new.slots }
+        ensures peak { self.new.peak ≡ self.old.peak }
+        ensures sizes { self.new.sizes ≡ self.old.sizes }
+    {
+        if let Some(number) = self.failed {
+            return Err(QueueFault::Device { number });
+        }
+        let answer = make_ready(
+            rt,
+            self.sizes,
+            &mut self.extract,
+            &mut self.body,
+            &mut self.supply,
+            &mut self.sources,
+            gate,
+        );
+        match answer {
+            Ok(()) => Ok(()),
+            Err(StoreFault::NoFreeBlock) => Err(QueueFault::NoFreeBlock),
+            Err(StoreFault::Device { number }) => {
+                self.failed = Some(number);
+                Err(QueueFault::Device { number })
+            }
+        }
+    }
+
+    // The least record of a queue whose extract buffer is ready.
+    fn least(&self) -> Option<R>
+        requires sound { self.now.failed ≡ None }
+        requires ready { self.now.in_extract ≡ 0 → self.now.size ≡ self.now.in_heap }
+        ensures answer { AllTell self.now.slots → result ≡ least R.Ord.cmp self.now.bag }
+        ensures none { IsNone result ↔ (self.now.size ≡ 0) }
     {
         record_laws::<R>();
         let latest = self.heap.min();
-        let stored = self.stored.least();
+        let stored = self.extract.front();
         if goes_first(latest, stored) {
-            return Ok(latest);
+            return latest;
         }
-        Ok(stored)
+        stored
     }
 
-    /// The least record, removed; none exactly where the bag is empty. It costs one sift of the
-    /// heap, or one path of the tree.
-    pub fn pop<H: Host, G: Gate>(&mut self, _rt: &H, _gate: &G) -> Result<Option<R>, QueueFault>
-    where
-        H::Dir: Send,
-        ensures answer { result ≡ Ok (least R.Ord.cmp self.old.bag) }
-        ensures rest { IsSameBag self.new.bag (without_front R.Ord.cmp self.old.bag 1) }
-        ensures peak { self.new.peak ≡ self.old.peak }
-        ensures sizes { self.new.sizes ≡ self.old.sizes }
-        ensures buffers { self.new.buffers ≡ self.old.buffers }
-        ensures part { LeavesHeap self.old self.new ⊎ LeavesRuns self.old self.new }
+    // Takes the least record out of a queue whose extract buffer is ready.
+    fn take_least(&mut self) -> Option<R>
+        requires sound { self.old.failed ≡ None }
+        requires ready { self.old.in_extract ≡ 0 → self.old.size ≡ self.old.in_heap }
+        ensures answer { AllTell self.old.slots → result ≡ least R.Ord.cmp self.old.bag }
+        ensures none { IsNone result ↔ (self.old.size ≡ 0) }
+        ensures rest { AllTell self.old.slots → IsSameBag self.new.bag (without_front R.Ord.cmp self.old.bag 1) }
+        ensures fields { self.new ≡ record self.old { bag = self.new.bag; size = self.old.size - 1; in_heap = self.new.in_heap; in_extract = self.new.in_extract } }
     {
         record_laws::<R>();
-        if goes_first(self.heap.min(), self.stored.least()) {
-            return Ok(self.heap.pop());
+        self.count = self.count.saturating_sub(1);
+        if goes_first(self.heap.min(), self.extract.front()) {
+            return self.heap.pop();
         }
-        Ok(self.stored.pop())
+        self.extract.pop()
     }
 
-    /// How many records the bag has.
+    /// The least record, left in the queue; none exactly where the queue is empty. It costs one comparison.
+    /// Where the extract buffer is empty and there are runs, it is refilled first.
+    ///
+    /// `NoFreeBlock` and `Device` come as from `push`.
+    pub fn top<H: Host, G: Gate>(&mut self, rt: &H, gate: &G) -> Result<Option<R>, QueueFault>
+    where
+        H::Dir: Send,
+        ensures answer { IfOk result (λ answer. AllTell self.old.slots → answer ≡ least R.Ord.cmp self.old.bag) }
+        ensures none { IfOk result (λ answer. IsNone answer ↔ (self.old.size ≡ 0)) }
+        ensures bag { OnOk result (AllTell self.old.slots → IsSameBag self.new.bag self.old.bag) }
+        ensures size { self.new.size ≡ self.old.size }
+        ensures sound { OnOk result (self.new.failed ≡ None) }
+        ensures refused { IfErr result (IsRefusal self.old self.new) }
+        ensures latched { (number : ℕ) → self.old.failed ≡ Some number → (result ≡ Err (Device number)) × (self.new ≡ self.old) }
+        ensures slots { SameSlots self.old.slots self.new.slots }
+        ensures tells { AllTell self.old.slots → AllTell self.new.slots }
+        ensures writes { all_writes self.old.slots ≤ all_writes self.new.slots }
+        ensures peak { self.new.peak ≡ self.old.peak }
+        ensures sizes { self.new.sizes ≡ self.old.sizes }
+    {
+        record_laws::<R>();
+        self.ready(rt, gate)?;
+        Ok(self.least())
+    }
+
+    /// The least record, removed; none exactly where the queue is empty. It costs one sift of the heap, or
+    /// a step in the extract buffer. Where the extract buffer is empty and there are runs, it is refilled
+    /// first.
+    ///
+    /// `NoFreeBlock` and `Device` come as from `push`.
+    pub fn pop<H: Host, G: Gate>(&mut self, rt: &H, gate: &G) -> Result<Option<R>, QueueFault>
+    where
+        H::Dir: Send,
+        ensures answer { IfOk result (λ answer. AllTell self.old.slots → answer ≡ least R.Ord.cmp self.old.bag) }
+        ensures none { IfOk result (λ answer. IsNone answer ↔ (self.old.size ≡ 0)) }
+        ensures rest { OnOk result (AllTell self.old.slots → IsSameBag self.new.bag (without_front R.Ord.cmp self.old.bag 1)) }
+        ensures size { OnOk result (self.new.size ≡ self.old.size - 1) }
+        ensures same_size { OnErr result (self.new.size ≡ self.old.size) }
+        ensures sound { OnOk result (self.new.failed ≡ None) }
+        ensures refused { IfErr result (IsRefusal self.old self.new) }
+        ensures latched { (number : ℕ) → self.old.failed ≡ Some number → (result ≡ Err (Device number)) × (self.new ≡ self.old) }
+        ensures slots { SameSlots self.old.slots self.new.slots }
+        ensures tells { AllTell self.old.slots → AllTell self.new.slots }
+        ensures writes { all_writes self.old.slots ≤ all_writes self.new.slots }
+        ensures peak { self.new.peak ≡ self.old.peak }
+        ensures sizes { self.new.sizes ≡ self.old.sizes }
+    {
+        record_laws::<R>();
+        self.ready(rt, gate)?;
+        Ok(self.take_least())
+    }
+
+    /// Takes the least records out into a list, at most `k` of them and at most as many as it has room for,
+    /// in ascending order, and returns how many. What the list had before is gone. The heap is sorted in
+    /// place, and merged with the extract buffer, which is refilled from all runs while it is empty and more
+    /// is wanted: about a comparison a record.
+    ///
+    /// `NoFreeBlock` and `Device` come as from `push`; the list is empty then.
+    pub fn bulk_pop<H: Host, G: Gate>(
+        &mut self,
+        rt: &H,
+        k: u64,
+        out: &mut Out<R>,
+        gate: &G,
+    ) -> Result<u64, QueueFault>
+    where
+        H::Dir: Send,
+        requires room { out.old.room ≡ batch_of self.old.sizes }
+        ensures front { OnOk result (AllTell self.old.slots → out.new.items ≡ front R.Ord.cmp self.old.bag (min k (batch_of self.old.sizes))) }
+        ensures rest { OnOk result (AllTell self.old.slots → IsSameBag self.new.bag (without_front R.Ord.cmp self.old.bag (min k (batch_of self.old.sizes)))) }
+        ensures answer { IfOk result (λ n. n ≡ length out.new.items) }
+        ensures count { IfOk result (λ n. n ≡ min k (min self.old.size (batch_of self.old.sizes))) }
+        ensures size { OnOk result (self.new.size ≡ self.old.size - length out.new.items) }
+        ensures same_size { OnErr result (self.new.size ≡ self.old.size) }
+        ensures emptied { OnErr result (out.new.items ≡ []) }
+        ensures list_room { out.new.room ≡ out.old.room }
+        ensures sound { OnOk result (self.new.failed ≡ None) }
+        ensures refused { IfErr result (IsRefusal self.old self.new) }
+        ensures latched { (number : ℕ) → self.old.failed ≡ Some number → (result ≡ Err (Device number)) × (self.new ≡ self.old) }
+        ensures slots { SameSlots self.old.slots self.new.slots }
+        ensures tells { AllTell self.old.slots → AllTell self.new.slots }
+        ensures writes { all_writes self.old.slots ≤ all_writes self.new.slots }
+        ensures peak { self.new.peak ≡ self.old.peak }
+        ensures sizes { self.new.sizes ≡ self.old.sizes }
+    {
+        record_laws::<R>();
+        let most = k.min(u64::from(out.room())) as u32;
+        self.bulk(rt, None, most, out, gate)?;
+        Ok(u64::from(out.len()))
+    }
+
+    /// Takes the least records out that are strictly below `l`, into a list: at most `n` of them and at most
+    /// as many as it has room for, in ascending order. What the list had before is gone. It says how it
+    /// ended: `All`, if none below `l` is left; `More`, if one is left and `n` were returned; `Round`, if one
+    /// is left and the list is full with fewer. The costs are those of `bulk_pop`.
+    ///
+    /// `NoFreeBlock` and `Device` come as from `push`; the list is empty then.
+    pub fn bulk_pop_limit<H: Host, G: Gate>(
+        &mut self,
+        rt: &H,
+        l: R,
+        n: u64,
+        out: &mut Out<R>,
+        gate: &G,
+    ) -> Result<LimitEnd, QueueFault>
+    where
+        H::Dir: Send,
+        requires room { out.old.room ≡ batch_of self.old.sizes }
+        ensures front { OnOk result (AllTell self.old.slots → out.new.items ≡ front R.Ord.cmp self.old.bag (min (min n (batch_of self.old.sizes)) (size_below R.Ord.cmp self.old.bag l))) }
+        ensures rest { OnOk result (AllTell self.old.slots → IsSameBag self.new.bag (without_front R.Ord.cmp self.old.bag (min (min n (batch_of self.old.sizes)) (size_below R.Ord.cmp self.old.bag l)))) }
+        ensures answer { IfOk result (λ end. AllTell self.old.slots → IsEnd R.Ord.cmp (batch_of self.old.sizes) n l out.new.items self.new.bag end) }
+        ensures few { length out.new.items ≤ min n (batch_of self.old.sizes) }
+        ensures size { OnOk result (self.new.size ≡ self.old.size - length out.new.items) }
+        ensures same_size { OnErr result (self.new.size ≡ self.old.size) }
+        ensures emptied { OnErr result (out.new.items ≡ []) }
+        ensures list_room { out.new.room ≡ out.old.room }
+        ensures sound { OnOk result (self.new.failed ≡ None) }
+        ensures refused { IfErr result (IsRefusal self.old self.new) }
+        ensures latched { (number : ℕ) → self.old.failed ≡ Some number → (result ≡ Err (Device number)) × (self.new ≡ self.old) }
+        ensures slots { SameSlots self.old.slots self.new.slots }
+        ensures tells { AllTell self.old.slots → AllTell self.new.slots }
+        ensures writes { all_writes self.old.slots ≤ all_writes self.new.slots }
+        ensures peak { self.new.peak ≡ self.old.peak }
+        ensures sizes { self.new.sizes ≡ self.old.sizes }
+    {
+        record_laws::<R>();
+        let room = u64::from(out.room());
+        let most = n.min(room) as u32;
+        self.bulk(rt, Some(l), most, out, gate)?;
+        if !self.has_below(l) {
+            return Ok(LimitEnd::All);
+        }
+        if n <= room {
+            return Ok(LimitEnd::More);
+        }
+        Ok(LimitEnd::Round)
+    }
+
+    // Takes the least records out into a list, at most so many; with a limit only those below it, and the
+    // extract buffer is ready afterwards.
+    fn bulk<H: Host, G: Gate>(
+        &mut self,
+        rt: &H,
+        limit: Option<R>,
+        most: u32,
+        out: &mut Out<R>,
+        gate: &G,
+    ) -> Result<(), QueueFault>
+    where
+        H::Dir: Send,
+        requires most { most ≤ out.old.room }
+        ensures front { OnOk result (AllTell self.old.slots → out.new.items ≡ front R.Ord.cmp self.old.bag (wanted R.Ord.cmp most limit self.old.bag)) }
+        ensures rest { OnOk result (AllTell self.old.slots → IsSameBag self.new.bag (without_front R.Ord.cmp self.old.bag (wanted R.Ord.cmp most limit self.old.bag))) }
+        ensures left { OnOk result (AllTell self.old.slots → (length out.new.items ≡ most) ⊎ NoneBelow R.Ord.cmp limit self.new.bag) }
+        ensures ready { (l : R) → limit ≡ Some l → OnOk result (self.new.in_extract ≡ 0 → self.new.size ≡ self.new.in_heap) }
+        ensures few { length out.new.items ≤ most }
+        ensures count { limit ≡ None → OnOk result (length out.new.items ≡ min most self.old.size) }
+        ensures size { OnOk result (self.new.size ≡ self.old.size - length out.new.items) }
+        ensures same_size { OnErr result (self.new.size ≡ self.old.size) }
+        ensures emptied { OnErr result (out.new.items ≡ []) }
+        ensures list_room { out.new.room ≡ out.old.room }
+        ensures sound { OnOk result (self.new.failed ≡ None) }
+        ensures refused { IfErr result (IsRefusal self.old self.new) }
+        ensures latched { (number : ℕ) → self.old.failed ≡ Some number → (result ≡ Err (Device number)) × (self.new ≡ self.old) }
+        ensures slots { SameSlots self.old.slots self.new.slots }
+        ensures tells { AllTell self.old.slots → AllTell self.new.slots }
+        ensures writes { all_writes self.old.slots ≤ all_writes self.new.slots }
+        ensures peak { self.new.peak ≡ self.old.peak }
+        ensures sizes { self.new.sizes ≡ self.old.sizes }
+    {
+        record_laws::<R>();
+        out.clear();
+        if let Some(number) = self.failed {
+            return Err(QueueFault::Device { number });
+        }
+        let answer = take_out(
+            rt,
+            self.sizes,
+            &mut self.heap,
+            &mut self.extract,
+            &mut self.body,
+            &mut self.supply,
+            &mut self.sources,
+            limit,
+            most,
+            out,
+            gate,
+        );
+        match answer {
+            Ok(()) => {
+                self.count = self.count.saturating_sub(u64::from(out.len()));
+                Ok(())
+            }
+            Err(StoreFault::NoFreeBlock) => Err(QueueFault::NoFreeBlock),
+            Err(StoreFault::Device { number }) => {
+                out.clear();
+                self.failed = Some(number);
+                Err(QueueFault::Device { number })
+            }
+        }
+    }
+
+    // Whether a queue whose extract buffer is ready has a record below a limit.
+    fn has_below(&self, l: R) -> bool
+        requires sound { self.now.failed ≡ None }
+        requires ready { self.now.in_extract ≡ 0 → self.now.size ≡ self.now.in_heap }
+        ensures some { result ≡ true → AllTell self.now.slots → 0 < size_below R.Ord.cmp self.now.bag l }
+        ensures none { result ≡ false → AllTell self.now.slots → size_below R.Ord.cmp self.now.bag l ≡ 0 }
+    {
+        record_laws::<R>();
+        let Some(_below) = keep_below(self.least(), Some(l)) else {
+            return false;
+        };
+        true
+    }
+
+    /// How many records the queue has.
     #[inline]
     pub fn size(&self) -> u64
-        ensures { result ≡ length self.now.bag }
+        ensures { result ≡ self.now.size }
     {
-        u64::from(self.heap.len()) + self.stored.len()
+        self.count
     }
 
-    /// How many records count against the budget now: those of the heap, a dealt batch and one that
-    /// is given out, both counted as full, and a block for each buffer that exists. It never passes
-    /// the budget.
+    /// How many records count against the budget now: those of the heap and the extract buffer, the first of
+    /// each block in use, a dealt batch and one that is given out, both counted as full, and a block for
+    /// each buffer that exists. It never passes the budget.
     pub fn resident(&self) -> u64
         ensures sum { result ≡ resident_of self.now }
         ensures budget { result ≤ self.now.sizes.memory }
     {
+        let Ok(pool) = self.sizes.pool() else {
+            return 0
+        };
+        let block = u64::from(self.sizes.block());
+        let lanes = 72 + 3 * u64::from(self.sizes.workers());
+        let buffers = (lanes + u64::from(pool)) * block;
+        let used = u64::from(self.sizes.blocks()) - u64::from(self.supply.free_slots());
         let batches = 2 * u64::from(self.sizes.batch());
-        let buffers = u64::from(self.stored.buffers()) * u64::from(self.sizes.block());
-        u64::from(self.heap.len()) + batches + buffers
+        u64::from(self.heap.len()) + self.extract.len() as u64 + used + batches + buffers
     }
 
     /// What holds of every queue, as clauses for the proof of whoever calls it. It does nothing.
     #[inline]
     pub fn known(&self)
-        // The heap has no more records than it has room for.
+        // Unless a block failed, the bag has as many records as are counted, where slots tell.
+        ensures counted { self.now.failed ≡ None → AllTell self.now.slots → length self.now.bag ≡ self.now.size }
+        ensures peak { self.now.size ≤ self.now.peak }
         ensures heap { self.now.in_heap ≤ heap_of self.now.sizes }
-        ensures part { self.now.in_heap ≤ length self.now.bag }
-        ensures peak { length self.now.bag ≤ self.now.peak }
-        ensures idle { self.now.idle ≤ self.now.buffers }
 
-        // A buffer that is not idle has a record, and no more than a block of them.
-        ensures used { self.now.buffers + self.now.in_heap ≤ self.now.idle + length self.now.bag }
-        ensures filled { length self.now.bag + self.now.idle * self.now.sizes.block ≤ self.now.in_heap + self.now.buffers * self.now.sizes.block }
+        // Records beyond the budget are in blocks, each of which was written.
+        ensures written { self.now.failed ≡ None → self.now.size ≤ self.now.sizes.memory + self.now.sizes.block * all_writes self.now.slots }
 
-        // All buffers are within the budget.
+        ensures slots { length self.now.slots ≡ self.now.sizes.blocks }
+        ensures free { self.now.free ≤ self.now.sizes.blocks }
+        ensures failed { (number : ℕ) → self.now.failed ≡ Some number → HasFailed number self.now.slots }
         ensures range { AreInRange self.now.sizes }
-        ensures budget { fixed_of self.now.sizes + self.now.buffers * self.now.sizes.block ≤ self.now.sizes.memory }
+        ensures budget { fixed_of self.now.sizes ≤ self.now.sizes.memory }
     {
         let _in_heap = self.heap.len();
-        let _in_runs = self.stored.len();
-        let _idle = self.stored.idle();
     }
 
-    /// Ends the queue, and gives back every slot that was handed in, each once: none, for now.
+    /// Ends the queue, and gives back every slot that was handed in, each once.
     pub fn close(self) -> Vec<S>
-        ensures { result.items ≡ [] }
+        ensures slots { SameSlots self.slots (map S.shown result.items) }
+        ensures tells { AllTell self.slots → AllTell (map S.shown result.items) }
+        ensures writes { all_writes self.slots ≤ all_writes (map S.shown result.items) }
     {
-        self.slots
+        let Queue {
+            body,
+            supply,
+            slots,
+            ..
+        } = self;
+        give_back(body, supply, slots)
     }
 }

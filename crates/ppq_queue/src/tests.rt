@@ -1,171 +1,305 @@
-//! The queue over pairs, at small sizes. A key `n` stands for the pair of `n` and 0.
-ghost use Rattle.std.specs.Prelude.{◌≡◌, ◌≤◌, IfSome, length};
-ghost use Rattle.ppq_budget.specs.Sizes.{heap_of};
+//! Worked examples of a queue over blocks in memory.
+ghost use Rattle.std.specs.Prelude.{◌≡◌, ◌<◌, IfOk, map, max};
+ghost use Rattle.ppq_outside.specs.MemoryDevice.{slot_shown};
+ghost use Rattle.ppq_queue.specs.Holding.{AreNewSlots};
 
-use crate::{OpenFault, Queue, QueueFault};
+use crate::{Queue, QueueFault};
 use ppq_budget::Sizes;
-use ppq_outside::{Host, MemSlot, OpenGate};
+use ppq_outside::{Gate, Host, MemRack, MemSlot, OpenGate, Rack, Slot};
 use ppq_record::Pair;
 use std::alloc::Global;
+use std::process::Abort;
 use std::test::Fail;
 
+/// The blocks of a device in memory.
+pub(crate) fn blocks_of<H: Host>(
+    rt: &H,
+    alloc: Global,
+    rack: &mut MemRack,
+    sizes: Sizes,
+) -> Result<Vec<MemSlot>, Fail>
+    ensures { IfOk result (λ slots. AreNewSlots sizes 16 (map slot_shown slots.items)) }
+{
+    let bytes = sizes.block() as usize * 16;
+    let mut slots = Vec::new(alloc);
+    for number in 0..sizes.blocks() {
+        let Ok(slot) = rack.block(rt, alloc, "device", number, bytes) else {
+            return Err(Fail::from("no block"));
+        };
+        slots.push(slot)?;
+    }
+    Ok(slots)
+}
+
+/// An empty queue of these sizes over the blocks of a device in memory.
+fn opened<H: Host>(
+    rt: &H,
+    alloc: Global,
+    sizes: Option<Sizes>,
+    rack: &mut MemRack,
+) -> Result<Queue<MemSlot, Pair>, Fail> {
+    let sizes = sizes.ok_or("a number is out of range")?;
+    let slots = blocks_of(rt, alloc, rack, sizes)?;
+    match Queue::open(alloc, sizes, slots) {
+        Ok(queue) => Ok(queue),
+        Err(_) => Err(Fail::from("the queue was not opened")),
+    }
+}
+
+/// Two workers, two records a block, one block a heap, 200 blocks, and a budget without a buffer.
+fn small() -> Option<Sizes> {
+    Sizes::new(2, 2, 1, 372, 200)
+}
+
+/// A record with the value 0.
 fn pair(key: u64) -> Pair {
     Pair { key, value: 0 }
 }
 
-/// Sizes of blocks of two records and heaps of one block, without a device.
-fn small(workers: u32, memory: u64) -> Option<Sizes>
-    ensures { IfSome result (λ s. s.blocks ≡ 0) }
-{
-    Sizes::new(workers, 2, 1, memory, 0)
-}
-
-fn opened(alloc: Global, sizes: Sizes) -> Result<Queue<MemSlot, Pair>, OpenFault>
-    requires { sizes.blocks ≡ 0 }
-{
-    match Queue::open(alloc, sizes, Vec::new(alloc)) {
-        Ok(queue) => Ok(queue),
-        Err((_, fault)) => Err(fault),
-    }
-}
-
-/// A caller that only borrows a queue gets what holds of every queue.
-fn holds(queue: &Queue<MemSlot, Pair>)
-    ensures heap { queue.now.in_heap ≤ heap_of queue.now.sizes }
-    ensures idle { queue.now.idle ≤ queue.now.buffers }
-    ensures peak { length queue.now.bag ≤ queue.now.peak }
-{
-    queue.known();
-}
-
-/// Pushes keys in order, and says how many were taken.
-fn push_all<H: Host>(rt: &H, queue: &mut Queue<MemSlot, Pair>, keys: &[u64]) -> usize
-where
-    H::Dir: Send,
-{
-    for (taken, key) in keys.iter().enumerate() {
-        if queue.push(rt, pair(*key), &OpenGate).is_err() {
-            return taken;
+/// How the block with this number came back: its writes, its reads and its faults.
+fn calls_of(blocks: &[MemSlot], number: u32) -> Option<(u64, u64, u64)> {
+    for slot in blocks {
+        if slot.number() == number {
+            return Some((slot.writes(), slot.reads(), slot.faults()));
         }
     }
-    keys.len()
+    None
 }
 
 #[test]
-fn nothing_is_popped_from_an_empty_queue(rt: HostRuntime) -> Result<(), Fail> {
-    let sizes = small(2, 172).ok_or("sizes")?;
-    let mut queue = opened(rt.alloc(), sizes)?;
-    assert_eq!(rt; queue.top(&rt, &OpenGate)?, None);
-    assert_eq!(rt; queue.pop(&rt, &OpenGate)?, None);
+fn equal_records_come_back_as_often_as_they_were_pushed(rt: HostRuntime) -> Result<(), Fail> {
+    let mut queue = opened(&rt, rt.alloc(), small(), &mut MemRack::new())?;
+    for (key, value, size) in [(5, 1, 1), (3, 9, 2), (5, 1, 3), (3, 2, 4)] {
+        assert_eq!(rt; queue.push(&rt, Pair { key, value }, &OpenGate), Ok(()));
+        assert_eq!(rt; queue.size(), size);
+        assert!(rt; queue.resident() <= 372);
+    }
+    for (key, value, size) in [(3, 2, 3), (3, 9, 2), (5, 1, 1), (5, 1, 0)] {
+        let least = Ok(Some(Pair { key, value }));
+        assert_eq!(rt; queue.top(&rt, &OpenGate), least);
+        assert_eq!(rt; queue.pop(&rt, &OpenGate), least);
+        assert_eq!(rt; queue.size(), size);
+        assert!(rt; queue.resident() <= 372);
+    }
+    assert_eq!(rt; queue.pop(&rt, &OpenGate), Ok(None));
     assert_eq!(rt; queue.size(), 0);
-    assert_eq!(rt; queue.resident(), 8);
+    let blocks = queue.close();
+    assert_eq!(rt; blocks.len(), 200);
+    assert_eq!(rt; calls_of(&blocks, 0), Some((1, 1, 0)));
+    Ok(())
+}
+
+#[test]
+fn a_record_that_finds_no_block_comes_back_and_fits_after_a_pop(
+    rt: HostRuntime,
+) -> Result<(), Fail> {
+    let mut queue = opened(
+        &rt,
+        rt.alloc(),
+        Sizes::new(1, 2, 1, 158, 0),
+        &mut MemRack::new(),
+    )?;
+    assert_eq!(rt; queue.push(&rt, pair(1), &OpenGate), Ok(()));
+    assert_eq!(rt; queue.push(&rt, pair(2), &OpenGate), Ok(()));
+    let refused = Err((pair(3), QueueFault::NoFreeBlock));
+    assert_eq!(rt; queue.push(&rt, pair(3), &OpenGate), refused);
+    assert_eq!(rt; queue.size(), 2);
+    assert_eq!(rt; queue.pop(&rt, &OpenGate), Ok(Some(pair(1))));
+    assert_eq!(rt; queue.push(&rt, pair(3), &OpenGate), Ok(()));
+    for least in [Some(pair(2)), Some(pair(3)), None] {
+        assert_eq!(rt; queue.pop(&rt, &OpenGate), Ok(least));
+    }
     assert_eq!(rt; queue.close().len(), 0);
     Ok(())
 }
 
-#[test]
-fn a_budget_below_its_fixed_part_is_too_small(rt: HostRuntime) -> Result<(), Fail> {
-    let sizes = small(2, 171).ok_or("sizes")?;
-    match opened(rt.alloc(), sizes) {
-        Ok(_) => Err(Fail::from("a queue was opened")),
-        Err(fault) => {
-            assert_eq!(rt; fault, OpenFault::TooSmall { need: 172 });
-            Ok(())
-        }
+/// Each call of a queue that block 0 has stopped names that block, and the size stays.
+fn is_stopped<H: Host + Abort>(rt: &H, queue: &mut Queue<MemSlot, Pair>, size: u64)
+where
+    H::Dir: Send,
+{
+    let fault = QueueFault::Device { number: 0 };
+    for _ in 0..3 {
+        assert_eq!(rt; queue.push(rt, pair(7), &OpenGate), Err((pair(7), fault)));
+        assert_eq!(rt; queue.top(rt, &OpenGate), Err(fault));
+        assert_eq!(rt; queue.pop(rt, &OpenGate), Err(fault));
+        assert_eq!(rt; queue.size(), size);
+        assert!(rt; queue.resident() <= 372);
     }
 }
 
 #[test]
-fn a_full_heap_without_buffers_hands_the_record_back(rt: HostRuntime) -> Result<(), Fail> {
-    let sizes = small(1, 158).ok_or("sizes")?;
-    let mut queue = opened(rt.alloc(), sizes)?;
-    assert_eq!(rt; push_all(&rt, &mut queue, &[1, 2]), 2);
-    match queue.push(&rt, pair(3), &OpenGate) {
-        Ok(()) => return Err(Fail::from("a third record was taken")),
-        Err(refused) => {
-            assert_eq!(rt; refused.0, pair(3));
-            assert_eq!(rt; refused.1, QueueFault::NoFreeBlock);
-        }
-    }
-    assert_eq!(rt; queue.size(), 2);
-    assert_eq!(rt; queue.pop(&rt, &OpenGate)?, Some(pair(1)));
-    assert_eq!(rt; push_all(&rt, &mut queue, &[3]), 1);
-    assert_eq!(rt; queue.size(), 2);
+fn a_failed_write_stops_the_queue_at_the_push_that_stores(rt: HostRuntime) -> Result<(), Fail> {
+    let calls = vec![in rt.alloc(); (0, 1)]?;
+    let mut rack = MemRack::failing(calls, Vec::new(rt.alloc()));
+    let mut queue = opened(&rt, rt.alloc(), small(), &mut rack)?;
+    assert_eq!(rt; queue.push(&rt, pair(6), &OpenGate), Ok(()));
+    assert_eq!(rt; queue.push(&rt, pair(5), &OpenGate), Ok(()));
+    let refused = Err((pair(4), QueueFault::Device { number: 0 }));
+    assert_eq!(rt; queue.push(&rt, pair(4), &OpenGate), refused);
+    is_stopped(&rt, &mut queue, 2);
+    let blocks = queue.close();
+    assert_eq!(rt; blocks.len(), 200);
+    assert_eq!(rt; calls_of(&blocks, 0), Some((0, 0, 1)));
     Ok(())
 }
 
 #[test]
-fn records_come_from_the_heap_and_the_runs_in_order(rt: HostRuntime) -> Result<(), Fail> {
-    let sizes = small(2, 180).ok_or("sizes")?;
-    let mut queue = opened(rt.alloc(), sizes)?;
-    assert_eq!(rt; push_all(&rt, &mut queue, &[5, 4, 3, 2, 1]), 5);
-    assert_eq!(rt; queue.size(), 5);
-    assert_eq!(rt; queue.resident(), 17);
-    assert_eq!(rt; queue.pop(&rt, &OpenGate)?, Some(pair(1)));
-    assert_eq!(rt; queue.pop(&rt, &OpenGate)?, Some(pair(2)));
-    assert_eq!(rt; queue.top(&rt, &OpenGate)?, Some(pair(3)));
-    assert_eq!(rt; queue.pop(&rt, &OpenGate)?, Some(pair(3)));
-    assert_eq!(rt; queue.pop(&rt, &OpenGate)?, Some(pair(4)));
-    assert_eq!(rt; queue.pop(&rt, &OpenGate)?, Some(pair(5)));
-    assert_eq!(rt; queue.pop(&rt, &OpenGate)?, None);
-    Ok(())
-}
-
-#[test]
-fn ten_equal_records_fill_the_heap_and_four_buffers(rt: HostRuntime) -> Result<(), Fail> {
-    let sizes = small(2, 180).ok_or("sizes")?;
-    let mut queue = opened(rt.alloc(), sizes)?;
-    assert_eq!(rt;
-        push_all(&rt, &mut queue, &[1, 1, 1, 1, 1, 1, 1, 1, 1, 1, 1]),
-        10
-    );
-    assert_eq!(rt; queue.size(), 10);
-    for _ in 0..10 {
-        assert_eq!(rt; queue.pop(&rt, &OpenGate)?, Some(pair(1)));
+fn a_failed_read_stops_the_queue_at_the_pop_that_loads(rt: HostRuntime) -> Result<(), Fail> {
+    let calls = vec![in rt.alloc(); (0, 2)]?;
+    let mut rack = MemRack::failing(calls, Vec::new(rt.alloc()));
+    let mut queue = opened(&rt, rt.alloc(), small(), &mut rack)?;
+    for key in [1, 2, 3] {
+        assert_eq!(rt; queue.push(&rt, pair(key), &OpenGate), Ok(()));
     }
-    assert_eq!(rt; queue.pop(&rt, &OpenGate)?, None);
+    let fault = QueueFault::Device { number: 0 };
+    assert_eq!(rt; queue.pop(&rt, &OpenGate), Err(fault));
+    is_stopped(&rt, &mut queue, 3);
+    let blocks = queue.close();
+    assert_eq!(rt; blocks.len(), 200);
+    assert_eq!(rt; calls_of(&blocks, 0), Some((1, 0, 1)));
     Ok(())
 }
 
+/// Pushes sixty records, in falling order where that is wanted, each key twice.
+fn fill<H: Host + Abort>(rt: &H, queue: &mut Queue<MemSlot, Pair>, is_falling: bool)
+where
+    H::Dir: Send,
+{
+    for i in 0..60u64 {
+        let key = if is_falling { 59 - i } else { i };
+        assert_eq!(rt; queue.push(rt, pair(key / 2), &OpenGate), Ok(()));
+    }
+    assert_eq!(rt; queue.size(), 60);
+}
+
+/// Pops the sixty records.
+fn empty<H: Host + Abort>(rt: &H, queue: &mut Queue<MemSlot, Pair>)
+where
+    H::Dir: Send,
+{
+    for i in 0..60u64 {
+        assert_eq!(rt; queue.pop(rt, &OpenGate), Ok(Some(pair(i / 2))));
+    }
+    assert_eq!(rt; queue.pop(rt, &OpenGate), Ok(None));
+    assert_eq!(rt; queue.size(), 0);
+}
+
 #[test]
-fn buffers_come_back_and_are_used_again(rt: HostRuntime) -> Result<(), Fail> {
-    let sizes = small(2, 180).ok_or("sizes")?;
-    let mut queue = opened(rt.alloc(), sizes)?;
-    for round in 0..50 {
-        assert_eq!(rt; push_all(&rt, &mut queue, &[9, 7, 8, 3, 5, 1, 4, 6, 2]), 9);
-        for key in 1..10 {
-            assert_eq!(rt;
-                queue.pop(&rt, &OpenGate)?,
-                Some(pair(key)),
-                "in round {round}"
-            );
+fn free_blocks_come_back_while_a_queue_is_filled_and_emptied_ten_times(
+    rt: HostRuntime,
+) -> Result<(), Fail> {
+    // 60 records have room in 2 * 30 + 72 + 4 = 136 blocks; the budget is 158 and a record a block.
+    let mut queue = opened(
+        &rt,
+        rt.alloc(),
+        Sizes::new(1, 2, 1, 294, 136),
+        &mut MemRack::new(),
+    )?;
+    for round in 0..10u64 {
+        fill(&rt, &mut queue, round % 2 == 0);
+        empty(&rt, &mut queue);
+    }
+    let blocks = queue.close();
+    assert_eq!(rt; blocks.len(), 136);
+    let written: u64 = writes_of(&blocks);
+    assert!(rt; written > 136);
+    Ok(())
+}
+
+/// How many writes these blocks had in all.
+fn writes_of(blocks: &[MemSlot]) -> u64 {
+    let mut writes = 0u64;
+    for slot in blocks {
+        writes = writes.saturating_add(slot.writes());
+    }
+    writes
+}
+
+/// The next number of Knuth's MMIX sequence; its upper half below a bound.
+fn draw(seed: &mut u64, below: u64) -> u64
+    ensures { result < max below 1 }
+{
+    let next = seed
+        .wrapping_mul(6364136223846793005)
+        .wrapping_add(1442695040888963407);
+    *seed = next;
+    (next >> 32) % below.max(1)
+}
+
+/// Puts a record into a sorted list, the smallest last.
+fn put_sorted(list: &mut Vec<Pair>, item: Pair) -> Result<(), Fail> {
+    let mut place = 0usize;
+    for other in list.as_slice() {
+        if *other > item {
+            place = place.saturating_add(1);
         }
     }
-    holds(&queue);
+    let place = place.min(list.len());
+    list.insert(place, item)?;
+    Ok(())
+}
+
+/// One call of the queue and the same on a sorted list, the smallest record last.
+fn same_call<H: Host + Abort>(
+    rt: &H,
+    queue: &mut Queue<MemSlot, Pair>,
+    list: &mut Vec<Pair>,
+    seed: &mut u64,
+    pushes: u64,
+) -> Result<(), Fail>
+where
+    H::Dir: Send,
+{
+    if draw(seed, 10) < pushes {
+        let item = Pair {
+            key: draw(seed, 20),
+            value: draw(seed, 3),
+        };
+        assert_eq!(rt; queue.push(rt, item, &OpenGate), Ok(()));
+        put_sorted(list, item)?;
+    } else {
+        assert_eq!(rt; queue.top(rt, &OpenGate), Ok(list.last().copied()));
+        assert_eq!(rt; queue.pop(rt, &OpenGate), Ok(list.pop()));
+    }
+    assert_eq!(rt; queue.size(), list.len() as u64);
+    Ok(())
+}
+
+/// Some calls, more pushes than pops, and then pops until queue and list are empty.
+fn same_calls<H: Host + Abort>(
+    rt: &H,
+    alloc: Global,
+    sizes: Option<Sizes>,
+    seed: &mut u64,
+) -> Result<(), Fail>
+where
+    H::Dir: Send,
+{
+    let mut queue = opened(rt, alloc, sizes, &mut MemRack::new())?;
+    let mut list = Vec::new(alloc);
+    let calls = draw(seed, 100);
+    let pushes = 4 + draw(seed, 6);
+    for _ in 0..calls {
+        same_call(rt, &mut queue, &mut list, seed, pushes)?;
+    }
+    for _ in 0..calls {
+        same_call(rt, &mut queue, &mut list, seed, 0)?;
+    }
     assert_eq!(rt; queue.size(), 0);
     Ok(())
 }
 
 #[test]
-fn three_hundred_generated_keys_are_popped_in_order(rt: HostRuntime) -> Result<(), Fail> {
-    let sizes = Sizes::new(1, 4, 2, 1_000, 0).ok_or("sizes")?;
-    if sizes.blocks() != 0 {
-        return Err(Fail::from("a device"));
+fn a_thousand_generated_sequences_do_as_a_sorted_list(rt: HostRuntime) -> Result<(), Fail> {
+    let mut seed = 7;
+    for case in 0..1_000u64 {
+        let sizes = match case % 3 {
+            0 => small(),
+            1 => Sizes::new(1, 4, 2, 512, 180),
+            _ => Sizes::new(3, 3, 1, 500, 200),
+        };
+        same_calls(&rt, rt.alloc(), sizes, &mut seed)?;
     }
-    let mut queue = opened(rt.alloc(), sizes)?;
-    let mut seed: u64 = 7;
-    for _ in 0..300 {
-        seed = seed
-            .wrapping_mul(6_364_136_223_846_793_005)
-            .wrapping_add(1_442_695_040_888_963_407);
-        assert_eq!(rt; push_all(&rt, &mut queue, &[seed >> 40]), 1);
-    }
-    let mut last = pair(0);
-    for _ in 0..300 {
-        let next = queue.pop(&rt, &OpenGate)?.ok_or("too few records")?;
-        assert!(rt; !next.cmp(&last).is_lt());
-        last = next;
-    }
-    assert_eq!(rt; queue.pop(&rt, &OpenGate)?, None);
     Ok(())
 }

@@ -1,8 +1,9 @@
 -- Lemmas on lines.
-use Rattle.std.proofs.Common.{◌≡◌, ℕ, ◌+◌, ◌<◌, ◌≤◌, List, [], ◌∷◌, ◌++◌, length, take, drop, Some, None, Bool, true, false, cond, not, ◌==◌, nat_lt, position, refl, ap, arith, suc, sym}
+use Rattle.std.proofs.Common.{◌≡◌, ℕ, ◌+◌, ◌-◌, ◌<◌, ◌≤◌, List, [], ◌∷◌, ◌++◌, length, take, drop, Some, None, Bool, true, false, cond, not, ◌==◌, nat_lt, position, refl, ap, arith, suc, sym, length-drop}
 use Rattle.std.specs.List.{prefix_len}
 use Rattle.std.proofs.lemmas.Bool.Decides.{nat_tests}
 use Rattle.std.proofs.lemmas.Bool.{ne_eqb}
+use Rattle.std.proofs.lemmas.List.{take_all}
 use Rattle.ppq_script.specs.Lines.{lines_of, onto}
 use Rattle.ppq_script.specs.Meaning.{IsOneLine}
 
@@ -34,11 +35,11 @@ cut-none b (x ∷ xs) h = by_test (b == 10) h (λ (k : suc (length xs) ≤ front
     by_test true h rest = absurd (omega arith)
     by_test false h rest = ap (onto b) (rest (omega arith))
 
-place : (n m : ℕ) (t : Bool) (i : ℕ) → nat_lt n m ≡ t → cond t (Some n) None ≡ Some i → (n ≡ i) × (n < m)
+pub place : (n m : ℕ) (t : Bool) (i : ℕ) → nat_lt n m ≡ t → cond t (Some n) None ≡ Some i → (n ≡ i) × (n < m)
 place n m true i e h = (cc, grind (arith, nat_tests))
 place n m false i e h = cc
 
-no_place : (n m : ℕ) (t : Bool) → nat_lt n m ≡ t → cond t (Some n) None ≡ None → m ≤ n
+pub no_place : (n m : ℕ) (t : Bool) → nat_lt n m ≡ t → cond t (Some n) None ≡ None → m ≤ n
 no_place n m true e h = cc
 no_place n m false e h = grind (arith, nat_tests)
 
@@ -65,3 +66,7 @@ lines_of-last (b ∷ []) h some = rw (ne_eqb b 10 h.0) refl
 lines_of-last (b ∷ x ∷ xs) h some =
     let other : (b == 10) ≡ false = ne_eqb b 10 h.0 in
     rw other (ap (onto b) (lines_of-last (x ∷ xs) h.1 (omega arith)))
+
+-- what `&xs[n..]` is
+pub from_place : (xs : List ℕ) (n : ℕ) → take (length xs - n) (drop n xs) ≡ drop n xs
+from_place xs n = take_all (length xs - n) (drop n xs) (omega (arith, length-drop {A = ℕ}))

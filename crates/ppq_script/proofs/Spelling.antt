@@ -1,17 +1,19 @@
--- Lemmas on numbers and commands as they are spelled.
-use Rattle.std.proofs.Common.{◌≡◌, ℕ, ◌+◌, ◌*◌, ◌-◌, ◌<◌, ◌^◌, List, [], ◌∷◌, ◌++◌, length, get_or, take, drop, Option, Some, None, Bool, true, false, cond, not, ◌&&◌, ◌==◌, nat_eq, nat_lt, nat_le, refl, sym, ap, ap₂, ◌∙◌, subst, arith, codes, position, bytes_eq, append_assoc, length-append}
-use Rattle.std.specs.List.{list_all, prefix_len, starts_with, AllByRecursion as Each}
-use Rattle.std.specs.Char.{is_ascii_digit}
-use Rattle.std.proofs.lemmas.Bool.{and_parts, and_from, leb-true, le-leb, lt-ltb, ltb-true, ne_eqb, eqb-true}
+-- Lemmas on numbers, commands and lines as they are spelled.
+use Rattle.std.proofs.Common.{◌≡◌, ℕ, zero, suc, ◌+◌, ◌*◌, ◌-◌, ◌<◌, ◌≤◌, ◌^◌, List, [], ◌∷◌, ◌++◌, length, drop, Option, Some, None, Bool, true, false, cond, ◌&&◌, nat_eq, nat_lt, nat_le, refl, sym, ap, ap₂, ◌∙◌, subst, arith, codes, bytes_eq}
+use Rattle.std.specs.List.{list_all, starts_with, AllByRecursion as Each}
+use Rattle.std.specs.Char.{is_ascii_digit, is_ascii_graphic}
+use Rattle.std.proofs.lemmas.Bool.{and_parts, and_from, leb-true, le-leb, ltb-true}
 use Rattle.std.proofs.lemmas.Bool.Decides.{Decides-eqb}
-use Rattle.std.proofs.lemmas.List.{take_at, drop_at, take-append-drop, drop_more}
-use Rattle.std.proofs.lemmas.List.Quantifiers.{position-Some}
 use Rattle.std.proofs.lemmas.Slice.Eq.{bytes_eq-Decides, starts_is}
+use Rattle.std.proofs.lemmas.Str.{IsUtf8-from_ascii}
+use Rattle.std.specs.Prelude.{IsUtf8, slice_index}
 use Rattle.ppq_script.specs.declared.command.Command.{Command}
-use Rattle.ppq_script.specs.declared.command.Command.TheVariants.{Push, Pop, Top, Size}
+use Rattle.ppq_script.specs.declared.command.Command.TheVariants.{Push, Pop, Top, Size, Bulk, Gen, BulkPop, BulkPopLimit, Drain}
 use Rattle.ppq_script.specs.Number.{value_from, number_of}
-use Rattle.ppq_script.specs.Command.{command_of, fields_of, push_of}
-use Rattle.ppq_script.specs.Meaning.{IsDigit, Spells, IsPush, Reads}
+use Rattle.ppq_script.specs.Command.{command_of, many_of, alone, one_of, two_of, three_of, both_of, push_of, gen_of, bulk_pop_of, drain_of, bulk_pop_limit_of, file_of, is_file_name}
+use Rattle.ppq_script.specs.Lines.{Skipped, Plain, OfFile, kind_of, kind_of_fields, plain_or_bad, file_or_bad}
+use Rattle.ppq_script.specs.Files.{file_in}
+use Rattle.ppq_script.specs.Meaning.{IsDigit, Spells, IsGraphic, IsFileName, HasOne, HasTwo, HasThree, IsSpelled, IsBulk, IsSkipped, IsBlankOrComment, Reads, ReadsFile, fields_in}
 use Rattle.ppq_script.proofs.NumberLemmas.{number_of-is}
 
 all_digits : (digits : List ℕ) → list_all is_ascii_digit digits ≡ true → Each IsDigit digits
@@ -53,79 +55,279 @@ pub value_from-append : (n : ℕ) (digits : List ℕ) (digit : ℕ) → value_fr
 value_from-append n [] digit = omega arith
 value_from-append n (d ∷ ds) digit = value_from-append (n * 10 + (d - 48)) ds digit
 
--- the digits stand before the first space
-prefix_len-digits : (key value : List ℕ) → Each IsDigit key → prefix_len (λ b. not (b == 32)) (key ++ 32 ∷ value) ≡ length key
-prefix_len-digits [] value h = refl
-prefix_len-digits (d ∷ ds) value h =
-    let other : (d == 32) ≡ false = ne_eqb d 32 (λ (e : d ≡ 32). omega (arith, h.0.0, e)) in
-    let rest = prefix_len-digits ds value h.1 in
-    rw other (omega (arith, rest))
+-- a name that is this word, or another one
+by_test : {P : Type 0} → (name word : List ℕ) (this that : Option Command) (c : Command) (t : Bool) → bytes_eq name word ≡ t → (name ≡ word → this ≡ Some c → P) → (that ≡ Some c → P) → cond t this that ≡ Some c → P
+by_test name word this that c true is here other e = here ((bytes_eq-Decides name word).0 is) e
+by_test name word this that c false is here other e = other e
 
-place_there : (n k m : ℕ) → n ≡ k → k < m → cond (nat_lt n m) (Some n) None ≡ Some k
-place_there n k m e h = rw (e, lt-ltb k m h) refl
+by_name : {P : Type 0} → (name word : List ℕ) (this that : Option Command) (c : Command) → (name ≡ word → this ≡ Some c → P) → (that ≡ Some c → P) → cond (bytes_eq name word) this that ≡ Some c → P
+by_name name word this that c = by_test name word this that c (bytes_eq name word) refl
 
-position-space : (key value : List ℕ) → Each IsDigit key → position (λ b. b == 32) (key ++ 32 ∷ value) ≡ Some (length key)
-position-space key value h =
-    place_there (prefix_len (λ b. not (b == 32)) (key ++ 32 ∷ value)) (length key) (length (key ++ 32 ∷ value)) (prefix_len-digits key value h) (omega (arith, length-append key (32 ∷ value)))
+-- a command whose name stands alone
+IsSpelled-alone : (name word : List ℕ) (fields : List (List ℕ)) (command c : Command) → IsSpelled (word ∷ []) command → name ≡ word → alone command fields ≡ Some c → IsSpelled (name ∷ fields) c
+IsSpelled-alone name word [] command c spelled n e =
+    let is : command ≡ c = cc in
+    subst (λ (fields : List (List ℕ)). IsSpelled fields c) (ap (λ (w : List ℕ). w ∷ []) (sym n)) (subst (λ (d : Command). IsSpelled (word ∷ []) d) is spelled)
+IsSpelled-alone name word (field ∷ fields) command c spelled n e = cc
 
--- a text at a place where a space stands
-at_space : (text : List ℕ) (i : ℕ) → position (λ b. b == 32) text ≡ Some i → text ≡ take i text ++ 32 ∷ drop (i + 1) text
-at_space text i e =
-    let at = position-Some (λ b. b == 32) text i 0 e in
-    sym (take-append-drop i text) ∙ ap (λ (z : List ℕ). take i text ++ z) (drop_more text i 0 at.0 ∙ ap (λ (b : ℕ). b ∷ drop (i + 1) text) (eqb-true (get_or text i 0) 32 at.1))
+-- the fields that spell one number, and two
+one_parts : (fields : List (List ℕ)) (n : ℕ) → one_of fields ≡ Some n → (digits : List ℕ) × ((fields ≡ digits ∷ []) × Spells digits n)
+one_parts [] n e = cc
+one_parts (digits ∷ []) n e = (digits, (refl, Spells-number_of digits n e))
+one_parts (digits ∷ more ∷ fields) n e = cc
 
-four_texts : (a b c d : List ℕ) → a ++ b ++ c ++ d ≡ a ++ (b ++ (c ++ d))
-four_texts a b c d = simp append_assoc
+both_parts : {X Y : Type 0} → (x : Option X) (y : Option Y) (p : X × Y) → both_of x y ≡ Some p → (x ≡ Some p.0) × (y ≡ Some p.1)
+both_parts None y p e = cc
+both_parts (Some x) None p e = cc
+both_parts {X = X} {Y = Y} (Some x) (Some y) p e = let is : (x, y) ≡ p = cc in (ap (λ (q : X × Y). Some q.0) is, ap (λ (q : X × Y). Some q.1) is)
 
-push_parts : (key value : Option ℕ) (c : Command) → push_of key value ≡ Some c → (k : ℕ) × (v : ℕ) × (key ≡ Some k) × (value ≡ Some v) × (Push (record { key = k; value = v }) ≡ c)
-push_parts None value c e = cc
-push_parts (Some k) None c e = cc
-push_parts (Some k) (Some v) c e = (k, v, refl, refl, cc)
+two_parts : (fields : List (List ℕ)) (p : ℕ × ℕ) → two_of fields ≡ Some p → (one : List ℕ) × ((other : List ℕ) × ((fields ≡ one ∷ other ∷ []) × (Spells one p.0 × Spells other p.1)))
+two_parts [] p e = cc
+two_parts (one ∷ fields) p e =
+    let both = both_parts (number_of one) (one_of fields) p e in
+    let rest = one_parts fields p.1 both.1 in
+    (one, (rest.0, (ap (λ (fs : List (List ℕ)). one ∷ fs) rest.1.0, (Spells-number_of one p.0 both.0, rest.1.1))))
 
-Reads-fields : (line text : List ℕ) (place : Option ℕ) (c : Command) → line ≡ codes "push " ++ text → position (λ b. b == 32) text ≡ place → fields_of text place ≡ Some c → Reads line c
-Reads-fields line text None c s p e = cc
-Reads-fields line text (Some i) c s p e =
-    let parts = push_parts (number_of (take i text)) (number_of (drop (i + 1) text)) c e in
-    let spelled : line ≡ codes "push " ++ take i text ++ codes " " ++ drop (i + 1) text =
-    s ∙ ap (λ (z : List ℕ). codes "push " ++ z) (at_space text i p) ∙ sym (four_texts (codes "push ") (take i text) (codes " ") (drop (i + 1) text)) in
-    let push : IsPush line (record { key = parts.0; value = parts.1 }) = record {
-      key = take i text;
-      value = drop (i + 1) text;
-      spelled = spelled;
-      spells_key = Spells-number_of (take i text) parts.0 parts.2;
-      spells_value = Spells-number_of (drop (i + 1) text) parts.1 parts.3;
-    } in
-    subst (λ (d : Command). Reads line d) parts.4 push
+three_parts : (fields : List (List ℕ)) (p : ℕ × (ℕ × ℕ)) → three_of fields ≡ Some p
+    → (one : List ℕ) × ((other : List ℕ) × ((last : List ℕ) × ((fields ≡ one ∷ other ∷ last ∷ []) × (Spells one p.0 × (Spells other p.1.0 × Spells last p.1.1)))))
+three_parts [] p e = cc
+three_parts (one ∷ fields) p e =
+    let both = both_parts (number_of one) (two_of fields) p e in
+    let rest = two_parts fields p.1 both.1 in
+    (one, (rest.0, (rest.1.0, (ap (λ (fs : List (List ℕ)). one ∷ fs) rest.1.1.0, (Spells-number_of one p.0 both.0, rest.1.1.1)))))
 
--- a command of one word
-Reads-word : (line word : List ℕ) (command c : Command) → (line ≡ word → Reads line command) → bytes_eq line word ≡ true → Some command ≡ Some c → Reads line c
-Reads-word line word command c reads same e = let is : command ≡ c = cc in subst (λ (d : Command). Reads line d) is (reads ((bytes_eq-Decides line word).0 same))
+-- a word and its numbers
+has_one : (name word : List ℕ) (fields : List (List ℕ)) (n : ℕ) → name ≡ word → one_of fields ≡ Some n → HasOne word (name ∷ fields) n
+has_one name word fields n w e =
+    let parts = one_parts fields n e in
+    record { digits = parts.0; spelled = ap₂ (λ (v : List ℕ) (fs : List (List ℕ)). v ∷ fs) w parts.1.0; spells = parts.1.1 }
 
-Reads-tests : (line : List ℕ) (c : Command) (is_pop is_top is_size is_push : Bool)
-    → bytes_eq line (codes "pop") ≡ is_pop → bytes_eq line (codes "top") ≡ is_top → bytes_eq line (codes "size") ≡ is_size → starts_with nat_eq line (codes "push ") ≡ is_push
-    → cond is_pop (Some Pop) (cond is_top (Some Top) (cond is_size (Some Size) (cond is_push (fields_of (drop 5 line) (position (λ b. b == 32) (drop 5 line))) None))) ≡ Some c → Reads line c
-Reads-tests line c true is_top is_size is_push pop top size push e = Reads-word line (codes "pop") Pop c (λ (h : line ≡ codes "pop"). h) pop e
-Reads-tests line c false true is_size is_push pop top size push e = Reads-word line (codes "top") Top c (λ (h : line ≡ codes "top"). h) top e
-Reads-tests line c false false true is_push pop top size push e = Reads-word line (codes "size") Size c (λ (h : line ≡ codes "size"). h) size e
-Reads-tests line c false false false true pop top size push e =
-    Reads-fields line (drop 5 line) (position (λ b. b == 32) (drop 5 line)) c ((starts_is Decides-eqb line (codes "push ") (starts_with nat_eq line (codes "push ")) refl).0 push) refl e
-Reads-tests line c false false false false pop top size push e = cc
+has_two : (name word : List ℕ) (fields : List (List ℕ)) (p : ℕ × ℕ) → name ≡ word → two_of fields ≡ Some p → HasTwo word (name ∷ fields) p.0 p.1
+has_two name word fields p w e =
+    let parts = two_parts fields p e in
+    record {
+      digits = parts.0;
+      others = parts.1.0;
+      spelled = ap₂ (λ (v : List ℕ) (fs : List (List ℕ)). v ∷ fs) w parts.1.1.0;
+      spells = parts.1.1.1.0;
+      spells_other = parts.1.1.1.1;
+    }
 
--- a line that is read as a command is spelled as it
-pub Reads-command_of : (line : List ℕ) (c : Command) → command_of line ≡ Some c → Reads line c
-Reads-command_of line c e = Reads-tests line c (bytes_eq line (codes "pop")) (bytes_eq line (codes "top")) (bytes_eq line (codes "size")) (starts_with nat_eq line (codes "push ")) refl refl refl refl e
+has_three : (name word : List ℕ) (fields : List (List ℕ)) (p : ℕ × (ℕ × ℕ)) → name ≡ word → three_of fields ≡ Some p → HasThree word (name ∷ fields) p.0 p.1.0 p.1.1
+has_three name word fields p w e =
+    let parts = three_parts fields p e in
+    record {
+      digits = parts.0;
+      others = parts.1.0;
+      lasts = parts.1.1.0;
+      spelled = ap₂ (λ (v : List ℕ) (fs : List (List ℕ)). v ∷ fs) w parts.1.1.1.0;
+      spells = parts.1.1.1.1.0;
+      spells_other = parts.1.1.1.1.1.0;
+      spells_last = parts.1.1.1.1.1.1;
+    }
+
+spells_push : (name : List ℕ) (fields : List (List ℕ)) (numbers : Option (ℕ × ℕ)) (c : Command) → two_of fields ≡ numbers → name ≡ codes "push" → push_of numbers ≡ Some c → IsSpelled (name ∷ fields) c
+spells_push name fields None c two n e = cc
+spells_push name fields (Some p) c two n e =
+    let is : Push (record { key = p.0; value = p.1 }) ≡ c = cc in
+    subst (λ (d : Command). IsSpelled (name ∷ fields) d) is (has_two name (codes "push") fields p n two)
+
+few_enough : (p : ℕ × ℕ) (c : Command) (t : Bool) → nat_le p.1 4294967296 ≡ t → cond t (Some (Gen p.0 p.1)) None ≡ Some c → (p.1 ≤ 4294967296) × (Gen p.0 p.1 ≡ c)
+few_enough p c true is e = (leb-true p.1 4294967296 is, cc)
+few_enough p c false is e = cc
+
+spells_gen : (name : List ℕ) (fields : List (List ℕ)) (numbers : Option (ℕ × ℕ)) (c : Command) → two_of fields ≡ numbers → name ≡ codes "gen" → gen_of numbers ≡ Some c → IsSpelled (name ∷ fields) c
+spells_gen name fields None c two n e = cc
+spells_gen name fields (Some p) c two n e =
+    let few = few_enough p c (nat_le p.1 4294967296) refl e in
+    subst (λ (d : Command). IsSpelled (name ∷ fields) d) few.1 (has_two name (codes "gen") fields p n two, few.0)
+
+spells_bulk_pop : (name : List ℕ) (fields : List (List ℕ)) (number : Option ℕ) (c : Command) → one_of fields ≡ number → name ≡ codes "bulk_pop" → bulk_pop_of number ≡ Some c → IsSpelled (name ∷ fields) c
+spells_bulk_pop name fields None c one n e = cc
+spells_bulk_pop name fields (Some k) c one n e =
+    let is : BulkPop k ≡ c = cc in
+    subst (λ (d : Command). IsSpelled (name ∷ fields) d) is (has_one name (codes "bulk_pop") fields k n one)
+
+spells_drain : (name : List ℕ) (fields : List (List ℕ)) (number : Option ℕ) (c : Command) → one_of fields ≡ number → name ≡ codes "drain" → drain_of number ≡ Some c → IsSpelled (name ∷ fields) c
+spells_drain name fields None c one n e = cc
+spells_drain name fields (Some k) c one n e =
+    let is : Drain k ≡ c = cc in
+    subst (λ (d : Command). IsSpelled (name ∷ fields) d) is (has_one name (codes "drain") fields k n one)
+
+spells_bulk_pop_limit : (name : List ℕ) (fields : List (List ℕ)) (numbers : Option (ℕ × (ℕ × ℕ))) (c : Command) → three_of fields ≡ numbers → name ≡ codes "bulk_pop_limit" → bulk_pop_limit_of numbers ≡ Some c → IsSpelled (name ∷ fields) c
+spells_bulk_pop_limit name fields None c three n e = cc
+spells_bulk_pop_limit name fields (Some p) c three n e =
+    let is : BulkPopLimit (record { key = p.0; value = p.1.0 }) p.1.1 ≡ c = cc in
+    subst (λ (d : Command). IsSpelled (name ∷ fields) d) is (has_three name (codes "bulk_pop_limit") fields p n three)
+
+-- fields that are read as a command spell it
+spells_many : (name : List ℕ) (fields : List (List ℕ)) (c : Command) → many_of name fields ≡ Some c → IsSpelled (name ∷ fields) c
+spells_many name fields c e =
+    by_name name (codes "gen") _ _ c (spells_gen name fields (two_of fields) c refl)
+    (by_name name (codes "bulk_pop") _ _ c (spells_bulk_pop name fields (one_of fields) c refl)
+    (by_name name (codes "bulk_pop_limit") _ _ c (spells_bulk_pop_limit name fields (three_of fields) c refl)
+    (by_name name (codes "drain") _ _ c (spells_drain name fields (one_of fields) c refl) (λ (none : None ≡ Some c). cc)))) e
+
+IsSpelled-command_of : (name : List ℕ) (fields : List (List ℕ)) (c : Command) → command_of name fields ≡ Some c → IsSpelled (name ∷ fields) c
+IsSpelled-command_of name fields c e =
+    by_name name (codes "push") _ _ c (spells_push name fields (two_of fields) c refl)
+    (by_name name (codes "pop") _ _ c (IsSpelled-alone name (codes "pop") fields Pop c refl)
+    (by_name name (codes "top") _ _ c (IsSpelled-alone name (codes "top") fields Top c refl)
+    (by_name name (codes "size") _ _ c (IsSpelled-alone name (codes "size") fields Size c refl) (spells_many name fields c)))) e
+
+-- the cases of fields behind a name
+plain_case : (t u : Bool) (f : Option (List ℕ)) (o : Option Command) (c : Command) → cond t Skipped (cond u (file_or_bad f) (plain_or_bad o)) ≡ Plain c → o ≡ Some c
+plain_case true u f o c e = cc
+plain_case false true None o c e = cc
+plain_case false true (Some n) o c e = cc
+plain_case false false f None c e = cc
+plain_case false false f (Some d) c e = let is : d ≡ c = cc in ap (λ (d : Command). Some d) is
+
+file_case : (t u : Bool) (f : Option (List ℕ)) (o : Option Command) (name : List ℕ) → cond t Skipped (cond u (file_or_bad f) (plain_or_bad o)) ≡ OfFile name → (u ≡ true) × (f ≡ Some name)
+file_case true u f o name e = cc
+file_case false true None o name e = cc
+file_case false true (Some n) o name e = let is : n ≡ name = cc in (refl, ap (λ (n : List ℕ). Some n) is)
+file_case false false f None name e = cc
+file_case false false f (Some d) name e = cc
+
+skipped_case : (t u : Bool) (f : Option (List ℕ)) (o : Option Command) → cond t Skipped (cond u (file_or_bad f) (plain_or_bad o)) ≡ Skipped → t ≡ true
+skipped_case true u f o e = refl
+skipped_case false true None o e = cc
+skipped_case false true (Some n) o e = cc
+skipped_case false false f None e = cc
+skipped_case false false f (Some d) e = cc
+
+IsSpelled-Plain : (fields : List (List ℕ)) (c : Command) → kind_of_fields fields ≡ Plain c → IsSpelled fields c
+IsSpelled-Plain [] c e = cc
+IsSpelled-Plain (name ∷ fields) c e =
+    IsSpelled-command_of name fields c (plain_case (starts_with nat_eq name (codes "#")) (bytes_eq name (codes "bulk")) (file_of fields) (command_of name fields) c e)
 
 -- and the other way round
-pub command_of-Reads : (line : List ℕ) (c : Command) → Reads line c → command_of line ≡ Some c
-command_of-Reads line (Push item) h =
-    let text : List ℕ = h.key ++ 32 ∷ h.value in
-    let front : take (length h.key) text ≡ h.key = take_at h.key (32 ∷ h.value) (length h.key) refl in
-    let one : length (h.key ++ 32 ∷ []) ≡ length h.key + 1 = length-append h.key (32 ∷ []) in
-    let back : drop (length h.key + 1) text ≡ h.value =
-    ap (drop (length h.key + 1)) (sym (append_assoc h.key (32 ∷ []) h.value)) ∙ drop_at (h.key ++ 32 ∷ []) h.value (length h.key + 1) one in
-    let fields : fields_of text (Some (length h.key)) ≡ Some (Push item) =
-    ap₂ push_of (ap number_of front ∙ number_of-Spells h.key item.key h.spells_key) (ap number_of back ∙ number_of-Spells h.value item.value h.spells_value) in
-    ap command_of (h.spelled ∙ four_texts (codes "push ") h.key (codes " ") h.value) ∙ (ap (fields_of text) (position-space h.key h.value h.spells_key.all_digits) ∙ fields)
-command_of-Reads line Pop h = ap command_of h
-command_of-Reads line Top h = ap command_of h
-command_of-Reads line Size h = ap command_of h
+Plain-IsSpelled : (fields : List (List ℕ)) (c : Command) → IsSpelled fields c → kind_of_fields fields ≡ Plain c
+Plain-IsSpelled fields (Push item) h =
+    ap kind_of_fields h.spelled
+    ∙ ap₂ (λ (one other : Option ℕ). plain_or_bad (push_of (both_of one other))) (number_of-Spells h.digits item.key h.spells) (number_of-Spells h.others item.value h.spells_other)
+Plain-IsSpelled fields Pop h = ap kind_of_fields h
+Plain-IsSpelled fields Top h = ap kind_of_fields h
+Plain-IsSpelled fields Size h = ap kind_of_fields h
+Plain-IsSpelled fields (Bulk file length) h = absurd h
+Plain-IsSpelled fields (Gen seed count) h =
+    ap kind_of_fields h.0.spelled
+    ∙ ap₂ (λ (one other : Option ℕ). plain_or_bad (gen_of (both_of one other))) (number_of-Spells h.0.digits seed h.0.spells) (number_of-Spells h.0.others count h.0.spells_other)
+    ∙ ap (λ (t : Bool). plain_or_bad (cond t (Some (Gen seed count)) None)) (le-leb count 4294967296 h.1)
+Plain-IsSpelled fields (BulkPop count) h =
+    ap kind_of_fields h.spelled ∙ ap (λ (one : Option ℕ). plain_or_bad (bulk_pop_of one)) (number_of-Spells h.digits count h.spells)
+Plain-IsSpelled fields (BulkPopLimit limit count) h =
+    ap kind_of_fields h.spelled
+    ∙ ap₂ (λ (one : Option ℕ) (two : Option (ℕ × ℕ)). plain_or_bad (bulk_pop_limit_of (both_of one two))) (number_of-Spells h.digits limit.key h.spells)
+    (ap₂ (λ (one other : Option ℕ). both_of one other) (number_of-Spells h.others limit.value h.spells_other) (number_of-Spells h.lasts count h.spells_last))
+Plain-IsSpelled fields (Drain count) h =
+    ap kind_of_fields h.spelled ∙ ap (λ (one : Option ℕ). plain_or_bad (drain_of one)) (number_of-Spells h.digits count h.spells)
+
+-- a command that is spelled names no file
+file_in-IsSpelled : (fields : List (List ℕ)) (c : Command) → IsSpelled fields c → file_in c ≡ None
+file_in-IsSpelled fields (Push item) h = refl
+file_in-IsSpelled fields Pop h = refl
+file_in-IsSpelled fields Top h = refl
+file_in-IsSpelled fields Size h = refl
+file_in-IsSpelled fields (Bulk file length) h = absurd h
+file_in-IsSpelled fields (Gen seed count) h = refl
+file_in-IsSpelled fields (BulkPop count) h = refl
+file_in-IsSpelled fields (BulkPopLimit limit count) h = refl
+file_in-IsSpelled fields (Drain count) h = refl
+
+-- a line is read as a command where it is spelled as it
+pub Reads-Plain : (line : List ℕ) (c : Command) → kind_of line ≡ Plain c → Reads line c
+Reads-Plain line c e = IsSpelled-Plain (fields_in line) c e
+
+pub Plain-Reads : (line : List ℕ) (c : Command) → Reads line c → kind_of line ≡ Plain c
+Plain-Reads line c h = Plain-IsSpelled (fields_in line) c h
+
+pub file_in-Reads : (line : List ℕ) (c : Command) → Reads line c → file_in c ≡ None
+file_in-Reads line c h = file_in-IsSpelled (fields_in line) c h
+
+-- names of files
+all_graphic : (name : List ℕ) → list_all is_ascii_graphic name ≡ true → Each IsGraphic name
+all_graphic [] e = tt
+all_graphic (b ∷ bs) e =
+    let both = and_parts (is_ascii_graphic b) (list_all is_ascii_graphic bs) e in
+    let ends = and_parts (nat_le 33 b) (nat_le b 126) both.0 in
+    ((leb-true 33 b ends.0, leb-true b 126 ends.1), all_graphic bs both.1)
+
+list_all-graphic : (name : List ℕ) → Each IsGraphic name → list_all is_ascii_graphic name ≡ true
+list_all-graphic [] h = refl
+list_all-graphic (b ∷ bs) h =
+    and_from (is_ascii_graphic b) (list_all is_ascii_graphic bs) (and_from (nat_le 33 b) (nat_le b 126) (le-leb 33 b h.0.0) (le-leb b 126 h.0.1)) (list_all-graphic bs h.1)
+
+three_true : (a b c : Bool) → (a && b && c) ≡ true → (a ≡ true) × ((b ≡ true) × (c ≡ true))
+three_true true true true e = (refl, (refl, refl))
+three_true true true false e = cc
+three_true true false c e = cc
+three_true false b c e = cc
+
+all_three : (a b c : Bool) → a ≡ true → b ≡ true → c ≡ true → (a && b && c) ≡ true
+all_three true true true d e f = refl
+all_three true true false d e f = cc
+all_three true false c d e f = cc
+all_three false b c d e f = cc
+
+pub IsFileName-is_file_name : (name : List ℕ) → is_file_name name ≡ true → IsFileName name
+IsFileName-is_file_name name e =
+    let parts = three_true (list_all is_ascii_graphic name) (nat_le 1 (length name)) (nat_le (length name) 255) e in
+    record { all_graphic = all_graphic name parts.0; some = leb-true 1 (length name) parts.1.0; few = leb-true (length name) 255 parts.1.1 }
+
+is_file_name-IsFileName : (name : List ℕ) → IsFileName name → is_file_name name ≡ true
+is_file_name-IsFileName name h = all_three _ _ _ (list_all-graphic name h.all_graphic) (le-leb 1 (length name) h.some) (le-leb (length name) 255 h.few)
+
+ascii_of_graphic : (bytes : List ℕ) → Each IsGraphic bytes → (i : ℕ) → slice_index bytes i < 128
+ascii_of_graphic [] h i = omega arith
+ascii_of_graphic (b ∷ bs) h zero = omega (arith, h.0.1)
+ascii_of_graphic (b ∷ bs) h (suc i) = ascii_of_graphic bs h.1 i
+
+-- a file name is text
+pub utf8_of_file_name : (bytes : List ℕ) → is_file_name bytes ≡ true → IsUtf8 bytes
+utf8_of_file_name bytes e = IsUtf8-from_ascii bytes (ascii_of_graphic bytes (IsFileName-is_file_name bytes e).all_graphic)
+
+named : (field name : List ℕ) (t : Bool) → is_file_name field ≡ t → cond t (Some field) None ≡ Some name → (field ≡ name) × IsFileName name
+named field name true is e = let same : field ≡ name = cc in (same, subst IsFileName same (IsFileName-is_file_name field is))
+named field name false is e = cc
+
+file_parts : (fields : List (List ℕ)) (name : List ℕ) → file_of fields ≡ Some name → (fields ≡ name ∷ []) × IsFileName name
+file_parts [] name e = cc
+file_parts (field ∷ []) name e = let h = named field name (is_file_name field) refl e in (ap (λ (f : List ℕ). f ∷ []) h.0, h.1)
+file_parts (field ∷ more ∷ fields) name e = cc
+
+IsBulk-OfFile : (fields : List (List ℕ)) (name : List ℕ) → kind_of_fields fields ≡ OfFile name → IsBulk fields name
+IsBulk-OfFile [] name e = cc
+IsBulk-OfFile (first ∷ fields) name e =
+    let parts = file_case (starts_with nat_eq first (codes "#")) (bytes_eq first (codes "bulk")) (file_of fields) (command_of first fields) name e in
+    let file = file_parts fields name parts.1 in
+    record { spelled = ap₂ (λ (v : List ℕ) (fs : List (List ℕ)). v ∷ fs) ((bytes_eq-Decides first (codes "bulk")).0 parts.0) file.0; is_name = file.1 }
+
+OfFile-IsBulk : (fields : List (List ℕ)) (name : List ℕ) → IsBulk fields name → kind_of_fields fields ≡ OfFile name
+OfFile-IsBulk fields name h = ap kind_of_fields h.spelled ∙ ap (λ (t : Bool). file_or_bad (cond t (Some name) None)) (is_file_name-IsFileName name h.is_name)
+
+pub ReadsFile-OfFile : (line name : List ℕ) → kind_of line ≡ OfFile name → ReadsFile line name
+ReadsFile-OfFile line name e = IsBulk-OfFile (fields_in line) name e
+
+pub OfFile-ReadsFile : (line name : List ℕ) → ReadsFile line name → kind_of line ≡ OfFile name
+OfFile-ReadsFile line name h = OfFile-IsBulk (fields_in line) name h
+
+-- fields that are skipped are none, or begin with `#`
+IsSkipped-Skipped : (fields : List (List ℕ)) → kind_of_fields fields ≡ Skipped → IsSkipped fields
+IsSkipped-Skipped [] e = tt
+IsSkipped-Skipped (name ∷ fields) e =
+    let is = skipped_case (starts_with nat_eq name (codes "#")) (bytes_eq name (codes "bulk")) (file_of fields) (command_of name fields) e in
+    (drop 1 name, (starts_is Decides-eqb name (codes "#") (starts_with nat_eq name (codes "#")) refl).0 is)
+
+Skipped-IsSkipped : (fields : List (List ℕ)) → IsSkipped fields → kind_of_fields fields ≡ Skipped
+Skipped-IsSkipped [] h = refl
+Skipped-IsSkipped (name ∷ fields) (more, e) =
+    let is : starts_with nat_eq name (codes "#") ≡ true = (starts_is Decides-eqb name (codes "#") (starts_with nat_eq name (codes "#")) refl).1 more e in
+    ap (λ (t : Bool). cond t Skipped (cond (bytes_eq name (codes "bulk")) (file_or_bad (file_of fields)) (plain_or_bad (command_of name fields)))) is
+
+pub IsBlankOrComment-Skipped : (line : List ℕ) → kind_of line ≡ Skipped → IsBlankOrComment line
+IsBlankOrComment-Skipped line e = IsSkipped-Skipped (fields_in line) e
+
+pub Skipped-IsBlankOrComment : (line : List ℕ) → IsBlankOrComment line → kind_of line ≡ Skipped
+Skipped-IsBlankOrComment line h = Skipped-IsSkipped (fields_in line) h

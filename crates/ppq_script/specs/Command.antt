@@ -1,26 +1,85 @@
--- Lines that are commands.
-use Rattle.std.specs.Prelude.{ℕ, ◌+◌, List, take, drop, Option, Some, None, if◌then◌else◌, bytes_eq, codes, position, nat_eq, ◌==◌}
-use Rattle.std.specs.List.{starts_with}
+-- Fields that are a command.
+use Rattle.std.specs.Prelude.{ℕ, Bool, ◌&&◌, List, [], ◌∷◌, length, Option, Some, None, if◌then◌else◌, bytes_eq, codes, nat_le}
+use Rattle.std.specs.List.{list_all}
+use Rattle.std.specs.Char.{is_ascii_graphic}
 use Rattle.ppq_script.specs.declared.command.Command.{Command}
-use Rattle.ppq_script.specs.declared.command.Command.TheVariants.{Push, Pop, Top, Size}
+use Rattle.ppq_script.specs.declared.command.Command.TheVariants.{Push, Pop, Top, Size, Gen, BulkPop, BulkPopLimit, Drain}
 use Rattle.ppq_script.specs.Number.{number_of}
 
--- the command that pushes these two numbers, where both are there
-abbrev pub push_of : Option ℕ → Option ℕ → Option Command
-push_of None v = None
-push_of (Some k) None = None
-push_of (Some k) (Some v) = Some (Push (record { key = k; value = v }))
+-- a command whose name stands alone
+abbrev pub alone : Command → List (List ℕ) → Option Command
+alone command [] = Some command
+alone command (field ∷ fields) = None
 
--- two numbers with a space between them, at the place where the first space stands
-abbrev pub fields_of : List ℕ → Option ℕ → Option Command
-fields_of text None = None
-fields_of text (Some place) = push_of (number_of (take place text)) (number_of (drop (place + 1) text))
+-- the number that is the only field
+abbrev pub one_of : List (List ℕ) → Option ℕ
+one_of [] = None
+one_of (field ∷ []) = number_of field
+one_of (field ∷ next ∷ fields) = None
 
--- `pop`, `top`, `size`, or `push` and two numbers
-abbrev pub command_of : List ℕ → Option Command
-command_of line =
-    if bytes_eq line (codes "pop") then Some Pop
-    else if bytes_eq line (codes "top") then Some Top
-    else if bytes_eq line (codes "size") then Some Size
-    else if starts_with nat_eq line (codes "push ") then fields_of (drop 5 line) (position (λ b. b == 32) (drop 5 line))
+-- both, where both are there
+abbrev pub both_of : {X Y : Type 0} → Option X → Option Y → Option (X × Y)
+both_of None y = None
+both_of (Some x) None = None
+both_of (Some x) (Some y) = Some (x, y)
+
+-- the numbers that are the two fields, and the three
+abbrev pub two_of : List (List ℕ) → Option (ℕ × ℕ)
+two_of [] = None
+two_of (field ∷ fields) = both_of (number_of field) (one_of fields)
+
+abbrev pub three_of : List (List ℕ) → Option (ℕ × (ℕ × ℕ))
+three_of [] = None
+three_of (field ∷ fields) = both_of (number_of field) (two_of fields)
+
+-- 1 to 255 bytes from 0x21 to 0x7E
+abbrev pub is_file_name : List ℕ → Bool
+is_file_name bytes = list_all is_ascii_graphic bytes && nat_le 1 (length bytes) && nat_le (length bytes) 255
+
+-- the name of a file that is the only field
+abbrev pub file_of : List (List ℕ) → Option (List ℕ)
+file_of [] = None
+file_of (field ∷ []) = if is_file_name field then Some field else None
+file_of (field ∷ next ∷ fields) = None
+
+-- the command that pushes the record of a key and a value
+abbrev pub push_of : Option (ℕ × ℕ) → Option Command
+push_of None = None
+push_of (Some item) = Some (Push (record { key = item.0; value = item.1 }))
+
+-- the command that makes so many records from a seed, at most 4294967296
+abbrev pub gen_of : Option (ℕ × ℕ) → Option Command
+gen_of None = None
+gen_of (Some pair) = if nat_le pair.1 4294967296 then Some (Gen pair.0 pair.1) else None
+
+-- the commands that remove so many records
+abbrev pub bulk_pop_of : Option ℕ → Option Command
+bulk_pop_of None = None
+bulk_pop_of (Some count) = Some (BulkPop count)
+
+abbrev pub drain_of : Option ℕ → Option Command
+drain_of None = None
+drain_of (Some count) = Some (Drain count)
+
+-- the one that removes at most so many of those before the record of a key and a value
+abbrev pub bulk_pop_limit_of : Option (ℕ × (ℕ × ℕ)) → Option Command
+bulk_pop_limit_of None = None
+bulk_pop_limit_of (Some triple) = Some (BulkPopLimit (record { key = triple.0; value = triple.1.0 }) triple.1.1)
+
+-- the command of this name with these fields behind it, of those on many records
+abbrev pub many_of : List ℕ → List (List ℕ) → Option Command
+many_of name fields =
+    if bytes_eq name (codes "gen") then gen_of (two_of fields)
+    else if bytes_eq name (codes "bulk_pop") then bulk_pop_of (one_of fields)
+    else if bytes_eq name (codes "bulk_pop_limit") then bulk_pop_limit_of (three_of fields)
+    else if bytes_eq name (codes "drain") then drain_of (one_of fields)
     else None
+
+-- the command of this name with these fields behind it, but for `bulk`
+abbrev pub command_of : List ℕ → List (List ℕ) → Option Command
+command_of name fields =
+    if bytes_eq name (codes "push") then push_of (two_of fields)
+    else if bytes_eq name (codes "pop") then alone Pop fields
+    else if bytes_eq name (codes "top") then alone Top fields
+    else if bytes_eq name (codes "size") then alone Size fields
+    else many_of name fields

@@ -1,5 +1,9 @@
+pub mod Checking
 pub mod Command
+pub mod Files
 pub mod Lines
 pub mod Meaning
 pub mod Number
 pub mod Reading
+pub mod Shown
+pub mod Taken

@@ -1,8 +1,10 @@
--- The lines of a script, and its commands.
-use Rattle.std.specs.Prelude.{ℕ, ◌+◌, List, [], ◌∷◌, Option, Some, None, if◌then◌else◌, ◌==◌}
+-- The lines of a script, the fields of a line, and the commands of a script.
+use Rattle.std.specs.Prelude.{◌≡◌, ℕ, Bool, true, false, ◌+◌, List, [], ◌∷◌, Option, Some, None, if◌then◌else◌, ◌==◌, nat_eq, bytes_eq, codes}
+use Rattle.std.specs.List.{starts_with}
 use Rattle.ppq_script.specs.declared.command.Command.{Command}
+use Rattle.ppq_script.specs.declared.command.Command.TheVariants.{Bulk}
 use Rattle.ppq_script.specs.declared.numbered.Numbered.{Numbered}
-use Rattle.ppq_script.specs.Command.{command_of}
+use Rattle.ppq_script.specs.Command.{command_of, file_of}
 
 -- a byte at the front of the first line
 abbrev pub onto : ℕ → List (List ℕ) → List (List ℕ)
@@ -14,21 +16,101 @@ abbrev pub lines_of : List ℕ → List (List ℕ)
 lines_of [] = []
 lines_of (b ∷ bs) = if b == 10 then [] ∷ lines_of bs else onto b (lines_of bs)
 
--- the command of line n, and those behind it, up to the first bad line
-abbrev pub before_bad : ℕ → Option Command → List Numbered → List Numbered
-before_bad n None rest = []
-before_bad n (Some c) rest = record { line = n; command = c } ∷ rest
+-- the line without one carriage return at its end, where it has one there
+abbrev pub text_of : List ℕ → List ℕ
+text_of [] = []
+text_of (b ∷ []) = if b == 13 then [] else b ∷ []
+text_of (b ∷ c ∷ bs) = b ∷ text_of (c ∷ bs)
 
--- the commands of the lines before the first that is bad, the first line numbered n
+-- a byte that is no space, before these bytes, which have these fields: a field of its own where they begin with a space or are
+-- none, and else at the front of their first field
+abbrev pub joined : ℕ → List ℕ → List (List ℕ) → List (List ℕ)
+joined b [] fields = (b ∷ []) ∷ fields
+joined b (c ∷ bs) fields = if c == 32 then (b ∷ []) ∷ fields else onto b fields
+
+-- the fields of a text: its pieces between spaces that are not empty
+abbrev pub fields_of : List ℕ → List (List ℕ)
+fields_of [] = []
+fields_of (b ∷ bs) = if b == 32 then fields_of bs else joined b bs (fields_of bs)
+
+-- a text that begins with a field
+abbrev pub BeginsField : List ℕ → Type 0
+BeginsField [] = ⊥
+BeginsField (b ∷ bs) = (b == 32) ≡ false
+
+-- what a line is: skipped, a command, the command `bulk` with the name of a file, or bad
+pub data Kind : Type 0 where
+  Skipped : Kind
+  Plain : (command : Command) → Kind
+  OfFile : (name : List ℕ) → Kind
+  Bad : Kind
+
+abbrev pub plain_or_bad : Option Command → Kind
+plain_or_bad None = Bad
+plain_or_bad (Some command) = Plain command
+
+abbrev pub file_or_bad : Option (List ℕ) → Kind
+file_or_bad None = Bad
+file_or_bad (Some name) = OfFile name
+
+-- a line with no field is blank, and one whose first field begins with `#` is a comment: both are skipped
+abbrev pub kind_of_fields : List (List ℕ) → Kind
+kind_of_fields [] = Skipped
+kind_of_fields (name ∷ fields) =
+    if starts_with nat_eq name (codes "#") then Skipped
+    else if bytes_eq name (codes "bulk") then file_or_bad (file_of fields)
+    else plain_or_bad (command_of name fields)
+
+-- what a line is
+abbrev pub kind_of : List ℕ → Kind
+kind_of line = kind_of_fields (fields_of (text_of line))
+
+-- the number that the next file gets behind a line, where this is the one that a file of this line gets
+abbrev pub file_after : ℕ → Kind → ℕ
+file_after file Skipped = file
+file_after file (Plain command) = file
+file_after file (OfFile name) = file + 1
+file_after file Bad = file
+
+-- the command of line n, if it has one, and those behind it, up to the first bad line; if it names a file, that gets this number
+abbrev pub before_bad : ℕ → ℕ → Kind → List Numbered → List Numbered
+before_bad n file Skipped rest = rest
+before_bad n file (Plain command) rest = record { line = n; command = command } ∷ rest
+before_bad n file (OfFile name) rest = record { line = n; command = Bulk file 0 } ∷ rest
+before_bad n file Bad rest = []
+
+-- the commands of the lines before the first that is bad, the first line numbered n, and the first file numbered `file`
+abbrev pub numbered_from : ℕ → ℕ → List (List ℕ) → List Numbered
+numbered_from n file [] = []
+numbered_from n file (l ∷ ls) = before_bad n file (kind_of l) (numbered_from (n + 1) (file_after file (kind_of l)) ls)
+
+-- and the first file numbered 0
 abbrev pub numbered_of : ℕ → List (List ℕ) → List Numbered
-numbered_of n [] = []
-numbered_of n (l ∷ ls) = before_bad n (command_of l) (numbered_of (n + 1) ls)
+numbered_of n lines = numbered_from n 0 lines
 
--- the number of the first bad line, counted from n
-abbrev pub bad_or : ℕ → Option Command → Option ℕ → Option ℕ
-bad_or n None rest = Some n
-bad_or n (Some c) rest = rest
+-- the name in a line, if it names a file, and those behind it, up to the first bad line
+abbrev pub names_before : Kind → List (List ℕ) → List (List ℕ)
+names_before Skipped rest = rest
+names_before (Plain command) rest = rest
+names_before (OfFile name) rest = name ∷ rest
+names_before Bad rest = []
 
+-- the names of the files in the lines before the first that is bad, in order
+abbrev pub names_of : List (List ℕ) → List (List ℕ)
+names_of [] = []
+names_of (l ∷ ls) = names_before (kind_of l) (names_of ls)
+
+-- the number of the first line that is bad or names a file that cannot be used, counted from n
+abbrev pub bad_or : (List ℕ → Bool) → ℕ → Kind → Option ℕ → Option ℕ
+bad_or usable n Skipped rest = rest
+bad_or usable n (Plain command) rest = rest
+bad_or usable n (OfFile name) rest = if usable name then rest else Some n
+bad_or usable n Bad rest = Some n
+
+abbrev pub first_bad_by : (List ℕ → Bool) → ℕ → List (List ℕ) → Option ℕ
+first_bad_by usable n [] = None
+first_bad_by usable n (l ∷ ls) = bad_or usable n (kind_of l) (first_bad_by usable (n + 1) ls)
+
+-- by the lines alone
 abbrev pub first_bad : ℕ → List (List ℕ) → Option ℕ
-first_bad n [] = None
-first_bad n (l ∷ ls) = bad_or n (command_of l) (first_bad (n + 1) ls)
+first_bad n lines = first_bad_by (λ name. true) n lines

@@ -1,8 +1,10 @@
-//! A line of a script as a command.
-ghost use Rattle.std.specs.Prelude.{◌≡◌, ◌<◌, List, ℕ, Option, position, ◌==◌};
-ghost use Rattle.ppq_script.specs.Command.{command_of, push_of, fields_of};
+//! The fields of a line as a command.
+ghost use Rattle.std.specs.Prelude.{◌≡◌};
+ghost use Rattle.ppq_script.specs.Lines.{fields_of};
+ghost use Rattle.ppq_script.specs.Command.{alone, one_of, two_of, three_of, push_of, gen_of, bulk_pop_of, drain_of, bulk_pop_limit_of, command_of, many_of};
 
 use crate::digits::number;
+use crate::fields::next_field;
 use ppq_record::Pair;
 
 /// What a line of a script asks for. Each command acts on one bag of records and gives one text.
@@ -16,52 +18,144 @@ pub enum Command {
     Top,
     /// `size`: prints how many records are in the bag.
     Size,
+    /// `bulk FILE`: adds the records of a file. The script has its name under this number; the
+    /// length, in bytes, is 0 until `check_files` keeps the file's.
+    Bulk { file: u32, length: u64 },
+    /// `gen SEED N`: adds the first so many records that come of a seed.
+    Gen { seed: u64, count: u64 },
+    /// `bulk_pop N`: removes the least so many records, or all, and prints them.
+    BulkPop { count: u64 },
+    /// `bulk_pop_limit K V N`: removes the least records before this one, at most so many, prints
+    /// them, and whether any before it are left.
+    BulkPopLimit { limit: Pair, count: u64 },
+    /// `drain N`: removes the least so many records, or all, and prints what they sum up to.
+    Drain { count: u64 },
 }
 
-/// The command that pushes two numbers, where both are there.
-fn push(key: Option<u64>, value: Option<u64>) -> Option<Command>
-    ensures { result ≡ push_of key value }
+/// The command, if no field is left.
+fn alone(command: Command, rest: &[u8]) -> Option<Command>
+    ensures { result ≡ alone command (fields_of rest.now) }
 {
-    match (key, value) {
-        (Some(key), Some(value)) => Some(Command::Push {
-            item: Pair { key, value },
-        }),
-        _ => None,
-    }
-}
-
-/// The place of the first of these bytes.
-pub fn place_of(byte: u8, text: &[u8]) -> Option<usize>
-    ensures { result ≡ position (λ b. b == byte) text.now }
-{
-    text.iter().position(|b| *b == byte)
-}
-
-/// The command that pushes the two numbers of a text, which one space parts.
-fn push_fields(text: &[u8]) -> Option<Command>
-    ensures { result ≡ fields_of text.now (position (λ b. b == 32) text.now) }
-{
-    match place_of(b' ', text) {
-        None => None,
-        Some(space) => push(number(&text[..space]), number(&text[space + 1..])),
+    match next_field(rest) {
+        None => Some(command),
+        Some(_) => None,
     }
 }
 
-/// The command of a line, if it is a good one.
-pub fn read_line(line: &[u8]) -> Option<Command>
-    ensures { result ≡ command_of line.now }
+/// The number that is the only field left.
+fn one_number(rest: &[u8]) -> Option<u64>
+    ensures { result ≡ one_of (fields_of rest.now) }
 {
-    if line == b"pop".as_slice() {
-        return Some(Command::Pop);
+    let first = next_field(rest)?;
+    match next_field(first.1) {
+        None => number(first.0),
+        Some(_) => None,
     }
-    if line == b"top".as_slice() {
-        return Some(Command::Top);
+}
+
+/// The numbers that are the two fields left.
+fn two_numbers(rest: &[u8]) -> Option<(u64, u64)>
+    ensures { result ≡ two_of (fields_of rest.now) }
+{
+    let first = next_field(rest)?;
+    let one = number(first.0)?;
+    let other = one_number(first.1)?;
+    Some((one, other))
+}
+
+/// The command that pushes the record of a key and a value.
+fn push(numbers: Option<(u64, u64)>) -> Option<Command>
+    ensures { result ≡ push_of numbers }
+{
+    let (key, value) = numbers?;
+    Some(Command::Push {
+        item: Pair { key, value },
+    })
+}
+
+/// The numbers that are the three fields left.
+fn three_numbers(rest: &[u8]) -> Option<(u64, (u64, u64))>
+    ensures { result ≡ three_of (fields_of rest.now) }
+{
+    let first = next_field(rest)?;
+    let one = number(first.0)?;
+    let others = two_numbers(first.1)?;
+    Some((one, others))
+}
+
+/// The command that makes so many records from a seed.
+fn generate(numbers: Option<(u64, u64)>) -> Option<Command>
+    ensures { result ≡ gen_of numbers }
+{
+    let (seed, count) = numbers?;
+    if count > 4_294_967_296 {
+        return None;
     }
-    if line == b"size".as_slice() {
-        return Some(Command::Size);
+    Some(Command::Gen { seed, count })
+}
+
+/// The command that removes so many records and prints them.
+fn bulk_pop(number: Option<u64>) -> Option<Command>
+    ensures { result ≡ bulk_pop_of number }
+{
+    let count = number?;
+    Some(Command::BulkPop { count })
+}
+
+/// The command that removes so many records and sums them up.
+fn drain(number: Option<u64>) -> Option<Command>
+    ensures { result ≡ drain_of number }
+{
+    let count = number?;
+    Some(Command::Drain { count })
+}
+
+/// The command that removes at most so many of the records before one.
+fn bulk_pop_limit(numbers: Option<(u64, (u64, u64))>) -> Option<Command>
+    ensures { result ≡ bulk_pop_limit_of numbers }
+{
+    let (key, (value, count)) = numbers?;
+    Some(Command::BulkPopLimit {
+        limit: Pair { key, value },
+        count,
+    })
+}
+
+/// The command of this name on many records, but for `bulk`, whose further fields are those of the
+/// rest.
+fn read_many(name: &[u8], rest: &[u8]) -> Option<Command>
+    ensures { result ≡ many_of name.now (fields_of rest.now) }
+{
+    if name == b"gen".as_slice() {
+        return generate(two_numbers(rest));
     }
-    match line.strip_prefix(b"push ".as_slice()) {
-        None => None,
-        Some(text) => push_fields(text),
+    if name == b"bulk_pop".as_slice() {
+        return bulk_pop(one_number(rest));
     }
+    if name == b"bulk_pop_limit".as_slice() {
+        return bulk_pop_limit(three_numbers(rest));
+    }
+    if name == b"drain".as_slice() {
+        return drain(one_number(rest));
+    }
+    None
+}
+
+/// The command of this name, but for `bulk`, whose further fields are those of the rest.
+pub fn read_command(name: &[u8], rest: &[u8]) -> Option<Command>
+    ensures { result ≡ command_of name.now (fields_of rest.now) }
+{
+    if name == b"push".as_slice() {
+        return push(two_numbers(rest));
+    }
+    if name == b"pop".as_slice() {
+        return alone(Command::Pop, rest);
+    }
+    if name == b"top".as_slice() {
+        return alone(Command::Top, rest);
+    }
+    if name == b"size".as_slice() {
+        return alone(Command::Size, rest);
+    }
+    read_many(name, rest)
 }

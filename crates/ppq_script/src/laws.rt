@@ -2,10 +2,12 @@
 ghost use Rattle.ppq_script.specs.Meaning.{LinesMean};
 
 /// The law of the grammar, as a clause for the proof of whoever calls it, and for a reader. A number
-/// is 1 to 20 decimal digits of a value that fits in 64 bits. A line is a command exactly where it is
-/// spelled as that command. A script is cut at its line feeds, and its last line may lack one. The
-/// first bad line is the least number of a line that is spelled as no command, and the commands are
-/// those of the lines before it, in order. It does nothing.
+/// is 1 to 20 decimal digits of a value that fits in 64 bits. A script is cut at its line feeds, and
+/// its last line may lack one; a carriage return at the end of a line is dropped. Fields are parted
+/// by spaces. A line is skipped exactly where it has no field or its first one begins with `#`, and a
+/// command exactly where it is spelled as that command. The first bad line is the least number of a
+/// line that is neither, or that names a file that cannot be used. The commands are those of the
+/// lines before the first that is bad whatever the files are, in order. It does nothing.
 #[inline]
 pub fn lines_mean()
     ensures { LinesMean }

@@ -4,15 +4,19 @@
 //! script is read before anything runs, so a bad line costs nothing but its report.
 #![tactic(auto)]
 
+mod check;
 mod command;
 mod digits;
+mod fields;
 mod laws;
+mod line;
 mod numbered;
 mod reader;
 mod script;
 #[cfg(test)]
 mod tests;
 
+pub use check::{CheckFault, check_files};
 pub use command::Command;
 pub use digits::number;
 pub use laws::lines_mean;

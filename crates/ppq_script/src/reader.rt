@@ -1,34 +1,89 @@
 //! Reads a script.
-ghost use Rattle.std.specs.Prelude.{◌≡◌, ◌≤◌, ◌<◌, ◌∷◌, length, IfOk};
-ghost use Rattle.ppq_script.specs.Lines.{lines_of, numbered_of, first_bad};
+ghost use Rattle.std.specs.Prelude.{◌≡◌, ◌≤◌, ◌<◌, ◌^◌, ◌∷◌, ◌++◌, [], ℕ, Bool, List, false, length, map, string_bytes, IfOk, OnOk, IsTrue, IsFalse};
+ghost use Rattle.ppq_script.specs.Lines.{lines_of, kind_of, Bad, numbered_of, names_of, first_bad, first_bad_by};
+ghost use Rattle.ppq_script.specs.Taken.{IsTaken};
+ghost use Rattle.ppq_script.specs.declared.command.Command.TheVariants.{Bulk};
+ghost use Rattle.ppq_script.specs.Checking.{bad_of};
 
-use crate::command::{place_of, read_line};
-use crate::{Numbered, Script};
+use crate::fields::place_of;
+use crate::line::{Line, read_line};
+use crate::{Command, Numbered, Script};
 use ppq_record::Memory;
 use std::alloc::Global;
 
 /// Reads a script of at most 1,048,576 bytes for so many workers: the commands before its first
 /// bad line, with their lines, and that line. It costs time linear in the bytes; the answer is an
-/// error only where memory for the commands is wanting.
+/// error only where memory for the commands and the names of files is wanting.
+///
+/// The first bad line is here one by the lines alone; `check_files` looks for the files. Until then
+/// the script is not checked, and each command has length 0 for its file.
 pub fn read(alloc: Global, bytes: &[u8], workers: u32) -> Result<Script, Memory>
     requires { length bytes.now ≤ 1_048_576 }
     ensures commands { IfOk result (λ script. script.commands ≡ numbered_of 1 (lines_of bytes.now)) }
+    ensures names { IfOk result (λ script. script.names ≡ names_of (lines_of bytes.now)) }
     ensures bad { IfOk result (λ script. script.bad ≡ first_bad 1 (lines_of bytes.now)) }
     ensures workers { IfOk result (λ script. script.workers ≡ workers) }
+    ensures unchecked { IfOk result (λ script. script.checked ≡ false) }
+    ensures files { IfOk result (λ script. (usable : List ℕ → Bool) → bad_of usable script ≡ first_bad_by usable 1 (lines_of bytes.now)) }
 {
     let mut commands = Vec::new(alloc);
+    let mut names = Vec::new(alloc);
     let mut rest = bytes;
     let mut line: u32 = 1;
     while !rest.is_empty() {
         let (text, after) = cut_line(rest);
-        let Some(command) = read_line(text) else {
-            return Ok(Script::from_parts(commands, Some(line), workers));
-        };
-        commands.push(Numbered { line, command })?;
+        if !take_line(alloc, &mut commands, &mut names, line, text)? {
+            return Ok(Script::from_parts(commands, Some(line), names, workers));
+        }
         line += 1;
         rest = after;
     }
-    Ok(Script::from_parts(commands, None, workers))
+    Ok(Script::from_parts(commands, None, names, workers))
+}
+
+/// Keeps what a line has, and says whether it is a good one.
+fn take_line(
+    alloc: Global,
+    commands: &mut Vec<Numbered>,
+    names: &mut Vec<String>,
+    line: u32,
+    text: &[u8],
+) -> Result<bool, Memory>
+    requires { length names.old.items < 2 ^ 32 }
+    ensures good { IfOk result (λ good. IsTrue good → IsTaken line (kind_of text.now) commands.old.items (map string_bytes names.old.items) commands.new.items (map string_bytes names.new.items)) }
+    ensures bad { IfOk result (λ good. IsFalse good → (kind_of text.now ≡ Bad) × ((commands.new.items ≡ commands.old.items) × (names.new.items ≡ names.old.items))) }
+{
+    match read_line(text) {
+        Line::Skipped => Ok(true),
+        Line::Plain { command } => {
+            commands.push(Numbered { line, command })?;
+            Ok(true)
+        }
+        Line::OfFile { name } => {
+            keep_file(alloc, commands, names, line, name)?;
+            Ok(true)
+        }
+        Line::Bad => Ok(false),
+    }
+}
+
+/// Keeps a file's name, and the command that names it.
+fn keep_file(
+    alloc: Global,
+    commands: &mut Vec<Numbered>,
+    names: &mut Vec<String>,
+    line: u32,
+    name: &str,
+) -> Result<(), Memory>
+    requires { length names.old.items < 2 ^ 32 }
+    ensures commands { OnOk result (commands.new.items ≡ commands.old.items ++ record { line = line; command = Bulk (length names.old.items) 0 } ∷ []) }
+    ensures known { OnOk result (map string_bytes names.new.items ≡ map string_bytes names.old.items ++ name.now ∷ []) }
+{
+    let file = names.len() as u32;
+    names.push(name.to_string(alloc)?)?;
+    let command = Command::Bulk { file, length: 0 };
+    commands.push(Numbered { line, command })?;
+    Ok(())
 }
 
 /// The first line without its line feed, and what stands behind it.

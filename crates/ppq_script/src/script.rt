@@ -1,49 +1,73 @@
 //! A script as a list of commands.
-ghost use Rattle.std.specs.Prelude.{◌≡◌, ◌<◌, length, Some, slice_get, nat_eq};
+ghost use Rattle.std.specs.Prelude.{◌≡◌, ◌≤◌, ◌<◌, false, IsTrue, is_ok, OnOk, IfErr, IsErrOf, length, map, string_bytes, None, Some, All, slice_get, nat_eq};
+ghost use Rattle.ppq_script.specs.Files.{NamesFile, HasRecords, IsLength, name_at};
+ghost use Rattle.std.specs.List.{AllZip};
+ghost use Rattle.ppq_outside.specs.Told.{Rose, Remembers, RepliesOnly};
+ghost use Rattle.ppq_script.specs.Reading.{IsReady};
+ghost use Rattle.ppq_script.specs.Checking.{IsCheckRefusal, IsAsked, IsSameScript, StaysUnlessRead};
+ghost use Rattle.ppq_script.specs.declared.check.CheckFault.TheVariants.{ReadFault};
 
-use crate::{Command, Numbered};
+use crate::check::ask_all;
+use crate::{CheckFault, Command, Numbered};
+use ppq_outside::{Host, Library};
+use std::alloc::Global;
 use std::marker::Model;
 
-/// The commands before the first bad line, and that line, as `read` found them.
+/// The commands before the first bad line, and that line, as `read` found them, and the names of
+/// the files. After `check_files` it has the files' lengths.
 #[derive(Drop)]
 pub struct Script {
     commands: Vec<Numbered>,
     bad: Option<u32>,
+    /// The names of the files, by the number that commands have for them.
+    names: Vec<String>,
     workers: u32,
+    /// Whether the last check of the files answered Ok.
+    checked: bool,
 }
 
 impl Model for Script {
+    ghost use Rattle.std.specs.Prelude.{◌≡◌, true, None, length, map, string_bytes, All};
+    ghost use Rattle.ppq_script.specs.Files.{NamesFile, HasRecords};
     ghost use Rattle.ppq_script.specs.Reading.{Reading};
 
     ghost Value = { Reading };
 
-    ghost view = { λ s. record { commands = s.commands.items; bad = s.bad; workers = s.workers } };
+    ghost view = { λ s. record { commands = s.commands.items; bad = s.bad; names = map string_bytes s.names.items; workers = s.workers; checked = s.checked } };
+
+    ghost invariant = { λ s. record { files : All (λ n. NamesFile (length s.names.items) n.command) s.commands.items; good : s.checked ≡ true → s.bad ≡ None; lengths : s.checked ≡ true → All (λ n. HasRecords n.command) s.commands.items } };
 }
 
 impl Script {
     ghost use Rattle.ppq_script.specs.Reading.{command_list, line_list};
 
-    /// A script of these parts.
-    pub(crate) fn from_parts(commands: Vec<Numbered>, bad: Option<u32>, workers: u32) -> Script
-        ensures commands { result.commands ≡ commands.items }
-        ensures bad { result.bad ≡ bad }
-        ensures workers { result.workers ≡ workers }
+    /// A script of these parts, which is not checked.
+    pub(crate) fn from_parts(
+        commands: Vec<Numbered>,
+        bad: Option<u32>,
+        names: Vec<String>,
+        workers: u32,
+    ) -> Script
+        requires { All (λ n. NamesFile (length names.items) n.command) commands.items }
+        ensures { result ≡ record { commands = commands.items; bad = bad; names = map string_bytes names.items; workers = workers; checked = false } }
     {
         Script {
             commands,
             bad,
+            names,
             workers,
+            checked: false,
         }
     }
 
-    /// The number of the first bad line, from 1, if there is one.
+    /// The number of the first line, from 1, that is bad whatever the files are, if there is one.
     pub fn bad(&self) -> Option<u32>
         ensures { result ≡ self.now.bad }
     {
         self.bad
     }
 
-    /// How many commands stand before the first bad line.
+    /// How many commands stand before that line.
     #[inline]
     pub fn len(&self) -> usize
         ensures { result ≡ length self.now.commands }
@@ -59,10 +83,15 @@ impl Script {
     }
 
     /// The command at a place, from 0. It costs one copy.
+    ///
+    /// A file that it names is one of the script's, and in a checked script the file's length is a
+    /// multiple of 16 and at most 68,719,476,736.
     #[inline]
     pub fn at(&self, i: usize) -> Command
         requires { i < length self.now.commands }
-        ensures { slice_get (command_list self.now) i ≡ Some result }
+        ensures command { slice_get (command_list self.now) i ≡ Some result }
+        ensures file { NamesFile (length self.now.names) result }
+        ensures records { IsTrue self.now.checked → HasRecords result }
     {
         self.commands[i].command
     }
@@ -75,10 +104,61 @@ impl Script {
         self.commands[i].line
     }
 
+    /// The name of a file that a command of the script names, by its number there.
+    pub fn name(&self, file: u32) -> &str
+        requires { file < length self.now.names }
+        ensures { result.now ≡ name_at self.now.names file }
+    {
+        self.names[file as usize].as_str()
+    }
+
     /// The number of workers with which the script was read.
     pub fn workers(&self) -> u32
         ensures { result ≡ self.now.workers }
     {
         self.workers
+    }
+
+    /// Whether the last `check_files` on it answered Ok; it is false after `read`. Then no line is
+    /// bad, and each command's file has the length of a record file, whatever the library said.
+    pub fn checked(&self) -> bool
+        ensures checked { result ≡ self.now.checked }
+        ensures ready { IsTrue result → IsReady self.now }
+    {
+        self.checked
+    }
+
+    /// Asks a library the length of each file and keeps it, as `check_files` does.
+    pub(crate) fn ask_lengths<H: Host, L: Library>(
+        &mut self,
+        rt: &H,
+        alloc: Global,
+        library: &mut L,
+    ) -> Result<(), CheckFault>
+        ensures asked { OnOk result (AllZip (IsAsked (L.replied library.new) self.old.names) self.old.commands self.new.commands) }
+        ensures refused { IfErr result (IsCheckRefusal (L.replied library.new) self.old) }
+        ensures checked { self.new.checked ≡ is_ok result }
+        ensures good { OnOk result (self.old.bad ≡ None) }
+        ensures same { IsSameScript self.old self.new }
+        ensures read { IsErrOf result ReadFault → Rose (L.faults library.old) (L.faults library.new) }
+        ensures remembers { Remembers (L.replied library.old) (L.replied library.new) }
+        ensures asks { RepliesOnly (L.replied library.old) (L.replied library.new) IsLength }
+        ensures kept { L.told library.new ≡ L.told library.old }
+        ensures later { L.faults library.old ≤ L.faults library.new }
+        ensures stays { OnOk result (L.faults library.new ≡ L.faults library.old) }
+        ensures unless { IfErr result (StaysUnlessRead (L.faults library.old) (L.faults library.new)) }
+    {
+        self.checked = false;
+        match ask_all(rt, alloc, &self.names, &mut self.commands, library) {
+            Ok(()) => {}
+            Err(fault) => return Err(fault),
+        }
+        match self.bad {
+            Some(line) => Err(CheckFault::BadLine { line }),
+            None => {
+                self.checked = true;
+                Ok(())
+            }
+        }
     }
 }

@@ -1,6 +1,10 @@
 //! Scripts read from their bytes.
-use crate::{Command, lines_mean, read};
-use ppq_record::Pair;
+ghost use Rattle.std.specs.Prelude.{◌≤◌, ◌<◌, length};
+
+use crate::{CheckFault, Command, Script, check_files, lines_mean, read};
+use ppq_outside::{Host, Library, MemLibrary};
+use ppq_record::{Memory, Pair};
+use std::alloc::Global;
 use std::test::Fail;
 
 /// The command that pushes this key and this value.
@@ -49,12 +53,52 @@ fn good_lines(rt: HostRuntime) -> Result<(), Fail> {
         (b"push 5 1\n".as_slice(), push(5, 1)),
         (b"push 5 1".as_slice(), push(5, 1)),
         (b"push 0 0\n".as_slice(), push(0, 0)),
+        (b"pop\r\n".as_slice(), Command::Pop),
+        (b"pop\r".as_slice(), Command::Pop),
+        (b" pop\n".as_slice(), Command::Pop),
+        (b"pop \r\n".as_slice(), Command::Pop),
+        (b"  size   ".as_slice(), Command::Size),
+        (b"push  1   2\n".as_slice(), push(1, 2)),
+        (b"   push 1 2 \r\n".as_slice(), push(1, 2)),
         (b"push 00000000000000000007 1\n".as_slice(), push(7, 1)),
         (b"push 1 00000000000000000007\n".as_slice(), push(1, 7)),
         (
             b"push 18446744073709551615 18446744073709551614\n".as_slice(),
             push(18446744073709551615, 18446744073709551614),
         ),
+        (b"bulk f".as_slice(), Command::Bulk { file: 0, length: 0 }),
+        (
+            b" bulk  !~/#\r\n".as_slice(),
+            Command::Bulk { file: 0, length: 0 },
+        ),
+        (
+            b"gen 7 4294967296".as_slice(),
+            Command::Gen {
+                seed: 7,
+                count: 4294967296,
+            },
+        ),
+        (
+            b"gen 18446744073709551615 0\n".as_slice(),
+            Command::Gen {
+                seed: 18446744073709551615,
+                count: 0,
+            },
+        ),
+        (
+            b"bulk_pop 18446744073709551615".as_slice(),
+            Command::BulkPop {
+                count: 18446744073709551615,
+            },
+        ),
+        (
+            b"bulk_pop_limit 1 2 3\n".as_slice(),
+            Command::BulkPopLimit {
+                limit: Pair { key: 1, value: 2 },
+                count: 3,
+            },
+        ),
+        (b"drain 9\n".as_slice(), Command::Drain { count: 9 }),
     ];
     for (text, command) in cases {
         assert!(rt; text.len() < 100);
@@ -70,22 +114,18 @@ fn good_lines(rt: HostRuntime) -> Result<(), Fail> {
 #[test]
 fn bad_lines(rt: HostRuntime) -> Result<(), Fail> {
     let cases = [
-        b"\n".as_slice(),
-        b" \n".as_slice(),
-        b"# a comment\n".as_slice(),
-        b"pop \n".as_slice(),
-        b" pop\n".as_slice(),
-        b"pop\r\n".as_slice(),
-        b"pop\r".as_slice(),
+        b"\r\r\n".as_slice(),
+        b"\t\n".as_slice(),
+        b"\t# no comment\n".as_slice(),
+        b"pop # no comment\n".as_slice(),
+        b"pop\r\r\n".as_slice(),
+        b"pop\r\r".as_slice(),
+        b"pop\r \n".as_slice(),
+        b"\rpop\n".as_slice(),
         b"pops\n".as_slice(),
         b"POP\n".as_slice(),
-        b"top \n".as_slice(),
-        b" top\n".as_slice(),
         b"top 1\n".as_slice(),
         b"tops\n".as_slice(),
-        b"TOP\n".as_slice(),
-        b"size \n".as_slice(),
-        b" size\n".as_slice(),
         b"size 1\n".as_slice(),
         b"sized\n".as_slice(),
         b"push\n".as_slice(),
@@ -94,14 +134,10 @@ fn bad_lines(rt: HostRuntime) -> Result<(), Fail> {
         b"push 1 \n".as_slice(),
         b"push  1\n".as_slice(),
         b"push 1 2 3\n".as_slice(),
-        b"push 1 2 \n".as_slice(),
-        b"push 1  2\n".as_slice(),
-        b"push  1 2\n".as_slice(),
-        b" push 1 2\n".as_slice(),
+        b"push1 2\n".as_slice(),
         b"push\t1 2\n".as_slice(),
         b"push 1\t2\n".as_slice(),
         b"push 1 2\t\n".as_slice(),
-        b"push 1 2\r\n".as_slice(),
         b"push +1 2\n".as_slice(),
         b"push -1 2\n".as_slice(),
         b"push 1 +2\n".as_slice(),
@@ -112,6 +148,24 @@ fn bad_lines(rt: HostRuntime) -> Result<(), Fail> {
         b"push 18446744073709551616 0\n".as_slice(),
         b"push 0 18446744073709551616\n".as_slice(),
         b"push 99999999999999999999 0\n".as_slice(),
+        b"bulk\n".as_slice(),
+        b"bulk f g\n".as_slice(),
+        b"bulk \tf\n".as_slice(),
+        b"bulk \x7f\n".as_slice(),
+        b"bulk \xc3\xa4\n".as_slice(),
+        b"gen 1\n".as_slice(),
+        b"gen 1 2 3\n".as_slice(),
+        b"gen 1 4294967297\n".as_slice(),
+        b"bulk_pop\n".as_slice(),
+        b"bulk_pop 1 2\n".as_slice(),
+        b"bulk_pop -1\n".as_slice(),
+        b"bulk_pop_limit 1 2\n".as_slice(),
+        b"bulk_pop_limit 1 2 3 4\n".as_slice(),
+        b"drain\n".as_slice(),
+        b"drain x\n".as_slice(),
+        b"bulk_begin\n".as_slice(),
+        b"bulk_end\n".as_slice(),
+        b"limit_begin 1 2\n".as_slice(),
     ];
     for text in cases {
         assert!(rt; text.len() < 100);
@@ -123,12 +177,47 @@ fn bad_lines(rt: HostRuntime) -> Result<(), Fail> {
 }
 
 #[test]
+fn blank_lines_and_comments_are_skipped(rt: HostRuntime) -> Result<(), Fail> {
+    let cases = [
+        b"\n".as_slice(),
+        b"\r\n".as_slice(),
+        b" ".as_slice(),
+        b"   \r\n".as_slice(),
+        b"#".as_slice(),
+        b"# a comment\n".as_slice(),
+        b"  #pop\r\n".as_slice(),
+        b"#\tx\n".as_slice(),
+        b"#x\n\n   \n".as_slice(),
+    ];
+    for text in cases {
+        assert!(rt; text.len() < 100);
+        let script = read(rt.alloc(), text, 1)?;
+        assert_eq!(rt; script.bad(), None);
+        assert!(rt; script.is_empty());
+    }
+    Ok(())
+}
+
+#[test]
+fn every_line_counts(rt: HostRuntime) -> Result<(), Fail> {
+    let script = read(rt.alloc(), b"#x\n\npush 1 2\r\n  \n  pop  \r\n", 1)?;
+    assert_eq!(rt; script.bad(), None);
+    assert_eq!(rt; script.len(), 2);
+    assert_eq!(rt; script.at(0), push(1, 2));
+    assert_eq!(rt; script.at(1), Command::Pop);
+    assert_eq!(rt; script.line(0), 3);
+    assert_eq!(rt; script.line(1), 5);
+    Ok(())
+}
+
+#[test]
 fn names_the_first_bad_line(rt: HostRuntime) -> Result<(), Fail> {
     let cases = [
         (b"push 5 1\npop\npop\npush x 1".as_slice(), 4, 3),
         (b"pop\npush 18446744073709551616 0".as_slice(), 2, 1),
         (b"pop\nx\ny\npop\n".as_slice(), 2, 1),
-        (b"pop\npop\n\n".as_slice(), 3, 2),
+        (b"pop\npop\n\nx".as_slice(), 4, 2),
+        (b"#\n\n  pop\n \t\n".as_slice(), 4, 1),
     ];
     for (text, bad, before) in cases {
         assert!(rt; text.len() < 100);
@@ -151,5 +240,136 @@ fn reads_a_script_of_the_greatest_length(rt: HostRuntime) -> Result<(), Fail> {
     assert_eq!(rt; script.len(), 262_144);
     assert_eq!(rt; script.at(262_143), Command::Pop);
     assert_eq!(rt; script.line(262_143), 262_144);
+    Ok(())
+}
+
+/// Reads a script of these bytes and checks its files, of which `e` is empty, `f` has two records,
+/// and `odd` has 33 bytes.
+fn checked<H: Host>(
+    rt: &H,
+    alloc: Global,
+    text: &[u8],
+) -> Result<(Script, Result<(), CheckFault>), Memory>
+    requires { length text.now ≤ 1_048_576 }
+{
+    let mut library = MemLibrary::new(alloc);
+    let Ok(()) = library.add(alloc, "e", b"") else {
+        return Err(Memory);
+    };
+    let Ok(()) = library.add(alloc, "f", b"0000000000000000ffffffffffffffff") else {
+        return Err(Memory);
+    };
+    let Ok(()) = library.add(alloc, "odd", b"0123456789abcdef0123456789abcdefx") else {
+        return Err(Memory);
+    };
+    let mut script = read(alloc, text, 1)?;
+    let answer = check_files(rt, alloc, &mut script, &mut library);
+    Ok((script, answer))
+}
+
+/// The name of the file of a command, and none for a command that names no file.
+fn file_name(script: &Script, i: usize) -> Option<&str>
+    requires { i < length script.now.commands }
+{
+    match script.at(i) {
+        Command::Bulk { file, .. } => Some(script.name(file)),
+        _ => None,
+    }
+}
+
+#[test]
+fn keeps_the_names_of_files(rt: HostRuntime) -> Result<(), Fail> {
+    let script = read(rt.alloc(), b"bulk f\n\npop\nbulk g\nbulk f\n", 1)?;
+    assert_eq!(rt; script.bad(), None);
+    assert!(rt; !script.checked());
+    assert_eq!(rt; script.len(), 4);
+    assert_eq!(rt; file_name(&script, 0), Some("f"));
+    assert_eq!(rt; file_name(&script, 1), None);
+    assert_eq!(rt; file_name(&script, 2), Some("g"));
+    assert_eq!(rt; file_name(&script, 3), Some("f"));
+    Ok(())
+}
+
+#[test]
+fn a_name_has_at_most_255_bytes(rt: HostRuntime) -> Result<(), Fail> {
+    for (extra, bad) in [(250, None), (251, Some(1))] {
+        let mut text = Vec::with_capacity(rt.alloc(), 300)?;
+        text.extend_from_slice(b"bulk name/")?;
+        for _ in 0..extra {
+            text.extend_from_slice(b"x")?;
+        }
+        assert!(rt; text.len() < 300);
+        let script = read(rt.alloc(), &text, 1)?;
+        assert_eq!(rt; script.bad(), bad);
+    }
+    Ok(())
+}
+
+#[test]
+fn keeps_the_lengths_of_files(rt: HostRuntime) -> Result<(), Fail> {
+    let (script, answer) = checked(&rt, rt.alloc(), b"bulk f\npop\nbulk e\n")?;
+    assert_eq!(rt; answer, Ok(()));
+    assert!(rt; script.checked());
+    assert_eq!(rt; script.len(), 3);
+    assert_eq!(rt;
+        script.at(0),
+        Command::Bulk {
+            file: 0,
+            length: 32
+        }
+    );
+    assert_eq!(rt; script.at(1), Command::Pop);
+    assert_eq!(rt; script.at(2), Command::Bulk { file: 1, length: 0 });
+    Ok(())
+}
+
+#[test]
+fn names_the_first_bad_line_by_lines_and_files(rt: HostRuntime) -> Result<(), Fail> {
+    let cases = [
+        (b"bulk e\n".as_slice(), Ok(())),
+        (b"".as_slice(), Ok(())),
+        (
+            b"bulk odd\n".as_slice(),
+            Err(CheckFault::BadLine { line: 1 }),
+        ),
+        (
+            b"bulk absent\n".as_slice(),
+            Err(CheckFault::BadLine { line: 1 }),
+        ),
+        (
+            b"bulk f\nbulk absent\npush\n".as_slice(),
+            Err(CheckFault::BadLine { line: 2 }),
+        ),
+        (
+            b"push\nbulk f\nbulk absent\n".as_slice(),
+            Err(CheckFault::BadLine { line: 1 }),
+        ),
+        (
+            b"#\nbulk f\npop 1\nbulk absent\n".as_slice(),
+            Err(CheckFault::BadLine { line: 3 }),
+        ),
+    ];
+    for (text, expected) in cases {
+        assert!(rt; text.len() < 100);
+        let (script, answer) = checked(&rt, rt.alloc(), text)?;
+        assert_eq!(rt; answer, expected);
+        assert_eq!(rt; script.checked(), expected.is_ok());
+    }
+    Ok(())
+}
+
+#[test]
+fn a_failed_call_is_a_read_fault(rt: HostRuntime) -> Result<(), Fail> {
+    let alloc = rt.alloc();
+    let mut library = MemLibrary::new(alloc);
+    library.add(alloc, "f", b"")?;
+    library.fail_call(2)?;
+    let mut script = read(alloc, b"bulk f\nbulk f\npush\n", 1)?;
+    let answer = check_files(&rt, alloc, &mut script, &mut library);
+    assert_eq!(rt; answer, Err(CheckFault::ReadFault));
+    assert_eq!(rt; library.faults(), 1);
+    assert!(rt; !script.checked());
+    let answer = check_files(&rt, alloc, &mut script, &mut library);
+    assert_eq!(rt; answer, Err(CheckFault::BadLine { line: 3 }));
     Ok(())
 }

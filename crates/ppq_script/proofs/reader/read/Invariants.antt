@@ -1,12 +1,14 @@
-use Rattle.std.proofs.Common.{◌≡◌, ◌++◌, ◌+◌, ◌≤◌, length}
-use Rattle.ppq_script.specs.Lines.{lines_of, numbered_of, first_bad}
+use Rattle.std.proofs.Common.{◌+◌, ◌≤◌, length, map}
+use Rattle.std.specs.Prelude.{string_bytes}
+use Rattle.ppq_script.proofs.Takings.{Fronts}
 use Rattle.ppq_script.proofs.reader.read.Given as goal
 
 abbrev pub invariant-loop-rest : goal.invariant-loop-rest
-invariant-loop-rest l =
-    (numbered_of 1 (lines_of l.fn.bytes) ≡ l.commands.items ++ numbered_of l.line (lines_of l.rest))
-    × (first_bad 1 (lines_of l.fn.bytes) ≡ first_bad l.line (lines_of l.rest))
-    × (l.line + length l.rest ≤ 1048577)
+invariant-loop-rest l = record {
+  fronts : Fronts l.fn.bytes l.line l.rest l.commands.items (map string_bytes l.names.items);
+  long : l.line + length l.rest ≤ 1048577;
+  few : length l.names.items ≤ l.line;
+}
 
 abbrev pub decreases-loop-rest : goal.decreases-loop-rest
 decreases-loop-rest l = length l.rest

@@ -1,0 +1,352 @@
+-- How the end of a run follows from those of its parts: of loading the script, and of running it over a device.
+use Rattle.std.proofs.Common.{◌≡◌, ℕ, ◌<◌, ◌≤◌, List, [], length, Option, Some, None, refl, sym, ap, ◌∙◌, subst, arith, inl, inr}
+use Rattle.std.specs.Prelude.{◌⊎◌, Bool, true, false, if◌then◌else◌, nat_lt, IfSome, MatchOption, map}
+use Rattle.std.proofs.lemmas.List.Sorted.{IsPermutation-refl}
+use Rattle.std.proofs.lemmas.Bool.{cases_lt, lt-ltb, le-ltb}
+use Rattle.ppq_record.specs.declared.pair.Pair.{Pair}
+use Rattle.ppq_record.specs.Given.{records_of}
+use Rattle.ppq_outside.specs.Shown.{Shown, AllTell}
+use Rattle.ppq_outside.specs.Told.{Reply, Remembers, TakesAll, TakesPart, bytes_or_none}
+use Rattle.ppq_budget.specs.Sizes.{Numbers, fixed_of}
+use Rattle.ppq_array.specs.Kept.{HasFailed}
+use Rattle.ppq_script.specs.declared.command.Command.{Command}
+use Rattle.ppq_script.specs.declared.numbered.Numbered.{Numbered}
+use Rattle.ppq_script.specs.Files.{name_at, is_usable}
+use Rattle.ppq_script.specs.Lines.{lines_of, names_of, numbered_of, first_bad_by}
+use Rattle.ppq_script.specs.Checking.{with_sizes}
+use Rattle.ppq_script.specs.Reading.{Reading, command_list}
+use Rattle.ppq_engine.specs.Loads.{most_of, least_of, HasRoom, IsTooMuch, FitsWritten}
+use Rattle.ppq_engine.specs.Output.{AreFilesOf, KeepsLengths, given_of, output_of, load_of, crest_of, TakesWithin}
+use Rattle.ppq_engine.specs.Running.{HasChanged}
+use Rattle.ppq_engine.specs.Outcome.{TakesBeforeFile, FaultBeforeFile}
+use Rattle.ppq_engine.specs.Ends.{budget_refusal, IsRun, IsRunOrRefusal, IsCompleted, NoneFailed}
+use Rattle.ppq_engine.specs.declared.end.End.{End}
+use Rattle.ppq_engine.specs.declared.end.End.TheVariants.{Done, BadLine, Usage, ReadFault, WriteFault, DeviceFault, NoFreeBlock, BudgetTooSmall, Memory, FileChanged, NoDevice, NoScript, ScriptTooLong}
+use Rattle.ppq_engine.proofs.Lengths.{keeps_lengths}
+use Rattle.ppq_cli.proofs.Given.{script_remembered}
+use Rattle.ppq_cli.specs.declared.load.LoadFault.{LoadFault}
+use Rattle.ppq_cli.specs.declared.load.LoadFault.TheVariants as load
+use Rattle.ppq_cli.specs.Load.{Refuses, IsNotLoaded, load_end, HasBadLine}
+use Rattle.ppq_cli.specs.Words.{refusal_of_bad, refusal_of_file, script_commands, script_given, IsTried, IsGivenUp, MayWrite, IsAnswer, IsTriedOrRefusal, OfFile}
+use Rattle.ppq_cli.specs.Device.{IsSurelyRun, AreBlocks}
+use Rattle.ppq_cli.specs.Replies.{IsUnloaded, IsScript, OfGood, OfRun, IsRefusal, IsRunOf, ForFiles, HasRunPart, HasRunToFile, FaultToFile}
+
+-- what follows of the value follows where there is one
+pub some_more : {X : Type 0} (o : Option X) (P Q : X → Type 0) → ((x : X) → P x → Q x) → IfSome o P → IfSome o Q
+some_more None P Q more is = tt
+some_more (Some x) P Q more is = more x is
+
+-- the three ways of a script that was loaded: its budget is too small, it was tried, or memory was wanting
+abbrev Ways : Numbers → End → Type 0
+Ways sizes end = ((sizes.memory < fixed_of sizes) × (end ≡ BudgetTooSmall (fixed_of sizes))) ⊎ (((fixed_of sizes ≤ sizes.memory) × IsTried end) ⊎ (end ≡ Memory))
+
+ways_by : (small : Bool) (sizes : Numbers) (end : End) → (small ≡ true → sizes.memory < fixed_of sizes) → (small ≡ false → fixed_of sizes ≤ sizes.memory)
+    → MatchOption (if small then Some (BudgetTooSmall (fixed_of sizes)) else None) (IsTried end) (λ e. end ≡ e) ⊎ (end ≡ Memory) → Ways sizes end
+ways_by true sizes end below enough (inl is) = inl (below refl, is)
+ways_by true sizes end below enough (inr memory) = inr (inr memory)
+ways_by false sizes end below enough (inl tried) = inr (inl (enough refl, tried))
+ways_by false sizes end below enough (inr memory) = inr (inr memory)
+
+ltb_false : (a b : ℕ) → nat_lt a b ≡ false → b ≤ a
+ltb_false a b is = elim (cases_lt a b) as (λ _. b ≤ a) [
+  | inl h ↦ let e : true ≡ false = sym (lt-ltb a b h) ∙ is in cc
+  | inr h ↦ h
+]
+
+ltb_true : (a b : ℕ) → nat_lt a b ≡ true → a < b
+ltb_true a b is = elim (cases_lt a b) as (λ _. a < b) [
+  | inl h ↦ h
+  | inr h ↦ let e : false ≡ true = sym (le-ltb a b h) ∙ is in cc
+]
+
+ways : (sizes : Numbers) (end : End) → IsTriedOrRefusal (budget_refusal sizes) end → Ways sizes end
+ways sizes end answer = ways_by (nat_lt sizes.memory (fixed_of sizes)) sizes end (ltb_true sizes.memory (fixed_of sizes)) (ltb_false sizes.memory (fixed_of sizes)) answer
+
+-- a script that was run has a budget that is large enough
+reaches : (sizes : Numbers) (end : End) → IsRun end → Ways sizes end → fixed_of sizes ≤ sizes.memory
+reaches sizes end run (inl (h, is)) = absurd (subst IsRun is run)
+reaches sizes end run (inr (inl (h, tried))) = h
+reaches sizes end run (inr (inr is)) = absurd (subst IsRun is run)
+
+module _ (told : Option (List ℕ → Option (List ℕ))) (replied : Reply → Type 0) (name : List ℕ) (sizes : Numbers) where
+  run_refuses : (end : End) → IsRun end → ((line said got : ℕ) → end ≡ FileChanged line said got → IsRefusal told replied name sizes (FileChanged line said got)) → IsRefusal told replied name sizes end
+  run_refuses Done run changed = tt
+  run_refuses (BadLine line) run changed = absurd run
+  run_refuses Usage run changed = absurd run
+  run_refuses ReadFault run changed = tt
+  run_refuses WriteFault run changed = tt
+  run_refuses (DeviceFault number) run changed = tt
+  run_refuses NoFreeBlock run changed = tt
+  run_refuses (BudgetTooSmall need) run changed = absurd run
+  run_refuses Memory run changed = tt
+  run_refuses (FileChanged line said got) run changed = changed line said got refl
+  run_refuses NoDevice run changed = absurd run
+  run_refuses NoScript run changed = absurd run
+  run_refuses ScriptTooLong run changed = absurd run
+
+  -- a script that was loaded is refused for its budget, its device, or a file that had changed
+  pub loaded_refusal :
+      (script : Reading) (end : End) → IsScript told replied name sizes.workers script → IsTriedOrRefusal (budget_refusal sizes) end
+      → ((line said got : ℕ) → end ≡ FileChanged line said got → HasChanged told replied script line said got) → IsRefusal told replied name sizes end
+  loaded_refusal script end is answer changed =
+      let good : OfGood told replied name sizes (λ script. Unit {0}) = (script, (is, tt)) in
+      let P : End → Type 0 = λ e. IsRefusal told replied name sizes e in
+      elim (ways sizes end answer) as (λ _. IsRefusal told replied name sizes end) [
+        | inl (h, e) ↦ subst P (sym e) ((h, refl), good)
+        | inr (inl (h, inl run)) ↦ run_refuses end run (λ line said got e. inr (h, (script, (is, changed line said got e))))
+        | inr (inl (h, inr e)) ↦ subst P (sym e) (h, good)
+        | inr (inr e) ↦ subst P (sym e) tt
+      ]
+
+  -- one that was not loaded for what the library replied of it
+  pub unloaded_refusal : (fault : LoadFault) → IsUnloaded told replied name fault → IsRefusal told replied name sizes (load_end fault)
+  unloaded_refusal load.ReadFault is = tt
+  unloaded_refusal load.Memory is = tt
+  unloaded_refusal load.NoScript is = is
+  unloaded_refusal load.ScriptTooLong is = is
+  unloaded_refusal (load.FileChanged said got) is = inl is
+  unloaded_refusal (load.BadLine line) is = is
+
+  -- how a script that was loaded was run
+  pub loaded_run :
+      (tells : Type 0) (script : Reading) (before now : Option (List ℕ)) (blocks : List Shown) (end : End)
+      → IsScript told replied name sizes.workers script → IsTriedOrRefusal (budget_refusal sizes) end
+      → (end ≡ Done → ForFiles tells told script (λ given commands. TakesAll before now (output_of given commands)))
+      → HasRunPart tells told before now script
+      → (end ≡ NoFreeBlock → ForFiles tells told script (λ given commands. TakesWithin given before now sizes commands))
+      → (end ≡ Memory → (now ≡ before) ⊎ HasRunToFile tells told before now script) → FaultToFile tells told before now script end
+      → (end ≡ NoFreeBlock → ForFiles tells told script (λ given commands. IsTooMuch sizes (load_of given commands)))
+      → (end ≡ NoFreeBlock → IsTooMuch sizes (most_of (command_list script)))
+      → (end ≡ Done → ForFiles tells told script (λ given commands. FitsWritten (crest_of given commands) sizes blocks))
+      → (end ≡ Done → FitsWritten (least_of (command_list script)) sizes blocks) → IsRunOf tells told replied name sizes before now blocks end
+  loaded_run tells script before now blocks Done is answer done part within memory file above above_any used used_any =
+      (reaches sizes Done tt (ways sizes Done answer), (script, (is, record { took = done refl; crest = used refl; least = used_any refl })))
+  loaded_run tells script before now blocks (BadLine line) is answer done part within memory file above above_any used used_any = tt
+  loaded_run tells script before now blocks Usage is answer done part within memory file above above_any used used_any = tt
+  loaded_run tells script before now blocks ReadFault is answer done part within memory file above above_any used used_any = inr (reaches sizes ReadFault tt (ways sizes ReadFault answer), (script, (is, file)))
+  loaded_run tells script before now blocks WriteFault is answer done part within memory file above above_any used used_any = (reaches sizes WriteFault tt (ways sizes WriteFault answer), (script, (is, part)))
+  loaded_run tells script before now blocks (DeviceFault number) is answer done part within memory file above above_any used used_any = (reaches sizes (DeviceFault number) tt (ways sizes (DeviceFault number) answer), (script, (is, part)))
+  loaded_run tells script before now blocks NoFreeBlock is answer done part within memory file above above_any used used_any =
+      (reaches sizes NoFreeBlock tt (ways sizes NoFreeBlock answer), (script, (is, record { part = part; within = within refl; above = above refl; above_any = above_any refl })))
+  loaded_run tells script before now blocks (BudgetTooSmall need) is answer done part within memory file above above_any used used_any = tt
+  loaded_run tells script before now blocks Memory is answer done part within memory file above above_any used used_any =
+      elim (memory refl) as (λ _. (now ≡ before) ⊎ OfGood told replied name sizes (HasRunToFile tells told before now)) [ inl same ↦ inl same | inr ran ↦ inr (script, (is, ran)) ]
+  loaded_run tells script before now blocks (FileChanged line said got) is answer done part within memory file above above_any used used_any =
+      inr (reaches sizes (FileChanged line said got) tt (ways sizes (FileChanged line said got) answer), (script, (is, file)))
+  loaded_run tells script before now blocks NoDevice is answer done part within memory file above above_any used used_any = tt
+  loaded_run tells script before now blocks NoScript is answer done part within memory file above above_any used used_any = tt
+  loaded_run tells script before now blocks ScriptTooLong is answer done part within memory file above above_any used used_any = tt
+
+  -- and one that was not loaded was not run
+  pub unloaded_run : (tells : Type 0) (before now : Option (List ℕ)) (blocks : List Shown) (fault : LoadFault) → now ≡ before → IsRunOf tells told replied name sizes before now blocks (load_end fault)
+  unloaded_run tells before now blocks load.ReadFault same = inl same
+  unloaded_run tells before now blocks load.Memory same = inl same
+  unloaded_run tells before now blocks load.NoScript same = tt
+  unloaded_run tells before now blocks load.ScriptTooLong same = tt
+  unloaded_run tells before now blocks (load.FileChanged said got) same = inl same
+  unloaded_run tells before now blocks (load.BadLine line) same = tt
+
+-- the same where the library is asked later, and tells the same
+pub later_run :
+    (told later : Option (List ℕ → Option (List ℕ))) (first replied : Reply → Type 0) (name : List ℕ) (sizes : Numbers) (workers : ℕ) (tells : Type 0) (script : Reading) (before now : Option (List ℕ)) (blocks : List Shown) (end : End)
+    → later ≡ told → workers ≡ sizes.workers → Remembers first replied → IsScript told first name workers script → IsTriedOrRefusal (budget_refusal sizes) end
+    → (end ≡ Done → ForFiles tells later script (λ given commands. TakesAll before now (output_of given commands)))
+    → HasRunPart tells later before now script
+    → (end ≡ NoFreeBlock → ForFiles tells later script (λ given commands. TakesWithin given before now sizes commands))
+    → (end ≡ Memory → (now ≡ before) ⊎ HasRunToFile tells later before now script) → FaultToFile tells later before now script end
+    → (end ≡ NoFreeBlock → ForFiles tells later script (λ given commands. IsTooMuch sizes (load_of given commands)))
+    → (end ≡ NoFreeBlock → IsTooMuch sizes (most_of (command_list script)))
+    → (end ≡ Done → ForFiles tells later script (λ given commands. FitsWritten (crest_of given commands) sizes blocks))
+    → (end ≡ Done → FitsWritten (least_of (command_list script)) sizes blocks) → IsRunOf tells told replied name sizes before now blocks end
+later_run told later first replied name sizes workers tells script before now blocks end kept same remembers is answer done part within memory file above above_any used used_any =
+    let P : Option (List ℕ → Option (List ℕ)) → Type 0 = λ t. IsRunOf tells t replied name sizes before now blocks end in
+    let Q : Option (List ℕ → Option (List ℕ)) → Type 0 = λ t. IsScript t replied name sizes.workers script in
+    let W : ℕ → Type 0 = λ w. IsScript told replied name w script in
+    let now_is : IsScript told replied name sizes.workers script = subst W same (script_remembered told first replied name workers script remembers is) in
+    subst P kept (loaded_run later replied name sizes tells script before now blocks end (subst Q (sym kept) now_is) answer done part within memory file above above_any used used_any)
+
+pub later_refusal :
+    (told later : Option (List ℕ → Option (List ℕ))) (first replied : Reply → Type 0) (name : List ℕ) (sizes : Numbers) (workers : ℕ) (script : Reading) (end : End)
+    → later ≡ told → workers ≡ sizes.workers → Remembers first replied → IsScript told first name workers script → IsTriedOrRefusal (budget_refusal sizes) end
+    → ((line said got : ℕ) → end ≡ FileChanged line said got → HasChanged later replied script line said got) → IsRefusal told replied name sizes end
+later_refusal told later first replied name sizes workers script end kept same remembers is answer changed =
+    let P : Option (List ℕ → Option (List ℕ)) → Type 0 = λ t. IsRefusal t replied name sizes end in
+    let Q : Option (List ℕ → Option (List ℕ)) → Type 0 = λ t. IsScript t replied name sizes.workers script in
+    let W : ℕ → Type 0 = λ w. IsScript told replied name w script in
+    let now_is : IsScript told replied name sizes.workers script = subst W same (script_remembered told first replied name workers script remembers is) in
+    subst P kept (loaded_refusal later replied name sizes script end (subst Q (sym kept) now_is) answer changed)
+
+-- the output of the commands before one that reads a file, where blocks tell
+to_file : (tells : Type 0) (told : Option (List ℕ → Option (List ℕ))) (script : Reading) (first : List Shown) (before now : Option (List ℕ)) → (tells → AllTell first)
+    → TakesBeforeFile told script first before now → HasRunToFile tells told before now script
+to_file tells told script first before now blocks ran = record { done = ran.done; file = ran.file; size = ran.size; here = ran.here; took = λ t files are. ran.took (blocks t) files are }
+
+pub ran_to_file : (tells : Type 0) (told : Option (List ℕ → Option (List ℕ))) (script : Reading) (first : List Shown) (before now : Option (List ℕ)) → (tells → AllTell first)
+    → (now ≡ before) ⊎ TakesBeforeFile told script first before now → (now ≡ before) ⊎ HasRunToFile tells told before now script
+ran_to_file tells told script first before now blocks (inl same) = inl same
+ran_to_file tells told script first before now blocks (inr ran) = inr (to_file tells told script first before now blocks ran)
+
+-- the same by the end of a run
+pub fault_to_file : (tells : Type 0) (told : Option (List ℕ → Option (List ℕ))) (script : Reading) (first : List Shown) (before now : Option (List ℕ)) (end : End) → (tells → AllTell first)
+    → FaultBeforeFile told script first before now end → FaultToFile tells told before now script end
+fault_to_file tells told script first before now Done blocks ran = tt
+fault_to_file tells told script first before now (BadLine line) blocks ran = tt
+fault_to_file tells told script first before now Usage blocks ran = tt
+fault_to_file tells told script first before now ReadFault blocks ran = to_file tells told script first before now blocks ran
+fault_to_file tells told script first before now WriteFault blocks ran = tt
+fault_to_file tells told script first before now (DeviceFault number) blocks ran = tt
+fault_to_file tells told script first before now NoFreeBlock blocks ran = tt
+fault_to_file tells told script first before now (BudgetTooSmall need) blocks ran = tt
+fault_to_file tells told script first before now Memory blocks ran = tt
+fault_to_file tells told script first before now (FileChanged line said got) blocks ran = to_file tells told script first before now blocks ran
+fault_to_file tells told script first before now NoDevice blocks ran = tt
+fault_to_file tells told script first before now NoScript blocks ran = tt
+fault_to_file tells told script first before now ScriptTooLong blocks ran = tt
+
+nothing_by : (X : Type 0) (small : Bool) (need : ℕ) (end : End) → MatchOption (if small then Some (BudgetTooSmall need) else None) (IsRun end) (λ e. end ≡ e) ⊎ (end ≡ Memory) → ((n : ℕ) → end ≡ BudgetTooSmall n → X) → MayWrite end ⊎ X
+nothing_by X true need end (inl is) nothing = inr (nothing need is)
+nothing_by X true need end (inr memory) nothing = inl (inr memory)
+nothing_by X false need end (inl run) nothing = inl (inl run)
+nothing_by X false need end (inr memory) nothing = inl (inr memory)
+
+-- where the budget is too small, nothing was written
+pub may_write : (X : Type 0) (sizes : Numbers) (end : End) → IsRunOrRefusal (budget_refusal sizes) end → ((n : ℕ) → end ≡ BudgetTooSmall n → X) → MayWrite end ⊎ X
+may_write X sizes end answer nothing = nothing_by X (nat_lt sizes.memory (fixed_of sizes)) (fixed_of sizes) end answer nothing
+
+unloaded_not_run : (fault : LoadFault) → IsSurelyRun (load_end fault) → ⊥
+unloaded_not_run load.ReadFault run = run
+unloaded_not_run load.Memory run = run
+unloaded_not_run load.NoScript run = run
+unloaded_not_run load.ScriptTooLong run = run
+unloaded_not_run (load.FileChanged said got) run = run
+unloaded_not_run (load.BadLine line) run = run
+
+-- a script that was not loaded has no blocks
+pub no_blocks : (sizes : Numbers) (fault : LoadFault) (end : End) (slots : List Shown) → end ≡ load_end fault → slots ≡ [] → AreBlocks sizes end slots
+no_blocks sizes fault end slots is none =
+    let P : List Shown → Type 0 = λ s. AreBlocks sizes (load_end fault) s in
+    let Q : End → Type 0 = λ e. AreBlocks sizes e slots in
+    subst Q (sym is) (subst P (sym none) (record { numbers = IsPermutation-refl []; most = omega arith; all = λ run. absurd (unloaded_not_run fault run); all_or_none = λ run. inr refl }))
+
+-- a script that was loaded keeps the lengths of its files
+pub keeps :
+    (told : Option (List ℕ → Option (List ℕ))) (replied : Reply → Type 0) (name : List ℕ) (workers : ℕ) (script : Reading) → IsScript told replied name workers script
+    → (files : List ℕ → Option (List ℕ)) → told ≡ Some files → KeepsLengths files script
+keeps told replied name workers script is files e =
+    let asked = numbered_of 1 (lines_of is.bytes) in
+    let lengths : script.commands ≡ with_sizes files (names_of (lines_of is.bytes)) asked =
+    (let P : Option (List ℕ → Option (List ℕ)) → Type 0 = λ t. IfSome t (λ files. script.commands ≡ with_sizes files (names_of (lines_of is.bytes)) asked) in subst P e is.lengths) in
+    let Q : List (List ℕ) → Type 0 = λ ns. script.commands ≡ with_sizes files ns asked in
+    keeps_lengths files script asked (subst Q (sym is.names) lengths)
+
+-- a fact about the commands and the records of their files holds of those of the file, where the library tells
+of_files : (files : List ℕ → Option (List ℕ)) (replied : Reply → Type 0) (name : List ℕ) (workers : ℕ) (script : Reading) (P : (ℕ → List Pair) → List Command → Type 0)
+    → (is : IsScript (Some files) replied name workers script) → P (given_of files script) (command_list script) → P (script_given files is.bytes) (script_commands files is.bytes)
+of_files files replied name workers script P is holds =
+    let Q : List (List ℕ) → Type 0 = λ ns. P (λ (file : ℕ). records_of (bytes_or_none (files (name_at ns file)))) (command_list script) in
+    let R : List Numbered → Type 0 = λ items. P (script_given files is.bytes) (map (λ (n : Numbered). n.command) items) in
+    subst R is.lengths (subst Q is.names holds)
+
+pub of_commands :
+    (told later : Option (List ℕ → Option (List ℕ))) (replied : Reply → Type 0) (name : List ℕ) (workers : ℕ) (script : Reading) (P : (ℕ → List Pair) → List Command → Type 0)
+    → later ≡ told → IsScript told replied name workers script → ((files : List ℕ → Option (List ℕ)) → AreFilesOf later script files → P (given_of files script) (command_list script))
+    → OfFile told name (λ files bytes. P (script_given files bytes) (script_commands files bytes))
+of_commands None later replied name workers script P kept is holds = tt
+of_commands (Some files) later replied name workers script P kept is holds =
+    let Q : Option (List ℕ) → Type 0 = λ o. IfSome o (λ bytes. P (script_given files bytes) (script_commands files bytes)) in
+    subst Q (sym is.loaded) (of_files files replied name workers script P is (holds files (inl kept)))
+
+-- the refusal of a file
+module _ (files : List ℕ → Option (List ℕ)) where
+  good_file : (bytes : List ℕ) (sizes : Numbers) → length bytes ≤ 1048576 → first_bad_by (is_usable files) 1 (lines_of bytes) ≡ None → refusal_of_file files (Some bytes) sizes ≡ budget_refusal sizes
+  good_file bytes sizes short good =
+      ap (λ b. if b then Some ScriptTooLong else refusal_of_bad (first_bad_by (is_usable files) 1 (lines_of bytes)) sizes) (le-ltb 1048576 (length bytes) short) ∙ ap (λ (b : Option ℕ). refusal_of_bad b sizes) good
+
+  bad_file : (bytes : List ℕ) (sizes : Numbers) (line : ℕ) → HasBadLine files bytes line → refusal_of_file files (Some bytes) sizes ≡ Some (BadLine line)
+  bad_file bytes sizes line has =
+      ap (λ b. if b then Some ScriptTooLong else refusal_of_bad (first_bad_by (is_usable files) 1 (lines_of bytes)) sizes) (le-ltb 1048576 (length bytes) has.short) ∙ ap (λ (b : Option ℕ). refusal_of_bad b sizes) has.first
+
+  long_file : (file : Option (List ℕ)) (sizes : Numbers) → 1048576 < length (bytes_or_none file) → refusal_of_file files file sizes ≡ Some ScriptTooLong
+  long_file None sizes long = absurd (omega arith)
+  long_file (Some bytes) sizes long = ap (λ b. if b then Some ScriptTooLong else refusal_of_bad (first_bad_by (is_usable files) 1 (lines_of bytes)) sizes) (lt-ltb 1048576 (length bytes) long)
+
+  answer_is : (refusal : Option End) (end : End) → refusal ≡ Some end → IsAnswer refusal end
+  answer_is refusal end is = let P : Option End → Type 0 = λ r. IsAnswer r end in subst P (sym is) (inl refl)
+
+  file_answer : (file : Option (List ℕ)) (sizes : Numbers) (fault : LoadFault) → Refuses files file fault → IsAnswer (refusal_of_file files file sizes) (load_end fault)
+  file_answer file sizes load.ReadFault refuses = inr (inr refl)
+  file_answer file sizes load.Memory refuses = inr (inl refl)
+  file_answer file sizes load.NoScript refuses = answer_is (refusal_of_file files file sizes) NoScript (ap (λ (f : Option (List ℕ)). refusal_of_file files f sizes) refuses)
+  file_answer file sizes load.ScriptTooLong refuses = answer_is (refusal_of_file files file sizes) ScriptTooLong (long_file file sizes refuses)
+  file_answer file sizes (load.FileChanged said got) refuses = absurd refuses
+  file_answer file sizes (load.BadLine line) (bytes, is, has) = answer_is (refusal_of_file files file sizes) (BadLine line) (ap (λ (f : Option (List ℕ)). refusal_of_file files f sizes) is ∙ bad_file bytes sizes line has)
+
+-- the answer for a script that was not loaded
+pub unloaded_answer : (told : Option (List ℕ → Option (List ℕ))) (name : List ℕ) (sizes : Numbers) (fault : LoadFault) → IsNotLoaded told name fault → IfSome told (λ files. IsAnswer (refusal_of_file files (files name) sizes) (load_end fault))
+unloaded_answer None name sizes fault is = tt
+unloaded_answer (Some files) name sizes fault is = file_answer files (files name) sizes fault is
+
+-- and for one that was
+pub loaded_answer :
+    (told : Option (List ℕ → Option (List ℕ))) (replied : Reply → Type 0) (name : List ℕ) (workers : ℕ) (script : Reading) (sizes : Numbers) (end : End)
+    → IsScript told replied name workers script → IsTriedOrRefusal (budget_refusal sizes) end → IfSome told (λ files. IsAnswer (refusal_of_file files (files name) sizes) end)
+loaded_answer None replied name workers script sizes end is answer = tt
+loaded_answer (Some files) replied name workers script sizes end is answer =
+    let same : refusal_of_file files (files name) sizes ≡ budget_refusal sizes = ap (λ (f : Option (List ℕ)). refusal_of_file files f sizes) is.loaded ∙ good_file files is.bytes sizes is.short is.usable in
+    let P : Option End → Type 0 = λ r. IsAnswer r end in
+    subst P (sym same) (elim answer as (λ _. IsAnswer (budget_refusal sizes) end) [ inl is ↦ inl is | inr memory ↦ inr (inl memory) ])
+
+untried : (end : End) → (IsRun end → ⊥) → (end ≡ NoDevice → ⊥) → (end ≡ Memory → ⊥) → (end ≡ ReadFault → ⊥) → IsTried end ⊎ IsGivenUp end → ⊥
+untried end run device memory read (inl (inl h)) = run h
+untried end run device memory read (inl (inr h)) = device h
+untried end run device memory read (inr (inl h)) = memory h
+untried end run device memory read (inr (inr h)) = read h
+
+-- where no fault comes and there is room, a script without a refusal ends done, or for want of memory
+module _ (told : Option (List ℕ → Option (List ℕ))) (library library2 sink sink2 rack rack2 : ℕ) (blocks : List Shown) (sizes : Numbers) where
+  -- each fault has its cause
+  pub record HasCauses (end : End) : Type 0 where
+    pub read : end ≡ ReadFault → library < library2
+    pub write : end ≡ WriteFault → sink < sink2
+    pub device : end ≡ NoDevice → rack < rack2
+    pub failed : (number : ℕ) → end ≡ DeviceFault number → HasFailed number blocks
+    pub changed : (line said got : ℕ) → end ≡ FileChanged line said got → told ≡ None
+
+  completed :
+      (end : End) (load : ℕ) → IsTried end ⊎ IsGivenUp end → HasCauses end → (end ≡ NoFreeBlock → IsTooMuch sizes load)
+      → library2 ≡ library → rack2 ≡ rack → sink2 ≡ sink → NoneFailed blocks → HasRoom sizes load → IsCompleted told end
+  completed Done load tried causes above l k o none room = tt
+  completed (BadLine line) load tried causes above l k o none room = absurd (untried (BadLine line) (λ h. h) (λ e. cc) (λ e. cc) (λ e. cc) tried)
+  completed Usage load tried causes above l k o none room = absurd (untried Usage (λ h. h) (λ e. cc) (λ e. cc) (λ e. cc) tried)
+  completed ReadFault load tried causes above l k o none room = absurd (omega (arith, causes.read refl, l))
+  completed WriteFault load tried causes above l k o none room = absurd (omega (arith, causes.write refl, o))
+  completed (DeviceFault number) load tried causes above l k o none room = absurd (none number (causes.failed number refl))
+  completed NoFreeBlock load tried causes above l k o none room =
+      let much = above refl in
+      elim room as (λ _. IsCompleted told NoFreeBlock) [ inl heap ↦ absurd (omega (arith, much.0, heap)) | inr device ↦ absurd (omega (arith, much.1, device)) ]
+  completed (BudgetTooSmall need) load tried causes above l k o none room = absurd (untried (BudgetTooSmall need) (λ h. h) (λ e. cc) (λ e. cc) (λ e. cc) tried)
+  completed Memory load tried causes above l k o none room = tt
+  completed (FileChanged line said got) load tried causes above l k o none room = causes.changed line said got refl
+  completed NoDevice load tried causes above l k o none room = absurd (omega (arith, causes.device refl, k))
+  completed NoScript load tried causes above l k o none room = absurd (untried NoScript (λ h. h) (λ e. cc) (λ e. cc) (λ e. cc) tried)
+  completed ScriptTooLong load tried causes above l k o none room = absurd (untried ScriptTooLong (λ h. h) (λ e. cc) (λ e. cc) (λ e. cc) tried)
+
+  file_completed :
+      (files : List ℕ → Option (List ℕ)) (load : List ℕ → ℕ) (file : Option (List ℕ)) (end : End) → IsAnswer (refusal_of_file files file sizes) end → HasCauses end
+      → (end ≡ NoFreeBlock → IfSome file (λ bytes. IsTooMuch sizes (load bytes)))
+      → refusal_of_file files file sizes ≡ None → library2 ≡ library → rack2 ≡ rack → sink2 ≡ sink → NoneFailed blocks
+      → IfSome file (λ bytes. HasRoom sizes (load bytes)) → IsCompleted told end
+  file_completed files load None end answer causes above is l k o none room = cc
+  file_completed files load (Some bytes) end answer causes above is l k o none room =
+      let P : Option End → Type 0 = λ r. IsAnswer r end in
+      completed end (load bytes) (subst P is answer) causes above l k o none room
+
+pub named_completed :
+    (told : Option (List ℕ → Option (List ℕ))) (library library2 sink sink2 rack rack2 : ℕ) (blocks : List Shown) (sizes : Numbers)
+    (load : (List ℕ → Option (List ℕ)) → List ℕ → ℕ) (name : List ℕ) (end : End)
+    → IfSome told (λ files. IsAnswer (refusal_of_file files (files name) sizes) end) → HasCauses told library library2 sink sink2 rack rack2 blocks sizes end → (end ≡ NoFreeBlock → OfFile told name (λ files bytes. IsTooMuch sizes (load files bytes)))
+    → IfSome told (λ files. refusal_of_file files (files name) sizes ≡ None → library2 ≡ library → rack2 ≡ rack → sink2 ≡ sink → NoneFailed blocks
+    → IfSome (files name) (λ bytes. HasRoom sizes (load files bytes)) → IsCompleted told end)
+named_completed None library library2 sink sink2 rack rack2 blocks sizes load name end answer causes above = tt
+named_completed (Some files) library library2 sink sink2 rack rack2 blocks sizes load name end answer causes above =
+    file_completed (Some files) library library2 sink sink2 rack rack2 blocks sizes files (load files) (files name) end answer causes above

@@ -1,0 +1,58 @@
+-- The blocks of a device.
+use Rattle.std.specs.Prelude.{◌≡◌, ◌≤◌, ◌⊎◌, ⊤, ℕ, List, length, map, All, Vec, Result, Ok, Err}
+use Rattle.std.specs.List.{range_with_len}
+use Rattle.std.specs.List.Sorted.{IsPermutation}
+use Rattle.std.specs.declared.alloc.Global.{Global}
+use Rattle.ppq_outside.specs.declared.fault.OutsideFault.{OutsideFault}
+use Rattle.ppq_outside.specs.declared.fault.OutsideFault.TheVariants.{Failed, Memory}
+use Rattle.ppq_outside.specs.Told.{Rose}
+use Rattle.ppq_outside.specs.Shown.{Shown}
+use Rattle.ppq_budget.specs.Sizes.{Numbers}
+use Rattle.ppq_queue.specs.Holding.{IsNewSlot}
+use Rattle.ppq_engine.specs.Ends.{IsRun}
+use Rattle.ppq_engine.specs.declared.end.End.{End}
+use Rattle.ppq_engine.specs.declared.end.End.TheVariants as end
+
+-- new blocks, numbered from 0 in order
+pub record AreNew (bytes : ℕ) (slots : List Shown) : Type 0 where
+  pub numbers : map (λ s. s.number) slots ≡ range_with_len 0 (length slots)
+  pub each : All (IsNewSlot bytes) slots
+
+-- the blocks that were made, all of them or those before one that could not be made
+abbrev pub made_in : {S : Type 0} → Result (Vec S Global) (Vec S Global × OutsideFault) → List S
+made_in (Ok blocks) = blocks.items
+made_in (Err refused) = refused.0.items
+
+-- what a count of faults did where not all blocks were made
+abbrev pub HasReason : ℕ → ℕ → OutsideFault → Type 0
+HasReason before now Failed = Rose before now
+HasReason before now Memory = now ≡ before
+
+-- why not all blocks were made, as an end
+abbrev pub make_end : OutsideFault → End
+make_end Failed = end.NoDevice
+make_end Memory = end.Memory
+
+-- the script was run, whatever the files: the other ends of a run come also where the script could not be loaded
+abbrev pub IsSurelyRun : End → Type 0
+IsSurelyRun end.Done = ⊤
+IsSurelyRun (end.BadLine line) = ⊥
+IsSurelyRun end.Usage = ⊥
+IsSurelyRun end.ReadFault = ⊥
+IsSurelyRun end.WriteFault = ⊤
+IsSurelyRun (end.DeviceFault number) = ⊤
+IsSurelyRun end.NoFreeBlock = ⊤
+IsSurelyRun (end.BudgetTooSmall need) = ⊥
+IsSurelyRun end.Memory = ⊥
+IsSurelyRun (end.FileChanged line said got) = ⊥
+IsSurelyRun end.NoDevice = ⊥
+IsSurelyRun end.NoScript = ⊥
+IsSurelyRun end.ScriptTooLong = ⊥
+
+-- the blocks that come back with an end: their numbers are those from 0 on, each once; no more than the device has, and all of them
+-- where the script was run; none where it could not be loaded
+pub record AreBlocks (sizes : Numbers) (answer : End) (slots : List Shown) : Type 0 where
+  pub numbers : IsPermutation (map (λ s. s.number) slots) (range_with_len 0 (length slots))
+  pub most : length slots ≤ sizes.blocks
+  pub all : IsSurelyRun answer → length slots ≡ sizes.blocks
+  pub all_or_none : IsRun answer → (length slots ≡ sizes.blocks) ⊎ (length slots ≡ 0)

@@ -1,0 +1,110 @@
+-- What follows from what the end of a run says, for each end.
+use Rattle.std.proofs.Common.{◌≡◌, ℕ, ◌≤◌, ◌<◌, List, Option, Some, None, refl, sym, subst, arith, inl, inr}
+use Rattle.ppq_outside.specs.Shown.{Shown, AllTell}
+use Rattle.ppq_outside.specs.Told.{Reply, TakesAll, Rose}
+use Rattle.ppq_budget.specs.Sizes.{Numbers}
+use Rattle.ppq_array.specs.Kept.{SameSlots, HasFailed, all_writes}
+use Rattle.ppq_script.specs.Reading.{Reading, command_list}
+use Rattle.ppq_engine.specs.Loads.{most_of, least_of, HasRoom, IsTooMuch, FitsWritten}
+use Rattle.ppq_engine.specs.Output.{AreFilesOf, given_of, output_of, load_of, crest_of, TakesWithin}
+use Rattle.ppq_engine.specs.Outcome.{EndSays}
+use Rattle.ppq_engine.specs.Ends.{IsQuiet, NoneFailed, IsCompleted}
+use Rattle.ppq_engine.specs.declared.end.End.{End}
+use Rattle.ppq_engine.specs.declared.end.End.TheVariants.{Done, BadLine, Usage, ReadFault, WriteFault, DeviceFault, NoFreeBlock, BudgetTooSmall, Memory, FileChanged, NoDevice, NoScript, ScriptTooLong}
+use Rattle.ppq_engine.proofs.Sizes.{fits-more}
+use Rattle.ppq_engine.proofs.Slots.{SameSlots-trans}
+
+-- what there is no room for has none
+no_room_for : (sizes : Numbers) (load : ℕ) → IsTooMuch sizes load → HasRoom sizes load → ⊥
+no_room_for sizes load much (inl one) = omega (arith, much.0, one)
+no_room_for sizes load much (inr room) = omega (arith, much.1, room)
+
+-- a count that rose is not quiet
+not_quiet : (before now : ℕ) → Rose before now → IsQuiet before now → ⊥
+not_quiet before now rose quiet = omega (arith, rose, quiet.0, quiet.1)
+
+-- the blocks that come back are those that were handed in
+pub same_blocks : (first held slots later : List Shown) → held ≡ first → SameSlots held slots → SameSlots slots later → SameSlots first later
+same_blocks first held slots later is same kept = let P : List Shown → Type 0 = λ f. SameSlots f later in subst P is (SameSlots-trans held slots later same kept)
+
+module _ (told : Option (List ℕ → Option (List ℕ))) (replied : Reply → Type 0) (script : Reading) (first : List Shown) (sizes : Numbers) (before now : Option (List ℕ)) (sink sink_now library library_now : ℕ) where
+  -- what an end says of these slots
+  abbrev pub Says : List Shown → End → Type 0
+  Says slots end = EndSays told replied script first slots sizes before now sink sink_now library library_now end
+
+  -- the blocks that a queue began with are those that were handed in, and its sizes are those of the run
+  pub says-first : (held : List Shown) (own : Numbers) (slots : List Shown) (end : End) → held ≡ first → own ≡ sizes → EndSays told replied script held slots own before now sink sink_now library library_now end → Says slots end
+  says-first held own slots end is_first is_own says =
+      let P : List Shown → Type 0 = λ f. EndSays told replied script f slots own before now sink sink_now library library_now end in
+      let Q : Numbers → Type 0 = λ o. EndSays told replied script first slots o before now sink sink_now library library_now end in
+      subst Q is_own (subst P is_first says)
+
+  -- the same slots later, with as many writes or more
+  says-later : (slots later : List Shown) (end : End) → SameSlots slots later → all_writes slots ≤ all_writes later → Says slots end → Says later end
+  says-later slots later Done same more says =
+      (λ tells files is. record { took = (says.0 tells files is).took; crest = fits-more (crest_of (given_of files script) (command_list script)) sizes slots later (says.0 tells files is).crest more }, fits-more (least_of (command_list script)) sizes slots later says.1 more, says.2)
+  says-later slots later (BadLine line) same more says = says
+  says-later slots later Usage same more says = says
+  says-later slots later ReadFault same more says = says
+  says-later slots later WriteFault same more says = says
+  says-later slots later (DeviceFault number) same more says = omega (arith, says, same.faults number)
+  says-later slots later NoFreeBlock same more says = says
+  says-later slots later (BudgetTooSmall need) same more says = says
+  says-later slots later Memory same more says = says
+  says-later slots later (FileChanged line said got) same more says = says
+  says-later slots later NoDevice same more says = says
+  says-later slots later NoScript same more says = says
+  says-later slots later ScriptTooLong same more says = says
+
+  module _ (slots later : List Shown) (end : End) (same : SameSlots slots later) (more : all_writes slots ≤ all_writes later) (says : Says slots end) where
+    says-is : (wanted : End) → end ≡ wanted → Says later wanted
+    says-is wanted is = subst (λ e. Says later e) is (says-later slots later end same more says)
+
+    pub end-done : end ≡ Done → AllTell first → (files : List ℕ → Option (List ℕ)) → AreFilesOf told script files → TakesAll before now (output_of (given_of files script) (command_list script))
+    end-done is tells files are = ((says-is Done is).0 tells files are).took
+
+    pub end-used : end ≡ Done → AllTell first → (files : List ℕ → Option (List ℕ)) → AreFilesOf told script files → FitsWritten (crest_of (given_of files script) (command_list script)) sizes later
+    end-used is tells files are = ((says-is Done is).0 tells files are).crest
+
+    pub end-used_any : end ≡ Done → FitsWritten (least_of (command_list script)) sizes later
+    end-used_any is = (says-is Done is).1
+
+    pub end-within : end ≡ NoFreeBlock → AllTell first → (files : List ℕ → Option (List ℕ)) → AreFilesOf told script files → TakesWithin (given_of files script) before now sizes (command_list script)
+    end-within is tells files are = ((says-is NoFreeBlock is).0 tells files are).within
+
+    pub end-above : end ≡ NoFreeBlock → AllTell first → (files : List ℕ → Option (List ℕ)) → AreFilesOf told script files → IsTooMuch sizes (load_of (given_of files script) (command_list script))
+    end-above is tells files are = ((says-is NoFreeBlock is).0 tells files are).above
+
+    pub end-failed : (number : ℕ) → end ≡ DeviceFault number → HasFailed number later
+    end-failed number is = says-is (DeviceFault number) is
+
+  -- with no fault, and where there is room, the end is done or want of memory, or a file had changed
+  says-completed :
+      (slots : List Shown) (end : End) → Says slots end → IsQuiet sink sink_now → IsQuiet library library_now → NoneFailed slots
+      → (end ≡ NoFreeBlock → ⊥) → IsCompleted told end
+  says-completed slots Done says s l none room = tt
+  says-completed slots (BadLine line) says s l none room = says
+  says-completed slots Usage says s l none room = says
+  says-completed slots ReadFault says s l none room = not_quiet library library_now says l
+  says-completed slots WriteFault says s l none room = not_quiet sink sink_now says s
+  says-completed slots (DeviceFault number) says s l none room = none number says
+  says-completed slots NoFreeBlock says s l none room = room refl
+  says-completed slots (BudgetTooSmall need) says s l none room = says
+  says-completed slots Memory says s l none room = tt
+  says-completed slots (FileChanged line said got) says s l none room = says.0.untold
+  says-completed slots NoDevice says s l none room = says
+  says-completed slots NoScript says s l none room = says
+  says-completed slots ScriptTooLong says s l none room = says
+
+  module _ (slots later : List Shown) (end : End) (same : SameSlots slots later) (more : all_writes slots ≤ all_writes later) (says : Says slots end) where
+    pub end-complete :
+        AllTell first → (files : List ℕ → Option (List ℕ)) → AreFilesOf told script files → HasRoom sizes (load_of (given_of files script) (command_list script))
+        → IsQuiet sink sink_now → IsQuiet library library_now → NoneFailed later → IsCompleted told end
+    end-complete tells files are room s l none =
+        says-completed later end (says-later slots later end same more says) s l none
+        (λ is. no_room_for sizes (load_of (given_of files script) (command_list script)) (end-above slots later end same more says is tells files are) room)
+
+    pub end-complete_any : HasRoom sizes (most_of (command_list script)) → IsQuiet sink sink_now → IsQuiet library library_now → NoneFailed later → IsCompleted told end
+    end-complete_any room s l none =
+        says-completed later end (says-later slots later end same more says) s l none
+        (λ is. no_room_for sizes (most_of (command_list script)) (says-is slots later end same more says NoFreeBlock is).1 room)

@@ -1,0 +1,50 @@
+-- A file of a checked script has as many records as its length says.
+use Rattle.std.proofs.Common.{◌≡◌, ℕ, ◌/◌, List, [], ◌∷◌, Option, Some, sym, ap, ◌∙◌, inl, inr, length, zero, suc}
+use Rattle.std.specs.Prelude.{slice_get, map}
+use Rattle.ppq_record.specs.Pair.{pair_of}
+use Rattle.ppq_block.proofs.Blocks.{length-records_from}
+use Rattle.ppq_outside.specs.Told.{bytes_or_none}
+use Rattle.ppq_script.specs.declared.command.Command.{Command}
+use Rattle.ppq_script.specs.declared.command.Command.TheVariants.{Push, Pop, Top, Size, Bulk, Gen, BulkPop, BulkPopLimit, Drain}
+use Rattle.ppq_script.specs.declared.numbered.Numbered.{Numbered}
+use Rattle.ppq_script.specs.Files.{file_in, name_at}
+use Rattle.ppq_script.specs.Checking.{with_size, with_sizes}
+use Rattle.ppq_script.specs.Reading.{Reading, command_list}
+use Rattle.ppq_engine.specs.Output.{AreFilesOf, KeepsLengths, given_of}
+use Rattle.ppq_engine.proofs.Steps.{HasLength}
+
+pub has_length :
+    (told : Option (List ℕ → Option (List ℕ))) (script : Reading) (files : List ℕ → Option (List ℕ)) (i : ℕ) (command : Command)
+    → slice_get (command_list script) i ≡ Some command → ((files : List ℕ → Option (List ℕ)) → told ≡ Some files → KeepsLengths files script) → AreFilesOf told script files → HasLength (given_of files script) command
+has_length told script files i command here keeps (inl is) = λ file bytes e.
+    let there : slice_get (command_list script) i ≡ Some (Bulk file bytes) = here ∙ ap (λ (c : Command). Some c) e in
+    let all = bytes_or_none (files (name_at script.names file)) in
+    length-records_from pair_of 16 (length all / 16) all ∙ ap (λ (n : ℕ). n / 16) (keeps files is i file bytes there)
+has_length told script files i command here keeps (inr never) = λ file bytes e. absurd (never i file bytes (here ∙ ap (λ (c : Command). Some c) e))
+
+-- a command that was given the length of its file has it
+sized : (files : List ℕ → Option (List ℕ)) (names : List (List ℕ)) (command : Command) (file size : ℕ) → with_size files names (file_in command) command ≡ Bulk file size → length (bytes_or_none (files (name_at names file))) ≡ size
+sized files names (Push item) file size e = cc
+sized files names Pop file size e = cc
+sized files names Top file size e = cc
+sized files names Size file size e = cc
+sized files names (Bulk f s) file size e =
+    let same : f ≡ file = cc in
+    let long : length (bytes_or_none (files (name_at names f))) ≡ size = cc in
+    ap (λ (n : ℕ). length (bytes_or_none (files (name_at names n)))) (sym same) ∙ long
+sized files names (Gen seed count) file size e = cc
+sized files names (BulkPop count) file size e = cc
+sized files names (BulkPopLimit limit count) file size e = cc
+sized files names (Drain count) file size e = cc
+
+sized_at :
+    (files : List ℕ → Option (List ℕ)) (names : List (List ℕ)) (items : List Numbered) (i file size : ℕ) → slice_get (map (λ n. n.command) (with_sizes files names items)) i ≡ Some (Bulk file size)
+    → length (bytes_or_none (files (name_at names file))) ≡ size
+sized_at files names [] i file size e = cc
+sized_at files names (n ∷ items) zero file size e = let h : with_size files names (file_in n.command) n.command ≡ Bulk file size = cc in sized files names n.command file size h
+sized_at files names (n ∷ items) (suc i) file size e = sized_at files names items i file size e
+
+-- a script whose files were asked of a library keeps their lengths
+pub keeps_lengths : (files : List ℕ → Option (List ℕ)) (script : Reading) (asked : List Numbered) → script.commands ≡ with_sizes files script.names asked → KeepsLengths files script
+keeps_lengths files script asked is = λ i file size here.
+    sized_at files script.names asked i file size (ap (λ (items : List Numbered). slice_get (map (λ n. n.command) items) i) (sym is) ∙ here)

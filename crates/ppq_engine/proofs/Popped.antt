@@ -1,0 +1,428 @@
+-- Records that were popped round by round: the first of the bag's ascending list.
+use Rattle.std.proofs.Common.{◌≡◌, ℕ, zero, length, min, suc, ◌+◌, ◌-◌, ◌%◌, ◌^◌, ◌<◌, ◌≤◌, Bool, true, false, cond, List, [], ◌∷◌, ◌++◌, take, drop, Option, Some, None, refl, sym, ap, ◌∙◌, subst, arith, inl, inr, append-nil, length-append, take-add, append_assoc}
+use Rattle.std.specs.Prelude.{count_by, sum_by, nat_le, codes, if◌then◌else◌}
+use Rattle.std.specs.List.{AllByRecursion as Each}
+use Rattle.std.specs.Cmp.{IsStrictWeakOrder}
+use Rattle.std.proofs.lemmas.Bool.{cases_Bool, cases_lt, le-leb, leb-true}
+use Rattle.std.proofs.lemmas.List.{drop-drop, length-take}
+use Rattle.std.proofs.Math.Seq.{take-length}
+use Rattle.std.proofs.lemmas.List.Sums.{sum_by-append}
+use Rattle.std.proofs.lemmas.List.Concat.{flat_map-append}
+use Rattle.std.proofs.Math.Nat.{mod-add-mod, mul-le-mul_left}
+use Rattle.ppq_record.specs.declared.pair.Pair.{Pair}
+use Rattle.ppq_record.specs.Pair.{pair_cmp, pair_same}
+use Rattle.ppq_record.specs.Order.{is_before, Le, Rising}
+use Rattle.ppq_record.specs.Bag.{IsSameBag, ascending, without_front, least, first_of, size_below}
+use Rattle.ppq_record.proofs.Order.{count_by-cons, none_pass, Rising-in_order, in_order-same_bag}
+use Rattle.ppq_record.proofs.Fronts.{ranks, ascending-same_bag, ascending_is}
+use Rattle.ppq_budget.specs.Sizes.{Numbers, AreInRange, batch_of}
+use Rattle.ppq_outside.specs.Told.{TakesPart}
+use Rattle.ppq_outside.proofs.Takes.{takes_two, takes_and_part, takes_nothing, part_of_more}
+use Rattle.ppq_engine.specs.Output.{line_of, lines_text, last_of, limited_count, mark_text}
+use Rattle.ppq_engine.specs.Gathers.{Gathers, IsSummary}
+use Rattle.ppq_engine.specs.Running.{GathersPart, WritesPart}
+use Rattle.ppq_engine.specs.Files.{IsByFile}
+use Rattle.ppq_engine.specs.Popping.{passing, next_of, popped_count, left_mark, IsRound, NotByFile}
+use Rattle.ppq_engine.specs.declared.answer.Drained.{Drained}
+use Rattle.ppq_engine.specs.declared.stop.Stop.{Stop}
+use Rattle.ppq_engine.specs.declared.stop.Stop.TheVariants.{Sink, Queue, Read, Memory, Changed}
+use Rattle.ppq_engine.proofs.Pairs.{pair_total}
+
+-- what is left of an ascending list ascends
+Rising-drop : {X : Type 0} (lt : X → X → Bool) (k : ℕ) (xs : List X) → Rising lt xs → Rising lt (drop k xs)
+Rising-drop lt zero xs r = r
+Rising-drop lt (suc k) [] r = tt
+Rising-drop lt (suc k) (x ∷ xs) r = Rising-drop lt k xs r.1
+
+rising : (bag : List Pair) → Rising (is_before pair_cmp) (ascending pair_cmp bag)
+rising bag = Rising-in_order (is_before pair_cmp) (ranks pair_total) bag
+
+-- what is left of the ascending list is the ascending list of what is left
+pub left_is : (bag old : List Pair) (i : ℕ) → IsSameBag bag (drop i (ascending pair_cmp old)) → ascending pair_cmp bag ≡ drop i (ascending pair_cmp old)
+left_is bag old i same = sym (ascending_is pair_total pair_same bag (drop i (ascending pair_cmp old)) (Rising-drop (is_before pair_cmp) i (ascending pair_cmp old) (rising old)) (λ p. sym (same p)))
+
+pub left-begin : (bag : List Pair) → IsSameBag bag (drop 0 (ascending pair_cmp bag))
+left-begin bag p = sym (in_order-same_bag (is_before pair_cmp) (ranks pair_total) bag p)
+
+-- the first of a list
+first_take : {X : Type 0} (xs : List X) (x : X) → first_of (take 1 xs) ≡ Some x → xs ≡ x ∷ drop 1 xs
+first_take [] x e = cc
+first_take (y ∷ ys) x e = let h : y ≡ x = cc in ap (λ z. z ∷ ys) h
+
+none_take : {X : Type 0} (xs : List X) → first_of (take 1 xs) ≡ None → xs ≡ []
+none_take [] e = refl
+none_take (y ∷ ys) e = cc
+
+-- a record that passes is there, and is below the limit
+passing_some : (below item : Option Pair) (x : Pair) → passing below item ≡ Some x → item ≡ Some x
+passing_some None item x e = e
+passing_some (Some limit) None x e = cc
+passing_some (Some limit) (Some y) x e =
+    elim (cases_Bool (is_before pair_cmp y limit)) as (λ _. Some y ≡ Some x) [
+      | inl h ↦ sym (ap (λ (b : Bool). cond b (Some y) None) h) ∙ e
+      | inr h ↦ let z : None ≡ Some x = sym (ap (λ (b : Bool). cond b (Some y) None) h) ∙ e in cc
+    ]
+
+passing_below : (limit x : Pair) (item : Option Pair) → passing (Some limit) item ≡ Some x → is_before pair_cmp x limit ≡ true
+passing_below limit x None e = cc
+passing_below limit x (Some y) e =
+    elim (cases_Bool (is_before pair_cmp y limit)) as (λ _. is_before pair_cmp x limit ≡ true) [
+      | inl h ↦ let z : Some y ≡ Some x = sym (ap (λ (b : Bool). cond b (Some y) None) h) ∙ e in let same : y ≡ x = cc in ap (λ (p : Pair). is_before pair_cmp p limit) (sym same) ∙ h
+      | inr h ↦ let z : None ≡ Some x = sym (ap (λ (b : Bool). cond b (Some y) None) h) ∙ e in cc
+    ]
+
+passing_none : (limit x : Pair) → passing (Some limit) (Some x) ≡ None → is_before pair_cmp x limit ≡ false
+passing_none limit x e =
+    elim (cases_Bool (is_before pair_cmp x limit)) as (λ _. is_before pair_cmp x limit ≡ false) [
+      | inl h ↦ let z : Some x ≡ None = sym (ap (λ (b : Bool). cond b (Some x) None) h) ∙ e in cc
+      | inr h ↦ h
+    ]
+
+-- the next record stands at its place in the ascending list
+pub next_at : (bag old : List Pair) (i : ℕ) (below : Option Pair) (x : Pair) → IsSameBag bag (drop i (ascending pair_cmp old)) → next_of below bag ≡ Some x → drop i (ascending pair_cmp old) ≡ x ∷ drop (i + 1) (ascending pair_cmp old)
+next_at bag old i below x same is =
+    let asc = ascending pair_cmp old in
+    let here : first_of (take 1 (drop i asc)) ≡ Some x = ap (λ (xs : List Pair). first_of (take 1 xs)) (sym (left_is bag old i same)) ∙ passing_some below (least pair_cmp bag) x is in
+    first_take (drop i asc) x here ∙ ap (λ (xs : List Pair). x ∷ xs) (drop-drop 1 i asc)
+
+pub lines-more : (items : List Pair) (item : Pair) → lines_text (items ++ item ∷ []) ≡ lines_text items ++ line_of item
+lines-more items item = flat_map-append line_of items (item ∷ []) ∙ ap (λ (t : List ℕ). lines_text items ++ t) (append-nil (line_of item))
+
+-- where nothing is left, more takes and drops nothing more
+abbrev no_pair : List Pair
+no_pair = []
+
+take_empty : (n : ℕ) → take n no_pair ≡ no_pair
+take_empty zero = refl
+take_empty (suc n) = refl
+
+drop_empty : (n : ℕ) → drop n no_pair ≡ no_pair
+drop_empty zero = refl
+drop_empty (suc n) = refl
+
+all_taken : (xs : List Pair) (i count : ℕ) → drop i xs ≡ [] → i ≤ count → take count xs ≡ take i xs
+all_taken xs i count e h =
+    let sum : i + (count - i) ≡ count = omega arith in
+    let nothing : take (count - i) (drop i xs) ≡ [] = ap (take (count - i)) e ∙ take_empty (count - i) in
+    ap (λ (n : ℕ). take n xs) (sym sum) ∙ take-add i (count - i) xs ∙ ap (λ (ys : List Pair). take i xs ++ ys) nothing ∙ append-nil (take i xs)
+
+all_dropped : (xs : List Pair) (i count : ℕ) → drop i xs ≡ [] → i ≤ count → drop count xs ≡ drop i xs
+all_dropped xs i count e h =
+    let sum : i + (count - i) ≡ count = omega arith in
+    ap (λ (n : ℕ). drop n xs) (sym sum) ∙ sym (drop-drop (count - i) i xs) ∙ ap (drop (count - i)) e ∙ drop_empty (count - i) ∙ sym e
+
+abbrev num : Bool → ℕ
+num b = cond b 1 0
+
+-- a test counts one record at most
+one_at_most : (b : Bool) → cond b 1 0 ≤ 1
+one_at_most true = omega arith
+one_at_most false = omega arith
+
+weaker : {X : Type 0} (P Q : X → Type 0) → ((x : X) → P x → Q x) → (xs : List X) → Each P xs → Each Q xs
+weaker P Q f [] e = tt
+weaker P Q f (x ∷ xs) e = (f x e.0, weaker P Q f xs e.1)
+
+not_le : (m n : ℕ) → n < m → nat_le m n ≡ false
+not_le m n h = elim (cases_Bool (nat_le m n)) as (λ _. nat_le m n ≡ false) [ inl t ↦ absurd (omega (arith, leb-true m n t)) | inr f ↦ f ]
+
+-- how many records of an ascending list are below a limit, told by the record at a place
+module _ {X : Type 0} (lt : X → X → Bool) (o : IsStrictWeakOrder lt) (limit : X) where
+  each_at : (P : X → Type 0) (xs : List X) (i : ℕ) (x : X) (rest : List X) → Each P xs → drop i xs ≡ x ∷ rest → P x
+  each_at P [] zero x rest each e = cc
+  each_at P (y ∷ ys) zero x rest each e = let h : y ≡ x = cc in subst P h each.0
+  each_at P [] (suc i) x rest each e = cc
+  each_at P (y ∷ ys) (suc i) x rest each e = each_at P ys i x rest each.1 e
+
+  below_at : (xs : List X) (i : ℕ) (x : X) (rest : List X) → Rising lt xs → drop i xs ≡ x ∷ rest → lt x limit ≡ true → i + 1 ≤ count_by (λ y. lt y limit) xs
+  below_at xs zero x rest up e below =
+      let p : X → Bool = λ y. lt y limit in
+      let all : count_by p xs ≡ cond (p x) 1 0 + count_by p rest = ap (count_by p) e ∙ count_by-cons p x rest in
+      let one : cond (p x) 1 0 ≡ 1 = ap (λ (b : Bool). num b) below in
+      omega (arith, all, one)
+  below_at [] (suc i) x rest up e below = cc
+  below_at (y ∷ ys) (suc i) x rest up e below =
+      let p : X → Bool = λ z. lt z limit in
+      let here : Le lt y x = each_at (Le lt y) ys i x rest up.0 e in
+      let one : p y ≡ true = elim (cases_Bool (p y)) as (λ _. p y ≡ true) [ inl t ↦ t | inr f ↦ (let z : lt x limit ≡ false = o.chain x y limit here f in cc) ] in
+      let first : cond (p y) 1 0 ≡ 1 = ap (λ (b : Bool). num b) one in
+      omega (arith, below_at ys i x rest up.1 e below, count_by-cons p y ys, first)
+
+  none_below : (xs : List X) (i : ℕ) (x : X) (rest : List X) → Rising lt xs → drop i xs ≡ x ∷ rest → lt x limit ≡ false → count_by (λ y. lt y limit) xs ≤ i
+  none_below [] zero x rest up e above = cc
+  none_below (y ∷ ys) zero x rest up e above =
+      let p : X → Bool = λ z. lt z limit in
+      let same : y ≡ x = cc in
+      let here : p y ≡ false = ap p same ∙ above in
+      let each : Each (λ z. p z ≡ false) ys = weaker (Le lt y) (λ z. p z ≡ false) (λ z h. o.chain z y limit h here) ys up.0 in
+      omega (arith, none_pass p (y ∷ ys) (here, each))
+  none_below [] (suc i) x rest up e above = cc
+  none_below (y ∷ ys) (suc i) x rest up e above =
+      let p : X → Bool = λ z. lt z limit in
+      omega (arith, none_below ys i x rest up.1 e above, count_by-cons p y ys, one_at_most (p y))
+
+  short_below : (xs : List X) (i : ℕ) → drop i xs ≡ [] → count_by (λ y. lt y limit) xs ≤ i
+  short_below xs zero e = let none : count_by (λ y. lt y limit) xs ≡ 0 = ap (count_by (λ y. lt y limit)) e in omega (arith, none)
+  short_below [] (suc i) e = let none : count_by (λ y. lt y limit) [] ≡ 0 = refl in omega (arith, none)
+  short_below (y ∷ ys) (suc i) e = let p : X → Bool = λ z. lt z limit in omega (arith, short_below ys i e, count_by-cons p y ys, one_at_most (p y))
+
+-- so many records are below a limit in a bag as in its ascending list
+below_same : (bag : List Pair) (limit : Pair) → count_by (λ x. is_before pair_cmp x limit) (ascending pair_cmp bag) ≡ size_below pair_cmp bag limit
+below_same bag limit = in_order-same_bag (is_before pair_cmp) (ranks pair_total) bag (λ x. is_before pair_cmp x limit)
+
+at_most_below : (bag old : List Pair) (i : ℕ) (limit : Pair) (item : Option Pair) → IsSameBag bag (drop i (ascending pair_cmp old)) → least pair_cmp bag ≡ item → passing (Some limit) item ≡ None → size_below pair_cmp old limit ≤ i
+at_most_below bag old i limit None same e none =
+    let asc = ascending pair_cmp old in
+    let left : drop i asc ≡ [] = none_take (drop i asc) (ap (λ (xs : List Pair). first_of (take 1 xs)) (sym (left_is bag old i same)) ∙ e) in
+    omega (arith, short_below (is_before pair_cmp) (ranks pair_total) limit asc i left, below_same old limit)
+at_most_below bag old i limit (Some x) same e none =
+    let asc = ascending pair_cmp old in
+    let left : drop i asc ≡ x ∷ drop 1 (drop i asc) = first_take (drop i asc) x (ap (λ (xs : List Pair). first_of (take 1 xs)) (sym (left_is bag old i same)) ∙ e) in
+    omega (arith, none_below (is_before pair_cmp) (ranks pair_total) limit asc i x (drop 1 (drop i asc)) (rising old) left (passing_none limit x none), below_same old limit)
+
+more_below : (bag old : List Pair) (i : ℕ) (limit x : Pair) → IsSameBag bag (drop i (ascending pair_cmp old)) → next_of (Some limit) bag ≡ Some x → i + 1 ≤ size_below pair_cmp old limit
+more_below bag old i limit x same is =
+    omega (arith, below_at (is_before pair_cmp) (ranks pair_total) limit (ascending pair_cmp old) i x (drop (i + 1) (ascending pair_cmp old)) (rising old) (next_at bag old i (Some limit) x same is) (passing_below limit x (least pair_cmp bag) is), below_same old limit)
+
+-- the first records of a bag, popped as long as they pass
+pub popped-le : (below : Option Pair) (bag : List Pair) (count : ℕ) → popped_count below bag count ≤ count
+popped-le None bag count = omega arith
+popped-le (Some limit) bag count = omega arith
+
+-- where none passes, all were popped
+none_left : (bag old : List Pair) (i : ℕ) → IsSameBag bag (drop i (ascending pair_cmp old)) → least pair_cmp bag ≡ None → drop i (ascending pair_cmp old) ≡ []
+none_left bag old i same e = none_take (drop i (ascending pair_cmp old)) (ap (λ (xs : List Pair). first_of (take 1 xs)) (sym (left_is bag old i same)) ∙ e)
+
+pub popped-all :
+    (below : Option Pair) (bag old : List Pair) (i count : ℕ) → IsSameBag bag (drop i (ascending pair_cmp old)) → next_of below bag ≡ None → i ≤ popped_count below old count
+    → (take (popped_count below old count) (ascending pair_cmp old) ≡ take i (ascending pair_cmp old)) × IsSameBag bag (drop (popped_count below old count) (ascending pair_cmp old))
+popped-all None bag old i count same none l =
+    let asc = ascending pair_cmp old in
+    let left = none_left bag old i same none in
+    (all_taken asc i count left l, λ p. same p ∙ ap (count_by p) (sym (all_dropped asc i count left l)))
+popped-all (Some limit) bag old i count same none l =
+    let asc = ascending pair_cmp old in
+    let here : i ≡ popped_count (Some limit) old count = omega (arith, at_most_below bag old i limit (least pair_cmp bag) same refl none) in
+    (ap (λ (n : ℕ). take n asc) (sym here), λ p. same p ∙ ap (λ (n : ℕ). count_by p (drop n asc)) here)
+
+-- whether a record below the limit is left
+mark_at : (bag old : List Pair) (limit : Pair) (count : ℕ) (next : Option Pair) → IsSameBag bag (drop (limited_count old limit count) (ascending pair_cmp old)) → next_of (Some limit) bag ≡ next → left_mark next ≡ mark_text old limit count
+mark_at bag old limit count None same is =
+    let few : size_below pair_cmp old limit ≤ count = omega (arith, at_most_below bag old (limited_count old limit count) limit (least pair_cmp bag) same refl is) in
+    ap (λ (b : Bool). if b then codes "all\n" else codes "more\n") (sym (le-leb (size_below pair_cmp old limit) count few))
+mark_at bag old limit count (Some x) same is =
+    let many : count < size_below pair_cmp old limit = omega (arith, more_below bag old (limited_count old limit count) limit x same is) in
+    ap (λ (b : Bool). if b then codes "all\n" else codes "more\n") (sym (not_le (size_below pair_cmp old limit) count many))
+
+pub mark-is : (bag old : List Pair) (limit : Pair) (count : ℕ) → IsSameBag bag (without_front pair_cmp old (limited_count old limit count)) → left_mark (next_of (Some limit) bag) ≡ mark_text old limit count
+mark-is bag old limit count same = mark_at bag old limit count (next_of (Some limit) bag) same refl
+
+-- drained records, one more
+last_push : (items : List Pair) (item : Pair) → last_of (items ++ item ∷ []) ≡ Some item
+last_push [] item = refl
+last_push (x ∷ []) item = refl
+last_push (x ∷ y ∷ ys) item = last_push (y ∷ ys) item
+
+first_push : (items : List Pair) (item x : Pair) (first : Option Pair) → first ≡ first_of items → (first ≡ None → x ≡ item) → ((y : Pair) → first ≡ Some y → x ≡ y) → Some x ≡ first_of (items ++ item ∷ [])
+first_push [] item x first e none some = ap (λ (p : Pair). Some p) (none e)
+first_push (y ∷ ys) item x first e none some = ap (λ (p : Pair). Some p) (some y e)
+
+pub summary-more :
+    (items : List Pair) (item : Pair) (had has : Drained) (x : Pair) → IsSummary items had → has.count ≡ had.count + 1 → has.first ≡ Some x → (had.first ≡ None → x ≡ item) → ((y : Pair) → had.first ≡ Some y → x ≡ y)
+    → has.last ≡ Some item → has.sum ≡ (had.sum + item.key) % 2 ^ 64 → IsSummary (items ++ item ∷ []) has
+summary-more items item had has x is count first none some last sum = record {
+  count = omega (arith, count, is.count, length-append items (item ∷ []));
+  first = first ∙ first_push items item x had.first is.first none some;
+  last = last ∙ sym (last_push items item);
+  sum =
+      let all : sum_by (λ r. r.key) (items ++ item ∷ []) ≡ sum_by (λ r. r.key) items + item.key = sum_by-append (λ (r : Pair). r.key) items (item ∷ []) ∙ ap (λ (n : ℕ). sum_by (λ r. r.key) items + n) (omega arith) in
+      sum ∙ ap (λ (n : ℕ). (n + item.key) % 2 ^ 64) is.sum ∙ mod-add-mod (sum_by (λ r. r.key) items) (2 ^ 64) item.key ∙ ap (λ (n : ℕ). n % 2 ^ 64) (sym all);
+}
+
+-- a round has room for a record
+pub some_room : (sizes : Numbers) → AreInRange sizes → 0 < batch_of sizes
+some_room sizes range = omega (arith, range.some_worker, mul-le-mul_left sizes.workers range.two_records)
+
+-- a round of records: as many as these, and as many are left
+take_few : (m : ℕ) (xs : List Pair) → take (length (take m xs)) xs ≡ take m xs
+take_few zero xs = refl
+take_few (suc m) [] = refl
+take_few (suc m) (x ∷ xs) = ap (λ (ys : List Pair). x ∷ ys) (take_few m xs)
+
+drop_few : (m : ℕ) (xs : List Pair) → drop (length (take m xs)) xs ≡ drop m xs
+drop_few zero xs = refl
+drop_few (suc m) [] = refl
+drop_few (suc m) (x ∷ xs) = drop_few m xs
+
+few_taken : (m : ℕ) (xs : List Pair) → length (take m xs) ≤ m
+few_taken m xs = omega (arith, length-take m xs)
+
+none_taken : (m : ℕ) (xs : List Pair) → 0 < m → take m xs ≡ [] → xs ≡ []
+none_taken zero xs some e = absurd (omega (arith, some))
+none_taken (suc m) [] some e = refl
+none_taken (suc m) (x ∷ xs) some e = cc
+
+-- where none of a bag is below a limit, its least record does not pass
+none_passes : (limit : Pair) (xs : List Pair) → count_by (λ x. is_before pair_cmp x limit) xs ≡ 0 → passing (Some limit) (first_of (take 1 xs)) ≡ None
+none_passes limit [] none = refl
+none_passes limit (x ∷ xs) none =
+    let p : Pair → Bool = λ y. is_before pair_cmp y limit in
+    elim (cases_Bool (p x)) as (λ _. passing (Some limit) (Some x) ≡ None) [
+      | inl h ↦ (let one : cond (p x) 1 0 ≡ 1 = ap (λ (b : Bool). num b) h in absurd (omega (arith, none, count_by-cons p x xs, one)))
+      | inr h ↦ ap (λ (b : Bool). cond b (Some x) None) h
+    ]
+
+round_of : (below : Option Pair) (count m : ℕ) (bag rest items : List Pair) → items ≡ take m (ascending pair_cmp bag) → IsSameBag rest (drop m (ascending pair_cmp bag)) → m ≤ popped_count below bag count → (items ≡ [] → next_of below bag ≡ None) → IsRound below count bag rest items
+round_of below count m bag rest items is left few end =
+    let asc = ascending pair_cmp bag in
+    record {
+      first = is ∙ sym (take_few m asc) ∙ ap (λ (xs : List Pair). take (length xs) asc) (sym is);
+      rest_is = λ p. left p ∙ ap (count_by p) (sym (drop_few m asc)) ∙ ap (λ (xs : List Pair). count_by p (drop (length xs) asc)) (sym is);
+      few = omega (arith, few, few_taken m asc, ap (λ (xs : List Pair). length xs) is);
+      end = end;
+    }
+
+pub round-all :
+    (bag rest items : List Pair) (count batch : ℕ) → 0 < count → 0 < batch → items ≡ take (min count batch) (ascending pair_cmp bag) → IsSameBag rest (drop (min count batch) (ascending pair_cmp bag)) → IsRound None count bag rest items
+round-all bag rest items count batch some room is left =
+    round_of None count (min count batch) bag rest items is left (omega arith) (λ none. ap (λ (xs : List Pair). first_of (take 1 xs)) (none_taken (min count batch) (ascending pair_cmp bag) (omega (arith, some, room)) (sym is ∙ none)))
+
+pub round-low :
+    (bag rest items : List Pair) (limit : Pair) (count batch : ℕ) → 0 < count → 0 < batch → items ≡ take (min (min count batch) (size_below pair_cmp bag limit)) (ascending pair_cmp bag)
+    → IsSameBag rest (drop (min (min count batch) (size_below pair_cmp bag limit)) (ascending pair_cmp bag)) → IsRound (Some limit) count bag rest items
+round-low bag rest items limit count batch some room is left =
+    let asc = ascending pair_cmp bag in
+    let m = min (min count batch) (size_below pair_cmp bag limit) in
+    let p : Pair → Bool = λ y. is_before pair_cmp y limit in
+    round_of (Some limit) count m bag rest items is left (omega arith)
+    (λ none. none_passes limit asc (elim (cases_lt 0 m) as (λ _. count_by p asc ≡ 0) [
+      | inl h ↦ ap (count_by p) (none_taken m asc h (sym is ∙ none))
+      | inr h ↦ omega (arith, h, some, room, below_same bag limit)
+    ]))
+
+-- the round stands at its place in the ascending list
+pub round-left : (bag next old items : List Pair) (i count : ℕ) (below : Option Pair) → IsSameBag bag (drop i (ascending pair_cmp old)) → IsRound below count bag next items → IsSameBag next (drop (i + length items) (ascending pair_cmp old))
+round-left bag next old items i count below same round = λ p.
+    round.rest_is p ∙ ap (λ (xs : List Pair). count_by p (drop (length items) xs)) (left_is bag old i same) ∙ ap (count_by p) (drop-drop (length items) i (ascending pair_cmp old))
+
+pub round-taken :
+    (bag next old items : List Pair) (i count : ℕ) (below : Option Pair) → IsSameBag bag (drop i (ascending pair_cmp old)) → IsRound below count bag next items
+    → take (i + length items) (ascending pair_cmp old) ≡ take i (ascending pair_cmp old) ++ items
+round-taken bag next old items i count below same round =
+    let asc = ascending pair_cmp old in
+    take-add i (length items) asc ∙ ap (λ (xs : List Pair). take i asc ++ xs) (ap (λ (xs : List Pair). take (length items) xs) (sym (left_is bag old i same)) ∙ sym round.first)
+
+pub round-lines :
+    (bag next old items : List Pair) (i count : ℕ) (below : Option Pair) → IsSameBag bag (drop i (ascending pair_cmp old)) → IsRound below count bag next items
+    → lines_text (take (i + length items) (ascending pair_cmp old)) ≡ lines_text (take i (ascending pair_cmp old)) ++ lines_text items
+round-lines bag next old items i count below same round = ap lines_text (round-taken bag next old items i count below same round) ∙ flat_map-append line_of (take i (ascending pair_cmp old)) items
+
+-- below a limit are the first of an ascending list, so without some of them so many fewer
+module _ {X : Type 0} (lt : X → X → Bool) (o : IsStrictWeakOrder lt) (limit : X) where
+  fewer_below : (xs : List X) (i : ℕ) → Rising lt xs → i ≤ count_by (λ y. lt y limit) xs → i + count_by (λ y. lt y limit) (drop i xs) ≡ count_by (λ y. lt y limit) xs
+  fewer_below xs zero up l = omega arith
+  fewer_below [] (suc i) up l = let none : count_by (λ y. lt y limit) [] ≡ 0 = refl in omega (arith, l, none)
+  fewer_below (y ∷ ys) (suc i) up l =
+      let p : X → Bool = λ z. lt z limit in
+      elim (cases_Bool (p y)) as (λ _. suc i + count_by p (drop i ys) ≡ count_by p (y ∷ ys)) [
+        | inl h ↦ (let one : cond (p y) 1 0 ≡ 1 = ap (λ (b : Bool). num b) h in omega (arith, fewer_below ys i up.1 (omega (arith, l, one, count_by-cons p y ys)), one, count_by-cons p y ys))
+        | inr h ↦ (let each : Each (λ z. p z ≡ false) ys = weaker (Le lt y) (λ z. p z ≡ false) (λ z k. o.chain z y limit k h) ys up.0 in omega (arith, l, none_pass p (y ∷ ys) (h, each)))
+      ]
+
+pub round-passed :
+    (bag next old items : List Pair) (i count : ℕ) (below : Option Pair) → IsSameBag bag (drop i (ascending pair_cmp old)) → IsRound below (count - i) bag next items → i ≤ count → i ≤ popped_count below old count
+    → i + length items ≤ popped_count below old count
+round-passed bag next old items i count None same round h l = omega (arith, round.few, h)
+round-passed bag next old items i count (Some limit) same round h l =
+    let p : Pair → Bool = λ y. is_before pair_cmp y limit in
+    let asc = ascending pair_cmp old in
+    let less : i + count_by p (drop i asc) ≡ count_by p asc = fewer_below (is_before pair_cmp) (ranks pair_total) limit asc i (rising old) (omega (arith, l, below_same old limit)) in
+    omega (arith, round.few, h, l, less, same p, below_same old limit)
+
+-- a round of no record: nothing passes any more
+pub round-ends :
+    (below : Option Pair) (bag next old items : List Pair) (i count left : ℕ) → items ≡ [] → IsSameBag bag (drop i (ascending pair_cmp old)) → IsRound below left bag next items → i ≤ popped_count below old count
+    → (take (popped_count below old count) (ascending pair_cmp old) ≡ take i (ascending pair_cmp old)) × IsSameBag next (without_front pair_cmp old (popped_count below old count))
+round-ends below bag next old items i count left none same round l =
+    let asc = ascending pair_cmp old in
+    let all = popped-all below bag old i count same (round.end none) l in
+    let here : i + length items ≡ i = ap (λ (xs : List Pair). i + length xs) none ∙ omega arith in
+    (all.0, λ p. round-left bag next old items i left below same round p ∙ ap (λ (n : ℕ). count_by p (drop n asc)) here ∙ sym (same p) ∙ all.1 p)
+
+-- one text more behind what was gathered
+pub gathers-more : (before mid now : Option (List ℕ)) (had between has text more : List ℕ) → Gathers before mid had text between → Gathers mid now between more has → Gathers before now had (text ++ more) has
+gathers-more before mid now had between has text more first second = record {
+  put = first.put ++ second.put;
+  took = takes_two before mid now first.put second.put first.took second.took;
+  kept =
+      sym (append_assoc had text more) ∙ ap (λ (t : List ℕ). t ++ more) first.kept ∙ append_assoc first.put between more ∙ ap (λ (t : List ℕ). first.put ++ t) second.kept
+      ∙ sym (append_assoc first.put second.put has);
+}
+
+pub gathers-nothing : (told : Option (List ℕ)) (had : List ℕ) → Gathers told told had [] had
+gathers-nothing told had = record { put = []; took = takes_nothing told; kept = append-nil had }
+
+-- what was gathered and then a part of it is a part of a longer text
+pub takes-part : (before mid now : Option (List ℕ)) (had between text more : List ℕ) → Gathers before mid had text between → TakesPart mid now between → TakesPart before now (had ++ (text ++ more))
+takes-part before mid now had between text more first took =
+    let P : List ℕ → Type 0 = λ t. TakesPart before now t in
+    let all : (first.put ++ between) ++ more ≡ had ++ (text ++ more) = ap (λ (t : List ℕ). t ++ more) (sym first.kept) ∙ append_assoc had text more in
+    subst P all (part_of_more before now (first.put ++ between) more (takes_and_part before mid now first.put between first.took took))
+
+-- the lines of the first records are those of fewer, and then the others'
+lines-around : (xs : List Pair) (i n : ℕ) → i ≤ n → lines_text (take n xs) ≡ lines_text (take i xs) ++ lines_text (take (n - i) (drop i xs))
+lines-around xs i n h =
+    let sum : i + (n - i) ≡ n = omega arith in
+    ap (λ (m : ℕ). lines_text (take m xs)) (sym sum) ∙ ap lines_text (take-add i (n - i) xs) ∙ flat_map-append line_of (take i xs) (take (n - i) (drop i xs))
+
+pub popped-part : (before now : Option (List ℕ)) (had has : List ℕ) (xs : List Pair) (i n : ℕ) → i ≤ n → Gathers before now had (lines_text (take i xs)) has → GathersPart before now had (lines_text (take n xs)) has
+popped-part before now had has xs i n h step = record { part = lines_text (take i xs); rest = lines_text (take (n - i) (drop i xs)); all = lines-around xs i n h; gathers = step }
+
+-- what was gathered and then a part of what it is with a round's lines
+pub round-put :
+    (before mid now : Option (List ℕ)) (had between : List ℕ) (xs items : List Pair) (i n : ℕ) → i + length items ≤ n → take (i + length items) xs ≡ take i xs ++ items → Gathers before mid had (lines_text (take i xs)) between
+    → TakesPart mid now (between ++ lines_text items) → TakesPart before now (had ++ lines_text (take n xs))
+round-put before mid now had between xs items i n h e step took =
+    let P : List ℕ → Type 0 = λ t. TakesPart before now t in
+    let text = lines_text (take i xs) in
+    let lines = lines_text items in
+    let rest = lines_text (take (n - (i + length items)) (drop (i + length items) xs)) in
+    let both : lines_text (take (i + length items) xs) ≡ text ++ lines = ap lines_text e ∙ flat_map-append line_of (take i xs) items in
+    let all : (step.put ++ (between ++ lines)) ++ rest ≡ had ++ lines_text (take n xs) =
+    ap (λ (t : List ℕ). t ++ rest) (sym (append_assoc step.put between lines) ∙ ap (λ (t : List ℕ). t ++ lines) (sym step.kept) ∙ append_assoc had text lines ∙ ap (λ (t : List ℕ). had ++ t) (sym both))
+    ∙ append_assoc had (lines_text (take (i + length items) xs)) rest ∙ ap (λ (t : List ℕ). had ++ t) (sym (lines-around xs (i + length items) n h)) in
+    subst P all (part_of_more before now (step.put ++ (between ++ lines)) rest (takes_and_part before mid now step.put (between ++ lines) step.took took))
+
+-- a part of what was gathered is one of what it is with more lines
+pub lines-put : (before mid now : Option (List ℕ)) (had between : List ℕ) (items : List Pair) (i : ℕ) → i ≤ length items → Gathers before mid had (lines_text (take i items)) between → TakesPart mid now between → TakesPart before now (had ++ lines_text items)
+lines-put before mid now had between items i h step took =
+    let P : List Pair → Type 0 = λ xs. TakesPart before now (had ++ lines_text xs) in
+    let Q : List ℕ → Type 0 = λ t. TakesPart before now (had ++ t) in
+    subst P (take-length items)
+    (subst Q (sym (lines-around items i (length items) h)) (takes-part before mid now had between (lines_text (take i items)) (lines_text (take (length items - i) (drop i items))) step took))
+
+-- a part of a text is a part of a longer one
+pub writes-more : (before now : Option (List ℕ)) (had text more has : List ℕ) (stop : Stop) → NotByFile stop → WritesPart before now had text has stop → WritesPart before now had (text ++ more) has stop
+writes-more before now had text more has Sink by part =
+    let P : List ℕ → Type 0 = λ t. TakesPart before now t in
+    subst P (append_assoc had text more) (part_of_more before now (had ++ text) more part)
+writes-more before now had text more has (Queue fault) by part = record {
+  part = part.part;
+  rest = part.rest ++ more;
+  all = ap (λ (t : List ℕ). t ++ more) part.all ∙ append_assoc part.part part.rest more;
+  gathers = part.gathers;
+}
+writes-more before now had text more has Read by part = absurd by
+writes-more before now had text more has Memory by part = absurd by
+writes-more before now had text more has (Changed line said got) by part = absurd by
+
+-- nothing was written yet
+pub nothing-part : (told : Option (List ℕ)) (had text : List ℕ) → GathersPart told told had text had
+nothing-part told had text = record { part = []; rest = text; all = refl; gathers = gathers-nothing told had }
+
+pub file-part : (told : Option (List ℕ)) (had : List ℕ) (stop : Stop) → IsByFile stop → WritesPart told told had [] had stop
+file-part told had Sink by = absurd by
+file-part told had (Queue fault) by = nothing-part told had []
+file-part told had Read by = gathers-nothing told had
+file-part told had Memory by = gathers-nothing told had
+file-part told had (Changed line said got) by = gathers-nothing told had

@@ -1,0 +1,31 @@
+-- What holds of a result's value or error.
+use Rattle.std.proofs.Common.{◌≡◌, sym, subst}
+use Rattle.std.specs.Prelude.{Result, Ok, Err, IfOk, IfErr, OnOk, OnErr, IsErrAnd, Option, Some, None, IfSome}
+
+pub if-err : {T E : Type 0} (r : Result T E) (e : E) (P : E → Type 0) → IsErrAnd r (λ x. x ≡ e) → P e → IfErr r P
+if-err (Ok v) e P is p = tt
+if-err (Err x) e P is p = subst P (sym is) p
+
+pub if-err-map : {T E : Type 0} (r : Result T E) (P Q : E → Type 0) → ((x : E) → P x → Q x) → IfErr r P → IfErr r Q
+if-err-map (Ok v) P Q f p = tt
+if-err-map (Err x) P Q f p = f x p
+
+pub if-ok-map : {T E : Type 0} (r : Result T E) (P Q : T → Type 0) → ((x : T) → P x → Q x) → IfOk r P → IfOk r Q
+if-ok-map (Ok v) P Q f p = f v p
+if-ok-map (Err x) P Q f p = tt
+
+pub on-ok-map : {T E : Type 0} (r : Result T E) (A B : Type 0) → (A → B) → OnOk r A → OnOk r B
+on-ok-map (Ok v) A B f a = f a
+on-ok-map (Err x) A B f a = tt
+
+pub on-ok : {T E : Type 0} (r : Result T E) (A : Type 0) → A → OnOk r A
+on-ok (Ok v) A a = a
+on-ok (Err x) A a = tt
+
+pub if-some : {A : Type 0} (t : Option A) (P : A → Type 0) (a : A) → t ≡ Some a → IfSome t P → P a
+if-some None P a e h = cc
+if-some (Some x) P a e h = let same : x ≡ a = cc in subst P same h
+
+pub on-err : {T E : Type 0} (r : Result T E) (A : Type 0) → A → OnErr r A
+on-err (Ok v) A a = tt
+on-err (Err x) A a = a

@@ -1,0 +1,114 @@
+-- How the size of a bag, its greatest size, and the room for it follow from commands.
+use Rattle.std.proofs.Common.{◌≡◌, ℕ, ◌+◌, ◌-◌, ◌<◌, ◌≤◌, List, [], ◌∷◌, ◌++◌, length, take, drop, max, Some, refl, sym, ap, subst, arith, inl, inr, take-append-drop}
+use Rattle.std.specs.Prelude.{slice_get}
+use Rattle.std.proofs.lemmas.Nat.{le-div}
+use Rattle.std.proofs.Math.Nat.{div-mul-le_self, mul-le-mul_left}
+use Rattle.ppq_outside.specs.Shown.{Shown}
+use Rattle.ppq_budget.specs.Sizes.{Numbers, blocks_for, room_of}
+use Rattle.ppq_array.specs.Kept.{all_writes}
+use Rattle.ppq_script.specs.declared.command.Command.{Command}
+use Rattle.ppq_script.specs.declared.command.Command.TheVariants.{Push, Pop, Top, Size, Bulk, Gen, BulkPop, BulkPopLimit, Drain}
+use Rattle.ppq_engine.specs.Loads.{none_go, all_go, size_after, size_from, greatest_from, most_of, least_of, HasRoom, IsTooMuch, FitsWritten}
+use Rattle.ppq_engine.specs.Running.{HasSizes, IsRefusedBy}
+use Rattle.ppq_engine.proofs.Running.{take-fewer, take-next}
+use Rattle.ppq_queue.specs.declared.fault.QueueFault.{QueueFault}
+use Rattle.ppq_queue.specs.declared.fault.QueueFault.TheVariants.{NoFreeBlock, Device}
+
+module _ (leaves : ℕ → ℕ → ℕ) where
+  size_from-append : (size : ℕ) (cs ds : List Command) → size_from leaves size (cs ++ ds) ≡ size_from leaves (size_from leaves size cs) ds
+  size_from-append size [] ds = refl
+  size_from-append size (c ∷ cs) ds = size_from-append (size_after leaves size c) cs ds
+
+  greatest_from-append : (size : ℕ) (cs ds : List Command) → greatest_from leaves size (cs ++ ds) ≡ max (greatest_from leaves size cs) (greatest_from leaves (size_from leaves size cs) ds)
+  greatest_from-append size [] ds = omega arith
+  greatest_from-append size (c ∷ cs) ds = omega (arith, greatest_from-append (size_after leaves size c) cs ds)
+
+  size-next : (cs : List Command) (c : Command) → size_from leaves 0 (cs ++ c ∷ []) ≡ size_after leaves (size_from leaves 0 cs) c
+  size-next cs c = size_from-append 0 cs (c ∷ [])
+
+  greatest-next : (cs : List Command) (c : Command) → greatest_from leaves 0 (cs ++ c ∷ []) ≡ max (greatest_from leaves 0 cs) (size_after leaves (size_from leaves 0 cs) c)
+  greatest-next cs c = omega (arith, greatest_from-append 0 cs (c ∷ []))
+
+  greatest-take : (k j : ℕ) (cs : List Command) → k ≤ j → greatest_from leaves 0 (take k cs) ≤ greatest_from leaves 0 (take j cs)
+  greatest-take k j cs h = omega (arith, ap (greatest_from leaves 0) (take-fewer k j cs h), greatest_from-append 0 (take k cs) (take (j - k) (drop k cs)))
+
+  pub greatest-take_all : (k : ℕ) (cs : List Command) → greatest_from leaves 0 (take k cs) ≤ greatest_from leaves 0 cs
+  greatest-take_all k cs = omega (arith, ap (greatest_from leaves 0) (take-append-drop k cs), greatest_from-append 0 (take k cs) (drop k cs))
+
+-- of more records more are left
+none_go-mono : (m n : ℕ) (c : Command) → m ≤ n → size_after none_go m c ≤ size_after none_go n c
+none_go-mono m n (Push item) h = omega arith
+none_go-mono m n Pop h = omega arith
+none_go-mono m n Top h = h
+none_go-mono m n Size h = h
+none_go-mono m n (Bulk file bytes) h = omega arith
+none_go-mono m n (Gen seed count) h = omega arith
+none_go-mono m n (BulkPop count) h = omega arith
+none_go-mono m n (BulkPopLimit limit count) h = h
+none_go-mono m n (Drain count) h = omega arith
+
+all_go-mono : (m n : ℕ) (c : Command) → m ≤ n → size_after all_go m c ≤ size_after all_go n c
+all_go-mono m n (Push item) h = omega arith
+all_go-mono m n Pop h = omega arith
+all_go-mono m n Top h = h
+all_go-mono m n Size h = h
+all_go-mono m n (Bulk file bytes) h = omega arith
+all_go-mono m n (Gen seed count) h = omega arith
+all_go-mono m n (BulkPop count) h = omega arith
+all_go-mono m n (BulkPopLimit limit count) h = omega arith
+all_go-mono m n (Drain count) h = omega arith
+
+-- more writes hold as many records, and what holds more records holds fewer
+pub fits-more : (size : ℕ) (sizes : Numbers) (slots later : List Shown) → FitsWritten size sizes slots → all_writes slots ≤ all_writes later → FitsWritten size sizes later
+fits-more size sizes slots later fits more = omega (arith, mul-le-mul_left sizes.block more)
+
+pub sizes-begin : (size peak : ℕ) (sizes : Numbers) (slots : List Shown) (commands : List Command) → size ≡ 0 → peak ≡ 0 → HasSizes size peak sizes slots (take 0 commands)
+sizes-begin size peak sizes slots commands e f = record { low = omega arith; high = omega arith; highest = omega arith; crest = omega arith }
+
+sizes-more :
+    (size next peak higher : ℕ) (sizes : Numbers) (slots later : List Shown) (cs : List Command) (c : Command)
+    → HasSizes size peak sizes slots cs → size_after all_go size c ≤ next → next ≤ size_after none_go size c → higher ≤ max peak (size_after none_go size c) → FitsWritten next sizes later → all_writes slots ≤ all_writes later
+    → HasSizes next higher sizes later (cs ++ c ∷ [])
+sizes-more size next peak higher sizes slots later cs c has low high up fits more =
+    let below = all_go-mono (size_from all_go 0 cs) size c has.low in
+    let above = none_go-mono size (size_from none_go 0 cs) c has.high in
+    record {
+      low = omega (arith, below, low, size-next all_go cs c);
+      high = omega (arith, above, high, size-next none_go cs c);
+      highest = omega (arith, above, up, has.highest, greatest-next none_go cs c);
+      crest = omega (arith, below, low, fits, fits-more (least_of cs) sizes slots later has.crest more, greatest-next all_go cs c);
+    }
+
+pub sizes-step :
+    (size next peak higher : ℕ) (sizes : Numbers) (slots later : List Shown) (commands : List Command) (i : ℕ) (command : Command)
+    → i < length commands → slice_get commands i ≡ Some command
+    → HasSizes size peak sizes slots (take i commands) → size_after all_go size command ≤ next → next ≤ size_after none_go size command → higher ≤ max peak (size_after none_go size command) → FitsWritten next sizes later → all_writes slots ≤ all_writes later
+    → HasSizes next higher sizes later (take (i + 1) commands)
+sizes-step size next peak higher sizes slots later commands i command h e has low high up fits more =
+    let P : List Command → Type 0 = λ cs. HasSizes next higher sizes later cs in
+    subst P (sym (take-next commands i command h e)) (sizes-more size next peak higher sizes slots later (take i commands) command has low high up fits more)
+
+-- a peak that a refused command was to reach is no more than the commands can bring
+pub peak-next :
+    (size peak higher : ℕ) (sizes : Numbers) (slots : List Shown) (commands : List Command) (i : ℕ) (command : Command)
+    → i < length commands → slice_get commands i ≡ Some command
+    → HasSizes size peak sizes slots (take i commands) → higher ≤ max peak (size_after none_go size command) → higher ≤ most_of (take (i + 1) commands)
+peak-next size peak higher sizes slots commands i command h e has up =
+    omega (arith, up, has.highest, none_go-mono size (size_from none_go 0 (take i commands)) command has.high, ap most_of (take-next commands i command h e), greatest-next none_go (take i commands) command)
+
+-- a greater load wants no fewer blocks
+room-more : (sizes : Numbers) (load more : ℕ) → 0 < sizes.block → load ≤ more → room_of sizes load ≤ room_of sizes more
+room-more sizes load more some h =
+    let blocks : blocks_for sizes load ≤ blocks_for sizes more = le-div (blocks_for sizes load) (more + (sizes.block - 1)) sizes.block some (omega (arith, div-mul-le_self (load + (sizes.block - 1)) sizes.block)) in
+    omega arith
+
+pub too_much-more : (sizes : Numbers) (load more : ℕ) → 0 < sizes.block → load ≤ more → IsTooMuch sizes load → IsTooMuch sizes more
+too_much-more sizes load more some h much = (omega (arith, much.0), omega (arith, much.1, room-more sizes load more some h))
+
+pub cause-more : (sizes : Numbers) (slots : List Shown) (load more : ℕ) (fault : QueueFault) → 0 < sizes.block → load ≤ more → IsRefusedBy load sizes slots fault → IsRefusedBy more sizes slots fault
+cause-more sizes slots load more NoFreeBlock some h cause = too_much-more sizes load more some h cause
+cause-more sizes slots load more (Device number) some h cause = cause
+
+pub no_room : (sizes : Numbers) (load : ℕ) → IsTooMuch sizes load → HasRoom sizes load → ⊥
+no_room sizes load much (inl heap) = omega (arith, much.0, heap)
+no_room sizes load much (inr room) = omega (arith, much.1, room)

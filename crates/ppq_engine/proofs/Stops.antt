@@ -1,0 +1,231 @@
+-- What stands where commands did not all run, and what the end then says.
+use Rattle.std.proofs.Common.{◌≡◌, ℕ, ◌+◌, ◌-◌, ◌<◌, ◌≤◌, List, [], ◌++◌, length, take, drop, max, Option, Some, refl, sym, ap, ◌∙◌, subst, arith, inl, inr, append_assoc, append-nil}
+use Rattle.std.specs.Prelude.{slice_get}
+use Rattle.std.proofs.lemmas.Bool.{cases_lt}
+use Rattle.ppq_record.specs.declared.pair.Pair.{Pair}
+use Rattle.ppq_outside.specs.Shown.{Shown, AllTell}
+use Rattle.ppq_outside.specs.Told.{Reply, TakesAll, TakesPart}
+use Rattle.ppq_outside.proofs.Takes.{part_of_more, all_is_part}
+use Rattle.ppq_budget.specs.Sizes.{Numbers}
+use Rattle.ppq_script.specs.declared.command.Command.{Command}
+use Rattle.ppq_script.specs.Reading.{Reading, command_list}
+use Rattle.ppq_engine.specs.Loads.{none_go, size_after, most_of, IsTooMuch}
+use Rattle.ppq_engine.specs.Output.{text_of, bag_of, output_of, output_from, load_of, given_of, AreFilesOf, TakesAtLeast, TakesWithin}
+use Rattle.ppq_engine.specs.Running.{HasRun, HasSizes, IsCut, IsBeforeFile, HasStopped, WritesPart, IsOfFile, StopsFor, ChangedIn, SinkAfter, LibraryAfter, queue_end}
+use Rattle.ppq_engine.specs.Popping.{NotByFile}
+use Rattle.ppq_engine.specs.Outcome.{EndSays, TakesBeforeFile, FaultBeforeFile, PutsStopped, PutsRest}
+use Rattle.ppq_engine.specs.declared.end.End.{End}
+use Rattle.ppq_engine.specs.declared.end.End.TheVariants as end
+use Rattle.ppq_engine.specs.declared.stop.Stop.{Stop}
+use Rattle.ppq_engine.specs.declared.stop.Stop.TheVariants.{Sink, Queue, Read, Memory, Changed}
+use Rattle.ppq_queue.specs.declared.fault.QueueFault.TheVariants.{NoFreeBlock, Device}
+use Rattle.ppq_engine.proofs.Running.{take-fewer, output_from-append, output-around, load-take, load-take_all, text-same_bag, gathered-all, gathered-part, part-behind, at_least}
+use Rattle.ppq_engine.proofs.Sizes.{peak-next, too_much-more, cause-more, greatest-take_all, no_room}
+use Rattle.ppq_engine.proofs.Steps.{HasLength, peak-step, run-cut}
+
+-- a cut output: what is put of it is a part of all, or the output of the first commands
+pub cut-part : (given : ℕ → List Pair) (before mid now : Option (List ℕ)) (had : List ℕ) (commands : List Command) (done : ℕ) (part : List ℕ) → IsCut given before mid had commands done part → TakesPart mid now had → TakesPart before now (output_of given commands)
+cut-part given before mid now had commands done part cut took =
+    let P : List ℕ → Type 0 = λ t. TakesPart before now t in
+    subst P (sym cut.all) (part_of_more before now (output_of given (take done commands) ++ part) cut.rest (gathered-part before mid now had (output_of given (take done commands) ++ part) cut.output took))
+
+cut-all : (given : ℕ → List Pair) (before mid now : Option (List ℕ)) (had : List ℕ) (commands : List Command) (done : ℕ) → IsCut given before mid had commands done [] → TakesAll mid now had → TakesAll before now (output_of given (take done commands))
+cut-all given before mid now had commands done cut took =
+    let P : List ℕ → Type 0 = λ t. TakesAll before now t in
+    subst P (append-nil (output_of given (take done commands))) (gathered-all before mid now had (output_of given (take done commands) ++ []) cut.output took)
+
+fewer-at_least :
+    (given : ℕ → List Pair) (before now : Option (List ℕ)) (commands : List Command) (k i : ℕ) (part : List ℕ) → k ≤ i → TakesAll before now (output_of given (take i commands) ++ part)
+    → TakesAtLeast before now (output_of given (take k commands))
+fewer-at_least given before now commands k i part h took =
+    let P : List ℕ → Type 0 = λ t. TakesAll before now t in
+    let more = output_from given (bag_of given (take k commands)) (take (i - k) (drop k commands)) in
+    let all : output_of given (take i commands) ++ part ≡ output_of given (take k commands) ++ (more ++ part) =
+    ap (λ (t : List ℕ). t ++ part) (ap (output_of given) (take-fewer k i commands h) ∙ output_from-append given [] (take k commands) (take (i - k) (drop k commands))) ∙ append_assoc (output_of given (take k commands)) more part in
+    at_least before now (output_of given (take k commands)) (more ++ part) (subst P all took)
+
+cut-within :
+    (given : ℕ → List Pair) (before mid now : Option (List ℕ)) (had : List ℕ) (sizes : Numbers) (commands : List Command) (done : ℕ) (part : List ℕ)
+    → 0 < sizes.block → IsCut given before mid had commands done part → TakesAll mid now had → IsTooMuch sizes (load_of given (take (done + 1) commands)) → TakesWithin given before now sizes commands
+cut-within given before mid now had sizes commands done part some cut took much = λ k room.
+    let all = gathered-all before mid now had (output_of given (take done commands) ++ part) cut.output took in
+    elim (cases_lt done k) as (λ _. TakesAtLeast before now (output_of given (take k commands))) [
+      | inr h ↦ fewer-at_least given before now commands k done part h all
+      | inl h ↦ absurd (no_room sizes (load_of given (take k commands)) (too_much-more sizes (load_of given (take (done + 1) commands)) (load_of given (take k commands)) some (load-take given (done + 1) k commands (omega arith)) much) room)
+    ]
+
+module _ (told : Option (List ℕ → Option (List ℕ))) (script : Reading) (first : List Shown) (before : Option (List ℕ)) where
+  -- the command at a place did not run to its end
+  pub stopped-step :
+      (stop : Stop) (mid now : Option (List ℕ)) (had has : List ℕ) (bag : List Pair) (size peak higher : ℕ) (sizes : Numbers) (slots later : List Shown) (i : ℕ) (command : Command)
+      → i < length (command_list script) → slice_get (command_list script) i ≡ Some command → 0 < sizes.block
+      → ((files : List ℕ → Option (List ℕ)) → AreFilesOf told script files → HasLength (given_of files script) command)
+      → (AllTell first → (files : List ℕ → Option (List ℕ)) → AreFilesOf told script files → HasRun (given_of files script) before mid had bag size peak sizes slots (take i (command_list script)))
+      → HasSizes size peak sizes slots (take i (command_list script)) → higher ≤ max peak (size_after none_go size command)
+      → (AllTell first → WritesPart mid now had (text_of bag command) has stop) → StopsFor higher sizes later stop → IsOfFile command stop
+      → HasStopped told script first before now has sizes later stop
+  stopped-step Sink mid now had has bag size peak higher sizes slots later i command h e some long run sized up part refused of_file = λ tells files is.
+      let given = given_of files script in
+      let commands = command_list script in
+      let ran = run tells files is in
+      let P : List ℕ → Type 0 = λ t. TakesPart before now t in
+      let out = output_of given (take i commands) in
+      let here : out ++ text_of bag command ≡ out ++ text_of (bag_of given (take i commands)) command = ap (λ (t : List ℕ). out ++ t) (text-same_bag bag (bag_of given (take i commands)) command ran.holds) in
+      subst P (sym (output-around given commands i command h e))
+      (part_of_more before now (out ++ text_of (bag_of given (take i commands)) command) (output_from given (bag_of given (take (i + 1) commands)) (drop (i + 1) commands))
+      (subst P here (part-behind before mid now had out (text_of bag command) ran.output (part tells))))
+  stopped-step (Queue fault) mid now had has bag size peak higher sizes slots later i command h e some long run sized up part refused of_file = record {
+    done = i;
+    cut =
+        λ tells files is.
+        let g = part tells in
+        (g.part, run-cut (given_of files script) before mid now had has bag size peak sizes slots (command_list script) i command g.part g.rest h e (run tells files is) g.all g.gathers);
+    cause =
+        λ tells files is.
+        cause-more sizes later higher (load_of (given_of files script) (take (i + 1) (command_list script))) fault some
+        (peak-step (given_of files script) before mid had bag size peak higher sizes slots (command_list script) i command h e (run tells files is) (long files is) up) refused;
+    any = cause-more sizes later higher (most_of (take (i + 1) (command_list script))) fault some (peak-next size peak higher sizes slots (command_list script) i command h e sized up) refused;
+  }
+  stopped-step Read mid now had has bag size peak higher sizes slots later i command h e some long run sized up part refused of_file = record {
+    done = i;
+    file = of_file.0;
+    size = of_file.1.0;
+    here = e ∙ ap (λ (c : Command). Some c) of_file.1.1;
+    cut = λ tells files is. run-cut (given_of files script) before mid now had has bag size peak sizes slots (command_list script) i command [] (text_of bag command) h e (run tells files is) refl (part tells);
+  }
+  stopped-step Memory mid now had has bag size peak higher sizes slots later i command h e some long run sized up part refused of_file = record {
+    done = i;
+    file = of_file.0;
+    size = of_file.1.0;
+    here = e ∙ ap (λ (c : Command). Some c) of_file.1.1;
+    cut = λ tells files is. run-cut (given_of files script) before mid now had has bag size peak sizes slots (command_list script) i command [] (text_of bag command) h e (run tells files is) refl (part tells);
+  }
+  stopped-step (Changed line said got) mid now had has bag size peak higher sizes slots later i command h e some long run sized up part refused of_file = record {
+    done = i;
+    file = of_file.0;
+    size = of_file.1.0;
+    here = e ∙ ap (λ (c : Command). Some c) of_file.1.1;
+    cut = λ tells files is. run-cut (given_of files script) before mid now had has bag size peak sizes slots (command_list script) i command [] (text_of bag command) h e (run tells files is) refl (part tells);
+  }
+
+  -- what was put is a part of the output
+  rest-part :
+      (mid now : Option (List ℕ)) (sink sink_now : ℕ) (had : List ℕ) (stopped over : End) (given : ℕ → List Pair) (done : ℕ) (part : List ℕ)
+      → PutsRest mid now sink sink_now had stopped over → IsCut given before mid had (command_list script) done part → TakesPart before now (output_of given (command_list script))
+  rest-part mid now sink sink_now had stopped over given done part (inl puts) cut = cut-part given before mid now had (command_list script) done part cut (all_is_part mid now had puts.0)
+  rest-part mid now sink sink_now had stopped over given done part (inr puts) cut = cut-part given before mid now had (command_list script) done part cut puts.0
+
+  pub part-stopped :
+      (stop : Stop) (mid now : Option (List ℕ)) (sink sink_now : ℕ) (had : List ℕ) (sizes : Numbers) (slots : List Shown) (over : End)
+      → HasStopped told script first before mid had sizes slots stop → PutsStopped mid now sink sink_now had over stop
+      → AllTell first → (files : List ℕ → Option (List ℕ)) → AreFilesOf told script files → TakesPart before now (output_of (given_of files script) (command_list script))
+  part-stopped Sink mid now sink sink_now had sizes slots over stopped puts = λ tells files is.
+      let P : Option (List ℕ) → Type 0 = λ n. TakesPart before n (output_of (given_of files script) (command_list script)) in
+      subst P (sym puts.0) (stopped tells files is)
+  part-stopped (Queue fault) mid now sink sink_now had sizes slots over stopped puts = λ tells files is.
+      let cut = stopped.cut tells files is in
+      rest-part mid now sink sink_now had (queue_end fault) over (given_of files script) stopped.done cut.0 puts cut.1
+  part-stopped Read mid now sink sink_now had sizes slots over stopped puts = λ tells files is. rest-part mid now sink sink_now had end.ReadFault over (given_of files script) stopped.done [] puts (stopped.cut tells files is)
+  part-stopped Memory mid now sink sink_now had sizes slots over stopped puts = λ tells files is. rest-part mid now sink sink_now had end.Memory over (given_of files script) stopped.done [] puts (stopped.cut tells files is)
+  part-stopped (Changed line said got) mid now sink sink_now had sizes slots over stopped puts =
+      λ tells files is. rest-part mid now sink sink_now had (end.FileChanged line said got) over (given_of files script) stopped.done [] puts (stopped.cut tells files is)
+
+  -- what was put is the output of the commands before one that reads a file
+  before-file : (mid now : Option (List ℕ)) (had : List ℕ) → IsBeforeFile told script first before mid had → TakesAll mid now had → TakesBeforeFile told script first before now
+  before-file mid now had stopped took = record {
+    done = stopped.done;
+    file = stopped.file;
+    size = stopped.size;
+    here = stopped.here;
+    took = λ tells files is. cut-all (given_of files script) before mid now had (command_list script) stopped.done (stopped.cut tells files is) took;
+  }
+
+  rest-before :
+      (mid now : Option (List ℕ)) (sink sink_now : ℕ) (had : List ℕ) (stopped over : End)
+      → PutsRest mid now sink sink_now had stopped over → (TakesAll mid now had → FaultBeforeFile told script first before now stopped) → FaultBeforeFile told script first before now over
+  rest-before mid now sink sink_now had stopped over (inl puts) all =
+      let P : End → Type 0 = λ e. FaultBeforeFile told script first before now e in
+      subst P (sym puts.1) (all puts.0)
+  rest-before mid now sink sink_now had stopped over (inr puts) all =
+      let P : End → Type 0 = λ e. FaultBeforeFile told script first before now e in
+      subst P (sym puts.1) tt
+
+  pub before-stopped :
+      (stop : Stop) (mid now : Option (List ℕ)) (sink sink_now : ℕ) (had : List ℕ) (sizes : Numbers) (slots : List Shown) (over : End)
+      → HasStopped told script first before mid had sizes slots stop → PutsStopped mid now sink sink_now had over stop → FaultBeforeFile told script first before now over
+  before-stopped Sink mid now sink sink_now had sizes slots over stopped puts =
+      let P : End → Type 0 = λ e. FaultBeforeFile told script first before now e in
+      subst P (sym puts.1) tt
+  before-stopped (Queue NoFreeBlock) mid now sink sink_now had sizes slots over stopped puts = rest-before mid now sink sink_now had end.NoFreeBlock over puts (λ took. tt)
+  before-stopped (Queue (Device number)) mid now sink sink_now had sizes slots over stopped puts = rest-before mid now sink sink_now had (end.DeviceFault number) over puts (λ took. tt)
+  before-stopped Read mid now sink sink_now had sizes slots over stopped puts = rest-before mid now sink sink_now had end.ReadFault over puts (before-file mid now had stopped)
+  before-stopped Memory mid now sink sink_now had sizes slots over stopped puts = rest-before mid now sink sink_now had end.Memory over puts (λ took. tt)
+  before-stopped (Changed line said got) mid now sink sink_now had sizes slots over stopped puts = rest-before mid now sink sink_now had (end.FileChanged line said got) over puts (before-file mid now had stopped)
+
+  -- all of the rest was put, or the sink failed
+  rest-says :
+      (replied : Reply → Type 0) (slots : List Shown) (sizes : Numbers) (mid now : Option (List ℕ)) (sink sink_mid sink_now library library_now : ℕ) (had : List ℕ) (stopped over : End)
+      → PutsRest mid now sink_mid sink_now had stopped over → sink_mid ≡ sink
+      → (TakesAll mid now had → sink_now ≡ sink → EndSays told replied script first slots sizes before now sink sink_now library library_now stopped)
+      → EndSays told replied script first slots sizes before now sink sink_now library library_now over
+  rest-says replied slots sizes mid now sink sink_mid sink_now library library_now had stopped over (inl puts) same says =
+      let P : End → Type 0 = λ e. EndSays told replied script first slots sizes before now sink sink_now library library_now e in
+      subst P (sym puts.1) (says puts.0 (puts.2 ∙ same))
+  rest-says replied slots sizes mid now sink sink_mid sink_now library library_now had stopped over (inr puts) same says =
+      let P : End → Type 0 = λ e. EndSays told replied script first slots sizes before now sink sink_now library library_now e in
+      subst P (sym puts.1) (omega (arith, puts.2, same))
+
+  pub says-stopped :
+      (stop : Stop) (replied : Reply → Type 0) (slots : List Shown) (sizes : Numbers) (mid now : Option (List ℕ)) (sink sink_mid sink_now library library_now : ℕ) (had : List ℕ) (over : End)
+      → 0 < sizes.block → HasStopped told script first before mid had sizes slots stop → ChangedIn told replied script stop → SinkAfter sink sink_mid stop → LibraryAfter library library_now stop
+      → PutsStopped mid now sink_mid sink_now had over stop
+      → EndSays told replied script first slots sizes before now sink sink_now library library_now over
+  says-stopped Sink replied slots sizes mid now sink sink_mid sink_now library library_now had over some stopped changed after library_after puts =
+      let P : End → Type 0 = λ e. EndSays told replied script first slots sizes before now sink sink_now library library_now e in
+      subst P (sym puts.1) (omega (arith, puts.2, after))
+  says-stopped (Queue NoFreeBlock) replied slots sizes mid now sink sink_mid sink_now library library_now had over some stopped changed after library_after puts =
+      rest-says replied slots sizes mid now sink sink_mid sink_now library library_now had end.NoFreeBlock over puts after
+      (λ took same. (
+        λ tells files is.
+            let cut = stopped.cut tells files is in
+            record {
+              within = cut-within (given_of files script) before mid now had sizes (command_list script) stopped.done cut.0 some cut.1 took (stopped.cause tells files is);
+              above = too_much-more sizes (load_of (given_of files script) (take (stopped.done + 1) (command_list script))) (load_of (given_of files script) (command_list script)) some (load-take_all (given_of files script) (stopped.done + 1) (command_list script)) (stopped.cause tells files is);
+            },
+        too_much-more sizes (most_of (take (stopped.done + 1) (command_list script))) (most_of (command_list script)) some (greatest-take_all none_go (stopped.done + 1) (command_list script)) stopped.any,
+        record { sink_same = same; library_same = library_after },
+      ))
+  says-stopped (Queue (Device number)) replied slots sizes mid now sink sink_mid sink_now library library_now had over some stopped changed after library_after puts =
+      rest-says replied slots sizes mid now sink sink_mid sink_now library library_now had (end.DeviceFault number) over puts after (λ took same. stopped.any)
+  says-stopped Read replied slots sizes mid now sink sink_mid sink_now library library_now had over some stopped changed after library_after puts =
+      rest-says replied slots sizes mid now sink sink_mid sink_now library library_now had end.ReadFault over puts after (λ took same. library_after)
+  says-stopped Memory replied slots sizes mid now sink sink_mid sink_now library library_now had over some stopped changed after library_after puts =
+      rest-says replied slots sizes mid now sink sink_mid sink_now library library_now had end.Memory over puts after
+      (λ took same. (
+        inr (before-file mid now had stopped took),
+        record { sink_same = same; library_same = library_after },
+      ))
+  says-stopped (Changed line said got) replied slots sizes mid now sink sink_mid sink_now library library_now had over some stopped changed after library_after puts =
+      rest-says replied slots sizes mid now sink sink_mid sink_now library library_now had (end.FileChanged line said got) over puts after (λ took same. (changed, record { sink_same = same; library_same = library_after }))
+
+-- a stop by sink or queue says nothing of files
+pub not_of_file : (command : Command) (stop : Stop) → NotByFile stop → IsOfFile command stop
+not_of_file command Sink by = tt
+not_of_file command (Queue fault) by = tt
+not_of_file command Read by = absurd by
+not_of_file command Memory by = absurd by
+not_of_file command (Changed line said got) by = absurd by
+
+pub not_changed : (told : Option (List ℕ → Option (List ℕ))) (replied : Reply → Type 0) (script : Reading) (stop : Stop) → NotByFile stop → ChangedIn told replied script stop
+not_changed told replied script Sink by = tt
+not_changed told replied script (Queue fault) by = tt
+not_changed told replied script Read by = absurd by
+not_changed told replied script Memory by = absurd by
+not_changed told replied script (Changed line said got) by = absurd by
+
+pub library_unasked : (count : ℕ) (stop : Stop) → NotByFile stop → LibraryAfter count count stop
+library_unasked count Sink by = refl
+library_unasked count (Queue fault) by = refl
+library_unasked count Read by = absurd by
+library_unasked count Memory by = absurd by
+library_unasked count (Changed line said got) by = absurd by

@@ -1,0 +1,78 @@
+use Rattle.std.proofs.Common.{◌≡◌, ◌+◌, ◌-◌, ◌++◌, ◌∙◌, ℕ, List, length, ap, None, refl, sym, subst, take, drop, arith}
+use Rattle.ppq_record.specs.declared.pair.Pair.{Pair}
+use Rattle.ppq_record.specs.Pair.{pair_cmp}
+use Rattle.ppq_record.specs.Bag.{IsSameBag, ascending}
+use Rattle.ppq_engine.specs.Gathers.{IsSummary}
+use Rattle.ppq_engine.proofs.Popped.{left-begin, round-left, round-taken, round-ends}
+use Rattle.ppq_engine.proofs.Pushed.{Keeps-refl, Keeps-trans}
+use Rattle.ppq_engine.proofs.pop.drain.Goals as goal
+
+pub rounds-init : goal.rounds-init
+rounds-init g c = record {
+  left = λ tells. left-begin c.args.queue.now.bag;
+  summary = λ tells. c.nothing-drained.ensures;
+  count = c.nothing-drained.ensures.count;
+  within = omega arith;
+  size = omega arith;
+  sound = c.requires.sound;
+  peak = refl;
+  kept = Keeps-refl c.args.queue.now;
+  list = refl;
+}
+
+pub returns-in_err-pop_round-clause-kept : goal.returns-in_err-pop_round-clause-kept
+returns-in_err-pop_round-clause-kept g c = Keeps-trans c.args.queue.now c.rounds.queue c.pop_round.new.queue c.rounds.invariant.kept c.pop_round.ensures.kept
+
+pub returns-then-is_empty-clause-summary : goal.returns-then-is_empty-clause-summary
+returns-then-is_empty-clause-summary g c = λ tells.
+    let here = c.rounds.invariant.kept.tells tells in
+    let all = round-ends None c.rounds.queue.bag c.pop_round.new.queue.bag c.args.queue.now.bag c.pop_round.new.list.items c.rounds.done c.args.count (c.args.count - c.rounds.done) (c.if-is_empty.ensures.0 refl) (c.rounds.invariant.left tells) (c.in_ok-pop_round.ensures.round here) c.rounds.invariant.within in
+    let P : List Pair → Type 0 = λ items. IsSummary items c.rounds.drained in
+    subst P (sym all.0) (c.rounds.invariant.summary tells)
+
+pub returns-then-is_empty-clause-bag : goal.returns-then-is_empty-clause-bag
+returns-then-is_empty-clause-bag g c = λ tells.
+    let here = c.rounds.invariant.kept.tells tells in
+    let all = round-ends None c.rounds.queue.bag c.pop_round.new.queue.bag c.args.queue.now.bag c.pop_round.new.list.items c.rounds.done c.args.count (c.args.count - c.rounds.done) (c.if-is_empty.ensures.0 refl) (c.rounds.invariant.left tells) (c.in_ok-pop_round.ensures.round here) c.rounds.invariant.within in
+    all.1
+
+pub returns-then-is_empty-clause-kept : goal.returns-then-is_empty-clause-kept
+returns-then-is_empty-clause-kept g c = Keeps-trans c.args.queue.now c.rounds.queue c.pop_round.new.queue c.rounds.invariant.kept c.pop_round.ensures.kept
+
+pub rounds-preserved : goal.rounds-preserved
+rounds-preserved g c =
+    let old = c.args.queue.now.bag in
+    let asc = ascending pair_cmp old in
+    let bag = c.rounds.queue.bag in
+    let next = c.pop_round.new.queue.bag in
+    let items = c.pop_round.new.list.items in
+    let done = c.rounds.done in
+    let left = c.args.count - done in
+    let sum : done + length items ≡ done + c.from-done.result = omega (arith, c.from-done.ensures, c.len.ensures.value) in
+    record {
+      left =
+          λ tells.
+          let P : ℕ → Type 0 = λ n. IsSameBag next (drop n asc) in
+          subst P sum (round-left bag next old items done left None (c.rounds.invariant.left tells) (c.in_ok-pop_round.ensures.round (c.rounds.invariant.kept.tells tells)));
+      summary =
+          λ tells.
+          let P : ℕ → Type 0 = λ n. IsSummary (take n asc) c.add_all-drained.result in
+          let Q : List Pair → Type 0 = λ xs. IsSummary xs c.add_all-drained.result in
+          let R : List Pair → Type 0 = λ xs. IsSummary (take done asc ++ xs) c.add_all-drained.result in
+          subst P sum
+          (subst Q (sym (round-taken bag next old items done left None (c.rounds.invariant.left tells) (c.in_ok-pop_round.ensures.round (c.rounds.invariant.kept.tells tells))))
+          (subst R c.as_slice.ensures (c.add_all-drained.ensures.summary (take done asc) (c.rounds.invariant.summary tells))));
+      count = omega (arith, sum, c.add_all-drained.ensures.count, c.rounds.invariant.count, ap length c.as_slice.ensures);
+      within = omega (arith, sum, c.pop_round.ensures.few, c.rounds.invariant.within);
+      size = omega (arith, sum, c.in_ok-pop_round.ensures.size, c.rounds.invariant.size);
+      sound = c.in_ok-pop_round.ensures.sound;
+      peak = c.pop_round.ensures.peak ∙ c.rounds.invariant.peak;
+      kept = Keeps-trans c.args.queue.now c.rounds.queue c.pop_round.new.queue c.rounds.invariant.kept c.pop_round.ensures.kept;
+      list = c.pop_round.ensures.list ∙ c.rounds.invariant.list;
+    }
+
+pub returns-clause-summary : goal.returns-clause-summary
+returns-clause-summary g c = λ tells.
+    let P : ℕ → Type 0 = λ n. IsSummary (take n (ascending pair_cmp c.args.queue.now.bag)) c.rounds.drained in
+    let all : c.rounds.done ≡ c.args.count = omega (arith, c.rounds.invariant.within) in
+    subst P all (c.rounds.invariant.summary tells)

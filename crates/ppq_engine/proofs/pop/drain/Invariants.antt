@@ -1,0 +1,23 @@
+use Rattle.std.proofs.Common.{◌≡◌, ◌≤◌, ◌-◌, None, take, drop}
+use Rattle.ppq_record.specs.Pair.{pair_cmp}
+use Rattle.ppq_record.specs.Bag.{IsSameBag, ascending}
+use Rattle.ppq_outside.specs.Shown.{AllTell}
+use Rattle.ppq_engine.specs.Gathers.{IsSummary}
+use Rattle.ppq_engine.specs.Running.{Keeps}
+use Rattle.ppq_engine.proofs.pop.drain.Given as goal
+
+abbrev pub invariant-rounds : goal.invariant-rounds
+invariant-rounds g l = record {
+  left : AllTell l.fn.queue.slots → IsSameBag l.queue.bag (drop l.done (ascending pair_cmp l.fn.queue.bag));
+  summary : AllTell l.fn.queue.slots → IsSummary (take l.done (ascending pair_cmp l.fn.queue.bag)) l.drained;
+  count : l.drained.count ≡ l.done;
+  within : l.done ≤ l.count;
+  size : l.queue.size ≡ l.fn.queue.size - l.done;
+  sound : l.queue.failed ≡ None;
+  peak : l.queue.peak ≡ l.fn.queue.peak;
+  kept : Keeps l.fn.queue l.queue;
+  list : l.list.room ≡ l.fn.list.room;
+}
+
+abbrev pub decreases-rounds : goal.decreases-rounds
+decreases-rounds g l = l.count - l.done

@@ -1,0 +1,26 @@
+use Rattle.std.proofs.Common.{◌++◌, ◌∙◌, ℕ, List, ap, sym, subst, take, arith}
+use Rattle.ppq_outside.specs.Told.{TakesPart}
+use Rattle.ppq_engine.specs.Output.{line_of, lines_text}
+use Rattle.ppq_engine.specs.Gathers.{Gathers}
+use Rattle.ppq_engine.proofs.Popped.{gathers-nothing, gathers-more, lines-more, lines-put}
+use Rattle.ppq_engine.proofs.Results.{on-err}
+use Rattle.ppq_engine.proofs.Running.{take-next}
+use Rattle.ppq_engine.proofs.pop.print_all.Goals as goal
+
+pub returns-in_err-print-clause-part : goal.returns-in_err-print-clause-part
+returns-in_err-print-clause-part g c =
+    let told = g.O.Sink.told in
+    on-err c.from_residual.result (TakesPart (told c.args.out.now) (told c.print.new.out) (c.args.gathered.now ++ lines_text c.args.items.now))
+    (lines-put (told c.args.out.now) (told c.loop-i.out) (told c.print.new.out) c.args.gathered.now c.loop-i.gathered c.args.items.now c.loop-i.i (omega arith) c.loop-i.invariant.text c.in_err-print.ensures.part)
+
+pub loop-i-preserved : goal.loop-i-preserved
+loop-i-preserved g c =
+    let told = g.O.Sink.told in
+    let items = c.args.items.now in
+    let P : List ℕ → Type 0 = λ t. Gathers (told c.args.out.now) (told c.print.new.out) c.args.gathered.now t c.print.new.self in
+    record {
+      text =
+          subst P (sym (ap lines_text (take-next items c.loop-i.i c.record_at-item.result (omega arith) c.record_at-item.ensures) ∙ lines-more (take c.loop-i.i items) c.record_at-item.result))
+          (gathers-more (told c.args.out.now) (told c.loop-i.out) (told c.print.new.out) c.args.gathered.now c.loop-i.gathered c.print.new.self (lines_text (take c.loop-i.i items)) (line_of c.record_at-item.result) c.loop-i.invariant.text c.in_ok-print.ensures.ok);
+      stays = c.in_ok-print.ensures.cause.ok ∙ c.loop-i.invariant.stays;
+    }

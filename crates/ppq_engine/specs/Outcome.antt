@@ -1,0 +1,95 @@
+-- What the end of a run says of its output, its blocks and its faults.
+use Rattle.std.specs.Prelude.{◌≡◌, ◌⊎◌, ⊤, ℕ, List, take, slice_get, Option, Some}
+use Rattle.ppq_record.specs.declared.pair.Pair.{Pair}
+use Rattle.ppq_outside.specs.Shown.{Shown, AllTell}
+use Rattle.ppq_outside.specs.Told.{Reply, TakesAll, TakesPart, Rose}
+use Rattle.ppq_budget.specs.Sizes.{Numbers}
+use Rattle.ppq_array.specs.Kept.{HasFailed}
+use Rattle.ppq_script.specs.declared.command.Command.TheVariants.{Bulk}
+use Rattle.ppq_script.specs.Reading.{Reading, command_list}
+use Rattle.ppq_engine.specs.Loads.{most_of, least_of, IsTooMuch, FitsWritten}
+use Rattle.ppq_engine.specs.Output.{AreFilesOf, given_of, output_of, load_of, crest_of, TakesWithin}
+use Rattle.ppq_engine.specs.Running.{HasChanged, queue_end}
+use Rattle.ppq_engine.specs.declared.end.End.{End}
+use Rattle.ppq_engine.specs.declared.end.End.TheVariants.{Done, BadLine, Usage, ReadFault, WriteFault, DeviceFault, NoFreeBlock, BudgetTooSmall, Memory, FileChanged, NoDevice, NoScript, ScriptTooLong}
+use Rattle.ppq_engine.specs.declared.stop.Stop.{Stop}
+use Rattle.ppq_engine.specs.declared.stop.Stop.TheVariants as stop
+
+-- the sink took the output of the commands before one that reads a file
+pub record TakesBeforeFile (told : Option (List ℕ → Option (List ℕ))) (script : Reading) (first : List Shown) (before now : Option (List ℕ)) : Type 0 where
+  pub done : ℕ
+  pub file : ℕ
+  pub size : ℕ
+  pub here : slice_get (command_list script) done ≡ Some (Bulk file size)
+  pub took :
+      AllTell first → (files : List ℕ → Option (List ℕ)) → AreFilesOf told script files
+      → TakesAll before now (output_of (given_of files script) (take done (command_list script)))
+
+-- where a file could not be read, or had changed, the sink took the output of the commands before one that reads a file
+abbrev pub FaultBeforeFile : Option (List ℕ → Option (List ℕ)) → Reading → List Shown → Option (List ℕ) → Option (List ℕ) → End → Type 0
+FaultBeforeFile told script first before now Done = ⊤
+FaultBeforeFile told script first before now (BadLine line) = ⊤
+FaultBeforeFile told script first before now Usage = ⊤
+FaultBeforeFile told script first before now ReadFault = TakesBeforeFile told script first before now
+FaultBeforeFile told script first before now WriteFault = ⊤
+FaultBeforeFile told script first before now (DeviceFault number) = ⊤
+FaultBeforeFile told script first before now NoFreeBlock = ⊤
+FaultBeforeFile told script first before now (BudgetTooSmall need) = ⊤
+FaultBeforeFile told script first before now Memory = ⊤
+FaultBeforeFile told script first before now (FileChanged line said got) = TakesBeforeFile told script first before now
+FaultBeforeFile told script first before now NoDevice = ⊤
+FaultBeforeFile told script first before now NoScript = ⊤
+FaultBeforeFile told script first before now ScriptTooLong = ⊤
+
+-- the sink took all output, and the greatest bag fits into the budget and what was written
+pub record IsWhole (given : ℕ → List Pair) (script : Reading) (before now : Option (List ℕ)) (sizes : Numbers) (slots : List Shown) : Type 0 where
+  pub took : TakesAll before now (output_of given (command_list script))
+  pub crest : FitsWritten (crest_of given (command_list script)) sizes slots
+
+-- the sink took what there was room for, and the load has none
+pub record IsFull (given : ℕ → List Pair) (script : Reading) (before now : Option (List ℕ)) (sizes : Numbers) : Type 0 where
+  pub within : TakesWithin given before now sizes (command_list script)
+  pub above : IsTooMuch sizes (load_of given (command_list script))
+
+-- neither the count of the sink nor that of the library rose
+pub record CountsStay (sink sink_now library library_now : ℕ) : Type 0 where
+  pub sink_same : sink_now ≡ sink
+  pub library_same : library_now ≡ library
+
+-- what an end says: of the files that the library tells, what it replied, the script, the blocks first and now, the output before and now,
+-- and the counts of sink and library
+abbrev pub EndSays : Option (List ℕ → Option (List ℕ)) → (Reply → Type 0) → Reading → List Shown → List Shown → Numbers → Option (List ℕ) → Option (List ℕ) → ℕ → ℕ → ℕ → ℕ → End → Type 0
+EndSays told replied script first slots sizes before now sink sink_now library library_now Done =
+    (AllTell first → (files : List ℕ → Option (List ℕ)) → AreFilesOf told script files → IsWhole (given_of files script) script before now sizes slots)
+    × FitsWritten (least_of (command_list script)) sizes slots
+    × CountsStay sink sink_now library library_now
+EndSays told replied script first slots sizes before now sink sink_now library library_now (BadLine line) = ⊥
+EndSays told replied script first slots sizes before now sink sink_now library library_now Usage = ⊥
+EndSays told replied script first slots sizes before now sink sink_now library library_now ReadFault = Rose library library_now
+EndSays told replied script first slots sizes before now sink sink_now library library_now WriteFault = Rose sink sink_now
+EndSays told replied script first slots sizes before now sink sink_now library library_now (DeviceFault number) = HasFailed number slots
+EndSays told replied script first slots sizes before now sink sink_now library library_now NoFreeBlock =
+    (AllTell first → (files : List ℕ → Option (List ℕ)) → AreFilesOf told script files → IsFull (given_of files script) script before now sizes)
+    × IsTooMuch sizes (most_of (command_list script))
+    × CountsStay sink sink_now library library_now
+EndSays told replied script first slots sizes before now sink sink_now library library_now (BudgetTooSmall need) = ⊥
+EndSays told replied script first slots sizes before now sink sink_now library library_now Memory =
+    ((now ≡ before) ⊎ TakesBeforeFile told script first before now) × CountsStay sink sink_now library library_now
+EndSays told replied script first slots sizes before now sink sink_now library library_now (FileChanged line said got) =
+    HasChanged told replied script line said got × CountsStay sink sink_now library library_now
+EndSays told replied script first slots sizes before now sink sink_now library library_now NoDevice = ⊥
+EndSays told replied script first slots sizes before now sink sink_now library library_now NoScript = ⊥
+EndSays told replied script first slots sizes before now sink sink_now library library_now ScriptTooLong = ⊥
+
+-- what was gathered was put: all of it, and the end is that of the stop; or a part, and the sink failed
+abbrev pub PutsRest : Option (List ℕ) → Option (List ℕ) → ℕ → ℕ → List ℕ → End → End → Type 0
+PutsRest before now sink sink_now had stopped end =
+    (TakesAll before now had × (end ≡ stopped) × (sink_now ≡ sink)) ⊎ (TakesPart before now had × (end ≡ WriteFault) × Rose sink sink_now)
+
+-- the same where it was not the sink that stopped, and nothing was put where it was
+abbrev pub PutsStopped : Option (List ℕ) → Option (List ℕ) → ℕ → ℕ → List ℕ → End → Stop → Type 0
+PutsStopped before now sink sink_now had end stop.Sink = (now ≡ before) × (end ≡ WriteFault) × (sink_now ≡ sink)
+PutsStopped before now sink sink_now had end (stop.Queue fault) = PutsRest before now sink sink_now had (queue_end fault) end
+PutsStopped before now sink sink_now had end stop.Read = PutsRest before now sink sink_now had ReadFault end
+PutsStopped before now sink sink_now had end stop.Memory = PutsRest before now sink sink_now had Memory end
+PutsStopped before now sink sink_now had end (stop.Changed line said got) = PutsRest before now sink sink_now had (FileChanged line said got) end

@@ -1,0 +1,45 @@
+-- Records that are popped one after the other, all or those below a limit.
+use Rattle.std.specs.Prelude.{◌≡◌, ◌≤◌, ℕ, List, [], length, take, drop, Option, Some, None, if◌then◌else◌, codes, ⊤}
+use Rattle.ppq_record.specs.declared.pair.Pair.{Pair}
+use Rattle.ppq_record.specs.Pair.{pair_cmp}
+use Rattle.ppq_record.specs.Order.{is_before}
+use Rattle.ppq_record.specs.Bag.{IsSameBag, ascending, least}
+use Rattle.ppq_engine.specs.Output.{limited_count}
+use Rattle.ppq_engine.specs.declared.stop.Stop.{Stop}
+use Rattle.ppq_engine.specs.declared.stop.Stop.TheVariants.{Sink, Queue, Read, Memory, Changed}
+
+-- a record, where there is one and it is below the limit, if there is one
+abbrev pub passing : Option Pair → Option Pair → Option Pair
+passing None item = item
+passing (Some limit) None = None
+passing (Some limit) (Some item) = if is_before pair_cmp item limit then Some item else None
+
+-- the least record of a bag, where it is below the limit
+abbrev pub next_of : Option Pair → List Pair → Option Pair
+next_of below bag = passing below (least pair_cmp bag)
+
+-- whether a record below the limit is left, where this is the least of them or none
+abbrev pub left_mark : Option Pair → List ℕ
+left_mark None = codes "all\n"
+left_mark (Some item) = codes "more\n"
+
+-- how many records are popped at the most: so many, and none that is not below the limit
+abbrev pub popped_count : Option Pair → List Pair → ℕ → ℕ
+popped_count None bag count = count
+popped_count (Some limit) bag count = limited_count bag limit count
+
+-- of a bag the least records were popped, as many as these, so many at the most, and none that is not below the limit; where there are
+-- none of these, none passes
+pub record IsRound (below : Option Pair) (count : ℕ) (bag rest items : List Pair) : Type 0 where
+  pub first : items ≡ take (length items) (ascending pair_cmp bag)
+  pub rest_is : IsSameBag rest (drop (length items) (ascending pair_cmp bag))
+  pub few : length items ≤ popped_count below bag count
+  pub end : items ≡ [] → next_of below bag ≡ None
+
+-- it was the sink or the queue that stopped
+abbrev pub NotByFile : Stop → Type 0
+NotByFile Sink = ⊤
+NotByFile (Queue fault) = ⊤
+NotByFile Read = ⊥
+NotByFile Memory = ⊥
+NotByFile (Changed line said got) = ⊥

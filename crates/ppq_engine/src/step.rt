@@ -1,0 +1,188 @@
+//! Runs one command.
+ghost use Rattle.std.specs.Prelude.{◌≡◌, ◌≤◌, ◌<◌, List, ℕ, Option, Some, None, OnOk, IfOk, IfErr, length, max, slice_get};
+ghost use Rattle.ppq_record.specs.declared.pair.Pair.{Pair};
+ghost use Rattle.ppq_record.specs.Bag.{IsSameBag};
+ghost use Rattle.ppq_budget.specs.Sizes.{batch_of};
+ghost use Rattle.ppq_outside.specs.Shown.{AllTell};
+ghost use Rattle.ppq_outside.specs.Told.{Remembers, RepliesOnly};
+ghost use Rattle.ppq_script.specs.Files.{NamesFile, HasRecords};
+ghost use Rattle.ppq_script.specs.Reading.{command_list};
+ghost use Rattle.ppq_engine.specs.Loads.{none_go, all_go, size_after};
+ghost use Rattle.ppq_engine.specs.Output.{least_text, text_of, after, given_of, AreFilesOf, KeepsLengths};
+ghost use Rattle.ppq_engine.specs.Files.{IsReadInScript};
+ghost use Rattle.ppq_engine.specs.Gathers.{answer_text, Gathers};
+ghost use Rattle.ppq_engine.specs.Popping.{NotByFile};
+ghost use Rattle.ppq_engine.specs.Running.{IsPlain, Keeps, IsRefusedBy, StopsFor, WritesPart, IsOfFile, ChangedIn, SinkAfter, LibraryAfter};
+
+use crate::Answer;
+use crate::files::push_file;
+use crate::gathered::Gathered;
+use crate::pop::{drain, pop_one, print_limited, print_popped, top_one};
+use crate::push::{push_generated, push_one};
+use crate::stop::Stop;
+use ppq_outside::{Gate, Host, Library, Sink, Slot};
+use ppq_queue::{Out, Queue, QueueFault};
+use ppq_record::Pair;
+use ppq_script::{Command, Script};
+use std::alloc::Global;
+
+/// What is printed of the least record.
+fn answer_of(item: Option<Pair>) -> Answer
+    ensures { answer_text result ≡ least_text item }
+{
+    match item {
+        Some(item) => Answer::Record { item },
+        None => Answer::Empty,
+    }
+}
+
+/// Runs a command that reads no file and prints one answer.
+fn act<H: Host, S: Slot + Send + Sync, G: Gate>(
+    rt: &H,
+    queue: &mut Queue<S, Pair>,
+    command: Command,
+    list: &mut Out<Pair>,
+    gate: &G,
+) -> Result<Answer, QueueFault>
+where
+    H::Dir: Send,
+    requires sound { queue.old.failed ≡ None }
+    requires list { list.old.room ≡ batch_of queue.old.sizes }
+    requires plain { IsPlain command }
+    ensures text { IfOk result (λ answer. AllTell queue.old.slots → answer_text answer ≡ text_of queue.old.bag command) }
+    ensures bag { OnOk result (AllTell queue.old.slots → (given : ℕ → List Pair) → IsSameBag queue.new.bag (after given queue.old.bag command)) }
+    ensures size { OnOk result ((leaves : ℕ → ℕ → ℕ) → queue.new.size ≡ size_after leaves queue.old.size command) }
+    ensures sound { OnOk result (queue.new.failed ≡ None) }
+    ensures peak { queue.new.peak ≤ max queue.old.peak (size_after none_go queue.old.size command) }
+    ensures refused { IfErr result (IsRefusedBy queue.new.peak queue.new.sizes queue.new.slots) }
+    ensures kept { Keeps queue.old queue.new }
+    ensures list { list.new.room ≡ list.old.room }
+{
+    match command {
+        Command::Push { item } => {
+            push_one(rt, queue, item, gate)?;
+            Ok(Answer::Nothing)
+        }
+        Command::Pop => Ok(answer_of(pop_one(rt, queue, gate)?)),
+        Command::Top => Ok(answer_of(top_one(rt, queue, gate)?)),
+        Command::Size => {
+            queue.known();
+            Ok(Answer::Size {
+                records: queue.size(),
+            })
+        }
+        Command::Gen { seed, count } => {
+            push_generated(rt, queue, seed, count, gate)?;
+            Ok(Answer::Nothing)
+        }
+        Command::Drain { count } => {
+            let drained = drain(rt, queue, count, list, gate)?;
+            Ok(Answer::Drained { drained })
+        }
+        Command::Bulk { .. } | Command::BulkPop { .. } | Command::BulkPopLimit { .. } => {
+            Ok(Answer::Nothing)
+        }
+    }
+}
+
+/// The same, and prints the answer.
+fn act_and_print<H: Host, S: Slot + Send + Sync, O: Sink, G: Gate>(
+    rt: &H,
+    queue: &mut Queue<S, Pair>,
+    command: Command,
+    list: &mut Out<Pair>,
+    gathered: &mut Gathered,
+    out: &mut O,
+    gate: &G,
+) -> Result<(), Stop>
+where
+    H::Dir: Send,
+    requires sound { queue.old.failed ≡ None }
+    requires list { list.old.room ≡ batch_of queue.old.sizes }
+    requires plain { IsPlain command }
+    ensures text { OnOk result (AllTell queue.old.slots → Gathers (O.told out.old) (O.told out.new) gathered.old (text_of queue.old.bag command) gathered.new) }
+    ensures bag { OnOk result (AllTell queue.old.slots → (given : ℕ → List Pair) → IsSameBag queue.new.bag (after given queue.old.bag command)) }
+    ensures part { IfErr result (λ stop. AllTell queue.old.slots → WritesPart (O.told out.old) (O.told out.new) gathered.old (text_of queue.old.bag command) gathered.new stop) }
+    ensures size { OnOk result ((leaves : ℕ → ℕ → ℕ) → queue.new.size ≡ size_after leaves queue.old.size command) }
+    ensures sound { OnOk result (queue.new.failed ≡ None) }
+    ensures peak { queue.new.peak ≤ max queue.old.peak (size_after none_go queue.old.size command) }
+    ensures refused { IfErr result (StopsFor queue.new.peak queue.new.sizes queue.new.slots) }
+    ensures no_file { IfErr result NotByFile }
+    ensures kept { Keeps queue.old queue.new }
+    ensures later { O.faults out.old ≤ O.faults out.new }
+    ensures stays { OnOk result (O.faults out.new ≡ O.faults out.old) }
+    ensures cause { IfErr result (SinkAfter (O.faults out.old) (O.faults out.new)) }
+    ensures list { list.new.room ≡ list.old.room }
+{
+    let answer = act(rt, queue, command, list, gate)?;
+    gathered.print(rt, answer, out)?;
+    Ok(())
+}
+
+/// Runs the command at place `i` of a script.
+pub fn step<H: Host, S: Slot + Send + Sync, L: Library, O: Sink, G: Gate>(
+    rt: &H,
+    alloc: Global,
+    script: &Script,
+    i: usize,
+    command: Command,
+    library: &mut L,
+    room: &mut [u8],
+    queue: &mut Queue<S, Pair>,
+    list: &mut Out<Pair>,
+    gathered: &mut Gathered,
+    out: &mut O,
+    gate: &G,
+) -> Result<(), Stop>
+where
+    H::Dir: Send,
+    requires place { i < length script.now.commands }
+    requires here { slice_get (command_list script.now) i ≡ Some command }
+    requires file { NamesFile (length script.now.names) command }
+    requires records { HasRecords command }
+    requires lengths { (files : List ℕ → Option (List ℕ)) → L.told library.old ≡ Some files → KeepsLengths files script.now }
+    requires room { 16 ≤ length room.old }
+    requires sound { queue.old.failed ≡ None }
+    requires list { list.old.room ≡ batch_of queue.old.sizes }
+    ensures text { OnOk result (AllTell queue.old.slots → Gathers (O.told out.old) (O.told out.new) gathered.old (text_of queue.old.bag command) gathered.new) }
+    ensures bag { OnOk result (AllTell queue.old.slots → (files : List ℕ → Option (List ℕ)) → AreFilesOf (L.told library.old) script.now files → IsSameBag queue.new.bag (after (given_of files script.now) queue.old.bag command)) }
+    ensures part { IfErr result (λ stop. AllTell queue.old.slots → WritesPart (O.told out.old) (O.told out.new) gathered.old (text_of queue.old.bag command) gathered.new stop) }
+    ensures low { OnOk result (size_after all_go queue.old.size command ≤ queue.new.size) }
+    ensures high { OnOk result (queue.new.size ≤ size_after none_go queue.old.size command) }
+    ensures sound { OnOk result (queue.new.failed ≡ None) }
+    ensures peak { queue.new.peak ≤ max queue.old.peak (size_after none_go queue.old.size command) }
+    ensures refused { IfErr result (StopsFor queue.new.peak queue.new.sizes queue.new.slots) }
+    ensures of_file { IfErr result (IsOfFile command) }
+    ensures changed { IfErr result (ChangedIn (L.told library.old) (L.replied library.new) script.now) }
+    ensures kept { Keeps queue.old queue.new }
+    ensures remembers { Remembers (L.replied library.old) (L.replied library.new) }
+    ensures asks { RepliesOnly (L.replied library.old) (L.replied library.new) (IsReadInScript script.now) }
+    ensures told { L.told library.new ≡ L.told library.old }
+    ensures library_later { L.faults library.old ≤ L.faults library.new }
+    ensures library_stays { OnOk result (L.faults library.new ≡ L.faults library.old) }
+    ensures library_cause { IfErr result (LibraryAfter (L.faults library.old) (L.faults library.new)) }
+    ensures later { O.faults out.old ≤ O.faults out.new }
+    ensures stays { OnOk result (O.faults out.new ≡ O.faults out.old) }
+    ensures cause { IfErr result (SinkAfter (O.faults out.old) (O.faults out.new)) }
+    ensures list { list.new.room ≡ list.old.room }
+{
+    match command {
+        Command::Bulk { file, length } => {
+            let name = script.name(file);
+            let line = script.line(i);
+            push_file(rt, alloc, library, name, line, length, room, queue, gate)
+        }
+        Command::BulkPop { count } => print_popped(
+            rt, queue, None, count, list, gathered, out, gate,
+        ),
+        Command::BulkPopLimit { limit, count } => {
+            print_limited(rt, queue, limit, count, list, gathered, out, gate)
+        }
+        Command::Push { .. }
+        | Command::Pop
+        | Command::Top
+        | Command::Size
+        | Command::Gen { .. }
+        | Command::Drain { .. } => act_and_print(rt, queue, command, list, gathered, out, gate),
+    }
+}

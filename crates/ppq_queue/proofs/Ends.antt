@@ -1,0 +1,102 @@
+-- A queue after a bulk pop, and how a bulk pop with a limit ended.
+use Rattle.std.proofs.Common.{◌≡◌, ℕ, ◌+◌, ◌-◌, ◌<◌, ◌≤◌, Bool, true, false, cond, List, [], ◌∷◌, ◌++◌, length, Option, Some, None, sym, ap, ◌∙◌, inl, inr, arith, Ordering}
+use Rattle.std.specs.Prelude.{count_by, ◌⊎◌}
+use Rattle.std.specs.declared.cmp.Ordering.TheVariants.{Equal}
+use Rattle.std.specs.Cmp.{IsTotalOrder}
+use Rattle.std.proofs.lemmas.Bool.{cases_Bool}
+use Rattle.ppq_record.specs.Order.{is_before, Le}
+use Rattle.ppq_record.specs.Bag.{IsSameBag, first_of, least, front, without_front, size_below}
+use Rattle.ppq_record.proofs.Order.{count_by-cons, count_by-append, Each-weaker, Le-trans, none_pass}
+use Rattle.ppq_record.proofs.Fronts.{ranks, front-parts}
+use Rattle.ppq_outside.specs.Shown.{Shown}
+use Rattle.ppq_budget.specs.Sizes.{Numbers, pool_of}
+use Rattle.ppq_heap.specs.Heap.{Contents}
+use Rattle.ppq_array.specs.Supply.{Stock}
+use Rattle.ppq_fetch.specs.Taking.{IsTaken, NoneBelow}
+use Rattle.ppq_extract.specs.Extracted.{Held, ServesFor}
+use Rattle.ppq_extract.specs.declared.sources.Sources.{Sources}
+use Rattle.ppq_spill.specs.declared.body.PassBody.{PassBody}
+use Rattle.ppq_queue.specs.Resting.{BodyKept}
+use Rattle.ppq_queue.specs.State.{IsQueue, IsSound}
+use Rattle.ppq_queue.specs.Bulk.{kept_below, TookOut}
+use Rattle.ppq_queue.proofs.Least.{least-le, least-none}
+
+module _ {S R : Type 0} (shown : S → Shown) (n : Numbers) where
+  -- a queue that counts fewer records
+  pub queue-less : (h : Contents R) (x : Held R) (a : PassBody S R) (s : Stock) (count less peak : ℕ) (failed : Option ℕ) → less ≤ count → IsQueue shown n h x a s count peak failed → IsQueue shown n h x a s less peak failed
+  queue-less h x a s count less peak failed few is =
+      record {
+        range = is.range;
+        budget = is.budget;
+        cap = is.cap;
+        in_heap = is.in_heap;
+        room = is.room;
+        in_extract = is.in_extract;
+        held = is.held;
+        pool = is.pool;
+        slots = is.slots;
+        no_row = is.no_row;
+        counted = omega (arith, is.counted, few);
+        most = is.most;
+        most_count = omega (arith, is.most_count, few);
+        fault = is.fault;
+      }
+
+  -- a sound queue after records were taken out
+  pub sound-took :
+      (cmp : R → R → Ordering) (record_of : List ℕ → R) (width : ℕ) (limit : Option R) (most : ℕ) (h h' : Contents R) (x x' : Held R) (a b : PassBody S R) (s t : Stock) (src src' : Sources R) (count less peak : ℕ) (out : List R)
+      → IsSound shown cmp record_of width n h x a s src count peak → BodyKept shown a b s t → TookOut shown cmp record_of width n limit most h.items h'.items x.items x'.items a b s t out → less ≡ count - length out
+      → src'.bench.workers ≡ src.bench.workers → ServesFor (pool_of n + 65) src'
+      → IsSound shown cmp record_of width n h' x' b t src' less peak
+  sound-took cmp record_of width limit most h h' x x' a b s t src src' count less peak out is kept took e workers serves =
+      record {
+        rest = took.rest;
+        counted = omega (arith, is.counted, took.count, e);
+        ascends = λ tell. took.ascends (kept.tells.1 tell);
+        order = λ tell. took.order (kept.tells.1 tell);
+        above = λ more. is.above (omega (arith, more, took.stored, took.count, is.counted, e));
+        workers = workers ∙ is.workers;
+        serves = serves;
+      }
+
+module _ {R : Type 0} {cmp : R → R → Ordering} (o : IsTotalOrder cmp) (same : (x y : R) → cmp x y ≡ Equal → x ≡ y) where
+  -- what is left where a front was taken
+  pub left_is : (bag out left : List R) (n : ℕ) → IsTaken cmp bag out left → out ≡ front cmp bag n → IsSameBag left (without_front cmp bag n)
+  left_is bag out left n taken e p =
+      omega (arith, taken.moved p, count_by-append p out left, front-parts o bag n p, count_by-append p (front cmp bag n) (without_front cmp bag n), ap (count_by p) e)
+
+  counts_one : (l y : R) (f rest bag : List R) → first_of f ≡ Some y → IsSameBag (f ++ rest) bag → is_before cmp y l ≡ true → 0 < size_below cmp bag l
+  counts_one l y [] rest bag e parts t = cc
+  counts_one l y (z ∷ zs) rest bag e parts t =
+      let is : z ≡ y = cc in
+      let p : R → Bool = λ x. is_before cmp x l in
+      let one : ◌≡◌ {A = ℕ} (cond (p z) 1 0) 1 = ap (λ (w : R). cond (is_before cmp w l) 1 0) is ∙ ap (λ b. cond b 1 0) t in
+      omega (arith, parts p, count_by-cons p z (zs ++ rest), one)
+
+  is_below : (l y : R) {x : R} → kept_below cmp (Some y) (Some l) ≡ Some x → is_before cmp y l ≡ true
+  is_below l y {x} e = elim (cases_Bool (is_before cmp y l)) as (λ _. is_before cmp y l ≡ true) [
+    | inl t ↦ t
+    | inr f ↦ absurd (let none : ◌≡◌ {A = Option R} None (Some x) = sym (ap (λ b. cond b (Some y) None) f) ∙ e in cc)
+  ]
+
+  not_below : (l y : R) → kept_below cmp (Some y) (Some l) ≡ None → Le (is_before cmp) l y
+  not_below l y e = elim (cases_Bool (is_before cmp y l)) as (λ _. is_before cmp y l ≡ false) [
+    | inl t ↦ absurd (let some : ◌≡◌ {A = Option R} (Some y) None = sym (ap (λ b. cond b (Some y) None) t) ∙ e in cc)
+    | inr f ↦ f
+  ]
+
+  -- the least record is below the limit
+  pub some_below : (l x : R) (bag : List R) (answer : Option R) → answer ≡ least cmp bag → kept_below cmp answer (Some l) ≡ Some x → 0 < size_below cmp bag l
+  some_below l x bag None e kept = cc
+  some_below l x bag (Some y) e kept = counts_one l y (front cmp bag 1) (without_front cmp bag 1) bag (sym e) (front-parts o bag 1) (is_below l y kept)
+
+  -- the least record is not below the limit, or there is none
+  pub none_below : (l : R) (bag : List R) (answer : Option R) → answer ≡ least cmp bag → kept_below cmp answer (Some l) ≡ None → size_below cmp bag l ≡ 0
+  none_below l bag None e kept = ap (λ (xs : List R). size_below cmp xs l) (least-none o same bag (sym e))
+  none_below l bag (Some y) e kept =
+      none_pass (λ x. is_before cmp x l) bag (Each-weaker (Le (is_before cmp) y) (Le (is_before cmp) l) (λ z k. Le-trans (is_before cmp) (ranks o) l y z (not_below l y kept) k) bag (least-le o same y bag (sym e)))
+
+  -- of an end: what is counted below the limit tells that the list is full
+  pub full_list : (l : R) (given left : List R) (most : ℕ) → (length given ≡ most) ⊎ NoneBelow cmp (Some l) left → 0 < size_below cmp left l → length given ≡ most
+  full_list l given left most (inl full) some = full
+  full_list l given left most (inr none) some = absurd (omega (arith, some, none_pass (λ x. is_before cmp x l) left none))

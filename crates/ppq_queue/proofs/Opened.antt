@@ -1,0 +1,132 @@
+-- A new queue: its parts are at rest.
+use Rattle.std.proofs.Common.{◌≡◌, ℕ, ◌-◌, ◌*◌, ◌≤◌, List, [], ◌∷◌, ◌++◌, length, map, Option, None, Some, All, sym, ap, ◌∙◌, subst, arith}
+use Rattle.std.specs.Prelude.{flat_map, Result, Ok, Err, OnOk, OnErr, is_err, Bool, true, false}
+use Rattle.std.specs.declared.cmp.Ordering.{Ordering}
+use Rattle.std.proofs.lemmas.List.Elements.{All-nil, All-weaker, All-cons, All-head, All-tail}
+use Rattle.ppq_record.specs.Order.{Ascends}
+use Rattle.ppq_outside.specs.Shown.{Shown}
+use Rattle.ppq_budget.specs.Sizes.{Numbers, AreInRange, fixed_of, pool_of}
+use Rattle.ppq_block.specs.Block.{Block, holding}
+use Rattle.ppq_array.specs.Run.{Run, items_of}
+use Rattle.ppq_array.specs.External.{External, records_in}
+use Rattle.ppq_array.specs.Supply.{Stock}
+use Rattle.ppq_array.specs.Owner.{HasBlock}
+use Rattle.ppq_array.specs.Holdings.{internal_buffers, external_buffers, external_slots, internal_items}
+use Rattle.ppq_fetch.specs.Fetching.{fronts_in, count_in}
+use Rattle.ppq_fetch.specs.Taking.{NoneAfter}
+use Rattle.ppq_spill.specs.Body.{job_slots}
+use Rattle.ppq_queue.specs.declared.parts.Parts.{Parts}
+use Rattle.ppq_queue.specs.Holding.{IsNewSlot}
+use Rattle.ppq_queue.specs.Slots.{with_slots}
+use Rattle.ppq_queue.specs.Resting.{AtRest, IsRestingRun, IsRestingArray, slots_of, runs_bag, count_of}
+use Rattle.ppq_queue.specs.State.{IsQueue, IsSound, AreNewParts}
+
+module _ {S R : Type 0} (shown : S → Shown) (n : Numbers) (parts : Parts S R) (is : AreNewParts n parts) (slots : List Shown) (stock : Stock) (e : stock ≡ with_slots parts.supply slots (parts.supply.slot_room - length slots)) (count : length slots ≡ n.blocks) where
+  kept_is : stock.kept ≡ slots
+  kept_is = ap (λ s. s.kept) e
+
+  room_is : stock.slot_room ≡ n.blocks - length slots
+  room_is = ap (λ s. s.slot_room) e ∙ ap (λ s. s.slot_room - length slots) is.supply
+
+  block_is : stock.block ≡ n.block
+  block_is = ap (λ s. s.block) e ∙ ap (λ s. s.block) is.supply
+
+  sure_is : stock.sure_buffers ≡ pool_of n
+  sure_is = ap (λ s. s.sure_buffers) e ∙ ap (λ s. s.sure_buffers) is.supply
+
+  none_out : stock.buffer_room ≡ 0
+  none_out = ap (λ s. s.buffer_room) e ∙ ap (λ s. s.buffer_room) is.supply
+
+  -- its slots are those that came, in their order
+  pub slots-opened : slots_of shown parts.body stock ≡ slots
+  slots-opened =
+      ap (λ l. external_slots shown l ++ job_slots shown parts.body.lanes.jobs.items ++ stock.kept) is.no_external ∙ ap (λ l. job_slots shown l ++ stock.kept) is.no_job ∙ kept_is
+
+  pub bag-opened : (record_of : List ℕ → R) (width : ℕ) → runs_bag shown record_of width parts.body ≡ []
+  bag-opened record_of width = ap (λ l. internal_items l ++ flat_map (records_in record_of width shown) parts.body.runs.external.items) is.no_internal ∙ ap (λ l. flat_map (records_in record_of width shown) l) is.no_external
+
+  internal_none : internal_buffers parts.body.runs.internal.items ≡ 0
+  internal_none = ap internal_buffers is.no_internal
+
+  external_none : external_buffers parts.body.runs.external.items ≡ 0
+  external_none = ap external_buffers is.no_external
+
+  count_none : count_of parts.body ≡ 0
+  count_none = ap (λ l. count_in l parts.body.runs.external.items) is.no_internal ∙ ap (λ l. count_in [] l) is.no_external
+
+  module _ (cmp : R → R → Ordering) (record_of : List ℕ → R) (width : ℕ) where
+    rest-opened : AtRest shown cmp record_of width n parts.body stock
+    rest-opened =
+        let P : Run R → Type 0 = λ run. Ascends cmp (items_of run) in
+        let Q : External S R → Type 0 = λ x. Ascends cmp (records_in record_of width shown x) in
+        record {
+          block = block_is;
+          idle = All-weaker (λ (b : Block R). b ≡ holding n.block []) (HasBlock stock.block) (λ b h. ap (λ (x : Block R). x.block) h ∙ sym block_is) parts.body.lanes.idle is.blocks;
+          internal = subst (All (IsRestingRun stock.block)) (sym is.no_internal) (All-nil (IsRestingRun stock.block));
+          external = subst (All (IsRestingArray shown width stock.block)) (sym is.no_external) (All-nil (IsRestingArray shown width stock.block));
+          takes_back = record { slots = omega (arith, ap (λ l. length (external_slots shown l)) is.no_external); buffers = omega (arith, internal_none) };
+          no_job = is.no_job;
+          batch = is.batch ∙ ap (λ k. n.workers * k) (sym block_is);
+          buffers = omega (arith, is.idle);
+          held = omega (arith, is.idle, internal_none, external_none, none_out);
+          bounded = omega (arith, external_none);
+          fronts = omega (arith, ap fronts_in is.no_external);
+          few = omega (arith, ap length is.no_external);
+          pool = omega (arith, sure_is, none_out);
+          slots = omega (arith, ap length kept_is, room_is, count);
+          internal_room = is.internal_room;
+          external_room = is.external_room;
+          leaves = omega (arith, is.leaves);
+          rise = λ tell. record { internal = subst (All P) (sym is.no_internal) (All-nil P); external = subst (All Q) (sym is.no_external) (All-nil Q) };
+        }
+
+    pub sound-opened : IsSound shown cmp record_of width n parts.heap parts.extract parts.body stock parts.sources 0 0
+    sound-opened =
+        let none = ap (λ x. x.items) is.extract in
+        record {
+          rest = rest-opened;
+          counted = omega (arith, ap length is.no_record, ap length none, count_none);
+          ascends = λ tell. subst (Ascends cmp) (sym none) tt;
+          order = λ tell. subst (λ l. NoneAfter cmp l (runs_bag shown record_of width parts.body)) (sym none) tt;
+          above = λ more. absurd (omega arith);
+          workers = is.workers;
+          serves = is.serves;
+        }
+
+  pub queue-opened : AreInRange n → fixed_of n ≤ n.memory → IsQueue shown n parts.heap parts.extract parts.body stock 0 0 None
+  queue-opened range budget =
+      let none = ap (λ x. x.items) is.extract in
+      record {
+        range = range;
+        budget = budget;
+        cap = is.cap;
+        in_heap = omega (arith, ap length is.no_record);
+        room = ap (λ x. x.room) is.extract;
+        in_extract = omega (arith, ap length none);
+        held = omega (arith, is.idle, internal_none, external_none, none_out, ap length is.no_job);
+        pool = omega (arith, sure_is, none_out);
+        slots = ap length slots-opened ∙ count;
+        no_row = ap (λ s. s.drawn) e ∙ ap (λ s. s.drawn) is.supply;
+        counted = omega arith;
+        most = omega arith;
+        most_count = omega arith;
+        fault = λ number h. absurd (no_fault number h);
+      }
+    where
+      no_fault : (number : ℕ) → ◌≡◌ {A = Option ℕ} None (Some number) → ⊥
+      no_fault number h = cc
+
+module _ {S : Type 0} (shown : S → Shown) (bytes : ℕ) where
+  -- the slots that came have so many bytes
+  pub slot_sizes : (xs : List S) → All (IsNewSlot bytes) (map shown xs) → All (λ s. (shown s).size ≡ bytes) xs
+  slot_sizes [] all = λ k d h. absurd (omega arith)
+  slot_sizes (x ∷ xs) all = All-cons (λ s. (shown s).size ≡ bytes) x xs (All-head (IsNewSlot bytes) (shown x) (map shown xs) all).size (slot_sizes xs (All-tail (IsNewSlot bytes) (shown x) (map shown xs) all))
+
+module _ {T E : Type 0} {P : Type 0} where
+  pub err_holds : (r : Result T E) (b : Bool) → b ≡ is_err r → b ≡ true → OnErr r P → P
+  err_holds (Ok v) b e t p = cc
+  err_holds (Err x) b e t p = p
+
+  pub ok_holds : (r : Result T E) (b : Bool) → b ≡ is_err r → b ≡ false → OnOk r P → P
+  ok_holds (Ok v) b e f p = p
+  ok_holds (Err x) b e f p = cc

@@ -1,0 +1,113 @@
+-- Slots that are moved: their sums stay.
+use Rattle.std.proofs.Common.{◌≡◌, ℕ, ◌+◌, cond, List, [], ◌∷◌, ◌++◌, length, take, drop, map, reverse, sum_by, All, refl, sym, ap, ◌∙◌, arith, append-nil, length-append, suc}
+use Rattle.std.specs.Prelude.{Option, Some, None, IsSome, is_some}
+use Rattle.std.proofs.lemmas.List.Elements.{All-nil, All-cons, All-head, All-tail}
+use Rattle.std.proofs.lemmas.List.{map-append, reverse-append, length-reverse, drop_all, take_all}
+use Rattle.std.proofs.lemmas.List.Sums.{sum_by-cons, sum_by-append}
+use Rattle.ppq_outside.specs.Shown.{Shown, Tells, AllTell}
+use Rattle.ppq_array.specs.External.{External}
+use Rattle.ppq_array.specs.Kept.{SameSlots}
+use Rattle.ppq_array.specs.Owner.{slots_shown}
+use Rattle.ppq_array.specs.Holdings.{external_slots}
+use Rattle.ppq_spill.proofs.SameSlots.{SameSlots-sums}
+use Rattle.ppq_spill.proofs.Keeping.{slots_more, slots_long}
+use Rattle.ppq_queue.specs.Slots.{SameSums}
+
+-- the last of a list is the first of it in reverse
+pub reverse-push : {A : Type 0} (xs : List A) (x : A) → reverse (xs ++ x ∷ []) ≡ x ∷ reverse xs
+reverse-push xs x = reverse-append xs (x ∷ [])
+
+module _ {S : Type 0} (shown : S → Shown) where
+  pub shown-push : (xs : List S) (x : S) → map shown (xs ++ x ∷ []) ≡ map shown xs ++ shown x ∷ []
+  shown-push xs x = map-append shown xs (x ∷ [])
+
+  -- one slot more at the end
+  pub sum-push : (f : Shown → ℕ) (xs : List S) (x : S) → sum_by f (map shown (xs ++ x ∷ [])) ≡ sum_by f (map shown xs) + f (shown x)
+  sum-push f xs x = ap (sum_by f) (shown-push xs x) ∙ omega (arith, sum_by-append f (map shown xs) (shown x ∷ []), sum_by-cons f (shown x) [])
+
+  pub sum-reverse : (f : Shown → ℕ) (xs : List S) → sum_by f (map shown (reverse xs)) ≡ sum_by f (map shown xs)
+  sum-reverse f [] = refl
+  sum-reverse f (x ∷ xs) =
+      ap (λ (l : List S). sum_by f (map shown l)) (reverse-append (x ∷ []) xs) ∙ sum-push f (reverse xs) x ∙ omega (arith, sum-reverse f xs, sum_by-cons f (shown x) (map shown xs))
+
+sum_ones : (xs : List Shown) → sum_by (λ _. 1) xs ≡ length xs
+sum_ones [] = refl
+sum_ones (x ∷ xs) = let e : sum_by (λ _. 1) (x ∷ xs) ≡ suc (length xs) = omega (arith, sum_by-cons (λ (_ : Shown). 1) x xs, sum_ones xs) in e
+
+-- lists with the same sums are as long
+pub SameSums-length : (a b : List Shown) → SameSums a b → length b ≡ length a
+SameSums-length a b h = omega (arith, sum_ones a, sum_ones b, h (λ _. 1))
+
+module _ {S : Type 0} (shown : S → Shown) where
+  -- slots that were put into boxes, and then came out of them again
+  pub berths_back :
+      (xs mid rest pushed final : List S) (slot : S) (kept : List Shown)
+      → mid ≡ reverse xs → map shown (reverse mid) ≡ kept ++ (shown slot ∷ map shown (reverse rest)) → pushed ≡ rest ++ slot ∷ [] → map shown final ≡ map shown pushed ++ kept
+      → SameSlots (map shown xs) (map shown final)
+  berths_back xs mid rest pushed final slot kept e part p end =
+      let sums : SameSums (map shown xs) (map shown final) = λ f.
+      omega (
+        arith,
+        sum-reverse shown f xs,
+        ap (λ (l : List S). sum_by f (map shown l)) e,
+        sum-reverse shown f mid,
+        ap (sum_by f) part,
+        sum_by-append f kept (shown slot ∷ map shown (reverse rest)),
+        sum_by-cons f (shown slot) (map shown (reverse rest)),
+        sum-reverse shown f rest,
+        ap (λ (l : List S). sum_by f (map shown l)) p,
+        sum-push shown f rest slot,
+        ap (sum_by f) end,
+        sum_by-append f (map shown pushed) kept,
+      )
+      in
+      SameSlots-sums (map shown xs) (map shown final) sums (sym (SameSums-length (map shown xs) (map shown final) sums))
+
+module _ {S R : Type 0} (shown : S → Shown) where
+  -- one run more at the end
+  pub stored-push : (arrays : List (External S R)) (array : External S R) (f : Shown → ℕ) → sum_by f (external_slots shown (arrays ++ array ∷ [])) ≡ sum_by f (external_slots shown arrays) + sum_by f (slots_shown shown array.stored)
+  stored-push arrays array f = ap (sum_by f) (slots_more shown arrays array) ∙ sum_by-append f (external_slots shown arrays) (slots_shown shown array.stored)
+
+  pub stored-push_length : (arrays : List (External S R)) (array : External S R) → length (external_slots shown (arrays ++ array ∷ [])) ≡ length (external_slots shown arrays) + length array.stored
+  stored-push_length arrays array = omega (arith, ap length (slots_more shown arrays array), length-append (external_slots shown arrays) (slots_shown shown array.stored), slots_long shown array.stored)
+
+  pub no_stored : (f : Shown → ℕ) (arrays : List (External S R)) → length arrays ≡ 0 → sum_by f (external_slots shown arrays) ≡ 0
+  no_stored f [] h = refl
+  no_stored f (x ∷ xs) h = absurd (omega arith)
+
+-- a list that was turned in place
+pub turned : {A : Type 0} (xs rev : List A) (len : ℕ) → rev ≡ reverse xs → len ≡ length xs → take len (rev ++ drop (length rev) xs) ≡ reverse xs
+turned xs rev len e l =
+    let long : length rev ≡ length xs = ap length e ∙ length-reverse xs in
+    ap (λ ys. take len (rev ++ ys)) (drop_all (length rev) xs (omega (arith, long))) ∙ ap (take len) (append-nil rev) ∙ take_all len rev (omega (arith, long, l)) ∙ e
+
+-- 1 of a slot that does not tell
+abbrev silent : Shown → ℕ
+silent s = cond (is_some s.told) 0 1
+
+told_none : (t : Option (List ℕ)) → IsSome t → ◌≡◌ {A = ℕ} (cond (is_some t) 0 1) 0
+told_none None h = absurd (cc)
+told_none (Some v) h = refl
+
+none_told : (t : Option (List ℕ)) → ◌≡◌ {A = ℕ} (cond (is_some t) 0 1) 0 → IsSome t
+none_told None h = absurd (omega arith)
+none_told (Some v) h = refl
+
+tell_sum : (xs : List Shown) → All Tells xs → sum_by silent xs ≡ 0
+tell_sum [] all = refl
+tell_sum (x ∷ xs) all = omega (arith, told_none x.told (All-head Tells x xs all), tell_sum xs (All-tail Tells x xs all), sum_by-cons silent x xs)
+
+sum_tell : (xs : List Shown) → sum_by silent xs ≡ 0 → All Tells xs
+sum_tell [] e = All-nil Tells
+sum_tell (x ∷ xs) e =
+    let cons = sum_by-cons silent x xs in
+    let here : ◌≡◌ {A = ℕ} (cond (is_some x.told) 0 1) 0 = omega (arith, e, cons) in
+    let rest : sum_by silent xs ≡ 0 = omega (arith, e, cons) in
+    All-cons Tells x xs (none_told x.told here) (sum_tell xs rest)
+
+-- the same slots tell in any order
+pub tells-sums : (a b : List Shown) → SameSums a b → AllTell a → AllTell b
+tells-sums a b h tell = sum_tell b (omega (arith, h silent, tell_sum a tell))
+
+pub slots-sums : (a b : List Shown) → SameSums a b → SameSlots a b
+slots-sums a b h = SameSlots-sums a b h (sym (SameSums-length a b h))

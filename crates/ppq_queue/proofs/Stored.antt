@@ -1,0 +1,280 @@
+-- What storing a run leaves: runs at rest, with the stored records.
+use Rattle.std.proofs.Common.{◌≡◌, ℕ, ◌+◌, ◌*◌, ◌<◌, ◌≤◌, List, [], ◌∷◌, ◌++◌, length, sum_by, All, sym, ap, ◌∙◌, subst, arith, inl, inr, append-nil, length-append}
+use Rattle.std.specs.Prelude.{flat_map, count_by}
+use Rattle.std.specs.declared.cmp.Ordering.{Ordering}
+use Rattle.std.proofs.lemmas.List.Sums.{sum_by-cons, sum_by-append}
+use Rattle.std.proofs.lemmas.List.Elements.{All-head, All-nil, All-push}
+use Rattle.std.proofs.lemmas.List.Concat.{flat_map-cons}
+use Rattle.std.proofs.lemmas.Grind.{flat_map-append}
+use Rattle.ppq_record.specs.Order.{Ascends}
+use Rattle.ppq_record.proofs.Order.{count_by-append}
+use Rattle.ppq_outside.specs.Shown.{Shown, AllTell}
+use Rattle.ppq_budget.specs.Sizes.{Numbers, AreInRange, fixed_of}
+use Rattle.ppq_array.specs.Run.{Run, items_of, buffers_of}
+use Rattle.ppq_array.specs.External.{External, size_of, records_in, IsPacked}
+use Rattle.ppq_array.specs.Supply.{Stock}
+use Rattle.ppq_array.specs.Kept.{Kept, SameSlots, all_writes}
+use Rattle.ppq_array.specs.Holdings.{internal_items, internal_buffers, external_buffers, RunHasBlock, ArrayHasSize, CanTakeBack}
+use Rattle.ppq_array.proofs.Noted.{all_right}
+use Rattle.ppq_fetch.specs.Fetching.{IsFitting, fronts_in, one_if_some, count_in}
+use Rattle.ppq_spill.specs.Body.{held_by}
+use Rattle.ppq_spill.specs.Storing.{MayStore, HasOneSize, LanesRest, RoomsRest, IsInBuffers, BlocksStored, IsStored, NoneFree, WritesFew, StillTell}
+use Rattle.ppq_spill.specs.declared.body.PassBody.{PassBody}
+use Rattle.ppq_queue.specs.Resting.{BodyKept, IsRestingRun, IsRestingArray, AtRest, Moved, StoreShort, runs_bag, slots_of, lane_buffers}
+use Rattle.ppq_queue.proofs.Bounds.{pool_within, pool_small, runs_few, idle_most, idle_some, in_buffers_few}
+use Rattle.ppq_queue.proofs.Counts.{internal_count}
+
+-- an owner draws from no row
+pub no_row_more : (xs ys : List Shown) → ys ≡ [] → xs ++ ys ≡ xs
+no_row_more xs ys e = ap (λ (l : List Shown). xs ++ l) e ∙ append-nil xs
+
+module _ {S R : Type 0} (shown : S → Shown) where
+  -- what a store keeps, whatever it answers
+  pub kept-stored :
+      (a b : PassBody S R) (s t : Stock)
+      → Kept s t (held_by shown a) (held_by shown b) → StillTell shown a b s t → (n : ℕ) → WritesFew shown n a b s t → RoomsRest a b
+      → length t.kept + t.slot_room ≡ length s.kept + s.slot_room → t.sure_buffers + t.buffer_room ≡ s.sure_buffers + s.buffer_room → s.drawn ≡ [] → t.drawn ≡ []
+      → BodyKept shown a b s t
+  kept-stored a b s t ks tells n few rooms home_slots home_buffers no_row no_row' =
+      let before : slots_of shown a s ++ t.drawn ≡ slots_of shown a s = no_row_more (slots_of shown a s) t.drawn no_row' in
+      let after : slots_of shown b t ++ s.drawn ≡ slots_of shown b t = no_row_more (slots_of shown b t) s.drawn no_row in
+      record {
+        slots = subst (λ (x : List Shown). SameSlots x (slots_of shown b t)) before (subst (λ (y : List Shown). SameSlots (slots_of shown a s ++ t.drawn) y) after ks.slots);
+        tells = (
+          (λ tell. subst AllTell after (tells.0 (subst AllTell (sym before) tell))),
+          (λ tell. subst AllTell before (tells.1 (subst AllTell (sym after) tell))),
+        );
+        writes = omega (arith, few.stay, ap all_writes before, ap all_writes after);
+        held = ks.buffers;
+        all_slots = home_slots;
+        all_buffers = home_buffers;
+        block = ks.block;
+        internal_room = rooms.internal;
+        external_room = rooms.external;
+        leaves = rooms.tree;
+      }
+
+  module _ (cmp : R → R → Ordering) (record_of : List ℕ → R) (width : ℕ) (n : Numbers) where
+    -- a body at rest can store a run more
+    pub may_store :
+        (a : PassBody S R) (s : Stock) (records : ℕ)
+        → AtRest shown cmp record_of width n a s → AreInRange n → fixed_of n ≤ n.memory → length a.runs.external.items ≤ 64 → records ≤ n.memory → MayStore shown width records a s
+    may_store a s records rest range budget few most =
+        record {
+          size = record {
+            some = omega (arith, rest.block, range.two_records);
+            small = omega (arith, rest.block, range.block);
+            idle = rest.idle;
+            internal = λ k d h. (rest.internal k d h).blocks;
+            external = λ k d h. (rest.external k d h).size;
+          };
+          buffer = omega (arith, idle_some shown cmp record_of width n a s rest);
+          few_idle = (let most_idle = idle_most shown cmp record_of width n a s rest in omega (arith, most_idle, pool_small n, range.workers));
+          no_job = rest.no_job;
+          takes_back = rest.takes_back;
+          internal_room = omega (arith, runs_few shown cmp record_of width n a s rest, rest.internal_room);
+          external_room = omega (arith, few, rest.external_room);
+          leaves = omega (arith, runs_few shown cmp record_of width n a s rest, rest.leaves);
+          few = omega (arith, in_buffers_few shown cmp record_of width n a s rest, pool_within n budget, most, range.memory);
+        }
+
+    module _ (a b : PassBody S R) (s t : Stock) (rest : AtRest shown cmp record_of width n a s) (kept : BodyKept shown a b s t) (size : HasOneSize shown width b t) (takes_back : CanTakeBack shown t b.runs.internal.items b.runs.external.items) (lanes : LanesRest a.lanes b.lanes) where
+      held_now : internal_buffers b.runs.internal.items + external_buffers b.runs.external.items + length b.lanes.idle ≡ lane_buffers n + t.buffer_room
+      held_now = omega (arith, kept.held, rest.held, ap length rest.no_job, ap length lanes.no_job)
+
+      batch_now : length b.lanes.batch.items ≡ n.workers * t.block
+      batch_now = lanes.batch ∙ rest.batch ∙ ap (λ k. n.workers * k) (sym kept.block)
+
+      same_runs : All (IsRestingRun t.block) a.runs.internal.items
+      same_runs = subst (λ k. All (IsRestingRun k) a.runs.internal.items) (sym kept.block) rest.internal
+
+      same_arrays : All (IsRestingArray shown width t.block) a.runs.external.items
+      same_arrays = subst (λ k. All (IsRestingArray shown width k) a.runs.external.items) (sym kept.block) rest.external
+
+      -- the same runs, and what changed besides
+      pub rest-same : b.runs.internal.items ≡ a.runs.internal.items → b.runs.external.items ≡ a.runs.external.items → AtRest shown cmp record_of width n b t
+      rest-same int ext =
+          record {
+            block = kept.block ∙ rest.block;
+            idle = size.idle;
+            internal = subst (All (IsRestingRun t.block)) (sym int) same_runs;
+            external = subst (All (IsRestingArray shown width t.block)) (sym ext) same_arrays;
+            takes_back = takes_back;
+            no_job = lanes.no_job;
+            batch = batch_now;
+            buffers = omega (arith, rest.buffers, lanes.idle, ap external_buffers ext);
+            held = held_now;
+            bounded = omega (arith, rest.bounded, ap external_buffers ext, ap fronts_in ext);
+            fronts = omega (arith, rest.fronts, ap fronts_in ext);
+            few = omega (arith, rest.few, ap length ext);
+            pool = kept.all_buffers ∙ rest.pool;
+            slots = kept.all_slots ∙ rest.slots;
+            internal_room = omega (arith, rest.internal_room, kept.internal_room);
+            external_room = omega (arith, rest.external_room, kept.external_room);
+            leaves = omega (arith, rest.leaves, kept.leaves);
+            rise = λ tell.
+                let rise = rest.rise (kept.tells.1 tell) in
+                record {
+                  internal = subst (All (λ (run : Run R). Ascends cmp (items_of run))) (sym int) rise.internal;
+                  external = subst (All (λ (x : External S R). Ascends cmp (records_in record_of width shown x))) (sym ext) rise.external;
+                };
+          }
+
+      pub moved-same : b.runs.internal.items ≡ a.runs.internal.items → b.runs.external.items ≡ a.runs.external.items → Moved shown cmp record_of width n [] a b s t
+      moved-same int ext =
+          record {
+            rest = rest-same int ext;
+            bag = λ tell p. omega (arith, ap (λ l. count_by p (internal_items l ++ flat_map (records_in record_of width shown) b.runs.external.items)) int, ap (λ l. count_by p (internal_items a.runs.internal.items ++ flat_map (records_in record_of width shown) l)) ext);
+            count = omega (arith, ap (λ l. count_in l b.runs.external.items) int, ap (λ l. count_in a.runs.internal.items l) ext);
+          }
+
+      module _ (sorted : List R) (some : 0 < length sorted) (up : AllTell (slots_of shown a s) → Ascends cmp sorted) where
+        -- one run in buffers more
+        pub moved-in_buffers : IsInBuffers sorted a b s t → Moved shown cmp record_of width n sorted a b s t
+        moved-in_buffers put =
+            let int = put.internal in
+            let ext = put.external in
+            let one : List (Run R) = put.run ∷ [] in
+            let blocks = All-head (RunHasBlock t.block) put.run [] (all_right (RunHasBlock t.block) a.runs.internal.items one (subst (All (RunHasBlock t.block)) int size.internal)) in
+            let run : IsRestingRun t.block put.run = record { some = omega (arith, ap length put.items, some); spent = put.spent; blocks = blocks; fitting = put.fitting } in
+            record {
+              rest = record {
+                block = kept.block ∙ rest.block;
+                idle = size.idle;
+                internal = subst (All (IsRestingRun t.block)) (sym int) (All-push (IsRestingRun t.block) a.runs.internal.items put.run same_runs run);
+                external = subst (All (IsRestingArray shown width t.block)) (sym ext) same_arrays;
+                takes_back = takes_back;
+                no_job = lanes.no_job;
+                batch = batch_now;
+                buffers = omega (arith, rest.buffers, lanes.idle, ap external_buffers ext);
+                held = held_now;
+                bounded = omega (arith, rest.bounded, ap external_buffers ext, ap fronts_in ext);
+                fronts = omega (arith, rest.fronts, ap fronts_in ext);
+                few = omega (arith, rest.few, ap length ext);
+                pool = kept.all_buffers ∙ rest.pool;
+                slots = kept.all_slots ∙ rest.slots;
+                internal_room = omega (arith, rest.internal_room, kept.internal_room);
+                external_room = omega (arith, rest.external_room, kept.external_room);
+                leaves = omega (arith, rest.leaves, kept.leaves);
+                rise = λ tell.
+                    let told = kept.tells.1 tell in
+                    let rise = rest.rise told in
+                    record {
+                      internal = subst (All (λ (run : Run R). Ascends cmp (items_of run))) (sym int) (All-push (λ (run : Run R). Ascends cmp (items_of run)) a.runs.internal.items put.run rise.internal (subst (Ascends cmp) (sym put.items) (up told)));
+                      external = subst (All (λ (x : External S R). Ascends cmp (records_in record_of width shown x))) (sym ext) rise.external;
+                    };
+              };
+              bag = λ tell p.
+                  omega (
+                    arith,
+                    ap (λ l. count_by p (internal_items l ++ flat_map (records_in record_of width shown) b.runs.external.items)) int,
+                    ap (λ l. count_by p (internal_items (a.runs.internal.items ++ one) ++ flat_map (records_in record_of width shown) l)) ext,
+                    count_by-append p (internal_items (a.runs.internal.items ++ one)) (flat_map (records_in record_of width shown) a.runs.external.items),
+                    ap (count_by p) (flat_map-append (λ (run : Run R). items_of run) a.runs.internal.items one),
+                    count_by-append p (internal_items a.runs.internal.items) (internal_items one),
+                    ap (count_by p) (flat_map-cons (λ (run : Run R). items_of run) put.run [] ∙ append-nil (items_of put.run) ∙ put.items),
+                    count_by-append p sorted (runs_bag shown record_of width a),
+                    count_by-append p (internal_items a.runs.internal.items) (flat_map (records_in record_of width shown) a.runs.external.items),
+                  );
+              count = omega (
+                arith,
+                ap (λ l. count_in l b.runs.external.items) int,
+                ap (λ l. count_in (a.runs.internal.items ++ one) l) ext,
+                sum_by-append (λ (run : Run R). length (items_of run)) a.runs.internal.items one,
+                sum_by-cons (λ (run : Run R). length (items_of run)) put.run [],
+                ap length put.items,
+              );
+            }
+
+        -- one run in blocks more, and none in buffers
+        pub moved-in_blocks : length a.runs.external.items ≤ 64 → s.drawn ≡ [] → t.drawn ≡ [] → BlocksStored cmp record_of width shown sorted a b s t → Moved shown cmp record_of width n sorted a b s t
+        moved-in_blocks few no_row no_row' put =
+            let int = put.internal in
+            let ext = put.external in
+            let array = put.array in
+            let one : List (External S R) = array ∷ [] in
+            let bytes = ArrayHasSize {R = R} shown (t.block * width) in
+            let before : slots_of shown a s ++ t.drawn ≡ slots_of shown a s = no_row_more (slots_of shown a s) t.drawn no_row' in
+            let blocks : bytes array = All-head bytes array [] (all_right bytes a.runs.external.items one (subst (All bytes) ext size.external)) in
+            let none : buffers_of array.loaded ≡ [] = ap buffers_of put.loaded in
+            let empty : items_of array.loaded ≡ [] = ap items_of put.loaded in
+            let is : IsRestingArray shown width t.block array =
+            record {
+              some = omega (arith, put.size, some);
+              level = omega (arith, put.level);
+              lifted = put.lifted;
+              size = blocks;
+              loaded = subst (All (λ x. x.block ≡ t.block)) (sym none) (All-nil (λ x. x.block ≡ t.block));
+              fitting = subst (All IsFitting) (sym none) (All-nil IsFitting);
+              spent = ap (λ r. r.spent) put.loaded;
+              packed = subst (λ k. IsPacked k array.stored) (sym kept.block) put.packed;
+              written = put.written;
+            }
+            in
+            let loaded_buffers : external_buffers b.runs.external.items ≡ external_buffers a.runs.external.items =
+            omega (arith, ap external_buffers ext, sum_by-append (λ (x : External S R). length (buffers_of x.loaded)) a.runs.external.items one, sum_by-cons (λ (x : External S R). length (buffers_of x.loaded)) array [], ap length none)
+            in
+            let fronts : fronts_in b.runs.external.items ≡ fronts_in a.runs.external.items =
+            omega (arith, ap fronts_in ext, sum_by-append (λ (x : External S R). one_if_some (items_of x.loaded)) a.runs.external.items one, sum_by-cons (λ (x : External S R). one_if_some (items_of x.loaded)) array [], ap one_if_some empty)
+            in
+            record {
+              rest = record {
+                block = kept.block ∙ rest.block;
+                idle = size.idle;
+                internal = subst (All (IsRestingRun t.block)) (sym int) (All-nil (IsRestingRun t.block));
+                external = subst (All (IsRestingArray shown width t.block)) (sym ext) (All-push (IsRestingArray shown width t.block) a.runs.external.items array same_arrays is);
+                takes_back = takes_back;
+                no_job = lanes.no_job;
+                batch = batch_now;
+                buffers = omega (arith, rest.buffers, lanes.idle, loaded_buffers);
+                held = held_now;
+                bounded = omega (arith, rest.bounded, loaded_buffers, fronts);
+                fronts = omega (arith, rest.fronts, fronts);
+                few = omega (arith, few, ap length ext, length-append a.runs.external.items one);
+                pool = kept.all_buffers ∙ rest.pool;
+                slots = kept.all_slots ∙ rest.slots;
+                internal_room = omega (arith, rest.internal_room, kept.internal_room);
+                external_room = omega (arith, rest.external_room, kept.external_room);
+                leaves = omega (arith, rest.leaves, kept.leaves);
+                rise = λ tell.
+                    let told = kept.tells.1 tell in
+                    let rise = rest.rise told in
+                    record {
+                      internal = subst (All (λ (run : Run R). Ascends cmp (items_of run))) (sym int) (All-nil (λ (run : Run R). Ascends cmp (items_of run)));
+                      external = subst (All (λ (x : External S R). Ascends cmp (records_in record_of width shown x))) (sym ext) (All-push (λ (x : External S R). Ascends cmp (records_in record_of width shown x)) a.runs.external.items array rise.external (put.ascends (subst AllTell (sym before) told)));
+                    };
+              };
+              bag = λ tell p.
+                  omega (
+                    arith,
+                    ap (λ l. count_by p (internal_items l ++ flat_map (records_in record_of width shown) b.runs.external.items)) int,
+                    ap (λ l. count_by p (flat_map (records_in record_of width shown) l)) ext,
+                    ap (count_by p) (flat_map-append (records_in record_of width shown) a.runs.external.items one),
+                    count_by-append p (flat_map (records_in record_of width shown) a.runs.external.items) (flat_map (records_in record_of width shown) one),
+                    ap (count_by p) (flat_map-cons (records_in record_of width shown) array [] ∙ append-nil (records_in record_of width shown array)),
+                    put.records (subst AllTell (sym before) tell) p,
+                    count_by-append p sorted (internal_items a.runs.internal.items),
+                    count_by-append p sorted (runs_bag shown record_of width a),
+                    count_by-append p (internal_items a.runs.internal.items) (flat_map (records_in record_of width shown) a.runs.external.items),
+                  );
+              count = omega (
+                arith,
+                ap (λ l. count_in l b.runs.external.items) int,
+                ap (λ (l : List (External S R)). sum_by size_of l) ext,
+                sum_by-append (λ (x : External S R). size_of x) a.runs.external.items one,
+                sum_by-cons (λ (x : External S R). size_of x) array [],
+                put.size,
+                internal_count a.runs.internal.items,
+              );
+            }
+
+        pub moved-stored : length a.runs.external.items ≤ 64 → s.drawn ≡ [] → t.drawn ≡ [] → IsStored cmp record_of width shown sorted a b s t → Moved shown cmp record_of width n sorted a b s t
+        moved-stored few no_row no_row' (inl put) = moved-in_buffers put
+        moved-stored few no_row no_row' (inr put) = moved-in_blocks few no_row no_row' put.blocks
+
+        pub short-stored : NoneFree (length sorted) a b s t → StoreShort shown cmp record_of width n (length sorted) a b s t
+        short-stored none =
+            record {
+              moved = moved-same none.slots.internal none.slots.external;
+              short = (let size : length t.kept * s.block ≡ length t.kept * n.block = ap (λ k. length t.kept * k) rest.block in omega (arith, none.slots.still_few, size, internal_count a.runs.internal.items));
+            }

@@ -1,0 +1,39 @@
+use Rattle.std.proofs.Common.{◌≡◌, ◌+◌, ◌*◌, ◌≤◌, ◌++◌, length, arith, ap, ◌∙◌, subst, sym, length-append}
+use Rattle.std.proofs.Math.Nat.{mul-le-mul_right, mul_comm}
+use Rattle.ppq_outside.specs.Shown.{AllTell}
+use Rattle.ppq_array.specs.Kept.{all_writes}
+use Rattle.ppq_fetch.specs.Fetching.{blocks_in}
+use Rattle.ppq_queue.specs.Resting.{slots_of, runs_bag}
+use Rattle.ppq_queue.proofs.Bounds.{records_within, written, bag_length}
+use Rattle.ppq_queue.proofs.queue.Queue.known.Goals as goal
+
+pub returns-clause-counted : goal.returns-clause-counted
+returns-clause-counted g c none tell =
+    let s = c.self.inside in
+    let shown = g.S.Slot.shown in
+    let sound = c.self.invariant.1 (ap (λ q. q.failed) c.self.view_is ∙ none) in
+    let told = subst (λ q. AllTell q.slots) (sym c.self.view_is) tell in
+    let runs = runs_bag shown g.R.Record.record_of g.R.Record.WIDTH s.body in
+    omega (
+      arith,
+      ap (λ q. length q.bag) c.self.view_is,
+      ap (λ q. q.size) c.self.view_is,
+      length-append (s.heap.items ++ s.extract.items) runs,
+      length-append s.heap.items s.extract.items,
+      bag_length shown g.R.Ord.cmp g.R.Record.record_of g.R.Record.WIDTH s.sizes s.body s.supply sound.rest told,
+      sound.counted,
+    )
+
+pub returns-clause-written : goal.returns-clause-written
+returns-clause-written g c none =
+    let s = c.self.inside in
+    let shown = g.S.Slot.shown in
+    let i = c.self.invariant.0 in
+    let sound = c.self.invariant.1 (ap (λ q. q.failed) c.self.view_is ∙ none) in
+    let slots = slots_of shown s.body s.supply in
+    let within = records_within shown g.R.Ord.cmp g.R.Record.record_of g.R.Record.WIDTH s.sizes s.body s.supply sound.rest i.range i.budget (length s.heap.items) (length s.extract.items) i.in_heap i.in_extract in
+    let few = written shown g.R.Ord.cmp g.R.Record.record_of g.R.Record.WIDTH s.sizes s.body s.supply sound.rest in
+    let more : blocks_in s.body.runs.external.items * s.sizes.block ≤ all_writes slots * s.sizes.block = mul-le-mul_right s.sizes.block few in
+    let turned : all_writes slots * s.sizes.block ≡ s.sizes.block * all_writes slots = mul_comm (all_writes slots) s.sizes.block in
+    let size : s.count ≤ s.sizes.memory + s.sizes.block * all_writes slots = omega (arith, within, more, turned, sound.counted) in
+    subst (λ q. q.size ≤ q.sizes.memory + q.sizes.block * all_writes q.slots) c.self.view_is size

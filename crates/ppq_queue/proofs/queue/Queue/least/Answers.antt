@@ -1,0 +1,35 @@
+use Rattle.std.proofs.Common.{◌≡◌, ◌∙◌, cond, length, ap, sym, subst, arith}
+use Rattle.ppq_outside.specs.Shown.{AllTell}
+use Rattle.ppq_record.specs.Bag.{least}
+use Rattle.ppq_queue.specs.Resting.{runs_bag}
+use Rattle.ppq_queue.proofs.Bounds.{bag_length}
+use Rattle.ppq_queue.proofs.Ready.{ready_least}
+use Rattle.ppq_queue.proofs.queue.Queue.least.Goals as goal
+
+pub returns-then-goes_first-clause-answer : goal.returns-then-goes_first-clause-answer
+returns-then-goes_first-clause-answer g c tell =
+    let laws = c.record_laws.ensures in
+    let s = c.self.inside in
+    let view = c.self.view_is in
+    let shown = g.S.Slot.shown in
+    let sound = c.self.invariant.1 (ap (λ q. q.failed) view ∙ c.requires.sound) in
+    let told = subst (λ q. AllTell q.slots) (sym view) tell in
+    let runs = runs_bag shown g.R.Record.record_of g.R.Record.WIDTH s.body in
+    let all = bag_length shown g.R.Ord.cmp g.R.Record.record_of g.R.Record.WIDTH s.sizes s.body s.supply sound.rest told in
+    let ready : length s.extract.items ≡ 0 → length runs ≡ 0 = λ z. omega (arith, c.requires.ready (sym (ap (λ q. q.in_extract) view) ∙ z), ap (λ q. q.size) view, ap (λ q. q.in_heap) view, sound.counted, all) in
+    let two = ready_least laws.order laws.same s.heap.items s.extract.items runs c.min-latest.result c.front-stored.result c.goes_first.result c.min-latest.ensures.value c.front-stored.ensures c.goes_first.ensures (sound.ascends told) (sound.order told) ready in
+    sym (ap (λ b. cond b c.min-latest.result c.front-stored.result) c.if-goes_first.true) ∙ two ∙ ap (λ q. least g.R.Ord.cmp q.bag) view
+
+pub returns-clause-answer : goal.returns-clause-answer
+returns-clause-answer g c tell =
+    let laws = c.record_laws.ensures in
+    let s = c.self.inside in
+    let view = c.self.view_is in
+    let shown = g.S.Slot.shown in
+    let sound = c.self.invariant.1 (ap (λ q. q.failed) view ∙ c.requires.sound) in
+    let told = subst (λ q. AllTell q.slots) (sym view) tell in
+    let runs = runs_bag shown g.R.Record.record_of g.R.Record.WIDTH s.body in
+    let all = bag_length shown g.R.Ord.cmp g.R.Record.record_of g.R.Record.WIDTH s.sizes s.body s.supply sound.rest told in
+    let ready : length s.extract.items ≡ 0 → length runs ≡ 0 = λ z. omega (arith, c.requires.ready (sym (ap (λ q. q.in_extract) view) ∙ z), ap (λ q. q.size) view, ap (λ q. q.in_heap) view, sound.counted, all) in
+    let two = ready_least laws.order laws.same s.heap.items s.extract.items runs c.min-latest.result c.front-stored.result c.goes_first.result c.min-latest.ensures.value c.front-stored.ensures c.goes_first.ensures (sound.ascends told) (sound.order told) ready in
+    sym (ap (λ b. cond b c.min-latest.result c.front-stored.result) c.if-goes_first.false) ∙ two ∙ ap (λ q. least g.R.Ord.cmp q.bag) view

@@ -1,9 +1,0 @@
-use Rattle.std.proofs.Common.{◌+◌, ◌*◌, ◌≤◌, subst}
-use Rattle.ppq_queue.proofs.Popped.{within_buffers, used_buffers}
-use Rattle.ppq_queue.proofs.stored.Stored.len.Goals as goal
-
-pub returns-clause-within : goal.returns-clause-within
-returns-clause-within g c = subst (λ v. c.self.inside.count + v.idle * v.block ≤ v.buffers * v.block) c.self.view_is (within_buffers c.record_laws.ensures.order c.record_laws.ensures.same c.self.inside.block c.self.inside.runs.items c.self.inside.tree.items c.self.inside.idle c.self.inside.count c.self.invariant.0)
-
-pub returns-clause-used : goal.returns-clause-used
-returns-clause-used g c = subst (λ v. v.buffers ≤ v.idle + c.self.inside.count) c.self.view_is (used_buffers c.record_laws.ensures.order c.record_laws.ensures.same c.self.inside.block c.self.inside.runs.items c.self.inside.tree.items c.self.inside.idle c.self.inside.count c.self.invariant.0)

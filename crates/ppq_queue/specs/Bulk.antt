@@ -1,0 +1,67 @@
+-- Taking many records out of a queue at once.
+use Rattle.std.specs.Prelude.{◌≡◌, ◌⊎◌, ℕ, ◌+◌, ◌<◌, ◌≤◌, Bool, true, false, cond, List, [], ◌++◌, length, Option, Some, None}
+use Rattle.std.specs.declared.cmp.Ordering.{Ordering}
+use Rattle.ppq_record.specs.Order.{is_before, Ascends}
+use Rattle.ppq_record.specs.Bag.{size_below}
+use Rattle.ppq_outside.specs.Shown.{Shown, AllTell}
+use Rattle.ppq_budget.specs.Sizes.{Numbers}
+use Rattle.ppq_array.specs.Supply.{Stock}
+use Rattle.ppq_fetch.specs.Taking.{NoneAfter, IsTaken, AllBelow, NoneBelow}
+use Rattle.ppq_spill.specs.declared.body.PassBody.{PassBody}
+use Rattle.ppq_queue.specs.Resting.{AtRest, runs_bag, count_of, slots_of}
+use Rattle.ppq_queue.specs.declared.limit_end.LimitEnd.{LimitEnd}
+use Rattle.ppq_queue.specs.declared.limit_end.LimitEnd.TheVariants.{All, More, Round}
+
+module _ {R : Type 0} (cmp : R → R → Ordering) where
+  -- Why a bulk pop with a limit ended, of so many records wanted and so many that one call returns at most, with what is left: none below the
+  -- limit is left; or one is, and all that were wanted were given; or one is, and fewer were given, as many as a call returns
+  abbrev pub IsEnd : (batch wanted : ℕ) (limit : R) (given left : List R) → LimitEnd → Type 0
+  IsEnd batch wanted limit given left All = size_below cmp left limit ≡ 0
+  IsEnd batch wanted limit given left More = (length given ≡ wanted) × (0 < size_below cmp left limit)
+  IsEnd batch wanted limit given left Round = (length given ≡ batch) × (batch < wanted) × (0 < size_below cmp left limit)
+
+  -- a record where it is below a limit, if there is one
+  abbrev pub kept_below : Option R → Option R → Option R
+  kept_below None limit = None
+  kept_below (Some x) None = Some x
+  kept_below (Some x) (Some l) = cond (is_before cmp x l) (Some x) None
+
+  -- From an ascending heap and an extract buffer the least records went to the end of a list, in order; if `more`, runs stand behind the
+  -- extract buffer, none of whose records is before one of its
+  pub record Merged (more : Bool) (limit : Option R) (heap heap' extract extract' out out' : List R) : Type 0 where
+    pub count : length out' + length heap' + length extract' ≡ length out + length heap + length extract
+    pub fewer : length extract' ≤ length extract
+    pub ascends : Ascends cmp extract → Ascends cmp extract'
+    pub order : (runs : List R) → NoneAfter cmp extract runs → NoneAfter cmp extract' runs
+    pub taken : (bag runs : List R) → (more ≡ false → runs ≡ []) → Ascends cmp extract → NoneAfter cmp extract runs → IsTaken cmp bag out (heap ++ extract ++ runs) → IsTaken cmp bag out' (heap' ++ extract' ++ runs)
+    pub under : AllBelow cmp limit out → AllBelow cmp limit out'
+
+  -- nothing that is wanted is left
+  pub record Exhausted (more : Bool) (limit : Option R) (heap extract : List R) : Type 0 where
+    pub whole : extract ≡ [] → more ≡ false
+    pub all : limit ≡ None → heap ++ extract ≡ []
+    pub low : Ascends cmp extract → NoneBelow cmp limit (heap ++ extract)
+
+  -- the list is full; or the extract buffer wants a refill; or nothing that is wanted is left
+  abbrev pub HasEnded : (most : ℕ) (more : Bool) (limit : Option R) (heap extract out : List R) → Type 0
+  HasEnded most more limit heap extract out = (length out ≡ most) ⊎ ((extract ≡ []) × (more ≡ true)) ⊎ Exhausted more limit heap extract
+
+module _ {S R : Type 0} (shown : S → Shown) (cmp : R → R → Ordering) (record_of : List ℕ → R) (width : ℕ) where
+  -- Out of a heap, an extract buffer and runs, the least records were taken, at most so many, all below the limit, if there is one. The runs
+  -- rest, and the extract buffer has the least records of what it and they have left
+  pub record TookOut (sizes : Numbers) (limit : Option R) (most : ℕ) (heap heap' extract extract' : List R) (old new : PassBody S R) (before now : Stock) (out : List R) : Type 0 where
+    pub rest : AtRest shown cmp record_of width sizes new now
+    pub few : length out ≤ most
+    pub count : length out + length heap' + length extract' + count_of new ≡ length heap + length extract + count_of old
+    pub stored : length extract' + count_of new ≤ length extract + count_of old
+    pub ascends : AllTell (slots_of shown old before) → Ascends cmp extract'
+    pub order : AllTell (slots_of shown old before) → NoneAfter cmp extract' (runs_bag shown record_of width new)
+    pub taken : AllTell (slots_of shown old before) → IsTaken cmp (heap ++ extract ++ runs_bag shown record_of width old) out (heap' ++ extract' ++ runs_bag shown record_of width new)
+    pub under : AllTell (slots_of shown old before) → AllBelow cmp limit out
+
+  -- All that was wanted was taken: as many as could be, or nothing that is wanted is left. With a limit the extract buffer is ready for a look
+  -- at the least record that is left
+  pub record TookAll (limit : Option R) (most : ℕ) (heap' extract' : List R) (new : PassBody S R) (now : Stock) (out : List R) : Type 0 where
+    pub all : limit ≡ None → (length out ≡ most) ⊎ (length heap' + length extract' + count_of new ≡ 0)
+    pub low : AllTell (slots_of shown new now) → Ascends cmp extract' → NoneAfter cmp extract' (runs_bag shown record_of width new) → (length out ≡ most) ⊎ NoneBelow cmp limit (heap' ++ extract' ++ runs_bag shown record_of width new)
+    pub ready : (l : R) → limit ≡ Some l → extract' ≡ [] → count_of new ≡ 0

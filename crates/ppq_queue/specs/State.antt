@@ -1,0 +1,66 @@
+-- What holds of a queue between its calls.
+use Rattle.std.specs.Prelude.{◌≡◌, ℕ, ◌+◌, ◌*◌, ◌<◌, ◌≤◌, List, [], length, Option, Some, All, vec_capacity}
+use Rattle.std.specs.declared.cmp.Ordering.{Ordering}
+use Rattle.ppq_record.specs.Order.{Ascends}
+use Rattle.ppq_outside.specs.Shown.{Shown, AllTell}
+use Rattle.ppq_budget.specs.Sizes.{Numbers, AreInRange, fixed_of, heap_of, batch_of, pool_of}
+use Rattle.ppq_heap.specs.Heap.{Contents}
+use Rattle.ppq_block.specs.Block.{holding}
+use Rattle.ppq_array.specs.Supply.{Stock}
+use Rattle.ppq_array.specs.Kept.{HasFailed}
+use Rattle.ppq_array.specs.Owner.{new_owner}
+use Rattle.ppq_fetch.specs.Taking.{NoneAfter}
+use Rattle.ppq_extract.specs.Extracted.{Held, held, ServesFor}
+use Rattle.ppq_extract.specs.declared.sources.Sources.{Sources}
+use Rattle.ppq_spill.specs.Body.{held_by}
+use Rattle.ppq_spill.specs.declared.body.PassBody.{PassBody}
+use Rattle.ppq_queue.specs.Resting.{slots_of, lane_buffers, AtRest, runs_bag, count_of}
+use Rattle.ppq_queue.specs.declared.parts.Parts.{Parts}
+
+module _ {S R : Type 0} (shown : S → Shown) where
+  -- What holds always: the parts fit the sizes, all buffers that were made are there, and so are all slots; the peak is no less than the
+  -- size; and a call of the slot that is kept as failed did fail
+  pub record IsQueue (sizes : Numbers) (heap : Contents R) (extract : Held R) (body : PassBody S R) (stock : Stock) (count peak : ℕ) (failed : Option ℕ) : Type 0 where
+    pub range : AreInRange sizes
+    pub budget : fixed_of sizes ≤ sizes.memory
+    pub cap : heap.cap ≡ heap_of sizes
+    pub in_heap : length heap.items ≤ heap_of sizes
+    pub room : extract.room ≡ batch_of sizes
+    pub in_extract : length extract.items ≤ batch_of sizes
+    pub held : (held_by shown body).buffers ≡ lane_buffers sizes + stock.buffer_room
+    pub pool : stock.sure_buffers + stock.buffer_room ≡ pool_of sizes
+    pub slots : length (slots_of shown body stock) ≡ sizes.blocks
+    pub no_row : stock.drawn ≡ []
+    pub counted : count ≤ peak
+    pub most : peak ≤ sizes.memory + sizes.block * sizes.blocks + 1
+    pub most_count : count ≤ sizes.memory + sizes.block * sizes.blocks
+    pub fault : (number : ℕ) → failed ≡ Some number → HasFailed number (slots_of shown body stock)
+
+  -- What holds while no call of a slot has failed: all runs rest, and all records are counted. Where slots tell, the extract buffer ascends,
+  -- and no record of a run is before one of its. A record that is not in the heap came there by a peak above what the heap holds
+  pub record IsSound (cmp : R → R → Ordering) (record_of : List ℕ → R) (width : ℕ) (sizes : Numbers) (heap : Contents R) (extract : Held R) (body : PassBody S R) (stock : Stock) (sources : Sources R) (count peak : ℕ) : Type 0 where
+    pub rest : AtRest shown cmp record_of width sizes body stock
+    pub counted : count ≡ length heap.items + length extract.items + count_of body
+    pub ascends : AllTell (slots_of shown body stock) → Ascends cmp extract.items
+    pub order : AllTell (slots_of shown body stock) → NoneAfter cmp extract.items (runs_bag shown record_of width body)
+    pub above : length heap.items < count → heap_of sizes < peak
+    pub workers : sources.bench.workers ≡ sizes.workers
+    pub serves : ServesFor (pool_of sizes + 65) sources
+
+-- the parts of a new queue
+pub record AreNewParts {S R : Type 0} (sizes : Numbers) (parts : Parts S R) : Type 0 where
+  pub no_record : parts.heap.items ≡ []
+  pub cap : parts.heap.cap ≡ heap_of sizes
+  pub no_internal : parts.body.runs.internal.items ≡ []
+  pub no_external : parts.body.runs.external.items ≡ []
+  pub internal_room : pool_of sizes < vec_capacity parts.body.runs.internal
+  pub external_room : 66 ≤ vec_capacity parts.body.runs.external
+  pub idle : length parts.body.lanes.idle ≡ lane_buffers sizes
+  pub blocks : All (λ b. b ≡ holding sizes.block []) parts.body.lanes.idle
+  pub no_job : parts.body.lanes.jobs.items ≡ []
+  pub batch : length parts.body.lanes.batch.items ≡ batch_of sizes
+  pub leaves : length parts.body.tree.items ≡ pool_of sizes + 1
+  pub extract : parts.extract ≡ held [] (batch_of sizes)
+  pub workers : parts.sources.bench.workers ≡ sizes.workers
+  pub serves : ServesFor (pool_of sizes + 65) parts.sources
+  pub supply : parts.supply ≡ record (new_owner sizes.block sizes.blocks (pool_of sizes)) { sure_buffers = pool_of sizes; buffer_room = 0 }

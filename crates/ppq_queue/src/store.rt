@@ -1,0 +1,39 @@
+//! Runs that are stored: the rest of the extract buffer, and the heap.
+ghost use Rattle.std.specs.Prelude.{◌≡◌, ◌≤◌, ◌<◌, ◌+◌, ◌*◌, ◌++◌, ℕ, [], length, OnOk, IsErrOf};
+ghost use Rattle.ppq_record.specs.Order.{Ascends};
+ghost use Rattle.ppq_outside.specs.Shown.{AllTell};
+ghost use Rattle.ppq_budget.specs.Sizes.{AreInRange, fixed_of};
+ghost use Rattle.ppq_queue.specs.Resting.{AtRest, BodyKept, Moved, StoreShort, BodyFailed, slots_of};
+
+use ppq_array::{OwnerLists, StoreFault};
+use ppq_budget::Sizes;
+use ppq_outside::{Host, Slot};
+use ppq_record::Record;
+use ppq_spill::{PassBody, store_sorted};
+
+/// Stores an ascending list of records as one more run.
+pub fn store_run<H: Host, S: Slot + Send + Sync, R: Record + Send + Sync>(
+    rt: &H,
+    sizes: Sizes,
+    body: &mut PassBody<S, R>,
+    supply: &mut OwnerLists<S, R>,
+    sorted: &[R],
+) -> Result<(), StoreFault>
+    requires some { 0 < length sorted.now }
+    requires most { length sorted.now ≤ sizes.memory }
+    requires ascends { AllTell (slots_of S.shown body.old supply.old) → Ascends R.Ord.cmp sorted.now }
+    requires rest { AtRest S.shown R.Ord.cmp R.record_of R.WIDTH sizes body.old supply.old }
+    requires few { length body.old.runs.external.items ≤ 64 }
+    requires budget { fixed_of sizes ≤ sizes.memory }
+    requires no_row { supply.old.drawn ≡ [] }
+    ensures kept { BodyKept S.shown body.old body.new supply.old supply.new }
+    ensures stored { OnOk result (Moved S.shown R.Ord.cmp R.record_of R.WIDTH sizes sorted.now body.old body.new supply.old supply.new) }
+    ensures none_free { IsErrOf result StoreFault.NoFreeBlock → StoreShort S.shown R.Ord.cmp R.record_of R.WIDTH sizes (length sorted.now) body.old body.new supply.old supply.new }
+    ensures device { (number : ℕ) → IsErrOf result (StoreFault.Device number) → BodyFailed S.shown number body.new supply.new }
+    ensures no_row { supply.new.drawn ≡ [] }
+{
+    let _workers = sizes.workers();
+    let answer = store_sorted(rt, body, supply, sorted);
+    let _free = supply.free_slots();
+    answer
+}

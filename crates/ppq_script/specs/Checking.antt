@@ -1,0 +1,89 @@
+-- What checking a script's files answers, and what it makes of the script.
+use Rattle.std.specs.Prelude.{◌≡◌, ◌⊎◌, ℕ, Bool, ⊤, List, Option, Some, None, Result, IsOk, IsErrOf, MatchOption, map, length}
+use Rattle.std.specs.List.{AllZip}
+use Rattle.ppq_outside.specs.Told.{Reply, OfLength, bytes_or_none}
+use Rattle.ppq_outside.specs.declared.fault.OutsideFault.{OutsideFault}
+use Rattle.ppq_outside.specs.declared.fault.OutsideFault.TheVariants as outside
+use Rattle.ppq_script.specs.declared.command.Command.{Command}
+use Rattle.ppq_script.specs.declared.command.Command.TheVariants.{Bulk}
+use Rattle.ppq_script.specs.declared.numbered.Numbered.{Numbered}
+use Rattle.ppq_script.specs.declared.check.CheckFault.{CheckFault}
+use Rattle.ppq_script.specs.declared.check.CheckFault.TheVariants.{BadLine, ReadFault, Memory}
+use Rattle.ppq_script.specs.Files.{file_in, name_at, IsRecordLength, bad_among, IsBadAmong, IsNotFound, NoFile}
+use Rattle.ppq_script.specs.Reading.{Reading}
+
+-- a library's fault as a fault of checking
+abbrev pub check_fault_of : OutsideFault → CheckFault
+check_fault_of outside.Failed = ReadFault
+check_fault_of outside.Memory = Memory
+
+-- the first bad line of a script, by which files can be used
+abbrev pub bad_of : (List ℕ → Bool) → Reading → Option ℕ
+bad_of usable script = bad_among usable script.names script.commands script.bad
+
+-- this bad line is answered, and only where there is one; or a call failed, or memory was wanting
+abbrev pub IsCheckAnswer : {T : Type 0} → Option ℕ → Result T CheckFault → Type 0
+IsCheckAnswer bad result = MatchOption bad (IsOk result) (λ line. IsErrOf result (BadLine line)) ⊎ (IsErrOf result ReadFault ⊎ IsErrOf result Memory)
+
+-- what a refusal says by the library's replies
+abbrev pub IsCheckRefusal : (Reply → Type 0) → Reading → CheckFault → Type 0
+IsCheckRefusal replied script (BadLine line) = IsBadAmong replied script.names script.commands script.bad line
+IsCheckRefusal replied script ReadFault = ⊤
+IsCheckRefusal replied script Memory = ⊤
+
+-- what a refusal by a name says: the library replied of it, and the fault names this line
+abbrev pub IsNameRefusal : (Reply → Type 0) → List ℕ → ℕ → CheckFault → Type 0
+IsNameRefusal replied name here (BadLine line) = (here ≡ line) × IsNotFound replied name
+IsNameRefusal replied name here ReadFault = ⊤
+IsNameRefusal replied name here Memory = ⊤
+
+-- by a command, which names a file
+abbrev pub IsItemRefusal : (Reply → Type 0) → List (List ℕ) → Numbered → CheckFault → Type 0
+IsItemRefusal replied names item (BadLine line) = (item.line ≡ line) × NoFile replied names (file_in item.command)
+IsItemRefusal replied names item ReadFault = ⊤
+IsItemRefusal replied names item Memory = ⊤
+
+-- by the first of the commands whose file cannot be used, whatever line behind them is bad
+abbrev pub IsCommandsRefusal : (Reply → Type 0) → List (List ℕ) → List Numbered → CheckFault → Type 0
+IsCommandsRefusal replied names items (BadLine line) = (bad : Option ℕ) → IsBadAmong replied names items bad line
+IsCommandsRefusal replied names items ReadFault = ⊤
+IsCommandsRefusal replied names items Memory = ⊤
+
+-- a command with another length of its file, if it names one
+abbrev pub IsSameFile : Option (ℕ × ℕ) → Command → Command → Type 0
+IsSameFile None old new = new ≡ old
+IsSameFile (Some file) old new = (length : ℕ) × (new ≡ Bulk file.0 length)
+
+pub record IsSameItem (old new : Numbered) : Type 0 where
+  pub line : new.line ≡ old.line
+  pub command : IsSameFile (file_in old.command) old.command new.command
+
+-- a command with the length of a record file that the library replied of its file, if it names one
+abbrev pub IsAskedFile : (Reply → Type 0) → List (List ℕ) → Option (ℕ × ℕ) → Command → Command → Type 0
+IsAskedFile replied names None old new = new ≡ old
+IsAskedFile replied names (Some file) old new = (length : ℕ) × ((new ≡ Bulk file.0 length) × (replied (OfLength (name_at names file.0) (Some length)) × IsRecordLength length))
+
+pub record IsAsked (replied : Reply → Type 0) (names : List (List ℕ)) (old new : Numbered) : Type 0 where
+  pub line : new.line ≡ old.line
+  pub command : IsAskedFile replied names (file_in old.command) old.command new.command
+
+-- a command with the length that its file has in this library, if it names one
+abbrev pub with_size : (List ℕ → Option (List ℕ)) → List (List ℕ) → Option (ℕ × ℕ) → Command → Command
+with_size files names None command = command
+with_size files names (Some file) command = Bulk file.0 (length (bytes_or_none (files (name_at names file.0))))
+
+abbrev pub with_sizes : (List ℕ → Option (List ℕ)) → List (List ℕ) → List Numbered → List Numbered
+with_sizes files names items = map (λ (n : Numbered). record n { command = with_size files names (file_in n.command) n.command }) items
+
+-- the script after a check: only the lengths of its files and whether it is checked may differ
+pub record IsSameScript (old new : Reading) : Type 0 where
+  pub commands : AllZip IsSameItem old.commands new.commands
+  pub bad : new.bad ≡ old.bad
+  pub names : new.names ≡ old.names
+  pub workers : new.workers ≡ old.workers
+
+-- the count of faults stayed, unless a call failed
+abbrev pub StaysUnlessRead : ℕ → ℕ → CheckFault → Type 0
+StaysUnlessRead before now (BadLine line) = now ≡ before
+StaysUnlessRead before now ReadFault = ⊤
+StaysUnlessRead before now Memory = now ≡ before

@@ -1,0 +1,167 @@
+//! Looks for the files that a script names.
+ghost use Rattle.std.specs.Prelude.{◌≡◌, ◌≤◌, None, Some, length, map, string_bytes, is_ok, All, IfOk, OnOk, OnErr, IfErr, IfSome, IsErrOf};
+ghost use Rattle.std.specs.List.{AllZip};
+ghost use Rattle.ppq_outside.specs.Told.{Rose, OfLength, Remembers, RepliesOnly};
+ghost use Rattle.ppq_script.specs.Files.{IsRecordLength, is_record_length, is_usable, IsLength, NamesFile};
+ghost use Rattle.ppq_script.specs.Checking.{bad_of, IsCheckAnswer, IsCheckRefusal, IsCommandsRefusal, IsItemRefusal, IsNameRefusal, IsSameItem, IsAsked, IsSameScript, with_sizes, StaysUnlessRead};
+ghost use Rattle.ppq_script.specs.declared.check.CheckFault.TheVariants.{ReadFault};
+
+use crate::{Command, Numbered, Script};
+use ppq_outside::{Host, Library, OutsideFault};
+use std::alloc::Global;
+
+/// Why a script's files were not all found.
+#[derive(Clone, Copy, Debug, PartialEq, Eq)]
+pub enum CheckFault {
+    /// The first bad line, by the script's lines and files together.
+    BadLine { line: u32 },
+    /// The library failed.
+    ReadFault,
+    /// Memory was wanting.
+    Memory,
+}
+
+impl From<OutsideFault> for CheckFault {
+    ghost use Rattle.ppq_script.specs.Checking.{check_fault_of};
+
+    ghost from_gives = { λ fault given. given ≡ check_fault_of fault };
+
+    fn from(fault: OutsideFault) -> CheckFault {
+        match fault {
+            OutsideFault::Failed => CheckFault::ReadFault,
+            OutsideFault::Memory => CheckFault::Memory,
+        }
+    }
+}
+
+/// Asks a library the length of each file that the script names, in order, and keeps it in the
+/// script's command. It costs one call of the library for each `bulk` line before the first bad line,
+/// and reads nothing of the files.
+///
+/// A file that is absent, whose length is no multiple of 16, or is above 68,719,476,736 bytes makes
+/// its line bad. `BadLine` is the first bad line, by lines and files together, and comes exactly
+/// where there is one and no call failed before it. `ReadFault` comes only where the library's count
+/// rose. After every answer but `Ok` the script is not checked, and the lengths that it keeps may
+/// differ.
+pub fn check_files<H: Host, L: Library>(
+    rt: &H,
+    alloc: Global,
+    script: &mut Script,
+    library: &mut L,
+) -> Result<(), CheckFault>
+    ensures answer { IfSome (L.told library.old) (λ files. IsCheckAnswer (bad_of (is_usable files) script.old) result) }
+    ensures lengths { OnOk result (IfSome (L.told library.old) (λ files. script.new.commands ≡ with_sizes files script.old.names script.old.commands)) }
+    ensures asked { OnOk result (AllZip (IsAsked (L.replied library.new) script.old.names) script.old.commands script.new.commands) }
+    ensures refused { IfErr result (IsCheckRefusal (L.replied library.new) script.old) }
+    ensures checked { script.new.checked ≡ is_ok result }
+    ensures good { OnOk result (script.old.bad ≡ None) }
+    ensures same { IsSameScript script.old script.new }
+    ensures read { IsErrOf result ReadFault → Rose (L.faults library.old) (L.faults library.new) }
+    ensures remembers { Remembers (L.replied library.old) (L.replied library.new) }
+    ensures asks { RepliesOnly (L.replied library.old) (L.replied library.new) IsLength }
+    ensures kept { L.told library.new ≡ L.told library.old }
+    ensures later { L.faults library.old ≤ L.faults library.new }
+    ensures stays { OnOk result (L.faults library.new ≡ L.faults library.old) }
+    ensures unless { IfErr result (StaysUnlessRead (L.faults library.old) (L.faults library.new)) }
+{
+    script.ask_lengths(rt, alloc, library)
+}
+
+/// Asks the length of each file that the commands name, up to the first that cannot be used, and
+/// keeps it in its command.
+pub(crate) fn ask_all<H: Host, L: Library>(
+    rt: &H,
+    alloc: Global,
+    names: &[String],
+    commands: &mut [Numbered],
+    library: &mut L,
+) -> Result<(), CheckFault>
+    requires { All (λ n. NamesFile (length names.now) n.command) commands.old }
+    ensures asked { OnOk result (AllZip (IsAsked (L.replied library.new) (map string_bytes names.now)) commands.old commands.new) }
+    ensures same { AllZip IsSameItem commands.old commands.new }
+    ensures refused { IfErr result (IsCommandsRefusal (L.replied library.new) (map string_bytes names.now) commands.old) }
+    ensures read { IsErrOf result ReadFault → Rose (L.faults library.old) (L.faults library.new) }
+    ensures remembers { Remembers (L.replied library.old) (L.replied library.new) }
+    ensures asks { RepliesOnly (L.replied library.old) (L.replied library.new) IsLength }
+    ensures kept { L.told library.new ≡ L.told library.old }
+    ensures later { L.faults library.old ≤ L.faults library.new }
+    ensures stays { OnOk result (L.faults library.new ≡ L.faults library.old) }
+    ensures unless { IfErr result (StaysUnlessRead (L.faults library.old) (L.faults library.new)) }
+{
+    for item in commands.iter_mut() {
+        match ask(rt, alloc, names, item, library) {
+            Ok(()) => {}
+            Err(fault) => return Err(fault),
+        }
+    }
+    Ok(())
+}
+
+/// Asks the length of the file that a command names, if it names one, and keeps it in the command.
+fn ask<H: Host, L: Library>(
+    rt: &H,
+    alloc: Global,
+    names: &[String],
+    item: &mut Numbered,
+    library: &mut L,
+) -> Result<(), CheckFault>
+    requires { NamesFile (length names.now) item.old.command }
+    ensures asked { OnOk result (IsAsked (L.replied library.new) (map string_bytes names.now) item.old item.new) }
+    ensures same { OnErr result (item.new ≡ item.old) }
+    ensures refused { IfErr result (IsItemRefusal (L.replied library.new) (map string_bytes names.now) item.old) }
+    ensures read { IsErrOf result ReadFault → Rose (L.faults library.old) (L.faults library.new) }
+    ensures remembers { Remembers (L.replied library.old) (L.replied library.new) }
+    ensures asks { RepliesOnly (L.replied library.old) (L.replied library.new) IsLength }
+    ensures kept { L.told library.new ≡ L.told library.old }
+    ensures later { L.faults library.old ≤ L.faults library.new }
+    ensures stays { OnOk result (L.faults library.new ≡ L.faults library.old) }
+    ensures unless { IfErr result (StaysUnlessRead (L.faults library.old) (L.faults library.new)) }
+{
+    let Command::Bulk { file, .. } = item.command else {
+        return Ok(());
+    };
+    match record_length(rt, alloc, names[file as usize].as_str(), item.line, library) {
+        Ok(length) => {
+            item.command = Command::Bulk { file, length };
+            Ok(())
+        }
+        Err(fault) => Err(fault),
+    }
+}
+
+/// The length of a record file; the fault names this line where there is no such file.
+fn record_length<H: Host, L: Library>(
+    rt: &H,
+    alloc: Global,
+    name: &str,
+    line: u32,
+    library: &mut L,
+) -> Result<u64, CheckFault>
+    ensures found { IfOk result (λ length. L.replied library.new (OfLength name.now (Some length)) × IsRecordLength length) }
+    ensures refused { IfErr result (IsNameRefusal (L.replied library.new) name.now line) }
+    ensures read { IsErrOf result ReadFault → Rose (L.faults library.old) (L.faults library.new) }
+    ensures remembers { Remembers (L.replied library.old) (L.replied library.new) }
+    ensures asks { RepliesOnly (L.replied library.old) (L.replied library.new) IsLength }
+    ensures kept { L.told library.new ≡ L.told library.old }
+    ensures later { L.faults library.old ≤ L.faults library.new }
+    ensures stays { OnOk result (L.faults library.new ≡ L.faults library.old) }
+    ensures unless { IfErr result (StaysUnlessRead (L.faults library.old) (L.faults library.new)) }
+{
+    match library.length(rt, alloc, name)? {
+        None => Err(CheckFault::BadLine { line }),
+        Some(length) => {
+            if is_of_records(length) {
+                Ok(length)
+            } else {
+                Err(CheckFault::BadLine { line })
+            }
+        }
+    }
+}
+
+/// Whether a file of so many bytes is records of 16 bytes each, and at most 2^32 of them.
+fn is_of_records(length: u64) -> bool
+    ensures { result ≡ is_record_length length }
+{
+    length % 16 == 0 && length <= 68_719_476_736
+}
