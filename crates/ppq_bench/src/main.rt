@@ -1,16 +1,25 @@
 //! Times the library's own calls on this machine.
 //!
-//! With no argument it makes small merges and says whether they are those of a sort, so that it
-//! prints the same on every machine. With the argument `merge` it times large ones: 8, 64 and 512
+//! With no argument it makes small merges and says whether they are those of a sort, and holds some
+//! records in a queue by one worker and by four, so that it prints the same on every machine. With the argument `merge` it times large ones: 8, 64 and 512
 //! runs of pairs from memory, by one worker and by four. `bench/merge` runs it beside a loser tree in
 //! C++ over the same records.
+//!
+//! With the arguments `hold SEED COUNT WORKERS DEVICE` it holds so many records in a queue over a device
+//! file, and COUNT times removes the least and adds one with a greater key. It prints the count, the first
+//! and the last of what was removed and the sum of the keys, and no time: `bench/device` runs it beside
+//! other queues.
 #![tactic(auto)]
 
+mod held;
 mod load;
 mod merges;
+mod slots;
 
+use held::{Removed, Shape, hold};
 use load::{Load, out_of_memory};
 use merges::{as_sorted, picoseconds};
+use ppq_outside::Host;
 use std::alloc::Global;
 use std::io::ErrorKind;
 use std::rt::Clock;
@@ -29,8 +38,30 @@ const FEW: u64 = 4096;
 /// How many records the timed merges have: 4 and 32 MiB.
 const SIZES: [u64; 2] = [262144, 2097152];
 
+/// A queue whose budget is 16 MiB.
+const LARGE: Shape = Shape {
+    block: 4096,
+    heap: 8,
+    memory: 1048576,
+};
+
+/// A queue that is used up by few records.
+const SMALL: Shape = Shape {
+    block: 64,
+    heap: 1,
+    memory: 16384,
+};
+
+/// How many records a small queue holds, and the number that they come of.
+const HELD: u32 = 50000;
+
+const SEED: u64 = 7;
+
+/// The device file of a small queue.
+const DEVICE: &str = "ppq_bench.device";
+
 /// Makes the small merges, and says of each whether it is that of a sort.
-fn check<H: Threads + Sync + Print>(rt: &H, alloc: Global) -> io::Result<()> {
+fn check_merges<H: Threads + Sync + Print>(rt: &H, alloc: Global) -> io::Result<()> {
     for runs in RUNS {
         let load = Load::new(alloc, runs, FEW)?;
         for workers in WORKERS {
@@ -65,11 +96,57 @@ fn words_of(rt: &HostRuntime) -> io::Result<Vec<String>> {
     words.map_err(|_| out_of_memory())
 }
 
+/// An argument that is not what it should be.
+fn bad_argument() -> io::Error {
+    io::Error::from(ErrorKind::InvalidInput)
+}
+
+/// Prints what was removed.
+fn print_removed<R: Print>(rt: &R, removed: Removed) -> io::Result<()> {
+    let Removed {
+        count,
+        first,
+        last,
+        sum,
+    } = removed;
+    let (key, value) = (first.key, first.value);
+    let (last_key, last_value) = (last.key, last.value);
+    println!(rt; "count {count} first {key} {value} last {last_key} {last_value} sum {sum}")?;
+    Ok(())
+}
+
+/// Makes the small merges and holds the records, and prints of both what is the same on every machine.
+fn check<H: Host>(rt: &H, alloc: Global) -> io::Result<()>
+where
+    H::Dir: Send,
+{
+    check_merges(rt, alloc)?;
+    for workers in WORKERS {
+        print_removed(rt, hold(rt, alloc, SMALL, SEED, HELD, workers, DEVICE)?)?;
+    }
+    Ok(())
+}
+
+/// Holds records as the words after `hold` say, and prints what was removed.
+fn hold_as_said<H: Host>(rt: &H, alloc: Global, words: &[String]) -> io::Result<()>
+where
+    H::Dir: Send,
+{
+    let [seed, count, workers, device] = words else {
+        return Err(bad_argument());
+    };
+    let seed = seed.parse().map_err(|_| bad_argument())?;
+    let count = count.parse().map_err(|_| bad_argument())?;
+    let workers = workers.parse().map_err(|_| bad_argument())?;
+    print_removed(rt, hold(rt, alloc, LARGE, seed, count, workers, device)?)
+}
+
 fn main(rt: HostRuntime) -> io::Result<()> {
     let words = words_of(&rt)?;
     match words.first() {
         None => check(&rt, rt.alloc()),
         Some(word) if word.as_str() == "merge" => time(&rt, rt.alloc()),
-        Some(_) => Err(io::Error::from(ErrorKind::InvalidInput)),
+        Some(word) if word.as_str() == "hold" => hold_as_said(&rt, rt.alloc(), &words[1..]),
+        Some(_) => Err(bad_argument()),
     }
 }

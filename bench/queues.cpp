@@ -1,0 +1,122 @@
+// The peers of bench/device: a heap in memory, and with -DSTXXL the priority queue of STXXL, which keeps its
+// records on a disk.
+//
+// Words: `drain SEED COUNT` adds the records of the command `gen SEED COUNT` and removes them all. `hold SEED
+// COUNT` adds COUNT records whose keys are below 2^40; then COUNT times it removes the least and adds one whose
+// key is greater by a number below 2^40. Both print the count, the first and the last of what was removed and
+// the sum of the keys, as the command `drain` does. `print FILE` adds the records of a record file, removes
+// them all and prints their lines. `records SEED COUNT` writes a record file of the records of `gen SEED COUNT`.
+#include <cinttypes>
+#include <cstdint>
+#include <cstdio>
+#include <cstdlib>
+#include <cstring>
+#include <functional>
+#include <ostream>
+#include <queue>
+#include <vector>
+
+struct Pair {
+    uint64_t key, value;
+    bool operator<(const Pair &other) const {
+        return key < other.key || (key == other.key && value < other.value);
+    }
+    bool operator>(const Pair &other) const { return other < *this; }
+    bool operator==(const Pair &other) const { return key == other.key && value == other.value; }
+};
+inline std::ostream &operator<<(std::ostream &out, const Pair &pair) { return out << pair.key << " " << pair.value; }
+
+#ifdef STXXL
+#include <stxxl/priority_queue>
+struct After {
+    bool operator()(const Pair &one, const Pair &other) const { return other < one; }
+    Pair min_value() const { return {UINT64_MAX, UINT64_MAX}; }
+};
+// 16 MiB in memory, and pools of 2 MiB each for reading and for writing.
+using Queue = stxxl::PRIORITY_QUEUE_GENERATOR<Pair, After, 16 << 20, 96 * 1024>::result;
+static Queue &queue() {
+    static Queue *made = new Queue(2 << 20, 2 << 20);
+    return *made;
+}
+#else
+using Queue = std::priority_queue<Pair, std::vector<Pair>, std::greater<Pair>>;
+static Queue &queue() {
+    static Queue *made = new Queue;
+    return *made;
+}
+#endif
+
+struct Summary {
+    uint64_t count = 0, sum = 0;
+    Pair first{0, 0}, last{0, 0};
+
+    void add(const Pair &pair) {
+        if (count++ == 0) first = pair;
+        last = pair;
+        sum += pair.key;
+    }
+    void print() const {
+        std::printf("count %" PRIu64 " first %" PRIu64 " %" PRIu64 " last %" PRIu64 " %" PRIu64 " sum %" PRIu64 "\n",
+                    count, first.key, first.value, last.key, last.value, sum);
+    }
+};
+
+static uint64_t next(uint64_t &number) { return number = number * 6364136223846793005u + 1442695040888963407u; }
+
+static Pair take(Queue &held) {
+    Pair least = held.top();
+    held.pop();
+    return least;
+}
+
+static void drain(Queue &held, uint64_t number, uint64_t count) {
+    Summary summary;
+    for (uint64_t i = 0; i < count; i++) held.push({next(number), i});
+    for (uint64_t i = 0; i < count; i++) summary.add(take(held));
+    summary.print();
+}
+
+static void hold(Queue &held, uint64_t number, uint64_t count) {
+    Summary summary;
+    for (uint64_t i = 0; i < count; i++) held.push({next(number) >> 24, i});
+    for (uint64_t i = 0; i < count; i++) {
+        Pair least = take(held);
+        summary.add(least);
+        held.push({least.key + (next(number) >> 24), count + i});
+    }
+    summary.print();
+}
+
+static bool print(Queue &held, const char *name) {
+    FILE *file = std::fopen(name, "rb");
+    if (!file) return false;
+    uint64_t words[2];
+    while (std::fread(words, sizeof words, 1, file) == 1)
+        held.push({__builtin_bswap64(words[0]), __builtin_bswap64(words[1])});
+    std::fclose(file);
+    while (!held.empty()) {
+        Pair least = take(held);
+        std::printf("%" PRIu64 " %" PRIu64 "\n", least.key, least.value);
+    }
+    return true;
+}
+
+static void records(uint64_t number, uint64_t count) {
+    for (uint64_t i = 0; i < count; i++) {
+        uint64_t words[2] = {__builtin_bswap64(next(number)), __builtin_bswap64(i)};
+        std::fwrite(words, sizeof words, 1, stdout);
+    }
+}
+
+int main(int argc, char **argv) {
+    if (argc == 3 && !std::strcmp(argv[1], "print")) return print(queue(), argv[2]) ? 0 : 1;
+    if (argc != 4) return 2;
+    uint64_t seed = std::strtoull(argv[2], nullptr, 10), count = std::strtoull(argv[3], nullptr, 10);
+    if (!std::strcmp(argv[1], "drain")) drain(queue(), seed, count);
+    else if (!std::strcmp(argv[1], "hold")) hold(queue(), seed, count);
+    else if (!std::strcmp(argv[1], "records")) records(seed, count);
+    else return 2;
+#ifdef STXXL
+    delete &queue(); // so that its file is removed
+#endif
+}
