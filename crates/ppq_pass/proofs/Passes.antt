@@ -1,0 +1,221 @@
+-- What each call of a pass's supply keeps.
+use Rattle.std.proofs.Common.{◌≡◌, ◌≢◌, ◌⊎◌, inl, inr, ℕ, zero, suc, ◌+◌, ◌-◌, ◌*◌, ◌<◌, ◌≤◌, ◌^◌, ◌==◌, cond, Bool, true, false, List, [], ◌∷◌, ◌++◌, length, map, All, refl, sym, ap, ap₂, ◌∙◌, subst, arith, length-append, append-nil}
+use mathlib.Core.Option.{Option, none, some}
+use lib.ListN.{get_elem?}
+use Rattle.std.proofs.lemmas.List.Elements.{All-cons, All-head, All-tail, All-push}
+use Rattle.std.proofs.lemmas.List.{map-append}
+use Rattle.std.specs.Prelude.{Vec, vec_capacity}
+use Rattle.std.specs.Global.{Global}
+use Rattle.ppq_table.specs.Sums.{times}
+use Rattle.ppq_table.proofs.Numbers.{times-cons, times-append, times-same, times-other, upto, upto-times}
+use Rattle.ppq_outside.specs.Shown.{Shown}
+use Rattle.ppq_array.specs.Supply.{Stock, DrawsSlot}
+use Rattle.ppq_array.specs.Owner.{HasSize, slots_shown}
+use Rattle.ppq_array.specs.declared.berth.DeviceBlock.{DeviceBlock}
+use Rattle.ppq_row.specs.Known.{Known as RowKnown}
+use Rattle.ppq_row.specs.Seats.{IsSeatOf as IsRowSeat, Drew}
+use Rattle.ppq_pool.specs.Known.{Known as PoolKnown}
+use Rattle.ppq_pool.specs.Hands.{without, with_give}
+use Rattle.ppq_pool.proofs.Lists.{without-here, without-past}
+use Rattle.ppq_pool.specs.Seats.{IsSeatOf as IsPoolSeat, count_of, Takes}
+use Rattle.ppq_array.proofs.Noted.{all_left}
+use Rattle.ppq_pass.specs.declared.shared.Shared.{Shared}
+use Rattle.ppq_pass.specs.declared.shared.PoolBuf.{PoolBuf}
+use Rattle.ppq_pass.specs.Passing.{items_at, with_item, pass_stock, IsPass}
+
+module _ {T : Type 0} where
+  some_same : (x y : T) → some x ≡ some y → x ≡ y
+  some_same x y e = ap (λ o. or_else o x) e
+    where
+      or_else : Option T → T → T
+      or_else none d = d
+      or_else (some z) d = z
+
+  -- an item that is there is within, and what holds of all holds of it
+  pub within : (xs : List T) (i : ℕ) (x : T) → get_elem? xs i ≡ some x → i < length xs
+  within [] i x e = absurd (cc)
+  within (y ∷ ys) zero x e = omega arith
+  within (y ∷ ys) (suc i) x e = let h = within ys i x e in omega (arith, h)
+
+  pub all_at : (P : T → Type 0) (xs : List T) (i : ℕ) (x : T) → get_elem? xs i ≡ some x → All P xs → P x
+  all_at P [] i x e a = absurd (cc)
+  all_at P (y ∷ ys) zero x e a = let h : y ≡ x = cc in subst P h (All-head P y ys a)
+  all_at P (y ∷ ys) (suc i) x e a = all_at P ys i x e (All-tail P y ys a)
+
+  -- one place more
+  pub items_more : (items : List T) (places : List ℕ) (i : ℕ) (x : T) → get_elem? items i ≡ some x → items_at items (places ++ i ∷ []) ≡ items_at items places ++ x ∷ []
+  items_more items [] i x e = ap (λ o. with_item o []) e
+  items_more items (p ∷ ps) i x e = ap (λ xs. with_item (get_elem? items p) xs) (items_more items ps i x e) ∙ put (get_elem? items p) (items_at items ps) x
+    where
+      put : (o : Option T) (xs : List T) (x : T) → with_item o (xs ++ x ∷ []) ≡ with_item o xs ++ x ∷ []
+      put none xs x = refl
+      put (some y) xs x = refl
+
+-- places that are each greater than those before are few
+pub once_more : (places : List ℕ) (i : ℕ) → ((n : ℕ) → All (λ p. p < n) places → length places ≤ n) → All (λ p. p < i) places → (n : ℕ) → All (λ p. p < n) (places ++ i ∷ []) → length (places ++ i ∷ []) ≤ n
+once_more places i once behind n all = omega (arith, once i behind, last places i n all, length-append places (i ∷ []))
+  where
+    last : (places : List ℕ) (i n : ℕ) → All (λ p. p < n) (places ++ i ∷ []) → i < n
+    last [] i n all = all 0 0 (omega arith)
+    last (p ∷ ps) i n all = last ps i n (All-tail (λ p. p < n) p (ps ++ i ∷ []) all)
+
+-- numbers below n that are listed once at most are no more than n
+at_most : (f : ℕ → ℕ) (n : ℕ) → ((x : ℕ) → f x ≤ 1) → upto f n ≤ n
+at_most f zero h = omega arith
+at_most f (suc n) h = omega (arith, at_most f n h, h n)
+
+pub few_numbers : (xs : List ℕ) (n : ℕ) → All (λ i. i < n) xs → ((i : ℕ) → times i xs ≤ 1) → length xs ≤ n
+few_numbers xs n below once = omega (arith, upto-times xs n below, at_most (λ x. times x xs) n once)
+
+-- one number more, which was not listed
+pub once_added : (xs : List ℕ) (m : ℕ) → times m xs ≡ 0 → ((i : ℕ) → times i xs ≤ 1) → (i : ℕ) → times i (xs ++ m ∷ []) ≤ 1
+once_added xs m new once i =
+    elim (eq_or_not m i) as (λ _. times i (xs ++ m ∷ []) ≤ 1) [
+      | inl e ↦ (let here : times i xs ≡ 0 = ap (λ k. times k xs) (sym e) ∙ new in omega (arith, times-append i xs (m ∷ []), times-same m i e, here))
+      | inr ne ↦ omega (arith, times-append i xs (m ∷ []), times-other m i ne, once i)
+    ]
+  where
+    eq_or_not : (a b : ℕ) → (a ≡ b) ⊎ (a ≢ b)
+    eq_or_not zero zero = inl refl
+    eq_or_not zero (suc b) = inr (λ e. omega (arith, e))
+    eq_or_not (suc a) zero = inr (λ e. omega (arith, e))
+    eq_or_not (suc a) (suc b) = elim (eq_or_not a b) as (λ _. (suc a ≡ suc b) ⊎ (suc a ≢ suc b)) [ inl e ↦ inl (ap suc e) | inr n ↦ inr (λ e. n (let h : a ≡ b = omega (arith, e) in h)) ]
+
+-- the last number, which stands there once, is taken out
+pub without_last : (xs : List ℕ) (m : ℕ) → times m xs ≡ 0 → without m (xs ++ m ∷ []) ≡ xs
+without_last [] m e = without-here m m [] refl
+without_last (x ∷ xs) m e =
+    let differs : x ≢ m = λ same. absurd (omega (arith, e, times-cons m x xs, times-same x m same)) in
+    without-past m x (xs ++ m ∷ []) differs ∙ ap (λ ys. x ∷ ys) (without_last xs m (omega (arith, e, times-cons m x xs)))
+
+module _ {S R : Type 0} (shown : S → Shown) (width : ℕ) where
+  pub IsPass-stash :
+      (home : Shared S R) (row : RowKnown (DeviceBlock S R)) (pool : PoolKnown (PoolBuf R)) (stash stash' : List (DeviceBlock S R)) (numbers : Vec ℕ Global) (block dry : ℕ) → IsPass shown width home row pool stash numbers block dry
+      → length stash' ≤ length row.hand.places → All (HasSize shown (block * width)) stash' → IsPass shown width home row pool stash' numbers block dry
+  IsPass-stash home row pool stash stash' numbers block dry is fits sizes =
+      record {
+        row = is.row;
+        items = is.items;
+        few = is.few;
+        drawn = is.drawn;
+        once = is.once;
+        stash_fits = fits;
+        stash_sizes = sizes;
+        pool = is.pool;
+        shape = is.shape;
+        numbers_are = is.numbers_are;
+        below = is.below;
+        each_once = is.each_once;
+        room = is.room;
+        ended = is.ended;
+      }
+
+  pub places_few : (home : Shared S R) (row : RowKnown (DeviceBlock S R)) (pool : PoolKnown (PoolBuf R)) (stash : List (DeviceBlock S R)) (numbers : Vec ℕ Global) (block dry : ℕ) → IsPass shown width home row pool stash numbers block dry → length row.hand.places < 2 ^ 32
+  places_few home row pool stash numbers block dry is = omega (arith, is.once (length row.hand.items) is.drawn, is.few)
+
+  pub IsPass-drew :
+      (home : Shared S R) (row row' : RowKnown (DeviceBlock S R)) (pool : PoolKnown (PoolBuf R)) (stash stash' : List (DeviceBlock S R)) (numbers : Vec ℕ Global) (block dry : ℕ) → IsPass shown width home row pool stash numbers block dry
+      → IsRowSeat home.row row' → (i : ℕ) (x : DeviceBlock S R) → Drew row.hand i x row'.hand → stash' ≡ []
+      → IsPass shown width home row' pool stash' numbers block dry × ((shown x.slot).size ≡ block * width)
+  IsPass-drew home row row' pool stash stash' numbers block dry is seat i x drew gone =
+      let items : row'.hand.items ≡ row.hand.items = ap (λ h. h.items) drew.1 in
+      let places : row'.hand.places ≡ row.hand.places ++ i ∷ [] = ap (λ h. h.places) drew.1 in (
+        record {
+          row = seat;
+          items = subst (All (HasSize shown (block * width))) (sym items) is.items;
+          few = subst (λ xs. length xs < 2 ^ 32) (sym items) is.few;
+          drawn = subst (λ xs. All (λ p. p < length xs) row'.hand.places) (sym items) (subst (All (λ p. p < length row.hand.items)) (sym places) (All-push (λ p. p < length row.hand.items) row.hand.places i is.drawn (within row.hand.items i x drew.0)));
+          once = subst (λ (ps : List ℕ). (n : ℕ) → All (λ p. p < n) ps → length ps ≤ n) (sym places) (once_more row.hand.places i is.once drew.2);
+          stash_fits = omega (arith, ap length gone);
+          stash_sizes = subst (All (HasSize shown (block * width))) (sym gone) (λ k d h. absurd (omega arith));
+          pool = is.pool;
+          shape = is.shape;
+          numbers_are = is.numbers_are;
+          below = is.below;
+          each_once = is.each_once;
+          room = is.room;
+          ended = λ some. ap (λ h. h.noted) drew.1 ∙ is.ended some;
+        },
+        all_at (HasSize shown (block * width)) row.hand.items i x drew.0 is.items,
+      )
+
+  pub draws_one :
+      (row row' : RowKnown (DeviceBlock S R)) (stash stash' : List (DeviceBlock S R)) (numbers : List ℕ) (block dry scant room : ℕ) (i : ℕ) (x : DeviceBlock S R) → Drew row.hand i x row'.hand → stash ≡ [] → stash' ≡ []
+      → DrawsSlot (pass_stock shown row stash numbers block dry scant room) (shown x.slot) (pass_stock shown row' stash' numbers block dry scant room)
+  draws_one row row' stash stash' numbers block dry scant room i x drew gone gone' =
+      let items : row'.hand.items ≡ row.hand.items = ap (λ h. h.items) drew.1 in
+      let places : row'.hand.places ≡ row.hand.places ++ i ∷ [] = ap (λ h. h.places) drew.1 in
+      let drawn : slots_shown shown (items_at row'.hand.items row'.hand.places) ≡ slots_shown shown (items_at row.hand.items row.hand.places) ++ shown x.slot ∷ [] =
+      ap (slots_shown shown) (ap₂ (λ (xs : List (DeviceBlock S R)) (ps : List ℕ). items_at xs ps) items places ∙ items_more row.hand.items row.hand.places i x drew.0) ∙ map-append (λ (b : DeviceBlock S R). shown b.slot) (items_at row.hand.items row.hand.places) (x ∷ []) in
+      let count : length row'.hand.places - length stash' ≡ length row.hand.places - 0 + 1 = omega (arith, ap length places, length-append row.hand.places (i ∷ []), ap length gone') in
+      subst (λ (st : List (DeviceBlock S R)). DrawsSlot (pass_stock shown row st numbers block dry scant room) (shown x.slot) (pass_stock shown row' stash' numbers block dry scant room)) (sym gone)
+      (ap₂ (λ (d : List Shown) (k : ℕ). with_slots (pass_stock shown row stash' numbers block dry scant room) d k) drawn count ∙ ap (λ (st : List (DeviceBlock S R)). with_slots (pass_stock shown row st numbers block dry scant room) (slots_shown shown (items_at row.hand.items row.hand.places) ++ shown x.slot ∷ []) (length row.hand.places - 0 + 1)) gone')
+    where
+      with_slots : Stock → List Shown → ℕ → Stock
+      with_slots s d k = record s { drawn = d; slot_room = k }
+
+  pub IsPass-took :
+      (home : Shared S R) (row : RowKnown (DeviceBlock S R)) (pool pool' : PoolKnown (PoolBuf R)) (stash : List (DeviceBlock S R)) (numbers numbers' : Vec ℕ Global) (block dry : ℕ) → IsPass shown width home row pool stash numbers block dry
+      → IsPoolSeat home.pool pool' → (i : ℕ) → i < count_of home.pool → Takes pool.hand i pool'.hand → numbers'.items ≡ numbers.items ++ i ∷ [] → vec_capacity numbers' ≡ vec_capacity numbers
+      → IsPass shown width home row pool' stash numbers' block dry
+  IsPass-took home row pool pool' stash numbers numbers' block dry is seat i within took more capacity =
+      let free : times i numbers.items ≡ 0 = ap (times i) is.numbers_are ∙ took.was_free in
+      record {
+        row = is.row;
+        items = is.items;
+        few = is.few;
+        drawn = is.drawn;
+        once = is.once;
+        stash_fits = is.stash_fits;
+        stash_sizes = is.stash_sizes;
+        pool = seat;
+        shape = took.shape ∙ is.shape;
+        numbers_are = more ∙ ap (λ xs. xs ++ i ∷ []) is.numbers_are ∙ sym took.numbers;
+        below = subst (All (λ i. i < count_of home.pool)) (sym more) (All-push (λ i. i < count_of home.pool) numbers.items i is.below within);
+        each_once = subst (λ (xs : List ℕ). (i : ℕ) → times i xs ≤ 1) (sym more) (once_added numbers.items i free is.each_once);
+        room = omega (arith, is.room, capacity);
+        ended = is.ended;
+      }
+
+  -- there is room for one number more
+  pub room_for : (home : Shared S R) (row : RowKnown (DeviceBlock S R)) (pool : PoolKnown (PoolBuf R)) (stash : List (DeviceBlock S R)) (numbers : Vec ℕ Global) (block dry : ℕ) → IsPass shown width home row pool stash numbers block dry
+      → (i : ℕ) → i < count_of home.pool → times i pool.hand.numbers ≡ 0 → length numbers.items < vec_capacity numbers
+  room_for home row pool stash numbers block dry is i h new =
+      let free : times i numbers.items ≡ 0 = ap (times i) is.numbers_are ∙ new in
+      let more = few_numbers (numbers.items ++ i ∷ []) (count_of home.pool) (All-push (λ i. i < count_of home.pool) numbers.items i is.below h) (once_added numbers.items i free is.each_once) in
+      omega (arith, more, is.room, length-append numbers.items (i ∷ []))
+
+  pub IsPass-gave :
+      (home : Shared S R) (row : RowKnown (DeviceBlock S R)) (pool pool' : PoolKnown (PoolBuf R)) (stash : List (DeviceBlock S R)) (numbers numbers' : Vec ℕ Global) (block dry : ℕ) → IsPass shown width home row pool stash numbers block dry
+      → IsPoolSeat home.pool pool' → (i : ℕ) (buf : PoolBuf R) → pool'.hand ≡ with_give i buf pool.hand → numbers.items ≡ numbers'.items ++ i ∷ [] → vec_capacity numbers' ≡ vec_capacity numbers
+      → (0 < times i pool.hand.numbers) × IsPass shown width home row pool' stash numbers' block dry
+  IsPass-gave home row pool pool' stash numbers numbers' block dry is seat i buf gave less capacity =
+      let count : times i numbers.items ≡ times i numbers'.items + 1 = ap (times i) less ∙ times-append i numbers'.items (i ∷ []) ∙ ap (λ n. times i numbers'.items + n) (times-same i i refl) in
+      let alone : times i numbers'.items ≡ 0 = omega (arith, count, is.each_once i) in
+      let held : times i numbers.items ≡ times i pool.hand.numbers = ap (times i) is.numbers_are in (
+        omega (arith, count, held),
+        record {
+          row = is.row;
+          items = is.items;
+          few = is.few;
+          drawn = is.drawn;
+          once = is.once;
+          stash_fits = is.stash_fits;
+          stash_sizes = is.stash_sizes;
+          pool = seat;
+          shape = ap (λ h. h.shape) gave ∙ is.shape;
+          numbers_are = sym (ap (λ h. h.numbers) gave ∙ ap (without i) (sym is.numbers_are ∙ less) ∙ without_last numbers'.items i alone);
+          below = all_left (λ i. i < count_of home.pool) numbers'.items (i ∷ []) (subst (All (λ i. i < count_of home.pool)) less is.below);
+          each_once = λ k. omega (arith, is.each_once k, ap (times k) less, times-append k numbers'.items (i ∷ []));
+          room = omega (arith, is.room, capacity);
+          ended = is.ended;
+        },
+      )
+
+  pub holds_last :
+      (home : Shared S R) (row : RowKnown (DeviceBlock S R)) (pool : PoolKnown (PoolBuf R)) (stash : List (DeviceBlock S R)) (numbers : Vec ℕ Global) (block dry : ℕ) → IsPass shown width home row pool stash numbers block dry
+      → (i : ℕ) (rest : List ℕ) → numbers.items ≡ rest ++ i ∷ [] → 0 < times i pool.hand.numbers
+  holds_last home row pool stash numbers block dry is i rest less =
+      let count : times i numbers.items ≡ times i rest + 1 = ap (times i) less ∙ times-append i rest (i ∷ []) ∙ ap (λ n. times i rest + n) (times-same i i refl) in
+      let held : times i numbers.items ≡ times i pool.hand.numbers = ap (times i) is.numbers_are in
+      omega (arith, count, held)

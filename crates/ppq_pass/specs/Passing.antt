@@ -1,0 +1,82 @@
+-- What contracts see of a pass's supply.
+use Rattle.std.specs.Prelude.{◌≡◌, ℕ, ◌-◌, ◌*◌, ◌<◌, ◌≤◌, ◌^◌, true, List, [], ◌∷◌, length, map, All, Vec, vec_capacity}
+use mathlib.Core.Option.{Option, none, some}
+use lib.ListN.{get_elem?}
+use Rattle.std.specs.Global.{Global}
+use Rattle.ppq_table.specs.Sums.{times}
+use Rattle.ppq_outside.specs.Shown.{Shown}
+use Rattle.ppq_array.specs.Supply.{Stock}
+use Rattle.ppq_array.specs.Owner.{slots_shown, HasSize}
+use Rattle.ppq_array.specs.declared.berth.DeviceBlock.{DeviceBlock}
+use Rattle.ppq_row.specs.Known.{Known as RowKnown}
+use Rattle.ppq_row.specs.Seats.{IsSeatOf as IsRowSeat}
+use Rattle.ppq_pool.specs.Known.{Known as PoolKnown}
+use Rattle.ppq_pool.specs.Seats.{IsSeatOf as IsPoolSeat, count_of}
+use Rattle.ppq_pass.specs.declared.shared.Shared.{Shared}
+use Rattle.ppq_pass.specs.declared.shared.PoolBuf.{PoolBuf}
+
+-- what the session shares, what its two seats know, and what it shows as a supply
+pub record Passing (S R : Type 0) : Type 0 where
+  pub home : Shared S R
+  pub row_seat : RowKnown (DeviceBlock S R)
+  pub pool_seat : PoolKnown (PoolBuf R)
+  pub stock : Stock
+
+-- an item with those behind it, where there is one
+abbrev pub with_item : {T : Type 0} → Option T → List T → List T
+with_item none items = items
+with_item (some x) items = x ∷ items
+
+-- the items at these places
+abbrev pub items_at : {T : Type 0} → List T → List ℕ → List T
+items_at items [] = []
+items_at items (p ∷ ps) = with_item (get_elem? items p) (items_at items ps)
+
+module _ {S R : Type 0} (shown : S → Shown) where
+  -- a stash, what two seats know, and the numbers of the buffers that are out, as a supply
+  abbrev pub pass_stock : RowKnown (DeviceBlock S R) → List (DeviceBlock S R) → List ℕ → ℕ → ℕ → ℕ → ℕ → Stock
+  pass_stock row_seat stash numbers block dry scant room_when_scant =
+      record {
+        block = block;
+        kept = slots_shown shown stash;
+        drawn = slots_shown shown (items_at row_seat.hand.items row_seat.hand.places);
+        slot_room = length row_seat.hand.places - length stash;
+        sure_buffers = 0;
+        buffer_room = length numbers;
+        dry = dry;
+        scant = scant;
+        room_when_scant = room_when_scant;
+      }
+
+  abbrev pub passing : Shared S R → RowKnown (DeviceBlock S R) → PoolKnown (PoolBuf R) → List (DeviceBlock S R) → List ℕ → ℕ → ℕ → ℕ → ℕ → Passing S R
+  passing home row_seat pool_seat stash numbers block dry scant room_when_scant =
+      record { home = home; row_seat = row_seat; pool_seat = pool_seat; stock = pass_stock row_seat stash numbers block dry scant room_when_scant }
+
+  -- The seats are of the session's row and pool; all slots and buffers are of one block size. No place of the row was drawn twice, and the
+  -- stash has no more slots than were drawn. The numbers are those that the seat of the pool holds, each once, and there is room for all
+  pub record IsPass (width : ℕ) (home : Shared S R) (row_seat : RowKnown (DeviceBlock S R)) (pool_seat : PoolKnown (PoolBuf R)) (stash : List (DeviceBlock S R)) (numbers : Vec ℕ Global) (block dry : ℕ) : Type 0 where
+    pub row : IsRowSeat home.row row_seat
+    pub items : All (HasSize shown (block * width)) row_seat.hand.items
+    pub few : length row_seat.hand.items < 2 ^ 32
+    pub drawn : All (λ p. p < length row_seat.hand.items) row_seat.hand.places
+    pub once : (n : ℕ) → All (λ p. p < n) row_seat.hand.places → length row_seat.hand.places ≤ n
+    pub stash_fits : length stash ≤ length row_seat.hand.places
+    pub stash_sizes : All (HasSize shown (block * width)) stash
+    pub pool : IsPoolSeat home.pool pool_seat
+    pub shape : pool_seat.hand.shape ≡ block
+    pub numbers_are : numbers.items ≡ pool_seat.hand.numbers
+    pub below : All (λ i. i < count_of home.pool) numbers.items
+    pub each_once : (i : ℕ) → times i numbers.items ≤ 1
+    pub room : count_of home.pool ≤ vec_capacity numbers
+    -- a draw that answered None noted the end of the row
+    pub ended : 0 < dry → row_seat.hand.noted ≡ true
+
+-- a pass that has drawn and taken nothing yet
+abbrev pub new_pass : {S R : Type 0} → Shared S R → RowKnown (DeviceBlock S R) → PoolKnown (PoolBuf R) → ℕ → Passing S R
+new_pass home row_seat pool_seat block =
+    record {
+      home = home;
+      row_seat = row_seat;
+      pool_seat = pool_seat;
+      stock = record { block = block; kept = []; drawn = []; slot_room = 0; sure_buffers = 0; buffer_room = 0; dry = 0; scant = 0; room_when_scant = 0 };
+    }
