@@ -9,7 +9,7 @@ use Rattle.std.specs.List.{slice_get}
 use Rattle.ppq_block.specs.Block.{Block}
 use Rattle.ppq_outside.specs.Shown.{Shown}
 use Rattle.ppq_array.specs.Run.{Run, items_of}
-use Rattle.ppq_array.specs.External.{external, counts, IsNoted, Accepts, FirstTells, records_in, blocks_items, block_items}
+use Rattle.ppq_array.specs.External.{external, counts, IsLabelled, Accepts, FirstTells, records_in, blocks_items, block_items}
 use Rattle.ppq_array.specs.ExternalParts.{IsExternal}
 use Rattle.ppq_array.specs.declared.berth.DeviceBlock.{DeviceBlock}
 
@@ -52,13 +52,13 @@ module _ {X : Type 0} where
   some_at [] x e = absurd (cc)
   some_at (y ∷ xs) x e = let h : y ≡ x = cc in (omega arith, λ P a. subst P h (All-head P y xs a))
 
-pub is_noted : {X : Type 0} (o : Option X) → IsSome o → IsNone o → ⊥
-is_noted None some none = absurd (cc)
-is_noted (Some x) some none = absurd (cc)
+pub is_labelled : {X : Type 0} (o : Option X) → IsSome o → IsNone o → ⊥
+is_labelled None some none = absurd (cc)
+is_labelled (Some x) some none = absurd (cc)
 
 module _ {S R : Type 0} (record_of : List ℕ → R) (width : ℕ) (shown : S → Shown) where
   abbrev Fine : DeviceBlock S R → Type 0
-  Fine b = IsNoted record_of width shown b
+  Fine b = IsLabelled record_of width shown b
 
   abbrev Parts : Run R → List (DeviceBlock S R) → ℕ → ℕ → List (DeviceBlock S R) → ℕ → Type 0
   Parts loaded was accepted lifted stored len = IsExternal record_of width shown loaded was accepted lifted stored len
@@ -69,7 +69,7 @@ module _ {S R : Type 0} (record_of : List ℕ → R) (width : ℕ) (shown : S �
     pub few : length was < 2 ^ 32
     pub few_stored : length stored < 2 ^ 32
     pub same : take lifted (drop accepted was) ≡ before
-    pub noted : All Fine (before ++ stored)
+    pub labelled : All Fine (before ++ stored)
     pub counted : len ≡ length (items_of loaded) + counts (before ++ stored)
 
   pub Ready-first : (loaded : Run R) (was : List (DeviceBlock S R)) (accepted lifted : ℕ) (stored : List (DeviceBlock S R)) (len : ℕ) → Parts loaded was accepted lifted stored len → lifted ≡ 0 → Ready loaded stored 0 lifted stored len (take lifted (drop accepted was))
@@ -81,12 +81,12 @@ module _ {S R : Type 0} (record_of : List ℕ → R) (width : ℕ) (shown : S �
         few = is.few_stored;
         few_stored = is.few_stored;
         same = ap (λ l. take l (drop 0 stored)) e ∙ sym none;
-        noted = is.noted;
+        labelled = is.labelled;
         counted = is.counted;
       }
 
   pub Ready-next : (loaded : Run R) (was : List (DeviceBlock S R)) (accepted lifted : ℕ) (stored : List (DeviceBlock S R)) (len : ℕ) → Parts loaded was accepted lifted stored len → 0 < lifted → Ready loaded was accepted lifted stored len (take lifted (drop accepted was))
-  Ready-next loaded was accepted lifted stored len is some = record { out = is.out some; few = is.few; few_stored = is.few_stored; same = refl; noted = is.noted; counted = is.counted }
+  Ready-next loaded was accepted lifted stored len is some = record { out = is.out some; few = is.few; few_stored = is.few_stored; same = refl; labelled = is.labelled; counted = is.counted }
 
   -- the first stored block is lifted
   pub lifts :
@@ -102,13 +102,13 @@ module _ {S R : Type 0} (record_of : List ℕ → R) (width : ℕ) (shown : S �
       let whole : take (lifted + 1) (drop accepted was) ++ rest ≡ before ++ stored = ap (λ ys. ys ++ rest) taken ∙ append_assoc before (b ∷ []) rest ∙ ap (λ ys. before ++ ys) (sym e) in
       let at : accepted + suc lifted ≡ accepted + (lifted + 1) = omega arith in
       let within : accepted + lifted < length was = omega (arith, ap length is.out, length-take (length stored) (drop (accepted + lifted) was), length-drop (accepted + lifted) was, long) in
-      let fine : All Fine stored = all_right Fine before stored is.noted in (
+      let fine : All Fine stored = all_right Fine before stored is.labelled in (
         record {
           out = λ some. ap (take (length rest)) (sym (drop-drop (suc lifted) accepted was ∙ ap (λ n. drop n was) at)) ∙ next_dropped (drop accepted was) lifted b rest next;
           within = omega (arith, within);
           few = is.few;
           few_stored = omega (arith, is.few_stored, long);
-          noted = subst (All Fine) (sym whole) is.noted;
+          labelled = subst (All Fine) (sym whole) is.labelled;
           counted = is.counted ∙ ap (λ bs. length (items_of loaded) + counts bs) (sym whole);
         },
         taken,
@@ -131,14 +131,14 @@ module _ {S R : Type 0} (record_of : List ℕ → R) (width : ℕ) (shown : S �
       let left : take (suc lifted - 1) (drop (accepted + 1) was) ≡ drop 1 (take (suc lifted) (drop accepted was)) =
       ap₂ (λ n ys. take n ys) less (sym moved) ∙ take_behind lifted (drop accepted was) in
       let at : accepted + 1 + (suc lifted - 1) ≡ accepted + suc lifted = omega arith in
-      let goes = first_goes (take (suc lifted) (drop accepted was)) stored buf a is.noted in (
+      let goes = first_goes (take (suc lifted) (drop accepted was)) stored buf a is.labelled in (
         omega arith,
         record {
           out = λ some. ap (λ n. take (length stored) (drop n was)) at ∙ is.out (omega arith);
           within = omega (arith, is.within);
           few = is.few;
           few_stored = is.few_stored;
-          noted = subst (λ ys. All Fine (ys ++ stored)) (sym left) goes.1;
+          labelled = subst (λ ys. All Fine (ys ++ stored)) (sym left) goes.1;
           counted = omega (arith, is.counted, ap length items, length-append (items_of loaded) buf.items, goes.0, ap (λ ys. counts (ys ++ stored)) left);
         },
         left,
@@ -161,7 +161,7 @@ module _ {S R : Type 0} (record_of : List ℕ → R) (width : ℕ) (shown : S �
         within = is.within;
         few = is.few;
         few_stored = omega (arith, few, length-append stored (b ∷ []));
-        noted = subst (All Fine) (sym whole) (All-push Fine (take lifted (drop accepted was) ++ stored) b is.noted fine);
+        labelled = subst (All Fine) (sym whole) (All-push Fine (take lifted (drop accepted was) ++ stored) b is.labelled fine);
         counted = omega (arith, is.counted, ap counts whole, sum_by-append (λ (b : DeviceBlock S R). b.count) (take lifted (drop accepted was) ++ stored) (b ∷ []), sum_by-cons (λ (b : DeviceBlock S R). b.count) b []);
       }
 
@@ -184,7 +184,7 @@ module _ {S R : Type 0} (record_of : List ℕ → R) (width : ℕ) (shown : S �
           within = is.within;
           few = is.few;
           few_stored = omega (arith, is.few_stored, long);
-          noted = all_left Fine (before ++ rest) (b ∷ []) (subst (All Fine) whole is.noted);
+          labelled = all_left Fine (before ++ rest) (b ∷ []) (subst (All Fine) whole is.labelled);
           counted = omega (arith, is.counted, sums);
         },
         omega (arith, is.counted, sums),

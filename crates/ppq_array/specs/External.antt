@@ -36,7 +36,7 @@ module _ {S R : Type 0} where
     pub full : All (λ (b : DeviceBlock S R). b.count ≡ block) (take (length blocks - 1) blocks)
     pub last : All (λ (b : DeviceBlock S R). b.count ≤ block) blocks
 
-  -- the first record of the first of these blocks, as it was noted
+  -- the first record of the first of these blocks, from its label
   abbrev pub next_of : List (DeviceBlock S R) → Option R
   next_of [] = None
   next_of (b ∷ bs) = b.minimum
@@ -63,10 +63,10 @@ module _ {S R : Type 0} where
     FirstTells [] = ⊤
     FirstTells (b ∷ bs) = Tells (shown b.slot)
 
-    -- A block has a record and no more than fit in its slot; its first record is noted, and is the first that the slot holds, where
+    -- A block has a record and no more than fit in its slot; its label has its first record, which is the first that the slot holds, where
     -- that tells
-    pub record IsNoted (b : DeviceBlock S R) : Type 0 where
+    pub record IsLabelled (b : DeviceBlock S R) : Type 0 where
       pub some : 1 ≤ b.count
       pub fits : b.count * width ≤ (shown b.slot).size
-      pub noted : IsSome b.minimum
+      pub labelled : IsSome b.minimum
       pub first : Tells (shown b.slot) → b.minimum ≡ first_of (block_items b)

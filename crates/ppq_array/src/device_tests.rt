@@ -2,18 +2,16 @@
 //! that key and value 0.
 ghost use Rattle.std.specs.Prelude.{◌≡◌, [], length, IfOk};
 
-use crate::{
-    Berth, ExternalArray, OwnerLists, RunBuffer, RunBuffers, Runs, Supply, free_slot, give_buffer,
-};
+use crate::{Berth, ExternalArray, OwnerLists, Runs, Supply, free_slot, give_buffer};
 use ppq_block::BlockBuf;
 use ppq_outside::{Failed, Host, Slot};
-use ppq_record::{Listing, Memory, Pair};
+use ppq_record::{Memory, Pair};
 use std::alloc::Global;
 use std::process::Abort;
 use std::test::Fail;
 
-/// A slot of 32 bytes of which contracts know no contents, as of one over a real file. Each call of it
-/// fails; runs and supplies make none.
+// A slot of 32 bytes of which contracts know no contents, as of one over a real file. Each call of it
+// fails; runs and supplies make none.
 #[derive(Drop)]
 struct QuietSlot {
     number: u32,
@@ -177,27 +175,5 @@ fn new_runs_have_room_and_no_run(rt: HostRuntime) -> Result<(), Fail> {
     assert_eq!(rt; (runs.internal.len(), runs.external.len()), (0, 0));
     assert!(rt; runs.internal.capacity() >= 3);
     assert!(rt; runs.external.capacity() >= 5);
-    Ok(())
-}
-
-#[test]
-fn each_buffer_is_a_run_from_one_of_its_records_on(rt: HostRuntime) -> Result<(), Fail> {
-    let alloc = rt.alloc();
-    let buffers = [
-        RunBuffer {
-            buf: buffer_of(alloc, 1, 2)?,
-            from: 1,
-        },
-        RunBuffer {
-            buf: buffer_of(alloc, 3, 4)?,
-            from: 0,
-        },
-    ];
-    let runs = RunBuffers::new(&buffers);
-    assert!(rt; runs.runs() == 2);
-    assert!(rt; runs.len(0) == 1);
-    assert!(rt; runs.len(1) == 2);
-    assert_eq!(rt; runs.at(0, 0), pair(2));
-    assert_eq!(rt; runs.at(1, 1), pair(4));
     Ok(())
 }

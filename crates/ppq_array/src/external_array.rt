@@ -4,7 +4,7 @@ ghost use Rattle.ppq_record.specs.Bag.{first_of};
 ghost use Rattle.ppq_record.specs.Order.{Ascends, is_before};
 ghost use Rattle.ppq_outside.specs.Shown.{Tells};
 ghost use Rattle.ppq_array.specs.Run.{run_of, items_of, buffers_of, IsRun};
-ghost use Rattle.ppq_array.specs.External.{external, size_of, next_of, records_in, block_items, Accepts, FirstTells, IsNoted, counts};
+ghost use Rattle.ppq_array.specs.External.{external, size_of, next_of, records_in, block_items, Accepts, FirstTells, IsLabelled, counts};
 
 use crate::berth::Berth;
 use crate::berth_list::BerthList;
@@ -17,7 +17,7 @@ use std::snapshot::Snapshot;
 
 /// A run in blocks, seen as one list of records: those that are loaded into buffers, those of the blocks
 /// that were lifted to be read, and those of the blocks that are stored, each with its slot, its first
-/// record and its count. None of its calls takes memory.
+/// record and its count. None of its calls allocates.
 ///
 /// Its blocks are stored one at a time at the end, and lifted, read and accepted at the front, in order.
 #[derive(Drop)]
@@ -51,7 +51,7 @@ impl<S: Slot, R: Record> Model for ExternalArray<S, R> {
 }
 
 impl<S: Slot, R: Record> ExternalArray<S, R> {
-    /// A run of no records at a level. It takes no memory.
+    /// A run of no records at a level. It does not allocate.
     pub fn empty(level: u32) -> Self
         ensures { result ≡ external level (run_of [] 0 []) [] [] }
     {
@@ -100,24 +100,25 @@ impl<S: Slot, R: Record> ExternalArray<S, R> {
         self.loaded.buffers()
     }
 
-    /// The first record of the first block that is not loaded. None comes exactly where all are loaded.
+    /// The first record of the first block that is not loaded. None is returned if and only if all are
+    /// loaded.
     #[inline]
     pub fn next_minimum(&self) -> Option<R>
         requires { self.now.lifted ≡ [] }
         ensures minimum { result ≡ next_of self.now.stored }
         ensures none { IsNone result ↔ (self.now.stored ≡ []) }
-        ensures noted { All (IsNoted R.record_of R.WIDTH S.shown) self.now.stored }
+        ensures labelled { All (IsLabelled R.record_of R.WIDTH S.shown) self.now.stored }
     {
         self.next_to_lift()
     }
 
-    /// The first record of the first block that is neither loaded nor lifted. None comes exactly where
-    /// there is no such block.
+    /// The first record of the first block that is neither loaded nor lifted. None is returned if and
+    /// only if there is no such block.
     #[inline]
     pub fn next_to_lift(&self) -> Option<R>
         ensures minimum { result ≡ next_of self.now.stored }
         ensures none { IsNone result ↔ (self.now.stored ≡ []) }
-        ensures noted { All (IsNoted R.record_of R.WIDTH S.shown) self.now.stored }
+        ensures labelled { All (IsLabelled R.record_of R.WIDTH S.shown) self.now.stored }
     {
         match self.stored.first() {
             Some(block) => block.minimum,
@@ -177,7 +178,8 @@ impl<S: Slot, R: Record> ExternalArray<S, R> {
         self.len -= n;
     }
 
-    /// Gives the first buffer all of whose records were consumed. None comes exactly where there is none.
+    /// Gives the first buffer all of whose records were consumed. None is returned if and only if there
+    /// is none.
     pub fn take_spent(&mut self) -> Option<BlockBuf<R>>
         ensures none { IsNone result ↔ (self.old.loaded.spent ≡ []) }
         ensures spent { IfSome result (λ buf. self.old.loaded.spent ≡ buf ∷ self.new.loaded.spent) }
@@ -187,16 +189,16 @@ impl<S: Slot, R: Record> ExternalArray<S, R> {
         self.loaded.take_spent()
     }
 
-    /// Puts a stored block behind the others: its slot, its first record and its count of records.
+    /// Adds a stored block after the others: its slot, its first record and its count of records.
     pub fn append(&mut self, berth: Berth<S, R>, minimum: R, count: u32)
         requires none_lifted { self.old.lifted ≡ [] }
         requires few { size_of self.old + count < 2 ^ 64 }
         requires room { length self.old.stored < 2 ^ 32 - 1 }
-        requires noted { IsNoted R.record_of R.WIDTH S.shown record { slot = berth.slot; minimum = Some minimum; count = count } }
+        requires labelled { IsLabelled R.record_of R.WIDTH S.shown record { slot = berth.slot; minimum = Some minimum; count = count } }
         ensures { self.new ≡ external self.old.level self.old.loaded [] (self.old.stored ++ record { slot = berth.slot; minimum = Some minimum; count = count } ∷ []) }
     {
         let mut berth = berth;
-        berth.note(minimum, count);
+        berth.label(minimum, count);
         self.stored.push_back(berth);
         self.len += u64::from(count);
     }
@@ -206,7 +208,7 @@ impl<S: Slot, R: Record> ExternalArray<S, R> {
         requires { 0 < length self.old.stored }
         ensures block { self.old.stored ≡ result.0 ∷ self.new.stored }
         ensures count { result.1 ≡ result.0.count }
-        ensures noted { IsNoted R.record_of R.WIDTH S.shown result.0 }
+        ensures labelled { IsLabelled R.record_of R.WIDTH S.shown result.0 }
         ensures rest { self.new ≡ external self.old.level self.old.loaded (self.old.lifted ++ result.0 ∷ []) self.new.stored }
     {
         if self.lifted == 0 {
@@ -233,8 +235,8 @@ impl<S: Slot, R: Record> ExternalArray<S, R> {
         self.accepted += 1;
     }
 
-    /// The slot of the last stored block leaves, and the block's records are lost to the run. None comes
-    /// exactly where no block is stored.
+    /// The slot of the last stored block leaves, and the block's records are lost to the run. None is
+    /// returned if and only if no block is stored.
     pub fn give_up(&mut self) -> Option<Berth<S, R>>
         ensures none { IsNone result ↔ (self.old.stored ≡ []) }
         ensures last { IfSome result (λ berth. self.old.stored ≡ self.new.stored ++ berth ∷ []) }

@@ -6,8 +6,8 @@
 //! owner.
 //!
 //! A [`Supply`] gives slots and buffers and takes them back. [`OwnerLists`] is the supply of one owner.
-//! A slot lies in a [`Berth`], a box that is made once and has room for all that a run notes of its block,
-//! so none of the calls of runs and supplies takes memory.
+//! A slot lies in a [`Berth`], a box that is made once and has room for the label of its block, so none
+//! of the calls of runs and supplies allocates.
 #![tactic(auto)]
 
 mod berth;
@@ -18,7 +18,6 @@ mod external_array;
 mod internal_array;
 mod owner_lists;
 mod retire;
-mod run_buffers;
 mod runs;
 mod store_fault;
 mod supply;
@@ -30,7 +29,6 @@ pub use berth_list::BerthList;
 pub use external_array::ExternalArray;
 pub use internal_array::InternalArray;
 pub use owner_lists::OwnerLists;
-pub use run_buffers::{RunBuffer, RunBuffers};
 pub use runs::Runs;
 pub use store_fault::StoreFault;
 pub use supply::{Supply, free_slot, give_buffer};

@@ -48,7 +48,7 @@ impl<S: Slot, R: Record> Model for OwnerLists<S, R> {
 
 impl<S: Slot, R: Record> OwnerLists<S, R> {
     /// Empty lists for so many slots and buffers of `block` records each. The owner then gives it those
-    /// that are free. It takes no memory.
+    /// that are free. It does not allocate.
     pub fn new(block: u32, slots: u32, buffers: u32) -> Self
         requires slots { slots < 2 ^ 32 - 1 }
         requires buffers { buffers < 2 ^ 32 - 1 }

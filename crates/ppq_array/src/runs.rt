@@ -17,7 +17,8 @@ pub struct Runs<S: Slot, R: Record> {
 }
 
 impl<S: Slot, R: Record> Runs<S, R> {
-    /// No runs, with room for so many in buffers and so many in blocks. `Err` only for want of memory.
+    /// No runs, with room for so many in buffers and so many in blocks. `Err` only if an allocation
+    /// failed.
     pub fn new(alloc: Global, internal: u32, external: u32) -> Result<Self, Memory>
         ensures no_internal { IfOk result (λ runs. runs.internal.items ≡ []) }
         ensures no_external { IfOk result (λ runs. runs.external.items ≡ []) }

@@ -56,7 +56,7 @@ module _ {R : Type 0} where
   seen record_of width block count false bytes = handed_out block bytes
 
 -- the fields of a buffer: so many bytes as a block has, no more records than fit, none while the bytes
--- are handed out, and else zeros behind them
+-- are handed out, and else zeros after them
 pub record IsBuffer (width block count : ℕ) (settled : Bool) (bytes : List ℕ) : Type 0 where
   pub whole : length bytes ≡ block * width
   pub fits : count ≤ block

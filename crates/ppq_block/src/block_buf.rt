@@ -13,7 +13,8 @@ use std::marker::Model;
 /// see its records and how many it can hold; and from `bytes_mut` until the next `refill` or `clear` its
 /// bytes, and no records.
 ///
-/// It lies in a box that has room for the link to a next one, so that a `BufList` takes no memory.
+/// It lies in a box that has room for the link to a next one, so that a `BufList` does not
+/// allocate.
 #[derive(Drop)]
 pub struct BlockBuf<R: Record> {
     pub(crate) node: Box<Node<Buffer<R>>>,
@@ -74,7 +75,7 @@ impl<R: Record> BlockBuf<R> {
         self.node.item.at(i)
     }
 
-    /// Puts a record behind the others. It costs one `put`.
+    /// Adds a record after the others. It costs one `put` of it.
     #[inline]
     pub fn push(&mut self, r: R)
         requires settled { IsSettled self.old }
@@ -113,7 +114,7 @@ impl<R: Record> BlockBuf<R> {
         item.bytes_mut()
     }
 
-    /// Makes the first `count` records that its bytes stand for its records, and the bytes behind them
+    /// Makes the first `count` records that its bytes stand for its records, and the bytes after them
     /// zeros. It reads no record, and costs a write over those bytes.
     pub fn refill(&mut self, count: u32)
         requires { count ≤ self.old.block }

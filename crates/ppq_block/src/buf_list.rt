@@ -8,7 +8,7 @@ use crate::{BlockBuf, Buffer};
 use ppq_record::Record;
 use std::marker::Model;
 
-/// A queue of fewer than 2^32 buffers, seen as a list. None of its calls takes memory, since each
+/// A queue of fewer than 2^32 buffers, seen as a list. None of its calls allocates, since each
 /// buffer's box has room for the link.
 ///
 /// It is two linked stacks: the first buffers in order, and the last ones the other way round. Where the
@@ -18,7 +18,7 @@ use std::marker::Model;
 pub struct BufList<R: Record> {
     // the first buffers, the first of all on top
     front: Chain<Buffer<R>>,
-    // those behind them, the last on top
+    // those after them, the last on top
     back: Chain<Buffer<R>>,
     // how many there are
     len: u32,
@@ -41,7 +41,7 @@ impl<R: Record> Model for BufList<R> {
 }
 
 impl<R: Record> BufList<R> {
-    /// No buffers. It takes no memory.
+    /// No buffers. It does not allocate.
     pub fn empty() -> Self
         ensures { result ≡ [] }
     {
@@ -68,27 +68,27 @@ impl<R: Record> BufList<R> {
         self.front.is_end()
     }
 
-    /// Puts a buffer behind the others.
+    /// Adds a buffer after the others.
     pub fn push_back(&mut self, buf: BlockBuf<R>)
         requires { length self.old < 2 ^ 32 - 1 }
         ensures { self.new ≡ self.old ++ buf ∷ [] }
     {
         let BlockBuf { node } = buf;
         if self.front.is_end() {
-            self.front.put(node);
+            self.front.push(node);
         } else {
-            self.back.put(node);
+            self.back.push(node);
         }
         self.len += 1;
     }
 
-    /// Takes the first buffer. None comes exactly where there is none.
+    /// Takes the first buffer. None is returned if and only if there is none.
     pub fn pop_front(&mut self) -> Option<BlockBuf<R>>
         ensures none { IsNone result ↔ (self.old ≡ []) }
         ensures first { IfSome result (λ buf. self.old ≡ buf ∷ self.new) }
         ensures rest { IfNone result (self.new ≡ []) }
     {
-        match self.front.take() {
+        match self.front.pop() {
             None => None,
             Some(node) => {
                 if self.front.is_end() {

@@ -84,7 +84,7 @@ impl<R: Record> Buffer<R> {
         take_at(self.bytes.as_slice(), i as usize)
     }
 
-    // Puts a record behind the others. It costs one `put`.
+    // Adds a record after the others. It costs one `put` of it.
     #[inline]
     pub(crate) fn push(&mut self, r: R)
         requires settled { IsSettled self.old }
@@ -137,7 +137,7 @@ impl<R: Record> Buffer<R> {
         self.bytes.as_mut_slice()
     }
 
-    // Makes the first records of the bytes its records, and the bytes behind them zeros.
+    // Makes the first records of the bytes its records, and the bytes after them zeros.
     pub(crate) fn refill(&mut self, count: u32)
         requires { count ≤ self.old.block }
         ensures { self.new ≡ holding self.old.block (records_from R.record_of R.WIDTH count (content R.bytes_of R.WIDTH self.old)) }

@@ -5,7 +5,7 @@ use ppq_record::{Record, record_laws};
 
 // Writes a record over the bytes from a place on.
 #[inline]
-pub fn write_at<R: Record>(r: &R, bytes: &mut [u8], at: usize)
+pub(crate) fn write_at<R: Record>(r: &R, bytes: &mut [u8], at: usize)
     requires { at + R.WIDTH ≤ length bytes.old }
     ensures { bytes.new ≡ take at bytes.old ++ (R.bytes_of r.now ++ drop (at + R.WIDTH) bytes.old) }
 {
@@ -15,7 +15,7 @@ pub fn write_at<R: Record>(r: &R, bytes: &mut [u8], at: usize)
 }
 
 // Makes the bytes from a place on zeros.
-pub fn zero_from(bytes: &mut [u8], from: usize)
+pub(crate) fn zero_from(bytes: &mut [u8], from: usize)
     requires { from ≤ length bytes.old }
     ensures { bytes.new ≡ take from bytes.old ++ replicate (length bytes.old - from) 0 }
 {
@@ -23,7 +23,7 @@ pub fn zero_from(bytes: &mut [u8], from: usize)
 }
 
 // Makes the bytes before a place zeros.
-pub fn zero_to(bytes: &mut [u8], to: usize)
+pub(crate) fn zero_to(bytes: &mut [u8], to: usize)
     requires { to ≤ length bytes.old }
     ensures { bytes.new ≡ replicate to 0 ++ drop to bytes.old }
 {
@@ -32,7 +32,7 @@ pub fn zero_to(bytes: &mut [u8], to: usize)
 
 // The first number where the test holds, and else the second.
 #[inline]
-pub fn either(first: bool, one: usize, other: usize) -> usize
+pub(crate) fn either(first: bool, one: usize, other: usize) -> usize
     ensures { result ≡ cond first one other }
 {
     if first { one } else { other }
@@ -40,7 +40,7 @@ pub fn either(first: bool, one: usize, other: usize) -> usize
 
 // Does nothing; it promises that bytes are bytes.
 #[inline]
-pub fn known_bytes(bytes: &[u8])
+pub(crate) fn known_bytes(bytes: &[u8])
     ensures { All (λ x. x < 256) bytes.now }
 {
     let _length = bytes.len();

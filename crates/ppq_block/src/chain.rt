@@ -1,4 +1,4 @@
-//! Nodes in boxes, each linked to the next one: a stack that takes no memory.
+//! Nodes in boxes, each linked to the next one: a stack that does not allocate.
 ghost use Rattle.std.specs.Prelude.{◌≡◌, ◌↔◌, [], ◌∷◌, ◌++◌, reverse, slice_get, option_copied, IsTrue, IsNone, IfNone, IfSome};
 ghost use Rattle.ppq_block.specs.Chain.{chain_items};
 
@@ -19,7 +19,7 @@ pub enum Chain<T> {
     Link(Box<Node<T>>),
 }
 
-// A loop, so that a long chain does not run out of stack.
+// A loop, so that a long chain does not use up the stack.
 impl<T: Drop> Drop for Chain<T> {
     fn drop(mut self) {
         loop {
@@ -35,7 +35,7 @@ impl<T: Drop> Drop for Chain<T> {
 }
 
 impl<T: Drop> Chain<T> {
-    // Whether there is no node.
+    /// Whether there is no node.
     #[inline]
     pub fn is_end(&self) -> bool
         ensures { IsTrue result ↔ (chain_items self.now ≡ []) }
@@ -46,7 +46,7 @@ impl<T: Drop> Chain<T> {
         }
     }
 
-    // What the node at a place holds, the top one at 0. It walks there.
+    /// What the node at a place holds, the top one at 0. It walks there.
     pub fn get(&self, i: u32) -> Option<&T>
         ensures { option_copied result ≡ slice_get (chain_items self.now) i }
     {
@@ -62,7 +62,7 @@ impl<T: Drop> Chain<T> {
         None
     }
 
-    // The top node with those behind it.
+    // The top node with those after it.
     #[inline]
     fn into_top(self) -> Option<Box<Node<T>>>
         ensures none { IfNone result (chain_items self ≡ []) }
@@ -74,9 +74,9 @@ impl<T: Drop> Chain<T> {
         }
     }
 
-    // Puts a node that is linked to nothing on top.
+    /// Adds a node that is linked to nothing on top.
     #[inline]
-    pub fn put(&mut self, mut node: Box<Node<T>>)
+    pub fn push(&mut self, mut node: Box<Node<T>>)
         requires { chain_items node.value.next ≡ [] }
         ensures { chain_items self.new ≡ node.value.item ∷ chain_items self.old }
     {
@@ -84,9 +84,9 @@ impl<T: Drop> Chain<T> {
         *self = Chain::Link(node);
     }
 
-    // Takes the top node, which is then linked to nothing.
+    /// Takes the top node, which is then linked to nothing.
     #[inline]
-    pub fn take(&mut self) -> Option<Box<Node<T>>>
+    pub fn pop(&mut self) -> Option<Box<Node<T>>>
         ensures none { IsNone result ↔ (chain_items self.old ≡ []) }
         ensures top { IfSome result (λ node. chain_items self.old ≡ node.value.item ∷ chain_items self.new) }
         ensures alone { IfSome result (λ node. chain_items node.value.next ≡ []) }
@@ -101,13 +101,13 @@ impl<T: Drop> Chain<T> {
         }
     }
 
-    // Moves all nodes onto another chain, one by one, so that the last of them is on top.
+    /// Moves all nodes onto another chain, one by one, so that the last of them is on top.
     pub fn pour(&mut self, into: &mut Chain<T>)
         ensures moved { chain_items into.new ≡ reverse (chain_items self.old) ++ chain_items into.old }
         ensures left { chain_items self.new ≡ [] }
     {
-        while let Some(node) = self.take() {
-            into.put(node);
+        while let Some(node) = self.pop() {
+            into.push(node);
         }
     }
 }

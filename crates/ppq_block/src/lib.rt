@@ -1,8 +1,8 @@
 //! Buffers of a block each, and queues of them.
 //!
 //! A buffer is a list of records over the bytes of a block. It lies in a box that has room for the
-//! link to a next one, so a queue of buffers takes no memory. A block that is written out of a buffer
-//! and read into one again is the same list.
+//! link to a next one, so a queue of buffers does not allocate. A block that is written out of a
+//! buffer and read into one again is the same list.
 #![tactic(auto)]
 
 mod block_buf;

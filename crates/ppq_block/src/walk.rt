@@ -6,9 +6,9 @@ ghost use Rattle.ppq_block.specs.Chain.{chain_items};
 use crate::{Buffer, Chain};
 use ppq_record::Record;
 
-// The record at a place, counted from the top; or the place behind the chain.
+// The record at a place, counted from the top; or the place after the chain.
 #[inline]
-pub fn from_top<R: Record>(chain: &Chain<Buffer<R>>, i: u64) -> Result<R, u64>
+pub(crate) fn from_top<R: Record>(chain: &Chain<Buffer<R>>, i: u64) -> Result<R, u64>
     ensures found { IfOk result (λ r. slice_get (all_items (chain_items chain.now)) i ≡ Some r) }
     ensures value { IfOk result R.is_value }
     ensures behind { IfErr result (λ rest. length (all_items (chain_items chain.now)) + rest ≡ i) }
@@ -61,7 +61,7 @@ fn records<R: Record>(chain: &Chain<Buffer<R>>) -> u64
 
 // The record at a place in a chain of at most so many nodes whose top is the last buffer. It walks
 // twice, since only the end is at hand.
-pub fn from_bottom<R: Record>(chain: &Chain<Buffer<R>>, nodes: u32, i: u64) -> R
+pub(crate) fn from_bottom<R: Record>(chain: &Chain<Buffer<R>>, nodes: u32, i: u64) -> R
     requires nodes { length (chain_items chain.now) ≤ nodes }
     requires within { i < length (all_items (reverse (chain_items chain.now))) }
     ensures record { slice_get (all_items (reverse (chain_items chain.now))) i ≡ Some result }

@@ -34,8 +34,8 @@ impl Model for Sizes {
 
 impl Sizes {
     /// The sizes of a queue for so many workers (1 to 64), with so many records a block (2 to 65,536),
-    /// blocks a heap (1 to 64), records of budget (0 to 268,435,456) and blocks of the device
-    /// (0 to 65,536). None comes exactly where a number is out of its range.
+    /// blocks a heap (1 to 64), records of budget (0 to 268,435,456) and blocks of the device (0 to
+    /// 65,536). None is returned if and only if a number is out of its range.
     pub fn new(workers: u32, block: u32, heap: u32, memory: u64, blocks: u32) -> Option<Self>
         ensures valid { IsSome result ↔ AreInRange (numbers workers block heap memory blocks) }
         ensures same { IfSome result (λ s. s ≡ numbers workers block heap memory blocks) }
@@ -171,8 +171,8 @@ impl Sizes {
     }
 }
 
-/// The parts of the fixed part of the budget, as a clause for the proof of whoever calls it. It does
-/// nothing.
+/// The parts of the fixed part of the budget, as a clause for the proof of whoever calls it, and for a
+/// reader. It does nothing.
 #[inline]
 pub fn fixed_parts()
     ensures { (n : Numbers) → ArePartsOfFixed n }

@@ -6,7 +6,7 @@ use Rattle.ppq_core.specs.declared.place.Place.{Place}
 use Rattle.ppq_core.specs.declared.place.Place.TheVariants.{Held, Stored}
 use Rattle.ppq_core.specs.declared.event.Event.{Event}
 use Rattle.ppq_core.specs.declared.event.Event.TheVariants.{Take, Give, Draw, Push, Store}
-use Rattle.ppq_core.specs.History.{buffer_at, slot_at, draws, pushed_by, MayCome, IsLegal}
+use Rattle.ppq_core.specs.History.{buffer_at, slot_at, draws, pushed_by, IsLegalNext, IsLegal}
 use Rattle.ppq_core.specs.Laws.{pass_of, IsDraw, MayTrade, EndsAs, NeighboursTrade}
 use Rattle.ppq_core.proofs.Places.{free_not_held, stored_not_held, held_same, hit, buffer_by, slot_by, push_by, draw_by, buffer_step, slot_step, push_step, draw_step, Marks, named, marked, buffer_miss, slot_miss, push_miss, draw_miss}
 use Rattle.ppq_core.proofs.Slots.{undrawn}
@@ -56,14 +56,14 @@ module _ {R : Type 0} where
   marks_apart n d k (Store p s) (Store q r) h l t i a c = absurd (stored_not_held p q (sym (hit s r (Stored p) (slot_at r h) (a ∙ sym c)) ∙ l.0.2))
 
   -- what an event asks is the same before and after another that touches nothing of it
-  may_more : (n d k : ℕ) (e f : Event R) (h : List (Event R)) → MayTrade e f → ((i : ℕ) → Marks i e → ¬ (Marks i f)) → MayCome n d k e h → MayCome n d k e (f ∷ h)
+  may_more : (n d k : ℕ) (e f : Event R) (h : List (Event R)) → MayTrade e f → ((i : ℕ) → Marks i e → ¬ (Marks i f)) → IsLegalNext n d k e h → IsLegalNext n d k e (f ∷ h)
   may_more n d k (Take p b) f h t marks m = (m.0, m.1, buffer_step b f h ∙ buffer_miss b f (buffer_at b h) (t.other_buffer b refl) ∙ m.2)
   may_more n d k (Give p b) f h t marks m = (m.0, m.1, buffer_step b f h ∙ buffer_miss b f (buffer_at b h) (t.other_buffer b refl) ∙ m.2)
   may_more n d k (Draw p s) f h t marks m = (m.0, m.1, m.2 ∙ sym (draw_step f h ∙ draw_miss f (draws h) (λ a. t.not_both_draw (tt, a))))
   may_more n d k (Push p x) f h t marks m = m
   may_more n d k (Store p s) f h t marks m = (m.0, m.1, slot_step s f h ∙ slot_miss s f (slot_at s h) (marks s refl) ∙ m.2)
 
-  may_less : (n d k : ℕ) (e f : Event R) (h : List (Event R)) → MayTrade e f → ((i : ℕ) → Marks i e → ¬ (Marks i f)) → MayCome n d k e (f ∷ h) → MayCome n d k e h
+  may_less : (n d k : ℕ) (e f : Event R) (h : List (Event R)) → MayTrade e f → ((i : ℕ) → Marks i e → ¬ (Marks i f)) → IsLegalNext n d k e (f ∷ h) → IsLegalNext n d k e h
   may_less n d k (Take p b) f h t marks m = (m.0, m.1, sym (buffer_step b f h ∙ buffer_miss b f (buffer_at b h) (t.other_buffer b refl)) ∙ m.2)
   may_less n d k (Give p b) f h t marks m = (m.0, m.1, sym (buffer_step b f h ∙ buffer_miss b f (buffer_at b h) (t.other_buffer b refl)) ∙ m.2)
   may_less n d k (Draw p s) f h t marks m = (m.0, m.1, m.2 ∙ draw_step f h ∙ draw_miss f (draws h) (λ a. t.not_both_draw (tt, a)))
@@ -78,7 +78,7 @@ module _ {R : Type 0} where
   }
 
   -- an event asks the same of histories that end alike, and leaves them alike
-  may_as : (n d k : ℕ) (e : Event R) (g h : List (Event R)) → EndsAs g h → MayCome n d k e g → MayCome n d k e h
+  may_as : (n d k : ℕ) (e : Event R) (g h : List (Event R)) → EndsAs g h → IsLegalNext n d k e g → IsLegalNext n d k e h
   may_as n d k (Take p b) g h same m = (m.0, m.1, sym (same.buffers b) ∙ m.2)
   may_as n d k (Give p b) g h same m = (m.0, m.1, sym (same.buffers b) ∙ m.2)
   may_as n d k (Draw p s) g h same m = (m.0, m.1, m.2 ∙ same.drawn)

@@ -42,6 +42,7 @@ module _ {R : Type 0} where
   pushed_by q (Draw p s ∷ h) = pushed_by q h
   pushed_by q (Store p s ∷ h) = pushed_by q h
 
+  -- the event adds an item to a pass's own
   abbrev pub IsPush : Event R → Type 0
   IsPush (Push p x) = Unit {0}
   IsPush (Take p b) = ⊥
@@ -49,15 +50,15 @@ module _ {R : Type 0} where
   IsPush (Draw p s) = ⊥
   IsPush (Store p s) = ⊥
 
-  -- the event is legal after the history, for so many buffers, slots and passes
-  abbrev pub MayCome : ℕ → ℕ → ℕ → Event R → List (Event R) → Type 0
-  MayCome buffers slots passes (Take p b) h = (p < passes) × (b < buffers) × (buffer_at b h ≡ Free)
-  MayCome buffers slots passes (Give p b) h = (p < passes) × (b < buffers) × (buffer_at b h ≡ Held p)
-  MayCome buffers slots passes (Draw p s) h = (p < passes) × (s < slots) × (s ≡ draws h)
-  MayCome buffers slots passes (Push p x) h = p < passes
-  MayCome buffers slots passes (Store p s) h = (p < passes) × (s < slots) × (slot_at s h ≡ Held p)
+  -- the event is legal as the next one after the history, for so many buffers, slots and passes
+  abbrev pub IsLegalNext : ℕ → ℕ → ℕ → Event R → List (Event R) → Type 0
+  IsLegalNext buffers slots passes (Take p b) h = (p < passes) × (b < buffers) × (buffer_at b h ≡ Free)
+  IsLegalNext buffers slots passes (Give p b) h = (p < passes) × (b < buffers) × (buffer_at b h ≡ Held p)
+  IsLegalNext buffers slots passes (Draw p s) h = (p < passes) × (s < slots) × (s ≡ draws h)
+  IsLegalNext buffers slots passes (Push p x) h = p < passes
+  IsLegalNext buffers slots passes (Store p s) h = (p < passes) × (s < slots) × (slot_at s h ≡ Held p)
 
   -- each event is legal after those before it
   abbrev pub IsLegal : ℕ → ℕ → ℕ → List (Event R) → Type 0
   IsLegal buffers slots passes [] = Unit {0}
-  IsLegal buffers slots passes (e ∷ h) = MayCome buffers slots passes e h × IsLegal buffers slots passes h
+  IsLegal buffers slots passes (e ∷ h) = IsLegalNext buffers slots passes e h × IsLegal buffers slots passes h

@@ -16,6 +16,7 @@ module _ {R : Type 0} where
   pass_of (Push p x) = p
   pass_of (Store p s) = p
 
+  -- the event draws a slot
   abbrev pub IsDraw : Event R → Type 0
   IsDraw (Take p b) = ⊥
   IsDraw (Give p b) = ⊥
@@ -44,10 +45,10 @@ module _ {R : Type 0} where
     pub pushed : (p : ℕ) → pushed_by p g ≡ pushed_by p h
     pub drawn : draws g ≡ draws h
 
-  -- each step of the way from the table `start` to the table `end` added one event of the history
-  abbrev pub IsRun : Table R → List (Event R) → Table R → Type 0
-  IsRun start [] end = end ≡ start
-  IsRun start (e ∷ h) end = (before : Table R) × IsRun start h before × Adds before e end
+  -- the steps of the history lead from the table `start` to the table `end`: each added its event
+  abbrev pub ReachesBy : Table R → List (Event R) → Table R → Type 0
+  ReachesBy start [] end = end ≡ start
+  ReachesBy start (e ∷ h) end = (before : Table R) × ReachesBy start h before × Adds before e end
 
 -- between two Takes of one buffer stands a Give of it by the pass of the first
 abbrev pub HasGiveBetween : Type 0 → Type 0
@@ -100,6 +101,6 @@ NeighboursTrade R =
     → MayTrade e f
     → IsLegal buffers slots passes (later ++ e ∷ f ∷ before) × EndsAs (later ++ f ∷ e ∷ before) (later ++ e ∷ f ∷ before)
 
--- a run from a fresh table shows its own history: its places, and each pass's own items
-abbrev pub RunsShowTheirHistory : Type 0 → Type 0
-RunsShowTheirHistory R = (start end : Table R) (h : List (Event R)) → Shows start [] → IsRun start h end → Shows end h
+-- a table that steps reach from a fresh one shows their history: its places, and each pass's own items
+abbrev pub StepsShowTheirHistory : Type 0 → Type 0
+StepsShowTheirHistory R = (start end : Table R) (h : List (Event R)) → Shows start [] → ReachesBy start h end → Shows end h

@@ -3,7 +3,7 @@ use Rattle.std.specs.Prelude.{◌≡◌, ℕ, ◌<◌, Bool, true, false, List, 
 use Rattle.ppq_core.specs.declared.place.Place.{Place}
 use Rattle.ppq_core.specs.declared.place.Place.TheVariants.{Free}
 use Rattle.ppq_core.specs.declared.event.Event.{Event}
-use Rattle.ppq_core.specs.History.{buffer_at, slot_at, draws, pushed_by, MayCome, IsLegal}
+use Rattle.ppq_core.specs.History.{buffer_at, slot_at, draws, pushed_by, IsLegalNext, IsLegal}
 
 -- the places of all buffers and of all slots, the items that each pass pushed, and the count of draws
 pub record Table (R : Type 0) : Type 0 where
@@ -15,7 +15,7 @@ pub record Table (R : Type 0) : Type 0 where
 module _ {R : Type 0} where
   -- the event is legal after the history, for as many buffers, slots and passes as the table has
   abbrev pub MayFollow : Table R → Event R → List (Event R) → Type 0
-  MayFollow t e h = MayCome (length t.buffers) (length t.slots) (length t.pushed) e h
+  MayFollow t e h = IsLegalNext (length t.buffers) (length t.slots) (length t.pushed) e h
 
   -- the history is legal, and each place, each pass's items and the count are as it says
   pub record Shows (t : Table R) (h : List (Event R)) : Type 0 where

@@ -5,6 +5,6 @@
 pub enum StepFault {
     /// The event is not legal after the history that the state shows.
     Illegal,
-    /// The event is legal, and there was no memory for its item.
+    /// The event is legal, and an allocation for its item failed.
     Memory,
 }

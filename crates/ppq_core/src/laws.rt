@@ -1,5 +1,6 @@
-//! Laws over every list of events, each the contract of a call that does nothing and costs nothing.
-ghost use Rattle.ppq_core.specs.Laws.{HasGiveBetween, DrawsInOrder, DrawsOnce, StoresOnce, StoresItsDraw, TellsSlots, NeighboursTrade, RunsShowTheirHistory};
+//! Laws over every list of events, each the contract of a call that does nothing and costs nothing. They
+//! are for the proof of whoever calls them, and for a reader.
+ghost use Rattle.ppq_core.specs.Laws.{HasGiveBetween, DrawsInOrder, DrawsOnce, StoresOnce, StoresItsDraw, TellsSlots, NeighboursTrade, StepsShowTheirHistory};
 ghost use Rattle.ppq_core.specs.Parts.{PartsInterleave, PartsAreLegal, PartsGoOn, PassesRenumber};
 
 use ppq_record::Record;
@@ -28,11 +29,11 @@ pub fn order_laws<R: Record>()
     ensures { NeighboursTrade R }
 {}
 
-/// A run of steps that all answered Ok, from a new state, ends in the places of its history, and each
-/// pass has the items that it pushed, in order, and no other.
+/// Steps that all returned Ok, from a new state on, end in the places of their history, and each pass
+/// has the items that it pushed, in order, and no other.
 #[inline]
-pub fn run_laws<R: Record>()
-    ensures { RunsShowTheirHistory R }
+pub fn step_laws<R: Record>()
+    ensures { StepsShowTheirHistory R }
 {}
 
 /// One history of a pool and a row. A pool shows a legal history of takes and gives, a row one of

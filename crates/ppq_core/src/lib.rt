@@ -20,6 +20,6 @@ mod tests;
 
 pub use event::Event;
 pub use fault::StepFault;
-pub use laws::{buffer_laws, interleaving_laws, order_laws, run_laws, slot_laws};
+pub use laws::{buffer_laws, interleaving_laws, order_laws, slot_laws, step_laws};
 pub use place::Place;
 pub use state::State;

@@ -5,7 +5,7 @@ use ppq_record::Memory;
 use std::alloc::Global;
 use std::marker::Model;
 
-/// The items that one pass pushed, in order: contracts see the list.
+// The items that one pass pushed, in order: contracts see the list.
 #[derive(Debug, Drop)]
 pub(crate) struct Pushed<R> {
     items: Vec<R>,
@@ -20,7 +20,7 @@ impl<R> Model for Pushed<R> {
 }
 
 impl<R: Copy> Pushed<R> {
-    /// No items. It takes no memory.
+    // No items. It does not allocate.
     pub(crate) fn new(alloc: Global) -> Pushed<R>
         ensures { result ≡ [] }
     {
@@ -29,8 +29,8 @@ impl<R: Copy> Pushed<R> {
         }
     }
 
-    /// Adds an item at the end, at amortized constant cost. Where there is no memory for it the list
-    /// stays as it is.
+    // Adds an item at the end, at amortized constant cost. If an allocation fails the list stays as
+    // it is.
     pub(crate) fn push(&mut self, item: R) -> Result<(), Memory>
         ensures { self.new ≡ (if is_ok result then self.old ++ item ∷ [] else self.old) }
     {
@@ -38,7 +38,7 @@ impl<R: Copy> Pushed<R> {
         Ok(())
     }
 
-    /// The items, the first pushed first.
+    // The items, the first pushed first.
     #[inline]
     pub(crate) fn as_slice(&self) -> &[R]
         ensures { result.now ≡ self.now }

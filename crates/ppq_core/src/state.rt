@@ -19,13 +19,13 @@ use std::marker::Model;
 /// items.
 #[derive(Debug, Drop)]
 pub struct State<R> {
-    /// The place of each buffer.
+    // The place of each buffer.
     buffers: Vec<Place>,
-    /// The place of each slot.
+    // The place of each slot.
     slots: Vec<Place>,
-    /// What each pass pushed.
+    // What each pass pushed.
     pushed: Vec<Pushed<R>>,
-    /// How many slots were drawn: those with the numbers below.
+    // How many slots were drawn: those with the numbers below.
     drawn: u32,
 }
 
@@ -40,7 +40,7 @@ impl<R> Model for State<R> {
     ghost invariant = { λ s. length s.slots.items < 4294967296 };
 }
 
-/// So many free places.
+// So many free places.
 fn all_free(alloc: Global, count: u32) -> Result<Vec<Place>, Memory>
     ensures { IfOk result (λ v. v.items ≡ replicate count Free) }
 {
@@ -49,7 +49,7 @@ fn all_free(alloc: Global, count: u32) -> Result<Vec<Place>, Memory>
     Ok(places)
 }
 
-/// So many empty lists of items.
+// So many empty lists of items.
 fn nothing_pushed<R: Copy>(alloc: Global, passes: u32) -> Result<Vec<Pushed<R>>, Memory>
     ensures { IfOk result (λ v. v.items ≡ replicate passes []) }
 {
@@ -61,9 +61,9 @@ fn nothing_pushed<R: Copy>(alloc: Global, passes: u32) -> Result<Vec<Pushed<R>>,
 }
 
 impl<R: Record> State<R> {
-    /// A state in which every buffer and slot is free and no pass has pushed anything. It takes
-    /// memory for a place for each buffer and slot and a list for each pass, and answers `Memory`
-    /// where there is none.
+    /// A state in which every buffer and slot is free and no pass has pushed anything. It allocates
+    /// a place for each buffer and slot and a list for each pass, and returns `Memory` if an
+    /// allocation fails.
     pub fn new(alloc: Global, buffers: u32, slots: u32, passes: u32) -> Result<State<R>, Memory>
         ensures fresh { IfOk result (λ s. Shows s []) }
         ensures buffers { IfOk result (λ s. length s.buffers ≡ buffers) }

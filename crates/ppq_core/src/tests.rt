@@ -2,7 +2,8 @@
 ghost use Rattle.std.specs.Prelude.{◌≡◌, IfOk, length};
 
 use crate::{
-    Event, Place, State, StepFault, buffer_laws, interleaving_laws, order_laws, run_laws, slot_laws,
+    Event, Place, State, StepFault, buffer_laws, interleaving_laws, order_laws, slot_laws,
+    step_laws,
 };
 use ppq_record::{Memory, Pair};
 use std::test::Fail;
@@ -141,6 +142,6 @@ fn the_laws_hold_of_pairs() {
     buffer_laws::<Pair>();
     slot_laws::<Pair>();
     order_laws::<Pair>();
-    run_laws::<Pair>();
+    step_laws::<Pair>();
     interleaving_laws::<Pair>();
 }

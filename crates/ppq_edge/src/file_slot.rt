@@ -11,13 +11,13 @@ use std::sync::Arc;
 /// One block of a device file, which all slots of the device share. It tells nothing of its contents.
 ///
 /// It reads and writes at its own offset, `number * size` bytes from the beginning of the file. No call
-/// moves a position or takes a lock, so the transfers of several workers run at once. A short read or
+/// moves a position or takes a lock, so the transfers of several workers go on at once. A short read or
 /// write is a fault, and so is each error of the machine: a full disk, or a file that was cut.
 #[derive(Drop)]
 pub struct FileSlot {
     // the device file
     file: Arc<File, Global>,
-    // the place of the block, counted in blocks
+    // which block of the device it is, from 0
     number: u32,
     // its length in bytes
     size: usize,
@@ -30,7 +30,7 @@ pub struct FileSlot {
 }
 
 impl FileSlot {
-    /// The block with this number and of so many bytes, for which no call was made yet.
+    // The block with this number and of so many bytes, for which no call was made yet.
     pub(crate) fn new(file: Arc<File, Global>, number: u32, size: usize) -> Self
         ensures number { result.number ≡ number }
         ensures size { result.size ≡ size }

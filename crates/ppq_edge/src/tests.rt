@@ -51,7 +51,7 @@ fn a_full_disk_is_a_fault_of_the_block(rt: HostRuntime) -> Result<(), Fail> {
     Ok(())
 }
 
-/// A file that nobody may open.
+// A file that nobody may open.
 const CLOSED: &str = "ppq_edge_test.closed";
 
 #[test]

@@ -4,7 +4,7 @@ use Rattle.std.proofs.lemmas.List.Sums.{sum_by-cons, sum_by-append}
 use Rattle.ppq_outside.specs.Shown.{Shown}
 use Rattle.ppq_array.specs.declared.berth.DeviceBlock.{DeviceBlock}
 use Rattle.ppq_array.specs.Run.{Run, IsRun, items_of, buffers_of}
-use Rattle.ppq_array.specs.External.{External, IsNoted, counts, size_of, waiting}
+use Rattle.ppq_array.specs.External.{External, IsLabelled, counts, size_of, waiting}
 use Rattle.ppq_array.proofs.Items.{no_items, no_live}
 use Rattle.ppq_extract.specs.Emptied.{IsEmptyRun, IsEmptyArray}
 
@@ -36,16 +36,16 @@ module _ {S R : Type 0} where
   no_size a is = omega (arith, no_length a.loaded is.loaded, ap counts (no_waiting a is))
 
   -- a run with a stored block has a record
-  pub some_stored : (record_of : List ℕ → R) (width : ℕ) (shown : S → Shown) (a : External S R) → All (IsNoted record_of width shown) a.stored → (a.stored ≡ [] → ⊥) → 0 < size_of a
-  some_stored record_of width shown a noted some = some_of a.stored noted some refl
+  pub some_stored : (record_of : List ℕ → R) (width : ℕ) (shown : S → Shown) (a : External S R) → All (IsLabelled record_of width shown) a.stored → (a.stored ≡ [] → ⊥) → 0 < size_of a
+  some_stored record_of width shown a labelled some = some_of a.stored labelled some refl
     where
-      some_of : (stored : List (DeviceBlock S R)) → All (IsNoted record_of width shown) stored → (stored ≡ [] → ⊥) → a.stored ≡ stored → 0 < size_of a
-      some_of [] noted some e = absurd (some refl)
-      some_of (b ∷ bs) noted some e = omega (arith, sum_by-append (λ (b : DeviceBlock S R). b.count) a.lifted a.stored, ap counts e, sum_by-cons (λ (b : DeviceBlock S R). b.count) b bs, (noted 0 b (omega arith)).some)
+      some_of : (stored : List (DeviceBlock S R)) → All (IsLabelled record_of width shown) stored → (stored ≡ [] → ⊥) → a.stored ≡ stored → 0 < size_of a
+      some_of [] labelled some e = absurd (some refl)
+      some_of (b ∷ bs) labelled some e = omega (arith, sum_by-append (λ (b : DeviceBlock S R). b.count) a.lifted a.stored, ap counts e, sum_by-cons (λ (b : DeviceBlock S R). b.count) b bs, (labelled 0 b (omega arith)).some)
 
   pub some_next :
-      (record_of : List ℕ → R) (width : ℕ) (shown : S → Shown) (a : External S R) (next : Option R) (x : R) → next ≡ Some x → (IsNone next ↔ (a.stored ≡ [])) → All (IsNoted record_of width shown) a.stored → 0 < size_of a
-  some_next record_of width shown a next x e none noted = some_stored record_of width shown a noted (λ h. let no : IsNone (Some x) = subst IsNone e (none.1 h) in absurd (cc))
+      (record_of : List ℕ → R) (width : ℕ) (shown : S → Shown) (a : External S R) (next : Option R) (x : R) → next ≡ Some x → (IsNone next ↔ (a.stored ≡ [])) → All (IsLabelled record_of width shown) a.stored → 0 < size_of a
+  some_next record_of width shown a next x e none labelled = some_stored record_of width shown a labelled (λ h. let no : IsNone (Some x) = subst IsNone e (none.1 h) in absurd (cc))
 
   pub some_loaded : (a : External S R) → 0 < length (items_of a.loaded) → 0 < size_of a
   some_loaded a some = omega arith

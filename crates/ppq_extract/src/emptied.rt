@@ -9,7 +9,7 @@ use ppq_array::{ExternalArray, InternalArray};
 use ppq_outside::Slot;
 use ppq_record::Record;
 
-/// Takes the runs in buffers out that have no record left. Others change places. It looks at each once.
+// Takes the runs in buffers out that have no record left. The others may move. It looks at each once.
 pub(crate) fn drop_emptied_internal<R: Record>(runs: &mut Vec<InternalArray<R>>)
     requires unspent { All (λ (run : Run R). run.spent ≡ []) runs.old.items }
     ensures lost { LostOnly IsEmptyRun runs.old.items runs.new.items }
@@ -23,7 +23,7 @@ pub(crate) fn drop_emptied_internal<R: Record>(runs: &mut Vec<InternalArray<R>>)
     }
 }
 
-/// Takes the runs in blocks out that have no record left. Others change places. It looks at each once.
+// Takes the runs in blocks out that have no record left. The others may move. It looks at each once.
 pub(crate) fn drop_emptied_external<S: Slot, R: Record>(runs: &mut Vec<ExternalArray<S, R>>)
     requires none_lifted { All (λ (a : External S R). a.lifted ≡ []) runs.old.items }
     requires unspent { All (λ (a : External S R). a.loaded.spent ≡ []) runs.old.items }
@@ -38,7 +38,7 @@ pub(crate) fn drop_emptied_external<S: Slot, R: Record>(runs: &mut Vec<ExternalA
     }
 }
 
-// The run at a place goes if it has no record left; then the last run takes its place.
+// The run at a place goes if it has no record left; then the last run moves there.
 fn drop_internal_if_emptied<R: Record>(runs: &mut Vec<InternalArray<R>>, at: usize)
     requires within { at < length runs.old.items }
     requires unspent { All (λ (run : Run R). run.spent ≡ []) runs.old.items }

@@ -42,7 +42,8 @@ impl<R: Record> Model for Extract<R> {
 }
 
 impl<R: Record> Extract<R> {
-    /// An empty buffer with room for a block of records for each worker. `Err` only for want of memory.
+    /// An empty buffer with room for a block of records for each worker. `Err` only if an allocation
+    /// failed.
     pub fn new(alloc: Global, sizes: &Sizes) -> Result<Self, Memory>
         ensures { IfOk result (λ e. e ≡ held [] (batch_of sizes.now)) }
     {
@@ -70,7 +71,7 @@ impl<R: Record> Extract<R> {
         self.from == self.to
     }
 
-    /// The first record that is left. None comes exactly where none is left.
+    /// The first record that is left. None is returned if and only if none is left.
     #[inline]
     pub fn front(&self) -> Option<R>
         ensures { result ≡ first_of self.now.items }
@@ -82,7 +83,7 @@ impl<R: Record> Extract<R> {
         }
     }
 
-    /// Takes the first record out. None comes exactly where none is left.
+    /// Takes the first record out. None is returned if and only if none is left.
     #[inline]
     pub fn pop(&mut self) -> Option<R>
         ensures first { result ≡ first_of self.old.items }

@@ -20,7 +20,7 @@ pub struct Sources<R: Record> {
 
 impl<R: Record> Sources<R> {
     /// For as many workers as the sizes say, and for as many runs as there can be: the buffers of the
-    /// pool, and 65 in blocks. `Err` only for want of memory.
+    /// pool, and 65 in blocks. `Err` only if an allocation failed.
     pub fn new(alloc: Global, sizes: &Sizes) -> Result<Self, Memory>
         requires { fixed_of sizes.now ≤ sizes.now.memory }
         ensures workers { IfOk result (λ s. s.bench.workers ≡ sizes.now.workers) }

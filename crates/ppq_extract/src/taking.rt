@@ -14,9 +14,9 @@ use ppq_merge::Bench;
 use ppq_outside::{Gate, Host, Slot};
 use ppq_record::Record;
 
-/// Takes the least records of all runs, as many as stand in `records`, or all there are; with a limit only
-/// those below it. They take the first places of `records`, and it gives how many they are. As many blocks
-/// are loaded ahead as there are workers.
+// Takes the least records of all runs, as many as stand in `records`, or all there are; with a limit only
+// those below it. They take the first places of `records`, and it gives how many they are. As many blocks
+// are loaded ahead as there are workers.
 pub(crate) fn take_from_runs<
     H: Host,
     S: Slot + Sync,

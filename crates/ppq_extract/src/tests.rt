@@ -16,7 +16,7 @@ use ppq_record::{Memory, Pair};
 use std::alloc::Global;
 use std::test::Fail;
 
-/// A slot of two records of which contracts know no contents, as of one over a real file.
+// A slot of two records of which contracts know no contents, as of one over a real file.
 #[derive(Drop)]
 struct QuietSlot {
     number: u32,
@@ -68,7 +68,7 @@ impl Slot for QuietSlot {
     }
 }
 
-/// What a refill needs, for two workers and blocks of two records.
+// What a refill needs, for two workers and blocks of two records.
 #[derive(Drop)]
 struct World {
     extract: Extract<Pair>,

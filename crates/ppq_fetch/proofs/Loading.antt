@@ -13,7 +13,7 @@ use Rattle.ppq_outside.specs.Told.{Keeps, Rose, next_count}
 use Rattle.ppq_lane.specs.Jobs.{IsReadInto}
 use Rattle.ppq_array.specs.declared.berth.DeviceBlock.{DeviceBlock}
 use Rattle.ppq_array.specs.Run.{Run, run_of, items_of}
-use Rattle.ppq_array.specs.External.{External, external, waiting, records_in, blocks_items, block_items, FirstTells, IsNoted}
+use Rattle.ppq_array.specs.External.{External, external, waiting, records_in, blocks_items, block_items, FirstTells, IsLabelled}
 use Rattle.ppq_array.specs.Supply.{Stock, GetsSlot}
 use Rattle.ppq_fetch.specs.Steps.{SlotRead, BlockLoaded, BlockLost}
 
@@ -57,12 +57,12 @@ module _ {S R : Type 0} (record_of : List ℕ → R) (width : ℕ) (shown : S �
       )
 
   pub block_loaded :
-      {T E : Type 0} (answer : Result T E) (u : T) → answer ≡ Ok u → (block : DeviceBlock S R) (slot : Shown) (count : ℕ) (buf buf' : Block R) → count ≡ block.count → IsReadInto record_of width count answer (shown block.slot) slot buf buf' → IsNoted record_of width shown block
+      {T E : Type 0} (answer : Result T E) (u : T) → answer ≡ Ok u → (block : DeviceBlock S R) (slot : Shown) (count : ℕ) (buf buf' : Block R) → count ≡ block.count → IsReadInto record_of width count answer (shown block.slot) slot buf buf' → IsLabelled record_of width shown block
       → (a m b : External S R) → a.stored ≡ block ∷ m.stored → a.lifted ≡ [] → m ≡ external a.level a.loaded (a.lifted ++ block ∷ []) m.stored
       → b.loaded ≡ run_of (m.loaded.live ++ buf' ∷ []) m.loaded.taken m.loaded.spent → items_of b.loaded ≡ items_of m.loaded ++ buf'.items
       → (FirstTells record_of width shown m.lifted → records_in record_of width shown b ≡ records_in record_of width shown m) → b ≡ external m.level b.loaded (drop 1 m.lifted) m.stored
       → (idle idle' : List (Block R)) → idle ≡ buf ∷ idle' → (s t : Stock) → GetsSlot s slot t → BlockLoaded record_of width shown a b idle idle' s t
-  block_loaded answer u e block slot count buf buf' n r noted a m b st none mrest bl items same brest idle idle' taken s t freed =
+  block_loaded answer u e block slot count buf buf' n r labelled a m b st none mrest bl items same brest idle idle' taken s t freed =
       let f = filled answer u e block slot count buf buf' n r in
       let once : slot.reads ≡ next_count (shown block.slot).reads = IfOk-at_ok (λ _. slot.reads ≡ next_count (shown block.slot).reads) e r.read.reads.ok in
       let lif : m.lifted ≡ block ∷ [] = ap (λ (z : External S R). z.lifted) mrest ∙ ap (λ xs. xs ++ block ∷ []) none in
@@ -79,8 +79,8 @@ module _ {S R : Type 0} (record_of : List ℕ → R) (width : ℕ) (shown : S �
         taken = taken;
         room = f.1.1;
         count = f.0;
-        some = noted.some;
-        fits = noted.fits;
+        some = labelled.some;
+        fits = labelled.fits;
         array = brest ∙ (ap (λ k. external k b.loaded (drop 1 m.lifted) m.stored) lv ∙ (ap (λ k. external a.level k (drop 1 m.lifted) m.stored) ld ∙ (ap (λ k. external a.level (run_of (a.loaded.live ++ buf' ∷ []) a.loaded.taken a.loaded.spent) (drop 1 k) m.stored) lif ∙ ap (λ k. external a.level (run_of (a.loaded.live ++ buf' ∷ []) a.loaded.taken a.loaded.spent) [] k) (sym bs))));
         items = items ∙ ap (λ (z : Run R). items_of z ++ buf'.items) ml;
         same = λ tells. same (subst (FirstTells record_of width shown) (sym lif) tells) ∙ ap₂ (λ (z : Run R) w. items_of z ++ blocks_items record_of width shown w) ml wait;

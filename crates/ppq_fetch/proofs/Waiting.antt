@@ -13,7 +13,7 @@ use Rattle.ppq_record.proofs.Order.{Each-weaker, Each-append, Each-append_left, 
 use Rattle.ppq_outside.specs.Shown.{Shown, Tells, AllTell}
 use Rattle.ppq_array.specs.declared.berth.DeviceBlock.{DeviceBlock}
 use Rattle.ppq_array.specs.Run.{Run, items_of}
-use Rattle.ppq_array.specs.External.{External, next_of, waiting, block_items, blocks_items, records_in, IsNoted}
+use Rattle.ppq_array.specs.External.{External, next_of, waiting, block_items, blocks_items, records_in, IsLabelled}
 use Rattle.ppq_array.specs.Owner.{slots_shown}
 use Rattle.ppq_array.specs.Holdings.{external_slots}
 use Rattle.ppq_array.proofs.Noted.{all_left, all_right}
@@ -83,34 +83,34 @@ module _ {S R : Type 0} (cmp : R → R → Ordering) (o : IsStrictWeakOrder (is_
   some_first None xs ys there e = absurd (true≢false (sym there))
   some_first (Some m) xs ys there e = sym (first_append xs ys m (sym e))
 
-  stored_waits : (u : R) (bs : List (DeviceBlock S R)) → NotAfter cmp u (next_of bs) → All (IsNoted record_of width shown) bs → AllTell (slots_shown shown bs) → Ascends cmp (blocks_items record_of width shown bs) → Each (Le (is_before cmp) u) (blocks_items record_of width shown bs)
-  stored_waits u [] le noted tell up = tt
-  stored_waits u (b ∷ bs) le noted tell up =
+  stored_waits : (u : R) (bs : List (DeviceBlock S R)) → NotAfter cmp u (next_of bs) → All (IsLabelled record_of width shown) bs → AllTell (slots_shown shown bs) → Ascends cmp (blocks_items record_of width shown bs) → Each (Le (is_before cmp) u) (blocks_items record_of width shown bs)
+  stored_waits u [] le labelled tell up = tt
+  stored_waits u (b ∷ bs) le labelled tell up =
       let e = flat_map-cons (block_items record_of width shown) b bs in
-      let n = All-head (IsNoted record_of width shown) b bs noted in
+      let n = All-head (IsLabelled record_of width shown) b bs labelled in
       let t : Tells (shown b.slot) = All-head Tells (shown b.slot) (slots_shown shown bs) tell in
-      let first = some_first b.minimum (block_items record_of width shown b) (blocks_items record_of width shown bs) n.noted (n.first t) in
-      subst (λ xs. Each (Le (is_before cmp) u) xs) (sym e) (after_first u b.minimum (block_items record_of width shown b ++ blocks_items record_of width shown bs) n.noted first le (subst (λ xs. Ascends cmp xs) e up))
+      let first = some_first b.minimum (block_items record_of width shown b) (blocks_items record_of width shown bs) n.labelled (n.first t) in
+      subst (λ xs. Each (Le (is_before cmp) u) xs) (sym e) (after_first u b.minimum (block_items record_of width shown b ++ blocks_items record_of width shown bs) n.labelled first le (subst (λ xs. Ascends cmp xs) e up))
 
-  array_waits : (u : R) (a : External S R) → a.lifted ≡ [] → NotAfter cmp u (next_of a.stored) → All (IsNoted record_of width shown) a.stored → AllTell (slots_shown shown a.stored) → Ascends cmp (records_in record_of width shown a) → Each (Le (is_before cmp) u) (blocks_items record_of width shown (waiting a))
-  array_waits u a none le noted tell up =
+  array_waits : (u : R) (a : External S R) → a.lifted ≡ [] → NotAfter cmp u (next_of a.stored) → All (IsLabelled record_of width shown) a.stored → AllTell (slots_shown shown a.stored) → Ascends cmp (records_in record_of width shown a) → Each (Le (is_before cmp) u) (blocks_items record_of width shown (waiting a))
+  array_waits u a none le labelled tell up =
       let e : waiting a ≡ a.stored = ap (λ xs. xs ++ a.stored) none in
       let later = Rising-right (is_before cmp) (items_of a.loaded) (blocks_items record_of width shown (waiting a)) up in
-      subst (λ bs. Each (Le (is_before cmp) u) (blocks_items record_of width shown bs)) (sym e) (stored_waits u a.stored le noted tell (subst (λ bs. Ascends cmp (blocks_items record_of width shown bs)) e later))
+      subst (λ bs. Each (Le (is_before cmp) u) (blocks_items record_of width shown bs)) (sym e) (stored_waits u a.stored le labelled tell (subst (λ bs. Ascends cmp (blocks_items record_of width shown bs)) e later))
 
   -- what waits is not before a record that is not after any array's next first record
   pub all_wait :
-      (u : R) (arrays : List (External S R)) → Each (λ (a : External S R). NotAfter cmp u (next_of a.stored)) arrays → Each (λ (a : External S R). a.lifted ≡ []) arrays → Each (λ (a : External S R). All (IsNoted record_of width shown) a.stored) arrays
+      (u : R) (arrays : List (External S R)) → Each (λ (a : External S R). NotAfter cmp u (next_of a.stored)) arrays → Each (λ (a : External S R). a.lifted ≡ []) arrays → Each (λ (a : External S R). All (IsLabelled record_of width shown) a.stored) arrays
       → AllTell (external_slots shown arrays) → Each (λ (a : External S R). Ascends cmp (records_in record_of width shown a)) arrays → Each (Le (is_before cmp) u) (waiting_items record_of width shown arrays)
-  all_wait u [] le none noted tell up = tt
-  all_wait u (a ∷ as') le none noted tell up =
+  all_wait u [] le none labelled tell up = tt
+  all_wait u (a ∷ as') le none labelled tell up =
       let e = flat_map-cons (λ (a : External S R). blocks_items record_of width shown (waiting a)) a as' in
       let s = flat_map-cons (λ (a : External S R). slots_shown shown a.stored) a as' in
       let t : AllTell (slots_shown shown a.stored ++ external_slots shown as') = subst AllTell s tell in
       subst (λ xs. Each (Le (is_before cmp) u) xs) (sym e)
       (Each-append (Le (is_before cmp) u) (blocks_items record_of width shown (waiting a)) (waiting_items record_of width shown as')
-      (array_waits u a none.0 le.0 noted.0 (all_left Tells (slots_shown shown a.stored) (external_slots shown as') t) up.0)
-      (all_wait u as' le.1 none.1 noted.1 (all_right Tells (slots_shown shown a.stored) (external_slots shown as') t) up.1))
+      (array_waits u a none.0 le.0 labelled.0 (all_left Tells (slots_shown shown a.stored) (external_slots shown as') t) up.0)
+      (all_wait u as' le.1 none.1 labelled.1 (all_right Tells (slots_shown shown a.stored) (external_slots shown as') t) up.1))
 
   -- nothing waits where no block is stored
   none_waits : (arrays : List (External S R)) → Each (λ (a : External S R). a.stored ≡ []) arrays → Each (λ (a : External S R). a.lifted ≡ []) arrays → waiting_items record_of width shown arrays ≡ []
@@ -179,12 +179,12 @@ module _ {S R : Type 0} (cmp : R → R → Ordering) (o : IsStrictWeakOrder (is_
   pub ended :
       (s : State S R) (next : Option (NextBlock R)) (below : Option R) (edge : Edge R) (bounds : List ℕ) → IsNext cmp s.external next → edge ≡ edge_of cmp (minimum_of next) below → ((u : R) → edge ≢ AtMost u)
       → total bounds ≡ 0 → (Each (Ascends cmp) (loaded_lists s.internal s.external) → bounds ≡ passed (is_within cmp edge) (loaded_lists s.internal s.external))
-      → Each (λ (a : External S R). a.lifted ≡ []) s.external → Each (λ (a : External S R). All (IsNoted record_of width shown) a.stored) s.external
+      → Each (λ (a : External S R). a.lifted ≡ []) s.external → Each (λ (a : External S R). All (IsLabelled record_of width shown) a.stored) s.external
       → SourcesTell shown s → RunsRise record_of width shown cmp s → NoneBelow cmp below (source_items record_of width shown s)
-  ended s next below edge bounds is e not_at zero_sum marked none noted tell rise =
+  ended s next below edge bounds is e not_at zero_sum marked none labelled tell rise =
       let m = marked (lists_rise s rise) in
       let fail = all_fail (is_within cmp edge) (loaded_lists s.internal s.external) (sym (ap total m) ∙ zero_sum) in
-      none_left s.external next below (all_of (loaded_lists s.internal s.external)) (waiting_items record_of width shown s.external) is (λ h. none_waits s.external h none) (λ u h. all_wait u s.external h none noted tell rise.external)
+      none_left s.external next below (all_of (loaded_lists s.internal s.external)) (waiting_items record_of width shown s.external) is (λ h. none_waits s.external h none) (λ u h. all_wait u s.external h none labelled tell rise.external)
       (λ u h. not_at u (e ∙ h)) (subst (λ v. Each (λ x. is_within cmp v x ≡ false) (all_of (loaded_lists s.internal s.external))) e fail)
 
   slots_get : (arrays : List (External S R)) (i : ℕ) (a : External S R) → slice_get arrays i ≡ Some a → AllTell (external_slots shown arrays) → AllTell (slots_shown shown a.stored)
@@ -192,12 +192,12 @@ module _ {S R : Type 0} (cmp : R → R → Ordering) (o : IsStrictWeakOrder (is_
   slots_get (b ∷ bs) zero a e t = let k : b ≡ a = cc in subst (λ (z : External S R). AllTell (slots_shown shown z.stored)) k (all_left Tells (slots_shown shown b.stored) (external_slots shown bs) (subst AllTell (flat_map-cons (λ (a : External S R). slots_shown shown a.stored) b bs) t))
   slots_get (b ∷ bs) (suc i) a e t = slots_get bs i a e (all_right Tells (slots_shown shown b.stored) (external_slots shown bs) (subst AllTell (flat_map-cons (λ (a : External S R). slots_shown shown a.stored) b bs) t))
 
-  first_is : (u : R) (bs : List (DeviceBlock S R)) → next_of bs ≡ Some u → All (IsNoted record_of width shown) bs → AllTell (slots_shown shown bs) → first_of (blocks_items record_of width shown bs) ≡ Some u
-  first_is u [] e noted tell = absurd (cc)
-  first_is u (b ∷ bs) e noted tell =
-      let n = All-head (IsNoted record_of width shown) b bs noted in
+  first_is : (u : R) (bs : List (DeviceBlock S R)) → next_of bs ≡ Some u → All (IsLabelled record_of width shown) bs → AllTell (slots_shown shown bs) → first_of (blocks_items record_of width shown bs) ≡ Some u
+  first_is u [] e labelled tell = absurd (cc)
+  first_is u (b ∷ bs) e labelled tell =
+      let n = All-head (IsLabelled record_of width shown) b bs labelled in
       let t : Tells (shown b.slot) = All-head Tells (shown b.slot) (slots_shown shown bs) tell in
-      ap first_of (flat_map-cons (block_items record_of width shown) b bs) ∙ sym (some_first b.minimum (block_items record_of width shown b) (blocks_items record_of width shown bs) n.noted (n.first t)) ∙ e
+      ap first_of (flat_map-cons (block_items record_of width shown) b bs) ∙ sym (some_first b.minimum (block_items record_of width shown b) (blocks_items record_of width shown bs) n.labelled (n.first t)) ∙ e
 
   first_after : (u x : R) (ys : List R) → first_of ys ≡ Some u → Each (Le (is_before cmp) x) ys → Le (is_before cmp) x u
   first_after u x [] e h = absurd (cc)
@@ -211,13 +211,13 @@ module _ {S R : Type 0} (cmp : R → R → Ordering) (o : IsStrictWeakOrder (is_
   pub never_odd :
       (s : State S R) (b : NextBlock R) (a : External S R) (bounds : List ℕ) → IsLeastNext cmp s.external b → slice_get s.external b.place ≡ Some a → 0 < length (items_of a.loaded)
       → total bounds ≡ 0 → (Each (Ascends cmp) (loaded_lists s.internal s.external) → bounds ≡ passed (is_within cmp (AtMost b.minimum)) (loaded_lists s.internal s.external))
-      → Each (λ (a : External S R). a.lifted ≡ []) s.external → Each (λ (a : External S R). All (IsNoted record_of width shown) a.stored) s.external
+      → Each (λ (a : External S R). a.lifted ≡ []) s.external → Each (λ (a : External S R). All (IsLabelled record_of width shown) a.stored) s.external
       → SourcesTell shown s → RunsRise record_of width shown cmp s → ⊥
-  never_odd s b a bounds is here some zero_sum marked none noted tell rise =
+  never_odd s b a bounds is here some zero_sum marked none labelled tell rise =
       let k : is.array ≡ a = cc in
       let next : next_of a.stored ≡ Some b.minimum = sym (ap (λ (z : External S R). next_of z.stored) k) ∙ is.minimum in
       let waits : waiting a ≡ a.stored = ap (λ xs. xs ++ a.stored) (each_get (λ (a : External S R). a.lifted ≡ []) s.external b.place a here none) in
-      let first = first_is b.minimum a.stored next (each_get (λ (a : External S R). All (IsNoted record_of width shown) a.stored) s.external b.place a here noted) (slots_get s.external b.place a here tell) in
+      let first = first_is b.minimum a.stored next (each_get (λ (a : External S R). All (IsLabelled record_of width shown) a.stored) s.external b.place a here labelled) (slots_get s.external b.place a here tell) in
       let fail = all_fail (is_within cmp (AtMost b.minimum)) (loaded_lists s.internal s.external) (sym (ap total (marked (lists_rise s rise))) ∙ zero_sum) in
       let mine = part_of (λ x. is_within cmp (AtMost b.minimum) x ≡ false) (λ (a : External S R). items_of a.loaded) s.external b.place a here (later_part (λ x. is_within cmp (AtMost b.minimum) x ≡ false) (map items_of s.internal) (map (λ (a : External S R). items_of a.loaded) s.external) fail) in
       one_fails b.minimum (items_of a.loaded) (blocks_items record_of width shown (waiting a)) some (ap (λ bs. first_of (blocks_items record_of width shown bs)) waits ∙ first) (each_get (λ (a : External S R). Ascends cmp (records_in record_of width shown a)) s.external b.place a here rise.external) mine

@@ -32,7 +32,7 @@ pub record MoreReads (most : ℕ) (before now : List Shown) : Type 0 where
   pub writes : all_writes now ≡ all_writes before
   pub reads : all_reads now ≤ all_reads before + most
 
--- The supply keeps so many slots more, behind the others. It drew none, and gave no buffer
+-- The supply keeps so many slots more, after the others. It drew none, and gave no buffer
 pub record StockWentOn (freed : ℕ) (old new : Stock) : Type 0 where
   pub more : List Shown
   pub kept : new.kept ≡ old.kept ++ more

@@ -1,4 +1,4 @@
--- Places in several runs, and the records before and behind them.
+-- Places in several runs, and the records before and after them.
 use Rattle.std.specs.Prelude.{ℕ, Bool, List, [], ◌∷◌, take, drop, count_by}
 
 -- each run up to its place

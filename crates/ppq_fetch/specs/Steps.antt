@@ -109,7 +109,7 @@ module _ {S R : Type 0} where
       pub same : Tells (shown block.slot) → records_in record_of width shown new ≡ records_in record_of width shown old
       pub read : SlotRead block before now
 
-    -- The read failed: the block is lost to its run, and the buffer is idle again, behind the others
+    -- The read failed: the block is lost to its run, and the buffer is idle again, after the others
     pub record BlockLost (number : ℕ) (old new : External S R) (idle idle' : List (Block R)) (before now : Stock) : Type 0 where
       pub block : DeviceBlock S R
       pub buf : Block R

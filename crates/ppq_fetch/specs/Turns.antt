@@ -34,7 +34,7 @@ abbrev pub rest_turn : ℕ → Turn
 rest_turn safe = if safe == 0 then End else Take safe
 
 module _ {S R : Type 0} (cmp : R → R → Ordering) where
-  -- the block's record is the first one noted of its run's blocks, and no other run's first one is before it
+  -- the block's record is the one on the label of the first of its run's blocks, and no other run's first one is before it
   pub record IsLeastNext (arrays : List (External S R)) (next : NextBlock R) : Type 0 where
     pub array : External S R
     pub here : slice_get arrays next.place ≡ Some array

@@ -4,18 +4,18 @@ ghost use Rattle.ppq_fetch.specs.Edges.{edge_of};
 
 use ppq_record::Record;
 
-/// Up to where records may be given.
+// Up to where records may be given.
 #[derive(Clone, Copy)]
-pub enum Edge<R> {
-    /// All of them.
+pub(crate) enum Edge<R> {
+    // All of them.
     Whole,
-    /// Those that are not after this one.
+    // Those that are not after this one.
     AtMost(R),
-    /// Those that are before this one.
+    // Those that are before this one.
     Below(R),
 }
 
-/// The edge by the first record that is not loaded, and a limit.
+// The edge by the first record that is not loaded, and a limit.
 pub(crate) fn choose_edge<R: Record>(first: Option<R>, below: Option<R>) -> Edge<R>
     ensures { result ≡ edge_of R.Ord.cmp first below }
 {

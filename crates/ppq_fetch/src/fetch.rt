@@ -28,7 +28,7 @@ use ppq_record::{Record, record_laws};
 ///
 /// `places` has a place for each run; what stands in it has no meaning before and after.
 ///
-/// Each loaded block is read once, and no block is written. It takes no memory. A merge costs what
+/// Each loaded block is read once, and no block is written. It does not allocate. A merge costs what
 /// `merge_workers` says; a turn besides a look at each run, and a binary search in its loaded records.
 ///
 /// `Device` only if the read of the slot with that number failed; the supply keeps that slot. Nothing
@@ -81,7 +81,7 @@ pub fn take_least<H: Host, S: Slot + Sync, R: Record + Send + Sync, P: Supply<S,
     Ok(to)
 }
 
-/// Makes ready to read each run from its first buffer on.
+// Makes ready to read each run from its first buffer on.
 fn straighten<R: Record>(internal: &mut [InternalArray<R>])
     ensures { internal.new ≡ internal.old }
 {
@@ -90,7 +90,7 @@ fn straighten<R: Record>(internal: &mut [InternalArray<R>])
     }
 }
 
-/// One turn: it loads a block, or takes safe records into the beginning of `out`.
+// One turn: it loads a block, or takes safe records into the beginning of `out`.
 fn take_turn<H: Host, S: Slot + Sync, R: Record + Send + Sync, P: Supply<S, R>, G: Gate>(
     rt: &H,
     internal: &mut [InternalArray<R>],

@@ -10,8 +10,8 @@ use ppq_lane::{Job, JobKind, run_job};
 use ppq_outside::{Host, Slot};
 use ppq_record::{Record, record_laws};
 
-/// Loads the next block of a run into an idle buffer; its slot goes to the supply. Where the read fails,
-/// it gives the slot's number.
+// Loads the next block of a run into an idle buffer; its slot goes to the supply. Where the read fails,
+// it gives the slot's number.
 pub(crate) fn load_block<H: Host, S: Slot, R: Record, P: Supply<S, R>>(
     rt: &H,
     array: &mut ExternalArray<S, R>,

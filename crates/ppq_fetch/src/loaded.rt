@@ -10,15 +10,15 @@ use ppq_outside::Slot;
 use ppq_record::{Listing, Record};
 use std::marker::PhantomData;
 
-/// A list of records that is at hand.
+// A list of records that is at hand.
 pub(crate) trait Loaded<R: Record> {
     ghost list: { Self → List R };
 
-    /// How many records there are.
+    // How many records there are.
     fn loaded_len(&self) -> u64
         ensures { result ≡ length (list self.now) };
 
-    /// The record at a place.
+    // The record at a place.
     fn get(&self, i: u64) -> R
         requires { i < length (list self.now) }
         ensures { slice_get (list self.now) i ≡ Some result };
@@ -52,7 +52,7 @@ impl<S: Slot, R: Record> Loaded<R> for ExternalArray<S, R> {
     }
 }
 
-/// A record of one of some lists.
+// A record of one of some lists.
 #[inline]
 fn record_at<R: Record, Q: Loaded<R>>(runs: &[Q], run: usize, i: u64) -> R
     requires run { run < length runs.now }
@@ -62,7 +62,7 @@ fn record_at<R: Record, Q: Loaded<R>>(runs: &[Q], run: usize, i: u64) -> R
     runs[run].get(i)
 }
 
-/// The runs in buffers, and then the loaded parts of those in blocks, each up to a place.
+// The runs in buffers, and then the loaded parts of those in blocks, each up to a place.
 #[derive(Drop)]
 pub(crate) struct SafeParts<'a, R: Record + Sync, I: Loaded<R> + Sync, E: Loaded<R> + Sync> {
     internal: &'a [I],
@@ -75,7 +75,7 @@ pub(crate) struct SafeParts<'a, R: Record + Sync, I: Loaded<R> + Sync, E: Loaded
 }
 
 impl<'a, R: Record + Sync, I: Loaded<R> + Sync, E: Loaded<R> + Sync> SafeParts<'a, R, I, E> {
-    /// Shows runs up to these places; it borrows them and copies nothing.
+    // Shows runs up to these places; it borrows them and copies nothing.
     pub(crate) fn new(
         internal: &'a [I],
         external: &'a [E],

@@ -14,7 +14,7 @@ use ppq_array::{ExternalArray, InternalArray};
 use ppq_outside::Slot;
 use ppq_record::{Record, record_laws};
 
-/// Whether a record is on this side of the edge.
+// Whether a record is on this side of the edge.
 fn is_inside<R: Record>(x: R, edge: &Edge<R>) -> bool
     ensures { result ≡ is_within R.Ord.cmp edge.now x }
 {
@@ -25,8 +25,8 @@ fn is_inside<R: Record>(x: R, edge: &Edge<R>) -> bool
     }
 }
 
-/// How many records of a run are on this side of the edge, where the run ascends; else some number of
-/// them. It looks at about the binary logarithm of them.
+// How many records of a run are on this side of the edge, where the run ascends; else some number of
+// them. It looks at about the binary logarithm of them.
 fn count_inside<R: Record, Q: Loaded<R>>(run: &Q, edge: &Edge<R>) -> u64
     ensures within { result ≤ length (Q.list run.now) }
     ensures count { Ascends R.Ord.cmp (Q.list run.now) → result ≡ count_by (is_within R.Ord.cmp edge.now) (Q.list run.now) }
@@ -46,7 +46,7 @@ fn count_inside<R: Record, Q: Loaded<R>>(run: &Q, edge: &Edge<R>) -> u64
     low
 }
 
-/// Notes how many records of each of some runs are on this side of the edge, and gives the sum.
+// Writes how many records of each of some runs are on this side of the edge, and gives the sum.
 fn mark_all<R: Record, Q: Loaded<R>>(runs: &[Q], edge: &Edge<R>, places: &mut [u64]) -> u64
     requires places { length places.old ≡ length runs.now }
     requires few { length (all_of (map Q.list runs.now)) < 2 ^ 64 }
@@ -65,7 +65,7 @@ fn mark_all<R: Record, Q: Loaded<R>>(runs: &[Q], edge: &Edge<R>, places: &mut [u
     sum
 }
 
-/// Notes how many loaded records of each run are on this side of the edge, and gives the sum.
+// Writes how many loaded records of each run are on this side of the edge, and gives the sum.
 pub(crate) fn mark_runs<S: Slot, R: Record>(
     internal: &[InternalArray<R>],
     external: &[ExternalArray<S, R>],

@@ -22,8 +22,8 @@ use ppq_outside::{Gate, Host, Slot};
 use ppq_record::{Listing, Record};
 use std::thread::Threads;
 
-/// Merges the least of the safe records into `out`, and takes them out of their runs. The places say
-/// which are safe, and become those up to which records were taken.
+// Merges the least of the safe records into `out`, and takes them out of their runs. The places say
+// which are safe, and become those up to which records were taken.
 pub(crate) fn take_safe<H: Host, S: Slot + Sync, R: Record + Send + Sync, P: Supply<S, R>, G: Gate>(
     rt: &H,
     internal: &mut [InternalArray<R>],
@@ -56,8 +56,8 @@ pub(crate) fn take_safe<H: Host, S: Slot + Sync, R: Record + Send + Sync, P: Sup
     consume_external(external, second, idle);
 }
 
-/// Merges the least of the safe records; `places` say which are safe, and become the places up to which
-/// they were taken.
+// Merges the least of the safe records; `places` say which are safe, and become the places up to which
+// they were taken.
 pub(crate) fn merge_parts<H: Threads + Sync, S: Slot + Sync, R: Record + Send + Sync, G: Gate>(
     rt: &H,
     internal: &[InternalArray<R>],
@@ -85,7 +85,7 @@ pub(crate) fn merge_parts<H: Threads + Sync, S: Slot + Sync, R: Record + Send + 
     copy_cuts(bench, places);
 }
 
-/// Merges the least of the records that are shown.
+// Merges the least of the records that are shown.
 fn merge_shown<
     'a,
     H: Threads + Sync,
@@ -107,7 +107,7 @@ fn merge_shown<
     merge_workers(rt, bench, parts, out.len() as u64, out, gate);
 }
 
-/// Copies the places up to which the last merge took the runs' records.
+// Copies the places up to which the last merge took the runs' records.
 fn copy_cuts<R: Record>(bench: &Bench<R>, places: &mut [u64])
     requires long { length places.old ≤ length bench.now.places }
     requires few { length places.old < 2 ^ 32 }
@@ -118,7 +118,7 @@ fn copy_cuts<R: Record>(bench: &Bench<R>, places: &mut [u64])
     }
 }
 
-/// Takes the first records of each run away, up to its place; the buffers that are spent go to the supply.
+// Takes the first records of each run away, up to its place; the buffers that are spent go to the supply.
 fn consume_internal<S: Slot, R: Record, P: Supply<S, R>>(
     internal: &mut [InternalArray<R>],
     places: &[u64],
@@ -135,7 +135,7 @@ fn consume_internal<S: Slot, R: Record, P: Supply<S, R>>(
     }
 }
 
-/// Takes the first records of a run away; its buffers that are spent go to the supply.
+// Takes the first records of a run away; its buffers that are spent go to the supply.
 fn consume_run<S: Slot, R: Record, P: Supply<S, R>>(
     run: &mut InternalArray<R>,
     place: u64,
@@ -151,7 +151,7 @@ fn consume_run<S: Slot, R: Record, P: Supply<S, R>>(
     give_spent(run, supply);
 }
 
-/// Gives the spent buffers of a run back.
+// Gives the spent buffers of a run back.
 fn give_spent<S: Slot, R: Record, P: Supply<S, R>>(run: &mut InternalArray<R>, supply: &mut P)
     requires room { length run.old.spent ≤ (P.stock supply.old).buffer_room }
     requires blocks { All (HasBlock (P.stock supply.old).block) run.old.spent }
@@ -165,7 +165,7 @@ fn give_spent<S: Slot, R: Record, P: Supply<S, R>>(run: &mut InternalArray<R>, s
     }
 }
 
-/// Takes the first loaded records of each run away, up to its place; the buffers that are spent are idle.
+// Takes the first loaded records of each run away, up to its place; the buffers that are spent are idle.
 fn consume_external<S: Slot, R: Record>(
     external: &mut [ExternalArray<S, R>],
     places: &[u64],
@@ -180,7 +180,7 @@ fn consume_external<S: Slot, R: Record>(
     }
 }
 
-/// Takes the first loaded records of a run away; its buffers that are spent are idle.
+// Takes the first loaded records of a run away; its buffers that are spent are idle.
 fn consume_array<S: Slot, R: Record>(
     array: &mut ExternalArray<S, R>,
     place: u64,
@@ -194,7 +194,7 @@ fn consume_array<S: Slot, R: Record>(
     keep_spent(array, idle);
 }
 
-/// The spent buffers of a run become idle.
+// The spent buffers of a run become idle.
 fn keep_spent<S: Slot, R: Record>(array: &mut ExternalArray<S, R>, idle: &mut BufList<R>)
     requires few { length array.old.loaded.spent + length idle.old < 2 ^ 32 - 1 }
     ensures array { array.new ≡ external array.old.level (run_of array.old.loaded.live array.old.loaded.taken []) array.old.lifted array.old.stored }

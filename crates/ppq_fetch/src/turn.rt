@@ -1,7 +1,7 @@
 //! What is done next.
 ghost use Rattle.std.specs.Prelude.{◌≡◌, ◌+◌, ◌<◌, ◌≤◌, ◌^◌, ◌↔◌, length, Some, All, IsTrue};
 ghost use Rattle.std.specs.List.{AllByRecursion as Each};
-ghost use Rattle.ppq_array.specs.External.{IsNoted};
+ghost use Rattle.ppq_array.specs.External.{IsLabelled};
 ghost use Rattle.ppq_array.specs.Holdings.{external_buffers};
 ghost use Rattle.ppq_fetch.specs.Fetching.{fronts_in};
 ghost use Rattle.ppq_fetch.specs.Edges.{edge_of};
@@ -12,45 +12,45 @@ use ppq_array::ExternalArray;
 use ppq_outside::Slot;
 use ppq_record::{Record, record_laws};
 
-/// The first block of a run that is not loaded.
+// The first block of a run that is not loaded.
 #[derive(Clone, Copy)]
-pub struct NextBlock<R> {
-    /// Which run it is of.
-    pub place: usize,
-    /// Its first record.
-    pub minimum: R,
+pub(crate) struct NextBlock<R> {
+    // Which run it is of.
+    pub(crate) place: usize,
+    // Its first record.
+    pub(crate) minimum: R,
 }
 
-/// What a turn does.
+// What a turn does.
 #[derive(Clone, Copy)]
-pub enum Turn {
-    /// Nothing more: no record is within reach.
+pub(crate) enum Turn {
+    // Nothing more: no record is within reach.
     End,
-    /// It loads the next block of this run.
+    // It loads the next block of this run.
     Load(usize),
-    /// It takes so many safe records.
+    // It takes so many safe records.
     Take(u64),
-    /// It takes any record; over slots that tell it never comes.
+    // It takes any record; over slots that tell it never comes.
     Odd,
 }
 
-/// How a turn ended.
+// How a turn ended.
 #[derive(Clone, Copy)]
-pub enum Step {
-    /// It gave so many records; none where it loaded a block.
+pub(crate) enum Step {
+    // It gave so many records; none where it loaded a block.
     Took(usize),
-    /// No record is within reach any more.
+    // No record is within reach any more.
     Ended,
-    /// The read of the slot with this number failed.
+    // The read of the slot with this number failed.
     Failed(u32),
 }
 
-/// Of the blocks that are next in their runs, one with the least first record.
+// Of the blocks that are next in their runs, one with the least first record.
 pub(crate) fn next_block<S: Slot, R: Record>(
     external: &[ExternalArray<S, R>],
 ) -> Option<NextBlock<R>>
     ensures next { IsNext R.Ord.cmp external.now result }
-    ensures noted { Each (λ a. All (IsNoted R.record_of R.WIDTH S.shown) a.stored) external.now }
+    ensures labelled { Each (λ a. All (IsLabelled R.record_of R.WIDTH S.shown) a.stored) external.now }
 {
     record_laws::<R>();
     let mut best = None;
@@ -60,7 +60,7 @@ pub(crate) fn next_block<S: Slot, R: Record>(
     best
 }
 
-/// The one of two that has the lesser record.
+// The one of two that has the lesser record.
 fn nearer_block<R: Record>(
     best: Option<NextBlock<R>>,
     place: usize,
@@ -81,7 +81,7 @@ fn nearer_block<R: Record>(
     }
 }
 
-/// The first record of a block.
+// The first record of a block.
 pub(crate) fn first_of<R: Record>(next: Option<NextBlock<R>>) -> Option<R>
     ensures { result ≡ minimum_of next }
 {
@@ -91,7 +91,7 @@ pub(crate) fn first_of<R: Record>(next: Option<NextBlock<R>>) -> Option<R>
     }
 }
 
-/// Whether fewer than so many blocks are loaded beyond one a run that has something loaded.
+// Whether fewer than so many blocks are loaded beyond one a run that has something loaded.
 fn has_room_ahead<S: Slot, R: Record>(external: &[ExternalArray<S, R>], ahead: u32) -> bool
     requires few { length external.now < 2 ^ 32 }
     requires few_buffers { external_buffers external.now < 2 ^ 32 }
@@ -106,8 +106,8 @@ fn has_room_ahead<S: Slot, R: Record>(external: &[ExternalArray<S, R>], ahead: u
     buffers < fronts + u64::from(ahead)
 }
 
-/// What is to be done: as long as fewer safe records are loaded than are wanted, the next block is loaded,
-/// where there is a buffer for it.
+// What is to be done: as long as fewer safe records are loaded than are wanted, the next block is loaded,
+// where there is a buffer for it.
 pub(crate) fn choose<S: Slot, R: Record>(
     external: &[ExternalArray<S, R>],
     next: Option<NextBlock<R>>,
@@ -132,7 +132,7 @@ pub(crate) fn choose<S: Slot, R: Record>(
     }
 }
 
-/// What is to be done where nothing can be loaded.
+// What is to be done where nothing can be loaded.
 fn choose_rest(safe: u64) -> Turn
     ensures { result ≡ rest_turn safe }
 {
@@ -143,7 +143,7 @@ fn choose_rest(safe: u64) -> Turn
     }
 }
 
-/// Whether the next block is loaded.
+// Whether the next block is loaded.
 fn choose_load<S: Slot, R: Record>(
     external: &[ExternalArray<S, R>],
     next: Option<NextBlock<R>>,

@@ -41,7 +41,7 @@ module _ {S R : Type 0} where
     pub size : job.buf.block * width ≡ (shown job.slot).size
     pub kind : FitsKind job.kind job.buf
 
-  -- the job was run: its slot was called once, as it asks, and it has the answer
+  -- the job was done: its slot was called once, as it asks, and it has the answer
   pub record IsDone (bytes_of : R → List ℕ) (record_of : List ℕ → R) (width : ℕ) (shown : S → Shown) (before now : Job S R) : Type 0 where
     pub answer : Result (Unit {0}) Failed
     pub done : now.done ≡ Some answer

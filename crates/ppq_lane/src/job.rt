@@ -16,7 +16,7 @@ pub enum JobKind {
     },
 }
 
-/// One call of one slot with one buffer. Both are moved into it, and stay in it when it is run.
+/// One call of one slot with one buffer. Both are moved into it, and stay in it when it is done.
 #[derive(Drop)]
 pub struct Job<S: Slot, R: Record> {
     /// The slot that is called.
@@ -25,6 +25,6 @@ pub struct Job<S: Slot, R: Record> {
     pub buf: BlockBuf<R>,
     /// What is asked.
     pub kind: JobKind,
-    /// What the slot returned; None before the job was run.
+    /// What the slot returned; None before the job is done.
     pub done: Option<Result<(), Failed>>,
 }

@@ -13,7 +13,7 @@ use std::alloc::Global;
 pub struct Lanes<S: Slot, R: Record> {
     /// Buffers that no job has.
     pub idle: BufList<R>,
-    /// Jobs that are to be run or were just run. Between the calls of a queue there is none.
+    /// Jobs that are to be done or were just done. Between the calls of a queue there is none.
     pub jobs: Vec<Job<S, R>>,
     /// Records that merges write over; what stands in it has no meaning between calls.
     pub batch: Vec<R>,
@@ -21,7 +21,7 @@ pub struct Lanes<S: Slot, R: Record> {
 
 impl<S: Slot, R: Record> Lanes<S, R> {
     /// So many idle empty buffers for `block` records each, an empty list with room for so many jobs, and
-    /// a batch of so many records whose bytes are zeros. `Err` comes for want of memory alone.
+    /// a batch of so many records whose bytes are zeros. `Err` is returned only if an allocation failed.
     pub fn new(
         alloc: Global,
         buffers: u32,

@@ -10,7 +10,7 @@ use std::alloc::Global;
 use std::process::Abort;
 use std::test::Fail;
 
-/// A slot all of whose calls fail, as on a device that was taken away. It spoils what is read into.
+// A slot all of whose calls fail, as on a device that was taken away. It spoils what is read into.
 #[derive(Drop)]
 struct GoneSlot {
     faults: u64,

@@ -163,12 +163,12 @@ module _ {X : Type 0} where
         | inl e ↦ absurd (some_at f t q e h.0.1 (n 0))
       ]
 
-  pub spent : (fs ts : List ℕ) (qs : List (List X)) → AreParts fs ts qs → size_between fs ts ≡ 0 → fs ≡ ts
-  spent [] [] qs h e = refl
-  spent [] (t ∷ ts) qs h e = absurd h
-  spent (f ∷ fs) [] qs h e = absurd h
-  spent (f ∷ fs) (t ∷ ts) [] h e = absurd h
-  spent (f ∷ fs) (t ∷ ts) (q ∷ qs) h e = ap₂ ◌∷◌ (omega arith) (spent fs ts qs h.1 (omega arith))
+  pub all_moved : (fs ts : List ℕ) (qs : List (List X)) → AreParts fs ts qs → size_between fs ts ≡ 0 → fs ≡ ts
+  all_moved [] [] qs h e = refl
+  all_moved [] (t ∷ ts) qs h e = absurd h
+  all_moved (f ∷ fs) [] qs h e = absurd h
+  all_moved (f ∷ fs) (t ∷ ts) [] h e = absurd h
+  all_moved (f ∷ fs) (t ∷ ts) (q ∷ qs) h e = ap₂ ◌∷◌ (omega arith) (all_moved fs ts qs h.1 (omega arith))
 
   pub length-between : (fs ts : List ℕ) (qs : List (List X)) → AreParts fs ts qs → length (between fs ts qs) ≡ size_between fs ts
   length-between [] ts qs h = refl

@@ -33,7 +33,7 @@ module _ {R : Type 0} where
   AllParted lt qs [] = ⊤
   AllParted lt qs (s ∷ ss) = IsParted lt (to_of qs s) qs × AllParted lt qs ss
 
-  -- the workers' pieces run from the places f to the places t, which stand at rank
+  -- the workers' pieces go from the places f to the places t, which stand at rank
   pub record IsPlan (qs : List (List R)) (f : List ℕ) (ss : List (Seat R)) (t : List ℕ) (rank : ℕ) : Type 0 where
     pub chain : Chain qs f ss t
     pub fill : Fill qs 0 ss rank

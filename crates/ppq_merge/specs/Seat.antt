@@ -3,7 +3,7 @@ use Rattle.std.specs.Prelude.{◌≡◌, ℕ, ◌+◌, ◌≤◌, List, drop, le
 use Rattle.ppq_merge.specs.Parts.{places_for}
 use Rattle.ppq_merge.specs.declared.seat.Seat.{Seat}
 
--- of the places where a worker's piece begins those that are used: those behind the first 16
+-- of the places where a worker's piece begins those that are used: those after the first 16
 unfoldable pub used : List ℕ → List ℕ
 used places = drop 16 places
 
@@ -16,7 +16,7 @@ module _ {R : Type 0} where
   abbrev pub to_of : List (List R) → Seat R → List ℕ
   to_of qs s = places_for qs s.to.items
 
-  -- a seat has a place for each of n runs, behind 16 that are not used, and room for as many leaves
+  -- a seat has a place for each of n runs, after 16 that are not used, and room for as many leaves
   pub record IsSized (n : ℕ) (s : Seat R) : Type 0 where
     pub from : length s.from.items ≡ 16 + n
     pub to : length s.to.items ≡ n

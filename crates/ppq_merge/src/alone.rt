@@ -13,7 +13,7 @@ use ppq_record::{Listing, Record, record_laws};
 use ppq_tree::MinTree;
 use std::thread::{Threads, join_mut};
 
-/// Writes the end of each run.
+// Writes the end of each run.
 fn write_ends<R: Record, Q: Listing<R>>(runs: &Q, to: &mut [u64])
     requires { length to.old ≡ length (Q.lists runs.now) }
     ensures { to.new ≡ ends (Q.lists runs.now) }
@@ -23,8 +23,8 @@ fn write_ends<R: Record, Q: Listing<R>>(runs: &Q, to: &mut [u64])
     }
 }
 
-/// Merges the smallest records of all runs into `out`, as many as it has room for. The places move to
-/// the first records that are left; the first of the ends are written over.
+// Merges the smallest records of all runs into `out`, as many as it has room for. The places move to
+// the first records that are left; the first of the ends are written over.
 fn merge_smallest<R: Record, Q: Listing<R>>(
     runs: &Q,
     places: &mut [u64],
@@ -46,7 +46,7 @@ fn merge_smallest<R: Record, Q: Listing<R>>(
     merge_front(runs, places, part, tree, out);
 }
 
-/// Enters the gate as worker 0 and merges by its seat.
+// Enters the gate as worker 0 and merges by its seat.
 fn merge_by_first<R: Record, Q: Listing<R>, G: Gate>(
     runs: &Q,
     gate: &G,
@@ -68,7 +68,7 @@ fn merge_by_first<R: Record, Q: Listing<R>, G: Gate>(
     merge_smallest(runs, places, to.as_mut_slice(), tree, out);
 }
 
-/// Merges the smallest records by worker 0, while the others enter the gate.
+// Merges the smallest records by worker 0, while the others enter the gate.
 pub(crate) fn merge_alone<H: Threads + Sync, R: Record + Send, Q: Listing<R>, G: Gate>(
     rt: &H,
     runs: &Q,

@@ -23,9 +23,9 @@ use std::thread::Threads;
 /// merge took the run's records.
 #[derive(Drop)]
 pub struct Bench<R: Record> {
-    /// A seat for each worker.
+    // A seat for each worker.
     seats: Vec<Seat<R>>,
-    /// Up to where the last merge took each run's records.
+    // Up to where the last merge took each run's records.
     places: Vec<u64>,
 }
 
@@ -41,7 +41,7 @@ impl<R: Record> Model for Bench<R> {
     ghost invariant = { λ b. (0 < length b.seats.items) × (length b.seats.items < 2 ^ 32) × (length b.places.items < 2 ^ 32) × All (IsSized (length b.places.items)) b.seats.items };
 }
 
-/// Seats for so many workers.
+// Seats for so many workers.
 fn seats_for<R: Record>(alloc: Global, workers: u32, runs: u32) -> Result<Vec<Seat<R>>, Memory>
     ensures length { IfOk result (λ seats. length seats.items ≡ workers) }
     ensures sized { IfOk result (λ seats. All (IsSized runs) seats.items) }
@@ -95,8 +95,8 @@ impl<R: Record> Bench<R> {
     }
 }
 
-/// Merges by as many workers as pays, and by one if the cuts are none of runs that ascend. `places`
-/// has a zero for each run.
+// Merges by as many workers as pays, and by one if the cuts are none of runs that ascend. `places`
+// has a zero for each run.
 fn merge_runs<H: Threads + Sync, R: Record + Send, Q: Listing<R>, G: Gate>(
     rt: &H,
     runs: &Q,
@@ -126,7 +126,7 @@ fn merge_runs<H: Threads + Sync, R: Record + Send, Q: Listing<R>, G: Gate>(
     merge_alone(rt, runs, gate, workers, &mut seats[0], places, out);
 }
 
-/// Merges by the workers of a bench, whose places other than those of the runs become 0.
+// Merges by the workers of a bench, whose places other than those of the runs become 0.
 fn merge_by_seats<H: Threads + Sync, R: Record + Send, Q: Listing<R>, G: Gate>(
     rt: &H,
     seats: &mut [Seat<R>],

@@ -15,7 +15,7 @@ use ppq_outside::Gate;
 use ppq_record::{Listing, Record, record_laws};
 use std::thread::{Threads, join_mut};
 
-/// Merges the pieces of the first workers while the others, who have none, enter the gate.
+// Merges the pieces of the first workers while the others, who have none, enter the gate.
 fn merge_beside_idle<H: Threads + Sync, R: Record + Send, Q: Listing<R>, G: Gate>(
     rt: &H,
     runs: &Q,
@@ -47,8 +47,8 @@ fn merge_beside_idle<H: Threads + Sync, R: Record + Send, Q: Listing<R>, G: Gate
     );
 }
 
-/// Cuts the runs into as many pieces as there are seats, and merges them; says whether it did. It does
-/// not if a place falls from one cut to the next, which it never does if the runs ascend.
+// Cuts the runs into as many pieces as there are seats, and merges them; says whether it did. It does
+// not if a place falls from one cut to the next, which it never does if the runs ascend.
 pub(crate) fn merge_cut<H: Threads + Sync, R: Record + Send, Q: Listing<R>, G: Gate>(
     rt: &H,
     runs: &Q,

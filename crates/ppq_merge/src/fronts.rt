@@ -6,7 +6,7 @@ use ppq_record::{Listing, Record};
 use ppq_tree::Heads;
 use std::marker::PhantomData;
 
-/// The next record of each run between its two places, shown to a tree.
+// The next record of each run between its two places, shown to a tree.
 #[derive(Drop)]
 pub(crate) struct Fronts<'a, R: Record, Q: Listing<R>> {
     pub(crate) runs: &'a Q,

@@ -9,9 +9,9 @@ use ppq_outside::Gate;
 use ppq_record::{Listing, Record};
 use std::thread::{Threads, join_mut};
 
-/// Merges the pieces of some workers, the first of whom has the number `first`, into `out`, one piece
-/// after the other, each worker on a thread of its own. The first piece begins at rank `base`. Each
-/// worker enters the gate before its piece.
+// Merges the pieces of some workers, the first of whom has the number `first`, into `out`, one piece
+// after the other, each worker on a thread of its own. The first piece begins at rank `base`. Each
+// worker enters the gate before its piece.
 #[cycle(halves)]
 pub(crate) fn merge_pieces<H: Threads + Sync, R: Record + Send, Q: Listing<R>, G: Gate>(
     rt: &H,
@@ -44,7 +44,7 @@ pub(crate) fn merge_pieces<H: Threads + Sync, R: Record + Send, Q: Listing<R>, G
     );
 }
 
-/// Merges the pieces of two halves side by side.
+// Merges the pieces of two halves side by side.
 #[cycle(halves)]
 fn merge_both<H: Threads + Sync, R: Record + Send, Q: Listing<R>, G: Gate>(
     rt: &H,

@@ -5,8 +5,8 @@ ghost use Rattle.std.specs.Thread.{IsSync};
 use ppq_outside::Gate;
 use std::thread::{Threads, join_mut};
 
-/// Lets so many workers enter the gate, the first of whom has the number `first`, each on a thread of
-/// its own.
+// Lets so many workers enter the gate, the first of whom has the number `first`, each on a thread of
+// its own.
 #[cycle(idle)]
 pub(crate) fn enter_all<H: Threads + Sync, G: Gate>(rt: &H, gate: &G, first: u32, count: u32)
     requires { first + count < 2 ^ 32 }

@@ -9,7 +9,7 @@ use ppq_record::{Listing, Record, record_laws};
 use ppq_tree::{Heads, MinTree};
 use std::marker::PhantomData;
 
-/// Takes the smallest record that is left, that of the lowest run among equals.
+// Takes the smallest record that is left, that of the lowest run among equals.
 #[inline]
 fn take_next<R: Record, Q: Listing<R>>(
     runs: &Q,
@@ -43,8 +43,8 @@ fn take_next<R: Record, Q: Listing<R>>(
     best.1
 }
 
-/// Merges the smallest records between two places of each run into `out`, as many as it has room
-/// for; `from` moves to the first records that are left.
+// Merges the smallest records between two places of each run into `out`, as many as it has room
+// for; `from` moves to the first records that are left.
 pub(crate) fn merge_front<R: Record, Q: Listing<R>>(
     runs: &Q,
     from: &mut [u64],
@@ -89,7 +89,7 @@ pub fn merge_into<R: Record, Q: Listing<R>>(
     requires size { length out.old ≡ size_between from.old to.now }
     requires leaves { length from.old ≤ tree.old.room }
     ensures merge { IsMerge R.Ord.cmp (Q.lists runs.now) from.old to.now out.new }
-    ensures spent { from.new ≡ to.now }
+    ensures moved { from.new ≡ to.now }
     ensures room { tree.new.room ≡ tree.old.room }
 {
     record_laws::<R>();

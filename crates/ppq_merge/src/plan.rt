@@ -10,16 +10,16 @@ use crate::seat::{Seat, copy_front, copy_used, first_used};
 use ppq_record::{Listing, Record, record_laws};
 use ppq_split::cut_at;
 
-/// How many records a piece has at least, beside those for each run. Starting a thread takes some
-/// twenty microseconds, in which one worker merges about so many.
+// How many records a piece has at least, beside those for each run. Starting a thread takes some
+// twenty microseconds, in which one worker merges about so many.
 const LEAST_PIECE: u64 = 1024;
 
-/// How many records a piece has at least for each run. A cut looks about forty times into each run,
-/// which takes as long as the merge of so many records.
+// How many records a piece has at least for each run. A cut looks about forty times into each run,
+// which takes as long as the merge of so many records.
 const LEAST_PIECE_OF_A_RUN: u64 = 8;
 
-/// How many of the workers get a piece: so many that each piece pays for its cut and its thread, and
-/// one at least.
+// How many of the workers get a piece: so many that each piece pays for its cut and its thread, and
+// one at least.
 pub(crate) fn active_workers(count: u64, runs: u32, workers: u32) -> u32
     requires { 1 ≤ workers }
     ensures { result ≡ max 1 (min workers (count / (1024 + 8 * runs))) }
@@ -28,18 +28,17 @@ pub(crate) fn active_workers(count: u64, runs: u32, workers: u32) -> u32
     (count / piece).min(u64::from(workers)).max(1) as u32
 }
 
-/// The rank at which the piece of worker number `place` begins, where so many workers share the
-/// records evenly.
+// The rank at which a worker's piece begins, where so many workers share the records evenly.
 #[inline]
-fn rank_of(count: u64, place: u32, workers: u32) -> u64
-    requires { (place ≤ workers) × (0 < workers) }
-    ensures rank { result ≡ count * place / workers }
+fn rank_of(count: u64, worker: u32, workers: u32) -> u64
+    requires { (worker ≤ workers) × (0 < workers) }
+    ensures rank { result ≡ count * worker / workers }
     ensures within { result ≤ count }
 {
-    (u128::from(count) * u128::from(place) / u128::from(workers)) as u64
+    (u128::from(count) * u128::from(worker) / u128::from(workers)) as u64
 }
 
-/// Whether no place falls.
+// Whether no place falls.
 fn all_rise(from: &[u64], to: &[u64]) -> bool
     requires { length from.now ≡ length to.now }
     ensures rises { result ≡ true → Rises from.now to.now }
@@ -53,8 +52,8 @@ fn all_rise(from: &[u64], to: &[u64]) -> bool
     true
 }
 
-/// Gives a worker the piece from the places so far up to the cut at a rank, to which the places move.
-/// Says whether no place falls.
+// Gives a worker the piece from the places so far up to the cut at a rank, to which the places move.
+// Says whether no place falls.
 fn plan_seat<R: Record, Q: Listing<R>>(
     runs: &Q,
     rank: u64,
@@ -85,8 +84,8 @@ fn plan_seat<R: Record, Q: Listing<R>>(
     all_rise(first_used(seat.from.as_slice(), carry.len()), carry)
 }
 
-/// Gives each worker the piece between two neighbouring cuts, and says whether no place falls, as it
-/// never does if the runs ascend.
+// Gives each worker the piece between two neighbouring cuts, and says whether no place falls, as it
+// never does if the runs ascend.
 pub(crate) fn plan_cuts<R: Record, Q: Listing<R>>(
     runs: &Q,
     count: u64,
@@ -110,9 +109,9 @@ pub(crate) fn plan_cuts<R: Record, Q: Listing<R>>(
     record_laws::<R>();
     let workers = seats.len() as u32;
     let mut ok = true;
-    for place in 0..workers {
-        let rank = rank_of(count, place + 1, workers);
-        let rises = plan_seat(runs, rank, carry, &mut seats[place as usize]);
+    for worker in 0..workers {
+        let rank = rank_of(count, worker + 1, workers);
+        let rises = plan_seat(runs, rank, carry, &mut seats[worker as usize]);
         ok = ok & rises;
     }
     ok

@@ -8,26 +8,26 @@ use ppq_record::{Listing, Memory, Record};
 use ppq_tree::MinTree;
 use std::alloc::Global;
 
-/// A worker's places and tree. Of the places and leaves as many are used as there are runs.
+// A worker's places and tree. Of the places and leaves as many are used as there are runs.
 #[derive(Drop)]
 pub(crate) struct Seat<R: Record> {
-    /// Places that are not used, and then where the worker's piece begins in each run.
+    // Places that are not used, and then where the worker's piece begins in each run.
     pub(crate) from: Vec<u64>,
-    /// Where it ends in each run.
+    // Where it ends in each run.
     pub(crate) to: Vec<u64>,
-    /// The rank of that end: how many records stand in front of it in all runs.
+    // The rank of that end: how many records stand in front of it in all runs.
     pub(crate) end: u64,
-    /// The tree with which the worker merges.
+    // The tree with which the worker merges.
     pub(crate) tree: MinTree<R>,
 }
 
-/// How many places stand unused in front of those where a worker's piece begins, and how many there
-/// is room for behind all places. A worker moves its own at each record: 16 places are 128 bytes, so
-/// no line of the cache that it writes, nor its neighbour, has what others read, as the runs or what
-/// is known of the other workers, wherever the allocator lays them. The tree does likewise.
+// How many places stand unused in front of those where a worker's piece begins, and how many more
+// there is room for at the end. A worker moves its own at each record: 16 places are 128 bytes, so
+// no line of the cache that it writes, nor its neighbour, has what others read, as the runs or what
+// is known of the other workers, wherever the allocator lays them. The tree does likewise.
 const APART: usize = 16;
 
-/// So many zeros, with room behind them that is not used.
+// So many zeros, with room after them that is not used.
 pub(crate) fn zeros(alloc: Global, count: usize) -> Result<Vec<u64>, Memory>
     requires { count < 2 ^ 33 }
     ensures { IfOk result (λ places. places.items ≡ replicate count 0) }
@@ -40,7 +40,7 @@ pub(crate) fn zeros(alloc: Global, count: usize) -> Result<Vec<u64>, Memory>
 }
 
 impl<R: Record> Seat<R> {
-    /// A seat for so many runs.
+    // A seat for so many runs.
     pub(crate) fn new(alloc: Global, runs: u32) -> Result<Self, Memory>
         ensures { IfOk result (λ seat. IsSized runs seat) }
     {
@@ -56,7 +56,7 @@ impl<R: Record> Seat<R> {
     }
 }
 
-/// Copies places over the first of others.
+// Copies places over the first of others.
 pub(crate) fn copy_front(places: &[u64], into: &mut [u64])
     requires { length places.now ≤ length into.old }
     ensures { take (length places.now) into.new ≡ places.now }
@@ -65,7 +65,7 @@ pub(crate) fn copy_front(places: &[u64], into: &mut [u64])
     part.copy_from_slice(places);
 }
 
-/// Copies places over the first of those that are used.
+// Copies places over the first of those that are used.
 pub(crate) fn copy_used(places: &[u64], into: &mut [u64])
     requires { 16 + length places.now ≤ length into.old }
     ensures { take (length places.now) (used into.new) ≡ places.now }
@@ -74,7 +74,7 @@ pub(crate) fn copy_used(places: &[u64], into: &mut [u64])
     copy_front(places, cells);
 }
 
-/// The first of the places that are used, so many.
+// The first of the places that are used, so many.
 pub(crate) fn first_used(all: &[u64], count: usize) -> &[u64]
     requires { 16 + count ≤ length all.now }
     ensures { result.now ≡ take count (used all.now) }
@@ -83,7 +83,7 @@ pub(crate) fn first_used(all: &[u64], count: usize) -> &[u64]
     &cells[..count]
 }
 
-/// Merges what lies between the first of some places, as many as there are runs.
+// Merges what lies between the first of some places, as many as there are runs.
 fn merge_between<R: Record, Q: Listing<R>>(
     runs: &Q,
     from: &mut [u64],
@@ -105,7 +105,7 @@ fn merge_between<R: Record, Q: Listing<R>>(
     merge_into(runs, part, ends, tree, out);
 }
 
-/// Merges what lies between the first of the places that are used and others.
+// Merges what lies between the first of the places that are used and others.
 fn merge_used<R: Record, Q: Listing<R>>(
     runs: &Q,
     from: &mut [u64],
@@ -125,7 +125,7 @@ fn merge_used<R: Record, Q: Listing<R>>(
     merge_between(runs, places, to, tree, out);
 }
 
-/// Merges a worker's piece.
+// Merges a worker's piece.
 pub(crate) fn merge_piece<R: Record, Q: Listing<R>>(runs: &Q, seat: &mut Seat<R>, out: &mut [R])
     requires room { HasRoom (Q.lists runs.now) seat.old }
     requires parts { AreParts (from_of (Q.lists runs.now) seat.old) (to_of (Q.lists runs.now) seat.old) (Q.lists runs.now) }

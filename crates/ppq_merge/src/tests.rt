@@ -11,7 +11,7 @@ use std::sync::atomic::{AtomicU64, Ordering};
 use std::test::Fail;
 use std::thread::Threads;
 
-/// A run of pairs with these keys.
+// A run of pairs with these keys.
 fn run(alloc: Global, keys: &[u64]) -> Result<Vec<Pair>, Fail> {
     let mut items = Vec::new(alloc);
     for key in keys {
@@ -23,14 +23,14 @@ fn run(alloc: Global, keys: &[u64]) -> Result<Vec<Pair>, Fail> {
     Ok(items)
 }
 
-/// What a merge left: the records, and the place in each run.
+// What a merge left: the records, and the place in each run.
 #[derive(Drop)]
 struct Merged {
     out: Vec<Pair>,
     cuts: Vec<u64>,
 }
 
-/// Merges the smallest `count` records of some runs with a bench.
+// Merges the smallest `count` records of some runs with a bench.
 fn merge_with<H: Threads + Sync, G: Gate>(
     rt: &H,
     alloc: Global,
@@ -58,7 +58,7 @@ fn merge_with<H: Threads + Sync, G: Gate>(
     Ok(out)
 }
 
-/// Merges the smallest `count` records of some runs by so many workers.
+// Merges the smallest `count` records of some runs by so many workers.
 fn merge_by<H: Threads + Sync, G: Gate>(
     rt: &H,
     alloc: Global,
@@ -76,7 +76,7 @@ fn merge_by<H: Threads + Sync, G: Gate>(
     Ok(Merged { out, cuts })
 }
 
-/// The two runs of most tests.
+// The two runs of most tests.
 fn two_runs(alloc: Global) -> Result<Vec<Vec<Pair>>, Fail> {
     let mut lists = Vec::new(alloc);
     lists.push(run(alloc, &[1, 3, 5])?)?;
@@ -108,13 +108,13 @@ fn any_number_of_workers_merges_the_smallest_of_two_runs(rt: HostRuntime) -> Res
     Ok(())
 }
 
-/// A gate that holds each of workers 0 and 1 until the other has entered.
+// A gate that holds each of workers 0 and 1 until the other has entered.
 #[derive(Drop)]
 struct PairGate {
-    /// 1 once the worker has entered.
+    // 1 once the worker has entered.
     first: AtomicU64,
     second: AtomicU64,
-    /// How many workers have entered, and how many of them waited in vain.
+    // How many workers have entered, and how many of them waited in vain.
     entered: AtomicU64,
     late: AtomicU64,
 }
@@ -129,7 +129,7 @@ impl PairGate {
         }
     }
 
-    /// Waits until the other has entered, for at most 200,000,000 turns.
+    // Waits until the other has entered, for at most 200,000,000 turns.
     fn meet(&self, own: &AtomicU64, other: &AtomicU64) {
         own.store(1, Ordering::SeqCst);
         for _turn in 0..200000000 {
@@ -174,7 +174,7 @@ fn two_workers_are_on_their_way_at_once(rt: HostRuntime) -> Result<(), Fail> {
     Ok(())
 }
 
-/// The next number of Knuth's MMIX sequence; its upper half below a bound.
+// The next number of Knuth's MMIX sequence; its upper half below a bound.
 fn draw(seed: &mut u64, below: u64) -> u64
     ensures { result < max below 1 }
 {
@@ -185,7 +185,7 @@ fn draw(seed: &mut u64, below: u64) -> u64
     (next >> 32) % below.max(1)
 }
 
-/// Sorted runs of generated pairs, of which many have the same key, and some are equal.
+// Sorted runs of generated pairs, of which many have the same key, and some are equal.
 fn generated(alloc: Global, seed: &mut u64, runs: u64, size: u64) -> Result<Vec<Vec<Pair>>, Fail> {
     let mut lists = Vec::new(alloc);
     for _run in 0..runs {
@@ -202,7 +202,7 @@ fn generated(alloc: Global, seed: &mut u64, runs: u64, size: u64) -> Result<Vec<
     Ok(lists)
 }
 
-/// The records of all runs in front of places, sorted; a run without a place counts whole.
+// The records of all runs in front of places, sorted; a run without a place counts whole.
 fn taken(alloc: Global, lists: &[Vec<Pair>], cuts: &[u64]) -> Result<Vec<Pair>, Fail> {
     let mut all = Vec::new(alloc);
     for run in 0..lists.len() {
@@ -219,7 +219,7 @@ fn taken(alloc: Global, lists: &[Vec<Pair>], cuts: &[u64]) -> Result<Vec<Pair>, 
     Ok(all)
 }
 
-/// Compares what was merged with a sort of all records, and of those in front of the places.
+// Compares what was merged with a sort of all records, and of those in front of the places.
 fn is_front(
     rt: &impl Abort,
     alloc: Global,
@@ -233,7 +233,7 @@ fn is_front(
     Ok(())
 }
 
-/// One merge of generated runs by one to six workers.
+// One merge of generated runs by one to six workers.
 fn one_case<H: Threads + Sync + Abort>(
     rt: &H,
     alloc: Global,

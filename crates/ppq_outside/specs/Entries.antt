@@ -15,6 +15,6 @@ abbrev pub Finds : Option File → Option (Bor Entry) → Type 0
 Finds None found = found ≡ None
 Finds (Some file) found = IsSomeAnd found (λ entry. file_of entry.now ≡ file)
 
--- an entry that was made to end at a place, if it has this name
+-- an entry that was made to end at an offset, if it has this name
 abbrev pub IsShrunk : List ℕ → ℕ → Entry → Entry → Type 0
 IsShrunk name to old new = file_of new ≡ shrunk_file name to (file_of old)

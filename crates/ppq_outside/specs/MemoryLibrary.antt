@@ -56,7 +56,7 @@ readable_in shrunk (Some file) = Some (readable shrunk file)
 abbrev pub told_by : LibraryState → Option (List ℕ → Option (List ℕ))
 told_by library = if library.shrunk then None else Some (λ name. bytes_in (lookup library.files name))
 
--- a file, whose reads end at a place from now on if it has this name
+-- a file, whose reads end at an offset from now on if it has this name
 abbrev pub shrunk_file : List ℕ → ℕ → File → File
 shrunk_file name to file = if bytes_eq file.name name then record file { end = Some to } else file
 
@@ -79,6 +79,6 @@ after_call library = record library {
 abbrev pub answer : {T : Type 0} → LibraryState → T → Result T OutsideFault
 answer library given = if fails_next library then Err Failed else Ok given
 
--- how many bytes a read from a place on gives, into room for so many
+-- how many bytes a read from an offset on returns, into room for so many
 abbrev pub count_at : Option (List ℕ) → ℕ → ℕ → ℕ
 count_at file at room = min room (length (bytes_or_none file) - at)

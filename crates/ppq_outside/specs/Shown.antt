@@ -2,7 +2,7 @@
 use Rattle.std.specs.Prelude.{◌≡◌, ℕ, List, Option, Result, OnOk, IsSome, All}
 use Rattle.ppq_outside.specs.Told.{Keeps, StillTells, Counts, HasOneCause}
 
--- where the slot tells, the bytes that it holds; its place on the device; its length in bytes; how many calls of it failed, and how
+-- where the slot tells, the bytes that it holds; its number on the device; its length in bytes; how many calls of it failed, and how
 -- many writes and reads answered Ok
 pub record Shown : Type 0 where
   pub told : Option (List ℕ)

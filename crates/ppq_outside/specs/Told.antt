@@ -34,7 +34,7 @@ abbrev pub bytes_or_none : Option (List ℕ) → List ℕ
 bytes_or_none None = []
 bytes_or_none (Some bytes) = bytes
 
--- what a library replied: of a name the length, none where there is no such file; or the bytes that a read of a name from a place on
+-- what a library replied: of a name the length, none where there is no such file; or the bytes that a read of a name from an offset on
 -- gave, into room for so many
 pub data Reply : Type 0 where
   OfLength : (name : List ℕ) (size : Option ℕ) → Reply
@@ -49,7 +49,7 @@ abbrev pub IsOfLength : List ℕ → Reply → Type 0
 IsOfLength asked (OfLength name size) = name ≡ asked
 IsOfLength asked (OfRead name at room given) = ⊥
 
--- a reply to a read of this name from this place on, into room for so many bytes
+-- a reply to a read of this name from this offset on, into room for so many bytes
 abbrev pub IsOfRead : List ℕ → ℕ → ℕ → Reply → Type 0
 IsOfRead asked from most (OfLength name size) = ⊥
 IsOfRead asked from most (OfRead name at room given) = (name ≡ asked) × (at ≡ from) × (room ≡ most)
@@ -58,7 +58,7 @@ IsOfRead asked from most (OfRead name at room given) = (name ≡ asked) × (at �
 abbrev pub RepliesOnly : (Reply → Type 0) → (Reply → Type 0) → (Reply → Type 0) → Type 0
 RepliesOnly before now kind = (reply : Reply) → now reply → before reply ⊎ kind reply
 
--- these are the bytes of a file from a place on, or its first so many that are left there; none only at or past the file's end, or
+-- these are the bytes of a file from an offset on, or its first so many that are left there; none only at or past the file's end, or
 -- for no room
 pub record ReadsAt (bytes : List ℕ) (at room : ℕ) (given : List ℕ) : Type 0 where
   pub bytes_are : given ≡ take (length given) (drop at bytes)

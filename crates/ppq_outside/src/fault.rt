@@ -7,16 +7,18 @@ use std::alloc::{AllocError, AllocFailed};
 #[derive(Clone, Copy, Debug, PartialEq, Eq)]
 pub struct Failed;
 
-/// The answer of a call that wanted memory and got none.
+/// The answer of a call of a device or library in memory whose allocation failed.
+///
+/// It says the same as `ppq_record::Memory`. There are two since this crate uses no other one.
 #[derive(Clone, Copy, Debug, PartialEq, Eq)]
 pub struct Memory;
 
-/// Why a call of the outside that takes memory gave nothing.
+/// Why a call of the outside that allocates returned nothing.
 #[derive(Clone, Copy, Debug, PartialEq, Eq)]
 pub enum OutsideFault {
     /// The call failed, and its count of faults rose.
     Failed,
-    /// The call wanted memory and got none.
+    /// An allocation of the call failed.
     Memory,
 }
 

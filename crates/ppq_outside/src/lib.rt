@@ -3,8 +3,9 @@
 //! A device is blocks of equal size (`Slot`) that a `Rack` makes. Files are read through a
 //! `Library`, output goes to a `Sink`, and workers pass a `Gate`. The contracts of these traits
 //! have two kinds of clauses. Counts are kept whatever happens: an answer `Failed` always raises
-//! one, and every other answer leaves it. What a call does to bytes is said only where the implementation tells: those in
-//! memory (`MemSlot`, `MemRack`, `MemLibrary`, `MemSink`) tell, and those over real files do not.
+//! one, and every other answer leaves it. What a call does to bytes is said only where the
+//! implementation tells: those in memory (`MemSlot`, `MemRack`, `MemLibrary`, `MemSink`) tell, and
+//! those over real files do not.
 #![tactic(auto)]
 
 mod fault;

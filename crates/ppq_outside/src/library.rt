@@ -25,8 +25,8 @@ pub trait Library {
     fn faults(&self) -> u64
         ensures { result ≡ faults self.now };
 
-    /// The length of a file in bytes, or `None` where there is no such file. `Failed` comes only
-    /// where the count of faults rose.
+    /// The length of a file in bytes, or `None` where there is no such file. `Failed` is returned
+    /// only if the count of faults rose.
     fn length<H: Host>(
         &mut self,
         rt: &H,
@@ -39,10 +39,10 @@ pub trait Library {
         ensures kept { told self.new ≡ told self.old }
         ensures cause { HasCause (faults self.old) (faults self.new) result };
 
-    /// Puts bytes of a file from place `at` on over the first bytes of `into`, and gives their
-    /// number. It may give fewer than `into` has room for, but gives 0 only at or past the end of
-    /// the file, where there is no such file, or where `into` is empty. `Failed` comes only where
-    /// the count of faults rose, and nothing is then known of `into`.
+    /// Copies bytes of a file, from offset `at` on, over the first bytes of `into`, and returns their
+    /// number. It may give fewer than `into` has room for, but gives 0 only at or past the end of the
+    /// file, where there is no such file, or where `into` is empty. `Failed` is returned only if the
+    /// count of faults rose, and nothing is then known of `into`.
     fn read_at<H: Host>(
         &mut self,
         rt: &H,

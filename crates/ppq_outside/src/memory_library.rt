@@ -9,30 +9,30 @@ use crate::{Host, Library, Memory, OutsideFault};
 use std::alloc::Global;
 use std::marker::Model;
 
-/// A name and its bytes.
+// A name and its bytes.
 #[derive(Drop)]
 struct Entry {
     name: String,
     bytes: Vec<u8>,
-    /// Where reads end, in bytes, if the file was shrunk.
+    // Where reads end, in bytes, if the file was shrunk.
     end: Option<u64>,
 }
 
 /// Named files in memory. It tells, until `shrink` is called.
 ///
 /// Its calls `length` and `read_at` are numbered together from 1. A call fails exactly where that
-/// was planned by `fail_call`, and takes no memory.
+/// was planned by `fail_call`, and does not allocate.
 #[derive(Drop)]
 pub struct MemLibrary {
-    /// The latest entry of a name stands first.
+    // The latest entry of a name stands first.
     entries: Vec<Entry>,
-    /// Whether reads end where the entries say.
+    // Whether reads end where the entries say.
     shrunk: bool,
-    /// The numbers of the calls that are to fail.
+    // The numbers of the calls that are to fail.
     plan: Vec<u64>,
-    /// How many calls were made.
+    // How many calls were made.
     calls: u64,
-    /// How many of them failed.
+    // How many of them failed.
     faults: u64,
 }
 
@@ -85,10 +85,10 @@ impl MemLibrary {
         Ok(self.plan.push(number)?)
     }
 
-    /// Makes reads of a file end at a place, in bytes, or at its own end if that comes first. Its
-    /// length stays what it was, also where there is no such file. From then on the library does not
-    /// tell, as a file that others write while it is read. It takes no memory, and costs a look at
-    /// every entry.
+    /// Makes reads of a file end at an offset, or at its own end if that comes first. Its length
+    /// stays what it was, also where there is no such file. From then on the library does not tell,
+    /// as a file that others write while it is read. It does not allocate, and costs a look at every
+    /// entry.
     pub fn shrink(&mut self, name: &str, to: u64)
         ensures { self.new ≡ shrunk_library self.old name.now to }
     {
@@ -96,7 +96,7 @@ impl MemLibrary {
         self.shrunk = true;
     }
 
-    /// Counts a call, and says whether it is to fail.
+    // Counts a call, and says whether it is to fail.
     fn fails(&mut self) -> bool
         ensures answer { result ≡ fails_next self.old }
         ensures after { self.new ≡ after_call self.old }
@@ -112,7 +112,7 @@ impl MemLibrary {
     }
 }
 
-/// The entry of a name. It looks at the entries one after the other.
+// The entry of a name. It looks at the entries one after the other.
 fn find<'a>(entries: &'a [Entry], name: &str) -> Option<&'a Entry>
     ensures { Finds (lookup (files_of entries.now) name.now) result }
 {
@@ -124,7 +124,7 @@ fn find<'a>(entries: &'a [Entry], name: &str) -> Option<&'a Entry>
     None
 }
 
-/// Makes reads of the entries of a name end at a place.
+// Makes reads of the entries of a name end at an offset.
 fn end_reads(entries: &mut [Entry], name: &str, to: u64)
     ensures { AllZip (IsShrunk name.now to) entries.old entries.new }
 {
@@ -133,7 +133,7 @@ fn end_reads(entries: &mut [Entry], name: &str, to: u64)
     }
 }
 
-/// Makes reads of an entry end at a place, if it has this name.
+// Makes reads of an entry end at an offset, if it has this name.
 fn end_reads_of(entry: &mut Entry, name: &str, to: u64)
     ensures { IsShrunk name.now to entry.old entry.new }
 {
@@ -142,7 +142,7 @@ fn end_reads_of(entry: &mut Entry, name: &str, to: u64)
     }
 }
 
-/// The bytes of an entry that reads give, in a library that was shrunk or not.
+// The bytes of an entry that reads give, in a library that was shrunk or not.
 fn readable_bytes(entry: &Entry, shrunk: bool) -> &[u8]
     ensures { result.now ≡ readable shrunk (file_of entry.now) }
 {
@@ -155,7 +155,7 @@ fn readable_bytes(entry: &Entry, shrunk: bool) -> &[u8]
     }
 }
 
-/// Copies bytes from a place on over the first of `into`, as many as there are and fit.
+// Copies bytes from an offset on over the first of `into`, as many as there are and fit.
 fn copy_from(bytes: &[u8], at: u64, into: &mut [u8]) -> usize
     ensures count { result ≡ min (length into.new) (length bytes.now - at) }
     ensures given { ReadsAt bytes.now at (length into.new) (take result into.new) }

@@ -9,12 +9,12 @@ use crate::{Host, MemSlot, OutsideFault, Rack};
 use std::alloc::{AllocError, Global};
 use std::marker::Model;
 
-/// What is to fail.
+// What is to fail.
 #[derive(Drop)]
 struct Plan {
-    /// Calls of blocks: a block's number, and the number of its call, from 1.
+    // Calls of blocks: a block's number, and the number of its call, from 1.
     calls: Vec<(u32, u64)>,
-    /// The numbers of the blocks whose making fails.
+    // The numbers of the blocks whose making fails.
     makes: Vec<u32>,
 }
 
@@ -22,11 +22,11 @@ struct Plan {
 /// so do the calls of its blocks.
 #[derive(Drop)]
 pub struct MemRack {
-    /// The planned failures, where there are any.
+    // The planned failures, where there are any.
     plan: Option<Plan>,
-    /// The numbers of the blocks that it made, in order; no list before the first.
+    // The numbers of the blocks that it made, in order; no list before the first.
     made: Option<Vec<u32>>,
-    /// How many calls failed.
+    // How many calls failed.
     faults: u64,
 }
 
@@ -75,7 +75,7 @@ impl MemRack {
         }
     }
 
-    /// Whether the making of a block is to fail.
+    // Whether the making of a block is to fail.
     fn fails(&self, number: u32) -> bool
         ensures { result ≡ make_fails self.now number }
     {
@@ -85,7 +85,7 @@ impl MemRack {
         }
     }
 
-    /// The numbers of the calls of a block that are to fail.
+    // The numbers of the calls of a block that are to fail.
     fn plan_of(&self, alloc: Global, number: u32) -> Result<Vec<u64>, AllocError>
         ensures { IfOk result (λ plan. plan.items ≡ calls_of self.now.calls number) }
     {
@@ -96,7 +96,7 @@ impl MemRack {
     }
 }
 
-/// Of pairs of a block's number and the number of a call, the calls of one block.
+// Of pairs of a block's number and the number of a call, the calls of one block.
 fn calls_of_block(alloc: Global, calls: &[(u32, u64)], number: u32) -> Result<Vec<u64>, AllocError>
     ensures { IfOk result (λ plan. plan.items ≡ calls_of calls.now number) }
 {
@@ -109,9 +109,9 @@ fn calls_of_block(alloc: Global, calls: &[(u32, u64)], number: u32) -> Result<Ve
     Ok(plan)
 }
 
-/// A list of numbers with one more, which is made where there is none. Where memory is wanting, it is
-/// as before.
-fn note(alloc: Global, numbers: &mut Option<Vec<u32>>, number: u32) -> Result<(), AllocError>
+// A list of numbers with one more, which is made where there is none. If an allocation fails, it is
+// as before.
+fn add_number(alloc: Global, numbers: &mut Option<Vec<u32>>, number: u32) -> Result<(), AllocError>
     ensures { numbers_in numbers.new ≡ numbers_in numbers.old ++ made_by result number }
 {
     match numbers {
@@ -161,7 +161,7 @@ impl Rack for MemRack {
         }
         let plan = self.plan_of(alloc, number)?;
         let slot = MemSlot::zeros(alloc, number, bytes, plan)?;
-        note(alloc, &mut self.made, number)?;
+        add_number(alloc, &mut self.made, number)?;
         Ok(slot)
     }
 }

@@ -12,15 +12,15 @@ use std::marker::Model;
 /// planned, or where its piece is longer than the room that is left; no other put fails.
 #[derive(Drop)]
 pub struct MemSink {
-    /// What it took.
+    // What it took.
     bytes: Vec<u8>,
-    /// How many bytes fit in all.
+    // How many bytes fit in all.
     room: usize,
-    /// The puts that are to fail, numbered from 1, each with how many bytes it may take.
+    // The puts that are to fail, numbered from 1, each with how many bytes it may take.
     plan: Vec<(u64, usize)>,
-    /// How many puts were made.
+    // How many puts were made.
     puts: u64,
-    /// How many of them failed.
+    // How many of them failed.
     faults: u64,
 }
 
@@ -68,7 +68,7 @@ impl MemSink {
     }
 }
 
-/// How many bytes a put may take by a plan, and `None` where it is not planned to fail.
+// How many bytes a put may take by a plan, and `None` where it is not planned to fail.
 fn limit_of(plan: &[(u64, usize)], put: u64) -> Option<usize>
     ensures { result ≡ limit_from None plan.now put }
 {
@@ -81,7 +81,7 @@ fn limit_of(plan: &[(u64, usize)], put: u64) -> Option<usize>
     limit
 }
 
-/// No more than a limit, where there is one.
+// No more than a limit, where there is one.
 fn no_more(limit: Option<usize>, count: usize) -> usize
     ensures { result ≡ at_most limit count }
 {

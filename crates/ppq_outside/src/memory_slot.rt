@@ -13,11 +13,11 @@ use std::marker::Model;
 pub struct MemSlot {
     number: u32,
     bytes: Vec<u8>,
-    /// The numbers of the calls that are to fail.
+    // The numbers of the calls that are to fail.
     plan: Vec<u64>,
-    /// How many calls were made.
+    // How many calls were made.
     calls: u64,
-    /// How many of them failed.
+    // How many of them failed.
     faults: u64,
     writes: u64,
     reads: u64,
@@ -34,8 +34,8 @@ impl Model for MemSlot {
 impl MemSlot {
     ghost use Rattle.ppq_outside.specs.MemoryDevice.{zero_slot, slot_fails, after_call};
 
-    /// A block that holds so many zeros, for which no call was made yet, and whose calls with these
-    /// numbers are to fail.
+    // A block that holds so many zeros, for which no call was made yet, and whose calls with these
+    // numbers are to fail.
     pub(crate) fn zeros(
         alloc: Global,
         number: u32,
@@ -55,7 +55,7 @@ impl MemSlot {
         })
     }
 
-    /// Counts a call, and says whether it is to fail.
+    // Counts a call, and says whether it is to fail.
     fn fails(&mut self) -> bool
         ensures answer { result ≡ slot_fails self.old }
         ensures after { self.new ≡ after_call self.old }

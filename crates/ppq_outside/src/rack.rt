@@ -27,8 +27,8 @@ pub trait Rack {
     fn faults(&self) -> u64
         ensures { result ≡ faults self.now };
 
-    /// A block of the device with this number and of so many bytes. `Failed` comes only where the
-    /// count of faults rose.
+    /// A block of the device with this number and of so many bytes. `Failed` is returned only if
+    /// the count of faults rose.
     fn block<H: Host>(
         &mut self,
         rt: &H,

@@ -16,7 +16,7 @@ pub trait Sink {
     fn faults(&self) -> u64
         ensures { result ≡ faults self.now };
 
-    /// Appends the whole piece, or a prefix of it where it fails. `Failed` comes only where the
+    /// Appends the whole piece, or a prefix of it where it fails. `Failed` is returned only if the
     /// count of faults rose.
     fn put<H: Host>(&mut self, rt: &H, bytes: &[u8]) -> Result<(), Failed>
         ensures all { OnOk result (TakesAll (told self.old) (told self.new) bytes.now) }

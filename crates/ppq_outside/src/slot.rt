@@ -13,7 +13,7 @@ pub trait Slot: Drop {
     /// holds.
     ghost shown: { Self → Shown };
 
-    /// Its place on the device, counted in blocks.
+    /// Its number on the device, from 0: which block it is.
     fn number(&self) -> u32
         ensures { result ≡ (shown self.now).number };
 
@@ -33,13 +33,13 @@ pub trait Slot: Drop {
     fn reads(&self) -> u64
         ensures { result ≡ (shown self.now).reads };
 
-    /// Writes the whole block: one block transfer. `Failed` comes only where the count of faults
+    /// Writes the whole block: one block transfer. `Failed` is returned only if the count of faults
     /// rose, and nothing is then known of the bytes that the slot holds.
     fn write<H: Host>(&mut self, rt: &H, bytes: &[u8]) -> Result<(), Failed>
         requires { length bytes.now ≡ (shown self.old).size }
         ensures { IsWritten result bytes.now (shown self.old) (shown self.new) };
 
-    /// Reads the whole block: one block transfer. `Failed` comes only where the count of faults
+    /// Reads the whole block: one block transfer. `Failed` is returned only if the count of faults
     /// rose, and nothing is then known of `into`; the slot holds what it held.
     fn read<H: Host>(&mut self, rt: &H, into: &mut [u8]) -> Result<(), Failed>
         requires { length into.old ≡ (shown self.old).size }

@@ -5,14 +5,14 @@ use super::*;
 use std::test::Fail;
 use std::thread::join_mut;
 
-/// Writes a slot, and says whether that went well.
+// Writes a slot, and says whether that went well.
 fn fill<H: Host, S: Slot>(rt: &H, slot: &mut S, bytes: &[u8]) -> bool
     requires { length bytes.now ≡ (S.shown slot.old).size }
 {
     slot.write(rt, bytes).is_ok()
 }
 
-/// Writes two slots, each in a thread of its own.
+// Writes two slots, each in a thread of its own.
 fn fill_both<H: Host, S: Slot + Send>(rt: &H, one: &mut S, other: &mut S, bytes: &[u8]) -> bool
 where
     H::Dir: Send,
@@ -31,7 +31,7 @@ where
     a & b
 }
 
-/// Puts two pieces, and says whether both were taken.
+// Puts two pieces, and says whether both were taken.
 fn put_both<H: Host, O: Sink>(rt: &H, out: &mut O, one: &[u8], other: &[u8]) -> (bool, bool) {
     (out.put(rt, one).is_ok(), out.put(rt, other).is_ok())
 }

@@ -62,7 +62,7 @@ module _ {T : Type 0} where
           shares_add = refl;
           joins_add = refl;
           each_item = λ i h. let it = at_within xs i (omega arith) in inl (zeros (i + 1), refl, (it.0, laid_item xs (Room r) i it.0 it.1, all_at (λ x. shape_of x ≡ shape) xs i it.0 shapes it.1));
-          each_view = at_only (Fits shape _) first (record { same_shape = λ _. refl; spent_nothing = λ z. absurd (omega arith); in_range = All-nil (λ i. i + 1 < _); places_home = λ i lists away. absurd (omega arith); place_out = λ i e. absurd (None-ne-Some i e) });
+          each_view = at_only (Fits shape _) first (record { same_shape = λ _. refl; void_nothing = λ z. absurd (omega arith); in_range = All-nil (λ i. i + 1 < _); places_home = λ i lists away. absurd (omega arith); place_out = λ i e. absurd (None-ne-Some i e) });
           each_put = λ i x home. (0, first, refl, subst (λ (k : ℕ). Contains first.put (k, x)) (let e : 0 + i ≡ i = omega arith in e) (Contains-numbered 0 i x xs (laid_back xs r i x home)));
           logged = (
             [],
@@ -129,7 +129,7 @@ module _ {T : Type 0} where
     pub ends : (shape id : ℕ) (v : Hand T) (ws : List ℕ) (ps : List (Place T)) (n : ℕ) → v.shares ≡ all_shares → v.in_hand ≡ None → length ps ≡ n + 1 → Final (Seen (PoolRule shape_of shape) id v) ws ps → Ended ps v n
     ends shape id v ws ps n only free wide final = let s = final.0 in let r : PoolRule shape_of shape s = final.1.0 in let at = final.1.1 in let mine = r.each_view id v at in let len : length s.homes ≡ length ps = final.3 in
         let last : length s.homes - 1 ≡ n = omega arith in
-        let alone : (i : ℕ) → holders i s.views ≡ times i v.numbers = λ i. total_alone (λ u. u.shares) (λ u. times i u.numbers) s.views id v at (λ j u e z. ap (times i) ((r.each_view j u e).spent_nothing z).0) (r.shares_add ∙ sym only) in
+        let alone : (i : ℕ) → holders i s.views ≡ times i v.numbers = λ i. total_alone (λ u. u.shares) (λ u. times i u.numbers) s.views id v at (λ j u e z. ap (times i) ((r.each_view j u e).void_nothing z).0) (r.shares_add ∙ sym only) in
         let told : (i : ℕ) → i < n → Told v ps i = λ i h. ⊎_elim
         (λ (f : IsFree shape_of shape (slice_index s.words (i + 1)) (holders i s.views) (get_elem? s.homes i)). let it = f.2 in
         inl (it.0, final.4 i (Item it.0) it.1, it.2 ∙ sym (mine.same_shape (omega arith)), sym (alone i) ∙ f.1, own_item shape_of shape s r id i v it.0 at it.1 only))

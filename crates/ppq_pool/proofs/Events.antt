@@ -12,7 +12,7 @@ use Rattle.ppq_table.specs.Sums.{total, times}
 use Rattle.ppq_table.proofs.Sums.{total_zero, one_of_total}
 use Rattle.ppq_table.proofs.Numbers.{times-same, times-other}
 use Rattle.ppq_pool.specs.declared.hand.Hand.{Hand}
-use Rattle.ppq_pool.specs.Hands.{spent_once, with_claim, with_note, with_place, with_give}
+use Rattle.ppq_pool.specs.Hands.{one_if_void, with_claim, with_look, with_place, with_give}
 use Rattle.ppq_pool.specs.Histories.{ShowsHistory, events_of}
 use Rattle.ppq_pool.specs.Rule.{holders, IsFree, IsHeld, PoolRule}
 use Rattle.ppq_pool.specs.Shown.{StepsAreEvents, JoinsAreCounted}
@@ -43,7 +43,7 @@ steps_are_events T R = record {
   shown = λ shape_of shape s r alive. shown_same R (length s.homes - 1) s.words s.views (events_of r.logged.0, r.logged.2 alive);
   claims = λ shape_of shape s id v i h st word old. let near = st.2 in
       shown_take (length s.homes - 1) s.words s.views id i v (with_claim i v) st.1 (omega arith) (subst (λ (z : ℕ). i + 1 < z) (sym st.0.wide) near) word (nobody shape_of shape s st.0 i near word) refl refl h old;
-  notes = λ shape_of shape s id v i h st word old. still_held shape_of shape s st.0 id i v (with_note i v) h st.1 st.2 word refl refl old;
+  looks = λ shape_of shape s id v i h st word old. still_held shape_of shape s st.0 id i v (with_look i v) h st.1 st.2 word refl refl old;
   settles_and_reaches = λ shape_of shape s id v i place h st lists old. still_held shape_of shape s st.0 id i v (with_place place v) h st.1 st.2 (listed shape_of shape s st.0 id v i st.1 st.2 lists).2 refl refl old;
   clears = λ shape_of shape s id v i x h st lists old. gives shape_of shape s st.0 id i v x h st.1 st.2 lists old;
   splits = λ s id v h at old. shown_split (length s.homes - 1) s.words s.views id v at h old;
@@ -51,8 +51,8 @@ steps_are_events T R = record {
 
 pub joins_are_counted : (T : Type 0) → JoinsAreCounted T
 joins_are_counted T shape_of shape s r none j v e = dite (ℕ_discrete v.shares 0)
-    (λ z. absurd (let one : spent_once v ≡ 1 = ap (λ b. cond b 1 0) (eq-eqb v.shares 0 z) in omega (arith, one, nobody, r.joins_add, one_of_total spent_once s.views j v e)))
+    (λ z. absurd (let one : one_if_void v ≡ 1 = ap (λ b. cond b 1 0) (eq-eqb v.shares 0 z) in omega (arith, one, nobody, r.joins_add, one_of_total one_if_void s.views j v e)))
     (λ ne. omega arith)
   where
     nobody : total (λ (v : Hand T). v.joins) s.views ≡ 0
-    nobody = total_zero (λ (v : Hand T). v.joins) s.views (λ j v e. dite (ℕ_discrete v.shares 0) (λ z. ((r.each_view j v e).spent_nothing z).2) (λ ne. none j v e (omega arith)))
+    nobody = total_zero (λ (v : Hand T). v.joins) s.views (λ j v e. dite (ℕ_discrete v.shares 0) (λ z. ((r.each_view j v e).void_nothing z).2) (λ ne. none j v e (omega arith)))

@@ -10,7 +10,7 @@ use Rattle.ppq_table.proofs.Sums.{within_at}
 use Rattle.ppq_pool.specs.declared.hand.Hand.{Hand}
 use Rattle.ppq_pool.specs.declared.hand.Move.{Move}
 use Rattle.ppq_pool.specs.declared.hand.Move.TheVariants.{Took, Gave, Saw}
-use Rattle.ppq_pool.specs.Hands.{less_one, newcomer, together, spent}
+use Rattle.ppq_pool.specs.Hands.{less_one, newcomer, together, void_hand}
 use Rattle.ppq_pool.specs.Histories.{events_of, IsOut, MayMove, trail_of, IsTrueLog, ShowsLog}
 use Rattle.ppq_pool.proofs.Lists.{at_end}
 use Rattle.ppq_pool.proofs.Shown.{buffer_at-Take_here, buffer_at-Take_else, buffer_at-Give_here, buffer_at-Give_else}
@@ -114,13 +114,13 @@ module _ {R T : Type 0} where
 
   -- a join is not logged: the trail of the seat that stays is its own
   pub log_join : (n : ℕ) (ws : List ℕ) (vs : List (Hand T)) (id other : ℕ) (v w : Hand T) → get_elem? vs id ≡ some v → 0 < v.shares
-      → (log : Log) → ShowsLog R n ws vs log → ShowsLog R n ws (set (set vs id (together v w)) other spent) log
+      → (log : Log) → ShowsLog R n ws vs log → ShowsLog R n ws (set (set vs id (together v w)) other void_hand) log
   log_join n ws vs id other v w at some_share log old = let vs' : List (Hand T) = set vs id (together v w) in let kept = log_still n ws vs id v (together v w) at some_share refl log old in record {
-    is_true = subst (λ (k : ℕ). IsTrueLog R k log) (sym (length-set vs' other spent)) kept.is_true;
+    is_true = subst (λ (k : ℕ). IsTrueLog R k log) (sym (length-set vs' other void_hand)) kept.is_true;
     is_free = old.is_free;
     is_out = old.is_out;
     on_trail = λ j u e alive. ⊎_elim
-        (λ (own : (j ≡ other) × (spent ≡ u)). absurd (let none : 0 ≡ u.shares = ap (λ (z : Hand T). z.shares) own.1 in omega arith))
+        (λ (own : (j ≡ other) × (void_hand ≡ u)). absurd (let none : 0 ≡ u.shares = ap (λ (z : Hand T). z.shares) own.1 in omega arith))
         (λ (past : (j ≢ other) × (get_elem? vs' j ≡ some u)). kept.on_trail j u past.1 alive)
-        (at_set vs' other j spent u e);
+        (at_set vs' other j void_hand u e);
   }

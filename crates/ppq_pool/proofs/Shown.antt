@@ -14,9 +14,9 @@ use Rattle.ppq_table.proofs.Sums.{within_at, one_of_total, two_of_total}
 use Rattle.ppq_table.proofs.Numbers.{times-append, times-other}
 use Rattle.ppq_pool.specs.declared.hand.Hand.{Hand}
 use Rattle.ppq_pool.specs.declared.hand.Move.TheVariants.{Took, Gave}
-use Rattle.ppq_pool.specs.Hands.{less_one, newcomer, spent}
+use Rattle.ppq_pool.specs.Hands.{less_one, newcomer, void_hand}
 use Rattle.ppq_pool.specs.Histories.{moves_of, ShowsHistory}
-use Rattle.ppq_pool.specs.Rule.{holders, NoneSpent}
+use Rattle.ppq_pool.specs.Rule.{holders, NoneVoid}
 use Rattle.ppq_pool.proofs.Lists.{at_end}
 
 module _ {R : Type 0} where
@@ -63,19 +63,19 @@ module _ {R : Type 0} where
   moves_of-newcomer n d k j (Store p b ∷ h) le l = moves_of-newcomer n d k j h le l.1
 
 module _ {T : Type 0} where
-  -- where no view is spent after a step, none was before
-  pub none_spent_before : (vs : List (Hand T)) (id : ℕ) (v w : Hand T) → get_elem? vs id ≡ some v → 0 < v.shares → NoneSpent (set vs id w) → NoneSpent vs
-  none_spent_before vs id v w at some_share alive j u e = dite (ℕ_discrete j id)
+  -- where no view is void after a step, none was before
+  pub none_void_before : (vs : List (Hand T)) (id : ℕ) (v w : Hand T) → get_elem? vs id ≡ some v → 0 < v.shares → NoneVoid (set vs id w) → NoneVoid vs
+  none_void_before vs id v w at some_share alive j u e = dite (ℕ_discrete j id)
       (λ same. let own : u ≡ v = some-injective u v (sym e ∙ ap (get_elem? vs) same ∙ at) in subst (λ (z : Hand T). 0 < z.shares) (sym own) some_share)
       (λ ne. alive j u (set_else vs id j w ne ∙ e))
 
   -- the same where a new view is added
-  pub none_spent_before_split : (vs : List (Hand T)) (id : ℕ) (v l r : Hand T) → get_elem? vs id ≡ some v → 0 < v.shares → NoneSpent (set vs id l ++ r ∷ []) → NoneSpent vs
-  none_spent_before_split vs id v l r at some_share alive = none_spent_before vs id v l at some_share (λ j u e. alive j u (at_longer (set vs id l) (r ∷ []) j u e))
+  pub none_void_before_split : (vs : List (Hand T)) (id : ℕ) (v l r : Hand T) → get_elem? vs id ≡ some v → 0 < v.shares → NoneVoid (set vs id l ++ r ∷ []) → NoneVoid vs
+  none_void_before_split vs id v l r at some_share alive = none_void_before vs id v l at some_share (λ j u e. alive j u (at_longer (set vs id l) (r ∷ []) j u e))
 
-  -- a view that was joined is spent
-  pub some_spent : (vs : List (Hand T)) (other : ℕ) → other < length vs → NoneSpent (set vs other spent) → ⊥
-  some_spent vs other inside alive = let h : 0 < 0 = alive other spent (set_here vs other spent inside) in omega arith
+  -- a view that was joined is void
+  pub some_void : (vs : List (Hand T)) (other : ℕ) → other < length vs → NoneVoid (set vs other void_hand) → ⊥
+  some_void vs other inside alive = let h : 0 < 0 = alive other void_hand (set_here vs other void_hand inside) in omega arith
 
 module _ {T R : Type 0} where
   -- a step that changes no word and no numbers is no event

@@ -16,13 +16,13 @@ use Rattle.ppq_table.proofs.Sums.{within_at, total-set, total-snoc, one_of_total
 use Rattle.ppq_table.proofs.Numbers.{times-append, times-same, times-other}
 use Rattle.ppq_table.proofs.Places.{item-injective}
 use Rattle.ppq_pool.specs.declared.hand.Hand.{Hand}
-use Rattle.ppq_pool.specs.Hands.{less_one, newcomer, together, spent, spent_once, with_claim, with_note, with_place, with_give}
+use Rattle.ppq_pool.specs.Hands.{less_one, newcomer, together, void_hand, one_if_void, with_claim, with_look, with_place, with_give}
 use Rattle.ppq_pool.specs.declared.hand.Move.TheVariants.{Took, Gave, Saw}
 use Rattle.ppq_pool.specs.Histories.{events_of}
 use Rattle.ppq_pool.specs.Rule.{holders, HasLog, WasPut, Fits, IsFree, IsHeld, PoolRule, claimed_at, claimed, settled, reached_at, reached, cleared_at, cleared}
 use Rattle.ppq_pool.proofs.Lists.{Some-injective, None-ne-Some, times-without, All-without, Contains-none, Contains-elsewhere}
 use Rattle.ppq_pool.proofs.Logged.{log_still, log_look, log_take, log_give, log_split, log_join}
-use Rattle.ppq_pool.proofs.Shown.{none_spent_before, none_spent_before_split, some_spent, shown_still, shown_take, shown_give, shown_split}
+use Rattle.ppq_pool.proofs.Shown.{none_void_before, none_void_before_split, some_void, shown_still, shown_take, shown_give, shown_split}
 
 pub back : (i : ℕ) → i + 1 - 1 ≡ i
 back i = omega arith
@@ -61,12 +61,12 @@ module _ {T : Type 0} where
       (λ same. (id, w, set_here vs id w (within_at vs id v at), more (subst (λ (z : Hand T). Contains z.put (i, x)) (some-injective was.1 v (sym was.2 ∙ ap (get_elem? vs) same ∙ at)) was.3)))
       (λ ne. (was.0, was.1, set_else vs id was.0 w ne ∙ was.2, was.3))
 
-  -- a view with a share is not spent
-  not_spent : (v : Hand T) → 0 < v.shares → spent_once v ≡ 0
-  not_spent v some_share = ap (λ b. cond b 1 0) (ne_eqb v.shares 0 (λ e. omega arith))
+  -- a view with a share is not void
+  not_void : (v : Hand T) → 0 < v.shares → one_if_void v ≡ 0
+  not_void v some_share = ap (λ b. cond b 1 0) (ne_eqb v.shares 0 (λ e. omega arith))
 
-  same_spent : (v w : Hand T) → w.shares ≡ v.shares → spent_once w ≡ spent_once v
-  same_spent v w e = ap (λ (k : ℕ). cond (eqb k 0) 1 0) e
+  same_void : (v w : Hand T) → w.shares ≡ v.shares → one_if_void w ≡ one_if_void v
+  same_void v w e = ap (λ (k : ℕ). cond (eqb k 0) 1 0) e
 
   module _ (shape_of : T → ℕ) (shape : ℕ) where
     abbrev St : Type 0
@@ -82,7 +82,7 @@ module _ {T : Type 0} where
     M = Me (Place T) (Hand T)
 
     -- the views change, and neither the shares nor who holds what
-    viewed : (s : St) (r : Rule s) (vs : List (Hand T)) → total (λ v. v.shares) vs ≡ total (λ v. v.shares) s.views → total (λ v. v.joins) vs ≡ total spent_once vs → ((i : ℕ) → holders i vs ≡ holders i s.views)
+    viewed : (s : St) (r : Rule s) (vs : List (Hand T)) → total (λ v. v.shares) vs ≡ total (λ v. v.shares) s.views → total (λ v. v.joins) vs ≡ total one_if_void vs → ((i : ℕ) → holders i vs ≡ holders i s.views)
         → ((j : ℕ) (v : Hand T) → get_elem? vs j ≡ some v → Fits shape s.homes v) → ((i : ℕ) (x : T) → WasPut i x s.views → WasPut i x vs)
         → HasLog (length s.homes - 1) s.words vs
         → Rule record { words = s.words; homes = s.homes; views = vs }
@@ -118,7 +118,7 @@ module _ {T : Type 0} where
         let old = r.each_view id v at in
         let mine : Fits shape hs w = record {
           same_shape = λ _. same_shape ∙ old.same_shape some_share;
-          spent_nothing = λ z. absurd (omega arith);
+          void_nothing = λ z. absurd (omega arith);
           in_range = subst (λ (z : ℕ). All (λ k. k + 1 < z) w.numbers) (sym same_length) ranged;
           places_home = λ k lists away. dite (ℕ_discrete k i)
               (λ e. subst (λ (z : ℕ). get_elem? hs z ≡ some (some Empty)) (sym e) (set_here s.homes i h (omega arith) ∙ ap (λ (z : Option (Place T)). some z)
@@ -135,7 +135,7 @@ module _ {T : Type 0} where
           room_home = subst (λ (k : ℕ). (x : Vec T Global) × (get_elem? hs (k - 1) ≡ some (some (Room x))) × IsRoom (k - 1) x) (sym same_length)
               (r.room_home.0, set_else s.homes i (n - 1) h (λ e. omega arith) ∙ r.room_home.1, r.room_home.2);
           shares_add = omega (arith, total-set (λ u. u.shares) s.views id v w at, r.shares_add);
-          joins_add = omega (arith, total-set (λ u. u.joins) s.views id v w at, total-set spent_once s.views id v w at, r.joins_add, same_spent v w same_shares, same_joins);
+          joins_add = omega (arith, total-set (λ u. u.joins) s.views id v w at, total-set one_if_void s.views id v w at, r.joins_add, same_void v w same_shares, same_joins);
           each_item = λ k h'. let inside : k + 1 < n = subst (λ (z : ℕ). k + 1 < z) same_length h' in dite (ℕ_discrete k i)
               (λ e. subst Ok (sym e) (ok_by i m (times i w.numbers) (some h) (get_or-set_same s.words (i + 1) m 0 (subst (λ (z : ℕ). i + 1 < z) (sym r.wide) near))
               (omega (arith, count i, alone)) (set_here s.homes i h (omega arith)) now))
@@ -145,7 +145,7 @@ module _ {T : Type 0} where
               (λ (x : (j ≡ id) × (w ≡ u)). subst (Fits shape hs) x.1 mine)
               (λ (x : (j ≢ id) × (get_elem? s.views j ≡ some u)). let f = r.each_view j u x.1 in let none_here : times i u.numbers ≡ 0 = omega (arith, two_of_total (λ z. times i z.numbers) s.views id j v u at x.1 x.0, alone) in record {
                 same_shape = f.same_shape;
-                spent_nothing = f.spent_nothing;
+                void_nothing = f.void_nothing;
                 in_range = subst (λ (z : ℕ). All (λ k. k + 1 < z) u.numbers) (sym same_length) f.in_range;
                 places_home = λ k lists away. set_else s.homes i k h (λ same. absurd (omega (arith, none_here, ap (λ (z : ℕ). times z u.numbers) same))) ∙ f.places_home k lists away;
                 place_out = λ k own. let o = f.place_out k own in let lists = o.0 in (lists, set_else s.homes i k h (λ same. absurd (omega (arith, lists, none_here, ap (λ (z : ℕ). times z u.numbers) same))) ∙ o.1);
@@ -181,7 +181,7 @@ module _ {T : Type 0} where
     still s r id v w at some_share numbers same_moves same_trail = let was = r.logged in let n : ℕ = length s.homes - 1 in (
       was.0,
       log_still n s.words s.views id v w at some_share same_trail was.0 was.1,
-      λ alive. shown_still n s.words s.views id v w at numbers same_moves (events_of {R = T} was.0) (was.2 (none_spent_before s.views id v w at some_share alive)),
+      λ alive. shown_still n s.words s.views id v w at numbers same_moves (events_of {R = T} was.0) (was.2 (none_void_before s.views id v w at some_share alive)),
     )
 
     -- a look that found the item i held goes into the log, and is no event
@@ -190,7 +190,7 @@ module _ {T : Type 0} where
     looks s r id v w i at some_share near word numbers same_moves trail = let was = r.logged in let n : ℕ = length s.homes - 1 in (
       (id, Saw i) ∷ was.0,
       log_look n s.words s.views id i v w at some_share (omega arith) word trail was.0 was.1,
-      λ alive. shown_still n s.words s.views id v w at numbers same_moves (events_of {R = T} was.0) (was.2 (none_spent_before s.views id v w at some_share alive)),
+      λ alive. shown_still n s.words s.views id v w at numbers same_moves (events_of {R = T} was.0) (was.2 (none_void_before s.views id v w at some_share alive)),
     )
 
     -- the same where a word is exchanged for the 1 that it was
@@ -207,7 +207,7 @@ module _ {T : Type 0} where
     own_item s r id i v x at home only = let was = r.each_put i x home in dite (ℕ_discrete was.0 id)
         (λ same. subst (λ (z : Hand T). Contains z.put (i, x)) (some-injective was.1 v (sym was.2 ∙ ap (get_elem? s.views) same ∙ at)) was.3)
         (λ ne. absurd (Contains-none (i, x) (subst (λ l. Contains l (i, x))
-        ((r.each_view was.0 was.1 was.2).spent_nothing (omega (arith, only, two_of_total (λ (z : Hand T). z.shares) s.views id was.0 v was.1 at was.2 ne, r.shares_add))).1 was.3)))
+        ((r.each_view was.0 was.1 was.2).void_nothing (omega (arith, only, two_of_total (λ (z : Hand T). z.shares) s.views id was.0 v was.1 at was.2 ne, r.shares_add))).1 was.3)))
 
     takes_item : (s : St) (r : Rule s) (id i : ℕ) (me : M) → 0 < me.0.shares → me.0.in_hand ≡ None → get_elem? s.views id ≡ some me.0 → i + 1 < length s.homes
         → IsFree shape_of shape (slice_index s.words (i + 1)) (holders i s.views) (get_elem? s.homes i) → Goes s id i me.0 me.1 1 (claimed_at shape_of i me (slice_index s.words (i + 1)))
@@ -224,22 +224,22 @@ module _ {T : Type 0} where
               (let was = r.logged in let m : ℕ = length s.homes - 1 in let wide : i + 1 < length s.words = subst (λ (z : ℕ). i + 1 < z) (sym r.wide) near in (
                 (id, Took i) ∷ was.0,
                 log_take m s.words s.views id i v w at some_share (omega arith) wide word refl was.0 was.1,
-                λ alive. shown_take m s.words s.views id i v w at (omega arith) wide word holding refl refl (events_of {R = T} was.0) (was.2 (none_spent_before s.views id v w at some_share alive)),
+                λ alive. shown_take m s.words s.views id i v w at (omega arith) wide word holding refl refl (events_of {R = T} was.0) (was.2 (none_void_before s.views id v w at some_share alive)),
               ))
               (inr (refl, omega (arith, times-append i v.numbers (i ∷ []), times-same i i refl, nobody))),
           ((λ _. (it.0, it.2 ∙ sym (old.same_shape some_share), nobody, refl, refl, own_item s r id i v it.0 at it.1)), λ ne. absurd (ne word)),
         )
 
-    notes_held : (s : St) (r : Rule s) (id i : ℕ) (me : M) → 0 < me.0.shares → get_elem? s.views id ≡ some me.0 → i + 1 < length s.homes
+    looks_held : (s : St) (r : Rule s) (id i : ℕ) (me : M) → 0 < me.0.shares → get_elem? s.views id ≡ some me.0 → i + 1 < length s.homes
         → IsHeld shape_of shape (slice_index s.words (i + 1)) (holders i s.views) → Goes s id i me.0 me.1 1 (claimed_at shape_of i me (slice_index s.words (i + 1)))
-    notes_held s r id i me some_share at near held = let v : Hand T = me.0 in let w : Hand T = with_note i v in let old = r.each_view id v at in let word = held.0 in (
+    looks_held s r id i me some_share at near held = let v : Hand T = me.0 in let w : Hand T = with_look i v in let old = r.each_view id v at in let word = held.0 in (
       w,
       keeps,
       tt,
       subst (λ (ws : List ℕ). Rule record { words = ws; homes = s.homes; views = set s.views id w }) (sym (same_words s r i near word))
           (viewed s r (set s.views id w) (omega (arith, total-set (λ u. u.shares) s.views id v w at))
-          (omega (arith, total-set (λ u. u.joins) s.views id v w at, total-set spent_once s.views id v w at, r.joins_add, same_spent v w refl)) (λ k. omega (arith, total-set (λ u. times k u.numbers) s.views id v w at))
-          (λ j u e. ⊎_elim (λ (x : (j ≡ id) × (w ≡ u)). subst (Fits shape s.homes) x.1 (record { same_shape = old.same_shape; spent_nothing = old.spent_nothing; in_range = old.in_range; places_home = old.places_home; place_out = old.place_out }))
+          (omega (arith, total-set (λ u. u.joins) s.views id v w at, total-set one_if_void s.views id v w at, r.joins_add, same_void v w refl)) (λ k. omega (arith, total-set (λ u. times k u.numbers) s.views id v w at))
+          (λ j u e. ⊎_elim (λ (x : (j ≡ id) × (w ≡ u)). subst (Fits shape s.homes) x.1 (record { same_shape = old.same_shape; void_nothing = old.void_nothing; in_range = old.in_range; places_home = old.places_home; place_out = old.place_out }))
           (λ (x : (j ≢ id) × (get_elem? s.views j ≡ some u)). r.each_view j u x.1) (at_set s.views id j w u e))
           (λ k x was. put_kept s.views id k x v w at (λ has. has) was)
           (looks s r id v w i at some_share near word refl refl refl)),
@@ -249,7 +249,7 @@ module _ {T : Type 0} where
     pub claims : (n id : ℕ) (me : M) (i : ℕ) → 0 < me.0.shares → me.0.in_hand ≡ None → i + 1 < n → Allows Rule n id me (i + 1) (λ _. 1) (claimed shape_of (step n (i + 1) 1 0 none) me)
     claims n id me i some_share no_place inside s r wide at small = let near : i + 1 < length s.homes = subst (λ (z : ℕ). i + 1 < z) (sym wide) inside in
         subst (λ (j : ℕ). Goes s id i me.0 me.1 1 (claimed_at shape_of j me (slice_index s.words (i + 1)))) (sym (back i))
-        (⊎_elim (takes_item s r id i me some_share no_place at near) (notes_held s r id i me some_share at near) (r.each_item i near))
+        (⊎_elim (takes_item s r id i me some_share no_place at near) (looks_held s r id i me some_share at near) (r.each_item i near))
 
     pub settles : (n id : ℕ) (me : M) (i : ℕ) → 0 < me.0.shares → 0 < times i me.0.numbers → me.0.in_hand ≡ Some i → me.1 ≡ (i, Empty) ∷ rest me.1 → i + 1 < n
         → Allows Rule n id me (i + 1) (λ _. 1) (settled (step n (i + 1) 1 0 none) me)
@@ -294,7 +294,7 @@ module _ {T : Type 0} where
               (let was = r.logged in let m : ℕ = length s.homes - 1 in (
                 (id, Gave i) ∷ was.0,
                 log_give m s.words s.views id i v w at some_share (omega arith) (subst (λ (z : ℕ). i + 1 < z) (sym r.wide) near) one.2 refl was.0 was.1,
-                λ alive. shown_give m s.words s.views id i v w at (omega arith) lists one.0 gone others refl (events_of {R = T} was.0) (was.2 (none_spent_before s.views id v w at some_share alive)),
+                λ alive. shown_give m s.words s.views id i v w at (omega arith) lists one.0 gone others refl (events_of {R = T} was.0) (was.2 (none_void_before s.views id v w at some_share alive)),
               ))
               (inl (refl, gone, (x, refl, same_shape ∙ old.same_shape some_share))),
           ((λ y top. ap (λ (z : T). with_give i z v) (carried_item (rest me.1) (rest me.1) i x y top)), refl),
@@ -303,48 +303,48 @@ module _ {T : Type 0} where
     pub splits : (id : ℕ) (v : Hand T) → 1 < v.shares → Splits Rule id v (less_one v) (newcomer v)
     splits id v two s r at = let l : Hand T = less_one v in let n : Hand T = newcomer v in let vs : List (Hand T) = set s.views id l in let f = r.each_view id v at in
         viewed s r (vs ++ n ∷ []) (omega (arith, total-snoc (λ u. u.shares) vs n, total-set (λ u. u.shares) s.views id v l at))
-        (omega (arith, total-snoc (λ u. u.joins) vs n, total-set (λ u. u.joins) s.views id v l at, total-snoc spent_once vs n, total-set spent_once s.views id v l at, r.joins_add, not_spent v (omega arith), not_spent l (omega arith), not_spent n (omega arith)))
+        (omega (arith, total-snoc (λ u. u.joins) vs n, total-set (λ u. u.joins) s.views id v l at, total-snoc one_if_void vs n, total-set one_if_void s.views id v l at, r.joins_add, not_void v (omega arith), not_void l (omega arith), not_void n (omega arith)))
         (λ k. omega (arith, total-snoc (λ u. times k u.numbers) vs n, total-set (λ u. times k u.numbers) s.views id v l at))
         (λ j u e. ⊎_elim (λ (old : get_elem? vs j ≡ some u). ⊎_elim
-        (λ (h : (j ≡ id) × (l ≡ u)). subst (Fits shape s.homes) h.1 (record { same_shape = λ _. f.same_shape (omega arith); spent_nothing = λ z. absurd (omega arith); in_range = f.in_range; places_home = f.places_home; place_out = f.place_out }))
+        (λ (h : (j ≡ id) × (l ≡ u)). subst (Fits shape s.homes) h.1 (record { same_shape = λ _. f.same_shape (omega arith); void_nothing = λ z. absurd (omega arith); in_range = f.in_range; places_home = f.places_home; place_out = f.place_out }))
         (λ (h : (j ≢ id) × (get_elem? s.views j ≡ some u)). r.each_view j u h.1) (at_set s.views id j l u old))
-        (λ (new : n ≡ u). subst (Fits shape s.homes) new (record { same_shape = λ _. f.same_shape (omega arith); spent_nothing = λ z. absurd (omega arith); in_range = All-nil (λ i. i + 1 < length s.homes); places_home = λ i lists away. absurd (omega arith); place_out = λ i e. absurd (None-ne-Some i e) }))
+        (λ (new : n ≡ u). subst (Fits shape s.homes) new (record { same_shape = λ _. f.same_shape (omega arith); void_nothing = λ z. absurd (omega arith); in_range = All-nil (λ i. i + 1 < length s.homes); places_home = λ i lists away. absurd (omega arith); place_out = λ i e. absurd (None-ne-Some i e) }))
         (at_snoc vs n u j e))
         (λ i x was. let kept = put_kept s.views id i x v l at (λ has. has) was in (kept.0, kept.1, at_longer vs (n ∷ []) kept.0 kept.1 kept.2, kept.3))
         (let was = r.logged in let m : ℕ = length s.homes - 1 in (
           was.0,
           log_split m s.words s.views id v at (omega arith) was.0 was.1,
-          λ alive. shown_split m s.words s.views id v at (events_of {R = T} was.0) (was.2 (none_spent_before_split s.views id v l n at (omega arith) alive)),
+          λ alive. shown_split m s.words s.views id v at (events_of {R = T} was.0) (was.2 (none_void_before_split s.views id v l n at (omega arith) alive)),
         ))
 
     -- who put an item in knows of it after a join
-    put_joined : (s : St) (id other i : ℕ) (x : T) (v w : Hand T) → get_elem? s.views id ≡ some v → ¬ (other ≡ id) → get_elem? s.views other ≡ some w → WasPut i x s.views → WasPut i x (set (set s.views id (together v w)) other spent)
+    put_joined : (s : St) (id other i : ℕ) (x : T) (v w : Hand T) → get_elem? s.views id ≡ some v → ¬ (other ≡ id) → get_elem? s.views other ≡ some w → WasPut i x s.views → WasPut i x (set (set s.views id (together v w)) other void_hand)
     put_joined s id other i x v w at two was_other was = let b : Hand T = together v w in let vs : List (Hand T) = set s.views id b in
-        let here : get_elem? (set vs other spent) id ≡ some b = set_else vs other id spent (λ e. two (sym e)) ∙ set_here s.views id b (within_at s.views id v at) in
+        let here : get_elem? (set vs other void_hand) id ≡ some b = set_else vs other id void_hand (λ e. two (sym e)) ∙ set_here s.views id b (within_at s.views id v at) in
         dite (ℕ_discrete was.0 other)
         (λ e. (id, b, here, Contains-append_right v.put w.put (i, x) (subst (λ (z : Hand T). Contains z.put (i, x)) (some-injective was.1 w (sym was.2 ∙ ap (get_elem? s.views) e ∙ was_other)) was.3)))
         (λ past. dite (ℕ_discrete was.0 id)
         (λ e. (id, b, here, Contains-append_left v.put w.put (i, x) (subst (λ (z : Hand T). Contains z.put (i, x)) (some-injective was.1 v (sym was.2 ∙ ap (get_elem? s.views) e ∙ at)) was.3)))
-        (λ ne. (was.0, was.1, set_else vs other was.0 spent past ∙ set_else s.views id was.0 b ne ∙ was.2, was.3)))
+        (λ ne. (was.0, was.1, set_else vs other was.0 void_hand past ∙ set_else s.views id was.0 b ne ∙ was.2, was.3)))
 
-    pub joins : (id : ℕ) (v : Hand T) (other : ℕ) (w : Hand T) → 0 < v.shares → 0 < w.shares → v.in_hand ≡ None → w.in_hand ≡ None → Joins Rule id v other w (together v w) spent
+    pub joins : (id : ℕ) (v : Hand T) (other : ℕ) (w : Hand T) → 0 < v.shares → 0 < w.shares → v.in_hand ≡ None → w.in_hand ≡ None → Joins Rule id v other w (together v w) void_hand
     joins id v other w some_share some_other free_v free_w s r at two at' = let b : Hand T = together v w in let vs : List (Hand T) = set s.views id b in
         let was : get_elem? s.views other ≡ some w = ⊎_elim (λ (h : (other ≡ id) × (b ≡ w)). absurd (two h.0)) (λ (h : (other ≢ id) × (get_elem? s.views other ≡ some w)). h.1) (at_set s.views id other b w at') in
         let f = r.each_view id v at in let g = r.each_view other w was in
         let mine : Fits shape s.homes b = record {
           same_shape = λ _. f.same_shape some_share;
-          spent_nothing = λ z. absurd (omega arith);
+          void_nothing = λ z. absurd (omega arith);
           in_range = All-append (λ i. i + 1 < length s.homes) v.numbers w.numbers f.in_range g.in_range;
           places_home = λ i lists away. dite (ℕ_discrete (times i v.numbers) 0)
               (λ nothing. g.places_home i (omega (arith, nothing, lists, times-append i v.numbers w.numbers)) (λ e. None-ne-Some i (sym free_w ∙ e)))
               (λ some_times. f.places_home i (omega (arith, some_times)) (λ e. None-ne-Some i (sym free_v ∙ e)));
           place_out = λ i e. absurd (None-ne-Some i (sym free_v ∙ e));
         } in
-        let idle : Fits shape s.homes spent = record { same_shape = λ h. absurd (omega arith); spent_nothing = λ _. (refl, refl, refl); in_range = All-nil (λ i. i + 1 < length s.homes); places_home = λ i lists away. absurd (omega arith); place_out = λ i e. absurd (None-ne-Some i e) } in
-        let sums : (h : Hand T → ℕ) → total h (set vs other spent) + h w + h v ≡ total h s.views + h b + h spent = λ h. omega (arith, total-set h s.views id v b at, total-set h vs other w spent at') in
-        viewed s r (set vs other spent) (omega (arith, sums (λ u. u.shares))) (omega (arith, sums (λ u. u.joins), sums spent_once, r.joins_add, not_spent v some_share, not_spent w some_other, not_spent b (omega arith))) (λ k. omega (arith, sums (λ u. times k u.numbers), times-append k v.numbers w.numbers))
-        (λ j u e. ⊎_elim (λ (h : (j ≡ other) × (spent ≡ u)). subst (Fits shape s.homes) h.1 idle)
+        let idle : Fits shape s.homes void_hand = record { same_shape = λ h. absurd (omega arith); void_nothing = λ _. (refl, refl, refl); in_range = All-nil (λ i. i + 1 < length s.homes); places_home = λ i lists away. absurd (omega arith); place_out = λ i e. absurd (None-ne-Some i e) } in
+        let sums : (h : Hand T → ℕ) → total h (set vs other void_hand) + h w + h v ≡ total h s.views + h b + h void_hand = λ h. omega (arith, total-set h s.views id v b at, total-set h vs other w void_hand at') in
+        viewed s r (set vs other void_hand) (omega (arith, sums (λ u. u.shares))) (omega (arith, sums (λ u. u.joins), sums one_if_void, r.joins_add, not_void v some_share, not_void w some_other, not_void b (omega arith))) (λ k. omega (arith, sums (λ u. times k u.numbers), times-append k v.numbers w.numbers))
+        (λ j u e. ⊎_elim (λ (h : (j ≡ other) × (void_hand ≡ u)). subst (Fits shape s.homes) h.1 idle)
         (λ (h : (j ≢ other) × (get_elem? vs j ≡ some u)). ⊎_elim (λ (k : (j ≡ id) × (b ≡ u)). subst (Fits shape s.homes) k.1 mine) (λ (k : (j ≢ id) × (get_elem? s.views j ≡ some u)). r.each_view j u k.1) (at_set s.views id j b u h.1))
-        (at_set vs other j spent u e))
+        (at_set vs other j void_hand u e))
         (λ i x put. put_joined s id other i x v w at two was put)
-        (r.logged.0, log_join (length s.homes - 1) s.words s.views id other v w at some_share r.logged.0 r.logged.1, λ alive. absurd (some_spent vs other (within_at vs other w at') alive))
+        (r.logged.0, log_join (length s.homes - 1) s.words s.views id other v w at some_share r.logged.0 r.logged.1, λ alive. absurd (some_void vs other (within_at vs other w at') alive))

@@ -47,21 +47,21 @@ module _ {T : Type 0} where
   abbrev pub together : Hand T → Hand T → Hand T
   together v w = record v { shares = v.shares + w.shares; numbers = v.numbers ++ w.numbers; put = v.put ++ w.put; moves = w.moves ++ v.moves; joins = v.joins + w.joins + 1 }
 
-  -- 1 for a view that is spent, and else 0
-  abbrev pub spent_once : Hand T → ℕ
-  spent_once v = if v.shares == 0 then 1 else 0
+  -- 1 for a view that is void, and else 0
+  abbrev pub one_if_void : Hand T → ℕ
+  one_if_void v = if v.shares == 0 then 1 else 0
 
   -- what a seat that was joined leaves behind
-  abbrev pub spent : Hand T
-  spent = record { shares = 0; shape = 0; numbers = []; put = []; moves = []; trail = []; joins = 0; in_hand = None }
+  abbrev pub void_hand : Hand T
+  void_hand = record { shares = 0; shape = 0; numbers = []; put = []; moves = []; trail = []; joins = 0; in_hand = None }
 
   -- the item i was found free and is held now, with its place in hand
   abbrev pub with_claim : ℕ → Hand T → Hand T
   with_claim i v = record v { numbers = v.numbers ++ i ∷ []; put = elsewhere i v.put; moves = Took i ∷ v.moves; trail = Took i ∷ v.trail; in_hand = Some i }
 
   -- the item i was found held
-  abbrev pub with_note : ℕ → Hand T → Hand T
-  with_note i v = record v { trail = Saw i ∷ v.trail }
+  abbrev pub with_look : ℕ → Hand T → Hand T
+  with_look i v = record v { trail = Saw i ∷ v.trail }
 
   -- another place is in hand, or none
   abbrev pub with_place : Option ℕ → Hand T → Hand T

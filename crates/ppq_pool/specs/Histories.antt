@@ -52,7 +52,7 @@ abbrev pub IsTrueLog : Type 0 → ℕ → List (ℕ × Move) → Type 0
 IsTrueLog R seats [] = Unit {0}
 IsTrueLog R seats (m ∷ log) = (m.0 < seats) × MayMove {R = R} m.1 (events_of log) × IsTrueLog R seats log
 
--- Such a log for n items. After it an item is free where its word is 0, and held by somebody where its word is 1. Each view that is not spent has its own moves of the log on its trail, all of them and in their order, so a look stands behind what the seat did before
+-- Such a log for n items. After it an item is free where its word is 0, and held by somebody where its word is 1. Each view that is not void has its own moves of the log on its trail, all of them and in their order, so a look stands after what the seat did before
 pub record ShowsLog (R : Type 0) {T : Type 0} (n : ℕ) (words : List ℕ) (views : List (Hand T)) (log : List (ℕ × Move)) : Type 0 where
   pub is_true : IsTrueLog R (length views) log
   pub is_free : (i : ℕ) → i < n → slice_index words (i + 1) ≡ 0 → buffer_at {R = R} i (events_of log) ≡ Free

@@ -1,7 +1,6 @@
 pub mod Hands
 pub mod Histories
-pub mod Rule
-pub mod Shown
 pub mod Known
-pub mod Idle
+pub mod Rule
 pub mod Seats
+pub mod Shown

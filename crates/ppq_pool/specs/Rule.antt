@@ -12,7 +12,7 @@ use Rattle.ppq_table.specs.Sums.{total, times, all_shares}
 use Rattle.ppq_pool.specs.declared.hand.Hand.{Hand}
 use Rattle.ppq_pool.specs.declared.hand.Move.{Move}
 use Rattle.ppq_pool.specs.Histories.{ShowsHistory, ShowsLog, events_of}
-use Rattle.ppq_pool.specs.Hands.{spent_once, with_claim, with_note, with_place, with_give}
+use Rattle.ppq_pool.specs.Hands.{one_if_void, with_claim, with_look, with_place, with_give}
 
 module _ {T : Type 0} where
   -- how often the views list the item i, all together
@@ -20,22 +20,22 @@ module _ {T : Type 0} where
   holders i views = total (λ v. times i v.numbers) views
 
   -- no two seats were joined
-  abbrev pub NoneSpent : List (Hand T) → Type 0
-  NoneSpent views = (j : ℕ) (v : Hand T) → get_elem? views j ≡ some v → 0 < v.shares
+  abbrev pub NoneVoid : List (Hand T) → Type 0
+  NoneVoid views = (j : ℕ) (v : Hand T) → get_elem? views j ≡ some v → 0 < v.shares
 
   -- A log of all that the seats did and found, in which each look found its item held. Until seats are joined its events are a legal history, which the words and the views show
   abbrev pub HasLog : ℕ → List ℕ → List (Hand T) → Type 0
-  HasLog n words views = (log : List (ℕ × Move)) × ShowsLog T n words views log × (NoneSpent views → ShowsHistory {R = T} n words views (events_of log))
+  HasLog n words views = (log : List (ℕ × Move)) × ShowsLog T n words views log × (NoneVoid views → ShowsHistory {R = T} n words views (events_of log))
 
   -- some view put in the item x with the number i
   abbrev pub WasPut : ℕ → T → List (Hand T) → Type 0
   WasPut i x views = (j : ℕ) × (v : Hand T) × (get_elem? views j ≡ some v) × Contains v.put (i, x)
 
-  -- what the rule says of one view. A view with no share is spent
+  -- what the rule says of one view. A view with no share is void
   pub record Fits (shape : ℕ) (homes : List (Option (Place T))) (v : Hand T) : Type 0 where
     -- it knows the pool's shape
     pub same_shape : 0 < v.shares → v.shape ≡ shape
-    pub spent_nothing : v.shares ≡ 0 → (v.numbers ≡ []) × (v.put ≡ []) × (v.joins ≡ 0)
+    pub void_nothing : v.shares ≡ 0 → (v.numbers ≡ []) × (v.put ≡ []) × (v.joins ≡ 0)
     pub in_range : All (λ i. i + 1 < length homes) v.numbers
     -- the place of an item that it lists is at home, and empty, or it has it in hand
     pub places_home : (i : ℕ) → 0 < times i v.numbers → ¬ (v.in_hand ≡ Some i) → get_elem? homes i ≡ some (some Empty)
@@ -58,8 +58,8 @@ module _ {T : Type 0} where
       pub room_home : (room : Vec T Global) × (get_elem? s.homes (length s.homes - 1) ≡ some (some (Room room))) × IsRoom (length s.homes - 1) room
       -- no share is made or lost, so a seat with all of them is the only one
       pub shares_add : total (λ v. v.shares) s.views ≡ all_shares
-      -- each spent view is counted as a join by one that is not, so no step spends a view unseen
-      pub joins_add : total (λ v. v.joins) s.views ≡ total spent_once s.views
+      -- each void view is counted as a join by one that is not, so no step makes a view void unseen
+      pub joins_add : total (λ v. v.joins) s.views ≡ total one_if_void s.views
       -- each item is free, or just one view lists it
       pub each_item : (i : ℕ) → i + 1 < length s.homes → IsFree (slice_index s.words (i + 1)) (holders i s.views) (get_elem? s.homes i) ⊎ IsHeld (slice_index s.words (i + 1)) (holders i s.views)
       pub each_view : (j : ℕ) (v : Hand T) → get_elem? s.views j ≡ some v → Fits shape s.homes v
@@ -72,7 +72,7 @@ module _ {T : Type 0} where
   abbrev pub claimed_at : (T → ℕ) → ℕ → Me (Place T) (Hand T) → ℕ → Me (Place T) (Hand T) → Type 0
   claimed_at shape_of i m n m' =
       (n ≡ 0 → (x : T) × (shape_of x ≡ m.0.shape) × (times i m.0.numbers ≡ 0) × (m'.0 ≡ with_claim i m.0) × (m'.1 ≡ (i, Item x) ∷ m.1) × (m.0.shares ≡ all_shares → Contains m.0.put (i, x)))
-      × (n ≢ 0 → (n ≡ 1) × (m'.0 ≡ with_note i m.0) × (m'.1 ≡ m.1))
+      × (n ≢ 0 → (n ≡ 1) × (m'.0 ≡ with_look i m.0) × (m'.1 ≡ m.1))
 
   abbrev pub claimed : (T → ℕ) → Step (Place T) → Me (Place T) (Hand T) → ℕ → Me (Place T) (Hand T) → Type 0
   claimed shape_of st m n m' = claimed_at shape_of (st.word - 1) m n m'

@@ -43,7 +43,7 @@ module _ {T : Type 0} where
     pub shares : w.shares ≡ v.shares
     pub shape : w.shape ≡ v.shape
     pub joins : w.joins ≡ v.joins
-    -- behind it on the trail stand the looks that this call made before, and then what stood there
+    -- after it on the trail stand the looks that this call made before, and then what stood there
     pub trail : (looks : List Move) × All IsLook looks × (w.trail ≡ Took i ∷ looks ++ v.trail)
 
   -- One look of its own at each of n items, all after what stood on its trail before, found the item held. Nothing else changed

@@ -11,9 +11,9 @@ use Rattle.ppq_table.specs.Sums.{times}
 use Rattle.ppq_pool.specs.declared.hand.Hand.{Hand}
 use Rattle.ppq_pool.specs.declared.hand.Move.{Move}
 use Rattle.ppq_pool.specs.declared.hand.Move.TheVariants.{Saw}
-use Rattle.ppq_pool.specs.Hands.{first_hand, common_shape, less_one, newcomer, with_claim, with_note, with_place, with_give}
+use Rattle.ppq_pool.specs.Hands.{first_hand, common_shape, less_one, newcomer, with_claim, with_look, with_place, with_give}
 use Rattle.ppq_pool.specs.Histories.{ShowsHistory, ShowsLog, IsOut, events_of, trail_of}
-use Rattle.ppq_pool.specs.Rule.{NoneSpent, PoolRule}
+use Rattle.ppq_pool.specs.Rule.{NoneVoid, PoolRule}
 
 module _ {T : Type 0} (shape_of : T → ℕ) (shape : ℕ) where
   -- the state meets the rule, the seat id has the view v, and i is the number of an item
@@ -27,11 +27,11 @@ module _ (T R : Type 0) where
 
   -- A claim that finds the item free is one Take by its seat, and a clear is one Give. No other step, and no split, is an event. Every state that meets the rule shows a legal history, unless seats were joined
   pub record StepsAreEvents : Type 0 where
-    pub shown : (shape_of : T → ℕ) (shape : ℕ) (s : State (Place T) (Hand T)) → PoolRule shape_of shape s → NoneSpent s.views → (h : List (Event R)) × ShowsWith s s.words s.views h
+    pub shown : (shape_of : T → ℕ) (shape : ℕ) (s : State (Place T) (Hand T)) → PoolRule shape_of shape s → NoneVoid s.views → (h : List (Event R)) × ShowsWith s s.words s.views h
     pub claims : (shape_of : T → ℕ) (shape : ℕ) (s : State (Place T) (Hand T)) (id : ℕ) (v : Hand T) (i : ℕ) (h : List (Event R)) → Stands shape_of shape s id v i → slice_index s.words (i + 1) ≡ 0
         → ShowsWith s s.words s.views h → ShowsWith s (slice_set s.words (i + 1) 1) (slice_set s.views id (with_claim i v)) (Take id i ∷ h)
-    pub notes : (shape_of : T → ℕ) (shape : ℕ) (s : State (Place T) (Hand T)) (id : ℕ) (v : Hand T) (i : ℕ) (h : List (Event R)) → Stands shape_of shape s id v i → slice_index s.words (i + 1) ≡ 1
-        → ShowsWith s s.words s.views h → ShowsWith s (slice_set s.words (i + 1) 1) (slice_set s.views id (with_note i v)) h
+    pub looks : (shape_of : T → ℕ) (shape : ℕ) (s : State (Place T) (Hand T)) (id : ℕ) (v : Hand T) (i : ℕ) (h : List (Event R)) → Stands shape_of shape s id v i → slice_index s.words (i + 1) ≡ 1
+        → ShowsWith s s.words s.views h → ShowsWith s (slice_set s.words (i + 1) 1) (slice_set s.views id (with_look i v)) h
     pub settles_and_reaches : (shape_of : T → ℕ) (shape : ℕ) (s : State (Place T) (Hand T)) (id : ℕ) (v : Hand T) (i : ℕ) (place : Option ℕ) (h : List (Event R)) → Stands shape_of shape s id v i → 0 < times i v.numbers
         → ShowsWith s s.words s.views h → ShowsWith s (slice_set s.words (i + 1) 1) (slice_set s.views id (with_place place v)) h
     pub clears : (shape_of : T → ℕ) (shape : ℕ) (s : State (Place T) (Hand T)) (id : ℕ) (v : Hand T) (i : ℕ) (x : T) (h : List (Event R)) → Stands shape_of shape s id v i → 0 < times i v.numbers
@@ -39,7 +39,7 @@ module _ (T R : Type 0) where
     pub splits : (s : State (Place T) (Hand T)) (id : ℕ) (v : Hand T) (h : List (Event R)) → get_elem? s.views id ≡ some v
         → ShowsWith s s.words s.views h → ShowsWith s s.words (slice_set s.views id (less_one v) ++ newcomer v ∷ []) h
 
--- In every state that meets the rule there is one true log of all steps so far. Each look on the trail of a seat that is not spent stands in it: what this seat did before it is what stands behind it on the trail, and at that moment somebody held the item
+-- In every state that meets the rule there is one true log of all steps so far. Each look on the trail of a seat that is not void stands in it: what this seat did before it is what stands after it on the trail, and at that moment somebody held the item
 abbrev pub LooksAreTrue : Type 0 → Type 0
 LooksAreTrue T = (shape_of : T → ℕ) (shape : ℕ) (s : State (Place T) (Hand T)) → PoolRule shape_of shape s
     → (log : List (ℕ × Move)) × ShowsLog T (length s.homes - 1) s.words s.views log
@@ -61,4 +61,4 @@ NoBlindLookAlone T = (shape_of : T → ℕ) (shape : ℕ) (s : State (Place T) (
 -- Where no seat that has shares counts a join, no seats were joined, so words and views show a legal history
 abbrev pub JoinsAreCounted : Type 0 → Type 0
 JoinsAreCounted T = (shape_of : T → ℕ) (shape : ℕ) (s : State (Place T) (Hand T)) → PoolRule shape_of shape s
-    → ((j : ℕ) (v : Hand T) → get_elem? s.views j ≡ some v → 0 < v.shares → v.joins ≡ 0) → NoneSpent s.views
+    → ((j : ℕ) (v : Hand T) → get_elem? s.views j ≡ some v → 0 < v.shares → v.joins ≡ 0) → NoneVoid s.views

@@ -11,9 +11,10 @@ pub fn steps_are_events<T, R>()
     ensures joins { JoinsAreCounted T }
 {}
 
-/// The law of looks: whoever notes that it found an item held looked while somebody held it, after
-/// all that it did before. In a new pool, and as long as one seat has been alone, no step may note a
-/// free item as held. It does nothing.
+/// The law of looks, as clauses for the proof of whoever calls it, and for a reader: a look on a
+/// seat's trail, which found an item held, was made while somebody held it, after all that the seat
+/// did before. In a new pool, and as long as one seat has been alone, no step may put a look at a
+/// free item on a trail. It does nothing.
 #[inline]
 pub fn looks_are_true<T>()
     ensures looks { LooksAreTrue T }

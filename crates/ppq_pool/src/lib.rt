@@ -13,10 +13,8 @@
 //! that found an item held.
 #![tactic(auto)]
 
-mod ending;
 mod hand;
 mod laws;
-mod moving;
 mod plays;
 mod pool;
 mod rule;

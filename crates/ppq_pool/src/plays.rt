@@ -1,11 +1,11 @@
-//! What each kind of step tells the seat that makes it.
+//! The kinds of step, and what each tells the seat that makes it.
 
 use crate::{Hand, Shaped};
 use atomic_table::{Join, Play, Split};
 use ppq_table::Place;
 
 // The word of an item is exchanged for 1. A free item's place comes into the hands.
-pub struct Claims;
+pub(crate) struct Claims;
 
 impl<T: Shaped> Play<Place<T>, Hand<T>> for Claims {
     ghost use Rattle.ppq_pool.specs.Rule.{claimed};
@@ -14,7 +14,7 @@ impl<T: Shaped> Play<Place<T>, Hand<T>> for Claims {
 }
 
 // The word stays 1, and the empty place goes home.
-pub struct Settles;
+pub(crate) struct Settles;
 
 impl<T> Play<Place<T>, Hand<T>> for Settles {
     ghost use Rattle.ppq_pool.specs.Rule.{settled};
@@ -23,7 +23,7 @@ impl<T> Play<Place<T>, Hand<T>> for Settles {
 }
 
 // The word stays 1, and the empty place comes into the hands.
-pub struct Reaches;
+pub(crate) struct Reaches;
 
 impl<T> Play<Place<T>, Hand<T>> for Reaches {
     ghost use Rattle.ppq_pool.specs.Rule.{reached};
@@ -32,7 +32,7 @@ impl<T> Play<Place<T>, Hand<T>> for Reaches {
 }
 
 // The word is exchanged for 0, and the place goes home with its item.
-pub struct Clears;
+pub(crate) struct Clears;
 
 impl<T> Play<Place<T>, Hand<T>> for Clears {
     ghost use Rattle.ppq_pool.specs.Rule.{cleared};
@@ -41,7 +41,7 @@ impl<T> Play<Place<T>, Hand<T>> for Clears {
 }
 
 // One share goes to a new seat.
-pub struct OneShare;
+pub(crate) struct OneShare;
 
 impl<T> Split<Hand<T>> for OneShare {
     ghost use Rattle.ppq_pool.specs.Hands.{less_one, newcomer};
@@ -52,12 +52,12 @@ impl<T> Split<Hand<T>> for OneShare {
 }
 
 // One seat takes over what the other has.
-pub struct Together;
+pub(crate) struct Together;
 
 impl<T> Join<Hand<T>> for Together {
-    ghost use Rattle.ppq_pool.specs.Hands.{spent, together};
+    ghost use Rattle.ppq_pool.specs.Hands.{together, void_hand};
 
     ghost both = { together };
 
-    ghost spent = { spent };
+    ghost spent = { void_hand };
 }

@@ -5,8 +5,8 @@ use atomic_table::TableRule;
 use ppq_table::Place;
 use std::snapshot::Snapshot;
 
-// The table is told the items that it begins with.
-pub struct HeldOnce;
+// Each item is held by one seat at most. The table is told the items that it begins with.
+pub(crate) struct HeldOnce;
 
 impl<T: Shaped> TableRule<Place<T>, Hand<T>, Snapshot<Vec<T>>> for HeldOnce {
     ghost use Rattle.ppq_pool.specs.Hands.{first_hand, common_shape};

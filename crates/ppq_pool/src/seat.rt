@@ -14,13 +14,11 @@ pub struct PoolSeat<T> {
 }
 
 impl<T> Model for PoolSeat<T> {
-    ghost use Rattle.ppq_pool.specs.Known.{Known};
+    ghost use Rattle.ppq_pool.specs.Known.{IsBetweenCalls, Known};
 
     ghost Value = { Known T };
 
-    ghost use Rattle.ppq_pool.specs.Idle.{IsIdle};
-
     ghost view = { λ s. record { pool = s.seat.table_id; pass = s.seat.id; hand = s.seat.me.0 } };
 
-    ghost invariant = { λ s. IsIdle s.seat };
+    ghost invariant = { λ s. IsBetweenCalls s.seat };
 }

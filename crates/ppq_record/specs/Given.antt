@@ -16,7 +16,7 @@ records_of bytes = records_from pair_of 16 (length bytes / 16) bytes
 abbrev pub next_seed : ℕ → ℕ
 next_seed x = (x * 6364136223846793005 + 1442695040888963407) % 2 ^ 64
 
--- n generated records from number i on: the keys are the seeds behind x, the values the numbers
+-- n generated records from number i on: the keys are the seeds after x, the values the numbers
 abbrev pub generated_from : ℕ → ℕ → ℕ → List Pair
 generated_from x i zero = []
 generated_from x i (suc n) = record { key = next_seed x; value = i } ∷ generated_from (next_seed x) (i + 1) n

@@ -21,7 +21,7 @@ Rising lt (x ∷ xs) = Each (Le lt x) xs × Rising lt xs
 abbrev pub Ascends : {R : Type 0} → (R → R → Ordering) → List R → Type 0
 Ascends cmp xs = Rising (is_before cmp) xs
 
--- an item put before the first that it is not after
+-- an item inserted in front of the first that it is not after
 unfoldable pub put_in_order : {X : Type 0} → (X → X → Bool) → X → List X → List X
 put_in_order lt y [] = y ∷ []
 put_in_order lt y (x ∷ xs) = cond (lt x y) (x ∷ put_in_order lt y xs) (y ∷ x ∷ xs)

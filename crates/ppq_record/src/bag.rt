@@ -14,8 +14,8 @@ pub fn one_front<R: Record>()
     record_laws::<R>();
 }
 
-/// Puts records into ascending order in place. It takes about `n log n` comparisons and no memory;
-/// std's unstable sort serves, since equal records are identical.
+/// Sorts records in place, in ascending order. It takes about `n log n` comparisons and does not
+/// allocate; std's unstable sort serves, since equal records are identical.
 pub fn sort<R: Record>(records: &mut [R])
     ensures { records.new ≡ ascending R.Ord.cmp records.old }
 {

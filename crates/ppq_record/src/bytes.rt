@@ -29,8 +29,8 @@ pub fn take_at<R: Record>(bytes: &[u8], i: usize) -> R
     R::take(&bytes[at..at + R::WIDTH])
 }
 
-/// The law of blocks, as a clause for the proof of whoever calls it: records that were put one after
-/// the other, whatever follows, are taken back as they were. It does nothing.
+/// The law of blocks, as a clause for the proof of whoever calls it, and for a reader: records that
+/// were put one after the other, whatever follows, are taken back as they were. It does nothing.
 #[inline]
 pub fn taken_back<R: Record>()
     ensures { (items : List _) (rest : List ℕ) → All R.is_value items → records_from R.record_of R.WIDTH (length items) (flat_map R.bytes_of items ++ rest) ≡ items }

@@ -18,7 +18,7 @@ mod tests;
 
 pub use bag::{one_front, sort};
 pub use bytes::{put_all, take_at, taken_back};
-pub use least::{ascends, is_least};
+pub use least::is_least;
 pub use listing::Listing;
 pub use lists::Lists;
 pub use memory::Memory;

@@ -1,7 +1,10 @@
-//! Want of memory.
+//! A failed allocation.
 use std::alloc::{AllocError, AllocFailed};
 
-/// The answer of a call that wanted memory and got none.
+/// The answer of a call whose allocation failed.
+///
+/// The crates over records have this one. `ppq_outside` uses no other crate, so it has one of its own
+/// that says the same.
 #[derive(Clone, Copy, Debug, PartialEq, Eq)]
 pub struct Memory;
 

@@ -74,7 +74,7 @@ impl Record for Pair {
     ghost width = { (lit≤ tt, lit≤ tt) };
 }
 
-/// Key and value as one number, which has the order of the pair.
+// Key and value as one number, which has the order of the pair.
 #[inline]
 fn joined(pair: Pair) -> u128
     ensures number { result ≡ pair.key * 2 ^ 64 + pair.value }
@@ -83,7 +83,7 @@ fn joined(pair: Pair) -> u128
     u128::from(pair.key) * 18446744073709551616 + u128::from(pair.value)
 }
 
-/// One of two numbers, chosen with no branch.
+// One of two numbers, chosen with no branch.
 #[inline]
 fn choose(is_other: bool, one: u64, other: u64) -> u64
     ensures { result ≡ (if is_other then other else one) }

@@ -6,8 +6,8 @@ ghost use Rattle.ppq_record.specs.Order.{is_before};
 
 /// A value of `WIDTH` bytes, from 1 to 64, with a total order.
 ///
-/// Bytes and values are inverse both ways, and two values are equal exactly where their bytes are,
-/// which is exactly where the order calls them equal.
+/// Bytes and values are inverse both ways, and two values are equal if and only if their bytes are,
+/// which is if and only if the order calls them equal.
 pub trait Record: Copy + Ord {
     /// How many bytes a record has, from 1 to 64.
     const WIDTH: usize;

@@ -1,7 +1,8 @@
 //! Records, their bytes, their order and their fronts, at pairs.
+use crate::least::ascends;
 use crate::{
-    Listing, Lists, Pair, Record, ascends, is_least, one_front, pair_order, put_all, record_laws,
-    sort, take_at, taken_back,
+    Listing, Lists, Pair, Record, is_least, one_front, pair_order, put_all, record_laws, sort,
+    take_at, taken_back,
 };
 use std::alloc::Global;
 use std::test::Fail;

@@ -36,7 +36,7 @@ module _ {T : Type 0} where
     within = omega arith;
     budget = omega arith;
     shown = shows T (length xs) 0 (first_hand xs ∷ []) once;
-    each_view = at_only (Fits xs 0) (first_hand xs) (record { same_items = λ _. refl; spent_bare = λ z. absurd (omega arith); all_drawn = λ e. absurd (true≢false (sym e)); behind = All-nil (λ p. p < 0) });
+    each_view = at_only (Fits xs 0) (first_hand xs) (record { same_items = λ _. refl; void_bare = λ z. absurd (omega arith); all_drawn = λ e. absurd (true≢false (sym e)); behind = All-nil (λ p. p < 0) });
   })
 
   -- what the last seat knows once the row is closed, with the counter at d
@@ -50,7 +50,7 @@ module _ {T : Type 0} where
   ended xs id v ws ps d all final word = let s = final.0 in let r : RowRule xs s = final.1.0 in let at = final.1.1 in let mine = r.each_view id v at in let c : ℕ = counter s in
       let same : v.items ≡ xs = mine.same_items (omega arith) in let here : c ≡ d = ap (λ (l : List ℕ). slice_index l 0) final.2 ∙ first_word ws d word in
       let alone : (x : ℕ) → times x v.places ≡ once_below x (min c (length xs)) = λ x.
-      sym (total_alone (λ u. u.shares) (λ u. times x u.places) s.views id v at (λ j u e z. ap (λ (h : Hand T). times x h.places) ((r.each_view j u e).spent_bare z)) (r.shares_add ∙ sym all)) ∙ r.each_once x in
+      sym (total_alone (λ u. u.shares) (λ u. times x u.places) s.views id v at (λ j u e z. ap (λ (h : Hand T). times x h.places) ((r.each_view j u e).void_bare z)) (r.shares_add ∙ sym all)) ∙ r.each_once x in
       let long : length v.places ≡ min c (length xs) = listed_once v.places c (min c (length xs)) (omega arith) mine.behind alone in
       let len : length v.items ≡ length xs = ap length same in let wide : length ps ≡ length v.items + 1 = sym final.3 ∙ r.wide ∙ ap (λ (n : ℕ). n + 1) (sym len) in
       let rest : (i : ℕ) (x : T) → d ≤ i → get_elem? v.items i ≡ some x → get_elem? ps i ≡ some (Item x) = λ i x le e.

@@ -10,7 +10,7 @@ use Rattle.ppq_table.proofs.Numbers.{times-append, times-same, times-other, once
 use Rattle.ppq_core.specs.declared.event.Event.{Event}
 use Rattle.ppq_core.specs.declared.event.Event.TheVariants.{Draw}
 use Rattle.ppq_row.specs.declared.hand.Hand.{Hand}
-use Rattle.ppq_row.specs.Hands.{less_one, newcomer, spent_once, with_place, with_none}
+use Rattle.ppq_row.specs.Hands.{less_one, newcomer, one_if_void, with_place, with_none}
 use Rattle.ppq_row.specs.Histories.{draws_of}
 use Rattle.ppq_row.specs.Rule.{counter, NeverWraps}
 use Rattle.ppq_row.specs.Shown.{StepsAreEvents, NotesAreTrue, JoinsAreCounted}
@@ -54,11 +54,11 @@ notes_are_true T R items s j v r at noted = let end : length items ≤ counter s
 
 pub joins_are_counted : (T : Type 0) → JoinsAreCounted T
 joins_are_counted T items s r none j v e = dite (ℕ_discrete v.shares 0)
-    (λ z. absurd (let one : spent_once v ≡ 1 = ap (λ b. cond b 1 0) (eq-eqb v.shares 0 z) in omega (arith, one, nobody, r.joins_add, one_of_total spent_once s.views j v e)))
+    (λ z. absurd (let one : one_if_void v ≡ 1 = ap (λ b. cond b 1 0) (eq-eqb v.shares 0 z) in omega (arith, one, nobody, r.joins_add, one_of_total one_if_void s.views j v e)))
     (λ ne. omega arith)
   where
     nobody : total (λ (v : Hand T). v.joins) s.views ≡ 0
-    nobody = total_zero (λ (v : Hand T). v.joins) s.views (λ j v e. dite (ℕ_discrete v.shares 0) (λ z. ap (λ (h : Hand T). h.joins) ((r.each_view j v e).spent_bare z)) (λ ne. none j v e (omega arith)))
+    nobody = total_zero (λ (v : Hand T). v.joins) s.views (λ j v e. dite (ℕ_discrete v.shares 0) (λ z. ap (λ (h : Hand T). h.joins) ((r.each_view j v e).void_bare z)) (λ ne. none j v e (omega arith)))
 
 -- each share counts one None at most
 pub never_wraps : (T : Type 0) → NeverWraps T

@@ -16,7 +16,7 @@ module _ {T : Type 0} where
   abbrev pub newcomer : Hand T → Hand T
   newcomer v = record { shares = 1; nones = 0; noted = v.noted; places = []; items = v.items; joins = 0 }
 
-  -- all that a seat knows, in another view. The old one is spent
+  -- all that a seat knows, in another view. The old one is void
   abbrev pub moved : Hand T → Hand T
   moved v = record v { joins = v.joins + 1 }
 
@@ -25,12 +25,12 @@ module _ {T : Type 0} where
   together v w = record v { shares = v.shares + w.shares; nones = v.nones + w.nones; noted = v.noted || w.noted; places = v.places ++ w.places; joins = v.joins + w.joins + 1 }
 
   -- what is left of a view whose seat has another view now, or was joined
-  abbrev pub spent : Hand T
-  spent = record { shares = 0; nones = 0; noted = false; places = []; items = []; joins = 0 }
+  abbrev pub void_hand : Hand T
+  void_hand = record { shares = 0; nones = 0; noted = false; places = []; items = []; joins = 0 }
 
-  -- 1 for a view that is spent, and else 0
-  abbrev pub spent_once : Hand T → ℕ
-  spent_once v = if v.shares == 0 then 1 else 0
+  -- 1 for a view that is void, and else 0
+  abbrev pub one_if_void : Hand T → ℕ
+  one_if_void v = if v.shares == 0 then 1 else 0
 
   -- one place more
   abbrev pub with_place : ℕ → Hand T → Hand T

@@ -10,7 +10,7 @@ use Rattle.ppq_table.specs.declared.place.Place.TheVariants.{Item, Room}
 use Rattle.ppq_table.specs.Places.{IsRoom}
 use Rattle.ppq_table.specs.Sums.{all_shares, total, times, once_below}
 use Rattle.ppq_row.specs.declared.hand.Hand.{Hand}
-use Rattle.ppq_row.specs.Hands.{spent, spent_once, open_shares, with_place, with_none}
+use Rattle.ppq_row.specs.Hands.{void_hand, one_if_void, open_shares, with_place, with_none}
 use Rattle.ppq_row.specs.Histories.{IsShown}
 
 module _ {T : Type 0} where
@@ -20,9 +20,9 @@ module _ {T : Type 0} where
 
   -- what the rule says of one view, with the counter at c
   pub record Fits (items : List T) (c : ℕ) (v : Hand T) : Type 0 where
-    -- a view with shares carries the items as they were put in; one with none is spent
+    -- a view with shares carries the items as they were put in; one with none is void
     pub same_items : 0 < v.shares → v.items ≡ items
-    pub spent_bare : v.shares ≡ 0 → v ≡ spent
+    pub void_bare : v.shares ≡ 0 → v ≡ void_hand
     -- a noted end was reached
     pub all_drawn : v.noted ≡ true → length items ≤ c
     pub behind : All (λ p. p < c) v.places
@@ -36,8 +36,8 @@ module _ {T : Type 0} where
     pub room_home : (room : Vec T Global) × (get_elem? s.homes (length items) ≡ some (some (Room room))) × IsRoom (length items) room
     -- no share is made or lost
     pub shares_add : total (λ v. v.shares) s.views ≡ all_shares
-    -- each spent view is counted as a join by one that is not, so no step spends a view unseen
-    pub joins_add : total (λ v. v.joins) s.views ≡ total spent_once s.views
+    -- each void view is counted as a join by one that is not, so no step makes a view void unseen
+    pub joins_add : total (λ v. v.joins) s.views ≡ total one_if_void s.views
     -- each place below both the counter and the count of items is listed once, and no other place
     pub each_once : (x : ℕ) → total (λ v. times x v.places) s.views ≡ once_below x (min (counter s) (length items))
     -- so the counter cannot wrap: past the items it counts Nones, of which each share has at most one
@@ -58,9 +58,9 @@ module _ {T : Type 0} where
       × (n < length m.0.items → (x : T) × Found m.0 n x m'.0 × (m'.1 ≡ (n, Item x) ∷ m.1))
       × (length m.0.items ≤ n → (m'.0 ≡ with_none m.0) × (m'.1 ≡ m.1))
 
--- no view is spent: no seats were joined, and each has the view that it began with
-abbrev pub NoneSpent : {T : Type 0} → List (Hand T) → Type 0
-NoneSpent {T} views = (j : ℕ) (v : Hand T) → get_elem? views j ≡ some v → 0 < v.shares
+-- no view is void: no seats were joined, and each has the view that it began with
+abbrev pub NoneVoid : {T : Type 0} → List (Hand T) → Type 0
+NoneVoid {T} views = (j : ℕ) (v : Hand T) → get_elem? views j ≡ some v → 0 < v.shares
 
 -- in each state that meets the rule the counter is far below its end
 abbrev pub NeverWraps : Type 0 → Type 0

@@ -10,7 +10,7 @@ use Rattle.ppq_core.specs.History.{draws}
 use Rattle.ppq_row.specs.declared.hand.Hand.{Hand}
 use Rattle.ppq_row.specs.Hands.{less_one, newcomer, with_place, with_none}
 use Rattle.ppq_row.specs.Histories.{draws_of, IsShown}
-use Rattle.ppq_row.specs.Rule.{counter, NoneSpent, RowRule}
+use Rattle.ppq_row.specs.Rule.{counter, NoneVoid, RowRule}
 
 -- the history that a state shows
 abbrev pub shown : {T R : Type 0} → List T → State (Place T) (Hand T) → List (Event R)
@@ -36,7 +36,7 @@ abbrev pub NotesAreTrue : Type 0 → Type 0 → Type 0
 NotesAreTrue T R = (items : List T) (s : State (Place T) (Hand T)) (j : ℕ) (v : Hand T) → RowRule items s → get_elem? s.views j ≡ some v → v.noted ≡ true
     → (length items ≤ counter s) × (draws (shown {R = R} items s) ≡ length items)
 
--- where no seat that has shares counts a join, no view is spent: who drew a place is the pass that drew it in the history, for good
+-- where no seat that has shares counts a join, no view is void: who drew a place is the pass that drew it in the history, for good
 abbrev pub JoinsAreCounted : Type 0 → Type 0
 JoinsAreCounted T = (items : List T) (s : State (Place T) (Hand T)) → RowRule items s
-    → ((j : ℕ) (v : Hand T) → get_elem? s.views j ≡ some v → 0 < v.shares → v.joins ≡ 0) → NoneSpent s.views
+    → ((j : ℕ) (v : Hand T) → get_elem? s.views j ≡ some v → 0 < v.shares → v.joins ≡ 0) → NoneVoid s.views

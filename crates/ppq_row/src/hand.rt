@@ -3,7 +3,7 @@ use std::collections::LinkedList;
 
 /// What a seat knows of its row: its view, in proofs alone. No value of it is made.
 pub struct Hand<T> {
-    /// Its part of the 2^32 shares. A view with none is spent.
+    /// How many of the row's `2^32` shares it has. A view with none is void.
     pub shares: u64,
     /// How many of its draws found the end of the row.
     pub nones: u64,
@@ -13,7 +13,7 @@ pub struct Hand<T> {
     pub places: LinkedList<u64>,
     /// The items as they were put into the row.
     pub items: LinkedList<T>,
-    /// How many views were spent to make it: two for each seat that was joined, its own and the
+    /// How many views became void to make it: two for each seat that was joined, its own and the
     /// one in which it left the places that it had in hand.
     pub joins: u64,
 }

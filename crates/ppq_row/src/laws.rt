@@ -2,8 +2,8 @@
 ghost use Rattle.ppq_row.specs.Rule.{NeverWraps};
 ghost use Rattle.ppq_row.specs.Shown.{StepsAreEvents, NotesAreTrue, JoinsAreCounted};
 
-/// The law of the counter, as a clause for the proof of whoever calls it: it stays below 2^33,
-/// however many seats draw and however often. It does nothing.
+/// The law of the counter, as a clause for the proof of whoever calls it, and for a reader: it
+/// stays below 2^33, however many seats draw and however often. It does nothing.
 #[inline]
 pub fn counter_never_wraps<T>()
     ensures { NeverWraps T }

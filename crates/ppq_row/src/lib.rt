@@ -2,8 +2,8 @@
 //!
 //! Any number of threads draw, each with a seat of its own. A draw adds one to the counter, and the
 //! number that it found is the place of the item that it gets. Nobody waits, nothing is locked, and
-//! a draw takes no memory. Once all seats are joined, the last one closes the row and has the items
-//! that were not drawn.
+//! a draw does not allocate. Once all seats are joined, the last one closes the row and has the
+//! items that were not drawn.
 //!
 //! What holds between any two steps of any threads is the rule in `specs/Rule`: each place below
 //! the counter stands in the view of exactly one seat, and the counter cannot wrap
@@ -20,6 +20,7 @@
 
 mod hand;
 mod laws;
+mod plays;
 mod row;
 mod rule;
 mod seat;
@@ -29,5 +30,4 @@ mod tests;
 pub use hand::Hand;
 pub use laws::{counter_never_wraps, steps_are_events};
 pub use row::Row;
-pub use rule::DrawnOnce;
 pub use seat::RowSeat;

@@ -4,8 +4,9 @@ ghost use Rattle.ppq_table.specs.Sums.{all_shares, times, once_below};
 ghost use Rattle.ppq_row.specs.Hands.{first_hand, less_one, newcomer, moved, together};
 ghost use Rattle.ppq_row.specs.Seats.{IsSeatOf, Drew, NoneLeft};
 
-use crate::rule::{Draws, Moved, OneShare, Together};
-use crate::{DrawnOnce, Hand, RowSeat};
+use crate::plays::{Draws, Moved, OneShare, Together};
+use crate::rule::DrawnOnce;
+use crate::{Hand, RowSeat};
 use atomic_table::{Refused, Seat, Table};
 use ppq_record::Memory;
 use ppq_table::{Place, items_from, lay, unlay};
@@ -37,7 +38,7 @@ impl<T> Model for Row<T> {
 impl<T: Drop> Row<T> {
     /// A row of the items, and the seat that has all its 2^32 shares.
     ///
-    /// `Err` gives the items back as they were; it comes for want of memory alone.
+    /// `Err` gives the items back as they were; it is returned only if an allocation failed.
     pub fn new(alloc: Global, items: Vec<T>) -> Result<(Row<T>, RowSeat<T>), (Vec<T>, Memory)>
         requires { vec_len items < 4294967296 }
         ensures seat { IfOk result (λ r. IsSeatOf r.0 r.1 × (r.1.pass ≡ 0) × (r.1.hand ≡ first_hand items.items)) }

@@ -28,11 +28,11 @@ nothing (x ∷ xs) e = absurd (omega (arith, e))
 
 module _ {S R : Type 0} (cmp : R → R → Ordering) (record_of : List ℕ → R) (width block : ℕ) (shown : S → Shown) where
   pub blocks_stored :
-      (sorted : List R) (old new : PassBody S R) (o d r : Stock) (slots0 : List (DeviceBlock S R)) (runs : List (Run R)) (array : External S R) → DrewSlots shown width o d slots0 → r.drawn ≡ d.drawn
+      (sorted : List R) (old new : PassBody S R) (o d r : Stock) (slots0 : List (DeviceBlock S R)) (runs : List (Run R)) (array : External S R) → DrewSlots shown width o d slots0 → r.drawn ≡ d.drawn → r.kept ≡ d.kept
       → Writing cmp record_of width block shown slots0 old.runs.internal.items sorted [] runs [] array → block ≡ o.block → length slots0 * block < length sorted + length (internal_items old.runs.internal.items) + block → RunsAscend cmp shown sorted old o
       → new.runs.internal.items ≡ [] → new.runs.external.items ≡ old.runs.external.items ++ array ∷ []
       → BlocksStored cmp record_of width shown sorted old new o r
-  blocks_stored sorted old new o d r slots0 runs array drew drawn writing same least up none more =
+  blocks_stored sorted old new o d r slots0 runs array drew drawn same_kept writing same least up none more =
       let items = internal_items old.runs.internal.items in
       let left = left_in runs [] in
       let z : 0 * block ≡ 0 = omega arith in
@@ -59,6 +59,7 @@ module _ {S R : Type 0} (cmp : R → R → Ordering) (record_of : List ℕ → R
         blocks = subst (λ b. length array.stored * b < size_of array + b) same few;
         packed = subst (λ b. IsPacked b array.stored) same writing.packed;
         written = writing.written;
+        kept = omega (arith, ap length same_kept, drew.left, long);
         internal = none;
         external = more;
       }
@@ -90,6 +91,7 @@ module _ {S R : Type 0} (cmp : R → R → Ordering) (record_of : List ℕ → R
           blocks = subst (λ b. length blocks.array.stored * b < size_of blocks.array + b) same_block blocks.blocks;
           packed = subst (λ b. IsPacked b blocks.array.stored) same_block blocks.packed;
           written = blocks.written;
+          kept = omega (arith, blocks.kept, ap length kept);
           internal = blocks.internal;
           external = blocks.external;
         };

@@ -43,6 +43,7 @@ pub record DrawsOne (now : Stock) (slot : Shown) (next : Stock) : Type 0 where
   pub sums : (f : Shown → ℕ) → sum_by f now.kept + sum_by f next.drawn ≡ f slot + sum_by f next.kept + sum_by f now.drawn
   pub stock : next ≡ record now { kept = next.kept; drawn = next.drawn; slot_room = now.slot_room + 1 }
   pub sure : length now.kept ≤ 1 + length next.kept
+  pub left : length next.kept ≡ length now.kept - 1
 
 draws_from : (kept : List Shown) (now : Stock) (slot : Shown) (next : Stock) → now.kept ≡ kept → DrawsFrom kept now slot next → DrawsOne now slot next
 draws_from [] now slot next e draws =
@@ -52,6 +53,7 @@ draws_from [] now slot next e draws =
       sums = λ f. omega (arith, ap (sum_by f) kept, ap (sum_by f) drawn, sum_by-append f now.drawn (slot ∷ []), sum_by-cons f slot []);
       stock = draws ∙ ap₂ (λ k d. record now { kept = k; drawn = d; slot_room = now.slot_room + 1 }) (sym kept) (sym drawn);
       sure = omega (arith, ap length kept);
+      left = omega (arith, ap length kept, ap length e);
     }
 draws_from (first ∷ rest) now slot next e draws =
     let kept : next.kept ≡ rest = ap (λ s. s.kept) draws.1 in
@@ -61,6 +63,7 @@ draws_from (first ∷ rest) now slot next e draws =
       sums = λ f. omega (arith, ap (sum_by f) kept, ap (sum_by f) drawn, ap (sum_by f) e, sum_by-cons f first rest, ap f draws.0);
       stock = draws.1 ∙ ap₂ (λ k d. record now { kept = k; drawn = d; slot_room = now.slot_room + 1 }) (sym kept) (sym drawn);
       sure = omega (arith, long, ap length kept);
+      left = omega (arith, long, ap length kept);
     }
 
 pub draws_one : (now : Stock) (slot : Shown) (next : Stock) → DrawsSlot now slot next → DrawsOne now slot next
@@ -94,4 +97,5 @@ module _ {S R : Type 0} (shown : S → Shown) (width : ℕ) where
         sizes = All-push (HasSize shown (old.block * width)) berths b drew.sizes (size ∙ ap (λ k. k * width) block);
         stock = one.stock ∙ ap₂ (λ (s : Stock) (r : ℕ). with_drawn s next.kept next.drawn r) drew.stock room;
         sure = omega (arith, one.sure, drew.sure, length-append berths (b ∷ []));
+        left = omega (arith, one.left, drew.left, length-append berths (b ∷ []));
       }

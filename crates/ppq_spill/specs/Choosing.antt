@@ -6,14 +6,14 @@ use Rattle.ppq_record.specs.Bag.{first_of}
 use Rattle.ppq_array.specs.Run.{Run, items_of}
 
 module _ {R : Type 0} where
-  -- the first record of the run at a place; behind all runs that of a list; and none behind that
+  -- the first record of the run at a place; after all runs that of a list; and none after that
   abbrev pub first_at : List (Run R) → List R → ℕ → Option R
   first_at [] rest zero = first_of rest
   first_at [] rest (suc i) = None
   first_at (run ∷ runs) rest zero = first_of (items_of run)
   first_at (run ∷ runs) rest (suc i) = first_at runs rest i
 
-  -- each leaf of the tree has the first record of its run; the leaf behind them that of the list; and the others none
+  -- each leaf of the tree has the first record of its run; the leaf after them that of the list; and the others none
   abbrev pub HasHeads : List (Run R) → List R → List (Option R) → Type 0
   HasHeads runs rest tree = (leaf : ℕ) → get_or tree leaf None ≡ first_at runs rest leaf
 

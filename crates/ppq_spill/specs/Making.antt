@@ -57,7 +57,7 @@ module _ {S R : Type 0} where
   abbrev pub AllFit : ℕ → List (DeviceBlock S R) → Type 0
   AllFit block blocks = All (λ (b : DeviceBlock S R). b.count ≤ block) blocks
 
-  -- these blocks were written behind those that were made, and nothing else has changed but the slots that are at hand
+  -- these blocks were written after those that were made, and nothing else has changed but the slots that are at hand
   pub record Wrote (shown : S → Shown) (bytes : ℕ) (old new : Hand S R) (blocks : List (DeviceBlock S R)) : Type 0 where
     pub made : new.made ≡ external old.made.level old.made.loaded old.made.lifted (old.made.stored ++ blocks)
     pub went : Went (length blocks) 0 (hand_slots shown old) (hand_slots shown new)
@@ -167,7 +167,7 @@ module _ {S R : Type 0} where
   abbrev pub freed : (S → Shown) → Hand S R → Stock
   freed shown h = record (h.stock) { kept = h.stock.kept ++ slots_shown shown h.berths; slot_room = h.stock.slot_room - length h.berths }
 
-  -- the arrays were merged into one, which stands behind the others in their place
+  -- the arrays were merged into one, which replaces them and stands after the others
   pub record LastMerged (cmp : R → R → Ordering) (record_of : List ℕ → R) (width workers : ℕ) (shown : S → Shown) (others : List (External S R)) (old : Table S R) (arrays : List (External S R)) (idle : List (Block R)) (stock : Stock) : Type 0 where
     pub end : Table S R
     pub merged : MergedOn cmp record_of width workers shown old end
@@ -176,7 +176,7 @@ module _ {S R : Type 0} where
     pub idle_is : idle ≡ end.idle
     pub stock_is : stock ≡ freed shown end.hand
 
-  -- a read or write failed; what is left of the arrays and what was made stand behind the others
+  -- a read or write failed; what is left of the arrays and what was made stand after the others
   pub record LastFailed (shown : S → Shown) (width : ℕ) (others : List (External S R)) (old : Table S R) (arrays : List (External S R)) (idle : List (Block R)) (stock : Stock) (fault : StoreFault) : Type 0 where
     pub end : Table S R
     pub failed : MergeFailed shown width old end fault

@@ -53,6 +53,7 @@ module _ {S R : Type 0} where
     pub sizes : All (HasSize shown (old.block * width)) berths
     pub stock : new ≡ record old { kept = new.kept; drawn = new.drawn; slot_room = old.slot_room + length berths }
     pub sure : length old.kept ≤ length berths + length new.kept
+    pub left : length new.kept ≡ length old.kept - length berths
 
 -- A draw answered None, before which fewer than so many slots were drawn; all went back
 pub record FoundFewSlots (need : ℕ) (old new : Stock) : Type 0 where

@@ -95,6 +95,8 @@ module _ {S R : Type 0} where
     pub blocks : length array.stored * before.block < size_of array + before.block
     pub packed : IsPacked before.block array.stored
     pub written : All (λ (b : DeviceBlock S R). 1 ≤ (shown b.slot).writes) array.stored
+    -- the slots are those that the supply kept, as far as they go
+    pub kept : length now.kept ≡ length before.kept - length array.stored
     pub internal : new.runs.internal.items ≡ []
     pub external : new.runs.external.items ≡ old.runs.external.items ++ array ∷ []
 

@@ -22,7 +22,7 @@ pub struct PassBody<S: Slot, R: Record> {
 
 impl<S: Slot, R: Record> PassBody<S, R> {
     /// The body of a pass: no runs, with room for so many in buffers and so many in blocks; two buffers
-    /// of `block` records each; and no batch. `Err` only for want of memory.
+    /// of `block` records each; and no batch. `Err` only if an allocation failed.
     pub fn new(alloc: Global, block: u32, internal: u32, external: u32) -> Result<Self, Memory>
         requires { internal < 2 ^ 32 - 1 }
         ensures { IfOk result (IsNewBody block internal external) }

@@ -11,9 +11,9 @@ use ppq_block::{BlockBuf, BufList};
 use ppq_outside::Slot;
 use ppq_record::Record;
 
-/// Puts records into buffers of the supply, as a run. None comes where it has too few, and they are all
-/// given back.
-pub fn store_in_buffers<S: Slot, R: Record, P: Supply<S, R>>(
+// Writes records into buffers of the supply, as a run. None comes where it has too few, and they are all
+// given back.
+pub(crate) fn store_in_buffers<S: Slot, R: Record, P: Supply<S, R>>(
     supply: &mut P,
     sorted: &[R],
     block: u32,
@@ -33,8 +33,8 @@ pub fn store_in_buffers<S: Slot, R: Record, P: Supply<S, R>>(
     }
 }
 
-/// How many blocks have room for so many records.
-pub fn blocks_for(records: u32, block: u32) -> u32
+// How many blocks have room for so many records.
+pub(crate) fn blocks_for(records: u32, block: u32) -> u32
     requires size { 1 ≤ block }
     requires small { block ≤ 65536 }
     ensures enough { records ≤ result * block }
@@ -76,8 +76,8 @@ fn take_buffers<S: Slot, R: Record, P: Supply<S, R>>(
     Some(taken)
 }
 
-/// Gives buffers back.
-pub fn give_buffers<S: Slot, R: Record, P: Supply<S, R>>(supply: &mut P, bufs: BufList<R>)
+// Gives buffers back.
+pub(crate) fn give_buffers<S: Slot, R: Record, P: Supply<S, R>>(supply: &mut P, bufs: BufList<R>)
     requires room { length bufs ≤ (P.stock supply.old).buffer_room }
     requires block { All (HasBlock (P.stock supply.old).block) bufs }
     ensures stock { P.stock supply.new ≡ with_buffers (P.stock supply.old) (P.stock supply.new).sure_buffers ((P.stock supply.old).buffer_room - length bufs) }
@@ -90,7 +90,7 @@ pub fn give_buffers<S: Slot, R: Record, P: Supply<S, R>>(supply: &mut P, bufs: B
     }
 }
 
-// Puts records into empty buffers, in order, each full but the last: just as many buffers as it takes.
+// Writes records into empty buffers, in order, each full but the last: just as many buffers as it takes.
 fn fill<R: Record>(bufs: BufList<R>, records: &[R], block: u32) -> InternalArray<R>
     requires block { 1 ≤ block }
     requires small { block ≤ 65536 }
@@ -116,8 +116,8 @@ fn fill<R: Record>(bufs: BufList<R>, records: &[R], block: u32) -> InternalArray
     run
 }
 
-/// Puts records into an empty buffer.
-pub fn put_records<R: Record>(buf: &mut BlockBuf<R>, records: &[R])
+// Writes records into an empty buffer.
+pub(crate) fn put_records<R: Record>(buf: &mut BlockBuf<R>, records: &[R])
     requires empty { buf.old ≡ holding buf.old.block [] }
     requires room { length records.now ≤ buf.old.block }
     ensures { buf.new ≡ holding buf.old.block records.now }

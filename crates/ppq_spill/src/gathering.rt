@@ -9,8 +9,8 @@ use ppq_array::ExternalArray;
 use ppq_outside::Slot;
 use ppq_record::Record;
 
-/// Brings 8 arrays of a level to the end of a list, by exchanges. It looks at no array more than 8 times.
-pub fn gather_level<S: Slot, R: Record>(arrays: &mut Vec<ExternalArray<S, R>>, level: u32)
+// Brings 8 arrays of a level to the end of a list, by exchanges. It looks at no array more than 8 times.
+pub(crate) fn gather_level<S: Slot, R: Record>(arrays: &mut Vec<ExternalArray<S, R>>, level: u32)
     requires { 8 ≤ count_level level arrays.old.items }
     ensures moved { IsPermutation arrays.old.items arrays.new.items }
     ensures eight { 8 ≤ length arrays.new.items }
@@ -40,8 +40,8 @@ fn find_level<S: Slot, R: Record>(arrays: &[ExternalArray<S, R>], level: u32, en
     at
 }
 
-/// How many buffers the loaded blocks of arrays have.
-pub fn count_buffers<S: Slot, R: Record>(arrays: &[ExternalArray<S, R>]) -> u32
+// How many buffers the loaded blocks of arrays have.
+pub(crate) fn count_buffers<S: Slot, R: Record>(arrays: &[ExternalArray<S, R>]) -> u32
     requires { external_buffers arrays.now < 2 ^ 32 }
     ensures { result ≡ external_buffers arrays.now }
 {

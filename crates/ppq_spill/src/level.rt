@@ -20,20 +20,20 @@ use ppq_outside::{Gate, Host, Slot};
 use ppq_record::{Record, record_laws};
 
 /// Merges 8 arrays of a level into one of the next level, and of level 7 into one of level 7. The new
-/// array stands behind the others, with nothing loaded. Where the 8 ascend, so does the new one.
+/// array stands after the others, with nothing loaded. Where the 8 ascend, so does the new one.
 ///
 /// As many slots as the 8 have loaded blocks are drawn before the first block is read or written. With
-/// those and with the slots of the blocks that it reads it never wants another one. `workers` blocks
-/// are read ahead, and the workers of the bench merge `workers * block` records at a time, which are then
+/// those and with the slots of the blocks that it reads it never wants another one. `workers` blocks are
+/// read ahead, and the workers of the bench merge `workers * block` records at a time, which are then
 /// written. Each block of the 8 that is not loaded is read once, and of the blocks that are written all
-/// but the last are full. It takes no memory.
+/// but the last are full. It does not allocate.
 ///
 /// `NoFreeBlock` only if a draw returned `None`, and the supply was sure of fewer slots than the 8 have
 /// loaded blocks, which are at most 8 and one for each worker. Nothing has changed then but the order of
 /// the arrays and the supply's counts and slots: slots that were drawn are kept by the supply.
 ///
 /// `Device` only if a read or write of the slot with that number failed. Records may be lost then, but no
-/// slot and no buffer; what was written of the new array stands behind the others.
+/// slot and no buffer; what was written of the new array stands after the others.
 pub fn merge_level<
     H: Host,
     S: Slot + Send + Sync,
@@ -102,7 +102,7 @@ fn draw_for_last<S: Slot, R: Record, P: Supply<S, R>>(
     draw_slots(supply, need)
 }
 
-// Merges the last 8 arrays into one, which stands in their place, and returns the slots that are left.
+// Merges the last 8 arrays into one, which replaces them, and returns the slots that are left.
 fn merge_last<H: Host, S: Slot + Send + Sync, R: Record + Send + Sync, P: Supply<S, R>, G: Gate>(
     rt: &H,
     arrays: &mut Vec<ExternalArray<S, R>>,

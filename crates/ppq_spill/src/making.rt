@@ -13,9 +13,9 @@ use ppq_block::BufList;
 use ppq_outside::{Host, Slot};
 use ppq_record::{Record, record_laws};
 
-/// Writes records as the next blocks of an array, each full but the last: to slots in hand, and then to
-/// slots that the supply keeps. It costs a block write for each block.
-pub fn write_batch<H: Host, S: Slot, R: Record, P: Supply<S, R>>(
+// Writes records as the next blocks of an array, each full but the last: to slots in hand, and then to
+// slots that the supply keeps. It costs a block write for each block.
+pub(crate) fn write_batch<H: Host, S: Slot, R: Record, P: Supply<S, R>>(
     rt: &H,
     supply: &mut P,
     idle: &mut BufList<R>,

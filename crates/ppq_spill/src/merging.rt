@@ -11,9 +11,13 @@ use ppq_block::BlockBuf;
 use ppq_record::{Record, record_laws};
 use ppq_tree::MinTree;
 
-/// Gives each run a leaf with its first record, and the leaf behind them the first of a list. The other
-/// leaves have none. It costs a look at each leaf, and for each one that changes its matches.
-pub fn write_heads<R: Record>(tree: &mut MinTree<R>, internal: &[InternalArray<R>], sorted: &[R])
+// Gives each run a leaf with its first record, and the leaf after them the first of a list. The other
+// leaves have none. It costs a look at each leaf, and for each one that changes its matches.
+pub(crate) fn write_heads<R: Record>(
+    tree: &mut MinTree<R>,
+    internal: &[InternalArray<R>],
+    sorted: &[R],
+)
     requires { length internal.now < length tree.old.items }
     ensures leaves { length tree.new.items ≡ length tree.old.items }
     ensures heads { HasHeads internal.now sorted.now tree.new.items }
@@ -24,7 +28,7 @@ pub fn write_heads<R: Record>(tree: &mut MinTree<R>, internal: &[InternalArray<R
     }
 }
 
-// The first record of the run at a place; behind all runs that of a list; and none behind that.
+// The first record of the run at a place; after all runs that of a list; and none after that.
 fn head_at<R: Record>(internal: &[InternalArray<R>], sorted: &[R], at: usize) -> Option<R>
     ensures { result ≡ first_at internal.now sorted.now at }
 {
@@ -48,9 +52,9 @@ fn write_head<R: Record>(tree: &mut MinTree<R>, leaf: u32, first: Option<R>)
     tree.put(leaf, first);
 }
 
-/// Fills an empty buffer with the least records of runs and of a list from a place on. A record costs a
-/// match on each level of the tree.
-pub fn merge_least<R: Record>(
+// Fills an empty buffer with the least records of runs and of a list from a place on. A record costs a
+// match on each level of the tree.
+pub(crate) fn merge_least<R: Record>(
     tree: &mut MinTree<R>,
     internal: &mut Vec<InternalArray<R>>,
     sorted: &[R],
@@ -125,7 +129,7 @@ fn take_first<R: Record>(run: &mut InternalArray<R>) -> Option<R>
     run.first()
 }
 
-// The record at a place of a list; none behind its end.
+// The record at a place of a list; none after its end.
 #[inline]
 fn head_of<R: Record>(list: &[R], at: usize) -> Option<R>
     ensures { result ≡ first_of (drop at list.now) }

@@ -11,7 +11,7 @@ use std::alloc::Global;
 use std::process::Abort;
 use std::test::Fail;
 
-/// A slot of two records of which contracts know no contents, as of one over a real file.
+// A slot of two records of which contracts know no contents, as of one over a real file.
 #[derive(Drop)]
 struct QuietSlot {
     number: u32,

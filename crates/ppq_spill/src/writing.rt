@@ -18,10 +18,10 @@ use ppq_outside::{Host, Slot};
 use ppq_record::{Record, record_laws};
 use ppq_tree::MinTree;
 
-/// Merges runs and a sorted list into blocks, and writes them to these slots, a block for each. Where a
-/// write fails, it ends there and gives that slot. It costs as many block writes as there are slots, and
-/// for each record a match on each level of the tree.
-pub fn write_runs<H: Host, S: Slot, R: Record>(
+// Merges runs and a sorted list into blocks, and writes them to these slots, a block for each. Where a
+// write fails, it ends there and gives that slot. It costs as many block writes as there are slots, and
+// for each record a match on each level of the tree.
+pub(crate) fn write_runs<H: Host, S: Slot, R: Record>(
     rt: &H,
     tree: &mut MinTree<R>,
     idle: &mut BufList<R>,
@@ -66,8 +66,8 @@ pub fn write_runs<H: Host, S: Slot, R: Record>(
     None
 }
 
-/// Writes a buffer's records to a slot, as the last block of a run. Where that fails, it gives the slot.
-pub fn write_block<H: Host, S: Slot, R: Record>(
+// Writes a buffer's records to a slot, as the last block of a run. Where that fails, it gives the slot.
+pub(crate) fn write_block<H: Host, S: Slot, R: Record>(
     rt: &H,
     array: &mut ExternalArray<S, R>,
     berth: Berth<S, R>,
@@ -109,8 +109,8 @@ pub fn write_block<H: Host, S: Slot, R: Record>(
     }
 }
 
-/// Gives all buffers of runs back, and with them what records they have left.
-pub fn release_runs<S: Slot, R: Record, P: Supply<S, R>>(
+// Gives all buffers of runs back, and with them what records they have left.
+pub(crate) fn release_runs<S: Slot, R: Record, P: Supply<S, R>>(
     supply: &mut P,
     internal: &mut Vec<InternalArray<R>>,
 )

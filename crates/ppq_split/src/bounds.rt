@@ -12,34 +12,34 @@ use crate::mark::choose;
 use crate::places::move_near;
 use ppq_record::{Listing, Record, record_laws};
 
-/// Two edges with the wanted cut between them.
+// Two edges with the wanted cut between them.
 #[derive(Clone, Copy)]
 pub(crate) struct Bounds<R: Record> {
-    /// The edge below the cut.
+    // The edge below the cut.
     pub(crate) low: Edge<R>,
-    /// How many records stand in front of the lower edge.
+    // How many records stand in front of the lower edge.
     pub(crate) low_rank: u64,
-    /// The edge above the cut.
+    // The edge above the cut.
     pub(crate) high: Edge<R>,
-    /// How many records stand in front of the upper edge.
+    // How many records stand in front of the upper edge.
     pub(crate) high_rank: u64,
-    /// How many records stand in front of the places that were tried last.
+    // How many records stand in front of the places that were tried last.
     tried: u64,
 }
 
-/// What trying a mark led to.
+// What trying a mark led to.
 #[derive(Clone, Copy)]
 pub(crate) enum Step {
-    /// The places are the cut.
+    // The places are the cut.
     Found,
-    /// No mark lies between the bounds, or its rank does not: the runs do not ascend.
+    // No mark lies between the bounds, or its rank does not: the runs do not ascend.
     Lost,
-    /// The bounds are closer to each other.
+    // The bounds are closer to each other.
     Closer,
 }
 
 impl<R: Record> Bounds<R> {
-    /// The bounds of runs that have so many records.
+    // The bounds of runs that have so many records.
     pub(crate) fn new(size: u64) -> Self
         ensures low { result.low ≡ Start }
         ensures low_rank { result.low_rank ≡ 0 }
@@ -56,14 +56,14 @@ impl<R: Record> Bounds<R> {
     }
 }
 
-/// The run at which the choice of the next mark begins.
+// The run at which the choice of the next mark begins.
 #[inline]
 fn first_run(seed: u64, runs: u32) -> u32 {
     (seed >> 32) as u32 % runs.max(1)
 }
 
-/// Chooses a mark between the bounds and tries the edge in front of it, so that `cuts` are the
-/// places of that edge. The seed says at which run the choice begins.
+// Chooses a mark between the bounds and tries the edge in front of it, so that `cuts` are the
+// places of that edge. The seed says at which run the choice begins.
 pub(crate) fn try_mark<R: Record, Q: Listing<R>>(
     runs: &Q,
     rank: u64,

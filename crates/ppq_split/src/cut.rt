@@ -28,8 +28,8 @@ pub fn cut_at<R: Record, Q: Listing<R>>(runs: &Q, rank: u64, cuts: &mut [u64])
     }
 }
 
-/// The law of cuts, as a clause for the proof of whoever calls it: runs have at most one cut of each
-/// rank, and no place of a cut falls when the rank grows. It does nothing.
+/// The law of cuts, as a clause for the proof of whoever calls it, and for a reader: runs have at
+/// most one cut of each rank, and no place of a cut falls when the rank grows. It does nothing.
 #[inline]
 pub fn one_cut<R: Record>()
     ensures { HasOneCut R.Ord.cmp }

@@ -11,19 +11,19 @@ use crate::bounds::Bounds;
 use crate::edge::{Edge, place_in};
 use ppq_record::{Listing, Record, record_laws};
 
-/// A record with its run and its place there.
+// A record with its run and its place there.
 #[derive(Clone, Copy)]
 pub(crate) struct Mark<R: Record> {
-    /// The record.
+    // The record.
     item: R,
-    /// The number of its run.
+    // The number of its run.
     run: u32,
-    /// Its place in the run, from 0.
+    // Its place in the run, from 0.
     place: u64,
 }
 
 impl<R: Record> Mark<R> {
-    /// The edge in front of the record.
+    // The edge in front of the record.
     #[inline]
     pub(crate) fn before(&self) -> Edge<R>
         ensures { result ≡ At self.now.item self.now.run self.now.place }
@@ -35,7 +35,7 @@ impl<R: Record> Mark<R> {
         }
     }
 
-    /// The edge after the record.
+    // The edge after the record.
     #[inline]
     pub(crate) fn after(&self) -> Edge<R>
         requires { self.now.place + 1 < 2 ^ 64 }
@@ -49,7 +49,7 @@ impl<R: Record> Mark<R> {
     }
 }
 
-/// The place at a part of a width, from 0: as far into the width as the part is into the whole.
+// The place at a part of a width, from 0: as far into the width as the part is into the whole.
 #[inline]
 fn part_of(width: u64, part: u64, whole: u64) -> u64
     requires width { 0 < width }
@@ -60,8 +60,8 @@ fn part_of(width: u64, part: u64, whole: u64) -> u64
     place.min(u128::from(width - 1)) as u64
 }
 
-/// A record between the bounds, of the first run from number `from` on that has one: as far between
-/// them as the rank is between theirs.
+// A record between the bounds, of the first run from number `from` on that has one: as far between
+// them as the rank is between theirs.
 fn choose_from<R: Record, Q: Listing<R>>(
     runs: &Q,
     rank: u64,
@@ -91,8 +91,8 @@ fn choose_from<R: Record, Q: Listing<R>>(
     None
 }
 
-/// A record between the bounds, where possible of a run from number `from` on. Where the runs ascend
-/// there is one.
+// A record between the bounds, where possible of a run from number `from` on. Where the runs ascend
+// there is one.
 pub(crate) fn choose<R: Record, Q: Listing<R>>(
     runs: &Q,
     rank: u64,

@@ -8,8 +8,8 @@ ghost use Rattle.ppq_split.specs.Edge.{IsEdge, edge_places};
 use crate::edge::{Edge, place_in};
 use ppq_record::{Listing, Record};
 
-/// Moves each place to where an edge parts its run, and returns the sum of the places. In each run
-/// it looks first at the old place, so many records `ahead` and so many `back`.
+// Moves each place to where an edge parts its run, and returns the sum of the places. In each run
+// it looks first at the old place, so many records `ahead` and so many `back`.
 pub(crate) fn move_to<R: Record, Q: Listing<R>>(
     runs: &Q,
     edge: &Edge<R>,
@@ -36,8 +36,8 @@ pub(crate) fn move_to<R: Record, Q: Listing<R>>(
     sum
 }
 
-/// `move_to` for an edge near a rank, from places that add up to another: in each run it looks first
-/// where the place would stand if all runs shared the way evenly.
+// `move_to` for an edge near a rank, from places that add up to another: in each run it looks first
+// where the place would stand if all runs shared the way evenly.
 pub(crate) fn move_near<R: Record, Q: Listing<R>>(
     runs: &Q,
     edge: &Edge<R>,
@@ -58,7 +58,7 @@ pub(crate) fn move_near<R: Record, Q: Listing<R>>(
     move_to(runs, edge, cuts, ahead, back)
 }
 
-/// Takes the runs in turn, each as far as the rank allows.
+// Takes the runs in turn, each as far as the rank allows.
 pub(crate) fn fill<R: Record, Q: Listing<R>>(runs: &Q, rank: u64, cuts: &mut [u64])
     requires places { length cuts.old ≡ length (Q.lists runs.now) }
     requires rank { rank ≤ length (all_of (Q.lists runs.now)) }

@@ -8,15 +8,15 @@ use crate::edge::Edge;
 use crate::places::move_to;
 use ppq_record::{Listing, Record, record_laws};
 
-/// The next number of Knuth's MMIX sequence modulo 2^64: marks are to come from all runs in no
-/// order.
+// The next number of Knuth's MMIX sequence modulo 2^64: marks are to come from all runs in no
+// order.
 #[inline]
 fn stir(seed: u64) -> u64 {
     seed.wrapping_mul(6364136223846793005)
         .wrapping_add(1442695040888963407)
 }
 
-/// Looks for the cut at a rank, and says whether it is found. Where the runs ascend it is.
+// Looks for the cut at a rank, and says whether it is found. Where the runs ascend it is.
 pub(crate) fn find_cut<R: Record, Q: Listing<R>>(runs: &Q, rank: u64, cuts: &mut [u64]) -> bool
     requires places { length cuts.old ≡ length (Q.lists runs.now) }
     requires rank { rank ≤ length (all_of (Q.lists runs.now)) }

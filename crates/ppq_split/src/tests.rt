@@ -5,7 +5,7 @@ use std::alloc::Global;
 use std::process::Abort;
 use std::test::Fail;
 
-/// A run of pairs with these keys.
+// A run of pairs with these keys.
 fn run(alloc: Global, keys: &[u64]) -> Result<Vec<Pair>, Fail> {
     let mut items = Vec::new(alloc);
     for key in keys {
@@ -17,7 +17,7 @@ fn run(alloc: Global, keys: &[u64]) -> Result<Vec<Pair>, Fail> {
     Ok(items)
 }
 
-/// So many zeros.
+// So many zeros.
 fn zeros(alloc: Global, count: usize) -> Result<Vec<u64>, Fail> {
     let mut places = Vec::new(alloc);
     for _place in 0..count {
@@ -26,7 +26,7 @@ fn zeros(alloc: Global, count: usize) -> Result<Vec<u64>, Fail> {
     Ok(places)
 }
 
-/// The places at a rank; no places if the runs have fewer records.
+// The places at a rank; no places if the runs have fewer records.
 fn cut(alloc: Global, lists: &[Vec<Pair>], rank: u64) -> Result<Vec<u64>, Fail> {
     let none = Vec::new(alloc);
     let mut cuts = zeros(alloc, lists.len())?;
@@ -44,7 +44,7 @@ fn cut(alloc: Global, lists: &[Vec<Pair>], rank: u64) -> Result<Vec<u64>, Fail> 
     Ok(cuts)
 }
 
-/// The run whose next record is the smallest, the lowest of several.
+// The run whose next record is the smallest, the lowest of several.
 fn next_run(lists: &[Vec<Pair>], places: &[u64]) -> Option<usize> {
     let mut best: Option<(usize, u64)> = None;
     for run in 0..lists.len().min(places.len()) {
@@ -59,8 +59,8 @@ fn next_run(lists: &[Vec<Pair>], places: &[u64]) -> Option<usize> {
     best.map(|found| found.0)
 }
 
-/// Compares the cut at each rank with the places after so many records were taken one by one, each
-/// time the smallest of the lowest run.
+// Compares the cut at each rank with the places after so many records were taken one by one, each
+// time the smallest of the lowest run.
 fn cuts_as_taken_one_by_one(
     rt: &impl Abort,
     alloc: Global,

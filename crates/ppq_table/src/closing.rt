@@ -19,7 +19,7 @@ fn skip<T: Drop>(closed: &mut Closed<Place<T>, Global>, from: usize, end: usize)
     }
 }
 
-// The item of a place, where it has one, goes behind the others.
+// The item of a place, where it has one, goes after the others.
 fn put_item<T: Drop>(room: &mut Vec<T>, place: Place<T>)
     requires { vec_len room.old < vec_capacity room.old }
     ensures items { room.new.items ≡ room.old.items ++ items_in (place ∷ []) }
@@ -47,8 +47,8 @@ fn keep<T: Drop>(closed: &mut Closed<Place<T>, Global>, room: &mut Vec<T>, from:
 
 /// The items that lie in their places from the place `from` on, in the order of their places.
 ///
-/// They lie in the list that the last slot kept, so it takes no memory. What lies in places before
-/// `from` is let go.
+/// They lie in the list that the last slot kept, so it does not allocate. What lies in places
+/// before `from` is let go.
 pub fn items_from<T: Drop>(mut closed: Closed<Place<T>, Global>, from: usize) -> Vec<T>
     requires full { IsFull closed.slots }
     requires room { (count : ℕ) × HasRoom count (slots_items closed.slots) }

@@ -5,10 +5,10 @@ ghost use Rattle.ppq_table.specs.Places.{IsLaid};
 use crate::Place;
 use std::alloc::Global;
 
-/// Each item into a place of its own, in order, and behind them the emptied list.
+/// Each item into a place of its own, in order, and after them the emptied list.
 ///
-/// It takes memory for the places. `Err` gives the items back as they were; it comes for want of
-/// memory alone.
+/// It allocates the places. `Err` gives the items back as they were; it is returned only if an
+/// allocation failed.
 pub fn lay<T>(alloc: Global, mut items: Vec<T>) -> Result<Vec<Place<T>>, Vec<T>>
     requires { vec_len items < 4294967296 }
     ensures laid { IfOk result (λ places. IsLaid items.items places.items) }
@@ -25,7 +25,7 @@ pub fn lay<T>(alloc: Global, mut items: Vec<T>) -> Result<Vec<Place<T>>, Vec<T>>
     Ok(places)
 }
 
-/// The items as they were before they were laid into their places. It takes no memory.
+/// The items as they were before they were laid into their places. It does not allocate.
 pub fn unlay<T: Drop>(mut places: Vec<Place<T>>) -> Vec<T>
     requires { (items : List T) × IsLaid items places.items }
     ensures { (items : List T) → IsLaid items places.items → result.items ≡ items }

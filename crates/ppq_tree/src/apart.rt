@@ -11,12 +11,12 @@ use ppq_record::{Memory, Record};
 use std::alloc::Global;
 use std::sync::ledger::Ledger;
 
-/// How many cells stand unused in front of those that a tree uses, and how many there is room for
-/// behind them. A tree is written at each match: 32 cells are 128 bytes and more, so no line of the
-/// cache that one thread writes, nor its neighbour, has what another thread reads.
+// How many cells stand unused in front of those that a tree uses, and how many there is room for
+// after them. A tree is written at each match: 32 cells are 128 bytes and more, so no line of the
+// cache that one thread writes, nor its neighbour, has what another thread reads.
 pub(crate) const APART: usize = 32;
 
-/// Room for so many cells, behind unused ones.
+// Room for so many cells, after unused ones.
 pub(crate) fn apart<T: Copy + Drop>(
     alloc: Global,
     cells: usize,
@@ -34,7 +34,7 @@ pub(crate) fn apart<T: Copy + Drop>(
     Ok(all)
 }
 
-/// The cells that are used.
+// The cells that are used.
 #[inline]
 pub(crate) fn used<T: Copy>(all: &[T]) -> &[T]
     requires { 32 ≤ length all.now }
@@ -44,7 +44,7 @@ pub(crate) fn used<T: Copy>(all: &[T]) -> &[T]
     cells
 }
 
-/// Writes the item of a leaf and plays the leaf's matches again.
+// Writes the item of a leaf and plays the leaf's matches again.
 #[inline]
 pub(crate) fn write_used<R: Record, L: Ledger>(
     items: &mut [Option<R>],
@@ -67,7 +67,7 @@ pub(crate) fn write_used<R: Record, L: Ledger>(
     write_leaf(used_items, used_winners, leaf, item, steps);
 }
 
-/// Plays every match once, the last first, where each leaf has its own number.
+// Plays every match once, the last first, where each leaf has its own number.
 pub(crate) fn play_used<R: Record, L: Ledger>(
     items: &[Option<R>],
     winners: &mut [u32],

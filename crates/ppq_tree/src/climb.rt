@@ -8,7 +8,7 @@ use crate::matches::{either, is_ahead, play};
 use ppq_record::{Record, record_laws};
 use std::sync::ledger::Ledger;
 
-/// Writes the item of a leaf and plays the leaf's matches again.
+// Writes the item of a leaf and plays the leaf's matches again.
 pub(crate) fn write_leaf<R: Record, L: Ledger>(
     items: &mut [Option<R>],
     winners: &mut [u32],
@@ -31,7 +31,7 @@ pub(crate) fn write_leaf<R: Record, L: Ledger>(
     climb_with(items, winners, leaf, some, steps);
 }
 
-/// Plays the matches of a leaf again, up to the root; the other matches stand.
+// Plays the matches of a leaf again, up to the root; the other matches stand.
 fn climb<R: Record, L: Ledger>(
     items: &[Option<R>],
     winners: &mut [u32],
@@ -51,8 +51,8 @@ fn climb<R: Record, L: Ledger>(
     }
 }
 
-/// Plays the matches of a leaf that has an item, up to the root, while it carries the winner and its
-/// item along: so a match waits for nothing but the one before it. The other matches stand.
+// Plays the matches of a leaf that has an item, up to the root, while it carries the winner and its
+// item along: so a match waits for nothing but the one before it. The other matches stand.
 fn climb_with<R: Record, L: Ledger>(
     items: &[Option<R>],
     winners: &mut [u32],
@@ -82,7 +82,7 @@ fn climb_with<R: Record, L: Ledger>(
     }
 }
 
-/// Plays a match between a leaf with an item and a rival; it returns the winner with its item.
+// Plays a match between a leaf with an item and a rival; it returns the winner with its item.
 #[inline]
 fn duel<R: Record, L: Ledger>(
     items: &[Option<R>],

@@ -5,8 +5,8 @@ use ppq_record::Record;
 
 /// The items that the leaves of a tree get together, as the first records of some runs.
 ///
-/// A tree reads each of them once and keeps no list of them, so that it needs no memory. Contracts
-/// see their list.
+/// A tree reads each of them once and keeps no list of them, so that it does not allocate.
+/// Contracts see their list.
 pub trait Heads<R: Record> {
     ghost heads: { Self → List (Option R) };
 
@@ -20,7 +20,7 @@ pub trait Heads<R: Record> {
         ensures { result ≡ slice_index_or (heads self.now) leaf None };
 }
 
-/// So many leaves, none of which has an item.
+// So many leaves, none of which has an item.
 #[derive(Drop)]
 pub(crate) struct NoHeads {
     pub(crate) leaves: u32,

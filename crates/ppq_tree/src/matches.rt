@@ -6,8 +6,8 @@ use crate::Steps;
 use ppq_record::{Record, record_laws};
 use std::sync::ledger::Ledger;
 
-/// Plays a match between two leaves; the winner is the one with the lesser item, the lower leaf among
-/// equals. A leaf with no item loses.
+// Plays a match between two leaves; the winner is the one with the lesser item, the lower leaf among
+// equals. A leaf with no item loses.
 #[inline]
 fn better<R: Record, L: Ledger>(
     items: &[Option<R>],
@@ -28,8 +28,8 @@ fn better<R: Record, L: Ledger>(
     }
 }
 
-/// One of two leaves. A function of its own, whose choice is compiled with no branch: which leaf
-/// wins cannot be foreseen.
+// One of two leaves. A function of its own, whose choice is compiled with no branch: which leaf
+// wins cannot be foreseen.
 #[inline]
 pub(crate) fn either(is_other: bool, one: u32, other: u32) -> u32
     ensures { result ≡ (if is_other then other else one) }
@@ -37,7 +37,7 @@ pub(crate) fn either(is_other: bool, one: u32, other: u32) -> u32
     if is_other { other } else { one }
 }
 
-/// Plays the match at a node.
+// Plays the match at a node.
 #[inline]
 pub(crate) fn play<R: Record, L: Ledger>(
     items: &[Option<R>],
@@ -54,7 +54,7 @@ pub(crate) fn play<R: Record, L: Ledger>(
     winners[node] = better(items, winners[2 * node], winners[2 * node + 1], steps);
 }
 
-/// Whether an item is less than another, or equal with a lower leaf.
+// Whether an item is less than another, or equal with a lower leaf.
 #[inline]
 pub(crate) fn is_ahead<R: Record>(other: &R, rival: u32, item: &R, best: u32) -> bool
     ensures { result ≡ ahead R.Ord.cmp (other.now, rival) (item.now, best) }
@@ -65,7 +65,7 @@ pub(crate) fn is_ahead<R: Record>(other: &R, rival: u32, item: &R, best: u32) ->
     is_less | (!is_more & (rival < best))
 }
 
-/// Plays every match once, the last first, where each leaf has its own number.
+// Plays every match once, the last first, where each leaf has its own number.
 pub(crate) fn play_all<R: Record, L: Ledger>(
     items: &[Option<R>],
     winners: &mut [u32],

@@ -18,12 +18,12 @@ use std::sync::ledger::{Blank, Ledger};
 /// to that. Contracts see `items`, the list of the leaves' items, and `room`.
 #[derive(Drop)]
 pub struct MinTree<R: Record> {
-    /// Unused cells, and then the item of each leaf.
+    // Unused cells, and then the item of each leaf.
     items: Vec<Option<R>>,
-    /// Unused cells, and then the leaf that won at each node: node 1 is the root, the children of node
-    /// u are 2u and 2u + 1, and with n leaves the leaf i is the node n + i. Entry 0 is not used.
+    // Unused cells, and then the leaf that won at each node: node 1 is the root, the children of node
+    // u are 2u and 2u + 1, and with n leaves the leaf i is the node n + i. Entry 0 is not used.
     winners: Vec<u32>,
-    /// How many leaves there may be; both vectors have room for so many from the beginning.
+    // How many leaves there may be; both vectors have room for so many from the beginning.
     room: u32,
 }
 
@@ -41,7 +41,7 @@ impl<R: Record> Model for MinTree<R> {
 
 impl<R: Record> MinTree<R> {
     /// A tree of so many leaves, none of which has an item, and with room for no more. It is the only
-    /// call that takes memory.
+    /// call that allocates.
     pub fn new(alloc: Global, leaves: u32) -> Result<Self, Memory>
         ensures items { IfOk result (λ tree. tree.items ≡ replicate leaves None) }
         ensures room { IfOk result (λ tree. tree.room ≡ leaves) }
@@ -112,7 +112,7 @@ impl<R: Record> MinTree<R> {
         self.put_counted::<Brand>(leaf, item, Blank::new(1));
     }
 
-    /// `put` with its ledger.
+    // `put` with its ledger.
     #[inline]
     fn put_counted<L: Ledger>(&mut self, leaf: u32, item: Option<R>, blank: Blank)
         requires leaf { leaf < length self.old.items }
@@ -148,7 +148,7 @@ impl<R: Record> MinTree<R> {
         self.put_all_counted::<H, Brand>(heads, Blank::new(1));
     }
 
-    /// `put_all` with its ledger.
+    // `put_all` with its ledger.
     fn put_all_counted<H: Heads<R>, L: Ledger>(&mut self, heads: &H, blank: Blank)
         requires heads { length (H.heads heads.now) ≤ self.old.room }
         requires parts { blank.parts ≡ L.parts }
@@ -161,8 +161,8 @@ impl<R: Record> MinTree<R> {
         self.set_all(heads, &mut steps);
     }
 
-    /// Makes the tree one of so many leaves, none of which has an item. It takes no memory and costs
-    /// time in proportion to that number.
+    /// Makes the tree one of so many leaves, none of which has an item. It does not allocate and
+    /// costs time in proportion to that number.
     pub fn clear(&mut self, leaves: u32)
         requires { leaves ≤ self.old.room }
         ensures items { self.new.items ≡ replicate leaves None }
@@ -171,8 +171,8 @@ impl<R: Record> MinTree<R> {
         self.put_all(&NoHeads { leaves });
     }
 
-    /// The least item with its leaf, the lowest leaf among equals; `None` exactly where no leaf has
-    /// an item. It plays no match.
+    /// The least item with its leaf, the lowest leaf among equals; `None` if and only if no leaf
+    /// has an item. It plays no match.
     #[inline]
     pub fn winner(&self) -> Option<(u32, R)>
         ensures some { IfSome result (λ won. IsLeastLeaf R.Ord.cmp self.now.items won.0 won.1) }
@@ -204,7 +204,7 @@ pub fn leaf_levels()
     ensures few { (leaves leaf : ℕ) → leaf < leaves → 2 ^ leaf_level leaves leaf ≤ 2 * leaves }
 {}
 
-/// Writes the item of each leaf.
+// Writes the item of each leaf.
 fn write_heads<R: Record, H: Heads<R>>(items: &mut Vec<Option<R>>, heads: &H)
     requires apart { 32 ≤ length items.old.items }
     requires room { 32 + length (H.heads heads.now) ≤ vec_capacity items.old }
@@ -218,7 +218,7 @@ fn write_heads<R: Record, H: Heads<R>>(items: &mut Vec<Option<R>>, heads: &H)
     }
 }
 
-/// Writes a place for each inner node, and then each leaf's number at the leaf.
+// Writes a place for each inner node, and then each leaf's number at the leaf.
 fn write_numbers(winners: &mut Vec<u32>, leaves: u32)
     requires apart { 32 ≤ length winners.old.items }
     requires room { 32 + 2 * leaves ≤ vec_capacity winners.old }

@@ -6,7 +6,7 @@ use std::marker::Brand;
 use std::sync::ledger::{Blank, Ledger};
 use std::test::Fail;
 
-/// The record that a test calls `n`.
+// The record that a test calls `n`.
 fn record(n: u64) -> Pair {
     Pair { key: n, value: 0 }
 }
@@ -61,7 +61,7 @@ fn a_counted_step_is_a_match(rt: HostRuntime) -> Result<(), Fail> {
     Ok(())
 }
 
-/// Sets a leaf of eight in three steps.
+// Sets a leaf of eight in three steps.
 fn set_counted<L: Ledger>(tree: &mut MinTree<Pair>, blank: Blank)
     requires leaves { length tree.old.items ≡ 8 }
     requires parts { blank.parts ≡ L.parts }
@@ -73,14 +73,14 @@ fn set_counted<L: Ledger>(tree: &mut MinTree<Pair>, blank: Blank)
     prove_three(&steps);
 }
 
-/// What the contract of `set` says of the number of steps.
+// What the contract of `set` says of the number of steps.
 fn prove_three<L: Ledger>(steps: &Steps<L>)
     requires { steps.now ≡ 3 }
 {
     let _counted = steps;
 }
 
-/// Items that are listed, at most 2^32 - 1 of them.
+// Items that are listed, at most 2^32 - 1 of them.
 #[derive(Drop)]
 struct Listed<'a> {
     items: &'a [Option<Pair>],
@@ -147,7 +147,7 @@ fn all_leaves_cost_one_match_less_than_leaves(rt: HostRuntime) -> Result<(), Fai
     Ok(())
 }
 
-/// Sets three leaves in two steps.
+// Sets three leaves in two steps.
 fn set_all_counted<L: Ledger>(tree: &mut MinTree<Pair>, blank: Blank)
     requires room { tree.old.room ≡ 8 }
     requires parts { blank.parts ≡ L.parts }
@@ -160,7 +160,7 @@ fn set_all_counted<L: Ledger>(tree: &mut MinTree<Pair>, blank: Blank)
     prove_two(&steps);
 }
 
-/// What the contract of `set_all` says of the number of steps.
+// What the contract of `set_all` says of the number of steps.
 fn prove_two<L: Ledger>(steps: &Steps<L>)
     requires { steps.now ≡ 2 }
 {
@@ -190,7 +190,7 @@ fn a_hundred_random_sets_agree_with_a_scan(rt: HostRuntime) -> Result<(), Fail> 
     Ok(())
 }
 
-/// The least item with the lowest leaf that has it, by a look at each leaf.
+// The least item with the lowest leaf that has it, by a look at each leaf.
 fn scanned(tree: &MinTree<Pair>) -> Option<(u32, Pair)> {
     let mut best: Option<(u32, Pair)> = None;
     for leaf in 0..tree.leaves() {

@@ -6,7 +6,7 @@ ghost use Rattle.ppq_words.specs.Command.{option_rule, command_app};
 use clap::{Arg, Command};
 use std::alloc::{AllocError, Global};
 
-/// An option that takes one value.
+// An option that takes one value.
 fn option<'a>(alloc: Global, id: &'a str, name: &'a str) -> Arg<'a>
     ensures rule { rule_of result ≡ option_rule id.entry.now name.entry.now }
     ensures local { result.global ≡ false }
@@ -14,9 +14,9 @@ fn option<'a>(alloc: Global, id: &'a str, name: &'a str) -> Arg<'a>
     Arg::new(alloc, id).long(name)
 }
 
-/// The script's name and the six options. The word `run` stands in the place of the program's name.
-/// `clap` is not told what is required: that is seen after the parse.
-pub fn command<'a>(alloc: Global) -> Result<Command<'a>, AllocError>
+// The script's name and the six options. The word `run` stands for the program's name.
+// `clap` is not told what is required: that is seen after the parse.
+pub(crate) fn command<'a>(alloc: Global) -> Result<Command<'a>, AllocError>
     ensures { IfOk result (λ c. app_of c ≡ command_app) }
 {
     Command::new(alloc, "run")

@@ -5,14 +5,14 @@ ghost use Rattle.ppq_words.specs.Uses.{begins_with_hyphen, after_equals};
 ghost use Rattle.ppq_words.specs.Strays.{has_stray_value, is_stray, may_run};
 ghost use Rattle.ppq_words.specs.Reading.{texts_of};
 
-/// Whether a text begins with `-`.
+// Whether a text begins with `-`.
 fn begins_with_hyphen(text: &str) -> bool
     ensures { result ≡ begins_with_hyphen text.now }
 {
     !text.is_empty() && text.starts_with('-')
 }
 
-/// Whether the word has a value, after `=`, that begins with `-`.
+// Whether the word has a value, after `=`, that begins with `-`.
 fn has_stray_value(word: &str) -> bool
     ensures { result ≡ has_stray_value (after_equals word.now) }
 {
@@ -22,9 +22,9 @@ fn has_stray_value(word: &str) -> bool
     }
 }
 
-/// Whether the word begins with `-` and cannot be an option: it is not `--` with something after it,
-/// or its value begins with `-`. `clap` takes `--` for the end of the options, and a value in the
-/// same word whatever it begins with.
+// Whether the word begins with `-` and cannot be an option: it is not `--` with something after it,
+// or its value begins with `-`. `clap` takes `--` for the end of the options, and a value in the
+// same word whatever it begins with.
 fn is_stray(word: &str) -> bool
     ensures { result ≡ is_stray word.now }
 {
@@ -35,16 +35,16 @@ fn is_stray(word: &str) -> bool
     }
 }
 
-/// Whether some word is stray.
+// Whether some word is stray.
 fn has_stray(words: &[String]) -> bool
     ensures { result ≡ list_any is_stray (texts_of words.now) }
 {
     words.iter().any(|word| is_stray(word.as_str()))
 }
 
-/// Whether the words go on to the parse: the first is `run`, and no other is stray. Does not
-/// allocate.
-pub fn may_run(words: &[String]) -> bool
+// Whether the words go on to the parse: the first is `run`, and no other is stray. Does not
+// allocate.
+pub(crate) fn may_run(words: &[String]) -> bool
     ensures { result ≡ may_run (texts_of words.now) }
 {
     match words.split_first() {

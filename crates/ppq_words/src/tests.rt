@@ -4,7 +4,7 @@ use ppq_budget::Sizes;
 use std::alloc::Global;
 use std::test::Fail;
 
-/// The words of a line, parted by single spaces.
+// The words of a line, parted by single spaces.
 fn words_of(alloc: Global, line: &str) -> Result<Vec<String>, Fail> {
     let mut words = Vec::new(alloc);
     for word in line.split(' ') {
@@ -13,7 +13,7 @@ fn words_of(alloc: Global, line: &str) -> Result<Vec<String>, Fail> {
     Ok(words)
 }
 
-/// Whether the line reads as these names and sizes.
+// Whether the line reads as these names and sizes.
 fn reads_as(
     alloc: Global,
     line: &str,
@@ -35,7 +35,7 @@ fn reads_as(
     }
 }
 
-/// Whether the line has no reading.
+// Whether the line has no reading.
 fn is_refused(alloc: Global, line: &str) -> Result<bool, Fail> {
     let words = words_of(alloc, line)?;
     match read_words(alloc, &words) {
@@ -44,7 +44,7 @@ fn is_refused(alloc: Global, line: &str) -> Result<bool, Fail> {
     }
 }
 
-/// Two workers, two records a block, a block a heap, 372 records of budget, 200 blocks.
+// Two workers, two records a block, a block a heap, 372 records of budget, 200 blocks.
 fn worked() -> Result<Sizes, Fail> {
     Ok(Sizes::new(2, 2, 1, 372, 200).ok_or("a number is out of range")?)
 }
@@ -199,7 +199,7 @@ fn a_number_is_1_to_20_digits_of_64_bits(rt: HostRuntime) -> Result<(), Fail> {
     Ok(())
 }
 
-/// The words of these numbers.
+// The words of these numbers.
 fn line_of(
     alloc: Global,
     workers: u64,

@@ -9,7 +9,7 @@ use clap::ArgMatches;
 use ppq_budget::Sizes;
 use ppq_script::number;
 
-/// The value under a name, where it is not empty.
+// The value under a name, where it is not empty.
 fn name_under<'a>(matches: &ArgMatches<'a>, id: &str) -> Option<&'a str>
     ensures { option_map (λ s. s.now) result ≡ option_and_then not_empty (first_value (found_of matches.now) id.now) }
 {
@@ -17,14 +17,14 @@ fn name_under<'a>(matches: &ArgMatches<'a>, id: &str) -> Option<&'a str>
     if text.is_empty() { None } else { Some(text) }
 }
 
-/// The value under a name, where it is a number of 1 to 20 decimal digits.
+// The value under a name, where it is a number of 1 to 20 decimal digits.
 fn number_under(matches: &ArgMatches<'_>, id: &str) -> Option<u64>
     ensures { result ≡ number_in (first_value (found_of matches.now) id.now) }
 {
     number(matches.get_str(id)?.as_bytes())
 }
 
-/// The sizes of these numbers, where each is in its range.
+// The sizes of these numbers, where each is in its range.
 fn sizes_in(workers: u64, block: u64, heap: u64, memory: u64, blocks: u64) -> Option<Sizes>
     ensures { result ≡ in_range (numbers workers block heap memory blocks) }
 {
@@ -35,7 +35,7 @@ fn sizes_in(workers: u64, block: u64, heap: u64, memory: u64, blocks: u64) -> Op
     Sizes::new(workers, block, heap, memory, blocks)
 }
 
-/// The sizes that the values say.
+// The sizes that the values say.
 fn sizes_of(matches: &ArgMatches<'_>) -> Option<Sizes>
     ensures { let value = first_value (found_of matches.now) in
         result ≡ sizes_of (number_in (value (codes "--blocks"))) (number_in (value (codes "--workers"))) (number_in (value (codes "--block"))) (number_in (value (codes "--heap"))) (number_in (value (codes "--memory"))) }
@@ -48,9 +48,9 @@ fn sizes_of(matches: &ArgMatches<'_>) -> Option<Sizes>
     sizes_in(workers, block, heap, memory, blocks)
 }
 
-/// What the values of a parse say, where none is missing, no name is empty, and each number is
-/// spelled and in its range.
-pub fn arguments_of<'a>(matches: &ArgMatches<'a>) -> Option<RunArguments<'a>>
+// What the values of a parse say, where none is missing, no name is empty, and each number is
+// spelled and in its range.
+pub(crate) fn arguments_of<'a>(matches: &ArgMatches<'a>) -> Option<RunArguments<'a>>
     ensures { option_map as_reading result ≡ reading_by (first_value (found_of matches.now)) }
 {
     let script = name_under(matches, "SCRIPT")?;

@@ -3,7 +3,7 @@ use Rattle.ppq_extract.proofs.Emptying.{some_next, some_loaded, empty_array, not
 use Rattle.ppq_extract.proofs.emptied.is_emptied_external.Goals as goal
 
 pub returns-in-Some-clause-some : goal.returns-in-Some-clause-some
-returns-in-Some-clause-some g c = λ _. some_next g.R.Record.record_of g.R.Record.WIDTH g.S.Slot.shown c.args.run.now c.next_minimum.result c.in-Some._next c.in-Some.is c.next_minimum.ensures.none c.next_minimum.ensures.noted
+returns-in-Some-clause-some g c = λ _. some_next g.R.Record.record_of g.R.Record.WIDTH g.S.Slot.shown c.args.run.now c.next_minimum.result c.in-Some._next c.in-Some.is c.next_minimum.ensures.none c.next_minimum.ensures.labelled
 
 pub returns-in-None-clause-some : goal.returns-in-None-clause-some
 returns-in-None-clause-some g c = λ e. some_loaded c.args.run.now (omega (arith, not_zero c.loaded.result e, c.loaded.ensures.loaded))

@@ -57,7 +57,7 @@ returns-in-End-clause-none g c =
     let s = state c.args.internal.now c.args.external.now c.args.idle.now (g.P.Supply.stock c.args.supply.now) in
     let edge = c.choose_edge-edge.ensures ∙ ap (λ f. edge_of g.R.Ord.cmp f c.args.below) c.first_of.ensures in
     λ tell rise. ended g.R.Ord.cmp o g.R.Record.record_of g.R.Record.WIDTH g.S.Slot.shown s c.next_block-next.result c.args.below c.choose_edge-edge.result c.mark_runs-safe.new.places c.next_block-next.ensures.next edge c.in-End.ensures.1
-    (sym c.mark_runs-safe.ensures.total ∙ c.in-End.ensures.0) c.mark_runs-safe.ensures.safe c.requires.may.none_lifted c.next_block-next.ensures.noted tell rise
+    (sym c.mark_runs-safe.ensures.total ∙ c.in-End.ensures.0) c.mark_runs-safe.ensures.safe c.requires.may.none_lifted c.next_block-next.ensures.labelled tell rise
 
 pub returns-in-End-clause-all : goal.returns-in-End-clause-all
 returns-in-End-clause-all g c none =
@@ -116,7 +116,7 @@ returns-in-Take-clause-fetched g c =
     let step = taken_step g.R.Ord.cmp o g.R.Record.record_of g.R.Record.WIDTH g.S.Slot.shown c.mark_runs-safe.new.places c.args.internal.now k.internal c.args.external.now k.external c.args.idle.now k.idle
     (g.P.Supply.stock c.args.supply.now) (g.P.Supply.stock k.supply) k.out c.take_safe.ensures.taken c.mark_runs-safe.ensures.within c.choose_edge-edge.result c.args.below c.mark_runs-safe.ensures.safe
     (λ tell rise. subst (λ e. IsSafeEdge g.R.Ord.cmp e c.args.below waits) (sym edge) (edge_is_safe g.R.Ord.cmp o g.R.Record.record_of g.R.Record.WIDTH g.S.Slot.shown c.args.external.now c.next_block-next.result c.args.below waits c.next_block-next.ensures.next
-    (λ u h. all_wait g.R.Ord.cmp o g.R.Record.record_of g.R.Record.WIDTH g.S.Slot.shown u c.args.external.now h c.requires.may.none_lifted c.next_block-next.ensures.noted tell rise.external))) in
+    (λ u h. all_wait g.R.Ord.cmp o g.R.Record.record_of g.R.Record.WIDTH g.S.Slot.shown u c.args.external.now h c.requires.may.none_lifted c.next_block-next.ensures.labelled tell rise.external))) in
     subst (λ xs. Fetched g.R.Ord.cmp g.R.Record.record_of g.R.Record.WIDTH g.S.Slot.shown c.args.below s next xs) (sym (take_first k.out (drop c.in-Take.count c.args.out.now) c.in-Take.count long)) step
 
 pub returns-in-Take-clause-may : goal.returns-in-Take-clause-may
@@ -144,7 +144,7 @@ returns-in-Odd-clause-fetched g c =
     let long : 1 ≡ length k.out = omega (arith, c.take_safe-in-Odd.ensures.length, length-take 1 c.args.out.now, c.requires.room) in
     let step = taken_step g.R.Ord.cmp o g.R.Record.record_of g.R.Record.WIDTH g.S.Slot.shown c.mark_runs.new.places c.args.internal.now k.internal c.args.external.now k.external c.args.idle.now k.idle
     (g.P.Supply.stock c.args.supply.now) (g.P.Supply.stock k.supply) k.out c.take_safe-in-Odd.ensures.taken c.mark_runs.ensures.within Whole c.args.below c.mark_runs.ensures.safe
-    (λ tell rise. absurd (never_odd g.R.Ord.cmp o g.R.Record.record_of g.R.Record.WIDTH g.S.Slot.shown s odd.0 odd.1 c.mark_runs-safe.new.places is odd.4 odd.5 (sym c.mark_runs-safe.ensures.total ∙ c.in-Odd.ensures.0) marked c.requires.may.none_lifted c.next_block-next.ensures.noted tell rise)) in
+    (λ tell rise. absurd (never_odd g.R.Ord.cmp o g.R.Record.record_of g.R.Record.WIDTH g.S.Slot.shown s odd.0 odd.1 c.mark_runs-safe.new.places is odd.4 odd.5 (sym c.mark_runs-safe.ensures.total ∙ c.in-Odd.ensures.0) marked c.requires.may.none_lifted c.next_block-next.ensures.labelled tell rise)) in
     subst (λ xs. Fetched g.R.Ord.cmp g.R.Record.record_of g.R.Record.WIDTH g.S.Slot.shown c.args.below s next xs) (sym (take_first k.out (drop 1 c.args.out.now) 1 long)) step
 
 pub returns-in-Odd-clause-may : goal.returns-in-Odd-clause-may

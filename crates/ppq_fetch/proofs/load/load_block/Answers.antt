@@ -15,7 +15,7 @@ run_job-requires-after_bounds g c κs within =
     let e : c.args.idle.now ≡ buf ∷ c.pop_front.new.self = subst (λ o. IfSome o (λ x. c.args.idle.now ≡ x ∷ c.pop_front.new.self)) c.unwrap-buf.ensures c.pop_front.ensures.first in
     let has = All-head (HasBlock n) buf c.pop_front.new.self (subst (All (HasBlock n)) e c.requires.blocks) in
     let same : (g.S.Slot.shown b.slot).size ≡ buf.block * w = size ∙ ap (λ k. k * w) (sym has) in
-    let fits : c.lift-slot.result.1 * w ≤ (g.S.Slot.shown b.slot).size = subst (λ k. k * w ≤ (g.S.Slot.shown b.slot).size) (sym c.lift-slot.ensures.count) c.lift-slot.ensures.noted.fits in
+    let fits : c.lift-slot.result.1 * w ≤ (g.S.Slot.shown b.slot).size = subst (λ k. k * w ≤ (g.S.Slot.shown b.slot).size) (sym c.lift-slot.ensures.count) c.lift-slot.ensures.labelled.fits in
     record { size = sym same; kind = count_fits c.lift-slot.result.1 buf.block w (g.S.Slot.shown b.slot).size c.record_laws.ensures.width.0 fits same }
 
 pub free_slot-requires-clause-size : goal.free_slot-requires-clause-size
@@ -42,7 +42,7 @@ returns-in-Ok-clause-loaded g c =
     let is : done.answer ≡ Ok c.in-Ok.field-0 = some_is c.in-Some.answer done.answer c.in-Some.answer (sym done.done ∙ c.in-Some.is) ∙ c.in-Ok.is in
     let e : c.args.idle.now ≡ c.unwrap-buf.result ∷ c.pop_front.new.self = subst (λ o. IfSome o (λ x. c.args.idle.now ≡ x ∷ c.pop_front.new.self)) c.unwrap-buf.ensures c.pop_front.ensures.first in
     let a = c.accept_block.ensures in
-    block_loaded g.R.Record.record_of g.R.Record.WIDTH g.S.Slot.shown done.answer c.in-Ok.field-0 is b (g.S.Slot.shown c.run_job.new.job.slot.slot) c.lift-slot.result.1 c.unwrap-buf.result c.run_job.new.job.buf c.lift-slot.ensures.count done.does c.lift-slot.ensures.noted
+    block_loaded g.R.Record.record_of g.R.Record.WIDTH g.S.Slot.shown done.answer c.in-Ok.field-0 is b (g.S.Slot.shown c.run_job.new.job.slot.slot) c.lift-slot.result.1 c.unwrap-buf.result c.run_job.new.job.buf c.lift-slot.ensures.count done.does c.lift-slot.ensures.labelled
     c.args.array.now c.lift-slot.new.self c.accept_block.new.self c.lift-slot.ensures.block c.requires.none_lifted c.lift-slot.ensures.rest a.loaded a.items a.same a.rest c.args.idle.now c.pop_front.new.self e
     (g.P.Supply.stock c.args.supply.now) (g.P.Supply.stock c.free_slot.new.supply) c.free_slot.ensures.back
 

@@ -3,7 +3,7 @@ use Rattle.std.specs.List.{AllByRecursion as Each}
 use Rattle.std.proofs.lemmas.Grind.{take_at_read}
 use Rattle.ppq_record.proofs.Order.{Each-append}
 use Rattle.ppq_record.proofs.Fronts.{ranks}
-use Rattle.ppq_array.specs.External.{IsNoted}
+use Rattle.ppq_array.specs.External.{IsLabelled}
 use Rattle.ppq_fetch.specs.Turns.{IsNext, lesser_block}
 use Rattle.ppq_fetch.proofs.Nexts.{next_more}
 use Rattle.ppq_fetch.proofs.turn.next_block.Goals as goal
@@ -20,5 +20,5 @@ loop-i-preserved g c =
     let best : lesser_block g.R.Ord.cmp l.best (length (take l.i xs)) m ≡ c.nearer_block-best.result = ap (λ n. lesser_block g.R.Ord.cmp l.best n m) long ∙ sym c.nearer_block-best.ensures in
     record {
       next = subst (λ ys. IsNext g.R.Ord.cmp ys c.nearer_block-best.result) (sym cut) (subst (λ b. IsNext g.R.Ord.cmp (take l.i xs ++ a ∷ []) b) best more);
-      noted = subst (λ ys. Each (λ a. All (IsNoted g.R.Record.record_of g.R.Record.WIDTH g.S.Slot.shown) a.stored) ys) (sym cut) (Each-append (λ a. All (IsNoted g.R.Record.record_of g.R.Record.WIDTH g.S.Slot.shown) a.stored) (take l.i xs) (a ∷ []) l.invariant.noted (c.next_to_lift.ensures.noted, tt));
+      labelled = subst (λ ys. Each (λ a. All (IsLabelled g.R.Record.record_of g.R.Record.WIDTH g.S.Slot.shown) a.stored) ys) (sym cut) (Each-append (λ a. All (IsLabelled g.R.Record.record_of g.R.Record.WIDTH g.S.Slot.shown) a.stored) (take l.i xs) (a ∷ []) l.invariant.labelled (c.next_to_lift.ensures.labelled, tt));
     }

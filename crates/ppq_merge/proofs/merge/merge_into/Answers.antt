@@ -2,7 +2,7 @@ use Rattle.std.proofs.Common.{◌≡◌, arith}
 use Rattle.ppq_record.specs.Order.{is_before}
 use Rattle.ppq_record.proofs.Fronts.{ranks}
 use Rattle.ppq_merge.specs.Parts.{size_between}
-use Rattle.ppq_merge.proofs.Heads.{spent}
+use Rattle.ppq_merge.proofs.Heads.{all_moved}
 use Rattle.ppq_merge.proofs.Merging.{merging_all}
 use Rattle.ppq_merge.proofs.merge.merge_into.Goals as goal
 
@@ -12,8 +12,8 @@ returns-clause-merge g c =
     let nothing : size_between c.merge_front.new.from c.args.to.now ≡ 0 = omega (arith, e.left, c.requires.size) in
     merging_all (is_before g.R.Ord.cmp) (ranks c.record_laws.ensures.order) (g.Q.Listing.lists c.args.runs.now) c.args.from.now c.args.to.now c.merge_front.new.from c.merge_front.new.out e.parts nothing e.merging
 
-pub returns-clause-spent : goal.returns-clause-spent
-returns-clause-spent g c =
+pub returns-clause-moved : goal.returns-clause-moved
+returns-clause-moved g c =
     let e = c.merge_front.ensures in
     let nothing : size_between c.merge_front.new.from c.args.to.now ≡ 0 = omega (arith, e.left, c.requires.size) in
-    spent c.merge_front.new.from c.args.to.now (g.Q.Listing.lists c.args.runs.now) e.parts nothing
+    all_moved c.merge_front.new.from c.args.to.now (g.Q.Listing.lists c.args.runs.now) e.parts nothing

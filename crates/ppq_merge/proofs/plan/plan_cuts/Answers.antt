@@ -9,8 +9,8 @@ use Rattle.ppq_merge.specs.Seat.{IsSized}
 use Rattle.ppq_merge.proofs.Planned.{plan_none, cut_plan_none, AreWithin-zeros, plan_step, cut_step, rank_rises}
 use Rattle.ppq_merge.proofs.plan.plan_cuts.Goals as goal
 
-pub loop-place-init : goal.loop-place-init
-loop-place-init g c =
+pub loop-worker-init : goal.loop-worker-init
+loop-worker-init g c =
     let qs = g.Q.Listing.lists c.args.runs.now in
     let lt = is_before g.R.Ord.cmp in
     let z : 0 ≡ c.args.count * 0 / length c.args.seats.now = search rules in
@@ -22,19 +22,19 @@ loop-place-init g c =
       rising = λ up. (refl, subst (IsCutPlan lt qs [] c.args.carry.now) z (cut_plan_none lt qs c.args.carry.now c.requires.places c.requires.zeros));
     }
 
-pub loop-place-preserved : goal.loop-place-preserved
-loop-place-preserved g c =
+pub loop-worker-preserved : goal.loop-worker-preserved
+loop-worker-preserved g c =
     let qs = g.Q.Listing.lists c.args.runs.now in
     let lt = is_before g.R.Ord.cmp in
-    let i = c.loop-place.invariant in
+    let i = c.loop-worker.invariant in
     let e = c.plan_seat-rises.ensures in
     let r = c.rank_of-rank.ensures in
     let n = c.args.leaves in
-    let k : c.loop-place.place < length c.loop-place.seats = search rules in
+    let k : c.loop-worker.worker < length c.loop-worker.seats = search rules in
     let s = c.plan_seat-rises.new.seat in
-    let m = c.loop-place.carry in
-    let t = c.args.count * (c.loop-place.place + 1) / length c.args.seats.now in
-    let old : IsSized n (get_or c.loop-place.seats c.loop-place.place c.index-seats-place.result) = i.sized c.loop-place.place c.index-seats-place.result k in
+    let m = c.loop-worker.carry in
+    let t = c.args.count * (c.loop-worker.worker + 1) / length c.args.seats.now in
+    let old : IsSized n (get_or c.loop-worker.seats c.loop-worker.worker c.index-seats-worker.result) = i.sized c.loop-worker.worker c.index-seats-worker.result k in
     let sum : total c.plan_seat-rises.new.carry ≡ t = e.adds_up ∙ r.rank in
     let sized : IsSized n s = record { from = e.from_length ∙ old.from; to = e.to_length ∙ old.to; leaves = subst (λ t. n ≤ t.room) (sym e.tree) old.leaves } in
     let a = c.requires.seat_room in
@@ -42,27 +42,27 @@ loop-place-preserved g c =
     record {
       within = e.within;
       adds_up = sum;
-      sized = All-set (IsSized n) c.loop-place.seats c.loop-place.place s sized i.sized;
-      plan = λ h. plan_step lt qs c.args.carry.now 0 c.loop-place.seats c.loop-place.place s m c.plan_seat-rises.new.carry _ t c.loop-place.ok c.plan_seat-rises.result k i.plan e.from e.to (e.end ∙ r.rank) i.adds_up sum i.within e.within e.rises
+      sized = All-set (IsSized n) c.loop-worker.seats c.loop-worker.worker s sized i.sized;
+      plan = λ h. plan_step lt qs c.args.carry.now 0 c.loop-worker.seats c.loop-worker.worker s m c.plan_seat-rises.new.carry _ t c.loop-worker.ok c.plan_seat-rises.result k i.plan e.from e.to (e.end ∙ r.rank) i.adds_up sum i.within e.within e.rises
           (omega (arith, sized.from), omega (arith, sized.to), omega (arith, sized.leaves)) h;
-      rising = λ up. cut_step lt qs c.args.carry.now 0 c.loop-place.seats c.loop-place.place s m c.plan_seat-rises.new.carry _ t c.loop-place.ok c.plan_seat-rises.result k (i.rising up) e.to
-          (subst (λ x. IsCutBy lt qs x c.plan_seat-rises.new.carry) r.rank (e.cut up)) (rank_rises c.args.count c.loop-place.place (length c.args.seats.now) (omega (arith, c.requires.some.0))) e.stays;
+      rising = λ up. cut_step lt qs c.args.carry.now 0 c.loop-worker.seats c.loop-worker.worker s m c.plan_seat-rises.new.carry _ t c.loop-worker.ok c.plan_seat-rises.result k (i.rising up) e.to
+          (subst (λ x. IsCutBy lt qs x c.plan_seat-rises.new.carry) r.rank (e.cut up)) (rank_rises c.args.count c.loop-worker.worker (length c.args.seats.now) (omega (arith, c.requires.some.0))) e.stays;
     }
 
 pub returns : goal.returns
 returns g c =
     let qs = g.Q.Listing.lists c.args.runs.now in
-    let i = c.loop-place.invariant in
+    let i = c.loop-worker.invariant in
     let lt = is_before g.R.Ord.cmp in
-    let at : c.loop-place.place ≡ length c.args.seats.now = search rules in
-    let n : length c.loop-place.seats ≡ length c.args.seats.now = search rules in
-    let whole : c.args.count * c.loop-place.place / length c.args.seats.now ≡ c.args.count =
+    let at : c.loop-worker.worker ≡ length c.args.seats.now = search rules in
+    let n : length c.loop-worker.seats ≡ length c.args.seats.now = search rules in
+    let whole : c.args.count * c.loop-worker.worker / length c.args.seats.now ≡ c.args.count =
     ap (λ x. c.args.count * x / length c.args.seats.now) at ∙ mul-div_cancel c.args.count c.requires.some.0 in
-    let all : take c.loop-place.place c.loop-place.seats ≡ c.loop-place.seats = take_all c.loop-place.place c.loop-place.seats (omega arith) in
+    let all : take c.loop-worker.worker c.loop-worker.seats ≡ c.loop-worker.seats = take_all c.loop-worker.worker c.loop-worker.seats (omega arith) in
     record {
       sized = i.sized;
       within = i.within;
       adds_up = i.adds_up ∙ whole;
-      plan = λ h. subst (λ ss. IsPlan qs c.args.carry.now ss c.loop-place.carry c.args.count) all (subst (IsPlan qs c.args.carry.now (take c.loop-place.place c.loop-place.seats) c.loop-place.carry) whole (i.plan h));
-      rising = λ up. ((i.rising up).0, subst (λ ss. IsCutPlan lt qs ss c.loop-place.carry c.args.count) all (subst (IsCutPlan lt qs (take c.loop-place.place c.loop-place.seats) c.loop-place.carry) whole (i.rising up).1));
+      plan = λ h. subst (λ ss. IsPlan qs c.args.carry.now ss c.loop-worker.carry c.args.count) all (subst (IsPlan qs c.args.carry.now (take c.loop-worker.worker c.loop-worker.seats) c.loop-worker.carry) whole (i.plan h));
+      rising = λ up. ((i.rising up).0, subst (λ ss. IsCutPlan lt qs ss c.loop-worker.carry c.args.count) all (subst (IsCutPlan lt qs (take c.loop-worker.worker c.loop-worker.seats) c.loop-worker.carry) whole (i.rising up).1));
     }

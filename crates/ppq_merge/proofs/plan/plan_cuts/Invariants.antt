@@ -6,14 +6,14 @@ use Rattle.ppq_merge.specs.Plan.{IsPlan, IsCutPlan}
 use Rattle.ppq_merge.specs.Seat.{IsSized}
 use Rattle.ppq_merge.proofs.plan.plan_cuts.Given as goal
 
-abbrev pub invariant-loop-place : goal.invariant-loop-place
-invariant-loop-place g l =
+abbrev pub invariant-loop-worker : goal.invariant-loop-worker
+invariant-loop-worker g l =
     let qs = g.Q.Listing.lists l.runs in
-    let rank = l.count * l.place / l.workers in
+    let rank = l.count * l.worker / l.workers in
     record {
       within : AreWithin l.carry qs;
       adds_up : total l.carry ≡ rank;
       sized : All (IsSized l.leaves) l.seats;
-      plan : l.ok ≡ true → IsPlan qs l.fn.carry (take l.place l.seats) l.carry rank;
-      rising : AllAscend g.R.Ord.cmp qs → (l.ok ≡ true) × IsCutPlan (is_before g.R.Ord.cmp) qs (take l.place l.seats) l.carry rank;
+      plan : l.ok ≡ true → IsPlan qs l.fn.carry (take l.worker l.seats) l.carry rank;
+      rising : AllAscend g.R.Ord.cmp qs → (l.ok ≡ true) × IsCutPlan (is_before g.R.Ord.cmp) qs (take l.worker l.seats) l.carry rank;
     }

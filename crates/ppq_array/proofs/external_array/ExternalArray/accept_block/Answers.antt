@@ -1,5 +1,5 @@
 use Rattle.std.proofs.Common.{take, drop, sym, ap, ◌∙◌, subst}
-use Rattle.ppq_array.specs.External.{external, IsNoted, Accepts, FirstTells, records_in}
+use Rattle.ppq_array.specs.External.{external, IsLabelled, Accepts, FirstTells, records_in}
 use Rattle.ppq_array.proofs.Noted.{accepts, accepts_some, accepted_same, all_left}
 use Rattle.ppq_array.proofs.external_array.ExternalArray.accept_block.Goals as goal
 
@@ -9,7 +9,7 @@ add-requires-clause-some g c =
     let f = g.R.Record.record_of in
     let w = g.R.Record.WIDTH in
     let first = subst (λ a. Accepts f w g.S.Slot.shown a.lifted c.args.buf) (sym c.self.view_is) c.requires.first in
-    accepts_some f w g.S.Slot.shown (take s.lifted (drop s.accepted s.was.value)) c.args.buf first (all_left (IsNoted f w g.S.Slot.shown) (take s.lifted (drop s.accepted s.was.value)) s.stored c.self.invariant.noted)
+    accepts_some f w g.S.Slot.shown (take s.lifted (drop s.accepted s.was.value)) c.args.buf first (all_left (IsLabelled f w g.S.Slot.shown) (take s.lifted (drop s.accepted s.was.value)) s.stored c.self.invariant.labelled)
 
 pub invariant_of-self : goal.invariant_of-self
 invariant_of-self g c =

@@ -38,8 +38,8 @@ invariant_of-self g c =
     let i = c.if-self-eq0.self-inside in
     (lifts g.R.Record.record_of g.R.Record.WIDTH g.S.Slot.shown i.loaded i.was.value i.accepted i.lifted i.stored i.len (take c.self.inside.lifted (drop c.self.inside.accepted c.self.inside.was.value)) (ready g c).0 c.unwrap-berth.result c.pop_front.new.self (first g c)).0
 
-pub returns-clause-noted : goal.returns-clause-noted
-returns-clause-noted g c =
+pub returns-clause-labelled : goal.returns-clause-labelled
+returns-clause-labelled g c =
     let i = c.if-self-eq0.self-inside in
     (lifts g.R.Record.record_of g.R.Record.WIDTH g.S.Slot.shown i.loaded i.was.value i.accepted i.lifted i.stored i.len (take c.self.inside.lifted (drop c.self.inside.accepted c.self.inside.was.value)) (ready g c).0 c.unwrap-berth.result c.pop_front.new.self (first g c)).2
 
