@@ -14,9 +14,9 @@ use std::marker::Model;
 /// of a binary heap: no record is after its children.
 #[derive(Drop)]
 pub struct InsertionHeap<R: Record> {
-    /// The records, as a binary heap.
+    // The records, as a binary heap.
     records: Vec<R>,
-    /// How many records there may be; the vector has room for so many from the beginning.
+    // How many records there may be; the vector has room for so many from the beginning.
     cap: u32,
 }
 

@@ -1,13 +1,18 @@
-//! The insertion heap: a binary heap of a fixed number of records, the least first.
+//! The insertion heap: a binary heap of a fixed number of records, the least first; and the insertion
+//! heaps of several workers, the least of all of them first.
 //!
 //! `try_push` and `pop` cost about the binary logarithm of the number of records in comparisons, `min`
 //! none. The memory is taken once, by `new`. A full heap is sorted in place, read as a slice and
 //! emptied; since an ascending list is a heap too, it stays one all the while.
 #![tactic(auto)]
 
+mod heaps;
+#[cfg(test)]
+mod heaps_tests;
 mod insertion_heap;
 mod sift;
 #[cfg(test)]
 mod tests;
 
+pub use heaps::Heaps;
 pub use insertion_heap::InsertionHeap;

@@ -11,8 +11,8 @@ ghost use Rattle.ppq_heap.specs.Heap.{IsMinHeap, IsHeapRound, IsLesserChild};
 
 use ppq_record::{Record, record_laws};
 
-/// Puts a record into a heap with a hole at a leaf: the hole rises to the place below the first
-/// parent that the record is not before.
+// Puts a record into a heap with a hole at a leaf: the hole rises to the place below the first
+// parent that the record is not before.
 pub(crate) fn rise<R: Record>(items: &mut [R], from: usize, item: R)
     requires from { from < length items.old }
     requires leaf { length items.old ≤ 2 * from + 1 }
@@ -34,8 +34,8 @@ pub(crate) fn rise<R: Record>(items: &mut [R], from: usize, item: R)
     items[hole] = item;
 }
 
-/// Sinks the hole at the root of a heap to a leaf, whose place it gives. At each level the lesser
-/// child moves up.
+// Sinks the hole at the root of a heap to a leaf, whose place it gives. At each level the lesser
+// child moves up.
 fn sink<R: Record>(items: &mut [R]) -> usize
     requires some { 0 < length items.old }
     requires heap { IsMinHeap (is_before R.Ord.cmp) items.old }
@@ -55,7 +55,7 @@ fn sink<R: Record>(items: &mut [R]) -> usize
     hole
 }
 
-/// The place of the lesser child, the first of equal ones.
+// The place of the lesser child, the first of equal ones.
 #[inline]
 fn lesser_child<R: Record>(items: &[R], parent: usize) -> usize
     requires { 2 * parent + 1 < length items.now }
@@ -73,7 +73,7 @@ fn lesser_child<R: Record>(items: &[R], parent: usize) -> usize
     }
 }
 
-/// Takes the root, the least record, out of a heap and puts another record into it.
+// Takes the root, the least record, out of a heap and puts another record into it.
 pub(crate) fn replace_root<R: Record>(items: &mut [R], item: R) -> R
     requires some { 0 < length items.old }
     requires heap { IsMinHeap (is_before R.Ord.cmp) items.old }

@@ -2,7 +2,7 @@ use crate::InsertionHeap;
 use ppq_record::Pair;
 use std::test::Fail;
 
-/// The record that a test calls `n`.
+// The record that a test calls `n`.
 fn record(n: u64) -> Pair {
     Pair { key: n, value: 0 }
 }
