@@ -1,19 +1,20 @@
 -- The bounds of a queue whose runs are at rest: buffers, records, blocks.
 use Rattle.std.proofs.Common.{◌≡◌, ℕ, ◌+◌, ◌-◌, ◌*◌, ◌/◌, ◌<◌, ◌≤◌, List, ◌++◌, length, max, sum_by, sym, ap, arith, inl, inr, length-append}
-use Rattle.std.specs.Prelude.{flat_map}
+use Rattle.std.specs.Prelude.{flat_map, vec_capacity}
 use Rattle.std.proofs.lemmas.List.Sums.{sum_by-append}
 use Rattle.std.proofs.Math.Nat.{add-mul, mul_comm, mul_assoc, mul-le-mul_right, div-mul-le_self, lt_of_mul-lt-mul_right}
 use Rattle.std.specs.declared.cmp.Ordering.{Ordering}
 use Rattle.ppq_outside.specs.Shown.{Shown, AllTell}
-use Rattle.ppq_budget.specs.Sizes.{Numbers, AreInRange, fixed_of, heap_of, batch_of, pool_of, blocks_for, room_of}
+use Rattle.ppq_budget.specs.Sizes.{Numbers, AreInRange, fixed_of, heap_of, heaps_of, batch_of, pool_of, blocks_for, room_of}
 use Rattle.ppq_array.specs.Supply.{Stock}
 use Rattle.ppq_array.specs.External.{records_in}
 use Rattle.ppq_array.specs.Holdings.{internal_items, internal_buffers, external_buffers, external_slots}
 use Rattle.ppq_fetch.specs.Fetching.{blocks_in}
 use Rattle.ppq_spill.specs.Body.{job_slots}
 use Rattle.ppq_spill.specs.declared.body.PassBody.{PassBody}
-use Rattle.ppq_queue.specs.Resting.{AtRest, runs_bag, lane_buffers, count_of, slots_of, IsShort}
-use Rattle.ppq_queue.proofs.Counts.{left_tells, arrays_length, runs_some, runs_fit, internal_count, stored_slots, arrays_fit, arrays_full, arrays_written}
+use Rattle.ppq_queue.specs.Resting.{AtRest, runs_bag, lane_buffers, count_of, slots_of, odd_in, IsShort}
+use Rattle.ppq_queue.proofs.Counts.{left_tells, arrays_length, runs_some, runs_fit, internal_count, stored_slots, arrays_fit, arrays_written}
+use Rattle.ppq_queue.proofs.Odd.{arrays_full, runs_most}
 
 -- the pool is within the budget
 pub pool_within : (n : Numbers) → fixed_of n ≤ n.memory → fixed_of n + pool_of n * n.block ≤ n.memory
@@ -25,11 +26,10 @@ pool_within n h =
 pub pool_small : (n : Numbers) → pool_of n ≤ 65536
 pool_small n = omega arith
 
--- heap, extract buffer and lanes are in the fixed part
-pub parts_within : (n : Numbers) → AreInRange n → heap_of n + batch_of n + 2 * batch_of n + lane_buffers n * n.block + n.blocks ≤ fixed_of n
+-- heaps, extract buffer and lanes are in the fixed part
+pub parts_within : (n : Numbers) → AreInRange n → heaps_of n + batch_of n + 2 * batch_of n + lane_buffers n * n.block + n.blocks ≤ fixed_of n
 parts_within n range =
-    let one : 1 * n.heap ≤ n.workers * n.heap = mul-le-mul_right n.heap range.some_worker in
-    let heap : n.heap * n.block ≤ n.workers * n.heap * n.block = mul-le-mul_right n.block (omega (arith, one)) in
+    let heap : n.workers * n.heap * n.block ≡ n.workers * (n.heap * n.block) = mul_assoc n.workers n.heap n.block in
     let lanes : lane_buffers n * n.block ≡ 72 * n.block + 3 * n.workers * n.block = add-mul 72 (3 * n.workers) n.block in
     let three : 3 * n.workers * n.block ≡ 3 * (n.workers * n.block) = mul_assoc 3 n.workers n.block in
     let all : n.block * (n.workers * n.heap + 6 * n.workers + 72) ≡ (n.workers * n.heap + 6 * n.workers + 72) * n.block = mul_comm n.block (n.workers * n.heap + 6 * n.workers + 72) in
@@ -37,6 +37,15 @@ parts_within n range =
     let sum' : (n.workers * n.heap + 6 * n.workers) * n.block ≡ n.workers * n.heap * n.block + 6 * n.workers * n.block = add-mul (n.workers * n.heap) (6 * n.workers) n.block in
     let six : 6 * n.workers * n.block ≡ 6 * (n.workers * n.block) = mul_assoc 6 n.workers n.block in
     omega (arith, heap, lanes, three, all, sum, sum', six)
+
+-- a heap, and all heaps, are within the budget
+pub heaps_within : (n : Numbers) → AreInRange n → fixed_of n ≤ n.memory → heaps_of n ≤ n.memory
+heaps_within n range budget = omega (arith, parts_within n range, budget)
+
+pub heap_within : (n : Numbers) → AreInRange n → fixed_of n ≤ n.memory → heap_of n ≤ n.memory
+heap_within n range budget =
+    let one : 1 * (n.heap * n.block) ≤ n.workers * (n.heap * n.block) = mul-le-mul_right (n.heap * n.block) range.some_worker in
+    omega (arith, one, heaps_within n range budget)
 
 module _ {S R : Type 0} (shown : S → Shown) (cmp : R → R → Ordering) (record_of : List ℕ → R) (width : ℕ) (n : Numbers) (body : PassBody S R) (stock : Stock) where
   abbrev Rests : Type 0
@@ -68,6 +77,10 @@ module _ {S R : Type 0} (shown : S → Shown) (cmp : R → R → Ordering) (reco
   pub blocks_few : Rests → blocks_in body.runs.external.items ≤ n.blocks
   blocks_few rest = omega (arith, sym (stored_slots shown body.runs.external.items), rest.takes_back.slots, rest.slots)
 
+  -- the list of runs in blocks has room for one more
+  pub arrays_few : Rests → length body.runs.external.items < vec_capacity body.runs.external
+  arrays_few rest = omega (arith, runs_most stock.block shown width body.runs.external.items rest.external, rest.few, blocks_few rest, rest.external_room)
+
   -- all records of runs fit in the buffers and the stored blocks
   pub count_fits : Rests → count_of body ≤ (lane_buffers n + pool_of n) * n.block + blocks_in body.runs.external.items * n.block
   count_fits rest =
@@ -85,13 +98,13 @@ module _ {S R : Type 0} (shown : S → Shown) (cmp : R → R → Ordering) (reco
       omega (arith, int, ext, a, b, d, most, sum, internal_count body.runs.internal.items)
 
   -- all records of a queue are within the budget, or in stored blocks
-  pub records_within : Rests → AreInRange n → fixed_of n ≤ n.memory → (heap extract : ℕ) → heap ≤ heap_of n → extract ≤ batch_of n → heap + extract + count_of body ≤ n.memory + blocks_in body.runs.external.items * n.block
+  pub records_within : Rests → AreInRange n → fixed_of n ≤ n.memory → (heap extract : ℕ) → heap ≤ heaps_of n → extract ≤ batch_of n → heap + extract + count_of body ≤ n.memory + blocks_in body.runs.external.items * n.block
   records_within rest range budget heap extract h e =
       let sum : (lane_buffers n + pool_of n) * n.block ≡ lane_buffers n * n.block + pool_of n * n.block = add-mul (lane_buffers n) (pool_of n) n.block in
       omega (arith, count_fits rest, parts_within n range, pool_within n budget, sum, h, e)
 
   -- the same for a device that is full
-  pub records_most : Rests → AreInRange n → fixed_of n ≤ n.memory → (heap extract : ℕ) → heap ≤ heap_of n → extract ≤ batch_of n → heap + extract + count_of body ≤ n.memory + n.block * n.blocks
+  pub records_most : Rests → AreInRange n → fixed_of n ≤ n.memory → (heap extract : ℕ) → heap ≤ heaps_of n → extract ≤ batch_of n → heap + extract + count_of body ≤ n.memory + n.block * n.blocks
   records_most rest range budget heap extract h e =
       let most : blocks_in body.runs.external.items * n.block ≤ n.blocks * n.block = mul-le-mul_right n.block (blocks_few rest) in
       omega (arith, records_within rest range budget heap extract h e, most, mul_comm n.blocks n.block)
@@ -124,8 +137,8 @@ module _ {S R : Type 0} (shown : S → Shown) (cmp : R → R → Ordering) (reco
   pub room_short : Rests → AreInRange n → length (slots_of shown body stock) ≡ n.blocks → (records peak : ℕ) → count_of body ≤ records → records ≤ peak → IsShort n (length stock.kept) records → n.blocks < room_of n peak
   room_short rest range all records peak some most short =
       let k = blocks_in body.runs.external.items in
-      let w = length body.runs.external.items in
-      let full = arrays_full shown width stock.block body.runs.external.items rest.external in
+      let w = odd_in stock.block body.runs.external.items in
+      let full = arrays_full stock.block shown width body.runs.external.items rest.external in
       let a : k * stock.block ≡ k * n.block = ap (λ b. k * b) rest.block in
       let b : w * stock.block ≡ w * n.block = ap (λ b. w * b) rest.block in
       let sixty : w * n.block ≤ 65 * n.block = mul-le-mul_right n.block rest.few in
@@ -167,6 +180,6 @@ module _ {S R : Type 0} (shown : S → Shown) (cmp : R → R → Ordering) (reco
       omega (arith, fewer)
 
 -- what is resident is within the budget
-pub resident_within : (n : Numbers) → AreInRange n → fixed_of n ≤ n.memory → (heap extract used : ℕ) → heap ≤ heap_of n → extract ≤ batch_of n → used ≤ n.blocks → heap + extract + used + 2 * batch_of n + (lane_buffers n + pool_of n) * n.block ≤ n.memory
+pub resident_within : (n : Numbers) → AreInRange n → fixed_of n ≤ n.memory → (heap extract used : ℕ) → heap ≤ heaps_of n → extract ≤ batch_of n → used ≤ n.blocks → heap + extract + used + 2 * batch_of n + (lane_buffers n + pool_of n) * n.block ≤ n.memory
 resident_within n range budget heap extract used h e u =
     omega (arith, parts_within n range, pool_within n budget, add-mul (lane_buffers n) (pool_of n) n.block, h, e, u)

@@ -76,13 +76,13 @@ module _ {R : Type 0} where
   internal_count (r ∷ rs) = omega (arith, ap length (flat_map-cons (λ (run : Run R). items_of run) r rs), length-append (items_of r) (internal_items rs), internal_count rs, sum_by-cons (λ (run : Run R). length (items_of run)) r rs)
 
 module _ {S R : Type 0} where
-  counts_fit : (block : ℕ) (blocks : List (DeviceBlock S R)) → All (λ (b : DeviceBlock S R). b.count ≤ block) blocks → counts blocks ≤ length blocks * block
+  pub counts_fit : (block : ℕ) (blocks : List (DeviceBlock S R)) → All (λ (b : DeviceBlock S R). b.count ≤ block) blocks → counts blocks ≤ length blocks * block
   counts_fit block [] a = omega arith
   counts_fit block (b ∷ bs) a =
       let here : b.count ≤ block = All-head (λ (b : DeviceBlock S R). b.count ≤ block) b bs a in
       omega (arith, here, counts_fit block bs (All-tail (λ (b : DeviceBlock S R). b.count ≤ block) b bs a), one_more (length bs) block, sum_by-cons (λ (b : DeviceBlock S R). b.count) b bs)
 
-  counts_full : (block : ℕ) (blocks : List (DeviceBlock S R)) → All (λ (b : DeviceBlock S R). b.count ≡ block) (take (length blocks - 1) blocks) → length blocks * block ≤ counts blocks + block
+  pub counts_full : (block : ℕ) (blocks : List (DeviceBlock S R)) → All (λ (b : DeviceBlock S R). b.count ≡ block) (take (length blocks - 1) blocks) → length blocks * block ≤ counts blocks + block
   counts_full block [] a = omega arith
   counts_full block (b ∷ []) a = omega (arith, one_more 0 block, zero-mul block)
   counts_full block (b ∷ (d ∷ ds)) a =
@@ -93,7 +93,7 @@ module _ {S R : Type 0} where
       let here : b.count ≡ block = All-head (λ (x : DeviceBlock S R). x.count ≡ block) b (take (length ds) (d ∷ ds)) a' in
       omega (arith, here, counts_full block (d ∷ ds) tail, one_more (length (d ∷ ds)) block, sum_by-cons (λ (x : DeviceBlock S R). x.count) b (d ∷ ds))
 
-  waiting_is : (a : External S R) → a.lifted ≡ [] → counts (waiting a) ≡ counts a.stored
+  pub waiting_is : (a : External S R) → a.lifted ≡ [] → counts (waiting a) ≡ counts a.stored
   waiting_is a e = ap (λ (l : List (DeviceBlock S R)). counts (l ++ a.stored)) e
 
   -- how many blocks are stored
@@ -102,7 +102,7 @@ module _ {S R : Type 0} where
   stored_slots shown (a ∷ as') = omega (arith, ap length (flat_map-cons (λ (x : External S R). slots_shown shown x.stored) a as'), length-append (slots_shown shown a.stored) (external_slots shown as'), slots_long shown a.stored, stored_slots shown as', sum_by-cons (λ (x : External S R). length x.stored) a as')
 
   module _ (shown : S → Shown) (width block : ℕ) where
-    -- runs in blocks have no more records than fit in what is loaded and stored, and no fewer than full blocks but one each have
+    -- runs in blocks have no more records than fit in what is loaded and stored
     pub arrays_fit : (arrays : List (External S R)) → All (IsRestingArray shown width block) arrays → sum_by size_of arrays ≤ external_buffers arrays * block + blocks_in arrays * block
     arrays_fit [] a = omega arith
     arrays_fit (x ∷ xs) a =
@@ -113,15 +113,6 @@ module _ {S R : Type 0} where
         let buffers : external_buffers (x ∷ xs) * block ≡ length (buffers_of x.loaded) * block + external_buffers xs * block = ap (λ n. n * block) (sum_by-cons (λ (y : External S R). length (buffers_of y.loaded)) x xs) ∙ add-mul (length (buffers_of x.loaded)) (external_buffers xs) block in
         let blocks : blocks_in (x ∷ xs) * block ≡ length x.stored * block + blocks_in xs * block = ap (λ n. n * block) (sum_by-cons (λ (y : External S R). length y.stored) x xs) ∙ add-mul (length x.stored) (blocks_in xs) block in
         omega (arith, more, loaded, stored, buffers, blocks, waiting_is x is.lifted, sum_by-cons (λ (y : External S R). size_of y) x xs)
-
-    pub arrays_full : (arrays : List (External S R)) → All (IsRestingArray shown width block) arrays → blocks_in arrays * block ≤ sum_by size_of arrays + length arrays * block
-    arrays_full [] a = omega arith
-    arrays_full (x ∷ xs) a =
-        let is = All-head (IsRestingArray shown width block) x xs a in
-        let more = arrays_full xs (All-tail (IsRestingArray shown width block) x xs a) in
-        let stored = counts_full block x.stored is.packed.full in
-        let blocks : blocks_in (x ∷ xs) * block ≡ length x.stored * block + blocks_in xs * block = ap (λ n. n * block) (sum_by-cons (λ (y : External S R). length y.stored) x xs) ∙ add-mul (length x.stored) (blocks_in xs) block in
-        omega (arith, more, stored, blocks, waiting_is x is.lifted, sum_by-cons (λ (y : External S R). size_of y) x xs, one_more (length xs) block)
 
     -- each stored block was written
     pub arrays_written : (arrays : List (External S R)) → All (IsRestingArray shown width block) arrays → blocks_in arrays ≤ sum_by (λ (s : Shown). s.writes) (external_slots shown arrays)

@@ -10,7 +10,7 @@ use Rattle.ppq_record.proofs.Order.{count_by-cons, count_by-append, Each-weaker,
 use Rattle.ppq_record.proofs.Fronts.{ranks, front-parts}
 use Rattle.ppq_outside.specs.Shown.{Shown}
 use Rattle.ppq_budget.specs.Sizes.{Numbers, pool_of}
-use Rattle.ppq_heap.specs.Heap.{Contents}
+use Rattle.ppq_heap.specs.Heaps.{Shares, items_of}
 use Rattle.ppq_array.specs.Supply.{Stock}
 use Rattle.ppq_fetch.specs.Taking.{IsTaken, NoneBelow}
 use Rattle.ppq_extract.specs.Extracted.{Held, ServesFor}
@@ -23,12 +23,13 @@ use Rattle.ppq_queue.proofs.Least.{least-le, least-none}
 
 module _ {S R : Type 0} (shown : S → Shown) (n : Numbers) where
   -- a queue that counts fewer records
-  pub queue-less : (h : Contents R) (x : Held R) (a : PassBody S R) (s : Stock) (count less peak : ℕ) (failed : Option ℕ) → less ≤ count → IsQueue shown n h x a s count peak failed → IsQueue shown n h x a s less peak failed
+  pub queue-less : (h : Shares R) (x : Held R) (a : PassBody S R) (s : Stock) (count less peak : ℕ) (failed : Option ℕ) → less ≤ count → IsQueue shown n h x a s count peak failed → IsQueue shown n h x a s less peak failed
   queue-less h x a s count less peak failed few is =
       record {
         range = is.range;
         budget = is.budget;
         cap = is.cap;
+        shares = is.shares;
         in_heap = is.in_heap;
         room = is.room;
         in_extract = is.in_extract;
@@ -44,8 +45,8 @@ module _ {S R : Type 0} (shown : S → Shown) (n : Numbers) where
 
   -- a sound queue after records were taken out
   pub sound-took :
-      (cmp : R → R → Ordering) (record_of : List ℕ → R) (width : ℕ) (limit : Option R) (most : ℕ) (h h' : Contents R) (x x' : Held R) (a b : PassBody S R) (s t : Stock) (src src' : Sources R) (count less peak : ℕ) (out : List R)
-      → IsSound shown cmp record_of width n h x a s src count peak → BodyKept shown a b s t → TookOut shown cmp record_of width n limit most h.items h'.items x.items x'.items a b s t out → less ≡ count - length out
+      (cmp : R → R → Ordering) (record_of : List ℕ → R) (width : ℕ) (limit : Option R) (most : ℕ) (h h' : Shares R) (x x' : Held R) (a b : PassBody S R) (s t : Stock) (src src' : Sources R) (count less peak : ℕ) (out : List R)
+      → IsSound shown cmp record_of width n h x a s src count peak → BodyKept shown a b s t → TookOut shown cmp record_of width n limit most (items_of h) (items_of h') x.items x'.items a b s t out → less ≡ count - length out
       → src'.bench.workers ≡ src.bench.workers → ServesFor (pool_of n + 65) src'
       → IsSound shown cmp record_of width n h' x' b t src' less peak
   sound-took cmp record_of width limit most h h' x x' a b s t src src' count less peak out is kept took e workers serves =

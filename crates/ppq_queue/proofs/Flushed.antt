@@ -4,7 +4,7 @@ use Rattle.std.specs.declared.cmp.Ordering.{Ordering}
 use Rattle.ppq_record.specs.Order.{Ascends}
 use Rattle.ppq_outside.specs.Shown.{Shown, AllTell}
 use Rattle.ppq_budget.specs.Sizes.{Numbers, AreInRange, heap_of, batch_of, pool_of, blocks_for, room_of}
-use Rattle.ppq_heap.specs.Heap.{Contents}
+use Rattle.ppq_heap.specs.Heaps.{Shares, items_of}
 use Rattle.ppq_array.specs.Supply.{Stock}
 use Rattle.ppq_array.specs.Kept.{HasFailed}
 use Rattle.ppq_fetch.specs.Taking.{NoneAfter}
@@ -25,15 +25,16 @@ module _ {S R : Type 0} (shown : S → Shown) (n : Numbers) where
   fault-kept a b s t failed kept fault number e = omega (arith, fault number e, kept.slots.faults number)
 
   pub queue-kept :
-      (h h' : Contents R) (x x' : Held R) (a b : PassBody S R) (s t : Stock) (count peak : ℕ) (failed failed' : Option ℕ)
-      → IsQueue shown n h x a s count peak failed → BodyKept shown a b s t → t.drawn ≡ [] → h'.cap ≡ h.cap → length h'.items ≤ length h.items → x'.room ≡ x.room → length x'.items ≤ batch_of n
+      (h h' : Shares R) (x x' : Held R) (a b : PassBody S R) (s t : Stock) (count peak : ℕ) (failed failed' : Option ℕ)
+      → IsQueue shown n h x a s count peak failed → BodyKept shown a b s t → t.drawn ≡ [] → h'.cap ≡ h.cap → length h'.heaps ≡ length h.heaps → length (items_of h') ≤ length (items_of h) → x'.room ≡ x.room → length x'.items ≤ batch_of n
       → ((number : ℕ) → failed' ≡ Some number → HasFailed number (slots_of shown b t))
       → IsQueue shown n h' x' b t count peak failed'
-  queue-kept h h' x x' a b s t count peak failed failed' is kept no_row cap fewer room within fault =
+  queue-kept h h' x x' a b s t count peak failed failed' is kept no_row cap heaps fewer room within fault =
       record {
         range = is.range;
         budget = is.budget;
         cap = cap ∙ is.cap;
+        shares = heaps ∙ is.shares;
         in_heap = omega (arith, fewer, is.in_heap);
         room = room ∙ is.room;
         in_extract = within;
@@ -50,9 +51,9 @@ module _ {S R : Type 0} (shown : S → Shown) (n : Numbers) where
   module _ (cmp : R → R → Ordering) (record_of : List ℕ → R) (width : ℕ) where
     -- after heap and extract buffer moved
     pub sound-moved :
-        (h h' : Contents R) (x x' : Held R) (a b : PassBody S R) (s t : Stock) (src src' : Sources R) (count peak : ℕ)
-        → IsSound shown cmp record_of width n h x a s src count peak → BodyKept shown a b s t → WholeMoved shown cmp record_of width n h.items h'.items x.items x'.items a b s t
-        → heap_of n < peak → src'.bench.workers ≡ src.bench.workers → ServesFor (pool_of n + 65) src'
+        (h h' : Shares R) (x x' : Held R) (a b : PassBody S R) (s t : Stock) (src src' : Sources R) (count peak : ℕ)
+        → IsSound shown cmp record_of width n h x a s src count peak → BodyKept shown a b s t → WholeMoved shown cmp record_of width n (items_of h) (items_of h') x.items x'.items a b s t
+        → (length (items_of h') < count → heap_of n < peak) → src'.bench.workers ≡ src.bench.workers → ServesFor (pool_of n + 65) src'
         → IsSound shown cmp record_of width n h' x' b t src' count peak
     sound-moved h h' x x' a b s t src src' count peak is kept moved above workers serves =
         record {
@@ -60,7 +61,7 @@ module _ {S R : Type 0} (shown : S → Shown) (n : Numbers) where
           counted = omega (arith, is.counted, moved.count);
           ascends = λ tell. up moved.same_extract (kept.tells.1 tell);
           order = λ tell. ordered moved.same_extract (kept.tells.1 tell);
-          above = λ more. above;
+          above = above;
           workers = workers ∙ is.workers;
           serves = serves;
         }
@@ -75,7 +76,7 @@ module _ {S R : Type 0} (shown : S → Shown) (n : Numbers) where
 
     -- after the extract buffer was made ready
     pub sound-readied :
-        (h : Contents R) (x x' : Held R) (a b : PassBody S R) (s t : Stock) (src src' : Sources R) (count peak : ℕ)
+        (h : Shares R) (x x' : Held R) (a b : PassBody S R) (s t : Stock) (src src' : Sources R) (count peak : ℕ)
         → IsSound shown cmp record_of width n h x a s src count peak → BodyKept shown a b s t → Readied shown cmp record_of width n x.items x'.items a b s t
         → src'.bench.workers ≡ src.bench.workers → ServesFor (pool_of n + 65) src'
         → IsSound shown cmp record_of width n h x' b t src' count peak
@@ -101,8 +102,8 @@ module _ {S R : Type 0} (shown : S → Shown) (n : Numbers) where
 module _ {S R : Type 0} (shown : S → Shown) (cmp : R → R → Ordering) (record_of : List ℕ → R) (width : ℕ) (n : Numbers) where
   -- where a merge or a store found too few free slots: few are free, and the device has less room than the peak needs
   pub moved-bounds :
-      (h h' : Contents R) (x x' : Held R) (a b : PassBody S R) (s t : Stock) (count peak : ℕ) (failed : Option ℕ)
-      → IsQueue shown n h x a s count peak failed → count ≡ length h.items + length x.items + count_of a → BodyKept shown a b s t → WholeShort shown cmp record_of width n h.items h'.items x.items x'.items a b s t
+      (h h' : Shares R) (x x' : Held R) (a b : PassBody S R) (s t : Stock) (count peak : ℕ) (failed : Option ℕ)
+      → IsQueue shown n h x a s count peak failed → count ≡ length (items_of h) + length x.items + count_of a → BodyKept shown a b s t → WholeShort shown cmp record_of width n (items_of h) (items_of h') x.items x'.items a b s t
       → (length t.kept < max (8 + n.workers) (blocks_for n count)) × (n.blocks < room_of n peak)
   moved-bounds h h' x x' a b s t count peak failed is counted kept short =
       short-bounds shown n cmp record_of width b t count peak short.moved.rest is.range (kept.slots.length ∙ is.slots) (omega (arith, counted, short.moved.count)) is.counted (subst (IsShort n (length t.kept)) (sym counted) short.short)

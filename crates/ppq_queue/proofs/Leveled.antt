@@ -24,8 +24,9 @@ use Rattle.ppq_fetch.specs.Fetching.{IsFitting, fronts_in, one_if_some}
 use Rattle.ppq_spill.specs.Body.{job_slots}
 use Rattle.ppq_spill.specs.Leveling.{MayLevel, AreOneSize, LanesStay, LevelCalls, LevelTells, LevelMerged, NoneForLevel, HasLevel, count_level, records_count, held_in}
 use Rattle.ppq_spill.specs.declared.body.PassBody.{PassBody}
-use Rattle.ppq_queue.specs.Resting.{BodyKept, IsRestingRun, IsRestingArray, AtRest, Moved, LevelShort, slots_of, lane_buffers}
+use Rattle.ppq_queue.specs.Resting.{BodyKept, IsRestingRun, IsRestingArray, AtRest, Moved, LevelShort, slots_of, lane_buffers, odd_of, odd_in}
 use Rattle.ppq_queue.proofs.Bounds.{pool_small, idle_most, idle_some, blocks_few, records_most}
+use Rattle.ppq_queue.proofs.Odd.{odd_made}
 use Rattle.ppq_queue.proofs.Stored.{no_row_more}
 
 module _ {S R : Type 0} (shown : S → Shown) where
@@ -120,7 +121,7 @@ module _ {S R : Type 0} (shown : S → Shown) where
 
       rest-with :
           All (IsRestingArray shown width t.block) b.runs.external.items → external_buffers b.runs.external.items ≤ fronts_in b.runs.external.items + n.workers → fronts_in b.runs.external.items ≤ 64
-          → length b.runs.external.items ≤ 65 → (AllTell (slots_of shown b t) → All (λ (x : External S R). Ascends cmp (records_in record_of width shown x)) b.runs.external.items)
+          → odd_in s.block b.runs.external.items ≤ 65 → (AllTell (slots_of shown b t) → All (λ (x : External S R). Ascends cmp (records_in record_of width shown x)) b.runs.external.items)
           → AtRest shown cmp record_of width n b t
       rest-with all bounded fronts few up =
           record {
@@ -135,7 +136,7 @@ module _ {S R : Type 0} (shown : S → Shown) where
             held = held_now;
             bounded = bounded;
             fronts = fronts;
-            few = few;
+            few = omega (arith, few, ap (λ k. odd_in k b.runs.external.items) kept.block);
             pool = kept.all_buffers ∙ rest.pool;
             slots = kept.all_slots ∙ rest.slots;
             internal_room = omega (arith, rest.internal_room, kept.internal_room);
@@ -160,7 +161,7 @@ module _ {S R : Type 0} (shown : S → Shown) where
                   (All-permutation (IsRestingArray shown width t.block) a.runs.external.items b.runs.external.items moved (same_arrays a.runs.external.items rest.external))
                   (omega (arith, rest.bounded, buffers, fronts))
                   (omega (arith, rest.fronts, fronts))
-                  (omega (arith, rest.few, length_permutation a.runs.external.items b.runs.external.items moved))
+                  (omega (arith, rest.few, sum_by-IsPermutation (odd_of s.block) a.runs.external.items b.runs.external.items moved))
                   (λ tell. All-permutation (λ (x : External S R). Ascends cmp (records_in record_of width shown x)) a.runs.external.items b.runs.external.items moved (rest.rise (kept.tells.1 tell)).external);
               bag = λ tell p.
                   omega (
@@ -210,6 +211,13 @@ module _ {S R : Type 0} (shown : S → Shown) where
               written = m.written;
             }
 
+        -- the new run is odd only where one of the 8 is
+        odd-leveled : odd_in s.block b.runs.external.items ≤ odd_in s.block a.runs.external.items
+        odd-leveled =
+            let rests = subst (λ k. IsRestingArray shown width k m.made) kept.block made_rest in
+            let made = odd_made s.block shown width m.made m.inputs rests (ap items_of m.loaded) m.size m.blocks in
+            omega (arith, made, parts (odd_of s.block), news (odd_of s.block))
+
         pub fewer-leveled : length b.runs.external.items < length a.runs.external.items
         fewer-leveled = omega (arith, length_permutation a.runs.external.items (m.others ++ m.inputs) m.of.parted, length-append m.others m.inputs, m.of.eight, ap length m.arrays, length-append m.others (m.made ∷ []))
 
@@ -220,7 +228,7 @@ module _ {S R : Type 0} (shown : S → Shown) where
                   (subst (All (IsRestingArray shown width t.block)) (sym m.arrays) (All-push (IsRestingArray shown width t.block) m.others m.made (same_arrays m.others others_rest) made_rest))
                   bounded
                   (omega (arith, rest.fronts, parts (λ (x : External S R). one_if_some (items_of x.loaded)), news (λ (x : External S R). one_if_some (items_of x.loaded)), ap (λ r. one_if_some (items_of r)) m.loaded))
-                  (omega (arith, rest.few, fewer-leveled))
+                  (omega (arith, rest.few, odd-leveled))
                   up;
               bag = λ tell p.
                   omega (

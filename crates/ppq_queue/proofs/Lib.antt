@@ -1,5 +1,7 @@
 pub mod Slots
+pub mod Shared
 pub mod Counts
+pub mod Odd
 pub mod Bounds
 pub mod Moves
 pub mod Stored

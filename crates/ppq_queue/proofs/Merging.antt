@@ -1,39 +1,46 @@
--- Merging an ascending heap and an extract buffer into a list, one record after the other.
-use Rattle.std.proofs.Common.{◌≡◌, ℕ, Bool, true, false, cond, not, List, [], ◌∷◌, ◌++◌, drop, Option, Some, None, refl, sym, ap, ap₂, ◌∙◌, subst, inl, inr, zero, suc, arith, length-append, Ordering}
+-- Merging heaps and an extract buffer into a list, one record after the other.
+use Rattle.std.proofs.Common.{◌≡◌, Bool, true, false, cond, not, List, [], ◌∷◌, ◌++◌, drop, Option, Some, None, refl, sym, ap, ◌∙◌, subst, inl, inr, arith, length-append, Ordering}
+use Rattle.std.specs.Prelude.{IfSome}
+use Rattle.std.specs.declared.cmp.Ordering.TheVariants.{Equal}
 use Rattle.std.specs.List.{AllByRecursion as Each}
 use Rattle.std.specs.Cmp.{IsTotalOrder}
 use Rattle.std.proofs.lemmas.Bool.{cases_Bool}
 use Rattle.ppq_record.specs.Order.{is_before, Le, Ascends}
-use Rattle.ppq_record.specs.Bag.{IsSameBag, first_of}
-use Rattle.ppq_record.proofs.Order.{Each-weaker, Each-append, Each-append_right, Le-trans, count_by-cons, count_by-append}
+use Rattle.ppq_record.specs.Bag.{IsSameBag, first_of, least}
+use Rattle.ppq_record.proofs.Order.{Each-same_bag, Each-weaker, Each-append, Each-append_right, IsSameBag-length, Le-trans, count_by-cons, count_by-append}
 use Rattle.ppq_record.proofs.Fronts.{ranks}
 use Rattle.ppq_fetch.specs.Taking.{NoneAfter, IsTaken, AllBelow, NoneBelow}
 use Rattle.ppq_fetch.proofs.Taken.{taken_more}
 use Rattle.ppq_queue.specs.Choice.{goes_first}
 use Rattle.ppq_queue.specs.Bulk.{kept_below, Merged, Exhausted}
+use Rattle.ppq_queue.proofs.Least.{least-le, least-none}
 
 some_is : {R : Type 0} (x y : R) → ◌≡◌ {A = Option R} (Some x) (Some y) → x ≡ y
 some_is x y e = cc
 
--- an ascending list ascends from any place on
-pub Ascends-drop : {R : Type 0} (cmp : R → R → Ordering) (k : ℕ) (xs : List R) → Ascends cmp xs → Ascends cmp (drop k xs)
-Ascends-drop cmp zero xs r = r
-Ascends-drop cmp (suc k) [] r = tt
-Ascends-drop cmp (suc k) (x ∷ xs) r = Ascends-drop cmp k xs r.1
+-- what was chosen, by the first of the extract buffer
+pub first_by : {R : Type 0} (cmp : R → R → Ordering) (e : List R) (one other : Option R) (choice is : Bool) → other ≡ first_of e → choice ≡ goes_first cmp one other → choice ≡ is → goes_first cmp one (first_of e) ≡ is
+first_by cmp e one other choice is b c d = sym (ap (λ x. goes_first cmp one x) b) ∙ sym c ∙ d
 
--- what was chosen and kept, by the lists
-pub chosen_by : {R : Type 0} (cmp : R → R → Ordering) (h e : List R) (one other : Option R) (choice is : Bool) → one ≡ first_of h → other ≡ first_of e → choice ≡ goes_first cmp one other → choice ≡ is → goes_first cmp (first_of h) (first_of e) ≡ is
-chosen_by cmp h e one other choice is a b c d = sym (ap₂ (λ x y. goes_first cmp x y) a b) ∙ sym c ∙ d
-
-pub kept_by : {R : Type 0} (cmp : R → R → Ordering) (limit : Option R) (h : List R) (one kept is : Option R) → one ≡ first_of h → kept ≡ kept_below cmp one limit → kept ≡ is → kept_below cmp (first_of h) limit ≡ is
-kept_by cmp limit h one kept is a b c = sym (ap (λ x. kept_below cmp x limit) a) ∙ sym b ∙ c
+-- what was kept, by what it was kept of
+pub kept_by : {R : Type 0} (cmp : R → R → Ordering) (limit : Option R) (one kept is : Option R) → kept ≡ kept_below cmp one limit → kept ≡ is → kept_below cmp one limit ≡ is
+kept_by cmp limit one kept is b c = sym b ∙ c
 
 no_list : {R : Type 0} (h e runs : List R) → h ++ e ≡ [] → (e ≡ [] → runs ≡ []) → h ++ e ++ runs ≡ []
 no_list [] [] runs z w = w refl
 no_list [] (y ∷ ys) runs z w = cc
 no_list (x ∷ xs) e runs z w = cc
 
-module _ {R : Type 0} {cmp : R → R → Ordering} (o : IsTotalOrder cmp) (more : Bool) (limit : Option R) where
+module _ {R : Type 0} {cmp : R → R → Ordering} (o : IsTotalOrder cmp) where
+  -- what is not after x is not after what x is not after
+  le_all : (l x : R) (ys : List R) → Le (is_before cmp) l x → Each (Le (is_before cmp) x) ys → Each (Le (is_before cmp) l) ys
+  le_all l x ys h each = Each-weaker (Le (is_before cmp) x) (Le (is_before cmp) l) (λ z k. Le-trans (is_before cmp) (ranks o) l x z h k) ys each
+
+  le_runs : (x : R) (e runs : List R) → (e ≡ [] → runs ≡ []) → Each (Le (is_before cmp) x) e → NoneAfter cmp e runs → Each (Le (is_before cmp) x) runs
+  le_runs x [] runs none each after = subst (λ (l : List R). Each (Le (is_before cmp) x) l) (sym (none refl)) tt
+  le_runs x (y ∷ ys) runs none each after = le_all x y runs each.0 after.0
+
+module _ {R : Type 0} {cmp : R → R → Ordering} (o : IsTotalOrder cmp) (same : (x y : R) → cmp x y ≡ Equal → x ≡ y) (more : Bool) (limit : Option R) where
   pub merged-refl : (h e out : List R) → Merged cmp more limit h h e e out out
   merged-refl h e out = record { count = refl; fewer = omega arith; ascends = λ u. u; order = λ runs n. n; taken = λ bag runs w u n t. t; under = λ u. u }
 
@@ -48,32 +55,39 @@ module _ {R : Type 0} {cmp : R → R → Ordering} (o : IsTotalOrder cmp) (more 
         under = λ u. b.under (a.under u);
       }
 
-  -- what is not after x is not after what x is not after
-  le_all : (l x : R) (ys : List R) → Le (is_before cmp) l x → Each (Le (is_before cmp) x) ys → Each (Le (is_before cmp) l) ys
-  le_all l x ys h each = Each-weaker (Le (is_before cmp) x) (Le (is_before cmp) l) (λ z k. Le-trans (is_before cmp) (ranks o) l x z h k) ys each
-
-  le_runs : (x : R) (e runs : List R) → (e ≡ [] → runs ≡ []) → Each (Le (is_before cmp) x) e → NoneAfter cmp e runs → Each (Le (is_before cmp) x) runs
-  le_runs x [] runs none each after = subst (λ (l : List R). Each (Le (is_before cmp) x) l) (sym (none refl)) tt
-  le_runs x (y ∷ ys) runs none each after = le_all x y runs each.0 after.0
-
   -- one record more was taken
   taken_one : (bag out left left' : List R) (x : R) → IsTaken cmp bag out left → IsSameBag left (x ∷ left') → Each (Le (is_before cmp) x) left' → IsTaken cmp bag (out ++ x ∷ []) left'
-  taken_one bag out left left' x s same each = taken_more cmp (ranks o) bag out left (x ∷ []) left' s (record { moved = same; ascends = (tt, tt); least = (each, tt) })
+  taken_one bag out left left' x s moved each = taken_more cmp (ranks o) bag out left (x ∷ []) left' s (record { moved = moved; ascends = (tt, tt); least = (each, tt) })
 
   low_more : (bound : Option R) (out : List R) (x : R) → AllBelow cmp bound out → AllBelow cmp bound (x ∷ []) → AllBelow cmp bound (out ++ x ∷ [])
   low_more None out x a b = tt
   low_more (Some l) out x a b = Each-append (λ (y : R). is_before cmp y l ≡ true) out (x ∷ []) a b
 
-  move_heap : (x : R) (hs e out : List R) → (e ≡ [] → more ≡ false) → Ascends cmp (x ∷ hs) → (Ascends cmp e → Each (Le (is_before cmp) x) e) → AllBelow cmp limit (x ∷ []) → Merged cmp more limit (x ∷ hs) hs e e out (out ++ x ∷ [])
-  move_heap x hs e out whole up le low =
+  move_heap :
+      (x : R) (h h' e out : List R)
+      → (e ≡ [] → more ≡ false) → IsSameBag h (x ∷ h') → Each (Le (is_before cmp) x) h' → (Ascends cmp e → Each (Le (is_before cmp) x) e) → AllBelow cmp limit (x ∷ [])
+      → Merged cmp more limit h h' e e out (out ++ x ∷ [])
+  move_heap x h h' e out whole parts low_heap le low =
       record {
-        count = omega (arith, length-append out (x ∷ []));
+        count = omega (arith, length-append out (x ∷ []), IsSameBag-length h (x ∷ h') parts);
         fewer = omega arith;
         ascends = λ u. u;
         order = λ runs n. n;
         taken = λ bag runs w u n t.
-            let each = Each-append (Le (is_before cmp) x) (hs ++ e) runs (Each-append (Le (is_before cmp) x) hs e up.0 (le u)) (le_runs x e runs (λ z. w (whole z)) (le u) n) in
-            taken_one bag out ((x ∷ hs) ++ e ++ runs) (hs ++ e ++ runs) x t (λ p. refl) each;
+            let each = Each-append (Le (is_before cmp) x) (h' ++ e) runs (Each-append (Le (is_before cmp) x) h' e low_heap (le u)) (le_runs o x e runs (λ z. w (whole z)) (le u) n) in
+            taken_one bag out (h ++ e ++ runs) (h' ++ e ++ runs) x t
+            (λ p.
+            omega (
+              arith,
+              parts p,
+              count_by-cons p x h',
+              count_by-append p (h ++ e) runs,
+              count_by-append p h e,
+              count_by-cons p x (h' ++ e ++ runs),
+              count_by-append p (h' ++ e) runs,
+              count_by-append p h' e,
+            ))
+            each;
         under = λ u. low_more limit out x u low;
       }
 
@@ -111,11 +125,11 @@ module _ {R : Type 0} {cmp : R → R → Ordering} (o : IsTotalOrder cmp) (more 
 
   heap_le : (x : R) (e : List R) → goes_first cmp (Some x) (first_of e) ≡ true → Ascends cmp e → Each (Le (is_before cmp) x) e
   heap_le x [] first up = tt
-  heap_le x (z ∷ zs) first up = let le : Le (is_before cmp) x z = not_true (is_before cmp z x) first in (le, le_all x z zs le up.0)
+  heap_le x (z ∷ zs) first up = let le : Le (is_before cmp) x z = not_true (is_before cmp z x) first in (le, le_all o x z zs le up.0)
 
-  extract_le : (y : R) (h : List R) → goes_first cmp (first_of h) (Some y) ≡ false → Ascends cmp h → Each (Le (is_before cmp) y) h
-  extract_le y [] first up = tt
-  extract_le y (z ∷ zs) first up = let le : Le (is_before cmp) y z = (ranks o).one_way y z (not_false (is_before cmp y z) first) in (le, le_all y z zs le up.0)
+  extract_le : (y : R) (h : List R) (one : Option R) → one ≡ least cmp h → goes_first cmp one (Some y) ≡ false → Each (Le (is_before cmp) y) h
+  extract_le y h None e first = subst (λ (l : List R). Each (Le (is_before cmp) y) l) (sym (least-none o same h (sym e))) tt
+  extract_le y h (Some z) e first = le_all o y z h ((ranks o).one_way y z (not_false (is_before cmp y z) first)) (least-le o same z h (sym e))
 
   -- a record that is kept is below the limit, and one that is not kept is not
   kept_is : (bound : Option R) (x next : R) → kept_below cmp (Some x) bound ≡ Some next → (x ≡ next) × AllBelow cmp bound (x ∷ [])
@@ -131,51 +145,61 @@ module _ {R : Type 0} {cmp : R → R → Ordering} (o : IsTotalOrder cmp) (more 
     | inr f ↦ f
   ]
 
-  -- the heap's record went
-  pub heap_moved : (h e out : List R) (next : R) → goes_first cmp (first_of h) (first_of e) ≡ true → kept_below cmp (first_of h) limit ≡ Some next → (e ≡ [] → more ≡ false) → Ascends cmp h → Merged cmp more limit h (drop 1 h) e e out (out ++ next ∷ [])
-  heap_moved [] e out next first kept whole up = cc
-  heap_moved (x ∷ xs) e out next first kept whole up =
-      let is = kept_is limit x next kept in
-      subst (λ (y : R). Merged cmp more limit (x ∷ xs) xs e e out (out ++ y ∷ [])) is.0 (move_heap x xs e out whole up (heap_le x e first) is.1)
+  -- the heaps' least record went
+  pub heap_moved :
+      (h h' e out : List R) (one popped : Option R) (next : R)
+      → one ≡ least cmp h → popped ≡ least cmp h → IfSome popped (λ x. IsSameBag h (x ∷ h')) → goes_first cmp one (first_of e) ≡ true → kept_below cmp one limit ≡ Some next → (e ≡ [] → more ≡ false)
+      → Merged cmp more limit h h' e e out (out ++ next ∷ [])
+  heap_moved h h' e out None popped next is was taken first kept whole = cc
+  heap_moved h h' e out (Some x) None next is was taken first kept whole = absurd (let odd : ◌≡◌ {A = Option R} (Some x) None = is ∙ sym was in cc)
+  heap_moved h h' e out (Some x) (Some y) next is was taken first kept whole =
+      let y_is : y ≡ x = some_is y x (was ∙ sym is) in
+      let bag : IsSameBag h (x ∷ h') = subst (λ (z : R). IsSameBag h (z ∷ h')) y_is taken in
+      let low = Each-same_bag (λ z. is_before cmp z x) h (x ∷ h') bag (least-le o same x h (sym is)) in
+      let keep = kept_is limit x next kept in
+      subst (λ (z : R). Merged cmp more limit h h' e e out (out ++ z ∷ [])) keep.0 (move_heap x h h' e out whole bag low.1 (heap_le x e first) keep.1)
 
   -- the extract buffer's record went
-  pub extract_moved : (h e out : List R) (next : R) → goes_first cmp (first_of h) (first_of e) ≡ false → kept_below cmp (first_of e) limit ≡ Some next → Ascends cmp h → Merged cmp more limit h h e (drop 1 e) out (out ++ next ∷ [])
-  extract_moved h [] out next first kept up = cc
-  extract_moved h (y ∷ ys) out next first kept up =
-      let is = kept_is limit y next kept in
-      subst (λ (x : R). Merged cmp more limit h h (y ∷ ys) ys out (out ++ x ∷ [])) is.0 (move_extract y h ys out (extract_le y h first up) is.1)
+  pub extract_moved :
+      (h e out : List R) (one : Option R) (next : R) → one ≡ least cmp h → goes_first cmp one (first_of e) ≡ false → kept_below cmp (first_of e) limit ≡ Some next → Merged cmp more limit h h e (drop 1 e) out (out ++ next ∷ [])
+  extract_moved h [] out one next is first kept = cc
+  extract_moved h (y ∷ ys) out one next is first kept =
+      let keep = kept_is limit y next kept in
+      subst (λ (x : R). Merged cmp more limit h h (y ∷ ys) ys out (out ++ x ∷ [])) keep.0 (move_extract y h ys out (extract_le y h one is first) keep.1)
+
+  -- the heaps' least record is the least of all, and it is not below the limit
+  pub heap_ended :
+      (bound : Option R) (h e : List R) (one : Option R) → one ≡ least cmp h → goes_first cmp one (first_of e) ≡ true → kept_below cmp one bound ≡ None → (e ≡ [] → more ≡ false) → Exhausted cmp more bound h e
+  heap_ended bound h e None is first kept whole = cc
+  heap_ended None h e (Some x) is first kept whole = cc
+  heap_ended (Some l) h e (Some x) is first kept whole =
+      let le = kept_none l x kept in
+      record {
+        whole = whole;
+        all = λ n. absurd (cc);
+        low = λ u. Each-append (Le (is_before cmp) l) h e (le_all o l x h le (least-le o same x h (sym is))) (le_all o l x e le (heap_le x e first u));
+      }
+
+  nothing : (bound : Option R) (h : List R) → h ≡ [] → (◌≡◌ {A = List R} [] [] → more ≡ false) → Exhausted cmp more bound h []
+  nothing None h e whole = record { whole = whole; all = λ n. ap (λ (l : List R). l ++ []) e; low = λ u. ap (λ (l : List R). l ++ []) e }
+  nothing (Some l) h e whole = record { whole = whole; all = λ n. ap (λ (xs : List R). xs ++ []) e; low = λ u. subst (λ (xs : List R). Each (Le (is_before cmp) l) (xs ++ [])) (sym e) tt }
+
+  -- the extract buffer's record is the least, and it is not below the limit; or all are empty
+  pub extract_ended :
+      (bound : Option R) (h e : List R) (one : Option R) → one ≡ least cmp h → goes_first cmp one (first_of e) ≡ false → kept_below cmp (first_of e) bound ≡ None → (e ≡ [] → more ≡ false) → Exhausted cmp more bound h e
+  extract_ended bound h [] None is first kept whole = nothing bound h (least-none o same h (sym is)) whole
+  extract_ended bound h [] (Some x) is first kept whole = cc
+  extract_ended None h (y ∷ ys) one is first kept whole = cc
+  extract_ended (Some l) h (y ∷ ys) one is first kept whole =
+      let le = kept_none l y kept in
+      record {
+        whole = whole;
+        all = λ n. absurd (cc);
+        low = λ u. Each-append (Le (is_before cmp) l) h (y ∷ ys) (le_all o l y h le (extract_le y h one is first)) (le, le_all o l y ys le u.0);
+      }
 
 module _ {R : Type 0} {cmp : R → R → Ordering} (o : IsTotalOrder cmp) (more : Bool) where
-  -- the heap's record is the least, and it is not below the limit
-  pub heap_ended : (limit : Option R) (h e : List R) → goes_first cmp (first_of h) (first_of e) ≡ true → kept_below cmp (first_of h) limit ≡ None → (e ≡ [] → more ≡ false) → Ascends cmp h → Exhausted cmp more limit h e
-  heap_ended limit [] e first kept whole up = cc
-  heap_ended None (x ∷ xs) e first kept whole up = cc
-  heap_ended (Some l) (x ∷ xs) e first kept whole up =
-      let le = kept_none o more (Some l) l x kept in
-      record {
-        whole = whole;
-        all = λ n. absurd (cc);
-        low = λ u. (le, Each-append (Le (is_before cmp) l) xs e (le_all o more (Some l) l x xs le up.0) (le_all o more (Some l) l x e le (heap_le o more (Some l) x e first u)));
-      }
-
-  nothing : (limit : Option R) → (◌≡◌ {A = List R} [] [] → more ≡ false) → Exhausted cmp more limit [] []
-  nothing None whole = record { whole = whole; all = λ n. refl; low = λ u. refl }
-  nothing (Some l) whole = record { whole = whole; all = λ n. refl; low = λ u. tt }
-
-  -- the extract buffer's record is the least, and it is not below the limit; or both are empty
-  pub extract_ended : (limit : Option R) (h e : List R) → goes_first cmp (first_of h) (first_of e) ≡ false → kept_below cmp (first_of e) limit ≡ None → (e ≡ [] → more ≡ false) → Ascends cmp h → Exhausted cmp more limit h e
-  extract_ended limit [] [] first kept whole up = nothing limit whole
-  extract_ended limit (x ∷ xs) [] first kept whole up = cc
-  extract_ended None h (y ∷ ys) first kept whole up = cc
-  extract_ended (Some l) h (y ∷ ys) first kept whole up =
-      let le = kept_none o more (Some l) l y kept in
-      record {
-        whole = whole;
-        all = λ n. absurd (cc);
-        low = λ u. Each-append (Le (is_before cmp) l) h (y ∷ ys) (le_all o more (Some l) l y h le (extract_le o more (Some l) y h first up)) (le, le_all o more (Some l) l y ys le u.0);
-      }
-
   -- runs behind an exhausted extract buffer have nothing that is wanted
   pub exhausted-runs : (limit : Option R) (h e runs : List R) → Exhausted cmp more limit h e → (more ≡ false → runs ≡ []) → Ascends cmp e → NoneAfter cmp e runs → NoneBelow cmp limit (h ++ e ++ runs)
   exhausted-runs None h e runs x w u n = no_list h e runs (x.low u) (λ z. w (x.whole z))
-  exhausted-runs (Some l) h e runs x w u n = Each-append (Le (is_before cmp) l) (h ++ e) runs (x.low u) (le_runs o more (Some l) l e runs (λ z. w (x.whole z)) (Each-append_right (Le (is_before cmp) l) h e (x.low u)) n)
+  exhausted-runs (Some l) h e runs x w u n = Each-append (Le (is_before cmp) l) (h ++ e) runs (x.low u) (le_runs o l e runs (λ z. w (x.whole z)) (Each-append_right (Le (is_before cmp) l) h e (x.low u)) n)

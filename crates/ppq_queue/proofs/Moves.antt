@@ -1,5 +1,5 @@
 -- One step after the other: what runs hold, and what heap, extract buffer and runs hold together.
-use Rattle.std.proofs.Common.{◌≡◌, ℕ, ◌≤◌, List, [], ◌++◌, length, refl, sym, ap, ◌∙◌, arith, inl, inr}
+use Rattle.std.proofs.Common.{◌≡◌, ℕ, ◌≤◌, List, [], ◌++◌, length, refl, sym, ap, ◌∙◌, arith, inl, inr, length-append}
 use Rattle.std.specs.Prelude.{Result, Ok, Err, OnOk, OnErr, IsErrOf, IsErrAnd}
 use Rattle.ppq_array.specs.declared.store_fault.StoreFault.{StoreFault}
 use Rattle.ppq_array.specs.declared.store_fault.StoreFault.TheVariants.{NoFreeBlock, Device}
@@ -7,7 +7,7 @@ use Rattle.std.specs.declared.cmp.Ordering.{Ordering}
 use Rattle.ppq_outside.specs.Shown.{Shown}
 use Rattle.ppq_budget.specs.Sizes.{Numbers}
 use Rattle.ppq_record.specs.Bag.{IsSameBag}
-use Rattle.ppq_record.proofs.Order.{count_by-append, Each-weaker, Each-same_bag}
+use Rattle.ppq_record.proofs.Order.{count_by-append, IsSameBag-length, Each-weaker, Each-same_bag}
 use Rattle.ppq_record.specs.Order.{Le, is_before}
 use Rattle.ppq_fetch.specs.Taking.{NoneAfter}
 use Rattle.std.specs.List.{AllByRecursion as Each}
@@ -106,11 +106,12 @@ module _ {S R : Type 0} (shown : S → Shown) where
         same (inl x) (inl y) = inl ((y.0 ∙ x.0), (λ tell p. y.1 (kept.tells.0 tell) p ∙ x.1 tell p))
         same (inr x) (inl y) = inr (y.0 ∙ x)
 
-    -- the heap was stored, beside an empty extract buffer
+    -- records of heaps were stored, beside an empty extract buffer
     pub heap-stored :
-        (h sorted : List R) (a b : PassBody S R) (s t : Stock)
-        → IsSameBag sorted h → length sorted ≡ length h → Moved shown cmp record_of width n sorted a b s t → WholeMoved shown cmp record_of width n h [] [] [] a b s t
-    heap-stored h sorted a b s t same long moved =
+        (h sorted h' : List R) (a b : PassBody S R) (s t : Stock)
+        → IsSameBag h (sorted ++ h') → Moved shown cmp record_of width n sorted a b s t → WholeMoved shown cmp record_of width n h h' [] [] a b s t
+    heap-stored h sorted h' a b s t same moved =
+        let long = IsSameBag-length h (sorted ++ h') same in
         record {
           rest = moved.rest;
           bag = λ tell p.
@@ -118,12 +119,15 @@ module _ {S R : Type 0} (shown : S → Shown) where
                 arith,
                 count_by-append p (h ++ []) (runs_bag shown record_of width a),
                 count_by-append p h [],
+                count_by-append p (h' ++ []) (runs_bag shown record_of width b),
+                count_by-append p h' [],
                 moved.bag tell p,
                 count_by-append p sorted (runs_bag shown record_of width a),
+                count_by-append p sorted h',
                 same p,
               );
-          count = omega (arith, moved.count, long);
-          fewer = omega arith;
+          count = omega (arith, moved.count, long, length-append sorted h');
+          fewer = omega (arith, long, length-append sorted h');
           same_extract = inr refl;
         }
 
@@ -147,11 +151,12 @@ module _ {S R : Type 0} (shown : S → Shown) where
           same_extract = inr refl;
         }
 
-    -- the heap was only sorted
+    -- heaps were only sorted
     pub heap-sorted :
         (h sorted e : List R) (a b : PassBody S R) (s t : Stock)
-        → IsSameBag sorted h → length sorted ≡ length h → Moved shown cmp record_of width n [] a b s t → WholeMoved shown cmp record_of width n h sorted e e a b s t
-    heap-sorted h sorted e a b s t same long moved =
+        → IsSameBag sorted h → Moved shown cmp record_of width n [] a b s t → WholeMoved shown cmp record_of width n h sorted e e a b s t
+    heap-sorted h sorted e a b s t same moved =
+        let long = IsSameBag-length sorted h same in
         record {
           rest = moved.rest;
           bag = λ tell p.

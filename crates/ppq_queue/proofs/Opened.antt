@@ -18,7 +18,7 @@ use Rattle.ppq_spill.specs.Body.{job_slots}
 use Rattle.ppq_queue.specs.declared.parts.Parts.{Parts}
 use Rattle.ppq_queue.specs.Holding.{IsNewSlot}
 use Rattle.ppq_queue.specs.Slots.{with_slots}
-use Rattle.ppq_queue.specs.Resting.{AtRest, IsRestingRun, IsRestingArray, slots_of, runs_bag, count_of}
+use Rattle.ppq_queue.specs.Resting.{AtRest, IsRestingRun, IsRestingArray, slots_of, runs_bag, count_of, odd_in}
 use Rattle.ppq_queue.specs.State.{IsQueue, IsSound, AreNewParts}
 
 module _ {S R : Type 0} (shown : S → Shown) (n : Numbers) (parts : Parts S R) (is : AreNewParts n parts) (slots : List Shown) (stock : Stock) (e : stock ≡ with_slots parts.supply slots (parts.supply.slot_room - length slots)) (count : length slots ≡ n.blocks) where
@@ -71,7 +71,7 @@ module _ {S R : Type 0} (shown : S → Shown) (n : Numbers) (parts : Parts S R) 
           held = omega (arith, is.idle, internal_none, external_none, none_out);
           bounded = omega (arith, external_none);
           fronts = omega (arith, ap fronts_in is.no_external);
-          few = omega (arith, ap length is.no_external);
+          few = omega (arith, ap (odd_in stock.block) is.no_external);
           pool = omega (arith, sure_is, none_out);
           slots = omega (arith, ap length kept_is, room_is, count);
           internal_room = is.internal_room;
@@ -80,7 +80,7 @@ module _ {S R : Type 0} (shown : S → Shown) (n : Numbers) (parts : Parts S R) 
           rise = λ tell. record { internal = subst (All P) (sym is.no_internal) (All-nil P); external = subst (All Q) (sym is.no_external) (All-nil Q) };
         }
 
-    pub sound-opened : IsSound shown cmp record_of width n parts.heap parts.extract parts.body stock parts.sources 0 0
+    pub sound-opened : IsSound shown cmp record_of width n parts.heaps parts.extract parts.body stock parts.sources 0 0
     sound-opened =
         let none = ap (λ x. x.items) is.extract in
         record {
@@ -93,13 +93,14 @@ module _ {S R : Type 0} (shown : S → Shown) (n : Numbers) (parts : Parts S R) 
           serves = is.serves;
         }
 
-  pub queue-opened : AreInRange n → fixed_of n ≤ n.memory → IsQueue shown n parts.heap parts.extract parts.body stock 0 0 None
+  pub queue-opened : AreInRange n → fixed_of n ≤ n.memory → IsQueue shown n parts.heaps parts.extract parts.body stock 0 0 None
   queue-opened range budget =
       let none = ap (λ x. x.items) is.extract in
       record {
         range = range;
         budget = budget;
         cap = is.cap;
+        shares = is.shares;
         in_heap = omega (arith, ap length is.no_record);
         room = ap (λ x. x.room) is.extract;
         in_extract = omega (arith, ap length none);

@@ -1,5 +1,5 @@
 -- A heap beside an extract buffer that is ready: which of both has the least record, and what is left without it.
-use Rattle.std.proofs.Common.{◌≡◌, ℕ, zero, suc, inl, inr, ◌+◌, ◌-◌, ◌<◌, Bool, true, false, cond, List, [], ◌∷◌, ◌++◌, length, drop, Option, Some, None, refl, sym, ap, ◌∙◌, subst, arith, append_assoc, Ordering}
+use Rattle.std.proofs.Common.{◌≡◌, ℕ, zero, suc, inl, inr, ◌+◌, ◌-◌, ◌<◌, ◌≤◌, Bool, true, false, cond, List, [], ◌∷◌, ◌++◌, length, drop, Option, Some, None, refl, sym, ap, ◌∙◌, subst, arith, append_assoc, Ordering}
 use Rattle.std.specs.Prelude.{count_by, ◌⊎◌, IfSome, IsNone, Result, Ok, Err, IsErr, OnOk}
 use Rattle.std.specs.declared.cmp.Ordering.TheVariants.{Equal}
 use Rattle.std.specs.Cmp.{IsTotalOrder}
@@ -27,6 +27,11 @@ module _ {R : Type 0} where
   pub popped_one : (heap left : List R) (answer : Option R) → 0 < length heap → (IsNone answer → heap ≡ []) → IfSome answer (λ x. IsSameBag heap (x ∷ left)) → length left + 1 ≡ length heap
   popped_one heap left None some none taken = absurd (omega (arith, some, ap length (none refl)))
   popped_one heap left (Some x) some none taken = omega (arith, IsSameBag-length heap (x ∷ left) taken)
+
+  -- and never more
+  pub popped_fewer : (heap left : List R) (answer : Option R) → (IsNone answer → left ≡ heap) → IfSome answer (λ x. IsSameBag heap (x ∷ left)) → length left ≤ length heap
+  popped_fewer heap left None none taken = omega (arith, ap length (none refl))
+  popped_fewer heap left (Some x) none taken = omega (arith, IsSameBag-length heap (x ∷ left) taken)
 
   taken_heap : (heap left extract runs : List R) (answer : Option R) → IfSome answer (λ x. IsSameBag heap (x ∷ left)) → IfSome answer (λ x. IsSameBag (heap ++ extract ++ runs) (x ∷ (left ++ extract ++ runs)))
   taken_heap heap left extract runs None taken = tt
@@ -105,19 +110,18 @@ module _ {R : Type 0} {cmp : R → R → Ordering} (o : IsTotalOrder cmp) (same 
   ready_least heap extract runs one other choice e f c up order ready =
       sym (ap (least cmp) (append_assoc heap extract runs) ∙ least_of_two o same heap (extract ++ runs) one other choice e (f ∙ stored_least extract runs up order ready) c)
 
-  pub rest_heap : (heap left extract runs : List R) (answer : Option R) → (IsNone answer → heap ≡ []) → (IsNone answer → left ≡ []) → IfSome answer (λ x. IsSameBag heap (x ∷ left)) → answer ≡ least cmp (heap ++ extract ++ runs) → IsSameBag (left ++ extract ++ runs) (without_front cmp (heap ++ extract ++ runs) 1)
-  rest_heap heap left extract runs answer none gone taken e =
-      without_answer o same answer (left ++ extract ++ runs) (heap ++ extract ++ runs) e (taken_heap heap left extract runs answer taken) (λ n. ap (λ (l : List R). l ++ extract ++ runs) (gone (is_none answer n) ∙ sym (none (is_none answer n))))
+  pub rest_heap : (heap left extract runs : List R) (answer : Option R) → (IsNone answer → left ≡ heap) → IfSome answer (λ x. IsSameBag heap (x ∷ left)) → answer ≡ least cmp (heap ++ extract ++ runs) → IsSameBag (left ++ extract ++ runs) (without_front cmp (heap ++ extract ++ runs) 1)
+  rest_heap heap left extract runs answer same_heap taken e =
+      without_answer o same answer (left ++ extract ++ runs) (heap ++ extract ++ runs) e (taken_heap heap left extract runs answer taken) (λ n. ap (λ (l : List R). l ++ extract ++ runs) (same_heap (is_none answer n)))
 
   pub rest_extract : (heap extract runs : List R) (answer : Option R) → answer ≡ first_of extract → answer ≡ least cmp (heap ++ extract ++ runs) → IsSameBag (heap ++ drop 1 extract ++ runs) (without_front cmp (heap ++ extract ++ runs) 1)
   rest_extract heap extract runs answer f e =
       without_answer o same answer (heap ++ drop 1 extract ++ runs) (heap ++ extract ++ runs) e (subst (λ (a : Option R). IfSome a (λ x. IsSameBag (heap ++ extract ++ runs) (x ∷ (heap ++ drop 1 extract ++ runs)))) (sym f) (taken_extract heap extract runs)) (λ n. ap (λ (l : List R). heap ++ l ++ runs) (none_extract extract (sym f ∙ n)))
 
-module _ {R : Type 0} where
-  -- a list with room takes a record in
-  pub has_room : {T E : Type 0} (answer : Result T E) (most : ℕ) (x : R) (old new : List R) → length old < most → (IsErr answer → length old ≡ most) → OnOk answer (IsSameBag new (x ∷ old)) → IsSameBag new (x ∷ old)
-  has_room (Ok v) most x old new room full added = added
-  has_room (Err e) most x old new room full added = absurd (omega (arith, full refl))
+-- a heap with room takes a record in
+pub has_room : {T E P : Type 0} (answer : Result T E) (len most : ℕ) → len < most → (IsErr answer → len ≡ most) → OnOk answer P → P
+has_room (Ok v) len most room full added = added
+has_room (Err e) len most room full added = absurd (omega (arith, full refl))
 
 -- how many records are left where one left the extract buffer, or none was there
 pub left_over : (count heap extract extract' runs less : ℕ) → count ≡ heap + extract + runs → extract' ≡ extract - 1 → less ≡ count - 1 → (extract ≡ 0 → heap ≡ 0) → (extract ≡ 0 → count ≡ heap) → less ≡ heap + extract' + runs

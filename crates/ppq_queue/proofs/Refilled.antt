@@ -25,6 +25,7 @@ use Rattle.ppq_spill.specs.declared.body.PassBody.{PassBody}
 use Rattle.ppq_queue.specs.Resting.{BodyKept, IsRestingRun, IsRestingArray, AtRest, Readied, runs_bag, slots_of}
 use Rattle.ppq_queue.proofs.Bounds.{pool_small, runs_few, idle_most, records_most}
 use Rattle.ppq_queue.proofs.Counts.{fronts_few}
+use Rattle.ppq_queue.proofs.Odd.{odd_most}
 use Rattle.ppq_queue.proofs.Leveled.{slots-no_job}
 use Rattle.ppq_queue.proofs.Moves.{none_after-same}
 
@@ -83,8 +84,8 @@ module _ {S R : Type 0} (shown : S → Shown) where
 
   module _ (cmp : R → R → Ordering) (record_of : List ℕ → R) (width : ℕ) (n : Numbers) where
     -- a body at rest can be refilled from
-    pub may_fetch : (a : PassBody S R) (s : Stock) → AtRest shown cmp record_of width n a s → AreInRange n → fixed_of n ≤ n.memory → MayFetch shown width n.workers (source a s)
-    may_fetch a s rest range budget =
+    pub may_fetch : (a : PassBody S R) (s : Stock) → AtRest shown cmp record_of width n a s → AreInRange n → fixed_of n ≤ n.memory → length a.runs.external.items ≤ 64 → MayFetch shown width n.workers (source a s)
+    may_fetch a s rest range budget few =
         let idle = idle_most shown cmp record_of width n a s rest in
         record {
           sources = record {
@@ -97,10 +98,10 @@ module _ {S R : Type 0} (shown : S → Shown) where
             internal_spent = recursion_from_All (λ (run : Run R). run.spent ≡ []) a.runs.internal.items (λ k d h. (rest.internal k d h).spent);
             external_spent = recursion_from_All (λ (x : External S R). x.loaded.spent ≡ []) a.runs.external.items (λ k d h. (rest.external k d h).spent);
             takes_back = rest.takes_back;
-            fronts = omega (arith, rest.few, rest.buffers, range.some_worker);
+            fronts = omega (arith, few, rest.buffers, range.some_worker);
             bounded = rest.bounded;
             few_buffers = omega (arith, idle, pool_small n, range.workers);
-            few_runs = omega (arith, runs_few shown cmp record_of width n a s rest, pool_small n, rest.few);
+            few_runs = omega (arith, runs_few shown cmp record_of width n a s rest, pool_small n, few);
             few_records = omega (arith, records_most shown cmp record_of width n a s rest range budget 0 0 (omega arith) (omega arith), range.memory, many range);
           };
           none_lifted = recursion_from_All (λ (x : External S R). x.lifted ≡ []) a.runs.external.items (λ k d h. (rest.external k d h).lifted);
@@ -193,7 +194,7 @@ module _ {S R : Type 0} (shown : S → Shown) where
         held = omega (arith, kept.held, rest.held, ap length rest.no_job, ap length none');
         bounded = may.sources.bounded;
         fronts = omega (arith, fronts_few b.runs.external.items, r.external, few);
-        few = omega (arith, r.external, few);
+        few = omega (arith, odd_most t.block b.runs.external.items, r.external, few);
         pool = kept.all_buffers ∙ rest.pool;
         slots = kept.all_slots ∙ rest.slots;
         internal_room = omega (arith, rest.internal_room, kept.internal_room);

@@ -20,9 +20,10 @@ use Rattle.ppq_fetch.specs.Fetching.{IsFitting, fronts_in, one_if_some, count_in
 use Rattle.ppq_spill.specs.Body.{held_by}
 use Rattle.ppq_spill.specs.Storing.{MayStore, HasOneSize, LanesRest, RoomsRest, IsInBuffers, BlocksStored, IsStored, NoneFree, WritesFew, StillTell}
 use Rattle.ppq_spill.specs.declared.body.PassBody.{PassBody}
-use Rattle.ppq_queue.specs.Resting.{BodyKept, IsRestingRun, IsRestingArray, AtRest, Moved, StoreShort, runs_bag, slots_of, lane_buffers}
+use Rattle.ppq_queue.specs.Resting.{BodyKept, IsRestingRun, IsRestingArray, AtRest, Moved, StoreShort, runs_bag, slots_of, lane_buffers, odd_in}
 use Rattle.ppq_queue.proofs.Bounds.{pool_within, pool_small, runs_few, idle_most, idle_some, in_buffers_few}
 use Rattle.ppq_queue.proofs.Counts.{internal_count}
+use Rattle.ppq_queue.proofs.Odd.{odd_most}
 
 -- an owner draws from no row
 pub no_row_more : (xs ys : List Shown) → ys ≡ [] → xs ++ ys ≡ xs
@@ -91,6 +92,9 @@ module _ {S R : Type 0} (shown : S → Shown) where
       same_arrays : All (IsRestingArray shown width t.block) a.runs.external.items
       same_arrays = subst (λ k. All (IsRestingArray shown width k) a.runs.external.items) (sym kept.block) rest.external
 
+      odd_same : b.runs.external.items ≡ a.runs.external.items → odd_in t.block b.runs.external.items ≤ 65
+      odd_same ext = omega (arith, rest.few, ap (λ k. odd_in k b.runs.external.items) kept.block, ap (odd_in s.block) ext)
+
       -- the same runs, and what changed besides
       pub rest-same : b.runs.internal.items ≡ a.runs.internal.items → b.runs.external.items ≡ a.runs.external.items → AtRest shown cmp record_of width n b t
       rest-same int ext =
@@ -106,7 +110,7 @@ module _ {S R : Type 0} (shown : S → Shown) where
             held = held_now;
             bounded = omega (arith, rest.bounded, ap external_buffers ext, ap fronts_in ext);
             fronts = omega (arith, rest.fronts, ap fronts_in ext);
-            few = omega (arith, rest.few, ap length ext);
+            few = odd_same ext;
             pool = kept.all_buffers ∙ rest.pool;
             slots = kept.all_slots ∙ rest.slots;
             internal_room = omega (arith, rest.internal_room, kept.internal_room);
@@ -150,7 +154,7 @@ module _ {S R : Type 0} (shown : S → Shown) where
                 held = held_now;
                 bounded = omega (arith, rest.bounded, ap external_buffers ext, ap fronts_in ext);
                 fronts = omega (arith, rest.fronts, ap fronts_in ext);
-                few = omega (arith, rest.few, ap length ext);
+                few = odd_same ext;
                 pool = kept.all_buffers ∙ rest.pool;
                 slots = kept.all_slots ∙ rest.slots;
                 internal_room = omega (arith, rest.internal_room, kept.internal_room);
@@ -230,7 +234,7 @@ module _ {S R : Type 0} (shown : S → Shown) where
                 held = held_now;
                 bounded = omega (arith, rest.bounded, loaded_buffers, fronts);
                 fronts = omega (arith, rest.fronts, fronts);
-                few = omega (arith, few, ap length ext, length-append a.runs.external.items one);
+                few = omega (arith, few, odd_most t.block b.runs.external.items, ap length ext, length-append a.runs.external.items one);
                 pool = kept.all_buffers ∙ rest.pool;
                 slots = kept.all_slots ∙ rest.slots;
                 internal_room = omega (arith, rest.internal_room, kept.internal_room);

@@ -4,7 +4,7 @@ use Rattle.std.specs.Prelude.{◌⊎◌}
 use Rattle.std.specs.Cmp.{IsTotalOrder}
 use Rattle.ppq_record.specs.Order.{Ascends}
 use Rattle.ppq_record.specs.Bag.{IsSameBag}
-use Rattle.ppq_record.proofs.Order.{count_by-append, IsSameBag-length}
+use Rattle.ppq_record.proofs.Order.{count_by-append}
 use Rattle.ppq_record.proofs.Fronts.{ranks}
 use Rattle.ppq_outside.specs.Shown.{Shown, AllTell}
 use Rattle.ppq_budget.specs.Sizes.{Numbers}
@@ -114,22 +114,22 @@ module _ {S R : Type 0} (shown : S → Shown) {cmp : R → R → Ordering} (o : 
         under = took.under;
       }
 
-  -- before that, levels were settled and the heap was sorted
+  -- before that, levels were settled
   pub took-settled :
-      (h up h' e e' : List R) (a b c : PassBody S R) (s t u : Stock) (out : List R)
-      → BodyKept shown a b s t → Moved shown cmp record_of width n [] a b s t → IsSameBag up h → TookOut shown cmp record_of width n limit most up h' e e' b c t u out
+      (h h' e e' : List R) (a b c : PassBody S R) (s t u : Stock) (out : List R)
+      → BodyKept shown a b s t → Moved shown cmp record_of width n [] a b s t → TookOut shown cmp record_of width n limit most h h' e e' b c t u out
       → TookOut shown cmp record_of width n limit most h h' e e' a c s u out
-  took-settled h up h' e e' a b c s t u out kept moved same took =
+  took-settled h h' e e' a b c s t u out kept moved took =
       record {
         rest = took.rest;
         few = took.few;
-        count = omega (arith, took.count, moved.count, IsSameBag-length up h same);
+        count = omega (arith, took.count, moved.count);
         stored = omega (arith, took.stored, moved.count);
         ascends = λ tell. took.ascends (kept.tells.0 tell);
         order = λ tell. took.order (kept.tells.0 tell);
         taken = λ tell.
-            taken_of cmp (ranks o) (up ++ e ++ runs_bag shown record_of width b) (h ++ e ++ runs_bag shown record_of width a) out (h' ++ e' ++ runs_bag shown record_of width c) (took.taken (kept.tells.0 tell))
-            (parts_same h up e e (runs_bag shown record_of width a) (runs_bag shown record_of width b) (λ p. sym (same p)) (λ p. omega (arith, count_by-append p e (runs_bag shown record_of width a), count_by-append p e (runs_bag shown record_of width b), moved.bag tell p)));
+            taken_of cmp (ranks o) (h ++ e ++ runs_bag shown record_of width b) (h ++ e ++ runs_bag shown record_of width a) out (h' ++ e' ++ runs_bag shown record_of width c) (took.taken (kept.tells.0 tell))
+            (parts_same h h e e (runs_bag shown record_of width a) (runs_bag shown record_of width b) (λ p. refl) (λ p. omega (arith, count_by-append p e (runs_bag shown record_of width a), count_by-append p e (runs_bag shown record_of width b), moved.bag tell p)));
         under = λ tell. took.under (kept.tells.0 tell);
       }
 

@@ -26,7 +26,7 @@ module _ {R : Type 0} (cmp : R → R → Ordering) where
   kept_below (Some x) None = Some x
   kept_below (Some x) (Some l) = cond (is_before cmp x l) (Some x) None
 
-  -- From an ascending heap and an extract buffer the least records went to the end of a list, in order; if `more`, runs stand behind the
+  -- From heaps and an extract buffer the least records went to the end of a list, in order; if `more`, runs stand behind the
   -- extract buffer, none of whose records is before one of its
   pub record Merged (more : Bool) (limit : Option R) (heap heap' extract extract' out out' : List R) : Type 0 where
     pub count : length out' + length heap' + length extract' ≡ length out + length heap + length extract
@@ -47,7 +47,7 @@ module _ {R : Type 0} (cmp : R → R → Ordering) where
   HasEnded most more limit heap extract out = (length out ≡ most) ⊎ ((extract ≡ []) × (more ≡ true)) ⊎ Exhausted more limit heap extract
 
 module _ {S R : Type 0} (shown : S → Shown) (cmp : R → R → Ordering) (record_of : List ℕ → R) (width : ℕ) where
-  -- Out of a heap, an extract buffer and runs, the least records were taken, at most so many, all below the limit, if there is one. The runs
+  -- Out of heaps, an extract buffer and runs, the least records were taken, at most so many, all below the limit, if there is one. The runs
   -- rest, and the extract buffer has the least records of what it and they have left
   pub record TookOut (sizes : Numbers) (limit : Option R) (most : ℕ) (heap heap' extract extract' : List R) (old new : PassBody S R) (before now : Stock) (out : List R) : Type 0 where
     pub rest : AtRest shown cmp record_of width sizes new now

@@ -11,7 +11,7 @@ use Rattle.ppq_queue.specs.declared.fault.QueueFault.TheVariants.{NoFreeBlock, D
 
 -- The bag of its records, as far as its slots tell; how many records it counts; its sizes; the greatest size that it had or was to get
 -- by a push; all its slots, in some order, and how many of them are free; the number of the slot a call of which failed first, if any;
--- how many records its heap has, and how many its extract buffer; and how many buffers of a block each there are
+-- how many records its heaps have, how many the first of them, and how many its extract buffer; how many runs in blocks there are; and how many buffers of a block each
 pub record Holding (R : Type 0) : Type 0 where
   pub bag : List R
   pub size : ℕ
@@ -21,14 +21,16 @@ pub record Holding (R : Type 0) : Type 0 where
   pub free : ℕ
   pub failed : Option ℕ
   pub in_heap : ℕ
+  pub in_first : ℕ
   pub in_extract : ℕ
+  pub runs : ℕ
   pub buffers : ℕ
 
 -- how many slots are in use; of each the first record is kept in memory
 abbrev pub in_use : {R : Type 0} → Holding R → ℕ
 in_use q = length q.slots - q.free
 
--- the records that count against the budget: those of the heap and the extract buffer, the first of each block in use, a batch that is
+-- the records that count against the budget: those of the heaps and the extract buffer, the first of each block in use, a batch that is
 -- dealt and one that is given out, both counted as full, and a block for each buffer that exists
 abbrev pub resident_of : {R : Type 0} → Holding R → ℕ
 resident_of q = q.in_heap + q.in_extract + in_use q + 2 * batch_of q.sizes + q.buffers * q.sizes.block

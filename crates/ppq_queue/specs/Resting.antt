@@ -1,5 +1,5 @@
 -- The runs of a queue between its calls.
-use Rattle.std.specs.Prelude.{◌≡◌, ◌↔◌, ◌⊎◌, ℕ, ◌+◌, ◌*◌, ◌<◌, ◌≤◌, List, [], ◌++◌, length, flat_map, All, vec_capacity}
+use Rattle.std.specs.Prelude.{◌≡◌, ◌↔◌, ◌⊎◌, ◌==◌, cond, ℕ, ◌+◌, ◌*◌, ◌<◌, ◌≤◌, List, [], ◌++◌, length, sum_by, flat_map, All, vec_capacity}
 use Rattle.std.specs.declared.cmp.Ordering.{Ordering}
 use Rattle.ppq_record.specs.Order.{Ascends}
 use Rattle.ppq_record.specs.Bag.{IsSameBag}
@@ -37,6 +37,14 @@ module _ {S R : Type 0} where
   -- how many records all runs have
   abbrev pub count_of : PassBody S R → ℕ
   count_of body = count_in body.runs.internal.items body.runs.external.items
+
+  -- 1 of a run in blocks that is odd: its records do not just fill its stored blocks, as they do where nothing is loaded and all are full
+  abbrev pub odd_of : ℕ → External S R → ℕ
+  odd_of block a = cond (size_of a == length a.stored * block) 0 1
+
+  -- how many runs in blocks are odd
+  abbrev pub odd_in : ℕ → List (External S R) → ℕ
+  odd_in block arrays = sum_by (odd_of block) arrays
 
   module _ (shown : S → Shown) where
     -- all slots: those that the runs use, and the free ones
@@ -84,8 +92,8 @@ module _ {S R : Type 0} where
         pub external : All (λ (a : External S R). Ascends cmp (records_in record_of width shown a)) body.runs.external.items
 
       -- Each run rests, and where slots tell, it ascends. Buffers and slots are of one size, and the supply can take all back. As many buffers
-      -- are idle or loaded as the lanes have; no more are loaded than one for each run that has something loaded and one for each worker. There
-      -- are at most 65 runs in blocks, of which at most 64 have something loaded
+      -- are idle or loaded as the lanes have; no more are loaded than one for each run that has something loaded and one for each worker. At
+      -- most 65 of the runs in blocks are odd, and at most 64 have something loaded
       pub record AtRest (sizes : Numbers) (body : PassBody S R) (stock : Stock) : Type 0 where
         pub block : stock.block ≡ sizes.block
         pub idle : All (HasBlock stock.block) body.lanes.idle
@@ -98,11 +106,11 @@ module _ {S R : Type 0} where
         pub held : internal_buffers body.runs.internal.items + external_buffers body.runs.external.items + length body.lanes.idle ≡ lane_buffers sizes + stock.buffer_room
         pub bounded : external_buffers body.runs.external.items ≤ fronts_in body.runs.external.items + sizes.workers
         pub fronts : fronts_in body.runs.external.items ≤ 64
-        pub few : length body.runs.external.items ≤ 65
+        pub few : odd_in stock.block body.runs.external.items ≤ 65
         pub pool : stock.sure_buffers + stock.buffer_room ≡ pool_of sizes
         pub slots : length stock.kept + stock.slot_room ≡ sizes.blocks
         pub internal_room : pool_of sizes < vec_capacity body.runs.internal
-        pub external_room : 66 ≤ vec_capacity body.runs.external
+        pub external_room : sizes.blocks + 66 ≤ vec_capacity body.runs.external
         pub leaves : pool_of sizes < length body.tree.items
         pub rise : AllTell (slots_of body stock) → AllRise body
 
@@ -127,7 +135,7 @@ module _ {S R : Type 0} where
         pub moved : Moved sizes [] old new before now
         pub short : length now.kept * sizes.block < n + count_of old
 
-      -- Heap, extract buffer and runs hold together what they held. The heap has no more than before. The extract buffer has what it had, and so
+      -- Heaps, extract buffer and runs hold together what they held. The heaps have no more than before. The extract buffer has what it had, and so
       -- have the runs; or it has nothing
       pub record WholeMoved (sizes : Numbers) (heap heap' extract extract' : List R) (old new : PassBody S R) (before now : Stock) : Type 0 where
         pub rest : AtRest sizes new now
@@ -141,10 +149,9 @@ module _ {S R : Type 0} where
         pub moved : WholeMoved sizes heap heap' extract extract' old new before now
         pub short : IsShort sizes (length now.kept) (length heap + length extract + count_of old)
 
-      -- heap and extract buffer were stored
+      -- the extract buffer was stored, and maybe records of the heaps
       pub record Emptied (sizes : Numbers) (heap heap' extract extract' : List R) (old new : PassBody S R) (before now : Stock) : Type 0 where
         pub moved : WholeMoved sizes heap heap' extract extract' old new before now
-        pub no_heap : heap' ≡ []
         pub no_extract : extract' ≡ []
         pub few : length new.runs.external.items ≤ 64
 

@@ -3,8 +3,8 @@ use Rattle.std.specs.Prelude.{◌≡◌, ℕ, ◌+◌, ◌*◌, ◌<◌, ◌≤�
 use Rattle.std.specs.declared.cmp.Ordering.{Ordering}
 use Rattle.ppq_record.specs.Order.{Ascends}
 use Rattle.ppq_outside.specs.Shown.{Shown, AllTell}
-use Rattle.ppq_budget.specs.Sizes.{Numbers, AreInRange, fixed_of, heap_of, batch_of, pool_of}
-use Rattle.ppq_heap.specs.Heap.{Contents}
+use Rattle.ppq_budget.specs.Sizes.{Numbers, AreInRange, fixed_of, heap_of, heaps_of, batch_of, pool_of}
+use Rattle.ppq_heap.specs.Heaps.{Shares, items_of}
 use Rattle.ppq_block.specs.Block.{holding}
 use Rattle.ppq_array.specs.Supply.{Stock}
 use Rattle.ppq_array.specs.Kept.{HasFailed}
@@ -20,11 +20,12 @@ use Rattle.ppq_queue.specs.declared.parts.Parts.{Parts}
 module _ {S R : Type 0} (shown : S → Shown) where
   -- What holds always: the parts fit the sizes, all buffers that were made are there, and so are all slots; the peak is no less than the
   -- size; and a call of the slot that is kept as failed did fail
-  pub record IsQueue (sizes : Numbers) (heap : Contents R) (extract : Held R) (body : PassBody S R) (stock : Stock) (count peak : ℕ) (failed : Option ℕ) : Type 0 where
+  pub record IsQueue (sizes : Numbers) (heaps : Shares R) (extract : Held R) (body : PassBody S R) (stock : Stock) (count peak : ℕ) (failed : Option ℕ) : Type 0 where
     pub range : AreInRange sizes
     pub budget : fixed_of sizes ≤ sizes.memory
-    pub cap : heap.cap ≡ heap_of sizes
-    pub in_heap : length heap.items ≤ heap_of sizes
+    pub cap : heaps.cap ≡ heap_of sizes
+    pub shares : length heaps.heaps ≡ sizes.workers
+    pub in_heap : length (items_of heaps) ≤ heaps_of sizes
     pub room : extract.room ≡ batch_of sizes
     pub in_extract : length extract.items ≤ batch_of sizes
     pub held : (held_by shown body).buffers ≡ lane_buffers sizes + stock.buffer_room
@@ -37,24 +38,25 @@ module _ {S R : Type 0} (shown : S → Shown) where
     pub fault : (number : ℕ) → failed ≡ Some number → HasFailed number (slots_of shown body stock)
 
   -- What holds while no call of a slot has failed: all runs rest, and all records are counted. Where slots tell, the extract buffer ascends,
-  -- and no record of a run is before one of its. A record that is not in the heap came there by a peak above what the heap holds
-  pub record IsSound (cmp : R → R → Ordering) (record_of : List ℕ → R) (width : ℕ) (sizes : Numbers) (heap : Contents R) (extract : Held R) (body : PassBody S R) (stock : Stock) (sources : Sources R) (count peak : ℕ) : Type 0 where
+  -- and no record of a run is before one of its. A record that is in no heap came there by a peak above what a heap holds
+  pub record IsSound (cmp : R → R → Ordering) (record_of : List ℕ → R) (width : ℕ) (sizes : Numbers) (heaps : Shares R) (extract : Held R) (body : PassBody S R) (stock : Stock) (sources : Sources R) (count peak : ℕ) : Type 0 where
     pub rest : AtRest shown cmp record_of width sizes body stock
-    pub counted : count ≡ length heap.items + length extract.items + count_of body
+    pub counted : count ≡ length (items_of heaps) + length extract.items + count_of body
     pub ascends : AllTell (slots_of shown body stock) → Ascends cmp extract.items
     pub order : AllTell (slots_of shown body stock) → NoneAfter cmp extract.items (runs_bag shown record_of width body)
-    pub above : length heap.items < count → heap_of sizes < peak
+    pub above : length (items_of heaps) < count → heap_of sizes < peak
     pub workers : sources.bench.workers ≡ sizes.workers
     pub serves : ServesFor (pool_of sizes + 65) sources
 
 -- the parts of a new queue
 pub record AreNewParts {S R : Type 0} (sizes : Numbers) (parts : Parts S R) : Type 0 where
-  pub no_record : parts.heap.items ≡ []
-  pub cap : parts.heap.cap ≡ heap_of sizes
+  pub no_record : items_of parts.heaps ≡ []
+  pub cap : parts.heaps.cap ≡ heap_of sizes
+  pub shares : length parts.heaps.heaps ≡ sizes.workers
   pub no_internal : parts.body.runs.internal.items ≡ []
   pub no_external : parts.body.runs.external.items ≡ []
   pub internal_room : pool_of sizes < vec_capacity parts.body.runs.internal
-  pub external_room : 66 ≤ vec_capacity parts.body.runs.external
+  pub external_room : sizes.blocks + 66 ≤ vec_capacity parts.body.runs.external
   pub idle : length parts.body.lanes.idle ≡ lane_buffers sizes
   pub blocks : All (λ b. b ≡ holding sizes.block []) parts.body.lanes.idle
   pub no_job : parts.body.lanes.jobs.items ≡ []

@@ -16,7 +16,7 @@ use ppq_record::{Memory, Record};
 use ppq_spill::PassBody;
 use std::alloc::Global;
 
-/// Gives a supply so many empty buffers of its block size.
+// Gives a supply so many empty buffers of its block size.
 pub fn make_buffers<S: Slot, R: Record>(
     alloc: Global,
     supply: &mut OwnerLists<S, R>,
@@ -35,8 +35,8 @@ pub fn make_buffers<S: Slot, R: Record>(
     Ok(())
 }
 
-/// Puts each slot into a box, and gives it to a supply that has none, in their order. Where memory is
-/// wanting, the list has all slots again, in some order.
+// Puts each slot into a box, and gives it to a supply that has none, in their order. Where memory is
+// wanting, the list has all slots again, in some order.
 pub fn berth_slots<S: Slot, R: Record>(
     alloc: Global,
     slots: &mut Vec<S>,
@@ -82,7 +82,7 @@ fn berth_last<S: Slot, R: Record>(
     Ok(())
 }
 
-/// Takes the free slots out of a supply and of their boxes, in order.
+// Takes the free slots out of a supply and of their boxes, in order.
 pub fn take_kept<S: Slot, R: Record>(supply: &mut OwnerLists<S, R>, slots: &mut Vec<S>)
     requires { length slots.old.items + length supply.old.kept ≤ vec_capacity slots.old }
     ensures slots { map S.shown slots.new.items ≡ map S.shown slots.old.items ++ supply.old.kept }
@@ -94,7 +94,7 @@ pub fn take_kept<S: Slot, R: Record>(supply: &mut OwnerLists<S, R>, slots: &mut 
     }
 }
 
-/// Takes the slots of stored blocks out of runs.
+// Takes the slots of stored blocks out of runs.
 pub fn take_stored<S: Slot, R: Record>(arrays: &mut Vec<ExternalArray<S, R>>, slots: &mut Vec<S>)
     requires { length slots.old.items + length (external_slots S.shown arrays.old.items) ≤ vec_capacity slots.old }
     ensures slots { SameSums (map S.shown slots.old.items ++ external_slots S.shown arrays.old.items) (map S.shown slots.new.items) }
@@ -119,7 +119,7 @@ fn give_up_all<S: Slot, R: Record>(array: ExternalArray<S, R>, slots: &mut Vec<S
     }
 }
 
-/// Takes the slots out of jobs.
+// Takes the slots out of jobs.
 pub fn take_jobs<S: Slot, R: Record>(jobs: &mut Vec<Job<Berth<S, R>, R>>, slots: &mut Vec<S>)
     requires { length slots.old.items + length jobs.old.items ≤ vec_capacity slots.old }
     ensures slots { SameSums (map S.shown slots.old.items ++ job_slots S.shown jobs.old.items) (map S.shown slots.new.items) }
@@ -132,7 +132,7 @@ pub fn take_jobs<S: Slot, R: Record>(jobs: &mut Vec<Job<Berth<S, R>, R>>, slots:
     }
 }
 
-/// Takes all slots out of a body and its supply, each once.
+// Takes all slots out of a body and its supply, each once.
 pub fn give_back<S: Slot, R: Record>(
     body: PassBody<S, R>,
     supply: OwnerLists<S, R>,

@@ -4,21 +4,22 @@ ghost use Rattle.std.specs.Prelude.{◌≡◌, ◌*◌, IfOk};
 ghost use Rattle.ppq_budget.specs.Sizes.{batch_of};
 
 use crate::tests::blocks_of;
-use crate::{LimitEnd, Out, Queue, QueueFault};
+use crate::{LimitEnd, Out, Queue, QueueFault, QueueParts};
 use ppq_budget::Sizes;
+use ppq_heap::Heaps;
 use ppq_outside::{Host, MemRack, MemSlot, OpenGate};
 use ppq_record::Pair;
 use std::alloc::Global;
 use std::process::Abort;
 use std::test::Fail;
 
-/// Two workers, two records a block, one block a heap, 200 blocks, and a budget without a buffer.
+// Two workers, two records a block, one block a heap, 200 blocks, and a budget without a buffer.
 fn small() -> Result<Sizes, Fail> {
     let sizes = Sizes::new(2, 2, 1, 372, 200).ok_or("a number is out of range")?;
     Ok(sizes)
 }
 
-/// An empty queue over a device.
+// An empty queue over a device.
 fn queue_over<H: Host>(
     rt: &H,
     alloc: Global,
@@ -34,12 +35,12 @@ fn queue_over<H: Host>(
     }
 }
 
-/// The record that a test calls `key`.
+// The record that a test calls `key`.
 fn pair(key: u64) -> Pair {
     Pair { key, value: 0 }
 }
 
-/// Pushes these records.
+// Pushes these records.
 fn fill<H: Host + Abort>(rt: &H, queue: &mut Queue<MemSlot, Pair>, records: &[Pair])
 where
     H::Dir: Send,
@@ -130,7 +131,7 @@ fn the_limit_itself_stays(rt: HostRuntime) -> Result<(), Fail> {
     Ok(())
 }
 
-/// Pops equal records in bulk, and counts them.
+// Pops equal records in bulk, and counts them.
 fn count_sevens<H: Host + Abort>(
     rt: &H,
     queue: &mut Queue<MemSlot, Pair>,
@@ -181,5 +182,59 @@ fn a_failed_read_empties_the_list_and_stops_the_queue(rt: HostRuntime) -> Result
     let limited = queue.bulk_pop_limit(&rt, pair(9), 3, &mut out, &OpenGate);
     assert_eq!(rt; limited, Err(QueueFault::Device { number: 0 }));
     assert!(rt; out.is_empty());
+    Ok(())
+}
+
+// The queue with its heaps in the other order. A push fills the heap that is first then.
+fn turned(queue: Queue<MemSlot, Pair>) -> Queue<MemSlot, Pair>
+    ensures { result.sizes ≡ queue.sizes }
+{
+    let QueueParts {
+        sizes,
+        heaps,
+        body,
+        supply,
+        extract,
+        sources,
+        count,
+        peak,
+        failed,
+        slots,
+    } = queue.into_parts();
+    let (heaps, tree) = heaps.into_parts();
+    let mut heaps = heaps;
+    heaps.as_mut_slice().reverse();
+    Queue::from_parts(QueueParts {
+        sizes,
+        heaps: Heaps::from_parts(heaps, tree),
+        body,
+        supply,
+        extract,
+        sources,
+        count,
+        peak,
+        failed,
+        slots,
+    })
+}
+
+#[test]
+fn a_bulk_pop_takes_from_two_heaps(rt: HostRuntime) -> Result<(), Fail> {
+    let sizes = small()?;
+    let mut out = Out::new(rt.alloc(), &sizes)?;
+    let mut queue = queue_over(&rt, rt.alloc(), sizes, &mut MemRack::new())?;
+    fill(&rt, &mut queue, &[pair(4), pair(1)]);
+    let mut queue = turned(queue);
+    fill(&rt, &mut queue, &[pair(3), pair(2)]);
+    assert_eq!(rt; queue.resident(), 4 + 8 + 78 * 2);
+    assert_eq!(rt; queue.bulk_pop(&rt, 3, &mut out, &OpenGate), Ok(3));
+    assert_eq!(rt; out.as_slice(), [pair(1), pair(2), pair(3)].as_slice());
+    let mut queue = turned(queue);
+    fill(&rt, &mut queue, &[pair(5)]);
+    assert_eq!(rt; queue.begin_session(&rt, &OpenGate), Ok(()));
+    assert_eq!(rt; queue.settle(&rt, &OpenGate), Ok(()));
+    assert_eq!(rt; queue.bulk_pop(&rt, 9, &mut out, &OpenGate), Ok(2));
+    assert_eq!(rt; out.as_slice(), [pair(4), pair(5)].as_slice());
+    assert_eq!(rt; queue.close().len(), 200);
     Ok(())
 }

@@ -4,7 +4,7 @@ ghost use Rattle.ppq_queue.specs.Choice as spec;
 
 use ppq_record::Record;
 
-/// Whether the first of two least records goes first: it is there, and the other is not before it.
+// Whether the first of two least records goes first: it is there, and the other is not before it.
 #[inline]
 pub fn goes_first<R: Record>(one: Option<R>, other: Option<R>) -> bool
     ensures { result ≡ spec.goes_first R.Ord.cmp one other }

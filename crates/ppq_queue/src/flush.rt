@@ -1,27 +1,28 @@
-//! A heap and the rest of an extract buffer that are stored as runs.
-ghost use Rattle.std.specs.Prelude.{◌≡◌, ◌≤◌, ◌<◌, ℕ, [], length, OnOk, IsErrOf};
+//! The first heap and the rest of an extract buffer that are stored as runs.
+ghost use Rattle.std.specs.Prelude.{◌≡◌, ◌≤◌, ◌<◌, ◌+◌, ℕ, [], length, OnOk, IsErrOf};
 ghost use Rattle.ppq_record.specs.Order.{Ascends};
 ghost use Rattle.ppq_outside.specs.Shown.{AllTell};
 ghost use Rattle.ppq_budget.specs.Sizes.{fixed_of};
-ghost use Rattle.ppq_queue.specs.Resting.{AtRest, BodyKept, WholeShort, Emptied, BodyFailed, slots_of};
+ghost use Rattle.ppq_heap.specs.Heaps.{items_of, share_at};
+ghost use Rattle.ppq_queue.specs.Resting.{AtRest, BodyKept, WholeShort, Emptied, BodyFailed, slots_of, count_of};
 
-use crate::settle::settle;
+use crate::settle::{settle, settle_some};
 use crate::store::store_run;
 use ppq_array::{OwnerLists, StoreFault};
 use ppq_budget::Sizes;
 use ppq_extract::Extract;
-use ppq_heap::InsertionHeap;
+use ppq_heap::Heaps;
 use ppq_merge::Bench;
 use ppq_outside::{Gate, Host, Slot};
 use ppq_record::{Record, record_laws};
 use ppq_spill::PassBody;
 
-/// Stores the rest of an extract buffer as a run, and then a heap. Before, between and after, levels of
-/// runs are merged.
+// Stores the rest of an extract buffer as a run, and then the first heap. Before, between and after,
+// levels of runs are merged.
 pub fn flush_all<H: Host, S: Slot + Send + Sync, R: Record + Send + Sync, G: Gate>(
     rt: &H,
     sizes: Sizes,
-    heap: &mut InsertionHeap<R>,
+    heaps: &mut Heaps<R>,
     extract: &mut Extract<R>,
     body: &mut PassBody<S, R>,
     supply: &mut OwnerLists<S, R>,
@@ -30,8 +31,9 @@ pub fn flush_all<H: Host, S: Slot + Send + Sync, R: Record + Send + Sync, G: Gat
 ) -> Result<(), StoreFault>
 where
     H::Dir: Send,
-    requires some { 0 < length heap.old.items }
-    requires heap { length heap.old.items ≤ sizes.memory }
+    requires heaps { 0 < length heaps.old.heaps }
+    requires some { 0 < length (share_at heaps.old 0) }
+    requires heap { length (share_at heaps.old 0) ≤ sizes.memory }
     requires extract { length extract.old.items ≤ sizes.memory }
     requires ascends { AllTell (slots_of S.shown body.old supply.old) → Ascends R.Ord.cmp extract.old.items }
     requires rest { AtRest S.shown R.Ord.cmp R.record_of R.WIDTH sizes body.old supply.old }
@@ -40,20 +42,55 @@ where
     requires places { 8 ≤ length bench.old.places }
     requires no_row { supply.old.drawn ≡ [] }
     ensures kept { BodyKept S.shown body.old body.new supply.old supply.new }
-    ensures emptied { OnOk result (Emptied S.shown R.Ord.cmp R.record_of R.WIDTH sizes heap.old.items heap.new.items extract.old.items extract.new.items body.old body.new supply.old supply.new) }
-    ensures none_free { IsErrOf result StoreFault.NoFreeBlock → WholeShort S.shown R.Ord.cmp R.record_of R.WIDTH sizes heap.old.items heap.new.items extract.old.items extract.new.items body.old body.new supply.old supply.new }
+    ensures emptied { OnOk result (Emptied S.shown R.Ord.cmp R.record_of R.WIDTH sizes (items_of heaps.old) (items_of heaps.new) extract.old.items extract.new.items body.old body.new supply.old supply.new) }
+    ensures none_free { IsErrOf result StoreFault.NoFreeBlock → WholeShort S.shown R.Ord.cmp R.record_of R.WIDTH sizes (items_of heaps.old) (items_of heaps.new) extract.old.items extract.new.items body.old body.new supply.old supply.new }
     ensures device { (number : ℕ) → IsErrOf result (StoreFault.Device number) → BodyFailed S.shown number body.new supply.new }
-    ensures cap { heap.new.cap ≡ heap.old.cap }
-    ensures heap { length heap.new.items ≤ length heap.old.items }
+    ensures first { OnOk result (share_at heaps.new 0 ≡ []) }
+    ensures heaps { length heaps.new.heaps ≡ length heaps.old.heaps }
+    ensures cap { heaps.new.cap ≡ heaps.old.cap }
+    ensures fewer { length (items_of heaps.new) ≤ length (items_of heaps.old) }
     ensures extract { length extract.new.items ≤ length extract.old.items }
     ensures room { extract.new.room ≡ extract.old.room }
     ensures workers { bench.new.workers ≡ bench.old.workers }
     ensures places { length bench.new.places ≡ length bench.old.places }
     ensures no_row { supply.new.drawn ≡ [] }
 {
-    settle(rt, sizes, body, supply, bench, gate)?;
-    store_rest(rt, sizes, extract, body, supply, bench, gate)?;
-    store_heap(rt, sizes, heap, body, supply, bench, gate)
+    store_extract(rt, sizes, extract, body, supply, bench, gate)?;
+    store_heap(rt, sizes, heaps, body, supply, bench, gate)
+}
+
+// Stores the rest of an extract buffer as a run. Before and after, levels of runs are merged.
+pub fn store_extract<H: Host, S: Slot + Send + Sync, R: Record + Send + Sync, G: Gate>(
+    rt: &H,
+    sizes: Sizes,
+    extract: &mut Extract<R>,
+    body: &mut PassBody<S, R>,
+    supply: &mut OwnerLists<S, R>,
+    bench: &mut Bench<R>,
+    gate: &G,
+) -> Result<(), StoreFault>
+where
+    H::Dir: Send,
+    requires extract { length extract.old.items ≤ sizes.memory }
+    requires ascends { AllTell (slots_of S.shown body.old supply.old) → Ascends R.Ord.cmp extract.old.items }
+    requires rest { AtRest S.shown R.Ord.cmp R.record_of R.WIDTH sizes body.old supply.old }
+    requires budget { fixed_of sizes ≤ sizes.memory }
+    requires workers { bench.old.workers ≡ sizes.workers }
+    requires places { 8 ≤ length bench.old.places }
+    requires no_row { supply.old.drawn ≡ [] }
+    ensures kept { BodyKept S.shown body.old body.new supply.old supply.new }
+    ensures emptied { OnOk result (Emptied S.shown R.Ord.cmp R.record_of R.WIDTH sizes [] [] extract.old.items extract.new.items body.old body.new supply.old supply.new) }
+    ensures none_free { IsErrOf result StoreFault.NoFreeBlock → WholeShort S.shown R.Ord.cmp R.record_of R.WIDTH sizes [] [] extract.old.items extract.new.items body.old body.new supply.old supply.new }
+    ensures some { IsErrOf result StoreFault.NoFreeBlock → 0 < length extract.old.items + count_of body.old }
+    ensures device { (number : ℕ) → IsErrOf result (StoreFault.Device number) → BodyFailed S.shown number body.new supply.new }
+    ensures extract { length extract.new.items ≤ length extract.old.items }
+    ensures room { extract.new.room ≡ extract.old.room }
+    ensures workers { bench.new.workers ≡ bench.old.workers }
+    ensures places { length bench.new.places ≡ length bench.old.places }
+    ensures no_row { supply.new.drawn ≡ [] }
+{
+    settle_some(rt, sizes, body, supply, bench, gate)?;
+    store_rest(rt, sizes, extract, body, supply, bench, gate)
 }
 
 // Stores the rest of an extract buffer.
@@ -79,6 +116,7 @@ where
     ensures kept { BodyKept S.shown body.old body.new supply.old supply.new }
     ensures emptied { OnOk result (Emptied S.shown R.Ord.cmp R.record_of R.WIDTH sizes [] [] extract.old.items extract.new.items body.old body.new supply.old supply.new) }
     ensures none_free { IsErrOf result StoreFault.NoFreeBlock → WholeShort S.shown R.Ord.cmp R.record_of R.WIDTH sizes [] [] extract.old.items extract.new.items body.old body.new supply.old supply.new }
+    ensures some { IsErrOf result StoreFault.NoFreeBlock → 0 < length extract.old.items }
     ensures device { (number : ℕ) → IsErrOf result (StoreFault.Device number) → BodyFailed S.shown number body.new supply.new }
     ensures extract { length extract.new.items ≤ length extract.old.items }
     ensures room { extract.new.room ≡ extract.old.room }
@@ -94,11 +132,11 @@ where
     settle(rt, sizes, body, supply, bench, gate)
 }
 
-// Sorts a heap and stores it.
+// Sorts the first heap and stores it.
 fn store_heap<H: Host, S: Slot + Send + Sync, R: Record + Send + Sync, G: Gate>(
     rt: &H,
     sizes: Sizes,
-    heap: &mut InsertionHeap<R>,
+    heaps: &mut Heaps<R>,
     body: &mut PassBody<S, R>,
     supply: &mut OwnerLists<S, R>,
     bench: &mut Bench<R>,
@@ -106,8 +144,9 @@ fn store_heap<H: Host, S: Slot + Send + Sync, R: Record + Send + Sync, G: Gate>(
 ) -> Result<(), StoreFault>
 where
     H::Dir: Send,
-    requires some { 0 < length heap.old.items }
-    requires heap { length heap.old.items ≤ sizes.memory }
+    requires heaps { 0 < length heaps.old.heaps }
+    requires some { 0 < length (share_at heaps.old 0) }
+    requires heap { length (share_at heaps.old 0) ≤ sizes.memory }
     requires rest { AtRest S.shown R.Ord.cmp R.record_of R.WIDTH sizes body.old supply.old }
     requires few { length body.old.runs.external.items ≤ 64 }
     requires budget { fixed_of sizes ≤ sizes.memory }
@@ -115,18 +154,20 @@ where
     requires places { 8 ≤ length bench.old.places }
     requires no_row { supply.old.drawn ≡ [] }
     ensures kept { BodyKept S.shown body.old body.new supply.old supply.new }
-    ensures emptied { OnOk result (Emptied S.shown R.Ord.cmp R.record_of R.WIDTH sizes heap.old.items heap.new.items [] [] body.old body.new supply.old supply.new) }
-    ensures none_free { IsErrOf result StoreFault.NoFreeBlock → WholeShort S.shown R.Ord.cmp R.record_of R.WIDTH sizes heap.old.items heap.new.items [] [] body.old body.new supply.old supply.new }
+    ensures emptied { OnOk result (Emptied S.shown R.Ord.cmp R.record_of R.WIDTH sizes (items_of heaps.old) (items_of heaps.new) [] [] body.old body.new supply.old supply.new) }
+    ensures none_free { IsErrOf result StoreFault.NoFreeBlock → WholeShort S.shown R.Ord.cmp R.record_of R.WIDTH sizes (items_of heaps.old) (items_of heaps.new) [] [] body.old body.new supply.old supply.new }
     ensures device { (number : ℕ) → IsErrOf result (StoreFault.Device number) → BodyFailed S.shown number body.new supply.new }
-    ensures cap { heap.new.cap ≡ heap.old.cap }
-    ensures heap { length heap.new.items ≤ length heap.old.items }
+    ensures first { OnOk result (share_at heaps.new 0 ≡ []) }
+    ensures heaps { length heaps.new.heaps ≡ length heaps.old.heaps }
+    ensures cap { heaps.new.cap ≡ heaps.old.cap }
+    ensures fewer { length (items_of heaps.new) ≤ length (items_of heaps.old) }
     ensures workers { bench.new.workers ≡ bench.old.workers }
     ensures places { length bench.new.places ≡ length bench.old.places }
     ensures no_row { supply.new.drawn ≡ [] }
 {
     record_laws::<R>();
-    heap.sort_in_place();
-    store_run(rt, sizes, body, supply, heap.as_slice())?;
-    heap.clear();
+    heaps.sort_share(0);
+    store_run(rt, sizes, body, supply, heaps.share(0))?;
+    heaps.clear_share(0);
     settle(rt, sizes, body, supply, bench, gate)
 }

@@ -12,9 +12,9 @@ use std::marker::Model;
 /// Contracts see the records, and how many there is room for.
 #[derive(Drop)]
 pub struct Out<R: Record> {
-    /// What was taken; the vector has room for all that may be taken from the beginning.
+    // What was taken; the vector has room for all that may be taken from the beginning.
     records: Vec<R>,
-    /// How many records there may be.
+    // How many records there may be.
     room: u32,
 }
 
@@ -73,7 +73,7 @@ impl<R: Record> Out<R> {
         self.room
     }
 
-    /// Takes all records out; the room stays.
+    // Takes all records out; the room stays.
     #[inline]
     pub(crate) fn clear(&mut self)
         ensures { self.new ≡ listed [] self.old.room }
@@ -81,7 +81,7 @@ impl<R: Record> Out<R> {
         self.records.clear();
     }
 
-    /// Adds a record at the end.
+    // Adds a record at the end.
     #[inline]
     pub(crate) fn push(&mut self, r: R)
         requires { length self.old.items < self.old.room }

@@ -9,7 +9,7 @@ use crate::berths::make_buffers;
 use ppq_array::{OwnerLists, Runs};
 use ppq_budget::Sizes;
 use ppq_extract::{Extract, Sources};
-use ppq_heap::InsertionHeap;
+use ppq_heap::Heaps;
 use ppq_lane::Lanes;
 use ppq_outside::Slot;
 use ppq_record::{Memory, Record};
@@ -17,37 +17,37 @@ use ppq_spill::PassBody;
 use ppq_tree::MinTree;
 use std::alloc::Global;
 
-/// All parts of a queue but its list of slots.
+// All parts of a queue but its list of slots.
 #[derive(Drop)]
 pub struct Parts<S: Slot, R: Record> {
-    /// An empty heap.
-    pub heap: InsertionHeap<R>,
-    /// No runs, and the buffers of the lanes.
+    // An empty heap for each worker.
+    pub heaps: Heaps<R>,
+    // No runs, and the buffers of the lanes.
     pub body: PassBody<S, R>,
-    /// An empty buffer.
+    // An empty buffer.
     pub extract: Extract<R>,
-    /// For as many runs as there can be.
+    // For as many runs as there can be.
     pub sources: Sources<R>,
-    /// The buffers of the pool, and no slots yet.
+    // The buffers of the pool, and no slots yet.
     pub supply: OwnerLists<S, R>,
 }
 
 impl<S: Slot, R: Record> Parts<S, R> {
-    /// The parts of a new queue of these sizes, with so many buffers in its pool. `Err` only for want of
-    /// memory.
+    // The parts of a new queue of these sizes, with so many buffers in its pool. `Err` only for want of
+    // memory.
     pub fn new(alloc: Global, sizes: &Sizes, buffers: u32) -> Result<Self, Memory>
         requires budget { fixed_of sizes.now ≤ sizes.now.memory }
         requires buffers { buffers ≡ pool_of sizes.now }
         ensures { IfOk result (AreNewParts sizes.now) }
     {
-        let heap = InsertionHeap::new(alloc, sizes.heap_records())?;
+        let heaps = Heaps::new(alloc, sizes.workers(), sizes.heap_records())?;
         let body = new_body(alloc, sizes, buffers)?;
         let extract = Extract::new(alloc, sizes)?;
         let sources = Sources::new(alloc, sizes)?;
         let mut supply = OwnerLists::new(sizes.block(), sizes.blocks(), buffers);
         make_buffers(alloc, &mut supply, sizes.block(), buffers)?;
         Ok(Parts {
-            heap,
+            heaps,
             body,
             extract,
             sources,
@@ -66,7 +66,7 @@ fn new_body<S: Slot, R: Record>(
     ensures no_internal { IfOk result (λ body. body.runs.internal.items ≡ []) }
     ensures no_external { IfOk result (λ body. body.runs.external.items ≡ []) }
     ensures internal_room { IfOk result (λ body. buffers < vec_capacity body.runs.internal) }
-    ensures external_room { IfOk result (λ body. 66 ≤ vec_capacity body.runs.external) }
+    ensures external_room { IfOk result (λ body. sizes.now.blocks + 66 ≤ vec_capacity body.runs.external) }
     ensures idle { IfOk result (λ body. length body.lanes.idle ≡ 72 + 3 * sizes.now.workers) }
     ensures blocks { IfOk result (λ body. All (λ b. b ≡ holding sizes.now.block []) body.lanes.idle) }
     ensures no_job { IfOk result (λ body. body.lanes.jobs.items ≡ []) }

@@ -1,25 +1,27 @@
 //! The queue.
 ghost use Rattle.std.specs.Prelude.{◌≡◌, ◌≤◌, ◌<◌, ◌+◌, ◌-◌, ◌*◌, ◌↔◌, ◌⊎◌, ◌∷◌, [], ℕ, length, map, All, Some, None, IsNone, Err, IfOk, IfErr, OnOk, OnErr, max, min, true, false};
 ghost use Rattle.ppq_record.specs.Bag.{IsSameBag, least, front, without_front, size_below};
-ghost use Rattle.ppq_budget.specs.Sizes.{AreInRange, fixed_of, heap_of, batch_of};
+ghost use Rattle.ppq_budget.specs.Sizes.{AreInRange, fixed_of, heap_of, heaps_of, batch_of};
 ghost use Rattle.ppq_outside.specs.Shown.{AllTell};
 ghost use Rattle.ppq_array.specs.Kept.{SameSlots, HasFailed, all_writes};
 ghost use Rattle.ppq_fetch.specs.Taking.{wanted, NoneBelow};
 ghost use Rattle.ppq_queue.specs.Bulk.{IsEnd};
+ghost use Rattle.ppq_queue.specs.Handed.{holding_of, IsWhole};
 ghost use Rattle.ppq_queue.specs.Holding.{resident_of, NamesNeed, AreNewSlots, IsRefusal};
 ghost use Rattle.ppq_queue.specs.declared.fault.QueueFault.TheVariants.{Device};
 
 use crate::berths::{berth_slots, give_back};
 use crate::bulk::{keep_below, take_out};
 use crate::choice::goes_first;
-use crate::flush::flush_all;
+use crate::flush::{flush_all, store_extract};
 use crate::parts::Parts;
 use crate::refill::make_ready;
-use crate::{LimitEnd, OpenFault, Out, QueueFault};
+use crate::settle::settle_some;
+use crate::{LimitEnd, OpenFault, Out, QueueFault, QueueParts};
 use ppq_array::{OwnerLists, StoreFault, Supply};
 use ppq_budget::Sizes;
 use ppq_extract::{Extract, Sources};
-use ppq_heap::InsertionHeap;
+use ppq_heap::Heaps;
 use ppq_outside::{Gate, Host, Slot};
 use ppq_record::{Record, record_laws};
 use ppq_spill::PassBody;
@@ -33,46 +35,47 @@ use std::marker::Model;
 /// greatest size that the bag had or was to get by a push, and all its slots.
 #[derive(Drop)]
 pub struct Queue<S: Slot + Send + Sync, R: Record + Send + Sync> {
-    /// The five numbers from which all sizes follow.
+    // The five numbers from which all sizes follow.
     sizes: Sizes,
-    /// The latest records.
-    heap: InsertionHeap<R>,
-    /// The runs, and the buffers that blocks are written from and read into.
+    // The latest records: a heap for each worker, of which pushes fill the first.
+    heaps: Heaps<R>,
+    // The runs, and the buffers that blocks are written from and read into.
     body: PassBody<S, R>,
-    /// The free slots, and the buffers that no run uses.
+    // The free slots, and the buffers that no run uses.
     supply: OwnerLists<S, R>,
-    /// The least records of the runs, as they were when it was last refilled.
+    // The least records of the runs, as they were when it was last refilled.
     extract: Extract<R>,
-    /// What refills and merges need.
+    // What refills and merges need.
     sources: Sources<R>,
-    /// How many records there are.
+    // How many records there are.
     count: u64,
-    /// The greatest size so far, in records.
+    // The greatest size so far, in records.
     peak: u64,
-    /// The block that failed first; from then on the queue is stopped.
+    // The block that failed first; from then on the queue is stopped.
     failed: Option<u32>,
-    /// The emptied list of the slots that came in.
+    // The emptied list of the slots that came in.
     slots: Vec<S>,
 }
 
 impl<S: Slot + Send + Sync, R: Record + Send + Sync> Model for Queue<S, R> {
     ghost use Rattle.std.specs.Prelude.{◌≡◌, ◌+◌, ◌≤◌, ◌++◌, [], length, None, vec_capacity};
     ghost use Rattle.ppq_budget.specs.Sizes.{pool_of};
+    ghost use Rattle.ppq_heap.specs.Heaps.{items_of, share_at};
     ghost use Rattle.ppq_queue.specs.Holding.{Holding};
     ghost use Rattle.ppq_queue.specs.Resting.{slots_of, runs_bag, lane_buffers};
     ghost use Rattle.ppq_queue.specs.State.{IsQueue, IsSound};
 
     ghost Value = { Holding R };
 
-    ghost view = { λ q. record { bag = q.heap.items ++ q.extract.items ++ runs_bag S.shown R.record_of R.WIDTH q.body; size = q.count; sizes = q.sizes; peak = q.peak; slots = slots_of S.shown q.body q.supply; free = length q.supply.kept; failed = q.failed; in_heap = length q.heap.items; in_extract = length q.extract.items; buffers = lane_buffers q.sizes + pool_of q.sizes } };
+    ghost view = { λ q. record { bag = items_of q.heaps ++ q.extract.items ++ runs_bag S.shown R.record_of R.WIDTH q.body; size = q.count; sizes = q.sizes; peak = q.peak; slots = slots_of S.shown q.body q.supply; free = length q.supply.kept; failed = q.failed; in_heap = length (items_of q.heaps); in_first = length (share_at q.heaps 0); in_extract = length q.extract.items; runs = length q.body.runs.external.items; buffers = lane_buffers q.sizes + pool_of q.sizes } };
 
-    ghost invariant = { λ q. IsQueue S.shown q.sizes q.heap q.extract q.body q.supply q.count q.peak q.failed × (q.failed ≡ None → IsSound S.shown R.Ord.cmp R.record_of R.WIDTH q.sizes q.heap q.extract q.body q.supply q.sources q.count q.peak) × (q.slots.items ≡ []) × (q.sizes.blocks ≤ vec_capacity q.slots) };
+    ghost invariant = { λ q. IsQueue S.shown q.sizes q.heaps q.extract q.body q.supply q.count q.peak q.failed × (q.failed ≡ None → IsSound S.shown R.Ord.cmp R.record_of R.WIDTH q.sizes q.heaps q.extract q.body q.supply q.sources q.count q.peak) × (q.slots.items ≡ []) × (q.sizes.blocks ≤ vec_capacity q.slots) };
 }
 
 impl<S: Slot + Send + Sync, R: Record + Send + Sync> Queue<S, R> {
     /// A queue without records over these slots, which are free in the order of the list. It takes all the
-    /// memory that it will ever have: a heap of `H` records, an extract buffer, the buffers of its lanes, as
-    /// many buffers more as the budget leaves room for, and a box for each slot.
+    /// memory that it will ever have: a heap of `H` records for each worker, an extract buffer, the buffers
+    /// of its lanes, as many buffers more as the budget leaves room for, and a box for each slot.
     ///
     /// `TooSmall` comes exactly where the budget is below its fixed part, which it names, unless memory is
     /// wanting. A refusal hands the slots back.
@@ -101,7 +104,7 @@ impl<S: Slot + Send + Sync, R: Record + Send + Sync> Queue<S, R> {
             return Err((slots, OpenFault::Memory));
         };
         let Parts {
-            heap,
+            heaps,
             body,
             extract,
             sources,
@@ -114,7 +117,7 @@ impl<S: Slot + Send + Sync, R: Record + Send + Sync> Queue<S, R> {
         }
         Ok(Queue {
             sizes,
-            heap,
+            heaps,
             body,
             supply,
             extract,
@@ -126,11 +129,11 @@ impl<S: Slot + Send + Sync, R: Record + Send + Sync> Queue<S, R> {
         })
     }
 
-    /// Adds a record. It costs one sift into the heap; where the heap is full, the rest of the extract
+    /// Adds a record. It costs one sift into the first heap; where that is full, the rest of the extract
     /// buffer and the sorted heap are stored as runs first, and levels of runs are merged.
     ///
     /// Each refusal hands the record back. `NoFreeBlock`: the bag is as it was; the device has fewer blocks
-    /// than are enough for the peak, and the peak is above what the heap holds. `Device`: a call of the
+    /// than are enough for the peak, and the peak is above what a heap holds. `Device`: a call of the
     /// block with that number failed, now or before.
     pub fn push<H: Host, G: Gate>(&mut self, rt: &H, r: R, gate: &G) -> Result<(), (R, QueueFault)>
     where
@@ -161,14 +164,14 @@ impl<S: Slot + Send + Sync, R: Record + Send + Sync> Queue<S, R> {
         }
     }
 
-    // Makes room in the heap for a record.
+    // Makes room in the first heap for a record.
     fn make_room<H: Host, G: Gate>(&mut self, rt: &H, gate: &G) -> Result<(), QueueFault>
     where
         H::Dir: Send,
         requires sound { self.old.failed ≡ None }
         requires peak { self.old.size < self.old.peak }
         ensures bag { OnOk result (AllTell self.old.slots → IsSameBag self.new.bag self.old.bag) }
-        ensures room { OnOk result (self.new.in_heap < heap_of self.new.sizes) }
+        ensures room { OnOk result (self.new.in_first < heap_of self.new.sizes) }
         ensures sound { OnOk result (self.new.failed ≡ None) }
         ensures refused { IfErr result (IsRefusal self.old self.new) }
         ensures size { self.new.size ≡ self.old.size }
@@ -178,7 +181,8 @@ impl<S: Slot + Send + Sync, R: Record + Send + Sync> Queue<S, R> {
         ensures peak { self.new.peak ≡ self.old.peak }
         ensures sizes { self.new.sizes ≡ self.old.sizes }
     {
-        if !self.heap.is_full() {
+        self.heaps.known();
+        if !self.heaps.is_full() {
             return Ok(());
         }
         self.flush(rt, gate)
@@ -191,27 +195,30 @@ impl<S: Slot + Send + Sync, R: Record + Send + Sync> Queue<S, R> {
         self.peak = self.peak.max(self.count + 1);
     }
 
-    // Adds a record to a heap that has room.
+    // Adds a record to the first heap, which has room.
     fn put(&mut self, r: R)
         requires sound { self.old.failed ≡ None }
-        requires room { self.old.in_heap < heap_of self.old.sizes }
+        requires room { self.old.in_first < heap_of self.old.sizes }
         requires peak { self.old.size < self.old.peak }
         ensures added { IsSameBag self.new.bag (r ∷ self.old.bag) }
-        ensures rest { self.new ≡ record self.old { bag = self.new.bag; size = self.old.size + 1; in_heap = self.new.in_heap } }
+        ensures rest { self.new ≡ record self.old { bag = self.new.bag; size = self.old.size + 1; in_heap = self.new.in_heap; in_first = self.new.in_first } }
     {
-        let _ = self.heap.try_push(r);
+        // There is room, so the heap takes it.
+        // The first heap has room, so no record comes back.
+        let _ = self.heaps.try_push(r);
+        self.heaps.known();
         self.count += 1;
     }
 
-    // Stores the rest of the extract buffer and a full heap.
+    // Stores the rest of the extract buffer and the first heap, which is full.
     fn flush<H: Host, G: Gate>(&mut self, rt: &H, gate: &G) -> Result<(), QueueFault>
     where
         H::Dir: Send,
         requires sound { self.old.failed ≡ None }
-        requires full { self.old.in_heap ≡ heap_of self.old.sizes }
+        requires full { self.old.in_first ≡ heap_of self.old.sizes }
         requires peak { heap_of self.old.sizes < self.old.peak }
         ensures bag { OnOk result (AllTell self.old.slots → IsSameBag self.new.bag self.old.bag) }
-        ensures emptied { OnOk result (self.new.in_heap ≡ 0) }
+        ensures emptied { OnOk result (self.new.in_first ≡ 0) }
         ensures sound { OnOk result (self.new.failed ≡ None) }
         ensures refused { IfErr result (IsRefusal self.old self.new) }
         ensures size { self.new.size ≡ self.old.size }
@@ -224,7 +231,7 @@ impl<S: Slot + Send + Sync, R: Record + Send + Sync> Queue<S, R> {
         let answer = flush_all(
             rt,
             self.sizes,
-            &mut self.heap,
+            &mut self.heaps,
             &mut self.extract,
             &mut self.body,
             &mut self.supply,
@@ -287,7 +294,7 @@ impl<S: Slot + Send + Sync, R: Record + Send + Sync> Queue<S, R> {
         ensures none { IsNone result ↔ (self.now.size ≡ 0) }
     {
         record_laws::<R>();
-        let latest = self.heap.min();
+        let latest = self.heaps.min();
         let stored = self.extract.front();
         if goes_first(latest, stored) {
             return latest;
@@ -302,12 +309,12 @@ impl<S: Slot + Send + Sync, R: Record + Send + Sync> Queue<S, R> {
         ensures answer { AllTell self.old.slots → result ≡ least R.Ord.cmp self.old.bag }
         ensures none { IsNone result ↔ (self.old.size ≡ 0) }
         ensures rest { AllTell self.old.slots → IsSameBag self.new.bag (without_front R.Ord.cmp self.old.bag 1) }
-        ensures fields { self.new ≡ record self.old { bag = self.new.bag; size = self.old.size - 1; in_heap = self.new.in_heap; in_extract = self.new.in_extract } }
+        ensures fields { self.new ≡ record self.old { bag = self.new.bag; size = self.old.size - 1; in_heap = self.new.in_heap; in_first = self.new.in_first; in_extract = self.new.in_extract } }
     {
         record_laws::<R>();
         self.count = self.count.saturating_sub(1);
-        if goes_first(self.heap.min(), self.extract.front()) {
-            return self.heap.pop();
+        if goes_first(self.heaps.min(), self.extract.front()) {
+            return self.heaps.pop();
         }
         self.extract.pop()
     }
@@ -337,7 +344,7 @@ impl<S: Slot + Send + Sync, R: Record + Send + Sync> Queue<S, R> {
         Ok(self.least())
     }
 
-    /// The least record, removed; none exactly where the queue is empty. It costs one sift of the heap, or
+    /// The least record, removed; none exactly where the queue is empty. It costs one sift of a heap, or
     /// a step in the extract buffer. Where the extract buffer is empty and there are runs, it is refilled
     /// first.
     ///
@@ -365,9 +372,9 @@ impl<S: Slot + Send + Sync, R: Record + Send + Sync> Queue<S, R> {
     }
 
     /// Takes the least records out into a list, at most `k` of them and at most as many as it has room for,
-    /// in ascending order, and returns how many. What the list had before is gone. The heap is sorted in
-    /// place, and merged with the extract buffer, which is refilled from all runs while it is empty and more
-    /// is wanted: about a comparison a record.
+    /// in ascending order, and returns how many. What the list had before is gone. A record of a heap costs a
+    /// sift there, and one of the extract buffer, which is refilled from all runs while it is empty and more
+    /// is wanted, about a comparison.
     ///
     /// `NoFreeBlock` and `Device` come as from `push`; the list is empty then.
     pub fn bulk_pop<H: Host, G: Gate>(
@@ -490,7 +497,7 @@ impl<S: Slot + Send + Sync, R: Record + Send + Sync> Queue<S, R> {
         let answer = take_out(
             rt,
             self.sizes,
-            &mut self.heap,
+            &mut self.heaps,
             &mut self.extract,
             &mut self.body,
             &mut self.supply,
@@ -528,6 +535,151 @@ impl<S: Slot + Send + Sync, R: Record + Send + Sync> Queue<S, R> {
         true
     }
 
+    /// Merges levels of runs in blocks until none of the 8 levels has more than 8. A session ends with it:
+    /// the runs that its passes stored came without one.
+    ///
+    /// `NoFreeBlock` and `Device` come as from `push`.
+    pub fn settle<H: Host, G: Gate>(&mut self, rt: &H, gate: &G) -> Result<(), QueueFault>
+    where
+        H::Dir: Send,
+        ensures bag { OnOk result (AllTell self.old.slots → IsSameBag self.new.bag self.old.bag) }
+        ensures settled { OnOk result (self.new.runs ≤ 64) }
+        ensures sound { OnOk result (self.new.failed ≡ None) }
+        ensures refused { IfErr result (IsRefusal self.old self.new) }
+        ensures latched { (number : ℕ) → self.old.failed ≡ Some number → (result ≡ Err (Device number)) × (self.new ≡ self.old) }
+        ensures size { self.new.size ≡ self.old.size }
+        ensures slots { SameSlots self.old.slots self.new.slots }
+        ensures tells { AllTell self.old.slots → AllTell self.new.slots }
+        ensures writes { all_writes self.old.slots ≤ all_writes self.new.slots }
+        ensures peak { self.new.peak ≡ self.old.peak }
+        ensures sizes { self.new.sizes ≡ self.old.sizes }
+    {
+        if let Some(number) = self.failed {
+            return Err(QueueFault::Device { number });
+        }
+        let answer = settle_some(
+            rt,
+            self.sizes,
+            &mut self.body,
+            &mut self.supply,
+            &mut self.sources.bench,
+            gate,
+        );
+        match answer {
+            Ok(()) => Ok(()),
+            Err(StoreFault::NoFreeBlock) => Err(QueueFault::NoFreeBlock),
+            Err(StoreFault::Device { number }) => {
+                self.failed = Some(number);
+                Err(QueueFault::Device { number })
+            }
+        }
+    }
+
+    /// Makes the queue ready for a session: the rest of the extract buffer is stored as a run, and levels of
+    /// runs are merged before and after. The heaps stay as they are.
+    ///
+    /// `NoFreeBlock` and `Device` come as from `push`.
+    pub fn begin_session<H: Host, G: Gate>(&mut self, rt: &H, gate: &G) -> Result<(), QueueFault>
+    where
+        H::Dir: Send,
+        ensures bag { OnOk result (AllTell self.old.slots → IsSameBag self.new.bag self.old.bag) }
+        ensures emptied { OnOk result (self.new.in_extract ≡ 0) }
+        ensures heaps { self.new.in_heap ≡ self.old.in_heap }
+        ensures settled { OnOk result (self.new.runs ≤ 64) }
+        ensures sound { OnOk result (self.new.failed ≡ None) }
+        ensures refused { IfErr result (IsRefusal self.old self.new) }
+        ensures latched { (number : ℕ) → self.old.failed ≡ Some number → (result ≡ Err (Device number)) × (self.new ≡ self.old) }
+        ensures size { self.new.size ≡ self.old.size }
+        ensures slots { SameSlots self.old.slots self.new.slots }
+        ensures tells { AllTell self.old.slots → AllTell self.new.slots }
+        ensures writes { all_writes self.old.slots ≤ all_writes self.new.slots }
+        ensures peak { self.new.peak ≡ self.old.peak }
+        ensures sizes { self.new.sizes ≡ self.old.sizes }
+    {
+        if let Some(number) = self.failed {
+            return Err(QueueFault::Device { number });
+        }
+        let answer = store_extract(
+            rt,
+            self.sizes,
+            &mut self.extract,
+            &mut self.body,
+            &mut self.supply,
+            &mut self.sources.bench,
+            gate,
+        );
+        match answer {
+            Ok(()) => Ok(()),
+            Err(StoreFault::NoFreeBlock) => Err(QueueFault::NoFreeBlock),
+            Err(StoreFault::Device { number }) => {
+                self.failed = Some(number);
+                Err(QueueFault::Device { number })
+            }
+        }
+    }
+
+    /// The parts of the queue, for a session. Together they are what the queue was.
+    pub fn into_parts(self) -> QueueParts<S, R>
+        ensures whole { IsWhole S.shown R.Ord.cmp R.record_of R.WIDTH result }
+        ensures shows { holding_of S.shown R.record_of R.WIDTH result ≡ self }
+    {
+        let Queue {
+            sizes,
+            heaps,
+            body,
+            supply,
+            extract,
+            sources,
+            count,
+            peak,
+            failed,
+            slots,
+        } = self;
+        QueueParts {
+            sizes,
+            heaps,
+            body,
+            supply,
+            extract,
+            sources,
+            count,
+            peak,
+            failed,
+            slots,
+        }
+    }
+
+    /// The queue of these parts.
+    pub fn from_parts(parts: QueueParts<S, R>) -> Queue<S, R>
+        requires { IsWhole S.shown R.Ord.cmp R.record_of R.WIDTH parts }
+        ensures { result ≡ holding_of S.shown R.record_of R.WIDTH parts }
+    {
+        let QueueParts {
+            sizes,
+            heaps,
+            body,
+            supply,
+            extract,
+            sources,
+            count,
+            peak,
+            failed,
+            slots,
+        } = parts;
+        Queue {
+            sizes,
+            heaps,
+            body,
+            supply,
+            extract,
+            sources,
+            count,
+            peak,
+            failed,
+            slots,
+        }
+    }
+
     /// How many records the queue has.
     #[inline]
     pub fn size(&self) -> u64
@@ -536,7 +688,7 @@ impl<S: Slot + Send + Sync, R: Record + Send + Sync> Queue<S, R> {
         self.count
     }
 
-    /// How many records count against the budget now: those of the heap and the extract buffer, the first of
+    /// How many records count against the budget now: those of the heaps and the extract buffer, the first of
     /// each block in use, a dealt batch and one that is given out, both counted as full, and a block for
     /// each buffer that exists. It never passes the budget.
     pub fn resident(&self) -> u64
@@ -551,7 +703,7 @@ impl<S: Slot + Send + Sync, R: Record + Send + Sync> Queue<S, R> {
         let buffers = (lanes + u64::from(pool)) * block;
         let used = u64::from(self.sizes.blocks()) - u64::from(self.supply.free_slots());
         let batches = 2 * u64::from(self.sizes.batch());
-        u64::from(self.heap.len()) + self.extract.len() as u64 + used + batches + buffers
+        self.heaps.len() + self.extract.len() as u64 + used + batches + buffers
     }
 
     /// What holds of every queue, as clauses for the proof of whoever calls it. It does nothing.
@@ -560,7 +712,8 @@ impl<S: Slot + Send + Sync, R: Record + Send + Sync> Queue<S, R> {
         // Unless a block failed, the bag has as many records as are counted, where slots tell.
         ensures counted { self.now.failed ≡ None → AllTell self.now.slots → length self.now.bag ≡ self.now.size }
         ensures peak { self.now.size ≤ self.now.peak }
-        ensures heap { self.now.in_heap ≤ heap_of self.now.sizes }
+        ensures heap { self.now.in_first ≤ heap_of self.now.sizes }
+        ensures heaps { self.now.in_heap ≤ heaps_of self.now.sizes }
 
         // Records beyond the budget are in blocks, each of which was written.
         ensures written { self.now.failed ≡ None → self.now.size ≤ self.now.sizes.memory + self.now.sizes.block * all_writes self.now.slots }
@@ -571,7 +724,7 @@ impl<S: Slot + Send + Sync, R: Record + Send + Sync> Queue<S, R> {
         ensures range { AreInRange self.now.sizes }
         ensures budget { fixed_of self.now.sizes ≤ self.now.sizes.memory }
     {
-        let _in_heap = self.heap.len();
+        self.heaps.known();
     }
 
     /// Ends the queue, and gives back every slot that was handed in, each once.

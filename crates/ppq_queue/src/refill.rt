@@ -15,8 +15,8 @@ use ppq_outside::{Gate, Host, Slot};
 use ppq_record::Record;
 use ppq_spill::PassBody;
 
-/// Takes the least records of the runs into an extract buffer, where it is empty and there is a run.
-/// Before that, levels of runs are merged.
+// Takes the least records of the runs into an extract buffer, where it is empty and there is a run.
+// Before that, levels of runs are merged.
 pub fn make_ready<H: Host, S: Slot + Send + Sync, R: Record + Send + Sync, G: Gate>(
     rt: &H,
     sizes: Sizes,
@@ -58,7 +58,7 @@ where
     refill(rt, sizes, extract, body, supply, sources, gate)
 }
 
-/// Whether there is a run.
+// Whether there is a run.
 pub fn has_run<S: Slot, R: Record>(
     sizes: Sizes,
     body: &PassBody<S, R>,
@@ -72,7 +72,7 @@ pub fn has_run<S: Slot, R: Record>(
     runs > 0
 }
 
-/// Refills an empty extract buffer.
+// Refills an empty extract buffer.
 pub fn refill<H: Host, S: Slot + Send + Sync, R: Record + Send + Sync, G: Gate>(
     rt: &H,
     sizes: Sizes,

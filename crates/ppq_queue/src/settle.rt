@@ -2,8 +2,9 @@
 ghost use Rattle.std.specs.Prelude.{◌≡◌, ◌≤◌, ◌<◌, ℕ, [], length, OnOk, IsErrOf};
 ghost use Rattle.ppq_budget.specs.Sizes.{AreInRange, fixed_of};
 ghost use Rattle.ppq_spill.specs.Leveling.{count_level};
-ghost use Rattle.ppq_queue.specs.Resting.{AtRest, BodyKept, Moved, Settled, LevelShort, BodyFailed};
+ghost use Rattle.ppq_queue.specs.Resting.{AtRest, BodyKept, Moved, Settled, LevelShort, BodyFailed, count_of};
 
+use crate::refill::has_run;
 use ppq_array::{ExternalArray, OwnerLists, StoreFault};
 use ppq_budget::Sizes;
 use ppq_merge::Bench;
@@ -11,8 +12,40 @@ use ppq_outside::{Gate, Host, Slot};
 use ppq_record::Record;
 use ppq_spill::{PassBody, merge_level};
 
-/// Merges levels of runs in blocks, 8 runs into one of the next level, until none has more than 8 runs.
-/// Each level is looked at once, the lowest first.
+// Merges levels of runs, if there is a run.
+pub fn settle_some<H: Host, S: Slot + Send + Sync, R: Record + Send + Sync, G: Gate>(
+    rt: &H,
+    sizes: Sizes,
+    body: &mut PassBody<S, R>,
+    supply: &mut OwnerLists<S, R>,
+    bench: &mut Bench<R>,
+    gate: &G,
+) -> Result<(), StoreFault>
+where
+    H::Dir: Send,
+    requires rest { AtRest S.shown R.Ord.cmp R.record_of R.WIDTH sizes body.old supply.old }
+    requires budget { fixed_of sizes ≤ sizes.memory }
+    requires workers { bench.old.workers ≡ sizes.workers }
+    requires places { 8 ≤ length bench.old.places }
+    requires no_row { supply.old.drawn ≡ [] }
+    ensures kept { BodyKept S.shown body.old body.new supply.old supply.new }
+    ensures settled { OnOk result (Settled S.shown R.Ord.cmp R.record_of R.WIDTH sizes [] body.old body.new supply.old supply.new) }
+    ensures none_free { IsErrOf result StoreFault.NoFreeBlock → LevelShort S.shown R.Ord.cmp R.record_of R.WIDTH sizes body.old body.new supply.old supply.new }
+    ensures some { IsErrOf result StoreFault.NoFreeBlock → 0 < count_of body.old }
+    ensures device { (number : ℕ) → IsErrOf result (StoreFault.Device number) → BodyFailed S.shown number body.new supply.new }
+    ensures workers { bench.new.workers ≡ bench.old.workers }
+    ensures places { length bench.new.places ≡ length bench.old.places }
+    ensures no_row { supply.new.drawn ≡ [] }
+{
+    let _workers = sizes.workers();
+    if has_run(sizes, body, supply) {
+        return settle(rt, sizes, body, supply, bench, gate);
+    }
+    Ok(())
+}
+
+// Merges levels of runs in blocks, 8 runs into one of the next level, until none has more than 8 runs.
+// Each level is looked at once, the lowest first.
 pub fn settle<H: Host, S: Slot + Send + Sync, R: Record + Send + Sync, G: Gate>(
     rt: &H,
     sizes: Sizes,

@@ -1,4 +1,4 @@
-//! Runs that are stored: the rest of the extract buffer, and the heap.
+//! Runs that are stored: the rest of the extract buffer, and the first heap.
 ghost use Rattle.std.specs.Prelude.{◌≡◌, ◌≤◌, ◌<◌, ◌+◌, ◌*◌, ◌++◌, ℕ, [], length, OnOk, IsErrOf};
 ghost use Rattle.ppq_record.specs.Order.{Ascends};
 ghost use Rattle.ppq_outside.specs.Shown.{AllTell};
@@ -11,7 +11,7 @@ use ppq_outside::{Host, Slot};
 use ppq_record::Record;
 use ppq_spill::{PassBody, store_sorted};
 
-/// Stores an ascending list of records as one more run.
+// Stores an ascending list of records as one more run.
 pub fn store_run<H: Host, S: Slot + Send + Sync, R: Record + Send + Sync>(
     rt: &H,
     sizes: Sizes,

@@ -11,7 +11,7 @@ use std::alloc::Global;
 use std::process::Abort;
 use std::test::Fail;
 
-/// The blocks of a device in memory.
+// The blocks of a device in memory.
 pub(crate) fn blocks_of<H: Host>(
     rt: &H,
     alloc: Global,
@@ -31,7 +31,7 @@ pub(crate) fn blocks_of<H: Host>(
     Ok(slots)
 }
 
-/// An empty queue of these sizes over the blocks of a device in memory.
+// An empty queue of these sizes over the blocks of a device in memory.
 fn opened<H: Host>(
     rt: &H,
     alloc: Global,
@@ -46,17 +46,17 @@ fn opened<H: Host>(
     }
 }
 
-/// Two workers, two records a block, one block a heap, 200 blocks, and a budget without a buffer.
+// Two workers, two records a block, one block a heap, 200 blocks, and a budget without a buffer.
 fn small() -> Option<Sizes> {
     Sizes::new(2, 2, 1, 372, 200)
 }
 
-/// A record with the value 0.
+// A record with the value 0.
 fn pair(key: u64) -> Pair {
     Pair { key, value: 0 }
 }
 
-/// How the block with this number came back: its writes, its reads and its faults.
+// How the block with this number came back: its writes, its reads and its faults.
 fn calls_of(blocks: &[MemSlot], number: u32) -> Option<(u64, u64, u64)> {
     for slot in blocks {
         if slot.number() == number {
@@ -113,7 +113,7 @@ fn a_record_that_finds_no_block_comes_back_and_fits_after_a_pop(
     Ok(())
 }
 
-/// Each call of a queue that block 0 has stopped names that block, and the size stays.
+// Each call of a queue that block 0 has stopped names that block, and the size stays.
 fn is_stopped<H: Host + Abort>(rt: &H, queue: &mut Queue<MemSlot, Pair>, size: u64)
 where
     H::Dir: Send,
@@ -161,7 +161,7 @@ fn a_failed_read_stops_the_queue_at_the_pop_that_loads(rt: HostRuntime) -> Resul
     Ok(())
 }
 
-/// Pushes sixty records, in falling order where that is wanted, each key twice.
+// Pushes sixty records, in falling order where that is wanted, each key twice.
 fn fill<H: Host + Abort>(rt: &H, queue: &mut Queue<MemSlot, Pair>, is_falling: bool)
 where
     H::Dir: Send,
@@ -173,7 +173,7 @@ where
     assert_eq!(rt; queue.size(), 60);
 }
 
-/// Pops the sixty records.
+// Pops the sixty records.
 fn empty<H: Host + Abort>(rt: &H, queue: &mut Queue<MemSlot, Pair>)
 where
     H::Dir: Send,
@@ -207,7 +207,7 @@ fn free_blocks_come_back_while_a_queue_is_filled_and_emptied_ten_times(
     Ok(())
 }
 
-/// How many writes these blocks had in all.
+// How many writes these blocks had in all.
 fn writes_of(blocks: &[MemSlot]) -> u64 {
     let mut writes = 0u64;
     for slot in blocks {
@@ -216,7 +216,7 @@ fn writes_of(blocks: &[MemSlot]) -> u64 {
     writes
 }
 
-/// The next number of Knuth's MMIX sequence; its upper half below a bound.
+// The next number of Knuth's MMIX sequence; its upper half below a bound.
 fn draw(seed: &mut u64, below: u64) -> u64
     ensures { result < max below 1 }
 {
@@ -227,7 +227,7 @@ fn draw(seed: &mut u64, below: u64) -> u64
     (next >> 32) % below.max(1)
 }
 
-/// Puts a record into a sorted list, the smallest last.
+// Puts a record into a sorted list, the smallest last.
 fn put_sorted(list: &mut Vec<Pair>, item: Pair) -> Result<(), Fail> {
     let mut place = 0usize;
     for other in list.as_slice() {
@@ -240,7 +240,7 @@ fn put_sorted(list: &mut Vec<Pair>, item: Pair) -> Result<(), Fail> {
     Ok(())
 }
 
-/// One call of the queue and the same on a sorted list, the smallest record last.
+// One call of the queue and the same on a sorted list, the smallest record last.
 fn same_call<H: Host + Abort>(
     rt: &H,
     queue: &mut Queue<MemSlot, Pair>,
@@ -266,7 +266,7 @@ where
     Ok(())
 }
 
-/// Some calls, more pushes than pops, and then pops until queue and list are empty.
+// Some calls, more pushes than pops, and then pops until queue and list are empty.
 fn same_calls<H: Host + Abort>(
     rt: &H,
     alloc: Global,

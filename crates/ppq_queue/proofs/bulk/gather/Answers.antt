@@ -1,4 +1,5 @@
-use Rattle.std.proofs.Common.{◌∙◌, [], length, drop, refl, ap, subst, arith}
+use Rattle.std.proofs.Common.{◌∙◌, [], length, refl, ap, subst, arith}
+use Rattle.ppq_heap.specs.Heaps.{items_of}
 use Rattle.ppq_queue.specs.Resting.{count_of}
 use Rattle.ppq_queue.specs.Bulk.{Merged}
 use Rattle.ppq_queue.proofs.Moves.{kept-refl, kept-trans}
@@ -17,21 +18,23 @@ refilling-init g c =
     let most = c.args.most in
     let a = c.args.body.now in
     let s = c.args.supply.now in
-    let h = c.args.heap.now in
+    let h = items_of c.args.heaps.now in
     let e = c.args.extract.now.items in
-    let m = c.merge-at in
+    let m = c.merge in
     let e' = m.new.extract.items in
     let out = m.new.out.items in
-    let left = drop m.result h in
+    let left = items_of m.new.heaps in
     let more = c.has_run-first.result in
     let merged = subst (λ l. Merged cmp more limit h left e e' l out) c.requires.none m.ensures.merged in
     let start = took-none shown order record_of width n limit most h e a s c.requires.rest c.requires.ascends c.requires.order in
     let kept = kept-refl shown a s in
     record {
-      at = m.ensures.within;
       kept = kept;
       took = took-merged shown order record_of width n limit most h h left e e e' a a s s [] out more kept start c.has_run-first.ensures.none merged m.ensures.few;
       stands = stands-ended shown order record_of width n limit most left e' a s out more c.requires.rest c.has_run-first.ensures.some c.has_run-first.ensures.none m.ensures.ended;
+      fewer = m.ensures.fewer;
+      heaps = m.ensures.heaps;
+      cap = m.ensures.cap;
       few = c.requires.few;
       within = omega (arith, m.ensures.merged.fewer, c.requires.within);
       room = m.ensures.room;
@@ -61,7 +64,7 @@ refilling-preserved g c =
     let limit = c.args.limit in
     let most = c.args.most in
     let i = c.refilling.invariant in
-    let m = c.merge-at-in-refilling in
+    let m = c.merge-in-refilling in
     let f = c.refill in
     let a = c.args.body.now in
     let b = c.refilling.body in
@@ -69,9 +72,9 @@ refilling-preserved g c =
     let s = c.args.supply.now in
     let t = c.refilling.supply in
     let u = f.new.supply in
-    let h = c.args.heap.now in
-    let here = drop c.refilling.at h in
-    let left = drop m.result h in
+    let h = items_of c.args.heaps.now in
+    let here = items_of c.refilling.heaps in
+    let left = items_of m.new.heaps in
     let e = c.args.extract.now.items in
     let e1 = c.refilling.extract.items in
     let e2 = f.new.extract.items in
@@ -82,10 +85,12 @@ refilling-preserved g c =
     let kept = kept-trans shown a b d s t u i.kept f.ensures.kept in
     let filled = took-refilled shown order record_of width n limit most h here e e1 e2 a b d s t u out i.kept i.took c.in_ok-refill.ensures.readied in
     record {
-      at = m.ensures.within;
       kept = kept;
       took = took-merged shown order record_of width n limit most h here left e e2 e3 a d s u out out' more kept filled c.has_run-more.ensures.none m.ensures.merged m.ensures.few;
       stands = stands-ended shown order record_of width n limit most left e3 d u out' more filled.rest c.has_run-more.ensures.some c.has_run-more.ensures.none m.ensures.ended;
+      fewer = omega (arith, m.ensures.fewer, i.fewer);
+      heaps = m.ensures.heaps ∙ i.heaps;
+      cap = m.ensures.cap ∙ i.cap;
       few = c.in_ok-refill.ensures.few;
       within = omega (arith, m.ensures.merged.fewer, f.ensures.within, i.room);
       room = m.ensures.room ∙ f.ensures.room ∙ i.room;
@@ -98,4 +103,4 @@ pub returns-clause-all : goal.returns-clause-all
 returns-clause-all g c =
     let l = c.refilling in
     let i = l.invariant in
-    took-all g.S.Slot.shown c.record_laws.ensures.order g.R.Record.record_of g.R.Record.WIDTH c.args.sizes c.args.limit c.args.most (drop l.at c.args.heap.now) l.extract.items l.body l.supply l.out.items i.stands i.took.few (c.wants_refill.ensures.ready c.refilling-test.false)
+    took-all g.S.Slot.shown c.record_laws.ensures.order g.R.Record.record_of g.R.Record.WIDTH c.args.sizes c.args.limit c.args.most (items_of l.heaps) l.extract.items l.body l.supply l.out.items i.stands i.took.few (c.wants_refill.ensures.ready c.refilling-test.false)

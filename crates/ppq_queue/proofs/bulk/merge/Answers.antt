@@ -1,25 +1,31 @@
-use Rattle.std.proofs.Common.{◌∙◌, drop, refl, arith}
+use Rattle.std.proofs.Common.{◌∙◌, refl, arith}
+use Rattle.ppq_heap.specs.Heaps.{items_of}
 use Rattle.ppq_queue.proofs.Merging.{merged-refl, merged-then}
 use Rattle.ppq_queue.proofs.bulk.merge.Goals as goal
 
 pub moving-init : goal.moving-init
 moving-init g c = record {
-  within = c.requires.from;
-  merged = merged-refl c.record_laws.ensures.order c.args.more c.args.limit (drop c.args.from c.args.heap.now) c.args.extract.now.items c.args.out.now.items;
+  merged = merged-refl c.record_laws.ensures.order c.record_laws.ensures.same c.args.more c.args.limit (items_of c.args.heaps.now) c.args.extract.now.items c.args.out.now.items;
   few = c.requires.few;
+  fewer = omega arith;
+  heaps = refl;
+  cap = refl;
   room = refl;
   list_room = refl;
 }
 
 pub moving-preserved : goal.moving-preserved
 moving-preserved g c =
+    let laws = c.record_laws.ensures in
     let i = c.moving.invariant in
-    let e = c.in-Some.ensures in
-    let h = c.args.heap.now in
+    let e = c.move_next.ensures in
+    let yes = c.if-not-move_next.false in
     record {
-      within = e.within;
-      merged = merged-then c.record_laws.ensures.order c.args.more c.args.limit (drop c.args.from h) (drop c.moving.at h) (drop c.in-Some.next h) c.args.extract.now.items c.moving.extract.items c.move_next.new.extract.items c.args.out.now.items c.moving.out.items c.move_next.new.out.items i.merged e.merged;
-      few = omega (arith, e.one refl, c.goes_on.ensures.some c.moving-test.true);
-      room = c.move_next.ensures.extract_room ∙ i.room;
-      list_room = c.move_next.ensures.list_room ∙ i.list_room;
+      merged = merged-then laws.order laws.same c.args.more c.args.limit (items_of c.args.heaps.now) (items_of c.moving.heaps) (items_of c.move_next.new.heaps) c.args.extract.now.items c.moving.extract.items c.move_next.new.extract.items c.args.out.now.items c.moving.out.items c.move_next.new.out.items i.merged (e.merged yes);
+      few = omega (arith, e.one yes, c.goes_on.ensures.some c.moving-test.true);
+      fewer = omega (arith, e.fewer, i.fewer);
+      heaps = e.heaps ∙ i.heaps;
+      cap = e.cap ∙ i.cap;
+      room = e.extract_room ∙ i.room;
+      list_room = e.list_room ∙ i.list_room;
     }

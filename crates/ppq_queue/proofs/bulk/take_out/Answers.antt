@@ -1,10 +1,9 @@
-use Rattle.std.proofs.Common.{◌∙◌, length, drop, sym, ap, subst, arith, length-drop}
-use Rattle.ppq_record.proofs.Order.{IsSameBag-length}
+use Rattle.std.proofs.Common.{◌≡◌, ◌∙◌, length, sym, ap, subst, inl}
+use Rattle.ppq_heap.specs.Heaps.{items_of}
 use Rattle.ppq_queue.specs.Resting.{runs_bag}
-use Rattle.ppq_queue.specs.Bulk.{TookOut, TookAll}
-use Rattle.ppq_queue.proofs.Moves.{handed_on, kept-trans, none_after-same}
-use Rattle.ppq_queue.proofs.Ready.{sorted-same}
-use Rattle.ppq_queue.proofs.Took.{took-settled}
+use Rattle.ppq_queue.specs.Bulk.{TookOut}
+use Rattle.ppq_queue.proofs.Moves.{handed_on, kept-refl, kept-trans, none_after-same, ok-map}
+use Rattle.ppq_queue.proofs.Took.{took-none, took-settled}
 use Rattle.ppq_queue.proofs.bulk.take_out.Goals as goal
 
 pub returns-in_err-settle_some-clause-none_free : goal.returns-in_err-settle_some-clause-none_free
@@ -24,53 +23,23 @@ gather-requires-clause-order g c κs within tell =
     let runs' = runs_bag shown g.R.Record.record_of g.R.Record.WIDTH c.settle_some.new.body in
     none_after-same g.R.Ord.cmp c.args.extract.now.items runs runs' (λ p. sym (c.in_ok-settle_some.ensures.settled.moved.bag told p)) (c.requires.order told)
 
-pub returns-in_err-taken-clause-kept : goal.returns-in_err-taken-clause-kept
-returns-in_err-taken-clause-kept g c = kept-trans g.S.Slot.shown c.args.body.now c.settle_some.new.body c.gather.new.body c.args.supply.now c.settle_some.new.supply c.gather.new.supply c.settle_some.ensures.kept c.gather.ensures.kept
-
-pub returns-in_err-taken-clause-fewer : goal.returns-in_err-taken-clause-fewer
-returns-in_err-taken-clause-fewer g c = omega (arith, IsSameBag-length c.sort_in_place.new.self.items c.args.heap.now.items (sorted-same c.record_laws.ensures.order c.args.heap.now.items c.sort_in_place.new.self.items c.sort_in_place.ensures.items))
-
 pub returns-clause-kept : goal.returns-clause-kept
 returns-clause-kept g c = kept-trans g.S.Slot.shown c.args.body.now c.settle_some.new.body c.gather.new.body c.args.supply.now c.settle_some.new.supply c.gather.new.supply c.settle_some.ensures.kept c.gather.ensures.kept
 
 pub returns-clause-took : goal.returns-clause-took
 returns-clause-took g c =
-    let shown = g.S.Slot.shown in
-    let cmp = g.R.Ord.cmp in
-    let record_of = g.R.Record.record_of in
-    let width = g.R.Record.WIDTH in
-    let order = c.record_laws.ensures.order in
-    let n = c.args.sizes in
-    let a = c.args.body.now in
-    let b = c.settle_some.new.body in
-    let d = c.gather.new.body in
-    let s = c.args.supply.now in
-    let t = c.settle_some.new.supply in
-    let u = c.gather.new.supply in
-    let h = c.args.heap.now.items in
-    let up = c.sort_in_place.new.self.items in
-    let e = c.args.extract.now.items in
-    let e' = c.gather.new.extract.items in
-    let out = c.gather.new.out.items in
-    let same = sorted-same order h up c.sort_in_place.ensures.items in
-    let part = subst (λ l. TookOut shown cmp record_of width n c.args.limit c.args.most l (drop c.in_ok-taken.taken l) e e' b d t u out) c.as_slice.ensures c.in_ok-taken.ensures.took in
-    let took = took-settled shown order record_of width n c.args.limit c.args.most h up (drop c.in_ok-taken.taken up) e e' a b d s t u out c.settle_some.ensures.kept c.in_ok-settle_some.ensures.settled.moved same part in
-    subst (λ l. TookOut shown cmp record_of width n c.args.limit c.args.most h l e e' a d s u out) (sym c.take_front.ensures.items) took
+    let took = took-settled g.S.Slot.shown c.record_laws.ensures.order g.R.Record.record_of g.R.Record.WIDTH c.args.sizes c.args.limit c.args.most (items_of c.args.heaps.now) (items_of c.gather.new.heaps) c.args.extract.now.items c.gather.new.extract.items c.args.body.now c.settle_some.new.body c.gather.new.body c.args.supply.now c.settle_some.new.supply c.gather.new.supply c.gather.new.out.items in
+    ok-map c.gather.result (took c.settle_some.ensures.kept c.in_ok-settle_some.ensures.settled.moved) c.gather.ensures.took
 
-pub returns-clause-all : goal.returns-clause-all
-returns-clause-all g c =
-    let shown = g.S.Slot.shown in
-    let cmp = g.R.Ord.cmp in
-    let m = c.gather.new in
-    let n = c.in_ok-taken.taken in
-    subst (λ l. TookAll shown cmp g.R.Record.record_of g.R.Record.WIDTH c.args.limit c.args.most l m.extract.items m.body m.supply m.out.items) (ap (λ l. drop n l) c.as_slice.ensures ∙ sym c.take_front.ensures.items) c.in_ok-taken.ensures.all
+pub returns-then-wants_nothing-clause-kept : goal.returns-then-wants_nothing-clause-kept
+returns-then-wants_nothing-clause-kept g c = kept-refl g.S.Slot.shown c.args.body.now c.args.supply.now
 
-pub returns-clause-fewer : goal.returns-clause-fewer
-returns-clause-fewer g c =
-    let up = c.sort_in_place.new.self.items in
-    omega (
-      arith,
-      IsSameBag-length up c.args.heap.now.items (sorted-same c.record_laws.ensures.order c.args.heap.now.items up c.sort_in_place.ensures.items),
-      length-drop c.in_ok-taken.taken up,
-      ap length c.take_front.ensures.items,
-    )
+pub returns-then-wants_nothing-clause-took : goal.returns-then-wants_nothing-clause-took
+returns-then-wants_nothing-clause-took g c =
+    let took = took-none g.S.Slot.shown c.record_laws.ensures.order g.R.Record.record_of g.R.Record.WIDTH c.args.sizes c.args.limit c.args.most (items_of c.args.heaps.now) c.args.extract.now.items c.args.body.now c.args.supply.now c.requires.rest c.requires.ascends c.requires.order in
+    subst (λ l. TookOut g.S.Slot.shown g.R.Ord.cmp g.R.Record.record_of g.R.Record.WIDTH c.args.sizes c.args.limit c.args.most (items_of c.args.heaps.now) (items_of c.args.heaps.now) c.args.extract.now.items c.args.extract.now.items c.args.body.now c.args.body.now c.args.supply.now c.args.supply.now l) (sym c.requires.none) took
+
+pub returns-then-wants_nothing-clause-all : goal.returns-then-wants_nothing-clause-all
+returns-then-wants_nothing-clause-all g c =
+    let full : length c.args.out.now.items ≡ c.args.most = ap length c.requires.none ∙ sym (c.wants_nothing.ensures.none c.if-wants_nothing.true) in
+    record { all = λ unset. inl full; low = λ tell up order. inl full; ready = λ l is gone. absurd (c.wants_nothing.ensures.ready c.if-wants_nothing.true l is gone) }

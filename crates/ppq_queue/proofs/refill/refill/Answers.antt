@@ -10,7 +10,7 @@ use Rattle.ppq_queue.proofs.refill.refill.Goals as goal
 pub refill-answer-requires-clause-may : goal.refill-answer-requires-clause-may
 refill-answer-requires-clause-may g c lives within =
     let a = c.args.body.now in
-    let may = may_fetch g.S.Slot.shown g.R.Ord.cmp g.R.Record.record_of g.R.Record.WIDTH c.args.sizes a c.args.supply.now c.requires.rest c.workers-workers.ensures.range c.requires.budget in
+    let may = may_fetch g.S.Slot.shown g.R.Ord.cmp g.R.Record.record_of g.R.Record.WIDTH c.args.sizes a c.args.supply.now c.requires.rest c.workers-workers.ensures.range c.requires.budget c.requires.few in
     subst (λ w. MayFetch g.S.Slot.shown g.R.Record.WIDTH w (sources_of a.runs a.lanes.idle c.args.supply.now)) (sym c.requires.workers) may
 
 pub refill-answer-requires-clause-serves : goal.refill-answer-requires-clause-serves

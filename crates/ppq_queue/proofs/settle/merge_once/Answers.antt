@@ -2,6 +2,7 @@ use Rattle.std.proofs.Common.{◌+◌, ◌≤◌, ap, subst, sym, arith, refl}
 use Rattle.ppq_array.specs.Holdings.{external_buffers}
 use Rattle.ppq_fetch.specs.Fetching.{fronts_in}
 use Rattle.ppq_spill.specs.Leveling.{MayLevel, NoneForLevel}
+use Rattle.ppq_queue.proofs.Bounds.{arrays_few}
 use Rattle.ppq_queue.proofs.Moves.{ok-map, ok-map2}
 use Rattle.ppq_queue.proofs.Leveled.{kept-leveled, may_level, moved-leveled, fewer-leveled, lower-leveled, short-leveled}
 use Rattle.ppq_queue.proofs.settle.merge_once.Goals as goal
@@ -10,6 +11,9 @@ pub merge_level-answer-requires-clause-may : goal.merge_level-answer-requires-cl
 merge_level-answer-requires-clause-may g c lives within =
     let may = may_level g.S.Slot.shown g.R.Ord.cmp g.R.Record.record_of g.R.Record.WIDTH c.args.sizes c.args.body.now c.args.supply.now c.requires.rest c.workers-workers.ensures.range c.requires.budget in
     subst (λ w. MayLevel g.S.Slot.shown g.R.Record.WIDTH w c.args.body.now.runs.external.items c.args.body.now.lanes c.args.supply.now) (sym c.requires.workers) may
+
+pub merge_level-answer-requires-clause-room : goal.merge_level-answer-requires-clause-room
+merge_level-answer-requires-clause-room g c lives within = arrays_few g.S.Slot.shown g.R.Ord.cmp g.R.Record.record_of g.R.Record.WIDTH c.args.sizes c.args.body.now c.args.supply.now c.requires.rest
 
 pub returns-clause-kept : goal.returns-clause-kept
 returns-clause-kept g c =

@@ -28,10 +28,10 @@ invariant_of-self-in-Err-NoFreeBlock g c =
     let src = record s.sources { bench = m.new.bench } in
     let above : heap_of n < s.peak = subst (λ q. heap_of q.sizes < q.peak) (sym view) c.requires.peak in
     let within : length m.new.extract.items ≤ batch_of n = omega (arith, i.in_extract, e.extract) in (
-      queue-kept shown n s.heap m.new.heap s.extract m.new.extract a b st t s.count s.peak s.failed s.failed i e.kept e.no_row e.cap e.heap e.room within (fault-kept shown n a b st t s.failed e.kept i.fault),
+      queue-kept shown n s.heaps m.new.heaps s.extract m.new.extract a b st t s.count s.peak s.failed s.failed i e.kept e.no_row e.cap e.heaps e.fewer e.room within (fault-kept shown n a b st t s.failed e.kept i.fault),
       (λ none.
           let sound = c.self.invariant.1 none in
-          sound-moved shown n cmp record_of width s.heap m.new.heap s.extract m.new.extract a b st t s.sources src s.count s.peak sound e.kept short.moved above e.workers (record { bench = omega (arith, sound.serves.bench, e.places); places = sound.serves.places })),
+          sound-moved shown n cmp record_of width s.heaps m.new.heaps s.extract m.new.extract a b st t s.sources src s.count s.peak sound e.kept short.moved (λ more. above) e.workers (record { bench = omega (arith, sound.serves.bench, e.places); places = sound.serves.places })),
       c.self.invariant.2,
       c.self.invariant.3,
     )
@@ -70,7 +70,7 @@ returns-in-Err-NoFreeBlock-clause-refused g c =
     let short = e.none_free (matched m.result c.in-Err-NoFreeBlock.field-0 c.in-Err-NoFreeBlock.is same_fault) in
     let none = ap (λ q. q.failed) view ∙ c.requires.sound in
     let sound = c.self.invariant.1 none in
-    let bounds = moved-bounds shown cmp record_of width n s.heap m.new.heap s.extract m.new.extract a b st t s.count s.peak s.failed i sound.counted e.kept short in
+    let bounds = moved-bounds shown cmp record_of width n s.heaps m.new.heaps s.extract m.new.extract a b st t s.count s.peak s.failed i sound.counted e.kept short in
     record {
       bag = λ tell p. short.moved.bag (subst (λ q. AllTell q.slots) (sym view) tell) p ∙ ap (λ q. count_by p q.bag) view;
       size = ap (λ q. q.size) view;

@@ -3,6 +3,7 @@ use Rattle.std.proofs.Math.Nat.{mul-le-mul_right, mul_comm}
 use Rattle.ppq_outside.specs.Shown.{AllTell}
 use Rattle.ppq_array.specs.Kept.{all_writes}
 use Rattle.ppq_fetch.specs.Fetching.{blocks_in}
+use Rattle.ppq_heap.specs.Heaps.{items_of}
 use Rattle.ppq_queue.specs.Resting.{slots_of, runs_bag}
 use Rattle.ppq_queue.proofs.Bounds.{records_within, written, bag_length}
 use Rattle.ppq_queue.proofs.queue.Queue.known.Goals as goal
@@ -18,8 +19,8 @@ returns-clause-counted g c none tell =
       arith,
       ap (λ q. length q.bag) c.self.view_is,
       ap (λ q. q.size) c.self.view_is,
-      length-append (s.heap.items ++ s.extract.items) runs,
-      length-append s.heap.items s.extract.items,
+      length-append (items_of s.heaps ++ s.extract.items) runs,
+      length-append (items_of s.heaps) s.extract.items,
       bag_length shown g.R.Ord.cmp g.R.Record.record_of g.R.Record.WIDTH s.sizes s.body s.supply sound.rest told,
       sound.counted,
     )
@@ -31,7 +32,7 @@ returns-clause-written g c none =
     let i = c.self.invariant.0 in
     let sound = c.self.invariant.1 (ap (λ q. q.failed) c.self.view_is ∙ none) in
     let slots = slots_of shown s.body s.supply in
-    let within = records_within shown g.R.Ord.cmp g.R.Record.record_of g.R.Record.WIDTH s.sizes s.body s.supply sound.rest i.range i.budget (length s.heap.items) (length s.extract.items) i.in_heap i.in_extract in
+    let within = records_within shown g.R.Ord.cmp g.R.Record.record_of g.R.Record.WIDTH s.sizes s.body s.supply sound.rest i.range i.budget (length (items_of s.heaps)) (length s.extract.items) i.in_heap i.in_extract in
     let few = written shown g.R.Ord.cmp g.R.Record.record_of g.R.Record.WIDTH s.sizes s.body s.supply sound.rest in
     let more : blocks_in s.body.runs.external.items * s.sizes.block ≤ all_writes slots * s.sizes.block = mul-le-mul_right s.sizes.block few in
     let turned : all_writes slots * s.sizes.block ≡ s.sizes.block * all_writes slots = mul_comm (all_writes slots) s.sizes.block in

@@ -1,9 +1,11 @@
-use Rattle.std.proofs.Common.{◌+◌, ◌*◌, ◌<◌, ◌≡◌, ◌∷◌, ◌++◌, length, arith, ap, ◌∙◌}
+use Rattle.std.proofs.Common.{◌+◌, ◌*◌, ◌<◌, ◌≤◌, ◌≡◌, ◌∷◌, ◌++◌, length, arith, ap, ap₂, ◌∙◌, subst}
 use Rattle.std.specs.Prelude.{count_by}
 use Rattle.ppq_record.proofs.Order.{IsSameBag-length, count_by-append, count_by-cons}
+use Rattle.ppq_heap.specs.Heaps.{items_of, share_at}
 use Rattle.ppq_queue.specs.Resting.{runs_bag}
 use Rattle.ppq_queue.proofs.Bounds.{records_most}
 use Rattle.ppq_queue.proofs.Ready.{has_room}
+use Rattle.ppq_queue.proofs.Shared.{all_within}
 use Rattle.ppq_queue.proofs.queue.Queue.put.Goals as goal
 
 pub invariant_of-self : goal.invariant_of-self
@@ -12,16 +14,22 @@ invariant_of-self g c =
     let i = c.self.invariant.0 in
     let view = c.self.view_is in
     let push = c.try_push.ensures in
+    let old = items_of s.heaps in
+    let new = items_of c.try_push.new.self in
     let sound = c.self.invariant.1 (ap (λ q. q.failed) view ∙ c.requires.sound) in
-    let room : length s.heap.items < s.heap.cap = omega (arith, c.requires.room, ap (λ q. q.in_heap) view, ap (λ q. q.sizes.heap * q.sizes.block) view, i.cap) in
-    let added = has_room c.try_push.result s.heap.cap c.args.r s.heap.items c.try_push.new.self.items room push.full.0 push.added in
-    let long : length c.try_push.new.self.items ≡ length s.heap.items + 1 = omega (arith, IsSameBag-length c.try_push.new.self.items (c.args.r ∷ s.heap.items) added) in
-    let most = records_most g.S.Slot.shown g.R.Ord.cmp g.R.Record.record_of g.R.Record.WIDTH s.sizes s.body s.supply sound.rest i.range i.budget (length c.try_push.new.self.items) (length s.extract.items) (omega (arith, long, room, i.cap)) i.in_extract in (
+    let room : length (share_at s.heaps 0) < s.heaps.cap = omega (arith, c.requires.room, ap (λ q. q.in_first) view, ap (λ q. q.sizes.heap * q.sizes.block) view, i.cap) in
+    let added = has_room c.try_push.result (length (share_at s.heaps 0)) s.heaps.cap room push.full.0 push.added in
+    let long : length new ≡ length old + 1 = omega (arith, IsSameBag-length new (c.args.r ∷ old) added) in
+    let heaps : length c.try_push.new.self.heaps ≡ s.sizes.workers = push.others.count ∙ i.shares in
+    let cap : c.try_push.new.self.cap ≡ s.sizes.heap * s.sizes.block = push.others.cap ∙ i.cap in
+    let within : length new ≤ s.sizes.workers * (s.sizes.heap * s.sizes.block) = subst (λ k. length new ≤ k) (ap₂ (λ a b. a * b) heaps cap) (all_within c.try_push.new.self c.known.ensures) in
+    let most = records_most g.S.Slot.shown g.R.Ord.cmp g.R.Record.record_of g.R.Record.WIDTH s.sizes s.body s.supply sound.rest i.range i.budget (length new) (length s.extract.items) within i.in_extract in (
       record {
         range = i.range;
         budget = i.budget;
-        cap = push.cap ∙ i.cap;
-        in_heap = omega (arith, long, room, i.cap);
+        cap = cap;
+        shares = heaps;
+        in_heap = within;
         room = i.room;
         in_extract = i.in_extract;
         held = i.held;
@@ -52,17 +60,19 @@ returns-clause-added g c p =
     let i = c.self.invariant.0 in
     let view = c.self.view_is in
     let push = c.try_push.ensures in
-    let room : length s.heap.items < s.heap.cap = omega (arith, c.requires.room, ap (λ q. q.in_heap) view, ap (λ q. q.sizes.heap * q.sizes.block) view, i.cap) in
-    let added = has_room c.try_push.result s.heap.cap c.args.r s.heap.items c.try_push.new.self.items room push.full.0 push.added in
+    let old = items_of s.heaps in
+    let new = items_of c.try_push.new.self in
+    let room : length (share_at s.heaps 0) < s.heaps.cap = omega (arith, c.requires.room, ap (λ q. q.in_first) view, ap (λ q. q.sizes.heap * q.sizes.block) view, i.cap) in
+    let added = has_room c.try_push.result (length (share_at s.heaps 0)) s.heaps.cap room push.full.0 push.added in
     let runs = runs_bag g.S.Slot.shown g.R.Record.record_of g.R.Record.WIDTH s.body in
     omega (
       arith,
       added p,
-      count_by-cons p c.args.r s.heap.items,
-      count_by-append p (c.try_push.new.self.items ++ s.extract.items) runs,
-      count_by-append p c.try_push.new.self.items s.extract.items,
-      count_by-append p (s.heap.items ++ s.extract.items) runs,
-      count_by-append p s.heap.items s.extract.items,
+      count_by-cons p c.args.r old,
+      count_by-append p (new ++ s.extract.items) runs,
+      count_by-append p new s.extract.items,
+      count_by-append p (old ++ s.extract.items) runs,
+      count_by-append p old s.extract.items,
       ap (λ q. count_by p q.bag) view,
       count_by-cons p c.args.r c.args.self.now.bag,
     )

@@ -4,6 +4,7 @@ use Rattle.ppq_outside.specs.Shown.{AllTell}
 use Rattle.ppq_budget.specs.Sizes.{batch_of}
 use Rattle.ppq_record.proofs.Order.{count_by-append}
 use Rattle.ppq_array.specs.declared.store_fault.StoreFault.TheVariants.{NoFreeBlock}
+use Rattle.ppq_heap.specs.Heaps.{items_of}
 use Rattle.ppq_queue.specs.Resting.{runs_bag, WholeMoved, WholeShort}
 use Rattle.ppq_queue.proofs.Moves.{matched, on_error, moved-whole}
 use Rattle.ppq_queue.proofs.Flushed.{queue-kept, fault-kept, sound-readied, sound-moved, moved-bounds}
@@ -27,10 +28,10 @@ invariant_of-self g c =
     let t = m.new.supply in
     let w = e.within (omega (arith, i.in_extract, i.room)) in
     let within : length m.new.extract.items ≤ batch_of n = omega (arith, w, i.room) in (
-      queue-kept shown n s.heap s.heap s.extract m.new.extract a b st t s.count s.peak s.failed s.failed i e.kept e.no_row refl (omega arith) e.room within (fault-kept shown n a b st t s.failed e.kept i.fault),
+      queue-kept shown n s.heaps s.heaps s.extract m.new.extract a b st t s.count s.peak s.failed s.failed i e.kept e.no_row refl refl (omega arith) e.room within (fault-kept shown n a b st t s.failed e.kept i.fault),
       (λ none.
           let sound = c.self.invariant.1 none in
-          sound-readied shown n cmp record_of width s.heap s.extract m.new.extract a b st t s.sources m.new.sources s.count s.peak sound e.kept c.in-Ok.ensures.readied e.sources.workers (record { bench = omega (arith, sound.serves.bench, e.sources.bench); places = omega (arith, sound.serves.places, e.sources.places) })),
+          sound-readied shown n cmp record_of width s.heaps s.extract m.new.extract a b st t s.sources m.new.sources s.count s.peak sound e.kept c.in-Ok.ensures.readied e.sources.workers (record { bench = omega (arith, sound.serves.bench, e.sources.bench); places = omega (arith, sound.serves.places, e.sources.places) })),
       c.self.invariant.2,
       c.self.invariant.3,
     )
@@ -58,12 +59,12 @@ invariant_of-self-in-Err-NoFreeBlock g c =
     let same = on_error m.result c.in-Err-NoFreeBlock.field-0 c.in-Err-NoFreeBlock.is e.same in
     let w = e.within (omega (arith, i.in_extract, i.room)) in
     let within : length m.new.extract.items ≤ batch_of n = omega (arith, w, i.room) in
-    let moved = subst (λ l. WholeMoved shown cmp record_of width n s.heap.items s.heap.items s.extract.items l a b st t) (sym same) (moved-whole shown cmp record_of width n s.heap.items s.extract.items a b st t short.moved) in (
-      queue-kept shown n s.heap s.heap s.extract m.new.extract a b st t s.count s.peak s.failed s.failed i e.kept e.no_row refl (omega arith) e.room within (fault-kept shown n a b st t s.failed e.kept i.fault),
+    let moved = subst (λ l. WholeMoved shown cmp record_of width n (items_of s.heaps) (items_of s.heaps) s.extract.items l a b st t) (sym same) (moved-whole shown cmp record_of width n (items_of s.heaps) s.extract.items a b st t short.moved) in (
+      queue-kept shown n s.heaps s.heaps s.extract m.new.extract a b st t s.count s.peak s.failed s.failed i e.kept e.no_row refl refl (omega arith) e.room within (fault-kept shown n a b st t s.failed e.kept i.fault),
       (λ none.
           let sound = c.self.invariant.1 none in
           let above = sound.above (omega (arith, sound.counted, some)) in
-          sound-moved shown n cmp record_of width s.heap s.heap s.extract m.new.extract a b st t s.sources m.new.sources s.count s.peak sound e.kept moved above e.sources.workers (record { bench = omega (arith, sound.serves.bench, e.sources.bench); places = omega (arith, sound.serves.places, e.sources.places) })),
+          sound-moved shown n cmp record_of width s.heaps s.heaps s.extract m.new.extract a b st t s.sources m.new.sources s.count s.peak sound e.kept moved (λ more. above) e.sources.workers (record { bench = omega (arith, sound.serves.bench, e.sources.bench); places = omega (arith, sound.serves.places, e.sources.places) })),
       c.self.invariant.2,
       c.self.invariant.3,
     )
@@ -91,10 +92,10 @@ returns-in-Ok-clause-bag g c tell p =
       c.in-Ok.ensures.readied.bag (subst (λ q. AllTell q.slots) (sym view) tell) p,
       count_by-append p m.new.extract.items runs',
       count_by-append p s.extract.items runs,
-      count_by-append p (s.heap.items ++ m.new.extract.items) runs',
-      count_by-append p s.heap.items m.new.extract.items,
-      count_by-append p (s.heap.items ++ s.extract.items) runs,
-      count_by-append p s.heap.items s.extract.items,
+      count_by-append p (items_of s.heaps ++ m.new.extract.items) runs',
+      count_by-append p (items_of s.heaps) m.new.extract.items,
+      count_by-append p (items_of s.heaps ++ s.extract.items) runs,
+      count_by-append p (items_of s.heaps) s.extract.items,
       ap (λ q. count_by p q.bag) view,
     )
 
@@ -128,11 +129,11 @@ returns-in-Err-NoFreeBlock-clause-refused g c =
     let short = e.none_free err in
     let some = e.some err in
     let same = on_error m.result c.in-Err-NoFreeBlock.field-0 c.in-Err-NoFreeBlock.is e.same in
-    let moved = subst (λ l. WholeMoved shown cmp record_of width n s.heap.items s.heap.items s.extract.items l a b st t) (sym same) (moved-whole shown cmp record_of width n s.heap.items s.extract.items a b st t short.moved) in
-    let whole : WholeShort shown cmp record_of width n s.heap.items s.heap.items s.extract.items m.new.extract.items a b st t = record { moved = moved; short = inl short.short } in
+    let moved = subst (λ l. WholeMoved shown cmp record_of width n (items_of s.heaps) (items_of s.heaps) s.extract.items l a b st t) (sym same) (moved-whole shown cmp record_of width n (items_of s.heaps) s.extract.items a b st t short.moved) in
+    let whole : WholeShort shown cmp record_of width n (items_of s.heaps) (items_of s.heaps) s.extract.items m.new.extract.items a b st t = record { moved = moved; short = inl short.short } in
     let none = c.in_default.is in
     let sound = c.self.invariant.1 none in
-    let bounds = moved-bounds shown cmp record_of width n s.heap s.heap s.extract m.new.extract a b st t s.count s.peak s.failed i sound.counted e.kept whole in
+    let bounds = moved-bounds shown cmp record_of width n s.heaps s.heaps s.extract m.new.extract a b st t s.count s.peak s.failed i sound.counted e.kept whole in
     record {
       bag = λ tell p. moved.bag (subst (λ q. AllTell q.slots) (sym view) tell) p ∙ ap (λ q. count_by p q.bag) view;
       size = ap (λ q. q.size) view;

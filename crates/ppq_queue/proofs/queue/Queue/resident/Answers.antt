@@ -1,5 +1,6 @@
 use Rattle.std.proofs.Common.{◌≡◌, ◌+◌, ◌-◌, ◌*◌, ◌≤◌, length, arith, ap, ap₂, ◌∙◌}
 use Rattle.ppq_budget.specs.Sizes.{batch_of, pool_of}
+use Rattle.ppq_heap.specs.Heaps.{items_of}
 use Rattle.ppq_queue.specs.Resting.{lane_buffers}
 use Rattle.ppq_queue.proofs.Bounds.{resident_within}
 use Rattle.ppq_queue.proofs.queue.Queue.resident.Goals as goal
@@ -9,11 +10,10 @@ returns-clause-budget g c =
     let s = c.self.inside in
     let i = c.self.invariant.0 in
     let n = s.sizes in
-    let heap : c.from-5.result ≡ length s.heap.items = c.from-5.ensures ∙ c.len.ensures.value in
     let used : c.from-3.result - c.from-4.result ≤ n.blocks = omega (arith, c.from-3.ensures, c.blocks-2.ensures.same) in
     let batches : c.from-batches.result ≡ batch_of n = c.from-batches.ensures ∙ c.batch.ensures.same in
     let lanes : 72 + 3 * c.from.result + c.from-2.result ≡ lane_buffers n + pool_of n = omega (arith, c.from.ensures, c.workers.ensures.same, c.from-2.ensures, c.in-Ok.ensures.buffers) in
     let block : c.from-block.result ≡ n.block = c.from-block.ensures ∙ c.block.ensures.same in
     let product : (72 + 3 * c.from.result + c.from-2.result) * c.from-block.result ≡ (lane_buffers n + pool_of n) * n.block = ap₂ (λ a b. a * b) lanes block in
-    let within = resident_within n i.range i.budget (length s.heap.items) (length s.extract.items) (c.from-3.result - c.from-4.result) i.in_heap i.in_extract used in
-    omega (arith, within, heap, c.len-2.ensures, batches, product, ap (λ q. q.sizes.memory) c.self.view_is)
+    let within = resident_within n i.range i.budget (length (items_of s.heaps)) (length s.extract.items) (c.from-3.result - c.from-4.result) i.in_heap i.in_extract used in
+    omega (arith, within, c.len.ensures.value, c.len-2.ensures, batches, product, ap (λ q. q.sizes.memory) c.self.view_is)

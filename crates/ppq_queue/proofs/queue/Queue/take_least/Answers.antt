@@ -2,6 +2,7 @@ use Rattle.std.proofs.Common.{◌≡◌, ◌-◌, ◌∙◌, ◌++◌, cond, len
 use Rattle.std.specs.Prelude.{count_by}
 use Rattle.ppq_outside.specs.Shown.{AllTell}
 use Rattle.ppq_record.specs.Bag.{least, without_front}
+use Rattle.ppq_heap.specs.Heaps.{items_of}
 use Rattle.ppq_queue.specs.Resting.{runs_bag, count_of}
 use Rattle.ppq_record.specs.Order.{Ascends}
 use Rattle.ppq_fetch.specs.Taking.{NoneAfter}
@@ -16,13 +17,14 @@ invariant_of-self g c =
     let i = c.self.invariant.0 in
     let view = c.self.view_is in
     let pop = c.pop.ensures in
-    let some = first_some laws.order laws.same s.heap.items c.min.result c.front.result c.min.ensures.value (sym c.goes_first.ensures ∙ c.if-goes_first.true) in
-    let one = popped_one s.heap.items c.pop.new.self.items c.pop.result some pop.none.0 pop.taken in
+    let some = first_some laws.order laws.same (items_of s.heaps) c.min.result c.front.result c.min.ensures.value (sym c.goes_first.ensures ∙ c.if-goes_first.true) in
+    let one = popped_one (items_of s.heaps) (items_of c.pop.new.self) c.pop.result some pop.none.0 pop.taken in
     let less : c.saturating_sub-self-inside.result ≡ s.count - 1 = omega (arith, c.saturating_sub-self-inside.ensures) in (
       record {
         range = i.range;
         budget = i.budget;
         cap = pop.cap ∙ i.cap;
+        shares = pop.count ∙ i.shares;
         in_heap = omega (arith, one, i.in_heap);
         room = i.room;
         in_extract = i.in_extract;
@@ -61,7 +63,7 @@ returns-then-goes_first-clause-answer g c tell =
     let runs = runs_bag shown g.R.Record.record_of g.R.Record.WIDTH s.body in
     let all = bag_length shown g.R.Ord.cmp g.R.Record.record_of g.R.Record.WIDTH s.sizes s.body s.supply sound.rest told in
     let ready : length s.extract.items ≡ 0 → length runs ≡ 0 = λ z. omega (arith, c.requires.ready (sym (ap (λ q. q.in_extract) view) ∙ z), ap (λ q. q.size) view, ap (λ q. q.in_heap) view, sound.counted, all) in
-    let two = ready_least laws.order laws.same s.heap.items s.extract.items runs c.min.result c.front.result c.goes_first.result c.min.ensures.value c.front.ensures c.goes_first.ensures (sound.ascends told) (sound.order told) ready in
+    let two = ready_least laws.order laws.same (items_of s.heaps) s.extract.items runs c.min.result c.front.result c.goes_first.result c.min.ensures.value c.front.ensures c.goes_first.ensures (sound.ascends told) (sound.order told) ready in
     c.pop.ensures.value ∙ sym c.min.ensures.value ∙ sym (ap (λ b. cond b c.min.result c.front.result) c.if-goes_first.true) ∙ two ∙ ap (λ q. least g.R.Ord.cmp q.bag) view
 
 pub returns-then-goes_first-clause-none : goal.returns-then-goes_first-clause-none
@@ -70,7 +72,7 @@ returns-then-goes_first-clause-none g c =
     let s = c.self.inside in
     let view = c.self.view_is in
     let sound = c.self.invariant.1 (ap (λ q. q.failed) view ∙ c.requires.sound) in
-    let some = first_some laws.order laws.same s.heap.items c.min.result c.front.result c.min.ensures.value (sym c.goes_first.ensures ∙ c.if-goes_first.true) in (
+    let some = first_some laws.order laws.same (items_of s.heaps) c.min.result c.front.result c.min.ensures.value (sym c.goes_first.ensures ∙ c.if-goes_first.true) in (
       (λ none. absurd (omega (arith, some, ap length (c.pop.ensures.none.0 none)))),
       (λ zero. absurd (omega (arith, some, sound.counted, ap (λ q. q.size) view, zero))),
     )
@@ -86,9 +88,9 @@ returns-then-goes_first-clause-rest g c tell p =
     let runs = runs_bag shown g.R.Record.record_of g.R.Record.WIDTH s.body in
     let all = bag_length shown g.R.Ord.cmp g.R.Record.record_of g.R.Record.WIDTH s.sizes s.body s.supply sound.rest told in
     let ready : length s.extract.items ≡ 0 → length runs ≡ 0 = λ z. omega (arith, c.requires.ready (sym (ap (λ q. q.in_extract) view) ∙ z), ap (λ q. q.size) view, ap (λ q. q.in_heap) view, sound.counted, all) in
-    let two = ready_least laws.order laws.same s.heap.items s.extract.items runs c.min.result c.front.result c.goes_first.result c.min.ensures.value c.front.ensures c.goes_first.ensures (sound.ascends told) (sound.order told) ready in
+    let two = ready_least laws.order laws.same (items_of s.heaps) s.extract.items runs c.min.result c.front.result c.goes_first.result c.min.ensures.value c.front.ensures c.goes_first.ensures (sound.ascends told) (sound.order told) ready in
     let answer = c.pop.ensures.value ∙ sym c.min.ensures.value ∙ sym (ap (λ b. cond b c.min.result c.front.result) c.if-goes_first.true) ∙ two in
-    rest_heap laws.order laws.same s.heap.items c.pop.new.self.items s.extract.items runs c.pop.result c.pop.ensures.none.0 c.pop.ensures.left c.pop.ensures.taken answer p
+    rest_heap laws.order laws.same (items_of s.heaps) (items_of c.pop.new.self) s.extract.items runs c.pop.result (λ none. ap items_of (c.pop.ensures.same none)) c.pop.ensures.taken answer p
     ∙ ap (λ q. count_by p (without_front g.R.Ord.cmp q.bag 1)) view
 
 pub invariant_of-self-2 : goal.invariant_of-self-2
@@ -102,12 +104,13 @@ invariant_of-self-2 g c =
     let room = ap (λ e. e.room) rest in
     let few : length c.pop-2.new.self.items ≡ length s.extract.items - 1 = ap length items ∙ length-drop 1 s.extract.items in
     let less : c.saturating_sub-self-inside.result ≡ s.count - 1 = omega (arith, c.saturating_sub-self-inside.ensures) in
-    let empty : length s.extract.items ≡ 0 → length s.heap.items ≡ 0 = second_empty laws.order laws.same s.heap.items s.extract.items c.min.result c.front.result c.min.ensures.none.0 c.front.ensures (sym c.goes_first.ensures ∙ c.if-goes_first.false) in
-    let ready : length s.extract.items ≡ 0 → s.count ≡ length s.heap.items = λ z. omega (arith, c.requires.ready (sym (ap (λ q. q.in_extract) view) ∙ z), ap (λ q. q.size) view, ap (λ q. q.in_heap) view) in (
+    let empty : length s.extract.items ≡ 0 → length (items_of s.heaps) ≡ 0 = second_empty laws.order laws.same (items_of s.heaps) s.extract.items c.min.result c.front.result c.min.ensures.none.0 c.front.ensures (sym c.goes_first.ensures ∙ c.if-goes_first.false) in
+    let ready : length s.extract.items ≡ 0 → s.count ≡ length (items_of s.heaps) = λ z. omega (arith, c.requires.ready (sym (ap (λ q. q.in_extract) view) ∙ z), ap (λ q. q.size) view, ap (λ q. q.in_heap) view) in (
       record {
         range = i.range;
         budget = i.budget;
         cap = i.cap;
+        shares = i.shares;
         in_heap = i.in_heap;
         room = room ∙ i.room;
         in_extract = omega (arith, few, i.in_extract);
@@ -124,7 +127,7 @@ invariant_of-self-2 g c =
           let sound = c.self.invariant.1 none in
           record {
             rest = sound.rest;
-            counted = left_over s.count (length s.heap.items) (length s.extract.items) (length c.pop-2.new.self.items) (count_of s.body) c.saturating_sub-self-inside.result sound.counted few less empty ready;
+            counted = left_over s.count (length (items_of s.heaps)) (length s.extract.items) (length c.pop-2.new.self.items) (count_of s.body) c.saturating_sub-self-inside.result sound.counted few less empty ready;
             ascends = λ tell. subst (λ l. Ascends g.R.Ord.cmp l) (sym items) (ascends_rest g.R.Ord.cmp s.extract.items (sound.ascends tell));
             order = λ tell. subst (λ l. NoneAfter g.R.Ord.cmp l (runs_bag g.S.Slot.shown g.R.Record.record_of g.R.Record.WIDTH s.body)) (sym items) (each_rest g.R.Ord.cmp s.extract.items (runs_bag g.S.Slot.shown g.R.Record.record_of g.R.Record.WIDTH s.body) (sound.order tell));
             above = λ more. sound.above (omega (arith, more, less));
@@ -146,7 +149,7 @@ returns-clause-answer g c tell =
     let runs = runs_bag shown g.R.Record.record_of g.R.Record.WIDTH s.body in
     let all = bag_length shown g.R.Ord.cmp g.R.Record.record_of g.R.Record.WIDTH s.sizes s.body s.supply sound.rest told in
     let ready : length s.extract.items ≡ 0 → length runs ≡ 0 = λ z. omega (arith, c.requires.ready (sym (ap (λ q. q.in_extract) view) ∙ z), ap (λ q. q.size) view, ap (λ q. q.in_heap) view, sound.counted, all) in
-    let two = ready_least laws.order laws.same s.heap.items s.extract.items runs c.min.result c.front.result c.goes_first.result c.min.ensures.value c.front.ensures c.goes_first.ensures (sound.ascends told) (sound.order told) ready in
+    let two = ready_least laws.order laws.same (items_of s.heaps) s.extract.items runs c.min.result c.front.result c.goes_first.result c.min.ensures.value c.front.ensures c.goes_first.ensures (sound.ascends told) (sound.order told) ready in
     c.pop-2.ensures.first ∙ sym c.front.ensures ∙ sym (ap (λ b. cond b c.min.result c.front.result) c.if-goes_first.false) ∙ two ∙ ap (λ q. least g.R.Ord.cmp q.bag) view
 
 pub returns-clause-rest : goal.returns-clause-rest
@@ -160,8 +163,8 @@ returns-clause-rest g c tell p =
     let runs = runs_bag shown g.R.Record.record_of g.R.Record.WIDTH s.body in
     let all = bag_length shown g.R.Ord.cmp g.R.Record.record_of g.R.Record.WIDTH s.sizes s.body s.supply sound.rest told in
     let ready : length s.extract.items ≡ 0 → length runs ≡ 0 = λ z. omega (arith, c.requires.ready (sym (ap (λ q. q.in_extract) view) ∙ z), ap (λ q. q.size) view, ap (λ q. q.in_heap) view, sound.counted, all) in
-    let two = ready_least laws.order laws.same s.heap.items s.extract.items runs c.min.result c.front.result c.goes_first.result c.min.ensures.value c.front.ensures c.goes_first.ensures (sound.ascends told) (sound.order told) ready in
+    let two = ready_least laws.order laws.same (items_of s.heaps) s.extract.items runs c.min.result c.front.result c.goes_first.result c.min.ensures.value c.front.ensures c.goes_first.ensures (sound.ascends told) (sound.order told) ready in
     let answer = c.front.ensures ∙ refl in
-    ap (λ e. count_by p (s.heap.items ++ e.items ++ runs)) c.pop-2.ensures.rest
-    ∙ rest_extract laws.order laws.same s.heap.items s.extract.items runs c.front.result c.front.ensures (sym (ap (λ b. cond b c.min.result c.front.result) c.if-goes_first.false) ∙ two) p
+    ap (λ e. count_by p (items_of s.heaps ++ e.items ++ runs)) c.pop-2.ensures.rest
+    ∙ rest_extract laws.order laws.same (items_of s.heaps) s.extract.items runs c.front.result c.front.ensures (sym (ap (λ b. cond b c.min.result c.front.result) c.if-goes_first.false) ∙ two) p
     ∙ ap (λ q. count_by p (without_front g.R.Ord.cmp q.bag 1)) view

@@ -1,7 +1,7 @@
 use Rattle.std.proofs.Common.{arith}
 use Rattle.ppq_queue.proofs.Counts.{count_some}
 use Rattle.ppq_queue.proofs.Moves.{kept-refl, moved-refl}
-use Rattle.ppq_queue.proofs.bulk.settle_some.Goals as goal
+use Rattle.ppq_queue.proofs.settle.settle_some.Goals as goal
 
 pub returns-clause-kept : goal.returns-clause-kept
 returns-clause-kept g c = kept-refl g.S.Slot.shown c.args.body.now c.args.supply.now

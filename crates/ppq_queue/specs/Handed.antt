@@ -1,0 +1,36 @@
+-- A queue that is handed over in its parts.
+use Rattle.std.specs.Prelude.{◌≡◌, ℕ, ◌+◌, ◌≤◌, List, [], ◌++◌, length, None, vec_capacity}
+use Rattle.std.specs.declared.cmp.Ordering.{Ordering}
+use Rattle.ppq_outside.specs.Shown.{Shown}
+use Rattle.ppq_budget.specs.Sizes.{pool_of}
+use Rattle.ppq_heap.specs.Heaps.{items_of, share_at}
+use Rattle.ppq_queue.specs.Holding.{Holding}
+use Rattle.ppq_queue.specs.Resting.{slots_of, runs_bag, lane_buffers}
+use Rattle.ppq_queue.specs.State.{IsQueue, IsSound}
+use Rattle.ppq_queue.specs.declared.queue_parts.QueueParts.{QueueParts}
+
+module _ {S R : Type 0} (shown : S → Shown) where
+  -- what a queue of these parts shows
+  abbrev pub holding_of : (List ℕ → R) → ℕ → QueueParts S R → Holding R
+  holding_of record_of width q =
+      record {
+        bag = items_of q.heaps ++ q.extract.items ++ runs_bag shown record_of width q.body;
+        size = q.count;
+        sizes = q.sizes;
+        peak = q.peak;
+        slots = slots_of shown q.body q.supply;
+        free = length q.supply.kept;
+        failed = q.failed;
+        in_heap = length (items_of q.heaps);
+        in_first = length (share_at q.heaps 0);
+        in_extract = length q.extract.items;
+        runs = length q.body.runs.external.items;
+        buffers = lane_buffers q.sizes + pool_of q.sizes;
+      }
+
+  -- the parts make a queue: what holds of it between its calls holds of them
+  pub record IsWhole (cmp : R → R → Ordering) (record_of : List ℕ → R) (width : ℕ) (q : QueueParts S R) : Type 0 where
+    pub queue : IsQueue shown q.sizes q.heaps q.extract q.body q.supply q.count q.peak q.failed
+    pub sound : q.failed ≡ None → IsSound shown cmp record_of width q.sizes q.heaps q.extract q.body q.supply q.sources q.count q.peak
+    pub no_slot : q.slots.items ≡ []
+    pub slots_room : q.sizes.blocks ≤ vec_capacity q.slots
