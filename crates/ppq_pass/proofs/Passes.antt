@@ -169,7 +169,7 @@ module _ {S R : Type 0} (shown : S → Shown) (width : ℕ) where
         stash_fits = is.stash_fits;
         stash_sizes = is.stash_sizes;
         pool = seat;
-        shape = took.shape ∙ is.shape;
+        shape = λ some. took.shape ∙ is.shape some;
         numbers_are = more ∙ ap (λ xs. xs ++ i ∷ []) is.numbers_are ∙ sym took.numbers;
         below = subst (All (λ i. i < count_of home.pool)) (sym more) (All-push (λ i. i < count_of home.pool) numbers.items i is.below within);
         each_once = subst (λ (xs : List ℕ). (i : ℕ) → times i xs ≤ 1) (sym more) (once_added numbers.items i free is.each_once);
@@ -203,7 +203,7 @@ module _ {S R : Type 0} (shown : S → Shown) (width : ℕ) where
           stash_fits = is.stash_fits;
           stash_sizes = is.stash_sizes;
           pool = seat;
-          shape = ap (λ h. h.shape) gave ∙ is.shape;
+          shape = λ some. ap (λ h. h.shape) gave ∙ is.shape some;
           numbers_are = sym (ap (λ h. h.numbers) gave ∙ ap (without i) (sym is.numbers_are ∙ less) ∙ without_last numbers'.items i alone);
           below = all_left (λ i. i < count_of home.pool) numbers'.items (i ∷ []) (subst (All (λ i. i < count_of home.pool)) less is.below);
           each_once = λ k. omega (arith, is.each_once k, ap (times k) less, times-append k numbers'.items (i ∷ []));

@@ -1,5 +1,5 @@
 -- What contracts see of a pass's supply.
-use Rattle.std.specs.Prelude.{◌≡◌, ℕ, ◌-◌, ◌*◌, ◌<◌, ◌≤◌, ◌^◌, true, List, [], ◌∷◌, length, map, All, Vec, vec_capacity}
+use Rattle.std.specs.Prelude.{◌≡◌, ℕ, ◌-◌, ◌*◌, ◌<◌, ◌≤◌, ◌^◌, Bool, true, false, List, [], ◌∷◌, length, map, All, Vec, vec_capacity}
 use mathlib.Core.Option.{Option, none, some}
 use lib.ListN.{get_elem?}
 use Rattle.std.specs.Global.{Global}
@@ -14,13 +14,30 @@ use Rattle.ppq_pool.specs.Known.{Known as PoolKnown}
 use Rattle.ppq_pool.specs.Seats.{IsSeatOf as IsPoolSeat, count_of}
 use Rattle.ppq_pass.specs.declared.shared.Shared.{Shared}
 use Rattle.ppq_pass.specs.declared.shared.PoolBuf.{PoolBuf}
+use Rattle.ppq_pass.specs.declared.home.PassHome.{PassHome}
 
--- what the session shares, what its two seats know, and what it shows as a supply
+-- what the session shares, what its two seats know, what it shows as a supply, and whether a draw had answered None before it was made
 pub record Passing (S R : Type 0) : Type 0 where
   pub home : Shared S R
   pub row_seat : RowKnown (DeviceBlock S R)
   pub pool_seat : PoolKnown (PoolBuf R)
   pub stock : Stock
+  pub was_dry : Bool
+
+-- what no call of a supply changes
+abbrev pub home_of : {S R : Type 0} → Passing S R → PassHome S R
+home_of p =
+    record {
+      shared = p.home;
+      items = p.row_seat.hand.items;
+      row_shares = p.row_seat.hand.shares;
+      pool_shares = p.pool_seat.hand.shares;
+      was_dry = p.was_dry;
+    }
+
+-- where a draw had answered None once, it is counted still
+abbrev pub IsWasDry : Bool → ℕ → Type 0
+IsWasDry was_dry dry = was_dry ≡ true → 0 < dry
 
 -- an item with those behind it, where there is one
 abbrev pub with_item : {T : Type 0} → Option T → List T → List T
@@ -48,9 +65,9 @@ module _ {S R : Type 0} (shown : S → Shown) where
         room_when_scant = room_when_scant;
       }
 
-  abbrev pub passing : Shared S R → RowKnown (DeviceBlock S R) → PoolKnown (PoolBuf R) → List (DeviceBlock S R) → List ℕ → ℕ → ℕ → ℕ → ℕ → Passing S R
-  passing home row_seat pool_seat stash numbers block dry scant room_when_scant =
-      record { home = home; row_seat = row_seat; pool_seat = pool_seat; stock = pass_stock row_seat stash numbers block dry scant room_when_scant }
+  abbrev pub passing : Shared S R → RowKnown (DeviceBlock S R) → PoolKnown (PoolBuf R) → List (DeviceBlock S R) → List ℕ → ℕ → ℕ → ℕ → ℕ → Bool → Passing S R
+  passing home row_seat pool_seat stash numbers block dry scant room_when_scant was_dry =
+      record { home = home; row_seat = row_seat; pool_seat = pool_seat; stock = pass_stock row_seat stash numbers block dry scant room_when_scant; was_dry = was_dry }
 
   -- The seats are of the session's row and pool; all slots and buffers are of one block size. No place of the row was drawn twice, and the
   -- stash has no more slots than were drawn. The numbers are those that the seat of the pool holds, each once, and there is room for all
@@ -63,7 +80,7 @@ module _ {S R : Type 0} (shown : S → Shown) where
     pub stash_fits : length stash ≤ length row_seat.hand.places
     pub stash_sizes : All (HasSize shown (block * width)) stash
     pub pool : IsPoolSeat home.pool pool_seat
-    pub shape : pool_seat.hand.shape ≡ block
+    pub shape : 0 < count_of home.pool → pool_seat.hand.shape ≡ block
     pub numbers_are : numbers.items ≡ pool_seat.hand.numbers
     pub below : All (λ i. i < count_of home.pool) numbers.items
     pub each_once : (i : ℕ) → times i numbers.items ≤ 1
@@ -79,4 +96,5 @@ new_pass home row_seat pool_seat block =
       row_seat = row_seat;
       pool_seat = pool_seat;
       stock = record { block = block; kept = []; drawn = []; slot_room = 0; sure_buffers = 0; buffer_room = 0; dry = 0; scant = 0; room_when_scant = 0 };
+      was_dry = false;
     }

@@ -1,20 +1,32 @@
-//! What a pass of a session draws from: its stash, and its seats of the shared row and pool.
+//! A pass of a session: what one worker adds records to, beside the others and with no lock.
 //!
-//! All passes of a session share its free slots, as a row, and its buffers, as a pool ([`Shared`]). Each
-//! pass has a seat of both. [`PassSupply`] is its supply: a slot comes from the pass's stash, where
-//! it keeps those that it drew and that came back, or else from the row, and goes back to the stash; a
-//! buffer comes from the pool and goes back to it. Each call is a few atomic steps, waits for nobody and
-//! takes no memory.
+//! All passes of a session share its free slots, as a row, and its buffers, as a pool ([`Shared`]). A
+//! [`Pass`] has a heap, runs, and a seat of both. A record goes into the heap; a full heap is sorted and
+//! stored as a run first. What a store draws from is the pass's supply ([`PassSupply`]): a slot comes from
+//! the pass's stash, where it keeps those that it drew and that came back, or else from the row, and goes
+//! back to the stash; a buffer comes from the pool and goes back to it. Each call is a few atomic steps,
+//! waits for nobody and takes no memory.
 //!
 //! A supply borrows what the session shares, so between its calls a pass keeps its [`PassParts`] alone.
 #![tactic(auto)]
 
+mod full;
+mod held;
+mod home;
 mod parts;
+mod pass;
 mod pass_supply;
+#[cfg(test)]
+mod pass_tests;
 mod shared;
+mod store;
 #[cfg(test)]
 mod tests;
 
+pub use full::Full;
+pub use held::PassHeld;
+pub use home::PassHome;
 pub use parts::PassParts;
+pub use pass::Pass;
 pub use pass_supply::PassSupply;
 pub use shared::{PoolBuf, Shared};

@@ -1,11 +1,11 @@
 //! A pass's supply.
-ghost use Rattle.std.specs.Prelude.{◌≡◌, ◌<◌, ◌≤◌, ◌*◌, ◌^◌, [], length, All, vec_capacity};
+ghost use Rattle.std.specs.Prelude.{◌≡◌, ◌<◌, ◌≤◌, ◌*◌, ◌^◌, [], length, All, nat_lt, vec_capacity};
 ghost use Rattle.ppq_row.specs.Seats.{IsSeatOf as IsRowSeat};
 ghost use Rattle.ppq_pool.specs.Seats.{IsSeatOf as IsPoolSeat, count_of};
 ghost use Rattle.ppq_array.specs.Owner.{HasSize};
-ghost use Rattle.ppq_pass.specs.Passing.{passing, IsPass, new_pass};
+ghost use Rattle.ppq_pass.specs.Passing.{passing, IsPass, IsWasDry, new_pass};
 
-use crate::{PassParts, PoolBuf, Shared};
+use crate::{PassHome, PassParts, PoolBuf, Shared};
 use ppq_array::{Berth, BerthList, Supply};
 use ppq_block::BlockBuf;
 use ppq_outside::Slot;
@@ -43,16 +43,19 @@ pub struct PassSupply<'a, S: Slot, R: Record> {
     scant: u64,
     // how many buffers were out when a take last answered None
     room_when_scant: u64,
+    // whether a draw had answered None before this supply was made
+    was_dry: bool,
 }
 
 impl<'a, S: Slot, R: Record> Model for PassSupply<'a, S, R> {
-    ghost use Rattle.ppq_pass.specs.Passing.{Passing, passing, IsPass};
+    ghost use Rattle.std.specs.Prelude.{true};
+    ghost use Rattle.ppq_pass.specs.Passing.{Passing, passing, IsPass, IsWasDry};
 
     ghost Value = { Passing S R };
 
-    ghost view = { λ p. passing S.shown p.shared.now p.row_seat p.pool_seat p.stash p.numbers.items p.block p.dry p.scant p.room_when_scant };
+    ghost view = { λ p. passing S.shown p.shared.now p.row_seat p.pool_seat p.stash p.numbers.items p.block p.dry p.scant p.room_when_scant p.was_dry };
 
-    ghost invariant = { λ p. IsPass S.shown R.WIDTH p.shared.now p.row_seat p.pool_seat p.stash p.numbers p.block p.dry };
+    ghost invariant = { λ p. IsPass S.shown R.WIDTH p.shared.now p.row_seat p.pool_seat p.stash p.numbers p.block p.dry × IsWasDry p.was_dry p.dry };
 }
 
 impl<'a, S: Slot, R: Record> PassSupply<'a, S, R> {
@@ -73,7 +76,7 @@ impl<'a, S: Slot, R: Record> PassSupply<'a, S, R> {
         requires sizes { All (HasSize S.shown (block * R.WIDTH)) row_seat.hand.items }
         requires pool { IsPoolSeat shared.now.pool pool_seat }
         requires untaken { pool_seat.hand.numbers ≡ [] }
-        requires shape { pool_seat.hand.shape ≡ block }
+        requires shape { 0 < count_of shared.now.pool → pool_seat.hand.shape ≡ block }
         requires numbers { numbers.items ≡ [] }
         requires room { count_of shared.now.pool ≤ vec_capacity numbers }
         ensures { result ≡ new_pass shared.now row_seat pool_seat block }
@@ -88,13 +91,14 @@ impl<'a, S: Slot, R: Record> PassSupply<'a, S, R> {
             dry: 0,
             scant: 0,
             room_when_scant: 0,
+            was_dry: false,
         }
     }
 
     /// The supply of a pass, of what it kept since it was last taken apart.
     pub fn from_parts(shared: &'a Shared<S, R>, parts: PassParts<S, R>) -> Self
         requires { IsPass S.shown R.WIDTH shared.now parts.row_seat parts.pool_seat parts.stash parts.numbers parts.block parts.dry }
-        ensures { result ≡ passing S.shown shared.now parts.row_seat parts.pool_seat parts.stash parts.numbers.items parts.block parts.dry parts.scant parts.room_when_scant }
+        ensures { result ≡ passing S.shown shared.now parts.row_seat parts.pool_seat parts.stash parts.numbers.items parts.block parts.dry parts.scant parts.room_when_scant (nat_lt 0 parts.dry) }
     {
         let PassParts {
             row_seat,
@@ -106,6 +110,7 @@ impl<'a, S: Slot, R: Record> PassSupply<'a, S, R> {
             scant,
             room_when_scant,
         } = parts;
+        let was_dry = dry > 0;
         PassSupply {
             shared,
             row_seat,
@@ -116,13 +121,15 @@ impl<'a, S: Slot, R: Record> PassSupply<'a, S, R> {
             dry,
             scant,
             room_when_scant,
+            was_dry,
         }
     }
 
     /// What the pass keeps. `from_parts` makes the same supply of it, over the same row and pool.
     pub fn into_parts(self) -> PassParts<S, R>
         ensures of { IsPass S.shown R.WIDTH self.entry.home result.row_seat result.pool_seat result.stash result.numbers result.block result.dry }
-        ensures same { passing S.shown self.entry.home result.row_seat result.pool_seat result.stash result.numbers.items result.block result.dry result.scant result.room_when_scant ≡ self.entry }
+        ensures same { passing S.shown self.entry.home result.row_seat result.pool_seat result.stash result.numbers.items result.block result.dry result.scant result.room_when_scant self.entry.was_dry ≡ self.entry }
+        ensures was_dry { IsWasDry self.entry.was_dry result.dry }
     {
         let PassSupply {
             shared: _,
@@ -134,6 +141,7 @@ impl<'a, S: Slot, R: Record> PassSupply<'a, S, R> {
             dry,
             scant,
             room_when_scant,
+            was_dry: _,
         } = self;
         PassParts {
             row_seat,
@@ -149,9 +157,11 @@ impl<'a, S: Slot, R: Record> PassSupply<'a, S, R> {
 }
 
 impl<'a, S: Slot, R: Record> Supply<S, R> for PassSupply<'a, S, R> {
-    type Home = Shared<S, R>;
+    ghost use Rattle.ppq_pass.specs.Passing.{home_of};
 
-    ghost home = { λ p. p.home };
+    type Home = PassHome<S, R>;
+
+    ghost home = { λ p. home_of p };
 
     ghost stock = { λ p. p.stock };
 

@@ -1,0 +1,108 @@
+-- A pass that begins.
+use Rattle.std.proofs.Common.{◌≡◌, ℕ, ◌+◌, ◌*◌, ◌/◌, ◌<◌, ◌≤◌, ◌^◌, Bool, true, false, List, [], ◌++◌, length, All, Option, Some, None, refl, sym, ap, ap₂, ◌∙◌, subst, arith}
+use Rattle.std.specs.Prelude.{Vec, vec_capacity}
+use Rattle.std.specs.Global.{Global}
+use Rattle.std.specs.declared.cmp.Ordering.{Ordering}
+use Rattle.std.proofs.lemmas.List.Elements.{All-nil}
+use Rattle.ppq_table.specs.Sums.{times}
+use Rattle.ppq_outside.specs.Shown.{Shown}
+use Rattle.ppq_record.specs.Order.{Ascends}
+use Rattle.ppq_budget.specs.Sizes.{Numbers, AreInRange, heap_of, pool_of}
+use Rattle.ppq_heap.specs.Heap.{Contents}
+use Rattle.ppq_array.specs.declared.berth.DeviceBlock.{DeviceBlock}
+use Rattle.ppq_array.specs.Run.{Run, items_of}
+use Rattle.ppq_array.specs.External.{External, records_in}
+use Rattle.ppq_array.specs.Owner.{HasBlock, HasSize, slots_shown}
+use Rattle.ppq_array.specs.Kept.{SameSlots, all_writes}
+use Rattle.ppq_array.specs.Holdings.{internal_items, internal_buffers, external_slots, external_buffers, RunHasBlock, ArrayHasSize}
+use Rattle.ppq_fetch.specs.Fetching.{count_in}
+use Rattle.ppq_spill.specs.Body.{IsNewBody, body_slots, job_slots}
+use Rattle.ppq_spill.specs.declared.body.PassBody.{PassBody}
+use Rattle.ppq_spill.proofs.SameSlots.{SameSlots-refl}
+use Rattle.ppq_row.specs.Known.{Known as RowKnown}
+use Rattle.ppq_pool.specs.Known.{Known as PoolKnown}
+use Rattle.ppq_pool.specs.Seats.{count_of}
+use Rattle.ppq_pass.specs.declared.shared.PoolBuf.{PoolBuf}
+use Rattle.ppq_pass.specs.declared.parts.PassParts.{PassParts}
+use Rattle.ppq_pass.specs.Passing.{IsPass, items_at}
+use Rattle.ppq_pass.specs.Passed.{slots_of}
+use Rattle.ppq_pass.specs.PassState.{IsPassed, IsSoundPass, IsPassRun, IsPassArray, shared_of, stock_of, drawn_of}
+
+module _ {S R : Type 0} (shown : S → Shown) (cmp : R → R → Ordering) (record_of : List ℕ → R) (width : ℕ) (n : Numbers) (heap : Contents R) (body : PassBody S R) (p : PassParts S R)
+    (range : AreInRange n) (new : IsNewBody n.block (pool_of n / n.heap + 1) (n.blocks / n.heap + 1) body) (block : p.block ≡ n.block) (stash : p.stash ≡ []) (dry : p.dry ≡ 0) (undrawn : p.row_seat.hand.places ≡ []) (slots : length p.row_seat.hand.items ≤ n.blocks)
+    (bytes : All (HasSize shown (n.block * width)) p.row_seat.hand.items) (untaken : p.pool_seat.hand.numbers ≡ []) (shape : 0 < count_of p.pool_seat.pool → p.pool_seat.hand.shape ≡ n.block) (numbers : p.numbers.items ≡ []) (room : count_of p.pool_seat.pool ≤ vec_capacity p.numbers)
+  where
+    new_supply : IsPass shown width (shared_of p) p.row_seat p.pool_seat p.stash p.numbers p.block p.dry
+    new_supply =
+        record {
+          row = refl;
+          items = subst (λ b. All (HasSize shown (b * width)) p.row_seat.hand.items) (sym block) bytes;
+          few = omega (arith, slots, range.blocks);
+          drawn = subst (All (λ k. k < length p.row_seat.hand.items)) (sym undrawn) (All-nil (λ k. k < length p.row_seat.hand.items));
+          once = λ k _. omega (arith, ap length undrawn);
+          stash_fits = omega (arith, ap length stash);
+          stash_sizes = subst (All (HasSize shown (p.block * width))) (sym stash) (All-nil (HasSize shown (p.block * width)));
+          pool = refl;
+          shape = λ some. shape some ∙ sym block;
+          numbers_are = numbers ∙ sym untaken;
+          below = subst (All (λ i. i < count_of p.pool_seat.pool)) (sym numbers) (All-nil (λ i. i < count_of p.pool_seat.pool));
+          each_once = λ i. (let none : times i p.numbers.items ≡ 0 = ap (times i) numbers in omega (arith, none));
+          room = room;
+          ended = λ some. absurd (omega (arith, some, dry));
+        }
+
+    no_drawn : drawn_of shown p ≡ []
+    no_drawn = ap (λ ps. slots_shown shown (items_at p.row_seat.hand.items ps)) undrawn
+
+    no_slots : slots_of shown body p ≡ []
+    no_slots =
+        ap₂ (λ (xs : List (External S R)) (ys : List (DeviceBlock S R)). external_slots shown xs ++ job_slots shown body.lanes.jobs.items ++ slots_shown shown ys) new.no_external stash
+        ∙ ap (λ jobs. job_slots shown jobs ++ []) new.no_job
+
+    pub new_passed : heap.cap ≡ heap_of n → length heap.items ≤ heap.cap → count_of p.pool_seat.pool ≤ pool_of n → IsPassed shown width n heap body p false None
+    new_passed cap within few =
+        record {
+          range = range;
+          supply = new_supply;
+          block = block;
+          cap = cap;
+          in_heap = omega (arith, cap, within);
+          few_buffers = few;
+          few_slots = slots;
+          slots = subst (λ (xs : List Shown). SameSlots (drawn_of shown p) xs) (no_drawn ∙ sym no_slots) (SameSlots-refl (drawn_of shown p));
+          writes = omega (arith, ap all_writes (no_drawn ∙ sym no_slots));
+          buffers = omega (arith, ap internal_buffers new.no_internal, ap external_buffers new.no_external, new.two, ap length new.no_job, ap length numbers);
+          size = record {
+            some = omega (arith, block, range.two_records);
+            small = omega (arith, block, range.block);
+            idle = subst (λ b. All (HasBlock b) body.lanes.idle) (sym block) new.blocks;
+            internal = subst (All (RunHasBlock p.block)) (sym new.no_internal) (All-nil (RunHasBlock p.block));
+            external = subst (All (ArrayHasSize shown (p.block * width))) (sym new.no_external) (All-nil (ArrayHasSize shown (p.block * width)));
+          };
+          takes_back = record {
+            slots = omega (arith, ap (λ xs. length (external_slots shown xs)) new.no_external);
+            buffers = omega (arith, ap internal_buffers new.no_internal);
+          };
+          no_job = new.no_job;
+          two = new.two;
+          internal_room = omega (arith, new.internal_room);
+          external_room = omega (arith, new.external_room);
+          leaves = omega (arith, new.leaves);
+          ended = λ r. cc;
+          fault = λ k h. cc;
+        }
+
+    pub new_sound : (begun : ℕ) → begun ≡ length heap.items → IsSoundPass shown cmp record_of width n heap body p begun 0 false
+    new_sound begun counted =
+        let none : count_in body.runs.internal.items body.runs.external.items ≡ 0 = ap₂ (λ (xs : List (Run R)) (ys : List (External S R)). count_in xs ys) new.no_internal new.no_external in
+        let empty : length p.stash * n.block ≡ 0 * n.block = ap (λ (xs : List (DeviceBlock S R)). length xs * n.block) stash in
+        record {
+          internal = subst (All (IsPassRun n.block (heap_of n))) (sym new.no_internal) (All-nil (IsPassRun n.block (heap_of n)));
+          external = subst (All (IsPassArray shown width n.block (heap_of n))) (sym new.no_external) (All-nil (IsPassArray shown width n.block (heap_of n)));
+          ascend = subst (All (λ (run : Run R). Ascends cmp (items_of run))) (sym new.no_internal) (All-nil (λ (run : Run R). Ascends cmp (items_of run)));
+          rise = λ _. subst (All (λ (a : External S R). Ascends cmp (records_in record_of width shown a))) (sym new.no_external) (All-nil (λ (a : External S R). Ascends cmp (records_in record_of width shown a)));
+          counted = omega (arith, none, counted);
+          some = λ h. absurd (omega (arith, h, none));
+          stash = omega (arith, empty);
+          whole = λ r. cc;
+        }

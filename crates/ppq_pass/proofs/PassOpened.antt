@@ -1,0 +1,114 @@
+-- A pass that is about to store its heap, and what it shows before and after.
+use Rattle.std.proofs.Common.{◌≡◌, ℕ, ◌+◌, ◌*◌, ◌<◌, ◌≤◌, Bool, true, List, [], ◌∷◌, ◌++◌, length, Option, Some, None, sym, ap, ap₂, ◌∙◌, subst, arith, refl}
+use Rattle.std.specs.Prelude.{count_by, Result, Ok, Err, IsErr, OnOk, IsErrOf}
+use Rattle.std.specs.declared.cmp.Ordering.{Ordering}
+use Rattle.std.specs.Cmp.{IsTotalOrder}
+use Rattle.atomic_table.specs.Seated.{TableId}
+use Rattle.ppq_record.specs.Order.{Ascends, is_before}
+use Rattle.ppq_record.specs.Bag.{IsSameBag, ascending}
+use Rattle.ppq_record.proofs.Order.{IsSameBag-length, in_order-same_bag}
+use Rattle.ppq_record.proofs.Fronts.{ranks}
+use Rattle.ppq_outside.specs.Shown.{Shown}
+use Rattle.ppq_budget.specs.Sizes.{Numbers, heap_of}
+use Rattle.ppq_heap.specs.Heap.{Contents}
+use Rattle.ppq_array.specs.declared.berth.DeviceBlock.{DeviceBlock}
+use Rattle.ppq_array.specs.declared.store_fault.StoreFault.{StoreFault}
+use Rattle.ppq_spill.specs.declared.body.PassBody.{PassBody}
+use Rattle.ppq_pass.specs.declared.shared.Shared.{Shared}
+use Rattle.ppq_pass.specs.declared.parts.PassParts.{PassParts}
+use Rattle.ppq_pass.specs.Passed.{PassHolding, PassKey, IsOf, key_of, holding_of, shown_holding}
+use Rattle.ppq_pass.specs.PassState.{IsPassed, IsSoundPass, IsPassing, shared_of}
+use Rattle.ppq_pass.specs.PassStore.{StoreKept}
+
+-- one number is not kept where none is
+pub not_both : (o : Option ℕ) (k : ℕ) → o ≡ None → o ≡ Some k → ⊥
+not_both None k a b = cc
+not_both (Some x) k a b = cc
+
+pub same_number : (j k : ℕ) → Some j ≡ Some k → j ≡ k
+same_number j k e = ap (λ o. or_zero o) e
+  where
+    or_zero : Option ℕ → ℕ
+    or_zero None = 0
+    or_zero (Some x) = x
+
+module _ {T E : Type 0} where
+  -- what holds on Ok, where the answer is that
+  pub on_ok : {P : Type 0} (r : Result T E) (x : T) → r ≡ Ok x → OnOk r P → P
+  on_ok (Ok v) x e p = p
+  on_ok (Err f) x e p = cc
+
+  pub matched : (r : Result T E) (e f : E) → r ≡ Err e → e ≡ f → IsErrOf r f
+  matched r e f is same = let g : E → Result T E = λ x. Err x in is ∙ ap g same
+
+  -- a heap with room takes a record
+  pub has_room : {R : Type 0} (answer : Result T E) (most : ℕ) (x : R) (old new : List R) → length old < most → (IsErr answer → length old ≡ most) → OnOk answer (IsSameBag new (x ∷ old)) → IsSameBag new (x ∷ old)
+  has_room (Ok v) most x old new room full added = added
+  has_room (Err e) most x old new room full added = absurd (omega (arith, full refl))
+
+module _ {S R : Type 0} (shown : S → Shown) (cmp : R → R → Ordering) (record_of : List ℕ → R) (width : ℕ) (n : Numbers) (heap : Contents R) (body : PassBody S R) where
+  -- what is known where a full heap was sorted, to be stored
+  pub record AtStore (p : PassParts S R) (begun accepted : ℕ) (refused : Bool) (sorted : List R) : Type 0 where
+    pub is : IsPassed shown width n heap body p refused None
+    pub sound : IsSoundPass shown cmp record_of width n heap body p begun accepted refused
+    pub full : length heap.items ≡ heap_of n
+    pub long : length sorted ≡ heap_of n
+    pub bag : IsSameBag sorted heap.items
+    pub up : Ascends cmp sorted
+
+  module _ (begun accepted : ℕ) (refused : Bool) (failed : Option ℕ) (o : Option (PassParts S R)) (p : PassParts S R) (e : o ≡ Some p) where
+    pub opened : IsPassing shown cmp record_of width n heap body o begun accepted refused failed → IsPassing shown cmp record_of width n heap body (Some p) begun accepted refused failed
+    opened is = subst (λ (o : Option (PassParts S R)). IsPassing shown cmp record_of width n heap body o begun accepted refused failed) e is
+
+    pub seen : (v : PassHolding S R) → shown_holding shown record_of width n heap body o begun accepted refused failed ≡ v → holding_of shown record_of width n heap body p begun accepted refused failed ≡ v
+    seen v view = subst (λ (o : Option (PassParts S R)). shown_holding shown record_of width n heap body o begun accepted refused failed ≡ v) e view
+
+    pub at_store :
+        IsTotalOrder cmp → IsPassing shown cmp record_of width n heap body o begun accepted refused failed → (v : PassHolding S R) → shown_holding shown record_of width n heap body o begun accepted refused failed ≡ v
+        → v.failed ≡ None → v.in_heap ≡ heap_of v.key.sizes → (sorted given : List R) → sorted ≡ given → given ≡ ascending cmp heap.items → Ascends cmp given
+        → AtStore p begun accepted refused sorted
+    at_store order is v view sound full sorted given same asc up =
+        let view' = seen v view in
+        let none : failed ≡ None = ap (λ v. v.failed) view' ∙ sound in
+        let both = opened is in
+        let all : length heap.items ≡ heap_of n = subst (λ (v : PassHolding S R). v.in_heap ≡ heap_of v.key.sizes) (sym view') full in
+        let bag : IsSameBag sorted heap.items = λ t. ap (count_by t) (same ∙ asc) ∙ in_order-same_bag (is_before cmp) (ranks order) heap.items t in
+        record {
+          is = subst (λ (f : Option ℕ). IsPassed shown width n heap body p refused f) none both.0;
+          sound = both.1 none;
+          full = all;
+          long = IsSameBag-length sorted heap.items bag ∙ all;
+          bag = bag;
+          up = subst (Ascends cmp) (sym same) up;
+        }
+
+module _ {S R : Type 0} (shown : S → Shown) (width : ℕ) (shared : Shared S R) (a b : PassBody S R) (p q : PassParts S R) (records : ℕ) (kept : StoreKept shown width records shared a b p q) (row : p.row_seat.row ≡ shared.row) (pool : p.pool_seat.pool ≡ shared.pool) where
+  -- the key stays
+  pub key_stored : (n : Numbers) (begun : ℕ) → key_of n begun q.row_seat q.pool_seat ≡ key_of n begun p.row_seat p.pool_seat
+  key_stored n begun =
+      ap₂ (λ (r l : TableId). made r l q.row_seat.hand.items q.row_seat.hand.shares q.pool_seat.hand.shares) (kept.supply.row ∙ sym row) (kept.supply.pool ∙ sym pool)
+      ∙ ap₂ (λ (xs : List (DeviceBlock S R)) (k : ℕ). made p.row_seat.row p.pool_seat.pool xs k q.pool_seat.hand.shares) kept.items kept.row_shares
+      ∙ ap (λ (k : ℕ). made p.row_seat.row p.pool_seat.pool p.row_seat.hand.items p.row_seat.hand.shares k) kept.pool_shares
+    where
+      made : TableId → TableId → List (DeviceBlock S R) → ℕ → ℕ → PassKey S R
+      made r l xs k j = record { row = r; pool = l; items = xs; row_shares = k; pool_shares = j; sizes = n; begun = begun }
+
+-- the seats are of what is shared
+pub of_shared : {S R : Type 0} (p : PassParts S R) (shared : Shared S R) → p.row_seat.row ≡ shared.row → p.pool_seat.pool ≡ shared.pool → shared_of p ≡ shared
+of_shared {S = S} {R = R} p shared row pool = ap₂ made row pool
+  where
+    made : TableId → TableId → Shared S R
+    made r l = record { row = r; pool = l }
+
+-- two holdings with the same numbers differ in bag, slots, stash, note and refusal alone
+pub refused_holding :
+    {S R : Type 0} (old new : PassHolding S R) → new.key ≡ old.key → new.size ≡ old.size → new.in_heap ≡ old.in_heap → new.in_buffers ≡ old.in_buffers → new.noted ≡ true → new.accepted ≡ old.accepted → new.refused ≡ true → new.failed ≡ old.failed
+    → new ≡ record old { bag = new.bag; slots = new.slots; stash = new.stash; noted = true; refused = true }
+refused_holding {S = S} {R = R} old new key size heap buffers noted accepted refused failed =
+    ap₂ (λ (k : PassKey S R) (s : ℕ). made k s new.in_heap new.in_buffers new.noted new.accepted new.refused new.failed) key size
+    ∙ ap₂ (λ (h m : ℕ). made old.key old.size h m new.noted new.accepted new.refused new.failed) heap buffers
+    ∙ ap₂ (λ (b : Bool) (k : ℕ). made old.key old.size old.in_heap old.in_buffers b k new.refused new.failed) noted accepted
+    ∙ ap₂ (λ (b : Bool) (f : Option ℕ). made old.key old.size old.in_heap old.in_buffers true old.accepted b f) refused failed
+  where
+    made : PassKey S R → ℕ → ℕ → ℕ → Bool → ℕ → Bool → Option ℕ → PassHolding S R
+    made k s h m b a r f = record { key = k; bag = new.bag; size = s; in_heap = h; in_buffers = m; slots = new.slots; stash = new.stash; noted = b; accepted = a; refused = r; failed = f }

@@ -1,0 +1,46 @@
+use Rattle.std.proofs.Common.{◌≡◌, ◌<◌, ℕ, length, sym, ap, ◌∙◌, subst, arith}
+use Rattle.std.proofs.lemmas.Bool.{lt-ltb}
+use Rattle.ppq_array.specs.Supply.{Stock}
+use Rattle.ppq_array.specs.Kept.{Kept}
+use Rattle.ppq_array.specs.Holdings.{CanTakeBack}
+use Rattle.ppq_spill.specs.Body.{held_by}
+use Rattle.ppq_spill.specs.Storing.{HasOneSize, StillTell, WritesFew}
+use Rattle.ppq_pass.specs.Passing.{IsPass, home_of}
+use Rattle.ppq_pass.specs.PassState.{stock_of}
+use Rattle.ppq_pass.proofs.store.store_run.Goals as goal
+
+moved : (F : Stock → Stock → Type 0) (s s' t t' : Stock) → s ≡ s' → t' ≡ t → F s t → F s' t'
+moved F s s' t t' a b x = subst (F s') (sym b) (subst (λ y. F y t) a x)
+
+pub returns-clause-kept : goal.returns-clause-kept
+returns-clause-kept g c =
+    let shown = g.S.Slot.shown in
+    let width = g.R.Record.WIDTH in
+    let a = c.args.body.now in
+    let b = c.store_sorted-answer.new.body in
+    let p = c.args.parts in
+    let q = c.into_parts.result in
+    let e = c.store_sorted-answer.ensures in
+    let made = c.from_parts-supply.ensures in
+    let left = c.into_parts.ensures.same in
+    let home = ap home_of left ∙ e.home ∙ ap home_of made in
+    let s0 = c.from_parts-supply.result.stock in
+    let s1 = stock_of shown p in
+    let t0 = c.store_sorted-answer.new.supply.stock in
+    let t1 = stock_of shown q in
+    let s = ap (λ x. x.stock) made in
+    let t = ap (λ x. x.stock) left in
+    record {
+      supply = subst (λ h. IsPass shown width h q.row_seat q.pool_seat q.stash q.numbers q.block q.dry) (ap (λ h. h.shared) home) c.into_parts.ensures.of;
+      items = ap (λ h. h.items) home;
+      row_shares = ap (λ h. h.row_shares) home;
+      pool_shares = ap (λ h. h.pool_shares) home;
+      dry = λ some. c.into_parts.ensures.was_dry (ap (λ h. h.was_dry) home ∙ lt-ltb 0 p.dry some);
+      kept = moved (λ x y. Kept x y (held_by shown a) (held_by shown b)) s0 s1 t0 t1 s t e.kept;
+      takes_back = moved (λ x y. CanTakeBack shown y b.runs.internal.items b.runs.external.items) s0 s1 t0 t1 s t e.takes_back;
+      tells = moved (λ x y. StillTell shown a b x y) s0 s1 t0 t1 s t e.tells;
+      writes = moved (λ x y. WritesFew shown (length c.args.sorted.now) a b x y) s0 s1 t0 t1 s t e.writes;
+      lanes = e.lanes;
+      size = moved (λ x y. HasOneSize shown width b y) s0 s1 t0 t1 s t e.size;
+      rooms = e.rooms;
+    }

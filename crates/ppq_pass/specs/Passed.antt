@@ -1,0 +1,185 @@
+-- What contracts see of a pass.
+use Rattle.std.specs.Prelude.{◌≡◌, ℕ, ◌+◌, ◌*◌, ◌<◌, ◌≤◌, Bool, true, false, List, [], ◌++◌, length, flat_map, Option, Some, None}
+use Rattle.atomic_table.specs.Seated.{TableId}
+use Rattle.ppq_record.specs.Bag.{IsSameBag}
+use Rattle.ppq_outside.specs.Shown.{Shown, AllTell}
+use Rattle.ppq_budget.specs.Sizes.{Numbers, numbers, AreInRange, heap_of}
+use Rattle.ppq_heap.specs.Heap.{Contents}
+use Rattle.ppq_array.specs.declared.berth.DeviceBlock.{DeviceBlock}
+use Rattle.ppq_array.specs.External.{records_in}
+use Rattle.ppq_array.specs.Kept.{HasFailed}
+use Rattle.ppq_array.specs.Owner.{slots_shown}
+use Rattle.ppq_array.specs.Holdings.{internal_items}
+use Rattle.ppq_fetch.specs.Fetching.{count_in}
+use Rattle.ppq_spill.specs.Body.{body_slots}
+use Rattle.ppq_spill.specs.Storing.{in_buffers}
+use Rattle.ppq_spill.specs.declared.body.PassBody.{PassBody}
+use Rattle.ppq_row.specs.Known.{Known as RowKnown}
+use Rattle.ppq_pool.specs.Known.{Known as PoolKnown}
+use Rattle.ppq_queue.specs.declared.fault.QueueFault.{QueueFault}
+use Rattle.ppq_queue.specs.declared.fault.QueueFault.TheVariants.{NoFreeBlock, Device}
+use Rattle.ppq_pass.specs.declared.shared.Shared.{Shared}
+use Rattle.ppq_pass.specs.declared.shared.PoolBuf.{PoolBuf}
+use Rattle.ppq_pass.specs.declared.parts.PassParts.{PassParts}
+
+-- What no call of a pass changes: the row and the pool of its session, the slots as they were put into the row, its shares of both, the
+-- sizes, and how many records it had in the beginning
+pub record PassKey (S R : Type 0) : Type 0 where
+  pub row : TableId
+  pub pool : TableId
+  pub items : List (DeviceBlock S R)
+  pub row_shares : ℕ
+  pub pool_shares : ℕ
+  pub sizes : Numbers
+  pub begun : ℕ
+
+-- Its key. The bag of its records, in its heap and in its runs, as far as its slots tell; how many they are, how many of them are in the
+-- heap, and how many in runs in buffers. All slots that it holds, in its runs and its stash, and how many the stash has. Whether it knows
+-- that the row is drawn to its end. How many of its pushes answered Ok, whether one answered NoFreeBlock, and the number of the slot a
+-- call of which failed first, if any
+pub record PassHolding (S R : Type 0) : Type 0 where
+  pub key : PassKey S R
+  pub bag : List R
+  pub size : ℕ
+  pub in_heap : ℕ
+  pub in_buffers : ℕ
+  pub slots : List Shown
+  pub stash : ℕ
+  pub noted : Bool
+  pub accepted : ℕ
+  pub refused : Bool
+  pub failed : Option ℕ
+
+module _ {S R : Type 0} where
+  -- the pass is of the session that shares these
+  pub record IsOf (shared : Shared S R) (pass : PassHolding S R) : Type 0 where
+    pub row : pass.key.row ≡ shared.row
+    pub pool : pass.key.pool ≡ shared.pool
+
+  -- all slots that a pass holds, and all that it can still draw
+  abbrev pub reach_of : (S → Shown) → PassHolding S R → List Shown
+  reach_of shown pass = pass.slots ++ slots_shown shown pass.key.items
+
+  -- they all tell
+  abbrev pub PassTells : (S → Shown) → PassHolding S R → Type 0
+  PassTells shown pass = AllTell (reach_of shown pass)
+
+  -- so many of its records are added
+  abbrev pub with_one : PassHolding S R → List R → PassHolding S R
+  with_one old bag = record old { bag = bag; size = old.size + 1; in_heap = old.in_heap + 1; accepted = old.accepted + 1 }
+
+  -- A store found too few slots: the row is drawn to its end, and the stash has fewer than the records of the heap and of the runs in
+  -- buffers want. The slots that it drew stay with it, and no record went
+  pub record FoundNone (old new : PassHolding S R) : Type 0 where
+    pub bag : IsSameBag new.bag old.bag
+    pub noted : new.noted ≡ true
+    pub few : new.stash * old.key.sizes.block < heap_of old.key.sizes + old.in_buffers
+    pub rest : new ≡ record old { bag = new.bag; slots = new.slots; stash = new.stash; noted = true; refused = true }
+
+  -- a call of the slot with this number failed, which the pass keeps
+  pub record MetFault (number : ℕ) (old new : PassHolding S R) : Type 0 where
+    pub kept : new.failed ≡ Some number
+    pub fault : HasFailed number new.slots
+    pub accepted : new.accepted ≡ old.accepted
+    pub refused : new.refused ≡ old.refused
+
+  -- why a push was refused, and what it left
+  abbrev pub IsRefusedPush : PassHolding S R → PassHolding S R → QueueFault → Type 0
+  IsRefusedPush old new NoFreeBlock = FoundNone old new
+  IsRefusedPush old new (Device number) = MetFault number old new
+
+  -- What always holds of a pass: its sizes are in range, and its heap is within them. Unless a fault was met, its records are those that it
+  -- had in the beginning and those that it accepted; after a refusal it knows the end of the row, and has as many records as a heap holds.
+  -- A call of the slot that is kept as failed did fail, and the heap is full then
+  pub record IsKnown (pass : PassHolding S R) : Type 0 where
+    pub range : AreInRange pass.key.sizes
+    pub in_heap : pass.in_heap ≤ heap_of pass.key.sizes
+    pub counted : pass.failed ≡ None → pass.size ≡ pass.key.begun + pass.accepted
+    pub noted : pass.refused ≡ true → pass.noted ≡ true
+    pub full : pass.refused ≡ true → pass.failed ≡ None → heap_of pass.key.sizes ≤ pass.size
+    pub fault : (number : ℕ) → pass.failed ≡ Some number → HasFailed number pass.slots × (pass.in_heap ≡ heap_of pass.key.sizes)
+
+  -- the key of a pass with these parts
+  abbrev pub key_of : Numbers → ℕ → RowKnown (DeviceBlock S R) → PoolKnown (PoolBuf R) → PassKey S R
+  key_of sizes begun row pool =
+      record {
+        row = row.row;
+        pool = pool.pool;
+        items = row.hand.items;
+        row_shares = row.hand.shares;
+        pool_shares = pool.hand.shares;
+        sizes = sizes;
+        begun = begun;
+      }
+
+  -- a pass with these records that has drawn and taken nothing yet
+  abbrev pub new_holding : Numbers → List R → RowKnown (DeviceBlock S R) → PoolKnown (PoolBuf R) → PassHolding S R
+  new_holding sizes items row pool =
+      record {
+        key = key_of sizes (length items) row pool;
+        bag = items;
+        size = length items;
+        in_heap = length items;
+        in_buffers = 0;
+        slots = [];
+        stash = 0;
+        noted = row.hand.noted;
+        accepted = 0;
+        refused = false;
+        failed = None;
+      }
+
+  module _ (shown : S → Shown) where
+    -- the slots of the runs and of the stash
+    abbrev pub slots_of : PassBody S R → PassParts S R → List Shown
+    slots_of body parts = body_slots shown body ++ slots_shown shown parts.stash
+
+    -- the records of runs, as far as slots tell
+    abbrev pub runs_bag : (List ℕ → R) → ℕ → PassBody S R → List R
+    runs_bag record_of width body = internal_items body.runs.internal.items ++ flat_map (records_in record_of width shown) body.runs.external.items
+
+    -- what a pass with these parts shows
+    abbrev pub holding_of : (List ℕ → R) → ℕ → Numbers → Contents R → PassBody S R → PassParts S R → ℕ → ℕ → Bool → Option ℕ → PassHolding S R
+    holding_of record_of width sizes heap body parts begun accepted refused failed =
+        record {
+          key = key_of sizes begun parts.row_seat parts.pool_seat;
+          bag = heap.items ++ runs_bag record_of width body;
+          size = length heap.items + count_in body.runs.internal.items body.runs.external.items;
+          in_heap = length heap.items;
+          in_buffers = in_buffers body;
+          slots = slots_of body parts;
+          stash = length parts.stash;
+          noted = parts.row_seat.hand.noted;
+          accepted = accepted;
+          refused = refused;
+          failed = failed;
+        }
+
+    -- the same; nothing where the parts are away, as within a call
+    abbrev pub shown_holding : (List ℕ → R) → ℕ → Numbers → Contents R → PassBody S R → Option (PassParts S R) → ℕ → ℕ → Bool → Option ℕ → PassHolding S R
+    shown_holding record_of width sizes heap body (Some parts) begun accepted refused failed = holding_of record_of width sizes heap body parts begun accepted refused failed
+    shown_holding record_of width sizes heap body None begun accepted refused failed =
+        record {
+          key = record {
+            row = no_table;
+            pool = no_table;
+            items = [];
+            row_shares = 0;
+            pool_shares = 0;
+            sizes = numbers 0 0 0 0 0;
+            begun = 0;
+          };
+          bag = [];
+          size = 0;
+          in_heap = 0;
+          in_buffers = 0;
+          slots = [];
+          stash = 0;
+          noted = false;
+          accepted = 0;
+          refused = false;
+          failed = None;
+        }
+      where
+        no_table : TableId
+        no_table = record { words = 0; slots = 0; views_name = 0; atom = 0; block = 0; offset = 0; slot_names = [] }
