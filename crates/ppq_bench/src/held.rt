@@ -10,32 +10,32 @@ use std::alloc::Global;
 use std::io;
 use std::io::ErrorKind;
 
-/// The sizes of a queue beside its workers and its device.
+// The sizes of a queue beside its workers and its device.
 #[derive(Clone, Copy)]
 pub(crate) struct Shape {
-    /// How many records a block has.
+    // How many records a block has.
     pub(crate) block: u32,
-    /// How many blocks the heap has.
+    // How many blocks the heap has.
     pub(crate) heap: u32,
-    /// The budget in records.
+    // The budget in records.
     pub(crate) memory: u64,
 }
 
-/// What some records add up to.
+// What some records add up to.
 #[derive(Clone, Copy)]
 pub(crate) struct Removed {
-    /// How many there are.
+    // How many there are.
     pub(crate) count: u64,
-    /// The first of them.
+    // The first of them.
     pub(crate) first: Pair,
-    /// The last of them.
+    // The last of them.
     pub(crate) last: Pair,
-    /// The sum of their keys, modulo 2^64.
+    // The sum of their keys, modulo 2^64.
     pub(crate) sum: u64,
 }
 
 impl Removed {
-    /// With one record more.
+    // With one record more.
     fn with(self, item: Pair) -> Self {
         Removed {
             count: self.count.saturating_add(1),
@@ -46,14 +46,14 @@ impl Removed {
     }
 }
 
-/// The next number of the generator, a step of Knuth's MMIX modulo 2^64.
+// The next number of the generator, a step of Knuth's MMIX modulo 2^64.
 fn step_of(number: u64) -> u64 {
     number
         .wrapping_mul(6364136223846793005)
         .wrapping_add(1442695040888963407)
 }
 
-/// A call of the queue that was refused, as an error.
+// A call of the queue that was refused, as an error.
 fn refused(fault: QueueFault) -> io::Error {
     match fault {
         QueueFault::NoFreeBlock => io::Error::from(ErrorKind::StorageFull),
@@ -61,7 +61,7 @@ fn refused(fault: QueueFault) -> io::Error {
     }
 }
 
-/// The sizes of a queue for so many records and workers, whose device has as many blocks as are enough.
+// The sizes of a queue for so many records and workers, whose device has as many blocks as are enough.
 fn sizes_for(shape: Shape, count: u32, workers: u32) -> Option<Sizes> {
     let Shape {
         block,
@@ -73,7 +73,7 @@ fn sizes_for(shape: Shape, count: u32, workers: u32) -> Option<Sizes> {
     Sizes::new(workers, block, heap, memory, blocks)
 }
 
-/// Adds a record.
+// Adds a record.
 fn push<H: Host>(rt: &H, queue: &mut Queue<FileSlot, Pair>, item: Pair) -> io::Result<()>
 where
     H::Dir: Send,
@@ -84,7 +84,7 @@ where
     }
 }
 
-/// Removes the least record of a queue that is not empty.
+// Removes the least record of a queue that is not empty.
 fn pop<H: Host>(rt: &H, queue: &mut Queue<FileSlot, Pair>) -> io::Result<Pair>
 where
     H::Dir: Send,
@@ -96,7 +96,7 @@ where
     }
 }
 
-/// Adds so many records with keys below 2^40, and gives the generator's number after them.
+// Adds so many records with keys below 2^40, and gives the generator's number after them.
 fn fill<H: Host>(
     rt: &H,
     queue: &mut Queue<FileSlot, Pair>,
@@ -122,7 +122,7 @@ where
     Ok(number)
 }
 
-/// So many times removes the least record and adds one whose key is greater by a number below 2^40.
+// So many times removes the least record and adds one whose key is greater by a number below 2^40.
 fn turn_over<H: Host>(
     rt: &H,
     queue: &mut Queue<FileSlot, Pair>,
@@ -151,7 +151,7 @@ where
     Ok(removed)
 }
 
-/// Holds so many records in a queue by so many workers over a device file, and turns them over once.
+// Holds so many records in a queue by so many workers over a device file, and turns them over once.
 pub(crate) fn hold<H: Host>(
     rt: &H,
     alloc: Global,

@@ -6,23 +6,23 @@ use std::alloc::Global;
 use std::io;
 use std::io::ErrorKind;
 
-/// Runs of generated pairs, each sorted.
+// Runs of generated pairs, each sorted.
 #[derive(Drop)]
 pub(crate) struct Load {
-    /// The runs.
+    // The runs.
     pub(crate) lists: Vec<Vec<Pair>>,
-    /// How many records they have in all.
+    // How many records they have in all.
     pub(crate) size: u64,
     ghost few: { length lists.items < 2 ^ 32 },
 }
 
-/// The error of a program that found no memory.
+// The error of a program that found no memory.
 pub(crate) fn out_of_memory() -> io::Error {
     io::Error::from(ErrorKind::OutOfMemory)
 }
 
-/// A sorted run of so many pairs. The numbers are Knuth's MMIX sequence from the seed; the key is a
-/// number mixed, the value the number itself.
+// A sorted run of so many pairs. The numbers are Knuth's MMIX sequence from the seed; the key is a
+// number mixed, the value the number itself.
 fn run_of(alloc: Global, seed: u64, size: u64) -> io::Result<Vec<Pair>> {
     let mut items = Vec::with_capacity(alloc, size as usize)?;
     let mut number = seed;
@@ -38,7 +38,7 @@ fn run_of(alloc: Global, seed: u64, size: u64) -> io::Result<Vec<Pair>> {
 }
 
 impl Load {
-    /// So many runs of equal length with so many records in all, rounded down.
+    // So many runs of equal length with so many records in all, rounded down.
     pub(crate) fn new(alloc: Global, runs: u32, records: u64) -> io::Result<Self> {
         let length = records / u64::from(runs.max(1));
         let mut lists = Vec::with_capacity(alloc, runs as usize)?;

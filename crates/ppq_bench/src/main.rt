@@ -26,41 +26,41 @@ use std::rt::Clock;
 use std::thread::Threads;
 use std::{env, io};
 
-/// The numbers of runs.
+// The numbers of runs.
 const RUNS: [u32; 3] = [8, 64, 512];
 
-/// The numbers of workers.
+// The numbers of workers.
 const WORKERS: [u32; 2] = [1, 4];
 
-/// How many records the small merges have.
+// How many records the small merges have.
 const FEW: u64 = 4096;
 
-/// How many records the timed merges have: 4 and 32 MiB.
+// How many records the timed merges have: 4 and 32 MiB.
 const SIZES: [u64; 2] = [262144, 2097152];
 
-/// A queue whose budget is 16 MiB.
+// A queue whose budget is 16 MiB.
 const LARGE: Shape = Shape {
     block: 4096,
     heap: 8,
     memory: 1048576,
 };
 
-/// A queue that is used up by few records.
+// A queue that is used up by few records.
 const SMALL: Shape = Shape {
     block: 64,
     heap: 1,
     memory: 16384,
 };
 
-/// How many records a small queue holds, and the number that they come of.
+// How many records a small queue holds, and the number that they come of.
 const HELD: u32 = 50000;
 
 const SEED: u64 = 7;
 
-/// The device file of a small queue.
+// The device file of a small queue.
 const DEVICE: &str = "ppq_bench.device";
 
-/// Makes the small merges, and says of each whether it is that of a sort.
+// Makes the small merges, and says of each whether it is that of a sort.
 fn check_merges<H: Threads + Sync + Print>(rt: &H, alloc: Global) -> io::Result<()> {
     for runs in RUNS {
         let load = Load::new(alloc, runs, FEW)?;
@@ -76,8 +76,8 @@ fn check_merges<H: Threads + Sync + Print>(rt: &H, alloc: Global) -> io::Result<
     Ok(())
 }
 
-/// Times large merges: for each number of records and of runs the picoseconds a record, by one worker
-/// and by four.
+// Times large merges: for each number of records and of runs the picoseconds a record, by one worker
+// and by four.
 fn time<H: Threads + Sync + Clock + Print>(rt: &H, alloc: Global) -> io::Result<()> {
     for records in SIZES {
         for runs in RUNS {
@@ -90,18 +90,18 @@ fn time<H: Threads + Sync + Clock + Print>(rt: &H, alloc: Global) -> io::Result<
     Ok(())
 }
 
-/// The words after the program's name.
+// The words after the program's name.
 fn words_of(rt: &HostRuntime) -> io::Result<Vec<String>> {
     let words = env::args(rt)?.skip(1).collect(rt.alloc());
     words.map_err(|_| out_of_memory())
 }
 
-/// An argument that is not what it should be.
+// An argument that is not what it should be.
 fn bad_argument() -> io::Error {
     io::Error::from(ErrorKind::InvalidInput)
 }
 
-/// Prints what was removed.
+// Prints what was removed.
 fn print_removed<R: Print>(rt: &R, removed: Removed) -> io::Result<()> {
     let Removed {
         count,
@@ -115,7 +115,7 @@ fn print_removed<R: Print>(rt: &R, removed: Removed) -> io::Result<()> {
     Ok(())
 }
 
-/// Makes the small merges and holds the records, and prints of both what is the same on every machine.
+// Makes the small merges and holds the records, and prints of both what is the same on every machine.
 fn check<H: Host>(rt: &H, alloc: Global) -> io::Result<()>
 where
     H::Dir: Send,
@@ -127,7 +127,7 @@ where
     Ok(())
 }
 
-/// Holds records as the words after `hold` say, and prints what was removed.
+// Holds records as the words after `hold` say, and prints what was removed.
 fn hold_as_said<H: Host>(rt: &H, alloc: Global, words: &[String]) -> io::Result<()>
 where
     H::Dir: Send,

@@ -10,10 +10,10 @@ use std::rt::Clock;
 use std::thread::Threads;
 use std::time::Instant;
 
-/// How many records are merged in all to time one merge, again and again; the least time counts.
+// How many records are merged in all to time one merge, again and again; the least time counts.
 const MERGED: u64 = 67108864;
 
-/// Room for so many records.
+// Room for so many records.
 fn room(alloc: Global, records: u64) -> io::Result<Vec<Pair>> {
     let mut out = Vec::with_capacity(alloc, records as usize)?;
     for _record in 0..records {
@@ -22,12 +22,12 @@ fn room(alloc: Global, records: u64) -> io::Result<Vec<Pair>> {
     Ok(out)
 }
 
-/// A bench for the runs of a load.
+// A bench for the runs of a load.
 fn bench_for(alloc: Global, load: &Load, workers: u32) -> io::Result<Bench<Pair>> {
     Bench::new(alloc, workers.max(1), load.lists.len() as u32).map_err(|_| out_of_memory())
 }
 
-/// Merges all records of a load; says whether there were so many.
+// Merges all records of a load; says whether there were so many.
 fn merge_all<H: Threads + Sync>(
     rt: &H,
     load: &Load,
@@ -43,7 +43,7 @@ fn merge_all<H: Threads + Sync>(
     true
 }
 
-/// Whether the merge of a load by so many workers is what a sort of all its records gives.
+// Whether the merge of a load by so many workers is what a sort of all its records gives.
 pub(crate) fn as_sorted<H: Threads + Sync>(
     rt: &H,
     alloc: Global,
@@ -62,7 +62,7 @@ pub(crate) fn as_sorted<H: Threads + Sync>(
     Ok(merge_all(rt, load, &mut bench, out.as_mut_slice()) && out.as_slice() == all.as_slice())
 }
 
-/// The least time that merging a load by so many workers took, in picoseconds a record.
+// The least time that merging a load by so many workers took, in picoseconds a record.
 pub(crate) fn picoseconds<H: Threads + Sync + Clock>(
     rt: &H,
     alloc: Global,

@@ -10,7 +10,7 @@ use std::alloc::Global;
 use std::io;
 use std::io::ErrorKind;
 
-/// A block that was not made, as an error.
+// A block that was not made, as an error.
 fn not_made(fault: OutsideFault) -> io::Error {
     match fault {
         OutsideFault::Failed => io::Error::from(ErrorKind::Other),
@@ -18,7 +18,7 @@ fn not_made(fault: OutsideFault) -> io::Error {
     }
 }
 
-/// Makes all blocks of a device.
+// Makes all blocks of a device.
 pub(crate) fn make_slots<H: Host, K: Rack>(
     rt: &H,
     alloc: Global,

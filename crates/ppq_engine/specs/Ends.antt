@@ -11,28 +11,28 @@ abbrev pub budget_refusal : Numbers → Option End
 budget_refusal sizes = if nat_lt sizes.memory (fixed_of sizes) then Some (BudgetTooSmall (fixed_of sizes)) else None
 
 -- the run was begun: it was done, its sink, a block or the library failed, a run of records found no free block, or a file had changed
-abbrev pub IsRun : End → Type 0
-IsRun Done = ⊤
-IsRun (BadLine line) = ⊥
-IsRun Usage = ⊥
-IsRun ReadFault = ⊤
-IsRun WriteFault = ⊤
-IsRun (DeviceFault number) = ⊤
-IsRun NoFreeBlock = ⊤
-IsRun (BudgetTooSmall need) = ⊥
-IsRun Memory = ⊥
-IsRun (FileChanged line said got) = ⊤
-IsRun NoDevice = ⊥
-IsRun NoScript = ⊥
-IsRun ScriptTooLong = ⊥
+abbrev pub BeganCommands : End → Type 0
+BeganCommands Done = ⊤
+BeganCommands (BadLine line) = ⊥
+BeganCommands Usage = ⊥
+BeganCommands ReadFault = ⊤
+BeganCommands WriteFault = ⊤
+BeganCommands (DeviceFault number) = ⊤
+BeganCommands NoFreeBlock = ⊤
+BeganCommands (BudgetTooSmall need) = ⊥
+BeganCommands Memory = ⊥
+BeganCommands (FileChanged line said got) = ⊤
+BeganCommands NoDevice = ⊥
+BeganCommands NoScript = ⊥
+BeganCommands ScriptTooLong = ⊥
 
 -- of these blocks none has failed
 abbrev pub NoneFailed : List Shown → Type 0
 NoneFailed slots = (number : ℕ) → ¬ HasFailed number slots
 
 -- the refusal, where there is one, and only then; or memory was wanting
-abbrev pub IsRunOrRefusal : Option End → End → Type 0
-IsRunOrRefusal refusal end = MatchOption refusal (IsRun end) (λ e. end ≡ e) ⊎ (end ≡ Memory)
+abbrev pub BeganOrRefused : Option End → End → Type 0
+BeganOrRefused refusal end = MatchOption refusal (BeganCommands end) (λ e. end ≡ e) ⊎ (end ≡ Memory)
 
 -- the end is done or want of memory; or a file had changed, where the library does not tell
 abbrev pub IsCompleted : Option (List ℕ → Option (List ℕ)) → End → Type 0

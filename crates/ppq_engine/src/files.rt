@@ -16,7 +16,7 @@ use ppq_queue::Queue;
 use ppq_record::Pair;
 use std::alloc::Global;
 
-/// A fault of reading a file of so many bytes, for the command on this line.
+// A fault of reading a file of so many bytes, for the command on this line.
 fn stop_of(fault: FileFault, line: u32, said: u64) -> Stop
     ensures { result ≡ file_stop line said fault }
 {
@@ -27,8 +27,8 @@ fn stop_of(fault: FileFault, line: u32, said: u64) -> Stop
     }
 }
 
-/// Reads so many records of a file of `said` bytes, from record `from` on, into `piece`, which has
-/// room for just these, and adds them.
+// Reads so many records of a file of `said` bytes, from record `from` on, into `piece`, which has
+// room for just these, and adds them.
 fn push_piece<H: Host, S: Slot + Send + Sync, L: Library, G: Gate>(
     rt: &H,
     alloc: Global,
@@ -73,8 +73,8 @@ where
     }
 }
 
-/// Adds the records of a file of `said` bytes, for the command on this line. They are read by pieces
-/// of as many records as `room` has place for.
+// Adds the records of a file of `said` bytes, for the command on this line. They are read by pieces
+// of as many records as `room` has place for.
 pub fn push_file<H: Host, S: Slot + Send + Sync, L: Library, G: Gate>(
     rt: &H,
     alloc: Global,

@@ -7,14 +7,14 @@ ghost use Rattle.ppq_engine.specs.Files.{AreBytesAt, EndsIn, FaultAfter, IsReadW
 use ppq_outside::{Host, Library, OutsideFault};
 use std::alloc::Global;
 
-/// Why a piece of a file was not read.
+// Why a piece of a file was not read.
 #[derive(Clone, Copy, Debug, PartialEq, Eq)]
 pub enum FileFault {
-    /// The library failed.
+    // The library failed.
     Failed,
-    /// Memory was wanting.
+    // Memory was wanting.
     Memory,
-    /// A read gave nothing at this place.
+    // A read gave nothing at this place.
     Ended { got: u64 },
 }
 
@@ -32,8 +32,8 @@ impl From<OutsideFault> for FileFault {
     }
 }
 
-/// Reads further bytes of a piece that begins at place `at` of a file and of which `got` bytes are
-/// there, and says how many came.
+// Reads further bytes of a piece that begins at place `at` of a file and of which `got` bytes are
+// there, and says how many came.
 fn read_more<H: Host, L: Library>(
     rt: &H,
     alloc: Global,
@@ -59,7 +59,7 @@ fn read_more<H: Host, L: Library>(
     Ok(count)
 }
 
-/// Fills a piece with the bytes of a file from place `at` on. No byte behind the piece is read.
+// Fills a piece with the bytes of a file from place `at` on. No byte behind the piece is read.
 pub fn fill<H: Host, L: Library>(
     rt: &H,
     alloc: Global,

@@ -11,15 +11,15 @@ use ppq_record::{Memory, Pair};
 use std::alloc::Global;
 use std::marker::Model;
 
-/// How many bytes are gathered before they are put: enough that a sink's cost per call is small
-/// beside its cost per byte.
+// How many bytes are gathered before they are put: enough that a sink's cost per call is small
+// beside its cost per byte.
 const ROOM: usize = 65_536;
 
-/// A length in bytes that no text of an answer passes: six numbers of 20 digits and 27 letters and signs
-/// more.
+// A length in bytes that no text of an answer passes: six numbers of 20 digits and 27 letters and signs
+// more.
 const LONGEST: usize = 160;
 
-/// The bytes that were printed and not yet put. The memory for them is taken once.
+// The bytes that were printed and not yet put. The memory for them is taken once.
 #[derive(Drop)]
 pub struct Gathered {
     bytes: Vec<u8>,
@@ -36,7 +36,7 @@ impl Model for Gathered {
 }
 
 impl Gathered {
-    /// Nothing gathered, with memory for all that is to be gathered at once.
+    // Nothing gathered, with memory for all that is to be gathered at once.
     pub fn new(alloc: Global) -> Result<Gathered, Memory>
         ensures { IfOk result (λ gathered. gathered ≡ []) }
     {
@@ -44,7 +44,7 @@ impl Gathered {
         Ok(Gathered { bytes })
     }
 
-    /// Gathers an answer's text, and puts what was gathered before where there is no room for it.
+    // Gathers an answer's text, and puts what was gathered before where there is no room for it.
     #[inline]
     pub fn print<H: Host, O: Sink>(
         &mut self,
@@ -63,7 +63,7 @@ impl Gathered {
         Ok(())
     }
 
-    /// Puts all that was gathered.
+    // Puts all that was gathered.
     pub fn put<H: Host, O: Sink>(&mut self, rt: &H, out: &mut O) -> Result<(), Failed>
         ensures all { OnOk result (TakesAll (O.told out.old) (O.told out.new) self.old) }
         ensures part { TakesPart (O.told out.old) (O.told out.new) self.old }
@@ -96,7 +96,7 @@ impl Gathered {
         }
     }
 
-    /// What was drained, as a line.
+    // What was drained, as a line.
     fn drained(&mut self, drained: Drained)
         requires { length self.old + 160 ≤ 65536 }
         ensures { self.new ≡ self.old ++ drained_text drained.count drained.first drained.last drained.sum }
@@ -117,7 +117,7 @@ impl Gathered {
         }
     }
 
-    /// A key and a value.
+    // A key and a value.
     fn pair(&mut self, item: Pair)
         requires { length self.old + 41 ≤ 65536 }
         ensures text { self.new ≡ self.old ++ pair_text item }

@@ -31,7 +31,7 @@ impl Drained {
         }
     }
 
-    /// One record more.
+    // One record more.
     fn add(self, item: Pair) -> Drained
         requires { self.count < 2 ^ 64 - 1 }
         ensures count { result.count ≡ self.count + 1 }
@@ -46,7 +46,7 @@ impl Drained {
     }
 }
 
-/// The record at this place.
+// The record at this place.
 #[inline]
 fn record_at(items: &[Pair], i: usize) -> Pair
     requires { i < length items.now }
@@ -55,7 +55,7 @@ fn record_at(items: &[Pair], i: usize) -> Pair
     items[i]
 }
 
-/// What was drained, and then these records.
+// What was drained, and then these records.
 fn add_all(before: Drained, items: &[Pair]) -> Drained
     requires { before.count + length items.now < 2 ^ 64 }
     ensures count { result.count ≡ before.count + length items.now }
@@ -68,7 +68,7 @@ fn add_all(before: Drained, items: &[Pair]) -> Drained
     drained
 }
 
-/// The least record, left in the queue.
+// The least record, left in the queue.
 pub fn top_one<H: Host, S: Slot + Send + Sync, G: Gate>(
     rt: &H,
     queue: &mut Queue<S, Pair>,
@@ -87,7 +87,7 @@ where
     Ok(queue.top(rt, gate)?)
 }
 
-/// The least record, removed.
+// The least record, removed.
 #[inline]
 pub fn pop_one<H: Host, S: Slot + Send + Sync, G: Gate>(
     rt: &H,
@@ -108,8 +108,8 @@ where
     Ok(queue.pop(rt, gate)?)
 }
 
-/// Removes a round of the least records, as many as the list has room for, and at most so many. They
-/// are in the list.
+// Removes a round of the least records, as many as the list has room for, and at most so many. They
+// are in the list.
 fn pop_all_round<H: Host, S: Slot + Send + Sync, G: Gate>(
     rt: &H,
     queue: &mut Queue<S, Pair>,
@@ -137,7 +137,7 @@ where
     Ok(())
 }
 
-/// The same of the records below the limit.
+// The same of the records below the limit.
 fn pop_low_round<H: Host, S: Slot + Send + Sync, G: Gate>(
     rt: &H,
     queue: &mut Queue<S, Pair>,
@@ -165,7 +165,7 @@ where
     Ok(())
 }
 
-/// The same of the records below the limit, if there is one.
+// The same of the records below the limit, if there is one.
 fn pop_round<H: Host, S: Slot + Send + Sync, G: Gate>(
     rt: &H,
     queue: &mut Queue<S, Pair>,
@@ -195,7 +195,7 @@ where
     }
 }
 
-/// Prints the lines of these records.
+// Prints the lines of these records.
 fn print_all<H: Host, O: Sink>(
     rt: &H,
     items: &[Pair],
@@ -213,7 +213,7 @@ fn print_all<H: Host, O: Sink>(
     Ok(())
 }
 
-/// Removes up to so many least records, and says what they add up to.
+// Removes up to so many least records, and says what they add up to.
 pub fn drain<H: Host, S: Slot + Send + Sync, G: Gate>(
     rt: &H,
     queue: &mut Queue<S, Pair>,
@@ -247,8 +247,8 @@ where
     Ok(drained)
 }
 
-/// Removes up to so many least records, only those below the limit where there is one, and prints
-/// their lines.
+// Removes up to so many least records, only those below the limit where there is one, and prints
+// their lines.
 pub fn print_popped<H: Host, S: Slot + Send + Sync, O: Sink, G: Gate>(
     rt: &H,
     queue: &mut Queue<S, Pair>,
@@ -291,7 +291,7 @@ where
     Ok(())
 }
 
-/// Whether a record below the limit is left.
+// Whether a record below the limit is left.
 fn mark_of<H: Host, S: Slot + Send + Sync, G: Gate>(
     rt: &H,
     queue: &mut Queue<S, Pair>,
@@ -320,8 +320,8 @@ where
     }
 }
 
-/// Removes up to so many least records that are below the limit, and prints their lines, and then
-/// whether none below it is left.
+// Removes up to so many least records that are below the limit, and prints their lines, and then
+// whether none below it is left.
 pub fn print_limited<H: Host, S: Slot + Send + Sync, O: Sink, G: Gate>(
     rt: &H,
     queue: &mut Queue<S, Pair>,

@@ -10,7 +10,7 @@ use ppq_outside::{Gate, Host, Slot};
 use ppq_queue::{Queue, QueueFault};
 use ppq_record::{Pair, Record};
 
-/// Adds a record.
+// Adds a record.
 pub fn push_one<H: Host, S: Slot + Send + Sync, G: Gate>(
     rt: &H,
     queue: &mut Queue<S, Pair>,
@@ -32,7 +32,7 @@ where
     }
 }
 
-/// Adds the records of these bytes, as many as `count`.
+// Adds the records of these bytes, as many as `count`.
 pub fn push_records<H: Host, S: Slot + Send + Sync, G: Gate>(
     rt: &H,
     queue: &mut Queue<S, Pair>,
@@ -58,7 +58,7 @@ where
     Ok(())
 }
 
-/// The next number of the generator, a step of Knuth's MMIX modulo 2^64.
+// The next number of the generator, a step of Knuth's MMIX modulo 2^64.
 fn step_of(seed: u64) -> u64
     ensures { result ≡ next_seed seed }
 {
@@ -66,7 +66,7 @@ fn step_of(seed: u64) -> u64
         .wrapping_add(1_442_695_040_888_963_407)
 }
 
-/// Adds so many generated records.
+// Adds so many generated records.
 pub fn push_generated<H: Host, S: Slot + Send + Sync, G: Gate>(
     rt: &H,
     queue: &mut Queue<S, Pair>,

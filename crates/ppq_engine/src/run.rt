@@ -11,7 +11,7 @@ ghost use Rattle.ppq_engine.specs.Output.{output_of, load_of, crest_of, given_of
 ghost use Rattle.ppq_engine.specs.Running.{IsGathered, HasStopped, ChangedIn, HasChanged, SinkAfter, LibraryAfter, queue_end, open_end};
 ghost use Rattle.ppq_engine.specs.Files.{IsReadInScript};
 ghost use Rattle.ppq_engine.specs.Outcome.{EndSays, TakesBeforeFile, FaultBeforeFile, PutsRest, PutsStopped};
-ghost use Rattle.ppq_engine.specs.Ends.{budget_refusal, IsRunOrRefusal, IsCompleted, IsQuiet, NoFault, NoneFailed};
+ghost use Rattle.ppq_engine.specs.Ends.{budget_refusal, BeganOrRefused, IsCompleted, IsQuiet, NoFault, NoneFailed};
 ghost use Rattle.ppq_engine.specs.declared.end.End.TheVariants.{Done, ReadFault, WriteFault, DeviceFault, NoFreeBlock, BudgetTooSmall, Memory, FileChanged};
 
 use crate::gathered::Gathered;
@@ -25,8 +25,8 @@ use ppq_record::Pair;
 use ppq_script::Script;
 use std::alloc::Global;
 
-/// Runs the commands in order up to the first that does not run to its end, and gathers what they
-/// print.
+// Runs the commands in order up to the first that does not run to its end, and gathers what they
+// print.
 fn run_commands<H: Host, S: Slot + Send + Sync, L: Library, O: Sink, G: Gate>(
     rt: &H,
     alloc: Global,
@@ -77,7 +77,7 @@ where
     Ok(())
 }
 
-/// A fault of the queue as an end.
+// A fault of the queue as an end.
 fn fault_end(fault: QueueFault) -> End
     ensures { result ≡ queue_end fault }
 {
@@ -87,7 +87,7 @@ fn fault_end(fault: QueueFault) -> End
     }
 }
 
-/// Why a queue was not opened, as an end.
+// Why a queue was not opened, as an end.
 fn unopened(fault: OpenFault) -> End
     ensures { result ≡ open_end fault }
 {
@@ -97,7 +97,7 @@ fn unopened(fault: OpenFault) -> End
     }
 }
 
-/// Puts what was gathered, before this end.
+// Puts what was gathered, before this end.
 fn put_rest<H: Host, O: Sink>(rt: &H, end: End, gathered: &mut Gathered, out: &mut O) -> End
     ensures puts { PutsRest (O.told out.old) (O.told out.new) (O.faults out.old) (O.faults out.new) gathered.old end result }
     ensures later { O.faults out.old ≤ O.faults out.new }
@@ -108,7 +108,7 @@ fn put_rest<H: Host, O: Sink>(rt: &H, end: End, gathered: &mut Gathered, out: &m
     }
 }
 
-/// Puts what was gathered before the commands stopped, unless it was the sink that stopped them.
+// Puts what was gathered before the commands stopped, unless it was the sink that stopped them.
 fn put_stopped<H: Host, O: Sink>(rt: &H, stop: Stop, gathered: &mut Gathered, out: &mut O) -> End
     ensures puts { PutsStopped (O.told out.old) (O.told out.new) (O.faults out.old) (O.faults out.new) gathered.old result stop }
     ensures later { O.faults out.old ≤ O.faults out.new }
@@ -124,8 +124,8 @@ fn put_stopped<H: Host, O: Sink>(rt: &H, stop: Stop, gathered: &mut Gathered, ou
     }
 }
 
-/// Runs the commands on an empty queue, and puts all that was gathered, also where they stop, unless
-/// it is the sink that stops them.
+// Runs the commands on an empty queue, and puts all that was gathered, also where they stop, unless
+// it is the sink that stops them.
 fn run_on<H: Host, S: Slot + Send + Sync, L: Library, O: Sink, G: Gate>(
     rt: &H,
     alloc: Global,
@@ -171,7 +171,7 @@ where
     }
 }
 
-/// Takes the memory for output, for rounds of popped records and for pieces of files, and runs the commands on an empty queue.
+// Takes the memory for output, for rounds of popped records and for pieces of files, and runs the commands on an empty queue.
 fn run_opened<H: Host, S: Slot + Send + Sync, L: Library, O: Sink, G: Gate>(
     rt: &H,
     alloc: Global,
@@ -268,7 +268,7 @@ where
     ensures nothing { (need : ℕ) → result.end ≡ BudgetTooSmall need → O.told out.new ≡ O.told out.old }
 
     // When each end comes.
-    ensures answer { IsRunOrRefusal (budget_refusal sizes) result.end }
+    ensures answer { BeganOrRefused (budget_refusal sizes) result.end }
     ensures read { result.end ≡ ReadFault → Rose (L.faults library.old) (L.faults library.new) }
     ensures write { result.end ≡ WriteFault → Rose (O.faults out.old) (O.faults out.new) }
     ensures failed { (number : ℕ) → result.end ≡ DeviceFault number → HasFailed number (map S.shown result.blocks.items) }

@@ -26,7 +26,7 @@ use ppq_record::Pair;
 use ppq_script::{Command, Script};
 use std::alloc::Global;
 
-/// What is printed of the least record.
+// What is printed of the least record.
 fn answer_of(item: Option<Pair>) -> Answer
     ensures { answer_text result ≡ least_text item }
 {
@@ -36,7 +36,7 @@ fn answer_of(item: Option<Pair>) -> Answer
     }
 }
 
-/// Runs a command that reads no file and prints one answer.
+// Runs a command that reads no file and prints one answer.
 fn act<H: Host, S: Slot + Send + Sync, G: Gate>(
     rt: &H,
     queue: &mut Queue<S, Pair>,
@@ -85,7 +85,7 @@ where
     }
 }
 
-/// The same, and prints the answer.
+// The same, and prints the answer.
 fn act_and_print<H: Host, S: Slot + Send + Sync, O: Sink, G: Gate>(
     rt: &H,
     queue: &mut Queue<S, Pair>,
@@ -119,7 +119,7 @@ where
     Ok(())
 }
 
-/// Runs the command at place `i` of a script.
+// Runs the command at place `i` of a script.
 pub fn step<H: Host, S: Slot + Send + Sync, L: Library, O: Sink, G: Gate>(
     rt: &H,
     alloc: Global,

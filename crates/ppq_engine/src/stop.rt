@@ -2,18 +2,18 @@
 use ppq_outside::Failed;
 use ppq_queue::QueueFault;
 
-/// Why the commands of a script did not all run.
+// Why the commands of a script did not all run.
 #[derive(Clone, Copy, Debug, PartialEq, Eq)]
 pub enum Stop {
-    /// The sink failed.
+    // The sink failed.
     Sink,
-    /// The queue did not do a command.
+    // The queue did not do a command.
     Queue { fault: QueueFault },
-    /// The library failed.
+    // The library failed.
     Read,
-    /// Memory was wanting for a read.
+    // Memory was wanting for a read.
     Memory,
-    /// The file of a command on this line ended at `got`, before the length that it had.
+    // The file of a command on this line ended at `got`, before the length that it had.
     Changed { line: u32, said: u64, got: u64 },
 }
 

@@ -11,10 +11,10 @@ use ppq_script::{Script, check_files, read};
 use std::alloc::Global;
 use std::test::Fail;
 
-/// How much a sink of these tests has room for, in bytes.
+// How much a sink of these tests has room for, in bytes.
 const ROOM: usize = 65_536;
 
-/// The blocks of a device in memory.
+// The blocks of a device in memory.
 fn blocks_of<H: Host>(
     rt: &H,
     alloc: Global,
@@ -34,7 +34,7 @@ fn blocks_of<H: Host>(
     Ok(slots)
 }
 
-/// A script that is checked over a library.
+// A script that is checked over a library.
 fn checked_script<H: Host, L: Library>(
     rt: &H,
     alloc: Global,
@@ -58,8 +58,8 @@ fn checked_script<H: Host, L: Library>(
     }
 }
 
-/// How a text ends on a queue of these sizes, with its blocks, over such blocks and files; and what it
-/// writes.
+// How a text ends on a queue of these sizes, with its blocks, over such blocks and files; and what it
+// writes.
 pub(crate) fn outcome<H: Host, L: Library>(
     rt: &H,
     alloc: Global,
@@ -81,12 +81,12 @@ where
     Ok((ended, sink.bytes().to_vec(alloc)?))
 }
 
-/// Two workers, two records a block, one block a heap, 200 blocks, and a budget without a buffer.
+// Two workers, two records a block, one block a heap, 200 blocks, and a budget without a buffer.
 fn small() -> Option<Sizes> {
     Sizes::new(2, 2, 1, 372, 200)
 }
 
-/// How a text that reads no file ends on a device that never fails, and what it writes.
+// How a text that reads no file ends on a device that never fails, and what it writes.
 pub(crate) fn plain<H: Host>(
     rt: &H,
     alloc: Global,
@@ -197,7 +197,7 @@ fn a_failed_call_of_a_block_ends_the_run_and_the_block_comes_back(
     Ok(())
 }
 
-/// A library with a file `f` of so many records `7 7`.
+// A library with a file `f` of so many records `7 7`.
 fn sevens(alloc: Global, count: usize) -> Result<MemLibrary, Fail> {
     let mut bytes = Vec::new(alloc);
     for _ in 0..count {
@@ -209,7 +209,7 @@ fn sevens(alloc: Global, count: usize) -> Result<MemLibrary, Fail> {
     Ok(library)
 }
 
-/// The lines of so many records `7 7`.
+// The lines of so many records `7 7`.
 fn lines_of_sevens(alloc: Global, count: usize) -> Result<Vec<u8>, Fail> {
     let mut lines = Vec::new(alloc);
     for _ in 0..count {

@@ -10,7 +10,7 @@ use std::alloc::Global;
 use std::process::Abort;
 use std::test::Fail;
 
-/// The next number of Knuth's MMIX sequence; its upper half below a bound.
+// The next number of Knuth's MMIX sequence; its upper half below a bound.
 fn draw(seed: &mut u64, below: u64) -> u64
     ensures { result < max below 1 }
 {
@@ -21,7 +21,7 @@ fn draw(seed: &mut u64, below: u64) -> u64
     (next >> 32) % below.max(1)
 }
 
-/// Puts the decimal digits of a number behind a text.
+// Puts the decimal digits of a number behind a text.
 fn put_number(text: &mut Vec<u8>, alloc: Global, number: u64) -> Result<(), Fail> {
     let mut digits = Vec::new(alloc);
     let mut rest = number;
@@ -36,7 +36,7 @@ fn put_number(text: &mut Vec<u8>, alloc: Global, number: u64) -> Result<(), Fail
     Ok(())
 }
 
-/// Puts a word and numbers behind a text, with a space between each, and ends the line.
+// Puts a word and numbers behind a text, with a space between each, and ends the line.
 fn put_line(text: &mut Vec<u8>, alloc: Global, word: &[u8], numbers: &[u64]) -> Result<(), Fail> {
     text.extend_from_slice(word)?;
     let mut is_first = word.is_empty();
@@ -51,17 +51,17 @@ fn put_line(text: &mut Vec<u8>, alloc: Global, word: &[u8], numbers: &[u64]) -> 
     Ok(())
 }
 
-/// A generated script, what it prints, and the records that it leaves.
+// A generated script, what it prints, and the records that it leaves.
 #[derive(Drop)]
 struct Case {
     alloc: Global,
-    /// The script.
+    // The script.
     text: Vec<u8>,
-    /// What it prints.
+    // What it prints.
     output: Vec<u8>,
-    /// The records, the smallest last.
+    // The records, the smallest last.
     list: Vec<Pair>,
-    /// The greatest number of records after a command.
+    // The greatest number of records after a command.
     load: u64,
 }
 
@@ -91,13 +91,13 @@ impl Case {
         }
     }
 
-    /// `push K V`.
+    // `push K V`.
     fn push(&mut self, item: Pair) -> Result<(), Fail> {
         self.command(b"push", &[item.key, item.value])?;
         self.add(item)
     }
 
-    /// `gen SEED N`.
+    // `gen SEED N`.
     fn generate(&mut self, seed: u64, count: u64) -> Result<(), Fail> {
         self.command(b"gen", &[seed, count])?;
         let mut key = seed;
@@ -108,7 +108,7 @@ impl Case {
         Ok(())
     }
 
-    /// Puts a record into the list, behind those that are not after it.
+    // Puts a record into the list, behind those that are not after it.
     fn add(&mut self, item: Pair) -> Result<(), Fail> {
         let mut place = 0usize;
         for other in self.list.as_slice() {
@@ -122,28 +122,28 @@ impl Case {
         Ok(())
     }
 
-    /// `pop`.
+    // `pop`.
     fn pop(&mut self) -> Result<(), Fail> {
         self.command(b"pop", &[])?;
         let least = self.list.pop();
         self.print_record(least)
     }
 
-    /// `top`.
+    // `top`.
     fn top(&mut self) -> Result<(), Fail> {
         self.command(b"top", &[])?;
         let least = self.list.last().copied();
         self.print_record(least)
     }
 
-    /// `size`.
+    // `size`.
     fn size(&mut self) -> Result<(), Fail> {
         self.command(b"size", &[])?;
         let size = self.list.len() as u64;
         self.print(b"", &[size])
     }
 
-    /// `bulk_pop N`.
+    // `bulk_pop N`.
     fn bulk_pop(&mut self, count: u64) -> Result<(), Fail> {
         self.command(b"bulk_pop", &[count])?;
         for _ in 0..count {
@@ -154,7 +154,7 @@ impl Case {
         Ok(())
     }
 
-    /// `drain N`.
+    // `drain N`.
     fn drain(&mut self, count: u64) -> Result<(), Fail> {
         self.command(b"drain", &[count])?;
         let mut drained = Vec::new(self.alloc);
@@ -166,7 +166,7 @@ impl Case {
         self.print_drained(&drained)
     }
 
-    /// How many these are, the first, the last, and the sum of the keys.
+    // How many these are, the first, the last, and the sum of the keys.
     fn print_drained(&mut self, drained: &[Pair]) -> Result<(), Fail> {
         let (Some(first), Some(last)) = (drained.first(), drained.last()) else {
             return self.print(b"count 0", &[]);
@@ -189,12 +189,12 @@ impl Case {
         put_line(output, self.alloc, b" sum", &[sum])
     }
 
-    /// Whether the smallest record is less than another.
+    // Whether the smallest record is less than another.
     fn is_below(&self, limit: &Pair) -> bool {
         self.list.last().is_some_and(|least| least < limit)
     }
 
-    /// `bulk_pop_limit K V N`.
+    // `bulk_pop_limit K V N`.
     fn bulk_pop_limit(&mut self, limit: Pair, count: u64) -> Result<(), Fail> {
         self.command(b"bulk_pop_limit", &[limit.key, limit.value, count])?;
         for _ in 0..count {
@@ -211,18 +211,18 @@ impl Case {
     }
 }
 
-/// How a script is generated.
+// How a script is generated.
 #[derive(Clone, Copy)]
 struct Mood {
-    /// How many of a hundred commands are pushes.
+    // How many of a hundred commands are pushes.
     pushes: u64,
-    /// Keys are below it.
+    // Keys are below it.
     keys: u64,
-    /// The greatest load.
+    // The greatest load.
     load: u64,
 }
 
-/// A record with a key below a bound, of which many are equal; one of a hundred has the greatest key.
+// A record with a key below a bound, of which many are equal; one of a hundred has the greatest key.
 fn record(seed: &mut u64, keys: u64) -> Pair {
     let key = if draw(seed, 100) == 0 {
         u64::MAX
@@ -235,7 +235,7 @@ fn record(seed: &mut u64, keys: u64) -> Pair {
     }
 }
 
-/// Adds a command that removes no record, or at most a few.
+// Adds a command that removes no record, or at most a few.
 fn add_other(case: &mut Case, seed: &mut u64, keys: u64) -> Result<(), Fail> {
     match draw(seed, 9) {
         0 => case.top(),
@@ -247,7 +247,7 @@ fn add_other(case: &mut Case, seed: &mut u64, keys: u64) -> Result<(), Fail> {
     }
 }
 
-/// Adds a command.
+// Adds a command.
 fn add_command(case: &mut Case, seed: &mut u64, mood: Mood) -> Result<(), Fail> {
     let is_full = case.list.len() as u64 >= mood.load;
     if draw(seed, 100) < mood.pushes && !is_full {
@@ -260,7 +260,7 @@ fn add_command(case: &mut Case, seed: &mut u64, mood: Mood) -> Result<(), Fail> 
     add_other(case, seed, mood.keys)
 }
 
-/// A script of so many commands, of which one in three ends with all that is left.
+// A script of so many commands, of which one in three ends with all that is left.
 fn script(alloc: Global, seed: &mut u64, commands: u64, load: u64) -> Result<Case, Fail> {
     let mood = Mood {
         pushes: 30 + draw(seed, 70),
@@ -277,14 +277,14 @@ fn script(alloc: Global, seed: &mut u64, commands: u64, load: u64) -> Result<Cas
     Ok(case)
 }
 
-/// Nineteen of twenty scripts have up to 60 commands, and one up to 800; the load is at most 400.
+// Nineteen of twenty scripts have up to 60 commands, and one up to 800; the load is at most 400.
 fn one_script(alloc: Global, seed: &mut u64) -> Result<Case, Fail> {
     let most = if draw(seed, 20) == 0 { 800 } else { 60 };
     let commands = draw(seed, most);
     script(alloc, seed, commands, 400)
 }
 
-/// How many blocks are enough for a load: those that it fills twice, 72, and four for each worker.
+// How many blocks are enough for a load: those that it fills twice, 72, and four for each worker.
 fn room(load: u64, workers: u32, block: u32) -> u64 {
     let filled = load.div_ceil(u64::from(block.max(1)));
     filled
@@ -293,8 +293,8 @@ fn room(load: u64, workers: u32, block: u32) -> u64 {
         .saturating_add(72)
 }
 
-/// The sizes with these blocks of a device, and no more budget than is fixed: a block of records for
-/// each of 72 buffers, and, for each worker, its heap and 6 blocks; and a record for each block.
+// The sizes with these blocks of a device, and no more budget than is fixed: a block of records for
+// each of 72 buffers, and, for each worker, its heap and 6 blocks; and a record for each block.
 fn exact(workers: u32, block: u32, heap: u32, blocks: u64) -> Option<Sizes> {
     let buffers = u64::from(heap)
         .saturating_add(6)
@@ -306,7 +306,7 @@ fn exact(workers: u32, block: u32, heap: u32, blocks: u64) -> Option<Sizes> {
     Sizes::new(workers, block, heap, budget, blocks.min(65_536) as u32)
 }
 
-/// A run of the script is done, and prints what the list does.
+// A run of the script is done, and prints what the list does.
 fn is_done<H: Host + Abort>(rt: &H, case: &Case, sizes: Option<Sizes>) -> Result<(), Fail>
 where
     H::Dir: Send,
@@ -317,8 +317,8 @@ where
     Ok(())
 }
 
-/// A run of the script is done and prints what the list does, or it finds no free block and prints the
-/// beginning of that. It says whether it was done.
+// A run of the script is done and prints what the list does, or it finds no free block and prints the
+// beginning of that. It says whether it was done.
 fn is_cut<H: Host + Abort>(rt: &H, case: &Case, sizes: Option<Sizes>) -> Result<bool, Fail>
 where
     H::Dir: Send,
@@ -359,8 +359,8 @@ fn a_block_less_than_the_room_refuses_no_load_of_a_heap(rt: HostRuntime) -> Resu
     Ok(())
 }
 
-/// One generated script on a device that is large enough, and on one with fewer blocks. It says whether
-/// the second run was done.
+// One generated script on a device that is large enough, and on one with fewer blocks. It says whether
+// the second run was done.
 fn on_two_devices<H: Host + Abort>(
     rt: &H,
     alloc: Global,
@@ -399,7 +399,7 @@ fn a_device_that_is_too_small_cuts_the_output(rt: HostRuntime) -> Result<(), Fai
     Ok(())
 }
 
-/// How many writes these blocks had in all.
+// How many writes these blocks had in all.
 fn writes_of(blocks: &[MemSlot]) -> u64 {
     let mut writes = 0u64;
     for slot in blocks {
@@ -408,7 +408,7 @@ fn writes_of(blocks: &[MemSlot]) -> u64 {
     writes
 }
 
-/// Pushes keys from this one down to 1, with the value 0.
+// Pushes keys from this one down to 1, with the value 0.
 fn falling(alloc: Global, keys: u64) -> Result<Vec<u8>, Fail> {
     let mut text = Vec::new(alloc);
     for i in 0..keys {
@@ -438,8 +438,8 @@ fn four_thousand_records_above_the_budget_are_written(rt: HostRuntime) -> Result
     Ok(())
 }
 
-/// Two workers, two records a block, one block a heap, one block of a device, and no more budget than is
-/// fixed.
+// Two workers, two records a block, one block a heap, one block of a device, and no more budget than is
+// fixed.
 fn one_block() -> Option<Sizes> {
     Sizes::new(2, 2, 1, 173, 1)
 }

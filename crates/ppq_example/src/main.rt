@@ -14,15 +14,15 @@ use ppq_record::{Pair, Record};
 use std::alloc::Global;
 use std::process::ExitCode;
 
-/// How many machines there are, and how many pieces they make.
+// How many machines there are, and how many pieces they make.
 const MACHINES: u64 = 2000;
 
 const PIECES: u64 = 20000;
 
-/// The time at which a machine is done, and its number.
+// The time at which a machine is done, and its number.
 type Events = Queue<FileSlot, Pair>;
 
-/// Why the simulation stopped early.
+// Why the simulation stopped early.
 #[derive(Debug, Drop)]
 enum Fault {
     Device(OutsideFault),
@@ -31,7 +31,7 @@ enum Fault {
     Print,
 }
 
-/// Makes the blocks of a device.
+// Makes the blocks of a device.
 fn make_blocks<H: Host, K: Rack>(
     rt: &H,
     alloc: Global,
@@ -49,7 +49,7 @@ fn make_blocks<H: Host, K: Rack>(
     Ok(blocks)
 }
 
-/// Lets the machine of this number begin a piece at this time; it takes 1 to 256 ticks.
+// Lets the machine of this number begin a piece at this time; it takes 1 to 256 ticks.
 fn begin<H: Host>(rt: &H, events: &mut Events, time: u64, number: u64) -> Result<(), Fault>
 where
     H::Dir: Send,
@@ -60,7 +60,7 @@ where
     pushed.map_err(|refused| Fault::Queue(refused.1))
 }
 
-/// Runs the machines until so many pieces are made, and says when that was.
+// Runs the machines until so many pieces are made, and says when that was.
 fn simulate<H: Host>(rt: &H, alloc: Global) -> Result<(), Fault>
 where
     H::Dir: Send,
@@ -93,6 +93,7 @@ fn main(rt: HostRuntime) -> ExitCode {
         Err(Fault::Queue(QueueFault::Device { number: _ })) => "a block of the device failed",
         Err(Fault::Print) => "standard output takes nothing more",
     };
+    // The status tells of the fault where this line cannot be written.
     let _ = eprintln!(rt; "ppq_example: {why}");
     ExitCode::FAILURE
 }

@@ -12,7 +12,7 @@ use Rattle.ppq_script.specs.Files.{file_in, name_at, NamesFile, HasRecords, IsRe
 use Rattle.ppq_script.specs.Reading.{Reading}
 use Rattle.ppq_script.specs.declared.check.CheckFault.{CheckFault}
 use Rattle.ppq_script.specs.declared.check.CheckFault.TheVariants.{BadLine, ReadFault, Memory}
-use Rattle.ppq_script.specs.Checking.{bad_of, IsSameFile, IsSameItem, IsAskedFile, IsAsked, with_size, with_sizes, IsItemRefusal, IsCommandsRefusal, IsCheckRefusal, IsCheckAnswer}
+use Rattle.ppq_script.specs.Checking.{bad_of, IsSameFile, IsSameItem, IsAskedFile, IsAsked, with_size, with_sizes, ItemRefusalIsRight, CommandsRefusalIsRight, CheckRefusalIsRight, IsCheckAnswer}
 
 -- an item that was changed as R says
 pub AllZip-set : {X : Type 0} (R : X → X → Type 0) (xs ys : List X) (i : ℕ) (d y : X) → AllZip R xs ys → R (get_or xs i d) y → AllZip R xs (set ys i y)
@@ -174,7 +174,7 @@ item_here xs ys i d below long left =
 
 -- a refusal by a command is one by the commands
 pub commands_refusal : (replied : Reply → Type 0) (names : List (List ℕ)) (i : ℕ) (old new : List Numbered) (d : Numbered) (fault : CheckFault) → i < length old → AllZip (IsAsked replied names) (take i old) (take i new)
-    → IsItemRefusal replied names (get_or old i d) fault → IsCommandsRefusal replied names old fault
+    → ItemRefusalIsRight replied names (get_or old i d) fault → CommandsRefusalIsRight replied names old fault
 commands_refusal replied names i old new d (BadLine line) below asked h = bad_at replied names i old new d line below asked h
 commands_refusal replied names i old new d ReadFault below asked h = tt
 commands_refusal replied names i old new d Memory below asked h = tt
@@ -184,7 +184,7 @@ answer_by : {T : Type 0} (bad was : Option ℕ) (result : Result T CheckFault) �
 answer_by bad was result e h = inl (subst (λ (o : Option ℕ). MatchOption o (IsOk result) (λ line. IsErrOf result (BadLine line))) (sym e) h)
 
 pub check_answer : {T : Type 0} (told : Option (List ℕ → Option (List ℕ))) (replied : Reply → Type 0) (old new : Reading) (result : Result T CheckFault) → AreTrue told replied
-    → OnOk result (AllZip (IsAsked replied old.names) old.commands new.commands) → OnOk result (old.bad ≡ None) → IfErr result (IsCheckRefusal replied old) → IfSome told (λ files. IsCheckAnswer (bad_of (is_usable files) old) result)
+    → OnOk result (AllZip (IsAsked replied old.names) old.commands new.commands) → OnOk result (old.bad ≡ None) → IfErr result (CheckRefusalIsRight replied old) → IfSome told (λ files. IsCheckAnswer (bad_of (is_usable files) old) result)
 check_answer None replied old new result sure asked good refused = tt
 check_answer (Some files) replied old new (Ok x) sure asked good refused =
     answer_by (bad_of (is_usable files) old) None (Ok x) (bad_among-asked files replied old.names old.commands new.commands old.bad sure asked ∙ good) refl

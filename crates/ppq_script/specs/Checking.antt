@@ -26,28 +26,28 @@ abbrev pub IsCheckAnswer : {T : Type 0} → Option ℕ → Result T CheckFault �
 IsCheckAnswer bad result = MatchOption bad (IsOk result) (λ line. IsErrOf result (BadLine line)) ⊎ (IsErrOf result ReadFault ⊎ IsErrOf result Memory)
 
 -- what a refusal says by the library's replies
-abbrev pub IsCheckRefusal : (Reply → Type 0) → Reading → CheckFault → Type 0
-IsCheckRefusal replied script (BadLine line) = IsBadAmong replied script.names script.commands script.bad line
-IsCheckRefusal replied script ReadFault = ⊤
-IsCheckRefusal replied script Memory = ⊤
+abbrev pub CheckRefusalIsRight : (Reply → Type 0) → Reading → CheckFault → Type 0
+CheckRefusalIsRight replied script (BadLine line) = IsBadAmong replied script.names script.commands script.bad line
+CheckRefusalIsRight replied script ReadFault = ⊤
+CheckRefusalIsRight replied script Memory = ⊤
 
 -- what a refusal by a name says: the library replied of it, and the fault names this line
-abbrev pub IsNameRefusal : (Reply → Type 0) → List ℕ → ℕ → CheckFault → Type 0
-IsNameRefusal replied name here (BadLine line) = (here ≡ line) × IsNotFound replied name
-IsNameRefusal replied name here ReadFault = ⊤
-IsNameRefusal replied name here Memory = ⊤
+abbrev pub NameRefusalIsRight : (Reply → Type 0) → List ℕ → ℕ → CheckFault → Type 0
+NameRefusalIsRight replied name here (BadLine line) = (here ≡ line) × IsNotFound replied name
+NameRefusalIsRight replied name here ReadFault = ⊤
+NameRefusalIsRight replied name here Memory = ⊤
 
 -- by a command, which names a file
-abbrev pub IsItemRefusal : (Reply → Type 0) → List (List ℕ) → Numbered → CheckFault → Type 0
-IsItemRefusal replied names item (BadLine line) = (item.line ≡ line) × NoFile replied names (file_in item.command)
-IsItemRefusal replied names item ReadFault = ⊤
-IsItemRefusal replied names item Memory = ⊤
+abbrev pub ItemRefusalIsRight : (Reply → Type 0) → List (List ℕ) → Numbered → CheckFault → Type 0
+ItemRefusalIsRight replied names item (BadLine line) = (item.line ≡ line) × NoFile replied names (file_in item.command)
+ItemRefusalIsRight replied names item ReadFault = ⊤
+ItemRefusalIsRight replied names item Memory = ⊤
 
 -- by the first of the commands whose file cannot be used, whatever line behind them is bad
-abbrev pub IsCommandsRefusal : (Reply → Type 0) → List (List ℕ) → List Numbered → CheckFault → Type 0
-IsCommandsRefusal replied names items (BadLine line) = (bad : Option ℕ) → IsBadAmong replied names items bad line
-IsCommandsRefusal replied names items ReadFault = ⊤
-IsCommandsRefusal replied names items Memory = ⊤
+abbrev pub CommandsRefusalIsRight : (Reply → Type 0) → List (List ℕ) → List Numbered → CheckFault → Type 0
+CommandsRefusalIsRight replied names items (BadLine line) = (bad : Option ℕ) → IsBadAmong replied names items bad line
+CommandsRefusalIsRight replied names items ReadFault = ⊤
+CommandsRefusalIsRight replied names items Memory = ⊤
 
 -- a command with another length of its file, if it names one
 abbrev pub IsSameFile : Option (ℕ × ℕ) → Command → Command → Type 0

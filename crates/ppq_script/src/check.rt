@@ -3,7 +3,7 @@ ghost use Rattle.std.specs.Prelude.{◌≡◌, ◌≤◌, None, Some, length, ma
 ghost use Rattle.std.specs.List.{AllZip};
 ghost use Rattle.ppq_outside.specs.Told.{Rose, OfLength, Remembers, RepliesOnly};
 ghost use Rattle.ppq_script.specs.Files.{IsRecordLength, is_record_length, is_usable, IsLength, NamesFile};
-ghost use Rattle.ppq_script.specs.Checking.{bad_of, IsCheckAnswer, IsCheckRefusal, IsCommandsRefusal, IsItemRefusal, IsNameRefusal, IsSameItem, IsAsked, IsSameScript, with_sizes, StaysUnlessRead};
+ghost use Rattle.ppq_script.specs.Checking.{bad_of, IsCheckAnswer, CheckRefusalIsRight, CommandsRefusalIsRight, ItemRefusalIsRight, NameRefusalIsRight, IsSameItem, IsAsked, IsSameScript, with_sizes, StaysUnlessRead};
 ghost use Rattle.ppq_script.specs.declared.check.CheckFault.TheVariants.{ReadFault};
 
 use crate::{Command, Numbered, Script};
@@ -52,7 +52,7 @@ pub fn check_files<H: Host, L: Library>(
     ensures answer { IfSome (L.told library.old) (λ files. IsCheckAnswer (bad_of (is_usable files) script.old) result) }
     ensures lengths { OnOk result (IfSome (L.told library.old) (λ files. script.new.commands ≡ with_sizes files script.old.names script.old.commands)) }
     ensures asked { OnOk result (AllZip (IsAsked (L.replied library.new) script.old.names) script.old.commands script.new.commands) }
-    ensures refused { IfErr result (IsCheckRefusal (L.replied library.new) script.old) }
+    ensures refused { IfErr result (CheckRefusalIsRight (L.replied library.new) script.old) }
     ensures checked { script.new.checked ≡ is_ok result }
     ensures good { OnOk result (script.old.bad ≡ None) }
     ensures same { IsSameScript script.old script.new }
@@ -67,8 +67,8 @@ pub fn check_files<H: Host, L: Library>(
     script.ask_lengths(rt, alloc, library)
 }
 
-/// Asks the length of each file that the commands name, up to the first that cannot be used, and
-/// keeps it in its command.
+// Asks the length of each file that the commands name, up to the first that cannot be used, and
+// keeps it in its command.
 pub(crate) fn ask_all<H: Host, L: Library>(
     rt: &H,
     alloc: Global,
@@ -79,7 +79,7 @@ pub(crate) fn ask_all<H: Host, L: Library>(
     requires { All (λ n. NamesFile (length names.now) n.command) commands.old }
     ensures asked { OnOk result (AllZip (IsAsked (L.replied library.new) (map string_bytes names.now)) commands.old commands.new) }
     ensures same { AllZip IsSameItem commands.old commands.new }
-    ensures refused { IfErr result (IsCommandsRefusal (L.replied library.new) (map string_bytes names.now) commands.old) }
+    ensures refused { IfErr result (CommandsRefusalIsRight (L.replied library.new) (map string_bytes names.now) commands.old) }
     ensures read { IsErrOf result ReadFault → Rose (L.faults library.old) (L.faults library.new) }
     ensures remembers { Remembers (L.replied library.old) (L.replied library.new) }
     ensures asks { RepliesOnly (L.replied library.old) (L.replied library.new) IsLength }
@@ -97,7 +97,7 @@ pub(crate) fn ask_all<H: Host, L: Library>(
     Ok(())
 }
 
-/// Asks the length of the file that a command names, if it names one, and keeps it in the command.
+// Asks the length of the file that a command names, if it names one, and keeps it in the command.
 fn ask<H: Host, L: Library>(
     rt: &H,
     alloc: Global,
@@ -108,7 +108,7 @@ fn ask<H: Host, L: Library>(
     requires { NamesFile (length names.now) item.old.command }
     ensures asked { OnOk result (IsAsked (L.replied library.new) (map string_bytes names.now) item.old item.new) }
     ensures same { OnErr result (item.new ≡ item.old) }
-    ensures refused { IfErr result (IsItemRefusal (L.replied library.new) (map string_bytes names.now) item.old) }
+    ensures refused { IfErr result (ItemRefusalIsRight (L.replied library.new) (map string_bytes names.now) item.old) }
     ensures read { IsErrOf result ReadFault → Rose (L.faults library.old) (L.faults library.new) }
     ensures remembers { Remembers (L.replied library.old) (L.replied library.new) }
     ensures asks { RepliesOnly (L.replied library.old) (L.replied library.new) IsLength }
@@ -129,7 +129,7 @@ fn ask<H: Host, L: Library>(
     }
 }
 
-/// The length of a record file; the fault names this line where there is no such file.
+// The length of a record file; the fault names this line where there is no such file.
 fn record_length<H: Host, L: Library>(
     rt: &H,
     alloc: Global,
@@ -138,7 +138,7 @@ fn record_length<H: Host, L: Library>(
     library: &mut L,
 ) -> Result<u64, CheckFault>
     ensures found { IfOk result (λ length. L.replied library.new (OfLength name.now (Some length)) × IsRecordLength length) }
-    ensures refused { IfErr result (IsNameRefusal (L.replied library.new) name.now line) }
+    ensures refused { IfErr result (NameRefusalIsRight (L.replied library.new) name.now line) }
     ensures read { IsErrOf result ReadFault → Rose (L.faults library.old) (L.faults library.new) }
     ensures remembers { Remembers (L.replied library.old) (L.replied library.new) }
     ensures asks { RepliesOnly (L.replied library.old) (L.replied library.new) IsLength }
@@ -159,7 +159,7 @@ fn record_length<H: Host, L: Library>(
     }
 }
 
-/// Whether a file of so many bytes is records of 16 bytes each, and at most 2^32 of them.
+// Whether a file of so many bytes is records of 16 bytes each, and at most 2^32 of them.
 fn is_of_records(length: u64) -> bool
     ensures { result ≡ is_record_length length }
 {

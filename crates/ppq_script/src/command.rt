@@ -32,7 +32,7 @@ pub enum Command {
     Drain { count: u64 },
 }
 
-/// The command, if no field is left.
+// The command, if no field is left.
 fn alone(command: Command, rest: &[u8]) -> Option<Command>
     ensures { result ≡ alone command (fields_of rest.now) }
 {
@@ -42,7 +42,7 @@ fn alone(command: Command, rest: &[u8]) -> Option<Command>
     }
 }
 
-/// The number that is the only field left.
+// The number that is the only field left.
 fn one_number(rest: &[u8]) -> Option<u64>
     ensures { result ≡ one_of (fields_of rest.now) }
 {
@@ -53,7 +53,7 @@ fn one_number(rest: &[u8]) -> Option<u64>
     }
 }
 
-/// The numbers that are the two fields left.
+// The numbers that are the two fields left.
 fn two_numbers(rest: &[u8]) -> Option<(u64, u64)>
     ensures { result ≡ two_of (fields_of rest.now) }
 {
@@ -63,7 +63,7 @@ fn two_numbers(rest: &[u8]) -> Option<(u64, u64)>
     Some((one, other))
 }
 
-/// The command that pushes the record of a key and a value.
+// The command that pushes the record of a key and a value.
 fn push(numbers: Option<(u64, u64)>) -> Option<Command>
     ensures { result ≡ push_of numbers }
 {
@@ -73,7 +73,7 @@ fn push(numbers: Option<(u64, u64)>) -> Option<Command>
     })
 }
 
-/// The numbers that are the three fields left.
+// The numbers that are the three fields left.
 fn three_numbers(rest: &[u8]) -> Option<(u64, (u64, u64))>
     ensures { result ≡ three_of (fields_of rest.now) }
 {
@@ -83,7 +83,7 @@ fn three_numbers(rest: &[u8]) -> Option<(u64, (u64, u64))>
     Some((one, others))
 }
 
-/// The command that makes so many records from a seed.
+// The command that makes so many records from a seed.
 fn generate(numbers: Option<(u64, u64)>) -> Option<Command>
     ensures { result ≡ gen_of numbers }
 {
@@ -94,7 +94,7 @@ fn generate(numbers: Option<(u64, u64)>) -> Option<Command>
     Some(Command::Gen { seed, count })
 }
 
-/// The command that removes so many records and prints them.
+// The command that removes so many records and prints them.
 fn bulk_pop(number: Option<u64>) -> Option<Command>
     ensures { result ≡ bulk_pop_of number }
 {
@@ -102,7 +102,7 @@ fn bulk_pop(number: Option<u64>) -> Option<Command>
     Some(Command::BulkPop { count })
 }
 
-/// The command that removes so many records and sums them up.
+// The command that removes so many records and sums them up.
 fn drain(number: Option<u64>) -> Option<Command>
     ensures { result ≡ drain_of number }
 {
@@ -110,7 +110,7 @@ fn drain(number: Option<u64>) -> Option<Command>
     Some(Command::Drain { count })
 }
 
-/// The command that removes at most so many of the records before one.
+// The command that removes at most so many of the records before one.
 fn bulk_pop_limit(numbers: Option<(u64, (u64, u64))>) -> Option<Command>
     ensures { result ≡ bulk_pop_limit_of numbers }
 {
@@ -121,8 +121,8 @@ fn bulk_pop_limit(numbers: Option<(u64, (u64, u64))>) -> Option<Command>
     })
 }
 
-/// The command of this name on many records, but for `bulk`, whose further fields are those of the
-/// rest.
+// The command of this name on many records, but for `bulk`, whose further fields are those of the
+// rest.
 fn read_many(name: &[u8], rest: &[u8]) -> Option<Command>
     ensures { result ≡ many_of name.now (fields_of rest.now) }
 {
@@ -141,8 +141,8 @@ fn read_many(name: &[u8], rest: &[u8]) -> Option<Command>
     None
 }
 
-/// The command of this name, but for `bulk`, whose further fields are those of the rest.
-pub fn read_command(name: &[u8], rest: &[u8]) -> Option<Command>
+// The command of this name, but for `bulk`, whose further fields are those of the rest.
+pub(crate) fn read_command(name: &[u8], rest: &[u8]) -> Option<Command>
     ensures { result ≡ command_of name.now (fields_of rest.now) }
 {
     if name == b"push".as_slice() {

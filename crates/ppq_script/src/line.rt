@@ -10,20 +10,20 @@ use crate::Command;
 use crate::command::read_command;
 use crate::fields::{next_field, text};
 
-/// What a line of a script is.
+// What a line of a script is.
 #[derive(Clone, Copy, Debug, PartialEq, Eq)]
-pub enum Line<'a> {
-    /// Blank, or a comment.
+pub(crate) enum Line<'a> {
+    // Blank, or a comment.
     Skipped,
-    /// A command that names no file.
+    // A command that names no file.
     Plain { command: Command },
-    /// The command `bulk` with the name of a file.
+    // The command `bulk` with the name of a file.
     OfFile { name: &'a str },
-    /// None of these.
+    // None of these.
     Bad,
 }
 
-/// Whether each byte is from 0x21 to 0x7E.
+// Whether each byte is from 0x21 to 0x7E.
 fn is_graphic(bytes: &[u8]) -> bool
     ensures { result ≡ list_all is_ascii_graphic bytes.now }
 {
@@ -35,14 +35,14 @@ fn is_graphic(bytes: &[u8]) -> bool
     true
 }
 
-/// Whether these bytes are the name of a file: 1 to 255 bytes from 0x21 to 0x7E.
+// Whether these bytes are the name of a file: 1 to 255 bytes from 0x21 to 0x7E.
 fn is_name(bytes: &[u8]) -> bool
     ensures { result ≡ is_file_name bytes.now }
 {
     is_graphic(bytes) && bytes.len() >= 1 && bytes.len() <= 255
 }
 
-/// The name of a file, if these bytes are one.
+// The name of a file, if these bytes are one.
 fn file_name(bytes: &[u8]) -> Option<&str>
     ensures { text_in result ≡ file_of (bytes.now ∷ []) }
 {
@@ -55,7 +55,7 @@ fn file_name(bytes: &[u8]) -> Option<&str>
     }
 }
 
-/// The name of a file that is the only field left.
+// The name of a file that is the only field left.
 fn file(rest: &[u8]) -> Option<&str>
     ensures { text_in result ≡ file_of (fields_of rest.now) }
 {
@@ -66,8 +66,8 @@ fn file(rest: &[u8]) -> Option<&str>
     }
 }
 
-/// What a line is. It costs time linear in its bytes.
-pub fn read_line(line: &[u8]) -> Line<'_>
+// What a line is. It costs time linear in its bytes.
+pub(crate) fn read_line(line: &[u8]) -> Line<'_>
     ensures { kind_in result ≡ kind_of line.now }
 {
     let Some(first) = next_field(text(line)) else {

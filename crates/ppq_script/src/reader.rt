@@ -41,7 +41,7 @@ pub fn read(alloc: Global, bytes: &[u8], workers: u32) -> Result<Script, Memory>
     Ok(Script::from_parts(commands, None, names, workers))
 }
 
-/// Keeps what a line has, and says whether it is a good one.
+// Keeps what a line has, and says whether it is a good one.
 fn take_line(
     alloc: Global,
     commands: &mut Vec<Numbered>,
@@ -67,7 +67,7 @@ fn take_line(
     }
 }
 
-/// Keeps a file's name, and the command that names it.
+// Keeps a file's name, and the command that names it.
 fn keep_file(
     alloc: Global,
     commands: &mut Vec<Numbered>,
@@ -86,7 +86,7 @@ fn keep_file(
     Ok(())
 }
 
-/// The first line without its line feed, and what stands behind it.
+// The first line without its line feed, and what stands behind it.
 fn cut_line(rest: &[u8]) -> (&[u8], &[u8])
     requires { 0 < length rest.now }
     ensures lines { lines_of rest.now ≡ result.0.now ∷ lines_of result.1.now }

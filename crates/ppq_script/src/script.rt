@@ -4,7 +4,7 @@ ghost use Rattle.ppq_script.specs.Files.{NamesFile, HasRecords, IsLength, name_a
 ghost use Rattle.std.specs.List.{AllZip};
 ghost use Rattle.ppq_outside.specs.Told.{Rose, Remembers, RepliesOnly};
 ghost use Rattle.ppq_script.specs.Reading.{IsReady};
-ghost use Rattle.ppq_script.specs.Checking.{IsCheckRefusal, IsAsked, IsSameScript, StaysUnlessRead};
+ghost use Rattle.ppq_script.specs.Checking.{CheckRefusalIsRight, IsAsked, IsSameScript, StaysUnlessRead};
 ghost use Rattle.ppq_script.specs.declared.check.CheckFault.TheVariants.{ReadFault};
 
 use crate::check::ask_all;
@@ -19,10 +19,10 @@ use std::marker::Model;
 pub struct Script {
     commands: Vec<Numbered>,
     bad: Option<u32>,
-    /// The names of the files, by the number that commands have for them.
+    // The names of the files, by the number that commands have for them.
     names: Vec<String>,
     workers: u32,
-    /// Whether the last check of the files answered Ok.
+    // Whether the last check of the files answered Ok.
     checked: bool,
 }
 
@@ -41,7 +41,7 @@ impl Model for Script {
 impl Script {
     ghost use Rattle.ppq_script.specs.Reading.{command_list, line_list};
 
-    /// A script of these parts, which is not checked.
+    // A script of these parts, which is not checked.
     pub(crate) fn from_parts(
         commands: Vec<Numbered>,
         bad: Option<u32>,
@@ -128,7 +128,7 @@ impl Script {
         self.checked
     }
 
-    /// Asks a library the length of each file and keeps it, as `check_files` does.
+    // Asks a library the length of each file and keeps it, as `check_files` does.
     pub(crate) fn ask_lengths<H: Host, L: Library>(
         &mut self,
         rt: &H,
@@ -136,7 +136,7 @@ impl Script {
         library: &mut L,
     ) -> Result<(), CheckFault>
         ensures asked { OnOk result (AllZip (IsAsked (L.replied library.new) self.old.names) self.old.commands self.new.commands) }
-        ensures refused { IfErr result (IsCheckRefusal (L.replied library.new) self.old) }
+        ensures refused { IfErr result (CheckRefusalIsRight (L.replied library.new) self.old) }
         ensures checked { self.new.checked ≡ is_ok result }
         ensures good { OnOk result (self.old.bad ≡ None) }
         ensures same { IsSameScript self.old self.new }

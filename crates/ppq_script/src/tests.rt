@@ -7,7 +7,7 @@ use ppq_record::{Memory, Pair};
 use std::alloc::Global;
 use std::test::Fail;
 
-/// The command that pushes this key and this value.
+// The command that pushes this key and this value.
 fn push(key: u64, value: u64) -> Command {
     Command::Push {
         item: Pair { key, value },
@@ -243,8 +243,8 @@ fn reads_a_script_of_the_greatest_length(rt: HostRuntime) -> Result<(), Fail> {
     Ok(())
 }
 
-/// Reads a script of these bytes and checks its files, of which `e` is empty, `f` has two records,
-/// and `odd` has 33 bytes.
+// Reads a script of these bytes and checks its files, of which `e` is empty, `f` has two records,
+// and `odd` has 33 bytes.
 fn checked<H: Host>(
     rt: &H,
     alloc: Global,
@@ -267,7 +267,7 @@ fn checked<H: Host>(
     Ok((script, answer))
 }
 
-/// The name of the file of a command, and none for a command that names no file.
+// The name of the file of a command, and none for a command that names no file.
 fn file_name(script: &Script, i: usize) -> Option<&str>
     requires { i < length script.now.commands }
 {

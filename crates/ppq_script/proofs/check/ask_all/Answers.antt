@@ -4,7 +4,7 @@ use Rattle.ppq_outside.proofs.Shrunk.{done_more, left_more}
 use Rattle.ppq_script.specs.declared.command.Command.TheVariants.{Push}
 use Rattle.ppq_script.specs.declared.numbered.Numbered.{Numbered}
 use Rattle.ppq_script.specs.Files.{NamesFile, IsLength}
-use Rattle.ppq_script.specs.Checking.{IsAsked, IsSameItem, IsItemRefusal}
+use Rattle.ppq_script.specs.Checking.{IsAsked, IsSameItem, ItemRefusalIsRight}
 use Rattle.ppq_script.proofs.Checks.{same_items, item_here, all_asked_later, commands_refusal, AllZip-set, IsSameItem-IsAsked}
 use Rattle.ppq_script.proofs.Replies.{no_replies, replies_then}
 use Rattle.ppq_script.proofs.check.ask_all.Goals as goal
@@ -30,7 +30,7 @@ returns-in-Err-clause-refused g c =
     let below : l.item-index < length c.args.commands.now = c.loop-item-test.true in
     commands_refusal replied names l.item-index c.args.commands.now l.commands first c.in-Err.fault below
     (all_asked_later (g.L.Library.replied l.library) replied names (take l.item-index c.args.commands.now) (take l.item-index l.commands) c.ask.ensures.remembers l.invariant.done)
-    (subst (λ (n : Numbered). IsItemRefusal replied names n c.in-Err.fault) (item_here c.args.commands.now l.commands l.item-index first below l.invariant.long l.invariant.left) c.in-Err.ensures.refused)
+    (subst (λ (n : Numbered). ItemRefusalIsRight replied names n c.in-Err.fault) (item_here c.args.commands.now l.commands l.item-index first below l.invariant.long l.invariant.left) c.in-Err.ensures.refused)
 
 pub loop-item-preserved : goal.loop-item-preserved
 loop-item-preserved g c =
