@@ -8,7 +8,7 @@ use Rattle.ppq_script.specs.declared.check.CheckFault.{CheckFault}
 use Rattle.ppq_script.specs.declared.check.CheckFault.TheVariants as check
 use Rattle.ppq_script.specs.Lines.{lines_of, names_of, numbered_of, first_bad, first_bad_by}
 use Rattle.ppq_script.specs.Files.{is_usable, IsBadAmong}
-use Rattle.ppq_script.specs.Checking.{bad_of, IsCheckAnswer, IsCheckRefusal, IsAsked, IsSameScript, with_sizes}
+use Rattle.ppq_script.specs.Checking.{bad_of, IsCheckAnswer, CheckRefusalIsRight, IsAsked, IsSameScript, with_sizes}
 use Rattle.ppq_script.specs.Reading.{Reading}
 use Rattle.ppq_script.proofs.BadFiles.{IsBadLine-IsBadAmong}
 use Rattle.ppq_cli.specs.Load.{IsLoaded, check_fault_load}
@@ -71,7 +71,7 @@ checked_script {T} told mid_told mid now name bytes workers old new result value
 -- and of what the library replied
 pub checked_refused :
     (told : Option (List ℕ → Option (List ℕ))) (mid now : Reply → Type 0) (name bytes : List ℕ) (workers : ℕ) (old : Reading) (fault : CheckFault)
-    → IsReplied mid name bytes → IsReadFrom bytes workers old → Remembers mid now → IsCheckRefusal now old fault → IsUnloaded told now name (check_fault_load fault)
+    → IsReplied mid name bytes → IsReadFrom bytes workers old → Remembers mid now → CheckRefusalIsRight now old fault → IsUnloaded told now name (check_fault_load fault)
 checked_refused told mid now name bytes workers old (check.BadLine line) given read kept refused =
     let P : List (List ℕ) → Type 0 = λ ns. IsBadAmong now ns (numbered_of 1 (lines_of bytes)) (first_bad 1 (lines_of bytes)) line in
     let Q : List Numbered → Type 0 = λ items. IsBadAmong now old.names items (first_bad 1 (lines_of bytes)) line in

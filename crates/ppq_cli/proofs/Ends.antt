@@ -8,7 +8,6 @@ use Rattle.ppq_record.specs.Given.{records_of}
 use Rattle.ppq_outside.specs.Shown.{Shown, AllTell}
 use Rattle.ppq_outside.specs.Told.{Reply, Remembers, TakesAll, TakesPart, bytes_or_none}
 use Rattle.ppq_budget.specs.Sizes.{Numbers, fixed_of}
-use Rattle.ppq_array.specs.Kept.{HasFailed}
 use Rattle.ppq_script.specs.declared.command.Command.{Command}
 use Rattle.ppq_script.specs.declared.numbered.Numbered.{Numbered}
 use Rattle.ppq_script.specs.Files.{name_at, is_usable}
@@ -19,7 +18,7 @@ use Rattle.ppq_engine.specs.Loads.{most_of, least_of, HasRoom, IsTooMuch, FitsWr
 use Rattle.ppq_engine.specs.Output.{AreFilesOf, KeepsLengths, given_of, output_of, load_of, crest_of, TakesWithin}
 use Rattle.ppq_engine.specs.Running.{HasChanged}
 use Rattle.ppq_engine.specs.Outcome.{TakesBeforeFile, FaultBeforeFile}
-use Rattle.ppq_engine.specs.Ends.{budget_refusal, IsRun, IsRunOrRefusal, IsCompleted, NoneFailed}
+use Rattle.ppq_engine.specs.Ends.{budget_refusal, BeganCommands, BeganOrRefused, NoFault}
 use Rattle.ppq_engine.specs.declared.end.End.{End}
 use Rattle.ppq_engine.specs.declared.end.End.TheVariants.{Done, BadLine, Usage, ReadFault, WriteFault, DeviceFault, NoFreeBlock, BudgetTooSmall, Memory, FileChanged, NoDevice, NoScript, ScriptTooLong}
 use Rattle.ppq_engine.proofs.Lengths.{keeps_lengths}
@@ -27,14 +26,9 @@ use Rattle.ppq_cli.proofs.Given.{script_remembered}
 use Rattle.ppq_cli.specs.declared.load.LoadFault.{LoadFault}
 use Rattle.ppq_cli.specs.declared.load.LoadFault.TheVariants as load
 use Rattle.ppq_cli.specs.Load.{Refuses, IsNotLoaded, load_end, HasBadLine}
-use Rattle.ppq_cli.specs.Words.{refusal_of_bad, refusal_of_file, script_commands, script_given, IsTried, IsGivenUp, MayWrite, IsAnswer, IsTriedOrRefusal, OfFile}
+use Rattle.ppq_cli.specs.RunWords.{Files, refusal_of_bad, refusal_of_file, script_commands, script_given, IsTried, IsGivenUp, MayWrite, IsAnswer, IsTriedOrRefusal, OfFile, IsTooLarge, EndsWell}
 use Rattle.ppq_cli.specs.Device.{IsSurelyRun, AreBlocks}
-use Rattle.ppq_cli.specs.Replies.{IsUnloaded, IsScript, OfGood, OfRun, IsRefusal, IsRunOf, ForFiles, HasRunPart, HasRunToFile, FaultToFile}
-
--- what follows of the value follows where there is one
-pub some_more : {X : Type 0} (o : Option X) (P Q : X → Type 0) → ((x : X) → P x → Q x) → IfSome o P → IfSome o Q
-some_more None P Q more is = tt
-some_more (Some x) P Q more is = more x is
+use Rattle.ppq_cli.specs.Replies.{IsUnloaded, IsScript, OfGood, OfRun, RefusalIsRight, RunIsRight, ForFiles, HasRunPart, HasRunToFile, FaultToFile}
 
 -- the three ways of a script that was loaded: its budget is too small, it was tried, or memory was wanting
 abbrev Ways : Numbers → End → Type 0
@@ -63,13 +57,13 @@ ways : (sizes : Numbers) (end : End) → IsTriedOrRefusal (budget_refusal sizes)
 ways sizes end answer = ways_by (nat_lt sizes.memory (fixed_of sizes)) sizes end (ltb_true sizes.memory (fixed_of sizes)) (ltb_false sizes.memory (fixed_of sizes)) answer
 
 -- a script that was run has a budget that is large enough
-reaches : (sizes : Numbers) (end : End) → IsRun end → Ways sizes end → fixed_of sizes ≤ sizes.memory
-reaches sizes end run (inl (h, is)) = absurd (subst IsRun is run)
+reaches : (sizes : Numbers) (end : End) → BeganCommands end → Ways sizes end → fixed_of sizes ≤ sizes.memory
+reaches sizes end run (inl (h, is)) = absurd (subst BeganCommands is run)
 reaches sizes end run (inr (inl (h, tried))) = h
-reaches sizes end run (inr (inr is)) = absurd (subst IsRun is run)
+reaches sizes end run (inr (inr is)) = absurd (subst BeganCommands is run)
 
 module _ (told : Option (List ℕ → Option (List ℕ))) (replied : Reply → Type 0) (name : List ℕ) (sizes : Numbers) where
-  run_refuses : (end : End) → IsRun end → ((line said got : ℕ) → end ≡ FileChanged line said got → IsRefusal told replied name sizes (FileChanged line said got)) → IsRefusal told replied name sizes end
+  run_refuses : (end : End) → BeganCommands end → ((line said got : ℕ) → end ≡ FileChanged line said got → RefusalIsRight told replied name sizes (FileChanged line said got)) → RefusalIsRight told replied name sizes end
   run_refuses Done run changed = tt
   run_refuses (BadLine line) run changed = absurd run
   run_refuses Usage run changed = absurd run
@@ -87,11 +81,11 @@ module _ (told : Option (List ℕ → Option (List ℕ))) (replied : Reply → T
   -- a script that was loaded is refused for its budget, its device, or a file that had changed
   pub loaded_refusal :
       (script : Reading) (end : End) → IsScript told replied name sizes.workers script → IsTriedOrRefusal (budget_refusal sizes) end
-      → ((line said got : ℕ) → end ≡ FileChanged line said got → HasChanged told replied script line said got) → IsRefusal told replied name sizes end
+      → ((line said got : ℕ) → end ≡ FileChanged line said got → HasChanged told replied script line said got) → RefusalIsRight told replied name sizes end
   loaded_refusal script end is answer changed =
       let good : OfGood told replied name sizes (λ script. Unit {0}) = (script, (is, tt)) in
-      let P : End → Type 0 = λ e. IsRefusal told replied name sizes e in
-      elim (ways sizes end answer) as (λ _. IsRefusal told replied name sizes end) [
+      let P : End → Type 0 = λ e. RefusalIsRight told replied name sizes e in
+      elim (ways sizes end answer) as (λ _. RefusalIsRight told replied name sizes end) [
         | inl (h, e) ↦ subst P (sym e) ((h, refl), good)
         | inr (inl (h, inl run)) ↦ run_refuses end run (λ line said got e. inr (h, (script, (is, changed line said got e))))
         | inr (inl (h, inr e)) ↦ subst P (sym e) (h, good)
@@ -99,7 +93,7 @@ module _ (told : Option (List ℕ → Option (List ℕ))) (replied : Reply → T
       ]
 
   -- one that was not loaded for what the library replied of it
-  pub unloaded_refusal : (fault : LoadFault) → IsUnloaded told replied name fault → IsRefusal told replied name sizes (load_end fault)
+  pub unloaded_refusal : (fault : LoadFault) → IsUnloaded told replied name fault → RefusalIsRight told replied name sizes (load_end fault)
   unloaded_refusal load.ReadFault is = tt
   unloaded_refusal load.Memory is = tt
   unloaded_refusal load.NoScript is = is
@@ -118,7 +112,7 @@ module _ (told : Option (List ℕ → Option (List ℕ))) (replied : Reply → T
       → (end ≡ NoFreeBlock → ForFiles tells told script (λ given commands. IsTooMuch sizes (load_of given commands)))
       → (end ≡ NoFreeBlock → IsTooMuch sizes (most_of (command_list script)))
       → (end ≡ Done → ForFiles tells told script (λ given commands. FitsWritten (crest_of given commands) sizes blocks))
-      → (end ≡ Done → FitsWritten (least_of (command_list script)) sizes blocks) → IsRunOf tells told replied name sizes before now blocks end
+      → (end ≡ Done → FitsWritten (least_of (command_list script)) sizes blocks) → RunIsRight tells told replied name sizes before now blocks end
   loaded_run tells script before now blocks Done is answer done part within memory file above above_any used used_any =
       (reaches sizes Done tt (ways sizes Done answer), (script, (is, record { took = done refl; crest = used refl; least = used_any refl })))
   loaded_run tells script before now blocks (BadLine line) is answer done part within memory file above above_any used used_any = tt
@@ -138,7 +132,7 @@ module _ (told : Option (List ℕ → Option (List ℕ))) (replied : Reply → T
   loaded_run tells script before now blocks ScriptTooLong is answer done part within memory file above above_any used used_any = tt
 
   -- and one that was not loaded was not run
-  pub unloaded_run : (tells : Type 0) (before now : Option (List ℕ)) (blocks : List Shown) (fault : LoadFault) → now ≡ before → IsRunOf tells told replied name sizes before now blocks (load_end fault)
+  pub unloaded_run : (tells : Type 0) (before now : Option (List ℕ)) (blocks : List Shown) (fault : LoadFault) → now ≡ before → RunIsRight tells told replied name sizes before now blocks (load_end fault)
   unloaded_run tells before now blocks load.ReadFault same = inl same
   unloaded_run tells before now blocks load.Memory same = inl same
   unloaded_run tells before now blocks load.NoScript same = tt
@@ -157,9 +151,9 @@ pub later_run :
     → (end ≡ NoFreeBlock → ForFiles tells later script (λ given commands. IsTooMuch sizes (load_of given commands)))
     → (end ≡ NoFreeBlock → IsTooMuch sizes (most_of (command_list script)))
     → (end ≡ Done → ForFiles tells later script (λ given commands. FitsWritten (crest_of given commands) sizes blocks))
-    → (end ≡ Done → FitsWritten (least_of (command_list script)) sizes blocks) → IsRunOf tells told replied name sizes before now blocks end
+    → (end ≡ Done → FitsWritten (least_of (command_list script)) sizes blocks) → RunIsRight tells told replied name sizes before now blocks end
 later_run told later first replied name sizes workers tells script before now blocks end kept same remembers is answer done part within memory file above above_any used used_any =
-    let P : Option (List ℕ → Option (List ℕ)) → Type 0 = λ t. IsRunOf tells t replied name sizes before now blocks end in
+    let P : Option (List ℕ → Option (List ℕ)) → Type 0 = λ t. RunIsRight tells t replied name sizes before now blocks end in
     let Q : Option (List ℕ → Option (List ℕ)) → Type 0 = λ t. IsScript t replied name sizes.workers script in
     let W : ℕ → Type 0 = λ w. IsScript told replied name w script in
     let now_is : IsScript told replied name sizes.workers script = subst W same (script_remembered told first replied name workers script remembers is) in
@@ -168,9 +162,9 @@ later_run told later first replied name sizes workers tells script before now bl
 pub later_refusal :
     (told later : Option (List ℕ → Option (List ℕ))) (first replied : Reply → Type 0) (name : List ℕ) (sizes : Numbers) (workers : ℕ) (script : Reading) (end : End)
     → later ≡ told → workers ≡ sizes.workers → Remembers first replied → IsScript told first name workers script → IsTriedOrRefusal (budget_refusal sizes) end
-    → ((line said got : ℕ) → end ≡ FileChanged line said got → HasChanged later replied script line said got) → IsRefusal told replied name sizes end
+    → ((line said got : ℕ) → end ≡ FileChanged line said got → HasChanged later replied script line said got) → RefusalIsRight told replied name sizes end
 later_refusal told later first replied name sizes workers script end kept same remembers is answer changed =
-    let P : Option (List ℕ → Option (List ℕ)) → Type 0 = λ t. IsRefusal t replied name sizes end in
+    let P : Option (List ℕ → Option (List ℕ)) → Type 0 = λ t. RefusalIsRight t replied name sizes end in
     let Q : Option (List ℕ → Option (List ℕ)) → Type 0 = λ t. IsScript t replied name sizes.workers script in
     let W : ℕ → Type 0 = λ w. IsScript told replied name w script in
     let now_is : IsScript told replied name sizes.workers script = subst W same (script_remembered told first replied name workers script remembers is) in
@@ -203,14 +197,14 @@ fault_to_file tells told script first before now NoDevice blocks ran = tt
 fault_to_file tells told script first before now NoScript blocks ran = tt
 fault_to_file tells told script first before now ScriptTooLong blocks ran = tt
 
-nothing_by : (X : Type 0) (small : Bool) (need : ℕ) (end : End) → MatchOption (if small then Some (BudgetTooSmall need) else None) (IsRun end) (λ e. end ≡ e) ⊎ (end ≡ Memory) → ((n : ℕ) → end ≡ BudgetTooSmall n → X) → MayWrite end ⊎ X
+nothing_by : (X : Type 0) (small : Bool) (need : ℕ) (end : End) → MatchOption (if small then Some (BudgetTooSmall need) else None) (BeganCommands end) (λ e. end ≡ e) ⊎ (end ≡ Memory) → ((n : ℕ) → end ≡ BudgetTooSmall n → X) → MayWrite end ⊎ X
 nothing_by X true need end (inl is) nothing = inr (nothing need is)
 nothing_by X true need end (inr memory) nothing = inl (inr memory)
 nothing_by X false need end (inl run) nothing = inl (inl run)
 nothing_by X false need end (inr memory) nothing = inl (inr memory)
 
 -- where the budget is too small, nothing was written
-pub may_write : (X : Type 0) (sizes : Numbers) (end : End) → IsRunOrRefusal (budget_refusal sizes) end → ((n : ℕ) → end ≡ BudgetTooSmall n → X) → MayWrite end ⊎ X
+pub may_write : (X : Type 0) (sizes : Numbers) (end : End) → BeganOrRefused (budget_refusal sizes) end → ((n : ℕ) → end ≡ BudgetTooSmall n → X) → MayWrite end ⊎ X
 may_write X sizes end answer nothing = nothing_by X (nat_lt sizes.memory (fixed_of sizes)) (fixed_of sizes) end answer nothing
 
 unloaded_not_run : (fault : LoadFault) → IsSurelyRun (load_end fault) → ⊥
@@ -248,13 +242,13 @@ of_files files replied name workers script P is holds =
     subst R is.lengths (subst Q is.names holds)
 
 pub of_commands :
-    (told later : Option (List ℕ → Option (List ℕ))) (replied : Reply → Type 0) (name : List ℕ) (workers : ℕ) (script : Reading) (P : (ℕ → List Pair) → List Command → Type 0)
-    → later ≡ told → IsScript told replied name workers script → ((files : List ℕ → Option (List ℕ)) → AreFilesOf later script files → P (given_of files script) (command_list script))
-    → OfFile told name (λ files bytes. P (script_given files bytes) (script_commands files bytes))
-of_commands None later replied name workers script P kept is holds = tt
-of_commands (Some files) later replied name workers script P kept is holds =
-    let Q : Option (List ℕ) → Type 0 = λ o. IfSome o (λ bytes. P (script_given files bytes) (script_commands files bytes)) in
-    subst Q (sym is.loaded) (of_files files replied name workers script P is (holds files (inl kept)))
+    (told later : Option Files) (replied : Reply → Type 0) (name : List ℕ) (workers : ℕ) (script : Reading) (sizes : Numbers) (P : Numbers → (ℕ → List Pair) → List Command → Type 0)
+    → later ≡ told → IsScript told replied name workers script → ((files : Files) → AreFilesOf later script files → P sizes (given_of files script) (command_list script))
+    → OfFile told name sizes P
+of_commands None later replied name workers script sizes P kept is holds = tt
+of_commands (Some files) later replied name workers script sizes P kept is holds =
+    let Q : Option (List ℕ) → Type 0 = λ o. IfSome o (λ bytes. P sizes (script_given files bytes) (script_commands files bytes)) in
+    subst Q (sym is.loaded) (of_files files replied name workers script (P sizes) is (holds files (inl kept)))
 
 -- the refusal of a file
 module _ (files : List ℕ → Option (List ℕ)) where
@@ -296,57 +290,46 @@ loaded_answer (Some files) replied name workers script sizes end is answer =
     let P : Option End → Type 0 = λ r. IsAnswer r end in
     subst P (sym same) (elim answer as (λ _. IsAnswer (budget_refusal sizes) end) [ inl is ↦ inl is | inr memory ↦ inr (inl memory) ])
 
-untried : (end : End) → (IsRun end → ⊥) → (end ≡ NoDevice → ⊥) → (end ≡ Memory → ⊥) → (end ≡ ReadFault → ⊥) → IsTried end ⊎ IsGivenUp end → ⊥
+untried : (end : End) → (BeganCommands end → ⊥) → (end ≡ NoDevice → ⊥) → (end ≡ Memory → ⊥) → (end ≡ ReadFault → ⊥) → IsTried end ⊎ IsGivenUp end → ⊥
 untried end run device memory read (inl (inl h)) = run h
 untried end run device memory read (inl (inr h)) = device h
 untried end run device memory read (inr (inl h)) = memory h
 untried end run device memory read (inr (inr h)) = read h
 
--- where no fault comes and there is room, a script without a refusal ends done, or for want of memory
-module _ (told : Option (List ℕ → Option (List ℕ))) (library library2 sink sink2 rack rack2 : ℕ) (blocks : List Shown) (sizes : Numbers) where
-  -- each fault has its cause
-  pub record HasCauses (end : End) : Type 0 where
-    pub read : end ≡ ReadFault → library < library2
-    pub write : end ≡ WriteFault → sink < sink2
-    pub device : end ≡ NoDevice → rack < rack2
-    pub failed : (number : ℕ) → end ≡ DeviceFault number → HasFailed number blocks
-    pub changed : (line said got : ℕ) → end ≡ FileChanged line said got → told ≡ None
+-- where the end names no fault and there is room, a script without a refusal is done, or memory was wanting
+completed :
+    (files : Files) (sizes : Numbers) (load : ℕ) (end : End) → IsTried end ⊎ IsGivenUp end → ((line said got : ℕ) → end ≡ FileChanged line said got → Some files ≡ None)
+    → (end ≡ NoFreeBlock → IsTooMuch sizes load) → NoFault end → HasRoom sizes load → (end ≡ Done) ⊎ (end ≡ Memory)
+completed files sizes load Done tried changed above fault room = inl refl
+completed files sizes load (BadLine line) tried changed above fault room = absurd (untried (BadLine line) (λ h. h) (λ e. cc) (λ e. cc) (λ e. cc) tried)
+completed files sizes load Usage tried changed above fault room = absurd (untried Usage (λ h. h) (λ e. cc) (λ e. cc) (λ e. cc) tried)
+completed files sizes load ReadFault tried changed above fault room = absurd fault
+completed files sizes load WriteFault tried changed above fault room = absurd fault
+completed files sizes load (DeviceFault number) tried changed above fault room = absurd fault
+completed files sizes load NoFreeBlock tried changed above fault room =
+    let much = above refl in
+    elim room as (λ _. (NoFreeBlock ≡ Done) ⊎ (NoFreeBlock ≡ Memory)) [ inl heap ↦ absurd (omega (arith, much.0, heap)) | inr device ↦ absurd (omega (arith, much.1, device)) ]
+completed files sizes load (BudgetTooSmall need) tried changed above fault room = absurd (untried (BudgetTooSmall need) (λ h. h) (λ e. cc) (λ e. cc) (λ e. cc) tried)
+completed files sizes load Memory tried changed above fault room = inr refl
+completed files sizes load (FileChanged line said got) tried changed above fault room = let e = changed line said got refl in cc
+completed files sizes load NoDevice tried changed above fault room = absurd fault
+completed files sizes load NoScript tried changed above fault room = absurd (untried NoScript (λ h. h) (λ e. cc) (λ e. cc) (λ e. cc) tried)
+completed files sizes load ScriptTooLong tried changed above fault room = absurd (untried ScriptTooLong (λ h. h) (λ e. cc) (λ e. cc) (λ e. cc) tried)
 
-  completed :
-      (end : End) (load : ℕ) → IsTried end ⊎ IsGivenUp end → HasCauses end → (end ≡ NoFreeBlock → IsTooMuch sizes load)
-      → library2 ≡ library → rack2 ≡ rack → sink2 ≡ sink → NoneFailed blocks → HasRoom sizes load → IsCompleted told end
-  completed Done load tried causes above l k o none room = tt
-  completed (BadLine line) load tried causes above l k o none room = absurd (untried (BadLine line) (λ h. h) (λ e. cc) (λ e. cc) (λ e. cc) tried)
-  completed Usage load tried causes above l k o none room = absurd (untried Usage (λ h. h) (λ e. cc) (λ e. cc) (λ e. cc) tried)
-  completed ReadFault load tried causes above l k o none room = absurd (omega (arith, causes.read refl, l))
-  completed WriteFault load tried causes above l k o none room = absurd (omega (arith, causes.write refl, o))
-  completed (DeviceFault number) load tried causes above l k o none room = absurd (none number (causes.failed number refl))
-  completed NoFreeBlock load tried causes above l k o none room =
-      let much = above refl in
-      elim room as (λ _. IsCompleted told NoFreeBlock) [ inl heap ↦ absurd (omega (arith, much.0, heap)) | inr device ↦ absurd (omega (arith, much.1, device)) ]
-  completed (BudgetTooSmall need) load tried causes above l k o none room = absurd (untried (BudgetTooSmall need) (λ h. h) (λ e. cc) (λ e. cc) (λ e. cc) tried)
-  completed Memory load tried causes above l k o none room = tt
-  completed (FileChanged line said got) load tried causes above l k o none room = causes.changed line said got refl
-  completed NoDevice load tried causes above l k o none room = absurd (omega (arith, causes.device refl, k))
-  completed NoScript load tried causes above l k o none room = absurd (untried NoScript (λ h. h) (λ e. cc) (λ e. cc) (λ e. cc) tried)
-  completed ScriptTooLong load tried causes above l k o none room = absurd (untried ScriptTooLong (λ h. h) (λ e. cc) (λ e. cc) (λ e. cc) tried)
-
-  file_completed :
-      (files : List ℕ → Option (List ℕ)) (load : List ℕ → ℕ) (file : Option (List ℕ)) (end : End) → IsAnswer (refusal_of_file files file sizes) end → HasCauses end
-      → (end ≡ NoFreeBlock → IfSome file (λ bytes. IsTooMuch sizes (load bytes)))
-      → refusal_of_file files file sizes ≡ None → library2 ≡ library → rack2 ≡ rack → sink2 ≡ sink → NoneFailed blocks
-      → IfSome file (λ bytes. HasRoom sizes (load bytes)) → IsCompleted told end
-  file_completed files load None end answer causes above is l k o none room = cc
-  file_completed files load (Some bytes) end answer causes above is l k o none room =
-      let P : Option End → Type 0 = λ r. IsAnswer r end in
-      completed end (load bytes) (subst P is answer) causes above l k o none room
+file_completed :
+    (files : Files) (file : Option (List ℕ)) (sizes : Numbers) (load : (ℕ → List Pair) → List Command → ℕ) (end : End)
+    → IsAnswer (refusal_of_file files file sizes) end → ((line said got : ℕ) → end ≡ FileChanged line said got → Some files ≡ None)
+    → (end ≡ NoFreeBlock → IfSome file (λ bytes. IsTooLarge load sizes (script_given files bytes) (script_commands files bytes))) → NoFault end
+    → IfSome file (λ bytes. EndsWell load sizes files bytes end)
+file_completed files None sizes load end answer changed above fault = tt
+file_completed files (Some bytes) sizes load end answer changed above fault = λ good room.
+    let P : Option End → Type 0 = λ r. IsAnswer r end in
+    completed files sizes (load (script_given files bytes) (script_commands files bytes)) end (subst P good answer) changed above fault room
 
 pub named_completed :
-    (told : Option (List ℕ → Option (List ℕ))) (library library2 sink sink2 rack rack2 : ℕ) (blocks : List Shown) (sizes : Numbers)
-    (load : (List ℕ → Option (List ℕ)) → List ℕ → ℕ) (name : List ℕ) (end : End)
-    → IfSome told (λ files. IsAnswer (refusal_of_file files (files name) sizes) end) → HasCauses told library library2 sink sink2 rack rack2 blocks sizes end → (end ≡ NoFreeBlock → OfFile told name (λ files bytes. IsTooMuch sizes (load files bytes)))
-    → IfSome told (λ files. refusal_of_file files (files name) sizes ≡ None → library2 ≡ library → rack2 ≡ rack → sink2 ≡ sink → NoneFailed blocks
-    → IfSome (files name) (λ bytes. HasRoom sizes (load files bytes)) → IsCompleted told end)
-named_completed None library library2 sink sink2 rack rack2 blocks sizes load name end answer causes above = tt
-named_completed (Some files) library library2 sink sink2 rack rack2 blocks sizes load name end answer causes above =
-    file_completed (Some files) library library2 sink sink2 rack rack2 blocks sizes files (load files) (files name) end answer causes above
+    (told : Option Files) (name : List ℕ) (sizes : Numbers) (load : (ℕ → List Pair) → List Command → ℕ) (end : End)
+    → IfSome told (λ files. IsAnswer (refusal_of_file files (files name) sizes) end) → ((line said got : ℕ) → end ≡ FileChanged line said got → told ≡ None)
+    → (end ≡ NoFreeBlock → OfFile told name sizes (IsTooLarge load)) → NoFault end
+    → IfSome told (λ files. IfSome (files name) (λ bytes. EndsWell load sizes files bytes end))
+named_completed None name sizes load end answer changed above fault = tt
+named_completed (Some files) name sizes load end answer changed above fault = file_completed files (files name) sizes load end answer changed above fault

@@ -5,8 +5,13 @@ use Rattle.ppq_outside.specs.Told.{TakesAll}
 use Rattle.ppq_budget.specs.Sizes.{Numbers}
 use Rattle.ppq_words.specs.Reading.{Reading}
 use Rattle.ppq_engine.specs.declared.end.End.TheVariants.{Done}
-use Rattle.ppq_cli.specs.Words.{refusal_of, refusal_of_file, IsAnswer, OfScript, script_output}
+use Rattle.ppq_engine.specs.Output.{output_of}
+use Rattle.ppq_cli.specs.RunWords.{Files, script_given, script_commands, OfFile, refusal_of, refusal_of_file, IsAnswer}
 use Rattle.ppq_cli.specs.Twice.{WriteTheSame, NameOneScript}
+
+-- what a script of these bytes writes
+abbrev script_output : Files → List ℕ → List ℕ
+script_output files bytes = output_of (script_given files bytes) (script_commands files bytes)
 
 -- a file that was run to its end, and what the sink took
 record Written (files : List ℕ → Option (List ℕ)) (file : Option (List ℕ)) (before now : Option (List ℕ)) : Type 0 where
@@ -28,8 +33,8 @@ same_file files file before now other_before other_now one other =
 
 pub write_the_same :
     (told : Option (List ℕ → Option (List ℕ))) (reading other : Option Reading) (before now other_before other_now : Option (List ℕ)) → NameOneScript reading other
-    → IfSome told (λ files. IsAnswer (refusal_of reading files) Done) → OfScript told reading (λ r files bytes. TakesAll before now (script_output files bytes))
-    → IfSome told (λ files. IsAnswer (refusal_of other files) Done) → OfScript told other (λ r files bytes. TakesAll other_before other_now (script_output files bytes))
+    → IfSome told (λ files. IsAnswer (refusal_of reading files) Done) → IfSome reading (λ r. OfFile told r.script r.sizes (λ sizes given commands. TakesAll before now (output_of given commands)))
+    → IfSome told (λ files. IsAnswer (refusal_of other files) Done) → IfSome other (λ r. OfFile told r.script r.sizes (λ sizes given commands. TakesAll other_before other_now (output_of given commands)))
     → IfSome told (λ files. WriteTheSame before now other_before other_now)
 write_the_same None reading other before now other_before other_now one answer took other_answer other_took = tt
 write_the_same (Some files) None other before now other_before other_now one answer took other_answer other_took = absurd one

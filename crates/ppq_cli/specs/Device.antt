@@ -9,7 +9,7 @@ use Rattle.ppq_outside.specs.Told.{Rose}
 use Rattle.ppq_outside.specs.Shown.{Shown}
 use Rattle.ppq_budget.specs.Sizes.{Numbers}
 use Rattle.ppq_queue.specs.Holding.{IsNewSlot}
-use Rattle.ppq_engine.specs.Ends.{IsRun}
+use Rattle.ppq_engine.specs.Ends.{BeganCommands}
 use Rattle.ppq_engine.specs.declared.end.End.{End}
 use Rattle.ppq_engine.specs.declared.end.End.TheVariants as end
 
@@ -55,4 +55,4 @@ pub record AreBlocks (sizes : Numbers) (answer : End) (slots : List Shown) : Typ
   pub numbers : IsPermutation (map (λ s. s.number) slots) (range_with_len 0 (length slots))
   pub most : length slots ≤ sizes.blocks
   pub all : IsSurelyRun answer → length slots ≡ sizes.blocks
-  pub all_or_none : IsRun answer → (length slots ≡ sizes.blocks) ⊎ (length slots ≡ 0)
+  pub all_or_none : BeganCommands answer → (length slots ≡ sizes.blocks) ⊎ (length slots ≡ 0)

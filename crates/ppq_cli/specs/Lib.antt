@@ -2,6 +2,6 @@ pub mod Device
 pub mod Load
 pub mod Replies
 pub mod Report
+pub mod RunWords
 pub mod Status
 pub mod Twice
-pub mod Words

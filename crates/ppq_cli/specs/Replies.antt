@@ -97,22 +97,22 @@ OfRun told replied name sizes P = (fixed_of sizes ≤ sizes.memory) × OfGood to
 abbrev pub IsTooSmall : Numbers → ℕ → Type 0
 IsTooSmall sizes need = (sizes.memory < fixed_of sizes) × (need ≡ fixed_of sizes)
 
--- the end refuses the script, and rests on what the library replied of it and its files
-abbrev pub IsRefusal : Option (List ℕ → Option (List ℕ)) → (Reply → Type 0) → List ℕ → Numbers → End → Type 0
-IsRefusal told replied name sizes Done = ⊤
-IsRefusal told replied name sizes (BadLine line) = IsBadAt replied name line
-IsRefusal told replied name sizes Usage = ⊥
-IsRefusal told replied name sizes ReadFault = ⊤
-IsRefusal told replied name sizes WriteFault = ⊤
-IsRefusal told replied name sizes (DeviceFault number) = ⊤
-IsRefusal told replied name sizes NoFreeBlock = ⊤
-IsRefusal told replied name sizes (BudgetTooSmall need) = IsTooSmall sizes need × OfGood told replied name sizes (λ script. ⊤)
-IsRefusal told replied name sizes Memory = ⊤
-IsRefusal told replied name sizes (FileChanged line said got) =
+-- if the end refuses the script, that rests on what the library replied of it and its files
+abbrev pub RefusalIsRight : Option (List ℕ → Option (List ℕ)) → (Reply → Type 0) → List ℕ → Numbers → End → Type 0
+RefusalIsRight told replied name sizes Done = ⊤
+RefusalIsRight told replied name sizes (BadLine line) = IsBadAt replied name line
+RefusalIsRight told replied name sizes Usage = ⊥
+RefusalIsRight told replied name sizes ReadFault = ⊤
+RefusalIsRight told replied name sizes WriteFault = ⊤
+RefusalIsRight told replied name sizes (DeviceFault number) = ⊤
+RefusalIsRight told replied name sizes NoFreeBlock = ⊤
+RefusalIsRight told replied name sizes (BudgetTooSmall need) = IsTooSmall sizes need × OfGood told replied name sizes (λ script. ⊤)
+RefusalIsRight told replied name sizes Memory = ⊤
+RefusalIsRight told replied name sizes (FileChanged line said got) =
     IsCutShort told replied name line said got ⊎ OfRun told replied name sizes (λ script. HasChanged told replied script line said got)
-IsRefusal told replied name sizes NoDevice = OfRun told replied name sizes (λ script. ⊤)
-IsRefusal told replied name sizes NoScript = replied (OfLength name None)
-IsRefusal told replied name sizes ScriptTooLong = IsTooLong replied name
+RefusalIsRight told replied name sizes NoDevice = OfRun told replied name sizes (λ script. ⊤)
+RefusalIsRight told replied name sizes NoScript = replied (OfLength name None)
+RefusalIsRight told replied name sizes ScriptTooLong = IsTooLong replied name
 
 -- What follows is of a script that was run: where blocks and sink tell, and for all files that the library tells, or any where the
 -- script reads none.
@@ -120,6 +120,10 @@ IsRefusal told replied name sizes ScriptTooLong = IsTooLong replied name
 -- the fact holds of the records of its files and its commands
 abbrev pub ForFiles : Type 0 → Option (List ℕ → Option (List ℕ)) → Reading → ((ℕ → List Pair) → List Command → Type 0) → Type 0
 ForFiles tells told script P = tells → (files : List ℕ → Option (List ℕ)) → AreFilesOf told script files → P (given_of files script) (command_list script)
+
+-- the same of a script that was loaded, with its sizes
+abbrev pub OfLoaded : {K L : Type 0} → (K → Type 0) → K → (L → Option (List ℕ → Option (List ℕ))) → L → Reading → Numbers → (Numbers → (ℕ → List Pair) → List Command → Type 0) → Type 0
+OfLoaded tells rack told library script sizes P = ForFiles (tells rack) (told library) script (P sizes)
 
 -- The sink took all of the output. The device was used: no more records than the budget and a block for each write were ever held.
 pub record HasRunWhole (tells : Type 0) (told : Option (List ℕ → Option (List ℕ))) (sizes : Numbers) (before now : Option (List ℕ)) (blocks : List Shown) (script : Reading) : Type 0 where
@@ -147,6 +151,10 @@ pub record HasRunToFile (tells : Type 0) (told : Option (List ℕ → Option (Li
   pub here : slice_get (command_list script) done ≡ Some (Bulk file size)
   pub took : ForFiles tells told script (λ given commands. TakesAll before now (output_of given (take done commands)))
 
+-- where memory was wanting: nothing was written, or the output of the commands before one that reads a file
+abbrev pub RanToFile : Type 0 → Option (List ℕ → Option (List ℕ)) → Option (List ℕ) → Option (List ℕ) → Reading → Type 0
+RanToFile tells told before now script = (now ≡ before) ⊎ HasRunToFile tells told before now script
+
 -- where a file could not be read, or had changed, the sink took the output of the commands before one that reads a file
 abbrev pub FaultToFile : Type 0 → Option (List ℕ → Option (List ℕ)) → Option (List ℕ) → Option (List ℕ) → Reading → End → Type 0
 FaultToFile tells told before now script Done = ⊤
@@ -163,19 +171,19 @@ FaultToFile tells told before now script NoDevice = ⊤
 FaultToFile tells told before now script NoScript = ⊤
 FaultToFile tells told before now script ScriptTooLong = ⊤
 
--- The end is that of a run of the script as the library gave it. After `ReadFault`, `FileChanged` and `Memory` nothing was written, or
--- the script reads a file and was run as far as that.
-abbrev pub IsRunOf : Type 0 → Option (List ℕ → Option (List ℕ)) → (Reply → Type 0) → List ℕ → Numbers → Option (List ℕ) → Option (List ℕ) → List Shown → End → Type 0
-IsRunOf tells told replied name sizes before now blocks Done = OfRun told replied name sizes (HasRunWhole tells told sizes before now blocks)
-IsRunOf tells told replied name sizes before now blocks (BadLine line) = ⊤
-IsRunOf tells told replied name sizes before now blocks Usage = ⊤
-IsRunOf tells told replied name sizes before now blocks ReadFault = (now ≡ before) ⊎ OfRun told replied name sizes (HasRunToFile tells told before now)
-IsRunOf tells told replied name sizes before now blocks WriteFault = OfRun told replied name sizes (HasRunPart tells told before now)
-IsRunOf tells told replied name sizes before now blocks (DeviceFault number) = OfRun told replied name sizes (HasRunPart tells told before now)
-IsRunOf tells told replied name sizes before now blocks NoFreeBlock = OfRun told replied name sizes (HasRunFull tells told sizes before now)
-IsRunOf tells told replied name sizes before now blocks (BudgetTooSmall need) = ⊤
-IsRunOf tells told replied name sizes before now blocks Memory = (now ≡ before) ⊎ OfGood told replied name sizes (HasRunToFile tells told before now)
-IsRunOf tells told replied name sizes before now blocks (FileChanged line said got) = (now ≡ before) ⊎ OfRun told replied name sizes (HasRunToFile tells told before now)
-IsRunOf tells told replied name sizes before now blocks NoDevice = ⊤
-IsRunOf tells told replied name sizes before now blocks NoScript = ⊤
-IsRunOf tells told replied name sizes before now blocks ScriptTooLong = ⊤
+-- If the end is that of a run, it is one of the script as the library gave it. After `ReadFault`, `FileChanged` and `Memory` nothing was
+-- written, or the script reads a file and was run as far as that.
+abbrev pub RunIsRight : Type 0 → Option (List ℕ → Option (List ℕ)) → (Reply → Type 0) → List ℕ → Numbers → Option (List ℕ) → Option (List ℕ) → List Shown → End → Type 0
+RunIsRight tells told replied name sizes before now blocks Done = OfRun told replied name sizes (HasRunWhole tells told sizes before now blocks)
+RunIsRight tells told replied name sizes before now blocks (BadLine line) = ⊤
+RunIsRight tells told replied name sizes before now blocks Usage = ⊤
+RunIsRight tells told replied name sizes before now blocks ReadFault = (now ≡ before) ⊎ OfRun told replied name sizes (HasRunToFile tells told before now)
+RunIsRight tells told replied name sizes before now blocks WriteFault = OfRun told replied name sizes (HasRunPart tells told before now)
+RunIsRight tells told replied name sizes before now blocks (DeviceFault number) = OfRun told replied name sizes (HasRunPart tells told before now)
+RunIsRight tells told replied name sizes before now blocks NoFreeBlock = OfRun told replied name sizes (HasRunFull tells told sizes before now)
+RunIsRight tells told replied name sizes before now blocks (BudgetTooSmall need) = ⊤
+RunIsRight tells told replied name sizes before now blocks Memory = (now ≡ before) ⊎ OfGood told replied name sizes (HasRunToFile tells told before now)
+RunIsRight tells told replied name sizes before now blocks (FileChanged line said got) = (now ≡ before) ⊎ OfRun told replied name sizes (HasRunToFile tells told before now)
+RunIsRight tells told replied name sizes before now blocks NoDevice = ⊤
+RunIsRight tells told replied name sizes before now blocks NoScript = ⊤
+RunIsRight tells told replied name sizes before now blocks ScriptTooLong = ⊤

@@ -9,10 +9,10 @@ use std::alloc::Global;
 use std::fs;
 use std::test::Fail;
 
-/// Sizes by which a file is read by four records at once, and the third record of a queue is written.
+// Sizes by which a file is read by four records at once, and the third record of a queue is written.
 const SIZES: &str = "--blocks 1700 --workers 2 --block 2 --heap 1 --memory 1872";
 
-/// What the program gives: its status, what it writes and what it reports.
+// What the program gives: its status, what it writes and what it reports.
 #[derive(Drop)]
 struct Outcome {
     status: u8,
@@ -20,7 +20,7 @@ struct Outcome {
     reported: Vec<u8>,
 }
 
-/// What the program gives for a script that is written into a folder, with this device, over a library.
+// What the program gives for a script that is written into a folder, with this device, over a library.
 fn outcome_of<H: Host, L: Library>(
     rt: &H,
     alloc: Global,
@@ -56,7 +56,7 @@ where
     })
 }
 
-/// A file of two records, `5 1` and `3 9`.
+// A file of two records, `5 1` and `3 9`.
 const TWO: &[u8] = b"\0\0\0\0\0\0\0\x05\0\0\0\0\0\0\0\x01\0\0\0\0\0\0\0\x03\0\0\0\0\0\0\0\x09";
 
 #[test]
@@ -111,7 +111,7 @@ fn a_record_file_is_loaded_or_its_line_is_refused(rt: HostRuntime) -> Result<(),
     Ok(())
 }
 
-/// The name of a file in the folder of the test of long names, with so many bytes in all.
+// The name of a file in the folder of the test of long names, with so many bytes in all.
 fn name_of(alloc: Global, length: usize) -> Result<String, Fail> {
     let mut name = "ppq_cli_name/".to_string(alloc)?;
     for _ in name.len()..length {
@@ -146,11 +146,11 @@ fn a_name_of_255_bytes_names_a_file_and_a_longer_one_does_not(rt: HostRuntime) -
     Ok(())
 }
 
-/// A record file that is cut.
+// A record file that is cut.
 const CUT: &str = "ppq_cli_cut/records";
 
-/// The files of the machine, of which somebody cuts the record file at 80 bytes once its first four
-/// records were read.
+// The files of the machine, of which somebody cuts the record file at 80 bytes once its first four
+// records were read.
 #[derive(Drop)]
 struct CutLibrary {
     files: DirLibrary,
@@ -185,6 +185,7 @@ impl Library for CutLibrary {
         into: &mut [u8],
     ) -> Result<usize, OutsideFault> {
         if name == CUT && at > 0 {
+            // If this fails, the test finds the file whole.
             let _ = fs::write(rt, CUT, [0u8; 80].as_slice());
         }
         self.files.read_at(rt, alloc, name, at, into)

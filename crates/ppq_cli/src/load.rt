@@ -14,7 +14,7 @@ use ppq_outside::{Host, Library, OutsideFault};
 use ppq_script::{CheckFault, Script, check_files, read};
 use std::alloc::Global;
 
-/// The longest script, in bytes.
+// The longest script, in bytes.
 const LONGEST: u64 = 1_048_576;
 
 /// Why a script was not loaded.
@@ -47,7 +47,7 @@ impl From<OutsideFault> for LoadFault {
     }
 }
 
-/// Reads further bytes of a file, from place `got` on, and says how many came.
+// Reads further bytes of a file, from place `got` on, and says how many came.
 fn read_more<H: Host, L: Library>(
     rt: &H,
     alloc: Global,
@@ -58,7 +58,8 @@ fn read_more<H: Host, L: Library>(
 ) -> Result<usize, OutsideFault>
     requires { got < length bytes.old }
     ensures count { IfOk result (λ count. got + count ≤ length bytes.new) }
-    ensures given { IfOk result (λ count. IsGiven (L.replied library.old) name.now (take got bytes.old) → IsGiven (L.replied library.new) name.now (take (got + count) bytes.new)) }
+    ensures given { IfOk result (λ count. IsGiven (L.replied library.old) name.now (take got bytes.old)
+        → IsGiven (L.replied library.new) name.now (take (got + count) bytes.new)) }
     ensures ends { IfOk result (λ count. count ≡ 0 → EndsAt (L.replied library.new) name.now got) }
     ensures remembers { Remembers (L.replied library.old) (L.replied library.new) }
     ensures asks { RepliesOnly (L.replied library.old) (L.replied library.new) (IsReadWithin name.now (length bytes.old)) }
@@ -70,7 +71,7 @@ fn read_more<H: Host, L: Library>(
     Ok(count)
 }
 
-/// The length of a script, where it is there and not too long.
+// The length of a script, where it is there and not too long.
 fn length_of_script<H: Host, L: Library>(
     rt: &H,
     alloc: Global,

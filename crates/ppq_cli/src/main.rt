@@ -14,12 +14,12 @@ mod load;
 mod program;
 mod report;
 mod run;
+mod run_words;
 #[cfg(test)]
 mod script_tests;
 mod status;
 #[cfg(test)]
 mod tests;
-mod top;
 mod twice;
 
 use ppq_edge::{DirLibrary, FileRack, StdSink};
@@ -31,7 +31,7 @@ use std::env::Env;
 use std::io::ErrorKind;
 use std::process::ExitCode;
 
-/// The words after the program's name. A word that is no UTF-8 text has no reading.
+// The words after the program's name. A word that is no UTF-8 text has no reading.
 fn words_of<R: Env + AllocGlobal>(rt: &R) -> Result<Vec<String>, End>
     ensures { IfErr result (λ end. (end ≡ Usage) ⊎ (end ≡ Memory)) }
 {

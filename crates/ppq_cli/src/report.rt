@@ -38,7 +38,7 @@ pub fn report<H: Host, O: Sink>(rt: &H, end: &End, out: &mut O) -> Result<(), Fa
     }
 }
 
-/// Puts the line of a file that changed.
+// Puts the line of a file that changed.
 fn put_changed<H: Host, O: Sink>(
     rt: &H,
     line: u32,
@@ -61,7 +61,7 @@ fn put_changed<H: Host, O: Sink>(
     put_number(rt, b"", got, b"\n", out)
 }
 
-/// Puts a number in decimal between two texts.
+// Puts a number in decimal between two texts.
 fn put_number<H: Host, O: Sink>(
     rt: &H,
     before: &[u8],

@@ -1,17 +1,18 @@
 //! Runs a script over a device.
 ghost use Rattle.std.specs.Prelude.{◌≡◌, ◌≤◌, ◌⊎◌, ℕ, List, Option, [], Some, IsTrue, map};
 ghost use Rattle.ppq_array.specs.Kept.{HasFailed};
-ghost use Rattle.ppq_outside.specs.Told.{TakesAll, TakesPart, Rose, Remembers, RepliesOnly};
+ghost use Rattle.ppq_outside.specs.Told.{Rose, Remembers, RepliesOnly};
 ghost use Rattle.ppq_outside.specs.Made.{HasMadeJust};
 ghost use Rattle.ppq_script.specs.Reading.{command_list};
 ghost use Rattle.ppq_engine.specs.Loads.{most_of, least_of, IsTooMuch, FitsWritten};
-ghost use Rattle.ppq_engine.specs.Output.{output_of, load_of, crest_of, KeepsLengths, TakesWithin};
+ghost use Rattle.ppq_engine.specs.Output.{load_of, crest_of, KeepsLengths};
 ghost use Rattle.ppq_engine.specs.Running.{HasChanged};
 ghost use Rattle.ppq_engine.specs.Files.{IsReadInScript};
 ghost use Rattle.ppq_engine.specs.Ends.{budget_refusal, NoFault};
-ghost use Rattle.ppq_engine.specs.declared.end.End.TheVariants.{Done, ReadFault, WriteFault, DeviceFault, NoFreeBlock, Memory, FileChanged, NoDevice};
-ghost use Rattle.ppq_cli.specs.Replies.{ForFiles, HasRunPart, HasRunToFile, FaultToFile};
-ghost use Rattle.ppq_cli.specs.Words.{IsTriedOrRefusal, MayWrite};
+ghost use Rattle.ppq_engine.specs.declared.end.End.TheVariants.{Done, ReadFault, WriteFault, DeviceFault, NoFreeBlock, NoDevice};
+ghost use Rattle.ppq_engine.specs.declared.end.End.TheVariants.{Memory, FileChanged};
+ghost use Rattle.ppq_cli.specs.Replies.{OfLoaded, HasRunPart, RanToFile, FaultToFile};
+ghost use Rattle.ppq_cli.specs.RunWords.{WritesAll, WritesRoom, MayWrite, UsesDevice, IsTriedOrRefusal, IsTooLarge};
 ghost use Rattle.ppq_cli.specs.Device.{AreBlocks, make_end};
 
 use crate::device::make_blocks;
@@ -32,7 +33,7 @@ pub fn without_blocks<S: Slot>(alloc: Global, end: End) -> Ended<S>
     }
 }
 
-/// Why a device was not made, as an end.
+// Why a device was not made, as an end.
 fn end_of_making(fault: OutsideFault) -> End
     ensures { result ≡ make_end fault }
 {
@@ -61,34 +62,41 @@ where
     requires checked { IsTrue script.now.checked }
     requires workers { script.now.workers ≡ sizes.workers }
     requires lengths { (files : List ℕ → Option (List ℕ)) → L.told library.old ≡ Some files → KeepsLengths files script.now }
-    ensures done { result.end ≡ Done → ForFiles (K.tells rack.old) (L.told library.old) script.now (λ given commands. TakesAll (O.told out.old) (O.told out.new) (output_of given commands)) }
+
+    // What is written, by the files that the library tells, or any where the script reads none; all blocks that were made come back.
+    ensures done { result.end ≡ Done → OfLoaded K.tells rack.old L.told library.old script.now sizes (WritesAll O.told out.old out.new) }
     ensures part { HasRunPart (K.tells rack.old) (L.told library.old) (O.told out.old) (O.told out.new) script.now }
-    ensures within { result.end ≡ NoFreeBlock → ForFiles (K.tells rack.old) (L.told library.old) script.now (λ given commands. TakesWithin given (O.told out.old) (O.told out.new) sizes commands) }
-    ensures memory { result.end ≡ Memory → (O.told out.new ≡ O.told out.old) ⊎ HasRunToFile (K.tells rack.old) (L.told library.old) (O.told out.old) (O.told out.new) script.now }
+    ensures room { result.end ≡ NoFreeBlock
+        → OfLoaded K.tells rack.old L.told library.old script.now sizes (WritesRoom O.told out.old out.new) }
+    ensures memory { result.end ≡ Memory → RanToFile (K.tells rack.old) (L.told library.old) (O.told out.old) (O.told out.new) script.now }
     ensures file { FaultToFile (K.tells rack.old) (L.told library.old) (O.told out.old) (O.told out.new) script.now result.end }
     ensures nothing { MayWrite result.end ⊎ (O.told out.new ≡ O.told out.old) }
+    ensures used { result.end ≡ Done
+        → OfLoaded K.tells rack.old L.told library.old script.now sizes (UsesDevice crest_of K.Slot.shown result) }
+    ensures used_any { result.end ≡ Done → FitsWritten (least_of (command_list script.now)) sizes (map K.Slot.shown result.blocks.items) }
+    ensures made { HasMadeJust (K.made rack.old) (K.made rack.new) (map (λ slot. (K.Slot.shown slot).number) result.blocks.items) }
+    ensures blocks { AreBlocks sizes result.end (map K.Slot.shown result.blocks.items) }
+    ensures rack_tells { K.tells rack.old → K.tells rack.new }
+    ensures files { L.told library.new ≡ L.told library.old }
+    ensures remembers { Remembers (L.replied library.old) (L.replied library.new) }
+    ensures asks { RepliesOnly (L.replied library.old) (L.replied library.new) (IsReadInScript script.now) }
+
+    // When each outcome comes: each has its cause, and a count of faults rises only with an outcome that names a fault.
     ensures answer { IsTriedOrRefusal (budget_refusal sizes) result.end }
     ensures read { result.end ≡ ReadFault → Rose (L.faults library.old) (L.faults library.new) }
     ensures write { result.end ≡ WriteFault → Rose (O.faults out.old) (O.faults out.new) }
     ensures device { result.end ≡ NoDevice → Rose (K.faults rack.old) (K.faults rack.new) }
     ensures failed { (number : ℕ) → result.end ≡ DeviceFault number → HasFailed number (map K.Slot.shown result.blocks.items) }
-    ensures above { result.end ≡ NoFreeBlock → ForFiles (K.tells rack.old) (L.told library.old) script.now (λ given commands. IsTooMuch sizes (load_of given commands)) }
+    ensures above { result.end ≡ NoFreeBlock → OfLoaded K.tells rack.old L.told library.old script.now sizes (IsTooLarge load_of) }
     ensures above_any { result.end ≡ NoFreeBlock → IsTooMuch sizes (most_of (command_list script.now)) }
-    ensures changed { (line said got : ℕ) → result.end ≡ FileChanged line said got → HasChanged (L.told library.old) (L.replied library.new) script.now line said got }
-    ensures used { result.end ≡ Done → ForFiles (K.tells rack.old) (L.told library.old) script.now (λ given commands. FitsWritten (crest_of given commands) sizes (map K.Slot.shown result.blocks.items)) }
-    ensures used_any { result.end ≡ Done → FitsWritten (least_of (command_list script.now)) sizes (map K.Slot.shown result.blocks.items) }
-    ensures files { L.told library.new ≡ L.told library.old }
-    ensures remembers { Remembers (L.replied library.old) (L.replied library.new) }
-    ensures asks { RepliesOnly (L.replied library.old) (L.replied library.new) (IsReadInScript script.now) }
+    ensures changed { (line said got : ℕ) → result.end ≡ FileChanged line said got
+        → HasChanged (L.told library.old) (L.replied library.new) script.now line said got }
     ensures library_later { L.faults library.old ≤ L.faults library.new }
     ensures library_stays { NoFault result.end → L.faults library.new ≡ L.faults library.old }
     ensures rack_later { K.faults rack.old ≤ K.faults rack.new }
     ensures rack_stays { NoFault result.end → K.faults rack.new ≡ K.faults rack.old }
-    ensures rack_tells { K.tells rack.old → K.tells rack.new }
     ensures sink_later { O.faults out.old ≤ O.faults out.new }
     ensures sink_stays { NoFault result.end → O.faults out.new ≡ O.faults out.old }
-    ensures made { HasMadeJust (K.made rack.old) (K.made rack.new) (map (λ slot. (K.Slot.shown slot).number) result.blocks.items) }
-    ensures blocks { AreBlocks sizes result.end (map K.Slot.shown result.blocks.items) }
 {
     let need = sizes.fixed();
     if sizes.memory() < need {

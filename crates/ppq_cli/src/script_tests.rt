@@ -7,7 +7,7 @@ use ppq_outside::{Host, Library, MemLibrary, MemRack, MemSink, MemSlot, Rack, Sl
 use std::alloc::Global;
 use std::test::Fail;
 
-/// A library with a script, an empty file `e`, and a file `f` of so many records `7 7`.
+// A library with a script, an empty file `e`, and a file `f` of so many records `7 7`.
 fn library_of(alloc: Global, script: &[u8], sevens: usize) -> Result<MemLibrary, Fail>
     ensures { IfOk result (λ library. ⟦<MemLibrary as Library>⟧.faults library ≡ 0) }
 {
@@ -22,7 +22,7 @@ fn library_of(alloc: Global, script: &[u8], sevens: usize) -> Result<MemLibrary,
     Ok(library)
 }
 
-/// How a script ends under these words, with two records in `f`, and what it writes.
+// How a script ends under these words, with two records in `f`, and what it writes.
 fn outcome<H: Host>(
     rt: &H,
     alloc: Global,
@@ -132,7 +132,7 @@ fn the_output_is_the_same_whatever_the_sizes(rt: HostRuntime) -> Result<(), Fail
     Ok(())
 }
 
-/// How a script ends under the sizes over a rack, and what it writes.
+// How a script ends under the sizes over a rack, and what it writes.
 fn over_rack<H: Host>(
     rt: &H,
     alloc: Global,
@@ -171,7 +171,7 @@ fn a_block_that_cannot_be_read_again_is_named(rt: HostRuntime) -> Result<(), Fai
     Ok(())
 }
 
-/// So many times a line.
+// So many times a line.
 fn lines(alloc: Global, line: &[u8], count: usize) -> Result<Vec<u8>, Fail> {
     let mut all = Vec::new(alloc);
     for _ in 0..count {

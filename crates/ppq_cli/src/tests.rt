@@ -3,8 +3,8 @@ ghost use Rattle.std.specs.Prelude.{◌≡◌, ◌<◌, ◌^◌, None, IfOk, ⊤
 
 use crate::program::{report_end, run_and_report};
 use crate::report::report;
+use crate::run_words::run_words;
 use crate::status::status;
-use crate::top::run_words;
 use crate::twice::run_twice;
 use crate::words_of;
 use ppq_edge::{DirLibrary, FileRack};
@@ -61,7 +61,7 @@ where
     Ok(run_words(rt, alloc, &words, library, rack, &OpenGate, sink))
 }
 
-/// The end of a script under these sizes, and what it wrote.
+// The end of a script under these sizes, and what it wrote.
 fn outcome<H: Host>(rt: &H, alloc: Global, script: &[u8]) -> Result<(End, Vec<u8>), Fail>
 where
     H::Dir: Send,
@@ -261,8 +261,8 @@ fn a_library_that_fails_is_a_read_fault(rt: HostRuntime) -> Result<(), Fail> {
     Ok(())
 }
 
-/// A library whose only file comes in pieces of a few bytes, and has maybe fewer than it says. It does
-/// not tell.
+// A library whose only file comes in pieces of a few bytes, and has maybe fewer than it says. It does
+// not tell.
 #[derive(Drop)]
 struct PieceLibrary {
     bytes: &'static [u8],
@@ -334,7 +334,7 @@ fn a_script_comes_in_pieces_or_ends_before_its_length(rt: HostRuntime) -> Result
     Ok(())
 }
 
-/// The end of a script under these sizes over a library, and what it wrote.
+// The end of a script under these sizes over a library, and what it wrote.
 fn outcome_over<H: Host>(
     rt: &H,
     alloc: Global,
@@ -349,10 +349,10 @@ where
     Ok((ended.end, sink.bytes().to_vec(alloc)?))
 }
 
-/// A file of two records, `5 1` and `3 9`.
+// A file of two records, `5 1` and `3 9`.
 const TWO: &[u8] = b"\0\0\0\0\0\0\0\x05\0\0\0\0\0\0\0\x01\0\0\0\0\0\0\0\x03\0\0\0\0\0\0\0\x09";
 
-/// A library with a script, the file `f` of two records, and the file `long` of 33 bytes.
+// A library with a script, the file `f` of two records, and the file `long` of 33 bytes.
 fn library_with_files(alloc: Global, script: &[u8]) -> Result<MemLibrary, Fail>
     ensures { IfOk result (λ library. ⟦<MemLibrary as Library>⟧.faults library ≡ 0) }
 {
@@ -449,7 +449,7 @@ fn other_sizes_write_the_same(rt: HostRuntime) -> Result<(), Fail> {
     Ok(())
 }
 
-/// What the program over real files gives: its status, what it writes and what it reports.
+// What the program over real files gives: its status, what it writes and what it reports.
 #[derive(Drop)]
 struct ProgramRun {
     status: u8,
@@ -481,10 +481,10 @@ where
     })
 }
 
-/// The folder of the tests over real files.
+// The folder of the tests over real files.
 const FOLDER: &str = "ppq_cli_test";
 
-/// The same sizes as in memory, with a script in the folder, and a device without its name.
+// The same sizes as in memory, with a script in the folder, and a device without its name.
 const REAL: &str =
     "run ppq_cli_test/s.ppq --blocks 200 --workers 2 --block 2 --heap 1 --memory 372 --device";
 
@@ -522,7 +522,7 @@ fn the_program_runs_over_real_files(rt: HostRuntime) -> Result<(), Fail> {
     Ok(())
 }
 
-/// The words of a command line, as bytes that may be no text.
+// The words of a command line, as bytes that may be no text.
 #[derive(Drop)]
 struct CommandLine {
     words: &'static [&'static [u8]],
@@ -579,7 +579,7 @@ fn words_without_a_reading_are_reported(rt: HostRuntime) -> Result<(), Fail> {
     Ok(())
 }
 
-/// The report of an end, and its status.
+// The report of an end, and its status.
 fn reported<H: Host>(rt: &H, alloc: Global, end: End) -> Result<(u8, Vec<u8>), Fail> {
     let mut errors = MemSink::new(alloc, ROOM)?;
     if report(rt, &end, &mut errors).is_err() {

@@ -1,10 +1,10 @@
 //! Two runs of one script.
 ghost use Rattle.std.specs.Prelude.{◌≡◌, ◌<◌, ◌^◌, IfSome};
-ghost use Rattle.ppq_words.specs.Reading.{reading_of, texts_of};
+ghost use Rattle.ppq_cli.specs.RunWords.{reading};
 ghost use Rattle.ppq_cli.specs.Twice.{WriteTheSame, NameOneScript};
 ghost use Rattle.ppq_engine.specs.declared.end.End.TheVariants.{Done};
 
-use crate::top::run_words;
+use crate::run_words::run_words;
 use ppq_engine::End;
 use ppq_outside::{Gate, Host, Library, Rack, Sink};
 use std::alloc::Global;
@@ -46,7 +46,9 @@ where
     requires sink { O.faults out.old < 2 ^ 63 }
     requires other_rack { OtherK.faults other_rack.old < 2 ^ 63 }
     requires other_sink { OtherO.faults other_out.old < 2 ^ 63 }
-    ensures same { result ≡ Done → K.tells rack.old → OtherK.tells other_rack.old → NameOneScript (reading_of (texts_of words.now)) (reading_of (texts_of other_words.now)) → IfSome (L.told library.old) (λ _. WriteTheSame (O.told out.old) (O.told out.new) (OtherO.told other_out.old) (OtherO.told other_out.new)) }
+    ensures same { result ≡ Done → K.tells rack.old → OtherK.tells other_rack.old
+        → NameOneScript (reading words.now) (reading other_words.now) → IfSome (L.told library.old) (λ _.
+        WriteTheSame (O.told out.old) (O.told out.new) (OtherO.told other_out.old) (OtherO.told other_out.new)) }
 {
     let first = run_words(rt, alloc, words, library, rack, gate, out);
     match first.end {

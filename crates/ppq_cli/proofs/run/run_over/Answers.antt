@@ -43,8 +43,8 @@ returns-in-Ok-clause-nothing g c = may_write _ c.args.sizes c.run_script.result.
 pub returns-in-Ok-clause-done : goal.returns-in-Ok-clause-done
 returns-in-Ok-clause-done g c = λ is t. c.run_script.ensures.done is (c.in-Ok.ensures.tells t)
 
-pub returns-in-Ok-clause-within : goal.returns-in-Ok-clause-within
-returns-in-Ok-clause-within g c = λ is t. c.run_script.ensures.within is (c.in-Ok.ensures.tells t)
+pub returns-in-Ok-clause-room : goal.returns-in-Ok-clause-room
+returns-in-Ok-clause-room g c = λ is t. c.run_script.ensures.within is (c.in-Ok.ensures.tells t)
 
 pub returns-in-Ok-clause-above : goal.returns-in-Ok-clause-above
 returns-in-Ok-clause-above g c = λ is t. c.run_script.ensures.above is (c.in-Ok.ensures.tells t)

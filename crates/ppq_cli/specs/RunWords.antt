@@ -1,0 +1,137 @@
+-- The words of the contract of `run_words`, in the order of its clauses. `run_over`, `run_and_report` and `run_twice` use them too.
+use Rattle.std.specs.Prelude.{◌≡◌, ◌⊎◌, ℕ, List, length, Option, Some, None, if◌then◌else◌, IfSome, nat_lt, MatchOption, map, String}
+use Rattle.std.specs.declared.alloc.Global.{Global}
+use Rattle.ppq_record.specs.declared.pair.Pair.{Pair}
+use Rattle.ppq_record.specs.Given.{records_of}
+use Rattle.ppq_outside.specs.Shown.{Shown}
+use Rattle.ppq_outside.specs.Told.{Reply, TakesAll, TakesPart, bytes_or_none}
+use Rattle.ppq_budget.specs.Sizes.{Numbers}
+use Rattle.ppq_script.specs.declared.command.Command.{Command}
+use Rattle.ppq_script.specs.Lines.{lines_of, numbered_of, names_of, first_bad_by}
+use Rattle.ppq_script.specs.Files.{name_at, is_usable}
+use Rattle.ppq_script.specs.Checking.{with_sizes}
+use Rattle.ppq_words.specs.Reading.{Reading, reading_of, texts_of}
+use Rattle.ppq_engine.specs.declared.end.End.{End}
+use Rattle.ppq_engine.specs.declared.end.End.TheVariants.{Done, BadLine, Usage, ReadFault, Memory, NoDevice, NoScript, ScriptTooLong}
+use Rattle.ppq_engine.specs.declared.end.Ended.{Ended}
+use Rattle.ppq_engine.specs.Output.{output_of, TakesWithin}
+use Rattle.ppq_engine.specs.Loads.{most_of, least_of, HasRoom, IsTooMuch, FitsWritten}
+use Rattle.ppq_engine.specs.Ends.{BeganCommands, budget_refusal}
+use Rattle.ppq_cli.specs.Replies.{RefusalIsRight, RunIsRight}
+
+-- The script that the words name.
+
+-- the files that a library tells: the bytes under each name, none where there is no file
+abbrev pub Files : Type 0
+Files = List ℕ → Option (List ℕ)
+
+-- what the words say, where they have a reading
+abbrev pub reading : List (String Global) → Option Reading
+reading words = reading_of (texts_of words)
+
+-- the fact holds of what the words say, where they have a reading
+abbrev pub OfWords : List (String Global) → (Reading → Type 0) → Type 0
+OfWords words P = IfSome (reading words) P
+
+-- the commands of a script of these bytes, where these are the files: each that reads one has its length
+abbrev pub script_commands : Files → List ℕ → List Command
+script_commands files bytes = map (λ n. n.command) (with_sizes files (names_of (lines_of bytes)) (numbered_of 1 (lines_of bytes)))
+
+-- the records of its file with this number
+abbrev pub script_given : Files → List ℕ → ℕ → List Pair
+script_given files bytes file = records_of (bytes_or_none (files (name_at (names_of (lines_of bytes)) file)))
+
+-- the fact holds of the sizes, of the records of the script's files and of its commands, where the library tells and has a script of this name
+abbrev pub OfFile : Option Files → List ℕ → Numbers → (Numbers → (ℕ → List Pair) → List Command → Type 0) → Type 0
+OfFile told name sizes P = IfSome told (λ files. IfSome (files name) (λ bytes. P sizes (script_given files bytes) (script_commands files bytes)))
+
+-- the same of the script that the words name
+abbrev pub OfScript : {L : Type 0} → (L → Option Files) → L → List (String Global) → (Numbers → (ℕ → List Pair) → List Command → Type 0) → Type 0
+OfScript told library words P = OfWords words (λ r. OfFile (told library) r.script r.sizes P)
+
+-- What is written: by what a sink tells before and now.
+
+-- all that the commands print
+abbrev pub WritesAll : {S : Type 0} → (S → Option (List ℕ)) → S → S → Numbers → (ℕ → List Pair) → List Command → Type 0
+WritesAll told before now sizes given commands = TakesAll (told before) (told now) (output_of given commands)
+
+-- a prefix of it
+abbrev pub WritesPart : {S : Type 0} → (S → Option (List ℕ)) → S → S → Numbers → (ℕ → List Pair) → List Command → Type 0
+WritesPart told before now sizes given commands = TakesPart (told before) (told now) (output_of given commands)
+
+-- at least what the first commands print, as long as there is room for their load
+abbrev pub WritesRoom : {S : Type 0} → (S → Option (List ℕ)) → S → S → Numbers → (ℕ → List Pair) → List Command → Type 0
+WritesRoom told before now sizes given commands = TakesWithin given (told before) (told now) sizes commands
+
+-- the ends after which something may have been written
+abbrev pub MayWrite : End → Type 0
+MayWrite end = BeganCommands end ⊎ (end ≡ Memory)
+
+-- if the script was run as the library gave it, all of that holds of what the sink took and of the blocks
+abbrev pub IfRan :
+    {K L O S : Type 0} → List (String Global) → (K → Type 0) → K → (L → Option Files) → L → (L → Reply → Type 0) → L
+    → (O → Option (List ℕ)) → O → O → (S → Shown) → Ended S → Type 0
+IfRan words tells rack told library replied later sink before now shown ended = OfWords words (λ r. RunIsRight (tells rack) (told library) (replied later) r.script r.sizes (sink before) (sink now) (map shown ended.blocks.items) ended.end)
+
+-- bounds of a script's load by its commands alone: for `load_of` and `crest_of`, which know what its files give
+abbrev pub most_by : (ℕ → List Pair) → List Command → ℕ
+most_by given commands = most_of commands
+
+abbrev pub least_by : (ℕ → List Pair) → List Command → ℕ
+least_by given commands = least_of commands
+
+-- the device was used: the load is no more than the budget and a block of records for each write of these blocks
+abbrev pub UsesDevice : {S : Type 0} → ((ℕ → List Pair) → List Command → ℕ) → (S → Shown) → Ended S → Numbers → (ℕ → List Pair) → List Command → Type 0
+UsesDevice load shown ended sizes given commands = FitsWritten (load given commands) sizes (map shown ended.blocks.items)
+
+-- When each outcome comes.
+
+-- the answer that refuses a script before its device is made, and none to another: first that it is not there, then that it is too
+-- long, then its first line that is bad or names a file that cannot be used, then that the budget is too small
+abbrev pub refusal_of_bad : Option ℕ → Numbers → Option End
+refusal_of_bad None sizes = budget_refusal sizes
+refusal_of_bad (Some line) sizes = Some (BadLine line)
+
+abbrev pub refusal_of_file : Files → Option (List ℕ) → Numbers → Option End
+refusal_of_file files None sizes = Some NoScript
+refusal_of_file files (Some bytes) sizes = if nat_lt 1048576 (length bytes) then Some ScriptTooLong else refusal_of_bad (first_bad_by (is_usable files) 1 (lines_of bytes)) sizes
+
+-- before all of them, that the words have no reading
+abbrev pub refusal_of : Option Reading → Files → Option End
+refusal_of None files = Some Usage
+refusal_of (Some r) files = refusal_of_file files (files r.script) r.sizes
+
+-- the script was run, or its device could not be made
+abbrev pub IsTried : End → Type 0
+IsTried end = BeganCommands end ⊎ (end ≡ NoDevice)
+
+-- want of memory or a failed read
+abbrev pub IsGivenUp : End → Type 0
+IsGivenUp end = (end ≡ Memory) ⊎ (end ≡ ReadFault)
+
+-- the refusal, where there is one, and only then; or it gave up
+abbrev pub IsAnswer : Option End → End → Type 0
+IsAnswer refusal end = MatchOption refusal (IsTried end) (λ e. end ≡ e) ⊎ IsGivenUp end
+
+-- the same of a script that was loaded: or memory was wanting
+abbrev pub IsTriedOrRefusal : Option End → End → Type 0
+IsTriedOrRefusal refusal end = MatchOption refusal (IsTried end) (λ e. end ≡ e) ⊎ (end ≡ Memory)
+
+-- an outcome that is right: by what the library replied, and by its files where it tells
+pub record IsOutcome {L : Type 0} (told : L → Option Files) (library : L) (replied : L → Reply → Type 0) (later : L) (words : List (String Global)) (end : End) : Type 0 where
+  pub refused : OfWords words (λ r. RefusalIsRight (told library) (replied later) r.script r.sizes end)
+  pub answer : IfSome (told library) (λ files. IsAnswer (refusal_of (reading words) files) end)
+
+-- the load is above one heap, and the device has too few blocks for it
+abbrev pub IsTooLarge : ((ℕ → List Pair) → List Command → ℕ) → Numbers → (ℕ → List Pair) → List Command → Type 0
+IsTooLarge load sizes given commands = IsTooMuch sizes (load given commands)
+
+-- Completeness.
+
+-- a script of these bytes that is not refused, and for whose load there is room, is done, or memory was wanting
+abbrev pub EndsWell : ((ℕ → List Pair) → List Command → ℕ) → Numbers → Files → List ℕ → End → Type 0
+EndsWell load sizes files bytes end = refusal_of_file files (Some bytes) sizes ≡ None → HasRoom sizes (load (script_given files bytes) (script_commands files bytes)) → (end ≡ Done) ⊎ (end ≡ Memory)
+
+-- the same of the script that the words name, where the library tells and has it
+abbrev pub Completes : {L : Type 0} → ((ℕ → List Pair) → List Command → ℕ) → (L → Option Files) → L → List (String Global) → End → Type 0
+Completes load told library words end = OfWords words (λ r. IfSome (told library) (λ files. IfSome (files r.script) (λ bytes. EndsWell load r.sizes files bytes end)))
