@@ -1,5 +1,5 @@
 -- Slots that are moved, written and read, one step after the other.
-use Rattle.std.proofs.Common.{◌≡◌, ℕ, ◌+◌, ◌*◌, ◌≤◌, List, [], ◌∷◌, ◌++◌, length, sum_by, refl, sym, ap, ◌∙◌, subst, arith}
+use Rattle.std.proofs.Common.{◌≡◌, ℕ, ◌+◌, ◌*◌, ◌≤◌, List, [], ◌∷◌, ◌++◌, length, sum_by, Option, Some, None, IsSome, refl, sym, ap, ap₂, ◌∙◌, subst, arith}
 use Rattle.std.proofs.lemmas.List.Sums.{sum_by-cons, sum_by-append}
 use Rattle.std.proofs.lemmas.List.Elements.{All-cons, All-head, All-nil}
 use Rattle.ppq_outside.specs.Shown.{Shown, Tells, AllTell}
@@ -10,7 +10,8 @@ use Rattle.ppq_spill.specs.Went.{Went}
 use Rattle.ppq_spill.specs.Writing.{Grew}
 use Rattle.ppq_spill.proofs.SameSlots.{SameSlots-refl, SameSlots-trans, SameSlots-grown}
 use Rattle.ppq_spill.proofs.Keeping.{sum_ones}
-use Rattle.ppq_spill.proofs.Telling.{untold, tell_sum, sum_tell}
+use Rattle.ppq_spill.specs.Untold.{untold, untold_of, SameUntold}
+use Rattle.ppq_spill.proofs.Telling.{tell_sum, sum_tell}
 
 abbrev w_of : Shown → ℕ
 w_of s = s.writes
@@ -98,3 +99,54 @@ pub went_untouched : (slots : List Shown) (o n : Stock) → n.kept ≡ o.kept �
 went_untouched slots o n kept drawn =
     subst (λ d. Went 0 0 (slots ++ o.kept ++ d) (slots ++ n.kept ++ o.drawn)) (sym drawn)
     (subst (λ k. Went 0 0 (slots ++ o.kept ++ o.drawn) (slots ++ k ++ o.drawn)) (sym kept) (Went-refl (slots ++ o.kept ++ o.drawn)))
+
+-- a slot that grew tells or does not, as before
+same_told : (s t : Option (List ℕ)) → (IsSome s → IsSome t) → (IsSome t → IsSome s) → untold_of s ≡ untold_of t
+same_told None None f g = refl
+same_told None (Some y) f g = absurd (none_some (g refl))
+  where
+    none_some : IsSome {T = List ℕ} None → ⊥
+    none_some h = cc
+same_told (Some x) None f g = absurd (none_some (f refl))
+  where
+    none_some : IsSome {T = List ℕ} None → ⊥
+    none_some h = cc
+same_told (Some x) (Some y) f g = refl
+
+pub untold_grown : (s t : Shown) → Grew s t → untold s ≡ untold t
+untold_grown s t grew = same_told s.told t.told grew.tells grew.told
+
+-- one slot more was called: as many do not tell
+pub untold_more : (base xs ys : List Shown) (s t : Shown) → SameUntold base (xs ++ s ∷ ys) → Grew s t → SameUntold base (xs ++ t ∷ ys)
+untold_more base xs ys s t before grew =
+    let e : sum_by untold base ≡ sum_by untold (xs ++ t ∷ ys) =
+    omega (arith, before, untold_grown s t grew, sum_by-append untold xs (s ∷ ys), sum_by-cons untold s ys, sum_by-append untold xs (t ∷ ys), sum_by-cons untold t ys) in
+    e
+
+-- of what is held and kept, only slots that were drawn were called
+pub untold_kept :
+    (e j k0 d1 b0 e' j' k1 d0 b k : List Shown) → ((f : Shown → ℕ) → sum_by f (k0 ++ d1) ≡ sum_by f (b0 ++ k ++ d0)) → SameUntold b0 b
+    → ((f : Shown → ℕ) → sum_by f e' + sum_by f j' + sum_by f k1 ≡ sum_by f e + sum_by f j + sum_by f k + sum_by f b)
+    → SameUntold (e ++ j ++ k0 ++ d1) (e' ++ j' ++ k1 ++ d0)
+untold_kept e j k0 d1 b0 e' j' k1 d0 b k moved same placed =
+    let all : sum_by untold (e ++ j ++ k0 ++ d1) ≡ sum_by untold (e' ++ j' ++ k1 ++ d0) =
+    omega (
+      arith,
+      four e j k0 d1,
+      four e' j' k1 d0,
+      moved untold,
+      placed untold,
+      same,
+      sum_by-append untold k0 d1,
+      sum_by-append untold (b0 ++ k) d0,
+      sum_by-append untold b0 k,
+    )
+    in
+    all
+  where
+    four : (a b c d : List Shown) → sum_by untold (a ++ b ++ c ++ d) ≡ sum_by untold a + sum_by untold b + sum_by untold c + sum_by untold d
+    four a b c d = omega (arith, sum_by-append untold (a ++ b ++ c) d, sum_by-append untold (a ++ b) c, sum_by-append untold a b)
+
+-- the supply's slots are as they were
+pub untold_untouched : (slots : List Shown) (o n : Stock) → n.kept ≡ o.kept → n.drawn ≡ o.drawn → SameUntold (slots ++ o.kept ++ n.drawn) (slots ++ n.kept ++ o.drawn)
+untold_untouched slots o n kept drawn = ap₂ (λ (k d : List Shown). sum_by untold (slots ++ k ++ d)) (sym kept) drawn

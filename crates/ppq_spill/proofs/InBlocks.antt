@@ -20,7 +20,8 @@ use Rattle.ppq_spill.specs.Moves.{SameSums, DrewSlots, FoundScant}
 use Rattle.ppq_spill.specs.Storing.{RunsAscend, BlocksStored, IsStored, SameScant, TooFew}
 use Rattle.ppq_spill.specs.Writing.{Writing, left_in}
 use Rattle.ppq_spill.proofs.Keeping.{slots_long}
-use Rattle.ppq_spill.proofs.Telling.{untold, tell_sum, sum_tell, tell_moved}
+use Rattle.ppq_spill.specs.Untold.{untold}
+use Rattle.ppq_spill.proofs.Telling.{tell_sum, sum_tell, tell_moved}
 
 nothing : {X : Type 0} (xs : List X) → length xs ≡ 0 → xs ≡ []
 nothing [] e = refl

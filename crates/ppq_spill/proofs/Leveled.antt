@@ -37,7 +37,8 @@ use Rattle.ppq_spill.specs.Making.{Hand, Table, table, table_slots, held_slots, 
 use Rattle.ppq_spill.proofs.Going.{Went-refl, Went-placed}
 use Rattle.ppq_spill.proofs.Parts.{hand_sum}
 use Rattle.ppq_spill.proofs.Keeping.{slots_long, sum_ones}
-use Rattle.ppq_spill.proofs.Telling.{untold, tell_sum, sum_tell, tell_part}
+use Rattle.ppq_spill.specs.Untold.{untold}
+use Rattle.ppq_spill.proofs.Telling.{tell_sum, sum_tell, tell_part}
 use Rattle.ppq_spill.proofs.Blocks.{fewer_than}
 use Rattle.ppq_spill.proofs.Fetches.{slots_counted}
 use Rattle.ppq_spill.proofs.Merges.{table_sum, fronts_most}

@@ -28,7 +28,8 @@ use Rattle.ppq_spill.specs.Making.{Hand, hand, hand_slots, SameRest, Wrote, Wrot
 use Rattle.ppq_spill.proofs.Going.{Went-refl, Went-trans, Went-placed}
 use Rattle.ppq_spill.proofs.Parts.{SameRest-trans, Wrote-none, hand_sum, hand_long}
 use Rattle.ppq_spill.proofs.Blocks.{counts_append, counts_full, full_fit, all_full, full_exact, packed_append, packed_full, fewer_than}
-use Rattle.ppq_spill.proofs.Telling.{untold, tell_part}
+use Rattle.ppq_spill.specs.Untold.{untold}
+use Rattle.ppq_spill.proofs.Telling.{tell_part}
 use Rattle.ppq_spill.proofs.Fetches.{went_fit, parts_counted, slots_counted, parts_went, parts_rest, stored_count}
 
 -- at most one for each list

@@ -21,7 +21,8 @@ use Rattle.ppq_spill.specs.Went.{Went}
 use Rattle.ppq_spill.specs.Making.{Hand, hand, hand_slots, SameRest, Wrote, WroteAll, WroteSome, AllFull, AllFit}
 use Rattle.ppq_spill.proofs.Going.{Went-refl, Went-trans, Went-placed, Went-one}
 use Rattle.ppq_spill.proofs.Keeping.{slots_long}
-use Rattle.ppq_spill.proofs.Telling.{untold, tell_sum, tell_part, tell_moved}
+use Rattle.ppq_spill.specs.Untold.{untold}
+use Rattle.ppq_spill.proofs.Telling.{tell_sum, tell_part, tell_moved}
 use Rattle.ppq_spill.proofs.Blocks.{counts_append, counts_full, full_exact, packed_append, packed_full, fewer_than}
 
 -- a slot that failed is among those it was put to

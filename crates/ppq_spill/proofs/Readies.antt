@@ -25,7 +25,8 @@ use Rattle.ppq_spill.specs.Making.{hand, hand_slots, WroteAll, Table, table, tab
 use Rattle.ppq_spill.proofs.Parts.{hand_sum, hand_long}
 use Rattle.ppq_spill.proofs.Batches.{shape_on}
 use Rattle.ppq_spill.proofs.Blocks.{counts_append, counts_full, full_exact, packed_append, fewer_than}
-use Rattle.ppq_spill.proofs.Telling.{untold, tell_sum, sum_tell, tell_part}
+use Rattle.ppq_spill.specs.Untold.{untold}
+use Rattle.ppq_spill.proofs.Telling.{tell_sum, sum_tell, tell_part}
 use Rattle.ppq_spill.proofs.Fetches.{went_fit, parts_counted, stored_count}
 use Rattle.ppq_spill.proofs.Merges.{table_sum}
 

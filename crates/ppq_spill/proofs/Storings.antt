@@ -14,7 +14,8 @@ use Rattle.ppq_spill.specs.Moves.{SameSums, DrewSlots, FoundFewSlots, with_buffe
 use Rattle.ppq_spill.proofs.SameSlots.{SameSlots-refl}
 use Rattle.ppq_spill.proofs.Keeping.{slots_kept, slots_long}
 use Rattle.ppq_spill.specs.Went.{Went}
-use Rattle.ppq_spill.proofs.Going.{Went-refl, went_kept}
+use Rattle.ppq_spill.specs.Untold.{SameUntold}
+use Rattle.ppq_spill.proofs.Going.{Went-refl, went_kept, untold_kept}
 use Rattle.ppq_spill.proofs.Transfers.{calls_kept, no_call}
 
 abbrev held : List Shown → ℕ → Held
@@ -41,6 +42,11 @@ calls_refused o n need e j found =
 pub went_refused : (o n : Stock) (need : ℕ) (e j : List Shown) → FoundFewSlots need o n → Went 0 0 (e ++ j ++ o.kept ++ n.drawn) (e ++ j ++ n.kept ++ o.drawn)
 went_refused o n need e j found =
     went_kept 0 e j o.kept n.drawn [] e j n.kept o.drawn [] n.kept found.moved (Went-refl []) (λ f. (let z : sum_by f [] ≡ 0 = refl in omega (arith, z)))
+
+-- and as many do not tell
+pub untold_refused : (o n : Stock) (need : ℕ) (e j : List Shown) → FoundFewSlots need o n → SameUntold (e ++ j ++ o.kept ++ n.drawn) (e ++ j ++ n.kept ++ o.drawn)
+untold_refused o n need e j found =
+    untold_kept e j o.kept n.drawn [] e j n.kept o.drawn [] n.kept found.moved refl (λ f. (let z : sum_by f [] ≡ 0 = refl in omega (arith, z)))
 
 module _ {S R : Type 0} (shown : S → Shown) (width : ℕ) where
   -- all blocks were written
@@ -134,6 +140,47 @@ module _ {S R : Type 0} (shown : S → Shown) (width : ℕ) where
       let rkept : r.kept ≡ f.kept ++ lefts = ap (λ s. s.kept) is in
       let drawn : r.drawn ≡ d.drawn = ap (λ s. s.drawn) is ∙ ap (λ s. s.drawn) gets in
       went_kept most e j o.kept r.drawn (slots_shown shown slots0) e' j r.kept o.drawn (stored ++ (one ∷ lefts)) d.kept
+      (subst (λ (x : List Shown). SameSums (o.kept ++ x) (slots_shown shown slots0 ++ d.kept ++ o.drawn)) (sym drawn) drew.moved) calls
+      (λ w. omega (
+        arith,
+        ap (sum_by w) more,
+        sum_by-append w e stored,
+        ap (sum_by w) rkept,
+        sum_by-append w f.kept lefts,
+        ap (sum_by w) fkept,
+        sum_by-append w d.kept (one ∷ []),
+        sum_by-cons w one [],
+        sum_by-append w stored (one ∷ lefts),
+        sum_by-cons w one lefts,
+      ))
+
+  pub untold_written :
+      (o d r : Stock) (e j e' : List Shown) (slots0 : List (DeviceBlock S R)) (array : External S R) (sure room : ℕ) → DrewSlots shown width o d slots0
+      → SameUntold (slots_shown shown slots0) (slots_shown shown array.stored ++ []) → r ≡ with_buffers d sure room → e' ≡ e ++ slots_shown shown array.stored
+      → SameUntold (e ++ j ++ o.kept ++ r.drawn) (e' ++ j ++ r.kept ++ o.drawn)
+  untold_written o d r e j e' slots0 array sure room drew calls is more =
+      let stored = slots_shown shown array.stored in
+      let here : SameUntold (slots_shown shown slots0) stored = subst (SameUntold (slots_shown shown slots0)) (append-nil stored) calls in
+      let kept : r.kept ≡ d.kept = ap (λ s. s.kept) is in
+      let drawn : r.drawn ≡ d.drawn = ap (λ s. s.drawn) is in
+      untold_kept e j o.kept r.drawn (slots_shown shown slots0) e' j r.kept o.drawn stored d.kept
+      (subst (λ (x : List Shown). SameSums (o.kept ++ x) (slots_shown shown slots0 ++ d.kept ++ o.drawn)) (sym drawn) drew.moved) here
+      (λ f. omega (arith, ap (sum_by f) more, sum_by-append f e stored, ap (sum_by f) kept))
+
+  pub untold_failed :
+      (o d f r : Stock) (e j e' : List Shown) (slots0 left : List (DeviceBlock S R)) (array : External S R) (failed : DeviceBlock S R) → DrewSlots shown width o d slots0
+      → SameUntold (slots_shown shown slots0) (slots_shown shown array.stored ++ (shown failed.slot ∷ slots_shown shown left))
+      → GetsSlot d (shown failed.slot) f → r ≡ record f { kept = f.kept ++ slots_shown shown left; slot_room = f.slot_room - length left }
+      → e' ≡ e ++ slots_shown shown array.stored
+      → SameUntold (e ++ j ++ o.kept ++ r.drawn) (e' ++ j ++ r.kept ++ o.drawn)
+  untold_failed o d f r e j e' slots0 left array failed drew calls gets is more =
+      let stored = slots_shown shown array.stored in
+      let lefts = slots_shown shown left in
+      let one = shown failed.slot in
+      let fkept : f.kept ≡ d.kept ++ one ∷ [] = ap (λ s. s.kept) gets in
+      let rkept : r.kept ≡ f.kept ++ lefts = ap (λ s. s.kept) is in
+      let drawn : r.drawn ≡ d.drawn = ap (λ s. s.drawn) is ∙ ap (λ s. s.drawn) gets in
+      untold_kept e j o.kept r.drawn (slots_shown shown slots0) e' j r.kept o.drawn (stored ++ (one ∷ lefts)) d.kept
       (subst (λ (x : List Shown). SameSums (o.kept ++ x) (slots_shown shown slots0 ++ d.kept ++ o.drawn)) (sym drawn) drew.moved) calls
       (λ w. omega (
         arith,

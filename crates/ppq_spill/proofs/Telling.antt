@@ -4,13 +4,7 @@ use Rattle.std.proofs.lemmas.List.Sums.{sum_by-cons}
 use Rattle.std.proofs.lemmas.List.Elements.{All-cons, All-head, All-tail, All-nil}
 use Rattle.ppq_outside.specs.Shown.{Shown, Tells, AllTell}
 use Rattle.ppq_spill.specs.Moves.{SameSums}
-
-abbrev pub untold_of : Option (List ℕ) → ℕ
-untold_of None = 1
-untold_of (Some bytes) = 0
-
-abbrev pub untold : Shown → ℕ
-untold s = untold_of s.told
+use Rattle.ppq_spill.specs.Untold.{untold, untold_of}
 
 told_none : (told : Option (List ℕ)) → IsSome told → untold_of told ≡ 0
 told_none None t = absurd (cc)

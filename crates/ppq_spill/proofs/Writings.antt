@@ -23,7 +23,8 @@ use Rattle.ppq_array.proofs.Noted.{all_left, all_right, take_whole}
 use Rattle.ppq_spill.specs.Writing.{Grew, Merged, BlockStored, BlockFailed, WriteFailed, Writing, left_in, NoneAfter}
 use Rattle.ppq_spill.proofs.SameSlots.{SameSlots-trans, SameSlots-grown, SameSlots-refl}
 use Rattle.ppq_spill.specs.Went.{Went}
-use Rattle.ppq_spill.proofs.Going.{Went-refl, Went-more}
+use Rattle.ppq_spill.specs.Untold.{SameUntold}
+use Rattle.ppq_spill.proofs.Going.{Went-refl, Went-more, untold_more}
 use Rattle.ppq_spill.proofs.Transfers.{one_call_more, no_call}
 use Rattle.ppq_spill.proofs.Keeping.{slots_long}
 
@@ -58,6 +59,7 @@ module _ {S R : Type 0} (cmp : R → R → Ordering) (record_of : List ℕ → R
         written = subst (λ bs. All (λ (b : DeviceBlock S R). 1 ≤ (shown b.slot).writes) bs) (sym none) (λ k d h. absurd (omega arith));
         transfers = subst (λ bs. MoreWrites (length bs) (slots_shown shown slots) (slots_shown shown bs ++ slots_shown shown slots)) (sym none) (no_call (slots_shown shown slots));
         went = subst (λ bs. Went (length bs) 0 (slots_shown shown slots) (slots_shown shown bs ++ slots_shown shown slots)) (sym none) (Went-refl (slots_shown shown slots));
+        untold = subst (λ bs. SameUntold (slots_shown shown slots) (slots_shown shown bs ++ slots_shown shown slots)) (sym none) refl;
         full = λ some. subst (λ bs. All (λ (b : DeviceBlock S R). b.count ≡ block) bs) (sym none) (λ k d h. absurd (omega arith));
         packed = subst (IsPacked block) (sym none) (record { full = λ k d h. absurd (omega arith); last = λ k d h. absurd (omega arith) });
         tells = λ t. t;
@@ -95,6 +97,7 @@ module _ {S R : Type 0} (cmp : R → R → Ordering) (record_of : List ℕ → R
         written = subst (λ bs. All (λ (b : DeviceBlock S R). 1 ≤ (shown b.slot).writes) bs) (sym blocks) (All-push (λ (b : DeviceBlock S R). 1 ≤ (shown b.slot).writes) stored last is.written put.written);
         transfers = transfers_more slots0 stored b last slots put.transfers is.transfers blocks;
         went = went_more slots0 stored b last slots put.grew put.transfers is.went blocks;
+        untold = subst (SameUntold (slots_shown shown slots0)) (shown_more stored last slots blocks) (untold_more (slots_shown shown slots0) (slots_shown shown stored) (slots_shown shown slots) (shown b.slot) (shown last.slot) is.untold put.grew);
         full = λ h. subst (All IsFull) (sym blocks) (All-push IsFull stored last (is.full (omega arith)) (omega (arith, is.least (omega arith), more, sum, merged.count, at_least block (length slots) h, put.count)));
         packed = subst (IsPacked block) (sym blocks) (record {
           full = subst (All IsFull) (sym (but_last stored last)) (is.full (omega arith));
@@ -197,6 +200,7 @@ module _ {S R : Type 0} (cmp : R → R → Ordering) (record_of : List ℕ → R
             (one_call_more (slots_shown shown slots0) xs ys (shown b.slot) (shown failed.slot) (length array.stored) 0 (length array.stored) is.transfers put.transfers (omega arith));
         went = subst (λ bs. Went (length bs) 0 (slots_shown shown slots0) (slots_shown shown bs ++ shown failed.slot ∷ ys)) blocks
             (Went-more (slots_shown shown slots0) xs ys (shown b.slot) (shown failed.slot) (length array.stored) 0 (length array.stored) is.went put.grew put.transfers (omega arith));
+        untold = subst (λ bs. SameUntold (slots_shown shown slots0) (slots_shown shown bs ++ shown failed.slot ∷ ys)) blocks (untold_more (slots_shown shown slots0) xs ys (shown b.slot) (shown failed.slot) is.untold put.grew);
         few = omega (arith, ap length blocks, is.same.length, length-append xs (shown b.slot ∷ ys), slots_long shown array.stored, slots_long shown slots0);
         sizes = subst (λ bs. All P (bs ++ failed ∷ slots)) blocks sizes;
         shape = put.run ∙ is.shape ∙ ap (λ bs. external 0 (run_of [] 0 []) [] bs) blocks;

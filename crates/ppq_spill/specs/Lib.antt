@@ -4,5 +4,6 @@ pub mod Leveling
 pub mod Making
 pub mod Moves
 pub mod Storing
+pub mod Untold
 pub mod Went
 pub mod Writing

@@ -15,6 +15,7 @@ use Rattle.ppq_array.specs.Kept.{HasFailed, MoreWrites, all_writes}
 use Rattle.ppq_array.specs.Holdings.{internal_items, RunHasBlock, ArrayHasSize, CanTakeBack}
 use Rattle.ppq_fetch.specs.Fetching.{IsFitting}
 use Rattle.ppq_spill.specs.Body.{body_slots}
+use Rattle.ppq_spill.specs.Untold.{SameUntold}
 use Rattle.ppq_spill.specs.declared.body.PassBody.{PassBody}
 
 -- so many blocks have no room for so many records
@@ -135,6 +136,10 @@ module _ {S R : Type 0} where
   -- the slots tell just where they told before
   abbrev pub StillTell : (S → Shown) → PassBody S R → PassBody S R → Stock → Stock → Type 0
   StillTell shown old new before now = AllTell (slots_before shown old before now) ↔ AllTell (slots_after shown new before now)
+
+  -- and as many of them do not tell
+  abbrev pub StillUntold : (S → Shown) → PassBody S R → PassBody S R → Stock → Stock → Type 0
+  StillUntold shown old new before now = SameUntold (slots_before shown old before now) (slots_after shown new before now)
 
   -- no more blocks were written than n records and those in buffers take, and none was read
   pub record WritesFew (shown : S → Shown) (n : ℕ) (old new : PassBody S R) (before now : Stock) : Type 0 where

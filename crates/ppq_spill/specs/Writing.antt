@@ -11,6 +11,7 @@ use Rattle.ppq_array.specs.External.{External, external, size_of, records_in, bl
 use Rattle.ppq_array.specs.Owner.{slots_shown, HasSize}
 use Rattle.ppq_array.specs.Kept.{SameSlots, MoreWrites}
 use Rattle.ppq_array.specs.Holdings.{internal_items}
+use Rattle.ppq_spill.specs.Untold.{SameUntold}
 use Rattle.ppq_spill.specs.Went.{Went}
 
 -- a slot after a call: the same slot, and no count of it fell
@@ -73,6 +74,7 @@ module _ {S R : Type 0} where
     pub written : All (λ (b : DeviceBlock S R). 1 ≤ (shown b.slot).writes) array.stored
     pub transfers : MoreWrites (length array.stored) (slots_shown shown slots0) (slots_shown shown array.stored ++ slots_shown shown slots)
     pub went : Went (length array.stored) 0 (slots_shown shown slots0) (slots_shown shown array.stored ++ slots_shown shown slots)
+    pub untold : SameUntold (slots_shown shown slots0) (slots_shown shown array.stored ++ slots_shown shown slots)
     pub full : 0 < length slots → All (λ (b : DeviceBlock S R). b.count ≡ block) array.stored
     pub packed : IsPacked block array.stored
     pub tells : AllTell (slots_shown shown slots0) → AllTell (slots_shown shown slots)
@@ -86,6 +88,7 @@ module _ {S R : Type 0} where
     pub shape : array ≡ external 0 (run_of [] 0 []) [] array.stored
     pub transfers : MoreWrites (length array.stored) (slots_shown shown slots0) (slots_shown shown array.stored ++ (shown failed.slot ∷ slots_shown shown slots))
     pub went : Went (length array.stored) 0 (slots_shown shown slots0) (slots_shown shown array.stored ++ (shown failed.slot ∷ slots_shown shown slots))
+    pub untold : SameUntold (slots_shown shown slots0) (slots_shown shown array.stored ++ (shown failed.slot ∷ slots_shown shown slots))
     pub few : length array.stored ≤ length slots0
     pub buffers : map buffers_of runs ≡ map buffers_of runs0
     pub fault : 0 < (shown failed.slot).faults

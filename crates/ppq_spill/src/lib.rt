@@ -28,4 +28,4 @@ mod writing;
 
 pub use body::PassBody;
 pub use level::merge_level;
-pub use store::store_sorted;
+pub use store::{store_buffers, store_sorted};

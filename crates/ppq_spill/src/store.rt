@@ -1,9 +1,9 @@
 //! Storing a sorted run.
-ghost use Rattle.std.specs.Prelude.{◌≡◌, ◌+◌, ◌^◌, ◌<◌, OnOk, OnErr, IsErrOf, length, ℕ};
+ghost use Rattle.std.specs.Prelude.{◌≡◌, ◌+◌, ◌^◌, ◌<◌, [], OnOk, OnErr, IsErrOf, length, ℕ};
 ghost use Rattle.ppq_array.specs.Kept.{Kept};
 ghost use Rattle.ppq_array.specs.Holdings.{CanTakeBack, internal_items};
 ghost use Rattle.ppq_spill.specs.Body.{held_by};
-ghost use Rattle.ppq_spill.specs.Storing.{MayStore, WritesFew, HasOneSize, RoomsRest, LanesRest, IsStored, BlocksStored, NoneFree, NoSlots, RunsAscend, DeviceFailed, SameScant, StillTell};
+ghost use Rattle.ppq_spill.specs.Storing.{in_buffers, MayStore, WritesFew, HasOneSize, RoomsRest, LanesRest, IsStored, BlocksStored, NoneFree, NoSlots, RunsAscend, DeviceFailed, SameScant, StillTell, StillUntold};
 
 use crate::PassBody;
 use crate::buffers::{blocks_for, store_in_buffers};
@@ -41,6 +41,7 @@ pub fn store_sorted<H: Host, S: Slot, R: Record, P: Supply<S, R>>(
     ensures kept { Kept (P.stock supply.old) (P.stock supply.new) (held_by S.shown body.old) (held_by S.shown body.new) }
     ensures takes_back { CanTakeBack S.shown (P.stock supply.new) body.new.runs.internal.items body.new.runs.external.items }
     ensures tells { StillTell S.shown body.old body.new (P.stock supply.old) (P.stock supply.new) }
+    ensures untold { StillUntold S.shown body.old body.new (P.stock supply.old) (P.stock supply.new) }
     ensures home { P.home supply.new ≡ P.home supply.old }
     ensures stored { OnOk result (IsStored R.Ord.cmp R.record_of R.WIDTH S.shown sorted.now body.old body.new (P.stock supply.old) (P.stock supply.new)) }
     ensures none_free { IsErrOf result StoreFault.NoFreeBlock → NoneFree (length sorted.now) body.old body.new (P.stock supply.old) (P.stock supply.new) }
@@ -60,6 +61,35 @@ pub fn store_sorted<H: Host, S: Slot, R: Record, P: Supply<S, R>>(
     }
 }
 
+/// Merges all runs in buffers into one run in blocks, as `store_sorted` does where buffers are short, with
+/// no list beside them.
+///
+/// `NoFreeBlock` and `Device` come as from there, and leave the same.
+pub fn store_buffers<H: Host, S: Slot, R: Record, P: Supply<S, R>>(
+    rt: &H,
+    body: &mut PassBody<S, R>,
+    supply: &mut P,
+) -> Result<(), StoreFault>
+    requires some { 0 < in_buffers body.old }
+    requires room { MayStore S.shown R.WIDTH 0 body.old (P.stock supply.old) }
+    requires ascend { RunsAscend R.Ord.cmp S.shown [] body.old (P.stock supply.old) }
+    ensures kept { Kept (P.stock supply.old) (P.stock supply.new) (held_by S.shown body.old) (held_by S.shown body.new) }
+    ensures takes_back { CanTakeBack S.shown (P.stock supply.new) body.new.runs.internal.items body.new.runs.external.items }
+    ensures tells { StillTell S.shown body.old body.new (P.stock supply.old) (P.stock supply.new) }
+    ensures untold { StillUntold S.shown body.old body.new (P.stock supply.old) (P.stock supply.new) }
+    ensures home { P.home supply.new ≡ P.home supply.old }
+    ensures stored { OnOk result (BlocksStored R.Ord.cmp R.record_of R.WIDTH S.shown [] body.old body.new (P.stock supply.old) (P.stock supply.new)) }
+    ensures none_free { IsErrOf result StoreFault.NoFreeBlock → NoSlots 0 body.old body.new (P.stock supply.old) (P.stock supply.new) }
+    ensures device { (number : ℕ) → IsErrOf result (StoreFault.Device number) → DeviceFailed S.shown number body.new (P.stock supply.new) }
+    ensures writes { WritesFew S.shown 0 body.old body.new (P.stock supply.old) (P.stock supply.new) }
+    ensures lanes { LanesRest body.old.lanes body.new.lanes }
+    ensures size { HasOneSize S.shown R.WIDTH body.new (P.stock supply.new) }
+    ensures rooms { RoomsRest body.old body.new }
+{
+    let block = body.lanes.idle.at(0).block();
+    store_in_blocks(rt, body, supply, &[], block)
+}
+
 // Stores a list and all runs in buffers as one run in blocks.
 fn store_in_blocks<H: Host, S: Slot, R: Record, P: Supply<S, R>>(
     rt: &H,
@@ -68,13 +98,14 @@ fn store_in_blocks<H: Host, S: Slot, R: Record, P: Supply<S, R>>(
     sorted: &[R],
     block: u32,
 ) -> Result<(), StoreFault>
-    requires some { 0 < length sorted.now }
+    requires some { 0 < length sorted.now + in_buffers body.old }
     requires block { block ≡ (P.stock supply.old).block }
     requires room { MayStore S.shown R.WIDTH (length sorted.now) body.old (P.stock supply.old) }
     requires ascend { RunsAscend R.Ord.cmp S.shown sorted.now body.old (P.stock supply.old) }
     ensures kept { Kept (P.stock supply.old) (P.stock supply.new) (held_by S.shown body.old) (held_by S.shown body.new) }
     ensures takes_back { CanTakeBack S.shown (P.stock supply.new) body.new.runs.internal.items body.new.runs.external.items }
     ensures tells { StillTell S.shown body.old body.new (P.stock supply.old) (P.stock supply.new) }
+    ensures untold { StillUntold S.shown body.old body.new (P.stock supply.old) (P.stock supply.new) }
     ensures home { P.home supply.new ≡ P.home supply.old }
     ensures stored { OnOk result (BlocksStored R.Ord.cmp R.record_of R.WIDTH S.shown sorted.now body.old body.new (P.stock supply.old) (P.stock supply.new)) }
     ensures none_free { IsErrOf result StoreFault.NoFreeBlock → NoSlots (length sorted.now) body.old body.new (P.stock supply.old) (P.stock supply.new) }

@@ -6,7 +6,7 @@ use Rattle.ppq_array.proofs.Noted.{all_left, all_right}
 use Rattle.ppq_spill.specs.Body.{job_slots}
 use Rattle.ppq_spill.proofs.Keeping.{too_few, same_buffers, same_blocks, slots_more, buffers_more, slots_long}
 use Rattle.ppq_spill.proofs.InBlocks.{blocks_stored}
-use Rattle.ppq_spill.proofs.Storings.{kept_refused, kept_written, kept_failed, calls_refused, calls_written, calls_failed, went_refused, went_written, went_failed, sizes_after}
+use Rattle.ppq_spill.proofs.Storings.{kept_refused, kept_written, kept_failed, calls_refused, calls_written, calls_failed, went_refused, went_written, went_failed, untold_refused, untold_written, untold_failed, sizes_after}
 use Rattle.ppq_spill.proofs.Transfers.{fewer}
 use Rattle.ppq_spill.proofs.store.store_in_blocks.Goals as goal
 
@@ -253,3 +253,29 @@ returns-in-Some-failed-clause-tells g c =
     (external_slots shown body.runs.external.items) (job_slots shown body.lanes.jobs.items) (external_slots shown c.push_reserved.new.self.items) c.in-Some.berths c.write_runs-failed.new.berths array c.in-Some-failed.berth
     (length array.stored) c.in-Some.ensures.drawn failed.went c.free_slot.ensures.back c.free_slots.ensures.stock
     (ap (external_slots shown) c.push_reserved.ensures.items ∙ slots_more shown body.runs.external.items array))).tells
+
+pub returns-in_default-clause-untold : goal.returns-in_default-clause-untold
+returns-in_default-clause-untold g c =
+    let body = c.args.body.now in
+    let stock = g.P.Supply.stock c.args.supply.now in
+    untold_refused stock (g.P.Supply.stock c.draw_slots.new.supply) c.blocks_for.result (external_slots g.S.Slot.shown body.runs.external.items) (job_slots g.S.Slot.shown body.lanes.jobs.items) c.in_default.ensures.few
+
+pub returns-in-None-clause-untold : goal.returns-in-None-clause-untold
+returns-in-None-clause-untold g c =
+    let body = c.args.body.now in
+    let shown = g.S.Slot.shown in
+    let array = c.write_runs-failed.new.array in
+    untold_written shown g.R.Record.WIDTH (g.P.Supply.stock c.args.supply.now) (g.P.Supply.stock c.draw_slots.new.supply) (g.P.Supply.stock c.release_runs.new.supply)
+    (external_slots shown body.runs.external.items) (job_slots shown body.lanes.jobs.items) (external_slots shown c.push_reserved.new.self.items) c.in-Some.berths array
+    (g.P.Supply.stock c.release_runs.new.supply).sure_buffers _ c.in-Some.ensures.drawn c.in-None.ensures.written.untold c.release_runs.ensures.stock
+    (ap (external_slots shown) c.push_reserved.ensures.items ∙ slots_more shown body.runs.external.items array)
+
+pub returns-in-Some-failed-clause-untold : goal.returns-in-Some-failed-clause-untold
+returns-in-Some-failed-clause-untold g c =
+    let body = c.args.body.now in
+    let shown = g.S.Slot.shown in
+    let array = c.write_runs-failed.new.array in
+    untold_failed shown g.R.Record.WIDTH (g.P.Supply.stock c.args.supply.now) (g.P.Supply.stock c.draw_slots.new.supply) (g.P.Supply.stock c.free_slot.new.supply) (g.P.Supply.stock c.free_slots.new.supply)
+    (external_slots shown body.runs.external.items) (job_slots shown body.lanes.jobs.items) (external_slots shown c.push_reserved.new.self.items) c.in-Some.berths c.write_runs-failed.new.berths array c.in-Some-failed.berth
+    c.in-Some.ensures.drawn c.in-Some-failed.ensures.failed.untold c.free_slot.ensures.back c.free_slots.ensures.stock
+    (ap (external_slots shown) c.push_reserved.ensures.items ∙ slots_more shown body.runs.external.items array)

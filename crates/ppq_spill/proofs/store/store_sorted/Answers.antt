@@ -6,7 +6,8 @@ use Rattle.std.proofs.lemmas.Result.{on_ok_weaker}
 use Rattle.ppq_spill.specs.Storing.{BlocksStored}
 use Rattle.ppq_spill.specs.Body.{body_slots}
 use Rattle.ppq_outside.specs.Shown.{Shown, AllTell}
-use Rattle.ppq_spill.proofs.Going.{went_untouched}
+use Rattle.ppq_spill.specs.Untold.{SameUntold}
+use Rattle.ppq_spill.proofs.Going.{went_untouched, untold_untouched}
 use Rattle.ppq_spill.proofs.Transfers.{untouched}
 use Rattle.ppq_spill.proofs.InBlocks.{stored_after, ascend_still}
 use Rattle.ppq_spill.proofs.store.store_sorted.Goals as goal
@@ -63,3 +64,21 @@ returns-in-None-clause-tells g c =
       (λ t. subst new drawn (c.store_in_blocks.ensures.tells.0 (subst old (sym kept) t))),
       (λ t. subst old kept (c.store_in_blocks.ensures.tells.1 (subst new (sym drawn) t))),
     )
+
+pub returns-in-Some-clause-untold : goal.returns-in-Some-clause-untold
+returns-in-Some-clause-untold g c =
+    let o = g.P.Supply.stock c.args.supply.now in
+    let n = g.P.Supply.stock c.store_in_buffers.new.supply in
+    let is = c.in-Some.ensures.stored.stock in
+    untold_untouched (body_slots g.S.Slot.shown c.args.body.now) o n (ap (λ s. s.kept) is) (ap (λ s. s.drawn) is)
+
+pub returns-in-None-clause-untold : goal.returns-in-None-clause-untold
+returns-in-None-clause-untold g c =
+    let shown = g.S.Slot.shown in
+    let o = g.P.Supply.stock c.args.supply.now in
+    let m = g.P.Supply.stock c.store_in_buffers.new.supply in
+    let r = g.P.Supply.stock c.store_in_blocks.new.supply in
+    let kept : m.kept ≡ o.kept = ap (λ s. s.kept) c.in-None.ensures.scant.stock in
+    let drawn : m.drawn ≡ o.drawn = ap (λ s. s.drawn) c.in-None.ensures.scant.stock in
+    subst (λ (k : List Shown). SameUntold (body_slots shown c.args.body.now ++ k ++ r.drawn) (body_slots shown c.store_in_blocks.new.body ++ r.kept ++ o.drawn)) kept
+    (subst (λ (d : List Shown). SameUntold (body_slots shown c.args.body.now ++ m.kept ++ r.drawn) (body_slots shown c.store_in_blocks.new.body ++ r.kept ++ d)) drawn c.store_in_blocks.ensures.untold)
