@@ -18,7 +18,7 @@ use Rattle.ppq_array.specs.Holdings.{internal_items, internal_buffers, external_
 use Rattle.ppq_array.proofs.Noted.{all_right}
 use Rattle.ppq_fetch.specs.Fetching.{IsFitting, fronts_in, one_if_some, count_in}
 use Rattle.ppq_spill.specs.Body.{held_by}
-use Rattle.ppq_spill.specs.Storing.{MayStore, HasOneSize, LanesRest, RoomsRest, IsInBuffers, BlocksStored, IsStored, NoneFree, WritesFew, StillTell}
+use Rattle.ppq_spill.specs.Storing.{in_buffers, NoSlots, MayStore, HasOneSize, LanesRest, RoomsRest, IsInBuffers, BlocksStored, IsStored, NoneFree, WritesFew, StillTell}
 use Rattle.ppq_spill.specs.declared.body.PassBody.{PassBody}
 use Rattle.ppq_queue.specs.Resting.{BodyKept, IsRestingRun, IsRestingArray, AtRest, Moved, StoreShort, runs_bag, slots_of, lane_buffers, odd_in}
 use Rattle.ppq_queue.proofs.Bounds.{pool_within, pool_small, runs_few, idle_most, idle_some, in_buffers_few}
@@ -132,64 +132,7 @@ module _ {S R : Type 0} (shown : S → Shown) where
             count = omega (arith, ap (λ l. count_in l b.runs.external.items) int, ap (λ l. count_in a.runs.internal.items l) ext);
           }
 
-      module _ (sorted : List R) (some : 0 < length sorted) (up : AllTell (slots_of shown a s) → Ascends cmp sorted) where
-        -- one run in buffers more
-        pub moved-in_buffers : IsInBuffers sorted a b s t → Moved shown cmp record_of width n sorted a b s t
-        moved-in_buffers put =
-            let int = put.internal in
-            let ext = put.external in
-            let one : List (Run R) = put.run ∷ [] in
-            let blocks = All-head (RunHasBlock t.block) put.run [] (all_right (RunHasBlock t.block) a.runs.internal.items one (subst (All (RunHasBlock t.block)) int size.internal)) in
-            let run : IsRestingRun t.block put.run = record { some = omega (arith, ap length put.items, some); spent = put.spent; blocks = blocks; fitting = put.fitting } in
-            record {
-              rest = record {
-                block = kept.block ∙ rest.block;
-                idle = size.idle;
-                internal = subst (All (IsRestingRun t.block)) (sym int) (All-push (IsRestingRun t.block) a.runs.internal.items put.run same_runs run);
-                external = subst (All (IsRestingArray shown width t.block)) (sym ext) same_arrays;
-                takes_back = takes_back;
-                no_job = lanes.no_job;
-                batch = batch_now;
-                buffers = omega (arith, rest.buffers, lanes.idle, ap external_buffers ext);
-                held = held_now;
-                bounded = omega (arith, rest.bounded, ap external_buffers ext, ap fronts_in ext);
-                fronts = omega (arith, rest.fronts, ap fronts_in ext);
-                few = odd_same ext;
-                pool = kept.all_buffers ∙ rest.pool;
-                slots = kept.all_slots ∙ rest.slots;
-                internal_room = omega (arith, rest.internal_room, kept.internal_room);
-                external_room = omega (arith, rest.external_room, kept.external_room);
-                leaves = omega (arith, rest.leaves, kept.leaves);
-                rise = λ tell.
-                    let told = kept.tells.1 tell in
-                    let rise = rest.rise told in
-                    record {
-                      internal = subst (All (λ (run : Run R). Ascends cmp (items_of run))) (sym int) (All-push (λ (run : Run R). Ascends cmp (items_of run)) a.runs.internal.items put.run rise.internal (subst (Ascends cmp) (sym put.items) (up told)));
-                      external = subst (All (λ (x : External S R). Ascends cmp (records_in record_of width shown x))) (sym ext) rise.external;
-                    };
-              };
-              bag = λ tell p.
-                  omega (
-                    arith,
-                    ap (λ l. count_by p (internal_items l ++ flat_map (records_in record_of width shown) b.runs.external.items)) int,
-                    ap (λ l. count_by p (internal_items (a.runs.internal.items ++ one) ++ flat_map (records_in record_of width shown) l)) ext,
-                    count_by-append p (internal_items (a.runs.internal.items ++ one)) (flat_map (records_in record_of width shown) a.runs.external.items),
-                    ap (count_by p) (flat_map-append (λ (run : Run R). items_of run) a.runs.internal.items one),
-                    count_by-append p (internal_items a.runs.internal.items) (internal_items one),
-                    ap (count_by p) (flat_map-cons (λ (run : Run R). items_of run) put.run [] ∙ append-nil (items_of put.run) ∙ put.items),
-                    count_by-append p sorted (runs_bag shown record_of width a),
-                    count_by-append p (internal_items a.runs.internal.items) (flat_map (records_in record_of width shown) a.runs.external.items),
-                  );
-              count = omega (
-                arith,
-                ap (λ l. count_in l b.runs.external.items) int,
-                ap (λ l. count_in (a.runs.internal.items ++ one) l) ext,
-                sum_by-append (λ (run : Run R). length (items_of run)) a.runs.internal.items one,
-                sum_by-cons (λ (run : Run R). length (items_of run)) put.run [],
-                ap length put.items,
-              );
-            }
-
+      module _ (sorted : List R) (some : 0 < length sorted + in_buffers a) where
         -- one run in blocks more, and none in buffers
         pub moved-in_blocks : length a.runs.external.items ≤ 64 → s.drawn ≡ [] → t.drawn ≡ [] → BlocksStored cmp record_of width shown sorted a b s t → Moved shown cmp record_of width n sorted a b s t
         moved-in_blocks few no_row no_row' put =
@@ -272,9 +215,67 @@ module _ {S R : Type 0} (shown : S → Shown) where
               );
             }
 
+      module _ (sorted : List R) (some : 0 < length sorted) (up : AllTell (slots_of shown a s) → Ascends cmp sorted) where
+        -- one run in buffers more
+        pub moved-in_buffers : IsInBuffers sorted a b s t → Moved shown cmp record_of width n sorted a b s t
+        moved-in_buffers put =
+            let int = put.internal in
+            let ext = put.external in
+            let one : List (Run R) = put.run ∷ [] in
+            let blocks = All-head (RunHasBlock t.block) put.run [] (all_right (RunHasBlock t.block) a.runs.internal.items one (subst (All (RunHasBlock t.block)) int size.internal)) in
+            let run : IsRestingRun t.block put.run = record { some = omega (arith, ap length put.items, some); spent = put.spent; blocks = blocks; fitting = put.fitting } in
+            record {
+              rest = record {
+                block = kept.block ∙ rest.block;
+                idle = size.idle;
+                internal = subst (All (IsRestingRun t.block)) (sym int) (All-push (IsRestingRun t.block) a.runs.internal.items put.run same_runs run);
+                external = subst (All (IsRestingArray shown width t.block)) (sym ext) same_arrays;
+                takes_back = takes_back;
+                no_job = lanes.no_job;
+                batch = batch_now;
+                buffers = omega (arith, rest.buffers, lanes.idle, ap external_buffers ext);
+                held = held_now;
+                bounded = omega (arith, rest.bounded, ap external_buffers ext, ap fronts_in ext);
+                fronts = omega (arith, rest.fronts, ap fronts_in ext);
+                few = odd_same ext;
+                pool = kept.all_buffers ∙ rest.pool;
+                slots = kept.all_slots ∙ rest.slots;
+                internal_room = omega (arith, rest.internal_room, kept.internal_room);
+                external_room = omega (arith, rest.external_room, kept.external_room);
+                leaves = omega (arith, rest.leaves, kept.leaves);
+                rise = λ tell.
+                    let told = kept.tells.1 tell in
+                    let rise = rest.rise told in
+                    record {
+                      internal = subst (All (λ (run : Run R). Ascends cmp (items_of run))) (sym int) (All-push (λ (run : Run R). Ascends cmp (items_of run)) a.runs.internal.items put.run rise.internal (subst (Ascends cmp) (sym put.items) (up told)));
+                      external = subst (All (λ (x : External S R). Ascends cmp (records_in record_of width shown x))) (sym ext) rise.external;
+                    };
+              };
+              bag = λ tell p.
+                  omega (
+                    arith,
+                    ap (λ l. count_by p (internal_items l ++ flat_map (records_in record_of width shown) b.runs.external.items)) int,
+                    ap (λ l. count_by p (internal_items (a.runs.internal.items ++ one) ++ flat_map (records_in record_of width shown) l)) ext,
+                    count_by-append p (internal_items (a.runs.internal.items ++ one)) (flat_map (records_in record_of width shown) a.runs.external.items),
+                    ap (count_by p) (flat_map-append (λ (run : Run R). items_of run) a.runs.internal.items one),
+                    count_by-append p (internal_items a.runs.internal.items) (internal_items one),
+                    ap (count_by p) (flat_map-cons (λ (run : Run R). items_of run) put.run [] ∙ append-nil (items_of put.run) ∙ put.items),
+                    count_by-append p sorted (runs_bag shown record_of width a),
+                    count_by-append p (internal_items a.runs.internal.items) (flat_map (records_in record_of width shown) a.runs.external.items),
+                  );
+              count = omega (
+                arith,
+                ap (λ l. count_in l b.runs.external.items) int,
+                ap (λ l. count_in (a.runs.internal.items ++ one) l) ext,
+                sum_by-append (λ (run : Run R). length (items_of run)) a.runs.internal.items one,
+                sum_by-cons (λ (run : Run R). length (items_of run)) put.run [],
+                ap length put.items,
+              );
+            }
+
         pub moved-stored : length a.runs.external.items ≤ 64 → s.drawn ≡ [] → t.drawn ≡ [] → IsStored cmp record_of width shown sorted a b s t → Moved shown cmp record_of width n sorted a b s t
         moved-stored few no_row no_row' (inl put) = moved-in_buffers put
-        moved-stored few no_row no_row' (inr put) = moved-in_blocks few no_row no_row' put.blocks
+        moved-stored few no_row no_row' (inr put) = moved-in_blocks sorted (omega (arith, some)) few no_row no_row' put.blocks
 
         pub short-stored : NoneFree (length sorted) a b s t → StoreShort shown cmp record_of width n (length sorted) a b s t
         short-stored none =
@@ -282,3 +283,11 @@ module _ {S R : Type 0} (shown : S → Shown) where
               moved = moved-same none.slots.internal none.slots.external;
               short = (let size : length t.kept * s.block ≡ length t.kept * n.block = ap (λ k. length t.kept * k) rest.block in omega (arith, none.slots.still_few, size, internal_count a.runs.internal.items));
             }
+
+      -- a merge of all runs in buffers found too few slots
+      pub short-merged : NoSlots 0 a b s t → StoreShort shown cmp record_of width n 0 a b s t
+      short-merged none =
+          record {
+            moved = moved-same none.internal none.external;
+            short = (let size : length t.kept * s.block ≡ length t.kept * n.block = ap (λ k. length t.kept * k) rest.block in omega (arith, none.still_few, size, internal_count a.runs.internal.items));
+          }

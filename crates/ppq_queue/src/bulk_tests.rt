@@ -231,7 +231,7 @@ fn a_bulk_pop_takes_from_two_heaps(rt: HostRuntime) -> Result<(), Fail> {
     assert_eq!(rt; out.as_slice(), [pair(1), pair(2), pair(3)].as_slice());
     let mut queue = turned(queue);
     fill(&rt, &mut queue, &[pair(5)]);
-    assert_eq!(rt; queue.begin_session(&rt, &OpenGate), Ok(()));
+    assert_eq!(rt; queue.begin_session(&rt, true, &OpenGate), Ok(()));
     assert_eq!(rt; queue.settle(&rt, &OpenGate), Ok(()));
     assert_eq!(rt; queue.bulk_pop(&rt, 9, &mut out, &OpenGate), Ok(2));
     assert_eq!(rt; out.as_slice(), [pair(4), pair(5)].as_slice());

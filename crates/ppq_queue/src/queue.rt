@@ -13,7 +13,7 @@ ghost use Rattle.ppq_queue.specs.declared.fault.QueueFault.TheVariants.{Device};
 use crate::berths::{berth_slots, give_back};
 use crate::bulk::{keep_below, take_out};
 use crate::choice::goes_first;
-use crate::flush::{flush_all, store_extract};
+use crate::flush::{flush_all, store_for_session};
 use crate::parts::Parts;
 use crate::refill::make_ready;
 use crate::settle::settle_some;
@@ -576,10 +576,17 @@ impl<S: Slot + Send + Sync, R: Record + Send + Sync> Queue<S, R> {
     }
 
     /// Makes the queue ready for a session: the rest of the extract buffer is stored as a run, and levels of
-    /// runs are merged before and after. The heaps stay as they are.
+    /// runs are merged before and after. The heaps stay as they are. If `merges`, and fewer than half of the
+    /// pool's buffers are idle then, all runs in buffers are merged into one run in blocks, and levels of runs
+    /// again, so that the passes have buffers.
     ///
     /// `NoFreeBlock` and `Device` come as from `push`.
-    pub fn begin_session<H: Host, G: Gate>(&mut self, rt: &H, gate: &G) -> Result<(), QueueFault>
+    pub fn begin_session<H: Host, G: Gate>(
+        &mut self,
+        rt: &H,
+        merges: bool,
+        gate: &G,
+    ) -> Result<(), QueueFault>
     where
         H::Dir: Send,
         ensures bag { OnOk result (AllTell self.old.slots → IsSameBag self.new.bag self.old.bag) }
@@ -599,9 +606,10 @@ impl<S: Slot + Send + Sync, R: Record + Send + Sync> Queue<S, R> {
         if let Some(number) = self.failed {
             return Err(QueueFault::Device { number });
         }
-        let answer = store_extract(
+        let answer = store_for_session(
             rt,
             self.sizes,
+            merges,
             &mut self.extract,
             &mut self.body,
             &mut self.supply,

@@ -19,7 +19,7 @@ invariant_of-self g c =
     let width = g.R.Record.WIDTH in
     let n = s.sizes in
     let i = c.self.invariant.0 in
-    let m = c.store_extract-answer in
+    let m = c.store_for_session-answer in
     let e = m.ensures in
     let a = s.body in
     let b = m.new.body in
@@ -46,7 +46,7 @@ invariant_of-self-in-Err-NoFreeBlock g c =
     let width = g.R.Record.WIDTH in
     let n = s.sizes in
     let i = c.self.invariant.0 in
-    let m = c.store_extract-answer in
+    let m = c.store_for_session-answer in
     let e = m.ensures in
     let a = s.body in
     let b = m.new.body in
@@ -77,7 +77,7 @@ returns-in-Ok-clause-bag g c tell p =
     let width = g.R.Record.WIDTH in
     let n = s.sizes in
     let i = c.self.invariant.0 in
-    let m = c.store_extract-answer in
+    let m = c.store_for_session-answer in
     let e = m.ensures in
     let a = s.body in
     let b = m.new.body in
@@ -88,13 +88,13 @@ returns-in-Ok-clause-bag g c tell p =
     moved.bag (subst (λ q. AllTell q.slots) (sym view) tell) p ∙ ap (λ q. count_by p q.bag) view
 
 pub returns-in-Ok-clause-tells : goal.returns-in-Ok-clause-tells
-returns-in-Ok-clause-tells g c tell = c.store_extract-answer.ensures.kept.tells.0 (subst (λ q. AllTell q.slots) (sym c.self.view_is) tell)
+returns-in-Ok-clause-tells g c tell = c.store_for_session-answer.ensures.kept.tells.0 (subst (λ q. AllTell q.slots) (sym c.self.view_is) tell)
 
 pub returns-in-Err-NoFreeBlock-clause-tells : goal.returns-in-Err-NoFreeBlock-clause-tells
-returns-in-Err-NoFreeBlock-clause-tells g c tell = c.store_extract-answer.ensures.kept.tells.0 (subst (λ q. AllTell q.slots) (sym c.self.view_is) tell)
+returns-in-Err-NoFreeBlock-clause-tells g c tell = c.store_for_session-answer.ensures.kept.tells.0 (subst (λ q. AllTell q.slots) (sym c.self.view_is) tell)
 
 pub returns-in-Err-Device-clause-tells : goal.returns-in-Err-Device-clause-tells
-returns-in-Err-Device-clause-tells g c tell = c.store_extract-answer.ensures.kept.tells.0 (subst (λ q. AllTell q.slots) (sym c.self.view_is) tell)
+returns-in-Err-Device-clause-tells g c tell = c.store_for_session-answer.ensures.kept.tells.0 (subst (λ q. AllTell q.slots) (sym c.self.view_is) tell)
 
 pub returns-in-Err-NoFreeBlock-clause-refused : goal.returns-in-Err-NoFreeBlock-clause-refused
 returns-in-Err-NoFreeBlock-clause-refused g c =
@@ -106,7 +106,7 @@ returns-in-Err-NoFreeBlock-clause-refused g c =
     let width = g.R.Record.WIDTH in
     let n = s.sizes in
     let i = c.self.invariant.0 in
-    let m = c.store_extract-answer in
+    let m = c.store_for_session-answer in
     let e = m.ensures in
     let a = s.body in
     let b = m.new.body in
