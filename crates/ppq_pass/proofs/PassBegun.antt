@@ -1,5 +1,5 @@
 -- A pass that begins.
-use Rattle.std.proofs.Common.{◌≡◌, ℕ, ◌+◌, ◌*◌, ◌/◌, ◌<◌, ◌≤◌, ◌^◌, Bool, true, false, List, [], ◌++◌, length, All, Option, Some, None, refl, sym, ap, ap₂, ◌∙◌, subst, arith}
+use Rattle.std.proofs.Common.{◌≡◌, ℕ, ◌+◌, ◌*◌, ◌/◌, ◌<◌, ◌≤◌, ◌^◌, Bool, true, false, List, [], ◌++◌, length, sum_by, All, Option, Some, None, refl, sym, ap, ap₂, ◌∙◌, subst, arith}
 use Rattle.std.specs.Prelude.{Vec, vec_capacity}
 use Rattle.std.specs.Global.{Global}
 use Rattle.std.specs.declared.cmp.Ordering.{Ordering}
@@ -18,6 +18,7 @@ use Rattle.ppq_array.specs.Holdings.{internal_items, internal_buffers, external_
 use Rattle.ppq_fetch.specs.Fetching.{count_in}
 use Rattle.ppq_spill.specs.Body.{IsNewBody, body_slots, job_slots}
 use Rattle.ppq_spill.specs.declared.body.PassBody.{PassBody}
+use Rattle.ppq_spill.specs.Untold.{untold}
 use Rattle.ppq_spill.proofs.SameSlots.{SameSlots-refl}
 use Rattle.ppq_row.specs.Known.{Known as RowKnown}
 use Rattle.ppq_pool.specs.Known.{Known as PoolKnown}
@@ -70,6 +71,7 @@ module _ {S R : Type 0} (shown : S → Shown) (cmp : R → R → Ordering) (reco
           few_buffers = few;
           few_slots = slots;
           slots = subst (λ (xs : List Shown). SameSlots (drawn_of shown p) xs) (no_drawn ∙ sym no_slots) (SameSlots-refl (drawn_of shown p));
+          untold = ap (λ (xs : List Shown). sum_by untold xs) (no_drawn ∙ sym no_slots);
           writes = omega (arith, ap all_writes (no_drawn ∙ sym no_slots));
           buffers = omega (arith, ap internal_buffers new.no_internal, ap external_buffers new.no_external, new.two, ap length new.no_job, ap length numbers);
           size = record {

@@ -24,7 +24,7 @@ use Rattle.ppq_pass.specs.PassState.{IsPassed, IsSoundPass, shared_of, stock_of}
 use Rattle.ppq_pass.specs.PassStore.{StoreKept}
 use Rattle.ppq_pass.proofs.Passes.{few_numbers}
 use Rattle.ppq_pass.proofs.PassRuns.{runs_buffers, runs_records, records_fit, arrays_blocks, arrays_size, runs_count}
-use Rattle.ppq_pass.proofs.PassSlots.{same_slots, more_writes}
+use Rattle.ppq_pass.proofs.PassSlots.{same_slots, same_untold, more_writes}
 
 -- the buffers of the budget hold no more than the budget
 pool_within : (n : Numbers) → pool_of n * n.block ≤ n.memory
@@ -123,6 +123,7 @@ module _ {S R : Type 0} (shown : S → Shown) (cmp : R → R → Ordering) (reco
           few_buffers = omega (arith, ap count_of (kept.supply.pool ∙ sym pool), is.few_buffers);
           few_slots = omega (arith, ap length kept.items, is.few_slots);
           slots = same_slots shown a b p q kept.kept kept.items is.slots;
+          untold = same_untold shown a b p q kept.kept kept.items kept.untold is.untold;
           writes = more_writes shown a b p q kept.kept kept.items records kept.writes is.writes;
           buffers = omega (arith, kept.kept.buffers, is.buffers);
           size = kept.size;

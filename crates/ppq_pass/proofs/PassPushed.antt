@@ -55,6 +55,7 @@ module _ {S R : Type 0} (shown : S → Shown) (cmp : R → R → Ordering) (reco
           few_buffers = was.few_buffers;
           few_slots = was.few_slots;
           slots = was.slots;
+          untold = was.untold;
           writes = was.writes;
           buffers = was.buffers;
           size = was.size;

@@ -10,9 +10,10 @@ use Rattle.ppq_array.specs.declared.berth.DeviceBlock.{DeviceBlock}
 use Rattle.ppq_array.specs.Owner.{slots_shown}
 use Rattle.ppq_array.specs.Kept.{SameSlots, Kept, weight_at, all_writes}
 use Rattle.ppq_spill.specs.Body.{body_slots, held_by}
-use Rattle.ppq_spill.specs.Storing.{StillTell, WritesFew}
+use Rattle.ppq_spill.specs.Storing.{StillTell, StillUntold, WritesFew}
 use Rattle.ppq_spill.specs.declared.body.PassBody.{PassBody}
-use Rattle.ppq_spill.proofs.Telling.{untold, tell_sum, sum_tell}
+use Rattle.ppq_spill.specs.Untold.{untold, SameUntold}
+use Rattle.ppq_spill.proofs.Telling.{tell_sum, sum_tell}
 use Rattle.ppq_pass.specs.declared.parts.PassParts.{PassParts}
 use Rattle.ppq_pass.specs.Passing.{items_at, with_item}
 use Rattle.ppq_pass.specs.Passed.{slots_of}
@@ -83,6 +84,13 @@ module _ {S R : Type 0} (shown : S → Shown) where
           reads = λ n. let f = weight_at (λ s. s.reads) n in omega (arith, kept.slots.reads n, was.reads n, (split f).0, (split f).1);
         }
 
+    -- as many of them do not tell
+    pub same_untold : StillUntold shown a b (stock_of shown p) (stock_of shown q) → SameUntold (drawn_of shown p) (slots_of shown a p) → SameUntold (drawn_of shown q) (slots_of shown b q)
+    same_untold still was =
+        let e : sum_by untold (drawn_of shown q) ≡ sum_by untold (slots_of shown b q) =
+        omega (arith, still, was, sum_by-append untold (slots_of shown a p) (drawn_of shown q), sum_by-append untold (slots_of shown b q) (drawn_of shown p)) in
+        e
+
     -- and were written no less than before
     pub more_writes : (n : ℕ) → WritesFew shown n a b (stock_of shown p) (stock_of shown q) → all_writes (drawn_of shown p) ≤ all_writes (slots_of shown a p) → all_writes (drawn_of shown q) ≤ all_writes (slots_of shown b q)
     more_writes n few was =
@@ -130,3 +138,7 @@ module _ {S R : Type 0} (shown : S → Shown) where
           let before = tell_sum (body_slots shown a ++ slots_shown shown p.stash ++ drawn_of shown q) (tells.1 (tell_after tell)) in
           sum_tell (all_slots shown a p) (omega (arith, before, tell_sum (all_slots shown b q) tell, sum_all untold a p, sum_all untold b q, same_items, sum_by-append untold (slots_of shown a p) (drawn_of shown q), sum_by-append untold (body_slots shown a) (slots_shown shown p.stash)))),
     )
+
+-- where the slots of a pass tell, they told when they were drawn
+pub told_drawn : {S R : Type 0} (shown : S → Shown) (body : PassBody S R) (parts : PassParts S R) → SameUntold (drawn_of shown parts) (slots_of shown body parts) → AllTell (slots_of shown body parts) → AllTell (drawn_of shown parts)
+told_drawn shown body parts same tell = sum_tell (drawn_of shown parts) (same ∙ tell_sum (slots_of shown body parts) tell)

@@ -15,6 +15,7 @@ use Rattle.ppq_array.specs.Holdings.{RunHasBlock, ArrayHasSize, CanTakeBack}
 use Rattle.ppq_fetch.specs.Fetching.{IsFitting, count_in}
 use Rattle.ppq_spill.specs.Body.{held_by}
 use Rattle.ppq_spill.specs.Storing.{HasOneSize, in_buffers}
+use Rattle.ppq_spill.specs.Untold.{SameUntold}
 use Rattle.ppq_spill.specs.declared.body.PassBody.{PassBody}
 use Rattle.ppq_pool.specs.Seats.{count_of}
 use Rattle.ppq_pass.specs.declared.shared.Shared.{Shared}
@@ -71,6 +72,8 @@ module _ {S R : Type 0} where
       pub few_buffers : count_of parts.pool_seat.pool ≤ pool_of n
       pub few_slots : length parts.row_seat.hand.items ≤ n.blocks
       pub slots : SameSlots (drawn_of parts) (slots_of shown body parts)
+      -- as many of those do not tell as of these
+      pub untold : SameUntold (drawn_of parts) (slots_of shown body parts)
       pub writes : all_writes (drawn_of parts) ≤ all_writes (slots_of shown body parts)
       pub buffers : (held_by shown body).buffers ≡ length parts.numbers.items + 2
       pub size : HasOneSize shown width body (stock_of parts)

@@ -4,7 +4,7 @@ use Rattle.ppq_outside.specs.Shown.{Shown}
 use Rattle.ppq_array.specs.Kept.{Kept}
 use Rattle.ppq_array.specs.Holdings.{CanTakeBack}
 use Rattle.ppq_spill.specs.Body.{held_by}
-use Rattle.ppq_spill.specs.Storing.{HasOneSize, LanesRest, RoomsRest, StillTell, WritesFew}
+use Rattle.ppq_spill.specs.Storing.{HasOneSize, LanesRest, RoomsRest, StillTell, StillUntold, WritesFew}
 use Rattle.ppq_spill.specs.declared.body.PassBody.{PassBody}
 use Rattle.ppq_pass.specs.declared.shared.Shared.{Shared}
 use Rattle.ppq_pass.specs.declared.parts.PassParts.{PassParts}
@@ -22,6 +22,7 @@ pub record StoreKept {S R : Type 0} (shown : S → Shown) (width records : ℕ) 
   pub kept : Kept (stock_of shown before) (stock_of shown now) (held_by shown old) (held_by shown new)
   pub takes_back : CanTakeBack shown (stock_of shown now) new.runs.internal.items new.runs.external.items
   pub tells : StillTell shown old new (stock_of shown before) (stock_of shown now)
+  pub untold : StillUntold shown old new (stock_of shown before) (stock_of shown now)
   pub writes : WritesFew shown records old new (stock_of shown before) (stock_of shown now)
   pub lanes : LanesRest old.lanes new.lanes
   pub size : HasOneSize shown width new (stock_of shown now)

@@ -21,6 +21,7 @@ use ppq_spill::PassBody;
 use std::alloc::Global;
 use std::process::Abort;
 use std::test::Fail;
+use std::thread::join_mut;
 
 // What is shared, and two passes of it.
 struct Session {
@@ -148,6 +149,46 @@ fn two_passes_push_until_the_device_is_full(rt: HostRuntime) -> Result<(), Fail>
     } = two_passes(&rt, rt.alloc())?;
     fill(&rt, &shared, &mut one);
     fill(&rt, &shared, &mut other);
+    assert!(rt; one.refused() && other.refused());
+    let (first, second) = (one.accepted(), other.accepted());
+    assert_eq!(rt; records_of(one), first);
+    assert_eq!(rt; records_of(other), second);
+    // at most four blocks, two buffers and two heaps
+    assert!(rt; first.saturating_add(second) <= 16);
+    Ok(())
+}
+
+// Fills two passes, each on a thread of its own.
+fn fill_both<H: Host>(
+    rt: &H,
+    shared: &Shared<MemSlot, Pair>,
+    one: &mut Pass<MemSlot, Pair>,
+    other: &mut Pass<MemSlot, Pair>,
+)
+where
+    H::Dir: Send,
+    requires one { IsOf shared.now one.old }
+    requires other { IsOf shared.now other.old }
+{
+    join_mut(
+        rt,
+        &mut ||
+            requires { IsOf shared.now one.now }
+        { fill(rt, shared, one) },
+        &mut ||
+            requires { IsOf shared.now other.now }
+        { fill(rt, shared, other) },
+    );
+}
+
+#[test]
+fn two_passes_on_two_threads_fill_the_device(rt: HostRuntime) -> Result<(), Fail> {
+    let Session {
+        shared,
+        mut one,
+        mut other,
+    } = two_passes(&rt, rt.alloc())?;
+    fill_both(&rt, &shared, &mut one, &mut other);
     assert!(rt; one.refused() && other.refused());
     let (first, second) = (one.accepted(), other.accepted());
     assert_eq!(rt; records_of(one), first);

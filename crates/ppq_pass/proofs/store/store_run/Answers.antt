@@ -4,7 +4,7 @@ use Rattle.ppq_array.specs.Supply.{Stock}
 use Rattle.ppq_array.specs.Kept.{Kept}
 use Rattle.ppq_array.specs.Holdings.{CanTakeBack}
 use Rattle.ppq_spill.specs.Body.{held_by}
-use Rattle.ppq_spill.specs.Storing.{HasOneSize, StillTell, WritesFew}
+use Rattle.ppq_spill.specs.Storing.{HasOneSize, StillTell, StillUntold, WritesFew}
 use Rattle.ppq_pass.specs.Passing.{IsPass, home_of}
 use Rattle.ppq_pass.specs.PassState.{stock_of}
 use Rattle.ppq_pass.proofs.store.store_run.Goals as goal
@@ -39,6 +39,7 @@ returns-clause-kept g c =
       kept = moved (λ x y. Kept x y (held_by shown a) (held_by shown b)) s0 s1 t0 t1 s t e.kept;
       takes_back = moved (λ x y. CanTakeBack shown y b.runs.internal.items b.runs.external.items) s0 s1 t0 t1 s t e.takes_back;
       tells = moved (λ x y. StillTell shown a b x y) s0 s1 t0 t1 s t e.tells;
+      untold = moved (λ x y. StillUntold shown a b x y) s0 s1 t0 t1 s t e.untold;
       writes = moved (λ x y. WritesFew shown (length c.args.sorted.now) a b x y) s0 s1 t0 t1 s t e.writes;
       lanes = e.lanes;
       size = moved (λ x y. HasOneSize shown width b y) s0 s1 t0 t1 s t e.size;
