@@ -1,0 +1,40 @@
+//! The parts of a queue after its session's row and pool were closed.
+
+use crate::Brought;
+use ppq_array::OwnerLists;
+use ppq_budget::Sizes;
+use ppq_extract::{Extract, Sources};
+use ppq_heap::InsertionHeap;
+use ppq_outside::Slot;
+use ppq_record::Record;
+use ppq_spill::PassBody;
+use ppq_tree::MinTree;
+
+/// The parts of a queue after its session's row and pool were closed, while passes are put into it.
+#[derive(Drop)]
+pub struct Closed<S: Slot + Send + Sync, R: Record + Send + Sync> {
+    /// The five numbers from which all sizes follow.
+    pub sizes: Sizes,
+    /// The heaps of the passes that were put in.
+    pub heaps: Vec<InsertionHeap<R>>,
+    /// The tree of the heaps' least records, which counts for nothing meanwhile.
+    pub tree: MinTree<R>,
+    /// The runs, with those of the passes that were put in, and the lanes with their buffers.
+    pub body: PassBody<S, R>,
+    /// The free slots and the idle buffers.
+    pub supply: OwnerLists<S, R>,
+    /// An empty buffer.
+    pub extract: Extract<R>,
+    /// What refills and merges need.
+    pub sources: Sources<R>,
+    /// How many records the queue had, and how many were accepted by the passes that were put in.
+    pub count: u64,
+    /// The greatest size that the queue had when the session began.
+    pub peak: u64,
+    /// The number of the slot a call of which failed, in one of those passes.
+    pub failed: Option<u32>,
+    /// The emptied list of the slots that came in.
+    pub slots: Vec<S>,
+    /// The passes that are still to be put in.
+    pub brought: Vec<Brought<S, R>>,
+}

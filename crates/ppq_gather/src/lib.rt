@@ -1,0 +1,17 @@
+//! What passes bring back at the end of a session, put into the parts of a queue.
+//!
+//! A pass that was taken apart is a [`Brought`], and the queue's parts are [`Closed`] once the session's
+//! row and pool are: [`gather_all`] puts all passes into them, and [`rejoin`] makes the queue. A pass that
+//! met no fault gives its runs; one that met a fault gives its slots and buffers alone.
+#![tactic(auto)]
+
+mod brought;
+mod closed;
+mod gather;
+mod moving;
+mod rejoining;
+
+pub use brought::Brought;
+pub use closed::Closed;
+pub use gather::gather_all;
+pub use rejoining::rejoin;
