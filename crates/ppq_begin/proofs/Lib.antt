@@ -1,0 +1,5 @@
+mod Begun
+mod Equipping
+mod Handing
+mod Opening
+mod Sharing

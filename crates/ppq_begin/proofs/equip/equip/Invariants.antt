@@ -1,0 +1,32 @@
+use Rattle.std.specs.Prelude.{vec_capacity}
+use Rattle.std.proofs.Common.{◌≡◌, ◌+◌, ◌/◌, ◌++◌, [], length, sum_by, All}
+use Rattle.ppq_record.specs.Bag.{IsSameBag}
+use Rattle.ppq_budget.specs.Sizes.{heap_of, pool_of}
+use Rattle.ppq_heap.specs.Heap.{Contents}
+use Rattle.ppq_heap.specs.Heaps.{items_in}
+use Rattle.ppq_pool.specs.Seats.{count_of}
+use Rattle.ppq_pass.specs.Passed.{PassHolding}
+use Rattle.ppq_begin.specs.Session.{IsFresh, bag_of}
+use Rattle.ppq_begin.specs.Outfits.{IsOutfit}
+use Rattle.ppq_begin.specs.Equipped.{MayEquip, Equipped, session_key}
+use Rattle.ppq_begin.proofs.equip.equip.Given as goal
+
+abbrev pub invariant-dealing : goal.invariant-dealing
+invariant-dealing g l = record {
+  count : length l.passes.items + length l.heaps.items ≡ length l.fn.heaps.items;
+  keys : All (λ (p : PassHolding g.row.S.Denot g.row.R.Denot). p.key ≡ session_key l.sizes l.fn.session p.key.begun) l.passes.items;
+  begun : sum_by (λ (p : PassHolding g.row.S.Denot g.row.R.Denot). p.key.begun) l.passes.items + length (items_in l.heaps.items) ≡ length (items_in l.fn.heaps.items);
+  bag : IsSameBag (bag_of l.passes.items ++ items_in l.heaps.items) (items_in l.fn.heaps.items);
+  slots : All (λ (p : PassHolding g.row.S.Denot g.row.R.Denot). p.slots ≡ []) l.passes.items;
+  fresh : All IsFresh l.passes.items;
+  caps : All (λ (heap : Contents g.row.R.Denot). heap.cap ≡ heap_of l.sizes) l.heaps.items;
+  outfits : length l.outfits.items ≡ length l.heaps.items;
+  each : All (IsOutfit (pool_of l.sizes / l.sizes.heap + 1) (l.sizes.blocks / l.sizes.heap + 1) (count_of l.fn.session.pool_seat.pool)) l.outfits.items;
+  capacity : vec_capacity l.heaps ≡ vec_capacity l.fn.heaps;
+  room : vec_capacity l.passes ≡ vec_capacity l.fn.passes;
+  may : MayEquip g.S.Slot.shown g.R.Record.WIDTH l.sizes (length l.heaps.items) l.idle l.session;
+  equipped : Equipped l.sizes (length l.passes.items) l.fn.idle l.idle l.fn.session l.session;
+}
+
+abbrev pub decreases-dealing : goal.decreases-dealing
+decreases-dealing g l = length l.heaps.items

@@ -1,0 +1,10 @@
+pub use Rattle.ppq_array.specs.Kept as Kept
+pub use Rattle.ppq_outside.specs.Shown as Shown
+pub use Rattle.ppq_pass.specs.Passed as Passed
+pub use Rattle.ppq_queue.specs.Holding as Holding
+pub mod Equipped
+pub mod Opened
+pub mod Outfits
+pub mod Session
+pub mod Shares
+pub mod State

@@ -1,0 +1,45 @@
+-- A session that begins.
+use Rattle.std.specs.Prelude.{◌≡◌, ℕ, [], List, ◌++◌, None, All}
+use Rattle.std.specs.declared.cmp.Ordering.{Ordering}
+use Rattle.ppq_record.specs.Bag.{IsSameBag}
+use Rattle.ppq_outside.specs.Shown.{Shown}
+use Rattle.ppq_heap.specs.Heaps.{items_of}
+use Rattle.ppq_array.specs.Supply.{Stock}
+use Rattle.ppq_array.specs.Owner.{slots_shown}
+use Rattle.ppq_array.specs.Holdings.{external_slots}
+use Rattle.ppq_pass.specs.Passed.{PassHolding}
+use Rattle.ppq_pass.specs.declared.shared.Shared.{Shared}
+use Rattle.ppq_queue.specs.Resting.{runs_bag}
+use Rattle.ppq_queue.specs.Handed.{IsWhole}
+use Rattle.ppq_queue.specs.declared.queue_parts.QueueParts.{QueueParts}
+use Rattle.ppq_begin.specs.Session.{BulkHolding, AreOf, IsFresh, keys_of, bag_of, shared_by}
+use Rattle.ppq_begin.specs.Shares.{bare, IsFirst}
+use Rattle.ppq_begin.specs.declared.share.Session.{Session}
+
+module _ {S R : Type 0} where
+  -- the pass has drawn no slot
+  abbrev pub HoldsNoSlot : PassHolding S R → Type 0
+  HoldsNoSlot pass = pass.slots ≡ []
+
+  module _ (shown : S → Shown) where
+    -- with the free slots and the idle buffers that the session shares, the parts make a sound queue with an empty extract buffer
+    pub record IsOpened (cmp : R → R → Ordering) (record_of : List ℕ → R) (width : ℕ) (q : QueueParts S R) (s : Session S R) : Type 0 where
+      pub before : Stock
+      pub out : q.supply ≡ bare before
+      pub first : IsFirst shown width before s
+      pub whole : IsWhole shown cmp record_of width (record q { supply = before })
+      pub sound : q.failed ≡ None
+      pub extract : q.extract.items ≡ []
+
+    -- the passes have the records of the heaps, and what stays has those of the runs
+    pub record HandedOut (record_of : List ℕ → R) (width : ℕ) (q : QueueParts S R) (s : Session S R) (bulk : BulkHolding S R) (shared : Shared S R) (passes : List (PassHolding S R)) : Type 0 where
+      pub of : AreOf bulk (keys_of passes)
+      pub shared_is : shared ≡ shared_by bulk
+      pub fresh : All IsFresh passes
+      pub no_slots : All HoldsNoSlot passes
+      pub bag : IsSameBag (bulk.bag ++ bag_of passes) (items_of q.heaps ++ runs_bag shown record_of width q.body)
+      pub slots : bulk.slots ≡ external_slots shown q.body.runs.external.items ++ slots_shown shown s.row_seat.hand.items
+      pub items : bulk.items ≡ s.row_seat.hand.items
+      pub size : bulk.size ≡ q.count
+      pub peak : bulk.peak ≡ q.peak
+      pub sizes : bulk.sizes ≡ q.sizes

@@ -1,0 +1,45 @@
+//! The parts of a queue while its heaps, free slots and idle buffers are out.
+
+use crate::Brought;
+use ppq_array::{Berth, OwnerLists};
+use ppq_budget::Sizes;
+use ppq_extract::{Extract, Sources};
+use ppq_heap::InsertionHeap;
+use ppq_outside::Slot;
+use ppq_pass::PoolBuf;
+use ppq_pool::PoolSeat;
+use ppq_record::Record;
+use ppq_row::RowSeat;
+use ppq_spill::PassBody;
+use ppq_tree::MinTree;
+
+/// The parts of a queue while its heaps, free slots and idle buffers are out.
+#[derive(Drop)]
+pub struct BulkParts<S: Slot + Send + Sync, R: Record + Send + Sync> {
+    /// The five numbers from which all sizes follow.
+    pub sizes: Sizes,
+    /// The emptied list of the heaps.
+    pub heaps: Vec<InsertionHeap<R>>,
+    /// The tree of the heaps' least records, which counts for nothing meanwhile.
+    pub tree: MinTree<R>,
+    /// The runs, and the lanes without two idle buffers for each pass.
+    pub body: PassBody<S, R>,
+    /// The emptied lists of free slots and idle buffers.
+    pub supply: OwnerLists<S, R>,
+    /// An empty buffer.
+    pub extract: Extract<R>,
+    /// What refills and merges need.
+    pub sources: Sources<R>,
+    /// How many records the queue had.
+    pub count: u64,
+    /// The greatest size so far, in records.
+    pub peak: u64,
+    /// The emptied list of the slots that came in.
+    pub slots: Vec<S>,
+    /// The right to the row of the free slots.
+    pub row_seat: RowSeat<Berth<S, R>>,
+    /// The right to the pool of the idle buffers.
+    pub pool_seat: PoolSeat<PoolBuf<R>>,
+    /// An empty list with room for what the passes bring.
+    pub brought: Vec<Brought<S, R>>,
+}
