@@ -1,0 +1,151 @@
+-- Records that passes are given: one record more, a refusal, and the parts of all passes together.
+use Rattle.std.proofs.Common.{◌≡◌, ◌⊎◌, inl, inr, ℕ, zero, suc, ◌+◌, ◌*◌, ◌-◌, ◌<◌, ◌≤◌, true, false, Bool, List, [], ◌∷◌, ◌++◌, length, take, drop, get_or, min, Option, Some, None, refl, sym, ap, ap₂, ◌∙◌, subst, arith, length-append, length-drop, take-append-drop}
+use Rattle.std.specs.Prelude.{count_by}
+use Rattle.std.specs.List.{Any}
+use Rattle.std.specs.Fork.{slice_chunk}
+use Rattle.std.proofs.lemmas.List.{drop-drop, drop_all, take_all, take_more}
+use Rattle.std.proofs.lemmas.List.Sums.{sum_by-cons}
+use Rattle.std.proofs.lemmas.List.Elements.{All-cons, All-head, All-tail}
+use Rattle.std.proofs.lemmas.Bool.{cases_lt}
+use Rattle.ppq_record.specs.Bag.{IsSameBag}
+use Rattle.ppq_record.proofs.Order.{count_by-cons, count_by-append}
+use Rattle.ppq_outside.specs.Shown.{Shown}
+use Rattle.ppq_pass.specs.Passed.{PassHolding, PassTells, IsRefusedPush}
+use Rattle.ppq_queue.specs.declared.fault.QueueFault.{QueueFault}
+use Rattle.ppq_queue.specs.declared.fault.QueueFault.TheVariants.{NoFreeBlock, Device}
+use Rattle.ppq_begin.specs.Session.{bag_of, accepted_of}
+use Rattle.ppq_session.specs.Dealing.{IsGoing, HasEnded, Adds, Dealt}
+
+-- the part of a worker, as it is cut: within the records
+pub part_is : {X : Type 0} (xs : List X) (place part : ℕ) → take (min part (length xs - min (length xs) place)) (drop (min (length xs) place) xs) ≡ take part (drop place xs)
+part_is xs place part =
+    elim (cases_lt (length xs) place) as (λ _. take (min part (length xs - min (length xs) place)) (drop (min (length xs) place) xs) ≡ take part (drop place xs)) [
+      | inl past ↦ (
+          let at : min (length xs) place ≡ length xs = omega arith in
+          let none : drop place xs ≡ [] = drop_all place xs (omega arith) in
+          let end : drop (min (length xs) place) xs ≡ [] = drop_all (min (length xs) place) xs (omega arith) in
+          ap (take (min part (length xs - min (length xs) place))) end ∙ (take_all (min part (length xs - min (length xs) place)) [] (omega arith) ∙ sym (ap (take part) none ∙ take_all part [] (omega arith))))
+      | inr within ↦ (
+          let at : min (length xs) place ≡ place = omega arith in
+          ap₂ (λ (n m : ℕ). take n (drop m xs)) (ap (λ m. min part (length xs - m)) at) at ∙ fewer (drop place xs) (length xs - place) (length-drop place xs))
+    ]
+  where
+    fewer : {Y : Type 0} (ys : List Y) (left : ℕ) → length ys ≡ left → take (min part left) ys ≡ take part ys
+    fewer ys left e =
+        elim (cases_lt left part) as (λ _. take (min part left) ys ≡ take part ys) [
+          | inl short ↦ (take_all (min part left) ys (omega arith) ∙ sym (take_all part ys (omega arith)))
+          | inr long ↦ ap (λ n. take n ys) (omega arith)
+        ]
+
+module _ {R : Type 0} where
+  -- one more of the records is in the bag
+  pub bag-more :
+      (records : List R) (i : ℕ) (r : R) (old mid new : List R) → i < length records → r ≡ get_or records i r → IsSameBag mid (take i records ++ old) → IsSameBag new (r ∷ mid)
+      → IsSameBag new (take (i + 1) records ++ old)
+  bag-more records i r old mid new l is so_far more p =
+      let longer : count_by p (take (i + 1) records) ≡ count_by p (take i records ++ r ∷ []) = ap (count_by p) (take_more records i r l ∙ ap (λ x. take i records ++ x ∷ []) (sym is)) in
+      omega (arith, more p, so_far p, longer, count_by-cons p r mid, count_by-cons p r [], count_by-append p (take i records) (r ∷ []), count_by-append p (take i records) old, count_by-append p (take (i + 1) records) old)
+
+module _ {S R : Type 0} where
+  -- a pass goes on, or one of its pushes was refused
+  pub going_or_ended : (pass : PassHolding S R) → IsGoing pass ⊎ HasEnded pass
+  going_or_ended pass = by (pass.refused) (pass.failed) refl refl
+    where
+      by : (refused : Bool) (failed : Option ℕ) → pass.refused ≡ refused → pass.failed ≡ failed → IsGoing pass ⊎ HasEnded pass
+      by true failed r f = inr (inl r)
+      by false None r f = inl (record { unrefused = r; sound = f })
+      by false (Some number) r f = inr (inr (number, f))
+
+  pub not_both : (pass : PassHolding S R) → IsGoing pass → HasEnded pass → ⊥
+  not_both pass going (inl refused) = let r = going.unrefused in absurd (cc)
+  not_both pass going (inr failed) = let f = going.sound in let n = failed.1 in absurd (cc)
+
+  -- what a refused push leaves
+  pub refused-ended : (old new : PassHolding S R) (fault : QueueFault) → IsRefusedPush old new fault → HasEnded new
+  refused-ended old new NoFreeBlock h = inl (ap (λ p. p.refused) h.rest)
+  refused-ended old new (Device number) h = inr (number, h.kept)
+
+  pub refused-accepted : (old new : PassHolding S R) (fault : QueueFault) → IsRefusedPush old new fault → new.accepted ≡ old.accepted
+  refused-accepted old new NoFreeBlock h = ap (λ p. p.accepted) h.rest
+  refused-accepted old new (Device number) h = h.accepted
+
+  module _ (shown : S → Shown) where
+    -- a pass stopped at one of the records
+    pub adds-refused :
+        (records : List R) (i : ℕ) (first mid new : PassHolding S R) (fault : QueueFault) → i < length records → new.key ≡ first.key → (PassTells shown first → PassTells shown new)
+        → mid.accepted ≡ first.accepted + i → IsRefusedPush mid new fault → Adds shown records first new
+    adds-refused records i first mid new fault l key tells so_far refused =
+        let ended = refused-ended mid new fault refused in
+        let same = refused-accepted mid new fault refused in
+        record {
+          key = key;
+          tells = tells;
+          bag = λ going. absurd (not_both new going ended);
+          accepted = λ going. absurd (not_both new going ended);
+          fewer = λ _. omega (arith, same, so_far, l);
+        }
+
+    adds-most : (records : List R) (old new : PassHolding S R) → Adds shown records old new → new.accepted ≤ old.accepted + length records
+    adds-most records old new adds =
+        elim (going_or_ended new) as (λ _. new.accepted ≤ old.accepted + length records) [
+          | inl going ↦ omega (arith, adds.accepted going)
+          | inr ended ↦ omega (arith, adds.fewer ended)
+        ]
+
+    any-none : Any {X = PassHolding S R} HasEnded [] → ⊥
+    any-none (k, x, l, e, h) = absurd (omega arith)
+
+    any-cons : (pass : PassHolding S R) (passes : List (PassHolding S R)) → Any HasEnded (pass ∷ passes) → HasEnded pass ⊎ Any HasEnded passes
+    any-cons pass passes (zero, x, l, e, h) = inl (subst HasEnded (sym e) h)
+    any-cons pass passes (suc k, x, l, e, h) = inr (k, x, omega arith, e, h)
+
+    -- no pass and no record
+    pub dealt-none : Dealt {R = R} shown [] [] []
+    dealt-none = record {
+      keys = refl;
+      tells = λ t. t;
+      bag = λ going t p. refl;
+      accepted = λ going. refl;
+      most = omega arith;
+      fewer = λ any. absurd (any-none any);
+    }
+
+    -- one pass more, with the first of the records
+    pub dealt-cons :
+        (part rest : List R) (o n : PassHolding S R) (os ns : List (PassHolding S R)) → Adds shown part o n → Dealt shown rest os ns → Dealt shown (part ++ rest) (o ∷ os) (n ∷ ns)
+    dealt-cons part rest o n os ns one all =
+        let long = length-append part rest in
+        let old = sum_by-cons (λ (p : PassHolding S R). p.accepted) o os in
+        let new = sum_by-cons (λ (p : PassHolding S R). p.accepted) n ns in
+        record {
+          keys = ap₂ (λ k ks. k ∷ ks) one.key all.keys;
+          tells = λ t. All-cons (PassTells shown) n ns (one.tells (All-head (PassTells shown) o os t)) (all.tells (All-tail (PassTells shown) o os t));
+          bag = λ going t p.
+              let here = one.bag (All-head IsGoing n ns going) (All-head (PassTells shown) o os t) p in
+              let there = all.bag (All-tail IsGoing n ns going) (All-tail (PassTells shown) o os t) p in
+              omega (arith, here, there, count_by-append p part o.bag, count_by-append p rest (bag_of os), count_by-append p n.bag (bag_of ns), count_by-append p o.bag (bag_of os), count_by-append p part rest, count_by-append p (part ++ rest) (o.bag ++ bag_of os));
+          accepted = λ going. omega (arith, one.accepted (All-head IsGoing n ns going), all.accepted (All-tail IsGoing n ns going), old, new, long);
+          most = omega (arith, adds-most part o n one, all.most, old, new, long);
+          fewer = λ any.
+              elim (any-cons n ns any) as (λ _. accepted_of (n ∷ ns) < accepted_of (o ∷ os) + length (part ++ rest)) [
+                | inl here ↦ omega (arith, one.fewer here, all.most, old, new, long)
+                | inr there ↦ omega (arith, adds-most part o n one, all.fewer there, old, new, long)
+              ];
+        }
+
+    -- each pass was given its part
+    pub dealt-parts :
+        (part : ℕ) (records : List R) (olds news : List (PassHolding S R)) → length news ≡ length olds → length records ≤ part * length olds
+        → ((i : ℕ) (d : PassHolding S R) → i < length olds → Adds shown (slice_chunk records part i) (get_or olds i d) (get_or news i d)) → Dealt shown records olds news
+    dealt-parts part [] [] [] e l each = dealt-none
+    dealt-parts part (r ∷ rs) [] [] e l each = absurd (omega arith)
+    dealt-parts part records [] (n ∷ ns) e l each = absurd (omega arith)
+    dealt-parts part records (o ∷ os) [] e l each = absurd (omega arith)
+    dealt-parts part records (o ∷ os) (n ∷ ns) e l each =
+        let none : 0 * part ≡ 0 = omega arith in
+        let first : slice_chunk records part 0 ≡ take part records = ap (λ k. take part (drop k records)) none in
+        let rest = dealt-parts part (drop part records) os ns (omega arith) (omega (arith, length-drop part records)) (λ i d h.
+        let next : suc i * part ≡ part + i * part = omega arith in
+        let chunk : slice_chunk records part (suc i) ≡ slice_chunk (drop part records) part i = ap (take part) (ap (λ k. drop k records) next ∙ sym (drop-drop (i * part) part records)) in
+        subst (λ c. Adds shown c (get_or os i d) (get_or ns i d)) chunk (each (suc i) d (omega arith))) in
+        subst (λ c. Dealt shown c (o ∷ os) (n ∷ ns)) (take-append-drop part records) (dealt-cons (take part records) (drop part records) o n os ns (subst (λ c. Adds shown c o n) first (each 0 o (omega arith))) rest)

@@ -1,0 +1,9 @@
+pub mod Brings
+pub mod DealtParts
+pub mod Ended
+pub mod FirstGathered
+pub mod Joined
+pub mod LineParts
+pub mod Places
+pub mod ShortOfBlocks
+pub mod Together

@@ -1,0 +1,144 @@
+-- What a refused push says of the device: all its blocks were drawn, and so they are fewer than are enough for the peak.
+use Rattle.std.proofs.Common.{◌≡◌, ℕ, ◌+◌, ◌*◌, ◌<◌, ◌≤◌, true, List, [], ◌∷◌, ◌++◌, length, All, None, refl, ap, ◌∙◌, subst, arith, length-append}
+use Rattle.std.specs.declared.cmp.Ordering.{Ordering}
+use Rattle.std.proofs.lemmas.Nat.{mul-le}
+use Rattle.std.proofs.Math.Nat.{add-mul, mul_comm, mul-le-mul_right, lt_of_mul-lt-mul_right, zero-mul}
+use Rattle.std.proofs.lemmas.List.Sums.{sum_by-cons}
+use Rattle.std.proofs.lemmas.List.Elements.{All-nil, All-head, All-tail, All-cons, All-map}
+use Rattle.std.proofs.lemmas.List.Concat.{flat_map-cons}
+use Rattle.ppq_outside.specs.Shown.{Shown}
+use Rattle.ppq_budget.specs.Sizes.{Numbers, AreInRange, heap_of, blocks_for, room_of}
+use Rattle.ppq_array.specs.External.{External}
+use Rattle.ppq_array.specs.Owner.{slots_shown}
+use Rattle.ppq_array.specs.Holdings.{external_slots}
+use Rattle.ppq_fetch.specs.Fetching.{blocks_in}
+use Rattle.ppq_spill.specs.Body.{body_slots, job_slots}
+use Rattle.ppq_spill.proofs.Keeping.{slots_long}
+use Rattle.ppq_pass.specs.Passed.{PassHolding, slots_of as pass_slots}
+use Rattle.ppq_pass.specs.PassState.{IsPassArray}
+use Rattle.ppq_queue.specs.Resting.{odd_of, odd_in, slots_of, count_of}
+use Rattle.ppq_queue.proofs.Counts.{stored_slots, internal_count}
+use Rattle.ppq_queue.proofs.Odd.{arrays_full}
+use Rattle.ppq_begin.specs.State.{IsBulk}
+use Rattle.ppq_begin.specs.declared.parts.BulkParts.{BulkParts}
+use Rattle.ppq_gather.specs.Passes.{IsBrought, pass_of}
+use Rattle.ppq_gather.specs.Gathering.{slots_in, begun_in, accepted_in}
+use Rattle.ppq_gather.specs.declared.brought.Brought.{Brought}
+use Rattle.ppq_gather.specs.declared.closed.Closed.{Closed}
+use Rattle.ppq_gather.proofs.Gathered.{resting-array, even-array}
+use Rattle.ppq_session.specs.Bringing.{BroughtAll}
+use Rattle.ppq_session.specs.Closing.{IsClosed}
+
+heap_some : (n : Numbers) → AreInRange n → 0 < heap_of n
+heap_some n range = let least : 1 * 1 ≤ n.heap * n.block = mul-le 1 1 n.heap n.block range.some_heap (omega (arith, range.two_records)) in omega (arith, least)
+
+module _ {S R : Type 0} (shown : S → Shown) (cmp : R → R → Ordering) (record_of : List ℕ → R) (width : ℕ) (n : Numbers) (range : AreInRange n) where
+  -- a run of a pass just fills its blocks
+  none_odd : (arrays : List (External S R)) → All (IsPassArray shown width n.block (heap_of n)) arrays → odd_in n.block arrays ≡ 0
+  none_odd [] all = refl
+  none_odd (x ∷ xs) all =
+      let P = IsPassArray {S = S} {R = R} shown width n.block (heap_of n) in
+      omega (arith, even-array shown width n.block (heap_of n) x (All-head P x xs all), none_odd xs (All-tail P x xs all), sum_by-cons (odd_of {S = S} {R = R} n.block) x xs)
+
+  -- the slots of a pass have room for no more than its records
+  pass_full : (x : Brought S R) → IsBrought shown record_of width n cmp x → x.failed ≡ None → length (pass_slots shown x.body x.kept.value) * n.block ≤ x.begun + x.accepted
+  pass_full x is whole =
+      let p = is.sound whole in
+      let arrays = x.body.runs.external.items in
+      let ext = external_slots shown arrays in
+      let stash = slots_shown shown x.kept.value.stash in
+      let full = arrays_full n.block shown width arrays (λ k d h. resting-array shown width n.block (heap_of n) _ (p.external k d h) (heap_some n range)) in
+      let even : odd_in n.block arrays * n.block ≡ 0 = ap (λ k. k * n.block) (none_odd arrays p.external) ∙ zero-mul n.block in
+      let long : length (pass_slots shown x.body x.kept.value) ≡ blocks_in arrays + length x.kept.value.stash =
+      omega (
+        arith,
+        length-append (body_slots shown x.body) stash,
+        length-append ext (job_slots shown x.body.lanes.jobs.items),
+        ap (λ l. length (job_slots shown l)) is.always.no_job,
+        stored_slots shown arrays,
+        slots_long shown x.kept.value.stash,
+      )
+      in
+      let product : length (pass_slots shown x.body x.kept.value) * n.block ≡ blocks_in arrays * n.block + length x.kept.value.stash * n.block = ap (λ k. k * n.block) long ∙ add-mul (blocks_in arrays) (length x.kept.value.stash) n.block in
+      omega (arith, product, full, even, p.stash, p.counted, internal_count x.body.runs.internal.items)
+
+  -- so have those of several
+  passes_full : (xs : List (Brought S R)) → All (IsBrought shown record_of width n cmp) xs → All (λ (x : Brought S R). x.failed ≡ None) xs → length (slots_in shown xs) * n.block ≤ begun_in shown xs + accepted_in shown xs
+  passes_full [] each whole = omega (arith, zero-mul n.block)
+  passes_full (x ∷ xs) each whole =
+      let mine = pass_slots shown x.body x.kept.value in
+      let one = pass_full x (All-head (IsBrought shown record_of width n cmp) x xs each) (All-head (λ (y : Brought S R). y.failed ≡ None) x xs whole) in
+      let more = passes_full xs (All-tail (IsBrought shown record_of width n cmp) x xs each) (All-tail (λ (y : Brought S R). y.failed ≡ None) x xs whole) in
+      let parts = flat_map-cons (λ (y : Brought S R). pass_slots shown y.body y.kept.value) x xs in
+      let long : length (slots_in shown (x ∷ xs)) ≡ length mine + length (slots_in shown xs) = ap length parts ∙ length-append mine (slots_in shown xs) in
+      let product : length (slots_in shown (x ∷ xs)) * n.block ≡ length mine * n.block + length (slots_in shown xs) * n.block = ap (λ k. k * n.block) long ∙ add-mul (length mine) (length (slots_in shown xs)) n.block in
+      omega (arith, one, more, product, sum_by-cons (λ (y : Brought S R). y.begun) x xs, sum_by-cons (λ (y : Brought S R). y.accepted) x xs)
+
+  -- a pass of which a push was refused has as many records as a heap holds, and so have all together
+  heap_full :
+      (most : ℕ) (xs : List (Brought S R))
+      → All (IsBrought shown record_of width n cmp) xs → All (λ (x : Brought S R). x.failed ≡ None) xs → begun_in shown xs + accepted_in shown xs ≤ most → All (λ (x : Brought S R). x.refused ≡ true → heap_of n ≤ most) xs
+  heap_full most [] each whole few = All-nil (λ (x : Brought S R). x.refused ≡ true → heap_of n ≤ most)
+  heap_full most (x ∷ xs) each whole few =
+      let p = (All-head (IsBrought shown record_of width n cmp) x xs each).sound (All-head (λ (y : Brought S R). y.failed ≡ None) x xs whole) in
+      let begun = sum_by-cons (λ (y : Brought S R). y.begun) x xs in
+      let accepted = sum_by-cons (λ (y : Brought S R). y.accepted) x xs in
+      All-cons (λ (y : Brought S R). y.refused ≡ true → heap_of n ≤ most) x xs (λ refused. omega (arith, p.whole refused, p.counted, few, begun, accepted))
+      (heap_full most xs (All-tail (IsBrought shown record_of width n cmp) x xs each) (All-tail (λ (y : Brought S R). y.failed ≡ None) x xs whole) (omega (arith, few, begun, accepted)))
+
+-- blocks that have room for no more than a load and 65 blocks more are fewer than are enough for the load
+few_blocks : (n : Numbers) → AreInRange n → (load : ℕ) → n.blocks * n.block ≤ load + 65 * n.block → n.blocks < room_of n load
+few_blocks n range load h =
+    let c = blocks_for n load in
+    let enough : load ≤ c * n.block = omega (arith, range.two_records, mul_comm c n.block) in
+    let most : n.blocks * n.block < (c + 66) * n.block = omega (arith, h, enough, add-mul c 66 n.block, range.two_records) in
+    let few : n.blocks < c + 66 = lt_of_mul-lt-mul_right n.block most in
+    omega (arith, few)
+
+module _ {S R : Type 0} (shown : S → Shown) (cmp : R → R → Ordering) (record_of : List ℕ → R) (width : ℕ) (q : BulkParts S R) (is : IsBulk shown cmp record_of width q) (q1 : BulkParts S R) (passes : List (PassHolding S R)) (br : BroughtAll shown record_of width q.sizes cmp passes q q1) (c : Closed S R) (cl : IsClosed shown q1 c) where
+  abbrev rest : List (Brought S R)
+  rest = br.brought
+
+  abbrev now : List Shown
+  now = slots_of shown q.body c.supply ++ slots_in shown rest
+
+  abbrev size : ℕ
+  size = q.count + accepted_in shown rest
+
+  -- where the row is drawn to its end, each slot is a block of a run that was there, or of a pass
+  all_drawn : length now ≡ q.sizes.blocks → cl.left ≡ [] → q.sizes.blocks ≡ blocks_in q.body.runs.external.items + length (slots_in shown rest)
+  all_drawn all none =
+      let ext = external_slots shown q.body.runs.external.items in
+      let jobs = job_slots shown q.body.lanes.jobs.items in
+      omega (
+        arith,
+        all,
+        length-append (slots_of shown q.body c.supply) (slots_in shown rest),
+        length-append (ext ++ jobs) c.supply.kept,
+        length-append ext jobs,
+        ap (λ l. length (job_slots shown l)) is.left.no_job,
+        ap (λ s. length s.kept) cl.supply,
+        ap (λ l. length (slots_shown shown l)) none,
+        stored_slots shown q.body.runs.external.items,
+      )
+
+  -- and all of them have room for no more than all records, and a block for each odd run
+  room : length now ≡ q.sizes.blocks → cl.left ≡ [] → All (λ (x : Brought S R). x.failed ≡ None) rest → begun_in shown rest + count_of q.body ≡ q.count → q.sizes.blocks * q.sizes.block ≤ size + 65 * q.sizes.block
+  room all none whole begun =
+      let k = blocks_in q.body.runs.external.items in
+      let odd : odd_in q.sizes.block q.body.runs.external.items * q.sizes.block ≤ 65 * q.sizes.block = mul-le-mul_right q.sizes.block is.left.few in
+      let product : q.sizes.blocks * q.sizes.block ≡ k * q.sizes.block + length (slots_in shown rest) * q.sizes.block = ap (λ m. m * q.sizes.block) (all_drawn all none) ∙ add-mul k (length (slots_in shown rest)) q.sizes.block in
+      omega (arith, product, odd, arrays_full q.sizes.block shown width q.body.runs.external.items is.left.external, passes_full shown cmp record_of width q.sizes is.range rest br.each whole, begun)
+
+  -- what a pass whose push was refused says
+  pub short :
+      length now ≡ q.sizes.blocks → All (λ (x : Brought S R). x.failed ≡ None) rest → begun_in shown rest + count_of q.body ≡ q.count → (peak : ℕ) → size ≤ peak
+      → All (λ (p : PassHolding S R). p.refused ≡ true → (q.sizes.blocks < room_of q.sizes peak) × (heap_of q.sizes ≤ size)) passes
+  short all whole begun peak least =
+      let P : PassHolding S R → Type 0 = λ p. p.refused ≡ true → (q.sizes.blocks < room_of q.sizes peak) × (heap_of q.sizes ≤ size) in
+      subst (All P) br.passes_are (
+      All-map P (pass_of shown record_of width q.sizes) rest (λ k d h refused.
+      let one = br.each k d h in
+      let none = cl.noted (br.noted k d h (one.always.supply.ended (one.always.ended refused))) in
+      let full = heap_full shown cmp record_of width q.sizes is.range size rest br.each whole (omega (arith, begun)) in
+      (few_blocks q.sizes is.range peak (omega (arith, room all none whole begun, least)), full k d h refused)))

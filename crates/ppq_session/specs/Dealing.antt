@@ -1,0 +1,45 @@
+-- Records that are dealt to passes.
+use Rattle.std.specs.Prelude.{◌≡◌, ◌⊎◌, ◌<◌, ◌≤◌, ◌==◌, ◌+◌, ℕ, true, false, List, ◌++◌, length, map, All, Some, None}
+use Rattle.std.specs.List.{Any, filter}
+use Rattle.ppq_record.specs.Bag.{IsSameBag}
+use Rattle.ppq_outside.specs.Shown.{Shown}
+use Rattle.ppq_pass.specs.Passed.{PassHolding, PassTells}
+use Rattle.ppq_begin.specs.Session.{keys_of, bag_of, accepted_of}
+use Rattle.ppq_session.specs.declared.line.Line.{Line}
+
+module _ {R : Type 0} where
+  -- the records of lines
+  abbrev pub records_in : List (Line R) → List R
+  records_in lines = map (λ line. line.record) lines
+
+  -- the records of the lines that name a pass
+  abbrev pub records_for : ℕ → List (Line R) → List R
+  records_for pass lines = records_in (filter (λ line. line.pass == pass) lines)
+
+module _ {S R : Type 0} where
+  -- no push of the pass was refused
+  pub record IsGoing (pass : PassHolding S R) : Type 0 where
+    pub unrefused : pass.refused ≡ false
+    pub sound : pass.failed ≡ None
+
+  -- a push of the pass was refused: no block was free, or a call of a slot failed
+  abbrev pub HasEnded : PassHolding S R → Type 0
+  HasEnded pass = (pass.refused ≡ true) ⊎ ((number : ℕ) × (pass.failed ≡ Some number))
+
+  module _ (shown : S → Shown) where
+    -- a pass was given these records: it has all of them, or stopped at one that was refused
+    pub record Adds (records : List R) (old new : PassHolding S R) : Type 0 where
+      pub key : new.key ≡ old.key
+      pub tells : PassTells shown old → PassTells shown new
+      pub bag : IsGoing new → PassTells shown old → IsSameBag new.bag (records ++ old.bag)
+      pub accepted : IsGoing new → new.accepted ≡ old.accepted + length records
+      pub fewer : HasEnded new → new.accepted < old.accepted + length records
+
+    -- the same of several passes, which were given these records together
+    pub record Dealt (records : List R) (old new : List (PassHolding S R)) : Type 0 where
+      pub keys : keys_of new ≡ keys_of old
+      pub tells : All (PassTells shown) old → All (PassTells shown) new
+      pub bag : All IsGoing new → All (PassTells shown) old → IsSameBag (bag_of new) (records ++ bag_of old)
+      pub accepted : All IsGoing new → accepted_of new ≡ accepted_of old + length records
+      pub most : accepted_of new ≤ accepted_of old + length records
+      pub fewer : Any HasEnded new → accepted_of new < accepted_of old + length records

@@ -1,0 +1,64 @@
+//! The end of a session's row and pool.
+ghost use Rattle.std.specs.Prelude.{◌≡◌, ◌≤◌, ◌<◌, ◌+◌, ◌*◌, length, All};
+ghost use Rattle.ppq_table.specs.Sums.{all_shares};
+ghost use Rattle.ppq_array.specs.Owner.{HasSize};
+ghost use Rattle.ppq_pool.specs.Seats.{count_of};
+ghost use Rattle.ppq_begin.specs.State.{IsBare};
+ghost use Rattle.ppq_session.specs.Closing.{IsClosed};
+
+use ppq_begin::{BulkParts, Shared, put_buffers, put_slots};
+use ppq_gather::Closed;
+use ppq_outside::Slot;
+use ppq_record::Record;
+
+/// Closes the row and the pool of a session whose seats were joined, and gives a supply the slots and the
+/// buffers that are left.
+pub fn close<S: Slot + Send + Sync, R: Record + Send + Sync>(
+    parts: BulkParts<S, R>,
+    shared: Shared<S, R>,
+) -> Closed<S, R>
+    requires row { parts.row_seat.row ≡ shared.row }
+    requires row_shares { parts.row_seat.hand.shares ≡ all_shares }
+    requires few_slots { length parts.row_seat.hand.items ≤ parts.sizes.blocks }
+    requires bytes { All (HasSize S.shown (parts.sizes.block * R.WIDTH)) parts.row_seat.hand.items }
+    requires pool { parts.pool_seat.pool ≡ shared.pool }
+    requires pool_shares { parts.pool_seat.hand.shares ≡ all_shares }
+    requires few_buffers { count_of parts.pool_seat.pool ≤ parts.supply.buffer_room }
+    requires shape { 0 < count_of parts.pool_seat.pool → parts.pool_seat.hand.shape ≡ parts.sizes.block }
+    requires supply { IsBare parts.sizes.block parts.sizes.blocks parts.supply.buffer_room parts.supply }
+    ensures { IsClosed S.shown parts result }
+{
+    let BulkParts {
+        sizes,
+        heaps,
+        tree,
+        body,
+        supply,
+        extract,
+        sources,
+        count,
+        peak,
+        slots,
+        row_seat,
+        pool_seat,
+        brought,
+    } = parts;
+    let Shared { row, pool } = shared;
+    let mut supply = supply;
+    put_slots(&mut supply, row.close(row_seat));
+    put_buffers(&mut supply, pool.close(pool_seat));
+    Closed {
+        sizes,
+        heaps,
+        tree,
+        body,
+        supply,
+        extract,
+        sources,
+        count,
+        peak,
+        failed: None,
+        slots,
+        brought,
+    }
+}

@@ -1,0 +1,52 @@
+//! The end of a session.
+ghost use Rattle.std.specs.Prelude.{◌≡◌, ◌≤◌, All};
+ghost use Rattle.ppq_outside.specs.Shown.{AllTell};
+ghost use Rattle.ppq_array.specs.Kept.{SameSlots, all_writes};
+ghost use Rattle.ppq_pass.specs.Passed.{PassTells};
+ghost use Rattle.ppq_begin.specs.declared.fault.SessionEnd.TheVariants.{Whole};
+ghost use Rattle.ppq_begin.specs.Session.{AreOf, EndsIn, keys_of, shared_by};
+
+use crate::bring::bring_all;
+use crate::close::close;
+use ppq_begin::{Bulk, Pass, SessionEnd, Shared};
+use ppq_gather::{gather_all, rejoin};
+use ppq_outside::{Gate, Host, Slot};
+use ppq_queue::Queue;
+use ppq_record::Record;
+
+/// Ends a bulk session: the queue with the records that it had and those that its passes accepted. All
+/// passes of the session come, in any order.
+///
+/// The runs of the passes become runs of the queue, whose levels are merged at last. It takes no memory.
+///
+/// `Whole`: the queue has all records. `Stopped(NoFreeBlock)`: it has, but a merge of levels found no
+/// blocks. `Stopped(Device)`: a call of the block with that number failed, in a pass or now; records may
+/// be lost, but no slot.
+pub fn bulk_end<H: Host, S: Slot + Send + Sync, R: Record + Send + Sync, G: Gate>(
+    rt: &H,
+    b: Bulk<S, R>,
+    shared: Shared<S, R>,
+    passes: Vec<Pass<S, R>>,
+    gate: &G,
+) -> (Queue<S, R>, SessionEnd)
+where
+    H::Dir: Send,
+    requires of { AreOf b (keys_of passes.items) }
+    requires shared { shared ≡ shared_by b }
+    ensures end { EndsIn S.shown b passes.items result.0 result.1 }
+    ensures settled { result.1 ≡ Whole → result.0.runs ≤ 64 }
+    ensures slots { SameSlots b.slots result.0.slots }
+    ensures tells { AllTell b.slots → All (PassTells S.shown) passes.items → AllTell result.0.slots }
+    ensures writes { all_writes b.slots ≤ all_writes result.0.slots }
+    ensures sizes { result.0.sizes ≡ b.sizes }
+{
+    let mut parts = b.into_parts();
+    bring_all(&mut parts, &shared, passes);
+    let mut closed = close(parts, shared);
+    gather_all(&mut closed);
+    let mut queue = rejoin(closed);
+    match queue.settle(rt, gate) {
+        Ok(()) => (queue, SessionEnd::Whole),
+        Err(fault) => (queue, SessionEnd::Stopped(fault)),
+    }
+}

@@ -1,0 +1,25 @@
+//! Bulk sessions: each worker adds records to a pass of its own, beside the others and with no lock, and
+//! the queue has them all when the session ends.
+//!
+//! [`bulk_begin`] takes a queue apart. The free slots become a row and the idle buffers a pool, which all
+//! passes share ([`Shared`]); each [`Pass`] gets a heap of the queue, two buffers of its lanes, and a seat
+//! of row and pool. What stays is a [`Bulk`]: the runs that were there, and the batch from which records
+//! are dealt. [`bulk_end`] puts all together again. All memory is taken by `bulk_begin`.
+//!
+//! Nothing is said of the order in which passes run: the contracts add up what each of them holds.
+#![tactic(auto)]
+
+mod bring;
+mod close;
+mod dealing;
+mod end;
+mod line;
+mod lines;
+#[cfg(test)]
+mod tests;
+
+pub use dealing::{are_going, deal};
+pub use end::bulk_end;
+pub use line::Line;
+pub use lines::push_lines;
+pub use ppq_begin::{BeginFault, Bulk, Full, Pass, PoolBuf, SessionEnd, Shared, bulk_begin};

@@ -1,0 +1,109 @@
+//! Lines pushed to the passes that they name, each pass on a thread of its own.
+ghost use Rattle.std.specs.Prelude.{◌≡◌, ◌<◌, ◌^◌, ◌↔◌, false, length, All, IsTrue, [], ◌∷◌};
+ghost use Rattle.std.specs.List.{Any};
+ghost use Rattle.ppq_pass.specs.Passed.{IsOf};
+ghost use Rattle.ppq_session.specs.Dealing.{IsGoing, HasEnded, Adds, Dealt, records_in, records_for};
+
+use crate::dealing::are_going;
+use crate::line::Line;
+use ppq_outside::{Gate, Host, Slot};
+use ppq_pass::{Pass, Shared};
+use ppq_record::Record;
+use std::thread;
+
+/// Pushes the record of each line to the pass that the line names: each pass pushes those of its lines,
+/// in their order, on a thread of its own, after its worker has entered the gate, also where no line
+/// names it. Whether all records were added.
+///
+/// A pass stops at its first record that is refused; the others go on with theirs. Each worker looks at
+/// all lines.
+pub fn push_lines<H: Host, S: Slot + Send + Sync, R: Record + Send + Sync, G: Gate>(
+    rt: &H,
+    gate: &G,
+    shared: &Shared<S, R>,
+    lines: &[Line<R>],
+    passes: &mut [Pass<S, R>],
+) -> bool
+where
+    H::Dir: Send,
+    requires some { 0 < length passes.old }
+    requires workers { length passes.old < 2 ^ 32 }
+    requires named { All (λ line. line.pass < length passes.old) lines.now }
+    requires of { All (IsOf shared.now) passes.old }
+    requires going { All IsGoing passes.old }
+    ensures all { IsTrue result ↔ All IsGoing passes.new }
+    ensures ended { result ≡ false → Any HasEnded passes.new }
+    ensures dealt { Dealt S.shown (records_in lines.now) passes.old passes.new }
+{
+    let count = passes.len();
+    thread::for_each_mut(
+        rt,
+        passes,
+        count,
+        &|worker, pass|
+            requires { (worker < 2 ^ 32) × IsOf shared.now pass.now × IsGoing pass.now }
+            ensures { Adds S.shown (records_for worker lines.entry.now) pass.entry.now pass.exit.now }
+        { push_part(rt, gate, shared, lines, worker, pass) },
+    );
+    are_going(passes)
+}
+
+// Pushes the records of the lines that name a worker's pass to it.
+fn push_part<H: Host, S: Slot + Send + Sync, R: Record + Send + Sync, G: Gate>(
+    rt: &H,
+    gate: &G,
+    shared: &Shared<S, R>,
+    lines: &[Line<R>],
+    worker: usize,
+    pass: &mut Pass<S, R>,
+)
+    requires worker { worker < 2 ^ 32 }
+    requires of { IsOf shared.now pass.old }
+    requires going { IsGoing pass.old }
+    ensures { Adds S.shown (records_for worker lines.now) pass.old pass.new }
+{
+    gate.enter(worker as u32);
+    push_named(rt, shared, lines, worker as u32, pass);
+}
+
+// Pushes the records of the lines that name a pass to it, up to the first that is refused.
+fn push_named<H: Host, S: Slot + Send + Sync, R: Record + Send + Sync>(
+    rt: &H,
+    shared: &Shared<S, R>,
+    lines: &[Line<R>],
+    number: u32,
+    pass: &mut Pass<S, R>,
+)
+    requires of { IsOf shared.now pass.old }
+    requires going { IsGoing pass.old }
+    ensures { Adds S.shown (records_for number lines.now) pass.old pass.new }
+{
+    for i in 0..lines.len() {
+        if !push_line(rt, shared, lines[i], number, pass) {
+            return;
+        }
+    }
+}
+
+// Pushes a line's record to a pass, if the line names it. Whether it was not refused.
+fn push_line<H: Host, S: Slot + Send + Sync, R: Record + Send + Sync>(
+    rt: &H,
+    shared: &Shared<S, R>,
+    line: Line<R>,
+    number: u32,
+    pass: &mut Pass<S, R>,
+) -> bool
+    requires of { IsOf shared.now pass.old }
+    requires going { IsGoing pass.old }
+    ensures added { Adds S.shown (records_for number (line ∷ [])) pass.old pass.new }
+    ensures going { IsTrue result → IsGoing pass.new }
+    ensures ended { result ≡ false → HasEnded pass.new }
+{
+    if line.pass != number {
+        return true;
+    }
+    match pass.push(rt, shared, line.record) {
+        Ok(()) => true,
+        Err(_) => false,
+    }
+}
