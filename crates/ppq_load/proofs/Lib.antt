@@ -1,0 +1,7 @@
+pub mod FileRecords
+pub mod Generated
+pub mod Loadings
+pub mod Reading
+pub mod Refusals
+pub mod Replies
+pub mod Results

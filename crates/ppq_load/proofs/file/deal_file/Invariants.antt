@@ -1,0 +1,28 @@
+use Rattle.std.proofs.Common.{◌≡◌, ◌≤◌, ◌<◌, ◌-◌, ◌*◌, ◌/◌, ◌^◌, [], length, All}
+use Rattle.ppq_record.specs.declared.pair.Pair.{Pair}
+use Rattle.ppq_outside.specs.Told.{Remembers, RepliesOnly}
+use Rattle.ppq_budget.specs.Sizes.{batch_of}
+use Rattle.ppq_queue.specs.Holding.{Holding}
+use Rattle.ppq_session.specs.Dealing.{IsGoing}
+use Rattle.ppq_load.specs.Loading.{InSession, HasGiven}
+use Rattle.ppq_load.specs.Reading.{IsReadWithin}
+use Rattle.ppq_load.proofs.file.deal_file.Given as goal
+
+abbrev pub invariant-pieces : goal.invariant-pieces
+invariant-pieces g l = record {
+  given : (queue : Holding Pair) → InSession g.S.Slot.shown queue [] l.fn.load → HasGiven g.S.Slot.shown queue (g.L.Library.told l.fn.library) l.fn.name l.from l.load;
+  going : All IsGoing l.load.passes;
+  room : l.most ≤ batch_of l.load.bulk.sizes;
+  some : 0 < l.most;
+  small : l.most < 2 ^ 32;
+  piece : l.most * 16 ≤ length l.room;
+  within : l.from ≤ l.records;
+  records : l.records ≡ l.fn.said / 16;
+  told : g.L.Library.told l.library ≡ g.L.Library.told l.fn.library;
+  remembers : Remembers (g.L.Library.replied l.fn.library) (g.L.Library.replied l.library);
+  asks : RepliesOnly (g.L.Library.replied l.fn.library) (g.L.Library.replied l.library) (IsReadWithin l.fn.name l.fn.said);
+  stays : g.L.Library.faults l.library ≡ g.L.Library.faults l.fn.library;
+}
+
+abbrev pub decreases-pieces : goal.decreases-pieces
+decreases-pieces g l = l.records - l.from

@@ -1,0 +1,116 @@
+use Rattle.std.proofs.Common.{◌≡◌, ℕ, ◌+◌, ◌/◌, ◌++◌, List, Option, Some, max, None, [], sym, subst, arith}
+use Rattle.std.specs.Prelude.{OnOk, IfErr, ⊤}
+use Rattle.ppq_record.specs.declared.pair.Pair.{Pair}
+use Rattle.ppq_record.specs.Bag.{IsSameBag}
+use Rattle.ppq_record.specs.Given.{records_of}
+use Rattle.ppq_outside.specs.Shown.{AllTell}
+use Rattle.ppq_outside.specs.Told.{bytes_or_none}
+use Rattle.ppq_queue.specs.Holding.{Holding}
+use Rattle.ppq_load.specs.Loading.{InSession, HasGiven, LoadStopsFor, LoadEndsIn, LoadCountsFrom}
+use Rattle.ppq_load.specs.Reading.{IsReadWithin}
+use Rattle.ppq_load.proofs.Refusals.{stop-more}
+use Rattle.ppq_load.proofs.Replies.{no_replies}
+use Rattle.ppq_load.proofs.Results.{first-bag, first-size, first-sound, first-peak, first-refused, first-err, first-ok, on_ok, on_ok-map, unread-ends, unread-counts}
+use Rattle.ppq_load.proofs.file.load_file.Goals as goal
+
+pub returns-in-Ok-clause-bag : goal.returns-in-Ok-clause-bag
+returns-in-Ok-clause-bag g c =
+    let q = c.args.queue in
+    let told = g.L.Library.told c.args.library.now in
+    let new = c.end-queue.result.0 in
+    let load = c.deal_file-read.new.load in
+    let given =
+    on_ok-map c.deal_file-read.result ((queue : Holding Pair) → InSession g.S.Slot.shown queue [] c.in-Ok.load → HasGiven g.S.Slot.shown queue told c.args.name.now (c.args.said / 16) load)
+    (HasGiven g.S.Slot.shown q told c.args.name.now (c.args.said / 16) load) (λ all. all q c.in-Ok.ensures.session) c.deal_file-read.ensures.given
+    in
+    subst (λ r. OnOk r (AllTell q.slots → (files : List ℕ → Option (List ℕ)) → told ≡ Some files → IsSameBag new.bag (records_of (bytes_or_none (files c.args.name.now)) ++ q.bag))) (sym c.first_fault.ensures)
+    (first-bag g.S.Slot.shown told c.args.name.now c.args.said load q new c.end-queue.result.1 (c.end-queue.ensures.loaded q) c.deal_file-read.result c.requires.long given)
+
+pub returns-in-Ok-clause-size : goal.returns-in-Ok-clause-size
+returns-in-Ok-clause-size g c =
+    let q = c.args.queue in
+    let told = g.L.Library.told c.args.library.now in
+    let new = c.end-queue.result.0 in
+    let load = c.deal_file-read.new.load in
+    let given =
+    on_ok-map c.deal_file-read.result ((queue : Holding Pair) → InSession g.S.Slot.shown queue [] c.in-Ok.load → HasGiven g.S.Slot.shown queue told c.args.name.now (c.args.said / 16) load)
+    (HasGiven g.S.Slot.shown q told c.args.name.now (c.args.said / 16) load) (λ all. all q c.in-Ok.ensures.session) c.deal_file-read.ensures.given
+    in
+    subst (λ r. OnOk r (new.size ≡ q.size + c.args.said / 16)) (sym c.first_fault.ensures)
+    (first-size g.S.Slot.shown told c.args.name.now c.args.said load q new c.end-queue.result.1 (c.end-queue.ensures.loaded q) c.deal_file-read.result given)
+
+pub returns-in-Ok-clause-sound : goal.returns-in-Ok-clause-sound
+returns-in-Ok-clause-sound g c =
+    let q = c.args.queue in
+    let told = g.L.Library.told c.args.library.now in
+    let new = c.end-queue.result.0 in
+    let load = c.deal_file-read.new.load in
+    let given =
+    on_ok-map c.deal_file-read.result ((queue : Holding Pair) → InSession g.S.Slot.shown queue [] c.in-Ok.load → HasGiven g.S.Slot.shown queue told c.args.name.now (c.args.said / 16) load)
+    (HasGiven g.S.Slot.shown q told c.args.name.now (c.args.said / 16) load) (λ all. all q c.in-Ok.ensures.session) c.deal_file-read.ensures.given
+    in
+    subst (λ r. OnOk r (new.failed ≡ None)) (sym c.first_fault.ensures)
+    (first-sound g.S.Slot.shown told c.args.name.now c.args.said load q new c.end-queue.result.1 (c.end-queue.ensures.loaded q) c.deal_file-read.result given)
+
+pub returns-in-Ok-clause-peak : goal.returns-in-Ok-clause-peak
+returns-in-Ok-clause-peak g c =
+    let q = c.args.queue in
+    let told = g.L.Library.told c.args.library.now in
+    let new = c.end-queue.result.0 in
+    let load = c.deal_file-read.new.load in
+    let given =
+    on_ok-map c.deal_file-read.result ((queue : Holding Pair) → InSession g.S.Slot.shown queue [] c.in-Ok.load → HasGiven g.S.Slot.shown queue told c.args.name.now (c.args.said / 16) load)
+    (HasGiven g.S.Slot.shown q told c.args.name.now (c.args.said / 16) load) (λ all. all q c.in-Ok.ensures.session) c.deal_file-read.ensures.given
+    in
+    subst (λ r. OnOk r (new.peak ≡ max q.peak (q.size + c.args.said / 16))) (sym c.first_fault.ensures)
+    (first-peak g.S.Slot.shown told c.args.name.now c.args.said load q new c.end-queue.result.1 (c.end-queue.ensures.loaded q) c.deal_file-read.result given)
+
+pub returns-in-Ok-clause-refused : goal.returns-in-Ok-clause-refused
+returns-in-Ok-clause-refused g c =
+    let q = c.args.queue in
+    let told = g.L.Library.told c.args.library.now in
+    let new = c.end-queue.result.0 in
+    let load = c.deal_file-read.new.load in
+    let given =
+    on_ok-map c.deal_file-read.result ((queue : Holding Pair) → InSession g.S.Slot.shown queue [] c.in-Ok.load → HasGiven g.S.Slot.shown queue told c.args.name.now (c.args.said / 16) load)
+    (HasGiven g.S.Slot.shown q told c.args.name.now (c.args.said / 16) load) (λ all. all q c.in-Ok.ensures.session) c.deal_file-read.ensures.given
+    in
+    subst (λ r. IfErr r (LoadStopsFor (max q.peak (q.size + c.args.said / 16)) q.sizes new.slots)) (sym c.first_fault.ensures)
+    (first-refused g.S.Slot.shown told c.args.name.now c.args.said load q new c.end-queue.result.1 (c.end-queue.ensures.loaded q) c.deal_file-read.result given c.deal_file-read.ensures.by_file)
+
+pub returns-in-Ok-clause-ended : goal.returns-in-Ok-clause-ended
+returns-in-Ok-clause-ended g c =
+    let read = c.deal_file-read in
+    let P = LoadEndsIn (g.L.Library.told c.args.library.now) (g.L.Library.replied read.new.library) c.args.name.now c.args.said in
+    subst (λ r. IfErr r P) (sym c.first_fault.ensures) (first-err read.result c.end-queue.result.1 P (λ fault. on_ok read.result ⊤ tt) read.ensures.ended)
+
+pub returns-in-Ok-clause-kept : goal.returns-in-Ok-clause-kept
+returns-in-Ok-clause-kept g c =
+    let had = c.deal_file-read.ensures.session c.args.queue c.in-Ok.ensures.session in
+    (c.end-queue.ensures.loaded c.args.queue had.0 had.1).kept
+
+pub returns-in-Ok-clause-stays : goal.returns-in-Ok-clause-stays
+returns-in-Ok-clause-stays g c =
+    let read = c.deal_file-read in
+    let P = g.L.Library.faults read.new.library ≡ g.L.Library.faults c.args.library.now in
+    subst (λ r. OnOk r P) (sym c.first_fault.ensures) (first-ok read.result c.end-queue.result.1 P read.ensures.stays)
+
+pub returns-in-Ok-clause-cause : goal.returns-in-Ok-clause-cause
+returns-in-Ok-clause-cause g c =
+    let read = c.deal_file-read in
+    let P = LoadCountsFrom (g.L.Library.faults c.args.library.now) (g.L.Library.faults read.new.library) in
+    subst (λ r. IfErr r P) (sym c.first_fault.ensures) (first-err read.result c.end-queue.result.1 P (λ fault. read.ensures.stays) read.ensures.cause)
+
+pub returns-in-Err-clause-refused : goal.returns-in-Err-clause-refused
+returns-in-Err-clause-refused g c =
+    let q = c.args.queue in
+    stop-more q.sizes c.in-Err.queue.slots q.peak (max q.peak (q.size + c.args.said / 16)) c.in-Err.fault (omega (arith, c.known.ensures.range.two_records)) (omega arith) c.in-Err.ensures.refused
+
+pub returns-in-Err-clause-ended : goal.returns-in-Err-clause-ended
+returns-in-Err-clause-ended g c = unread-ends (g.L.Library.told c.args.library.now) (g.L.Library.replied c.args.library.now) c.args.name.now c.args.said c.in-Err.fault c.in-Err.ensures.by_load
+
+pub returns-in-Err-clause-asks : goal.returns-in-Err-clause-asks
+returns-in-Err-clause-asks g c = no_replies (g.L.Library.replied c.args.library.now) (IsReadWithin c.args.name.now c.args.said)
+
+pub returns-in-Err-clause-cause : goal.returns-in-Err-clause-cause
+returns-in-Err-clause-cause g c = unread-counts (g.L.Library.faults c.args.library.now) c.in-Err.fault c.in-Err.ensures.by_load

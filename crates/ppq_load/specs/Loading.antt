@@ -1,0 +1,149 @@
+-- Sessions in which a queue gets many records, by a pass for each worker.
+use Rattle.std.specs.Prelude.{◌≡◌, ◌<◌, ◌≤◌, ◌+◌, ◌*◌, ℕ, zero, suc, List, [], ◌++◌, length, drop, max, All, Any, Option, Some, None, Result, Ok, Err, OnOk, IfErr, ⊤}
+use Rattle.ppq_record.specs.declared.pair.Pair.{Pair}
+use Rattle.ppq_record.specs.Pair.{pair_of}
+use Rattle.ppq_record.specs.Bag.{IsSameBag}
+use Rattle.ppq_record.specs.Given.{records_from, next_seed}
+use Rattle.ppq_outside.specs.Shown.{Shown, AllTell}
+use Rattle.ppq_outside.specs.Told.{Reply, Rose, bytes_or_none}
+use Rattle.ppq_budget.specs.Sizes.{Numbers}
+use Rattle.ppq_array.specs.Kept.{SameSlots, all_writes}
+use Rattle.ppq_pass.specs.Passed.{PassHolding, PassTells}
+use Rattle.ppq_queue.specs.Holding.{Holding, HasStopped}
+use Rattle.ppq_queue.specs.declared.fault.QueueFault.{QueueFault}
+use Rattle.ppq_begin.specs.Session.{BulkHolding, IsIntact, bag_of, accepted_of}
+use Rattle.ppq_begin.specs.declared.fault.BeginFault.{BeginFault}
+use Rattle.ppq_begin.specs.declared.fault.BeginFault.TheVariants as begin
+use Rattle.ppq_queue.specs.declared.fault.QueueFault.TheVariants as queue_fault
+use Rattle.ppq_session.specs.Dealing.{IsGoing, HasEnded}
+use Rattle.ppq_load.specs.Reading.{EndsAt}
+use Rattle.ppq_load.specs.Refusal.{Keeps, IsRefusedBy}
+use Rattle.ppq_load.specs.declared.fault.LoadFault.{LoadFault}
+use Rattle.ppq_load.specs.declared.fault.LoadFault.TheVariants.{Queue, Read, Memory, Ended}
+use Rattle.ppq_load.specs.declared.fill.FileFault.{FileFault}
+use Rattle.ppq_load.specs.declared.fill.FileFault.TheVariants as file
+
+-- What contracts see of an open session: what its owner keeps, and the passes, in the order of their workers
+pub record LoadHolding (S : Type 0) : Type 0 where
+  pub bulk : BulkHolding S Pair
+  pub passes : List (PassHolding S Pair)
+
+-- the same with this batch
+abbrev pub with_batch : {S : Type 0} → LoadHolding S → List Pair → LoadHolding S
+with_batch load batch = record load { bulk = record load.bulk { batch = batch } }
+
+-- A session of a queue, which is shown as it was when the session began. These records were given to its passes: as long as none has
+-- stopped, they have all of them
+pub record InSession {S : Type 0} (shown : S → Shown) (queue : Holding Pair) (records : List Pair) (load : LoadHolding S) : Type 0 where
+  pub sizes : load.bulk.sizes ≡ queue.sizes
+  pub peak : load.bulk.peak ≡ queue.peak
+  pub size : load.bulk.size ≡ queue.size
+  pub slots : SameSlots queue.slots load.bulk.slots
+  pub tells : AllTell queue.slots → AllTell load.bulk.slots × All (PassTells shown) load.passes
+  pub writes : all_writes queue.slots ≤ all_writes load.bulk.slots
+  pub bag : All IsGoing load.passes → AllTell queue.slots → IsSameBag (load.bulk.bag ++ bag_of load.passes) (records ++ queue.bag)
+  pub accepted : All IsGoing load.passes → accepted_of load.passes ≡ length records
+  pub most : accepted_of load.passes ≤ length records
+  pub fewer : Any HasEnded load.passes → accepted_of load.passes < length records
+
+-- A session of a queue ended, to whose passes these records were given. Where the result is Ok, the queue has them all; else there is no
+-- room for them, or a block failed
+pub record IsLoaded {T : Type 0} (queue : Holding Pair) (records : List Pair) (new : Holding Pair) (result : Result T QueueFault) : Type 0 where
+  pub kept : Keeps queue new
+  pub bag : OnOk result (AllTell queue.slots → IsSameBag new.bag (records ++ queue.bag))
+  pub size : OnOk result (new.size ≡ queue.size + length records)
+  pub sound : OnOk result (new.failed ≡ None)
+  pub peak : OnOk result (new.peak ≡ max queue.peak (queue.size + length records))
+  pub refused : IfErr result (IsRefusedBy (max queue.peak (queue.size + length records)) queue.sizes new.slots)
+
+-- the number of the generator after so many steps
+abbrev pub seed_after : ℕ → ℕ → ℕ
+seed_after seed zero = seed
+seed_after seed (suc n) = seed_after (next_seed seed) n
+
+-- the bytes of a file as far as the library tells, and none of one that does not tell
+abbrev pub told_bytes : Option (List ℕ → Option (List ℕ)) → List ℕ → List ℕ
+told_bytes None name = []
+told_bytes (Some files) name = bytes_or_none (files name)
+
+-- these are the records of a file from a place on, of so many records each; where the library does not tell, it is only known how many
+pub record AreRecordsAt (told : Option (List ℕ → Option (List ℕ))) (name : List ℕ) (from count : ℕ) (records : List Pair) : Type 0 where
+  pub length : length records ≡ count
+  pub are : (files : List ℕ → Option (List ℕ)) → told ≡ Some files → records ≡ records_from pair_of 16 count (drop (from * 16) (bytes_or_none (files name)))
+
+-- the first so many records of a file were given to the passes of a session
+pub record HasGiven {S : Type 0} (shown : S → Shown) (queue : Holding Pair) (told : Option (List ℕ → Option (List ℕ))) (name : List ℕ) (count : ℕ) (load : LoadHolding S) : Type 0 where
+  pub records : List Pair
+  pub are : AreRecordsAt told name 0 count records
+  pub session : InSession shown queue records load
+
+-- why a session did not begin, as a fault of a load
+abbrev pub begin_fault_of : BeginFault → LoadFault
+begin_fault_of begin.Memory = Memory
+begin_fault_of begin.NoFreeBlock = Queue queue_fault.NoFreeBlock
+begin_fault_of (begin.Device number) = Queue (queue_fault.Device number)
+
+-- why a piece of a file was not read, as a fault of a load
+abbrev pub read_fault_of : FileFault → LoadFault
+read_fault_of file.Failed = Read
+read_fault_of file.Memory = Memory
+read_fault_of (file.Ended got) = Ended got
+
+-- how a session ended, as a result of a load
+abbrev pub loaded_of : {T : Type 0} → Result T QueueFault → Result T LoadFault
+loaded_of (Ok value) = Ok value
+loaded_of (Err fault) = Err (Queue fault)
+
+-- a fault of reading stays the fault, whatever the end of the session says
+abbrev pub first_of : {A B : Type 0} → Result A LoadFault → Result B QueueFault → Result B LoadFault
+first_of (Ok value) ended = loaded_of ended
+first_of (Err fault) ended = Err fault
+
+-- where it was the queue, it says why
+abbrev pub LoadStopsFor : ℕ → Numbers → List Shown → LoadFault → Type 0
+LoadStopsFor peak sizes slots (Queue fault) = IsRefusedBy peak sizes slots fault
+LoadStopsFor peak sizes slots Read = ⊤
+LoadStopsFor peak sizes slots Memory = ⊤
+LoadStopsFor peak sizes slots (Ended got) = ⊤
+
+-- it was the queue, or memory was wanting
+abbrev pub IsByLoad : LoadFault → Type 0
+IsByLoad (Queue fault) = ⊤
+IsByLoad Read = ⊥
+IsByLoad Memory = ⊤
+IsByLoad (Ended got) = ⊥
+
+-- it was the reading of a file
+abbrev pub IsByRead : LoadFault → Type 0
+IsByRead (Queue fault) = ⊥
+IsByRead Read = ⊤
+IsByRead Memory = ⊤
+IsByRead (Ended got) = ⊤
+
+-- a session did not begin: the queue has the records that it had, unless a block failed
+abbrev pub IsHandedBack : Holding Pair → Holding Pair → LoadFault → Type 0
+IsHandedBack old new (Queue queue_fault.NoFreeBlock) = IsIntact old new
+IsHandedBack old new (Queue (queue_fault.Device number)) = HasStopped number new
+IsHandedBack old new Read = ⊥
+IsHandedBack old new Memory = IsIntact old new
+IsHandedBack old new (Ended got) = ⊥
+
+-- the library's count rose where a read failed, and else stayed
+abbrev pub LoadCountsFrom : ℕ → ℕ → LoadFault → Type 0
+LoadCountsFrom before now (Queue fault) = now ≡ before
+LoadCountsFrom before now Read = Rose before now
+LoadCountsFrom before now Memory = now ≡ before
+LoadCountsFrom before now (Ended got) = now ≡ before
+
+-- a file ended at this place, before the length that was said; the library does not tell
+pub record HasEndedEarly (told : Option (List ℕ → Option (List ℕ))) (replied : Reply → Type 0) (name : List ℕ) (said got : ℕ) : Type 0 where
+  pub before : got < said
+  pub read : EndsAt replied name got
+  pub untold : told ≡ None
+
+-- where a file ended, it says so of it
+abbrev pub LoadEndsIn : Option (List ℕ → Option (List ℕ)) → (Reply → Type 0) → List ℕ → ℕ → LoadFault → Type 0
+LoadEndsIn told replied name said (Queue fault) = ⊤
+LoadEndsIn told replied name said Read = ⊤
+LoadEndsIn told replied name said Memory = ⊤
+LoadEndsIn told replied name said (Ended got) = HasEndedEarly told replied name said got

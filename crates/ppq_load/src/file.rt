@@ -1,0 +1,177 @@
+//! Sessions of the records of a file.
+ghost use Rattle.std.specs.Prelude.{◌≡◌, ◌≤◌, ◌<◌, ◌+◌, ◌*◌, ◌/◌, ◌++◌, [], List, ℕ, Option, Some, None, All, Any, IsTrue, false, ◌↔◌, OnOk, IfOk, IfErr, length, take, max};
+ghost use Rattle.ppq_record.specs.declared.pair.Pair.{Pair};
+ghost use Rattle.ppq_record.specs.Pair.{pair_of};
+ghost use Rattle.ppq_record.specs.Bag.{IsSameBag};
+ghost use Rattle.ppq_record.specs.Given.{records_from, records_of};
+ghost use Rattle.ppq_outside.specs.Shown.{AllTell};
+ghost use Rattle.ppq_outside.specs.Told.{Remembers, RepliesOnly, bytes_or_none};
+ghost use Rattle.ppq_budget.specs.Sizes.{batch_of};
+ghost use Rattle.ppq_queue.specs.Holding.{Holding};
+ghost use Rattle.ppq_session.specs.Dealing.{IsGoing, HasEnded};
+ghost use Rattle.ppq_load.specs.Reading.{IsReadWithin};
+ghost use Rattle.ppq_load.specs.Refusal.{Keeps};
+ghost use Rattle.ppq_load.specs.Loading.{InSession, HasGiven, IsByRead, LoadStopsFor, LoadCountsFrom, LoadEndsIn, first_of, with_batch};
+
+use crate::fault::{LoadFault, loaded};
+use crate::fill::fill;
+use crate::load::Load;
+use ppq_outside::{Gate, Host, Library, Slot};
+use ppq_queue::{Queue, QueueFault};
+use ppq_record::{Pair, Record};
+use std::alloc::Global;
+
+/// Adds the records of a file of `said` bytes in a session. They are read by pieces of as many records as
+/// `room` has place for, and no more than a batch has, and each piece is dealt to the passes.
+///
+/// A refusal hands the queue back, with the session ended: `Memory`, `Read` and `Ended` as reading says,
+/// or `Memory` before the session began; `Queue` where there is no room for the records or a block failed.
+pub fn load_file<H: Host, S: Slot + Send + Sync, L: Library, G: Gate>(
+    rt: &H,
+    alloc: Global,
+    library: &mut L,
+    name: &str,
+    said: u64,
+    room: &mut [u8],
+    queue: Queue<S, Pair>,
+    gate: &G,
+) -> (Queue<S, Pair>, Result<(), LoadFault>)
+where
+    H::Dir: Send,
+    requires room { 16 ≤ length room.old }
+    requires fits { said ≤ 68719476736 }
+    requires long { (files : List ℕ → Option (List ℕ)) → L.told library.old ≡ Some files → length (bytes_or_none (files name.now)) ≡ said }
+    ensures bag { OnOk result.1 (AllTell queue.slots → (files : List ℕ → Option (List ℕ)) → L.told library.old ≡ Some files → IsSameBag result.0.bag (records_of (bytes_or_none (files name.now)) ++ queue.bag)) }
+    ensures size { OnOk result.1 (result.0.size ≡ queue.size + said / 16) }
+    ensures sound { OnOk result.1 (result.0.failed ≡ None) }
+    ensures peak { OnOk result.1 (result.0.peak ≡ max queue.peak (queue.size + said / 16)) }
+    ensures refused { IfErr result.1 (LoadStopsFor (max queue.peak (queue.size + said / 16)) queue.sizes result.0.slots) }
+    ensures ended { IfErr result.1 (LoadEndsIn (L.told library.old) (L.replied library.new) name.now said) }
+    ensures kept { Keeps queue result.0 }
+    ensures remembers { Remembers (L.replied library.old) (L.replied library.new) }
+    ensures asks { RepliesOnly (L.replied library.old) (L.replied library.new) (IsReadWithin name.now said) }
+    ensures told { L.told library.new ≡ L.told library.old }
+    ensures later { L.faults library.old ≤ L.faults library.new }
+    ensures stays { OnOk result.1 (L.faults library.new ≡ L.faults library.old) }
+    ensures cause { IfErr result.1 (LoadCountsFrom (L.faults library.old) (L.faults library.new)) }
+{
+    queue.known();
+    match Load::begin(rt, alloc, queue, gate) {
+        Ok(mut load) => {
+            let read = deal_file(rt, alloc, library, name, said, room, &mut load, gate);
+            let (queue, ended) = load.end(rt, gate);
+            (queue, first_fault(read, ended))
+        }
+        Err((queue, fault)) => (queue, Err(fault)),
+    }
+}
+
+// A fault of reading stays the fault, whatever the end of the session says.
+fn first_fault(read: Result<(), LoadFault>, ended: Result<(), QueueFault>) -> Result<(), LoadFault>
+    ensures { result ≡ first_of read ended }
+{
+    read?;
+    loaded(ended)
+}
+
+// Reads a file piece by piece and deals its records to the passes of a session, until one stops.
+fn deal_file<H: Host, S: Slot + Send + Sync, L: Library, G: Gate>(
+    rt: &H,
+    alloc: Global,
+    library: &mut L,
+    name: &str,
+    said: u64,
+    room: &mut [u8],
+    load: &mut Load<S>,
+    gate: &G,
+) -> Result<(), LoadFault>
+where
+    H::Dir: Send,
+    requires going { All IsGoing load.old.passes }
+    requires room { 16 ≤ length room.old }
+    requires fits { said ≤ 68719476736 }
+    requires long { (files : List ℕ → Option (List ℕ)) → L.told library.old ≡ Some files → length (bytes_or_none (files name.now)) ≡ said }
+    ensures given { OnOk result ((queue : Holding Pair) → InSession S.shown queue [] load.old → HasGiven S.shown queue (L.told library.old) name.now (said / 16) load.new) }
+    ensures session { (queue : Holding Pair) → InSession S.shown queue [] load.old → (records : List Pair) × InSession S.shown queue records load.new }
+    ensures by_file { IfErr result IsByRead }
+    ensures ended { IfErr result (LoadEndsIn (L.told library.old) (L.replied library.new) name.now said) }
+    ensures remembers { Remembers (L.replied library.old) (L.replied library.new) }
+    ensures asks { RepliesOnly (L.replied library.old) (L.replied library.new) (IsReadWithin name.now said) }
+    ensures told { L.told library.new ≡ L.told library.old }
+    ensures later { L.faults library.old ≤ L.faults library.new }
+    ensures stays { OnOk result (L.faults library.new ≡ L.faults library.old) }
+    ensures cause { IfErr result (LoadCountsFrom (L.faults library.old) (L.faults library.new)) }
+{
+    let records = said / 16;
+    let most = u64::from(load.batch_len()).min(room.len() as u64 / 16);
+    let mut from = 0;
+    'pieces: while from < records {
+        let count = most.min(records - from) as u32;
+        let piece = &mut room[..count as usize * 16];
+        if !deal_piece(
+            rt, alloc, library, name, said, from, piece, count, load, gate,
+        )? {
+            return Ok(());
+        }
+        from += u64::from(count);
+    }
+    Ok(())
+}
+
+// Reads so many records of a file, from record `from` on, into `piece`, which has room for just these, and
+// deals them to the passes of a session. Whether all were added.
+fn deal_piece<H: Host, S: Slot + Send + Sync, L: Library, G: Gate>(
+    rt: &H,
+    alloc: Global,
+    library: &mut L,
+    name: &str,
+    said: u64,
+    from: u64,
+    piece: &mut [u8],
+    count: u32,
+    load: &mut Load<S>,
+    gate: &G,
+) -> Result<bool, LoadFault>
+where
+    H::Dir: Send,
+    requires going { All IsGoing load.old.passes }
+    requires length { length piece.old ≡ count * 16 }
+    requires batch { count ≤ batch_of load.old.bulk.sizes }
+    requires within { (from + count) * 16 ≤ said }
+    requires fits { said ≤ 68719476736 }
+    requires long { (files : List ℕ → Option (List ℕ)) → L.told library.old ≡ Some files → length (bytes_or_none (files name.now)) ≡ said }
+    ensures given { IfOk result (λ all. (queue : Holding Pair) → HasGiven S.shown queue (L.told library.old) name.now from load.old → HasGiven S.shown queue (L.told library.old) name.now (from + count) load.new) }
+    ensures all { IfOk result (λ all. IsTrue all ↔ All IsGoing load.new.passes) }
+    ensures stopped { IfOk result (λ all. all ≡ false → Any HasEnded load.new.passes) }
+    ensures same { IfErr result (λ fault. load.new ≡ load.old) }
+    ensures sizes { load.new.bulk.sizes ≡ load.old.bulk.sizes }
+    ensures by_file { IfErr result IsByRead }
+    ensures ended { IfErr result (LoadEndsIn (L.told library.old) (L.replied library.new) name.now said) }
+    ensures remembers { Remembers (L.replied library.old) (L.replied library.new) }
+    ensures asks { RepliesOnly (L.replied library.old) (L.replied library.new) (IsReadWithin name.now said) }
+    ensures told { L.told library.new ≡ L.told library.old }
+    ensures later { L.faults library.old ≤ L.faults library.new }
+    ensures stays { OnOk result (L.faults library.new ≡ L.faults library.old) }
+    ensures cause { IfErr result (LoadCountsFrom (L.faults library.old) (L.faults library.new)) }
+{
+    if let Err(fault) = fill(rt, alloc, library, name, from * 16, piece) {
+        return Err(LoadFault::from(fault));
+    }
+    fill_records(load, piece, count);
+    Ok(load.deal(rt, count, gate))
+}
+
+// Fills the first places of the batch with the records of these bytes.
+fn fill_records<S: Slot + Send + Sync>(load: &mut Load<S>, bytes: &[u8], count: u32)
+    requires length { length bytes.now ≡ count * 16 }
+    requires within { count ≤ batch_of load.old.bulk.sizes }
+    ensures only { load.new ≡ with_batch load.old load.new.bulk.batch }
+    ensures records { take count load.new.bulk.batch ≡ records_from pair_of 16 count bytes.now }
+{
+    let _room = load.batch_len();
+    for place in 0..count {
+        let at = place as usize * 16;
+        let item = Pair::take(&bytes[at..at + 16]);
+        load.put(place, item);
+    }
+}

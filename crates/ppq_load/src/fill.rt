@@ -1,0 +1,93 @@
+//! Reads pieces of a file.
+ghost use Rattle.std.specs.Prelude.{◌≡◌, ◌≤◌, ◌<◌, ◌+◌, ◌^◌, List, ℕ, Option, Some, length, take, drop, IfOk, OnOk, IfErr};
+ghost use Rattle.ppq_outside.specs.Told.{HasCause, Remembers, RepliesOnly, bytes_or_none};
+ghost use Rattle.ppq_load.specs.Reading.{AreBytesAt, EndsAt, ReadEndsIn, FaultAfter, IsReadWithin};
+
+use ppq_outside::{Host, Library, OutsideFault};
+use std::alloc::Global;
+
+// Why a piece of a file was not read.
+#[derive(Clone, Copy, Debug, PartialEq, Eq)]
+pub enum FileFault {
+    // The library failed.
+    Failed,
+    // Memory was wanting.
+    Memory,
+    // A read gave nothing at this place.
+    Ended { got: u64 },
+}
+
+impl From<OutsideFault> for FileFault {
+    ghost use Rattle.std.specs.Prelude.{◌≡◌};
+    ghost use Rattle.ppq_load.specs.Reading.{file_fault_of};
+
+    ghost from_gives = { λ fault given. given ≡ file_fault_of fault };
+
+    fn from(fault: OutsideFault) -> FileFault {
+        match fault {
+            OutsideFault::Failed => FileFault::Failed,
+            OutsideFault::Memory => FileFault::Memory,
+        }
+    }
+}
+
+// Reads further bytes of a piece that begins at place `at` of a file and of which `got` bytes are
+// there, and says how many came.
+fn read_more<H: Host, L: Library>(
+    rt: &H,
+    alloc: Global,
+    library: &mut L,
+    name: &str,
+    at: u64,
+    piece: &mut [u8],
+    got: usize,
+) -> Result<usize, OutsideFault>
+    requires more { got < length piece.old }
+    requires fits { at + length piece.old ≤ 2 ^ 63 }
+    ensures count { IfOk result (λ count. got + count ≤ length piece.new) }
+    ensures bytes { IfOk result (λ count. (files : List ℕ → Option (List ℕ)) → L.told library.old ≡ Some files → AreBytesAt (bytes_or_none (files name.now)) at got piece.old → AreBytesAt (bytes_or_none (files name.now)) at (got + count) piece.new) }
+    ensures ends { IfOk result (λ count. count ≡ 0 → EndsAt (L.replied library.new) name.now (at + got)) }
+    ensures short { IfOk result (λ count. count ≡ 0 → (files : List ℕ → Option (List ℕ)) → L.told library.old ≡ Some files → length (bytes_or_none (files name.now)) ≤ at + got) }
+    ensures remembers { Remembers (L.replied library.old) (L.replied library.new) }
+    ensures asks { RepliesOnly (L.replied library.old) (L.replied library.new) (IsReadWithin name.now (at + length piece.old)) }
+    ensures kept { L.told library.new ≡ L.told library.old }
+    ensures cause { HasCause (L.faults library.old) (L.faults library.new) result }
+{
+    let rest = &mut piece[got..];
+    let count = library.read_at(rt, alloc, name, at + got as u64, rest)?;
+    Ok(count)
+}
+
+// Fills a piece with the bytes of a file from place `at` on. No byte behind the piece is read.
+pub fn fill<H: Host, L: Library>(
+    rt: &H,
+    alloc: Global,
+    library: &mut L,
+    name: &str,
+    at: u64,
+    piece: &mut [u8],
+) -> Result<(), FileFault>
+    requires { at + length piece.old ≤ 2 ^ 63 }
+    ensures bytes { OnOk result ((files : List ℕ → Option (List ℕ)) → L.told library.old ≡ Some files → piece.new ≡ take (length piece.new) (drop at (bytes_or_none (files name.now)))) }
+    ensures ended { IfErr result (ReadEndsIn (L.told library.old) (L.replied library.new) name.now (at + length piece.old)) }
+    ensures remembers { Remembers (L.replied library.old) (L.replied library.new) }
+    ensures asks { RepliesOnly (L.replied library.old) (L.replied library.new) (IsReadWithin name.now (at + length piece.old)) }
+    ensures kept { L.told library.new ≡ L.told library.old }
+    ensures later { L.faults library.old ≤ L.faults library.new }
+    ensures stays { OnOk result (L.faults library.new ≡ L.faults library.old) }
+    ensures cause { IfErr result (FaultAfter (L.faults library.old) (L.faults library.new)) }
+{
+    let mut got = 0;
+    'reading: while got < piece.len() {
+        match read_more(rt, alloc, library, name, at, piece, got) {
+            Ok(0) => {
+                return Err(FileFault::Ended {
+                    got: at + got as u64,
+                });
+            }
+            Ok(count) => got += count,
+            Err(fault) => return Err(FileFault::from(fault)),
+        }
+    }
+    Ok(())
+}

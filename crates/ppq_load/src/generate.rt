@@ -1,0 +1,112 @@
+//! Sessions of generated records.
+ghost use Rattle.std.specs.Prelude.{◌≡◌, ◌≤◌, ◌+◌, ◌<◌, ◌^◌, [], All, ◌++◌, OnOk, IfErr, max, take, None};
+ghost use Rattle.ppq_record.specs.declared.pair.Pair.{Pair};
+ghost use Rattle.ppq_record.specs.Bag.{IsSameBag};
+ghost use Rattle.ppq_record.specs.Given.{next_seed, generated, generated_from};
+ghost use Rattle.ppq_outside.specs.Shown.{AllTell};
+ghost use Rattle.ppq_budget.specs.Sizes.{batch_of};
+ghost use Rattle.ppq_queue.specs.Holding.{Holding};
+ghost use Rattle.ppq_session.specs.Dealing.{IsGoing};
+ghost use Rattle.ppq_load.specs.Refusal.{Keeps};
+ghost use Rattle.ppq_load.specs.Loading.{InSession, IsByLoad, LoadStopsFor, seed_after, with_batch};
+
+use crate::fault::{LoadFault, loaded};
+use crate::load::Load;
+use ppq_outside::{Gate, Host, Slot};
+use ppq_queue::Queue;
+use ppq_record::Pair;
+use std::alloc::Global;
+
+/// Adds so many generated records in a session: they are dealt to the passes batch by batch.
+///
+/// A refusal hands the queue back: `Memory` before the session began, `Queue` where there is no room for
+/// the records or a block failed.
+pub fn load_generated<H: Host, S: Slot + Send + Sync, G: Gate>(
+    rt: &H,
+    alloc: Global,
+    queue: Queue<S, Pair>,
+    seed: u64,
+    count: u64,
+    gate: &G,
+) -> (Queue<S, Pair>, Result<(), LoadFault>)
+where
+    H::Dir: Send,
+    ensures bag { OnOk result.1 (AllTell queue.slots → IsSameBag result.0.bag (generated seed count ++ queue.bag)) }
+    ensures size { OnOk result.1 (result.0.size ≡ queue.size + count) }
+    ensures sound { OnOk result.1 (result.0.failed ≡ None) }
+    ensures peak { OnOk result.1 (result.0.peak ≡ max queue.peak (queue.size + count)) }
+    ensures refused { IfErr result.1 (LoadStopsFor (max queue.peak (queue.size + count)) queue.sizes result.0.slots) }
+    ensures by_load { IfErr result.1 IsByLoad }
+    ensures kept { Keeps queue result.0 }
+{
+    queue.known();
+    match Load::begin(rt, alloc, queue, gate) {
+        Ok(mut load) => {
+            deal_generated(rt, gate, &mut load, seed, count);
+            let (queue, ended) = load.end(rt, gate);
+            (queue, loaded(ended))
+        }
+        Err((queue, fault)) => (queue, Err(fault)),
+    }
+}
+
+// Deals generated records to the passes of a session, batch by batch, until one stops.
+fn deal_generated<H: Host, S: Slot + Send + Sync, G: Gate>(
+    rt: &H,
+    gate: &G,
+    load: &mut Load<S>,
+    seed: u64,
+    count: u64,
+)
+where
+    H::Dir: Send,
+    requires going { All IsGoing load.old.passes }
+    ensures session { (queue : Holding Pair) → InSession S.shown queue [] load.old → InSession S.shown queue (generated seed count) load.new }
+{
+    let most = u64::from(load.batch_len());
+    let mut key = seed;
+    let mut value = 0;
+    'batches: while value < count {
+        let part = most.min(count - value) as u32;
+        key = fill_generated(load, key, value, part);
+        if !load.deal(rt, part, gate) {
+            return;
+        }
+        value += u64::from(part);
+    }
+}
+
+// Fills the first places of the batch with generated records, from the one with this number on, and gives
+// the key of the last.
+fn fill_generated<S: Slot + Send + Sync>(
+    load: &mut Load<S>,
+    key: u64,
+    value: u64,
+    count: u32,
+) -> u64
+    requires within { count ≤ batch_of load.old.bulk.sizes }
+    requires fits { value + count < 2 ^ 64 }
+    ensures only { load.new ≡ with_batch load.old load.new.bulk.batch }
+    ensures records { take count load.new.bulk.batch ≡ generated_from key value count }
+    ensures key { result ≡ seed_after key count }
+{
+    let _room = load.batch_len();
+    let mut last = key;
+    for place in 0..count {
+        last = step_of(last);
+        let item = Pair {
+            key: last,
+            value: value + u64::from(place),
+        };
+        load.put(place, item);
+    }
+    last
+}
+
+// The next number of the generator, a step of Knuth's MMIX modulo 2^64.
+fn step_of(seed: u64) -> u64
+    ensures { result ≡ next_seed seed }
+{
+    seed.wrapping_mul(6_364_136_223_846_793_005)
+        .wrapping_add(1_442_695_040_888_963_407)
+}

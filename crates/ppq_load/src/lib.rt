@@ -1,0 +1,23 @@
+//! Sessions in which a queue gets many records: generated ones, those of a file, or lines that name their
+//! workers.
+//!
+//! A [`Load`] is an open session as one value: the queue taken apart, and a pass for each worker. Records
+//! are given to it in batches of at most `p * B`, each of which all workers add side by side. At the end it
+//! is a queue again. [`load_generated`] and [`load_file`] are whole sessions.
+//!
+//! Contracts say by `InSession` which records were given since the session began.
+#![tactic(auto)]
+
+mod fault;
+mod file;
+mod fill;
+mod generate;
+mod load;
+#[cfg(test)]
+mod tests;
+
+pub use fault::LoadFault;
+pub use file::load_file;
+pub use generate::load_generated;
+pub use load::Load;
+pub use ppq_session::Line;

@@ -1,0 +1,152 @@
+//! An open session, as one value.
+ghost use Rattle.std.specs.Prelude.{◌≡◌, ◌<◌, ◌≤◌, ◌++◌, ◌↔◌, [], List, All, Any, IsTrue, false, IfOk, IfErr, OnOk, length, take, slice_set};
+ghost use Rattle.ppq_record.specs.declared.pair.Pair.{Pair};
+ghost use Rattle.ppq_budget.specs.Sizes.{AreInRange, batch_of};
+ghost use Rattle.ppq_queue.specs.Holding.{Holding};
+ghost use Rattle.ppq_session.specs.Dealing.{IsGoing, HasEnded, records_in};
+ghost use Rattle.ppq_load.specs.Refusal.{Keeps};
+ghost use Rattle.ppq_load.specs.Loading.{InSession, IsLoaded, IsByLoad, IsHandedBack, LoadStopsFor, with_batch};
+
+use crate::fault::LoadFault;
+use ppq_outside::{Gate, Host, Slot};
+use ppq_queue::{Queue, QueueFault};
+use ppq_record::Pair;
+use ppq_session::{
+    Bulk, Line, Pass, SessionEnd, Shared, are_going, bulk_begin, bulk_end, deal, push_lines,
+};
+use std::alloc::Global;
+use std::marker::Model;
+
+/// An open session of a queue: what is left of the queue, and a pass for each worker.
+///
+/// Contracts see what is left and the passes, in the order of their workers. `InSession` says which
+/// records were given to them.
+#[derive(Drop)]
+pub struct Load<S: Slot + Send + Sync> {
+    /// What is left of the queue, with the batch from which records are dealt.
+    bulk: Bulk<S, Pair>,
+    /// What all passes share.
+    shared: Shared<S, Pair>,
+    /// A pass for each worker.
+    passes: Vec<Pass<S, Pair>>,
+}
+
+impl<S: Slot + Send + Sync> Model for Load<S> {
+    ghost use Rattle.std.specs.Prelude.{◌≡◌};
+    ghost use Rattle.ppq_begin.specs.Session.{AreOf, keys_of, shared_by};
+    ghost use Rattle.ppq_load.specs.Loading.{LoadHolding};
+
+    ghost Value = { LoadHolding S };
+
+    ghost view = { λ l. record { bulk = l.bulk; passes = l.passes.items } };
+
+    ghost invariant = { λ l. AreOf l.bulk (keys_of l.passes.items) × (l.shared ≡ shared_by l.bulk) };
+}
+
+impl<S: Slot + Send + Sync> Load<S> {
+    /// Begins a session of a queue, with a pass for each worker. All memory that it needs is taken now.
+    ///
+    /// Each refusal hands the queue back, with the records that it had unless a block failed.
+    pub fn begin<H: Host, G: Gate>(
+        rt: &H,
+        alloc: Global,
+        queue: Queue<S, Pair>,
+        gate: &G,
+    ) -> Result<Load<S>, (Queue<S, Pair>, LoadFault)>
+    where
+        H::Dir: Send,
+        ensures session { IfOk result (λ load. InSession S.shown queue [] load) }
+        ensures going { IfOk result (λ load. All IsGoing load.passes) }
+        ensures refused { IfErr result (λ back. LoadStopsFor queue.peak queue.sizes back.0.slots back.1) }
+        ensures by_load { IfErr result (λ back. IsByLoad back.1) }
+        ensures intact { IfErr result (λ back. IsHandedBack queue back.0 back.1) }
+        ensures kept { IfErr result (λ back. Keeps queue back.0) }
+    {
+        match bulk_begin(rt, alloc, queue, gate) {
+            Ok((bulk, shared, passes)) => Ok(Load {
+                bulk,
+                shared,
+                passes,
+            }),
+            Err((queue, fault)) => Err((queue, LoadFault::from(fault))),
+        }
+    }
+
+    /// How many records a batch has room for: `p * B`.
+    #[inline]
+    pub fn batch_len(&self) -> u32
+        ensures same { result ≡ batch_of self.now.bulk.sizes }
+        ensures range { AreInRange self.now.bulk.sizes }
+        ensures batch { length self.now.bulk.batch ≡ batch_of self.now.bulk.sizes }
+    {
+        self.bulk.known();
+        self.bulk.batch().len() as u32
+    }
+
+    /// Writes a record to a place of the batch.
+    #[inline]
+    pub fn put(&mut self, place: u32, item: Pair)
+        requires { place < batch_of self.old.bulk.sizes }
+        ensures { self.new ≡ with_batch self.old (slice_set self.old.bulk.batch place item) }
+    {
+        self.bulk.put(place, item);
+    }
+
+    /// Deals the first `count` records of the batch to the passes, in equal parts. Whether all were added.
+    pub fn deal<H: Host, G: Gate>(&mut self, rt: &H, count: u32, gate: &G) -> bool
+    where
+        H::Dir: Send,
+        requires within { count ≤ batch_of self.old.bulk.sizes }
+        requires going { All IsGoing self.old.passes }
+        ensures all { IsTrue result ↔ All IsGoing self.new.passes }
+        ensures ended { result ≡ false → Any HasEnded self.new.passes }
+        ensures session { (queue : Holding Pair) → (records : List Pair) → InSession S.shown queue records self.old → InSession S.shown queue (records ++ take count self.old.bulk.batch) self.new }
+        ensures bulk { self.new.bulk ≡ self.old.bulk }
+    {
+        self.bulk.known();
+        let records = &self.bulk.batch()[..count as usize];
+        deal(rt, gate, &self.shared, records, self.passes.as_mut_slice())
+    }
+
+    /// Adds the records of lines: each worker takes those with its number, in their order. Whether all were
+    /// added.
+    pub fn push<H: Host, G: Gate>(&mut self, rt: &H, lines: &[Line<Pair>], gate: &G) -> bool
+    where
+        H::Dir: Send,
+        requires named { All (λ line. line.pass < self.old.bulk.sizes.workers) lines.now }
+        requires going { All IsGoing self.old.passes }
+        ensures all { IsTrue result ↔ All IsGoing self.new.passes }
+        ensures ended { result ≡ false → Any HasEnded self.new.passes }
+        ensures session { (queue : Holding Pair) → (records : List Pair) → InSession S.shown queue records self.old → InSession S.shown queue (records ++ records_in lines.now) self.new }
+        ensures bulk { self.new.bulk ≡ self.old.bulk }
+    {
+        self.bulk.known();
+        push_lines(rt, gate, &self.shared, lines, self.passes.as_mut_slice())
+    }
+
+    /// Ends the session: the queue with the records that it had and those that its passes accepted. It takes
+    /// no memory.
+    ///
+    /// `Ok`: the queue has all records that were given. `NoFreeBlock`: a pass or a merge of levels found no
+    /// blocks. `Device`: the block with that number failed.
+    pub fn end<H: Host, G: Gate>(self, rt: &H, gate: &G) -> (Queue<S, Pair>, Result<(), QueueFault>)
+    where
+        H::Dir: Send,
+        ensures all { OnOk result.1 (All IsGoing self.passes) }
+        ensures loaded { (queue : Holding Pair) → (records : List Pair) → InSession S.shown queue records self → IsLoaded queue records result.0 result.1 }
+    {
+        let Load {
+            bulk,
+            shared,
+            passes,
+        } = self;
+        bulk.known();
+        let all = are_going(passes.as_slice());
+        let (queue, end) = bulk_end(rt, bulk, shared, passes, gate);
+        match end {
+            SessionEnd::Stopped(fault) => (queue, Err(fault)),
+            SessionEnd::Whole if all => (queue, Ok(())),
+            SessionEnd::Whole => (queue, Err(QueueFault::NoFreeBlock)),
+        }
+    }
+}
