@@ -6,18 +6,19 @@ use Rattle.std.proofs.lemmas.Bool.{cases_lt, lt-ltb, le-ltb}
 use Rattle.ppq_record.specs.declared.pair.Pair.{Pair}
 use Rattle.ppq_record.specs.Given.{records_of}
 use Rattle.ppq_outside.specs.Shown.{Shown, AllTell}
-use Rattle.ppq_outside.specs.Told.{Reply, Remembers, TakesAll, TakesPart, bytes_or_none}
+use Rattle.ppq_outside.specs.Told.{Reply, Remembers, TakesAll, bytes_or_none}
 use Rattle.ppq_budget.specs.Sizes.{Numbers, fixed_of}
 use Rattle.ppq_script.specs.declared.command.Command.{Command}
 use Rattle.ppq_script.specs.declared.numbered.Numbered.{Numbered}
 use Rattle.ppq_script.specs.Files.{name_at, is_usable}
-use Rattle.ppq_script.specs.Lines.{lines_of, names_of, numbered_of, first_bad_by}
+use Rattle.ppq_script.specs.Lines.{names_of, numbered_of, first_bad_by}
 use Rattle.ppq_script.specs.Checking.{with_sizes}
 use Rattle.ppq_script.specs.Reading.{Reading, command_list}
-use Rattle.ppq_engine.specs.Loads.{most_of, least_of, HasRoom, IsTooMuch, FitsWritten}
+use Rattle.ppq_engine.specs.Loads.{most_of, least_of, FitsWritten}
+use Rattle.ppq_engine.specs.Refusal.{HasRoom, IsTooMuch}
 use Rattle.ppq_engine.specs.Output.{AreFilesOf, KeepsLengths, given_of, output_of, load_of, crest_of, TakesWithin}
 use Rattle.ppq_engine.specs.Running.{HasChanged}
-use Rattle.ppq_engine.specs.Outcome.{TakesBeforeFile, FaultBeforeFile}
+use Rattle.ppq_engine.specs.Outcome.{TakesBeforeFile, TakesBeforeLoad, FaultBeforeFile}
 use Rattle.ppq_engine.specs.Ends.{budget_refusal, BeganCommands, BeganOrRefused, NoFault}
 use Rattle.ppq_engine.specs.declared.end.End.{End}
 use Rattle.ppq_engine.specs.declared.end.End.TheVariants.{Done, BadLine, Usage, ReadFault, WriteFault, DeviceFault, NoFreeBlock, BudgetTooSmall, Memory, FileChanged, NoDevice, NoScript, ScriptTooLong}
@@ -25,10 +26,10 @@ use Rattle.ppq_engine.proofs.Lengths.{keeps_lengths}
 use Rattle.ppq_cli.proofs.Given.{script_remembered}
 use Rattle.ppq_cli.specs.declared.load.LoadFault.{LoadFault}
 use Rattle.ppq_cli.specs.declared.load.LoadFault.TheVariants as load
-use Rattle.ppq_cli.specs.Load.{Refuses, IsNotLoaded, load_end, HasBadLine}
+use Rattle.ppq_cli.specs.Load.{load_end, script_kinds}
 use Rattle.ppq_cli.specs.RunWords.{Files, refusal_of_bad, refusal_of_file, script_commands, script_given, IsTried, IsGivenUp, MayWrite, IsAnswer, IsTriedOrRefusal, OfFile, IsTooLarge, EndsWell}
 use Rattle.ppq_cli.specs.Device.{IsSurelyRun, AreBlocks}
-use Rattle.ppq_cli.specs.Replies.{IsUnloaded, IsScript, OfGood, OfRun, RefusalIsRight, RunIsRight, ForFiles, HasRunPart, HasRunToFile, FaultToFile}
+use Rattle.ppq_cli.specs.Replies.{IsScript, OfGood, RefusalIsRight, RunIsRight, ForFiles, HasRunPart, HasRunToFile, HasRunToLoad, FaultToFile}
 
 -- the three ways of a script that was loaded: its budget is too small, it was tried, or memory was wanting
 abbrev Ways : Numbers → End → Type 0
@@ -92,15 +93,6 @@ module _ (told : Option (List ℕ → Option (List ℕ))) (replied : Reply → T
         | inr (inr e) ↦ subst P (sym e) tt
       ]
 
-  -- one that was not loaded for what the library replied of it
-  pub unloaded_refusal : (fault : LoadFault) → IsUnloaded told replied name fault → RefusalIsRight told replied name sizes (load_end fault)
-  unloaded_refusal load.ReadFault is = tt
-  unloaded_refusal load.Memory is = tt
-  unloaded_refusal load.NoScript is = is
-  unloaded_refusal load.ScriptTooLong is = is
-  unloaded_refusal (load.FileChanged said got) is = inl is
-  unloaded_refusal (load.BadLine line) is = is
-
   -- how a script that was loaded was run
   pub loaded_run :
       (tells : Type 0) (script : Reading) (before now : Option (List ℕ)) (blocks : List Shown) (end : End)
@@ -108,7 +100,7 @@ module _ (told : Option (List ℕ → Option (List ℕ))) (replied : Reply → T
       → (end ≡ Done → ForFiles tells told script (λ given commands. TakesAll before now (output_of given commands)))
       → HasRunPart tells told before now script
       → (end ≡ NoFreeBlock → ForFiles tells told script (λ given commands. TakesWithin given before now sizes commands))
-      → (end ≡ Memory → (now ≡ before) ⊎ HasRunToFile tells told before now script) → FaultToFile tells told before now script end
+      → (end ≡ Memory → (now ≡ before) ⊎ HasRunToLoad tells told before now script) → FaultToFile tells told before now script end
       → (end ≡ NoFreeBlock → ForFiles tells told script (λ given commands. IsTooMuch sizes (load_of given commands)))
       → (end ≡ NoFreeBlock → IsTooMuch sizes (most_of (command_list script)))
       → (end ≡ Done → ForFiles tells told script (λ given commands. FitsWritten (crest_of given commands) sizes blocks))
@@ -124,21 +116,12 @@ module _ (told : Option (List ℕ → Option (List ℕ))) (replied : Reply → T
       (reaches sizes NoFreeBlock tt (ways sizes NoFreeBlock answer), (script, (is, record { part = part; within = within refl; above = above refl; above_any = above_any refl })))
   loaded_run tells script before now blocks (BudgetTooSmall need) is answer done part within memory file above above_any used used_any = tt
   loaded_run tells script before now blocks Memory is answer done part within memory file above above_any used used_any =
-      elim (memory refl) as (λ _. (now ≡ before) ⊎ OfGood told replied name sizes (HasRunToFile tells told before now)) [ inl same ↦ inl same | inr ran ↦ inr (script, (is, ran)) ]
+      elim (memory refl) as (λ _. (now ≡ before) ⊎ OfGood told replied name sizes (HasRunToLoad tells told before now)) [ inl same ↦ inl same | inr ran ↦ inr (script, (is, ran)) ]
   loaded_run tells script before now blocks (FileChanged line said got) is answer done part within memory file above above_any used used_any =
       inr (reaches sizes (FileChanged line said got) tt (ways sizes (FileChanged line said got) answer), (script, (is, file)))
   loaded_run tells script before now blocks NoDevice is answer done part within memory file above above_any used used_any = tt
   loaded_run tells script before now blocks NoScript is answer done part within memory file above above_any used used_any = tt
   loaded_run tells script before now blocks ScriptTooLong is answer done part within memory file above above_any used used_any = tt
-
-  -- and one that was not loaded was not run
-  pub unloaded_run : (tells : Type 0) (before now : Option (List ℕ)) (blocks : List Shown) (fault : LoadFault) → now ≡ before → RunIsRight tells told replied name sizes before now blocks (load_end fault)
-  unloaded_run tells before now blocks load.ReadFault same = inl same
-  unloaded_run tells before now blocks load.Memory same = inl same
-  unloaded_run tells before now blocks load.NoScript same = tt
-  unloaded_run tells before now blocks load.ScriptTooLong same = tt
-  unloaded_run tells before now blocks (load.FileChanged said got) same = inl same
-  unloaded_run tells before now blocks (load.BadLine line) same = tt
 
 -- the same where the library is asked later, and tells the same
 pub later_run :
@@ -147,7 +130,7 @@ pub later_run :
     → (end ≡ Done → ForFiles tells later script (λ given commands. TakesAll before now (output_of given commands)))
     → HasRunPart tells later before now script
     → (end ≡ NoFreeBlock → ForFiles tells later script (λ given commands. TakesWithin given before now sizes commands))
-    → (end ≡ Memory → (now ≡ before) ⊎ HasRunToFile tells later before now script) → FaultToFile tells later before now script end
+    → (end ≡ Memory → (now ≡ before) ⊎ HasRunToLoad tells later before now script) → FaultToFile tells later before now script end
     → (end ≡ NoFreeBlock → ForFiles tells later script (λ given commands. IsTooMuch sizes (load_of given commands)))
     → (end ≡ NoFreeBlock → IsTooMuch sizes (most_of (command_list script)))
     → (end ≡ Done → ForFiles tells later script (λ given commands. FitsWritten (crest_of given commands) sizes blocks))
@@ -175,12 +158,13 @@ to_file : (tells : Type 0) (told : Option (List ℕ → Option (List ℕ))) (scr
     → TakesBeforeFile told script first before now → HasRunToFile tells told before now script
 to_file tells told script first before now blocks ran = record { done = ran.done; file = ran.file; size = ran.size; here = ran.here; took = λ t files are. ran.took (blocks t) files are }
 
-pub ran_to_file : (tells : Type 0) (told : Option (List ℕ → Option (List ℕ))) (script : Reading) (first : List Shown) (before now : Option (List ℕ)) → (tells → AllTell first)
-    → (now ≡ before) ⊎ TakesBeforeFile told script first before now → (now ≡ before) ⊎ HasRunToFile tells told before now script
-ran_to_file tells told script first before now blocks (inl same) = inl same
-ran_to_file tells told script first before now blocks (inr ran) = inr (to_file tells told script first before now blocks ran)
+-- or before one that loads many records
+pub ran_to_load : (tells : Type 0) (told : Option (List ℕ → Option (List ℕ))) (script : Reading) (first : List Shown) (before now : Option (List ℕ)) → (tells → AllTell first)
+    → (now ≡ before) ⊎ TakesBeforeLoad told script first before now → (now ≡ before) ⊎ HasRunToLoad tells told before now script
+ran_to_load tells told script first before now blocks (inl same) = inl same
+ran_to_load tells told script first before now blocks (inr ran) = inr (record { done = ran.done; command = ran.command; here = ran.here; loads = ran.loads; took = λ t files are. ran.took (blocks t) files are })
 
--- the same by the end of a run
+-- where a file could not be read, or had changed, by the end of a run
 pub fault_to_file : (tells : Type 0) (told : Option (List ℕ → Option (List ℕ))) (script : Reading) (first : List Shown) (before now : Option (List ℕ)) (end : End) → (tells → AllTell first)
     → FaultBeforeFile told script first before now end → FaultToFile tells told before now script end
 fault_to_file tells told script first before now Done blocks ran = tt
@@ -227,66 +211,46 @@ pub keeps :
     (told : Option (List ℕ → Option (List ℕ))) (replied : Reply → Type 0) (name : List ℕ) (workers : ℕ) (script : Reading) → IsScript told replied name workers script
     → (files : List ℕ → Option (List ℕ)) → told ≡ Some files → KeepsLengths files script
 keeps told replied name workers script is files e =
-    let asked = numbered_of 1 (lines_of is.bytes) in
-    let lengths : script.commands ≡ with_sizes files (names_of (lines_of is.bytes)) asked =
-    (let P : Option (List ℕ → Option (List ℕ)) → Type 0 = λ t. IfSome t (λ files. script.commands ≡ with_sizes files (names_of (lines_of is.bytes)) asked) in subst P e is.lengths) in
+    let asked = numbered_of 1 (script_kinds is.bytes workers) in
+    let lengths : script.commands ≡ with_sizes files (names_of (script_kinds is.bytes workers)) asked =
+    (let P : Option (List ℕ → Option (List ℕ)) → Type 0 = λ t. IfSome t (λ files. script.commands ≡ with_sizes files (names_of (script_kinds is.bytes workers)) asked) in subst P e is.lengths) in
     let Q : List (List ℕ) → Type 0 = λ ns. script.commands ≡ with_sizes files ns asked in
     keeps_lengths files script asked (subst Q (sym is.names) lengths)
 
 -- a fact about the commands and the records of their files holds of those of the file, where the library tells
 of_files : (files : List ℕ → Option (List ℕ)) (replied : Reply → Type 0) (name : List ℕ) (workers : ℕ) (script : Reading) (P : (ℕ → List Pair) → List Command → Type 0)
-    → (is : IsScript (Some files) replied name workers script) → P (given_of files script) (command_list script) → P (script_given files is.bytes) (script_commands files is.bytes)
+    → (is : IsScript (Some files) replied name workers script) → P (given_of files script) (command_list script) → P (script_given files is.bytes workers) (script_commands files is.bytes workers)
 of_files files replied name workers script P is holds =
     let Q : List (List ℕ) → Type 0 = λ ns. P (λ (file : ℕ). records_of (bytes_or_none (files (name_at ns file)))) (command_list script) in
-    let R : List Numbered → Type 0 = λ items. P (script_given files is.bytes) (map (λ (n : Numbered). n.command) items) in
+    let R : List Numbered → Type 0 = λ items. P (script_given files is.bytes workers) (map (λ (n : Numbered). n.command) items) in
     subst R is.lengths (subst Q is.names holds)
 
 pub of_commands :
     (told later : Option Files) (replied : Reply → Type 0) (name : List ℕ) (workers : ℕ) (script : Reading) (sizes : Numbers) (P : Numbers → (ℕ → List Pair) → List Command → Type 0)
-    → later ≡ told → IsScript told replied name workers script → ((files : Files) → AreFilesOf later script files → P sizes (given_of files script) (command_list script))
+    → later ≡ told → workers ≡ sizes.workers → IsScript told replied name workers script → ((files : Files) → AreFilesOf later script files → P sizes (given_of files script) (command_list script))
     → OfFile told name sizes P
-of_commands None later replied name workers script sizes P kept is holds = tt
-of_commands (Some files) later replied name workers script sizes P kept is holds =
-    let Q : Option (List ℕ) → Type 0 = λ o. IfSome o (λ bytes. P sizes (script_given files bytes) (script_commands files bytes)) in
-    subst Q (sym is.loaded) (of_files files replied name workers script (P sizes) is (holds files (inl kept)))
+of_commands None later replied name workers script sizes P kept same is holds = tt
+of_commands (Some files) later replied name workers script sizes P kept same is holds =
+    let Q : Option (List ℕ) → Type 0 = λ o. IfSome o (λ bytes. P sizes (script_given files bytes sizes.workers) (script_commands files bytes sizes.workers)) in
+    let W : ℕ → Type 0 = λ w. IsScript (Some files) replied name w script in
+    let of_sizes : IsScript (Some files) replied name sizes.workers script = subst W same is in
+    subst Q (sym of_sizes.loaded) (of_files files replied name sizes.workers script (P sizes) of_sizes (holds files (inl kept)))
 
 -- the refusal of a file
 module _ (files : List ℕ → Option (List ℕ)) where
-  good_file : (bytes : List ℕ) (sizes : Numbers) → length bytes ≤ 1048576 → first_bad_by (is_usable files) 1 (lines_of bytes) ≡ None → refusal_of_file files (Some bytes) sizes ≡ budget_refusal sizes
+  good_file : (bytes : List ℕ) (sizes : Numbers) → length bytes ≤ 1048576 → first_bad_by (is_usable files) 1 (script_kinds bytes sizes.workers) ≡ None → refusal_of_file files (Some bytes) sizes ≡ budget_refusal sizes
   good_file bytes sizes short good =
-      ap (λ b. if b then Some ScriptTooLong else refusal_of_bad (first_bad_by (is_usable files) 1 (lines_of bytes)) sizes) (le-ltb 1048576 (length bytes) short) ∙ ap (λ (b : Option ℕ). refusal_of_bad b sizes) good
+      ap (λ b. if b then Some ScriptTooLong else refusal_of_bad (first_bad_by (is_usable files) 1 (script_kinds bytes sizes.workers)) sizes) (le-ltb 1048576 (length bytes) short) ∙ ap (λ (b : Option ℕ). refusal_of_bad b sizes) good
 
-  bad_file : (bytes : List ℕ) (sizes : Numbers) (line : ℕ) → HasBadLine files bytes line → refusal_of_file files (Some bytes) sizes ≡ Some (BadLine line)
-  bad_file bytes sizes line has =
-      ap (λ b. if b then Some ScriptTooLong else refusal_of_bad (first_bad_by (is_usable files) 1 (lines_of bytes)) sizes) (le-ltb 1048576 (length bytes) has.short) ∙ ap (λ (b : Option ℕ). refusal_of_bad b sizes) has.first
-
-  long_file : (file : Option (List ℕ)) (sizes : Numbers) → 1048576 < length (bytes_or_none file) → refusal_of_file files file sizes ≡ Some ScriptTooLong
-  long_file None sizes long = absurd (omega arith)
-  long_file (Some bytes) sizes long = ap (λ b. if b then Some ScriptTooLong else refusal_of_bad (first_bad_by (is_usable files) 1 (lines_of bytes)) sizes) (lt-ltb 1048576 (length bytes) long)
-
-  answer_is : (refusal : Option End) (end : End) → refusal ≡ Some end → IsAnswer refusal end
-  answer_is refusal end is = let P : Option End → Type 0 = λ r. IsAnswer r end in subst P (sym is) (inl refl)
-
-  file_answer : (file : Option (List ℕ)) (sizes : Numbers) (fault : LoadFault) → Refuses files file fault → IsAnswer (refusal_of_file files file sizes) (load_end fault)
-  file_answer file sizes load.ReadFault refuses = inr (inr refl)
-  file_answer file sizes load.Memory refuses = inr (inl refl)
-  file_answer file sizes load.NoScript refuses = answer_is (refusal_of_file files file sizes) NoScript (ap (λ (f : Option (List ℕ)). refusal_of_file files f sizes) refuses)
-  file_answer file sizes load.ScriptTooLong refuses = answer_is (refusal_of_file files file sizes) ScriptTooLong (long_file file sizes refuses)
-  file_answer file sizes (load.FileChanged said got) refuses = absurd refuses
-  file_answer file sizes (load.BadLine line) (bytes, is, has) = answer_is (refusal_of_file files file sizes) (BadLine line) (ap (λ (f : Option (List ℕ)). refusal_of_file files f sizes) is ∙ bad_file bytes sizes line has)
-
--- the answer for a script that was not loaded
-pub unloaded_answer : (told : Option (List ℕ → Option (List ℕ))) (name : List ℕ) (sizes : Numbers) (fault : LoadFault) → IsNotLoaded told name fault → IfSome told (λ files. IsAnswer (refusal_of_file files (files name) sizes) (load_end fault))
-unloaded_answer None name sizes fault is = tt
-unloaded_answer (Some files) name sizes fault is = file_answer files (files name) sizes fault is
-
--- and for one that was
+-- the answer for a script that was loaded
 pub loaded_answer :
     (told : Option (List ℕ → Option (List ℕ))) (replied : Reply → Type 0) (name : List ℕ) (workers : ℕ) (script : Reading) (sizes : Numbers) (end : End)
-    → IsScript told replied name workers script → IsTriedOrRefusal (budget_refusal sizes) end → IfSome told (λ files. IsAnswer (refusal_of_file files (files name) sizes) end)
-loaded_answer None replied name workers script sizes end is answer = tt
-loaded_answer (Some files) replied name workers script sizes end is answer =
-    let same : refusal_of_file files (files name) sizes ≡ budget_refusal sizes = ap (λ (f : Option (List ℕ)). refusal_of_file files f sizes) is.loaded ∙ good_file files is.bytes sizes is.short is.usable in
+    → workers ≡ sizes.workers → IsScript told replied name workers script → IsTriedOrRefusal (budget_refusal sizes) end → IfSome told (λ files. IsAnswer (refusal_of_file files (files name) sizes) end)
+loaded_answer None replied name workers script sizes end same_workers is answer = tt
+loaded_answer (Some files) replied name workers script sizes end same_workers is answer =
+    let W : ℕ → Type 0 = λ w. IsScript (Some files) replied name w script in
+    let of_sizes : IsScript (Some files) replied name sizes.workers script = subst W same_workers is in
+    let same : refusal_of_file files (files name) sizes ≡ budget_refusal sizes = ap (λ (f : Option (List ℕ)). refusal_of_file files f sizes) of_sizes.loaded ∙ good_file files of_sizes.bytes sizes of_sizes.short of_sizes.usable in
     let P : Option End → Type 0 = λ r. IsAnswer r end in
     subst P (sym same) (elim answer as (λ _. IsAnswer (budget_refusal sizes) end) [ inl is ↦ inl is | inr memory ↦ inr (inl memory) ])
 
@@ -319,12 +283,12 @@ completed files sizes load ScriptTooLong tried changed above fault room = absurd
 file_completed :
     (files : Files) (file : Option (List ℕ)) (sizes : Numbers) (load : (ℕ → List Pair) → List Command → ℕ) (end : End)
     → IsAnswer (refusal_of_file files file sizes) end → ((line said got : ℕ) → end ≡ FileChanged line said got → Some files ≡ None)
-    → (end ≡ NoFreeBlock → IfSome file (λ bytes. IsTooLarge load sizes (script_given files bytes) (script_commands files bytes))) → NoFault end
+    → (end ≡ NoFreeBlock → IfSome file (λ bytes. IsTooLarge load sizes (script_given files bytes sizes.workers) (script_commands files bytes sizes.workers))) → NoFault end
     → IfSome file (λ bytes. EndsWell load sizes files bytes end)
 file_completed files None sizes load end answer changed above fault = tt
 file_completed files (Some bytes) sizes load end answer changed above fault = λ good room.
     let P : Option End → Type 0 = λ r. IsAnswer r end in
-    completed files sizes (load (script_given files bytes) (script_commands files bytes)) end (subst P good answer) changed above fault room
+    completed files sizes (load (script_given files bytes sizes.workers) (script_commands files bytes sizes.workers)) end (subst P good answer) changed above fault room
 
 pub named_completed :
     (told : Option Files) (name : List ℕ) (sizes : Numbers) (load : (ℕ → List Pair) → List Command → ℕ) (end : End)

@@ -4,14 +4,15 @@ use Rattle.std.specs.Prelude.{slice_get, map}
 use Rattle.std.specs.List.{AllZip}
 use Rattle.ppq_outside.specs.Told.{Reply, OfLength, OfRead, Remembers, RepliesOnly}
 use Rattle.ppq_script.specs.declared.command.Command.{Command}
-use Rattle.ppq_script.specs.declared.command.Command.TheVariants.{Push, Pop, Top, Size, Bulk, Gen, BulkPop, BulkPopLimit, Drain}
+use Rattle.ppq_script.specs.declared.command.Command.TheVariants.{Push, Pop, Top, Size, Bulk, Gen, BulkPop, BulkPopLimit, Drain, BulkBegin, BulkPush, BulkEnd}
 use Rattle.ppq_script.specs.declared.numbered.Numbered.{Numbered}
-use Rattle.ppq_script.specs.Lines.{lines_of, names_of, numbered_of}
+use Rattle.ppq_script.specs.Lines.{names_of, numbered_of}
 use Rattle.ppq_script.specs.Files.{file_in, name_at}
 use Rattle.ppq_script.specs.Checking.{IsAskedFile, IsAsked}
-use Rattle.ppq_script.specs.Reading.{Reading, command_list}
+use Rattle.ppq_script.specs.Reading.{Reading}
 use Rattle.ppq_script.proofs.Replies.{replies_wider, replies_then}
 use Rattle.ppq_engine.specs.Files.{IsReadInScript}
+use Rattle.ppq_cli.specs.Load.{script_kinds}
 use Rattle.ppq_cli.specs.Replies.{IsInLength, ReadsWithin, IsScript}
 
 -- a length that was said is not forgotten
@@ -39,6 +40,9 @@ asked_file replied names (Gen seed count) new file said is e = cc
 asked_file replied names (BulkPop count) new file said is e = cc
 asked_file replied names (BulkPopLimit limit count) new file said is e = cc
 asked_file replied names (Drain count) new file said is e = cc
+asked_file replied names BulkBegin new file said is e = cc
+asked_file replied names (BulkPush pass item) new file said is e = cc
+asked_file replied names BulkEnd new file said is e = cc
 
 asked_at :
     (replied : Reply → Type 0) (names : List (List ℕ)) (old new : List Numbered) (i file said : ℕ) → AllZip (IsAsked replied names) old new → slice_get (map (λ n. n.command) new) i ≡ Some (Bulk file said)
@@ -56,8 +60,8 @@ in_script :
     → (reply : Reply) → IsReadInScript script reply → IsInLength replied reply
 in_script told replied name workers script is (OfLength asked size) read = tt
 in_script told replied name workers script is (OfRead asked at room given) read =
-    let names = names_of (lines_of is.bytes) in
-    let said : replied (OfLength (name_at names read.file) (Some read.said)) = asked_at replied names (numbered_of 1 (lines_of is.bytes)) script.commands read.at read.file read.said is.asked read.here in
+    let names = names_of (script_kinds is.bytes workers) in
+    let said : replied (OfLength (name_at names read.file) (Some read.said)) = asked_at replied names (numbered_of 1 (script_kinds is.bytes workers)) script.commands read.at read.file read.said is.asked read.here in
     let P : List (List ℕ) → Type 0 = λ ns. replied (OfLength (name_at ns read.file) (Some read.said)) in
     let Q : List ℕ → Type 0 = λ n. replied (OfLength n (Some read.said)) in
     (read.said, (subst Q (sym read.within.0) (subst P (sym is.names) said), read.within.1))

@@ -9,10 +9,11 @@ use Rattle.ppq_outside.specs.Told.{Reply, OfLength, OfRead, Remembers}
 use Rattle.std.specs.List.{AllZip}
 use Rattle.ppq_script.specs.declared.command.Command.{Command}
 use Rattle.ppq_script.specs.declared.numbered.Numbered.{Numbered}
-use Rattle.ppq_script.specs.Lines.{lines_of, names_of, numbered_of}
+use Rattle.ppq_script.specs.Lines.{names_of, numbered_of}
 use Rattle.ppq_script.specs.Files.{file_in, name_at}
 use Rattle.ppq_script.specs.Checking.{IsAskedFile, IsAsked}
 use Rattle.ppq_script.specs.Reading.{Reading}
+use Rattle.ppq_cli.specs.Load.{script_kinds}
 use Rattle.ppq_cli.specs.Replies.{AreGiven, IsGiven, IsReplied, IsScript}
 
 -- the beginning of a list with a piece written into it
@@ -71,7 +72,7 @@ script_remembered told before now name workers script kept is = record {
   given = replied_remembered before now name is.bytes kept is.given;
   good = is.good;
   names = is.names;
-  asked = all_asked_remembered before now (names_of (lines_of is.bytes)) (numbered_of 1 (lines_of is.bytes)) script.commands kept is.asked;
+  asked = all_asked_remembered before now (names_of (script_kinds is.bytes workers)) (numbered_of 1 (script_kinds is.bytes workers)) script.commands kept is.asked;
   usable = is.usable;
   lengths = is.lengths;
   ready = is.ready;

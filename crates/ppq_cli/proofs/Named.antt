@@ -26,10 +26,10 @@ of_words words found arguments P is read holds =
 -- the same of the script that the words name
 pub of_named :
     (words : List (String Global)) (found : Option RunArguments) (arguments : RunArguments) (told later : Option Files) (replied : Reply → Type 0) (workers : ℕ) (script : Script) (P : Numbers → (ℕ → List Pair) → List Command → Type 0)
-    → found ≡ Some arguments → option_map as_reading found ≡ reading words → later ≡ told → IsScript told replied arguments.script.now workers script
+    → found ≡ Some arguments → option_map as_reading found ≡ reading words → later ≡ told → workers ≡ arguments.sizes.workers → IsScript told replied arguments.script.now workers script
     → ((files : Files) → AreFilesOf later script files → P arguments.sizes (given_of files script) (command_list script)) → OfWords words (λ r. OfFile told r.script r.sizes P)
-of_named words found arguments told later replied workers script P is read kept loaded holds =
-    of_words words found arguments (λ r. OfFile told r.script r.sizes P) is read (of_commands told later replied arguments.script.now workers script arguments.sizes P kept loaded holds)
+of_named words found arguments told later replied workers script P is read kept same loaded holds =
+    of_words words found arguments (λ r. OfFile told r.script r.sizes P) is read (of_commands told later replied arguments.script.now workers script arguments.sizes P kept same loaded holds)
 
 -- what is the answer to the arguments is the answer to the words
 pub named_answer :

@@ -3,7 +3,7 @@ use Rattle.std.specs.Prelude.{◌≡◌, ℕ, ◌<◌, ◌≤◌, List, length, 
 use Rattle.ppq_outside.specs.Told.{bytes_or_none}
 use Rattle.ppq_outside.specs.declared.fault.OutsideFault.{OutsideFault}
 use Rattle.ppq_outside.specs.declared.fault.OutsideFault.TheVariants as outside
-use Rattle.ppq_script.specs.Lines.{lines_of, first_bad_by}
+use Rattle.ppq_script.specs.Lines.{Kind, lines_of, kinds_of, first_bad_by}
 use Rattle.ppq_script.specs.Files.{is_usable}
 use Rattle.ppq_script.specs.declared.check.CheckFault.{CheckFault}
 use Rattle.ppq_script.specs.declared.check.CheckFault.TheVariants as check
@@ -27,23 +27,27 @@ check_fault_load check.Memory = Memory
 abbrev pub IsLoaded : Option (List ℕ → Option (List ℕ)) → List ℕ → List ℕ → Type 0
 IsLoaded told name bytes = IfSome told (λ files. files name ≡ Some bytes)
 
--- a script of these bytes is not too long, and this is its first line that is bad or names a file that cannot be used
-pub record HasBadLine (files : List ℕ → Option (List ℕ)) (bytes : List ℕ) (line : ℕ) : Type 0 where
-  pub short : length bytes ≤ 1048576
-  pub first : first_bad_by (is_usable files) 1 (lines_of bytes) ≡ Some line
+-- what each line of a script of these bytes is where it stands, for so many workers
+abbrev pub script_kinds : List ℕ → ℕ → List Kind
+script_kinds bytes workers = kinds_of workers (lines_of bytes)
 
--- what a refusal says of the file that is told, among these files
-abbrev pub Refuses : (List ℕ → Option (List ℕ)) → Option (List ℕ) → LoadFault → Type 0
-Refuses files file ReadFault = ⊤
-Refuses files file Memory = ⊤
-Refuses files file NoScript = file ≡ None
-Refuses files file ScriptTooLong = 1048576 < length (bytes_or_none file)
-Refuses files file (FileChanged said got) = ⊥
-Refuses files file (BadLine line) = (bytes : List ℕ) × (file ≡ Some bytes) × HasBadLine files bytes line
+-- a script of these bytes is not too long, and this is its first line that is bad or names a file that cannot be used
+pub record HasBadLine (files : List ℕ → Option (List ℕ)) (bytes : List ℕ) (workers line : ℕ) : Type 0 where
+  pub short : length bytes ≤ 1048576
+  pub first : first_bad_by (is_usable files) 1 (script_kinds bytes workers) ≡ Some line
+
+-- what a refusal says of the file that is told, among these files, for so many workers
+abbrev pub Refuses : (List ℕ → Option (List ℕ)) → Option (List ℕ) → ℕ → LoadFault → Type 0
+Refuses files file workers ReadFault = ⊤
+Refuses files file workers Memory = ⊤
+Refuses files file workers NoScript = file ≡ None
+Refuses files file workers ScriptTooLong = 1048576 < length (bytes_or_none file)
+Refuses files file workers (FileChanged said got) = ⊥
+Refuses files file workers (BadLine line) = (bytes : List ℕ) × (file ≡ Some bytes) × HasBadLine files bytes workers line
 
 -- where the library tells, the refusal is right
-abbrev pub IsNotLoaded : Option (List ℕ → Option (List ℕ)) → List ℕ → LoadFault → Type 0
-IsNotLoaded told name fault = IfSome told (λ files. Refuses files (files name) fault)
+abbrev pub IsNotLoaded : Option (List ℕ → Option (List ℕ)) → List ℕ → ℕ → LoadFault → Type 0
+IsNotLoaded told name workers fault = IfSome told (λ files. Refuses files (files name) workers fault)
 
 -- a fault of loading as an end
 abbrev pub load_end : LoadFault → End

@@ -7,18 +7,20 @@ use Rattle.ppq_outside.specs.Told.{Reply, OfLength, OfRead, RepliesOnly, TakesAl
 use Rattle.ppq_budget.specs.Sizes.{Numbers, fixed_of}
 use Rattle.ppq_script.specs.declared.command.Command.{Command}
 use Rattle.ppq_script.specs.declared.command.Command.TheVariants.{Bulk}
-use Rattle.ppq_script.specs.Lines.{lines_of, numbered_of, names_of, first_bad, first_bad_by}
+use Rattle.ppq_script.specs.Lines.{numbered_of, names_of, first_bad, first_bad_by}
 use Rattle.ppq_script.specs.Files.{is_usable, IsBadLine}
 use Rattle.ppq_script.specs.Checking.{IsAsked, with_sizes}
 use Rattle.ppq_script.specs.Reading.{Reading, command_list}
-use Rattle.ppq_engine.specs.Loads.{most_of, least_of, IsTooMuch, FitsWritten}
+use Rattle.ppq_engine.specs.Loads.{most_of, least_of, FitsWritten, IsLoad}
 use Rattle.ppq_engine.specs.Output.{AreFilesOf, given_of, output_of, load_of, crest_of, TakesWithin}
-use Rattle.ppq_engine.specs.Running.{EndsAt, HasChanged}
+use Rattle.ppq_engine.specs.Reading.{EndsAt}
+use Rattle.ppq_engine.specs.Refusal.{IsTooMuch}
+use Rattle.ppq_engine.specs.Running.{HasChanged}
 use Rattle.ppq_engine.specs.declared.end.End.{End}
 use Rattle.ppq_engine.specs.declared.end.End.TheVariants.{Done, BadLine, Usage, ReadFault, WriteFault, DeviceFault, NoFreeBlock, BudgetTooSmall, Memory, FileChanged, NoDevice, NoScript, ScriptTooLong}
 use Rattle.ppq_cli.specs.declared.load.LoadFault.{LoadFault}
 use Rattle.ppq_cli.specs.declared.load.LoadFault.TheVariants as load
-use Rattle.ppq_cli.specs.Load.{IsLoaded}
+use Rattle.ppq_cli.specs.Load.{IsLoaded, script_kinds}
 
 -- reads of this file gave these pieces, one after the other with no gap, from a place on
 abbrev pub AreGiven : (Reply → Type 0) → List ℕ → ℕ → List (List ℕ) → Type 0
@@ -57,31 +59,32 @@ pub record IsCutShort (told : Option (List ℕ → Option (List ℕ))) (replied 
   pub read : EndsAt replied name got
   pub untold : told ≡ None
 
--- the library gave the script as bytes of which this is the first line that is bad, or names a file that by its reply cannot be used
-abbrev pub IsBadAt : (Reply → Type 0) → List ℕ → ℕ → Type 0
-IsBadAt replied name line = (bytes : List ℕ) × (IsReplied replied name bytes × IsBadLine replied 1 (lines_of bytes) line)
+-- the library gave the script as bytes of which, for so many workers, this is the first line that is bad, or names a file that by its
+-- reply cannot be used
+abbrev pub IsBadAt : (Reply → Type 0) → List ℕ → ℕ → ℕ → Type 0
+IsBadAt replied name workers line = (bytes : List ℕ) × (IsReplied replied name bytes × IsBadLine replied 1 (script_kinds bytes workers) line)
 
--- why a script was not loaded rests on what the library replied of it
-abbrev pub IsUnloaded : Option (List ℕ → Option (List ℕ)) → (Reply → Type 0) → List ℕ → LoadFault → Type 0
-IsUnloaded told replied name load.ReadFault = ⊤
-IsUnloaded told replied name load.Memory = ⊤
-IsUnloaded told replied name load.NoScript = replied (OfLength name None)
-IsUnloaded told replied name load.ScriptTooLong = IsTooLong replied name
-IsUnloaded told replied name (load.FileChanged said got) = IsCutShort told replied name 0 said got
-IsUnloaded told replied name (load.BadLine line) = IsBadAt replied name line
+-- why a script was not loaded for so many workers rests on what the library replied of it
+abbrev pub IsUnloaded : Option (List ℕ → Option (List ℕ)) → (Reply → Type 0) → List ℕ → ℕ → LoadFault → Type 0
+IsUnloaded told replied name workers load.ReadFault = ⊤
+IsUnloaded told replied name workers load.Memory = ⊤
+IsUnloaded told replied name workers load.NoScript = replied (OfLength name None)
+IsUnloaded told replied name workers load.ScriptTooLong = IsTooLong replied name
+IsUnloaded told replied name workers (load.FileChanged said got) = IsCutShort told replied name 0 said got
+IsUnloaded told replied name workers (load.BadLine line) = IsBadAt replied name workers line
 
--- A script that was loaded and has no bad line, and the bytes as which the library gave it: its commands are those of the bytes, with
--- the lengths that the library said of their files.
+-- A script that was loaded for so many workers and has no bad line, and the bytes as which the library gave it: its commands are those
+-- of the bytes, with the lengths that the library said of their files.
 pub record IsScript (told : Option (List ℕ → Option (List ℕ))) (replied : Reply → Type 0) (name : List ℕ) (workers : ℕ) (script : Reading) : Type 0 where
   pub bytes : List ℕ
   pub short : length bytes ≤ 1048576
   pub loaded : IsLoaded told name bytes
   pub given : IsReplied replied name bytes
-  pub good : first_bad 1 (lines_of bytes) ≡ None
-  pub names : script.names ≡ names_of (lines_of bytes)
-  pub asked : AllZip (IsAsked replied (names_of (lines_of bytes))) (numbered_of 1 (lines_of bytes)) script.commands
-  pub usable : IfSome told (λ files. first_bad_by (is_usable files) 1 (lines_of bytes) ≡ None)
-  pub lengths : IfSome told (λ files. script.commands ≡ with_sizes files (names_of (lines_of bytes)) (numbered_of 1 (lines_of bytes)))
+  pub good : first_bad 1 (script_kinds bytes workers) ≡ None
+  pub names : script.names ≡ names_of (script_kinds bytes workers)
+  pub asked : AllZip (IsAsked replied (names_of (script_kinds bytes workers))) (numbered_of 1 (script_kinds bytes workers)) script.commands
+  pub usable : IfSome told (λ files. first_bad_by (is_usable files) 1 (script_kinds bytes workers) ≡ None)
+  pub lengths : IfSome told (λ files. script.commands ≡ with_sizes files (names_of (script_kinds bytes workers)) (numbered_of 1 (script_kinds bytes workers)))
   pub ready : IsTrue script.checked
   pub same_workers : script.workers ≡ workers
 
@@ -100,7 +103,7 @@ IsTooSmall sizes need = (sizes.memory < fixed_of sizes) × (need ≡ fixed_of si
 -- if the end refuses the script, that rests on what the library replied of it and its files
 abbrev pub RefusalIsRight : Option (List ℕ → Option (List ℕ)) → (Reply → Type 0) → List ℕ → Numbers → End → Type 0
 RefusalIsRight told replied name sizes Done = ⊤
-RefusalIsRight told replied name sizes (BadLine line) = IsBadAt replied name line
+RefusalIsRight told replied name sizes (BadLine line) = IsBadAt replied name sizes.workers line
 RefusalIsRight told replied name sizes Usage = ⊥
 RefusalIsRight told replied name sizes ReadFault = ⊤
 RefusalIsRight told replied name sizes WriteFault = ⊤
@@ -151,9 +154,17 @@ pub record HasRunToFile (tells : Type 0) (told : Option (List ℕ → Option (Li
   pub here : slice_get (command_list script) done ≡ Some (Bulk file size)
   pub took : ForFiles tells told script (λ given commands. TakesAll before now (output_of given (take done commands)))
 
--- where memory was wanting: nothing was written, or the output of the commands before one that reads a file
-abbrev pub RanToFile : Type 0 → Option (List ℕ → Option (List ℕ)) → Option (List ℕ) → Option (List ℕ) → Reading → Type 0
-RanToFile tells told before now script = (now ≡ before) ⊎ HasRunToFile tells told before now script
+-- the sink took the output of the commands before one that loads many records
+pub record HasRunToLoad (tells : Type 0) (told : Option (List ℕ → Option (List ℕ))) (before now : Option (List ℕ)) (script : Reading) : Type 0 where
+  pub done : ℕ
+  pub command : Command
+  pub here : slice_get (command_list script) done ≡ Some command
+  pub loads : IsLoad command
+  pub took : ForFiles tells told script (λ given commands. TakesAll before now (output_of given (take done commands)))
+
+-- where memory was wanting: nothing was written, or the output of the commands before one that loads many records
+abbrev pub RanToLoad : Type 0 → Option (List ℕ → Option (List ℕ)) → Option (List ℕ) → Option (List ℕ) → Reading → Type 0
+RanToLoad tells told before now script = (now ≡ before) ⊎ HasRunToLoad tells told before now script
 
 -- where a file could not be read, or had changed, the sink took the output of the commands before one that reads a file
 abbrev pub FaultToFile : Type 0 → Option (List ℕ → Option (List ℕ)) → Option (List ℕ) → Option (List ℕ) → Reading → End → Type 0
@@ -171,8 +182,8 @@ FaultToFile tells told before now script NoDevice = ⊤
 FaultToFile tells told before now script NoScript = ⊤
 FaultToFile tells told before now script ScriptTooLong = ⊤
 
--- If the end is that of a run, it is one of the script as the library gave it. After `ReadFault`, `FileChanged` and `Memory` nothing was
--- written, or the script reads a file and was run as far as that.
+-- If the end is that of a run, it is one of the script as the library gave it. After `ReadFault` and `FileChanged` nothing was written,
+-- or the script reads a file and was run as far as that; after `Memory`, or it loads many records and was run as far as that.
 abbrev pub RunIsRight : Type 0 → Option (List ℕ → Option (List ℕ)) → (Reply → Type 0) → List ℕ → Numbers → Option (List ℕ) → Option (List ℕ) → List Shown → End → Type 0
 RunIsRight tells told replied name sizes before now blocks Done = OfRun told replied name sizes (HasRunWhole tells told sizes before now blocks)
 RunIsRight tells told replied name sizes before now blocks (BadLine line) = ⊤
@@ -182,7 +193,7 @@ RunIsRight tells told replied name sizes before now blocks WriteFault = OfRun to
 RunIsRight tells told replied name sizes before now blocks (DeviceFault number) = OfRun told replied name sizes (HasRunPart tells told before now)
 RunIsRight tells told replied name sizes before now blocks NoFreeBlock = OfRun told replied name sizes (HasRunFull tells told sizes before now)
 RunIsRight tells told replied name sizes before now blocks (BudgetTooSmall need) = ⊤
-RunIsRight tells told replied name sizes before now blocks Memory = (now ≡ before) ⊎ OfGood told replied name sizes (HasRunToFile tells told before now)
+RunIsRight tells told replied name sizes before now blocks Memory = (now ≡ before) ⊎ OfGood told replied name sizes (HasRunToLoad tells told before now)
 RunIsRight tells told replied name sizes before now blocks (FileChanged line said got) = (now ≡ before) ⊎ OfRun told replied name sizes (HasRunToFile tells told before now)
 RunIsRight tells told replied name sizes before now blocks NoDevice = ⊤
 RunIsRight tells told replied name sizes before now blocks NoScript = ⊤

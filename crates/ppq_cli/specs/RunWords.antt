@@ -7,7 +7,7 @@ use Rattle.ppq_outside.specs.Shown.{Shown}
 use Rattle.ppq_outside.specs.Told.{Reply, TakesAll, TakesPart, bytes_or_none}
 use Rattle.ppq_budget.specs.Sizes.{Numbers}
 use Rattle.ppq_script.specs.declared.command.Command.{Command}
-use Rattle.ppq_script.specs.Lines.{lines_of, numbered_of, names_of, first_bad_by}
+use Rattle.ppq_script.specs.Lines.{numbered_of, names_of, first_bad_by}
 use Rattle.ppq_script.specs.Files.{name_at, is_usable}
 use Rattle.ppq_script.specs.Checking.{with_sizes}
 use Rattle.ppq_words.specs.Reading.{Reading, reading_of, texts_of}
@@ -15,8 +15,10 @@ use Rattle.ppq_engine.specs.declared.end.End.{End}
 use Rattle.ppq_engine.specs.declared.end.End.TheVariants.{Done, BadLine, Usage, ReadFault, Memory, NoDevice, NoScript, ScriptTooLong}
 use Rattle.ppq_engine.specs.declared.end.Ended.{Ended}
 use Rattle.ppq_engine.specs.Output.{output_of, TakesWithin}
-use Rattle.ppq_engine.specs.Loads.{most_of, least_of, HasRoom, IsTooMuch, FitsWritten}
+use Rattle.ppq_engine.specs.Loads.{most_of, least_of, FitsWritten}
+use Rattle.ppq_engine.specs.Refusal.{HasRoom, IsTooMuch}
 use Rattle.ppq_engine.specs.Ends.{BeganCommands, budget_refusal}
+use Rattle.ppq_cli.specs.Load.{script_kinds}
 use Rattle.ppq_cli.specs.Replies.{RefusalIsRight, RunIsRight}
 
 -- The script that the words name.
@@ -33,17 +35,17 @@ reading words = reading_of (texts_of words)
 abbrev pub OfWords : List (String Global) → (Reading → Type 0) → Type 0
 OfWords words P = IfSome (reading words) P
 
--- the commands of a script of these bytes, where these are the files: each that reads one has its length
-abbrev pub script_commands : Files → List ℕ → List Command
-script_commands files bytes = map (λ n. n.command) (with_sizes files (names_of (lines_of bytes)) (numbered_of 1 (lines_of bytes)))
+-- the commands of a script of these bytes for so many workers, where these are the files: each that reads one has its length
+abbrev pub script_commands : Files → List ℕ → ℕ → List Command
+script_commands files bytes workers = map (λ n. n.command) (with_sizes files (names_of (script_kinds bytes workers)) (numbered_of 1 (script_kinds bytes workers)))
 
 -- the records of its file with this number
-abbrev pub script_given : Files → List ℕ → ℕ → List Pair
-script_given files bytes file = records_of (bytes_or_none (files (name_at (names_of (lines_of bytes)) file)))
+abbrev pub script_given : Files → List ℕ → ℕ → ℕ → List Pair
+script_given files bytes workers file = records_of (bytes_or_none (files (name_at (names_of (script_kinds bytes workers)) file)))
 
 -- the fact holds of the sizes, of the records of the script's files and of its commands, where the library tells and has a script of this name
 abbrev pub OfFile : Option Files → List ℕ → Numbers → (Numbers → (ℕ → List Pair) → List Command → Type 0) → Type 0
-OfFile told name sizes P = IfSome told (λ files. IfSome (files name) (λ bytes. P sizes (script_given files bytes) (script_commands files bytes)))
+OfFile told name sizes P = IfSome told (λ files. IfSome (files name) (λ bytes. P sizes (script_given files bytes sizes.workers) (script_commands files bytes sizes.workers)))
 
 -- the same of the script that the words name
 abbrev pub OfScript : {L : Type 0} → (L → Option Files) → L → List (String Global) → (Numbers → (ℕ → List Pair) → List Command → Type 0) → Type 0
@@ -94,7 +96,7 @@ refusal_of_bad (Some line) sizes = Some (BadLine line)
 
 abbrev pub refusal_of_file : Files → Option (List ℕ) → Numbers → Option End
 refusal_of_file files None sizes = Some NoScript
-refusal_of_file files (Some bytes) sizes = if nat_lt 1048576 (length bytes) then Some ScriptTooLong else refusal_of_bad (first_bad_by (is_usable files) 1 (lines_of bytes)) sizes
+refusal_of_file files (Some bytes) sizes = if nat_lt 1048576 (length bytes) then Some ScriptTooLong else refusal_of_bad (first_bad_by (is_usable files) 1 (script_kinds bytes sizes.workers)) sizes
 
 -- before all of them, that the words have no reading
 abbrev pub refusal_of : Option Reading → Files → Option End
@@ -130,7 +132,7 @@ IsTooLarge load sizes given commands = IsTooMuch sizes (load given commands)
 
 -- a script of these bytes that is not refused, and for whose load there is room, is done, or memory was wanting
 abbrev pub EndsWell : ((ℕ → List Pair) → List Command → ℕ) → Numbers → Files → List ℕ → End → Type 0
-EndsWell load sizes files bytes end = refusal_of_file files (Some bytes) sizes ≡ None → HasRoom sizes (load (script_given files bytes) (script_commands files bytes)) → (end ≡ Done) ⊎ (end ≡ Memory)
+EndsWell load sizes files bytes end = refusal_of_file files (Some bytes) sizes ≡ None → HasRoom sizes (load (script_given files bytes sizes.workers) (script_commands files bytes sizes.workers)) → (end ≡ Done) ⊎ (end ≡ Memory)
 
 -- the same of the script that the words name, where the library tells and has it
 abbrev pub Completes : {L : Type 0} → ((ℕ → List Pair) → List Command → ℕ) → (L → Option Files) → L → List (String Global) → End → Type 0

@@ -1,9 +1,8 @@
 //! Loads a script from a library.
-ghost use Rattle.std.specs.Prelude.{◌≡◌, ◌≤◌, ◌<◌, ◌+◌, Some, length, take, IfOk, OnOk, IfErr, IsErrOf, vec_len};
+ghost use Rattle.std.specs.Prelude.{◌≡◌, ◌≤◌, ◌<◌, ◌+◌, ℕ, Some, length, take, IfOk, OnOk, IfErr, IsErrOf, vec_len};
 ghost use Rattle.ppq_outside.specs.Told.{HasCause, Rose, OfLength, Remembers, RepliesOnly};
 ghost use Rattle.ppq_cli.specs.Load.{IsLoaded, IsNotLoaded, load_end};
-ghost use Rattle.ppq_engine.specs.Running.{EndsAt};
-ghost use Rattle.ppq_engine.specs.Files.{IsReadWithin};
+ghost use Rattle.ppq_engine.specs.Reading.{EndsAt, IsReadWithin};
 ghost use Rattle.ppq_script.specs.Files.{IsLength};
 ghost use Rattle.ppq_cli.specs.Replies.{IsGiven, IsReplied, IsUnloaded, IsScript, ReadsWithin};
 ghost use Rattle.ppq_engine.specs.Ends.{NoFault};
@@ -80,8 +79,8 @@ fn length_of_script<H: Host, L: Library>(
 ) -> Result<usize, LoadFault>
     ensures short { IfOk result (λ size. size ≤ 1_048_576) }
     ensures said { IfOk result (λ size. L.replied library.new (OfLength name.now (Some size))) }
-    ensures not { IfErr result (IsNotLoaded (L.told library.old) name.now) }
-    ensures refused { IfErr result (IsUnloaded (L.told library.old) (L.replied library.new) name.now) }
+    ensures not { IfErr result (λ fault. (workers : ℕ) → IsNotLoaded (L.told library.old) name.now workers fault) }
+    ensures refused { IfErr result (λ fault. (workers : ℕ) → IsUnloaded (L.told library.old) (L.replied library.new) name.now workers fault) }
     ensures remembers { Remembers (L.replied library.old) (L.replied library.new) }
     ensures asks { RepliesOnly (L.replied library.old) (L.replied library.new) IsLength }
     ensures kept { L.told library.new ≡ L.told library.old }
@@ -113,8 +112,8 @@ pub fn load<H: Host, L: Library>(
     ensures short { IfOk result (λ bytes. vec_len bytes ≤ 1_048_576) }
     ensures loaded { IfOk result (λ bytes. IsLoaded (L.told library.old) name.now bytes.items) }
     ensures replied { IfOk result (λ bytes. IsReplied (L.replied library.new) name.now bytes.items) }
-    ensures not { IfErr result (IsNotLoaded (L.told library.old) name.now) }
-    ensures refused { IfErr result (IsUnloaded (L.told library.old) (L.replied library.new) name.now) }
+    ensures not { IfErr result (λ fault. (workers : ℕ) → IsNotLoaded (L.told library.old) name.now workers fault) }
+    ensures refused { IfErr result (λ fault. (workers : ℕ) → IsUnloaded (L.told library.old) (L.replied library.new) name.now workers fault) }
     ensures remembers { Remembers (L.replied library.old) (L.replied library.new) }
     ensures reads { ReadsWithin (L.replied library.old) (L.replied library.new) }
     ensures kept { L.told library.new ≡ L.told library.old }
@@ -170,8 +169,8 @@ pub fn load_script<H: Host, L: Library>(
     workers: u32,
 ) -> Result<Script, LoadFault>
     ensures script { IfOk result (IsScript (L.told library.old) (L.replied library.new) name.now workers) }
-    ensures not { IfErr result (IsNotLoaded (L.told library.old) name.now) }
-    ensures refused { IfErr result (IsUnloaded (L.told library.old) (L.replied library.new) name.now) }
+    ensures not { IfErr result (IsNotLoaded (L.told library.old) name.now workers) }
+    ensures refused { IfErr result (IsUnloaded (L.told library.old) (L.replied library.new) name.now workers) }
     ensures remembers { Remembers (L.replied library.old) (L.replied library.new) }
     ensures reads { ReadsWithin (L.replied library.old) (L.replied library.new) }
     ensures kept { L.told library.new ≡ L.told library.old }

@@ -4,14 +4,15 @@ ghost use Rattle.ppq_array.specs.Kept.{HasFailed};
 ghost use Rattle.ppq_outside.specs.Told.{Rose, Remembers, RepliesOnly};
 ghost use Rattle.ppq_outside.specs.Made.{HasMadeJust};
 ghost use Rattle.ppq_script.specs.Reading.{command_list};
-ghost use Rattle.ppq_engine.specs.Loads.{most_of, least_of, IsTooMuch, FitsWritten};
+ghost use Rattle.ppq_engine.specs.Loads.{most_of, least_of, FitsWritten};
+ghost use Rattle.ppq_engine.specs.Refusal.{IsTooMuch};
 ghost use Rattle.ppq_engine.specs.Output.{load_of, crest_of, KeepsLengths};
 ghost use Rattle.ppq_engine.specs.Running.{HasChanged};
 ghost use Rattle.ppq_engine.specs.Files.{IsReadInScript};
 ghost use Rattle.ppq_engine.specs.Ends.{budget_refusal, NoFault};
 ghost use Rattle.ppq_engine.specs.declared.end.End.TheVariants.{Done, ReadFault, WriteFault, DeviceFault, NoFreeBlock, NoDevice};
 ghost use Rattle.ppq_engine.specs.declared.end.End.TheVariants.{Memory, FileChanged};
-ghost use Rattle.ppq_cli.specs.Replies.{OfLoaded, HasRunPart, RanToFile, FaultToFile};
+ghost use Rattle.ppq_cli.specs.Replies.{OfLoaded, HasRunPart, RanToLoad, FaultToFile};
 ghost use Rattle.ppq_cli.specs.RunWords.{WritesAll, WritesRoom, MayWrite, UsesDevice, IsTriedOrRefusal, IsTooLarge};
 ghost use Rattle.ppq_cli.specs.Device.{AreBlocks, make_end};
 
@@ -68,7 +69,7 @@ where
     ensures part { HasRunPart (K.tells rack.old) (L.told library.old) (O.told out.old) (O.told out.new) script.now }
     ensures room { result.end ≡ NoFreeBlock
         → OfLoaded K.tells rack.old L.told library.old script.now sizes (WritesRoom O.told out.old out.new) }
-    ensures memory { result.end ≡ Memory → RanToFile (K.tells rack.old) (L.told library.old) (O.told out.old) (O.told out.new) script.now }
+    ensures memory { result.end ≡ Memory → RanToLoad (K.tells rack.old) (L.told library.old) (O.told out.old) (O.told out.new) script.now }
     ensures file { FaultToFile (K.tells rack.old) (L.told library.old) (O.told out.old) (O.told out.new) script.now result.end }
     ensures nothing { MayWrite result.end ⊎ (O.told out.new ≡ O.told out.old) }
     ensures used { result.end ≡ Done

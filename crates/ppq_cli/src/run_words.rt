@@ -51,8 +51,8 @@ use std::alloc::Global;
 ///   the sink took at least what the commands in front of such a load print.
 /// - `FileChanged`: the library is not visible, said a length, and a read in front of it returned
 ///   nothing. The line is 0 for the script itself.
-/// - `Memory`: an allocation failed. After it, `ReadFault` and `FileChanged` the sink took nothing, or
-///   just what the commands in front of a `bulk` line print.
+/// - `Memory`: an allocation failed. The sink took nothing, or just what the commands in front of a
+///   `bulk`, `gen` or `bulk_begin` line print; after `ReadFault` and `FileChanged`, of a `bulk` line.
 pub fn run_words<H: Host, L: Library, K: Rack, O: Sink, G: Gate>(
     rt: &H,
     alloc: Global,

@@ -63,6 +63,76 @@ fn lines_of_every_form_do_what_they_say(rt: HostRuntime) -> Result<(), Fail> {
 }
 
 #[test]
+fn records_of_a_bulk_session_join_the_others_at_its_end(rt: HostRuntime) -> Result<(), Fail> {
+    let rows: [(&[u8], &[u8]); 4] = [
+        (b"bulk_begin\n# none\n\nbulk_end\nsize\n", b"0\n"),
+        (
+            b"push 4 0\nbulk_begin\nbulk_push 0 3 0\nbulk_push 1 1 0\nbulk_push 0 4 0\nbulk_end\npop\npop\nsize\n",
+            b"1 0\n3 0\n2\n",
+        ),
+        (
+            b"push 5 0\nbulk_begin\nbulk_push 1 9 1\nbulk_push 0 2 2\nbulk_push 0 7 7\nbulk_push 0 5 0\nbulk_push 1 1 1\nbulk_push 1 8 0\nbulk_push 0 6 6\nbulk_end\npop\npop\npop\npop\npop\npop\npop\npop\npop\n",
+            b"1 1\n2 2\n5 0\n5 0\n6 6\n7 7\n8 0\n9 1\nempty\n",
+        ),
+        (
+            b"bulk_begin\nbulk_push 0 2 0\nbulk_end\npop\nbulk_begin\nbulk_push 1 1 0\nbulk_push 1 1 0\nbulk_end\nbulk f\ndrain 9\n",
+            b"2 0\ncount 4 first 1 0 last 7 7 sum 16\n",
+        ),
+    ];
+    for (script, output) in rows {
+        let (end, wrote) = outcome(&rt, rt.alloc(), SIZES, script)?;
+        assert_eq!(rt; end, End::Done);
+        assert_eq!(rt; wrote.as_slice(), output);
+    }
+    Ok(())
+}
+
+#[test]
+fn a_line_that_is_bad_in_its_place_is_named(rt: HostRuntime) -> Result<(), Fail> {
+    let rows: [(&[u8], u32); 8] = [
+        (b"pop\nbulk_push 0 1 1\n", 2),
+        (b"bulk_begin\npop\nbulk_end\n", 2),
+        (b"bulk_begin\nbulk f\nbulk_end\n", 2),
+        (b"bulk_begin\nbulk_push 2 1 1\nbulk_end\n", 2),
+        (b"bulk_begin", 2),
+        (b"bulk_begin\n\n", 3),
+        (b"limit_end\n", 1),
+        (b"size\nlimit_begin 4 0\n", 2),
+    ];
+    for (script, line) in rows {
+        let (end, wrote) = outcome(&rt, rt.alloc(), SIZES, script)?;
+        assert_eq!(rt; end, End::BadLine { line });
+        assert_eq!(rt; wrote.len(), 0);
+    }
+    Ok(())
+}
+
+#[test]
+fn a_pass_is_one_of_the_workers(rt: HostRuntime) -> Result<(), Fail> {
+    let script = b"push 6 0\nbulk_begin\nbulk_push 2 5 5\nbulk_push 0 7 7\nbulk_end\npop\n";
+    for (line, right) in [
+        (
+            "run s --device d --blocks 200 --workers 2 --block 16 --heap 1 --memory 9999",
+            End::BadLine { line: 3 },
+        ),
+        (
+            "run s --device d --blocks 200 --workers 3 --block 16 --heap 1 --memory 9999",
+            End::Done,
+        ),
+    ] {
+        let (end, wrote) = outcome(&rt, rt.alloc(), line, script)?;
+        assert_eq!(rt; end, right, "{line}");
+        let output = if right == End::Done {
+            b"5 5\n".as_slice()
+        } else {
+            b"".as_slice()
+        };
+        assert_eq!(rt; wrote.as_slice(), output);
+    }
+    Ok(())
+}
+
+#[test]
 fn a_line_that_is_bad_by_a_byte_is_named(rt: HostRuntime) -> Result<(), Fail> {
     let rows: [(&[u8], u32); 4] = [
         (b"pop\r\r\n", 1),
@@ -157,6 +227,17 @@ fn four_records_come_back_over_a_block(rt: HostRuntime) -> Result<(), Fail> {
     assert_eq!(rt; wrote.as_slice(), b"3 2\n3 9\n5 1\n5 1\nempty\n".as_slice());
     let written = |block: &MemSlot| block.number() == 0 && block.writes() > 0;
     assert!(rt; ended.blocks.iter().any(written));
+    Ok(())
+}
+
+#[test]
+fn a_pass_whose_heap_is_full_stores_a_block(rt: HostRuntime) -> Result<(), Fail> {
+    let script =
+        b"bulk_begin\nbulk_push 1 2 0\nbulk_push 0 1 0\nbulk_push 1 2 0\nbulk_push 1 0 5\nbulk_end\nsize\nbulk_pop 4\n";
+    let (ended, wrote) = over_rack(&rt, rt.alloc(), script, &mut MemRack::new())?;
+    assert_eq!(rt; ended.end, End::Done);
+    assert_eq!(rt; wrote.as_slice(), b"4\n0 5\n1 0\n2 0\n2 0\n".as_slice());
+    assert!(rt; ended.blocks.iter().any(|block| block.writes() > 0));
     Ok(())
 }
 

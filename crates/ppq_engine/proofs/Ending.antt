@@ -1,14 +1,17 @@
 -- What follows from what the end of a run says, for each end.
-use Rattle.std.proofs.Common.{◌≡◌, ℕ, ◌≤◌, ◌<◌, List, Option, Some, None, refl, sym, subst, arith, inl, inr}
+use Rattle.std.proofs.Common.{◌≡◌, ℕ, ◌≤◌, List, Bool, Option, Some, None, ap, refl, sym, subst, arith, inl, inr}
 use Rattle.ppq_outside.specs.Shown.{Shown, AllTell}
 use Rattle.ppq_outside.specs.Told.{Reply, TakesAll, Rose}
-use Rattle.ppq_budget.specs.Sizes.{Numbers}
+use Rattle.std.specs.Prelude.{if◌then◌else◌}
+use Rattle.std.proofs.lemmas.Bool.{le-ltb}
+use Rattle.ppq_budget.specs.Sizes.{Numbers, fixed_of}
 use Rattle.ppq_array.specs.Kept.{SameSlots, HasFailed, all_writes}
 use Rattle.ppq_script.specs.Reading.{Reading, command_list}
-use Rattle.ppq_engine.specs.Loads.{most_of, least_of, HasRoom, IsTooMuch, FitsWritten}
+use Rattle.ppq_load.specs.Refusal.{HasRoom, IsTooMuch}
+use Rattle.ppq_engine.specs.Loads.{most_of, least_of, FitsWritten}
 use Rattle.ppq_engine.specs.Output.{AreFilesOf, given_of, output_of, load_of, crest_of, TakesWithin}
 use Rattle.ppq_engine.specs.Outcome.{EndSays}
-use Rattle.ppq_engine.specs.Ends.{IsQuiet, NoneFailed, IsCompleted}
+use Rattle.ppq_engine.specs.Ends.{budget_refusal, BeganOrRefused, IsQuiet, NoneFailed, IsCompleted}
 use Rattle.ppq_engine.specs.declared.end.End.{End}
 use Rattle.ppq_engine.specs.declared.end.End.TheVariants.{Done, BadLine, Usage, ReadFault, WriteFault, DeviceFault, NoFreeBlock, BudgetTooSmall, Memory, FileChanged, NoDevice, NoScript, ScriptTooLong}
 use Rattle.ppq_engine.proofs.Sizes.{fits-more}
@@ -77,6 +80,28 @@ module _ (told : Option (List ℕ → Option (List ℕ))) (replied : Reply → T
 
     pub end-failed : (number : ℕ) → end ≡ DeviceFault number → HasFailed number later
     end-failed number is = says-is (DeviceFault number) is
+
+  -- of an open queue an end has one of the causes that come after the beginning
+  began : (slots : List Shown) (end : End) → Says slots end → BeganOrRefused None end
+  began slots Done says = inl tt
+  began slots (BadLine line) says = absurd says
+  began slots Usage says = absurd says
+  began slots ReadFault says = inl tt
+  began slots WriteFault says = inl tt
+  began slots (DeviceFault number) says = inl tt
+  began slots NoFreeBlock says = inl tt
+  began slots (BudgetTooSmall need) says = absurd says
+  began slots Memory says = inr refl
+  began slots (FileChanged line said got) says = inl tt
+  began slots NoDevice says = absurd says
+  began slots NoScript says = absurd says
+  began slots ScriptTooLong says = absurd says
+
+  pub says-began : (slots : List Shown) (end : End) → Says slots end → fixed_of sizes ≤ sizes.memory → BeganOrRefused (budget_refusal sizes) end
+  says-began slots end says enough =
+      let none : budget_refusal sizes ≡ None = ap (λ (b : Bool). if b then Some (BudgetTooSmall (fixed_of sizes)) else None) (le-ltb sizes.memory (fixed_of sizes) enough) in
+      let P : Option End → Type 0 = λ r. BeganOrRefused r end in
+      subst P (sym none) (began slots end says)
 
   -- with no fault, and where there is room, the end is done or want of memory, or a file had changed
   says-completed :

@@ -1,9 +1,12 @@
+pub mod Advancing
 pub mod Ending
+pub mod Kept
 pub mod Lengths
+pub mod Loads
 pub mod Pairs
+pub mod Parts
 pub mod Popped
-pub mod Pushed
-pub mod Reading
+pub mod Pushes
 pub mod Results
 pub mod Running
 pub mod Sizes

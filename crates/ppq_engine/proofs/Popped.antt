@@ -14,7 +14,7 @@ use Rattle.ppq_record.specs.Pair.{pair_cmp, pair_same}
 use Rattle.ppq_record.specs.Order.{is_before, Le, Rising}
 use Rattle.ppq_record.specs.Bag.{IsSameBag, ascending, without_front, least, first_of, size_below}
 use Rattle.ppq_record.proofs.Order.{count_by-cons, none_pass, Rising-in_order, in_order-same_bag}
-use Rattle.ppq_record.proofs.Fronts.{ranks, ascending-same_bag, ascending_is}
+use Rattle.ppq_record.proofs.Fronts.{ranks, ascending_is}
 use Rattle.ppq_budget.specs.Sizes.{Numbers, AreInRange, batch_of}
 use Rattle.ppq_outside.specs.Told.{TakesPart}
 use Rattle.ppq_outside.proofs.Takes.{takes_two, takes_and_part, takes_nothing, part_of_more}
@@ -420,9 +420,9 @@ writes-more before now had text more has (Changed line said got) by part = absur
 pub nothing-part : (told : Option (List ℕ)) (had text : List ℕ) → GathersPart told told had text had
 nothing-part told had text = record { part = []; rest = text; all = refl; gathers = gathers-nothing told had }
 
-pub file-part : (told : Option (List ℕ)) (had : List ℕ) (stop : Stop) → IsByFile stop → WritesPart told told had [] had stop
-file-part told had Sink by = absurd by
-file-part told had (Queue fault) by = nothing-part told had []
-file-part told had Read by = gathers-nothing told had
-file-part told had Memory by = gathers-nothing told had
-file-part told had (Changed line said got) by = gathers-nothing told had
+pub file-part : (told : Option (List ℕ)) (had text : List ℕ) (stop : Stop) → IsByFile stop → WritesPart told told had text had stop
+file-part told had text Sink by = absurd by
+file-part told had text (Queue fault) by = nothing-part told had text
+file-part told had text Read by = gathers-nothing told had
+file-part told had text Memory by = gathers-nothing told had
+file-part told had text (Changed line said got) by = gathers-nothing told had

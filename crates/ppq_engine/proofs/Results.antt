@@ -29,3 +29,13 @@ if-some (Some x) P a e h = let same : x ≡ a = cc in subst P same h
 pub on-err : {T E : Type 0} (r : Result T E) (A : Type 0) → A → OnErr r A
 on-err (Ok v) A a = tt
 on-err (Err x) A a = a
+
+-- what holds of a result that is known
+pub at-ok : {T E : Type 0} (r : Result T E) (v : T) (A : Type 0) → r ≡ Ok v → OnOk r A → A
+at-ok {T} {E} r v A e h = let P : Result T E → Type 0 = λ x. OnOk x A in subst P e h
+
+pub at-err : {T E : Type 0} (r : Result T E) (f : E) (P : E → Type 0) → r ≡ Err f → IfErr r P → P f
+at-err {T} {E} r f P e h = let Q : Result T E → Type 0 = λ x. IfErr x P in subst Q e h
+
+pub at-if-ok : {T E : Type 0} (r : Result T E) (v : T) (P : T → Type 0) → r ≡ Ok v → IfOk r P → P v
+at-if-ok {T} {E} r v P e h = let Q : Result T E → Type 0 = λ x. IfOk x P in subst Q e h

@@ -1,6 +1,6 @@
 -- What a run has written, what it has gathered, and how its bag and its load grow with each command.
-use Rattle.std.proofs.Common.{◌≡◌, ℕ, ◌+◌, ◌-◌, ◌<◌, ◌≤◌, List, [], ◌∷◌, ◌++◌, length, take, drop, min, max, Option, Some, None, refl, sym, ap, ap₂, ◌∙◌, subst, arith, append_assoc, append-nil, suc, drop-cons, take-add, take-append-drop}
-use Rattle.std.specs.Prelude.{slice_get, count_by, nat_le, codes, if◌then◌else◌}
+use Rattle.std.proofs.Common.{◌≡◌, true, false, ℕ, ◌+◌, ◌-◌, ◌<◌, ◌≤◌, List, [], ◌∷◌, ◌++◌, length, take, drop, min, max, Option, Some, None, refl, sym, ap, ap₂, ◌∙◌, subst, arith, append_assoc, suc, drop-cons, take-add, take-append-drop}
+use Rattle.std.specs.Prelude.{slice_get, count_by, nat_le, codes, unwrap_or, if◌then◌else◌}
 use Rattle.std.proofs.lemmas.Option.{get_or_from_slice_get}
 use Rattle.ppq_record.specs.declared.pair.Pair.{Pair}
 use Rattle.ppq_record.specs.Pair.{pair_cmp, pair_same}
@@ -12,8 +12,11 @@ use Rattle.ppq_record.proofs.Fronts.{ascending-same_bag}
 use Rattle.ppq_outside.specs.Told.{TakesAll, TakesPart}
 use Rattle.ppq_outside.proofs.Takes.{takes_two, takes_and_part}
 use Rattle.ppq_script.specs.declared.command.Command.{Command}
-use Rattle.ppq_script.specs.declared.command.Command.TheVariants.{Push, Pop, Top, Size, Bulk, Gen, BulkPop, BulkPopLimit, Drain}
-use Rattle.ppq_engine.specs.Output.{least_text, size_text, lines_text, summary_text, limited_count, text_of, after, bag_from, output_from, load_from, bag_of, output_of, load_of, TakesAtLeast}
+use Rattle.ppq_script.specs.declared.command.Command.TheVariants.{Push, Pop, Top, Size, Bulk, Gen, BulkPop, BulkPopLimit, Drain, BulkBegin, BulkPush, BulkEnd}
+use Rattle.ppq_script.specs.declared.session.Session.{Session}
+use Rattle.ppq_script.specs.declared.session.Session.TheVariants.{Outside}
+use Rattle.ppq_script.specs.Sessions.{turn_of, is_outside}
+use Rattle.ppq_engine.specs.Output.{least_text, size_text, lines_text, summary_text, limited_count, text_of, after, bag_from, output_from, load_from, crest_from, bag_of, output_of, load_of, crest_of, TakesAtLeast}
 use Rattle.ppq_engine.specs.Gathers.{Gathers}
 use Rattle.ppq_engine.specs.Running.{IsGathered}
 use Rattle.ppq_engine.proofs.Pairs.{pair_total}
@@ -26,7 +29,7 @@ same_count : (one other : List Pair) (limit : Pair) (count : ℕ) → IsSameBag 
 same_count one other limit count same = ap (λ (n : ℕ). min count n) (same (λ x. is_before pair_cmp x limit))
 
 -- equal bags print the same, and stay equal
-pub text-same_bag : (one other : List Pair) (command : Command) → IsSameBag one other → text_of one command ≡ text_of other command
+text-same_bag : (one other : List Pair) (command : Command) → IsSameBag one other → text_of one command ≡ text_of other command
 text-same_bag one other (Push item) same = refl
 text-same_bag one other Pop same = ap (λ (q : List Pair). least_text (first_of (take 1 q))) (same_order one other same)
 text-same_bag one other Top same = ap (λ (q : List Pair). least_text (first_of (take 1 q))) (same_order one other same)
@@ -39,12 +42,15 @@ text-same_bag one other (BulkPopLimit limit count) same =
     (ap₂ (λ (n : ℕ) (q : List Pair). lines_text (take n q)) (same_count one other limit count same) (same_order one other same))
     (ap (λ (n : ℕ). if nat_le n count then codes "all\n" else codes "more\n") (same (λ x. is_before pair_cmp x limit)))
 text-same_bag one other (Drain count) same = ap (λ (q : List Pair). summary_text (take count q)) (same_order one other same)
+text-same_bag one other BulkBegin same = refl
+text-same_bag one other (BulkPush pass item) same = refl
+text-same_bag one other BulkEnd same = refl
 
 dropped_same : (one other : List Pair) (n m : ℕ) → n ≡ m → IsSameBag one other → IsSameBag (drop n (ascending pair_cmp one)) (drop m (ascending pair_cmp other))
 dropped_same one other n m e same p = ap₂ (λ (k : ℕ) (q : List Pair). count_by p (drop k q)) e (same_order one other same)
 
 module _ (given : ℕ → List Pair) where
-  pub after-same_bag : (one other : List Pair) (command : Command) → IsSameBag one other → IsSameBag (after given one command) (after given other command)
+  after-same_bag : (one other : List Pair) (command : Command) → IsSameBag one other → IsSameBag (after given one command) (after given other command)
   after-same_bag one other (Push item) same = IsSameBag-cons item one other same
   after-same_bag one other Pop same = dropped_same one other 1 1 refl same
   after-same_bag one other Top same = same
@@ -54,6 +60,19 @@ module _ (given : ℕ → List Pair) where
   after-same_bag one other (BulkPop count) same = dropped_same one other count count refl same
   after-same_bag one other (BulkPopLimit limit count) same = dropped_same one other (limited_count one limit count) (limited_count other limit count) (same_count one other limit count same) same
   after-same_bag one other (Drain count) same = dropped_same one other count count refl same
+  after-same_bag one other BulkBegin same = same
+  after-same_bag one other (BulkPush pass item) same = IsSameBag-cons item one other same
+  after-same_bag one other BulkEnd same = same
+
+  -- the same of several commands
+  pub output_from-same_bag : (one other : List Pair) (cs : List Command) → IsSameBag one other → output_from given one cs ≡ output_from given other cs
+  output_from-same_bag one other [] same = refl
+  output_from-same_bag one other (c ∷ cs) same =
+      ap₂ (λ (t u : List ℕ). t ++ u) (text-same_bag one other c same) (output_from-same_bag (after given one c) (after given other c) cs (after-same_bag one other c same))
+
+  pub bag_from-same_bag : (one other : List Pair) (cs : List Command) → IsSameBag one other → IsSameBag (bag_from given one cs) (bag_from given other cs)
+  bag_from-same_bag one other [] same = same
+  bag_from-same_bag one other (c ∷ cs) same = bag_from-same_bag (after given one c) (after given other c) cs (after-same_bag one other c same)
 
   -- commands behind others
   pub bag_from-append : (bag : List Pair) (cs ds : List Command) → bag_from given bag (cs ++ ds) ≡ bag_from given (bag_from given bag cs) ds
@@ -70,7 +89,7 @@ module _ (given : ℕ → List Pair) where
   load_from-append bag (c ∷ cs) ds = omega (arith, load_from-append (after given bag c) cs ds)
 
   -- a bag is no larger than the load, or than the bag before
-  bag-le-load : (bag : List Pair) (cs : List Command) → length (bag_from given bag cs) ≤ max (length bag) (load_from given bag cs)
+  pub bag-le-load : (bag : List Pair) (cs : List Command) → length (bag_from given bag cs) ≤ max (length bag) (load_from given bag cs)
   bag-le-load bag [] = omega arith
   bag-le-load bag (c ∷ cs) = omega (arith, bag-le-load (after given bag c) cs)
 
@@ -94,21 +113,25 @@ module _ (given : ℕ → List Pair) where
   pub load-take_all : (k : ℕ) (cs : List Command) → load_of given (take k cs) ≤ load_of given cs
   load-take_all k cs = omega (arith, ap (load_of given) (take-append-drop k cs), load_from-append given [] (take k cs) (drop k cs))
 
-  pub output-next : (cs : List Command) (c : Command) → output_of given (cs ++ c ∷ []) ≡ output_of given cs ++ text_of (bag_of given cs) c
-  output-next cs c = output_from-append given [] cs (c ∷ []) ∙ ap (λ (t : List ℕ). output_of given cs ++ t) (append-nil (text_of (bag_of given cs) c))
+  -- the output is that of the first commands, of a part behind them, and of the rest
+  pub output-around : (commands first part rest : List Command) → commands ≡ (first ++ part) ++ rest
+      → output_of given commands ≡ (output_of given first ++ output_from given (bag_of given first) part) ++ output_from given (bag_of given (first ++ part)) rest
+  output-around commands first part rest e =
+      ap (output_of given) e ∙ output_from-append given [] (first ++ part) rest
+      ∙ ap (λ (t : List ℕ). t ++ output_from given (bag_of given (first ++ part)) rest) (output_from-append given [] first part)
 
-  pub bag-next : (cs : List Command) (c : Command) → bag_of given (cs ++ c ∷ []) ≡ after given (bag_of given cs) c
-  bag-next cs c = bag_from-append given [] cs (c ∷ [])
+  -- the crest is no more than the load
+  crest-le-load : (bag : List Pair) (session : Session) (cs : List Command) → crest_from given bag session cs ≤ load_from given bag cs
+  crest-le-load bag session [] = omega arith
+  crest-le-load bag session (c ∷ cs) =
+      let behind = unwrap_or (turn_of c) session in
+      elim (is_outside behind) as (λ b. max (if b then length (after given bag c) else 0) (crest_from given (after given bag c) behind cs) ≤ load_from given bag (c ∷ cs)) [
+        | true ↦ omega (arith, crest-le-load (after given bag c) behind cs)
+        | false ↦ omega (arith, crest-le-load (after given bag c) behind cs)
+      ]
 
-  pub load-next : (cs : List Command) (c : Command) → load_of given (cs ++ c ∷ []) ≡ max (load_of given cs) (length (after given (bag_of given cs) c))
-  load-next cs c = omega (arith, load_from-append given [] cs (c ∷ []))
-
-  -- the output is that of the first commands, the text of the next, and the rest
-  pub output-around : (commands : List Command) (i : ℕ) (command : Command) → i < length commands → slice_get commands i ≡ Some command
-      → output_of given commands ≡ (output_of given (take i commands) ++ text_of (bag_of given (take i commands)) command) ++ output_from given (bag_of given (take (i + 1) commands)) (drop (i + 1) commands)
-  output-around commands i command h e =
-      ap (output_of given) (sym (take-append-drop (i + 1) commands)) ∙ output_from-append given [] (take (i + 1) commands) (drop (i + 1) commands)
-      ∙ ap (λ (t : List ℕ). t ++ output_from given (bag_of given (take (i + 1) commands)) (drop (i + 1) commands)) (ap (output_of given) (take-next commands i command h e) ∙ output-next (take i commands) command)
+  pub crest_of-le : (cs : List Command) → crest_of given cs ≤ load_of given cs
+  crest_of-le cs = crest-le-load [] Outside cs
 
 -- one text more
 pub gathered-more :

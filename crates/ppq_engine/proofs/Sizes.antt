@@ -1,16 +1,17 @@
 -- How the size of a bag, its greatest size, and the room for it follow from commands.
-use Rattle.std.proofs.Common.{◌≡◌, ℕ, ◌+◌, ◌-◌, ◌<◌, ◌≤◌, List, [], ◌∷◌, ◌++◌, length, take, drop, max, Some, refl, sym, ap, subst, arith, inl, inr, take-append-drop}
-use Rattle.std.specs.Prelude.{slice_get}
+use Rattle.std.proofs.Common.{◌≡◌, ℕ, ◌+◌, ◌-◌, ◌<◌, ◌≤◌, List, [], ◌∷◌, ◌++◌, take, drop, max, refl, ap, arith, inl, inr, take-append-drop}
 use Rattle.std.proofs.lemmas.Nat.{le-div}
 use Rattle.std.proofs.Math.Nat.{div-mul-le_self, mul-le-mul_left}
 use Rattle.ppq_outside.specs.Shown.{Shown}
 use Rattle.ppq_budget.specs.Sizes.{Numbers, blocks_for, room_of}
 use Rattle.ppq_array.specs.Kept.{all_writes}
 use Rattle.ppq_script.specs.declared.command.Command.{Command}
-use Rattle.ppq_script.specs.declared.command.Command.TheVariants.{Push, Pop, Top, Size, Bulk, Gen, BulkPop, BulkPopLimit, Drain}
-use Rattle.ppq_engine.specs.Loads.{none_go, all_go, size_after, size_from, greatest_from, most_of, least_of, HasRoom, IsTooMuch, FitsWritten}
-use Rattle.ppq_engine.specs.Running.{HasSizes, IsRefusedBy}
-use Rattle.ppq_engine.proofs.Running.{take-fewer, take-next}
+use Rattle.ppq_script.specs.declared.command.Command.TheVariants.{Push, Pop, Top, Size, Bulk, Gen, BulkPop, BulkPopLimit, Drain, BulkBegin, BulkPush, BulkEnd}
+use Rattle.ppq_load.specs.Refusal.{HasRoom, IsTooMuch, IsRefusedBy}
+use Rattle.ppq_engine.specs.Loads.{none_go, all_go, size_after, size_from, greatest_from, most_of, least_of, FitsWritten}
+use Rattle.ppq_engine.specs.Running.{HasSizes}
+use Rattle.ppq_engine.proofs.Parts.{IsPart, part-greatest}
+use Rattle.ppq_engine.proofs.Running.{take-fewer}
 use Rattle.ppq_queue.specs.declared.fault.QueueFault.{QueueFault}
 use Rattle.ppq_queue.specs.declared.fault.QueueFault.TheVariants.{NoFreeBlock, Device}
 
@@ -23,11 +24,10 @@ module _ (leaves : ℕ → ℕ → ℕ) where
   greatest_from-append size [] ds = omega arith
   greatest_from-append size (c ∷ cs) ds = omega (arith, greatest_from-append (size_after leaves size c) cs ds)
 
-  size-next : (cs : List Command) (c : Command) → size_from leaves 0 (cs ++ c ∷ []) ≡ size_after leaves (size_from leaves 0 cs) c
-  size-next cs c = size_from-append 0 cs (c ∷ [])
-
-  greatest-next : (cs : List Command) (c : Command) → greatest_from leaves 0 (cs ++ c ∷ []) ≡ max (greatest_from leaves 0 cs) (size_after leaves (size_from leaves 0 cs) c)
-  greatest-next cs c = omega (arith, greatest_from-append 0 cs (c ∷ []))
+  -- the last size is no more than the greatest, or than the size before
+  size-le-greatest : (size : ℕ) (cs : List Command) → size_from leaves size cs ≤ max size (greatest_from leaves size cs)
+  size-le-greatest size [] = omega arith
+  size-le-greatest size (c ∷ cs) = omega (arith, size-le-greatest (size_after leaves size c) cs)
 
   greatest-take : (k j : ℕ) (cs : List Command) → k ≤ j → greatest_from leaves 0 (take k cs) ≤ greatest_from leaves 0 (take j cs)
   greatest-take k j cs h = omega (arith, ap (greatest_from leaves 0) (take-fewer k j cs h), greatest_from-append 0 (take k cs) (take (j - k) (drop k cs)))
@@ -46,6 +46,13 @@ none_go-mono m n (Gen seed count) h = omega arith
 none_go-mono m n (BulkPop count) h = omega arith
 none_go-mono m n (BulkPopLimit limit count) h = h
 none_go-mono m n (Drain count) h = omega arith
+none_go-mono m n BulkBegin h = h
+none_go-mono m n (BulkPush pass item) h = omega arith
+none_go-mono m n BulkEnd h = h
+
+none_go-mono_from : (m n : ℕ) (cs : List Command) → m ≤ n → size_from none_go m cs ≤ size_from none_go n cs
+none_go-mono_from m n [] h = h
+none_go-mono_from m n (c ∷ cs) h = none_go-mono_from (size_after none_go m c) (size_after none_go n c) cs (none_go-mono m n c h)
 
 all_go-mono : (m n : ℕ) (c : Command) → m ≤ n → size_after all_go m c ≤ size_after all_go n c
 all_go-mono m n (Push item) h = omega arith
@@ -57,6 +64,13 @@ all_go-mono m n (Gen seed count) h = omega arith
 all_go-mono m n (BulkPop count) h = omega arith
 all_go-mono m n (BulkPopLimit limit count) h = omega arith
 all_go-mono m n (Drain count) h = omega arith
+all_go-mono m n BulkBegin h = h
+all_go-mono m n (BulkPush pass item) h = omega arith
+all_go-mono m n BulkEnd h = h
+
+all_go-mono_from : (m n : ℕ) (cs : List Command) → m ≤ n → size_from all_go m cs ≤ size_from all_go n cs
+all_go-mono_from m n [] h = h
+all_go-mono_from m n (c ∷ cs) h = all_go-mono_from (size_after all_go m c) (size_after all_go n c) cs (all_go-mono m n c h)
 
 -- more writes hold as many records, and what holds more records holds fewer
 pub fits-more : (size : ℕ) (sizes : Numbers) (slots later : List Shown) → FitsWritten size sizes slots → all_writes slots ≤ all_writes later → FitsWritten size sizes later
@@ -65,36 +79,29 @@ fits-more size sizes slots later fits more = omega (arith, mul-le-mul_left sizes
 pub sizes-begin : (size peak : ℕ) (sizes : Numbers) (slots : List Shown) (commands : List Command) → size ≡ 0 → peak ≡ 0 → HasSizes size peak sizes slots (take 0 commands)
 sizes-begin size peak sizes slots commands e f = record { low = omega arith; high = omega arith; highest = omega arith; crest = omega arith }
 
-sizes-more :
-    (size next peak higher : ℕ) (sizes : Numbers) (slots later : List Shown) (cs : List Command) (c : Command)
-    → HasSizes size peak sizes slots cs → size_after all_go size c ≤ next → next ≤ size_after none_go size c → higher ≤ max peak (size_after none_go size c) → FitsWritten next sizes later → all_writes slots ≤ all_writes later
-    → HasSizes next higher sizes later (cs ++ c ∷ [])
-sizes-more size next peak higher sizes slots later cs c has low high up fits more =
-    let below = all_go-mono (size_from all_go 0 cs) size c has.low in
-    let above = none_go-mono size (size_from none_go 0 cs) c has.high in
+-- the peak that a part is to reach is no more than the commands can bring
+pub peak-part :
+    (size peak higher : ℕ) (sizes : Numbers) (slots : List Shown) (cs part : List Command)
+    → HasSizes size peak sizes slots cs → higher ≤ max peak (size_from none_go size part) → higher ≤ most_of (cs ++ part)
+peak-part size peak higher sizes slots cs part has up =
+    let all = size_from none_go 0 cs in
+    omega (arith, up, has.highest, none_go-mono_from size all part has.high, size-le-greatest none_go all part, size-le-greatest none_go 0 cs, greatest_from-append none_go 0 cs part)
+
+-- a part more was run
+pub sizes-part :
+    (size next peak higher : ℕ) (sizes : Numbers) (slots later : List Shown) (cs part : List Command) → IsPart part
+    → HasSizes size peak sizes slots cs → size_from all_go size part ≤ next → next ≤ size_from none_go size part → higher ≤ max peak (size_from none_go size part) → FitsWritten next sizes later → all_writes slots ≤ all_writes later
+    → HasSizes next higher sizes later (cs ++ part)
+sizes-part size next peak higher sizes slots later cs part is has low high up fits more =
+    let least = size_from all_go 0 cs in
+    let below = all_go-mono_from least size part has.low in
+    let above = none_go-mono_from size (size_from none_go 0 cs) part has.high in
     record {
-      low = omega (arith, below, low, size-next all_go cs c);
-      high = omega (arith, above, high, size-next none_go cs c);
-      highest = omega (arith, above, up, has.highest, greatest-next none_go cs c);
-      crest = omega (arith, below, low, fits, fits-more (least_of cs) sizes slots later has.crest more, greatest-next all_go cs c);
+      low = omega (arith, below, low, size_from-append all_go 0 cs part);
+      high = omega (arith, above, high, size_from-append none_go 0 cs part);
+      highest = peak-part size peak higher sizes slots cs part has up;
+      crest = omega (arith, below, low, fits, fits-more (least_of cs) sizes slots later has.crest more, part-greatest all_go least part is, greatest_from-append all_go 0 cs part);
     }
-
-pub sizes-step :
-    (size next peak higher : ℕ) (sizes : Numbers) (slots later : List Shown) (commands : List Command) (i : ℕ) (command : Command)
-    → i < length commands → slice_get commands i ≡ Some command
-    → HasSizes size peak sizes slots (take i commands) → size_after all_go size command ≤ next → next ≤ size_after none_go size command → higher ≤ max peak (size_after none_go size command) → FitsWritten next sizes later → all_writes slots ≤ all_writes later
-    → HasSizes next higher sizes later (take (i + 1) commands)
-sizes-step size next peak higher sizes slots later commands i command h e has low high up fits more =
-    let P : List Command → Type 0 = λ cs. HasSizes next higher sizes later cs in
-    subst P (sym (take-next commands i command h e)) (sizes-more size next peak higher sizes slots later (take i commands) command has low high up fits more)
-
--- a peak that a refused command was to reach is no more than the commands can bring
-pub peak-next :
-    (size peak higher : ℕ) (sizes : Numbers) (slots : List Shown) (commands : List Command) (i : ℕ) (command : Command)
-    → i < length commands → slice_get commands i ≡ Some command
-    → HasSizes size peak sizes slots (take i commands) → higher ≤ max peak (size_after none_go size command) → higher ≤ most_of (take (i + 1) commands)
-peak-next size peak higher sizes slots commands i command h e has up =
-    omega (arith, up, has.highest, none_go-mono size (size_from none_go 0 (take i commands)) command has.high, ap most_of (take-next commands i command h e), greatest-next none_go (take i commands) command)
 
 -- a greater load wants no fewer blocks
 room-more : (sizes : Numbers) (load more : ℕ) → 0 < sizes.block → load ≤ more → room_of sizes load ≤ room_of sizes more

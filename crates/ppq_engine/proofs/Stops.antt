@@ -1,5 +1,5 @@
 -- What stands where commands did not all run, and what the end then says.
-use Rattle.std.proofs.Common.{◌≡◌, ℕ, ◌+◌, ◌-◌, ◌<◌, ◌≤◌, List, [], ◌++◌, length, take, drop, max, Option, Some, refl, sym, ap, ◌∙◌, subst, arith, inl, inr, append_assoc, append-nil}
+use Rattle.std.proofs.Common.{◌≡◌, ℕ, ◌+◌, ◌-◌, ◌<◌, ◌≤◌, List, [], ◌++◌, length, take, drop, max, Option, Some, refl, sym, ap, ◌∙◌, subst, arith, inl, inr, append_assoc, append-nil, take-append-drop}
 use Rattle.std.specs.Prelude.{slice_get}
 use Rattle.std.proofs.lemmas.Bool.{cases_lt}
 use Rattle.ppq_record.specs.declared.pair.Pair.{Pair}
@@ -8,20 +8,26 @@ use Rattle.ppq_outside.specs.Told.{Reply, TakesAll, TakesPart}
 use Rattle.ppq_outside.proofs.Takes.{part_of_more, all_is_part}
 use Rattle.ppq_budget.specs.Sizes.{Numbers}
 use Rattle.ppq_script.specs.declared.command.Command.{Command}
-use Rattle.ppq_script.specs.Reading.{Reading, command_list}
-use Rattle.ppq_engine.specs.Loads.{none_go, size_after, most_of, IsTooMuch}
-use Rattle.ppq_engine.specs.Output.{text_of, bag_of, output_of, output_from, load_of, given_of, AreFilesOf, TakesAtLeast, TakesWithin}
-use Rattle.ppq_engine.specs.Running.{HasRun, HasSizes, IsCut, IsBeforeFile, HasStopped, WritesPart, IsOfFile, StopsFor, ChangedIn, SinkAfter, LibraryAfter, queue_end}
+use Rattle.ppq_script.specs.Reading.{Reading, command_list, line_list}
+use Rattle.ppq_load.specs.Refusal.{IsTooMuch}
+use Rattle.ppq_script.specs.declared.command.Command.TheVariants.{Bulk}
+use Rattle.ppq_script.specs.Files.{name_at}
+use Rattle.ppq_engine.specs.Files.{IsByFile, IsBySession, EndsEarly}
+use Rattle.ppq_engine.specs.Loads.{IsLoad, none_go, size_from, most_of}
+use Rattle.ppq_engine.specs.Output.{bag_of, output_of, output_from, load_of, given_of, AreFilesOf, TakesAtLeast, TakesWithin}
+use Rattle.ppq_engine.specs.Running.{HasRun, HasSizes, IsCut, IsBeforeFile, IsBeforeLoad, HasStopped, WritesPart, IsOfFile, StopsFor, ChangedIn, SinkAfter, LibraryAfter, queue_end}
 use Rattle.ppq_engine.specs.Popping.{NotByFile}
-use Rattle.ppq_engine.specs.Outcome.{EndSays, TakesBeforeFile, FaultBeforeFile, PutsStopped, PutsRest}
+use Rattle.ppq_engine.specs.Outcome.{EndSays, TakesBeforeFile, TakesBeforeLoad, FaultBeforeFile, PutsStopped, PutsRest}
 use Rattle.ppq_engine.specs.declared.end.End.{End}
 use Rattle.ppq_engine.specs.declared.end.End.TheVariants as end
 use Rattle.ppq_engine.specs.declared.stop.Stop.{Stop}
 use Rattle.ppq_engine.specs.declared.stop.Stop.TheVariants.{Sink, Queue, Read, Memory, Changed}
 use Rattle.ppq_queue.specs.declared.fault.QueueFault.TheVariants.{NoFreeBlock, Device}
-use Rattle.ppq_engine.proofs.Running.{take-fewer, output_from-append, output-around, load-take, load-take_all, text-same_bag, gathered-all, gathered-part, part-behind, at_least}
-use Rattle.ppq_engine.proofs.Sizes.{peak-next, too_much-more, cause-more, greatest-take_all, no_room}
-use Rattle.ppq_engine.proofs.Steps.{HasLength, peak-step, run-cut}
+use Rattle.ppq_engine.specs.Gathers.{Gathers}
+use Rattle.ppq_engine.proofs.Parts.{IsPart, part-quiet, take-part_of}
+use Rattle.ppq_engine.proofs.Running.{take-fewer, output_from-append, output_from-same_bag, output-around, load-take, load-take_all, gathered-all, gathered-part, part-behind, at_least}
+use Rattle.ppq_engine.proofs.Sizes.{peak-part, too_much-more, cause-more, greatest-take_all, no_room}
+use Rattle.ppq_engine.proofs.Steps.{HaveLengths, peak-run, run-cut}
 
 -- a cut output: what is put of it is a part of all, or the output of the first commands
 pub cut-part : (given : ℕ → List Pair) (before mid now : Option (List ℕ)) (had : List ℕ) (commands : List Command) (done : ℕ) (part : List ℕ) → IsCut given before mid had commands done part → TakesPart mid now had → TakesPart before now (output_of given commands)
@@ -54,58 +60,93 @@ cut-within given before mid now had sizes commands done part some cut took much 
       | inl h ↦ absurd (no_room sizes (load_of given (take k commands)) (too_much-more sizes (load_of given (take (done + 1) commands)) (load_of given (take k commands)) some (load-take given (done + 1) k commands (omega arith)) much) room)
     ]
 
+around : (commands : List Command) (i : ℕ) (part : List Command) → take (i + length part) commands ≡ take i commands ++ part → commands ≡ (take i commands ++ part) ++ drop (i + length part) commands
+around commands i part split = sym (take-append-drop (i + length part) commands) ∙ ap (λ (cs : List Command). cs ++ drop (i + length part) commands) split
+
+-- the last command of a part is the only one that prints
+before-last :
+    (given : ℕ → List Pair) (commands : List Command) (i : ℕ) (part : List Command) → IsPart part → take (i + length part) commands ≡ take i commands ++ part → 0 < length part
+    → output_of given (take ((i + length part) - 1) commands) ≡ output_of given (take i commands)
+before-last given commands i part is split some =
+    let n = length part - 1 in
+    let first = take i commands in
+    let fewer : (i + length part) - 1 ≡ i + n = omega (arith, some) in
+    let same : take (i + n) commands ≡ first ++ take n part = take-part_of commands i n part split (omega (arith, some)) in
+    ap (λ (m : ℕ). output_of given (take m commands)) fewer ∙ ap (output_of given) same ∙ output_from-append given [] first (take n part)
+    ∙ ap (λ (t : List ℕ). output_of given first ++ t) (part-quiet given (bag_of given first) part n is (omega (arith, some))) ∙ append-nil (output_of given first)
+
 module _ (told : Option (List ℕ → Option (List ℕ))) (script : Reading) (first : List Shown) (before : Option (List ℕ)) where
-  -- the command at a place did not run to its end
-  pub stopped-step :
-      (stop : Stop) (mid now : Option (List ℕ)) (had has : List ℕ) (bag : List Pair) (size peak higher : ℕ) (sizes : Numbers) (slots later : List Shown) (i : ℕ) (command : Command)
-      → i < length (command_list script) → slice_get (command_list script) i ≡ Some command → 0 < sizes.block
-      → ((files : List ℕ → Option (List ℕ)) → AreFilesOf told script files → HasLength (given_of files script) command)
+  -- nothing of a part is gathered
+  begun :
+      (mid now : Option (List ℕ)) (had has : List ℕ) (bag : List Pair) (size peak : ℕ) (sizes : Numbers) (slots : List Shown) (i : ℕ) (part : List Command) → take (i + length part) (command_list script) ≡ take i (command_list script) ++ part
+      → (given : ℕ → List Pair) → HasRun given before mid had bag size peak sizes slots (take i (command_list script)) → Gathers mid now had [] has → IsCut given before now has (command_list script) i []
+  begun mid now had has bag size peak sizes slots i part split given run step =
+      let commands = command_list script in
+      run-cut given before mid now had has bag size peak sizes slots commands (take i commands) part (drop (i + length part) commands) i [] (output_from given bag part) (around commands i part split) refl run refl step
+
+  -- the part at a place did not run to its end
+  pub stopped-part :
+      (stop : Stop) (mid now : Option (List ℕ)) (had has : List ℕ) (bag : List Pair) (size peak : ℕ) (sizes : Numbers) (slots later : List Shown) (i : ℕ) (command : Command) (part : List Command)
+      → IsPart part → slice_get (command_list script) i ≡ Some command → take (i + length part) (command_list script) ≡ take i (command_list script) ++ part → 0 < length part → 0 < sizes.block
+      → ((files : List ℕ → Option (List ℕ)) → AreFilesOf told script files → HaveLengths (given_of files script) part)
       → (AllTell first → (files : List ℕ → Option (List ℕ)) → AreFilesOf told script files → HasRun (given_of files script) before mid had bag size peak sizes slots (take i (command_list script)))
-      → HasSizes size peak sizes slots (take i (command_list script)) → higher ≤ max peak (size_after none_go size command)
-      → (AllTell first → WritesPart mid now had (text_of bag command) has stop) → StopsFor higher sizes later stop → IsOfFile command stop
+      → HasSizes size peak sizes slots (take i (command_list script))
+      → (AllTell first → (given : ℕ → List Pair) → WritesPart mid now had (output_from given bag part) has stop) → StopsFor (max peak (size_from none_go size part)) sizes later stop → IsOfFile command stop
       → HasStopped told script first before now has sizes later stop
-  stopped-step Sink mid now had has bag size peak higher sizes slots later i command h e some long run sized up part refused of_file = λ tells files is.
+  stopped-part Sink mid now had has bag size peak sizes slots later i command part is here split some block long run sized wrote refused of_file = λ tells files are.
       let given = given_of files script in
       let commands = command_list script in
-      let ran = run tells files is in
+      let cs = take i commands in
+      let ran = run tells files are in
       let P : List ℕ → Type 0 = λ t. TakesPart before now t in
-      let out = output_of given (take i commands) in
-      let here : out ++ text_of bag command ≡ out ++ text_of (bag_of given (take i commands)) command = ap (λ (t : List ℕ). out ++ t) (text-same_bag bag (bag_of given (take i commands)) command ran.holds) in
-      subst P (sym (output-around given commands i command h e))
-      (part_of_more before now (out ++ text_of (bag_of given (take i commands)) command) (output_from given (bag_of given (take (i + 1) commands)) (drop (i + 1) commands))
-      (subst P here (part-behind before mid now had out (text_of bag command) ran.output (part tells))))
-  stopped-step (Queue fault) mid now had has bag size peak higher sizes slots later i command h e some long run sized up part refused of_file = record {
-    done = i;
-    cut =
-        λ tells files is.
-        let g = part tells in
-        (g.part, run-cut (given_of files script) before mid now had has bag size peak sizes slots (command_list script) i command g.part g.rest h e (run tells files is) g.all g.gathers);
-    cause =
-        λ tells files is.
-        cause-more sizes later higher (load_of (given_of files script) (take (i + 1) (command_list script))) fault some
-        (peak-step (given_of files script) before mid had bag size peak higher sizes slots (command_list script) i command h e (run tells files is) (long files is) up) refused;
-    any = cause-more sizes later higher (most_of (take (i + 1) (command_list script))) fault some (peak-next size peak higher sizes slots (command_list script) i command h e sized up) refused;
-  }
-  stopped-step Read mid now had has bag size peak higher sizes slots later i command h e some long run sized up part refused of_file = record {
-    done = i;
-    file = of_file.0;
-    size = of_file.1.0;
-    here = e ∙ ap (λ (c : Command). Some c) of_file.1.1;
-    cut = λ tells files is. run-cut (given_of files script) before mid now had has bag size peak sizes slots (command_list script) i command [] (text_of bag command) h e (run tells files is) refl (part tells);
-  }
-  stopped-step Memory mid now had has bag size peak higher sizes slots later i command h e some long run sized up part refused of_file = record {
-    done = i;
-    file = of_file.0;
-    size = of_file.1.0;
-    here = e ∙ ap (λ (c : Command). Some c) of_file.1.1;
-    cut = λ tells files is. run-cut (given_of files script) before mid now had has bag size peak sizes slots (command_list script) i command [] (text_of bag command) h e (run tells files is) refl (part tells);
-  }
-  stopped-step (Changed line said got) mid now had has bag size peak higher sizes slots later i command h e some long run sized up part refused of_file = record {
+      let out = output_of given cs in
+      let same : out ++ output_from given bag part ≡ out ++ output_from given (bag_of given cs) part = ap (λ (t : List ℕ). out ++ t) (output_from-same_bag given bag (bag_of given cs) part ran.holds) in
+      subst P (sym (output-around given commands cs part (drop (i + length part) commands) (around commands i part split)))
+      (part_of_more before now (out ++ output_from given (bag_of given cs) part) (output_from given (bag_of given (cs ++ part)) (drop (i + length part) commands))
+      (subst P same (part-behind before mid now had out (output_from given bag part) ran.output (wrote tells given))))
+  stopped-part (Queue fault) mid now had has bag size peak sizes slots later i command part is here split some block long run sized wrote refused of_file =
+      let commands = command_list script in
+      let cs = take i commands in
+      let last = (i + length part) - 1 in
+      let next : last + 1 ≡ i + length part = omega (arith, some) in
+      let all : take (last + 1) commands ≡ cs ++ part = ap (λ (n : ℕ). take n commands) next ∙ split in
+      let higher = max peak (size_from none_go size part) in
+      record {
+        done = last;
+        cut =
+            λ tells files are.
+            let given = given_of files script in
+            let g = wrote tells given in
+            (g.part, run-cut given before mid now had has bag size peak sizes slots commands cs part (drop (i + length part) commands) last g.part g.rest (around commands i part split) (before-last given commands i part is split some) (run tells files are) g.all g.gathers);
+        cause =
+            λ tells files are.
+            let given = given_of files script in
+            cause-more sizes later higher (load_of given (take (last + 1) commands)) fault block
+            (subst (λ (xs : List Command). higher ≤ load_of given xs) (sym all) (peak-run given before mid had bag size peak higher sizes slots cs part is (run tells files are) (long files are) (omega arith))) refused;
+        any =
+            cause-more sizes later higher (most_of (take (last + 1) commands)) fault block
+            (subst (λ (xs : List Command). higher ≤ most_of xs) (sym all) (peak-part size peak higher sizes slots cs part sized (omega arith))) refused;
+      }
+  stopped-part Read mid now had has bag size peak sizes slots later i command part is here split some block long run sized wrote refused of_file = record {
     done = i;
     file = of_file.0;
     size = of_file.1.0;
-    here = e ∙ ap (λ (c : Command). Some c) of_file.1.1;
-    cut = λ tells files is. run-cut (given_of files script) before mid now had has bag size peak sizes slots (command_list script) i command [] (text_of bag command) h e (run tells files is) refl (part tells);
+    here = here ∙ ap (λ (c : Command). Some c) of_file.1.1;
+    cut = λ tells files are. begun mid now had has bag size peak sizes slots i part split (given_of files script) (run tells files are) (wrote tells (given_of files script));
+  }
+  stopped-part Memory mid now had has bag size peak sizes slots later i command part is here split some block long run sized wrote refused of_file = record {
+    done = i;
+    command = command;
+    here = here;
+    loads = of_file;
+    cut = λ tells files are. begun mid now had has bag size peak sizes slots i part split (given_of files script) (run tells files are) (wrote tells (given_of files script));
+  }
+  stopped-part (Changed line said got) mid now had has bag size peak sizes slots later i command part is here split some block long run sized wrote refused of_file = record {
+    done = i;
+    file = of_file.0;
+    size = of_file.1.0;
+    here = here ∙ ap (λ (c : Command). Some c) of_file.1.1;
+    cut = λ tells files are. begun mid now had has bag size peak sizes slots i part split (given_of files script) (run tells files are) (wrote tells (given_of files script));
   }
 
   -- what was put is a part of the output
@@ -129,6 +170,16 @@ module _ (told : Option (List ℕ → Option (List ℕ))) (script : Reading) (fi
   part-stopped Memory mid now sink sink_now had sizes slots over stopped puts = λ tells files is. rest-part mid now sink sink_now had end.Memory over (given_of files script) stopped.done [] puts (stopped.cut tells files is)
   part-stopped (Changed line said got) mid now sink sink_now had sizes slots over stopped puts =
       λ tells files is. rest-part mid now sink sink_now had (end.FileChanged line said got) over (given_of files script) stopped.done [] puts (stopped.cut tells files is)
+
+  -- what was put is the output of the commands before one that adds many records
+  before-load : (mid now : Option (List ℕ)) (had : List ℕ) → IsBeforeLoad told script first before mid had → TakesAll mid now had → TakesBeforeLoad told script first before now
+  before-load mid now had stopped took = record {
+    done = stopped.done;
+    command = stopped.command;
+    here = stopped.here;
+    loads = stopped.loads;
+    took = λ tells files is. cut-all (given_of files script) before mid now had (command_list script) stopped.done (stopped.cut tells files is) took;
+  }
 
   -- what was put is the output of the commands before one that reads a file
   before-file : (mid now : Option (List ℕ)) (had : List ℕ) → IsBeforeFile told script first before mid had → TakesAll mid now had → TakesBeforeFile told script first before now
@@ -202,7 +253,7 @@ module _ (told : Option (List ℕ → Option (List ℕ))) (script : Reading) (fi
   says-stopped Memory replied slots sizes mid now sink sink_mid sink_now library library_now had over some stopped changed after library_after puts =
       rest-says replied slots sizes mid now sink sink_mid sink_now library library_now had end.Memory over puts after
       (λ took same. (
-        inr (before-file mid now had stopped took),
+        inr (before-load mid now had stopped took),
         record { sink_same = same; library_same = library_after },
       ))
   says-stopped (Changed line said got) replied slots sizes mid now sink sink_mid sink_now library library_now had over some stopped changed after library_after puts =
@@ -229,3 +280,74 @@ library_unasked count (Queue fault) by = refl
 library_unasked count Read by = absurd by
 library_unasked count Memory by = absurd by
 library_unasked count (Changed line said got) by = absurd by
+
+-- a stop by a session says nothing of files, and leaves sink and library alone
+pub session_of_file : (command : Command) (stop : Stop) → IsLoad command → IsBySession stop → IsOfFile command stop
+session_of_file command Sink loads by = absurd by
+session_of_file command (Queue fault) loads by = tt
+session_of_file command Read loads by = absurd by
+session_of_file command Memory loads by = loads
+session_of_file command (Changed line said got) loads by = absurd by
+
+pub session_not_changed : (told : Option (List ℕ → Option (List ℕ))) (replied : Reply → Type 0) (script : Reading) (stop : Stop) → IsBySession stop → ChangedIn told replied script stop
+session_not_changed told replied script Sink by = absurd by
+session_not_changed told replied script (Queue fault) by = tt
+session_not_changed told replied script Read by = absurd by
+session_not_changed told replied script Memory by = tt
+session_not_changed told replied script (Changed line said got) by = absurd by
+
+pub session_unasked : (count : ℕ) (stop : Stop) → IsBySession stop → LibraryAfter count count stop
+session_unasked count Sink by = absurd by
+session_unasked count (Queue fault) by = refl
+session_unasked count Read by = absurd by
+session_unasked count Memory by = refl
+session_unasked count (Changed line said got) by = absurd by
+
+pub session_by_file : (stop : Stop) → IsBySession stop → IsByFile stop
+session_by_file Sink by = absurd by
+session_by_file (Queue fault) by = tt
+session_by_file Read by = absurd by
+session_by_file Memory by = tt
+session_by_file (Changed line said got) by = absurd by
+
+-- a stop by reading a file comes of the command that reads it, and leaves the sink alone
+pub file_of_file : (file size : ℕ) (stop : Stop) → IsOfFile (Bulk file size) stop
+file_of_file file size Sink = tt
+file_of_file file size (Queue fault) = tt
+file_of_file file size Read = (file, (size, refl))
+file_of_file file size Memory = tt
+file_of_file file size (Changed line said got) = (file, (size, refl))
+
+pub file_unput : (count : ℕ) (stop : Stop) → IsByFile stop → SinkAfter count count stop
+file_unput count Sink by = absurd by
+file_unput count (Queue fault) by = refl
+file_unput count Read by = refl
+file_unput count Memory by = refl
+file_unput count (Changed line said got) by = refl
+
+pub file_changed :
+    (told : Option (List ℕ → Option (List ℕ))) (replied : Reply → Type 0) (script : Reading) (at file said line : ℕ) (stop : Stop) → slice_get (command_list script) at ≡ Some (Bulk file said) → slice_get (line_list script) at ≡ Some line
+    → EndsEarly told replied (name_at script.names file) line said stop → ChangedIn told replied script stop
+file_changed told replied script at file said line Sink here there ends = tt
+file_changed told replied script at file said line (Queue fault) here there ends = tt
+file_changed told replied script at file said line Read here there ends = tt
+file_changed told replied script at file said line Memory here there ends = tt
+file_changed told replied script at file said line (Changed one size got) here there ends =
+    let early = ends.1.1 in
+    record {
+      at = at;
+      file = file;
+      here = here ∙ ap (λ (n : ℕ). Some (Bulk file n)) (sym ends.1.0);
+      line_is = there ∙ ap (λ (n : ℕ). Some n) (sym ends.0);
+      before = let P : ℕ → Type 0 = λ n. got < n in subst P (sym ends.1.0) early.before;
+      read = early.read;
+      untold = early.untold;
+    }
+
+-- a greater load is refused for the same reason
+pub stops-more : (sizes : Numbers) (slots : List Shown) (load more : ℕ) (stop : Stop) → 0 < sizes.block → load ≤ more → StopsFor load sizes slots stop → StopsFor more sizes slots stop
+stops-more sizes slots load more Sink some h stops = tt
+stops-more sizes slots load more (Queue fault) some h stops = cause-more sizes slots load more fault some h stops
+stops-more sizes slots load more Read some h stops = tt
+stops-more sizes slots load more Memory some h stops = tt
+stops-more sizes slots load more (Changed line said got) some h stops = tt

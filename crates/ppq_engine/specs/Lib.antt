@@ -1,8 +1,12 @@
+pub use Rattle.ppq_load.specs.Reading as Reading
+pub use Rattle.ppq_load.specs.Refusal as Refusal
 pub mod Ends
 pub mod Files
 pub mod Gathers
 pub mod Loads
 pub mod Outcome
 pub mod Output
+pub mod Parts
 pub mod Popping
+pub mod Pushes
 pub mod Running

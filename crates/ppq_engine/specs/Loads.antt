@@ -1,10 +1,25 @@
--- How many records a script may bring, told by its commands alone, and whether there is room for them.
-use Rattle.std.specs.Prelude.{◌⊎◌, ◌<◌, ◌≤◌, ◌+◌, ◌-◌, ◌*◌, ◌/◌, ℕ, List, [], ◌∷◌, max}
+-- How many records a script may bring, told by its commands alone, and whether they fit.
+use Rattle.std.specs.Prelude.{⊤, ◌≤◌, ◌+◌, ◌-◌, ◌*◌, ◌/◌, ℕ, List, [], ◌∷◌, max}
 use Rattle.ppq_outside.specs.Shown.{Shown}
-use Rattle.ppq_budget.specs.Sizes.{Numbers, heap_of, room_of}
+use Rattle.ppq_budget.specs.Sizes.{Numbers}
 use Rattle.ppq_array.specs.Kept.{all_writes}
 use Rattle.ppq_script.specs.declared.command.Command.{Command}
-use Rattle.ppq_script.specs.declared.command.Command.TheVariants.{Push, Pop, Top, Size, Bulk, Gen, BulkPop, BulkPopLimit, Drain}
+use Rattle.ppq_script.specs.declared.command.Command.TheVariants.{Push, Pop, Top, Size, Bulk, Gen, BulkPop, BulkPopLimit, Drain, BulkBegin, BulkPush, BulkEnd}
+
+-- a command that adds many records, by a session: `bulk`, `gen`, or the first of a session of lines
+abbrev pub IsLoad : Command → Type 0
+IsLoad (Push item) = ⊥
+IsLoad Pop = ⊥
+IsLoad Top = ⊥
+IsLoad Size = ⊥
+IsLoad (Bulk file size) = ⊤
+IsLoad (Gen seed count) = ⊤
+IsLoad (BulkPop count) = ⊥
+IsLoad (BulkPopLimit limit count) = ⊥
+IsLoad (Drain count) = ⊥
+IsLoad BulkBegin = ⊤
+IsLoad (BulkPush pass item) = ⊥
+IsLoad BulkEnd = ⊥
 
 -- how many of so many records are left by `bulk_pop_limit` at the most, and at the least
 abbrev pub none_go : ℕ → ℕ → ℕ
@@ -26,6 +41,9 @@ module _ (leaves : ℕ → ℕ → ℕ) where
   size_after size (BulkPop count) = size - count
   size_after size (BulkPopLimit limit count) = leaves size count
   size_after size (Drain count) = size - count
+  size_after size BulkBegin = size
+  size_after size (BulkPush pass item) = size + 1
+  size_after size BulkEnd = size
 
   -- the size after commands
   abbrev pub size_from : ℕ → List Command → ℕ
@@ -44,14 +62,6 @@ most_of commands = greatest_from none_go 0 commands
 -- a size that the bag of a script has after some command, or passes
 abbrev pub least_of : List Command → ℕ
 least_of commands = greatest_from all_go 0 commands
-
--- a load of so many records fits in one heap, or the device has room for it
-abbrev pub HasRoom : Numbers → ℕ → Type 0
-HasRoom sizes load = (load ≤ heap_of sizes) ⊎ (room_of sizes load ≤ sizes.blocks)
-
--- it does neither
-abbrev pub IsTooMuch : Numbers → ℕ → Type 0
-IsTooMuch sizes load = (heap_of sizes < load) × (sizes.blocks < room_of sizes load)
 
 -- so many records are no more than the budget and a block for each write of these slots
 abbrev pub FitsWritten : ℕ → Numbers → List Shown → Type 0

@@ -5,9 +5,11 @@ use Rattle.ppq_outside.specs.Shown.{Shown, AllTell}
 use Rattle.ppq_outside.specs.Told.{Reply, TakesAll, TakesPart, Rose}
 use Rattle.ppq_budget.specs.Sizes.{Numbers}
 use Rattle.ppq_array.specs.Kept.{HasFailed}
+use Rattle.ppq_script.specs.declared.command.Command.{Command}
 use Rattle.ppq_script.specs.declared.command.Command.TheVariants.{Bulk}
 use Rattle.ppq_script.specs.Reading.{Reading, command_list}
-use Rattle.ppq_engine.specs.Loads.{most_of, least_of, IsTooMuch, FitsWritten}
+use Rattle.ppq_load.specs.Refusal.{IsTooMuch}
+use Rattle.ppq_engine.specs.Loads.{IsLoad, most_of, least_of, FitsWritten}
 use Rattle.ppq_engine.specs.Output.{AreFilesOf, given_of, output_of, load_of, crest_of, TakesWithin}
 use Rattle.ppq_engine.specs.Running.{HasChanged, queue_end}
 use Rattle.ppq_engine.specs.declared.end.End.{End}
@@ -21,6 +23,16 @@ pub record TakesBeforeFile (told : Option (List ℕ → Option (List ℕ))) (scr
   pub file : ℕ
   pub size : ℕ
   pub here : slice_get (command_list script) done ≡ Some (Bulk file size)
+  pub took :
+      AllTell first → (files : List ℕ → Option (List ℕ)) → AreFilesOf told script files
+      → TakesAll before now (output_of (given_of files script) (take done (command_list script)))
+
+-- the sink took the output of the commands before one that adds many records
+pub record TakesBeforeLoad (told : Option (List ℕ → Option (List ℕ))) (script : Reading) (first : List Shown) (before now : Option (List ℕ)) : Type 0 where
+  pub done : ℕ
+  pub command : Command
+  pub here : slice_get (command_list script) done ≡ Some command
+  pub loads : IsLoad command
   pub took :
       AllTell first → (files : List ℕ → Option (List ℕ)) → AreFilesOf told script files
       → TakesAll before now (output_of (given_of files script) (take done (command_list script)))
@@ -74,7 +86,7 @@ EndSays told replied script first slots sizes before now sink sink_now library l
     × CountsStay sink sink_now library library_now
 EndSays told replied script first slots sizes before now sink sink_now library library_now (BudgetTooSmall need) = ⊥
 EndSays told replied script first slots sizes before now sink sink_now library library_now Memory =
-    ((now ≡ before) ⊎ TakesBeforeFile told script first before now) × CountsStay sink sink_now library library_now
+    ((now ≡ before) ⊎ TakesBeforeLoad told script first before now) × CountsStay sink sink_now library library_now
 EndSays told replied script first slots sizes before now sink sink_now library library_now (FileChanged line said got) =
     HasChanged told replied script line said got × CountsStay sink sink_now library library_now
 EndSays told replied script first slots sizes before now sink sink_now library library_now NoDevice = ⊥

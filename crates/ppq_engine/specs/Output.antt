@@ -1,5 +1,5 @@
 -- What a script writes, and how many records its bag comes to hold.
-use Rattle.std.specs.Prelude.{◌≡◌, ◌⊎◌, ◌%◌, ◌^◌, ℕ, List, [], ◌∷◌, ◌++◌, length, take, min, max, Option, Some, None, codes, decimal, flat_map, sum_by, nat_le, if◌then◌else◌, slice_get}
+use Rattle.std.specs.Prelude.{◌≡◌, ◌⊎◌, ◌%◌, ◌^◌, ℕ, List, [], ◌∷◌, ◌++◌, length, take, min, max, Option, Some, None, codes, decimal, flat_map, sum_by, nat_le, if◌then◌else◌, unwrap_or, slice_get}
 use Rattle.ppq_record.specs.declared.pair.Pair.{Pair}
 use Rattle.ppq_record.specs.Pair.{pair_cmp}
 use Rattle.ppq_record.specs.Bag.{least, front, without_front, first_of, size_below}
@@ -7,10 +7,13 @@ use Rattle.ppq_record.specs.Given.{records_of, generated}
 use Rattle.ppq_outside.specs.Told.{bytes_or_none}
 use Rattle.ppq_budget.specs.Sizes.{Numbers}
 use Rattle.ppq_script.specs.declared.command.Command.{Command}
-use Rattle.ppq_script.specs.declared.command.Command.TheVariants.{Push, Pop, Top, Size, Bulk, Gen, BulkPop, BulkPopLimit, Drain}
+use Rattle.ppq_script.specs.declared.command.Command.TheVariants.{Push, Pop, Top, Size, Bulk, Gen, BulkPop, BulkPopLimit, Drain, BulkBegin, BulkPush, BulkEnd}
+use Rattle.ppq_script.specs.declared.session.Session.{Session}
+use Rattle.ppq_script.specs.declared.session.Session.TheVariants.{Outside}
+use Rattle.ppq_script.specs.Sessions.{turn_of, is_outside}
 use Rattle.ppq_script.specs.Reading.{Reading, command_list}
 use Rattle.ppq_script.specs.Files.{name_at}
-use Rattle.ppq_engine.specs.Loads.{HasRoom}
+use Rattle.ppq_load.specs.Refusal.{HasRoom}
 
 -- a record's key and value in decimal
 abbrev pub pair_text : Pair → List ℕ
@@ -73,6 +76,9 @@ text_of bag (Gen seed count) = []
 text_of bag (BulkPop count) = lines_text (front pair_cmp bag count)
 text_of bag (BulkPopLimit limit count) = lines_text (front pair_cmp bag (limited_count bag limit count)) ++ mark_text bag limit count
 text_of bag (Drain count) = summary_text (front pair_cmp bag count)
+text_of bag BulkBegin = []
+text_of bag (BulkPush pass item) = []
+text_of bag BulkEnd = []
 
 -- the records of a file of the script
 abbrev pub given_of : (List ℕ → Option (List ℕ)) → Reading → ℕ → List Pair
@@ -103,6 +109,9 @@ module _ (given : ℕ → List Pair) where
   after bag (BulkPop count) = without_front pair_cmp bag count
   after bag (BulkPopLimit limit count) = without_front pair_cmp bag (limited_count bag limit count)
   after bag (Drain count) = without_front pair_cmp bag count
+  after bag BulkBegin = bag
+  after bag (BulkPush pass item) = item ∷ bag
+  after bag BulkEnd = bag
 
   -- the bag after commands
   abbrev pub bag_from : List Pair → List Command → List Pair
@@ -131,9 +140,16 @@ module _ (given : ℕ → List Pair) where
   abbrev pub load_of : List Command → ℕ
   load_of commands = load_from [] commands
 
-  -- the crest of a script: the greatest size of its bag after a command outside a session. There are no sessions yet
+  -- the greatest size of a bag after any of the commands on it, the first in this session, behind which no session is open; 0 for none
+  abbrev pub crest_from : List Pair → Session → List Command → ℕ
+  crest_from bag session [] = 0
+  crest_from bag session (command ∷ commands) =
+      let behind = unwrap_or (turn_of command) session in
+      max (if is_outside behind then length (after bag command) else 0) (crest_from (after bag command) behind commands)
+
+  -- the crest of a script: the greatest size of its bag after a command outside a session
   abbrev pub crest_of : List Command → ℕ
-  crest_of commands = load_of commands
+  crest_of commands = crest_from [] Outside commands
 
 -- where the sink tells, it took at least this piece
 abbrev pub TakesAtLeast : Option (List ℕ) → Option (List ℕ) → List ℕ → Type 0

@@ -3,17 +3,17 @@ use Rattle.std.specs.Prelude.{◌≡◌, ◌≤◌, ◌<◌, ◌+◌, ℕ, List,
 use Rattle.ppq_record.specs.declared.pair.Pair.{Pair}
 use Rattle.ppq_record.specs.Bag.{IsSameBag}
 use Rattle.ppq_outside.specs.Shown.{Shown, AllTell}
-use Rattle.ppq_outside.specs.Told.{Reply, OfRead, TakesAll, TakesPart, Rose}
+use Rattle.ppq_outside.specs.Told.{Reply, TakesAll, TakesPart, Rose}
 use Rattle.ppq_budget.specs.Sizes.{Numbers}
-use Rattle.ppq_array.specs.Kept.{SameSlots, HasFailed, all_writes}
 use Rattle.ppq_script.specs.declared.command.Command.{Command}
-use Rattle.ppq_script.specs.declared.command.Command.TheVariants.{Push, Pop, Top, Size, Bulk, Gen, BulkPop, BulkPopLimit, Drain}
+use Rattle.ppq_script.specs.declared.command.Command.TheVariants.{Push, Pop, Top, Size, Bulk, Gen, BulkPop, BulkPopLimit, Drain, BulkBegin, BulkPush, BulkEnd}
 use Rattle.ppq_script.specs.Files.{name_at}
 use Rattle.ppq_script.specs.Reading.{Reading, command_list, line_list}
-use Rattle.ppq_engine.specs.Loads.{none_go, all_go, size_from, most_of, least_of, IsTooMuch, FitsWritten}
+use Rattle.ppq_load.specs.Reading.{EndsAt}
+use Rattle.ppq_load.specs.Refusal.{IsRefusedBy}
+use Rattle.ppq_engine.specs.Loads.{IsLoad, none_go, all_go, size_from, most_of, least_of, FitsWritten}
 use Rattle.ppq_engine.specs.Output.{AreFilesOf, given_of, output_of, bag_of, load_of}
 use Rattle.ppq_engine.specs.Gathers.{Gathers}
-use Rattle.ppq_queue.specs.Holding.{Holding}
 use Rattle.ppq_queue.specs.declared.fault.QueueFault.{QueueFault}
 use Rattle.ppq_queue.specs.declared.fault.QueueFault.TheVariants.{NoFreeBlock, Device}
 use Rattle.ppq_queue.specs.declared.fault.OpenFault.{OpenFault}
@@ -23,29 +23,35 @@ use Rattle.ppq_engine.specs.declared.end.End.TheVariants as end
 use Rattle.ppq_engine.specs.declared.stop.Stop.{Stop}
 use Rattle.ppq_engine.specs.declared.stop.Stop.TheVariants.{Sink, Queue, Read, Memory, Changed}
 
--- a command that reads no file and prints one answer
+-- a command that needs no session and prints one answer
 abbrev pub IsPlain : Command → Type 0
 IsPlain (Push item) = ⊤
 IsPlain Pop = ⊤
 IsPlain Top = ⊤
 IsPlain Size = ⊤
 IsPlain (Bulk file size) = ⊥
-IsPlain (Gen seed count) = ⊤
+IsPlain (Gen seed count) = ⊥
 IsPlain (BulkPop count) = ⊥
 IsPlain (BulkPopLimit limit count) = ⊥
 IsPlain (Drain count) = ⊤
+IsPlain BulkBegin = ⊥
+IsPlain (BulkPush pass item) = ⊥
+IsPlain BulkEnd = ⊥
 
--- what calls of the queue keep, whatever they answer: its sizes, its slots, that these tell, and their writes
-pub record Keeps (old new : Holding Pair) : Type 0 where
-  pub sizes : new.sizes ≡ old.sizes
-  pub slots : SameSlots old.slots new.slots
-  pub tells : AllTell old.slots → AllTell new.slots
-  pub writes : all_writes old.slots ≤ all_writes new.slots
-
--- what a refused call says of the queue: there is no room for its peak, or the block with this number failed
-abbrev pub IsRefusedBy : ℕ → Numbers → List Shown → QueueFault → Type 0
-IsRefusedBy peak sizes slots NoFreeBlock = IsTooMuch sizes peak
-IsRefusedBy peak sizes slots (Device number) = HasFailed number slots
+-- a command that needs no session
+abbrev pub LendsQueue : Command → Type 0
+LendsQueue (Push item) = ⊤
+LendsQueue Pop = ⊤
+LendsQueue Top = ⊤
+LendsQueue Size = ⊤
+LendsQueue (Bulk file size) = ⊥
+LendsQueue (Gen seed count) = ⊥
+LendsQueue (BulkPop count) = ⊤
+LendsQueue (BulkPopLimit limit count) = ⊤
+LendsQueue (Drain count) = ⊤
+LendsQueue BulkBegin = ⊥
+LendsQueue (BulkPush pass item) = ⊥
+LendsQueue BulkEnd = ⊥
 
 -- of a text the sink took the beginning, and the rest is gathered
 pub record IsGathered (before now : Option (List ℕ)) (gathered text : List ℕ) : Type 0 where
@@ -103,9 +109,15 @@ pub record IsBeforeFile (told : Option (List ℕ → Option (List ℕ))) (script
       AllTell first → (files : List ℕ → Option (List ℕ)) → AreFilesOf told script files
       → IsCut (given_of files script) before now gathered (command_list script) done []
 
--- a read of this file into room for a byte or more gave nothing at this place
-abbrev pub EndsAt : (Reply → Type 0) → List ℕ → ℕ → Type 0
-EndsAt replied name got = (room : ℕ) × ((0 < room) × replied (OfRead name got room []))
+-- a command that adds many records was not run: the output of those before it is gathered
+pub record IsBeforeLoad (told : Option (List ℕ → Option (List ℕ))) (script : Reading) (first : List Shown) (before now : Option (List ℕ)) (gathered : List ℕ) : Type 0 where
+  pub done : ℕ
+  pub command : Command
+  pub here : slice_get (command_list script) done ≡ Some command
+  pub loads : IsLoad command
+  pub cut :
+      AllTell first → (files : List ℕ → Option (List ℕ)) → AreFilesOf told script files
+      → IsCut (given_of files script) before now gathered (command_list script) done []
 
 -- the file of the command on this line ended before the length that was said of it; the library does not tell
 pub record HasChanged (told : Option (List ℕ → Option (List ℕ))) (replied : Reply → Type 0) (script : Reading) (line said got : ℕ) : Type 0 where
@@ -123,10 +135,10 @@ HasStopped told script first before now gathered sizes slots Sink =
     AllTell first → (files : List ℕ → Option (List ℕ)) → AreFilesOf told script files → TakesPart before now (output_of (given_of files script) (command_list script))
 HasStopped told script first before now gathered sizes slots (Queue fault) = IsRefused told script first before now gathered sizes slots fault
 HasStopped told script first before now gathered sizes slots Read = IsBeforeFile told script first before now gathered
-HasStopped told script first before now gathered sizes slots Memory = IsBeforeFile told script first before now gathered
+HasStopped told script first before now gathered sizes slots Memory = IsBeforeLoad told script first before now gathered
 HasStopped told script first before now gathered sizes slots (Changed line said got) = IsBeforeFile told script first before now gathered
 
--- what a command wrote that did not run to its end: the sink took a part; or a part is gathered, and none of a command that reads a file
+-- what a command wrote that did not run to its end: the sink took a part; or a part is gathered, and none of a command that adds many records
 abbrev pub WritesPart : Option (List ℕ) → Option (List ℕ) → List ℕ → List ℕ → List ℕ → Stop → Type 0
 WritesPart before now had text has Sink = TakesPart before now (had ++ text)
 WritesPart before now had text has (Queue fault) = GathersPart before now had text has
@@ -134,12 +146,12 @@ WritesPart before now had text has Read = Gathers before now had [] has
 WritesPart before now had text has Memory = Gathers before now had [] has
 WritesPart before now had text has (Changed line said got) = Gathers before now had [] has
 
--- a stop by a file comes from a command that reads one
+-- a stop by a file comes from a command that reads one, and want of memory from a command that adds many records
 abbrev pub IsOfFile : Command → Stop → Type 0
 IsOfFile command Sink = ⊤
 IsOfFile command (Queue fault) = ⊤
 IsOfFile command Read = (file : ℕ) × ((size : ℕ) × (command ≡ Bulk file size))
-IsOfFile command Memory = (file : ℕ) × ((size : ℕ) × (command ≡ Bulk file size))
+IsOfFile command Memory = IsLoad command
 IsOfFile command (Changed line said got) = (file : ℕ) × ((size : ℕ) × (command ≡ Bulk file size))
 
 -- where it was the queue, it says why

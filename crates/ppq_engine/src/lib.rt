@@ -3,12 +3,12 @@
 
 mod answer;
 mod end;
-mod files;
-mod fill;
 mod gathered;
+mod load;
 mod pop;
 mod push;
 mod run;
+mod session;
 mod step;
 mod stop;
 #[cfg(test)]

@@ -8,7 +8,8 @@ ghost use Rattle.ppq_outside.specs.Shown.{AllTell};
 ghost use Rattle.ppq_outside.specs.Told.{HasOneCause, TakesPart};
 ghost use Rattle.ppq_engine.specs.Output.{lines_text, mark_text, limited_count};
 ghost use Rattle.ppq_engine.specs.Gathers.{answer_text, Gathers, IsSummary};
-ghost use Rattle.ppq_engine.specs.Running.{Keeps, IsRefusedBy, StopsFor, WritesPart, SinkAfter};
+ghost use Rattle.ppq_load.specs.Refusal.{Keeps, IsRefusedBy};
+ghost use Rattle.ppq_engine.specs.Running.{StopsFor, WritesPart, SinkAfter};
 ghost use Rattle.ppq_engine.specs.Popping.{next_of, popped_count, left_mark, IsRound, NotByFile};
 
 use crate::gathered::Gathered;

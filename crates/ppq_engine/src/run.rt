@@ -6,16 +6,17 @@ ghost use Rattle.ppq_budget.specs.Sizes.{fixed_of, batch_of};
 ghost use Rattle.ppq_array.specs.Kept.{SameSlots, HasFailed};
 ghost use Rattle.ppq_script.specs.Reading.{command_list};
 ghost use Rattle.ppq_queue.specs.Holding.{AreNewSlots};
-ghost use Rattle.ppq_engine.specs.Loads.{most_of, least_of, HasRoom, IsTooMuch, FitsWritten};
+ghost use Rattle.ppq_load.specs.Refusal.{HasRoom, IsTooMuch};
+ghost use Rattle.ppq_engine.specs.Loads.{most_of, least_of, FitsWritten};
 ghost use Rattle.ppq_engine.specs.Output.{output_of, load_of, crest_of, given_of, AreFilesOf, KeepsLengths, TakesWithin};
 ghost use Rattle.ppq_engine.specs.Running.{IsGathered, HasStopped, ChangedIn, HasChanged, SinkAfter, LibraryAfter, queue_end, open_end};
 ghost use Rattle.ppq_engine.specs.Files.{IsReadInScript};
-ghost use Rattle.ppq_engine.specs.Outcome.{EndSays, TakesBeforeFile, FaultBeforeFile, PutsRest, PutsStopped};
+ghost use Rattle.ppq_engine.specs.Outcome.{EndSays, TakesBeforeLoad, FaultBeforeFile, PutsRest, PutsStopped};
 ghost use Rattle.ppq_engine.specs.Ends.{budget_refusal, BeganOrRefused, IsCompleted, IsQuiet, NoFault, NoneFailed};
 ghost use Rattle.ppq_engine.specs.declared.end.End.TheVariants.{Done, ReadFault, WriteFault, DeviceFault, NoFreeBlock, BudgetTooSmall, Memory, FileChanged};
 
 use crate::gathered::Gathered;
-use crate::step::step;
+use crate::step::advance;
 use crate::stop::Stop;
 use crate::{End, Ended};
 use ppq_budget::Sizes;
@@ -26,55 +27,64 @@ use ppq_script::Script;
 use std::alloc::Global;
 
 // Runs the commands in order up to the first that does not run to its end, and gathers what they
-// print.
+// print. It gives the queue back.
 fn run_commands<H: Host, S: Slot + Send + Sync, L: Library, O: Sink, G: Gate>(
     rt: &H,
     alloc: Global,
     script: &Script,
     library: &mut L,
     room: &mut [u8],
-    queue: &mut Queue<S, Pair>,
+    queue: Queue<S, Pair>,
     list: &mut Out<Pair>,
     gathered: &mut Gathered,
     out: &mut O,
     gate: &G,
-) -> Result<(), Stop>
+) -> (Queue<S, Pair>, Result<(), Stop>)
 where
     H::Dir: Send,
     requires checked { IsTrue script.now.checked }
+    requires workers { script.now.workers ≡ queue.sizes.workers }
     requires lengths { (files : List ℕ → Option (List ℕ)) → L.told library.old ≡ Some files → KeepsLengths files script.now }
     requires room { 16 ≤ length room.old }
-    requires bag { queue.old.bag ≡ [] }
-    requires size { queue.old.size ≡ 0 }
-    requires peak { queue.old.peak ≡ 0 }
-    requires sound { queue.old.failed ≡ None }
-    requires block { 0 < queue.old.sizes.block }
-    requires list { list.old.room ≡ batch_of queue.old.sizes }
+    requires bag { queue.bag ≡ [] }
+    requires size { queue.size ≡ 0 }
+    requires peak { queue.peak ≡ 0 }
+    requires sound { queue.failed ≡ None }
+    requires block { 0 < queue.sizes.block }
+    requires list { list.old.room ≡ batch_of queue.sizes }
     requires gathered { gathered.old ≡ [] }
-    ensures all { OnOk result (AllTell queue.old.slots → (files : List ℕ → Option (List ℕ)) → AreFilesOf (L.told library.old) script.now files → IsGathered (O.told out.old) (O.told out.new) gathered.new (output_of (given_of files script.now) (command_list script.now))) }
-    ensures crest { OnOk result (AllTell queue.old.slots → (files : List ℕ → Option (List ℕ)) → AreFilesOf (L.told library.old) script.now files → FitsWritten (crest_of (given_of files script.now) (command_list script.now)) queue.old.sizes queue.new.slots) }
-    ensures least { OnOk result (FitsWritten (least_of (command_list script.now)) queue.old.sizes queue.new.slots) }
-    ensures stopped { IfErr result (HasStopped (L.told library.old) script.now queue.old.slots (O.told out.old) (O.told out.new) gathered.new queue.old.sizes queue.new.slots) }
-    ensures changed { IfErr result (ChangedIn (L.told library.old) (L.replied library.new) script.now) }
-    ensures slots { SameSlots queue.old.slots queue.new.slots }
+    ensures all { OnOk result.1 (AllTell queue.slots → (files : List ℕ → Option (List ℕ)) → AreFilesOf (L.told library.old) script.now files → IsGathered (O.told out.old) (O.told out.new) gathered.new (output_of (given_of files script.now) (command_list script.now))) }
+    ensures crest { OnOk result.1 (AllTell queue.slots → (files : List ℕ → Option (List ℕ)) → AreFilesOf (L.told library.old) script.now files → FitsWritten (crest_of (given_of files script.now) (command_list script.now)) queue.sizes result.0.slots) }
+    ensures least { OnOk result.1 (FitsWritten (least_of (command_list script.now)) queue.sizes result.0.slots) }
+    ensures stopped { IfErr result.1 (HasStopped (L.told library.old) script.now queue.slots (O.told out.old) (O.told out.new) gathered.new queue.sizes result.0.slots) }
+    ensures changed { IfErr result.1 (ChangedIn (L.told library.old) (L.replied library.new) script.now) }
+    ensures slots { SameSlots queue.slots result.0.slots }
     ensures remembers { Remembers (L.replied library.old) (L.replied library.new) }
     ensures asks { RepliesOnly (L.replied library.old) (L.replied library.new) (IsReadInScript script.now) }
     ensures told { L.told library.new ≡ L.told library.old }
     ensures library_later { L.faults library.old ≤ L.faults library.new }
-    ensures library_stays { OnOk result (L.faults library.new ≡ L.faults library.old) }
-    ensures library_cause { IfErr result (LibraryAfter (L.faults library.old) (L.faults library.new)) }
+    ensures library_stays { OnOk result.1 (L.faults library.new ≡ L.faults library.old) }
+    ensures library_cause { IfErr result.1 (LibraryAfter (L.faults library.old) (L.faults library.new)) }
     ensures later { O.faults out.old ≤ O.faults out.new }
-    ensures stays { OnOk result (O.faults out.new ≡ O.faults out.old) }
-    ensures cause { IfErr result (SinkAfter (O.faults out.old) (O.faults out.new)) }
+    ensures stays { OnOk result.1 (O.faults out.new ≡ O.faults out.old) }
+    ensures cause { IfErr result.1 (SinkAfter (O.faults out.old) (O.faults out.new)) }
 {
-    for i in 0..script.len() {
-        let command = script.at(i);
-        step(
-            rt, alloc, script, i, command, library, room, queue, list, gathered, out, gate,
-        )?;
+    script.checked();
+    let mut queue = queue;
+    let mut place = 0;
+    'commands: while place < script.len() {
+        let command = script.at(place);
+        let (back, result) = advance(
+            rt, alloc, script, place, command, library, room, queue, list, gathered, out, gate,
+        );
+        queue = back;
+        match result {
+            Ok(next) => place = next,
+            Err(stop) => return (queue, Err(stop)),
+        }
         queue.known();
     }
-    Ok(())
+    (queue, Ok(()))
 }
 
 // A fault of the queue as an end.
@@ -132,42 +142,44 @@ fn run_on<H: Host, S: Slot + Send + Sync, L: Library, O: Sink, G: Gate>(
     script: &Script,
     library: &mut L,
     room: &mut [u8],
-    queue: &mut Queue<S, Pair>,
+    queue: Queue<S, Pair>,
     list: &mut Out<Pair>,
     gathered: &mut Gathered,
     out: &mut O,
     gate: &G,
-) -> End
+) -> (Queue<S, Pair>, End)
 where
     H::Dir: Send,
     requires checked { IsTrue script.now.checked }
+    requires workers { script.now.workers ≡ queue.sizes.workers }
     requires lengths { (files : List ℕ → Option (List ℕ)) → L.told library.old ≡ Some files → KeepsLengths files script.now }
     requires room { 16 ≤ length room.old }
-    requires bag { queue.old.bag ≡ [] }
-    requires size { queue.old.size ≡ 0 }
-    requires peak { queue.old.peak ≡ 0 }
-    requires sound { queue.old.failed ≡ None }
-    requires block { 0 < queue.old.sizes.block }
-    requires list { list.old.room ≡ batch_of queue.old.sizes }
+    requires bag { queue.bag ≡ [] }
+    requires size { queue.size ≡ 0 }
+    requires peak { queue.peak ≡ 0 }
+    requires sound { queue.failed ≡ None }
+    requires block { 0 < queue.sizes.block }
+    requires list { list.old.room ≡ batch_of queue.sizes }
     requires gathered { gathered.old ≡ [] }
-    ensures part { AllTell queue.old.slots → (files : List ℕ → Option (List ℕ)) → AreFilesOf (L.told library.old) script.now files → TakesPart (O.told out.old) (O.told out.new) (output_of (given_of files script.now) (command_list script.now)) }
-    ensures says { EndSays (L.told library.old) (L.replied library.new) script.now queue.old.slots queue.new.slots queue.old.sizes (O.told out.old) (O.told out.new) (O.faults out.old) (O.faults out.new) (L.faults library.old) (L.faults library.new) result }
-    ensures file { FaultBeforeFile (L.told library.old) script.now queue.old.slots (O.told out.old) (O.told out.new) result }
-    ensures slots { SameSlots queue.old.slots queue.new.slots }
+    ensures part { AllTell queue.slots → (files : List ℕ → Option (List ℕ)) → AreFilesOf (L.told library.old) script.now files → TakesPart (O.told out.old) (O.told out.new) (output_of (given_of files script.now) (command_list script.now)) }
+    ensures says { EndSays (L.told library.old) (L.replied library.new) script.now queue.slots result.0.slots queue.sizes (O.told out.old) (O.told out.new) (O.faults out.old) (O.faults out.new) (L.faults library.old) (L.faults library.new) result.1 }
+    ensures file { FaultBeforeFile (L.told library.old) script.now queue.slots (O.told out.old) (O.told out.new) result.1 }
+    ensures slots { SameSlots queue.slots result.0.slots }
     ensures remembers { Remembers (L.replied library.old) (L.replied library.new) }
     ensures asks { RepliesOnly (L.replied library.old) (L.replied library.new) (IsReadInScript script.now) }
     ensures told { L.told library.new ≡ L.told library.old }
     ensures library_later { L.faults library.old ≤ L.faults library.new }
     ensures later { O.faults out.old ≤ O.faults out.new }
 {
-    match run_commands(
+    let (queue, result) = run_commands(
         rt, alloc, script, library, room, queue, list, gathered, out, gate,
-    ) {
+    );
+    match result {
         Ok(()) => match gathered.put(rt, out) {
-            Ok(()) => End::Done,
-            Err(Failed) => End::WriteFault,
+            Ok(()) => (queue, End::Done),
+            Err(Failed) => (queue, End::WriteFault),
         },
-        Err(stop) => put_stopped(rt, stop, gathered, out),
+        Err(stop) => (queue, put_stopped(rt, stop, gathered, out)),
     }
 }
 
@@ -178,23 +190,24 @@ fn run_opened<H: Host, S: Slot + Send + Sync, L: Library, O: Sink, G: Gate>(
     script: &Script,
     sizes: Sizes,
     library: &mut L,
-    queue: &mut Queue<S, Pair>,
+    queue: Queue<S, Pair>,
     out: &mut O,
     gate: &G,
-) -> End
+) -> (Queue<S, Pair>, End)
 where
     H::Dir: Send,
     requires checked { IsTrue script.now.checked }
+    requires workers { script.now.workers ≡ queue.sizes.workers }
     requires lengths { (files : List ℕ → Option (List ℕ)) → L.told library.old ≡ Some files → KeepsLengths files script.now }
-    requires bag { queue.old.bag ≡ [] }
-    requires size { queue.old.size ≡ 0 }
-    requires peak { queue.old.peak ≡ 0 }
-    requires sound { queue.old.failed ≡ None }
-    requires sizes { queue.old.sizes ≡ sizes }
-    ensures part { AllTell queue.old.slots → (files : List ℕ → Option (List ℕ)) → AreFilesOf (L.told library.old) script.now files → TakesPart (O.told out.old) (O.told out.new) (output_of (given_of files script.now) (command_list script.now)) }
-    ensures says { EndSays (L.told library.old) (L.replied library.new) script.now queue.old.slots queue.new.slots queue.old.sizes (O.told out.old) (O.told out.new) (O.faults out.old) (O.faults out.new) (L.faults library.old) (L.faults library.new) result }
-    ensures file { FaultBeforeFile (L.told library.old) script.now queue.old.slots (O.told out.old) (O.told out.new) result }
-    ensures slots { SameSlots queue.old.slots queue.new.slots }
+    requires bag { queue.bag ≡ [] }
+    requires size { queue.size ≡ 0 }
+    requires peak { queue.peak ≡ 0 }
+    requires sound { queue.failed ≡ None }
+    requires sizes { queue.sizes ≡ sizes }
+    ensures part { AllTell queue.slots → (files : List ℕ → Option (List ℕ)) → AreFilesOf (L.told library.old) script.now files → TakesPart (O.told out.old) (O.told out.new) (output_of (given_of files script.now) (command_list script.now)) }
+    ensures says { EndSays (L.told library.old) (L.replied library.new) script.now queue.slots result.0.slots queue.sizes (O.told out.old) (O.told out.new) (O.faults out.old) (O.faults out.new) (L.faults library.old) (L.faults library.new) result.1 }
+    ensures file { FaultBeforeFile (L.told library.old) script.now queue.slots (O.told out.old) (O.told out.new) result.1 }
+    ensures slots { SameSlots queue.slots result.0.slots }
     ensures remembers { Remembers (L.replied library.old) (L.replied library.new) }
     ensures asks { RepliesOnly (L.replied library.old) (L.replied library.new) (IsReadInScript script.now) }
     ensures told { L.told library.new ≡ L.told library.old }
@@ -202,14 +215,14 @@ where
     ensures later { O.faults out.old ≤ O.faults out.new }
 {
     let Ok(mut gathered) = Gathered::new(alloc) else {
-        return End::Memory;
+        return (queue, End::Memory);
     };
     let Ok(mut list) = Out::new(alloc, &sizes) else {
-        return End::Memory;
+        return (queue, End::Memory);
     };
     let bytes = sizes.batch() as usize * 16;
     let Ok(mut room) = vec![in alloc; 0u8; bytes] else {
-        return End::Memory;
+        return (queue, End::Memory);
     };
     run_on(
         rt,
@@ -236,8 +249,8 @@ where
 /// all commands up to such a load print was taken. `FileChanged`: the file of the command on that line
 /// ended at `got`, before the length `said` that the script keeps, which no library does that tells.
 /// `BudgetTooSmall` comes exactly where the budget is below its fixed part, unless memory was wanting;
-/// nothing was written there. On `Memory` nothing was written, or what the commands before one that
-/// reads a file print. No other end comes.
+/// nothing was written there. On `Memory` nothing was written, or what the commands before a `bulk`, `gen`
+/// or `bulk_begin` print: such a command takes memory for its session. No other end comes.
 ///
 /// What is said of the output holds where the contents of the blocks and of the library are visible to
 /// proofs; where the script reads no file, the library's need not be. When each end comes, and which
@@ -263,7 +276,7 @@ where
     ensures done { result.end ≡ Done → AllTell (map S.shown slots.items) → (files : List ℕ → Option (List ℕ)) → AreFilesOf (L.told library.old) script.now files → TakesAll (O.told out.old) (O.told out.new) (output_of (given_of files script.now) (command_list script.now)) }
     ensures part { AllTell (map S.shown slots.items) → (files : List ℕ → Option (List ℕ)) → AreFilesOf (L.told library.old) script.now files → TakesPart (O.told out.old) (O.told out.new) (output_of (given_of files script.now) (command_list script.now)) }
     ensures within { result.end ≡ NoFreeBlock → AllTell (map S.shown slots.items) → (files : List ℕ → Option (List ℕ)) → AreFilesOf (L.told library.old) script.now files → TakesWithin (given_of files script.now) (O.told out.old) (O.told out.new) sizes (command_list script.now) }
-    ensures memory { result.end ≡ Memory → (O.told out.new ≡ O.told out.old) ⊎ TakesBeforeFile (L.told library.old) script.now (map S.shown slots.items) (O.told out.old) (O.told out.new) }
+    ensures memory { result.end ≡ Memory → (O.told out.new ≡ O.told out.old) ⊎ TakesBeforeLoad (L.told library.old) script.now (map S.shown slots.items) (O.told out.old) (O.told out.new) }
     ensures file { FaultBeforeFile (L.told library.old) script.now (map S.shown slots.items) (O.told out.old) (O.told out.new) result.end }
     ensures nothing { (need : ℕ) → result.end ≡ BudgetTooSmall need → O.told out.new ≡ O.told out.old }
 
@@ -297,7 +310,7 @@ where
     ensures library_later { L.faults library.old ≤ L.faults library.new }
     ensures library_stays { NoFault result.end → L.faults library.new ≡ L.faults library.old }
 {
-    let mut queue: Queue<S, Pair> = match Queue::open(alloc, sizes, slots) {
+    let queue: Queue<S, Pair> = match Queue::open(alloc, sizes, slots) {
         Ok(queue) => queue,
         Err((blocks, fault)) => {
             return Ended {
@@ -306,7 +319,7 @@ where
             };
         }
     };
-    let end = run_opened(rt, alloc, script, sizes, library, &mut queue, out, gate);
+    let (queue, end) = run_opened(rt, alloc, script, sizes, library, queue, out, gate);
     Ended {
         end,
         blocks: queue.close(),

@@ -1,5 +1,5 @@
-//! Runs one command.
-ghost use Rattle.std.specs.Prelude.{◌≡◌, ◌≤◌, ◌<◌, List, ℕ, Option, Some, None, OnOk, IfOk, IfErr, length, max, slice_get};
+//! Runs one command, or commands that run together.
+ghost use Rattle.std.specs.Prelude.{◌≡◌, ◌≤◌, ◌<◌, ◌+◌, ◌^◌, true, drop, List, ℕ, Option, Some, None, OnOk, IfOk, IfErr, length, max, slice_get};
 ghost use Rattle.ppq_record.specs.declared.pair.Pair.{Pair};
 ghost use Rattle.ppq_record.specs.Bag.{IsSameBag};
 ghost use Rattle.ppq_budget.specs.Sizes.{batch_of};
@@ -7,18 +7,23 @@ ghost use Rattle.ppq_outside.specs.Shown.{AllTell};
 ghost use Rattle.ppq_outside.specs.Told.{Remembers, RepliesOnly};
 ghost use Rattle.ppq_script.specs.Files.{NamesFile, HasRecords};
 ghost use Rattle.ppq_script.specs.Reading.{command_list};
-ghost use Rattle.ppq_engine.specs.Loads.{none_go, all_go, size_after};
-ghost use Rattle.ppq_engine.specs.Output.{least_text, text_of, after, given_of, AreFilesOf, KeepsLengths};
+ghost use Rattle.ppq_script.specs.Sessions.{are_in_place};
+ghost use Rattle.ppq_script.specs.declared.session.Session.TheVariants.{Outside};
+ghost use Rattle.ppq_load.specs.Refusal.{Keeps, IsRefusedBy};
+ghost use Rattle.ppq_engine.specs.Loads.{none_go, all_go, size_after, size_from};
+ghost use Rattle.ppq_engine.specs.Output.{least_text, text_of, after, output_from, bag_from, given_of, AreFilesOf, KeepsLengths};
 ghost use Rattle.ppq_engine.specs.Files.{IsReadInScript};
 ghost use Rattle.ppq_engine.specs.Gathers.{answer_text, Gathers};
+ghost use Rattle.ppq_engine.specs.Parts.{IsAlone, part_at};
 ghost use Rattle.ppq_engine.specs.Popping.{NotByFile};
-ghost use Rattle.ppq_engine.specs.Running.{IsPlain, Keeps, IsRefusedBy, StopsFor, WritesPart, IsOfFile, ChangedIn, SinkAfter, LibraryAfter};
+ghost use Rattle.ppq_engine.specs.Running.{IsPlain, LendsQueue, StopsFor, WritesPart, IsOfFile, ChangedIn, SinkAfter, LibraryAfter};
 
 use crate::Answer;
-use crate::files::push_file;
 use crate::gathered::Gathered;
+use crate::load::{push_file, push_generated};
 use crate::pop::{drain, pop_one, print_limited, print_popped, top_one};
-use crate::push::{push_generated, push_one};
+use crate::push::push_one;
+use crate::session::run_bulk;
 use crate::stop::Stop;
 use ppq_outside::{Gate, Host, Library, Sink, Slot};
 use ppq_queue::{Out, Queue, QueueFault};
@@ -36,7 +41,7 @@ fn answer_of(item: Option<Pair>) -> Answer
     }
 }
 
-// Runs a command that reads no file and prints one answer.
+// Runs a command that adds one record at the most and prints one answer.
 fn act<H: Host, S: Slot + Send + Sync, G: Gate>(
     rt: &H,
     queue: &mut Queue<S, Pair>,
@@ -71,17 +76,17 @@ where
                 records: queue.size(),
             })
         }
-        Command::Gen { seed, count } => {
-            push_generated(rt, queue, seed, count, gate)?;
-            Ok(Answer::Nothing)
-        }
         Command::Drain { count } => {
             let drained = drain(rt, queue, count, list, gate)?;
             Ok(Answer::Drained { drained })
         }
-        Command::Bulk { .. } | Command::BulkPop { .. } | Command::BulkPopLimit { .. } => {
-            Ok(Answer::Nothing)
-        }
+        Command::Bulk { .. }
+        | Command::Gen { .. }
+        | Command::BulkPop { .. }
+        | Command::BulkPopLimit { .. }
+        | Command::BulkBegin
+        | Command::BulkPush { .. }
+        | Command::BulkEnd => Ok(Answer::Nothing),
     }
 }
 
@@ -119,16 +124,11 @@ where
     Ok(())
 }
 
-// Runs the command at place `i` of a script.
-pub fn step<H: Host, S: Slot + Send + Sync, L: Library, O: Sink, G: Gate>(
+// Runs a command that lends the queue to calls of it, and prints what it answers.
+fn lend<H: Host, S: Slot + Send + Sync, O: Sink, G: Gate>(
     rt: &H,
-    alloc: Global,
-    script: &Script,
-    i: usize,
-    command: Command,
-    library: &mut L,
-    room: &mut [u8],
     queue: &mut Queue<S, Pair>,
+    command: Command,
     list: &mut Out<Pair>,
     gathered: &mut Gathered,
     out: &mut O,
@@ -136,42 +136,25 @@ pub fn step<H: Host, S: Slot + Send + Sync, L: Library, O: Sink, G: Gate>(
 ) -> Result<(), Stop>
 where
     H::Dir: Send,
-    requires place { i < length script.now.commands }
-    requires here { slice_get (command_list script.now) i ≡ Some command }
-    requires file { NamesFile (length script.now.names) command }
-    requires records { HasRecords command }
-    requires lengths { (files : List ℕ → Option (List ℕ)) → L.told library.old ≡ Some files → KeepsLengths files script.now }
-    requires room { 16 ≤ length room.old }
     requires sound { queue.old.failed ≡ None }
     requires list { list.old.room ≡ batch_of queue.old.sizes }
+    requires lends { LendsQueue command }
     ensures text { OnOk result (AllTell queue.old.slots → Gathers (O.told out.old) (O.told out.new) gathered.old (text_of queue.old.bag command) gathered.new) }
-    ensures bag { OnOk result (AllTell queue.old.slots → (files : List ℕ → Option (List ℕ)) → AreFilesOf (L.told library.old) script.now files → IsSameBag queue.new.bag (after (given_of files script.now) queue.old.bag command)) }
+    ensures bag { OnOk result (AllTell queue.old.slots → (given : ℕ → List Pair) → IsSameBag queue.new.bag (after given queue.old.bag command)) }
     ensures part { IfErr result (λ stop. AllTell queue.old.slots → WritesPart (O.told out.old) (O.told out.new) gathered.old (text_of queue.old.bag command) gathered.new stop) }
     ensures low { OnOk result (size_after all_go queue.old.size command ≤ queue.new.size) }
     ensures high { OnOk result (queue.new.size ≤ size_after none_go queue.old.size command) }
     ensures sound { OnOk result (queue.new.failed ≡ None) }
     ensures peak { queue.new.peak ≤ max queue.old.peak (size_after none_go queue.old.size command) }
     ensures refused { IfErr result (StopsFor queue.new.peak queue.new.sizes queue.new.slots) }
-    ensures of_file { IfErr result (IsOfFile command) }
-    ensures changed { IfErr result (ChangedIn (L.told library.old) (L.replied library.new) script.now) }
+    ensures no_file { IfErr result NotByFile }
     ensures kept { Keeps queue.old queue.new }
-    ensures remembers { Remembers (L.replied library.old) (L.replied library.new) }
-    ensures asks { RepliesOnly (L.replied library.old) (L.replied library.new) (IsReadInScript script.now) }
-    ensures told { L.told library.new ≡ L.told library.old }
-    ensures library_later { L.faults library.old ≤ L.faults library.new }
-    ensures library_stays { OnOk result (L.faults library.new ≡ L.faults library.old) }
-    ensures library_cause { IfErr result (LibraryAfter (L.faults library.old) (L.faults library.new)) }
     ensures later { O.faults out.old ≤ O.faults out.new }
     ensures stays { OnOk result (O.faults out.new ≡ O.faults out.old) }
     ensures cause { IfErr result (SinkAfter (O.faults out.old) (O.faults out.new)) }
     ensures list { list.new.room ≡ list.old.room }
 {
     match command {
-        Command::Bulk { file, length } => {
-            let name = script.name(file);
-            let line = script.line(i);
-            push_file(rt, alloc, library, name, line, length, room, queue, gate)
-        }
         Command::BulkPop { count } => print_popped(
             rt, queue, None, count, list, gathered, out, gate,
         ),
@@ -182,7 +165,145 @@ where
         | Command::Pop
         | Command::Top
         | Command::Size
-        | Command::Gen { .. }
         | Command::Drain { .. } => act_and_print(rt, queue, command, list, gathered, out, gate),
+        Command::Bulk { .. }
+        | Command::Gen { .. }
+        | Command::BulkBegin
+        | Command::BulkPush { .. }
+        | Command::BulkEnd => Ok(()),
+    }
+}
+
+// Runs the command at place `i` of a script, which is of no session of lines.
+fn step<H: Host, S: Slot + Send + Sync, L: Library, O: Sink, G: Gate>(
+    rt: &H,
+    alloc: Global,
+    script: &Script,
+    i: usize,
+    command: Command,
+    library: &mut L,
+    room: &mut [u8],
+    queue: Queue<S, Pair>,
+    list: &mut Out<Pair>,
+    gathered: &mut Gathered,
+    out: &mut O,
+    gate: &G,
+) -> (Queue<S, Pair>, Result<(), Stop>)
+where
+    H::Dir: Send,
+    requires place { i < length script.now.commands }
+    requires here { slice_get (command_list script.now) i ≡ Some command }
+    requires alone { IsAlone command }
+    requires file { NamesFile (length script.now.names) command }
+    requires records { HasRecords command }
+    requires lengths { (files : List ℕ → Option (List ℕ)) → L.told library.old ≡ Some files → KeepsLengths files script.now }
+    requires room { 16 ≤ length room.old }
+    requires sound { queue.failed ≡ None }
+    requires block { 0 < queue.sizes.block }
+    requires list { list.old.room ≡ batch_of queue.sizes }
+    ensures text { OnOk result.1 (AllTell queue.slots → Gathers (O.told out.old) (O.told out.new) gathered.old (text_of queue.bag command) gathered.new) }
+    ensures bag { OnOk result.1 (AllTell queue.slots → (files : List ℕ → Option (List ℕ)) → AreFilesOf (L.told library.old) script.now files → IsSameBag result.0.bag (after (given_of files script.now) queue.bag command)) }
+    ensures part { IfErr result.1 (λ stop. AllTell queue.slots → WritesPart (O.told out.old) (O.told out.new) gathered.old (text_of queue.bag command) gathered.new stop) }
+    ensures low { OnOk result.1 (size_after all_go queue.size command ≤ result.0.size) }
+    ensures high { OnOk result.1 (result.0.size ≤ size_after none_go queue.size command) }
+    ensures sound { OnOk result.1 (result.0.failed ≡ None) }
+    ensures peak { OnOk result.1 (result.0.peak ≤ max queue.peak (size_after none_go queue.size command)) }
+    ensures refused { IfErr result.1 (StopsFor (max queue.peak (size_after none_go queue.size command)) queue.sizes result.0.slots) }
+    ensures of_file { IfErr result.1 (IsOfFile command) }
+    ensures changed { IfErr result.1 (ChangedIn (L.told library.old) (L.replied library.new) script.now) }
+    ensures kept { Keeps queue result.0 }
+    ensures remembers { Remembers (L.replied library.old) (L.replied library.new) }
+    ensures asks { RepliesOnly (L.replied library.old) (L.replied library.new) (IsReadInScript script.now) }
+    ensures told { L.told library.new ≡ L.told library.old }
+    ensures library_later { L.faults library.old ≤ L.faults library.new }
+    ensures library_stays { OnOk result.1 (L.faults library.new ≡ L.faults library.old) }
+    ensures library_cause { IfErr result.1 (LibraryAfter (L.faults library.old) (L.faults library.new)) }
+    ensures later { O.faults out.old ≤ O.faults out.new }
+    ensures stays { OnOk result.1 (O.faults out.new ≡ O.faults out.old) }
+    ensures cause { IfErr result.1 (SinkAfter (O.faults out.old) (O.faults out.new)) }
+    ensures list { list.new.room ≡ list.old.room }
+{
+    match command {
+        Command::Bulk { file, length } => {
+            let name = script.name(file);
+            let line = script.line(i);
+            push_file(rt, alloc, library, name, line, length, room, queue, gate)
+        }
+        Command::Gen { seed, count } => {
+            let line = script.line(i);
+            push_generated(rt, alloc, queue, seed, count, line, gate)
+        }
+        _ => {
+            let mut queue = queue;
+            let result = lend(rt, &mut queue, command, list, gathered, out, gate);
+            (queue, result)
+        }
+    }
+}
+
+// Runs the commands from place `i` of a script on that run together: a bulk session, or one command. It
+// gives the queue back, and the place behind them.
+pub fn advance<H: Host, S: Slot + Send + Sync, L: Library, O: Sink, G: Gate>(
+    rt: &H,
+    alloc: Global,
+    script: &Script,
+    i: usize,
+    command: Command,
+    library: &mut L,
+    room: &mut [u8],
+    queue: Queue<S, Pair>,
+    list: &mut Out<Pair>,
+    gathered: &mut Gathered,
+    out: &mut O,
+    gate: &G,
+) -> (Queue<S, Pair>, Result<usize, Stop>)
+where
+    H::Dir: Send,
+    requires place { i < length script.now.commands }
+    requires here { slice_get (command_list script.now) i ≡ Some command }
+    requires fits { length script.now.commands < 2 ^ 64 }
+    requires in_place { are_in_place script.now.workers Outside (drop i (command_list script.now)) ≡ true }
+    requires workers { script.now.workers ≡ queue.sizes.workers }
+    requires file { NamesFile (length script.now.names) command }
+    requires records { HasRecords command }
+    requires lengths { (files : List ℕ → Option (List ℕ)) → L.told library.old ≡ Some files → KeepsLengths files script.now }
+    requires room { 16 ≤ length room.old }
+    requires sound { queue.failed ≡ None }
+    requires block { 0 < queue.sizes.block }
+    requires list { list.old.room ≡ batch_of queue.sizes }
+    ensures next { IfOk result.1 (λ next. next ≡ i + length (part_at script.now i)) }
+    ensures text { OnOk result.1 (AllTell queue.slots → (given : ℕ → List Pair) → Gathers (O.told out.old) (O.told out.new) gathered.old (output_from given queue.bag (part_at script.now i)) gathered.new) }
+    ensures bag { OnOk result.1 (AllTell queue.slots → (files : List ℕ → Option (List ℕ)) → AreFilesOf (L.told library.old) script.now files → IsSameBag result.0.bag (bag_from (given_of files script.now) queue.bag (part_at script.now i))) }
+    ensures part { IfErr result.1 (λ stop. AllTell queue.slots → (given : ℕ → List Pair) → WritesPart (O.told out.old) (O.told out.new) gathered.old (output_from given queue.bag (part_at script.now i)) gathered.new stop) }
+    ensures low { OnOk result.1 (size_from all_go queue.size (part_at script.now i) ≤ result.0.size) }
+    ensures high { OnOk result.1 (result.0.size ≤ size_from none_go queue.size (part_at script.now i)) }
+    ensures sound { OnOk result.1 (result.0.failed ≡ None) }
+    ensures peak { OnOk result.1 (result.0.peak ≤ max queue.peak (size_from none_go queue.size (part_at script.now i))) }
+    ensures refused { IfErr result.1 (StopsFor (max queue.peak (size_from none_go queue.size (part_at script.now i))) queue.sizes result.0.slots) }
+    ensures of_file { IfErr result.1 (IsOfFile command) }
+    ensures changed { IfErr result.1 (ChangedIn (L.told library.old) (L.replied library.new) script.now) }
+    ensures kept { Keeps queue result.0 }
+    ensures remembers { Remembers (L.replied library.old) (L.replied library.new) }
+    ensures asks { RepliesOnly (L.replied library.old) (L.replied library.new) (IsReadInScript script.now) }
+    ensures told { L.told library.new ≡ L.told library.old }
+    ensures library_later { L.faults library.old ≤ L.faults library.new }
+    ensures library_stays { OnOk result.1 (L.faults library.new ≡ L.faults library.old) }
+    ensures library_cause { IfErr result.1 (LibraryAfter (L.faults library.old) (L.faults library.new)) }
+    ensures later { O.faults out.old ≤ O.faults out.new }
+    ensures stays { OnOk result.1 (O.faults out.new ≡ O.faults out.old) }
+    ensures cause { IfErr result.1 (SinkAfter (O.faults out.old) (O.faults out.new)) }
+    ensures list { list.new.room ≡ list.old.room }
+{
+    match command {
+        Command::BulkBegin => run_bulk(rt, alloc, script, i, list.room(), queue, gate),
+        _ => {
+            let (queue, result) = step(
+                rt, alloc, script, i, command, library, room, queue, list, gathered, out, gate,
+            );
+            match result {
+                Ok(()) => (queue, Ok(i + 1)),
+                Err(stop) => (queue, Err(stop)),
+            }
+        }
     }
 }

@@ -6,9 +6,12 @@ ghost use Rattle.ppq_engine.specs.Output.{KeepsLengths};
 
 use crate::{End, Ended, run_script};
 use ppq_budget::Sizes;
-use ppq_outside::{Host, Library, MemLibrary, MemRack, MemSink, MemSlot, OpenGate, Rack, Slot};
+use ppq_outside::{
+    Gate, Host, Library, MemLibrary, MemRack, MemSink, MemSlot, OpenGate, Rack, Slot,
+};
 use ppq_script::{Script, check_files, read};
 use std::alloc::Global;
+use std::sync::atomic::{AtomicU64, Ordering};
 use std::test::Fail;
 
 // How much a sink of these tests has room for, in bytes.
@@ -71,13 +74,27 @@ pub(crate) fn outcome<H: Host, L: Library>(
 where
     H::Dir: Send,
 {
+    outcome_past(rt, alloc, text, sizes, rack, library, &OpenGate)
+}
+
+// The same, where workers pass this gate.
+fn outcome_past<H: Host, L: Library, G: Gate>(
+    rt: &H,
+    alloc: Global,
+    text: &[u8],
+    sizes: Option<Sizes>,
+    rack: &mut MemRack,
+    library: &mut L,
+    gate: &G,
+) -> Result<(Ended<MemSlot>, Vec<u8>), Fail>
+where
+    H::Dir: Send,
+{
     let sizes = sizes.ok_or("a number is out of range")?;
     let script = checked_script(rt, alloc, text, sizes.workers(), library)?;
     let slots = blocks_of(rt, alloc, rack, sizes)?;
     let mut sink = MemSink::new(alloc, ROOM)?;
-    let ended = run_script(
-        rt, alloc, &script, sizes, slots, library, &mut sink, &OpenGate,
-    );
+    let ended = run_script(rt, alloc, &script, sizes, slots, library, &mut sink, gate);
     Ok((ended, sink.bytes().to_vec(alloc)?))
 }
 
@@ -275,5 +292,128 @@ fn a_failed_read_of_a_file_keeps_what_was_printed(rt: HostRuntime) -> Result<(),
     )?;
     assert_eq!(rt; ended.end, End::ReadFault);
     assert_eq!(rt; wrote.as_slice(), b"0\n".as_slice());
+    Ok(())
+}
+
+#[test]
+fn records_of_sessions_join_the_bag(rt: HostRuntime) -> Result<(), Fail> {
+    let table: [(&[u8], &[u8]); 6] = [
+        (b"bulk_begin\nbulk_end\nsize\n", b"0\n"),
+        (
+            b"push 5 0\nbulk_begin\nbulk_push 1 3 0\nbulk_push 0 4 0\nbulk_end\nsize\nbulk_pop 9\n",
+            b"3\n3 0\n4 0\n5 0\n",
+        ),
+        (
+            b"bulk_begin\nbulk_push 1 9 0\nbulk_push 1 8 0\nbulk_push 1 7 0\nbulk_push 1 6 0\nbulk_push 1 5 0\nbulk_end\ntop\ndrain 9\n",
+            b"5 0\ncount 5 first 5 0 last 9 0 sum 35\n",
+        ),
+        (
+            b"bulk_begin\nbulk_push 0 2 0\nbulk_end\npop\nbulk_begin\nbulk_push 1 1 1\nbulk_push 0 1 0\nbulk_end\nbulk_pop 2\n",
+            b"2 0\n1 0\n1 1\n",
+        ),
+        (
+            b"gen 1 2\nbulk_begin\nbulk_push 0 18446744073709551615 7\nbulk_end\ndrain 9\n",
+            b"count 3 first 7806831264735756412 0 last 18446744073709551615 7 sum 17203739992854567830\n",
+        ),
+        (
+            b"bulk_begin\nbulk_push 0 3 0\nbulk_push 0 3 0\nbulk_end\nbulk_pop_limit 3 1 9\n",
+            b"3 0\n3 0\nall\n",
+        ),
+    ];
+    for (text, wants) in table {
+        let (end, wrote) = plain(&rt, rt.alloc(), text, small())?;
+        assert_eq!(rt; end, End::Done);
+        assert_eq!(rt; wrote.as_slice(), wants);
+    }
+    Ok(())
+}
+
+#[test]
+fn a_failed_call_in_a_session_ends_the_run(rt: HostRuntime) -> Result<(), Fail> {
+    let text =
+        b"size\nbulk_begin\nbulk_push 0 1 0\nbulk_push 0 2 0\nbulk_push 0 3 0\nbulk_end\nsize\n";
+    let calls = vec![in rt.alloc(); (0, 1u64)]?;
+    let mut rack = MemRack::failing(calls, Vec::new(rt.alloc()));
+    let mut library = MemLibrary::new(rt.alloc());
+    let (ended, wrote) = outcome(&rt, rt.alloc(), text, small(), &mut rack, &mut library)?;
+    assert_eq!(rt; ended.end, End::DeviceFault { number: 0 });
+    assert_eq!(rt; wrote.as_slice(), b"0\n".as_slice());
+    assert_eq!(rt; ended.blocks.len(), 200);
+    Ok(())
+}
+
+// A gate that holds each of workers 0 and 1 until the other has entered.
+#[derive(Drop)]
+struct PairGate {
+    // 1 once the worker has entered.
+    first: AtomicU64,
+    second: AtomicU64,
+    // How many of them waited in vain.
+    late: AtomicU64,
+}
+
+impl PairGate {
+    fn new() -> Self {
+        PairGate {
+            first: AtomicU64::new(0),
+            second: AtomicU64::new(0),
+            late: AtomicU64::new(0),
+        }
+    }
+
+    // Waits until the other has entered, for at most 200,000,000 turns.
+    fn meet(&self, own: &AtomicU64, other: &AtomicU64) {
+        own.store(1, Ordering::SeqCst);
+        for _turn in 0..200000000 {
+            if other.load(Ordering::SeqCst) == 1 {
+                return;
+            }
+        }
+        self.late.fetch_add(1, Ordering::SeqCst);
+    }
+
+    // Whether both have entered, and none waited in vain.
+    fn is_passed(&self) -> bool {
+        let entered = self.first.load(Ordering::SeqCst) & self.second.load(Ordering::SeqCst);
+        entered == 1 && self.late.load(Ordering::SeqCst) == 0
+    }
+}
+
+impl Gate for PairGate {
+    fn enter(&self, worker: u32) {
+        if worker == 0 {
+            self.meet(&self.first, &self.second);
+        }
+        if worker == 1 {
+            self.meet(&self.second, &self.first);
+        }
+    }
+}
+
+#[test]
+fn two_workers_add_records_at_once(rt: HostRuntime) -> Result<(), Fail> {
+    let table: [(&[u8], &[u8]); 3] = [
+        (
+            b"bulk_begin\nbulk_push 0 2 0\nbulk_push 1 1 0\nbulk_end\nbulk_pop 2\n",
+            b"1 0\n2 0\n",
+        ),
+        (b"bulk f\nbulk_pop 4\n", b"7 7\n7 7\n7 7\n7 7\n"),
+        (b"gen 1 4\nsize\n", b"4\n"),
+    ];
+    for (text, wants) in table {
+        let gate = PairGate::new();
+        let (ended, wrote) = outcome_past(
+            &rt,
+            rt.alloc(),
+            text,
+            small(),
+            &mut MemRack::new(),
+            &mut sevens(rt.alloc(), 4)?,
+            &gate,
+        )?;
+        assert!(rt; gate.is_passed());
+        assert_eq!(rt; ended.end, End::Done);
+        assert_eq!(rt; wrote.as_slice(), wants);
+    }
     Ok(())
 }

@@ -1,280 +1,258 @@
--- Lemmas on the first bad line and the commands before it, the first line numbered m.
-use Rattle.std.proofs.Common.{◌≡◌, ◌⊎◌, ℕ, Bool, true, false, cond, ◌+◌, ◌-◌, ◌<◌, ◌≤◌, suc, inl, inr, List, [], ◌∷◌, ◌++◌, length, get_or, Option, Some, None, MatchOption, refl, sym, ap, subst, arith}
-use Rattle.std.specs.Prelude.{⊤}
+-- Lemmas on the first bad line and the commands before it: what the kinds of lines say of the lines.
+use Rattle.std.proofs.Common.{◌≡◌, ◌⊎◌, ℕ, Bool, true, false, cond, ◌+◌, ◌-◌, ◌<◌, ◌≤◌, nat_le, zero, suc, inl, inr, List, [], ◌∷◌, length, get_or, Option, Some, None, refl, sym, ap, ◌∙◌, subst, arith}
+use Rattle.std.specs.Prelude.{◌≢◌}
 use Rattle.std.specs.List.{AllByRecursion as Each}
-use Rattle.std.proofs.lemmas.Bool.{cases_eq}
+use Rattle.std.proofs.lemmas.Bool.{leb-true, leb-false}
 use Rattle.ppq_script.specs.declared.command.Command.{Command}
 use Rattle.ppq_script.specs.declared.command.Command.TheVariants.{Bulk}
 use Rattle.ppq_script.specs.declared.numbered.Numbered.{Numbered}
-use Rattle.ppq_script.specs.Lines.{Kind, Skipped, Plain, OfFile, Bad, kind_of, file_after, numbered_from, numbered_of, names_of, names_before, first_bad, first_bad_by, before_bad, bad_or}
-use Rattle.ppq_script.specs.Meaning.{ReadsFile, IsBlankOrComment, IsGood, IsBad, IsFirstBad, IsBefore, HasLine, Rises, Asks, AsksFile, AreCommands}
+use Rattle.ppq_script.specs.declared.session.Session.{Session}
+use Rattle.ppq_script.specs.declared.session.Session.TheVariants.{Outside, InBulk}
+use Rattle.ppq_script.specs.Sessions.{is_outside, may_stand}
+use Rattle.ppq_script.specs.Lines.{Kind, Skipped, Plain, OfFile, Bad, kind_of, placed, kinds_of, numbered_of, names_of, first_bad_by}
+use Rattle.ppq_script.specs.Meaning.{Reads, ReadsFile, IsBlankOrComment, IsSession, IsGoodIn, IsBadIn, IsGood, IsBad, IsOpen, IsFirstBad, AreGood, IsBefore, HasLine, Asks, AsksFile, AreCommands, line_at}
 use Rattle.ppq_script.proofs.Spelling.{Reads-Plain, Plain-Reads, file_in-Reads, ReadsFile-OfFile, OfFile-ReadsFile, IsBlankOrComment-Skipped, Skipped-IsBlankOrComment}
-use Rattle.ppq_script.proofs.NamesOf.{names_more, file_more, name_here, name_there}
+use Rattle.ppq_script.proofs.Sessions.{session_at, IsSession-at, at-IsSession, Stands-may_stand, may_stand-Stands}
+use Rattle.ppq_script.proofs.Standing.{kind_at, length_kinds, end_from, ending, ends_outside, outside_ends, open_ends, few_ends}
+use Rattle.ppq_script.proofs.BadKinds.{is_good, FirstBadFrom, is_first_bad, first_bad_is, all_good, first_bad-all_good, each_good, good_each, AsksOf, IsAt, each_at, IsFoundAt, each_found, rises}
 
-IsGood-Skipped : (usable : List ℕ → Bool) (line : List ℕ) → kind_of line ≡ Skipped → IsGood usable line
-IsGood-Skipped usable line e = inl (IsBlankOrComment-Skipped line e)
+-- a line in its session
+outside_is : (s : Session) → is_outside s ≡ true → s ≡ Outside
+outside_is Outside e = refl
+outside_is InBulk e = cc
 
-IsGood-Plain : (usable : List ℕ → Bool) (line : List ℕ) (c : Command) → kind_of line ≡ Plain c → IsGood usable line
-IsGood-Plain usable line c e = inr (inl (c, Reads-Plain line c e))
+same_command : (line : List ℕ) (c d : Command) → kind_of line ≡ Plain c → Reads line d → c ≡ d
+same_command line c d is h = let k = Plain-Reads line d h in cc
 
-IsGood-OfFile : (usable : List ℕ → Bool) (line name : List ℕ) → kind_of line ≡ OfFile name → usable name ≡ true → IsGood usable line
-IsGood-OfFile usable line name e is = inr (inr (name, (ReadsFile-OfFile line name e, is)))
+same_name : (line name other : List ℕ) → kind_of line ≡ OfFile name → ReadsFile line other → name ≡ other
+same_name line name other is h = let k = OfFile-ReadsFile line other h in cc
 
-IsBad-OfFile : (usable : List ℕ → Bool) (line name : List ℕ) → kind_of line ≡ OfFile name → usable name ≡ false → IsBad usable line
-IsBad-OfFile usable line name e is = record {
-  not_skipped = λ h. let k = Skipped-IsBlankOrComment line h in cc;
-  no_command = λ c h. let k = Plain-Reads line c h in cc;
-  no_file = λ other h. let k = OfFile-ReadsFile line other h in let same : name ≡ other = cc in subst (λ (n : List ℕ). usable n ≡ false) same is;
-}
-
-IsBad-Bad : (usable : List ℕ → Bool) (line : List ℕ) → kind_of line ≡ Bad → IsBad usable line
-IsBad-Bad usable line e = record {
-  not_skipped = λ h. let k = Skipped-IsBlankOrComment line h in cc;
-  no_command = λ c h. let k = Plain-Reads line c h in cc;
-  no_file = λ name h. let k = OfFile-ReadsFile line name h in cc;
-}
-
-bad_not_good : (usable : List ℕ → Bool) (line : List ℕ) → IsBad usable line → IsGood usable line → ⊥
-bad_not_good usable line bad (inl skipped) = bad.not_skipped skipped
-bad_not_good usable line bad (inr (inl command)) = bad.no_command command.0 command.1
-bad_not_good usable line bad (inr (inr file)) = let is = bad.no_file file.0 file.1.0 in let not = file.1.1 in cc
-
--- n is the number of the first bad line, where the first line has the number m
-record FirstBadFrom (usable : List ℕ → Bool) (m : ℕ) (lines : List (List ℕ)) (n : ℕ) : Type 0 where
-  from : m ≤ n
-  there : n < m + length lines
-  bad : IsBad usable (get_or lines (n - m) [])
-  before : (k : ℕ) → m ≤ k → k < n → IsGood usable (get_or lines (k - m) [])
-
--- the lines behind the first
-shifted : (m n : ℕ) (l : List ℕ) (ls : List (List ℕ)) → m + 1 ≤ n → get_or (l ∷ ls) (n - m) [] ≡ get_or ls (n - (m + 1)) []
-shifted m n l ls h = let e : n - m ≡ suc (n - (m + 1)) = omega arith in ap (λ (i : ℕ). get_or (l ∷ ls) i []) e
-
-at_first : (m n : ℕ) (l : List ℕ) (ls : List (List ℕ)) → m ≡ n → get_or (l ∷ ls) (n - m) [] ≡ l
-at_first m n l ls e = let z : n - m ≡ 0 = omega arith in ap (λ (i : ℕ). get_or (l ∷ ls) i []) z
-
-bad_first : (usable : List ℕ → Bool) (m n : ℕ) (l : List ℕ) (ls : List (List ℕ)) → IsBad usable l → m ≡ n → FirstBadFrom usable m (l ∷ ls) n
-bad_first usable m n l ls bad same = record {
-  from = omega arith;
-  there = omega arith;
-  bad = subst (IsBad usable) (sym (at_first m n l ls same)) bad;
-  before = λ k low high. absurd (omega (arith, same, low, high));
-}
-
-bad_later : (usable : List ℕ → Bool) (m n : ℕ) (l : List ℕ) (ls : List (List ℕ)) → IsGood usable l → FirstBadFrom usable (m + 1) ls n → FirstBadFrom usable m (l ∷ ls) n
-bad_later usable m n l ls good h = record {
-  from = omega (arith, h.from);
-  there = omega (arith, h.there);
-  bad = subst (IsBad usable) (sym (shifted m n l ls h.from)) h.bad;
-  before = λ k low high. elim (cases_eq m k) as (λ _. IsGood usable (get_or (l ∷ ls) (k - m) [])) [
-    | inl e ↦ subst (IsGood usable) (sym (at_first m k l ls e)) good
-    | inr e ↦ (let above : m + 1 ≤ k = omega (arith, e, low) in subst (IsGood usable) (sym (shifted m k l ls above)) (h.before k above high))
-  ];
-}
-
-is_first_bad : (usable : List ℕ → Bool) (m : ℕ) (lines : List (List ℕ)) (n : ℕ) → first_bad_by usable m lines ≡ Some n → FirstBadFrom usable m lines n
-is_first_bad usable m [] n e = cc
-is_first_bad usable m (l ∷ ls) n e = by_kind (kind_of l) refl e (λ (k : first_bad_by usable (m + 1) ls ≡ Some n). is_first_bad usable (m + 1) ls n k)
+-- it is good, or bad, as its kind is where it stands
+good_in : (usable : List ℕ → Bool) (workers : ℕ) (s : Session) (line : List ℕ) (k : Kind) → kind_of line ≡ k → is_good usable (placed workers s k) ≡ true → IsGoodIn usable workers s line
+good_in usable workers s line Skipped is e = inl (IsBlankOrComment-Skipped line is)
+good_in usable workers s line (Plain c) is e = by_test (may_stand workers s c) refl e
   where
-    by_test : (name : List ℕ) (t : Bool) → kind_of l ≡ OfFile name → usable name ≡ t → cond t (first_bad_by usable (m + 1) ls) (Some m) ≡ Some n
-        → (first_bad_by usable (m + 1) ls ≡ Some n → FirstBadFrom usable (m + 1) ls n) → FirstBadFrom usable m (l ∷ ls) n
-    by_test name true is t e rest = bad_later usable m n l ls (IsGood-OfFile usable l name is t) (rest e)
-    by_test name false is t e rest = let same : m ≡ n = cc in bad_first usable m n l ls (IsBad-OfFile usable l name is t) same
-
-    by_kind : (k : Kind) → kind_of l ≡ k → bad_or usable m k (first_bad_by usable (m + 1) ls) ≡ Some n → (first_bad_by usable (m + 1) ls ≡ Some n → FirstBadFrom usable (m + 1) ls n) → FirstBadFrom usable m (l ∷ ls) n
-    by_kind Skipped is e rest = bad_later usable m n l ls (IsGood-Skipped usable l is) (rest e)
-    by_kind (Plain c) is e rest = bad_later usable m n l ls (IsGood-Plain usable l c is) (rest e)
-    by_kind (OfFile name) is e rest = by_test name (usable name) is refl e rest
-    by_kind Bad is e rest = let same : m ≡ n = cc in bad_first usable m n l ls (IsBad-Bad usable l is) same
-
--- a good line is not the first bad one
-not_first : (usable : List ℕ → Bool) (m n : ℕ) (l : List ℕ) (ls : List (List ℕ)) → FirstBadFrom usable m (l ∷ ls) n → IsGood usable l → FirstBadFrom usable (m + 1) ls n
-not_first usable m n l ls h good = elim (cases_eq m n) as (λ _. FirstBadFrom usable (m + 1) ls n) [
-  | inl e ↦ absurd (bad_not_good usable l (subst (IsBad usable) (at_first m n l ls e) h.bad) good)
-  | inr e ↦ (let above : m + 1 ≤ n = omega (arith, e, h.from) in record {
-    from = above;
-    there = omega (arith, h.there);
-    bad = subst (IsBad usable) (shifted m n l ls above) h.bad;
-    before = λ k low high. subst (IsGood usable) (shifted m k l ls low) (h.before k (omega (arith, low)) high);
-  })
-]
-
--- a bad line is
-is_first : (usable : List ℕ → Bool) (m n : ℕ) (l : List ℕ) (ls : List (List ℕ)) → FirstBadFrom usable m (l ∷ ls) n → IsBad usable l → Some m ≡ Some n
-is_first usable m n l ls h bad = elim (cases_eq m n) as (λ _. Some m ≡ Some n) [
-  | inl e ↦ ap (λ (v : ℕ). Some v) e
-  | inr e ↦ (let good : IsGood usable l = subst (IsGood usable) (at_first m m l ls refl) (h.before m (omega arith) (omega (arith, e, h.from))) in absurd (bad_not_good usable l bad good))
-]
-
-first_bad_is : (usable : List ℕ → Bool) (m : ℕ) (lines : List (List ℕ)) (n : ℕ) → FirstBadFrom usable m lines n → first_bad_by usable m lines ≡ Some n
-first_bad_is usable m [] n h = absurd (omega (arith, h.from, h.there))
-first_bad_is usable m (l ∷ ls) n h = by_kind (kind_of l) refl (λ (k : FirstBadFrom usable (m + 1) ls n). first_bad_is usable (m + 1) ls n k)
+    by_test : (t : Bool) → may_stand workers s c ≡ t → is_good usable (cond t (Plain c) Bad) ≡ true → IsGoodIn usable workers s line
+    by_test true stands e = inr (inl (c, (Reads-Plain line c is, Stands-may_stand workers s c stands)))
+    by_test false stands e = cc
+good_in usable workers s line (OfFile name) is e = by_test (is_outside s) refl e
   where
-    by_test : (name : List ℕ) (t : Bool) → kind_of l ≡ OfFile name → usable name ≡ t → (FirstBadFrom usable (m + 1) ls n → first_bad_by usable (m + 1) ls ≡ Some n) → cond t (first_bad_by usable (m + 1) ls) (Some m) ≡ Some n
-    by_test name true is t rest = rest (not_first usable m n l ls h (IsGood-OfFile usable l name is t))
-    by_test name false is t rest = is_first usable m n l ls h (IsBad-OfFile usable l name is t)
+    by_test : (t : Bool) → is_outside s ≡ t → is_good usable (cond t (OfFile name) Bad) ≡ true → IsGoodIn usable workers s line
+    by_test true out e = inr (inr (name, (ReadsFile-OfFile line name is, (outside_is s out, e))))
+    by_test false out e = cc
+good_in usable workers s line Bad is e = cc
 
-    by_kind : (k : Kind) → kind_of l ≡ k → (FirstBadFrom usable (m + 1) ls n → first_bad_by usable (m + 1) ls ≡ Some n) → bad_or usable m k (first_bad_by usable (m + 1) ls) ≡ Some n
-    by_kind Skipped is rest = rest (not_first usable m n l ls h (IsGood-Skipped usable l is))
-    by_kind (Plain c) is rest = rest (not_first usable m n l ls h (IsGood-Plain usable l c is))
-    by_kind (OfFile name) is rest = by_test name (usable name) is refl rest
-    by_kind Bad is rest = is_first usable m n l ls h (IsBad-Bad usable l is)
+bad_in : (usable : List ℕ → Bool) (workers : ℕ) (s : Session) (line : List ℕ) (k : Kind) → kind_of line ≡ k → is_good usable (placed workers s k) ≡ false → IsBadIn usable workers s line
+bad_in usable workers s line Skipped is e = cc
+bad_in usable workers s line (Plain c) is e = by_test (may_stand workers s c) refl e
+  where
+    by_test : (t : Bool) → may_stand workers s c ≡ t → is_good usable (cond t (Plain c) Bad) ≡ false → IsBadIn usable workers s line
+    by_test true stands e = cc
+    by_test false stands e = record {
+      not_skipped = λ h. (let k = Skipped-IsBlankOrComment line h in cc);
+      no_command = λ d reads h. (let may = may_stand-Stands workers s d h in let same = same_command line c d is reads in cc);
+      no_file = λ name reads out. (let k = OfFile-ReadsFile line name reads in cc);
+    }
+bad_in usable workers s line (OfFile name) is e = by_test (is_outside s) refl e
+  where
+    by_test : (t : Bool) → is_outside s ≡ t → is_good usable (cond t (OfFile name) Bad) ≡ false → IsBadIn usable workers s line
+    by_test true out e = record {
+      not_skipped = λ h. (let k = Skipped-IsBlankOrComment line h in cc);
+      no_command = λ d reads h. (let k = Plain-Reads line d reads in cc);
+      no_file = λ other reads there. subst (λ (n : List ℕ). usable n ≡ false) (same_name line name other is reads) e;
+    }
+    by_test false out e = record {
+      not_skipped = λ h. (let k = Skipped-IsBlankOrComment line h in cc);
+      no_command = λ d reads h. (let k = Plain-Reads line d reads in cc);
+      no_file = λ other reads there. (let outside = ap is_outside there in cc);
+    }
+bad_in usable workers s line Bad is e = record {
+  not_skipped = λ h. (let k = Skipped-IsBlankOrComment line h in cc);
+  no_command = λ d reads h. (let k = Plain-Reads line d reads in cc);
+  no_file = λ name reads there. (let k = OfFile-ReadsFile line name reads in cc);
+}
 
-pub IsFirstBad-first_bad : (usable : List ℕ → Bool) (lines : List (List ℕ)) (n : ℕ) → first_bad_by usable 1 lines ≡ Some n → IsFirstBad usable lines n
-IsFirstBad-first_bad usable lines n e =
-    let h = is_first_bad usable 1 lines n e in
-    record { from_one = h.from; there = omega (arith, h.there); bad = h.bad; before = h.before }
+bad_not_good : (usable : List ℕ → Bool) (workers : ℕ) (s : Session) (line : List ℕ) → IsBadIn usable workers s line → IsGoodIn usable workers s line → ⊥
+bad_not_good usable workers s line bad (inl skipped) = bad.not_skipped skipped
+bad_not_good usable workers s line bad (inr (inl command)) = bad.no_command command.0 command.1.0 command.1.1
+bad_not_good usable workers s line bad (inr (inr file)) = let is = bad.no_file file.0 file.1.0 file.1.1.0 in let not = file.1.1.1 in cc
 
-pub first_bad-IsFirstBad : (usable : List ℕ → Bool) (lines : List (List ℕ)) (n : ℕ) → IsFirstBad usable lines n → first_bad_by usable 1 lines ≡ Some n
-first_bad-IsFirstBad usable lines n h =
-    first_bad_is usable 1 lines n (record { from = h.from_one; there = omega (arith, h.there); bad = h.bad; before = h.before })
+in_good : (usable : List ℕ → Bool) (workers : ℕ) (s : Session) (line : List ℕ) → IsGoodIn usable workers s line → is_good usable (placed workers s (kind_of line)) ≡ true
+in_good usable workers s line h = by_test (is_good usable (placed workers s (kind_of line))) refl
+  where
+    by_test : (t : Bool) → is_good usable (placed workers s (kind_of line)) ≡ t → t ≡ true
+    by_test true e = refl
+    by_test false e = absurd (bad_not_good usable workers s line (bad_in usable workers s line (kind_of line) refl e) h)
+
+in_bad : (usable : List ℕ → Bool) (workers : ℕ) (s : Session) (line : List ℕ) → IsBadIn usable workers s line → is_good usable (placed workers s (kind_of line)) ≡ false
+in_bad usable workers s line h = by_test (is_good usable (placed workers s (kind_of line))) refl
+  where
+    by_test : (t : Bool) → is_good usable (placed workers s (kind_of line)) ≡ t → t ≡ false
+    by_test true e = absurd (bad_not_good usable workers s line h (good_in usable workers s line (kind_of line) refl e))
+    by_test false e = refl
+
+-- a line by its number
+session_of_line : (lines : List (List ℕ)) (n : ℕ) → 1 ≤ n → IsSession lines n (session_at lines (n - 1))
+session_of_line lines n some = let e : (n - 1) + 1 ≡ n = omega (arith, some) in subst (λ (m : ℕ). IsSession lines m (session_at lines (n - 1))) e (IsSession-at lines (n - 1))
+
+kind_of_line : (workers : ℕ) (lines : List (List ℕ)) (n : ℕ) → 1 ≤ n → n ≤ length lines → get_or (kinds_of workers lines) (n - 1) Bad ≡ placed workers (session_at lines (n - 1)) (kind_of (line_at lines n))
+kind_of_line workers lines n some there = kind_at workers lines (n - 1) (omega (arith, some, there))
+
+good_line : (usable : List ℕ → Bool) (workers : ℕ) (lines : List (List ℕ)) (n : ℕ) → 1 ≤ n → n ≤ length lines → is_good usable (get_or (kinds_of workers lines) (n - 1) Bad) ≡ true → IsGood usable workers lines n
+good_line usable workers lines n some there e =
+    (session_at lines (n - 1), (session_of_line lines n some, good_in usable workers (session_at lines (n - 1)) (line_at lines n) (kind_of (line_at lines n)) refl (ap (is_good usable) (sym (kind_of_line workers lines n some there)) ∙ e)))
+
+line_good : (usable : List ℕ → Bool) (workers : ℕ) (lines : List (List ℕ)) (n : ℕ) → 1 ≤ n → n ≤ length lines → IsGood usable workers lines n → is_good usable (get_or (kinds_of workers lines) (n - 1) Bad) ≡ true
+line_good usable workers lines n some there (s, (before, good)) =
+    ap (is_good usable) (kind_of_line workers lines n some there)
+    ∙ in_good usable workers (session_at lines (n - 1)) (line_at lines n) (subst (λ (t : Session). IsGoodIn usable workers t (line_at lines n)) (at-IsSession lines n s some before) good)
+
+bad_line : (usable : List ℕ → Bool) (workers : ℕ) (lines : List (List ℕ)) (n : ℕ) → 1 ≤ n → n ≤ length lines → is_good usable (get_or (kinds_of workers lines) (n - 1) Bad) ≡ false → IsBad usable workers lines n
+bad_line usable workers lines n some there e =
+    (session_at lines (n - 1), (session_of_line lines n some, bad_in usable workers (session_at lines (n - 1)) (line_at lines n) (kind_of (line_at lines n)) refl (ap (is_good usable) (sym (kind_of_line workers lines n some there)) ∙ e)))
+
+line_bad : (usable : List ℕ → Bool) (workers : ℕ) (lines : List (List ℕ)) (n : ℕ) → 1 ≤ n → n ≤ length lines → IsBad usable workers lines n → is_good usable (get_or (kinds_of workers lines) (n - 1) Bad) ≡ false
+line_bad usable workers lines n some there (s, (before, bad)) =
+    ap (is_good usable) (kind_of_line workers lines n some there)
+    ∙ in_bad usable workers (session_at lines (n - 1)) (line_at lines n) (subst (λ (t : Session). IsBadIn usable workers t (line_at lines n)) (at-IsSession lines n s some before) bad)
+
+-- behind the last line
+abbrev last_session : List (List ℕ) → Session
+last_session lines = session_at lines (length lines)
+
+session_behind_all : (lines : List (List ℕ)) (s : Session) → IsSession lines (length lines + 1) s → s ≡ last_session lines
+session_behind_all lines s h = at-IsSession lines (length lines + 1) s (omega arith) h ∙ ap (session_at lines) (let e : (length lines + 1) - 1 ≡ length lines = omega arith in e)
+
+is_open : (lines : List (List ℕ)) → 1 ≤ length (ending (last_session lines)) → IsOpen lines
+is_open lines some = (last_session lines, (IsSession-at lines (length lines), λ out. (let none = outside_ends (last_session lines) out in omega (arith, some, none))))
+
+open_is : (lines : List (List ℕ)) → IsOpen lines → length (ending (last_session lines)) ≡ 1
+open_is lines (s, (h, other)) = open_ends (last_session lines) (λ out. other (session_behind_all lines s h ∙ out))
+
+bad_behind_all : (usable : List ℕ → Bool) (workers : ℕ) (lines : List (List ℕ)) (n : ℕ) → n ≡ length lines + 1 → is_good usable (get_or (kinds_of workers lines) (n - 1) Bad) ≡ false
+bad_behind_all usable workers lines n e =
+    let at : n - 1 ≡ length lines = omega (arith, e) in
+    ap (λ (i : ℕ). is_good usable (get_or (kinds_of workers lines) i Bad)) at ∙ ap (is_good usable) (end_from workers Outside lines)
+
+-- the first bad line
+first_from : (usable : List ℕ → Bool) (workers : ℕ) (lines : List (List ℕ)) (n : ℕ) → FirstBadFrom usable 1 (kinds_of workers lines) n → (t : Bool) → nat_le n (length lines) ≡ t → IsFirstBad usable workers lines n
+first_from usable workers lines n h true is =
+    let there = leb-true n (length lines) is in
+    record {
+      from_one = h.from;
+      bad = inl (there, bad_line usable workers lines n h.from there h.bad);
+      before = λ k low high. good_line usable workers lines k low (omega (arith, high, there)) (h.before k low high);
+    }
+first_from usable workers lines n h false is =
+    let over = leb-false n (length lines) is in
+    let last : n ≡ length lines + 1 = omega (arith, over, h.there, length_kinds workers lines, few_ends (last_session lines)) in
+    record {
+      from_one = h.from;
+      bad = inr (last, is_open lines (omega (arith, over, h.there, length_kinds workers lines)));
+      before = λ k low high. good_line usable workers lines k low (omega (arith, high, last)) (h.before k low high);
+    }
+
+from_first : (usable : List ℕ → Bool) (workers : ℕ) (lines : List (List ℕ)) (n : ℕ) → IsFirstBad usable workers lines n → ((n ≤ length lines) × IsBad usable workers lines n) ⊎ ((n ≡ length lines + 1) × IsOpen lines)
+    → FirstBadFrom usable 1 (kinds_of workers lines) n
+from_first usable workers lines n h (inl (there, bad)) = record {
+  from = h.from_one;
+  there = omega (arith, there, length_kinds workers lines);
+  bad = line_bad usable workers lines n h.from_one there bad;
+  before = λ k low high. line_good usable workers lines k low (omega (arith, high, there)) (h.before k low high);
+}
+from_first usable workers lines n h (inr (last, unclosed)) = record {
+  from = h.from_one;
+  there = omega (arith, last, length_kinds workers lines, open_is lines unclosed);
+  bad = bad_behind_all usable workers lines n last;
+  before = λ k low high. line_good usable workers lines k low (omega (arith, high, last)) (h.before k low high);
+}
+
+pub IsFirstBad-first_bad : (usable : List ℕ → Bool) (workers : ℕ) (lines : List (List ℕ)) (n : ℕ) → first_bad_by usable 1 (kinds_of workers lines) ≡ Some n → IsFirstBad usable workers lines n
+IsFirstBad-first_bad usable workers lines n e = first_from usable workers lines n (is_first_bad usable 1 (kinds_of workers lines) n e) (nat_le n (length lines)) refl
+
+pub first_bad-IsFirstBad : (usable : List ℕ → Bool) (workers : ℕ) (lines : List (List ℕ)) (n : ℕ) → IsFirstBad usable workers lines n → first_bad_by usable 1 (kinds_of workers lines) ≡ Some n
+first_bad-IsFirstBad usable workers lines n h = first_bad_is usable 1 (kinds_of workers lines) n (from_first usable workers lines n h h.bad)
 
 -- no bad line
-pub all_good : (usable : List ℕ → Bool) (m : ℕ) (lines : List (List ℕ)) → first_bad_by usable m lines ≡ None → Each (IsGood usable) lines
-all_good usable m [] e = tt
-all_good usable m (l ∷ ls) e = by_kind (kind_of l) refl e (λ (k : first_bad_by usable (m + 1) ls ≡ None). all_good usable (m + 1) ls k)
+pub AreGood-first_bad : (usable : List ℕ → Bool) (workers : ℕ) (lines : List (List ℕ)) → first_bad_by usable 1 (kinds_of workers lines) ≡ None → AreGood usable workers lines
+AreGood-first_bad usable workers lines e =
+    let each = each_good usable (kinds_of workers lines) (all_good usable 1 (kinds_of workers lines) e) in
+    record {
+      good = λ n some there. good_line usable workers lines n some there (each (n - 1) (omega (arith, some, there, length_kinds workers lines)));
+      closed = subst (IsSession lines (length lines + 1)) (ends_outside (last_session lines) (no_end each (length (ending (last_session lines))) refl)) (IsSession-at lines (length lines));
+    }
   where
-    by_test : (name : List ℕ) (t : Bool) → kind_of l ≡ OfFile name → usable name ≡ t → cond t (first_bad_by usable (m + 1) ls) (Some m) ≡ None → (first_bad_by usable (m + 1) ls ≡ None → Each (IsGood usable) ls) → IsGood usable l × Each (IsGood usable) ls
-    by_test name true is t e rest = (IsGood-OfFile usable l name is t, rest e)
-    by_test name false is t e rest = cc
+    no_end : ((i : ℕ) → i < length (kinds_of workers lines) → is_good usable (get_or (kinds_of workers lines) i Bad) ≡ true) → (more : ℕ) → length (ending (last_session lines)) ≡ more → length (ending (last_session lines)) ≡ 0
+    no_end each zero is = is
+    no_end each (suc more) is =
+        let good = each (length lines) (omega (arith, is, length_kinds workers lines)) in
+        let bad : is_good usable (get_or (kinds_of workers lines) (length lines) Bad) ≡ false = ap (is_good usable) (end_from workers Outside lines) in
+        absurd (let both : true ≡ false = sym good ∙ bad in cc)
 
-    by_kind : (k : Kind) → kind_of l ≡ k → bad_or usable m k (first_bad_by usable (m + 1) ls) ≡ None → (first_bad_by usable (m + 1) ls ≡ None → Each (IsGood usable) ls) → IsGood usable l × Each (IsGood usable) ls
-    by_kind Skipped is e rest = (IsGood-Skipped usable l is, rest e)
-    by_kind (Plain c) is e rest = (IsGood-Plain usable l c is, rest e)
-    by_kind (OfFile name) is e rest = by_test name (usable name) is refl e rest
-    by_kind Bad is e rest = cc
+pub first_bad-AreGood : (usable : List ℕ → Bool) (workers : ℕ) (lines : List (List ℕ)) → AreGood usable workers lines → first_bad_by usable 1 (kinds_of workers lines) ≡ None
+first_bad-AreGood usable workers lines h =
+    let closed = outside_ends (last_session lines) (sym (session_behind_all lines Outside h.closed)) in
+    first_bad-all_good usable 1 (kinds_of workers lines) (good_each usable (kinds_of workers lines) (λ i below. (
+    let there : i + 1 ≤ length lines = omega (arith, below, length_kinds workers lines, closed) in
+    let at : (i + 1) - 1 ≡ i = omega arith in
+    subst (λ (j : ℕ). is_good usable (get_or (kinds_of workers lines) j Bad) ≡ true) at (line_good usable workers lines (i + 1) (omega arith) there (h.good (i + 1) (omega arith) there)))))
 
-pub first_bad-all_good : (usable : List ℕ → Bool) (m : ℕ) (lines : List (List ℕ)) → Each (IsGood usable) lines → first_bad_by usable m lines ≡ None
-first_bad-all_good usable m [] h = refl
-first_bad-all_good usable m (l ∷ ls) h = by_kind (kind_of l) refl (first_bad-all_good usable (m + 1) ls h.1)
+-- the commands
+kept_or_bad : (t : Bool) (k : Kind) → (cond t k Bad ≡ k) ⊎ (cond t k Bad ≡ Bad)
+kept_or_bad true k = inl refl
+kept_or_bad false k = inr refl
+
+placed_or_bad : (workers : ℕ) (s : Session) (k : Kind) → (placed workers s k ≡ k) ⊎ (placed workers s k ≡ Bad)
+placed_or_bad workers s Skipped = inl refl
+placed_or_bad workers s (Plain c) = kept_or_bad (may_stand workers s c) (Plain c)
+placed_or_bad workers s (OfFile name) = kept_or_bad (is_outside s) (OfFile name)
+placed_or_bad workers s Bad = inl refl
+
+placed_same : (workers : ℕ) (s : Session) (k other : Kind) → placed workers s k ≡ other → other ≢ Bad → k ≡ other
+placed_same workers s k other e good = by_case (placed_or_bad workers s k)
   where
-    by_test : (name : List ℕ) (t : Bool) → kind_of l ≡ OfFile name → usable name ≡ t → first_bad_by usable (m + 1) ls ≡ None → cond t (first_bad_by usable (m + 1) ls) (Some m) ≡ None
-    by_test name true is t rest = rest
-    by_test name false is t rest = absurd (bad_not_good usable l (IsBad-OfFile usable l name is t) h.0)
+    by_case : (placed workers s k ≡ k) ⊎ (placed workers s k ≡ Bad) → k ≡ other
+    by_case (inl h) = sym h ∙ e
+    by_case (inr h) = absurd (good (sym e ∙ h))
 
-    by_kind : (k : Kind) → kind_of l ≡ k → first_bad_by usable (m + 1) ls ≡ None → bad_or usable m k (first_bad_by usable (m + 1) ls) ≡ None
-    by_kind Skipped is rest = rest
-    by_kind (Plain c) is rest = rest
-    by_kind (OfFile name) is rest = by_test name (usable name) is refl rest
-    by_kind Bad is rest = absurd (bad_not_good usable l (IsBad-Bad usable l is) h.0)
+asks_of : (names : List (List ℕ)) (workers : ℕ) (s : Session) (line : List ℕ) (k : Kind) (c : Command) → placed workers s (kind_of line) ≡ k → AsksOf names k c → Asks names line c
+asks_of names workers s line Skipped c e h = absurd h
+asks_of names workers s line (Plain d) c e h =
+    let reads : Reads line c = Reads-Plain line c (placed_same workers s (kind_of line) (Plain d) e (λ bad. cc) ∙ ap (λ (x : Command). Plain x) h) in
+    subst (λ (o : Option (ℕ × ℕ)). AsksFile names line o c) (sym (file_in-Reads line c reads)) reads
+asks_of names workers s line (OfFile name) c e (file, (is, (there, known))) =
+    let asks : Asks names line (Bulk file 0) = (there, subst (λ (n : List ℕ). ReadsFile line n) (sym known) (ReadsFile-OfFile line name (placed_same workers s (kind_of line) (OfFile name) e (λ bad. cc)))) in
+    subst (λ (x : Command). Asks names line x) is asks
+asks_of names workers s line Bad c e h = absurd h
 
--- line n is before the first bad one, where the first line has the number m
-record BeforeFrom (m : ℕ) (lines : List (List ℕ)) (n : ℕ) : Type 0 where
-  from : m ≤ n
-  there : n < m + length lines
-  before : MatchOption (first_bad m lines) ⊤ (λ bad. n < bad)
+-- a command is on a line, and not behind the last
+on_a_line : (names : List (List ℕ)) (workers : ℕ) (lines : List (List ℕ)) (n : ℕ) (c : Command) → 1 ≤ n → AsksOf names (get_or (kinds_of workers lines) (n - 1) Bad) c → n < 1 + length (kinds_of workers lines) → (t : Bool) → nat_le n (length lines) ≡ t → n ≤ length lines
+on_a_line names workers lines n c some asks high true is = leb-true n (length lines) is
+on_a_line names workers lines n c some asks high false is =
+    let over = leb-false n (length lines) is in
+    let at : n - 1 ≡ length lines = omega (arith, over, high, length_kinds workers lines, few_ends (last_session lines)) in
+    absurd (subst (λ (k : Kind). AsksOf names k c) (ap (λ (i : ℕ). get_or (kinds_of workers lines) i Bad) at ∙ end_from workers Outside lines) asks)
 
-abbrev NotYet : Option ℕ → ℕ → Type 0
-NotYet bad n = MatchOption bad ⊤ (λ b. n < b)
+is_right : (names : List (List ℕ)) (workers : ℕ) (lines : List (List ℕ)) (item : Numbered) → IsAt names 1 (kinds_of workers lines) item → IsBefore workers lines item.line × Asks names (line_at lines item.line) item.command
+is_right names workers lines item h =
+    let there : item.line ≤ length lines = on_a_line names workers lines item.line item.command h.0.from h.1 h.0.there (nat_le item.line (length lines)) refl in (
+      record { from_one = h.0.from; there = there; before = h.0.before },
+      asks_of names workers (session_at lines (item.line - 1)) (line_at lines item.line) (get_or (kinds_of workers lines) (item.line - 1) Bad) item.command (sym (kind_of_line workers lines item.line h.0.from there)) h.1,
+    )
 
-before_later : (m n : ℕ) (l : List ℕ) (ls : List (List ℕ)) → first_bad m (l ∷ ls) ≡ first_bad (m + 1) ls → BeforeFrom (m + 1) ls n → BeforeFrom m (l ∷ ls) n
-before_later m n l ls e h = record {
-  from = omega (arith, h.from);
-  there = omega (arith, h.there);
-  before = subst (λ (o : Option ℕ). NotYet o n) (sym e) h.before;
-}
+each_right : (names : List (List ℕ)) (workers : ℕ) (lines : List (List ℕ)) (items : List Numbered) → Each (IsAt names 1 (kinds_of workers lines)) items → Each (λ item. IsBefore workers lines item.line × Asks names (line_at lines item.line) item.command) items
+each_right names workers lines [] h = tt
+each_right names workers lines (item ∷ items) h = (is_right names workers lines item h.0, each_right names workers lines items h.1)
 
-before_sooner : (m n : ℕ) (l : List ℕ) (ls : List (List ℕ)) → first_bad m (l ∷ ls) ≡ first_bad (m + 1) ls → m + 1 ≤ n → BeforeFrom m (l ∷ ls) n → BeforeFrom (m + 1) ls n
-before_sooner m n l ls e above h = record {
-  from = above;
-  there = omega (arith, h.there);
-  before = subst (λ (o : Option ℕ). NotYet o n) e h.before;
-}
+found_line : (workers : ℕ) (lines : List (List ℕ)) (items : List Numbered) (n : ℕ) → IsBefore workers lines n → IsFoundAt 1 (kinds_of workers lines) items n → IsBlankOrComment (line_at lines n) ⊎ HasLine n items
+found_line workers lines items n h (inl skipped) =
+    inl (IsBlankOrComment-Skipped (line_at lines n) (placed_same workers (session_at lines (n - 1)) (kind_of (line_at lines n)) Skipped (sym (kind_of_line workers lines n h.from_one h.there) ∙ skipped) (λ bad. cc)))
+found_line workers lines items n h (inr has) = inr has
 
--- the first line is before what is bad behind it
-above_first : (m : ℕ) (ls : List (List ℕ)) (o : Option ℕ) → first_bad (m + 1) ls ≡ o → NotYet o m
-above_first m ls None e = tt
-above_first m ls (Some k) e = let h = is_first_bad (λ name. true) (m + 1) ls k e in omega (arith, h.from)
-
-first_before : (m : ℕ) (l : List ℕ) (ls : List (List ℕ)) → first_bad m (l ∷ ls) ≡ first_bad (m + 1) ls → BeforeFrom m (l ∷ ls) m
-first_before m l ls same = record {
-  from = omega arith;
-  there = omega arith;
-  before = subst (λ (o : Option ℕ). NotYet o m) (sym same) (above_first m ls (first_bad (m + 1) ls) refl);
-}
-
-same_bad : (m : ℕ) (l : List ℕ) (ls : List (List ℕ)) (k : Kind) → kind_of l ≡ k → first_bad m (l ∷ ls) ≡ bad_or (λ name. true) m k (first_bad (m + 1) ls)
-same_bad m l ls k is = ap (λ (k : Kind). bad_or (λ name. true) m k (first_bad (m + 1) ls)) is
-
--- a command stands on the line with its number
-abbrev IsAt : List (List ℕ) → ℕ → List (List ℕ) → Numbered → Type 0
-IsAt names m lines item = BeforeFrom m lines item.line × Asks names (get_or lines (item.line - m) []) item.command
-
-at_later : (names : List (List ℕ)) (m : ℕ) (l : List ℕ) (ls : List (List ℕ)) (items : List Numbered) → first_bad m (l ∷ ls) ≡ first_bad (m + 1) ls → Each (IsAt names (m + 1) ls) items → Each (IsAt names m (l ∷ ls)) items
-at_later names m l ls [] e h = tt
-at_later names m l ls (item ∷ items) e h =
-    ((before_later m item.line l ls e h.0.0, subst (λ (line : List ℕ). Asks names line item.command) (sym (shifted m item.line l ls h.0.0.from)) h.0.1), at_later names m l ls items e h.1)
-
-at_here : (names : List (List ℕ)) (m : ℕ) (l : List ℕ) (ls : List (List ℕ)) (c : Command) → first_bad m (l ∷ ls) ≡ first_bad (m + 1) ls → Asks names l c → IsAt names m (l ∷ ls) (record { line = m; command = c })
-at_here names m l ls c same asks = (first_before m l ls same, subst (λ (line : List ℕ). Asks names line c) (sym (at_first m m l ls refl)) asks)
-
-each_at : (names pre : List (List ℕ)) (file m : ℕ) (lines : List (List ℕ)) → file ≡ length pre → names ≡ pre ++ names_of lines → Each (IsAt names m lines) (numbered_from m file lines)
-each_at names pre file m [] f e = tt
-each_at names pre file m (l ∷ ls) f e = by_kind (kind_of l) refl e (λ (p : List (List ℕ)) (g : ℕ) (fp : g ≡ length p) (ep : names ≡ p ++ names_of ls). each_at names p g (m + 1) ls fp ep)
-  where
-    by_kind : (k : Kind) → kind_of l ≡ k → names ≡ pre ++ names_before k (names_of ls)
-        → ((p : List (List ℕ)) (g : ℕ) → g ≡ length p → names ≡ p ++ names_of ls → Each (IsAt names (m + 1) ls) (numbered_from (m + 1) g ls))
-        → Each (IsAt names m (l ∷ ls)) (before_bad m file k (numbered_from (m + 1) (file_after file k) ls))
-    by_kind Skipped is e rest = at_later names m l ls (numbered_from (m + 1) file ls) (same_bad m l ls Skipped is) (rest pre file f e)
-    by_kind (Plain c) is e rest =
-        let same = same_bad m l ls (Plain c) is in
-        let reads = Reads-Plain l c is in
-        let asks : Asks names l c = subst (λ (o : Option (ℕ × ℕ)). AsksFile names l o c) (sym (file_in-Reads l c reads)) reads in
-        (at_here names m l ls c same asks, at_later names m l ls (numbered_from (m + 1) file ls) same (rest pre file f e))
-    by_kind (OfFile name) is e rest =
-        let same = same_bad m l ls (OfFile name) is in
-        let asks : Asks names l (Bulk file 0) = (name_there names pre name (names_of ls) file f e, subst (λ (n : List ℕ). ReadsFile l n) (sym (name_here names pre name (names_of ls) file f e)) (ReadsFile-OfFile l name is)) in
-        (at_here names m l ls (Bulk file 0) same asks, at_later names m l ls (numbered_from (m + 1) (file + 1) ls) same (rest (pre ++ name ∷ []) (file + 1) (file_more pre name file f) (names_more names pre name (names_of ls) e)))
-    by_kind Bad is e rest = tt
-
--- and each line before the first bad one is skipped or has its command
-abbrev IsFound : ℕ → List (List ℕ) → List Numbered → ℕ → Type 0
-IsFound m lines items n = IsBlankOrComment (get_or lines (n - m) []) ⊎ HasLine n items
-
-found_later : (m n : ℕ) (l : List ℕ) (ls : List (List ℕ)) (items more : List Numbered) → m + 1 ≤ n → (HasLine n items → HasLine n more) → IsFound (m + 1) ls items n → IsFound m (l ∷ ls) more n
-found_later m n l ls items more above has (inl blank) = inl (subst IsBlankOrComment (sym (shifted m n l ls above)) blank)
-found_later m n l ls items more above has (inr there) = inr (has there)
-
-each_found : (m file : ℕ) (lines : List (List ℕ)) (n : ℕ) → BeforeFrom m lines n → IsFound m lines (numbered_from m file lines) n
-each_found m file [] n h = absurd (omega (arith, h.from, h.there))
-each_found m file (l ∷ ls) n h = by_kind (kind_of l) refl (λ (g : ℕ) (k : BeforeFrom (m + 1) ls n). each_found (m + 1) g ls n k)
-  where
-    command_here : (c : Command) (g : ℕ) → first_bad m (l ∷ ls) ≡ first_bad (m + 1) ls → (BeforeFrom (m + 1) ls n → IsFound (m + 1) ls (numbered_from (m + 1) g ls) n)
-        → IsFound m (l ∷ ls) (record { line = m; command = c } ∷ numbered_from (m + 1) g ls) n
-    command_here c g same rest = elim (cases_eq m n) as (λ _. IsFound m (l ∷ ls) (record { line = m; command = c } ∷ numbered_from (m + 1) g ls) n) [
-      | inl e ↦ inr (inl e)
-      | inr e ↦ (let above : m + 1 ≤ n = omega (arith, e, h.from) in
-          found_later m n l ls (numbered_from (m + 1) g ls) (record { line = m; command = c } ∷ numbered_from (m + 1) g ls) above (λ has. inr has) (rest (before_sooner m n l ls same above h)))
-    ]
-
-    by_kind : (k : Kind) → kind_of l ≡ k → ((g : ℕ) → BeforeFrom (m + 1) ls n → IsFound (m + 1) ls (numbered_from (m + 1) g ls) n) → IsFound m (l ∷ ls) (before_bad m file k (numbered_from (m + 1) (file_after file k) ls)) n
-    by_kind Skipped is rest = elim (cases_eq m n) as (λ _. IsFound m (l ∷ ls) (numbered_from (m + 1) file ls) n) [
-      | inl e ↦ inl (subst IsBlankOrComment (sym (at_first m n l ls e)) (IsBlankOrComment-Skipped l is))
-      | inr e ↦ (let above : m + 1 ≤ n = omega (arith, e, h.from) in
-          found_later m n l ls (numbered_from (m + 1) file ls) (numbered_from (m + 1) file ls) above (λ has. has) (rest file (before_sooner m n l ls (same_bad m l ls Skipped is) above h)))
-    ]
-    by_kind (Plain c) is rest = command_here c file (same_bad m l ls (Plain c) is) (rest file)
-    by_kind (OfFile name) is rest = command_here (Bulk file 0) (file + 1) (same_bad m l ls (OfFile name) is) (rest (file + 1))
-    by_kind Bad is rest = let below : n < m = subst (λ (o : Option ℕ). NotYet o n) (same_bad m l ls Bad is) h.before in absurd (omega (arith, h.from, below))
-
--- in order
-rises : (n m file : ℕ) (lines : List (List ℕ)) → n < m → Rises n (numbered_from m file lines)
-rises n m file [] below = tt
-rises n m file (l ∷ ls) below = by_kind (kind_of l) (rises n (m + 1) file ls (omega (arith, below))) (λ (g : ℕ). rises m (m + 1) g ls (omega arith))
-  where
-    by_kind : (k : Kind) → Rises n (numbered_from (m + 1) file ls) → ((g : ℕ) → Rises m (numbered_from (m + 1) g ls)) → Rises n (before_bad m file k (numbered_from (m + 1) (file_after file k) ls))
-    by_kind Skipped same next = same
-    by_kind (Plain c) same next = (below, next file)
-    by_kind (OfFile name) same next = (below, next (file + 1))
-    by_kind Bad same next = tt
-
-each_before : (names lines : List (List ℕ)) (items : List Numbered) → Each (IsAt names 1 lines) items → Each (λ item. IsBefore lines item.line × Asks names (get_or lines (item.line - 1) []) item.command) items
-each_before names lines [] h = tt
-each_before names lines (item ∷ items) h = ((record { from_one = h.0.0.from; there = omega (arith, h.0.0.there); before = h.0.0.before }, h.0.1), each_before names lines items h.1)
-
-pub AreCommands-numbered_of : (lines : List (List ℕ)) → AreCommands lines (names_of lines) (numbered_of 1 lines)
-AreCommands-numbered_of lines = record {
-  right = each_before (names_of lines) lines (numbered_of 1 lines) (each_at (names_of lines) [] 0 1 lines refl refl);
-  whole = λ n h. each_found 1 0 lines n (record { from = h.from_one; there = omega (arith, h.there); before = h.before });
-  order = rises 0 1 0 lines (omega arith);
+pub AreCommands-numbered_of : (workers : ℕ) (lines : List (List ℕ)) → AreCommands workers lines (names_of (kinds_of workers lines)) (numbered_of 1 (kinds_of workers lines))
+AreCommands-numbered_of workers lines = record {
+  right = each_right (names_of (kinds_of workers lines)) workers lines (numbered_of 1 (kinds_of workers lines)) (each_at (names_of (kinds_of workers lines)) [] 0 1 (kinds_of workers lines) refl refl);
+  whole = λ n h. found_line workers lines (numbered_of 1 (kinds_of workers lines)) n h
+      (each_found 1 0 (kinds_of workers lines) n (record { from = h.from_one; there = omega (arith, h.there, length_kinds workers lines); before = h.before }));
+  order = rises 0 1 0 (kinds_of workers lines) (omega arith);
 }

@@ -1,13 +1,17 @@
 -- Lemmas on checking a script's files.
 use Rattle.std.proofs.Common.{◌≡◌, ℕ, Bool, true, false, cond, ◌&&◌, ◌==◌, nat_le, ◌<◌, ◌%◌, inl, inr, zero, suc, List, [], ◌∷◌, length, take, drop, get_or, set, Option, Some, None, All, IfSome, refl, sym, ap, ap₂, ◌∙◌, subst, arith, drop-cons}
-use Rattle.std.specs.Prelude.{⊤, Result, Ok, Err, IsOk, OnOk, IfErr, IsErrOf, MatchOption}
+use Rattle.std.specs.Prelude.{⊤, unwrap_or, Result, Ok, Err, IsOk, OnOk, IfErr, IsErrOf, MatchOption}
 use Rattle.std.specs.List.{AllZip}
 use Rattle.std.proofs.lemmas.Bool.{le-leb, eq-eqb}
 use Rattle.std.proofs.lemmas.List.Elements.{AllZip-get_or, length_all_zip}
 use Rattle.ppq_outside.specs.Told.{Reply, OfLength, Remembers, TellsReply, length_of, bytes_or_none}
 use Rattle.ppq_script.specs.declared.command.Command.{Command}
-use Rattle.ppq_script.specs.declared.command.Command.TheVariants.{Push, Pop, Top, Size, Bulk, Gen, BulkPop, BulkPopLimit, Drain}
+use Rattle.ppq_script.specs.declared.command.Command.TheVariants.{Push, Pop, Top, Size, Bulk, Gen, BulkPop, BulkPopLimit, Drain, BulkBegin, BulkPush, BulkEnd}
 use Rattle.ppq_script.specs.declared.numbered.Numbered.{Numbered}
+use Rattle.ppq_script.specs.declared.session.Session.{Session}
+use Rattle.ppq_script.specs.declared.session.Session.TheVariants.{Outside}
+use Rattle.ppq_script.specs.Sessions.{turn_of, may_stand, are_in_place}
+use Rattle.ppq_script.proofs.Standing.{commands_in}
 use Rattle.ppq_script.specs.Files.{file_in, name_at, NamesFile, HasRecords, IsRecordLength, is_record_length, is_record_file, is_usable, usable_file, bad_among, FoundFile, NoFile, IsBadAmong}
 use Rattle.ppq_script.specs.Reading.{Reading}
 use Rattle.ppq_script.specs.declared.check.CheckFault.{CheckFault}
@@ -36,6 +40,37 @@ same_file (Gen seed count) = refl
 same_file (BulkPop count) = refl
 same_file (BulkPopLimit limit count) = refl
 same_file (Drain count) = refl
+same_file BulkBegin = refl
+same_file (BulkPush pass item) = refl
+same_file BulkEnd = refl
+
+-- what does not look at the length of a file is the same of it
+same_by : {X : Type 0} (f : Command → X) → ((file n m : ℕ) → f (Bulk file n) ≡ f (Bulk file m)) → (old new : Command) → IsSameFile (file_in old) old new → f new ≡ f old
+same_by f k (Push item) new e = ap f e
+same_by f k Pop new e = ap f e
+same_by f k Top new e = ap f e
+same_by f k Size new e = ap f e
+same_by f k (Bulk file length) new (n, e) = ap f e ∙ k file n length
+same_by f k (Gen seed count) new e = ap f e
+same_by f k (BulkPop count) new e = ap f e
+same_by f k (BulkPopLimit limit count) new e = ap f e
+same_by f k (Drain count) new e = ap f e
+same_by f k BulkBegin new e = ap f e
+same_by f k (BulkPush pass item) new e = ap f e
+same_by f k BulkEnd new e = ap f e
+
+-- so the commands stand where they stood
+same_in_place : (workers : ℕ) (s : Session) (old new : List Numbered) → AllZip IsSameItem old new → are_in_place workers s (commands_in new) ≡ are_in_place workers s (commands_in old)
+same_in_place workers s [] [] h = refl
+same_in_place workers s [] (y ∷ ys) h = absurd h
+same_in_place workers s (x ∷ xs) [] h = absurd h
+same_in_place workers s (x ∷ xs) (y ∷ ys) h =
+    ap₂ (λ (t u : Bool). t && u) (same_by (may_stand workers s) (λ file n m. refl) x.command y.command h.0.command)
+    (ap (λ (o : Option Session). are_in_place workers (unwrap_or o s) (commands_in ys)) (same_by turn_of (λ file n m. refl) x.command y.command h.0.command)
+    ∙ same_in_place workers (unwrap_or (turn_of x.command) s) xs ys h.1)
+
+pub in_place_later : (workers : ℕ) (old new : List Numbered) (bad : Option ℕ) → AllZip IsSameItem old new → (bad ≡ None → are_in_place workers Outside (commands_in old) ≡ true) → bad ≡ None → are_in_place workers Outside (commands_in new) ≡ true
+in_place_later workers old new bad same had none = same_in_place workers Outside old new same ∙ had none
 
 pub same_item : (item : Numbered) → IsSameItem item item
 same_item item = record { line = refl; command = same_file item.command }

@@ -7,10 +7,11 @@ use Rattle.std.proofs.lemmas.Bool.Decides.{Decides-eqb}
 use Rattle.std.proofs.lemmas.Slice.Eq.{bytes_eq-Decides, starts_is}
 use Rattle.std.proofs.lemmas.Str.{IsUtf8-from_ascii}
 use Rattle.std.specs.Prelude.{IsUtf8, slice_index}
+use Rattle.ppq_record.specs.declared.pair.Pair.{Pair}
 use Rattle.ppq_script.specs.declared.command.Command.{Command}
-use Rattle.ppq_script.specs.declared.command.Command.TheVariants.{Push, Pop, Top, Size, Bulk, Gen, BulkPop, BulkPopLimit, Drain}
+use Rattle.ppq_script.specs.declared.command.Command.TheVariants.{Push, Pop, Top, Size, Bulk, Gen, BulkPop, BulkPopLimit, Drain, BulkBegin, BulkPush, BulkEnd}
 use Rattle.ppq_script.specs.Number.{value_from, number_of}
-use Rattle.ppq_script.specs.Command.{command_of, many_of, alone, one_of, two_of, three_of, both_of, push_of, gen_of, bulk_pop_of, drain_of, bulk_pop_limit_of, file_of, is_file_name}
+use Rattle.ppq_script.specs.Command.{command_of, many_of, session_of, alone, one_of, two_of, three_of, both_of, push_of, gen_of, bulk_pop_of, drain_of, bulk_pop_limit_of, pass_of, bulk_push_of, file_of, is_file_name}
 use Rattle.ppq_script.specs.Lines.{Skipped, Plain, OfFile, kind_of, kind_of_fields, plain_or_bad, file_or_bad}
 use Rattle.ppq_script.specs.Files.{file_in}
 use Rattle.ppq_script.specs.Meaning.{IsDigit, Spells, IsGraphic, IsFileName, HasOne, HasTwo, HasThree, IsSpelled, IsBulk, IsSkipped, IsBlankOrComment, Reads, ReadsFile, fields_in}
@@ -160,13 +161,38 @@ spells_bulk_pop_limit name fields (Some p) c three n e =
     let is : BulkPopLimit (record { key = p.0; value = p.1.0 }) p.1.1 ≡ c = cc in
     subst (λ (d : Command). IsSpelled (name ∷ fields) d) is (has_three name (codes "bulk_pop_limit") fields p n three)
 
+few_passes : (p : ℕ × (ℕ × ℕ)) (push : ℕ × Pair) (t : Bool) → nat_le p.0 4294967295 ≡ t → cond t (Some (p.0, record { key = p.1.0; value = p.1.1 })) None ≡ Some push
+    → (p.0 ≤ 4294967295) × ((p.0, record { key = p.1.0; value = p.1.1 }) ≡ push)
+few_passes p push true is e = (leb-true p.0 4294967295 is, cc)
+few_passes p push false is e = cc
+
+-- a word, the number of a pass, and a record
+has_pass : (name word : List ℕ) (fields : List (List ℕ)) (numbers : Option (ℕ × (ℕ × ℕ))) (push : ℕ × Pair) → three_of fields ≡ numbers → name ≡ word → pass_of numbers ≡ Some push
+    → HasThree word (name ∷ fields) push.0 push.1.key push.1.value × (push.0 ≤ 4294967295)
+has_pass name word fields None push three n e = cc
+has_pass name word fields (Some p) push three n e =
+    let few = few_passes p push (nat_le p.0 4294967295) refl e in
+    subst (λ (q : ℕ × Pair). HasThree word (name ∷ fields) q.0 q.1.key q.1.value × (q.0 ≤ 4294967295)) few.1 (has_three name word fields p n three, few.0)
+
+spells_bulk_push : (name : List ℕ) (fields : List (List ℕ)) (push : Option (ℕ × Pair)) (c : Command) → pass_of (three_of fields) ≡ push → name ≡ codes "bulk_push" → bulk_push_of push ≡ Some c → IsSpelled (name ∷ fields) c
+spells_bulk_push name fields None c three n e = cc
+spells_bulk_push name fields (Some p) c three n e =
+    let is : BulkPush p.0 p.1 ≡ c = cc in
+    subst (λ (d : Command). IsSpelled (name ∷ fields) d) is (has_pass name (codes "bulk_push") fields (three_of fields) p refl n three)
+
 -- fields that are read as a command spell it
+spells_session : (name : List ℕ) (fields : List (List ℕ)) (c : Command) → session_of name fields ≡ Some c → IsSpelled (name ∷ fields) c
+spells_session name fields c e =
+    by_name name (codes "bulk_begin") _ _ c (IsSpelled-alone name (codes "bulk_begin") fields BulkBegin c refl)
+    (by_name name (codes "bulk_push") _ _ c (spells_bulk_push name fields (pass_of (three_of fields)) c refl)
+    (by_name name (codes "bulk_end") _ _ c (IsSpelled-alone name (codes "bulk_end") fields BulkEnd c refl) (λ (none : None ≡ Some c). cc))) e
+
 spells_many : (name : List ℕ) (fields : List (List ℕ)) (c : Command) → many_of name fields ≡ Some c → IsSpelled (name ∷ fields) c
 spells_many name fields c e =
     by_name name (codes "gen") _ _ c (spells_gen name fields (two_of fields) c refl)
     (by_name name (codes "bulk_pop") _ _ c (spells_bulk_pop name fields (one_of fields) c refl)
     (by_name name (codes "bulk_pop_limit") _ _ c (spells_bulk_pop_limit name fields (three_of fields) c refl)
-    (by_name name (codes "drain") _ _ c (spells_drain name fields (one_of fields) c refl) (λ (none : None ≡ Some c). cc)))) e
+    (by_name name (codes "drain") _ _ c (spells_drain name fields (one_of fields) c refl) (spells_session name fields c)))) e
 
 IsSpelled-command_of : (name : List ℕ) (fields : List (List ℕ)) (c : Command) → command_of name fields ≡ Some c → IsSpelled (name ∷ fields) c
 IsSpelled-command_of name fields c e =
@@ -203,6 +229,13 @@ IsSpelled-Plain (name ∷ fields) c e =
     IsSpelled-command_of name fields c (plain_case (starts_with nat_eq name (codes "#")) (bytes_eq name (codes "bulk")) (file_of fields) (command_of name fields) c e)
 
 -- and the other way round
+pass_of-Spells : (pass : ℕ) (item : Pair) (word : List ℕ) (fields : List (List ℕ)) (h : HasThree word fields pass item.key item.value) → pass ≤ 4294967295
+    → pass_of (both_of (number_of h.digits) (both_of (number_of h.others) (number_of h.lasts))) ≡ Some (pass, item)
+pass_of-Spells pass item word fields h few =
+    ap₂ (λ (one : Option ℕ) (two : Option (ℕ × ℕ)). pass_of (both_of one two)) (number_of-Spells h.digits pass h.spells)
+    (ap₂ (λ (one other : Option ℕ). both_of one other) (number_of-Spells h.others item.key h.spells_other) (number_of-Spells h.lasts item.value h.spells_last))
+    ∙ ap (λ (t : Bool). cond t (Some (pass, item)) None) (le-leb pass 4294967295 few)
+
 Plain-IsSpelled : (fields : List (List ℕ)) (c : Command) → IsSpelled fields c → kind_of_fields fields ≡ Plain c
 Plain-IsSpelled fields (Push item) h =
     ap kind_of_fields h.spelled
@@ -223,6 +256,10 @@ Plain-IsSpelled fields (BulkPopLimit limit count) h =
     (ap₂ (λ (one other : Option ℕ). both_of one other) (number_of-Spells h.others limit.value h.spells_other) (number_of-Spells h.lasts count h.spells_last))
 Plain-IsSpelled fields (Drain count) h =
     ap kind_of_fields h.spelled ∙ ap (λ (one : Option ℕ). plain_or_bad (drain_of one)) (number_of-Spells h.digits count h.spells)
+Plain-IsSpelled fields BulkBegin h = ap kind_of_fields h
+Plain-IsSpelled fields (BulkPush pass item) h =
+    ap kind_of_fields h.0.spelled ∙ ap (λ (push : Option (ℕ × Pair)). plain_or_bad (bulk_push_of push)) (pass_of-Spells pass item (codes "bulk_push") fields h.0 h.1)
+Plain-IsSpelled fields BulkEnd h = ap kind_of_fields h
 
 -- a command that is spelled names no file
 file_in-IsSpelled : (fields : List (List ℕ)) (c : Command) → IsSpelled fields c → file_in c ≡ None
@@ -235,6 +272,9 @@ file_in-IsSpelled fields (Gen seed count) h = refl
 file_in-IsSpelled fields (BulkPop count) h = refl
 file_in-IsSpelled fields (BulkPopLimit limit count) h = refl
 file_in-IsSpelled fields (Drain count) h = refl
+file_in-IsSpelled fields BulkBegin h = refl
+file_in-IsSpelled fields (BulkPush pass item) h = refl
+file_in-IsSpelled fields BulkEnd h = refl
 
 -- a line is read as a command where it is spelled as it
 pub Reads-Plain : (line : List ℕ) (c : Command) → kind_of line ≡ Plain c → Reads line c

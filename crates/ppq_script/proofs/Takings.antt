@@ -1,9 +1,12 @@
 -- Lemmas on reading one line after the other.
-use Rattle.std.proofs.Common.{◌≡◌, ℕ, true, ◌+◌, List, [], ◌∷◌, ◌++◌, length, Some, None, refl, sym, ap, ◌∙◌, subst, arith, append-nil, length-append}
+use Rattle.std.proofs.Common.{◌≡◌, ℕ, cond, ◌+◌, List, [], ◌∷◌, ◌++◌, length, Some, None, refl, sym, ap, ap₂, ◌∙◌, subst, arith, append-nil, length-append}
 use Rattle.ppq_script.specs.declared.command.Command.{Command}
 use Rattle.ppq_script.specs.declared.command.Command.TheVariants.{Bulk}
 use Rattle.ppq_script.specs.declared.numbered.Numbered.{Numbered}
-use Rattle.ppq_script.specs.Lines.{Kind, Skipped, Plain, OfFile, Bad, lines_of, kind_of, file_after, numbered_from, names_of, names_before, first_bad, before_bad, bad_or}
+use Rattle.ppq_script.specs.declared.session.Session.{Session}
+use Rattle.ppq_script.specs.declared.session.Session.TheVariants.{Outside, InBulk}
+use Rattle.ppq_script.specs.Sessions.{is_outside}
+use Rattle.ppq_script.specs.Lines.{Kind, Skipped, Plain, OfFile, Bad, lines_of, kind_of, session_behind, placed, kinds_from, kinds_of, file_after, numbered_from, names_of, first_bad}
 use Rattle.ppq_script.specs.Taken.{IsTaken}
 
 snoc_first : {X : Type 0} (pre : List X) (x : X) (rest : List X) → pre ++ x ∷ rest ≡ (pre ++ x ∷ []) ++ rest
@@ -43,44 +46,69 @@ IsTaken-OfFile line kind name had has knew knows k c n =
     let P : Kind → List Numbered → List (List ℕ) → Type 0 = λ kind has knows. IsTaken line kind had knew has knows in
     subst (λ k. P k has knows) (sym k) (subst (λ h. P (OfFile name) h knows) (sym c) (subst (λ h. P (OfFile name) (had ++ record { line = line; command = Bulk (length knew) 0 } ∷ []) h) (sym n) (taken_file line name had knew)))
 
--- the first line of the rest was taken
-abbrev pub Fronts : List ℕ → ℕ → List ℕ → List Numbered → List (List ℕ) → Type 0
-Fronts bytes line rest commands names =
-    (numbered_from 1 0 (lines_of bytes) ≡ commands ++ numbered_from line (length names) (lines_of rest))
-    × ((names_of (lines_of bytes) ≡ names ++ names_of (lines_of rest)) × (first_bad 1 (lines_of bytes) ≡ first_bad line (lines_of rest)))
+-- these lines were taken: what is left begins with this line, in this session
+abbrev pub Fronts : ℕ → List ℕ → ℕ → Session → List ℕ → List Numbered → List (List ℕ) → Type 0
+Fronts workers bytes line session rest commands names =
+    (numbered_from 1 0 (kinds_of workers (lines_of bytes)) ≡ commands ++ numbered_from line (length names) (kinds_from workers session (lines_of rest)))
+    × ((names_of (kinds_of workers (lines_of bytes)) ≡ names ++ names_of (kinds_from workers session (lines_of rest)))
+    × (first_bad 1 (kinds_of workers (lines_of bytes)) ≡ first_bad line (kinds_from workers session (lines_of rest))))
 
-pub fronts_more : (bytes rest text after : List ℕ) (line : ℕ) (had has : List Numbered) (knew knows : List (List ℕ))
-    → Fronts bytes line rest had knew → lines_of rest ≡ text ∷ lines_of after → IsTaken line (kind_of text) had knew has knows → Fronts bytes (line + 1) after has knows
-fronts_more bytes rest text after line had has knew knows h cut taken = (
-  h.0 ∙ ap (λ (ls : List (List ℕ)). had ++ numbered_from line (length knew) ls) cut ∙ taken.commands (numbered_from (line + 1) (file_after (length knew) (kind_of text)) (lines_of after))
-      ∙ ap (λ (f : ℕ). has ++ numbered_from (line + 1) f (lines_of after)) taken.file,
+-- the first line of the rest was taken
+pub fronts_more : (workers : ℕ) (bytes rest text after : List ℕ) (line : ℕ) (session next : Session) (what here : Kind) (had has : List Numbered) (knew knows : List (List ℕ))
+    → Fronts workers bytes line session rest had knew → lines_of rest ≡ text ∷ lines_of after → what ≡ kind_of text → here ≡ placed workers session what → next ≡ session_behind session what → IsTaken line here had knew has knows
+    → Fronts workers bytes (line + 1) next after has knows
+fronts_more workers bytes rest text after line session next what here had has knew knows h cut is place then taken = (
+  h.0 ∙ ap (λ (ks : List Kind). had ++ numbered_from line (length knew) ks) kinds ∙ taken.commands (numbered_from (line + 1) (file_after (length knew) here) (kinds_from workers next (lines_of after)))
+      ∙ ap (λ (f : ℕ). has ++ numbered_from (line + 1) f (kinds_from workers next (lines_of after))) taken.file,
   (
-    h.1.0 ∙ ap (λ (ls : List (List ℕ)). knew ++ names_of ls) cut ∙ taken.names (names_of (lines_of after)),
-    h.1.1 ∙ ap (first_bad line) cut ∙ taken.good (first_bad (line + 1) (lines_of after)),
+    h.1.0 ∙ ap (λ (ks : List Kind). knew ++ names_of ks) kinds ∙ taken.names (names_of (kinds_from workers next (lines_of after))),
+    h.1.1 ∙ ap (first_bad line) kinds ∙ taken.good (first_bad (line + 1) (kinds_from workers next (lines_of after))),
   ),
 )
+  where
+    kinds : kinds_from workers session (lines_of rest) ≡ here ∷ kinds_from workers next (lines_of after)
+    kinds =
+        ap (kinds_from workers session) cut
+        ∙ ap₂ (λ (k : Kind) (s : Session). k ∷ kinds_from workers s (lines_of after)) (sym (place ∙ ap (placed workers session) is)) (sym (then ∙ ap (session_behind session) is))
 
 -- it is bad, and so the last
-pub fronts_bad : (bytes rest text after : List ℕ) (line : ℕ) (had : List Numbered) (knew : List (List ℕ))
-    → Fronts bytes line rest had knew → lines_of rest ≡ text ∷ lines_of after → kind_of text ≡ Bad
-    → (numbered_from 1 0 (lines_of bytes) ≡ had) × ((names_of (lines_of bytes) ≡ knew) × (first_bad 1 (lines_of bytes) ≡ Some line))
-fronts_bad bytes rest text after line had knew h cut bad = (
-  h.0 ∙ ap (λ (ls : List (List ℕ)). had ++ numbered_from line (length knew) ls) cut
-      ∙ ap (λ (k : Kind). had ++ before_bad line (length knew) k (numbered_from (line + 1) (file_after (length knew) k) (lines_of after))) bad ∙ append-nil had,
-  (
-    h.1.0 ∙ ap (λ (ls : List (List ℕ)). knew ++ names_of ls) cut ∙ ap (λ (k : Kind). knew ++ names_before k (names_of (lines_of after))) bad ∙ append-nil knew,
-    h.1.1 ∙ ap (first_bad line) cut ∙ ap (λ (k : Kind). bad_or (λ name. true) line k (first_bad (line + 1) (lines_of after))) bad,
-  ),
+pub fronts_bad : (workers : ℕ) (bytes rest text after : List ℕ) (line : ℕ) (session : Session) (what here : Kind) (had : List Numbered) (knew : List (List ℕ))
+    → Fronts workers bytes line session rest had knew → lines_of rest ≡ text ∷ lines_of after → what ≡ kind_of text → here ≡ placed workers session what → here ≡ Bad
+    → (numbered_from 1 0 (kinds_of workers (lines_of bytes)) ≡ had) × ((names_of (kinds_of workers (lines_of bytes)) ≡ knew) × (first_bad 1 (kinds_of workers (lines_of bytes)) ≡ Some line))
+fronts_bad workers bytes rest text after line session what here had knew h cut is place bad = (
+  h.0 ∙ ap (λ (ks : List Kind). had ++ numbered_from line (length knew) ks) kinds ∙ append-nil had,
+  (h.1.0 ∙ ap (λ (ks : List Kind). knew ++ names_of ks) kinds ∙ append-nil knew, h.1.1 ∙ ap (first_bad line) kinds),
 )
+  where
+    kinds : kinds_from workers session (lines_of rest) ≡ Bad ∷ kinds_from workers (session_behind session (kind_of text)) (lines_of after)
+    kinds =
+        ap (kinds_from workers session) cut
+        ∙ ap (λ (k : Kind). k ∷ kinds_from workers (session_behind session (kind_of text)) (lines_of after)) (sym (sym bad ∙ place ∙ ap (placed workers session) is))
 
 -- no line is left
 pub nothing_left : (rest : List ℕ) → length rest ≡ 0 → rest ≡ []
 nothing_left [] e = refl
 nothing_left (b ∷ bs) e = absurd (omega (arith, e))
 
-pub fronts_end : (bytes rest : List ℕ) (line : ℕ) (had : List Numbered) (knew : List (List ℕ)) → Fronts bytes line rest had knew → rest ≡ []
-    → (numbered_from 1 0 (lines_of bytes) ≡ had) × ((names_of (lines_of bytes) ≡ knew) × (first_bad 1 (lines_of bytes) ≡ None))
-fronts_end bytes rest line had knew h empty = (
-  h.0 ∙ ap (λ (r : List ℕ). had ++ numbered_from line (length knew) (lines_of r)) empty ∙ append-nil had,
-  (h.1.0 ∙ ap (λ (r : List ℕ). knew ++ names_of (lines_of r)) empty ∙ append-nil knew, h.1.1 ∙ ap (λ (r : List ℕ). first_bad line (lines_of r)) empty),
+-- behind the last line a session is open, or none
+end_names : (workers : ℕ) (session : Session) → names_of (kinds_from workers session []) ≡ []
+end_names workers Outside = refl
+end_names workers InBulk = refl
+
+end_commands : (workers line file : ℕ) (session : Session) → numbered_from line file (kinds_from workers session []) ≡ []
+end_commands workers line file Outside = refl
+end_commands workers line file InBulk = refl
+
+end_bad : (workers line : ℕ) (session : Session) → first_bad line (kinds_from workers session []) ≡ cond (is_outside session) None (Some line)
+end_bad workers line Outside = refl
+end_bad workers line InBulk = refl
+
+pub fronts_end : (workers : ℕ) (bytes rest : List ℕ) (line : ℕ) (session : Session) (had : List Numbered) (knew : List (List ℕ)) → Fronts workers bytes line session rest had knew → rest ≡ []
+    → (numbered_from 1 0 (kinds_of workers (lines_of bytes)) ≡ had) × ((names_of (kinds_of workers (lines_of bytes)) ≡ knew) × (first_bad 1 (kinds_of workers (lines_of bytes)) ≡ cond (is_outside session) None (Some line)))
+fronts_end workers bytes rest line session had knew h empty = (
+  h.0 ∙ ap (λ (r : List ℕ). had ++ numbered_from line (length knew) (kinds_from workers session (lines_of r))) empty ∙ ap (λ (items : List Numbered). had ++ items) (end_commands workers line (length knew) session) ∙ append-nil had,
+  (
+    h.1.0 ∙ ap (λ (r : List ℕ). knew ++ names_of (kinds_from workers session (lines_of r))) empty ∙ ap (λ (names : List (List ℕ)). knew ++ names) (end_names workers session) ∙ append-nil knew,
+    h.1.1 ∙ ap (λ (r : List ℕ). first_bad line (kinds_from workers session (lines_of r))) empty ∙ end_bad workers line session,
+  ),
 )

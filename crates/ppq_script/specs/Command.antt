@@ -2,8 +2,9 @@
 use Rattle.std.specs.Prelude.{ℕ, Bool, ◌&&◌, List, [], ◌∷◌, length, Option, Some, None, if◌then◌else◌, bytes_eq, codes, nat_le}
 use Rattle.std.specs.List.{list_all}
 use Rattle.std.specs.Char.{is_ascii_graphic}
+use Rattle.ppq_record.specs.declared.pair.Pair.{Pair}
 use Rattle.ppq_script.specs.declared.command.Command.{Command}
-use Rattle.ppq_script.specs.declared.command.Command.TheVariants.{Push, Pop, Top, Size, Gen, BulkPop, BulkPopLimit, Drain}
+use Rattle.ppq_script.specs.declared.command.Command.TheVariants.{Push, Pop, Top, Size, Gen, BulkPop, BulkPopLimit, Drain, BulkBegin, BulkPush, BulkEnd}
 use Rattle.ppq_script.specs.Number.{number_of}
 
 -- a command whose name stands alone
@@ -66,14 +67,32 @@ abbrev pub bulk_pop_limit_of : Option (ℕ × (ℕ × ℕ)) → Option Command
 bulk_pop_limit_of None = None
 bulk_pop_limit_of (Some triple) = Some (BulkPopLimit (record { key = triple.0; value = triple.1.0 }) triple.1.1)
 
--- the command of this name with these fields behind it, of those on many records
+-- a number of 32 bits and the record of a key and a value
+abbrev pub pass_of : Option (ℕ × (ℕ × ℕ)) → Option (ℕ × Pair)
+pass_of None = None
+pass_of (Some triple) = if nat_le triple.0 4294967295 then Some (triple.0, record { key = triple.1.0; value = triple.1.1 }) else None
+
+-- the command by which the pass of this number pushes the record
+abbrev pub bulk_push_of : Option (ℕ × Pair) → Option Command
+bulk_push_of None = None
+bulk_push_of (Some push) = Some (BulkPush push.0 push.1)
+
+-- the command of this name with these fields behind it, of those of a session
+abbrev pub session_of : List ℕ → List (List ℕ) → Option Command
+session_of name fields =
+    if bytes_eq name (codes "bulk_begin") then alone BulkBegin fields
+    else if bytes_eq name (codes "bulk_push") then bulk_push_of (pass_of (three_of fields))
+    else if bytes_eq name (codes "bulk_end") then alone BulkEnd fields
+    else None
+
+-- of those on many records and of a session
 abbrev pub many_of : List ℕ → List (List ℕ) → Option Command
 many_of name fields =
     if bytes_eq name (codes "gen") then gen_of (two_of fields)
     else if bytes_eq name (codes "bulk_pop") then bulk_pop_of (one_of fields)
     else if bytes_eq name (codes "bulk_pop_limit") then bulk_pop_limit_of (three_of fields)
     else if bytes_eq name (codes "drain") then drain_of (one_of fields)
-    else None
+    else session_of name fields
 
 -- the command of this name with these fields behind it, but for `bulk`
 abbrev pub command_of : List ℕ → List (List ℕ) → Option Command

@@ -2,9 +2,9 @@
 use Rattle.std.specs.Prelude.{◌≡◌, ◌⊎◌, ⊤, ℕ, ◌+◌, ◌<◌, ◌≤◌, ◌%◌, Bool, true, false, ◌&&◌, ◌==◌, nat_le, List, [], ◌∷◌, Option, Some, None, IfSome, get_or, if◌then◌else◌}
 use Rattle.ppq_outside.specs.Told.{Reply, OfLength, OfRead, length_of}
 use Rattle.ppq_script.specs.declared.command.Command.{Command}
-use Rattle.ppq_script.specs.declared.command.Command.TheVariants.{Push, Pop, Top, Size, Bulk, Gen, BulkPop, BulkPopLimit, Drain}
+use Rattle.ppq_script.specs.declared.command.Command.TheVariants.{Push, Pop, Top, Size, Bulk, Gen, BulkPop, BulkPopLimit, Drain, BulkBegin, BulkPush, BulkEnd}
 use Rattle.ppq_script.specs.declared.numbered.Numbered.{Numbered}
-use Rattle.ppq_script.specs.Lines.{Kind, Skipped, Plain, OfFile, Bad, kind_of}
+use Rattle.ppq_script.specs.Lines.{Kind, Skipped, Plain, OfFile, Bad}
 
 -- the length of a record file: records of 16 bytes each, at most 2^32 of them
 abbrev pub IsRecordLength : ℕ → Type 0
@@ -33,6 +33,9 @@ file_in (Gen seed count) = None
 file_in (BulkPop count) = None
 file_in (BulkPopLimit limit count) = None
 file_in (Drain count) = None
+file_in BulkBegin = None
+file_in (BulkPush pass item) = None
+file_in BulkEnd = None
 
 -- the file that a command names, if it names one, is among so many
 abbrev pub NamesFile : ℕ → Command → Type 0
@@ -91,6 +94,6 @@ IsBadKind replied n (Plain command) rest line = rest
 IsBadKind replied n (OfFile name) rest line = (IsFound replied name × rest) ⊎ ((n ≡ line) × IsNotFound replied name)
 IsBadKind replied n Bad rest line = n ≡ line
 
-abbrev pub IsBadLine : (Reply → Type 0) → ℕ → List (List ℕ) → ℕ → Type 0
+abbrev pub IsBadLine : (Reply → Type 0) → ℕ → List Kind → ℕ → Type 0
 IsBadLine replied n [] line = ⊥
-IsBadLine replied n (l ∷ ls) line = IsBadKind replied n (kind_of l) (IsBadLine replied (n + 1) ls line) line
+IsBadLine replied n (kind ∷ kinds) line = IsBadKind replied n kind (IsBadLine replied (n + 1) kinds line) line

@@ -5,5 +5,6 @@ pub mod Lines
 pub mod Meaning
 pub mod Number
 pub mod Reading
+pub mod Sessions
 pub mod Shown
 pub mod Taken

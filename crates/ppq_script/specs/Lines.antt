@@ -1,10 +1,13 @@
 -- The lines of a script, the fields of a line, and the commands of a script.
-use Rattle.std.specs.Prelude.{◌≡◌, ℕ, Bool, true, false, ◌+◌, List, [], ◌∷◌, Option, Some, None, if◌then◌else◌, ◌==◌, nat_eq, bytes_eq, codes}
+use Rattle.std.specs.Prelude.{◌≡◌, ℕ, Bool, true, false, ◌+◌, List, [], ◌∷◌, Option, Some, None, unwrap_or, if◌then◌else◌, ◌==◌, nat_eq, bytes_eq, codes}
 use Rattle.std.specs.List.{starts_with}
 use Rattle.ppq_script.specs.declared.command.Command.{Command}
 use Rattle.ppq_script.specs.declared.command.Command.TheVariants.{Bulk}
 use Rattle.ppq_script.specs.declared.numbered.Numbered.{Numbered}
+use Rattle.ppq_script.specs.declared.session.Session.{Session}
+use Rattle.ppq_script.specs.declared.session.Session.TheVariants.{Outside}
 use Rattle.ppq_script.specs.Command.{command_of, file_of}
+use Rattle.ppq_script.specs.Sessions.{turn_of, is_outside, may_stand}
 
 -- a byte at the front of the first line
 abbrev pub onto : ℕ → List (List ℕ) → List (List ℕ)
@@ -65,6 +68,29 @@ kind_of_fields (name ∷ fields) =
 abbrev pub kind_of : List ℕ → Kind
 kind_of line = kind_of_fields (fields_of (text_of line))
 
+-- the session behind a line of this kind, by the session before it
+abbrev pub session_behind : Session → Kind → Session
+session_behind session Skipped = session
+session_behind session (Plain command) = unwrap_or (turn_of command) session
+session_behind session (OfFile name) = session
+session_behind session Bad = session
+
+-- what a line of this kind is in this session of a script for so many workers: bad where it may not stand there
+abbrev pub placed : ℕ → Session → Kind → Kind
+placed workers session Skipped = Skipped
+placed workers session (Plain command) = if may_stand workers session command then Plain command else Bad
+placed workers session (OfFile name) = if is_outside session then OfFile name else Bad
+placed workers session Bad = Bad
+
+-- what each line is where it stands, the first in this session; a session that is open behind the last makes the line after it bad
+abbrev pub kinds_from : ℕ → Session → List (List ℕ) → List Kind
+kinds_from workers session [] = if is_outside session then [] else Bad ∷ []
+kinds_from workers session (l ∷ ls) = placed workers session (kind_of l) ∷ kinds_from workers (session_behind session (kind_of l)) ls
+
+-- the first in none
+abbrev pub kinds_of : ℕ → List (List ℕ) → List Kind
+kinds_of workers lines = kinds_from workers Outside lines
+
 -- the number that the next file gets behind a line, where this is the one that a file of this line gets
 abbrev pub file_after : ℕ → Kind → ℕ
 file_after file Skipped = file
@@ -80,13 +106,13 @@ before_bad n file (OfFile name) rest = record { line = n; command = Bulk file 0 
 before_bad n file Bad rest = []
 
 -- the commands of the lines before the first that is bad, the first line numbered n, and the first file numbered `file`
-abbrev pub numbered_from : ℕ → ℕ → List (List ℕ) → List Numbered
+abbrev pub numbered_from : ℕ → ℕ → List Kind → List Numbered
 numbered_from n file [] = []
-numbered_from n file (l ∷ ls) = before_bad n file (kind_of l) (numbered_from (n + 1) (file_after file (kind_of l)) ls)
+numbered_from n file (kind ∷ kinds) = before_bad n file kind (numbered_from (n + 1) (file_after file kind) kinds)
 
 -- and the first file numbered 0
-abbrev pub numbered_of : ℕ → List (List ℕ) → List Numbered
-numbered_of n lines = numbered_from n 0 lines
+abbrev pub numbered_of : ℕ → List Kind → List Numbered
+numbered_of n kinds = numbered_from n 0 kinds
 
 -- the name in a line, if it names a file, and those behind it, up to the first bad line
 abbrev pub names_before : Kind → List (List ℕ) → List (List ℕ)
@@ -96,9 +122,9 @@ names_before (OfFile name) rest = name ∷ rest
 names_before Bad rest = []
 
 -- the names of the files in the lines before the first that is bad, in order
-abbrev pub names_of : List (List ℕ) → List (List ℕ)
+abbrev pub names_of : List Kind → List (List ℕ)
 names_of [] = []
-names_of (l ∷ ls) = names_before (kind_of l) (names_of ls)
+names_of (kind ∷ kinds) = names_before kind (names_of kinds)
 
 -- the number of the first line that is bad or names a file that cannot be used, counted from n
 abbrev pub bad_or : (List ℕ → Bool) → ℕ → Kind → Option ℕ → Option ℕ
@@ -107,10 +133,10 @@ bad_or usable n (Plain command) rest = rest
 bad_or usable n (OfFile name) rest = if usable name then rest else Some n
 bad_or usable n Bad rest = Some n
 
-abbrev pub first_bad_by : (List ℕ → Bool) → ℕ → List (List ℕ) → Option ℕ
+abbrev pub first_bad_by : (List ℕ → Bool) → ℕ → List Kind → Option ℕ
 first_bad_by usable n [] = None
-first_bad_by usable n (l ∷ ls) = bad_or usable n (kind_of l) (first_bad_by usable (n + 1) ls)
+first_bad_by usable n (kind ∷ kinds) = bad_or usable n kind (first_bad_by usable (n + 1) kinds)
 
 -- by the lines alone
-abbrev pub first_bad : ℕ → List (List ℕ) → Option ℕ
-first_bad n lines = first_bad_by (λ name. true) n lines
+abbrev pub first_bad : ℕ → List Kind → Option ℕ
+first_bad n kinds = first_bad_by (λ name. true) n kinds

@@ -2,10 +2,13 @@
 use Rattle.std.specs.Prelude.{◌≡◌, ◌≢◌, ◌⊎◌, ⊤, Bool, true, false, Option, ℕ, ◌-◌, ◌*◌, ◌+◌, ◌^◌, ◌≤◌, ◌<◌, ◌↔◌, List, [], ◌∷◌, ◌++◌, length, get_or, Some, None, MatchOption, codes}
 use Rattle.std.specs.List.{AllByRecursion as Each}
 use Rattle.ppq_script.specs.declared.command.Command.{Command}
-use Rattle.ppq_script.specs.declared.command.Command.TheVariants.{Push, Pop, Top, Size, Bulk, Gen, BulkPop, BulkPopLimit, Drain}
+use Rattle.ppq_script.specs.declared.command.Command.TheVariants.{Push, Pop, Top, Size, Bulk, Gen, BulkPop, BulkPopLimit, Drain, BulkBegin, BulkPush, BulkEnd}
 use Rattle.ppq_script.specs.declared.numbered.Numbered.{Numbered}
+use Rattle.ppq_script.specs.declared.session.Session.{Session}
+use Rattle.ppq_script.specs.declared.session.Session.TheVariants.{Outside, InBulk}
 use Rattle.ppq_script.specs.Number.{value_from, number_of}
-use Rattle.ppq_script.specs.Lines.{lines_of, text_of, fields_of, kind_of, Skipped, Plain, OfFile, numbered_of, names_of, first_bad, first_bad_by}
+use Rattle.ppq_script.specs.Lines.{lines_of, text_of, fields_of, kind_of, Skipped, Plain, OfFile, kinds_of, numbered_of, names_of, first_bad, first_bad_by}
+use Rattle.ppq_script.specs.Sessions.{may_stand}
 use Rattle.ppq_script.specs.Files.{file_in, name_at}
 
 -- the bytes of the digits 0 to 9
@@ -88,6 +91,9 @@ IsSpelled fields (Gen seed count) = HasTwo (codes "gen") fields seed count × (c
 IsSpelled fields (BulkPop count) = HasOne (codes "bulk_pop") fields count
 IsSpelled fields (BulkPopLimit limit count) = HasThree (codes "bulk_pop_limit") fields limit.key limit.value count
 IsSpelled fields (Drain count) = HasOne (codes "drain") fields count
+IsSpelled fields BulkBegin = fields ≡ codes "bulk_begin" ∷ []
+IsSpelled fields (BulkPush pass item) = HasThree (codes "bulk_push") fields pass item.key item.value × (pass ≤ 4294967295)
+IsSpelled fields BulkEnd = fields ≡ codes "bulk_end" ∷ []
 
 -- `bulk` and the name of a file
 pub record IsBulk (fields : List (List ℕ)) (name : List ℕ) : Type 0 where
@@ -106,36 +112,89 @@ Reads line command = IsSpelled (fields_in line) command
 abbrev pub ReadsFile : List ℕ → List ℕ → Type 0
 ReadsFile line name = IsBulk (fields_in line) name
 
--- a line that is blank, a comment, or spelled as some command, whose file, if it names one, can be used
-abbrev pub IsGood : (List ℕ → Bool) → List ℕ → Type 0
-IsGood usable line = IsBlankOrComment line ⊎ (((command : Command) × Reads line command) ⊎ ((name : List ℕ) × (ReadsFile line name × (usable name ≡ true))))
+-- the line with this number, from 1
+abbrev pub line_at : List (List ℕ) → ℕ → List ℕ
+line_at lines n = get_or lines (n - 1) []
+
+-- a line that begins or ends a session, and the session behind it
+abbrev pub Turns : List ℕ → Session → Type 0
+Turns line Outside = Reads line BulkEnd
+Turns line InBulk = Reads line BulkBegin
+
+-- no line from one number on and before another begins or ends a session
+abbrev pub NoTurn : List (List ℕ) → ℕ → ℕ → Type 0
+NoTurn lines from n = (k : ℕ) (session : Session) → from ≤ k → k < n → ¬ Turns (line_at lines k) session
+
+-- the last line before line n that begins or ends a session, in its place or not, tells this one
+pub record IsLastTurn (lines : List (List ℕ)) (n : ℕ) (session : Session) : Type 0 where
+  pub turn : ℕ
+  pub from_one : 1 ≤ turn
+  pub before : turn < n
+  pub turns : Turns (line_at lines turn) session
+  pub last : NoTurn lines (turn + 1) n
+
+-- the session before line n: the one that the last such line tells, and none where there is no such line
+abbrev pub IsSession : List (List ℕ) → ℕ → Session → Type 0
+IsSession lines n session = IsLastTurn lines n session ⊎ ((session ≡ Outside) × NoTurn lines 1 n)
+
+-- where a command may stand in a script for so many workers
+abbrev pub Stands : ℕ → Session → Command → Type 0
+Stands workers session (Push item) = session ≡ Outside
+Stands workers session Pop = session ≡ Outside
+Stands workers session Top = session ≡ Outside
+Stands workers session Size = session ≡ Outside
+Stands workers session (Bulk file length) = session ≡ Outside
+Stands workers session (Gen seed count) = session ≡ Outside
+Stands workers session (BulkPop count) = session ≡ Outside
+Stands workers session (BulkPopLimit limit count) = session ≡ Outside
+Stands workers session (Drain count) = session ≡ Outside
+Stands workers session BulkBegin = session ≡ Outside
+Stands workers session (BulkPush pass item) = (session ≡ InBulk) × (pass < workers)
+Stands workers session BulkEnd = session ≡ InBulk
+
+-- a line that is blank, a comment, or spelled as some command that may stand in this session, whose file, if it names one, can be used
+abbrev pub IsGoodIn : (List ℕ → Bool) → ℕ → Session → List ℕ → Type 0
+IsGoodIn usable workers session line =
+    IsBlankOrComment line
+    ⊎ (((command : Command) × (Reads line command × Stands workers session command)) ⊎ ((name : List ℕ) × (ReadsFile line name × ((session ≡ Outside) × (usable name ≡ true)))))
 
 -- a line that is none of these
-pub record IsBad (usable : List ℕ → Bool) (line : List ℕ) : Type 0 where
+pub record IsBadIn (usable : List ℕ → Bool) (workers : ℕ) (session : Session) (line : List ℕ) : Type 0 where
   pub not_skipped : ¬ IsBlankOrComment line
-  pub no_command : (command : Command) → ¬ Reads line command
-  pub no_file : (name : List ℕ) → ReadsFile line name → usable name ≡ false
+  pub no_command : (command : Command) → Reads line command → ¬ Stands workers session command
+  pub no_file : (name : List ℕ) → ReadsFile line name → session ≡ Outside → usable name ≡ false
+
+-- line n is good, or bad, in the session before it
+abbrev pub IsGood : (List ℕ → Bool) → ℕ → List (List ℕ) → ℕ → Type 0
+IsGood usable workers lines n = (session : Session) × (IsSession lines n session × IsGoodIn usable workers session (line_at lines n))
+
+abbrev pub IsBad : (List ℕ → Bool) → ℕ → List (List ℕ) → ℕ → Type 0
+IsBad usable workers lines n = (session : Session) × (IsSession lines n session × IsBadIn usable workers session (line_at lines n))
+
+-- a session is open behind the last line
+abbrev pub IsOpen : List (List ℕ) → Type 0
+IsOpen lines = (session : Session) × (IsSession lines (length lines + 1) session × (session ≢ Outside))
 
 -- bytes with no line feed
 abbrev pub IsOneLine : List ℕ → Type 0
 IsOneLine bytes = Each (λ byte. byte ≢ 10) bytes
 
--- the line with this number, from 1
-abbrev pub line_at : List (List ℕ) → ℕ → List ℕ
-line_at lines n = get_or lines (n - 1) []
-
--- the least number of a bad line
-pub record IsFirstBad (usable : List ℕ → Bool) (lines : List (List ℕ)) (n : ℕ) : Type 0 where
+-- the least number of a bad line, or the one after the last line where no line is bad and a session is open there
+pub record IsFirstBad (usable : List ℕ → Bool) (workers : ℕ) (lines : List (List ℕ)) (n : ℕ) : Type 0 where
   pub from_one : 1 ≤ n
-  pub there : n ≤ length lines
-  pub bad : IsBad usable (line_at lines n)
-  pub before : (earlier : ℕ) → 1 ≤ earlier → earlier < n → IsGood usable (line_at lines earlier)
+  pub bad : ((n ≤ length lines) × IsBad usable workers lines n) ⊎ ((n ≡ length lines + 1) × IsOpen lines)
+  pub before : (earlier : ℕ) → 1 ≤ earlier → earlier < n → IsGood usable workers lines earlier
+
+-- every line is good, and no session is open behind the last
+pub record AreGood (usable : List ℕ → Bool) (workers : ℕ) (lines : List (List ℕ)) : Type 0 where
+  pub good : (n : ℕ) → 1 ≤ n → n ≤ length lines → IsGood usable workers lines n
+  pub closed : IsSession lines (length lines + 1) Outside
 
 -- the number of a line before the first bad one, if there is a bad one
-pub record IsBefore (lines : List (List ℕ)) (n : ℕ) : Type 0 where
+pub record IsBefore (workers : ℕ) (lines : List (List ℕ)) (n : ℕ) : Type 0 where
   pub from_one : 1 ≤ n
   pub there : n ≤ length lines
-  pub before : MatchOption (first_bad 1 lines) ⊤ (λ bad. n < bad)
+  pub before : MatchOption (first_bad 1 (kinds_of workers lines)) ⊤ (λ bad. n < bad)
 
 -- one of the commands has the line with this number
 abbrev pub HasLine : ℕ → List Numbered → Type 0
@@ -156,10 +215,16 @@ abbrev pub Asks : List (List ℕ) → List ℕ → Command → Type 0
 Asks names line command = AsksFile names line (file_in command) command
 
 -- the commands of all lines before the first bad one, each with its line's number, in order
-pub record AreCommands (lines names : List (List ℕ)) (commands : List Numbered) : Type 0 where
-  pub right : Each (λ item. IsBefore lines item.line × Asks names (line_at lines item.line) item.command) commands
-  pub whole : (n : ℕ) → IsBefore lines n → IsBlankOrComment (line_at lines n) ⊎ HasLine n commands
+pub record AreCommands (workers : ℕ) (lines names : List (List ℕ)) (commands : List Numbered) : Type 0 where
+  pub right : Each (λ item. IsBefore workers lines item.line × Asks names (line_at lines item.line) item.command) commands
+  pub whole : (n : ℕ) → IsBefore workers lines n → IsBlankOrComment (line_at lines n) ⊎ HasLine n commands
   pub order : Rises 0 commands
+
+-- there is just one session before line n
+pub record HasOneSession (lines : List (List ℕ)) (n : ℕ) : Type 0 where
+  pub session : Session
+  pub is : IsSession lines n session
+  pub only : (other : Session) → IsSession lines n other → other ≡ session
 
 -- the grammar means what it says
 pub record LinesMean : Type 0 where
@@ -182,7 +247,10 @@ pub record LinesMean : Type 0 where
   pub no_line : lines_of [] ≡ []
   pub first_line : (line rest : List ℕ) → IsOneLine line → lines_of (line ++ 10 ∷ rest) ≡ line ∷ lines_of rest
   pub last_line : (line : List ℕ) → IsOneLine line → 1 ≤ length line → lines_of line ≡ line ∷ []
+  -- each line has one session before it, in which some commands may stand
+  pub session : (lines : List (List ℕ)) (n : ℕ) → 1 ≤ n → HasOneSession lines n
+  pub stands : (workers : ℕ) (session : Session) (command : Command) → (may_stand workers session command ≡ true) ↔ Stands workers session command
   -- the first bad line, by which files can be used, and the commands before the one that is bad whatever the files are
-  pub bad : (usable : List ℕ → Bool) (lines : List (List ℕ)) (n : ℕ) → (first_bad_by usable 1 lines ≡ Some n) ↔ IsFirstBad usable lines n
-  pub none_bad : (usable : List ℕ → Bool) (lines : List (List ℕ)) → (first_bad_by usable 1 lines ≡ None) ↔ Each (IsGood usable) lines
-  pub commands : (lines : List (List ℕ)) → AreCommands lines (names_of lines) (numbered_of 1 lines)
+  pub bad : (usable : List ℕ → Bool) (workers : ℕ) (lines : List (List ℕ)) (n : ℕ) → (first_bad_by usable 1 (kinds_of workers lines) ≡ Some n) ↔ IsFirstBad usable workers lines n
+  pub none_bad : (usable : List ℕ → Bool) (workers : ℕ) (lines : List (List ℕ)) → (first_bad_by usable 1 (kinds_of workers lines) ≡ None) ↔ AreGood usable workers lines
+  pub commands : (workers : ℕ) (lines : List (List ℕ)) → AreCommands workers lines (names_of (kinds_of workers lines)) (numbered_of 1 (kinds_of workers lines))

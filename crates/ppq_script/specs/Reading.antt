@@ -1,8 +1,10 @@
 -- What a script is read as.
-use Rattle.std.specs.Prelude.{◌≡◌, ℕ, Bool, List, Option, None, map, All}
+use Rattle.std.specs.Prelude.{◌≡◌, ℕ, Bool, true, List, Option, None, map, All}
 use Rattle.ppq_script.specs.declared.command.Command.{Command}
 use Rattle.ppq_script.specs.declared.numbered.Numbered.{Numbered}
+use Rattle.ppq_script.specs.declared.session.Session.TheVariants.{Outside}
 use Rattle.ppq_script.specs.Files.{HasRecords}
+use Rattle.ppq_script.specs.Sessions.{are_in_place}
 
 -- the commands before the first bad line with their lines, that line, the names of the files, which commands call by their places
 -- here, the number of workers, and whether all is good, the files too
@@ -21,7 +23,9 @@ command_list script = map (λ n. n.command) script.commands
 abbrev pub line_list : Reading → List ℕ
 line_list script = map (λ n. n.line) script.commands
 
--- no line is bad, and each length that the script keeps is one of a record file
+-- no line is bad, each length that the script keeps is one of a record file, and each command may stand where it does, with no
+-- session open behind the last
 pub record IsReady (script : Reading) : Type 0 where
   pub good : script.bad ≡ None
   pub lengths : All (λ n. HasRecords n.command) script.commands
+  pub in_place : are_in_place script.workers Outside (command_list script) ≡ true

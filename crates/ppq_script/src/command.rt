@@ -1,7 +1,7 @@
 //! The fields of a line as a command.
 ghost use Rattle.std.specs.Prelude.{◌≡◌};
 ghost use Rattle.ppq_script.specs.Lines.{fields_of};
-ghost use Rattle.ppq_script.specs.Command.{alone, one_of, two_of, three_of, push_of, gen_of, bulk_pop_of, drain_of, bulk_pop_limit_of, command_of, many_of};
+ghost use Rattle.ppq_script.specs.Command.{alone, one_of, two_of, three_of, push_of, gen_of, bulk_pop_of, drain_of, bulk_pop_limit_of, pass_of, bulk_push_of, command_of, many_of, session_of};
 
 use crate::digits::number;
 use crate::fields::next_field;
@@ -30,6 +30,13 @@ pub enum Command {
     BulkPopLimit { limit: Pair, count: u64 },
     /// `drain N`: removes the least so many records, or all, and prints what they sum up to.
     Drain { count: u64 },
+    /// `bulk_begin`: begins a bulk session. Until its end only `bulk_push` may stand.
+    BulkBegin,
+    /// `bulk_push I K V`: in a bulk session, the pass with that number, which is below the number
+    /// of workers, takes the record; it joins the bag when the session ends.
+    BulkPush { pass: u32, item: Pair },
+    /// `bulk_end`: ends the bulk session; the bag gains all records that were pushed in it.
+    BulkEnd,
 }
 
 // The command, if no field is left.
@@ -121,8 +128,43 @@ fn bulk_pop_limit(numbers: Option<(u64, (u64, u64))>) -> Option<Command>
     })
 }
 
-// The command of this name on many records, but for `bulk`, whose further fields are those of the
-// rest.
+// The number of a pass, and a key and a value as a record.
+fn pass_and_item(numbers: Option<(u64, (u64, u64))>) -> Option<(u32, Pair)>
+    ensures { result ≡ pass_of numbers }
+{
+    let (pass, (key, value)) = numbers?;
+    if pass > 4_294_967_295 {
+        return None;
+    }
+    Some((pass as u32, Pair { key, value }))
+}
+
+// The command that pushes a record by a pass of a bulk session.
+fn bulk_push(push: Option<(u32, Pair)>) -> Option<Command>
+    ensures { result ≡ bulk_push_of push }
+{
+    let (pass, item) = push?;
+    Some(Command::BulkPush { pass, item })
+}
+
+// The command of this name of a session, whose further fields are those of the rest.
+fn read_session(name: &[u8], rest: &[u8]) -> Option<Command>
+    ensures { result ≡ session_of name.now (fields_of rest.now) }
+{
+    if name == b"bulk_begin".as_slice() {
+        return alone(Command::BulkBegin, rest);
+    }
+    if name == b"bulk_push".as_slice() {
+        return bulk_push(pass_and_item(three_numbers(rest)));
+    }
+    if name == b"bulk_end".as_slice() {
+        return alone(Command::BulkEnd, rest);
+    }
+    None
+}
+
+// The command of this name on many records, but for `bulk`, or of a session, whose further fields
+// are those of the rest.
 fn read_many(name: &[u8], rest: &[u8]) -> Option<Command>
     ensures { result ≡ many_of name.now (fields_of rest.now) }
 {
@@ -138,7 +180,7 @@ fn read_many(name: &[u8], rest: &[u8]) -> Option<Command>
     if name == b"drain".as_slice() {
         return drain(one_number(rest));
     }
-    None
+    read_session(name, rest)
 }
 
 // The command of this name, but for `bulk`, whose further fields are those of the rest.

@@ -13,6 +13,7 @@ mod line;
 mod numbered;
 mod reader;
 mod script;
+mod session;
 #[cfg(test)]
 mod tests;
 

@@ -1,12 +1,15 @@
 //! Reads a script.
-ghost use Rattle.std.specs.Prelude.{◌≡◌, ◌≤◌, ◌<◌, ◌^◌, ◌∷◌, ◌++◌, [], ℕ, Bool, List, false, length, map, string_bytes, IfOk, OnOk, IsTrue, IsFalse};
-ghost use Rattle.ppq_script.specs.Lines.{lines_of, kind_of, Bad, numbered_of, names_of, first_bad, first_bad_by};
+ghost use Rattle.std.specs.Prelude.{◌≡◌, ◌≤◌, ◌<◌, ◌^◌, ◌∷◌, ◌++◌, [], ℕ, Bool, List, Some, None, if◌then◌else◌, false, length, map, string_bytes, IfOk, OnOk, IsTrue, IsFalse};
+ghost use Rattle.ppq_script.specs.Lines.{lines_of, Bad, kinds_of, numbered_of, names_of, first_bad, first_bad_by};
+ghost use Rattle.ppq_script.specs.Sessions.{is_outside};
+ghost use Rattle.ppq_script.specs.Shown.{kind_in};
 ghost use Rattle.ppq_script.specs.Taken.{IsTaken};
 ghost use Rattle.ppq_script.specs.declared.command.Command.TheVariants.{Bulk};
 ghost use Rattle.ppq_script.specs.Checking.{bad_of};
 
 use crate::fields::place_of;
 use crate::line::{Line, read_line};
+use crate::session::{Session, place, session_after, stands_outside};
 use crate::{Command, Numbered, Script};
 use ppq_record::Memory;
 use std::alloc::Global;
@@ -16,44 +19,61 @@ use std::alloc::Global;
 /// error only where memory for the commands and the names of files is wanting.
 ///
 /// The first bad line is here one by the lines alone; `check_files` looks for the files. Until then
-/// the script is not checked, and each command has length 0 for its file.
+/// the script is not checked, and each command has length 0 for its file. Where a session is open at
+/// the end, the line after the last is bad.
 pub fn read(alloc: Global, bytes: &[u8], workers: u32) -> Result<Script, Memory>
     requires { length bytes.now ≤ 1_048_576 }
-    ensures commands { IfOk result (λ script. script.commands ≡ numbered_of 1 (lines_of bytes.now)) }
-    ensures names { IfOk result (λ script. script.names ≡ names_of (lines_of bytes.now)) }
-    ensures bad { IfOk result (λ script. script.bad ≡ first_bad 1 (lines_of bytes.now)) }
+    ensures commands { IfOk result (λ script. script.commands ≡ numbered_of 1 (kinds_of workers (lines_of bytes.now))) }
+    ensures names { IfOk result (λ script. script.names ≡ names_of (kinds_of workers (lines_of bytes.now))) }
+    ensures bad { IfOk result (λ script. script.bad ≡ first_bad 1 (kinds_of workers (lines_of bytes.now))) }
     ensures workers { IfOk result (λ script. script.workers ≡ workers) }
     ensures unchecked { IfOk result (λ script. script.checked ≡ false) }
-    ensures files { IfOk result (λ script. (usable : List ℕ → Bool) → bad_of usable script ≡ first_bad_by usable 1 (lines_of bytes.now)) }
+    ensures files { IfOk result (λ script. (usable : List ℕ → Bool) → bad_of usable script ≡ first_bad_by usable 1 (kinds_of workers (lines_of bytes.now))) }
 {
     let mut commands = Vec::new(alloc);
     let mut names = Vec::new(alloc);
+    let mut session = Session::Outside;
     let mut rest = bytes;
     let mut line: u32 = 1;
     while !rest.is_empty() {
         let (text, after) = cut_line(rest);
-        if !take_line(alloc, &mut commands, &mut names, line, text)? {
+        let what = read_line(text);
+        let here = place(what, session, workers);
+        if !take_line(alloc, &mut commands, &mut names, line, here)? {
             return Ok(Script::from_parts(commands, Some(line), names, workers));
         }
+        session = session_after(session, what);
         line += 1;
         rest = after;
     }
-    Ok(Script::from_parts(commands, None, names, workers))
+    let bad = bad_at_end(session, line);
+    Ok(Script::from_parts(commands, bad, names, workers))
 }
 
-// Keeps what a line has, and says whether it is a good one.
+// The line after the last, with this number, where a session is open there.
+fn bad_at_end(session: Session, line: u32) -> Option<u32>
+    ensures { result ≡ (if is_outside session then None else Some line) }
+{
+    if stands_outside(session) {
+        None
+    } else {
+        Some(line)
+    }
+}
+
+// Keeps what a line has where it stands, and says whether it is a good one.
 fn take_line(
     alloc: Global,
     commands: &mut Vec<Numbered>,
     names: &mut Vec<String>,
     line: u32,
-    text: &[u8],
+    here: Line<'_>,
 ) -> Result<bool, Memory>
     requires { length names.old.items < 2 ^ 32 }
-    ensures good { IfOk result (λ good. IsTrue good → IsTaken line (kind_of text.now) commands.old.items (map string_bytes names.old.items) commands.new.items (map string_bytes names.new.items)) }
-    ensures bad { IfOk result (λ good. IsFalse good → (kind_of text.now ≡ Bad) × ((commands.new.items ≡ commands.old.items) × (names.new.items ≡ names.old.items))) }
+    ensures good { IfOk result (λ good. IsTrue good → IsTaken line (kind_in here.entry) commands.old.items (map string_bytes names.old.items) commands.new.items (map string_bytes names.new.items)) }
+    ensures bad { IfOk result (λ good. IsFalse good → (kind_in here.entry ≡ Bad) × ((commands.new.items ≡ commands.old.items) × (names.new.items ≡ names.old.items))) }
 {
-    match read_line(text) {
+    match here {
         Line::Skipped => Ok(true),
         Line::Plain { command } => {
             commands.push(Numbered { line, command })?;

@@ -1,9 +1,11 @@
 //! A script as a list of commands.
-ghost use Rattle.std.specs.Prelude.{◌≡◌, ◌≤◌, ◌<◌, false, IsTrue, is_ok, OnOk, IfErr, IsErrOf, length, map, string_bytes, None, Some, All, slice_get, nat_eq};
+ghost use Rattle.std.specs.Prelude.{◌≡◌, ◌≤◌, ◌<◌, true, false, IsTrue, is_ok, OnOk, IfErr, IsErrOf, length, map, string_bytes, None, Some, All, slice_get, nat_eq};
 ghost use Rattle.ppq_script.specs.Files.{NamesFile, HasRecords, IsLength, name_at};
 ghost use Rattle.std.specs.List.{AllZip};
 ghost use Rattle.ppq_outside.specs.Told.{Rose, Remembers, RepliesOnly};
 ghost use Rattle.ppq_script.specs.Reading.{IsReady};
+ghost use Rattle.ppq_script.specs.Sessions.{are_in_place};
+ghost use Rattle.ppq_script.specs.declared.session.Session.TheVariants.{Outside};
 ghost use Rattle.ppq_script.specs.Checking.{CheckRefusalIsRight, IsAsked, IsSameScript, StaysUnlessRead};
 ghost use Rattle.ppq_script.specs.declared.check.CheckFault.TheVariants.{ReadFault};
 
@@ -30,12 +32,14 @@ impl Model for Script {
     ghost use Rattle.std.specs.Prelude.{◌≡◌, true, None, length, map, string_bytes, All};
     ghost use Rattle.ppq_script.specs.Files.{NamesFile, HasRecords};
     ghost use Rattle.ppq_script.specs.Reading.{Reading};
+    ghost use Rattle.ppq_script.specs.Sessions.{are_in_place};
+    ghost use Rattle.ppq_script.specs.declared.session.Session.TheVariants.{Outside};
 
     ghost Value = { Reading };
 
     ghost view = { λ s. record { commands = s.commands.items; bad = s.bad; names = map string_bytes s.names.items; workers = s.workers; checked = s.checked } };
 
-    ghost invariant = { λ s. record { files : All (λ n. NamesFile (length s.names.items) n.command) s.commands.items; good : s.checked ≡ true → s.bad ≡ None; lengths : s.checked ≡ true → All (λ n. HasRecords n.command) s.commands.items } };
+    ghost invariant = { λ s. record { files : All (λ n. NamesFile (length s.names.items) n.command) s.commands.items; good : s.checked ≡ true → s.bad ≡ None; lengths : s.checked ≡ true → All (λ n. HasRecords n.command) s.commands.items; in_place : s.bad ≡ None → are_in_place s.workers Outside (map (λ n. n.command) s.commands.items) ≡ true } };
 }
 
 impl Script {
@@ -48,7 +52,8 @@ impl Script {
         names: Vec<String>,
         workers: u32,
     ) -> Script
-        requires { All (λ n. NamesFile (length names.items) n.command) commands.items }
+        requires files { All (λ n. NamesFile (length names.items) n.command) commands.items }
+        requires in_place { bad ≡ None → are_in_place workers Outside (map (λ n. n.command) commands.items) ≡ true }
         ensures { result ≡ record { commands = commands.items; bad = bad; names = map string_bytes names.items; workers = workers; checked = false } }
     {
         Script {
@@ -120,7 +125,8 @@ impl Script {
     }
 
     /// Whether the last `check_files` on it answered Ok; it is false after `read`. Then no line is
-    /// bad, and each command's file has the length of a record file, whatever the library said.
+    /// bad, each command's file has the length of a record file, whatever the library said, and each
+    /// command may stand in its session.
     pub fn checked(&self) -> bool
         ensures checked { result ≡ self.now.checked }
         ensures ready { IsTrue result → IsReady self.now }

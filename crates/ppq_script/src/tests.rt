@@ -163,8 +163,9 @@ fn bad_lines(rt: HostRuntime) -> Result<(), Fail> {
         b"bulk_pop_limit 1 2 3 4\n".as_slice(),
         b"drain\n".as_slice(),
         b"drain x\n".as_slice(),
-        b"bulk_begin\n".as_slice(),
+        b"bulk_begin 1\n".as_slice(),
         b"bulk_end\n".as_slice(),
+        b"bulk_push 0 1 2\n".as_slice(),
         b"limit_begin 1 2\n".as_slice(),
     ];
     for text in cases {
@@ -224,6 +225,108 @@ fn names_the_first_bad_line(rt: HostRuntime) -> Result<(), Fail> {
         let script = read(rt.alloc(), text, 1)?;
         assert_eq!(rt; script.bad(), Some(bad));
         assert_eq!(rt; script.len(), before);
+    }
+    Ok(())
+}
+
+#[test]
+fn reads_the_commands_of_a_bulk_session(rt: HostRuntime) -> Result<(), Fail> {
+    let text = b"pop\nbulk_begin\n\nbulk_push 1 5 6\n# no end\n bulk_push 0 3 4\r\nbulk_end\npop\n";
+    let script = read(rt.alloc(), text, 2)?;
+    assert_eq!(rt; script.bad(), None);
+    assert_eq!(rt; script.len(), 6);
+    assert_eq!(rt; script.at(1), Command::BulkBegin);
+    assert_eq!(rt;
+        script.at(2),
+        Command::BulkPush {
+            pass: 1,
+            item: Pair { key: 5, value: 6 }
+        }
+    );
+    assert_eq!(rt;
+        script.at(3),
+        Command::BulkPush {
+            pass: 0,
+            item: Pair { key: 3, value: 4 }
+        }
+    );
+    assert_eq!(rt; script.at(4), Command::BulkEnd);
+    assert_eq!(rt; script.line(1), 2);
+    assert_eq!(rt; script.line(2), 4);
+    assert_eq!(rt; script.line(3), 6);
+    assert_eq!(rt; script.line(4), 7);
+    Ok(())
+}
+
+#[test]
+fn a_line_in_its_session_is_good(rt: HostRuntime) -> Result<(), Fail> {
+    let cases = [
+        b"bulk_begin\nbulk_end\nbulk_begin\nbulk_end\n".as_slice(),
+        b"bulk_begin\nbulk_end\nsize\n".as_slice(),
+        b"bulk_begin\n#\n\n   \n#pop\nbulk_end".as_slice(),
+        b"bulk_begin\nbulk_push 1 0 0\nbulk_end\n".as_slice(),
+        b"bulk_begin\nbulk_push 00000000000000000001 0 0\nbulk_end\n".as_slice(),
+        b"bulk_begin\nbulk_end\npush 1 1\ngen 1 1\nbulk f\n".as_slice(),
+    ];
+    for text in cases {
+        assert!(rt; text.len() < 100);
+        let script = read(rt.alloc(), text, 2)?;
+        assert_eq!(rt; script.bad(), None);
+    }
+    Ok(())
+}
+
+#[test]
+fn a_line_out_of_its_session_is_bad(rt: HostRuntime) -> Result<(), Fail> {
+    let cases = [
+        // a command outside
+        (b"pop\nbulk_push 0 1 2\n".as_slice(), 2),
+        (b"pop\nbulk_end\n".as_slice(), 2),
+        (b"bulk_begin\nbulk_end\nbulk_end\n".as_slice(), 3),
+        // a command inside
+        (b"bulk_begin\npop\nbulk_end\n".as_slice(), 2),
+        (b"bulk_begin\ntop\nbulk_end\n".as_slice(), 2),
+        (b"bulk_begin\nsize\nbulk_end\n".as_slice(), 2),
+        (b"bulk_begin\npush 1 2\nbulk_end\n".as_slice(), 2),
+        (b"bulk_begin\nbulk f\nbulk_end\n".as_slice(), 2),
+        (b"bulk_begin\ngen 1 2\nbulk_end\n".as_slice(), 2),
+        (b"bulk_begin\nbulk_pop 1\nbulk_end\n".as_slice(), 2),
+        (
+            b"bulk_begin\nbulk_pop_limit 1 1 1\nbulk_end\n".as_slice(),
+            2,
+        ),
+        (b"bulk_begin\ndrain 1\nbulk_end\n".as_slice(), 2),
+        // a session in a session
+        (b"bulk_begin\nbulk_begin\nbulk_end\n".as_slice(), 2),
+        (b"bulk_begin\n#\nbulk_begin\n".as_slice(), 3),
+        // a pass that is none of two
+        (b"bulk_begin\nbulk_push 2 1 1\nbulk_end\n".as_slice(), 2),
+        (b"bulk_begin\nbulk_push 3 1 1\nbulk_end\n".as_slice(), 2),
+        (
+            b"bulk_begin\nbulk_push 4294967296 1 1\nbulk_end\n".as_slice(),
+            2,
+        ),
+        (b"bulk_begin\nbulk_push 1 1\nbulk_end\n".as_slice(), 2),
+        (
+            b"bulk_begin\nbulk_push 1 9 9\nbulk_push 2 9 9\n".as_slice(),
+            3,
+        ),
+        // a session that is open at the end
+        (b"bulk_begin".as_slice(), 2),
+        (b"bulk_begin\n".as_slice(), 2),
+        (b"bulk_begin\n\n".as_slice(), 3),
+        (b"bulk_begin\nbulk_push 0 1 1\n# no end".as_slice(), 4),
+        (b"bulk_begin\nbulk_push 0 1 1\n# no end\n".as_slice(), 4),
+        // a line that begins and ends no session
+        (b"bulk_begin x\nbulk_push 0 1 1\nbulk_end\n".as_slice(), 1),
+        (b"pop\n#bulk_begin\nbulk_push 0 1 1\n".as_slice(), 3),
+        (b"bulk_begin\n# bulk_end\npop\n".as_slice(), 3),
+        (b"bulk_begin\nbulk_end x\nbulk_end\n".as_slice(), 2),
+    ];
+    for (text, bad) in cases {
+        assert!(rt; text.len() < 100);
+        let script = read(rt.alloc(), text, 2)?;
+        assert_eq!(rt; script.bad(), Some(bad));
     }
     Ok(())
 }
@@ -346,6 +449,22 @@ fn names_the_first_bad_line_by_lines_and_files(rt: HostRuntime) -> Result<(), Fa
         ),
         (
             b"#\nbulk f\npop 1\nbulk absent\n".as_slice(),
+            Err(CheckFault::BadLine { line: 3 }),
+        ),
+        (
+            b"bulk f\nbulk_begin\nbulk_push 0 1 1\nbulk_end\nbulk e\n".as_slice(),
+            Ok(()),
+        ),
+        (
+            b"bulk absent\nbulk_begin\n".as_slice(),
+            Err(CheckFault::BadLine { line: 1 }),
+        ),
+        (
+            b"bulk f\nbulk_begin\nbulk absent\n".as_slice(),
+            Err(CheckFault::BadLine { line: 3 }),
+        ),
+        (
+            b"bulk f\nbulk_begin\n".as_slice(),
             Err(CheckFault::BadLine { line: 3 }),
         ),
     ];

@@ -1,6 +1,5 @@
 use Rattle.std.proofs.Common.{◌≡◌, ◌≤◌, ◌∙◌, List, ℕ, length, sym, ap, subst, arith, rules}
 use Rattle.std.specs.Prelude.{is_ok}
-use Rattle.ppq_script.specs.declared.check.CheckFault.{CheckFault}
 use Rattle.ppq_cli.specs.declared.load.LoadFault.{LoadFault}
 use Rattle.ppq_cli.specs.Load.{check_fault_load}
 use Rattle.ppq_cli.specs.Replies.{IsUnloaded}
@@ -27,6 +26,9 @@ returns-clause-refused g c =
     let P : List ℕ → Type 0 = λ b. IsReadFrom b c.args.workers old in
     let told = g.L.Library.told c.args.library.now in
     let replied = g.L.Library.replied c.check_files.new.library in
-    let Q : LoadFault → Type 0 = λ f. IsUnloaded told replied c.args.name.now f in
+    let Q : LoadFault → Type 0 = λ f. IsUnloaded told replied c.args.name.now c.args.workers f in
     let is : c.from.result ≡ check_fault_load fault = search rules in
     subst Q (sym is) (checked_refused told (g.L.Library.replied c.load.new.library) replied c.args.name.now bytes c.args.workers old fault c.in-Ok.ensures.replied (subst P c.deref.ensures.value read) c.check_files.ensures.remembers c.in-Err-check_files.ensures.refused)
+
+pub returns-in-Err-clause-refused : goal.returns-in-Err-clause-refused
+returns-in-Err-clause-refused g c = c.in-Err.ensures.refused c.args.workers

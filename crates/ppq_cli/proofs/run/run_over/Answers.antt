@@ -1,7 +1,7 @@
 use Rattle.std.proofs.Common.{◌≡◌, ◌∙◌, inl, length, map, arith}
 use Rattle.std.proofs.lemmas.List.{length-map}
 use Rattle.ppq_cli.proofs.Blocks.{returned, in_order, made_just, made_nothing}
-use Rattle.ppq_cli.proofs.Ends.{ran_to_file, fault_to_file, may_write}
+use Rattle.ppq_cli.proofs.Ends.{ran_to_load, fault_to_file, may_write}
 use Rattle.ppq_cli.proofs.run.run_over.Goals as goal
 
 pub returns-then-memory-need-clause-made : goal.returns-then-memory-need-clause-made
@@ -31,7 +31,7 @@ returns-in-Err-clause-made g c =
 
 pub returns-in-Ok-clause-memory : goal.returns-in-Ok-clause-memory
 returns-in-Ok-clause-memory g c = λ is.
-    ran_to_file (g.K.Rack.tells c.args.rack.now) (g.L.Library.told c.args.library.now) c.args.script.now (map g.K.Slot.Slot.shown c.in-Ok.slots.items) (g.O.Sink.told c.args.out.now) (g.O.Sink.told c.run_script.new.out) c.in-Ok.ensures.tells (c.run_script.ensures.memory is)
+    ran_to_load (g.K.Rack.tells c.args.rack.now) (g.L.Library.told c.args.library.now) c.args.script.now (map g.K.Slot.Slot.shown c.in-Ok.slots.items) (g.O.Sink.told c.args.out.now) (g.O.Sink.told c.run_script.new.out) c.in-Ok.ensures.tells (c.run_script.ensures.memory is)
 
 pub returns-in-Ok-clause-file : goal.returns-in-Ok-clause-file
 returns-in-Ok-clause-file g c =

@@ -4,7 +4,7 @@ use Rattle.ppq_record.specs.Pair.{pair_cmp}
 use Rattle.ppq_record.specs.Bag.{IsSameBag, ascending}
 use Rattle.ppq_engine.specs.Gathers.{IsSummary}
 use Rattle.ppq_engine.proofs.Popped.{left-begin, round-left, round-taken, round-ends}
-use Rattle.ppq_engine.proofs.Pushed.{Keeps-refl, Keeps-trans}
+use Rattle.ppq_engine.proofs.Kept.{Keeps-refl, Keeps-trans}
 use Rattle.ppq_engine.proofs.pop.drain.Goals as goal
 
 pub rounds-init : goal.rounds-init

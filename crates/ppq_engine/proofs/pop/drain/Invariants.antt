@@ -3,7 +3,7 @@ use Rattle.ppq_record.specs.Pair.{pair_cmp}
 use Rattle.ppq_record.specs.Bag.{IsSameBag, ascending}
 use Rattle.ppq_outside.specs.Shown.{AllTell}
 use Rattle.ppq_engine.specs.Gathers.{IsSummary}
-use Rattle.ppq_engine.specs.Running.{Keeps}
+use Rattle.ppq_load.specs.Refusal.{Keeps}
 use Rattle.ppq_engine.proofs.pop.drain.Given as goal
 
 abbrev pub invariant-rounds : goal.invariant-rounds

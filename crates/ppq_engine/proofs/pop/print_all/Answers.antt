@@ -2,7 +2,7 @@ use Rattle.std.proofs.Common.{◌++◌, ◌∙◌, ℕ, List, ap, sym, subst, ta
 use Rattle.ppq_outside.specs.Told.{TakesPart}
 use Rattle.ppq_engine.specs.Output.{line_of, lines_text}
 use Rattle.ppq_engine.specs.Gathers.{Gathers}
-use Rattle.ppq_engine.proofs.Popped.{gathers-nothing, gathers-more, lines-more, lines-put}
+use Rattle.ppq_engine.proofs.Popped.{gathers-more, lines-more, lines-put}
 use Rattle.ppq_engine.proofs.Results.{on-err}
 use Rattle.ppq_engine.proofs.Running.{take-next}
 use Rattle.ppq_engine.proofs.pop.print_all.Goals as goal

@@ -8,7 +8,7 @@ use Rattle.ppq_engine.specs.Running.{WritesPart}
 use Rattle.ppq_engine.specs.declared.stop.Stop.{Stop}
 use Rattle.ppq_engine.specs.declared.stop.Stop.TheVariants.{Sink, Queue}
 use Rattle.ppq_engine.proofs.Popped.{mark-is, gathers-more, takes-part, writes-more}
-use Rattle.ppq_engine.proofs.Pushed.{Keeps-trans}
+use Rattle.ppq_engine.proofs.Kept.{Keeps-trans}
 use Rattle.ppq_engine.proofs.Results.{if-err}
 use Rattle.ppq_engine.proofs.pop.print_limited.Goals as goal
 

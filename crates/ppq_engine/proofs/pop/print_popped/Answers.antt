@@ -11,7 +11,7 @@ use Rattle.ppq_engine.specs.Running.{WritesPart}
 use Rattle.ppq_engine.specs.declared.stop.Stop.{Stop}
 use Rattle.ppq_engine.specs.declared.stop.Stop.TheVariants.{Sink, Queue}
 use Rattle.ppq_engine.proofs.Popped.{left-begin, round-left, round-lines, round-passed, round-taken, round-ends, round-put, gathers-nothing, gathers-more, popped-part}
-use Rattle.ppq_engine.proofs.Pushed.{Keeps-refl, Keeps-trans}
+use Rattle.ppq_engine.proofs.Kept.{Keeps-refl, Keeps-trans}
 use Rattle.ppq_engine.proofs.Results.{if-err}
 use Rattle.ppq_engine.proofs.pop.print_popped.Goals as goal
 

@@ -1,24 +1,34 @@
-use Rattle.std.proofs.Common.{◌≡◌, ℕ, List, Option, None, take}
+use Rattle.std.proofs.Common.{◌≡◌, ◌≤◌, ◌-◌, ℕ, List, Option, None, true, take, drop, length}
 use Rattle.ppq_outside.specs.Shown.{AllTell}
 use Rattle.ppq_outside.specs.Told.{Remembers, RepliesOnly}
+use Rattle.ppq_script.specs.declared.session.Session.TheVariants.{Outside}
 use Rattle.ppq_script.specs.Reading.{command_list}
+use Rattle.ppq_script.specs.Sessions.{are_in_place}
+use Rattle.ppq_load.specs.Refusal.{Keeps}
 use Rattle.ppq_engine.specs.Output.{AreFilesOf, given_of}
-use Rattle.ppq_engine.specs.Running.{Keeps, HasRun, HasSizes}
+use Rattle.ppq_engine.specs.Running.{HasRun, HasSizes}
 use Rattle.ppq_engine.specs.Files.{IsReadInScript}
 use Rattle.ppq_engine.proofs.run.run_commands.Given as goal
 
-abbrev pub invariant-loop-i : goal.invariant-loop-i
-invariant-loop-i g l = record {
+abbrev pub invariant-commands : goal.invariant-commands
+invariant-commands g l = record {
   run :
       AllTell l.fn.queue.slots → (files : List ℕ → Option (List ℕ)) → AreFilesOf (g.L.Library.told l.fn.library) l.script files
-      → HasRun (given_of files l.script) (g.O.Sink.told l.fn.out) (g.O.Sink.told l.out) l.gathered l.queue.bag l.queue.size l.queue.peak l.fn.queue.sizes l.queue.slots (take l.i (command_list l.script));
-  has : HasSizes l.queue.size l.queue.peak l.fn.queue.sizes l.queue.slots (take l.i (command_list l.script));
+      → HasRun (given_of files l.script) (g.O.Sink.told l.fn.out) (g.O.Sink.told l.out) l.gathered l.queue.bag l.queue.size l.queue.peak l.fn.queue.sizes l.queue.slots (take l.place (command_list l.script));
+  has : HasSizes l.queue.size l.queue.peak l.fn.queue.sizes l.queue.slots (take l.place (command_list l.script));
+  within : l.place ≤ length l.script.commands;
+  in_place : are_in_place l.script.workers Outside (drop l.place (command_list l.script)) ≡ true;
   sound : l.queue.failed ≡ None;
   kept : Keeps l.fn.queue l.queue;
   list : l.list.room ≡ l.fn.list.room;
   told : g.L.Library.told l.library ≡ g.L.Library.told l.fn.library;
   remembers : Remembers (g.L.Library.replied l.fn.library) (g.L.Library.replied l.library);
   asks : RepliesOnly (g.L.Library.replied l.fn.library) (g.L.Library.replied l.library) (IsReadInScript l.script);
+  library_later : g.L.Library.faults l.fn.library ≤ g.L.Library.faults l.library;
+  later : g.O.Sink.faults l.fn.out ≤ g.O.Sink.faults l.out;
   library_stays : g.L.Library.faults l.library ≡ g.L.Library.faults l.fn.library;
   stays : g.O.Sink.faults l.out ≡ g.O.Sink.faults l.fn.out;
 }
+
+abbrev pub decreases-commands : goal.decreases-commands
+decreases-commands g l = length l.script.commands - l.place

@@ -1,4 +1,4 @@
-use Rattle.std.proofs.Common.{◌≡◌, ◌∙◌, ℕ, List, Option, sym, ap}
+use Rattle.std.proofs.Common.{◌≡◌, ◌∙◌, sym, ap}
 use Rattle.ppq_script.specs.Checking.{with_sizes}
 use Rattle.ppq_engine.proofs.Lengths.{keeps_lengths}
 use Rattle.ppq_engine.proofs.Results.{if-some}

@@ -2,7 +2,8 @@ use Rattle.std.proofs.Common.{refl}
 use Rattle.ppq_script.proofs.Spelling.{Spells-number_of, number_of-Spells, value_from-append, Reads-Plain, Plain-Reads, ReadsFile-OfFile, OfFile-ReadsFile, IsBlankOrComment-Skipped, Skipped-IsBlankOrComment}
 use Rattle.ppq_script.proofs.FieldLemmas.{text_of-return, text_of-other, fields_of-spaces, spaces-fields_of, fields_of-first}
 use Rattle.ppq_script.proofs.LineLemmas.{lines_of-first, lines_of-last}
-use Rattle.ppq_script.proofs.BadLines.{IsFirstBad-first_bad, first_bad-IsFirstBad, all_good, first_bad-all_good, AreCommands-numbered_of}
+use Rattle.ppq_script.proofs.BadLines.{IsFirstBad-first_bad, first_bad-IsFirstBad, AreGood-first_bad, first_bad-AreGood, AreCommands-numbered_of}
+use Rattle.ppq_script.proofs.Sessions.{one_session, Stands-may_stand, may_stand-Stands}
 use Rattle.ppq_script.proofs.laws.lines_mean.Goals as goal
 
 pub returns : goal.returns
@@ -21,7 +22,9 @@ returns c = record {
   no_line = refl;
   first_line = lines_of-first;
   last_line = lines_of-last;
-  bad = λ usable lines n. (IsFirstBad-first_bad usable lines n, first_bad-IsFirstBad usable lines n);
-  none_bad = λ usable lines. (all_good usable 1 lines, first_bad-all_good usable 1 lines);
+  session = one_session;
+  stands = λ workers session command. (Stands-may_stand workers session command, may_stand-Stands workers session command);
+  bad = λ usable workers lines n. (IsFirstBad-first_bad usable workers lines n, first_bad-IsFirstBad usable workers lines n);
+  none_bad = λ usable workers lines. (AreGood-first_bad usable workers lines, first_bad-AreGood usable workers lines);
   commands = AreCommands-numbered_of;
 }

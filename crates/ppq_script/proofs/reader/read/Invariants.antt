@@ -5,7 +5,7 @@ use Rattle.ppq_script.proofs.reader.read.Given as goal
 
 abbrev pub invariant-loop-rest : goal.invariant-loop-rest
 invariant-loop-rest l = record {
-  fronts : Fronts l.fn.bytes l.line l.rest l.commands.items (map string_bytes l.names.items);
+  fronts : Fronts l.workers l.fn.bytes l.line l.session l.rest l.commands.items (map string_bytes l.names.items);
   long : l.line + length l.rest ≤ 1048577;
   few : length l.names.items ≤ l.line;
 }

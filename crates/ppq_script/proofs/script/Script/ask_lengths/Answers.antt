@@ -1,13 +1,15 @@
-use Rattle.std.proofs.Common.{◌≡◌, ◌∙◌, List, length, map, All, sym, ap, subst}
+use Rattle.std.proofs.Common.{◌≡◌, ◌∙◌, List, length, map, None, true, All, sym, ap, subst}
 use Rattle.std.specs.Prelude.{string_bytes}
 use Rattle.std.specs.Vec.{with_items}
 use Rattle.std.specs.List.{AllZip}
 use Rattle.std.proofs.lemmas.List.{with_items_is}
 use Rattle.ppq_script.specs.declared.numbered.Numbered.{Numbered}
+use Rattle.ppq_script.specs.declared.session.Session.TheVariants.{Outside}
+use Rattle.ppq_script.specs.Sessions.{are_in_place}
 use Rattle.ppq_script.specs.Files.{NamesFile, HasRecords, IsBadAmong}
 use Rattle.ppq_script.specs.Reading.{Reading}
 use Rattle.ppq_script.specs.Checking.{IsSameItem, IsAsked}
-use Rattle.ppq_script.proofs.Checks.{all_names, all_records, bad_behind}
+use Rattle.ppq_script.proofs.Checks.{all_names, all_records, bad_behind, in_place_later}
 use Rattle.ppq_script.proofs.script.Script.ask_lengths.Goals as goal
 
 pub invariant_of-self : goal.invariant_of-self
@@ -20,6 +22,7 @@ invariant_of-self g c =
       files = subst (λ (items : List Numbered). All (λ n. NamesFile (length c.self.inside.names.items) n.command) items) (sym written) (all_names (length c.self.inside.names.items) v.items new same c.self.invariant.files);
       good = λ e. cc;
       lengths = λ e. cc;
+      in_place = subst (λ (items : List Numbered). c.self.inside.bad ≡ None → are_in_place c.self.inside.workers Outside (map (λ n. n.command) items) ≡ true) (sym written) (in_place_later c.self.inside.workers v.items new c.self.inside.bad same c.self.invariant.in_place);
     }
 
 pub invariant_of-self-in-Some : goal.invariant_of-self-in-Some
@@ -32,6 +35,7 @@ invariant_of-self-in-Some g c =
       files = subst (λ (items : List Numbered). All (λ n. NamesFile (length c.self.inside.names.items) n.command) items) (sym written) (all_names (length c.self.inside.names.items) v.items new same c.self.invariant.files);
       good = λ e. cc;
       lengths = λ e. cc;
+      in_place = subst (λ (items : List Numbered). c.self.inside.bad ≡ None → are_in_place c.self.inside.workers Outside (map (λ n. n.command) items) ≡ true) (sym written) (in_place_later c.self.inside.workers v.items new c.self.inside.bad same c.self.invariant.in_place);
     }
 
 pub invariant_of-self-in-None : goal.invariant_of-self-in-None
@@ -45,6 +49,7 @@ invariant_of-self-in-None g c =
       files = subst (λ (items : List Numbered). All (λ n. NamesFile (length c.self.inside.names.items) n.command) items) (sym written) (all_names (length c.self.inside.names.items) v.items new same c.self.invariant.files);
       good = λ e. c.in-None.is;
       lengths = λ e. subst (λ (items : List Numbered). All (λ n. HasRecords n.command) items) (sym written) records;
+      in_place = subst (λ (items : List Numbered). c.self.inside.bad ≡ None → are_in_place c.self.inside.workers Outside (map (λ n. n.command) items) ≡ true) (sym written) (in_place_later c.self.inside.workers v.items new c.self.inside.bad same c.self.invariant.in_place);
     }
 
 pub returns-in-Some-clause-refused : goal.returns-in-Some-clause-refused

@@ -1,0 +1,80 @@
+-- What a load answers, as an answer of the engine.
+use Rattle.std.proofs.Common.{◌≡◌, ℕ, List, Option, refl, sym, subst}
+use Rattle.std.specs.Prelude.{Result, Ok, Err, IfErr, OnOk}
+use Rattle.ppq_outside.specs.Shown.{Shown}
+use Rattle.ppq_outside.specs.Told.{Reply}
+use Rattle.ppq_budget.specs.Sizes.{Numbers}
+use Rattle.ppq_load.specs.Loading.{IsByLoad, LoadStopsFor, LoadCountsFrom, LoadEndsIn}
+use Rattle.ppq_load.specs.declared.fault.LoadFault.{LoadFault}
+use Rattle.ppq_load.specs.declared.fault.LoadFault.TheVariants.{Queue, Read, Memory, Ended}
+use Rattle.ppq_engine.specs.Files.{load_stop, load_result, IsByFile, IsBySession, EndsEarly}
+use Rattle.ppq_engine.specs.Running.{StopsFor, LibraryAfter}
+use Rattle.ppq_engine.specs.declared.stop.Stop.{Stop}
+
+pub stop-refused : (peak : ℕ) (sizes : Numbers) (slots : List Shown) (line said : ℕ) (fault : LoadFault) → LoadStopsFor peak sizes slots fault → StopsFor peak sizes slots (load_stop line said fault)
+stop-refused peak sizes slots line said (Queue fault) h = h
+stop-refused peak sizes slots line said Read h = tt
+stop-refused peak sizes slots line said Memory h = tt
+stop-refused peak sizes slots line said (Ended got) h = tt
+
+pub stop-by_session : (line said : ℕ) (fault : LoadFault) → IsByLoad fault → IsBySession (load_stop line said fault)
+stop-by_session line said (Queue fault) h = tt
+stop-by_session line said Read h = absurd h
+stop-by_session line said Memory h = tt
+stop-by_session line said (Ended got) h = absurd h
+
+stop-by_file : (line said : ℕ) (fault : LoadFault) → IsByFile (load_stop line said fault)
+stop-by_file line said (Queue fault) = tt
+stop-by_file line said Read = tt
+stop-by_file line said Memory = tt
+stop-by_file line said (Ended got) = tt
+
+stop-ended : (told : Option (List ℕ → Option (List ℕ))) (replied : Reply → Type 0) (name : List ℕ) (line said : ℕ) (fault : LoadFault) → LoadEndsIn told replied name said fault → EndsEarly told replied name line said (load_stop line said fault)
+stop-ended told replied name line said (Queue fault) h = tt
+stop-ended told replied name line said Read h = tt
+stop-ended told replied name line said Memory h = tt
+stop-ended told replied name line said (Ended got) h = (refl, (refl, h))
+
+stop-counts : (before now line said : ℕ) (fault : LoadFault) → LoadCountsFrom before now fault → LibraryAfter before now (load_stop line said fault)
+stop-counts before now line said (Queue fault) h = h
+stop-counts before now line said Read h = h
+stop-counts before now line said Memory h = h
+stop-counts before now line said (Ended got) h = h
+
+-- a load's answer, and the engine's
+module _ {T : Type 0} (line said : ℕ) (r : Result T LoadFault) (s : Result T Stop) (same : s ≡ load_result line said r) where
+  result-ok : (A : Type 0) (q : Result T LoadFault) → OnOk q A → OnOk (load_result line said q) A
+  result-ok A (Ok v) h = h
+  result-ok A (Err f) h = tt
+
+  result-err : (P : LoadFault → Type 0) (Q : Stop → Type 0) → ((f : LoadFault) → P f → Q (load_stop line said f)) → (q : Result T LoadFault) → IfErr q P → IfErr (load_result line said q) Q
+  result-err P Q step (Ok v) h = tt
+  result-err P Q step (Err f) h = step f h
+
+  result-any : (Q : Stop → Type 0) → ((f : LoadFault) → Q (load_stop line said f)) → (q : Result T LoadFault) → IfErr (load_result line said q) Q
+  result-any Q step (Ok v) = tt
+  result-any Q step (Err f) = step f
+
+  pub loaded-ok : (A : Type 0) → OnOk r A → OnOk s A
+  loaded-ok A h = let P : Result T Stop → Type 0 = λ x. OnOk x A in subst P (sym same) (result-ok A r h)
+
+  pub loaded-refused : (peak : ℕ) (sizes : Numbers) (slots : List Shown) → IfErr r (LoadStopsFor peak sizes slots) → IfErr s (StopsFor peak sizes slots)
+  loaded-refused peak sizes slots h =
+      let P : Result T Stop → Type 0 = λ x. IfErr x (StopsFor peak sizes slots) in
+      subst P (sym same) (result-err (LoadStopsFor peak sizes slots) (StopsFor peak sizes slots) (stop-refused peak sizes slots line said) r h)
+
+  pub loaded-by_session : IfErr r IsByLoad → IfErr s IsBySession
+  loaded-by_session h = let P : Result T Stop → Type 0 = λ x. IfErr x IsBySession in subst P (sym same) (result-err IsByLoad IsBySession (stop-by_session line said) r h)
+
+  pub loaded-by_file : IfErr s IsByFile
+  loaded-by_file = let P : Result T Stop → Type 0 = λ x. IfErr x IsByFile in subst P (sym same) (result-any IsByFile (stop-by_file line said) r)
+
+  pub loaded-ended : (told : Option (List ℕ → Option (List ℕ))) (replied : Reply → Type 0) (name : List ℕ) → IfErr r (LoadEndsIn told replied name said) → IfErr s (EndsEarly told replied name line said)
+  loaded-ended told replied name h =
+      let P : Result T Stop → Type 0 = λ x. IfErr x (EndsEarly told replied name line said) in
+      subst P (sym same) (result-err (LoadEndsIn told replied name said) (EndsEarly told replied name line said) (stop-ended told replied name line said) r h)
+
+  pub loaded-counts : (before now : ℕ) → IfErr r (LoadCountsFrom before now) → IfErr s (LibraryAfter before now)
+  loaded-counts before now h =
+      let P : Result T Stop → Type 0 = λ x. IfErr x (LibraryAfter before now) in
+      subst P (sym same) (result-err (LoadCountsFrom before now) (LibraryAfter before now) (stop-counts before now line said) r h)

@@ -1,0 +1,51 @@
+-- Sessions, and where a command may stand.
+use Rattle.std.specs.Prelude.{ℕ, Bool, true, false, ◌&&◌, List, [], ◌∷◌, Option, Some, None, unwrap_or, nat_lt}
+use Rattle.ppq_script.specs.declared.command.Command.{Command}
+use Rattle.ppq_script.specs.declared.command.Command.TheVariants.{Push, Pop, Top, Size, Bulk, Gen, BulkPop, BulkPopLimit, Drain, BulkBegin, BulkPush, BulkEnd}
+use Rattle.ppq_script.specs.declared.session.Session.{Session}
+use Rattle.ppq_script.specs.declared.session.Session.TheVariants.{Outside, InBulk}
+
+-- the session behind a command that begins or ends one
+abbrev pub turn_of : Command → Option Session
+turn_of (Push item) = None
+turn_of Pop = None
+turn_of Top = None
+turn_of Size = None
+turn_of (Bulk file length) = None
+turn_of (Gen seed count) = None
+turn_of (BulkPop count) = None
+turn_of (BulkPopLimit limit count) = None
+turn_of (Drain count) = None
+turn_of BulkBegin = Some InBulk
+turn_of (BulkPush pass item) = None
+turn_of BulkEnd = Some Outside
+
+-- no session is open
+abbrev pub is_outside : Session → Bool
+is_outside Outside = true
+is_outside InBulk = false
+
+-- a bulk session is
+abbrev pub is_in_bulk : Session → Bool
+is_in_bulk Outside = false
+is_in_bulk InBulk = true
+
+-- a command may stand in this session of a script for so many workers
+abbrev pub may_stand : ℕ → Session → Command → Bool
+may_stand workers session (Push item) = is_outside session
+may_stand workers session Pop = is_outside session
+may_stand workers session Top = is_outside session
+may_stand workers session Size = is_outside session
+may_stand workers session (Bulk file length) = is_outside session
+may_stand workers session (Gen seed count) = is_outside session
+may_stand workers session (BulkPop count) = is_outside session
+may_stand workers session (BulkPopLimit limit count) = is_outside session
+may_stand workers session (Drain count) = is_outside session
+may_stand workers session BulkBegin = is_outside session
+may_stand workers session (BulkPush pass item) = is_in_bulk session && nat_lt pass workers
+may_stand workers session BulkEnd = is_in_bulk session
+
+-- each command may stand where it does, the first in this session, and no session is open behind the last
+abbrev pub are_in_place : ℕ → Session → List Command → Bool
+are_in_place workers session [] = is_outside session
+are_in_place workers session (command ∷ commands) = may_stand workers session command && are_in_place workers (unwrap_or (turn_of command) session) commands

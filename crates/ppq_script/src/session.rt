@@ -1,0 +1,80 @@
+//! Sessions, and where a line may stand.
+ghost use Rattle.std.specs.Prelude.{◌≡◌};
+ghost use Rattle.ppq_script.specs.Sessions.{turn_of, may_stand, is_outside};
+ghost use Rattle.ppq_script.specs.Lines.{placed, session_behind};
+ghost use Rattle.ppq_script.specs.Shown.{kind_in};
+
+use crate::Command;
+use crate::line::Line;
+
+// The session in which a line stands.
+#[derive(Clone, Copy, Debug, PartialEq, Eq)]
+pub enum Session {
+    // No session is open.
+    Outside,
+    // A bulk session.
+    InBulk,
+}
+
+// Whether no session is open.
+pub fn stands_outside(session: Session) -> bool
+    ensures { result ≡ is_outside session }
+{
+    matches!(session, Session::Outside)
+}
+
+// Whether a command may stand in a session of a script for so many workers.
+fn allows(session: Session, command: Command, workers: u32) -> bool
+    ensures { result ≡ may_stand workers session command }
+{
+    match command {
+        Command::BulkPush { pass, .. } => matches!(session, Session::InBulk) && pass < workers,
+        Command::BulkEnd => matches!(session, Session::InBulk),
+        _ => stands_outside(session),
+    }
+}
+
+// The session behind a command that begins or ends one.
+fn turn(command: Command) -> Option<Session>
+    ensures { result ≡ turn_of command }
+{
+    match command {
+        Command::BulkBegin => Some(Session::InBulk),
+        Command::BulkEnd => Some(Session::Outside),
+        _ => None,
+    }
+}
+
+// The session behind a line that stands in one. A bad line, a comment and a blank line change
+// nothing of it.
+pub fn session_after(session: Session, line: Line<'_>) -> Session
+    ensures { result ≡ session_behind session (kind_in line.entry) }
+{
+    match line {
+        Line::Plain { command } => turn(command).unwrap_or(session),
+        _ => session,
+    }
+}
+
+// The line, or a bad one where it may not stand in this session of a script for so many workers.
+pub fn place<'a>(line: Line<'a>, session: Session, workers: u32) -> Line<'a>
+    ensures { kind_in result ≡ placed workers session (kind_in line.entry) }
+{
+    match line {
+        Line::Plain { command } => {
+            if allows(session, command, workers) {
+                line
+            } else {
+                Line::Bad
+            }
+        }
+        Line::OfFile { .. } => {
+            if stands_outside(session) {
+                line
+            } else {
+                Line::Bad
+            }
+        }
+        _ => line,
+    }
+}
