@@ -19,8 +19,8 @@ use ppq_record::Record;
 ///
 /// The runs of the passes become runs of the queue, whose levels are merged at last. It takes no memory.
 ///
-/// `Whole`: the queue has all records. `Stopped(NoFreeBlock)`: it has, but a merge of levels found no
-/// blocks. `Stopped(Device)`: a call of the block with that number failed, in a pass or now; records may
+/// `Whole`: the queue has all records, and its levels are settled. `Stopped(NoFreeBlock)`: it has all
+/// records, but a merge of levels found no blocks. `Stopped(Device)`: a call of the block with that number failed, in a pass or now; records may
 /// be lost, but no slot.
 pub fn bulk_end<H: Host, S: Slot + Send + Sync, R: Record + Send + Sync, G: Gate>(
     rt: &H,
