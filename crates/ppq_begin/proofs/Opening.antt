@@ -52,6 +52,7 @@ opened_parts p s heaps tree idle brought =
       sources = p.sources;
       count = p.count;
       peak = p.peak;
+      limited = p.limited;
       slots = p.slots;
       row_seat = s.row_seat;
       pool_seat = s.pool_seat;
@@ -139,7 +140,7 @@ module _ {S R : Type 0} (shown : S → Shown) (cmp : R → R → Ordering) (reco
     pub is_bulk : heaps.items ≡ [] → p.sizes.workers ≤ vec_capacity heaps → length tree.items ≡ p.sizes.workers → brought.items ≡ [] → p.sizes.workers ≤ vec_capacity brought → IsBulk shown cmp record_of width (opened_parts p s' heaps tree idle brought)
     is_bulk none room leaves empty many =
         let w = o.whole.queue in
-        let so : IsSound shown cmp record_of width p.sizes p.heaps p.extract p.body o.before p.sources p.count p.peak = o.whole.sound o.sound in
+        let so : IsSound shown cmp record_of width p.sizes p.heaps p.extract p.body o.before p.sources p.count p.peak p.limited = o.whole.sound o.sound in
         record {
           range = w.range;
           budget = w.budget;
@@ -191,10 +192,14 @@ module _ {S R : Type 0} (shown : S → Shown) (cmp : R → R → Ordering) (reco
           shared_is = e.shared ∙ ap₂ share (sym o.first.row ∙ sym e.row) (sym o.first.pool ∙ sym e.pool);
           fresh = a.fresh;
           no_slots = a.slots;
+          whole = a.whole;
+          begun = (let so = o.whole.sound o.sound in omega (arith, so.counted, ap length o.extract));
+          runs = refl;
           bag = IsSameBag-trans (runs ++ bag_of passes) (bag_of passes ++ runs) (items_of p.heaps ++ runs) (IsSameBag-append_comm runs (bag_of passes)) (IsSameBag-append (bag_of passes) (items_of p.heaps) runs runs a.bag (λ t. refl));
           slots = ap (λ l. external_slots shown p.body.runs.external.items ++ slots_shown shown l) items_same;
           items = items_same;
           size = refl;
           peak = refl;
+          limited = refl;
           sizes = refl;
         })

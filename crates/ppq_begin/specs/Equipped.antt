@@ -60,6 +60,10 @@ module _ {S R : Type 0} where
     pub slots : pass.slots ≡ []
     pub fresh : IsFresh pass
 
+  -- a pass has the records that it began with
+  abbrev pub HasBegun : PassHolding S R → Type 0
+  HasBegun pass = length pass.bag ≡ pass.key.begun
+
   -- a pass for each heap, with its records
   pub record ArePasses (sizes : Numbers) (heaps : List (Contents R)) (s : Session S R) (passes : List (PassHolding S R)) : Type 0 where
     pub count : length passes ≡ length heaps
@@ -67,4 +71,5 @@ module _ {S R : Type 0} where
     pub begun : sum_by (λ p. p.key.begun) passes ≡ length (items_in heaps)
     pub bag : IsSameBag (bag_of passes) (items_in heaps)
     pub slots : All (λ (p : PassHolding S R). p.slots ≡ []) passes
+    pub whole : All HasBegun passes
     pub fresh : All IsFresh passes

@@ -1,5 +1,5 @@
 -- A session that begins.
-use Rattle.std.specs.Prelude.{◌≡◌, ℕ, [], List, ◌++◌, None, All}
+use Rattle.std.specs.Prelude.{◌≡◌, ℕ, [], List, ◌++◌, length, None, All}
 use Rattle.std.specs.declared.cmp.Ordering.{Ordering}
 use Rattle.ppq_record.specs.Bag.{IsSameBag}
 use Rattle.ppq_outside.specs.Shown.{Shown}
@@ -13,6 +13,7 @@ use Rattle.ppq_queue.specs.Resting.{runs_bag}
 use Rattle.ppq_queue.specs.Handed.{IsWhole}
 use Rattle.ppq_queue.specs.declared.queue_parts.QueueParts.{QueueParts}
 use Rattle.ppq_begin.specs.Session.{BulkHolding, AreOf, IsFresh, keys_of, bag_of, shared_by}
+use Rattle.ppq_begin.specs.Equipped.{HasBegun}
 use Rattle.ppq_begin.specs.Shares.{bare, IsFirst}
 use Rattle.ppq_begin.specs.declared.share.Session.{Session}
 
@@ -37,9 +38,13 @@ module _ {S R : Type 0} where
       pub shared_is : shared ≡ shared_by bulk
       pub fresh : All IsFresh passes
       pub no_slots : All HoldsNoSlot passes
+      pub whole : All HasBegun passes
+      pub begun : bulk.begun ≡ length (items_of q.heaps)
+      pub runs : bulk.runs ≡ length q.body.runs.external.items
       pub bag : IsSameBag (bulk.bag ++ bag_of passes) (items_of q.heaps ++ runs_bag shown record_of width q.body)
       pub slots : bulk.slots ≡ external_slots shown q.body.runs.external.items ++ slots_shown shown s.row_seat.hand.items
       pub items : bulk.items ≡ s.row_seat.hand.items
       pub size : bulk.size ≡ q.count
       pub peak : bulk.peak ≡ q.peak
+      pub limited : bulk.limited ≡ q.limited
       pub sizes : bulk.sizes ≡ q.sizes

@@ -1,5 +1,5 @@
 -- What contracts see of a bulk session.
-use Rattle.std.specs.Prelude.{◌≡◌, ℕ, ◌+◌, ◌<◌, ◌≤◌, true, false, Any, List, ◌++◌, length, map, max, sum_by, flat_map, None, All}
+use Rattle.std.specs.Prelude.{◌≡◌, ℕ, ◌+◌, ◌<◌, ◌≤◌, Bool, true, false, Any, List, ◌++◌, length, map, max, sum_by, flat_map, None, All}
 use Rattle.atomic_table.specs.Seated.{TableId}
 use Rattle.ppq_record.specs.Bag.{IsSameBag}
 use Rattle.ppq_outside.specs.Shown.{Shown, AllTell}
@@ -7,7 +7,7 @@ use Rattle.ppq_budget.specs.Sizes.{Numbers, heap_of, blocks_for, room_of}
 use Rattle.ppq_array.specs.declared.berth.DeviceBlock.{DeviceBlock}
 use Rattle.ppq_pass.specs.Passed.{PassKey, PassHolding, PassTells}
 use Rattle.ppq_pass.specs.declared.shared.Shared.{Shared}
-use Rattle.ppq_queue.specs.Holding.{Holding, FoundNoBlock, HasStopped}
+use Rattle.ppq_queue.specs.Holding.{Holding, IsAbove, FoundNoBlock, HasStopped}
 use Rattle.ppq_queue.specs.declared.fault.QueueFault.TheVariants.{NoFreeBlock, Device}
 use Rattle.ppq_begin.specs.declared.fault.BeginFault.{BeginFault}
 use Rattle.ppq_begin.specs.declared.fault.BeginFault.TheVariants.{Memory, NoFreeBlock as NoBlockAtBegin, Device as DeviceAtBegin}
@@ -15,15 +15,17 @@ use Rattle.ppq_begin.specs.declared.fault.SessionEnd.{SessionEnd}
 use Rattle.ppq_begin.specs.declared.fault.SessionEnd.TheVariants.{Whole, Stopped}
 
 -- What the owner of a queue keeps while passes fill it: the bag of the records of its runs, as far as its slots tell; how many records
--- the queue had when the session began, and how many of them are in the heaps, which the passes have; its sizes; the greatest size so
--- far; all slots of the queue, those of the runs and those that were put into the row; the row with these, and the pool; and a batch of
--- records to be dealt
+-- the queue had when the session began, and how many of them are in the heaps, which the passes have; how many runs in blocks there are;
+-- its sizes; the greatest size so far; whether a limit session was begun; all slots of the queue, those of the runs and those that were
+-- put into the row; the row with these, and the pool; and a batch of records to be dealt
 pub record BulkHolding (S R : Type 0) : Type 0 where
   pub bag : List R
   pub size : ℕ
   pub begun : ℕ
+  pub runs : ℕ
   pub sizes : Numbers
   pub peak : ℕ
+  pub limited : Bool
   pub slots : List Shown
   pub row : TableId
   pub items : List (DeviceBlock S R)
@@ -42,11 +44,12 @@ module _ {R : Type 0} where
   IsBeginRefusal old new NoBlockAtBegin = FoundNoBlock old new
   IsBeginRefusal old new (DeviceAtBegin number) = HasStopped number new
 
-  -- No block was free for a merge of levels: the device has fewer blocks than are enough for the peak, which is above what one heap holds
+  -- No block was free for a merge of levels: the device has fewer blocks than are enough for the peak, which is above what one heap holds,
+  -- unless a limit session was begun
   pub record HasNoBlock (queue : Holding R) : Type 0 where
     pub free : queue.free < max (8 + queue.sizes.workers) (blocks_for queue.sizes queue.size)
     pub room : queue.sizes.blocks < room_of queue.sizes queue.peak
-    pub above : heap_of queue.sizes < queue.peak
+    pub above : IsAbove queue.sizes queue.peak queue.limited
 
 module _ {S R : Type 0} where
   -- the keys of passes, which no push changes
@@ -89,6 +92,7 @@ module _ {S R : Type 0} where
       pub size : queue.size ≡ bulk.size + accepted_of passes
       pub peak : queue.peak ≡ max bulk.peak queue.size
       pub sound : queue.failed ≡ None
+      pub limited : queue.limited ≡ bulk.limited
       pub no_fault : All (λ (p : PassHolding S R). p.failed ≡ None) passes
       -- where a push was refused for want of blocks, the device has fewer than are enough for the peak
       pub short : Any (λ (p : PassHolding S R). p.refused ≡ true) passes → (bulk.sizes.blocks < room_of bulk.sizes queue.peak) × (heap_of bulk.sizes ≤ queue.size)

@@ -10,6 +10,7 @@ use Rattle.ppq_array.specs.Holdings.{internal_buffers, external_slots, external_
 use Rattle.ppq_fetch.specs.Fetching.{fronts_in}
 use Rattle.ppq_extract.specs.Extracted.{ServesFor}
 use Rattle.ppq_pool.specs.Seats.{count_of as pool_count}
+use Rattle.ppq_queue.specs.Holding.{IsAbove}
 use Rattle.ppq_queue.specs.Resting.{IsRestingRun, IsRestingArray, AllRise, runs_bag, count_of, lane_buffers, odd_in}
 use Rattle.ppq_begin.specs.Session.{BulkHolding}
 use Rattle.ppq_begin.specs.declared.parts.BulkParts.{BulkParts}
@@ -35,8 +36,10 @@ module _ {S R : Type 0} (shown : S → Shown) where
         bag = runs_bag shown record_of width q.body;
         size = q.count;
         begun = q.count - count_of q.body;
+        runs = length q.body.runs.external.items;
         sizes = q.sizes;
         peak = q.peak;
+        limited = q.limited;
         slots = bulk_slots q;
         row = q.row_seat.row;
         items = q.row_seat.hand.items;
@@ -84,7 +87,7 @@ module _ {S R : Type 0} (shown : S → Shown) where
     pub least : q.count ≤ q.peak
     pub most : q.peak ≤ q.sizes.memory + q.sizes.block * q.sizes.blocks + 1
     pub most_count : q.count ≤ q.sizes.memory + q.sizes.block * q.sizes.blocks
-    pub above : 0 < count_of q.body → heap_of q.sizes < q.peak
+    pub above : 0 < count_of q.body → IsAbove q.sizes q.peak q.limited
     pub workers : q.sources.bench.workers ≡ q.sizes.workers
     pub serves : ServesFor (pool_of q.sizes + 65) q.sources
     pub no_slot : q.slots.items ≡ []

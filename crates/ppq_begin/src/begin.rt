@@ -6,6 +6,7 @@ ghost use Rattle.ppq_array.specs.Kept.{SameSlots, all_writes};
 ghost use Rattle.ppq_pass.specs.Passed.{PassTells, IsOf};
 ghost use Rattle.ppq_begin.specs.Session.{AreOf, IsFresh, IsBeginRefusal, keys_of, bag_of, shared_by};
 ghost use Rattle.ppq_begin.specs.declared.fault.BeginFault.TheVariants.{Memory, Device};
+ghost use Rattle.ppq_begin.specs.Equipped.{HasBegun};
 ghost use Rattle.ppq_begin.specs.Opened.{IsOpened, HandedOut, HoldsNoSlot};
 ghost use Rattle.ppq_begin.specs.Outfits.{IsOutfit};
 ghost use Rattle.ppq_pool.specs.Seats.{count_of};
@@ -43,12 +44,17 @@ where
     ensures shared { IfOk result (λ r. r.1 ≡ shared_by r.0) }
     ensures passes { IfOk result (λ r. All (IsOf r.1) r.2.items) }
     ensures fresh { IfOk result (λ r. All IsFresh r.2.items) }
+    ensures no_slots { IfOk result (λ r. All HoldsNoSlot r.2.items) }
+    ensures whole { IfOk result (λ r. All HasBegun r.2.items) }
+    ensures begun { IfOk result (λ r. r.0.begun ≡ q.in_heap) }
+    ensures runs { IfOk result (λ r. r.0.runs ≤ 64) }
     ensures bag { IfOk result (λ r. AllTell q.slots → IsSameBag (r.0.bag ++ bag_of r.2.items) q.bag) }
     ensures slots { IfOk result (λ r. SameSlots q.slots r.0.slots) }
     ensures tells { IfOk result (λ r. AllTell q.slots → AllTell r.0.slots × All (PassTells S.shown) r.2.items) }
     ensures writes { IfOk result (λ r. all_writes q.slots ≤ all_writes r.0.slots) }
     ensures size { IfOk result (λ r. r.0.size ≡ q.size) }
     ensures peak { IfOk result (λ r. r.0.peak ≡ q.peak) }
+    ensures limited { IfOk result (λ r. r.0.limited ≡ q.limited) }
     ensures sizes { IfOk result (λ r. r.0.sizes ≡ q.sizes) }
     ensures refused { IfErr result (λ e. IsBeginRefusal q e.0 e.1) }
     ensures latched { (number : ℕ) → q.failed ≡ Some number → result ≡ Err (q, Device number) }
@@ -57,6 +63,7 @@ where
     ensures back_writes { IfErr result (λ e. all_writes q.slots ≤ all_writes e.0.slots) }
     ensures back_size { IfErr result (λ e. e.0.size ≡ q.size) }
     ensures back_peak { IfErr result (λ e. e.0.peak ≡ q.peak) }
+    ensures back_limited { IfErr result (λ e. e.0.limited ≡ q.limited) }
     ensures back_sizes { IfErr result (λ e. e.0.sizes ≡ q.sizes) }
 {
     let mut q = q;
@@ -67,9 +74,9 @@ where
     }
 }
 
-// Begins a session of a queue whose extract buffer is empty. `Err` hands the
-// queue back as it was; it is returned only if an allocation failed.
-fn hand_out<S: Slot + Send + Sync, R: Record + Send + Sync>(
+/// Begins a session of a queue whose extract buffer is empty, with its runs as they are. `Err` hands the
+/// queue back as it was; it is returned only if an allocation failed.
+pub fn hand_out<S: Slot + Send + Sync, R: Record + Send + Sync>(
     alloc: Global,
     q: Queue<S, R>,
 ) -> Result<(Bulk<S, R>, Shared<S, R>, Vec<Pass<S, R>>), (Queue<S, R>, BeginFault)>
@@ -79,11 +86,15 @@ fn hand_out<S: Slot + Send + Sync, R: Record + Send + Sync>(
     ensures shared { IfOk result (λ r. r.1 ≡ shared_by r.0) }
     ensures fresh { IfOk result (λ r. All IsFresh r.2.items) }
     ensures no_slots { IfOk result (λ r. All HoldsNoSlot r.2.items) }
+    ensures whole { IfOk result (λ r. All HasBegun r.2.items) }
+    ensures begun { IfOk result (λ r. r.0.begun ≡ q.in_heap) }
+    ensures runs { IfOk result (λ r. r.0.runs ≡ q.runs) }
     ensures bag { IfOk result (λ r. IsSameBag (r.0.bag ++ bag_of r.2.items) q.bag) }
     ensures slots { IfOk result (λ r. r.0.slots ≡ q.slots) }
     ensures items { IfOk result (λ r. AllTell q.slots → AllTell (slots_shown S.shown r.0.items)) }
     ensures size { IfOk result (λ r. r.0.size ≡ q.size) }
     ensures peak { IfOk result (λ r. r.0.peak ≡ q.peak) }
+    ensures limited { IfOk result (λ r. r.0.limited ≡ q.limited) }
     ensures sizes { IfOk result (λ r. r.0.sizes ≡ q.sizes) }
     ensures back { IfErr result (λ e. e ≡ (q, Memory)) }
 {
@@ -134,6 +145,7 @@ fn deal_out<S: Slot + Send + Sync, R: Record + Send + Sync>(
         count,
         peak,
         failed: _,
+        limited,
         slots,
     } = parts;
     let mut body = body;
@@ -163,6 +175,7 @@ fn deal_out<S: Slot + Send + Sync, R: Record + Send + Sync>(
         sources,
         count,
         peak,
+        limited,
         slots,
         row_seat,
         pool_seat,

@@ -18,7 +18,7 @@ mod stores;
 #[cfg(test)]
 mod tests;
 
-pub use begin::bulk_begin;
+pub use begin::{bulk_begin, hand_out};
 pub use bulk::Bulk;
 pub use fault::{BeginFault, SessionEnd};
 pub use parts::BulkParts;

@@ -24,16 +24,18 @@ pub struct BulkParts<S: Slot + Send + Sync, R: Record + Send + Sync> {
     pub tree: MinTree<R>,
     /// The runs, and the lanes without two idle buffers for each pass.
     pub body: PassBody<S, R>,
-    /// The emptied lists of free slots and idle buffers.
+    /// The lists of free slots and idle buffers: emptied at first, and what a front frees comes back to them.
     pub supply: OwnerLists<S, R>,
-    /// An empty buffer.
+    /// The records of a front that are next, in order: none at first, and none in a bulk session.
     pub extract: Extract<R>,
     /// What refills and merges need.
     pub sources: Sources<R>,
-    /// How many records the queue had.
+    /// How many records the queue had, less those that a front gave.
     pub count: u64,
     /// The greatest size so far, in records.
     pub peak: u64,
+    /// Whether a limit session was begun.
+    pub limited: bool,
     /// The emptied list of the slots that came in.
     pub slots: Vec<S>,
     /// The right to the row of the free slots.

@@ -14,8 +14,8 @@ use Rattle.ppq_script.specs.Files.{name_at, is_usable}
 use Rattle.ppq_script.specs.Lines.{names_of, numbered_of, first_bad_by}
 use Rattle.ppq_script.specs.Checking.{with_sizes}
 use Rattle.ppq_script.specs.Reading.{Reading, command_list}
-use Rattle.ppq_engine.specs.Loads.{most_of, least_of, FitsWritten}
-use Rattle.ppq_engine.specs.Refusal.{HasRoom, IsTooMuch}
+use Rattle.ppq_engine.specs.Loads.{most_of, least_of, begins_limit, FitsWritten}
+use Rattle.ppq_engine.specs.Refusal.{HasRoom, HasNoRoom}
 use Rattle.ppq_engine.specs.Output.{AreFilesOf, KeepsLengths, given_of, output_of, load_of, crest_of, TakesWithin}
 use Rattle.ppq_engine.specs.Running.{HasChanged}
 use Rattle.ppq_engine.specs.Outcome.{TakesBeforeFile, TakesBeforeLoad, FaultBeforeFile}
@@ -101,8 +101,8 @@ module _ (told : Option (List ℕ → Option (List ℕ))) (replied : Reply → T
       → HasRunPart tells told before now script
       → (end ≡ NoFreeBlock → ForFiles tells told script (λ given commands. TakesWithin given before now sizes commands))
       → (end ≡ Memory → (now ≡ before) ⊎ HasRunToLoad tells told before now script) → FaultToFile tells told before now script end
-      → (end ≡ NoFreeBlock → ForFiles tells told script (λ given commands. IsTooMuch sizes (load_of given commands)))
-      → (end ≡ NoFreeBlock → IsTooMuch sizes (most_of (command_list script)))
+      → (end ≡ NoFreeBlock → ForFiles tells told script (λ given commands. HasNoRoom sizes (begins_limit commands) (load_of given commands)))
+      → (end ≡ NoFreeBlock → HasNoRoom sizes (begins_limit (command_list script)) (most_of (command_list script)))
       → (end ≡ Done → ForFiles tells told script (λ given commands. FitsWritten (crest_of given commands) sizes blocks))
       → (end ≡ Done → FitsWritten (least_of (command_list script)) sizes blocks) → RunIsRight tells told replied name sizes before now blocks end
   loaded_run tells script before now blocks Done is answer done part within memory file above above_any used used_any =
@@ -131,8 +131,8 @@ pub later_run :
     → HasRunPart tells later before now script
     → (end ≡ NoFreeBlock → ForFiles tells later script (λ given commands. TakesWithin given before now sizes commands))
     → (end ≡ Memory → (now ≡ before) ⊎ HasRunToLoad tells later before now script) → FaultToFile tells later before now script end
-    → (end ≡ NoFreeBlock → ForFiles tells later script (λ given commands. IsTooMuch sizes (load_of given commands)))
-    → (end ≡ NoFreeBlock → IsTooMuch sizes (most_of (command_list script)))
+    → (end ≡ NoFreeBlock → ForFiles tells later script (λ given commands. HasNoRoom sizes (begins_limit commands) (load_of given commands)))
+    → (end ≡ NoFreeBlock → HasNoRoom sizes (begins_limit (command_list script)) (most_of (command_list script)))
     → (end ≡ Done → ForFiles tells later script (λ given commands. FitsWritten (crest_of given commands) sizes blocks))
     → (end ≡ Done → FitsWritten (least_of (command_list script)) sizes blocks) → RunIsRight tells told replied name sizes before now blocks end
 later_run told later first replied name sizes workers tells script before now blocks end kept same remembers is answer done part within memory file above above_any used used_any =
@@ -158,7 +158,7 @@ to_file : (tells : Type 0) (told : Option (List ℕ → Option (List ℕ))) (scr
     → TakesBeforeFile told script first before now → HasRunToFile tells told before now script
 to_file tells told script first before now blocks ran = record { done = ran.done; file = ran.file; size = ran.size; here = ran.here; took = λ t files are. ran.took (blocks t) files are }
 
--- or before one that loads many records
+-- or before one that begins a session
 pub ran_to_load : (tells : Type 0) (told : Option (List ℕ → Option (List ℕ))) (script : Reading) (first : List Shown) (before now : Option (List ℕ)) → (tells → AllTell first)
     → (now ≡ before) ⊎ TakesBeforeLoad told script first before now → (now ≡ before) ⊎ HasRunToLoad tells told before now script
 ran_to_load tells told script first before now blocks (inl same) = inl same
@@ -262,23 +262,23 @@ untried end run device memory read (inr (inr h)) = read h
 
 -- where the end names no fault and there is room, a script without a refusal is done, or memory was wanting
 completed :
-    (files : Files) (sizes : Numbers) (load : ℕ) (end : End) → IsTried end ⊎ IsGivenUp end → ((line said got : ℕ) → end ≡ FileChanged line said got → Some files ≡ None)
-    → (end ≡ NoFreeBlock → IsTooMuch sizes load) → NoFault end → HasRoom sizes load → (end ≡ Done) ⊎ (end ≡ Memory)
-completed files sizes load Done tried changed above fault room = inl refl
-completed files sizes load (BadLine line) tried changed above fault room = absurd (untried (BadLine line) (λ h. h) (λ e. cc) (λ e. cc) (λ e. cc) tried)
-completed files sizes load Usage tried changed above fault room = absurd (untried Usage (λ h. h) (λ e. cc) (λ e. cc) (λ e. cc) tried)
-completed files sizes load ReadFault tried changed above fault room = absurd fault
-completed files sizes load WriteFault tried changed above fault room = absurd fault
-completed files sizes load (DeviceFault number) tried changed above fault room = absurd fault
-completed files sizes load NoFreeBlock tried changed above fault room =
+    (files : Files) (sizes : Numbers) (limited : Bool) (load : ℕ) (end : End) → IsTried end ⊎ IsGivenUp end → ((line said got : ℕ) → end ≡ FileChanged line said got → Some files ≡ None)
+    → (end ≡ NoFreeBlock → HasNoRoom sizes limited load) → NoFault end → HasRoom sizes limited load → (end ≡ Done) ⊎ (end ≡ Memory)
+completed files sizes limited load Done tried changed above fault room = inl refl
+completed files sizes limited load (BadLine line) tried changed above fault room = absurd (untried (BadLine line) (λ h. h) (λ e. cc) (λ e. cc) (λ e. cc) tried)
+completed files sizes limited load Usage tried changed above fault room = absurd (untried Usage (λ h. h) (λ e. cc) (λ e. cc) (λ e. cc) tried)
+completed files sizes limited load ReadFault tried changed above fault room = absurd fault
+completed files sizes limited load WriteFault tried changed above fault room = absurd fault
+completed files sizes limited load (DeviceFault number) tried changed above fault room = absurd fault
+completed files sizes limited load NoFreeBlock tried changed above fault room =
     let much = above refl in
-    elim room as (λ _. (NoFreeBlock ≡ Done) ⊎ (NoFreeBlock ≡ Memory)) [ inl heap ↦ absurd (omega (arith, much.0, heap)) | inr device ↦ absurd (omega (arith, much.1, device)) ]
-completed files sizes load (BudgetTooSmall need) tried changed above fault room = absurd (untried (BudgetTooSmall need) (λ h. h) (λ e. cc) (λ e. cc) (λ e. cc) tried)
-completed files sizes load Memory tried changed above fault room = inr refl
-completed files sizes load (FileChanged line said got) tried changed above fault room = let e = changed line said got refl in cc
-completed files sizes load NoDevice tried changed above fault room = absurd fault
-completed files sizes load NoScript tried changed above fault room = absurd (untried NoScript (λ h. h) (λ e. cc) (λ e. cc) (λ e. cc) tried)
-completed files sizes load ScriptTooLong tried changed above fault room = absurd (untried ScriptTooLong (λ h. h) (λ e. cc) (λ e. cc) (λ e. cc) tried)
+    elim room as (λ _. (NoFreeBlock ≡ Done) ⊎ (NoFreeBlock ≡ Memory)) [ inl (unlimited, heap) ↦ absurd (omega (arith, much.0 unlimited, heap)) | inr device ↦ absurd (omega (arith, much.1, device)) ]
+completed files sizes limited load (BudgetTooSmall need) tried changed above fault room = absurd (untried (BudgetTooSmall need) (λ h. h) (λ e. cc) (λ e. cc) (λ e. cc) tried)
+completed files sizes limited load Memory tried changed above fault room = inr refl
+completed files sizes limited load (FileChanged line said got) tried changed above fault room = let e = changed line said got refl in cc
+completed files sizes limited load NoDevice tried changed above fault room = absurd fault
+completed files sizes limited load NoScript tried changed above fault room = absurd (untried NoScript (λ h. h) (λ e. cc) (λ e. cc) (λ e. cc) tried)
+completed files sizes limited load ScriptTooLong tried changed above fault room = absurd (untried ScriptTooLong (λ h. h) (λ e. cc) (λ e. cc) (λ e. cc) tried)
 
 file_completed :
     (files : Files) (file : Option (List ℕ)) (sizes : Numbers) (load : (ℕ → List Pair) → List Command → ℕ) (end : End)
@@ -288,7 +288,7 @@ file_completed :
 file_completed files None sizes load end answer changed above fault = tt
 file_completed files (Some bytes) sizes load end answer changed above fault = λ good room.
     let P : Option End → Type 0 = λ r. IsAnswer r end in
-    completed files sizes (load (script_given files bytes sizes.workers) (script_commands files bytes sizes.workers)) end (subst P good answer) changed above fault room
+    completed files sizes (begins_limit (script_commands files bytes sizes.workers)) (load (script_given files bytes sizes.workers) (script_commands files bytes sizes.workers)) end (subst P good answer) changed above fault room
 
 pub named_completed :
     (told : Option Files) (name : List ℕ) (sizes : Numbers) (load : (ℕ → List Pair) → List Command → ℕ) (end : End)

@@ -4,7 +4,7 @@ use Rattle.std.specs.Prelude.{slice_get, map}
 use Rattle.std.specs.List.{AllZip}
 use Rattle.ppq_outside.specs.Told.{Reply, OfLength, OfRead, Remembers, RepliesOnly}
 use Rattle.ppq_script.specs.declared.command.Command.{Command}
-use Rattle.ppq_script.specs.declared.command.Command.TheVariants.{Push, Pop, Top, Size, Bulk, Gen, BulkPop, BulkPopLimit, Drain, BulkBegin, BulkPush, BulkEnd}
+use Rattle.ppq_script.specs.declared.command.Command.TheVariants.{Push, Pop, Top, Size, Bulk, Gen, BulkPop, BulkPopLimit, Drain, BulkBegin, BulkPush, BulkEnd, LimitBegin, LimitPush, LimitTop, LimitPop, LimitEnd}
 use Rattle.ppq_script.specs.declared.numbered.Numbered.{Numbered}
 use Rattle.ppq_script.specs.Lines.{names_of, numbered_of}
 use Rattle.ppq_script.specs.Files.{file_in, name_at}
@@ -43,6 +43,11 @@ asked_file replied names (Drain count) new file said is e = cc
 asked_file replied names BulkBegin new file said is e = cc
 asked_file replied names (BulkPush pass item) new file said is e = cc
 asked_file replied names BulkEnd new file said is e = cc
+asked_file replied names (LimitBegin limit) new file said is e = cc
+asked_file replied names (LimitPush pass item) new file said is e = cc
+asked_file replied names LimitTop new file said is e = cc
+asked_file replied names LimitPop new file said is e = cc
+asked_file replied names LimitEnd new file said is e = cc
 
 asked_at :
     (replied : Reply → Type 0) (names : List (List ℕ)) (old new : List Numbered) (i file said : ℕ) → AllZip (IsAsked replied names) old new → slice_get (map (λ n. n.command) new) i ≡ Some (Bulk file said)

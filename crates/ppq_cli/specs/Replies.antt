@@ -11,10 +11,10 @@ use Rattle.ppq_script.specs.Lines.{numbered_of, names_of, first_bad, first_bad_b
 use Rattle.ppq_script.specs.Files.{is_usable, IsBadLine}
 use Rattle.ppq_script.specs.Checking.{IsAsked, with_sizes}
 use Rattle.ppq_script.specs.Reading.{Reading, command_list}
-use Rattle.ppq_engine.specs.Loads.{most_of, least_of, FitsWritten, IsLoad}
+use Rattle.ppq_engine.specs.Loads.{most_of, least_of, begins_limit, FitsWritten, IsLoad}
 use Rattle.ppq_engine.specs.Output.{AreFilesOf, given_of, output_of, load_of, crest_of, TakesWithin}
 use Rattle.ppq_engine.specs.Reading.{EndsAt}
-use Rattle.ppq_engine.specs.Refusal.{IsTooMuch}
+use Rattle.ppq_engine.specs.Refusal.{HasNoRoom}
 use Rattle.ppq_engine.specs.Running.{HasChanged}
 use Rattle.ppq_engine.specs.declared.end.End.{End}
 use Rattle.ppq_engine.specs.declared.end.End.TheVariants.{Done, BadLine, Usage, ReadFault, WriteFault, DeviceFault, NoFreeBlock, BudgetTooSmall, Memory, FileChanged, NoDevice, NoScript, ScriptTooLong}
@@ -138,13 +138,13 @@ pub record HasRunWhole (tells : Type 0) (told : Option (List ℕ → Option (Lis
 abbrev pub HasRunPart : Type 0 → Option (List ℕ → Option (List ℕ)) → Option (List ℕ) → Option (List ℕ) → Reading → Type 0
 HasRunPart tells told before now script = ForFiles tells told script (λ given commands. TakesPart before now (output_of given commands))
 
--- the load is above one heap and the device has too few blocks for it; the sink took what is printed before that, and no more than a
--- prefix of the output
+-- the device has too few blocks for the load, which is above one heap, unless a limit session begins; the sink took what is printed before
+-- that, and no more than a prefix of the output
 pub record HasRunFull (tells : Type 0) (told : Option (List ℕ → Option (List ℕ))) (sizes : Numbers) (before now : Option (List ℕ)) (script : Reading) : Type 0 where
   pub part : HasRunPart tells told before now script
   pub within : ForFiles tells told script (λ given commands. TakesWithin given before now sizes commands)
-  pub above : ForFiles tells told script (λ given commands. IsTooMuch sizes (load_of given commands))
-  pub above_any : IsTooMuch sizes (most_of (command_list script))
+  pub above : ForFiles tells told script (λ given commands. HasNoRoom sizes (begins_limit commands) (load_of given commands))
+  pub above_any : HasNoRoom sizes (begins_limit (command_list script)) (most_of (command_list script))
 
 -- the sink took the output of the commands before one that reads a file
 pub record HasRunToFile (tells : Type 0) (told : Option (List ℕ → Option (List ℕ))) (before now : Option (List ℕ)) (script : Reading) : Type 0 where
@@ -154,7 +154,7 @@ pub record HasRunToFile (tells : Type 0) (told : Option (List ℕ → Option (Li
   pub here : slice_get (command_list script) done ≡ Some (Bulk file size)
   pub took : ForFiles tells told script (λ given commands. TakesAll before now (output_of given (take done commands)))
 
--- the sink took the output of the commands before one that loads many records
+-- the sink took the output of the commands before one that begins a session: `bulk`, `gen`, `bulk_begin` or `limit_begin`
 pub record HasRunToLoad (tells : Type 0) (told : Option (List ℕ → Option (List ℕ))) (before now : Option (List ℕ)) (script : Reading) : Type 0 where
   pub done : ℕ
   pub command : Command
@@ -162,7 +162,7 @@ pub record HasRunToLoad (tells : Type 0) (told : Option (List ℕ → Option (Li
   pub loads : IsLoad command
   pub took : ForFiles tells told script (λ given commands. TakesAll before now (output_of given (take done commands)))
 
--- where memory was wanting: nothing was written, or the output of the commands before one that loads many records
+-- where memory was wanting: nothing was written, or the output of the commands before one that begins a session
 abbrev pub RanToLoad : Type 0 → Option (List ℕ → Option (List ℕ)) → Option (List ℕ) → Option (List ℕ) → Reading → Type 0
 RanToLoad tells told before now script = (now ≡ before) ⊎ HasRunToLoad tells told before now script
 
@@ -183,7 +183,7 @@ FaultToFile tells told before now script NoScript = ⊤
 FaultToFile tells told before now script ScriptTooLong = ⊤
 
 -- If the end is that of a run, it is one of the script as the library gave it. After `ReadFault` and `FileChanged` nothing was written,
--- or the script reads a file and was run as far as that; after `Memory`, or it loads many records and was run as far as that.
+-- or the script reads a file and was run as far as that; after `Memory`, or it begins a session and was run as far as that.
 abbrev pub RunIsRight : Type 0 → Option (List ℕ → Option (List ℕ)) → (Reply → Type 0) → List ℕ → Numbers → Option (List ℕ) → Option (List ℕ) → List Shown → End → Type 0
 RunIsRight tells told replied name sizes before now blocks Done = OfRun told replied name sizes (HasRunWhole tells told sizes before now blocks)
 RunIsRight tells told replied name sizes before now blocks (BadLine line) = ⊤

@@ -15,8 +15,8 @@ use Rattle.ppq_engine.specs.declared.end.End.{End}
 use Rattle.ppq_engine.specs.declared.end.End.TheVariants.{Done, BadLine, Usage, ReadFault, Memory, NoDevice, NoScript, ScriptTooLong}
 use Rattle.ppq_engine.specs.declared.end.Ended.{Ended}
 use Rattle.ppq_engine.specs.Output.{output_of, TakesWithin}
-use Rattle.ppq_engine.specs.Loads.{most_of, least_of, FitsWritten}
-use Rattle.ppq_engine.specs.Refusal.{HasRoom, IsTooMuch}
+use Rattle.ppq_engine.specs.Loads.{most_of, least_of, begins_limit, FitsWritten}
+use Rattle.ppq_engine.specs.Refusal.{HasRoom, HasNoRoom}
 use Rattle.ppq_engine.specs.Ends.{BeganCommands, budget_refusal}
 use Rattle.ppq_cli.specs.Load.{script_kinds}
 use Rattle.ppq_cli.specs.Replies.{RefusalIsRight, RunIsRight}
@@ -124,15 +124,19 @@ pub record IsOutcome {L : Type 0} (told : L → Option Files) (library : L) (rep
   pub refused : OfWords words (λ r. RefusalIsRight (told library) (replied later) r.script r.sizes end)
   pub answer : IfSome (told library) (λ files. IsAnswer (refusal_of (reading words) files) end)
 
--- the load is above one heap, and the device has too few blocks for it
+-- the device has too few blocks for the load, which is above one heap, unless a limit session begins
 abbrev pub IsTooLarge : ((ℕ → List Pair) → List Command → ℕ) → Numbers → (ℕ → List Pair) → List Command → Type 0
-IsTooLarge load sizes given commands = IsTooMuch sizes (load given commands)
+IsTooLarge load sizes given commands = HasNoRoom sizes (begins_limit commands) (load given commands)
+
+-- the contrary: the load is no more than one heap and no limit session begins, or the device has blocks enough for it
+abbrev pub HasRoomFor : ((ℕ → List Pair) → List Command → ℕ) → Numbers → (ℕ → List Pair) → List Command → Type 0
+HasRoomFor load sizes given commands = HasRoom sizes (begins_limit commands) (load given commands)
 
 -- Completeness.
 
 -- a script of these bytes that is not refused, and for whose load there is room, is done, or memory was wanting
 abbrev pub EndsWell : ((ℕ → List Pair) → List Command → ℕ) → Numbers → Files → List ℕ → End → Type 0
-EndsWell load sizes files bytes end = refusal_of_file files (Some bytes) sizes ≡ None → HasRoom sizes (load (script_given files bytes sizes.workers) (script_commands files bytes sizes.workers)) → (end ≡ Done) ⊎ (end ≡ Memory)
+EndsWell load sizes files bytes end = refusal_of_file files (Some bytes) sizes ≡ None → HasRoomFor load sizes (script_given files bytes sizes.workers) (script_commands files bytes sizes.workers) → (end ≡ Done) ⊎ (end ≡ Memory)
 
 -- the same of the script that the words name, where the library tells and has it
 abbrev pub Completes : {L : Type 0} → ((ℕ → List Pair) → List Command → ℕ) → (L → Option Files) → L → List (String Global) → End → Type 0

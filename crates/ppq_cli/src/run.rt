@@ -4,8 +4,8 @@ ghost use Rattle.ppq_array.specs.Kept.{HasFailed};
 ghost use Rattle.ppq_outside.specs.Told.{Rose, Remembers, RepliesOnly};
 ghost use Rattle.ppq_outside.specs.Made.{HasMadeJust};
 ghost use Rattle.ppq_script.specs.Reading.{command_list};
-ghost use Rattle.ppq_engine.specs.Loads.{most_of, least_of, FitsWritten};
-ghost use Rattle.ppq_engine.specs.Refusal.{IsTooMuch};
+ghost use Rattle.ppq_engine.specs.Loads.{most_of, least_of, begins_limit, FitsWritten};
+ghost use Rattle.ppq_engine.specs.Refusal.{HasNoRoom};
 ghost use Rattle.ppq_engine.specs.Output.{load_of, crest_of, KeepsLengths};
 ghost use Rattle.ppq_engine.specs.Running.{HasChanged};
 ghost use Rattle.ppq_engine.specs.Files.{IsReadInScript};
@@ -89,7 +89,7 @@ where
     ensures device { result.end ≡ NoDevice → Rose (K.faults rack.old) (K.faults rack.new) }
     ensures failed { (number : ℕ) → result.end ≡ DeviceFault number → HasFailed number (map K.Slot.shown result.blocks.items) }
     ensures above { result.end ≡ NoFreeBlock → OfLoaded K.tells rack.old L.told library.old script.now sizes (IsTooLarge load_of) }
-    ensures above_any { result.end ≡ NoFreeBlock → IsTooMuch sizes (most_of (command_list script.now)) }
+    ensures above_any { result.end ≡ NoFreeBlock → HasNoRoom sizes (begins_limit (command_list script.now)) (most_of (command_list script.now)) }
     ensures changed { (line said got : ℕ) → result.end ≡ FileChanged line said got
         → HasChanged (L.told library.old) (L.replied library.new) script.now line said got }
     ensures library_later { L.faults library.old ≤ L.faults library.new }

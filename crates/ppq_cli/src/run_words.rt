@@ -32,10 +32,10 @@ use std::alloc::Global;
 /// for its cause, and `Usage`, `NoScript`, `ScriptTooLong`, `BadLine` and `BudgetTooSmall` if and only
 /// if they are due, in this order, unless an allocation or a read failed. No count of faults falls, and
 /// none rises unless the outcome names a fault, so the same outside can be handed in again. A script
-/// that is not refused, with room for its load in one heap or on the device, ends `Done` or `Memory`,
-/// unless the outcome names a fault. This is said of an outside that is visible to proofs; of any other
-/// library, the outcomes, and the output of a script that reads no file, are those of the bytes that its
-/// reads returned as the script.
+/// that is not refused ends `Done` or `Memory`, unless the outcome names a fault, if there is room for
+/// its load: on the device, or in one heap where the script begins no limit session. This is said of an
+/// outside that is visible to proofs; of any other library, the outcomes, and the output of a script
+/// that reads no file, are those of the bytes that its reads returned as the script.
 ///
 /// What the outcomes say, besides `Done`:
 ///
@@ -47,12 +47,14 @@ use std::alloc::Global;
 /// - `NoDevice`, `ReadFault`, `WriteFault`: the count of faults of the rack, the library or the sink
 ///   rose in this call.
 /// - `DeviceFault`: the block with that number, which comes back, failed.
-/// - `NoFreeBlock`: the load is above one heap, and the device has fewer blocks than are enough for it;
-///   the sink took at least what the commands in front of such a load print.
+/// - `NoFreeBlock`: the device has fewer blocks than are enough for the load, and the load is above one
+///   heap or the script begins a limit session; the sink took at least what each prefix of the script
+///   prints for whose load there is room.
 /// - `FileChanged`: the library is not visible, said a length, and a read in front of it returned
 ///   nothing. The line is 0 for the script itself.
 /// - `Memory`: an allocation failed. The sink took nothing, or just what the commands in front of a
-///   `bulk`, `gen` or `bulk_begin` line print; after `ReadFault` and `FileChanged`, of a `bulk` line.
+///   `bulk`, `gen`, `bulk_begin` or `limit_begin` line print; after `ReadFault` and `FileChanged`, of a
+///   `bulk` line.
 pub fn run_words<H: Host, L: Library, K: Rack, O: Sink, G: Gate>(
     rt: &H,
     alloc: Global,

@@ -88,6 +88,35 @@ fn records_of_a_bulk_session_join_the_others_at_its_end(rt: HostRuntime) -> Resu
 }
 
 #[test]
+fn records_below_the_limit_are_popped_in_a_limit_session(rt: HostRuntime) -> Result<(), Fail> {
+    let rows: [(&[u8], &[u8]); 5] = [
+        (b"limit_begin 0 0\n# none\n\nlimit_end\nsize\n", b"0\n"),
+        (
+            b"push 1 0\npush 4 0\nlimit_begin 4 0\nlimit_top\nlimit_push 1 4 0\nlimit_pop\nlimit_pop\nlimit_end\nbulk_pop 9\n",
+            b"1 0\n1 0\nlimit\n4 0\n4 0\n",
+        ),
+        (
+            b"push 3 9\npush 4 0\nlimit_begin 4 0\nlimit_push 0 4 0\nlimit_push 0 9 0\nlimit_pop\nlimit_push 0 7 0\nlimit_push 0 4 1\nlimit_push 0 8 0\nlimit_top\nlimit_end\nbulk_pop 9\n",
+            b"3 9\nlimit\n4 0\n4 0\n4 1\n7 0\n8 0\n9 0\n",
+        ),
+        (
+            b"bulk f\nlimit_begin 7 7\nlimit_pop\nlimit_push 0 7 8\nlimit_end\nlimit_begin 7 8\nlimit_pop\nlimit_pop\nlimit_pop\nlimit_end\npop\npop\n",
+            b"limit\n7 7\n7 7\nlimit\n7 8\nempty\n",
+        ),
+        (
+            b"limit_begin 4 0\nlimit_push 1 9 0\nlimit_end\nbulk_begin\nbulk_push 1 3 9\nbulk_end\nlimit_begin 4 0\nlimit_pop\nlimit_end\ndrain 9\n",
+            b"3 9\ncount 1 first 9 0 last 9 0 sum 9\n",
+        ),
+    ];
+    for (script, output) in rows {
+        let (end, wrote) = outcome(&rt, rt.alloc(), SIZES, script)?;
+        assert_eq!(rt; end, End::Done);
+        assert_eq!(rt; wrote.as_slice(), output);
+    }
+    Ok(())
+}
+
+#[test]
 fn a_line_that_is_bad_in_its_place_is_named(rt: HostRuntime) -> Result<(), Fail> {
     let rows: [(&[u8], u32); 8] = [
         (b"pop\nbulk_push 0 1 1\n", 2),
@@ -97,7 +126,33 @@ fn a_line_that_is_bad_in_its_place_is_named(rt: HostRuntime) -> Result<(), Fail>
         (b"bulk_begin", 2),
         (b"bulk_begin\n\n", 3),
         (b"limit_end\n", 1),
-        (b"size\nlimit_begin 4 0\n", 2),
+        (b"size\nlimit_begin 4 0\n", 3),
+    ];
+    for (script, line) in rows {
+        let (end, wrote) = outcome(&rt, rt.alloc(), SIZES, script)?;
+        assert_eq!(rt; end, End::BadLine { line });
+        assert_eq!(rt; wrote.len(), 0);
+    }
+    Ok(())
+}
+
+#[test]
+fn a_line_that_may_not_stand_in_a_limit_session_is_named(rt: HostRuntime) -> Result<(), Fail> {
+    let rows: [(&[u8], u32); 5] = [
+        (
+            b"push 1 0\nlimit_begin 4 0\nlimit_push 0 3 9\nlimit_end\n",
+            3,
+        ),
+        (
+            b"push 1 0\nlimit_begin 4 0\nlimit_push 2 5 0\nlimit_end\n",
+            3,
+        ),
+        (b"pop\nlimit_begin 4 0\npop\nlimit_end\n", 3),
+        (b"pop\nlimit_begin 4 0\nlimit_pop\nbulk_end\n", 4),
+        (
+            b"pop\nbulk_begin\nlimit_begin 4 0\nlimit_end\nbulk_end\n",
+            3,
+        ),
     ];
     for (script, line) in rows {
         let (end, wrote) = outcome(&rt, rt.alloc(), SIZES, script)?;
@@ -202,6 +257,25 @@ fn the_output_is_the_same_whatever_the_sizes(rt: HostRuntime) -> Result<(), Fail
     Ok(())
 }
 
+#[test]
+fn a_limit_session_prints_the_same_whatever_the_sizes(rt: HostRuntime) -> Result<(), Fail> {
+    let script =
+        b"gen 7 299\nlimit_begin 209643222594232427 67\nlimit_pop\nlimit_push 0 209643222594232427 68\nlimit_pop\nlimit_pop\nlimit_end\nbulk_pop 2\nsize\n";
+    let output =
+        b"76765550444740708 186\n143378954699528280 190\nlimit\n209643222594232427 67\n209643222594232427 68\n296\n";
+    for line in [
+        "run s --device d --blocks 380 --workers 2 --block 2 --heap 1 --memory 552",
+        "run s --device d --blocks 380 --workers 1 --block 2 --heap 1 --memory 1000",
+        "run s --device d --blocks 126 --workers 4 --block 16 --heap 4 --memory 1918",
+        "run s --device d --blocks 94 --workers 3 --block 64 --heap 2 --memory 6300",
+    ] {
+        let (end, wrote) = outcome(&rt, rt.alloc(), line, script)?;
+        assert_eq!(rt; end, End::Done, "{line}");
+        assert_eq!(rt; wrote.as_slice(), output.as_slice(), "{line}");
+    }
+    Ok(())
+}
+
 // How a script ends under the sizes over a rack, and what it writes.
 fn over_rack<H: Host>(
     rt: &H,
@@ -245,6 +319,21 @@ fn a_pass_whose_heap_is_full_stores_a_block(rt: HostRuntime) -> Result<(), Fail>
 fn a_block_that_cannot_be_read_again_is_named(rt: HostRuntime) -> Result<(), Fail> {
     let alloc = rt.alloc();
     let script = b"push 1 0\npush 2 0\npush 3 0\npop\n";
+    let mut rack = MemRack::failing(vec![in alloc; (0, 2)]?, Vec::new(alloc));
+    let (ended, wrote) = over_rack(&rt, alloc, script, &mut rack)?;
+    assert_eq!(rt; ended.end, End::DeviceFault { number: 0 });
+    assert_eq!(rt; (ended.blocks.len(), wrote.len()), (200, 0));
+    Ok(())
+}
+
+#[test]
+fn the_front_of_a_limit_session_is_read_from_a_block(rt: HostRuntime) -> Result<(), Fail> {
+    let alloc = rt.alloc();
+    let script = b"push 1 0\npush 2 0\nlimit_begin 4 0\nlimit_pop\nlimit_end\n";
+    let (ended, wrote) = over_rack(&rt, alloc, script, &mut MemRack::new())?;
+    assert_eq!(rt; ended.end, End::Done);
+    assert_eq!(rt; wrote.as_slice(), b"1 0\n".as_slice());
+    assert!(rt; ended.blocks.iter().any(|block| block.writes() > 0));
     let mut rack = MemRack::failing(vec![in alloc; (0, 2)]?, Vec::new(alloc));
     let (ended, wrote) = over_rack(&rt, alloc, script, &mut rack)?;
     assert_eq!(rt; ended.end, End::DeviceFault { number: 0 });

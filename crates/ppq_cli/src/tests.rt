@@ -222,6 +222,29 @@ fn a_device_without_blocks_is_too_small_for_three_records(rt: HostRuntime) -> Re
 }
 
 #[test]
+fn a_device_without_blocks_is_too_small_for_a_limit_session(rt: HostRuntime) -> Result<(), Fail> {
+    let alloc = rt.alloc();
+    let line = "run s --device d --blocks 0 --workers 1 --block 2 --heap 1 --memory 158";
+    let rows: [(&[u8], End, &[u8]); 2] = [
+        (b"size\npush 1 0\npop\n", End::Done, b"0\n1 0\n"),
+        (
+            b"size\npush 1 0\nlimit_begin 4 0\nlimit_end\n",
+            End::NoFreeBlock,
+            b"0\n",
+        ),
+    ];
+    for (script, end, output) in rows {
+        let mut library = library_of(alloc, script)?;
+        let mut rack = MemRack::new();
+        let mut sink = MemSink::new(alloc, ROOM)?;
+        let ended = run(&rt, alloc, line, &mut library, &mut rack, &mut sink)?;
+        assert_eq!(rt; ended.end, end);
+        assert_eq!(rt; sink.bytes(), output);
+    }
+    Ok(())
+}
+
+#[test]
 fn a_sink_that_fails_holds_a_prefix(rt: HostRuntime) -> Result<(), Fail> {
     let alloc = rt.alloc();
     let mut library = library_of(alloc, b"pop\npop\n")?;

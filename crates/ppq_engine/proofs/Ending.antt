@@ -7,8 +7,9 @@ use Rattle.std.proofs.lemmas.Bool.{le-ltb}
 use Rattle.ppq_budget.specs.Sizes.{Numbers, fixed_of}
 use Rattle.ppq_array.specs.Kept.{SameSlots, HasFailed, all_writes}
 use Rattle.ppq_script.specs.Reading.{Reading, command_list}
-use Rattle.ppq_load.specs.Refusal.{HasRoom, IsTooMuch}
-use Rattle.ppq_engine.specs.Loads.{most_of, least_of, FitsWritten}
+use Rattle.ppq_load.specs.Refusal.{HasRoom, HasNoRoom}
+use Rattle.ppq_load.proofs.Refusals.{room-not_none}
+use Rattle.ppq_engine.specs.Loads.{most_of, least_of, begins_limit, FitsWritten}
 use Rattle.ppq_engine.specs.Output.{AreFilesOf, given_of, output_of, load_of, crest_of, TakesWithin}
 use Rattle.ppq_engine.specs.Outcome.{EndSays}
 use Rattle.ppq_engine.specs.Ends.{budget_refusal, BeganOrRefused, IsQuiet, NoneFailed, IsCompleted}
@@ -16,11 +17,6 @@ use Rattle.ppq_engine.specs.declared.end.End.{End}
 use Rattle.ppq_engine.specs.declared.end.End.TheVariants.{Done, BadLine, Usage, ReadFault, WriteFault, DeviceFault, NoFreeBlock, BudgetTooSmall, Memory, FileChanged, NoDevice, NoScript, ScriptTooLong}
 use Rattle.ppq_engine.proofs.Sizes.{fits-more}
 use Rattle.ppq_engine.proofs.Slots.{SameSlots-trans}
-
--- what there is no room for has none
-no_room_for : (sizes : Numbers) (load : ℕ) → IsTooMuch sizes load → HasRoom sizes load → ⊥
-no_room_for sizes load much (inl one) = omega (arith, much.0, one)
-no_room_for sizes load much (inr room) = omega (arith, much.1, room)
 
 -- a count that rose is not quiet
 not_quiet : (before now : ℕ) → Rose before now → IsQuiet before now → ⊥
@@ -75,7 +71,7 @@ module _ (told : Option (List ℕ → Option (List ℕ))) (replied : Reply → T
     pub end-within : end ≡ NoFreeBlock → AllTell first → (files : List ℕ → Option (List ℕ)) → AreFilesOf told script files → TakesWithin (given_of files script) before now sizes (command_list script)
     end-within is tells files are = ((says-is NoFreeBlock is).0 tells files are).within
 
-    pub end-above : end ≡ NoFreeBlock → AllTell first → (files : List ℕ → Option (List ℕ)) → AreFilesOf told script files → IsTooMuch sizes (load_of (given_of files script) (command_list script))
+    pub end-above : end ≡ NoFreeBlock → AllTell first → (files : List ℕ → Option (List ℕ)) → AreFilesOf told script files → HasNoRoom sizes (begins_limit (command_list script)) (load_of (given_of files script) (command_list script))
     end-above is tells files are = ((says-is NoFreeBlock is).0 tells files are).above
 
     pub end-failed : (number : ℕ) → end ≡ DeviceFault number → HasFailed number later
@@ -123,13 +119,13 @@ module _ (told : Option (List ℕ → Option (List ℕ))) (replied : Reply → T
 
   module _ (slots later : List Shown) (end : End) (same : SameSlots slots later) (more : all_writes slots ≤ all_writes later) (says : Says slots end) where
     pub end-complete :
-        AllTell first → (files : List ℕ → Option (List ℕ)) → AreFilesOf told script files → HasRoom sizes (load_of (given_of files script) (command_list script))
+        AllTell first → (files : List ℕ → Option (List ℕ)) → AreFilesOf told script files → HasRoom sizes (begins_limit (command_list script)) (load_of (given_of files script) (command_list script))
         → IsQuiet sink sink_now → IsQuiet library library_now → NoneFailed later → IsCompleted told end
     end-complete tells files are room s l none =
         says-completed later end (says-later slots later end same more says) s l none
-        (λ is. no_room_for sizes (load_of (given_of files script) (command_list script)) (end-above slots later end same more says is tells files are) room)
+        (λ is. room-not_none sizes (begins_limit (command_list script)) (load_of (given_of files script) (command_list script)) room (end-above slots later end same more says is tells files are))
 
-    pub end-complete_any : HasRoom sizes (most_of (command_list script)) → IsQuiet sink sink_now → IsQuiet library library_now → NoneFailed later → IsCompleted told end
+    pub end-complete_any : HasRoom sizes (begins_limit (command_list script)) (most_of (command_list script)) → IsQuiet sink sink_now → IsQuiet library library_now → NoneFailed later → IsCompleted told end
     end-complete_any room s l none =
         says-completed later end (says-later slots later end same more says) s l none
-        (λ is. no_room_for sizes (most_of (command_list script)) (says-is slots later end same more says NoFreeBlock is).1 room)
+        (λ is. room-not_none sizes (begins_limit (command_list script)) (most_of (command_list script)) room (says-is slots later end same more says NoFreeBlock is).1)

@@ -6,11 +6,12 @@ use Rattle.ppq_load.specs.Refusal.{Keeps}
 use Rattle.ppq_engine.proofs.Slots.{SameSlots-refl, SameSlots-trans}
 
 pub Keeps-refl : (q : Holding Pair) → Keeps q q
-Keeps-refl q = record { sizes = refl; slots = SameSlots-refl q.slots; tells = λ t. t; writes = omega arith }
+Keeps-refl q = record { sizes = refl; limited = refl; slots = SameSlots-refl q.slots; tells = λ t. t; writes = omega arith }
 
 pub Keeps-trans : (a b c : Holding Pair) → Keeps a b → Keeps b c → Keeps a c
 Keeps-trans a b c h k = record {
   sizes = k.sizes ∙ h.sizes;
+  limited = k.limited ∙ h.limited;
   slots = SameSlots-trans a.slots b.slots c.slots h.slots k.slots;
   tells = λ t. k.tells (h.tells t);
   writes = omega (arith, h.writes, k.writes);

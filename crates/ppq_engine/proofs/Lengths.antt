@@ -1,5 +1,5 @@
 -- A file of a checked script has as many records as its length says.
-use Rattle.std.proofs.Common.{◌≡◌, ℕ, ◌/◌, List, [], ◌∷◌, ◌++◌, Option, Some, sym, ap, ◌∙◌, inl, inr, length, drop, subst, zero, suc}
+use Rattle.std.proofs.Common.{◌≡◌, ℕ, ◌/◌, List, [], ◌∷◌, ◌++◌, Option, Some, sym, ap, ◌∙◌, inl, inr, length, subst, zero, suc}
 use Rattle.std.specs.Prelude.{slice_get, map}
 use Rattle.ppq_record.specs.declared.pair.Pair.{Pair}
 use Rattle.ppq_record.specs.Pair.{pair_of}
@@ -8,14 +8,13 @@ use Rattle.ppq_record.specs.Given.{records_of}
 use Rattle.ppq_block.proofs.Blocks.{length-records_from}
 use Rattle.ppq_outside.specs.Told.{bytes_or_none}
 use Rattle.ppq_script.specs.declared.command.Command.{Command}
-use Rattle.ppq_script.specs.declared.command.Command.TheVariants.{Push, Pop, Top, Size, Bulk, Gen, BulkPop, BulkPopLimit, Drain, BulkBegin, BulkPush, BulkEnd}
+use Rattle.ppq_script.specs.declared.command.Command.TheVariants.{Push, Pop, Top, Size, Bulk, Gen, BulkPop, BulkPopLimit, Drain, BulkBegin, BulkPush, BulkEnd, LimitBegin, LimitPush, LimitTop, LimitPop, LimitEnd}
 use Rattle.ppq_script.specs.declared.numbered.Numbered.{Numbered}
 use Rattle.ppq_script.specs.Files.{file_in, name_at}
 use Rattle.ppq_script.specs.Checking.{with_size, with_sizes}
 use Rattle.ppq_script.specs.Reading.{Reading, command_list}
-use Rattle.ppq_engine.specs.Output.{AreFilesOf, KeepsLengths, given_of, after}
-use Rattle.ppq_engine.proofs.Parts.{IsInside, AreInside, IsPart}
-use Rattle.ppq_engine.proofs.Steps.{HasLength, HaveLengths}
+use Rattle.ppq_engine.specs.Output.{AreFilesOf, KeepsLengths, given_of, outside, after}
+use Rattle.ppq_engine.proofs.Lines.{HasLength, FirstHasLength}
 
 pub has_length :
     (told : Option (List ℕ → Option (List ℕ))) (script : Reading) (files : List ℕ → Option (List ℕ)) (i : ℕ) (command : Command)
@@ -26,41 +25,19 @@ has_length told script files i command here keeps (inl is) = λ file bytes e.
     length-records_from pair_of 16 (length all / 16) all ∙ ap (λ (n : ℕ). n / 16) (keeps files is i file bytes there)
 has_length told script files i command here keeps (inr never) = λ file bytes e. absurd (never i file bytes (here ∙ ap (λ (c : Command). Some c) e))
 
-inside-length : (given : ℕ → List Pair) (c : Command) → IsInside c → HasLength given c
-inside-length given (Push item) i = absurd i
-inside-length given Pop i = absurd i
-inside-length given Top i = absurd i
-inside-length given Size i = absurd i
-inside-length given (Bulk file size) i = absurd i
-inside-length given (Gen seed count) i = absurd i
-inside-length given (BulkPop count) i = absurd i
-inside-length given (BulkPopLimit limit count) i = absurd i
-inside-length given (Drain count) i = absurd i
-inside-length given BulkBegin i = λ f s e. cc
-inside-length given (BulkPush pass item) i = λ f s e. cc
-inside-length given BulkEnd i = λ f s e. cc
-
-inside-lengths : (given : ℕ → List Pair) (cs : List Command) → AreInside cs → HaveLengths given cs
-inside-lengths given [] i = tt
-inside-lengths given (c ∷ cs) i = (inside-length given c i.0, inside-lengths given cs i.1)
-
 -- a part whose first command has the length of its file, if it reads one
-pub part-lengths : (given : ℕ → List Pair) (command : Command) (behind part : List Command) → part ≡ command ∷ behind → IsPart part → HasLength given command → HaveLengths given part
-part-lengths given command behind part e (inl inside) long = inside-lengths given part inside
-part-lengths given command behind part e (inr one) long =
-    let none : behind ≡ [] = ap (drop 1) (sym e ∙ one.1) in
-    let P : List Command → Type 0 = λ cs. HaveLengths given cs in
-    subst P (sym e) (long, subst P (sym none) tt)
+pub part-long : (given : ℕ → List Pair) (command : Command) (behind part : List Command) → part ≡ command ∷ behind → HasLength given command → FirstHasLength given part
+part-long given command behind part e long = subst (FirstHasLength given) (sym e) long
 
 -- the records of a file that a command adds are those that the script's command gives
 pub file-bag :
     (told : Option (List ℕ → Option (List ℕ))) (script : Reading) (i file size : ℕ) (command : Command) (name : List ℕ) (bag next : List Pair)
     → slice_get (command_list script) i ≡ Some command → command ≡ Bulk file size → name ≡ name_at script.names file
     → ((files : List ℕ → Option (List ℕ)) → told ≡ Some files → IsSameBag next (records_of (bytes_or_none (files name)) ++ bag))
-    → (files : List ℕ → Option (List ℕ)) → AreFilesOf told script files → IsSameBag next (after (given_of files script) bag command)
+    → (files : List ℕ → Option (List ℕ)) → AreFilesOf told script files → IsSameBag next (after (given_of files script) (outside bag) command).bag
 file-bag told script i file size command name bag next here is named loaded files (inl tells) =
     let P : List ℕ → Type 0 = λ n. IsSameBag next (records_of (bytes_or_none (files n)) ++ bag) in
-    let Q : Command → Type 0 = λ c. IsSameBag next (after (given_of files script) bag c) in
+    let Q : Command → Type 0 = λ c. IsSameBag next (after (given_of files script) (outside bag) c).bag in
     subst Q (sym is) (subst P named (loaded files tells))
 file-bag told script i file size command name bag next here is named loaded files (inr never) = absurd (never i file size (here ∙ ap (λ (c : Command). Some c) is))
 
@@ -81,6 +58,11 @@ sized files names (Drain count) file size e = cc
 sized files names BulkBegin file size e = cc
 sized files names (BulkPush pass item) file size e = cc
 sized files names BulkEnd file size e = cc
+sized files names (LimitBegin limit) file size e = cc
+sized files names (LimitPush pass item) file size e = cc
+sized files names LimitTop file size e = cc
+sized files names LimitPop file size e = cc
+sized files names LimitEnd file size e = cc
 
 sized_at :
     (files : List ℕ → Option (List ℕ)) (names : List (List ℕ)) (items : List Numbered) (i file size : ℕ) → slice_get (map (λ n. n.command) (with_sizes files names items)) i ≡ Some (Bulk file size)

@@ -1,7 +1,13 @@
 pub mod Advancing
+pub mod Asked
+pub mod Batches
+pub mod Below
 pub mod Ending
 pub mod Kept
 pub mod Lengths
+pub mod LimitParts
+pub mod Limited
+pub mod Lines
 pub mod Loads
 pub mod Pairs
 pub mod Parts

@@ -1,5 +1,5 @@
 -- What a load answers, as an answer of the engine.
-use Rattle.std.proofs.Common.{◌≡◌, ℕ, List, Option, refl, sym, subst}
+use Rattle.std.proofs.Common.{◌≡◌, ℕ, Bool, List, Option, refl, sym, subst}
 use Rattle.std.specs.Prelude.{Result, Ok, Err, IfErr, OnOk}
 use Rattle.ppq_outside.specs.Shown.{Shown}
 use Rattle.ppq_outside.specs.Told.{Reply}
@@ -11,11 +11,11 @@ use Rattle.ppq_engine.specs.Files.{load_stop, load_result, IsByFile, IsBySession
 use Rattle.ppq_engine.specs.Running.{StopsFor, LibraryAfter}
 use Rattle.ppq_engine.specs.declared.stop.Stop.{Stop}
 
-pub stop-refused : (peak : ℕ) (sizes : Numbers) (slots : List Shown) (line said : ℕ) (fault : LoadFault) → LoadStopsFor peak sizes slots fault → StopsFor peak sizes slots (load_stop line said fault)
-stop-refused peak sizes slots line said (Queue fault) h = h
-stop-refused peak sizes slots line said Read h = tt
-stop-refused peak sizes slots line said Memory h = tt
-stop-refused peak sizes slots line said (Ended got) h = tt
+pub stop-refused : (peak : ℕ) (sizes : Numbers) (limited : Bool) (slots : List Shown) (line said : ℕ) (fault : LoadFault) → LoadStopsFor peak sizes limited slots fault → StopsFor peak sizes limited slots (load_stop line said fault)
+stop-refused peak sizes limited slots line said (Queue fault) h = h
+stop-refused peak sizes limited slots line said Read h = tt
+stop-refused peak sizes limited slots line said Memory h = tt
+stop-refused peak sizes limited slots line said (Ended got) h = tt
 
 pub stop-by_session : (line said : ℕ) (fault : LoadFault) → IsByLoad fault → IsBySession (load_stop line said fault)
 stop-by_session line said (Queue fault) h = tt
@@ -58,10 +58,10 @@ module _ {T : Type 0} (line said : ℕ) (r : Result T LoadFault) (s : Result T S
   pub loaded-ok : (A : Type 0) → OnOk r A → OnOk s A
   loaded-ok A h = let P : Result T Stop → Type 0 = λ x. OnOk x A in subst P (sym same) (result-ok A r h)
 
-  pub loaded-refused : (peak : ℕ) (sizes : Numbers) (slots : List Shown) → IfErr r (LoadStopsFor peak sizes slots) → IfErr s (StopsFor peak sizes slots)
-  loaded-refused peak sizes slots h =
-      let P : Result T Stop → Type 0 = λ x. IfErr x (StopsFor peak sizes slots) in
-      subst P (sym same) (result-err (LoadStopsFor peak sizes slots) (StopsFor peak sizes slots) (stop-refused peak sizes slots line said) r h)
+  pub loaded-refused : (peak : ℕ) (sizes : Numbers) (limited : Bool) (slots : List Shown) → IfErr r (LoadStopsFor peak sizes limited slots) → IfErr s (StopsFor peak sizes limited slots)
+  loaded-refused peak sizes limited slots h =
+      let P : Result T Stop → Type 0 = λ x. IfErr x (StopsFor peak sizes limited slots) in
+      subst P (sym same) (result-err (LoadStopsFor peak sizes limited slots) (StopsFor peak sizes limited slots) (stop-refused peak sizes limited slots line said) r h)
 
   pub loaded-by_session : IfErr r IsByLoad → IfErr s IsBySession
   loaded-by_session h = let P : Result T Stop → Type 0 = λ x. IfErr x IsBySession in subst P (sym same) (result-err IsByLoad IsBySession (stop-by_session line said) r h)

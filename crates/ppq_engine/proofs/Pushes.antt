@@ -7,7 +7,7 @@ use Rattle.ppq_record.specs.declared.pair.Pair.{Pair}
 use Rattle.ppq_record.specs.Bag.{IsSameBag}
 use Rattle.ppq_outside.specs.Shown.{Shown, AllTell}
 use Rattle.ppq_script.specs.declared.command.Command.{Command}
-use Rattle.ppq_script.specs.declared.command.Command.TheVariants.{Push, Pop, Top, Size, Bulk, Gen, BulkPop, BulkPopLimit, Drain, BulkBegin, BulkPush, BulkEnd}
+use Rattle.ppq_script.specs.declared.command.Command.TheVariants.{Push, Pop, Top, Size, Bulk, Gen, BulkPop, BulkPopLimit, Drain, BulkBegin, BulkPush, BulkEnd, LimitBegin, LimitPush, LimitTop, LimitPop, LimitEnd}
 use Rattle.ppq_script.specs.declared.session.Session.TheVariants.{InBulk}
 use Rattle.ppq_script.specs.Sessions.{are_in_place}
 use Rattle.ppq_script.specs.Reading.{Reading, command_list}
@@ -16,12 +16,12 @@ use Rattle.ppq_queue.specs.declared.fault.QueueFault.{QueueFault}
 use Rattle.ppq_session.specs.declared.line.Line.{Line}
 use Rattle.ppq_session.specs.Dealing.{records_in}
 use Rattle.ppq_load.specs.Loading.{LoadHolding, InSession, IsLoaded}
+use Rattle.ppq_load.proofs.Refusals.{cause-later}
 use Rattle.ppq_engine.specs.Parts.{up_to_end, pushed_in, behind_session}
 use Rattle.ppq_engine.specs.Pushes.{IsPushAt, IsEndAt, GivesFirst}
 use Rattle.ppq_engine.specs.Running.{StopsFor}
 use Rattle.ppq_engine.specs.declared.stop.Stop.{Stop}
 use Rattle.ppq_engine.proofs.Parts.{behind-push, drop-here}
-use Rattle.ppq_engine.proofs.Sizes.{cause-more}
 
 -- the command at a place of a session
 module _ (script : Reading) (place : ℕ) (command : Command) (h : place < length (command_list script)) (e : slice_get (command_list script) place ≡ Some command) (inside : are_in_place script.workers InBulk (drop place (command_list script)) ≡ true) where
@@ -48,6 +48,11 @@ only_end workers (Drain count) rest e no_push = cc
 only_end workers BulkBegin rest e no_push = cc
 only_end workers (BulkPush pass item) rest e no_push = absurd (no_push pass item refl)
 only_end workers BulkEnd rest e no_push = refl
+only_end workers (LimitBegin limit) rest e no_push = cc
+only_end workers (LimitPush pass item) rest e no_push = cc
+only_end workers LimitTop rest e no_push = cc
+only_end workers LimitPop rest e no_push = cc
+only_end workers LimitEnd rest e no_push = cc
 
 pub end-here :
     (script : Reading) (place : ℕ) (command : Command) → place < length (command_list script) → slice_get (command_list script) place ≡ Some command → are_in_place script.workers InBulk (drop place (command_list script)) ≡ true
@@ -149,8 +154,8 @@ module _ (queue new : Holding Pair) (total : List Pair) (next : ℕ) (s : Result
     ended-peak (Ok v) e going loaded = let P : Result ℕ Stop → Type 0 = λ x. OnOk x (new.peak ≤ max queue.peak (queue.size + length total)) in subst P (sym e) (omega (arith, (loaded going).peak))
     ended-peak (Err f) e going loaded = let P : Result ℕ Stop → Type 0 = λ x. OnOk x (new.peak ≤ max queue.peak (queue.size + length total)) in subst P (sym e) tt
 
-  pub ended-refused : (given : List Pair) (r : Result ⊤ QueueFault) → s ≡ behind_session r next → length given ≤ length total → 0 < queue.sizes.block → IsLoaded queue given new r → IfErr s (StopsFor (max queue.peak (queue.size + length total)) queue.sizes new.slots)
-  ended-refused given (Ok v) e fewer block loaded = let P : Result ℕ Stop → Type 0 = λ x. IfErr x (StopsFor (max queue.peak (queue.size + length total)) queue.sizes new.slots) in subst P (sym e) tt
+  pub ended-refused : (given : List Pair) (r : Result ⊤ QueueFault) → s ≡ behind_session r next → length given ≤ length total → 0 < queue.sizes.block → IsLoaded queue given new r → IfErr s (StopsFor (max queue.peak (queue.size + length total)) queue.sizes queue.limited new.slots)
+  ended-refused given (Ok v) e fewer block loaded = let P : Result ℕ Stop → Type 0 = λ x. IfErr x (StopsFor (max queue.peak (queue.size + length total)) queue.sizes queue.limited new.slots) in subst P (sym e) tt
   ended-refused given (Err f) e fewer block loaded =
-      let P : Result ℕ Stop → Type 0 = λ x. IfErr x (StopsFor (max queue.peak (queue.size + length total)) queue.sizes new.slots) in
-      subst P (sym e) (cause-more queue.sizes new.slots (max queue.peak (queue.size + length given)) (max queue.peak (queue.size + length total)) f block (omega (arith, fewer)) loaded.refused)
+      let P : Result ℕ Stop → Type 0 = λ x. IfErr x (StopsFor (max queue.peak (queue.size + length total)) queue.sizes queue.limited new.slots) in
+      subst P (sym e) (cause-later queue.sizes queue.limited queue.limited (max queue.peak (queue.size + length given)) (max queue.peak (queue.size + length total)) block (λ same. same) (omega (arith, fewer)) new.slots f loaded.refused)

@@ -1,22 +1,21 @@
 -- What a run has written, what it has gathered, and how its bag and its load grow with each command.
-use Rattle.std.proofs.Common.{◌≡◌, true, false, ℕ, ◌+◌, ◌-◌, ◌<◌, ◌≤◌, List, [], ◌∷◌, ◌++◌, length, take, drop, min, max, Option, Some, None, refl, sym, ap, ap₂, ◌∙◌, subst, arith, append_assoc, suc, drop-cons, take-add, take-append-drop}
-use Rattle.std.specs.Prelude.{slice_get, count_by, nat_le, codes, unwrap_or, if◌then◌else◌}
+use Rattle.std.proofs.Common.{◌≡◌, ℕ, ◌+◌, ◌-◌, ◌<◌, ◌≤◌, List, [], ◌∷◌, ◌++◌, length, take, drop, min, max, Option, Some, None, refl, sym, ap, ap₂, ◌∙◌, subst, arith, append_assoc, suc, drop-cons, take-add, take-append-drop}
+use Rattle.std.specs.Prelude.{slice_get, count_by, nat_le, codes, if◌then◌else◌}
 use Rattle.std.proofs.lemmas.Option.{get_or_from_slice_get}
 use Rattle.ppq_record.specs.declared.pair.Pair.{Pair}
 use Rattle.ppq_record.specs.Pair.{pair_cmp, pair_same}
 use Rattle.ppq_record.specs.Order.{is_before}
-use Rattle.ppq_record.specs.Bag.{IsSameBag, ascending, first_of}
+use Rattle.ppq_record.specs.Bag.{IsSameBag, ascending, front, first_of}
 use Rattle.ppq_record.proofs.Order.{IsSameBag-cons, IsSameBag-append, IsSameBag-length}
 use Rattle.ppq_record.specs.Given.{generated}
 use Rattle.ppq_record.proofs.Fronts.{ascending-same_bag}
 use Rattle.ppq_outside.specs.Told.{TakesAll, TakesPart}
 use Rattle.ppq_outside.proofs.Takes.{takes_two, takes_and_part}
 use Rattle.ppq_script.specs.declared.command.Command.{Command}
-use Rattle.ppq_script.specs.declared.command.Command.TheVariants.{Push, Pop, Top, Size, Bulk, Gen, BulkPop, BulkPopLimit, Drain, BulkBegin, BulkPush, BulkEnd}
+use Rattle.ppq_script.specs.declared.command.Command.TheVariants.{Push, Pop, Top, Size, Bulk, Gen, BulkPop, BulkPopLimit, Drain, BulkBegin, BulkPush, BulkEnd, LimitBegin, LimitPush, LimitTop, LimitPop, LimitEnd}
 use Rattle.ppq_script.specs.declared.session.Session.{Session}
-use Rattle.ppq_script.specs.declared.session.Session.TheVariants.{Outside}
-use Rattle.ppq_script.specs.Sessions.{turn_of, is_outside}
-use Rattle.ppq_engine.specs.Output.{least_text, size_text, lines_text, summary_text, limited_count, text_of, after, bag_from, output_from, load_from, crest_from, bag_of, output_of, load_of, crest_of, TakesAtLeast}
+use Rattle.ppq_script.specs.declared.session.Session.TheVariants.{Outside, InBulk, InLimit}
+use Rattle.ppq_engine.specs.Output.{State, outside, least_text, size_text, lines_text, summary_text, limited_count, limited_text, popped_in, text_of, after, state_from, output_from, load_from, crest_from, bag_of, load_of, TakesAtLeast}
 use Rattle.ppq_engine.specs.Gathers.{Gathers}
 use Rattle.ppq_engine.specs.Running.{IsGathered}
 use Rattle.ppq_engine.proofs.Pairs.{pair_total}
@@ -28,73 +27,117 @@ same_order one other same = ascending-same_bag pair_total pair_same one other sa
 same_count : (one other : List Pair) (limit : Pair) (count : ℕ) → IsSameBag one other → limited_count one limit count ≡ limited_count other limit count
 same_count one other limit count same = ap (λ (n : ℕ). min count n) (same (λ x. is_before pair_cmp x limit))
 
--- equal bags print the same, and stay equal
-text-same_bag : (one other : List Pair) (command : Command) → IsSameBag one other → text_of one command ≡ text_of other command
-text-same_bag one other (Push item) same = refl
-text-same_bag one other Pop same = ap (λ (q : List Pair). least_text (first_of (take 1 q))) (same_order one other same)
-text-same_bag one other Top same = ap (λ (q : List Pair). least_text (first_of (take 1 q))) (same_order one other same)
-text-same_bag one other Size same = ap size_text (IsSameBag-length one other same)
-text-same_bag one other (Bulk file size) same = refl
-text-same_bag one other (Gen seed count) same = refl
-text-same_bag one other (BulkPop count) same = ap (λ (q : List Pair). lines_text (take count q)) (same_order one other same)
-text-same_bag one other (BulkPopLimit limit count) same =
+-- two states with equal bags, in one session, of which as many records were popped
+pub record IsSameState (one other : State) : Type 0 where
+  pub bag : IsSameBag one.bag other.bag
+  pub session : one.session ≡ other.session
+  pub popped : one.popped ≡ other.popped
+
+pub outside-same : (one other : List Pair) → IsSameBag one other → IsSameState (outside one) (outside other)
+outside-same one other same = record { bag = same; session = refl; popped = refl }
+
+same_popped : (session : Session) (one other : List Pair) → IsSameBag one other → popped_in session one ≡ popped_in session other
+same_popped Outside one other same = refl
+same_popped InBulk one other same = refl
+same_popped (InLimit limit) one other same = same_count one other limit 1 same
+
+popped-same : (one other : State) → IsSameState one other → popped_in one.session one.bag ≡ popped_in other.session other.bag
+popped-same one other same = ap (λ (s : Session). popped_in s one.bag) same.session ∙ same_popped other.session one.bag other.bag same.bag
+
+-- what a limit session answers of the least record
+limited-same : (one other : State) → IsSameState one other → limited_text (first_of (front pair_cmp one.bag (popped_in one.session one.bag))) ≡ limited_text (first_of (front pair_cmp other.bag (popped_in other.session other.bag)))
+limited-same one other same = ap₂ (λ (n : ℕ) (q : List Pair). limited_text (first_of (take n q))) (popped-same one other same) (same_order one.bag other.bag same.bag)
+
+-- they print the same, and stay the same
+text-same : (one other : State) (command : Command) → IsSameState one other → text_of one command ≡ text_of other command
+text-same one other (Push item) same = refl
+text-same one other Pop same = ap (λ (q : List Pair). least_text (first_of (take 1 q))) (same_order one.bag other.bag same.bag)
+text-same one other Top same = ap (λ (q : List Pair). least_text (first_of (take 1 q))) (same_order one.bag other.bag same.bag)
+text-same one other Size same = ap size_text (IsSameBag-length one.bag other.bag same.bag)
+text-same one other (Bulk file size) same = refl
+text-same one other (Gen seed count) same = refl
+text-same one other (BulkPop count) same = ap (λ (q : List Pair). lines_text (take count q)) (same_order one.bag other.bag same.bag)
+text-same one other (BulkPopLimit limit count) same =
     ap₂ (λ (t u : List ℕ). t ++ u)
-    (ap₂ (λ (n : ℕ) (q : List Pair). lines_text (take n q)) (same_count one other limit count same) (same_order one other same))
-    (ap (λ (n : ℕ). if nat_le n count then codes "all\n" else codes "more\n") (same (λ x. is_before pair_cmp x limit)))
-text-same_bag one other (Drain count) same = ap (λ (q : List Pair). summary_text (take count q)) (same_order one other same)
-text-same_bag one other BulkBegin same = refl
-text-same_bag one other (BulkPush pass item) same = refl
-text-same_bag one other BulkEnd same = refl
+    (ap₂ (λ (n : ℕ) (q : List Pair). lines_text (take n q)) (same_count one.bag other.bag limit count same.bag) (same_order one.bag other.bag same.bag))
+    (ap (λ (n : ℕ). if nat_le n count then codes "all\n" else codes "more\n") (same.bag (λ x. is_before pair_cmp x limit)))
+text-same one other (Drain count) same = ap (λ (q : List Pair). summary_text (take count q)) (same_order one.bag other.bag same.bag)
+text-same one other BulkBegin same = refl
+text-same one other (BulkPush pass item) same = refl
+text-same one other BulkEnd same = refl
+text-same one other (LimitBegin limit) same = refl
+text-same one other (LimitPush pass item) same = refl
+text-same one other LimitTop same = limited-same one other same
+text-same one other LimitPop same = limited-same one other same
+text-same one other LimitEnd same = refl
 
 dropped_same : (one other : List Pair) (n m : ℕ) → n ≡ m → IsSameBag one other → IsSameBag (drop n (ascending pair_cmp one)) (drop m (ascending pair_cmp other))
 dropped_same one other n m e same p = ap₂ (λ (k : ℕ) (q : List Pair). count_by p (drop k q)) e (same_order one other same)
 
+with-bag : (one other : State) (b c : List Pair) → IsSameState one other → IsSameBag b c → IsSameState (record one { bag = b }) (record other { bag = c })
+with-bag one other b c same bags = record { bag = bags; session = same.session; popped = same.popped }
+
 module _ (given : ℕ → List Pair) where
-  after-same_bag : (one other : List Pair) (command : Command) → IsSameBag one other → IsSameBag (after given one command) (after given other command)
-  after-same_bag one other (Push item) same = IsSameBag-cons item one other same
-  after-same_bag one other Pop same = dropped_same one other 1 1 refl same
-  after-same_bag one other Top same = same
-  after-same_bag one other Size same = same
-  after-same_bag one other (Bulk file size) same = IsSameBag-append (given file) (given file) one other (λ p. refl) same
-  after-same_bag one other (Gen seed count) same = IsSameBag-append (generated seed count) (generated seed count) one other (λ p. refl) same
-  after-same_bag one other (BulkPop count) same = dropped_same one other count count refl same
-  after-same_bag one other (BulkPopLimit limit count) same = dropped_same one other (limited_count one limit count) (limited_count other limit count) (same_count one other limit count same) same
-  after-same_bag one other (Drain count) same = dropped_same one other count count refl same
-  after-same_bag one other BulkBegin same = same
-  after-same_bag one other (BulkPush pass item) same = IsSameBag-cons item one other same
-  after-same_bag one other BulkEnd same = same
+  after-same : (one other : State) (command : Command) → IsSameState one other → IsSameState (after given one command) (after given other command)
+  after-same one other (Push item) same = with-bag one other (item ∷ one.bag) (item ∷ other.bag) same (IsSameBag-cons item one.bag other.bag same.bag)
+  after-same one other Pop same = with-bag one other (drop 1 (ascending pair_cmp one.bag)) (drop 1 (ascending pair_cmp other.bag)) same (dropped_same one.bag other.bag 1 1 refl same.bag)
+  after-same one other Top same = same
+  after-same one other Size same = same
+  after-same one other (Bulk file size) same = with-bag one other (given file ++ one.bag) (given file ++ other.bag) same (IsSameBag-append (given file) (given file) one.bag other.bag (λ p. refl) same.bag)
+  after-same one other (Gen seed count) same =
+      with-bag one other (generated seed count ++ one.bag) (generated seed count ++ other.bag) same (IsSameBag-append (generated seed count) (generated seed count) one.bag other.bag (λ p. refl) same.bag)
+  after-same one other (BulkPop count) same = with-bag one other (drop count (ascending pair_cmp one.bag)) (drop count (ascending pair_cmp other.bag)) same (dropped_same one.bag other.bag count count refl same.bag)
+  after-same one other (BulkPopLimit limit count) same =
+      let n = limited_count one.bag limit count in
+      let m = limited_count other.bag limit count in
+      with-bag one other (drop n (ascending pair_cmp one.bag)) (drop m (ascending pair_cmp other.bag)) same (dropped_same one.bag other.bag n m (same_count one.bag other.bag limit count same.bag) same.bag)
+  after-same one other (Drain count) same = with-bag one other (drop count (ascending pair_cmp one.bag)) (drop count (ascending pair_cmp other.bag)) same (dropped_same one.bag other.bag count count refl same.bag)
+  after-same one other BulkBegin same = record { bag = same.bag; session = refl; popped = refl }
+  after-same one other (BulkPush pass item) same = with-bag one other (item ∷ one.bag) (item ∷ other.bag) same (IsSameBag-cons item one.bag other.bag same.bag)
+  after-same one other BulkEnd same = outside-same one.bag other.bag same.bag
+  after-same one other (LimitBegin limit) same = record { bag = same.bag; session = refl; popped = refl }
+  after-same one other (LimitPush pass item) same = with-bag one other (item ∷ one.bag) (item ∷ other.bag) same (IsSameBag-cons item one.bag other.bag same.bag)
+  after-same one other LimitTop same = same
+  after-same one other LimitPop same =
+      let n = popped_in one.session one.bag in
+      let m = popped_in other.session other.bag in
+      record { bag = dropped_same one.bag other.bag n m (popped-same one other same) same.bag; session = same.session; popped = omega (arith, same.popped, popped-same one other same) }
+  after-same one other LimitEnd same = outside-same one.bag other.bag same.bag
 
   -- the same of several commands
-  pub output_from-same_bag : (one other : List Pair) (cs : List Command) → IsSameBag one other → output_from given one cs ≡ output_from given other cs
-  output_from-same_bag one other [] same = refl
-  output_from-same_bag one other (c ∷ cs) same =
-      ap₂ (λ (t u : List ℕ). t ++ u) (text-same_bag one other c same) (output_from-same_bag (after given one c) (after given other c) cs (after-same_bag one other c same))
+  pub output_from-same : (one other : State) (cs : List Command) → IsSameState one other → output_from given one cs ≡ output_from given other cs
+  output_from-same one other [] same = refl
+  output_from-same one other (c ∷ cs) same = ap₂ (λ (t u : List ℕ). t ++ u) (text-same one other c same) (output_from-same (after given one c) (after given other c) cs (after-same one other c same))
 
-  pub bag_from-same_bag : (one other : List Pair) (cs : List Command) → IsSameBag one other → IsSameBag (bag_from given one cs) (bag_from given other cs)
-  bag_from-same_bag one other [] same = same
-  bag_from-same_bag one other (c ∷ cs) same = bag_from-same_bag (after given one c) (after given other c) cs (after-same_bag one other c same)
+  pub state_from-same : (one other : State) (cs : List Command) → IsSameState one other → IsSameState (state_from given one cs) (state_from given other cs)
+  state_from-same one other [] same = same
+  state_from-same one other (c ∷ cs) same = state_from-same (after given one c) (after given other c) cs (after-same one other c same)
 
   -- commands behind others
-  pub bag_from-append : (bag : List Pair) (cs ds : List Command) → bag_from given bag (cs ++ ds) ≡ bag_from given (bag_from given bag cs) ds
-  bag_from-append bag [] ds = refl
-  bag_from-append bag (c ∷ cs) ds = bag_from-append (after given bag c) cs ds
+  pub state_from-append : (state : State) (cs ds : List Command) → state_from given state (cs ++ ds) ≡ state_from given (state_from given state cs) ds
+  state_from-append state [] ds = refl
+  state_from-append state (c ∷ cs) ds = state_from-append (after given state c) cs ds
 
-  pub output_from-append : (bag : List Pair) (cs ds : List Command) → output_from given bag (cs ++ ds) ≡ output_from given bag cs ++ output_from given (bag_from given bag cs) ds
-  output_from-append bag [] ds = refl
-  output_from-append bag (c ∷ cs) ds =
-      ap (λ (t : List ℕ). text_of bag c ++ t) (output_from-append (after given bag c) cs ds) ∙ sym (append_assoc (text_of bag c) (output_from given (after given bag c) cs) (output_from given (bag_from given (after given bag c) cs) ds))
+  pub output_from-append : (state : State) (cs ds : List Command) → output_from given state (cs ++ ds) ≡ output_from given state cs ++ output_from given (state_from given state cs) ds
+  output_from-append state [] ds = refl
+  output_from-append state (c ∷ cs) ds =
+      ap (λ (t : List ℕ). text_of state c ++ t) (output_from-append (after given state c) cs ds) ∙ sym (append_assoc (text_of state c) (output_from given (after given state c) cs) (output_from given (state_from given (after given state c) cs) ds))
 
-  pub load_from-append : (bag : List Pair) (cs ds : List Command) → load_from given bag (cs ++ ds) ≡ max (load_from given bag cs) (load_from given (bag_from given bag cs) ds)
-  load_from-append bag [] ds = omega arith
-  load_from-append bag (c ∷ cs) ds = omega (arith, load_from-append (after given bag c) cs ds)
+  pub load_from-append : (state : State) (cs ds : List Command) → load_from given state (cs ++ ds) ≡ max (load_from given state cs) (load_from given (state_from given state cs) ds)
+  load_from-append state [] ds = omega arith
+  load_from-append state (c ∷ cs) ds = omega (arith, load_from-append (after given state c) cs ds)
+
+  pub crest_from-append : (state : State) (cs ds : List Command) → crest_from given state (cs ++ ds) ≡ max (crest_from given state cs) (crest_from given (state_from given state cs) ds)
+  crest_from-append state [] ds = omega arith
+  crest_from-append state (c ∷ cs) ds = omega (arith, crest_from-append (after given state c) cs ds)
 
   -- a bag is no larger than the load, or than the bag before
-  pub bag-le-load : (bag : List Pair) (cs : List Command) → length (bag_from given bag cs) ≤ max (length bag) (load_from given bag cs)
-  bag-le-load bag [] = omega arith
-  bag-le-load bag (c ∷ cs) = omega (arith, bag-le-load (after given bag c) cs)
+  bag-le-load : (state : State) (cs : List Command) → length (state_from given state cs).bag ≤ max (length state.bag) (load_from given state cs)
+  bag-le-load state [] = omega arith
+  bag-le-load state (c ∷ cs) = omega (arith, bag-le-load (after given state c) cs)
 
   pub bag_of-le : (cs : List Command) → length (bag_of given cs) ≤ load_of given cs
-  bag_of-le cs = let nil : length {A = Pair} [] ≡ 0 = refl in omega (arith, bag-le-load [] cs, nil)
+  bag_of-le cs = let nil : length {A = Pair} [] ≡ 0 = refl in omega (arith, bag-le-load (outside []) cs, nil)
 
 -- of the first commands, fewer and the rest of them
 pub take-fewer : (k j : ℕ) (cs : List Command) → k ≤ j → take j cs ≡ take k cs ++ take (j - k) (drop k cs)
@@ -108,30 +151,10 @@ take-next {X} items i item h e =
 
 module _ (given : ℕ → List Pair) where
   pub load-take : (k j : ℕ) (cs : List Command) → k ≤ j → load_of given (take k cs) ≤ load_of given (take j cs)
-  load-take k j cs h = omega (arith, ap (load_of given) (take-fewer k j cs h), load_from-append given [] (take k cs) (take (j - k) (drop k cs)))
+  load-take k j cs h = omega (arith, ap (load_of given) (take-fewer k j cs h), load_from-append given (outside []) (take k cs) (take (j - k) (drop k cs)))
 
   pub load-take_all : (k : ℕ) (cs : List Command) → load_of given (take k cs) ≤ load_of given cs
-  load-take_all k cs = omega (arith, ap (load_of given) (take-append-drop k cs), load_from-append given [] (take k cs) (drop k cs))
-
-  -- the output is that of the first commands, of a part behind them, and of the rest
-  pub output-around : (commands first part rest : List Command) → commands ≡ (first ++ part) ++ rest
-      → output_of given commands ≡ (output_of given first ++ output_from given (bag_of given first) part) ++ output_from given (bag_of given (first ++ part)) rest
-  output-around commands first part rest e =
-      ap (output_of given) e ∙ output_from-append given [] (first ++ part) rest
-      ∙ ap (λ (t : List ℕ). t ++ output_from given (bag_of given (first ++ part)) rest) (output_from-append given [] first part)
-
-  -- the crest is no more than the load
-  crest-le-load : (bag : List Pair) (session : Session) (cs : List Command) → crest_from given bag session cs ≤ load_from given bag cs
-  crest-le-load bag session [] = omega arith
-  crest-le-load bag session (c ∷ cs) =
-      let behind = unwrap_or (turn_of c) session in
-      elim (is_outside behind) as (λ b. max (if b then length (after given bag c) else 0) (crest_from given (after given bag c) behind cs) ≤ load_from given bag (c ∷ cs)) [
-        | true ↦ omega (arith, crest-le-load (after given bag c) behind cs)
-        | false ↦ omega (arith, crest-le-load (after given bag c) behind cs)
-      ]
-
-  pub crest_of-le : (cs : List Command) → crest_of given cs ≤ load_of given cs
-  crest_of-le cs = crest-le-load [] Outside cs
+  load-take_all k cs = omega (arith, ap (load_of given) (take-append-drop k cs), load_from-append given (outside []) (take k cs) (drop k cs))
 
 -- one text more
 pub gathered-more :

@@ -1,19 +1,37 @@
--- How the size of a bag, its greatest size, and the room for it follow from commands.
-use Rattle.std.proofs.Common.{◌≡◌, ℕ, ◌+◌, ◌-◌, ◌<◌, ◌≤◌, List, [], ◌∷◌, ◌++◌, take, drop, max, refl, ap, arith, inl, inr, take-append-drop}
-use Rattle.std.proofs.lemmas.Nat.{le-div}
-use Rattle.std.proofs.Math.Nat.{div-mul-le_self, mul-le-mul_left}
+-- How the size of a bag, its greatest size, and whether a limit session was begun follow from commands.
+use Rattle.std.proofs.Common.{◌≡◌, ℕ, ◌-◌, ◌≤◌, false, List, [], ◌∷◌, ◌++◌, take, drop, max, refl, sym, ap, ◌∙◌, arith, take-append-drop}
+use Rattle.std.specs.Prelude.{◌||◌, unwrap_or}
+use Rattle.std.proofs.Math.Bool.{or_assoc}
+use Rattle.std.proofs.lemmas.Bool.{or_parts}
+use Rattle.std.proofs.Math.Nat.{mul-le-mul_left}
 use Rattle.ppq_outside.specs.Shown.{Shown}
-use Rattle.ppq_budget.specs.Sizes.{Numbers, blocks_for, room_of}
+use Rattle.ppq_budget.specs.Sizes.{Numbers}
 use Rattle.ppq_array.specs.Kept.{all_writes}
 use Rattle.ppq_script.specs.declared.command.Command.{Command}
-use Rattle.ppq_script.specs.declared.command.Command.TheVariants.{Push, Pop, Top, Size, Bulk, Gen, BulkPop, BulkPopLimit, Drain, BulkBegin, BulkPush, BulkEnd}
-use Rattle.ppq_load.specs.Refusal.{HasRoom, IsTooMuch, IsRefusedBy}
-use Rattle.ppq_engine.specs.Loads.{none_go, all_go, size_after, size_from, greatest_from, most_of, least_of, FitsWritten}
+use Rattle.ppq_script.specs.declared.command.Command.TheVariants.{Push, Pop, Top, Size, Bulk, Gen, BulkPop, BulkPopLimit, Drain, BulkBegin, BulkPush, BulkEnd, LimitBegin, LimitPush, LimitTop, LimitPop, LimitEnd}
+use Rattle.ppq_script.specs.declared.session.Session.{Session}
+use Rattle.ppq_script.specs.declared.session.Session.TheVariants.{Outside}
+use Rattle.ppq_script.specs.Sessions.{turn_of}
+use Rattle.ppq_engine.specs.Loads.{none_go, all_go, size_after, size_from, greatest_from, settled_from, most_of, least_of, is_limit_begin, begins_limit, FitsWritten}
 use Rattle.ppq_engine.specs.Running.{HasSizes}
-use Rattle.ppq_engine.proofs.Parts.{IsPart, part-greatest}
+use Rattle.ppq_engine.proofs.Parts.{IsPart}
+use Rattle.ppq_engine.proofs.Lines.{session_from, part-settled}
 use Rattle.ppq_engine.proofs.Running.{take-fewer}
-use Rattle.ppq_queue.specs.declared.fault.QueueFault.{QueueFault}
-use Rattle.ppq_queue.specs.declared.fault.QueueFault.TheVariants.{NoFreeBlock, Device}
+
+-- whether a limit session was begun
+pub begins-append : (cs ds : List Command) → begins_limit (cs ++ ds) ≡ (begins_limit cs || begins_limit ds)
+begins-append [] ds = refl
+begins-append (c ∷ cs) ds = ap (λ b. is_limit_begin c || b) (begins-append cs ds) ∙ sym (or_assoc (is_limit_begin c) (begins_limit cs) (begins_limit ds))
+
+-- where none of the commands begins one, none of the first of them does
+begins-first : (cs ds : List Command) → begins_limit (cs ++ ds) ≡ false → begins_limit cs ≡ false
+begins-first cs ds e = (or_parts (begins_limit cs) (begins_limit ds) (sym (begins-append cs ds) ∙ e)).0
+
+pub begins-take : (k j : ℕ) (cs : List Command) → k ≤ j → begins_limit (take j cs) ≡ false → begins_limit (take k cs) ≡ false
+begins-take k j cs h e = begins-first (take k cs) (take (j - k) (drop k cs)) (ap begins_limit (sym (take-fewer k j cs h)) ∙ e)
+
+pub begins-take_all : (k : ℕ) (cs : List Command) → begins_limit cs ≡ false → begins_limit (take k cs) ≡ false
+begins-take_all k cs e = begins-first (take k cs) (drop k cs) (ap begins_limit (take-append-drop k cs) ∙ e)
 
 module _ (leaves : ℕ → ℕ → ℕ) where
   size_from-append : (size : ℕ) (cs ds : List Command) → size_from leaves size (cs ++ ds) ≡ size_from leaves (size_from leaves size cs) ds
@@ -24,13 +42,14 @@ module _ (leaves : ℕ → ℕ → ℕ) where
   greatest_from-append size [] ds = omega arith
   greatest_from-append size (c ∷ cs) ds = omega (arith, greatest_from-append (size_after leaves size c) cs ds)
 
+  settled_from-append : (size : ℕ) (session : Session) (cs ds : List Command) → settled_from leaves size session (cs ++ ds) ≡ max (settled_from leaves size session cs) (settled_from leaves (size_from leaves size cs) (session_from session cs) ds)
+  settled_from-append size session [] ds = omega arith
+  settled_from-append size session (c ∷ cs) ds = omega (arith, settled_from-append (size_after leaves size c) (unwrap_or (turn_of c) session) cs ds)
+
   -- the last size is no more than the greatest, or than the size before
   size-le-greatest : (size : ℕ) (cs : List Command) → size_from leaves size cs ≤ max size (greatest_from leaves size cs)
   size-le-greatest size [] = omega arith
   size-le-greatest size (c ∷ cs) = omega (arith, size-le-greatest (size_after leaves size c) cs)
-
-  greatest-take : (k j : ℕ) (cs : List Command) → k ≤ j → greatest_from leaves 0 (take k cs) ≤ greatest_from leaves 0 (take j cs)
-  greatest-take k j cs h = omega (arith, ap (greatest_from leaves 0) (take-fewer k j cs h), greatest_from-append 0 (take k cs) (take (j - k) (drop k cs)))
 
   pub greatest-take_all : (k : ℕ) (cs : List Command) → greatest_from leaves 0 (take k cs) ≤ greatest_from leaves 0 cs
   greatest-take_all k cs = omega (arith, ap (greatest_from leaves 0) (take-append-drop k cs), greatest_from-append 0 (take k cs) (drop k cs))
@@ -49,6 +68,11 @@ none_go-mono m n (Drain count) h = omega arith
 none_go-mono m n BulkBegin h = h
 none_go-mono m n (BulkPush pass item) h = omega arith
 none_go-mono m n BulkEnd h = h
+none_go-mono m n (LimitBegin limit) h = h
+none_go-mono m n (LimitPush pass item) h = omega arith
+none_go-mono m n LimitTop h = h
+none_go-mono m n LimitPop h = h
+none_go-mono m n LimitEnd h = h
 
 none_go-mono_from : (m n : ℕ) (cs : List Command) → m ≤ n → size_from none_go m cs ≤ size_from none_go n cs
 none_go-mono_from m n [] h = h
@@ -67,6 +91,11 @@ all_go-mono m n (Drain count) h = omega arith
 all_go-mono m n BulkBegin h = h
 all_go-mono m n (BulkPush pass item) h = omega arith
 all_go-mono m n BulkEnd h = h
+all_go-mono m n (LimitBegin limit) h = h
+all_go-mono m n (LimitPush pass item) h = omega arith
+all_go-mono m n LimitTop h = h
+all_go-mono m n LimitPop h = omega arith
+all_go-mono m n LimitEnd h = h
 
 all_go-mono_from : (m n : ℕ) (cs : List Command) → m ≤ n → size_from all_go m cs ≤ size_from all_go n cs
 all_go-mono_from m n [] h = h
@@ -89,10 +118,10 @@ peak-part size peak higher sizes slots cs part has up =
 
 -- a part more was run
 pub sizes-part :
-    (size next peak higher : ℕ) (sizes : Numbers) (slots later : List Shown) (cs part : List Command) → IsPart part
+    (size next peak higher : ℕ) (sizes : Numbers) (slots later : List Shown) (cs part : List Command) → IsPart part → session_from Outside cs ≡ Outside
     → HasSizes size peak sizes slots cs → size_from all_go size part ≤ next → next ≤ size_from none_go size part → higher ≤ max peak (size_from none_go size part) → FitsWritten next sizes later → all_writes slots ≤ all_writes later
     → HasSizes next higher sizes later (cs ++ part)
-sizes-part size next peak higher sizes slots later cs part is has low high up fits more =
+sizes-part size next peak higher sizes slots later cs part is closed has low high up fits more =
     let least = size_from all_go 0 cs in
     let below = all_go-mono_from least size part has.low in
     let above = none_go-mono_from size (size_from none_go 0 cs) part has.high in
@@ -100,22 +129,6 @@ sizes-part size next peak higher sizes slots later cs part is has low high up fi
       low = omega (arith, below, low, size_from-append all_go 0 cs part);
       high = omega (arith, above, high, size_from-append none_go 0 cs part);
       highest = peak-part size peak higher sizes slots cs part has up;
-      crest = omega (arith, below, low, fits, fits-more (least_of cs) sizes slots later has.crest more, part-greatest all_go least part is, greatest_from-append all_go 0 cs part);
+      crest =
+          omega (arith, below, low, fits, fits-more (least_of cs) sizes slots later has.crest more, part-settled all_go least part is, ap (λ (s : Session). settled_from all_go least s part) closed, settled_from-append all_go 0 Outside cs part);
     }
-
--- a greater load wants no fewer blocks
-room-more : (sizes : Numbers) (load more : ℕ) → 0 < sizes.block → load ≤ more → room_of sizes load ≤ room_of sizes more
-room-more sizes load more some h =
-    let blocks : blocks_for sizes load ≤ blocks_for sizes more = le-div (blocks_for sizes load) (more + (sizes.block - 1)) sizes.block some (omega (arith, div-mul-le_self (load + (sizes.block - 1)) sizes.block)) in
-    omega arith
-
-pub too_much-more : (sizes : Numbers) (load more : ℕ) → 0 < sizes.block → load ≤ more → IsTooMuch sizes load → IsTooMuch sizes more
-too_much-more sizes load more some h much = (omega (arith, much.0), omega (arith, much.1, room-more sizes load more some h))
-
-pub cause-more : (sizes : Numbers) (slots : List Shown) (load more : ℕ) (fault : QueueFault) → 0 < sizes.block → load ≤ more → IsRefusedBy load sizes slots fault → IsRefusedBy more sizes slots fault
-cause-more sizes slots load more NoFreeBlock some h cause = too_much-more sizes load more some h cause
-cause-more sizes slots load more (Device number) some h cause = cause
-
-pub no_room : (sizes : Numbers) (load : ℕ) → IsTooMuch sizes load → HasRoom sizes load → ⊥
-no_room sizes load much (inl heap) = omega (arith, much.0, heap)
-no_room sizes load much (inr room) = omega (arith, much.1, room)

@@ -1,6 +1,6 @@
 -- What stands where commands did not all run, and what the end then says.
-use Rattle.std.proofs.Common.{◌≡◌, ℕ, ◌+◌, ◌-◌, ◌<◌, ◌≤◌, List, [], ◌++◌, length, take, drop, max, Option, Some, refl, sym, ap, ◌∙◌, subst, arith, inl, inr, append_assoc, append-nil, take-append-drop}
-use Rattle.std.specs.Prelude.{slice_get}
+use Rattle.std.proofs.Common.{◌≡◌, ℕ, ◌+◌, ◌-◌, ◌<◌, ◌≤◌, Bool, List, [], ◌++◌, length, take, drop, max, Option, Some, refl, sym, ap, ap₂, ◌∙◌, subst, arith, inl, inr, append_assoc, append-nil, take-append-drop}
+use Rattle.std.specs.Prelude.{slice_get, ◌||◌}
 use Rattle.std.proofs.lemmas.Bool.{cases_lt}
 use Rattle.ppq_record.specs.declared.pair.Pair.{Pair}
 use Rattle.ppq_outside.specs.Shown.{Shown, AllTell}
@@ -9,25 +9,28 @@ use Rattle.ppq_outside.proofs.Takes.{part_of_more, all_is_part}
 use Rattle.ppq_budget.specs.Sizes.{Numbers}
 use Rattle.ppq_script.specs.declared.command.Command.{Command}
 use Rattle.ppq_script.specs.Reading.{Reading, command_list, line_list}
-use Rattle.ppq_load.specs.Refusal.{IsTooMuch}
+use Rattle.ppq_load.specs.Refusal.{HasNoRoom, IsRefusedBy}
+use Rattle.ppq_load.proofs.Refusals.{room-not_none, no_room-later, cause-later}
 use Rattle.ppq_script.specs.declared.command.Command.TheVariants.{Bulk}
 use Rattle.ppq_script.specs.Files.{name_at}
 use Rattle.ppq_engine.specs.Files.{IsByFile, IsBySession, EndsEarly}
-use Rattle.ppq_engine.specs.Loads.{IsLoad, none_go, size_from, most_of}
-use Rattle.ppq_engine.specs.Output.{bag_of, output_of, output_from, load_of, given_of, AreFilesOf, TakesAtLeast, TakesWithin}
-use Rattle.ppq_engine.specs.Running.{HasRun, HasSizes, IsCut, IsBeforeFile, IsBeforeLoad, HasStopped, WritesPart, IsOfFile, StopsFor, ChangedIn, SinkAfter, LibraryAfter, queue_end}
-use Rattle.ppq_engine.specs.Popping.{NotByFile}
+use Rattle.ppq_engine.specs.Loads.{IsLoad, none_go, size_from, most_of, begins_limit}
+use Rattle.ppq_engine.specs.Output.{outside, state_of, output_of, output_from, load_of, given_of, AreFilesOf, TakesAtLeast, TakesWithin}
+use Rattle.ppq_engine.specs.Running.{HasRun, HasSizes, IsCut, IsRefused, IsBeforeFile, IsBeforeLoad, HasStopped, RefusedAt, PartStops, IsOfFile, StopsFor, ChangedIn, SinkAfter, LibraryAfter, queue_end}
+use Rattle.ppq_engine.specs.Popping.{NotByFile, IsByLimit}
 use Rattle.ppq_engine.specs.Outcome.{EndSays, TakesBeforeFile, TakesBeforeLoad, FaultBeforeFile, PutsStopped, PutsRest}
 use Rattle.ppq_engine.specs.declared.end.End.{End}
 use Rattle.ppq_engine.specs.declared.end.End.TheVariants as end
 use Rattle.ppq_engine.specs.declared.stop.Stop.{Stop}
 use Rattle.ppq_engine.specs.declared.stop.Stop.TheVariants.{Sink, Queue, Read, Memory, Changed}
+use Rattle.ppq_queue.specs.declared.fault.QueueFault.{QueueFault}
 use Rattle.ppq_queue.specs.declared.fault.QueueFault.TheVariants.{NoFreeBlock, Device}
 use Rattle.ppq_engine.specs.Gathers.{Gathers}
-use Rattle.ppq_engine.proofs.Parts.{IsPart, part-quiet, take-part_of}
-use Rattle.ppq_engine.proofs.Running.{take-fewer, output_from-append, output_from-same_bag, output-around, load-take, load-take_all, gathered-all, gathered-part, part-behind, at_least}
-use Rattle.ppq_engine.proofs.Sizes.{peak-part, too_much-more, cause-more, greatest-take_all, no_room}
-use Rattle.ppq_engine.proofs.Steps.{HaveLengths, peak-run, run-cut}
+use Rattle.ppq_engine.proofs.Parts.{IsPart, take-part_of}
+use Rattle.ppq_engine.proofs.Lines.{FirstHasLength, part-begins}
+use Rattle.ppq_engine.proofs.Running.{take-fewer, output_from-append, load-take, load-take_all, gathered-all, gathered-part, part-behind, at_least}
+use Rattle.ppq_engine.proofs.Sizes.{peak-part, greatest-take_all, begins-append, begins-take, begins-take_all}
+use Rattle.ppq_engine.proofs.Steps.{peak-run, output-behind, run-cut}
 
 -- a cut output: what is put of it is a part of all, or the output of the first commands
 pub cut-part : (given : ℕ → List Pair) (before mid now : Option (List ℕ)) (had : List ℕ) (commands : List Command) (done : ℕ) (part : List ℕ) → IsCut given before mid had commands done part → TakesPart mid now had → TakesPart before now (output_of given commands)
@@ -45,109 +48,120 @@ fewer-at_least :
     → TakesAtLeast before now (output_of given (take k commands))
 fewer-at_least given before now commands k i part h took =
     let P : List ℕ → Type 0 = λ t. TakesAll before now t in
-    let more = output_from given (bag_of given (take k commands)) (take (i - k) (drop k commands)) in
+    let more = output_from given (state_of given (take k commands)) (take (i - k) (drop k commands)) in
     let all : output_of given (take i commands) ++ part ≡ output_of given (take k commands) ++ (more ++ part) =
-    ap (λ (t : List ℕ). t ++ part) (ap (output_of given) (take-fewer k i commands h) ∙ output_from-append given [] (take k commands) (take (i - k) (drop k commands))) ∙ append_assoc (output_of given (take k commands)) more part in
+    ap (λ (t : List ℕ). t ++ part) (ap (output_of given) (take-fewer k i commands h) ∙ output_from-append given (outside []) (take k commands) (take (i - k) (drop k commands))) ∙ append_assoc (output_of given (take k commands)) more part in
     at_least before now (output_of given (take k commands)) (more ++ part) (subst P all took)
 
 cut-within :
     (given : ℕ → List Pair) (before mid now : Option (List ℕ)) (had : List ℕ) (sizes : Numbers) (commands : List Command) (done : ℕ) (part : List ℕ)
-    → 0 < sizes.block → IsCut given before mid had commands done part → TakesAll mid now had → IsTooMuch sizes (load_of given (take (done + 1) commands)) → TakesWithin given before now sizes commands
-cut-within given before mid now had sizes commands done part some cut took much = λ k room.
+    → 0 < sizes.block → IsCut given before mid had commands done part → TakesAll mid now had → HasNoRoom sizes (begins_limit (take (done + 1) commands)) (load_of given (take (done + 1) commands)) → TakesWithin given before now sizes commands
+cut-within given before mid now had sizes commands done part some cut took none = λ k room.
     let all = gathered-all before mid now had (output_of given (take done commands) ++ part) cut.output took in
+    let begun : ℕ → Bool = λ n. begins_limit (take n commands) in
+    let load : ℕ → ℕ = λ n. load_of given (take n commands) in
     elim (cases_lt done k) as (λ _. TakesAtLeast before now (output_of given (take k commands))) [
       | inr h ↦ fewer-at_least given before now commands k done part h all
-      | inl h ↦ absurd (no_room sizes (load_of given (take k commands)) (too_much-more sizes (load_of given (take (done + 1) commands)) (load_of given (take k commands)) some (load-take given (done + 1) k commands (omega arith)) much) room)
+      | inl h ↦
+          let more : done + 1 ≤ k = omega (arith, h) in
+          absurd (room-not_none sizes (begun k) (load k) room (no_room-later sizes (begun (done + 1)) (begun k) (load (done + 1)) (load k) some (begins-take (done + 1) k commands more) (load-take given (done + 1) k commands more) none))
     ]
 
 around : (commands : List Command) (i : ℕ) (part : List Command) → take (i + length part) commands ≡ take i commands ++ part → commands ≡ (take i commands ++ part) ++ drop (i + length part) commands
 around commands i part split = sym (take-append-drop (i + length part) commands) ∙ ap (λ (cs : List Command). cs ++ drop (i + length part) commands) split
 
--- the last command of a part is the only one that prints
-before-last :
-    (given : ℕ → List Pair) (commands : List Command) (i : ℕ) (part : List Command) → IsPart part → take (i + length part) commands ≡ take i commands ++ part → 0 < length part
-    → output_of given (take ((i + length part) - 1) commands) ≡ output_of given (take i commands)
-before-last given commands i part is split some =
-    let n = length part - 1 in
-    let first = take i commands in
-    let fewer : (i + length part) - 1 ≡ i + n = omega (arith, some) in
-    let same : take (i + n) commands ≡ first ++ take n part = take-part_of commands i n part split (omega (arith, some)) in
-    ap (λ (m : ℕ). output_of given (take m commands)) fewer ∙ ap (output_of given) same ∙ output_from-append given [] first (take n part)
-    ∙ ap (λ (t : List ℕ). output_of given first ++ t) (part-quiet given (bag_of given first) part n is (omega (arith, some))) ∙ append-nil (output_of given first)
-
 module _ (told : Option (List ℕ → Option (List ℕ))) (script : Reading) (first : List Shown) (before : Option (List ℕ)) where
-  -- nothing of a part is gathered
-  begun :
-      (mid now : Option (List ℕ)) (had has : List ℕ) (bag : List Pair) (size peak : ℕ) (sizes : Numbers) (slots : List Shown) (i : ℕ) (part : List Command) → take (i + length part) (command_list script) ≡ take i (command_list script) ++ part
-      → (given : ℕ → List Pair) → HasRun given before mid had bag size peak sizes slots (take i (command_list script)) → Gathers mid now had [] has → IsCut given before now has (command_list script) i []
-  begun mid now had has bag size peak sizes slots i part split given run step =
-      let commands = command_list script in
-      run-cut given before mid now had has bag size peak sizes slots commands (take i commands) part (drop (i + length part) commands) i [] (output_from given bag part) (around commands i part split) refl run refl step
+  -- a part at a place that did not run to its end
+  module _
+      (mid now : Option (List ℕ)) (had has : List ℕ) (bag : List Pair) (size peak : ℕ) (sizes : Numbers) (slots held later : List Shown) (limited : Bool) (i : ℕ) (command : Command) (part : List Command)
+      (is : IsPart part) (here : slice_get (command_list script) i ≡ Some command) (split : take (i + length part) (command_list script) ≡ take i (command_list script) ++ part) (block : 0 < sizes.block)
+      (tell : AllTell first → AllTell held) (begun : limited ≡ begins_limit (take i (command_list script)))
+      (long : (files : List ℕ → Option (List ℕ)) → AreFilesOf told script files → FirstHasLength (given_of files script) part)
+      (run : AllTell first → (files : List ℕ → Option (List ℕ)) → AreFilesOf told script files → HasRun (given_of files script) before mid had bag size peak sizes slots (take i (command_list script)))
+      (sized : HasSizes size peak sizes slots (take i (command_list script))) where
+    -- nothing of it is gathered
+    before-part : (given : ℕ → List Pair) → HasRun given before mid had bag size peak sizes slots (take i (command_list script)) → Gathers mid now had [] has → IsCut given before now has (command_list script) i []
+    before-part given ran step =
+        let commands = command_list script in
+        run-cut given before mid had bag size peak sizes slots (take i commands) ran now has commands part [] (drop (i + length part) commands) i [] (output_from given (outside bag) part) (around commands i part split) (sym (append-nil (take i commands))) refl step
 
-  -- the part at a place did not run to its end
-  pub stopped-part :
-      (stop : Stop) (mid now : Option (List ℕ)) (had has : List ℕ) (bag : List Pair) (size peak : ℕ) (sizes : Numbers) (slots later : List Shown) (i : ℕ) (command : Command) (part : List Command)
-      → IsPart part → slice_get (command_list script) i ≡ Some command → take (i + length part) (command_list script) ≡ take i (command_list script) ++ part → 0 < length part → 0 < sizes.block
-      → ((files : List ℕ → Option (List ℕ)) → AreFilesOf told script files → HaveLengths (given_of files script) part)
-      → (AllTell first → (files : List ℕ → Option (List ℕ)) → AreFilesOf told script files → HasRun (given_of files script) before mid had bag size peak sizes slots (take i (command_list script)))
-      → HasSizes size peak sizes slots (take i (command_list script))
-      → (AllTell first → (given : ℕ → List Pair) → WritesPart mid now had (output_from given bag part) has stop) → StopsFor (max peak (size_from none_go size part)) sizes later stop → IsOfFile command stop
-      → HasStopped told script first before now has sizes later stop
-  stopped-part Sink mid now had has bag size peak sizes slots later i command part is here split some block long run sized wrote refused of_file = λ tells files are.
-      let given = given_of files script in
-      let commands = command_list script in
-      let cs = take i commands in
-      let ran = run tells files are in
-      let P : List ℕ → Type 0 = λ t. TakesPart before now t in
-      let out = output_of given cs in
-      let same : out ++ output_from given bag part ≡ out ++ output_from given (bag_of given cs) part = ap (λ (t : List ℕ). out ++ t) (output_from-same_bag given bag (bag_of given cs) part ran.holds) in
-      subst P (sym (output-around given commands cs part (drop (i + length part) commands) (around commands i part split)))
-      (part_of_more before now (out ++ output_from given (bag_of given cs) part) (output_from given (bag_of given (cs ++ part)) (drop (i + length part) commands))
-      (subst P same (part-behind before mid now had out (output_from given bag part) ran.output (wrote tells given))))
-  stopped-part (Queue fault) mid now had has bag size peak sizes slots later i command part is here split some block long run sized wrote refused of_file =
-      let commands = command_list script in
-      let cs = take i commands in
-      let last = (i + length part) - 1 in
-      let next : last + 1 ≡ i + length part = omega (arith, some) in
-      let all : take (last + 1) commands ≡ cs ++ part = ap (λ (n : ℕ). take n commands) next ∙ split in
-      let higher = max peak (size_from none_go size part) in
-      record {
-        done = last;
-        cut =
-            λ tells files are.
-            let given = given_of files script in
-            let g = wrote tells given in
-            (g.part, run-cut given before mid now had has bag size peak sizes slots commands cs part (drop (i + length part) commands) last g.part g.rest (around commands i part split) (before-last given commands i part is split some) (run tells files are) g.all g.gathers);
-        cause =
-            λ tells files are.
-            let given = given_of files script in
-            cause-more sizes later higher (load_of given (take (last + 1) commands)) fault block
-            (subst (λ (xs : List Command). higher ≤ load_of given xs) (sym all) (peak-run given before mid had bag size peak higher sizes slots cs part is (run tells files are) (long files are) (omega arith))) refused;
-        any =
-            cause-more sizes later higher (most_of (take (last + 1) commands)) fault block
-            (subst (λ (xs : List Command). higher ≤ most_of xs) (sym all) (peak-part size peak higher sizes slots cs part sized (omega arith))) refused;
-      }
-  stopped-part Read mid now had has bag size peak sizes slots later i command part is here split some block long run sized wrote refused of_file = record {
-    done = i;
-    file = of_file.0;
-    size = of_file.1.0;
-    here = here ∙ ap (λ (c : Command). Some c) of_file.1.1;
-    cut = λ tells files are. begun mid now had has bag size peak sizes slots i part split (given_of files script) (run tells files are) (wrote tells (given_of files script));
-  }
-  stopped-part Memory mid now had has bag size peak sizes slots later i command part is here split some block long run sized wrote refused of_file = record {
-    done = i;
-    command = command;
-    here = here;
-    loads = of_file;
-    cut = λ tells files are. begun mid now had has bag size peak sizes slots i part split (given_of files script) (run tells files are) (wrote tells (given_of files script));
-  }
-  stopped-part (Changed line said got) mid now had has bag size peak sizes slots later i command part is here split some block long run sized wrote refused of_file = record {
-    done = i;
-    file = of_file.0;
-    size = of_file.1.0;
-    here = here ∙ ap (λ (c : Command). Some c) of_file.1.1;
-    cut = λ tells files are. begun mid now had has bag size peak sizes slots i part split (given_of files script) (run tells files are) (wrote tells (given_of files script));
-  }
+    module _ (fault : QueueFault) (refused : RefusedAt held mid now had bag size peak part sizes (limited || begins_limit part) later has fault) where
+      abbrev done : ℕ
+      done = i + refused.done
+
+      next : take (done + 1) (command_list script) ≡ take i (command_list script) ++ take (refused.done + 1) part
+      next =
+          let sum : done + 1 ≡ i + (refused.done + 1) = omega arith in
+          ap (λ (n : ℕ). take n (command_list script)) sum ∙ take-part_of (command_list script) i (refused.done + 1) part split (omega (arith, refused.within))
+
+      -- the commands up to the one that was refused begin a limit session if the queue knows of one
+      flag : (limited || begins_limit part) ≡ begins_limit (take (done + 1) (command_list script))
+      flag =
+          let cs = take i (command_list script) in
+          let xs = take (refused.done + 1) part in
+          ap₂ (λ (a b : Bool). a || b) begun (sym (part-begins refused.done part is)) ∙ sym (begins-append cs xs) ∙ ap begins_limit (sym next)
+
+      cause-with : (count : List Command → ℕ) → max peak (size_from none_go size (take (refused.done + 1) part)) ≤ count (take i (command_list script) ++ take (refused.done + 1) part)
+          → IsRefusedBy (count (take (done + 1) (command_list script))) sizes (begins_limit (take (done + 1) (command_list script))) later fault
+      cause-with count up =
+          let higher = max peak (size_from none_go size (take (refused.done + 1) part)) in
+          cause-later sizes (limited || begins_limit part) (begins_limit (take (done + 1) (command_list script))) higher (count (take (done + 1) (command_list script))) block (λ none. flag ∙ none)
+          (subst (λ (xs : List Command). higher ≤ count xs) (sym next) up) later fault refused.cause
+
+      refused-part : IsRefused told script first before now has sizes later fault
+      refused-part =
+          let commands = command_list script in
+          let cs = take i commands in
+          let n = refused.done in
+          let higher = max peak (size_from none_go size (take (n + 1) part)) in
+          record {
+            done = done;
+            cut =
+                λ tells files are.
+                let given = given_of files script in
+                let c = refused.cut (tell tells) given in (
+                  c.text,
+                  run-cut given before mid had bag size peak sizes slots cs (run tells files are) now has commands part (take n part) (drop (i + length part) commands) done c.text c.rest
+                      (around commands i part split) (take-part_of commands i n part split (omega (arith, refused.within))) c.all c.gathers,
+                );
+            cause = λ tells files are. let given = given_of files script in cause-with (load_of given) (peak-run given before mid had bag size peak sizes slots cs (run tells files are) part is (long files are) higher (n + 1) (omega arith));
+            any = cause-with most_of (peak-part size peak higher sizes slots cs (take (n + 1) part) sized (omega arith));
+          }
+
+    pub stopped-part : (stop : Stop) → PartStops held mid now had bag size peak part sizes (limited || begins_limit part) later has stop → IsOfFile command stop → HasStopped told script first before now has sizes later stop
+    stopped-part Sink stops of_file = λ tells files are.
+        let given = given_of files script in
+        let commands = command_list script in
+        let cs = take i commands in
+        let ran = run tells files are in
+        let P : List ℕ → Type 0 = λ t. TakesPart before now t in
+        let behind = drop (i + length part) commands in
+        let more = output_from given (state_of given (cs ++ part)) behind in
+        let all : output_of given commands ≡ (output_of given cs ++ output_from given (outside bag) part) ++ more =
+        ap (output_of given) (around commands i part split) ∙ output_from-append given (outside []) (cs ++ part) behind ∙ ap (λ (t : List ℕ). t ++ more) (output-behind given before mid had bag size peak sizes slots cs ran part) in
+        subst P (sym all) (part_of_more before now (output_of given cs ++ output_from given (outside bag) part) more (part-behind before mid now had (output_of given cs) (output_from given (outside bag) part) ran.output (stops (tell tells) given)))
+    stopped-part (Queue fault) stops of_file = refused-part fault stops
+    stopped-part Read stops of_file = record {
+      done = i;
+      file = of_file.0;
+      size = of_file.1.0;
+      here = here ∙ ap (λ (c : Command). Some c) of_file.1.1;
+      cut = λ tells files are. before-part (given_of files script) (run tells files are) (stops (tell tells));
+    }
+    stopped-part Memory stops of_file = record {
+      done = i;
+      command = command;
+      here = here;
+      loads = of_file;
+      cut = λ tells files are. before-part (given_of files script) (run tells files are) (stops (tell tells));
+    }
+    stopped-part (Changed line said got) stops of_file = record {
+      done = i;
+      file = of_file.0;
+      size = of_file.1.0;
+      here = here ∙ ap (λ (c : Command). Some c) of_file.1.1;
+      cut = λ tells files are. before-part (given_of files script) (run tells files are) (stops (tell tells));
+    }
 
   -- what was put is a part of the output
   rest-part :
@@ -241,9 +255,14 @@ module _ (told : Option (List ℕ → Option (List ℕ))) (script : Reading) (fi
             let cut = stopped.cut tells files is in
             record {
               within = cut-within (given_of files script) before mid now had sizes (command_list script) stopped.done cut.0 some cut.1 took (stopped.cause tells files is);
-              above = too_much-more sizes (load_of (given_of files script) (take (stopped.done + 1) (command_list script))) (load_of (given_of files script) (command_list script)) some (load-take_all (given_of files script) (stopped.done + 1) (command_list script)) (stopped.cause tells files is);
+              above =
+                  let last = take (stopped.done + 1) (command_list script) in
+                  no_room-later sizes (begins_limit last) (begins_limit (command_list script)) (load_of (given_of files script) last) (load_of (given_of files script) (command_list script)) some
+                  (begins-take_all (stopped.done + 1) (command_list script)) (load-take_all (given_of files script) (stopped.done + 1) (command_list script)) (stopped.cause tells files is);
             },
-        too_much-more sizes (most_of (take (stopped.done + 1) (command_list script))) (most_of (command_list script)) some (greatest-take_all none_go (stopped.done + 1) (command_list script)) stopped.any,
+        let last = take (stopped.done + 1) (command_list script) in
+            no_room-later sizes (begins_limit last) (begins_limit (command_list script)) (most_of last) (most_of (command_list script)) some
+            (begins-take_all (stopped.done + 1) (command_list script)) (greatest-take_all none_go (stopped.done + 1) (command_list script)) stopped.any,
         record { sink_same = same; library_same = library_after },
       ))
   says-stopped (Queue (Device number)) replied slots sizes mid now sink sink_mid sink_now library library_now had over some stopped changed after library_after puts =
@@ -310,6 +329,28 @@ session_by_file Read by = absurd by
 session_by_file Memory by = tt
 session_by_file (Changed line said got) by = absurd by
 
+-- a stop by a limit session says nothing of files, and asks no library
+pub limit_of_file : (command : Command) (stop : Stop) → IsLoad command → IsByLimit stop → IsOfFile command stop
+limit_of_file command Sink loads by = tt
+limit_of_file command (Queue fault) loads by = tt
+limit_of_file command Read loads by = absurd by
+limit_of_file command Memory loads by = loads
+limit_of_file command (Changed line said got) loads by = absurd by
+
+pub limit_not_changed : (told : Option (List ℕ → Option (List ℕ))) (replied : Reply → Type 0) (script : Reading) (stop : Stop) → IsByLimit stop → ChangedIn told replied script stop
+limit_not_changed told replied script Sink by = tt
+limit_not_changed told replied script (Queue fault) by = tt
+limit_not_changed told replied script Read by = absurd by
+limit_not_changed told replied script Memory by = tt
+limit_not_changed told replied script (Changed line said got) by = absurd by
+
+pub limit_unasked : (count : ℕ) (stop : Stop) → IsByLimit stop → LibraryAfter count count stop
+limit_unasked count Sink by = refl
+limit_unasked count (Queue fault) by = refl
+limit_unasked count Read by = absurd by
+limit_unasked count Memory by = refl
+limit_unasked count (Changed line said got) by = absurd by
+
 -- a stop by reading a file comes of the command that reads it, and leaves the sink alone
 pub file_of_file : (file size : ℕ) (stop : Stop) → IsOfFile (Bulk file size) stop
 file_of_file file size Sink = tt
@@ -345,9 +386,9 @@ file_changed told replied script at file said line (Changed one size got) here t
     }
 
 -- a greater load is refused for the same reason
-pub stops-more : (sizes : Numbers) (slots : List Shown) (load more : ℕ) (stop : Stop) → 0 < sizes.block → load ≤ more → StopsFor load sizes slots stop → StopsFor more sizes slots stop
-stops-more sizes slots load more Sink some h stops = tt
-stops-more sizes slots load more (Queue fault) some h stops = cause-more sizes slots load more fault some h stops
-stops-more sizes slots load more Read some h stops = tt
-stops-more sizes slots load more Memory some h stops = tt
-stops-more sizes slots load more (Changed line said got) some h stops = tt
+pub stops-more : (sizes : Numbers) (limited : Bool) (slots : List Shown) (load more : ℕ) (stop : Stop) → 0 < sizes.block → load ≤ more → StopsFor load sizes limited slots stop → StopsFor more sizes limited slots stop
+stops-more sizes limited slots load more Sink some h stops = tt
+stops-more sizes limited slots load more (Queue fault) some h stops = cause-later sizes limited limited load more some (λ same. same) h slots fault stops
+stops-more sizes limited slots load more Read some h stops = tt
+stops-more sizes limited slots load more Memory some h stops = tt
+stops-more sizes limited slots load more (Changed line said got) some h stops = tt

@@ -16,6 +16,7 @@ answer_text (answer.Record item) = line_of item
 answer_text (answer.Size records) = size_text records
 answer_text answer.All = codes "all\n"
 answer_text answer.More = codes "more\n"
+answer_text answer.Limit = codes "limit\n"
 answer_text (answer.Drained drained) = drained_text drained.count drained.first drained.last drained.sum
 
 -- what is known of drained records

@@ -3,6 +3,7 @@ pub use Rattle.ppq_load.specs.Refusal as Refusal
 pub mod Ends
 pub mod Files
 pub mod Gathers
+pub mod Limits
 pub mod Loads
 pub mod Outcome
 pub mod Output

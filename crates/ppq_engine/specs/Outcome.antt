@@ -8,8 +8,8 @@ use Rattle.ppq_array.specs.Kept.{HasFailed}
 use Rattle.ppq_script.specs.declared.command.Command.{Command}
 use Rattle.ppq_script.specs.declared.command.Command.TheVariants.{Bulk}
 use Rattle.ppq_script.specs.Reading.{Reading, command_list}
-use Rattle.ppq_load.specs.Refusal.{IsTooMuch}
-use Rattle.ppq_engine.specs.Loads.{IsLoad, most_of, least_of, FitsWritten}
+use Rattle.ppq_load.specs.Refusal.{HasNoRoom}
+use Rattle.ppq_engine.specs.Loads.{IsLoad, most_of, least_of, begins_limit, FitsWritten}
 use Rattle.ppq_engine.specs.Output.{AreFilesOf, given_of, output_of, load_of, crest_of, TakesWithin}
 use Rattle.ppq_engine.specs.Running.{HasChanged, queue_end}
 use Rattle.ppq_engine.specs.declared.end.End.{End}
@@ -61,7 +61,7 @@ pub record IsWhole (given : ℕ → List Pair) (script : Reading) (before now : 
 -- the sink took what there was room for, and the load has none
 pub record IsFull (given : ℕ → List Pair) (script : Reading) (before now : Option (List ℕ)) (sizes : Numbers) : Type 0 where
   pub within : TakesWithin given before now sizes (command_list script)
-  pub above : IsTooMuch sizes (load_of given (command_list script))
+  pub above : HasNoRoom sizes (begins_limit (command_list script)) (load_of given (command_list script))
 
 -- neither the count of the sink nor that of the library rose
 pub record CountsStay (sink sink_now library library_now : ℕ) : Type 0 where
@@ -82,7 +82,7 @@ EndSays told replied script first slots sizes before now sink sink_now library l
 EndSays told replied script first slots sizes before now sink sink_now library library_now (DeviceFault number) = HasFailed number slots
 EndSays told replied script first slots sizes before now sink sink_now library library_now NoFreeBlock =
     (AllTell first → (files : List ℕ → Option (List ℕ)) → AreFilesOf told script files → IsFull (given_of files script) script before now sizes)
-    × IsTooMuch sizes (most_of (command_list script))
+    × HasNoRoom sizes (begins_limit (command_list script)) (most_of (command_list script))
     × CountsStay sink sink_now library library_now
 EndSays told replied script first slots sizes before now sink sink_now library library_now (BudgetTooSmall need) = ⊥
 EndSays told replied script first slots sizes before now sink sink_now library library_now Memory =

@@ -1,5 +1,5 @@
 -- What a script writes, and how many records its bag comes to hold.
-use Rattle.std.specs.Prelude.{◌≡◌, ◌⊎◌, ◌%◌, ◌^◌, ℕ, List, [], ◌∷◌, ◌++◌, length, take, min, max, Option, Some, None, codes, decimal, flat_map, sum_by, nat_le, if◌then◌else◌, unwrap_or, slice_get}
+use Rattle.std.specs.Prelude.{◌≡◌, ◌⊎◌, ◌%◌, ◌^◌, ℕ, List, [], ◌∷◌, ◌++◌, length, take, min, max, Option, Some, None, codes, decimal, flat_map, sum_by, nat_le, if◌then◌else◌, ◌+◌, slice_get}
 use Rattle.ppq_record.specs.declared.pair.Pair.{Pair}
 use Rattle.ppq_record.specs.Pair.{pair_cmp}
 use Rattle.ppq_record.specs.Bag.{least, front, without_front, first_of, size_below}
@@ -7,13 +7,14 @@ use Rattle.ppq_record.specs.Given.{records_of, generated}
 use Rattle.ppq_outside.specs.Told.{bytes_or_none}
 use Rattle.ppq_budget.specs.Sizes.{Numbers}
 use Rattle.ppq_script.specs.declared.command.Command.{Command}
-use Rattle.ppq_script.specs.declared.command.Command.TheVariants.{Push, Pop, Top, Size, Bulk, Gen, BulkPop, BulkPopLimit, Drain, BulkBegin, BulkPush, BulkEnd}
+use Rattle.ppq_script.specs.declared.command.Command.TheVariants.{Push, Pop, Top, Size, Bulk, Gen, BulkPop, BulkPopLimit, Drain, BulkBegin, BulkPush, BulkEnd, LimitBegin, LimitPush, LimitTop, LimitPop, LimitEnd}
 use Rattle.ppq_script.specs.declared.session.Session.{Session}
-use Rattle.ppq_script.specs.declared.session.Session.TheVariants.{Outside}
-use Rattle.ppq_script.specs.Sessions.{turn_of, is_outside}
+use Rattle.ppq_script.specs.declared.session.Session.TheVariants.{Outside, InBulk, InLimit}
+use Rattle.ppq_script.specs.Sessions.{is_outside}
 use Rattle.ppq_script.specs.Reading.{Reading, command_list}
 use Rattle.ppq_script.specs.Files.{name_at}
 use Rattle.ppq_load.specs.Refusal.{HasRoom}
+use Rattle.ppq_engine.specs.Loads.{begins_limit}
 
 -- a record's key and value in decimal
 abbrev pub pair_text : Pair → List ℕ
@@ -65,20 +66,46 @@ limited_count bag limit count = min count (size_below pair_cmp bag limit)
 abbrev pub mark_text : List Pair → Pair → ℕ → List ℕ
 mark_text bag limit count = if nat_le (size_below pair_cmp bag limit) count then codes "all\n" else codes "more\n"
 
--- what a command on a bag writes
-abbrev pub text_of : List Pair → Command → List ℕ
-text_of bag (Push item) = []
-text_of bag Pop = least_text (least pair_cmp bag)
-text_of bag Top = least_text (least pair_cmp bag)
-text_of bag Size = size_text (length bag)
-text_of bag (Bulk file size) = []
-text_of bag (Gen seed count) = []
-text_of bag (BulkPop count) = lines_text (front pair_cmp bag count)
-text_of bag (BulkPopLimit limit count) = lines_text (front pair_cmp bag (limited_count bag limit count)) ++ mark_text bag limit count
-text_of bag (Drain count) = summary_text (front pair_cmp bag count)
-text_of bag BulkBegin = []
-text_of bag (BulkPush pass item) = []
-text_of bag BulkEnd = []
+-- what there is between commands: the bag, the session that is open, and how many records were popped in it
+pub record State : Type 0 where
+  pub bag : List Pair
+  pub session : Session
+  pub popped : ℕ
+
+-- a bag where no session is open
+abbrev pub outside : List Pair → State
+outside bag = record { bag = bag; session = Outside; popped = 0 }
+
+-- how many records `limit_pop` removes in a session: one, if the least is below the limit
+abbrev pub popped_in : Session → List Pair → ℕ
+popped_in Outside bag = 0
+popped_in InBulk bag = 0
+popped_in (InLimit limit) bag = limited_count bag limit 1
+
+-- what `limit_top` and `limit_pop` write, where this is the least record below the limit, or none is below it
+abbrev pub limited_text : Option Pair → List ℕ
+limited_text None = codes "limit\n"
+limited_text (Some item) = line_of item
+
+-- what a command writes
+abbrev pub text_of : State → Command → List ℕ
+text_of state (Push item) = []
+text_of state Pop = least_text (least pair_cmp state.bag)
+text_of state Top = least_text (least pair_cmp state.bag)
+text_of state Size = size_text (length state.bag)
+text_of state (Bulk file size) = []
+text_of state (Gen seed count) = []
+text_of state (BulkPop count) = lines_text (front pair_cmp state.bag count)
+text_of state (BulkPopLimit limit count) = lines_text (front pair_cmp state.bag (limited_count state.bag limit count)) ++ mark_text state.bag limit count
+text_of state (Drain count) = summary_text (front pair_cmp state.bag count)
+text_of state BulkBegin = []
+text_of state (BulkPush pass item) = []
+text_of state BulkEnd = []
+text_of state (LimitBegin limit) = []
+text_of state (LimitPush pass item) = []
+text_of state LimitTop = limited_text (first_of (front pair_cmp state.bag (popped_in state.session state.bag)))
+text_of state LimitPop = limited_text (first_of (front pair_cmp state.bag (popped_in state.session state.bag)))
+text_of state LimitEnd = []
 
 -- the records of a file of the script
 abbrev pub given_of : (List ℕ → Option (List ℕ)) → Reading → ℕ → List Pair
@@ -98,58 +125,76 @@ AreFilesOf told script files = (told ≡ Some files) ⊎ ReadsNoFile script
 
 -- what follows, where files are given as these records
 module _ (given : ℕ → List Pair) where
-  -- the bag after a command
-  abbrev pub after : List Pair → Command → List Pair
-  after bag (Push item) = item ∷ bag
-  after bag Pop = without_front pair_cmp bag 1
-  after bag Top = bag
-  after bag Size = bag
-  after bag (Bulk file size) = given file ++ bag
-  after bag (Gen seed count) = generated seed count ++ bag
-  after bag (BulkPop count) = without_front pair_cmp bag count
-  after bag (BulkPopLimit limit count) = without_front pair_cmp bag (limited_count bag limit count)
-  after bag (Drain count) = without_front pair_cmp bag count
-  after bag BulkBegin = bag
-  after bag (BulkPush pass item) = item ∷ bag
-  after bag BulkEnd = bag
+  -- what there is after a command
+  abbrev pub after : State → Command → State
+  after state (Push item) = record state { bag = item ∷ state.bag }
+  after state Pop = record state { bag = without_front pair_cmp state.bag 1 }
+  after state Top = state
+  after state Size = state
+  after state (Bulk file size) = record state { bag = given file ++ state.bag }
+  after state (Gen seed count) = record state { bag = generated seed count ++ state.bag }
+  after state (BulkPop count) = record state { bag = without_front pair_cmp state.bag count }
+  after state (BulkPopLimit limit count) = record state { bag = without_front pair_cmp state.bag (limited_count state.bag limit count) }
+  after state (Drain count) = record state { bag = without_front pair_cmp state.bag count }
+  after state BulkBegin = record { bag = state.bag; session = InBulk; popped = 0 }
+  after state (BulkPush pass item) = record state { bag = item ∷ state.bag }
+  after state BulkEnd = outside state.bag
+  after state (LimitBegin limit) = record { bag = state.bag; session = InLimit limit; popped = 0 }
+  after state (LimitPush pass item) = record state { bag = item ∷ state.bag }
+  after state LimitTop = state
+  after state LimitPop =
+      record {
+        bag = without_front pair_cmp state.bag (popped_in state.session state.bag);
+        session = state.session;
+        popped = state.popped + popped_in state.session state.bag;
+      }
+  after state LimitEnd = outside state.bag
 
-  -- the bag after commands
-  abbrev pub bag_from : List Pair → List Command → List Pair
-  bag_from bag [] = bag
-  bag_from bag (command ∷ commands) = bag_from (after bag command) commands
+  -- what there is after commands
+  abbrev pub state_from : State → List Command → State
+  state_from state [] = state
+  state_from state (command ∷ commands) = state_from (after state command) commands
 
-  -- the texts of commands on a bag, one after the other
-  abbrev pub output_from : List Pair → List Command → List ℕ
-  output_from bag [] = []
-  output_from bag (command ∷ commands) = text_of bag command ++ output_from (after bag command) commands
+  -- the texts of commands, one after the other
+  abbrev pub output_from : State → List Command → List ℕ
+  output_from state [] = []
+  output_from state (command ∷ commands) = text_of state command ++ output_from (after state command) commands
 
-  -- the greatest size of a bag after any of the commands on it, 0 for none
-  abbrev pub load_from : List Pair → List Command → ℕ
-  load_from bag [] = 0
-  load_from bag (command ∷ commands) = max (length (after bag command)) (load_from (after bag command) commands)
+  -- how many records count: those of the bag, and those that were popped in the session that is open
+  abbrev pub counted_in : State → ℕ
+  counted_in state = length state.bag + state.popped
+
+  -- the greatest count of records after any of the commands, 0 for none
+  abbrev pub load_from : State → List Command → ℕ
+  load_from state [] = 0
+  load_from state (command ∷ commands) = max (counted_in (after state command)) (load_from (after state command) commands)
+
+  -- the greatest size of the bag after any of the commands behind which no session is open, 0 for none
+  abbrev pub crest_from : State → List Command → ℕ
+  crest_from state [] = 0
+  crest_from state (command ∷ commands) =
+      let behind = after state command in
+      max (if is_outside behind.session then length behind.bag else 0) (crest_from behind commands)
 
   -- what the commands of a script write, from the empty bag on
   abbrev pub output_of : List Command → List ℕ
-  output_of commands = output_from [] commands
+  output_of commands = output_from (outside []) commands
+
+  -- what they leave
+  abbrev pub state_of : List Command → State
+  state_of commands = state_from (outside []) commands
 
   -- the bag that they leave
   abbrev pub bag_of : List Command → List Pair
-  bag_of commands = bag_from [] commands
+  bag_of commands = (state_of commands).bag
 
-  -- the load of a script: the greatest size of its bag after any command
+  -- the load of a script: the greatest count of its records after any command
   abbrev pub load_of : List Command → ℕ
-  load_of commands = load_from [] commands
-
-  -- the greatest size of a bag after any of the commands on it, the first in this session, behind which no session is open; 0 for none
-  abbrev pub crest_from : List Pair → Session → List Command → ℕ
-  crest_from bag session [] = 0
-  crest_from bag session (command ∷ commands) =
-      let behind = unwrap_or (turn_of command) session in
-      max (if is_outside behind then length (after bag command) else 0) (crest_from (after bag command) behind commands)
+  load_of commands = load_from (outside []) commands
 
   -- the crest of a script: the greatest size of its bag after a command outside a session
   abbrev pub crest_of : List Command → ℕ
-  crest_of commands = crest_from [] Outside commands
+  crest_of commands = crest_from (outside []) commands
 
 -- where the sink tells, it took at least this piece
 abbrev pub TakesAtLeast : Option (List ℕ) → Option (List ℕ) → List ℕ → Type 0
@@ -158,4 +203,4 @@ TakesAtLeast (Some had) new piece = (more : List ℕ) × (new ≡ Some (had ++ (
 
 -- the sink took what the first commands write, as long as there is room for their load
 abbrev pub TakesWithin : (ℕ → List Pair) → Option (List ℕ) → Option (List ℕ) → Numbers → List Command → Type 0
-TakesWithin given before now sizes commands = (k : ℕ) → HasRoom sizes (load_of given (take k commands)) → TakesAtLeast before now (output_of given (take k commands))
+TakesWithin given before now sizes commands = (k : ℕ) → HasRoom sizes (begins_limit (take k commands)) (load_of given (take k commands)) → TakesAtLeast before now (output_of given (take k commands))

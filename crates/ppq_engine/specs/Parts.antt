@@ -1,10 +1,10 @@
--- Commands that run together: a bulk session, or one command alone.
-use Rattle.std.specs.Prelude.{ℕ, Bool, true, false, List, [], ◌∷◌, flat_map, drop, Option, Some, None, if◌then◌else◌, ⊤, Result, Ok, Err}
+-- Commands that run together: a session, or one command alone.
+use Rattle.std.specs.Prelude.{ℕ, ◌+◌, Bool, true, false, List, [], ◌∷◌, flat_map, drop, Option, Some, None, if◌then◌else◌, ⊤, Result, Ok, Err}
 use Rattle.ppq_record.specs.declared.pair.Pair.{Pair}
 use Rattle.ppq_script.specs.declared.command.Command.{Command}
-use Rattle.ppq_script.specs.declared.command.Command.TheVariants.{Push, Pop, Top, Size, Bulk, Gen, BulkPop, BulkPopLimit, Drain, BulkBegin, BulkPush, BulkEnd}
+use Rattle.ppq_script.specs.declared.command.Command.TheVariants.{Push, Pop, Top, Size, Bulk, Gen, BulkPop, BulkPopLimit, Drain, BulkBegin, BulkPush, BulkEnd, LimitBegin, LimitPush, LimitTop, LimitPop, LimitEnd}
 use Rattle.ppq_script.specs.declared.session.Session.{Session}
-use Rattle.ppq_script.specs.declared.session.Session.TheVariants.{Outside, InBulk}
+use Rattle.ppq_script.specs.declared.session.Session.TheVariants.{Outside, InBulk, InLimit}
 use Rattle.ppq_script.specs.Sessions.{turn_of}
 use Rattle.ppq_script.specs.Reading.{Reading, command_list}
 use Rattle.ppq_queue.specs.declared.fault.QueueFault.{QueueFault}
@@ -16,11 +16,13 @@ abbrev pub is_begin : Option Session → Bool
 is_begin None = false
 is_begin (Some Outside) = false
 is_begin (Some InBulk) = true
+is_begin (Some (InLimit limit)) = true
 
 abbrev pub is_end : Option Session → Bool
 is_end None = false
 is_end (Some Outside) = true
 is_end (Some InBulk) = false
+is_end (Some (InLimit limit)) = false
 
 -- of commands in a session those up to the one that ends it
 abbrev pub up_to_end : List Command → List Command
@@ -50,6 +52,11 @@ pushed_by (Drain count) = []
 pushed_by BulkBegin = []
 pushed_by (BulkPush pass item) = item ∷ []
 pushed_by BulkEnd = []
+pushed_by (LimitBegin limit) = []
+pushed_by (LimitPush pass item) = item ∷ []
+pushed_by LimitTop = []
+pushed_by LimitPop = []
+pushed_by LimitEnd = []
 
 -- the records that commands push in sessions
 abbrev pub pushed_in : List Command → List Pair
@@ -69,6 +76,15 @@ IsAlone (Drain count) = ⊤
 IsAlone BulkBegin = ⊥
 IsAlone (BulkPush pass item) = ⊥
 IsAlone BulkEnd = ⊥
+IsAlone (LimitBegin limit) = ⊥
+IsAlone (LimitPush pass item) = ⊥
+IsAlone LimitTop = ⊥
+IsAlone LimitPop = ⊥
+IsAlone LimitEnd = ⊥
+
+-- the commands of a limit session that begins at a place with this limit
+abbrev pub limit_part : Pair → Reading → ℕ → List Command
+limit_part limit script place = LimitBegin limit ∷ up_to_end (drop (place + 1) (command_list script))
 
 -- how a session ended, as the place behind it or as a stop
 abbrev pub behind_session : Result ⊤ QueueFault → ℕ → Result ℕ Stop

@@ -43,3 +43,11 @@ NotByFile (Queue fault) = ⊤
 NotByFile Read = ⊥
 NotByFile Memory = ⊥
 NotByFile (Changed line said got) = ⊥
+
+-- it was the sink or the queue that stopped, or memory was wanting
+abbrev pub IsByLimit : Stop → Type 0
+IsByLimit Sink = ⊤
+IsByLimit (Queue fault) = ⊤
+IsByLimit Read = ⊥
+IsByLimit Memory = ⊤
+IsByLimit (Changed line said got) = ⊥

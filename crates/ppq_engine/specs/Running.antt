@@ -1,19 +1,20 @@
 -- What stands while the commands of a script are run.
-use Rattle.std.specs.Prelude.{◌≡◌, ◌≤◌, ◌<◌, ◌+◌, ℕ, List, [], ◌++◌, take, length, slice_get, Option, Some, None, ⊤}
+use Rattle.std.specs.Prelude.{◌≡◌, ◌≤◌, ◌<◌, ◌+◌, ℕ, Bool, ◌||◌, List, [], ◌++◌, take, length, max, slice_get, Option, Some, None, ⊤}
 use Rattle.ppq_record.specs.declared.pair.Pair.{Pair}
 use Rattle.ppq_record.specs.Bag.{IsSameBag}
 use Rattle.ppq_outside.specs.Shown.{Shown, AllTell}
 use Rattle.ppq_outside.specs.Told.{Reply, TakesAll, TakesPart, Rose}
 use Rattle.ppq_budget.specs.Sizes.{Numbers}
 use Rattle.ppq_script.specs.declared.command.Command.{Command}
-use Rattle.ppq_script.specs.declared.command.Command.TheVariants.{Push, Pop, Top, Size, Bulk, Gen, BulkPop, BulkPopLimit, Drain, BulkBegin, BulkPush, BulkEnd}
+use Rattle.ppq_script.specs.declared.command.Command.TheVariants.{Push, Pop, Top, Size, Bulk, Gen, BulkPop, BulkPopLimit, Drain, BulkBegin, BulkPush, BulkEnd, LimitBegin, LimitPush, LimitTop, LimitPop, LimitEnd}
 use Rattle.ppq_script.specs.Files.{name_at}
 use Rattle.ppq_script.specs.Reading.{Reading, command_list, line_list}
 use Rattle.ppq_load.specs.Reading.{EndsAt}
 use Rattle.ppq_load.specs.Refusal.{IsRefusedBy}
-use Rattle.ppq_engine.specs.Loads.{IsLoad, none_go, all_go, size_from, most_of, least_of, FitsWritten}
-use Rattle.ppq_engine.specs.Output.{AreFilesOf, given_of, output_of, bag_of, load_of}
+use Rattle.ppq_engine.specs.Loads.{IsLoad, none_go, all_go, size_from, most_of, least_of, begins_limit, FitsWritten}
+use Rattle.ppq_engine.specs.Output.{AreFilesOf, given_of, outside, output_of, output_from, state_of, bag_of, load_of, crest_of}
 use Rattle.ppq_engine.specs.Gathers.{Gathers}
+use Rattle.ppq_queue.specs.Holding.{Holding}
 use Rattle.ppq_queue.specs.declared.fault.QueueFault.{QueueFault}
 use Rattle.ppq_queue.specs.declared.fault.QueueFault.TheVariants.{NoFreeBlock, Device}
 use Rattle.ppq_queue.specs.declared.fault.OpenFault.{OpenFault}
@@ -37,6 +38,11 @@ IsPlain (Drain count) = ⊤
 IsPlain BulkBegin = ⊥
 IsPlain (BulkPush pass item) = ⊥
 IsPlain BulkEnd = ⊥
+IsPlain (LimitBegin limit) = ⊥
+IsPlain (LimitPush pass item) = ⊥
+IsPlain LimitTop = ⊥
+IsPlain LimitPop = ⊥
+IsPlain LimitEnd = ⊥
 
 -- a command that needs no session
 abbrev pub LendsQueue : Command → Type 0
@@ -52,6 +58,11 @@ LendsQueue (Drain count) = ⊤
 LendsQueue BulkBegin = ⊥
 LendsQueue (BulkPush pass item) = ⊥
 LendsQueue BulkEnd = ⊥
+LendsQueue (LimitBegin limit) = ⊥
+LendsQueue (LimitPush pass item) = ⊥
+LendsQueue LimitTop = ⊥
+LendsQueue LimitPop = ⊥
+LendsQueue LimitEnd = ⊥
 
 -- of a text the sink took the beginning, and the rest is gathered
 pub record IsGathered (before now : Option (List ℕ)) (gathered text : List ℕ) : Type 0 where
@@ -66,14 +77,15 @@ pub record GathersPart (before now : Option (List ℕ)) (had text has : List ℕ
   pub all : text ≡ part ++ rest
   pub gathers : Gathers before now had part has
 
--- these commands were run, with files that are given as these records: their output is gathered, the queue holds their bag, had no more
--- records than their load, and that load fits into the budget and what was written
+-- these commands were run, with files that are given as these records, and no session is open: their output is gathered, the queue holds
+-- their bag, had no more records than their load, and their crest fits into the budget and what was written
 pub record HasRun (given : ℕ → List Pair) (before now : Option (List ℕ)) (gathered : List ℕ) (bag : List Pair) (size peak : ℕ) (sizes : Numbers) (slots : List Shown) (commands : List Command) : Type 0 where
+  pub closed : state_of given commands ≡ outside (bag_of given commands)
   pub output : IsGathered before now gathered (output_of given commands)
   pub holds : IsSameBag bag (bag_of given commands)
   pub counted : size ≡ length (bag_of given commands)
   pub highest : peak ≤ load_of given commands
-  pub crest : FitsWritten (load_of given commands) sizes slots
+  pub crest : FitsWritten (crest_of given commands) sizes slots
 
 -- the same of any files and slots, as far as the commands tell it
 pub record HasSizes (size peak : ℕ) (sizes : Numbers) (slots : List Shown) (commands : List Command) : Type 0 where
@@ -96,8 +108,8 @@ pub record IsRefused (told : Option (List ℕ → Option (List ℕ))) (script : 
       → (part : List ℕ) × IsCut (given_of files script) before now gathered (command_list script) done part
   pub cause :
       AllTell first → (files : List ℕ → Option (List ℕ)) → AreFilesOf told script files
-      → IsRefusedBy (load_of (given_of files script) (take (done + 1) (command_list script))) sizes slots fault
-  pub any : IsRefusedBy (most_of (take (done + 1) (command_list script))) sizes slots fault
+      → IsRefusedBy (load_of (given_of files script) (take (done + 1) (command_list script))) sizes (begins_limit (take (done + 1) (command_list script))) slots fault
+  pub any : IsRefusedBy (most_of (take (done + 1) (command_list script))) sizes (begins_limit (take (done + 1) (command_list script))) slots fault
 
 -- a command that reads a file was not run: the output of those before it is gathered
 pub record IsBeforeFile (told : Option (List ℕ → Option (List ℕ))) (script : Reading) (first : List Shown) (before now : Option (List ℕ)) (gathered : List ℕ) : Type 0 where
@@ -138,13 +150,37 @@ HasStopped told script first before now gathered sizes slots Read = IsBeforeFile
 HasStopped told script first before now gathered sizes slots Memory = IsBeforeLoad told script first before now gathered
 HasStopped told script first before now gathered sizes slots (Changed line said got) = IsBeforeFile told script first before now gathered
 
--- what a command wrote that did not run to its end: the sink took a part; or a part is gathered, and none of a command that adds many records
+-- what one command wrote that did not run to its end: the sink took a part; or a part is gathered, and none of a command that adds many records
 abbrev pub WritesPart : Option (List ℕ) → Option (List ℕ) → List ℕ → List ℕ → List ℕ → Stop → Type 0
 WritesPart before now had text has Sink = TakesPart before now (had ++ text)
 WritesPart before now had text has (Queue fault) = GathersPart before now had text has
 WritesPart before now had text has Read = Gathers before now had [] has
 WritesPart before now had text has Memory = Gathers before now had [] has
 WritesPart before now had text has (Changed line said got) = Gathers before now had [] has
+
+-- Of commands that run together from a bag on, the first so many were run and the next stopped: all that they print is gathered, and of what
+-- the others print the beginning
+pub record CutAt (given : ℕ → List Pair) (before now : Option (List ℕ)) (had : List ℕ) (bag : List Pair) (part : List Command) (done : ℕ) (has : List ℕ) : Type 0 where
+  pub text : List ℕ
+  pub rest : List ℕ
+  pub all : output_from given (outside bag) part ≡ (output_from given (outside bag) (take done part) ++ text) ++ rest
+  pub gathers : Gathers before now had (output_from given (outside bag) (take done part) ++ text) has
+
+-- The queue refused one of them: there is no room for the records up to it, or a block failed
+pub record RefusedAt (first : List Shown) (before now : Option (List ℕ)) (had : List ℕ) (bag : List Pair) (size peak : ℕ) (part : List Command) (sizes : Numbers) (limited : Bool) (slots : List Shown) (has : List ℕ) (fault : QueueFault) : Type 0 where
+  pub done : ℕ
+  pub within : done < length part
+  pub cut : AllTell first → (given : ℕ → List Pair) → CutAt given before now had bag part done has
+  pub cause : IsRefusedBy (max peak (size_from none_go size (take (done + 1) part))) sizes limited slots fault
+
+-- What commands that run together wrote where they did not all run: the sink took a part; or the beginning is gathered, up to the one that was
+-- refused; or nothing is, where a file or memory was wanting
+abbrev pub PartStops : List Shown → Option (List ℕ) → Option (List ℕ) → List ℕ → List Pair → ℕ → ℕ → List Command → Numbers → Bool → List Shown → List ℕ → Stop → Type 0
+PartStops first before now had bag size peak part sizes limited slots has Sink = AllTell first → (given : ℕ → List Pair) → TakesPart before now (had ++ output_from given (outside bag) part)
+PartStops first before now had bag size peak part sizes limited slots has (Queue fault) = RefusedAt first before now had bag size peak part sizes limited slots has fault
+PartStops first before now had bag size peak part sizes limited slots has Read = AllTell first → Gathers before now had [] has
+PartStops first before now had bag size peak part sizes limited slots has Memory = AllTell first → Gathers before now had [] has
+PartStops first before now had bag size peak part sizes limited slots has (Changed line said got) = AllTell first → Gathers before now had [] has
 
 -- a stop by a file comes from a command that reads one, and want of memory from a command that adds many records
 abbrev pub IsOfFile : Command → Stop → Type 0
@@ -154,13 +190,17 @@ IsOfFile command Read = (file : ℕ) × ((size : ℕ) × (command ≡ Bulk file 
 IsOfFile command Memory = IsLoad command
 IsOfFile command (Changed line said got) = (file : ℕ) × ((size : ℕ) × (command ≡ Bulk file size))
 
+-- a queue behind commands that run together: whether a limit session was begun is known of it
+abbrev pub behind_part : Holding Pair → List Command → Holding Pair
+behind_part queue part = record queue { limited = queue.limited || begins_limit part }
+
 -- where it was the queue, it says why
-abbrev pub StopsFor : ℕ → Numbers → List Shown → Stop → Type 0
-StopsFor peak sizes slots Sink = ⊤
-StopsFor peak sizes slots (Queue fault) = IsRefusedBy peak sizes slots fault
-StopsFor peak sizes slots Read = ⊤
-StopsFor peak sizes slots Memory = ⊤
-StopsFor peak sizes slots (Changed line said got) = ⊤
+abbrev pub StopsFor : ℕ → Numbers → Bool → List Shown → Stop → Type 0
+StopsFor peak sizes limited slots Sink = ⊤
+StopsFor peak sizes limited slots (Queue fault) = IsRefusedBy peak sizes limited slots fault
+StopsFor peak sizes limited slots Read = ⊤
+StopsFor peak sizes limited slots Memory = ⊤
+StopsFor peak sizes limited slots (Changed line said got) = ⊤
 
 -- where a file had changed, it says which
 abbrev pub ChangedIn : Option (List ℕ → Option (List ℕ)) → (Reply → Type 0) → Reading → Stop → Type 0

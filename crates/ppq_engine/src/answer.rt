@@ -2,7 +2,7 @@
 use ppq_record::Pair;
 
 /// What a command prints, or a line of it: nothing, `empty`, a record's line, how many records there
-/// are, whether a limited pop gave all, or what was drained.
+/// are, whether a limited pop gave all, that no record is below a session's limit, or what was drained.
 #[derive(Clone, Copy, Debug, PartialEq, Eq)]
 pub enum Answer {
     Nothing,
@@ -11,6 +11,7 @@ pub enum Answer {
     Size { records: u64 },
     All,
     More,
+    Limit,
     Drained { drained: Drained },
 }
 

@@ -92,6 +92,7 @@ impl Gathered {
             }
             Answer::All => self.text(b"all\n"),
             Answer::More => self.text(b"more\n"),
+            Answer::Limit => self.text(b"limit\n"),
             Answer::Drained { drained } => self.drained(drained),
         }
     }

@@ -2,8 +2,10 @@
 #![tactic(auto)]
 
 mod answer;
+mod batch;
 mod end;
 mod gathered;
+mod limits;
 mod load;
 mod pop;
 mod push;

@@ -54,7 +54,7 @@ where
     ensures size { OnOk result.1 (result.0.size ≡ queue.size + count) }
     ensures sound { OnOk result.1 (result.0.failed ≡ None) }
     ensures peak { OnOk result.1 (result.0.peak ≤ max queue.peak (queue.size + count)) }
-    ensures refused { IfErr result.1 (StopsFor (max queue.peak (queue.size + count)) queue.sizes result.0.slots) }
+    ensures refused { IfErr result.1 (StopsFor (max queue.peak (queue.size + count)) queue.sizes queue.limited result.0.slots) }
     ensures by_session { IfErr result.1 IsBySession }
     ensures kept { Keeps queue result.0 }
 {
@@ -84,7 +84,7 @@ where
     ensures size { OnOk result.1 (result.0.size ≡ queue.size + said / 16) }
     ensures sound { OnOk result.1 (result.0.failed ≡ None) }
     ensures peak { OnOk result.1 (result.0.peak ≤ max queue.peak (queue.size + said / 16)) }
-    ensures refused { IfErr result.1 (StopsFor (max queue.peak (queue.size + said / 16)) queue.sizes result.0.slots) }
+    ensures refused { IfErr result.1 (StopsFor (max queue.peak (queue.size + said / 16)) queue.sizes queue.limited result.0.slots) }
     ensures by_file { IfErr result.1 IsByFile }
     ensures changed { IfErr result.1 (EndsEarly (L.told library.old) (L.replied library.new) name.now line said) }
     ensures kept { Keeps queue result.0 }

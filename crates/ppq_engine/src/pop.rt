@@ -82,7 +82,7 @@ where
     ensures size { queue.new.size ≡ queue.old.size }
     ensures sound { OnOk result (queue.new.failed ≡ None) }
     ensures peak { queue.new.peak ≡ queue.old.peak }
-    ensures refused { IfErr result (IsRefusedBy queue.new.peak queue.new.sizes queue.new.slots) }
+    ensures refused { IfErr result (IsRefusedBy queue.new.peak queue.new.sizes queue.new.limited queue.new.slots) }
     ensures kept { Keeps queue.old queue.new }
 {
     Ok(queue.top(rt, gate)?)
@@ -103,7 +103,7 @@ where
     ensures high { queue.new.size ≤ queue.old.size }
     ensures sound { OnOk result (queue.new.failed ≡ None) }
     ensures peak { queue.new.peak ≡ queue.old.peak }
-    ensures refused { IfErr result (IsRefusedBy queue.new.peak queue.new.sizes queue.new.slots) }
+    ensures refused { IfErr result (IsRefusedBy queue.new.peak queue.new.sizes queue.new.limited queue.new.slots) }
     ensures kept { Keeps queue.old queue.new }
 {
     Ok(queue.pop(rt, gate)?)
@@ -129,7 +129,7 @@ where
     ensures high { queue.new.size ≤ queue.old.size }
     ensures sound { OnOk result (queue.new.failed ≡ None) }
     ensures peak { queue.new.peak ≡ queue.old.peak }
-    ensures refused { IfErr result (IsRefusedBy queue.new.peak queue.new.sizes queue.new.slots) }
+    ensures refused { IfErr result (IsRefusedBy queue.new.peak queue.new.sizes queue.new.limited queue.new.slots) }
     ensures kept { Keeps queue.old queue.new }
     ensures list { list.new.room ≡ list.old.room }
 {
@@ -157,7 +157,7 @@ where
     ensures high { queue.new.size ≤ queue.old.size }
     ensures sound { OnOk result (queue.new.failed ≡ None) }
     ensures peak { queue.new.peak ≡ queue.old.peak }
-    ensures refused { IfErr result (IsRefusedBy queue.new.peak queue.new.sizes queue.new.slots) }
+    ensures refused { IfErr result (IsRefusedBy queue.new.peak queue.new.sizes queue.new.limited queue.new.slots) }
     ensures kept { Keeps queue.old queue.new }
     ensures list { list.new.room ≡ list.old.room }
 {
@@ -186,7 +186,7 @@ where
     ensures high { queue.new.size ≤ queue.old.size }
     ensures sound { OnOk result (queue.new.failed ≡ None) }
     ensures peak { queue.new.peak ≡ queue.old.peak }
-    ensures refused { IfErr result (IsRefusedBy queue.new.peak queue.new.sizes queue.new.slots) }
+    ensures refused { IfErr result (IsRefusedBy queue.new.peak queue.new.sizes queue.new.limited queue.new.slots) }
     ensures kept { Keeps queue.old queue.new }
     ensures list { list.new.room ≡ list.old.room }
 {
@@ -231,7 +231,7 @@ where
     ensures size { OnOk result (queue.new.size ≡ queue.old.size - count) }
     ensures sound { OnOk result (queue.new.failed ≡ None) }
     ensures peak { queue.new.peak ≡ queue.old.peak }
-    ensures refused { IfErr result (IsRefusedBy queue.new.peak queue.new.sizes queue.new.slots) }
+    ensures refused { IfErr result (IsRefusedBy queue.new.peak queue.new.sizes queue.new.limited queue.new.slots) }
     ensures kept { Keeps queue.old queue.new }
     ensures list { list.new.room ≡ list.old.room }
 {
@@ -272,7 +272,7 @@ where
     ensures high { queue.new.size ≤ queue.old.size }
     ensures sound { OnOk result (queue.new.failed ≡ None) }
     ensures peak { queue.new.peak ≡ queue.old.peak }
-    ensures refused { IfErr result (StopsFor queue.new.peak queue.new.sizes queue.new.slots) }
+    ensures refused { IfErr result (StopsFor queue.new.peak queue.new.sizes queue.new.limited queue.new.slots) }
     ensures no_file { IfErr result NotByFile }
     ensures kept { Keeps queue.old queue.new }
     ensures later { O.faults out.old ≤ O.faults out.new }
@@ -306,7 +306,7 @@ where
     ensures size { queue.new.size ≡ queue.old.size }
     ensures sound { OnOk result (queue.new.failed ≡ None) }
     ensures peak { queue.new.peak ≡ queue.old.peak }
-    ensures refused { IfErr result (IsRefusedBy queue.new.peak queue.new.sizes queue.new.slots) }
+    ensures refused { IfErr result (IsRefusedBy queue.new.peak queue.new.sizes queue.new.limited queue.new.slots) }
     ensures kept { Keeps queue.old queue.new }
 {
     match top_one(rt, queue, gate)? {
@@ -344,7 +344,7 @@ where
     ensures high { queue.new.size ≤ queue.old.size }
     ensures sound { OnOk result (queue.new.failed ≡ None) }
     ensures peak { queue.new.peak ≡ queue.old.peak }
-    ensures refused { IfErr result (StopsFor queue.new.peak queue.new.sizes queue.new.slots) }
+    ensures refused { IfErr result (StopsFor queue.new.peak queue.new.sizes queue.new.limited queue.new.slots) }
     ensures no_file { IfErr result NotByFile }
     ensures kept { Keeps queue.old queue.new }
     ensures later { O.faults out.old ≤ O.faults out.new }

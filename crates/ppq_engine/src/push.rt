@@ -21,7 +21,7 @@ where
     ensures size { OnOk result (queue.new.size ≡ queue.old.size + 1) }
     ensures sound { OnOk result (queue.new.failed ≡ None) }
     ensures peak { queue.new.peak ≡ max queue.old.peak (queue.old.size + 1) }
-    ensures refused { IfErr result (IsRefusedBy queue.new.peak queue.new.sizes queue.new.slots) }
+    ensures refused { IfErr result (IsRefusedBy queue.new.peak queue.new.sizes queue.new.limited queue.new.slots) }
     ensures kept { Keeps queue.old queue.new }
 {
     match queue.push(rt, item, gate) {

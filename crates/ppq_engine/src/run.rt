@@ -1,13 +1,13 @@
 //! Runs the commands of a script.
-ghost use Rattle.std.specs.Prelude.{◌≡◌, ◌≤◌, ◌<◌, ◌⊎◌, ◌*◌, ◌+◌, ◌^◌, List, ℕ, Option, [], Some, None, OnOk, IfErr, IsTrue, length, map, vec_len, IfOk};
+ghost use Rattle.std.specs.Prelude.{◌≡◌, false, ◌≤◌, ◌<◌, ◌⊎◌, ◌*◌, ◌+◌, ◌^◌, List, ℕ, Option, [], Some, None, OnOk, IfErr, IsTrue, length, map, vec_len, IfOk};
 ghost use Rattle.ppq_outside.specs.Shown.{AllTell};
 ghost use Rattle.ppq_outside.specs.Told.{TakesAll, TakesPart, Rose, Remembers, RepliesOnly};
 ghost use Rattle.ppq_budget.specs.Sizes.{fixed_of, batch_of};
 ghost use Rattle.ppq_array.specs.Kept.{SameSlots, HasFailed};
 ghost use Rattle.ppq_script.specs.Reading.{command_list};
 ghost use Rattle.ppq_queue.specs.Holding.{AreNewSlots};
-ghost use Rattle.ppq_load.specs.Refusal.{HasRoom, IsTooMuch};
-ghost use Rattle.ppq_engine.specs.Loads.{most_of, least_of, FitsWritten};
+ghost use Rattle.ppq_load.specs.Refusal.{HasRoom, HasNoRoom};
+ghost use Rattle.ppq_engine.specs.Loads.{most_of, least_of, begins_limit, FitsWritten};
 ghost use Rattle.ppq_engine.specs.Output.{output_of, load_of, crest_of, given_of, AreFilesOf, KeepsLengths, TakesWithin};
 ghost use Rattle.ppq_engine.specs.Running.{IsGathered, HasStopped, ChangedIn, HasChanged, SinkAfter, LibraryAfter, queue_end, open_end};
 ghost use Rattle.ppq_engine.specs.Files.{IsReadInScript};
@@ -50,6 +50,7 @@ where
     requires size { queue.size ≡ 0 }
     requires peak { queue.peak ≡ 0 }
     requires sound { queue.failed ≡ None }
+    requires unlimited { queue.limited ≡ false }
     requires block { 0 < queue.sizes.block }
     requires list { list.old.room ≡ batch_of queue.sizes }
     requires gathered { gathered.old ≡ [] }
@@ -158,6 +159,7 @@ where
     requires size { queue.size ≡ 0 }
     requires peak { queue.peak ≡ 0 }
     requires sound { queue.failed ≡ None }
+    requires unlimited { queue.limited ≡ false }
     requires block { 0 < queue.sizes.block }
     requires list { list.old.room ≡ batch_of queue.sizes }
     requires gathered { gathered.old ≡ [] }
@@ -203,6 +205,7 @@ where
     requires size { queue.size ≡ 0 }
     requires peak { queue.peak ≡ 0 }
     requires sound { queue.failed ≡ None }
+    requires unlimited { queue.limited ≡ false }
     requires sizes { queue.sizes ≡ sizes }
     ensures part { AllTell queue.slots → (files : List ℕ → Option (List ℕ)) → AreFilesOf (L.told library.old) script.now files → TakesPart (O.told out.old) (O.told out.new) (output_of (given_of files script.now) (command_list script.now)) }
     ensures says { EndSays (L.told library.old) (L.replied library.new) script.now queue.slots result.0.slots queue.sizes (O.told out.old) (O.told out.new) (O.faults out.old) (O.faults out.new) (L.faults library.old) (L.faults library.new) result.1 }
@@ -244,13 +247,14 @@ where
 ///
 /// `Done`: the sink took the script's output. `WriteFault`: the sink failed; it took a prefix of
 /// it. `ReadFault`: the library failed. `DeviceFault`: the block with that number failed.
-/// `NoFreeBlock`: a run of records found no free block, which comes only where the script's load is
-/// above the capacity of one heap and the device has fewer blocks than that load wants; at least what
-/// all commands up to such a load print was taken. `FileChanged`: the file of the command on that line
-/// ended at `got`, before the length `said` that the script keeps, which no library does that tells.
+/// `NoFreeBlock`: a run of records found no free block, which comes only where the device has fewer
+/// blocks than the script's load wants, and that load is above the capacity of one heap or the script
+/// begins a limit session; at least what all commands up to such a load print was taken. `FileChanged`:
+/// the file of the command on that line ended at `got`, before the length `said` that the script keeps,
+/// which no library does that tells.
 /// `BudgetTooSmall` comes exactly where the budget is below its fixed part, unless memory was wanting;
-/// nothing was written there. On `Memory` nothing was written, or what the commands before a `bulk`, `gen`
-/// or `bulk_begin` print: such a command takes memory for its session. No other end comes.
+/// nothing was written there. On `Memory` nothing was written, or what the commands before a `bulk`, `gen`,
+/// `bulk_begin` or `limit_begin` print: such a command takes memory for its session. No other end comes.
 ///
 /// What is said of the output holds where the contents of the blocks and of the library are visible to
 /// proofs; where the script reads no file, the library's need not be. When each end comes, and which
@@ -285,19 +289,19 @@ where
     ensures read { result.end ≡ ReadFault → Rose (L.faults library.old) (L.faults library.new) }
     ensures write { result.end ≡ WriteFault → Rose (O.faults out.old) (O.faults out.new) }
     ensures failed { (number : ℕ) → result.end ≡ DeviceFault number → HasFailed number (map S.shown result.blocks.items) }
-    ensures above { result.end ≡ NoFreeBlock → AllTell (map S.shown slots.items) → (files : List ℕ → Option (List ℕ)) → AreFilesOf (L.told library.old) script.now files → IsTooMuch sizes (load_of (given_of files script.now) (command_list script.now)) }
-    ensures above_any { result.end ≡ NoFreeBlock → IsTooMuch sizes (most_of (command_list script.now)) }
+    ensures above { result.end ≡ NoFreeBlock → AllTell (map S.shown slots.items) → (files : List ℕ → Option (List ℕ)) → AreFilesOf (L.told library.old) script.now files → HasNoRoom sizes (begins_limit (command_list script.now)) (load_of (given_of files script.now) (command_list script.now)) }
+    ensures above_any { result.end ≡ NoFreeBlock → HasNoRoom sizes (begins_limit (command_list script.now)) (most_of (command_list script.now)) }
     ensures changed { (line said got : ℕ) → result.end ≡ FileChanged line said got → HasChanged (L.told library.old) (L.replied library.new) script.now line said got }
     ensures later { O.faults out.old ≤ O.faults out.new }
     ensures stays { NoFault result.end → O.faults out.new ≡ O.faults out.old }
 
-    // A budget that is large enough for its fixed part, a load for which one heap or the device has room, and no
-    // fault of the sink, the library or a block.
-    ensures complete { fixed_of sizes ≤ sizes.memory → AllTell (map S.shown slots.items) → (files : List ℕ → Option (List ℕ)) → AreFilesOf (L.told library.old) script.now files → HasRoom sizes (load_of (given_of files script.now) (command_list script.now)) → IsQuiet (O.faults out.old) (O.faults out.new) → IsQuiet (L.faults library.old) (L.faults library.new) → NoneFailed (map S.shown result.blocks.items) → IsCompleted (L.told library.old) result.end }
-    ensures complete_any { fixed_of sizes ≤ sizes.memory → HasRoom sizes (most_of (command_list script.now)) → IsQuiet (O.faults out.old) (O.faults out.new) → IsQuiet (L.faults library.old) (L.faults library.new) → NoneFailed (map S.shown result.blocks.items) → IsCompleted (L.told library.old) result.end }
+    // A budget that is large enough for its fixed part, a load for which the device has room, or one heap if no
+    // limit session begins, and no fault of the sink, the library or a block.
+    ensures complete { fixed_of sizes ≤ sizes.memory → AllTell (map S.shown slots.items) → (files : List ℕ → Option (List ℕ)) → AreFilesOf (L.told library.old) script.now files → HasRoom sizes (begins_limit (command_list script.now)) (load_of (given_of files script.now) (command_list script.now)) → IsQuiet (O.faults out.old) (O.faults out.new) → IsQuiet (L.faults library.old) (L.faults library.new) → NoneFailed (map S.shown result.blocks.items) → IsCompleted (L.told library.old) result.end }
+    ensures complete_any { fixed_of sizes ≤ sizes.memory → HasRoom sizes (begins_limit (command_list script.now)) (most_of (command_list script.now)) → IsQuiet (O.faults out.old) (O.faults out.new) → IsQuiet (L.faults library.old) (L.faults library.new) → NoneFailed (map S.shown result.blocks.items) → IsCompleted (L.told library.old) result.end }
 
     // All blocks come back, each once, and no count of a block falls. The device was used: each record above the
-    // budget, when the bag was greatest, was written.
+    // budget, when the bag was greatest outside sessions, was written.
     ensures blocks { SameSlots (map S.shown slots.items) (map S.shown result.blocks.items) }
     ensures used { result.end ≡ Done → AllTell (map S.shown slots.items) → (files : List ℕ → Option (List ℕ)) → AreFilesOf (L.told library.old) script.now files → FitsWritten (crest_of (given_of files script.now) (command_list script.now)) sizes (map S.shown result.blocks.items) }
     ensures used_any { result.end ≡ Done → FitsWritten (least_of (command_list script.now)) sizes (map S.shown result.blocks.items) }

@@ -140,7 +140,7 @@ where
     ensures size { OnOk result.1 (result.0.size ≡ queue.size + length (pushed_in (up_to_end (drop (place + 1) (command_list script.now))))) }
     ensures sound { OnOk result.1 (result.0.failed ≡ None) }
     ensures peak { OnOk result.1 (result.0.peak ≤ max queue.peak (queue.size + length (pushed_in (up_to_end (drop (place + 1) (command_list script.now)))))) }
-    ensures refused { IfErr result.1 (StopsFor (max queue.peak (queue.size + length (pushed_in (up_to_end (drop (place + 1) (command_list script.now)))))) queue.sizes result.0.slots) }
+    ensures refused { IfErr result.1 (StopsFor (max queue.peak (queue.size + length (pushed_in (up_to_end (drop (place + 1) (command_list script.now)))))) queue.sizes queue.limited result.0.slots) }
     ensures by_session { IfErr result.1 IsBySession }
     ensures kept { Keeps queue result.0 }
 {

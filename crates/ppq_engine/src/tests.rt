@@ -329,6 +329,70 @@ fn records_of_sessions_join_the_bag(rt: HostRuntime) -> Result<(), Fail> {
 }
 
 #[test]
+fn a_limit_session_pops_below_its_limit(rt: HostRuntime) -> Result<(), Fail> {
+    let table: [(&[u8], &[u8]); 5] = [
+        (
+            b"push 1 0\npush 4 0\nlimit_begin 4 0\nlimit_top\nlimit_push 1 4 0\nlimit_pop\nlimit_pop\nlimit_end\nbulk_pop 9\n",
+            b"1 0\n1 0\nlimit\n4 0\n4 0\n",
+        ),
+        (
+            b"limit_begin 0 0\nlimit_top\nlimit_end\nsize\n",
+            b"limit\n0\n",
+        ),
+        (
+            b"push 3 1\npush 3 2\nlimit_begin 3 2\nlimit_pop\nlimit_pop\nlimit_end\npop\n",
+            b"3 1\nlimit\n3 2\n",
+        ),
+        (
+            b"gen 1 9\nlimit_begin 0 1\nlimit_push 0 5 0\nlimit_push 0 4 0\nlimit_push 0 3 0\nlimit_push 0 2 0\nlimit_push 0 1 0\nlimit_pop\nlimit_end\nbulk_pop 5\nsize\n",
+            b"limit\n1 0\n2 0\n3 0\n4 0\n5 0\n9\n",
+        ),
+        (
+            b"push 1 0\npush 2 0\npush 3 0\npush 4 0\npush 5 0\nlimit_begin 9 0\nlimit_pop\nlimit_push 1 9 0\nlimit_pop\nlimit_pop\nlimit_push 0 10 0\nlimit_pop\nlimit_pop\nlimit_pop\nlimit_end\ndrain 9\n",
+            b"1 0\n2 0\n3 0\n4 0\n5 0\nlimit\ncount 2 first 9 0 last 10 0 sum 19\n",
+        ),
+    ];
+    for (text, wants) in table {
+        let (end, wrote) = plain(&rt, rt.alloc(), text, small())?;
+        assert_eq!(rt; end, End::Done);
+        assert_eq!(rt; wrote.as_slice(), wants);
+    }
+    Ok(())
+}
+
+#[test]
+fn one_record_in_a_limit_session_wants_a_block(rt: HostRuntime) -> Result<(), Fail> {
+    let text = b"size\npush 1 0\nlimit_begin 4 0\nlimit_end\n";
+    let (end, wrote) = plain(&rt, rt.alloc(), text, Sizes::new(1, 2, 1, 158, 0))?;
+    assert_eq!(rt; end, End::NoFreeBlock);
+    assert_eq!(rt; wrote.as_slice(), b"0\n".as_slice());
+    Ok(())
+}
+
+#[test]
+fn a_batch_prints_its_answers_though_a_push_was_refused(rt: HostRuntime) -> Result<(), Fail> {
+    let text =
+        b"push 1 0\nlimit_begin 4 0\nlimit_push 0 5 0\nlimit_push 0 6 0\nlimit_push 0 7 0\nlimit_pop\nlimit_end\n";
+    let (end, wrote) = plain(&rt, rt.alloc(), text, Sizes::new(1, 2, 1, 159, 1))?;
+    assert_eq!(rt; end, End::NoFreeBlock);
+    assert_eq!(rt; wrote.as_slice(), b"1 0\n".as_slice());
+    Ok(())
+}
+
+#[test]
+fn a_failed_read_of_the_front_ends_the_run(rt: HostRuntime) -> Result<(), Fail> {
+    let text = b"push 1 0\npush 2 0\npush 3 0\nlimit_begin 4 0\nlimit_pop\nlimit_pop\nlimit_end\n";
+    let calls = vec![in rt.alloc(); (0, 2u64)]?;
+    let mut rack = MemRack::failing(calls, Vec::new(rt.alloc()));
+    let mut library = MemLibrary::new(rt.alloc());
+    let (ended, wrote) = outcome(&rt, rt.alloc(), text, small(), &mut rack, &mut library)?;
+    assert_eq!(rt; ended.end, End::DeviceFault { number: 0 });
+    assert_eq!(rt; wrote.len(), 0);
+    assert_eq!(rt; ended.blocks.len(), 200);
+    Ok(())
+}
+
+#[test]
 fn a_failed_call_in_a_session_ends_the_run(rt: HostRuntime) -> Result<(), Fail> {
     let text =
         b"size\nbulk_begin\nbulk_push 0 1 0\nbulk_push 0 2 0\nbulk_push 0 3 0\nbulk_end\nsize\n";
@@ -392,7 +456,11 @@ impl Gate for PairGate {
 
 #[test]
 fn two_workers_add_records_at_once(rt: HostRuntime) -> Result<(), Fail> {
-    let table: [(&[u8], &[u8]); 3] = [
+    let table: [(&[u8], &[u8]); 4] = [
+        (
+            b"limit_begin 4 0\nlimit_push 0 5 0\nlimit_push 1 6 0\nlimit_end\nbulk_pop 2\n",
+            b"5 0\n6 0\n",
+        ),
         (
             b"bulk_begin\nbulk_push 0 2 0\nbulk_push 1 1 0\nbulk_end\nbulk_pop 2\n",
             b"1 0\n2 0\n",

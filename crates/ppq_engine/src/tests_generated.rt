@@ -61,8 +61,12 @@ struct Case {
     output: Vec<u8>,
     // The records, the smallest last.
     list: Vec<Pair>,
-    // The greatest number of records after a command.
+    // The greatest number of records after a command, with those that were popped in an open limit session.
     load: u64,
+    // How many records were popped in the open limit session.
+    popped: u64,
+    // Whether a limit session was begun.
+    limited: bool,
 }
 
 impl Case {
@@ -73,6 +77,8 @@ impl Case {
             output: Vec::new(alloc),
             list: Vec::new(alloc),
             load: 0,
+            popped: 0,
+            limited: false,
         }
     }
 
@@ -130,8 +136,54 @@ impl Case {
         }
         let place = place.min(self.list.len());
         self.list.insert(place, item)?;
-        self.load = self.load.max(self.list.len() as u64);
+        let count = (self.list.len() as u64).saturating_add(self.popped);
+        self.load = self.load.max(count);
         Ok(())
+    }
+
+    // A limit session with so many lines, each push by a pass below a number of workers.
+    fn limit_session(&mut self, seed: &mut u64, mood: Mood, count: u64) -> Result<(), Fail> {
+        let limit = record(seed, mood.keys);
+        self.command(b"limit_begin", &[limit.key, limit.value])?;
+        self.limited = true;
+        for _ in 0..count {
+            match draw(seed, 4) {
+                0 => self.limit_top(limit)?,
+                1 => self.limit_pop(limit)?,
+                _ => self.limit_push(seed, mood, limit)?,
+            }
+        }
+        self.popped = 0;
+        self.command(b"limit_end", &[])
+    }
+
+    // `limit_push I K V`, of a record that is not below the limit.
+    fn limit_push(&mut self, seed: &mut u64, mood: Mood, limit: Pair) -> Result<(), Fail> {
+        let item = record(seed, mood.keys).max(limit);
+        let pass = draw(seed, mood.workers);
+        self.command(b"limit_push", &[pass, item.key, item.value])?;
+        self.add(item)
+    }
+
+    // `limit_top`.
+    fn limit_top(&mut self, limit: Pair) -> Result<(), Fail> {
+        self.command(b"limit_top", &[])?;
+        if !self.is_below(&limit) {
+            return self.print(b"limit", &[]);
+        }
+        let least = self.list.last().copied();
+        self.print_record(least)
+    }
+
+    // `limit_pop`.
+    fn limit_pop(&mut self, limit: Pair) -> Result<(), Fail> {
+        self.command(b"limit_pop", &[])?;
+        if !self.is_below(&limit) {
+            return self.print(b"limit", &[]);
+        }
+        self.popped = self.popped.saturating_add(1);
+        let least = self.list.pop();
+        self.print_record(least)
     }
 
     // `pop`.
@@ -272,6 +324,10 @@ fn add_command(case: &mut Case, seed: &mut u64, mood: Mood) -> Result<(), Fail> 
                 let count = draw(seed, 12).min(room);
                 case.session(seed, mood, count)
             }
+            2 => {
+                let count = draw(seed, 24).min(room);
+                case.limit_session(seed, mood, count)
+            }
             _ => case.push(record(seed, mood.keys)),
         };
     }
@@ -379,7 +435,7 @@ fn a_block_less_than_the_room_refuses_no_load_of_a_heap(rt: HostRuntime) -> Resu
         let case = one_script(rt.alloc(), &mut seed)?;
         let blocks = room(case.load, 1, 2).saturating_sub(1);
         let is_whole = is_cut(&rt, &case, exact(1, 2, 1, blocks))?;
-        assert!(rt; is_whole || case.load > 2);
+        assert!(rt; is_whole || case.load > 2 || case.limited);
     }
     Ok(())
 }
@@ -402,7 +458,7 @@ where
     let fewer = draw(seed, 12);
     let is_whole = is_cut(rt, &case, exact(workers, block, heap, fewer))?;
     let in_heap = u64::from(heap).saturating_mul(u64::from(block));
-    assert!(rt; is_whole || case.load > in_heap);
+    assert!(rt; is_whole || case.load > in_heap || case.limited);
     Ok(is_whole)
 }
 

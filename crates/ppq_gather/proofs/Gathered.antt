@@ -39,6 +39,16 @@ use Rattle.ppq_queue.specs.Resting.{IsRestingRun, IsRestingArray, odd_of, odd_in
 use Rattle.ppq_gather.specs.Gathering.{IsGathering, IsSoundSoFar, slots_in, buffers_in, begun_in}
 use Rattle.ppq_gather.specs.declared.brought.Brought.{Brought}
 use Rattle.ppq_gather.specs.declared.closed.Closed.{Closed}
+use Rattle.std.specs.Prelude.{Bool, None, flat_map, count_by}
+use Rattle.ppq_record.specs.Order.{Le, is_before}
+use Rattle.ppq_record.specs.Bag.{IsSameBag}
+use Rattle.ppq_record.proofs.Order.{count_by-append, Each-append}
+use Rattle.ppq_array.specs.Holdings.{internal_items}
+use Rattle.ppq_array.proofs.Noted.{all_left, all_right}
+use Rattle.ppq_fetch.specs.Taking.{NoneAfter}
+use Rattle.ppq_queue.specs.Holding.{IsAbove}
+use Rattle.ppq_queue.specs.Resting.{runs_bag}
+use Rattle.ppq_queue.proofs.Moves.{none_after-same}
 
 module _ {X : Type 0} where
   -- a list after another, the last first
@@ -161,7 +171,8 @@ module _ {S R : Type 0} (shown : S → Shown) (width : ℕ) (slots items : List 
         sums = λ f. sym (all f) ∙ a.sums f;
         told = a.told;
         fault = λ number e. by_fault number (failed number e);
-        extract = ap (λ q. q.extract) same ∙ a.extract;
+        extract_room = ap (λ q. q.extract.room) same ∙ a.extract_room;
+        in_extract = omega (arith, ap (λ q. length q.extract.items) same, a.in_extract);
         workers = ap (λ q. q.sources.bench.workers) same ∙ a.workers;
         serves = subst (λ s. ServesFor (pool_of c.sizes + 65) s) (sym (ap (λ q. q.sources) same)) a.serves;
         no_slot = ap (λ q. q.slots.items) same ∙ a.no_slot;
@@ -171,9 +182,11 @@ module _ {S R : Type 0} (shown : S → Shown) (width : ℕ) (slots items : List 
       in
       subst (λ q. IsGathering shown width slots items q rest) (ap (λ m. record new { sizes = m }) (sym n)) is
     where
-      by_fault : (number : ℕ) → (c.failed ≡ Some number) ⊎ (one.failed ≡ Some number) → HasFailed number (slots_of shown new.body new.supply)
-      by_fault number (inl e) = omega (arith, a.fault number e, sums (weight_at (λ s. s.faults) number))
-      by_fault number (inr e) = omega (arith, (passed.fault number e).0, sums (weight_at (λ s. s.faults) number))
+      by_fault : (number : ℕ) → (c.failed ≡ Some number) ⊎ (one.failed ≡ Some number) → HasFailed number slots
+      by_fault number (inl e) = a.fault number e
+      by_fault number (inr e) =
+          let f = weight_at (λ s. s.faults) number in
+          omega (arith, (passed.fault number e).0, a.sums f, sum_by-append f (slots_of shown c.body c.supply) (slots_in shown (rest ++ one ∷ [])), slots-push f)
 
 -- what a body has that took over another's runs and idle buffers
 pub record Adopted {S R : Type 0} (old from new : PassBody S R) : Type 0 where
@@ -233,6 +246,37 @@ module _ {S R : Type 0} (shown : S → Shown) (old from new : PassBody S R) (is 
         sum_by-joined (λ (run : Run R). length (items_of run)) old.runs.internal.items from.runs.internal.items,
         sum_by-joined (λ (a : External S R). size_of a) old.runs.external.items from.runs.external.items,
       )
+
+module _ {X R : Type 0} (f : X → List R) (p : R → Bool) where
+  pub count-flat : (xs : List X) → count_by p (flat_map f xs) ≡ sum_by (λ x. count_by p (f x)) xs
+  count-flat [] = refl
+  count-flat (x ∷ xs) = ap (count_by p) (flat_map-cons f x xs) ∙ omega (arith, count_by-append p (f x) (flat_map f xs), count-flat xs, sum_by-cons (λ y. count_by p (f y)) x xs)
+
+  pub count-joined : (xs ys : List X) → count_by p (flat_map f (xs ++ reverse ys)) ≡ count_by p (flat_map f xs) + count_by p (flat_map f ys)
+  count-joined xs ys = omega (arith, count-flat (xs ++ reverse ys), count-flat xs, count-flat ys, sum_by-joined (λ y. count_by p (f y)) xs ys)
+
+-- the records of the runs
+pub adopted-bag :
+    {S R : Type 0} (shown : S → Shown) (record_of : List ℕ → R) (width : ℕ) (old from new : PassBody S R) → Adopted old from new
+    → IsSameBag (runs_bag shown record_of width old ++ runs_bag shown record_of width from) (runs_bag shown record_of width new)
+adopted-bag shown record_of width old from new is p =
+    let r = records_in record_of width shown in
+    omega (
+      arith,
+      count_by-append p (runs_bag shown record_of width old) (runs_bag shown record_of width from),
+      count_by-append p (internal_items old.runs.internal.items) (flat_map r old.runs.external.items),
+      count_by-append p (internal_items from.runs.internal.items) (flat_map r from.runs.external.items),
+      count_by-append p (internal_items new.runs.internal.items) (flat_map r new.runs.external.items),
+      ap (λ l. count_by p (internal_items l)) is.internal,
+      count-joined items_of p old.runs.internal.items from.runs.internal.items,
+      ap (λ l. count_by p (flat_map r l)) is.external,
+      count-joined r p old.runs.external.items from.runs.external.items,
+    )
+
+module _ {R : Type 0} (cmp : R → R → Ordering) where
+  none_after-both : (xs ys zs : List R) → NoneAfter cmp xs ys → NoneAfter cmp xs zs → NoneAfter cmp xs (ys ++ zs)
+  none_after-both [] ys zs h k = tt
+  none_after-both (x ∷ xs) ys zs h k = (Each-append (Le (is_before cmp) x) ys zs h.0 k.0, none_after-both xs ys zs h.1 k.1)
 
 -- numbers below a bound that stand once each are no more than the bound
 pub distinct_few : (xs : List ℕ) (n : ℕ) → All (λ i. i < n) xs → ((i : ℕ) → times i xs ≤ 1) → length xs ≤ n
@@ -312,7 +356,7 @@ module _ {S R : Type 0} (shown : S → Shown) (cmp : R → R → Ordering) (reco
       places_few = passed.supply.once (length one.kept.value.row_seat.hand.items) passed.supply.drawn
 
   -- what holds of the parts after the pass was put in
-  module _ (new : Closed S R) (is : Adopted c.body one.body new.body) (heaps : new.heaps.items ≡ c.heaps.items ++ one.heap ∷ []) (stash : new.supply.kept ≡ c.supply.kept ++ slots_shown shown one.kept.value.stash) (count : new.count ≡ c.count + one.accepted) (same : new ≡ record c { heaps = new.heaps; body = new.body; supply = new.supply; count = new.count; failed = new.failed }) where
+  module _ (new : Closed S R) (whole : one.failed ≡ None) (is : Adopted c.body one.body new.body) (heaps : new.heaps.items ≡ c.heaps.items ++ one.heap ∷ []) (stash : new.supply.kept ≡ c.supply.kept ++ slots_shown shown one.kept.value.stash) (count : new.count ≡ c.count + one.accepted) (same : new ≡ record c { heaps = new.heaps; body = new.body; supply = new.supply; count = new.count; failed = new.failed }) where
     all_items : length (items_in new.heaps.items) ≡ length (items_in c.heaps.items) + length one.heap.items
     all_items =
         let g : Contents R → List R = λ h. h.items in
@@ -380,8 +424,18 @@ module _ {S R : Type 0} (shown : S → Shown) (cmp : R → R → Ordering) (reco
                 external = subst (λ l. All Q l) (sym is.external) (All-joined Q c.body.runs.external.items one.body.runs.external.items old.external (p.rise (own told)));
               };
           small = omega (arith, s.small, count, length-append rest (one ∷ []), accepted_few);
-          counted = omega (arith, s.counted, count, all_items, records, p.counted, begun);
-          above = λ more. higher more (adopted-count shown c.body one.body new.body is passed.no_job);
+          counted = omega (arith, s.counted, count, all_items, records, p.counted, begun, same_extract);
+          above = λ more. higher (omega (arith, more, same_extract)) (adopted-count shown c.body one.body new.body is passed.no_job);
+          ascends = λ tell. subst (Ascends cmp) (sym (ap (λ q. q.extract.items) same)) (s.ascends (was tell));
+          order = λ tell.
+              let told = was tell in
+              let mine = All-head After one [] (all_right After rest (one ∷ []) (s.order_rest told)) whole in
+              let both = none_after-both cmp c.extract.items (runs_bag shown record_of width c.body) (runs_bag shown record_of width one.body) (s.order told) mine in
+              let all = none_after-same cmp c.extract.items (runs_bag shown record_of width c.body ++ runs_bag shown record_of width one.body) (runs_bag shown record_of width new.body) (adopted-bag shown record_of width c.body one.body new.body is) both in
+              subst (λ l. NoneAfter cmp l (runs_bag shown record_of width new.body)) (sym (ap (λ q. q.extract.items) same)) all;
+          order_rest = λ tell.
+              subst (λ l. All (λ (x : Brought S R). x.failed ≡ None → NoneAfter cmp l (runs_bag shown record_of width x.body)) rest) (sym (ap (λ q. q.extract.items) same))
+              (all_left After rest (one ∷ []) (s.order_rest (was tell)));
         }
       where
         ext : external_buffers new.body.runs.external.items ≡ external_buffers c.body.runs.external.items
@@ -396,16 +450,26 @@ module _ {S R : Type 0} (shown : S → Shown) (cmp : R → R → Ordering) (reco
         begun : begun_in shown (rest ++ one ∷ []) ≡ begun_in shown rest + one.begun
         begun = omega (arith, sum_by-append (λ (x : Brought S R). x.begun) rest (one ∷ []), sum_by-cons (λ (x : Brought S R). x.begun) one [])
 
-        higher : 0 < count_of new.body → count_of new.body ≡ count_of c.body + count_of one.body → (heap_of c.sizes < new.peak) ⊎ (heap_of c.sizes < length (items_in new.heaps.items) + count_of new.body)
-        higher more sum = by_old (zero_or (count_of c.body))
+        After : Brought S R → Type 0
+        After x = x.failed ≡ None → NoneAfter cmp c.extract.items (runs_bag shown record_of width x.body)
+
+        same_extract : length new.extract.items ≡ length c.extract.items
+        same_extract = ap (λ q. length q.extract.items) same
+
+        -- a record that is in no heap
+        Is_high : Closed S R → Type 0
+        Is_high q = IsAbove c.sizes q.peak q.limited ⊎ (heap_of c.sizes < length (items_in q.heaps.items) + length q.extract.items + count_of q.body)
+
+        higher : 0 < length c.extract.items + count_of new.body → count_of new.body ≡ count_of c.body + count_of one.body → Is_high new
+        higher more sum = by_old (zero_or (length c.extract.items + count_of c.body))
           where
             zero_or : (k : ℕ) → (k ≡ 0) ⊎ (0 < k)
             zero_or k = grind arith
 
-            from_old : (heap_of c.sizes < c.peak) ⊎ (heap_of c.sizes < length (items_in c.heaps.items) + count_of c.body) → (heap_of c.sizes < new.peak) ⊎ (heap_of c.sizes < length (items_in new.heaps.items) + count_of new.body)
-            from_old (inl h) = inl (omega (arith, h, ap (λ q. q.peak) same))
-            from_old (inr h) = inr (omega (arith, h, all_items, sum))
+            from_old : Is_high c → Is_high new
+            from_old (inl h) = inl (λ e. omega (arith, h (sym (ap (λ q. q.limited) same) ∙ e), ap (λ q. q.peak) same))
+            from_old (inr h) = inr (omega (arith, h, all_items, sum, same_extract))
 
-            by_old : (count_of c.body ≡ 0) ⊎ (0 < count_of c.body) → (heap_of c.sizes < new.peak) ⊎ (heap_of c.sizes < length (items_in new.heaps.items) + count_of new.body)
-            by_old (inl z) = inr (omega (arith, all_items, sum, many (omega (arith, more, sum, z))))
+            by_old : (length c.extract.items + count_of c.body ≡ 0) ⊎ (0 < length c.extract.items + count_of c.body) → Is_high new
+            by_old (inl z) = inr (omega (arith, all_items, sum, same_extract, many (omega (arith, more, sum, z))))
             by_old (inr h) = from_old (s.above h)

@@ -44,7 +44,8 @@ module _ {S R : Type 0} (shown : S → Shown) where
           sums = a.sums;
           told = a.told;
           fault = a.fault;
-          extract = a.extract;
+          extract_room = a.extract_room;
+          in_extract = a.in_extract;
           workers = a.workers;
           serves = a.serves;
           no_slot = a.no_slot;
@@ -71,5 +72,8 @@ module _ {S R : Type 0} (shown : S → Shown) where
               small = s.small;
               counted = s.counted;
               above = s.above;
+              ascends = s.ascends;
+              order = s.order;
+              order_rest = s.order_rest;
             };
       }

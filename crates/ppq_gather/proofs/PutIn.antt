@@ -1,11 +1,10 @@
 -- A pass that was put in, as a whole: its runs were adopted, or, after a fault, taken apart.
-use Rattle.std.proofs.Common.{◌≡◌, ℕ, ◌+◌, List, [], ◌∷◌, ◌++◌, length, reverse, sum_by, All, Bool, Option, Some, None, refl, sym, ap, ◌∙◌, subst, arith, inl, inr}
+use Rattle.std.proofs.Common.{◌≡◌, ℕ, ◌+◌, List, [], ◌∷◌, ◌++◌, length, sum_by, All, Bool, Option, Some, None, refl, sym, ap, ◌∙◌, subst, arith, inl, inr}
 use Rattle.std.specs.Prelude.{◌⊎◌, flat_map, count_by, vec_capacity}
 use Rattle.std.specs.Option.{option_or}
 use Rattle.std.specs.declared.cmp.Ordering.{Ordering}
 use Rattle.std.proofs.lemmas.List.Elements.{All-head}
 use Rattle.std.proofs.lemmas.List.Sums.{sum_by-cons, sum_by-append}
-use Rattle.std.proofs.lemmas.List.Concat.{flat_map-cons}
 use Rattle.ppq_record.specs.Bag.{IsSameBag}
 use Rattle.ppq_record.proofs.Order.{count_by-append}
 use Rattle.ppq_heap.specs.Heap.{Contents}
@@ -24,7 +23,7 @@ use Rattle.ppq_gather.specs.Passes.{IsBrought, pass_of}
 use Rattle.ppq_gather.specs.Gathering.{IsGathered, IsGathering, IsSoundSoFar, gathered_bag}
 use Rattle.ppq_gather.specs.declared.brought.Brought.{Brought}
 use Rattle.ppq_gather.specs.declared.closed.Closed.{Closed}
-use Rattle.ppq_gather.proofs.Gathered.{Adopted, adopted-slots, adopted-buffers, gathering-more, sound-more', sum_by-joined}
+use Rattle.ppq_gather.proofs.Gathered.{Adopted, adopted-slots, adopted-buffers, gathering-more, sound-more', count-flat, count-joined}
 
 -- what a queue's parts are after a pass was put in, besides its runs
 pub record PutIn {S R : Type 0} (c new : Closed S R) (one : Brought S R) : Type 0 where
@@ -75,7 +74,7 @@ module _ {S R : Type 0} (shown : S → Shown) (cmp : R → R → Ordering) (reco
       (λ number e. no_fault none number e still)
       put.same
       in
-      let sound = sound-more' shown cmp record_of width slots items c one rest is.always (is.sound none) passed (mine.sound whole) (its_items shown cmp record_of width slots items c one rest is) new adopted put.heaps stash count put.same in
+      let sound = sound-more' shown cmp record_of width slots items c one rest is.always (is.sound none) passed (mine.sound whole) (its_items shown cmp record_of width slots items c one rest is) new whole adopted put.heaps stash count put.same in
       together always (λ _. subst (λ q. IsSoundSoFar shown cmp record_of width q rest) (ap (λ m. record new { sizes = m }) (sym (ap (λ q. q.sizes) put.same))) sound)
 
   -- its runs were taken apart: slots and buffers are all there
@@ -124,15 +123,8 @@ or_some None b number e = inr e
 or_some (Some x) b number e = inl e
 
 module _ {X R : Type 0} (f : X → List R) (p : R → Bool) where
-  count-flat : (xs : List X) → count_by p (flat_map f xs) ≡ sum_by (λ x. count_by p (f x)) xs
-  count-flat [] = refl
-  count-flat (x ∷ xs) = ap (count_by p) (flat_map-cons f x xs) ∙ omega (arith, count_by-append p (f x) (flat_map f xs), count-flat xs, sum_by-cons (λ y. count_by p (f y)) x xs)
-
-  count-joined : (xs ys : List X) → count_by p (flat_map f (xs ++ reverse ys)) ≡ count_by p (flat_map f xs) + count_by p (flat_map f ys)
-  count-joined xs ys = omega (arith, count-flat (xs ++ reverse ys), count-flat xs, count-flat ys, sum_by-joined (λ y. count_by p (f y)) xs ys)
-
   count-push : (xs : List X) (y : X) → count_by p (flat_map f (xs ++ y ∷ [])) ≡ count_by p (flat_map f xs) + count_by p (f y)
-  count-push xs y = omega (arith, count-flat (xs ++ y ∷ []), count-flat xs, sum_by-append (λ z. count_by p (f z)) xs (y ∷ []), sum_by-cons (λ z. count_by p (f z)) y [])
+  count-push xs y = omega (arith, count-flat f p (xs ++ y ∷ []), count-flat f p xs, sum_by-append (λ z. count_by p (f z)) xs (y ∷ []), sum_by-cons (λ z. count_by p (f z)) y [])
 
 module _ {S R : Type 0} (shown : S → Shown) (cmp : R → R → Ordering) (record_of : List ℕ → R) (width : ℕ) (c new : Closed S R) (one : Brought S R) (rest : List (Brought S R)) (put : PutIn c new one) (adopted : Adopted c.body one.body new.body) where
   -- the records are the same
@@ -145,9 +137,11 @@ module _ {S R : Type 0} (shown : S → Shown) (cmp : R → R → Ordering) (reco
       let runs = runs_bag shown record_of width c.body in
       omega (
         arith,
-        count_by-append p (items_in new.heaps.items ++ runs') (flat_map (λ (x : Brought S R). (pass_of shown record_of width new.sizes x).bag) rest),
+        count_by-append p (items_in new.heaps.items ++ new.extract.items ++ runs') (flat_map (λ (x : Brought S R). (pass_of shown record_of width new.sizes x).bag) rest),
         ap (λ n. count_by p (flat_map (λ (x : Brought S R). (pass_of shown record_of width n x).bag) rest)) (ap (λ q. q.sizes) put.same),
-        count_by-append p (items_in new.heaps.items) runs',
+        count_by-append p (items_in new.heaps.items ++ new.extract.items) runs',
+        count_by-append p (items_in new.heaps.items) new.extract.items,
+        ap (λ q. count_by p q.extract.items) put.same,
         ap (λ l. count_by p (items_in l)) put.heaps,
         count-push h p c.heaps.items one.heap,
         count_by-append p (internal_items new.body.runs.internal.items) (flat_map r new.body.runs.external.items),
@@ -155,8 +149,9 @@ module _ {S R : Type 0} (shown : S → Shown) (cmp : R → R → Ordering) (reco
         count-joined items_of p c.body.runs.internal.items one.body.runs.internal.items,
         ap (λ l. count_by p (flat_map r l)) adopted.external,
         count-joined r p c.body.runs.external.items one.body.runs.external.items,
-        count_by-append p (items_in c.heaps.items ++ runs) (flat_map b (rest ++ one ∷ [])),
-        count_by-append p (items_in c.heaps.items) runs,
+        count_by-append p (items_in c.heaps.items ++ c.extract.items ++ runs) (flat_map b (rest ++ one ∷ [])),
+        count_by-append p (items_in c.heaps.items ++ c.extract.items) runs,
+        count_by-append p (items_in c.heaps.items) c.extract.items,
         count_by-append p (internal_items c.body.runs.internal.items) (flat_map r c.body.runs.external.items),
         count-push b p rest one,
         count_by-append p one.heap.items (internal_items one.body.runs.internal.items ++ flat_map r one.body.runs.external.items),

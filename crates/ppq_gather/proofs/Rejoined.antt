@@ -1,11 +1,9 @@
 -- A queue of parts into which all passes were put.
-use Rattle.std.proofs.Common.{◌≡◌, ℕ, ◌+◌, ◌*◌, ◌<◌, ◌≤◌, List, [], ◌∷◌, ◌++◌, length, max, min, None, All, sym, ap, ap₂, ◌∙◌, subst, arith, inl, inr, append-nil, length-append}
+use Rattle.std.proofs.Common.{◌≡◌, ℕ, ◌+◌, ◌*◌, ◌<◌, ◌≤◌, List, [], ◌∷◌, ◌++◌, length, max, min, sum_by, Some, None, All, sym, ap, ap₂, ◌∙◌, subst, arith, inl, inr, append-nil, length-append}
 use Rattle.std.specs.Prelude.{◌⊎◌}
 use Rattle.std.specs.declared.cmp.Ordering.{Ordering}
 use Rattle.std.proofs.lemmas.List.Elements.{All-head}
 use Rattle.ppq_outside.specs.Shown.{Shown, AllTell}
-use Rattle.ppq_record.specs.Order.{Ascends}
-use Rattle.ppq_fetch.specs.Taking.{NoneAfter}
 use Rattle.ppq_budget.specs.Sizes.{heap_of, heaps_of}
 use Rattle.ppq_heap.specs.Heap.{Contents}
 use Rattle.ppq_heap.specs.Heaps.{Shares, AreShares, cap_of, items_of, items_in}
@@ -15,10 +13,12 @@ use Rattle.ppq_spill.specs.Body.{job_slots}
 use Rattle.ppq_queue.specs.declared.queue_parts.QueueParts.{QueueParts}
 use Rattle.ppq_queue.specs.Handed.{IsWhole}
 use Rattle.ppq_queue.specs.State.{IsQueue, IsSound}
-use Rattle.ppq_queue.specs.Resting.{AtRest, IsRestingRun, IsRestingArray, runs_bag, count_of, slots_of, odd_in}
+use Rattle.ppq_queue.specs.Resting.{AtRest, IsRestingRun, IsRestingArray, count_of, slots_of, odd_in}
 use Rattle.ppq_queue.proofs.Bounds.{records_most}
 use Rattle.ppq_queue.proofs.Slots.{SameSums-length}
 use Rattle.ppq_queue.proofs.Shared.{all_within}
+use Rattle.ppq_array.specs.Kept.{HasFailed, weight_at}
+use Rattle.ppq_queue.specs.Holding.{IsAbove}
 use Rattle.ppq_gather.specs.Gathering.{IsGathered, IsGathering, IsSoundSoFar}
 use Rattle.ppq_gather.specs.declared.closed.Closed.{Closed}
 
@@ -28,9 +28,9 @@ module _ {R : Type 0} where
   cap_first (x ∷ xs) cap some all = All-head (λ (h : Contents R). h.cap ≡ cap) x xs all
 
 -- the parts as a queue's, with these heaps
-abbrev pub parts_of : {S R : Type 0} → Closed S R → Shares R → ℕ → QueueParts S R
-parts_of c heaps count =
-    record { sizes = c.sizes; heaps = heaps; body = c.body; supply = c.supply; extract = c.extract; sources = c.sources; count = count; peak = max c.peak count; failed = c.failed; slots = c.slots }
+abbrev pub parts_of : {S R : Type 0} → Closed S R → Shares R → ℕ → ℕ → QueueParts S R
+parts_of c heaps count load =
+    record { sizes = c.sizes; heaps = heaps; body = c.body; supply = c.supply; extract = c.extract; sources = c.sources; count = count; peak = max c.peak load; limited = c.limited; failed = c.failed; slots = c.slots }
 
 module _ {S R : Type 0} (shown : S → Shown) (cmp : R → R → Ordering) (record_of : List ℕ → R) (width : ℕ) (slots items : List Shown) (c : Closed S R) (is : IsGathered shown cmp record_of width slots items c []) (heaps : Shares R) (heaps_are : heaps.heaps ≡ c.heaps.items) (cap : heaps.cap ≡ heap_of c.sizes) (are : AreShares heaps) where
   a : IsGathering shown width slots items c []
@@ -77,8 +77,13 @@ module _ {S R : Type 0} (shown : S → Shown) (cmp : R → R → Ordering) (reco
       let count : length heaps.heaps ≡ c.sizes.workers = omega (arith, ap length heaps_are, a.heaps) in
       subst (λ k. length (items_of heaps) ≤ k) (ap₂ (λ x y. x * y) count cap) (all_within heaps are)
 
-  module _ (count : ℕ) (count_is : count ≡ min c.count (c.sizes.memory + c.sizes.block * c.sizes.blocks)) where
-    queue_here : IsQueue shown c.sizes heaps c.extract c.body c.supply count (max c.peak count) c.failed
+  module _ (count load popped : ℕ) (count_is : count ≡ min c.count (c.sizes.memory + c.sizes.block * c.sizes.blocks)) (load_is : load ≡ min (c.count + popped) (c.sizes.memory + c.sizes.block * c.sizes.blocks)) where
+    fault_here : (number : ℕ) → c.failed ≡ Some number → HasFailed number (slots_of shown c.body c.supply)
+    fault_here number e =
+        let f = weight_at (λ s. s.faults) number in
+        omega (arith, a.fault number e, a.sums f, ap (sum_by f) (append-nil (slots_of shown c.body c.supply)))
+
+    queue_here : IsQueue shown c.sizes heaps c.extract c.body c.supply count (max c.peak load) c.failed
     queue_here =
         record {
           range = a.range;
@@ -86,43 +91,45 @@ module _ {S R : Type 0} (shown : S → Shown) (cmp : R → R → Ordering) (reco
           cap = cap;
           shares = omega (arith, ap length heaps_are, a.heaps);
           in_heap = all_heaps;
-          room = ap (λ e. e.room) a.extract;
-          in_extract = omega (arith, ap (λ e. length e.items) a.extract);
+          room = a.extract_room;
+          in_extract = a.in_extract;
           held = omega (arith, a.holds);
           pool = a.pool;
           slots = all_here;
           no_row = a.no_row;
-          counted = omega arith;
-          most = omega (arith, count_is, a.most_peak);
+          counted = omega (arith, count_is, load_is);
+          most = omega (arith, load_is, a.most_peak);
           most_count = omega (arith, count_is);
-          fault = a.fault;
+          fault = fault_here;
         }
 
-    sound_here : c.failed ≡ None → IsSound shown cmp record_of width c.sizes heaps c.extract c.body c.supply c.sources count (max c.peak count)
+    sound_here : c.failed ≡ None → IsSound shown cmp record_of width c.sizes heaps c.extract c.body c.supply c.sources count (max c.peak load) c.limited
     sound_here none =
         let s = is.sound none in
         let rest = rest_here s in
         let items : length (items_of heaps) ≡ length (items_in c.heaps.items) = ap (λ l. length (items_in l)) heaps_are in
-        let most = records_most shown cmp record_of width c.sizes c.body c.supply rest a.range a.budget (length (items_of heaps)) 0 all_heaps (omega arith) in
-        let all : count ≡ length (items_of heaps) + count_of c.body = omega (arith, count_is, s.counted, most, items) in
-        let empty = ap (λ e. e.items) a.extract in
+        let most = records_most shown cmp record_of width c.sizes c.body c.supply rest a.range a.budget (length (items_of heaps)) (length c.extract.items) all_heaps a.in_extract in
+        let all : count ≡ length (items_of heaps) + length c.extract.items + count_of c.body = omega (arith, count_is, s.counted, most, items) in
+        let tells : AllTell (slots_of shown c.body c.supply) → AllTell (slots_of shown c.body c.supply ++ []) = subst AllTell (sym (append-nil (slots_of shown c.body c.supply))) in
         record {
           rest = rest;
-          counted = omega (arith, all, ap length empty);
-          ascends = λ tell. subst (λ l. Ascends cmp l) (sym empty) tt;
-          order = λ tell. subst (λ l. NoneAfter cmp l (runs_bag shown record_of width c.body)) (sym empty) tt;
+          counted = all;
+          ascends = λ tell. s.ascends (tells tell);
+          order = λ tell. s.order (tells tell);
           above = λ more. high (s.above (omega (arith, more, all))) all items;
           workers = a.workers;
           serves = a.serves;
         }
       where
-        high : (heap_of c.sizes < c.peak) ⊎ (heap_of c.sizes < length (items_in c.heaps.items) + count_of c.body) → count ≡ length (items_of heaps) + count_of c.body → length (items_of heaps) ≡ length (items_in c.heaps.items) → heap_of c.sizes < max c.peak count
-        high (inl h) all items = omega (arith, h)
-        high (inr h) all items = omega (arith, h, all, items)
+        high :
+            IsAbove c.sizes c.peak c.limited ⊎ (heap_of c.sizes < length (items_in c.heaps.items) + length c.extract.items + count_of c.body) → count ≡ length (items_of heaps) + length c.extract.items + count_of c.body
+            → length (items_of heaps) ≡ length (items_in c.heaps.items) → IsAbove c.sizes (max c.peak load) c.limited
+        high (inl h) all items free = omega (arith, h free)
+        high (inr h) all items free = omega (arith, h, all, items, count_is, load_is)
 
     -- all records are counted
     pub count_all : c.failed ≡ None → count ≡ c.count
-    count_all none = omega (arith, (sound_here none).counted, (is.sound none).counted, ap (λ l. length (items_in l)) heaps_are, ap (λ e. length e.items) a.extract)
+    count_all none = omega (arith, (sound_here none).counted, (is.sound none).counted, ap (λ l. length (items_in l)) heaps_are)
 
-    pub whole-rejoined : IsWhole shown cmp record_of width (parts_of c heaps count)
+    pub whole-rejoined : IsWhole shown cmp record_of width (parts_of c heaps count load)
     whole-rejoined = record { queue = queue_here; sound = sound_here; no_slot = a.no_slot; slots_room = a.slots_room }

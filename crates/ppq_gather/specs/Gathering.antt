@@ -8,12 +8,15 @@ use Rattle.ppq_heap.specs.Heaps.{items_in}
 use Rattle.ppq_array.specs.Owner.{HasBlock, slots_shown}
 use Rattle.ppq_array.specs.Kept.{HasFailed}
 use Rattle.ppq_array.specs.Holdings.{external_buffers}
-use Rattle.ppq_extract.specs.Extracted.{held, ServesFor}
+use Rattle.ppq_extract.specs.Extracted.{ServesFor}
 use Rattle.ppq_fetch.specs.Fetching.{fronts_in}
 use Rattle.ppq_spill.specs.Body.{held_by}
 use Rattle.ppq_pass.specs.Passed.{slots_of as pass_slots}
 use Rattle.ppq_queue.specs.Slots.{SameSums}
 use Rattle.ppq_queue.specs.Resting.{IsRestingRun, IsRestingArray, AllRise, runs_bag, count_of, lane_buffers, odd_in, slots_of}
+use Rattle.ppq_record.specs.Order.{Ascends}
+use Rattle.ppq_fetch.specs.Taking.{NoneAfter}
+use Rattle.ppq_queue.specs.Holding.{IsAbove}
 use Rattle.ppq_gather.specs.Passes.{IsBrought, pass_of}
 use Rattle.ppq_gather.specs.declared.brought.Brought.{Brought}
 use Rattle.ppq_gather.specs.declared.closed.Closed.{Closed}
@@ -53,8 +56,9 @@ module _ {S R : Type 0} (shown : S → Shown) where
     pub all_slots : length slots ≡ c.sizes.blocks
     pub sums : SameSums (slots_of shown c.body c.supply ++ slots_in rest) slots
     pub told : AllTell slots → AllTell items
-    pub fault : (number : ℕ) → c.failed ≡ Some number → HasFailed number (slots_of shown c.body c.supply)
-    pub extract : c.extract ≡ held [] (batch_of c.sizes)
+    pub fault : (number : ℕ) → c.failed ≡ Some number → HasFailed number slots
+    pub extract_room : c.extract.room ≡ batch_of c.sizes
+    pub in_extract : length c.extract.items ≤ batch_of c.sizes
     pub workers : c.sources.bench.workers ≡ c.sizes.workers
     pub serves : ServesFor (pool_of c.sizes + 65) c.sources
     pub no_slot : c.slots.items ≡ []
@@ -62,9 +66,10 @@ module _ {S R : Type 0} (shown : S → Shown) where
     pub most_peak : c.peak ≤ c.sizes.memory + c.sizes.block * c.sizes.blocks + 1
 
   module _ (cmp : R → R → Ordering) (record_of : List ℕ → R) (width : ℕ) where
-    -- What holds while no pass that was put in has met a fault: the runs rest, and where slots tell, they ascend; all records are counted.
-    -- Two idle buffers of each pass are to come. A record that is in no heap came there by a peak above what a heap holds, or there are
-    -- more records than a heap holds
+    -- What holds while no fault was met: the runs rest, and where slots tell, they ascend; all records are counted. Two idle buffers of
+    -- each pass are to come. A record that is in no heap came there by a peak above what a heap holds, by a limit session, or there are
+    -- more records than a heap holds. Where slots tell, the extract buffer ascends, and no record of it is after one of a run, nor after
+    -- one of a run of a pass that is to come
     pub record IsSoundSoFar (c : Closed S R) (rest : List (Brought S R)) : Type 0 where
       pub idle : All (HasBlock c.sizes.block) c.body.lanes.idle
       pub internal : All (IsRestingRun c.sizes.block) c.body.runs.internal.items
@@ -79,8 +84,11 @@ module _ {S R : Type 0} (shown : S → Shown) where
       pub tree : pool_of c.sizes < length c.body.tree.items
       pub rise : AllTell (slots_of shown c.body c.supply ++ slots_in rest) → AllRise shown cmp record_of width c.body
       pub small : c.count + length rest * 34359738368 ≤ 4398046511104
-      pub counted : c.count ≡ length (items_in c.heaps.items) + count_of c.body + begun_in rest
-      pub above : 0 < count_of c.body → (heap_of c.sizes < c.peak) ⊎ (heap_of c.sizes < length (items_in c.heaps.items) + count_of c.body)
+      pub counted : c.count ≡ length (items_in c.heaps.items) + length c.extract.items + count_of c.body + begun_in rest
+      pub above : 0 < length c.extract.items + count_of c.body → IsAbove c.sizes c.peak c.limited ⊎ (heap_of c.sizes < length (items_in c.heaps.items) + length c.extract.items + count_of c.body)
+      pub ascends : AllTell (slots_of shown c.body c.supply ++ slots_in rest) → Ascends cmp c.extract.items
+      pub order : AllTell (slots_of shown c.body c.supply ++ slots_in rest) → NoneAfter cmp c.extract.items (runs_bag shown record_of width c.body)
+      pub order_rest : AllTell (slots_of shown c.body c.supply ++ slots_in rest) → All (λ (one : Brought S R). one.failed ≡ None → NoneAfter cmp c.extract.items (runs_bag shown record_of width one.body)) rest
 
     -- all that holds, with the passes that are to come
     pub record IsGathered (slots items : List Shown) (c : Closed S R) (rest : List (Brought S R)) : Type 0 where
@@ -91,4 +99,4 @@ module _ {S R : Type 0} (shown : S → Shown) where
 
     -- the records of the parts and of the passes that are to come
     abbrev pub gathered_bag : Closed S R → List (Brought S R) → List R
-    gathered_bag c rest = items_in c.heaps.items ++ runs_bag shown record_of width c.body ++ flat_map (λ (one : Brought S R). (pass_of shown record_of width c.sizes one).bag) rest
+    gathered_bag c rest = items_in c.heaps.items ++ c.extract.items ++ runs_bag shown record_of width c.body ++ flat_map (λ (one : Brought S R). (pass_of shown record_of width c.sizes one).bag) rest

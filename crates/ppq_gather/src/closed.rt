@@ -23,7 +23,7 @@ pub struct Closed<S: Slot + Send + Sync, R: Record + Send + Sync> {
     pub body: PassBody<S, R>,
     /// The free slots and the idle buffers.
     pub supply: OwnerLists<S, R>,
-    /// An empty buffer.
+    /// The records that are next, in order: those that a front has left, and none in a bulk session.
     pub extract: Extract<R>,
     /// What refills and merges need.
     pub sources: Sources<R>,
@@ -31,7 +31,9 @@ pub struct Closed<S: Slot + Send + Sync, R: Record + Send + Sync> {
     pub count: u64,
     /// The greatest size that the queue had when the session began.
     pub peak: u64,
-    /// The number of the slot a call of which failed, in one of those passes.
+    /// Whether a limit session was begun.
+    pub limited: bool,
+    /// The number of the slot a call of which failed, in a front or in one of those passes.
     pub failed: Option<u32>,
     /// The emptied list of the slots that came in.
     pub slots: Vec<S>,

@@ -22,9 +22,10 @@ pub fn gather_all<S: Slot + Send + Sync, R: Record + Send + Sync>(c: &mut Closed
     requires { (slots : List Shown) × (items : List Shown) × IsGathered S.shown R.Ord.cmp R.record_of R.WIDTH slots items c.old c.old.brought.items }
     ensures gathered { (slots items : List Shown) → IsGathered S.shown R.Ord.cmp R.record_of R.WIDTH slots items c.old c.old.brought.items → IsGathered S.shown R.Ord.cmp R.record_of R.WIDTH slots items c.new [] }
     ensures bag { c.new.failed ≡ None → IsSameBag (gathered_bag S.shown R.Ord.cmp R.record_of R.WIDTH c.new []) (gathered_bag S.shown R.Ord.cmp R.record_of R.WIDTH c.old c.old.brought.items) }
-    ensures failed { c.new.failed ≡ None → All (λ one. one.failed ≡ None) c.old.brought.items }
+    ensures failed { c.new.failed ≡ None → (c.old.failed ≡ None) × All (λ one. one.failed ≡ None) c.old.brought.items }
     ensures size { c.new.failed ≡ None → c.new.count ≡ c.old.count + accepted_in S.shown c.old.brought.items }
     ensures same { (c.new.sizes ≡ c.old.sizes) × (c.new.peak ≡ c.old.peak) }
+    ensures limited { c.new.limited ≡ c.old.limited }
 {
     'gathering: while let Some(one) = c.brought.pop() {
         gather(c, one);
@@ -39,6 +40,7 @@ fn gather<S: Slot + Send + Sync, R: Record + Send + Sync>(c: &mut Closed<S, R>, 
     ensures failed { c.new.failed ≡ None → (c.old.failed ≡ None) × (one.failed ≡ None) }
     ensures size { c.new.failed ≡ None → c.new.count ≡ c.old.count + one.accepted }
     ensures same { (c.new.sizes ≡ c.old.sizes) × (c.new.peak ≡ c.old.peak) × (c.new.brought ≡ c.old.brought) }
+    ensures limited { c.new.limited ≡ c.old.limited }
 {
     let Brought {
         heap,

@@ -1,5 +1,5 @@
 //! A queue of the parts into which all passes were put.
-ghost use Rattle.std.specs.Prelude.{◌≡◌, ◌+◌, ◌*◌, [], List, None, max};
+ghost use Rattle.std.specs.Prelude.{◌≡◌, ◌+◌, ◌*◌, ◌≤◌, [], List, None, max, min};
 ghost use Rattle.ppq_outside.specs.Shown.{Shown};
 ghost use Rattle.ppq_queue.specs.Resting.{slots_of};
 ghost use Rattle.ppq_gather.specs.Gathering.{IsGathered, gathered_bag};
@@ -11,15 +11,20 @@ use ppq_outside::Slot;
 use ppq_queue::{Queue, QueueParts};
 use ppq_record::Record;
 
-/// The queue of these parts.
-pub fn rejoin<S: Slot + Send + Sync, R: Record + Send + Sync>(c: Closed<S, R>) -> Queue<S, R>
+/// The queue of these parts, of a session in which so many records were popped: they count in its peak.
+pub fn rejoin<S: Slot + Send + Sync, R: Record + Send + Sync>(
+    c: Closed<S, R>,
+    popped: u64,
+) -> Queue<S, R>
     requires { (slots : List Shown) × (items : List Shown) × IsGathered S.shown R.Ord.cmp R.record_of R.WIDTH slots items c [] }
     ensures bag { result.bag ≡ gathered_bag S.shown R.Ord.cmp R.record_of R.WIDTH c [] }
     ensures slots { result.slots ≡ slots_of S.shown c.body c.supply }
     ensures failed { result.failed ≡ c.failed }
     ensures sizes { result.sizes ≡ c.sizes }
     ensures size { c.failed ≡ None → result.size ≡ c.count }
-    ensures peak { result.peak ≡ max c.peak result.size }
+    ensures most { c.failed ≡ None → c.count ≤ c.sizes.memory + c.sizes.block * c.sizes.blocks }
+    ensures peak { result.peak ≡ max c.peak (min (c.count + popped) (c.sizes.memory + c.sizes.block * c.sizes.blocks)) }
+    ensures limited { result.limited ≡ c.limited }
 {
     let Closed {
         sizes,
@@ -31,11 +36,14 @@ pub fn rejoin<S: Slot + Send + Sync, R: Record + Send + Sync>(c: Closed<S, R>) -
         sources,
         count,
         peak,
+        limited,
         failed,
         slots,
         brought: _,
     } = c;
-    let count = count.min(most_records(&sizes));
+    let most = most_records(&sizes);
+    let load = count.saturating_add(popped).min(most);
+    let count = count.min(most);
     let heaps = Heaps::from_parts(heaps, tree);
     heaps.known();
     Queue::from_parts(QueueParts {
@@ -46,7 +54,8 @@ pub fn rejoin<S: Slot + Send + Sync, R: Record + Send + Sync>(c: Closed<S, R>) -
         extract,
         sources,
         count,
-        peak: peak.max(count),
+        peak: peak.max(load),
+        limited,
         failed,
         slots,
     })

@@ -1,6 +1,6 @@
 -- A session in which records are loaded: it begins, records are given to its passes, and it ends.
-use Rattle.std.proofs.Common.{◌≡◌, inl, inr, ℕ, ◌+◌, ◌^◌, ◌<◌, ◌≤◌, true, List, [], ◌∷◌, ◌++◌, All, map, take, length, max, refl, sym, ap, ◌∙◌, subst, arith, length-append}
-use Rattle.std.specs.Prelude.{Any, Ok, Err}
+use Rattle.std.proofs.Common.{◌≡◌, inl, inr, ℕ, ◌+◌, ◌^◌, ◌<◌, ◌≤◌, true, List, [], ◌∷◌, ◌++◌, All, map, take, length, max, refl, sym, ap, ap₂, ◌∙◌, subst, arith, length-append}
+use Rattle.std.specs.Prelude.{Any, Result, Ok, Err}
 use Rattle.std.proofs.lemmas.List.{length-map}
 use Rattle.std.proofs.Math.Nat.{mul-le-mul_left, mul-le-mul_right}
 use Rattle.std.proofs.Math.Seq.{take-append_seam}
@@ -23,9 +23,11 @@ use Rattle.ppq_begin.specs.declared.fault.BeginFault.{BeginFault}
 use Rattle.ppq_begin.specs.declared.fault.BeginFault.TheVariants as begin
 use Rattle.ppq_begin.specs.declared.fault.SessionEnd.TheVariants.{Stopped}
 use Rattle.ppq_session.specs.Dealing.{IsGoing, HasEnded, Dealt}
-use Rattle.ppq_load.specs.Refusal.{Keeps, IsTooMuch}
+use Rattle.ppq_load.specs.Refusal.{Keeps, HasNoRoom}
+use Rattle.ppq_load.specs.declared.fault.LoadFault.{LoadFault}
+use Rattle.ppq_load.specs.declared.fault.LoadFault.TheVariants.{Queue}
 use Rattle.ppq_load.specs.Loading.{LoadHolding, InSession, IsLoaded, IsByLoad, IsHandedBack, LoadStopsFor, begin_fault_of, with_batch}
-use Rattle.ppq_load.proofs.Refusals.{room-more, too_much-more}
+use Rattle.ppq_load.proofs.Refusals.{room-more, no_room-later}
 
 all_of_map : {X Y : Type 0} (P : Y → Type 0) (f : X → Y) (xs : List X) → All P (map f xs) → All (λ x. P (f x)) xs
 all_of_map P f [] a = All-nil (λ x. P (f x))
@@ -43,15 +45,26 @@ pub batch-small : (sizes : Numbers) → AreInRange sizes → batch_of sizes < 2 
 batch-small sizes range = omega (arith, mul-le-mul_right sizes.block range.workers, mul-le-mul_left 64 range.block)
 
 -- why a session did not begin
-pub begin-refused : (old new : Holding Pair) (fault : BeginFault) → IsBeginRefusal old new fault → new.sizes ≡ old.sizes → new.peak ≡ old.peak → LoadStopsFor old.peak old.sizes new.slots (begin_fault_of fault)
-begin-refused old new begin.Memory refused sizes peak = tt
-begin-refused old new begin.NoFreeBlock refused sizes peak = subst (λ n. IsTooMuch n old.peak) sizes (subst (λ load. IsTooMuch new.sizes load) peak (refused.above, refused.room))
-begin-refused old new (begin.Device number) refused sizes peak = refused.fault
+pub begin-refused : (old new : Holding Pair) (fault : BeginFault) → IsBeginRefusal old new fault → new.sizes ≡ old.sizes → new.peak ≡ old.peak → new.limited ≡ old.limited → LoadStopsFor old.peak old.sizes old.limited new.slots (begin_fault_of fault)
+begin-refused old new begin.Memory refused sizes peak limited = tt
+begin-refused old new begin.NoFreeBlock refused sizes peak limited =
+    subst (λ l. HasNoRoom old.sizes l old.peak) limited (subst (λ n. HasNoRoom n new.limited old.peak) sizes (subst (λ load. HasNoRoom new.sizes new.limited load) peak (refused.above, refused.room)))
+begin-refused old new (begin.Device number) refused sizes peak limited = refused.fault
 
 pub begin-back : (old new : Holding Pair) (fault : BeginFault) → IsBeginRefusal old new fault → IsHandedBack old new (begin_fault_of fault)
 begin-back old new begin.Memory refused = refused
 begin-back old new begin.NoFreeBlock refused = record { bag = refused.bag; sound = refused.sound }
 begin-back old new (begin.Device number) refused = refused
+
+-- a block had failed before
+pub begin-latched :
+    {A B : Type 0} (old new : Holding Pair) (fault : BeginFault) (given : LoadFault) (number : ℕ) → given ≡ begin_fault_of fault
+    → ◌≡◌ {A = Result A (Holding Pair × BeginFault)} (Err (new, fault)) (Err (old, begin.Device number)) → ◌≡◌ {A = Result B (Holding Pair × LoadFault)} (Err (new, given)) (Err (old, Queue (Device number)))
+begin-latched old new fault given number is said =
+    let pair : ◌≡◌ {A = Holding Pair × BeginFault} (new, fault) (old, begin.Device number) = cc in
+    let queue : new ≡ old = ap (λ (p : Holding Pair × BeginFault). p.0) pair in
+    let device : given ≡ Queue (Device number) = is ∙ ap (λ (p : Holding Pair × BeginFault). begin_fault_of p.1) pair in
+    ap₂ (λ (q : Holding Pair) (f : LoadFault). Err (q, f)) queue device
 
 pub begin-by : (fault : BeginFault) → IsByLoad (begin_fault_of fault)
 begin-by begin.Memory = tt
@@ -105,9 +118,10 @@ module _ {S : Type 0} where
     pub session-begin :
         (bulk : BulkHolding S Pair) (passes : List (PassHolding S Pair)) → All IsFresh passes
         → (AllTell queue.slots → IsSameBag (bulk.bag ++ bag_of passes) queue.bag) → SameSlots queue.slots bulk.slots → (AllTell queue.slots → AllTell bulk.slots × All (PassTells shown) passes)
-        → all_writes queue.slots ≤ all_writes bulk.slots → bulk.size ≡ queue.size → bulk.peak ≡ queue.peak → bulk.sizes ≡ queue.sizes → InSession shown queue [] (record { bulk = bulk; passes = passes })
-    session-begin bulk passes fresh bag slots tells writes size peak sizes = record {
+        → all_writes queue.slots ≤ all_writes bulk.slots → bulk.size ≡ queue.size → bulk.peak ≡ queue.peak → bulk.sizes ≡ queue.sizes → bulk.limited ≡ queue.limited → InSession shown queue [] (record { bulk = bulk; passes = passes })
+    session-begin bulk passes fresh bag slots tells writes size peak sizes limited = record {
       sizes = sizes;
+      limited = limited;
       peak = peak;
       size = size;
       slots = slots;
@@ -122,6 +136,7 @@ module _ {S : Type 0} where
     pub session-batch : (records : List Pair) (load : LoadHolding S) (batch : List Pair) → InSession shown queue records load → InSession shown queue records (with_batch load batch)
     session-batch records load batch s = record {
       sizes = s.sizes;
+      limited = s.limited;
       peak = s.peak;
       size = s.size;
       slots = s.slots;
@@ -142,6 +157,7 @@ module _ {S : Type 0} where
         let so_far = s.accepted going in
         record {
           sizes = s.sizes;
+          limited = s.limited;
           peak = s.peak;
           size = s.size;
           slots = s.slots;
@@ -163,6 +179,7 @@ module _ {S : Type 0} where
         let less = s.fewer ended in
         record {
           sizes = s.sizes;
+          limited = s.limited;
           peak = s.peak;
           size = s.size;
           slots = s.slots;
@@ -176,9 +193,10 @@ module _ {S : Type 0} where
 
     module _ (records : List Pair) (bulk : BulkHolding S Pair) (passes : List (PassHolding S Pair)) (s : InSession shown queue records (record { bulk = bulk; passes = passes })) (new : Holding Pair) where
       -- what the end keeps, keeps the session
-      pub end-keeps : SameSlots bulk.slots new.slots → (AllTell bulk.slots → All (PassTells shown) passes → AllTell new.slots) → all_writes bulk.slots ≤ all_writes new.slots → new.sizes ≡ bulk.sizes → Keeps queue new
-      end-keeps slots tells writes sizes = record {
+      pub end-keeps : SameSlots bulk.slots new.slots → (AllTell bulk.slots → All (PassTells shown) passes → AllTell new.slots) → all_writes bulk.slots ≤ all_writes new.slots → new.sizes ≡ bulk.sizes → new.limited ≡ bulk.limited → Keeps queue new
+      end-keeps slots tells writes sizes limited = record {
         sizes = sizes ∙ s.sizes;
+        limited = limited ∙ s.limited;
         slots = SameSlots-trans queue.slots bulk.slots new.slots s.slots slots;
         tells = λ t. tells (s.tells t).0 (s.tells t).1;
         writes = omega (arith, s.writes, writes);
@@ -203,12 +221,12 @@ module _ {S : Type 0} where
         any-refused (k, pass, l, e, inr failed) = let f = end.no_fault k pass l in let n = failed.1 in absurd (cc)
 
         -- a pass was refused: there is no room for the records
-        short-much : 0 < bulk.sizes.block → Any HasEnded passes → IsTooMuch queue.sizes (max queue.peak (queue.size + length records))
+        short-much : 0 < bulk.sizes.block → Any HasEnded passes → HasNoRoom queue.sizes queue.limited (max queue.peak (queue.size + length records))
         short-much some ended =
             let short = end.short (any-refused ended) in
             let less = s.fewer ended in
             let most = max queue.peak (queue.size + length records) in
-            subst (λ n. IsTooMuch n most) s.sizes (omega (arith, short.1, end.size, s.size, less), omega (arith, short.0, room-more bulk.sizes new.peak most some peak-most))
+            subst (λ n. HasNoRoom n queue.limited most) s.sizes ((λ _. omega (arith, short.1, end.size, s.size, less)), omega (arith, short.0, room-more bulk.sizes new.peak most some peak-most))
 
         pub loaded-whole : {T : Type 0} (value : T) → Keeps queue new → All IsGoing passes → IsLoaded queue records new (Ok value)
         loaded-whole value kept going = record { kept = kept; bag = end-bag going; size = end-size going; sound = end.sound; peak = end-peak going; refused = tt }
@@ -217,11 +235,12 @@ module _ {S : Type 0} where
         loaded-short kept some ended = record { kept = kept; bag = tt; size = tt; sound = tt; peak = tt; refused = short-much some ended }
 
         -- a merge of levels found no block
-        unmerged-much : 0 < bulk.sizes.block → new.sizes ≡ bulk.sizes → HasNoBlock new → IsTooMuch queue.sizes (max queue.peak (queue.size + length records))
+        unmerged-much : 0 < bulk.sizes.block → new.sizes ≡ bulk.sizes → HasNoBlock new → HasNoRoom queue.sizes queue.limited (max queue.peak (queue.size + length records))
         unmerged-much some same short =
             let most = max queue.peak (queue.size + length records) in
-            let here : IsTooMuch bulk.sizes new.peak = subst (λ n. IsTooMuch n new.peak) same (short.above, short.room) in
-            subst (λ n. IsTooMuch n most) s.sizes (too_much-more bulk.sizes new.peak most some peak-most here)
+            let limited : new.limited ≡ queue.limited = end.limited ∙ s.limited in
+            let here : HasNoRoom bulk.sizes queue.limited new.peak = subst (λ l. HasNoRoom bulk.sizes l new.peak) limited (subst (λ n. HasNoRoom n new.limited new.peak) same (short.above, short.room)) in
+            subst (λ n. HasNoRoom n queue.limited most) s.sizes (no_room-later bulk.sizes queue.limited queue.limited new.peak most some (λ same. same) peak-most here)
 
       pub loaded-stopped :
           {T : Type 0} (fault : QueueFault) → Keeps queue new → 0 < bulk.sizes.block → new.sizes ≡ bulk.sizes → EndsIn shown bulk passes new (Stopped fault) → IsLoaded {T = T} queue records new (Err fault)

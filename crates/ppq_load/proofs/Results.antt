@@ -31,16 +31,16 @@ module _ {T : Type 0} (queue new : Holding Pair) (records : List Pair) (n : ℕ)
   loaded-peak (Ok value) loaded = loaded.peak ∙ ap (λ k. max queue.peak (queue.size + k)) long
   loaded-peak (Err fault) loaded = tt
 
-  pub loaded-refused : (ended : Result T QueueFault) → IsLoaded queue records new ended → IfErr (loaded_of ended) (LoadStopsFor (max queue.peak (queue.size + n)) queue.sizes new.slots)
+  pub loaded-refused : (ended : Result T QueueFault) → IsLoaded queue records new ended → IfErr (loaded_of ended) (LoadStopsFor (max queue.peak (queue.size + n)) queue.sizes queue.limited new.slots)
   loaded-refused (Ok value) loaded = tt
-  loaded-refused (Err fault) loaded = subst (λ k. LoadStopsFor (max queue.peak (queue.size + k)) queue.sizes new.slots (Queue fault)) long loaded.refused
+  loaded-refused (Err fault) loaded = subst (λ k. LoadStopsFor (max queue.peak (queue.size + k)) queue.sizes queue.limited new.slots (Queue fault)) long loaded.refused
 
   pub loaded-by : (ended : Result T QueueFault) → IfErr (loaded_of ended) IsByLoad
   loaded-by (Ok value) = tt
   loaded-by (Err fault) = tt
 
 -- a fault of reading says nothing of the queue
-read-stops : (peak : ℕ) (queue : Holding Pair) (slots : List Shown) (fault : LoadFault) → IsByRead fault → LoadStopsFor peak queue.sizes slots fault
+read-stops : (peak : ℕ) (queue : Holding Pair) (slots : List Shown) (fault : LoadFault) → IsByRead fault → LoadStopsFor peak queue.sizes queue.limited slots fault
 read-stops peak queue slots (Queue fault) by = absurd by
 read-stops peak queue slots Read by = tt
 read-stops peak queue slots Memory by = tt
@@ -88,7 +88,7 @@ module _ {S B : Type 0} (shown : S → Shown) (told : Option (List ℕ → Optio
   pub first-peak : {A : Type 0} (read : Result A LoadFault) → OnOk read Given → OnOk (first_of read ended) (new.peak ≡ max queue.peak (queue.size + said / 16))
   first-peak read given = first-end (new.peak ≡ max queue.peak (queue.size + said / 16)) read given (λ had. loaded-peak queue new had.records (said / 16) had.are.length ended (end had.records had.session))
 
-  pub first-refused : {A : Type 0} (read : Result A LoadFault) → OnOk read Given → IfErr read IsByRead → IfErr (first_of read ended) (LoadStopsFor (max queue.peak (queue.size + said / 16)) queue.sizes new.slots)
+  pub first-refused : {A : Type 0} (read : Result A LoadFault) → OnOk read Given → IfErr read IsByRead → IfErr (first_of read ended) (LoadStopsFor (max queue.peak (queue.size + said / 16)) queue.sizes queue.limited new.slots)
   first-refused (Ok value) given by = loaded-refused queue new given.records (said / 16) given.are.length ended (end given.records given.session)
   first-refused (Err fault) given by = read-stops (max queue.peak (queue.size + said / 16)) queue new.slots fault by
 

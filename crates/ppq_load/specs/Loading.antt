@@ -1,5 +1,5 @@
 -- Sessions in which a queue gets many records, by a pass for each worker.
-use Rattle.std.specs.Prelude.{◌≡◌, ◌<◌, ◌≤◌, ◌+◌, ◌*◌, ℕ, zero, suc, List, [], ◌++◌, length, drop, max, All, Any, Option, Some, None, Result, Ok, Err, OnOk, IfErr, ⊤}
+use Rattle.std.specs.Prelude.{◌≡◌, ◌<◌, ◌≤◌, ◌+◌, ◌*◌, Bool, ℕ, zero, suc, List, [], ◌++◌, length, drop, max, All, Any, Option, Some, None, Result, Ok, Err, OnOk, IfErr, ⊤}
 use Rattle.ppq_record.specs.declared.pair.Pair.{Pair}
 use Rattle.ppq_record.specs.Pair.{pair_of}
 use Rattle.ppq_record.specs.Bag.{IsSameBag}
@@ -11,7 +11,7 @@ use Rattle.ppq_array.specs.Kept.{SameSlots, all_writes}
 use Rattle.ppq_pass.specs.Passed.{PassHolding, PassTells}
 use Rattle.ppq_queue.specs.Holding.{Holding, HasStopped}
 use Rattle.ppq_queue.specs.declared.fault.QueueFault.{QueueFault}
-use Rattle.ppq_begin.specs.Session.{BulkHolding, IsIntact, bag_of, accepted_of}
+use Rattle.ppq_begin.specs.Session.{BulkHolding, IsIntact, IsTogether, bag_of, accepted_of}
 use Rattle.ppq_begin.specs.declared.fault.BeginFault.{BeginFault}
 use Rattle.ppq_begin.specs.declared.fault.BeginFault.TheVariants as begin
 use Rattle.ppq_queue.specs.declared.fault.QueueFault.TheVariants as queue_fault
@@ -36,6 +36,7 @@ with_batch load batch = record load { bulk = record load.bulk { batch = batch } 
 -- stopped, they have all of them
 pub record InSession {S : Type 0} (shown : S → Shown) (queue : Holding Pair) (records : List Pair) (load : LoadHolding S) : Type 0 where
   pub sizes : load.bulk.sizes ≡ queue.sizes
+  pub limited : load.bulk.limited ≡ queue.limited
   pub peak : load.bulk.peak ≡ queue.peak
   pub size : load.bulk.size ≡ queue.size
   pub slots : SameSlots queue.slots load.bulk.slots
@@ -54,7 +55,7 @@ pub record IsLoaded {T : Type 0} (queue : Holding Pair) (records : List Pair) (n
   pub size : OnOk result (new.size ≡ queue.size + length records)
   pub sound : OnOk result (new.failed ≡ None)
   pub peak : OnOk result (new.peak ≡ max queue.peak (queue.size + length records))
-  pub refused : IfErr result (IsRefusedBy (max queue.peak (queue.size + length records)) queue.sizes new.slots)
+  pub refused : IfErr result (IsRefusedBy (max queue.peak (queue.size + length records)) queue.sizes queue.limited new.slots)
 
 -- the number of the generator after so many steps
 abbrev pub seed_after : ℕ → ℕ → ℕ
@@ -100,11 +101,11 @@ first_of (Ok value) ended = loaded_of ended
 first_of (Err fault) ended = Err fault
 
 -- where it was the queue, it says why
-abbrev pub LoadStopsFor : ℕ → Numbers → List Shown → LoadFault → Type 0
-LoadStopsFor peak sizes slots (Queue fault) = IsRefusedBy peak sizes slots fault
-LoadStopsFor peak sizes slots Read = ⊤
-LoadStopsFor peak sizes slots Memory = ⊤
-LoadStopsFor peak sizes slots (Ended got) = ⊤
+abbrev pub LoadStopsFor : ℕ → Numbers → Bool → List Shown → LoadFault → Type 0
+LoadStopsFor peak sizes limited slots (Queue fault) = IsRefusedBy peak sizes limited slots fault
+LoadStopsFor peak sizes limited slots Read = ⊤
+LoadStopsFor peak sizes limited slots Memory = ⊤
+LoadStopsFor peak sizes limited slots (Ended got) = ⊤
 
 -- it was the queue, or memory was wanting
 abbrev pub IsByLoad : LoadFault → Type 0
@@ -127,6 +128,11 @@ IsHandedBack old new (Queue (queue_fault.Device number)) = HasStopped number new
 IsHandedBack old new Read = ⊥
 IsHandedBack old new Memory = IsIntact old new
 IsHandedBack old new (Ended got) = ⊥
+
+-- a session ended with a fault: the queue has all records of the session, or a block failed
+abbrev pub IsLeftBy : {S : Type 0} → (S → Shown) → LoadHolding S → Holding Pair → QueueFault → Type 0
+IsLeftBy shown load new queue_fault.NoFreeBlock = IsTogether shown load.bulk load.passes new
+IsLeftBy shown load new (queue_fault.Device number) = HasStopped number new
 
 -- the library's count rose where a read failed, and else stayed
 abbrev pub LoadCountsFrom : ℕ → ℕ → LoadFault → Type 0

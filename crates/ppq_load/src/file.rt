@@ -45,7 +45,7 @@ where
     ensures size { OnOk result.1 (result.0.size ≡ queue.size + said / 16) }
     ensures sound { OnOk result.1 (result.0.failed ≡ None) }
     ensures peak { OnOk result.1 (result.0.peak ≡ max queue.peak (queue.size + said / 16)) }
-    ensures refused { IfErr result.1 (LoadStopsFor (max queue.peak (queue.size + said / 16)) queue.sizes result.0.slots) }
+    ensures refused { IfErr result.1 (LoadStopsFor (max queue.peak (queue.size + said / 16)) queue.sizes queue.limited result.0.slots) }
     ensures ended { IfErr result.1 (LoadEndsIn (L.told library.old) (L.replied library.new) name.now said) }
     ensures kept { Keeps queue result.0 }
     ensures remembers { Remembers (L.replied library.old) (L.replied library.new) }

@@ -35,7 +35,7 @@ where
     ensures size { OnOk result.1 (result.0.size ≡ queue.size + count) }
     ensures sound { OnOk result.1 (result.0.failed ≡ None) }
     ensures peak { OnOk result.1 (result.0.peak ≡ max queue.peak (queue.size + count)) }
-    ensures refused { IfErr result.1 (LoadStopsFor (max queue.peak (queue.size + count)) queue.sizes result.0.slots) }
+    ensures refused { IfErr result.1 (LoadStopsFor (max queue.peak (queue.size + count)) queue.sizes queue.limited result.0.slots) }
     ensures by_load { IfErr result.1 IsByLoad }
     ensures kept { Keeps queue result.0 }
 {

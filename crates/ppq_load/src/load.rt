@@ -1,11 +1,13 @@
 //! An open session, as one value.
-ghost use Rattle.std.specs.Prelude.{◌≡◌, ◌<◌, ◌≤◌, ◌++◌, ◌↔◌, [], List, All, Any, IsTrue, false, IfOk, IfErr, OnOk, length, take, slice_set};
+ghost use Rattle.std.specs.Prelude.{◌≡◌, ◌<◌, ◌≤◌, ◌++◌, ◌↔◌, [], ℕ, List, All, Any, Some, Err, IsTrue, false, IfOk, IfErr, OnOk, length, take, slice_set};
 ghost use Rattle.ppq_record.specs.declared.pair.Pair.{Pair};
 ghost use Rattle.ppq_budget.specs.Sizes.{AreInRange, batch_of};
 ghost use Rattle.ppq_queue.specs.Holding.{Holding};
+ghost use Rattle.ppq_queue.specs.declared.fault.QueueFault.TheVariants.{Device};
 ghost use Rattle.ppq_session.specs.Dealing.{IsGoing, HasEnded, records_in};
 ghost use Rattle.ppq_load.specs.Refusal.{Keeps};
-ghost use Rattle.ppq_load.specs.Loading.{InSession, IsLoaded, IsByLoad, IsHandedBack, LoadStopsFor, with_batch};
+ghost use Rattle.ppq_load.specs.Loading.{InSession, IsLoaded, IsByLoad, IsHandedBack, IsLeftBy, LoadStopsFor, with_batch};
+ghost use Rattle.ppq_load.specs.declared.fault.LoadFault.TheVariants as load_fault;
 
 use crate::fault::LoadFault;
 use ppq_outside::{Gate, Host, Slot};
@@ -46,7 +48,8 @@ impl<S: Slot + Send + Sync> Model for Load<S> {
 impl<S: Slot + Send + Sync> Load<S> {
     /// Begins a session of a queue, with a pass for each worker. All memory that it needs is taken now.
     ///
-    /// Each refusal hands the queue back, with the records that it had unless a block failed.
+    /// Each refusal hands the queue back, with the records that it had unless a block failed. A queue of
+    /// which a block failed before comes back as it was.
     pub fn begin<H: Host, G: Gate>(
         rt: &H,
         alloc: Global,
@@ -57,10 +60,11 @@ impl<S: Slot + Send + Sync> Load<S> {
         H::Dir: Send,
         ensures session { IfOk result (λ load. InSession S.shown queue [] load) }
         ensures going { IfOk result (λ load. All IsGoing load.passes) }
-        ensures refused { IfErr result (λ back. LoadStopsFor queue.peak queue.sizes back.0.slots back.1) }
+        ensures refused { IfErr result (λ back. LoadStopsFor queue.peak queue.sizes queue.limited back.0.slots back.1) }
         ensures by_load { IfErr result (λ back. IsByLoad back.1) }
         ensures intact { IfErr result (λ back. IsHandedBack queue back.0 back.1) }
         ensures kept { IfErr result (λ back. Keeps queue back.0) }
+        ensures latched { (number : ℕ) → queue.failed ≡ Some number → result ≡ Err (queue, load_fault.Queue (Device number)) }
     {
         match bulk_begin(rt, alloc, queue, gate) {
             Ok((bulk, shared, passes)) => Ok(Load {
@@ -128,12 +132,14 @@ impl<S: Slot + Send + Sync> Load<S> {
     /// no memory.
     ///
     /// `Ok`: the queue has all records that were given. `NoFreeBlock`: a pass or a merge of levels found no
-    /// blocks. `Device`: the block with that number failed.
+    /// blocks, and the queue has all records that were accepted. `Device`: the block with that number failed,
+    /// and records may be lost.
     pub fn end<H: Host, G: Gate>(self, rt: &H, gate: &G) -> (Queue<S, Pair>, Result<(), QueueFault>)
     where
         H::Dir: Send,
         ensures all { OnOk result.1 (All IsGoing self.passes) }
         ensures loaded { (queue : Holding Pair) → (records : List Pair) → InSession S.shown queue records self → IsLoaded queue records result.0 result.1 }
+        ensures left { IfErr result.1 (IsLeftBy S.shown self result.0) }
     {
         let Load {
             bulk,

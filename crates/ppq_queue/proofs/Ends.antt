@@ -45,11 +45,11 @@ module _ {S R : Type 0} (shown : S → Shown) (n : Numbers) where
 
   -- a sound queue after records were taken out
   pub sound-took :
-      (cmp : R → R → Ordering) (record_of : List ℕ → R) (width : ℕ) (limit : Option R) (most : ℕ) (h h' : Shares R) (x x' : Held R) (a b : PassBody S R) (s t : Stock) (src src' : Sources R) (count less peak : ℕ) (out : List R)
-      → IsSound shown cmp record_of width n h x a s src count peak → BodyKept shown a b s t → TookOut shown cmp record_of width n limit most (items_of h) (items_of h') x.items x'.items a b s t out → less ≡ count - length out
+      (cmp : R → R → Ordering) (record_of : List ℕ → R) (width : ℕ) (limit : Option R) (most : ℕ) (h h' : Shares R) (x x' : Held R) (a b : PassBody S R) (s t : Stock) (src src' : Sources R) (count less peak : ℕ) (limited : Bool) (out : List R)
+      → IsSound shown cmp record_of width n h x a s src count peak limited → BodyKept shown a b s t → TookOut shown cmp record_of width n limit most (items_of h) (items_of h') x.items x'.items a b s t out → less ≡ count - length out
       → src'.bench.workers ≡ src.bench.workers → ServesFor (pool_of n + 65) src'
-      → IsSound shown cmp record_of width n h' x' b t src' less peak
-  sound-took cmp record_of width limit most h h' x x' a b s t src src' count less peak out is kept took e workers serves =
+      → IsSound shown cmp record_of width n h' x' b t src' less peak limited
+  sound-took cmp record_of width limit most h h' x x' a b s t src src' count less peak limited out is kept took e workers serves =
       record {
         rest = took.rest;
         counted = omega (arith, is.counted, took.count, e);

@@ -1,9 +1,9 @@
 -- A queue after its heap and extract buffer were stored, or its extract buffer refilled.
-use Rattle.std.proofs.Common.{◌≡◌, ℕ, ◌+◌, ◌<◌, ◌≤◌, List, [], length, max, Option, None, Some, sym, ◌∙◌, subst, arith, inl, inr}
+use Rattle.std.proofs.Common.{◌≡◌, ℕ, ◌+◌, ◌<◌, ◌≤◌, List, [], length, max, Bool, Option, None, Some, sym, ◌∙◌, subst, arith, inl, inr}
 use Rattle.std.specs.declared.cmp.Ordering.{Ordering}
 use Rattle.ppq_record.specs.Order.{Ascends}
 use Rattle.ppq_outside.specs.Shown.{Shown, AllTell}
-use Rattle.ppq_budget.specs.Sizes.{Numbers, AreInRange, heap_of, batch_of, pool_of, blocks_for, room_of}
+use Rattle.ppq_budget.specs.Sizes.{Numbers, AreInRange, batch_of, pool_of, blocks_for, room_of}
 use Rattle.ppq_heap.specs.Heaps.{Shares, items_of}
 use Rattle.ppq_array.specs.Supply.{Stock}
 use Rattle.ppq_array.specs.Kept.{HasFailed}
@@ -13,7 +13,7 @@ use Rattle.ppq_extract.specs.declared.sources.Sources.{Sources}
 use Rattle.ppq_spill.specs.declared.body.PassBody.{PassBody}
 use Rattle.ppq_queue.specs.Resting.{ExtractStays, BodyKept, AtRest, WholeMoved, WholeShort, Readied, IsShort, runs_bag, slots_of, count_of}
 use Rattle.ppq_queue.specs.State.{IsQueue, IsSound}
-use Rattle.ppq_queue.specs.Holding.{Holding, IsRefusal}
+use Rattle.ppq_queue.specs.Holding.{Holding, IsAbove, IsRefusal}
 use Rattle.ppq_queue.specs.declared.fault.QueueFault.{QueueFault}
 use Rattle.ppq_queue.specs.declared.fault.QueueFault.TheVariants.{NoFreeBlock, Device}
 use Rattle.ppq_queue.proofs.Bounds.{room_short, free_short}
@@ -51,11 +51,11 @@ module _ {S R : Type 0} (shown : S → Shown) (n : Numbers) where
   module _ (cmp : R → R → Ordering) (record_of : List ℕ → R) (width : ℕ) where
     -- after heap and extract buffer moved
     pub sound-moved :
-        (h h' : Shares R) (x x' : Held R) (a b : PassBody S R) (s t : Stock) (src src' : Sources R) (count peak : ℕ)
-        → IsSound shown cmp record_of width n h x a s src count peak → BodyKept shown a b s t → WholeMoved shown cmp record_of width n (items_of h) (items_of h') x.items x'.items a b s t
-        → (length (items_of h') < count → heap_of n < peak) → src'.bench.workers ≡ src.bench.workers → ServesFor (pool_of n + 65) src'
-        → IsSound shown cmp record_of width n h' x' b t src' count peak
-    sound-moved h h' x x' a b s t src src' count peak is kept moved above workers serves =
+        (h h' : Shares R) (x x' : Held R) (a b : PassBody S R) (s t : Stock) (src src' : Sources R) (count peak : ℕ) (limited : Bool)
+        → IsSound shown cmp record_of width n h x a s src count peak limited → BodyKept shown a b s t → WholeMoved shown cmp record_of width n (items_of h) (items_of h') x.items x'.items a b s t
+        → (length (items_of h') < count → IsAbove n peak limited) → src'.bench.workers ≡ src.bench.workers → ServesFor (pool_of n + 65) src'
+        → IsSound shown cmp record_of width n h' x' b t src' count peak limited
+    sound-moved h h' x x' a b s t src src' count peak limited is kept moved above workers serves =
         record {
           rest = moved.rest;
           counted = omega (arith, is.counted, moved.count);
@@ -76,11 +76,11 @@ module _ {S R : Type 0} (shown : S → Shown) (n : Numbers) where
 
     -- after the extract buffer was made ready
     pub sound-readied :
-        (h : Shares R) (x x' : Held R) (a b : PassBody S R) (s t : Stock) (src src' : Sources R) (count peak : ℕ)
-        → IsSound shown cmp record_of width n h x a s src count peak → BodyKept shown a b s t → Readied shown cmp record_of width n x.items x'.items a b s t
+        (h : Shares R) (x x' : Held R) (a b : PassBody S R) (s t : Stock) (src src' : Sources R) (count peak : ℕ) (limited : Bool)
+        → IsSound shown cmp record_of width n h x a s src count peak limited → BodyKept shown a b s t → Readied shown cmp record_of width n x.items x'.items a b s t
         → src'.bench.workers ≡ src.bench.workers → ServesFor (pool_of n + 65) src'
-        → IsSound shown cmp record_of width n h x' b t src' count peak
-    sound-readied h x x' a b s t src src' count peak is kept r workers serves =
+        → IsSound shown cmp record_of width n h x' b t src' count peak limited
+    sound-readied h x x' a b s t src src' count peak limited is kept r workers serves =
         record {
           rest = r.rest;
           counted = omega (arith, is.counted, r.count);

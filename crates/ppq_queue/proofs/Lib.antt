@@ -5,6 +5,7 @@ pub mod Odd
 pub mod Bounds
 pub mod Moves
 pub mod Stored
+pub mod HeapStores
 pub mod Leveled
 pub mod Refilled
 pub mod Least

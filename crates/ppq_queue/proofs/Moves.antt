@@ -1,5 +1,5 @@
 -- One step after the other: what runs hold, and what heap, extract buffer and runs hold together.
-use Rattle.std.proofs.Common.{◌≡◌, ℕ, ◌≤◌, List, [], ◌++◌, length, refl, sym, ap, ◌∙◌, arith, inl, inr, length-append}
+use Rattle.std.proofs.Common.{◌≡◌, ℕ, ◌≤◌, List, [], ◌++◌, refl, sym, ap, ◌∙◌, arith, inl, inr, length-append}
 use Rattle.std.specs.Prelude.{Result, Ok, Err, OnOk, OnErr, IsErrOf, IsErrAnd}
 use Rattle.ppq_array.specs.declared.store_fault.StoreFault.{StoreFault}
 use Rattle.ppq_array.specs.declared.store_fault.StoreFault.TheVariants.{NoFreeBlock, Device}

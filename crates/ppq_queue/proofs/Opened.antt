@@ -80,7 +80,7 @@ module _ {S R : Type 0} (shown : S → Shown) (n : Numbers) (parts : Parts S R) 
           rise = λ tell. record { internal = subst (All P) (sym is.no_internal) (All-nil P); external = subst (All Q) (sym is.no_external) (All-nil Q) };
         }
 
-    pub sound-opened : IsSound shown cmp record_of width n parts.heaps parts.extract parts.body stock parts.sources 0 0
+    pub sound-opened : IsSound shown cmp record_of width n parts.heaps parts.extract parts.body stock parts.sources 0 0 false
     sound-opened =
         let none = ap (λ x. x.items) is.extract in
         record {

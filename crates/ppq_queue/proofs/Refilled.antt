@@ -31,7 +31,7 @@ use Rattle.ppq_queue.proofs.Moves.{none_after-same}
 
 module _ {S R : Type 0} where
   -- the last blocks of a packed run
-  packed-drop : (block k : ℕ) (xs : List (DeviceBlock S R)) → IsPacked block xs → IsPacked block (drop k xs)
+  pub packed-drop : (block k : ℕ) (xs : List (DeviceBlock S R)) → IsPacked block xs → IsPacked block (drop k xs)
   packed-drop block k xs is = record { full = full; last = All-drop (λ (b : DeviceBlock S R). b.count ≤ block) k xs is.last }
     where
       full : All (λ (b : DeviceBlock S R). b.count ≡ block) (take (length (drop k xs) - 1) (drop k xs))

@@ -1,5 +1,5 @@
 -- The records of one heap among those of all.
-use Rattle.std.proofs.Common.{ℕ, zero, suc, ◌+◌, ◌*◌, ◌≤◌, List, [], ◌∷◌, ◌++◌, length, get_or, arith, length-append}
+use Rattle.std.proofs.Common.{ℕ, zero, suc, ◌*◌, ◌≤◌, List, [], ◌∷◌, length, get_or, arith, length-append}
 use Rattle.ppq_heap.specs.Heap.{Contents}
 use Rattle.ppq_heap.specs.Heaps.{Shares, AreShares, empty_heap, items_in, items_of, share_at}
 use Rattle.ppq_heap.proofs.Shares.{length_all}

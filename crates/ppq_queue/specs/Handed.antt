@@ -26,11 +26,12 @@ module _ {S R : Type 0} (shown : S → Shown) where
         in_extract = length q.extract.items;
         runs = length q.body.runs.external.items;
         buffers = lane_buffers q.sizes + pool_of q.sizes;
+        limited = q.limited;
       }
 
   -- the parts make a queue: what holds of it between its calls holds of them
   pub record IsWhole (cmp : R → R → Ordering) (record_of : List ℕ → R) (width : ℕ) (q : QueueParts S R) : Type 0 where
     pub queue : IsQueue shown q.sizes q.heaps q.extract q.body q.supply q.count q.peak q.failed
-    pub sound : q.failed ≡ None → IsSound shown cmp record_of width q.sizes q.heaps q.extract q.body q.supply q.sources q.count q.peak
+    pub sound : q.failed ≡ None → IsSound shown cmp record_of width q.sizes q.heaps q.extract q.body q.supply q.sources q.count q.peak q.limited
     pub no_slot : q.slots.items ≡ []
     pub slots_room : q.sizes.blocks ≤ vec_capacity q.slots

@@ -1,5 +1,5 @@
 -- What a queue holds.
-use Rattle.std.specs.Prelude.{◌≡◌, ◌<◌, ◌+◌, ◌-◌, ◌*◌, ℕ, List, length, max, Option, Some, None, ⊤, All}
+use Rattle.std.specs.Prelude.{◌≡◌, ◌<◌, ◌+◌, ◌-◌, ◌*◌, ℕ, Bool, false, List, length, max, Option, Some, None, ⊤, All}
 use Rattle.ppq_record.specs.Bag.{IsSameBag}
 use Rattle.ppq_budget.specs.Sizes.{Numbers, fixed_of, batch_of, heap_of, blocks_for, room_of}
 use Rattle.ppq_outside.specs.Shown.{Shown, AllTell}
@@ -11,7 +11,8 @@ use Rattle.ppq_queue.specs.declared.fault.QueueFault.TheVariants.{NoFreeBlock, D
 
 -- The bag of its records, as far as its slots tell; how many records it counts; its sizes; the greatest size that it had or was to get
 -- by a push; all its slots, in some order, and how many of them are free; the number of the slot a call of which failed first, if any;
--- how many records its heaps have, how many the first of them, and how many its extract buffer; how many runs in blocks there are; and how many buffers of a block each
+-- how many records its heaps have, how many the first of them, and how many its extract buffer; how many runs in blocks there are; how many buffers of a block each; and whether a
+-- limit session was begun, which stores heaps that are not full
 pub record Holding (R : Type 0) : Type 0 where
   pub bag : List R
   pub size : ℕ
@@ -25,6 +26,11 @@ pub record Holding (R : Type 0) : Type 0 where
   pub in_extract : ℕ
   pub runs : ℕ
   pub buffers : ℕ
+  pub limited : Bool
+
+-- the peak is above what one heap holds, unless a limit session was begun
+abbrev pub IsAbove : Numbers → ℕ → Bool → Type 0
+IsAbove sizes peak limited = limited ≡ false → heap_of sizes < peak
 
 -- how many slots are in use; of each the first record is kept in memory
 abbrev pub in_use : {R : Type 0} → Holding R → ℕ
@@ -54,14 +60,14 @@ NamesNeed sizes Memory = ⊤
 
 module _ {R : Type 0} where
   -- No block was free: the bag is as it was, where slots tell. Fewer slots are free than a merge or a store may want; the device has fewer
-  -- blocks than are enough for the peak; and the peak is above what one heap holds
+  -- blocks than are enough for the peak; and the peak is above what one heap holds, unless a limit session was begun
   pub record FoundNoBlock (old new : Holding R) : Type 0 where
     pub bag : AllTell old.slots → IsSameBag new.bag old.bag
     pub size : new.size ≡ old.size
     pub sound : new.failed ≡ None
     pub free : new.free < max (8 + new.sizes.workers) (blocks_for new.sizes new.size)
     pub room : new.sizes.blocks < room_of new.sizes new.peak
-    pub above : heap_of new.sizes < new.peak
+    pub above : IsAbove new.sizes new.peak new.limited
 
   -- a call of the slot with this number failed, now or before, and the queue keeps that number
   pub record HasStopped (number : ℕ) (new : Holding R) : Type 0 where

@@ -1,5 +1,5 @@
 -- What holds of a queue between its calls.
-use Rattle.std.specs.Prelude.{◌≡◌, ℕ, ◌+◌, ◌*◌, ◌<◌, ◌≤◌, List, [], length, Option, Some, All, vec_capacity}
+use Rattle.std.specs.Prelude.{◌≡◌, ℕ, ◌+◌, ◌*◌, ◌<◌, ◌≤◌, Bool, List, [], length, Option, Some, All, vec_capacity}
 use Rattle.std.specs.declared.cmp.Ordering.{Ordering}
 use Rattle.ppq_record.specs.Order.{Ascends}
 use Rattle.ppq_outside.specs.Shown.{Shown, AllTell}
@@ -14,6 +14,7 @@ use Rattle.ppq_extract.specs.Extracted.{Held, held, ServesFor}
 use Rattle.ppq_extract.specs.declared.sources.Sources.{Sources}
 use Rattle.ppq_spill.specs.Body.{held_by}
 use Rattle.ppq_spill.specs.declared.body.PassBody.{PassBody}
+use Rattle.ppq_queue.specs.Holding.{IsAbove}
 use Rattle.ppq_queue.specs.Resting.{slots_of, lane_buffers, AtRest, runs_bag, count_of}
 use Rattle.ppq_queue.specs.declared.parts.Parts.{Parts}
 
@@ -38,13 +39,13 @@ module _ {S R : Type 0} (shown : S → Shown) where
     pub fault : (number : ℕ) → failed ≡ Some number → HasFailed number (slots_of shown body stock)
 
   -- What holds while no call of a slot has failed: all runs rest, and all records are counted. Where slots tell, the extract buffer ascends,
-  -- and no record of a run is before one of its. A record that is in no heap came there by a peak above what a heap holds
-  pub record IsSound (cmp : R → R → Ordering) (record_of : List ℕ → R) (width : ℕ) (sizes : Numbers) (heaps : Shares R) (extract : Held R) (body : PassBody S R) (stock : Stock) (sources : Sources R) (count peak : ℕ) : Type 0 where
+  -- and no record of a run is before one of its. A record that is in no heap came there by a peak above what a heap holds, or by a limit session
+  pub record IsSound (cmp : R → R → Ordering) (record_of : List ℕ → R) (width : ℕ) (sizes : Numbers) (heaps : Shares R) (extract : Held R) (body : PassBody S R) (stock : Stock) (sources : Sources R) (count peak : ℕ) (limited : Bool) : Type 0 where
     pub rest : AtRest shown cmp record_of width sizes body stock
     pub counted : count ≡ length (items_of heaps) + length extract.items + count_of body
     pub ascends : AllTell (slots_of shown body stock) → Ascends cmp extract.items
     pub order : AllTell (slots_of shown body stock) → NoneAfter cmp extract.items (runs_bag shown record_of width body)
-    pub above : length (items_of heaps) < count → heap_of sizes < peak
+    pub above : length (items_of heaps) < count → IsAbove sizes peak limited
     pub workers : sources.bench.workers ≡ sizes.workers
     pub serves : ServesFor (pool_of sizes + 65) sources
 

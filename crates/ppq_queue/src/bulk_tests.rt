@@ -199,6 +199,7 @@ fn turned(queue: Queue<MemSlot, Pair>) -> Queue<MemSlot, Pair>
         count,
         peak,
         failed,
+        limited,
         slots,
     } = queue.into_parts();
     let (heaps, tree) = heaps.into_parts();
@@ -214,6 +215,7 @@ fn turned(queue: Queue<MemSlot, Pair>) -> Queue<MemSlot, Pair>
         count,
         peak,
         failed,
+        limited,
         slots,
     })
 }

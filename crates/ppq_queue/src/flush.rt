@@ -1,9 +1,9 @@
-//! The first heap and the rest of an extract buffer that are stored as runs.
+//! A heap and the rest of an extract buffer that are stored as runs.
 ghost use Rattle.std.specs.Prelude.{◌≡◌, ◌⊎◌, ◌≤◌, ◌<◌, ◌+◌, ◌*◌, ℕ, [], length, false, IsTrue, OnOk, IsErrOf};
 ghost use Rattle.ppq_record.specs.Order.{Ascends};
 ghost use Rattle.ppq_outside.specs.Shown.{AllTell};
 ghost use Rattle.ppq_budget.specs.Sizes.{fixed_of, pool_of};
-ghost use Rattle.ppq_heap.specs.Heaps.{items_of, share_at};
+ghost use Rattle.ppq_heap.specs.Heaps.{items_of, share_at, ChangesOnly};
 ghost use Rattle.ppq_spill.specs.Storing.{in_buffers};
 ghost use Rattle.ppq_queue.specs.Resting.{AtRest, BodyKept, WholeShort, Emptied, BodyFailed, slots_of, count_of};
 
@@ -57,7 +57,7 @@ where
     ensures no_row { supply.new.drawn ≡ [] }
 {
     store_extract(rt, sizes, extract, body, supply, bench, gate)?;
-    store_heap(rt, sizes, heaps, body, supply, bench, gate)
+    store_heap(rt, sizes, heaps, 0, body, supply, bench, gate)
 }
 
 // Stores the rest of an extract buffer as a run. Before and after, levels of runs are merged.
@@ -227,11 +227,12 @@ where
     settle(rt, sizes, body, supply, bench, gate)
 }
 
-// Sorts the first heap and stores it.
-fn store_heap<H: Host, S: Slot + Send + Sync, R: Record + Send + Sync, G: Gate>(
+// Sorts the heap at a place and stores it.
+pub fn store_heap<H: Host, S: Slot + Send + Sync, R: Record + Send + Sync, G: Gate>(
     rt: &H,
     sizes: Sizes,
     heaps: &mut Heaps<R>,
+    place: u32,
     body: &mut PassBody<S, R>,
     supply: &mut OwnerLists<S, R>,
     bench: &mut Bench<R>,
@@ -239,9 +240,9 @@ fn store_heap<H: Host, S: Slot + Send + Sync, R: Record + Send + Sync, G: Gate>(
 ) -> Result<(), StoreFault>
 where
     H::Dir: Send,
-    requires heaps { 0 < length heaps.old.heaps }
-    requires some { 0 < length (share_at heaps.old 0) }
-    requires heap { length (share_at heaps.old 0) ≤ sizes.memory }
+    requires heaps { place < length heaps.old.heaps }
+    requires some { 0 < length (share_at heaps.old place) }
+    requires heap { length (share_at heaps.old place) ≤ sizes.memory }
     requires rest { AtRest S.shown R.Ord.cmp R.record_of R.WIDTH sizes body.old supply.old }
     requires few { length body.old.runs.external.items ≤ 64 }
     requires budget { fixed_of sizes ≤ sizes.memory }
@@ -252,7 +253,8 @@ where
     ensures emptied { OnOk result (Emptied S.shown R.Ord.cmp R.record_of R.WIDTH sizes (items_of heaps.old) (items_of heaps.new) [] [] body.old body.new supply.old supply.new) }
     ensures none_free { IsErrOf result StoreFault.NoFreeBlock → WholeShort S.shown R.Ord.cmp R.record_of R.WIDTH sizes (items_of heaps.old) (items_of heaps.new) [] [] body.old body.new supply.old supply.new }
     ensures device { (number : ℕ) → IsErrOf result (StoreFault.Device number) → BodyFailed S.shown number body.new supply.new }
-    ensures first { OnOk result (share_at heaps.new 0 ≡ []) }
+    ensures share { OnOk result (share_at heaps.new place ≡ []) }
+    ensures others { ChangesOnly place heaps.old heaps.new }
     ensures heaps { length heaps.new.heaps ≡ length heaps.old.heaps }
     ensures cap { heaps.new.cap ≡ heaps.old.cap }
     ensures fewer { length (items_of heaps.new) ≤ length (items_of heaps.old) }
@@ -261,8 +263,8 @@ where
     ensures no_row { supply.new.drawn ≡ [] }
 {
     record_laws::<R>();
-    heaps.sort_share(0);
-    store_run(rt, sizes, body, supply, heaps.share(0))?;
-    heaps.clear_share(0);
+    heaps.sort_share(place);
+    store_run(rt, sizes, body, supply, heaps.share(place))?;
+    heaps.clear_share(place);
     settle(rt, sizes, body, supply, bench, gate)
 }

@@ -23,6 +23,7 @@ mod queue;
 mod queue_parts;
 mod refill;
 mod settle;
+mod shares;
 mod store;
 #[cfg(test)]
 mod tests;

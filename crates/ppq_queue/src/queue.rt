@@ -17,6 +17,7 @@ use crate::flush::{flush_all, store_for_session};
 use crate::parts::Parts;
 use crate::refill::make_ready;
 use crate::settle::settle_some;
+use crate::shares::store_heaps;
 use crate::{LimitEnd, OpenFault, Out, QueueFault, QueueParts};
 use ppq_array::{OwnerLists, StoreFault, Supply};
 use ppq_budget::Sizes;
@@ -32,7 +33,7 @@ use std::marker::Model;
 /// a device behind it.
 ///
 /// Contracts see the bag of its records as far as its slots tell, how many there are, its sizes, the
-/// greatest size that the bag had or was to get by a push, and all its slots.
+/// greatest size that it had, was to get by a push, or counted in a session, and all its slots.
 #[derive(Drop)]
 pub struct Queue<S: Slot + Send + Sync, R: Record + Send + Sync> {
     // The five numbers from which all sizes follow.
@@ -49,10 +50,12 @@ pub struct Queue<S: Slot + Send + Sync, R: Record + Send + Sync> {
     sources: Sources<R>,
     // How many records there are.
     count: u64,
-    // The greatest size so far, in records.
+    // The greatest size so far, in records, with those that a limit session popped until its end.
     peak: u64,
     // The block that failed first; from then on the queue is stopped.
     failed: Option<u32>,
+    // Whether a limit session was begun, which stores heaps that are not full.
+    limited: bool,
     // The emptied list of the slots that came in.
     slots: Vec<S>,
 }
@@ -67,9 +70,9 @@ impl<S: Slot + Send + Sync, R: Record + Send + Sync> Model for Queue<S, R> {
 
     ghost Value = { Holding R };
 
-    ghost view = { λ q. record { bag = items_of q.heaps ++ q.extract.items ++ runs_bag S.shown R.record_of R.WIDTH q.body; size = q.count; sizes = q.sizes; peak = q.peak; slots = slots_of S.shown q.body q.supply; free = length q.supply.kept; failed = q.failed; in_heap = length (items_of q.heaps); in_first = length (share_at q.heaps 0); in_extract = length q.extract.items; runs = length q.body.runs.external.items; buffers = lane_buffers q.sizes + pool_of q.sizes } };
+    ghost view = { λ q. record { bag = items_of q.heaps ++ q.extract.items ++ runs_bag S.shown R.record_of R.WIDTH q.body; size = q.count; sizes = q.sizes; peak = q.peak; slots = slots_of S.shown q.body q.supply; free = length q.supply.kept; failed = q.failed; in_heap = length (items_of q.heaps); in_first = length (share_at q.heaps 0); in_extract = length q.extract.items; runs = length q.body.runs.external.items; buffers = lane_buffers q.sizes + pool_of q.sizes; limited = q.limited } };
 
-    ghost invariant = { λ q. IsQueue S.shown q.sizes q.heaps q.extract q.body q.supply q.count q.peak q.failed × (q.failed ≡ None → IsSound S.shown R.Ord.cmp R.record_of R.WIDTH q.sizes q.heaps q.extract q.body q.supply q.sources q.count q.peak) × (q.slots.items ≡ []) × (q.sizes.blocks ≤ vec_capacity q.slots) };
+    ghost invariant = { λ q. IsQueue S.shown q.sizes q.heaps q.extract q.body q.supply q.count q.peak q.failed × (q.failed ≡ None → IsSound S.shown R.Ord.cmp R.record_of R.WIDTH q.sizes q.heaps q.extract q.body q.supply q.sources q.count q.peak q.limited) × (q.slots.items ≡ []) × (q.sizes.blocks ≤ vec_capacity q.slots) };
 }
 
 impl<S: Slot + Send + Sync, R: Record + Send + Sync> Queue<S, R> {
@@ -90,6 +93,7 @@ impl<S: Slot + Send + Sync, R: Record + Send + Sync> Queue<S, R> {
         ensures sizes { IfOk result (λ q. q.sizes ≡ sizes) }
         ensures peak { IfOk result (λ q. q.peak ≡ 0) }
         ensures sound { IfOk result (λ q. q.failed ≡ None) }
+        ensures unlimited { IfOk result (λ q. q.limited ≡ false) }
         ensures budget { IfOk result (λ q. fixed_of sizes ≤ sizes.memory) }
         ensures slots { IfOk result (λ q. q.slots ≡ map S.shown slots.items) }
         ensures back { IfErr result (λ refused. SameSlots (map S.shown slots.items) (map S.shown refused.0.items)) }
@@ -125,6 +129,7 @@ impl<S: Slot + Send + Sync, R: Record + Send + Sync> Queue<S, R> {
             count: 0,
             peak: 0,
             failed: None,
+            limited: false,
             slots,
         })
     }
@@ -133,7 +138,8 @@ impl<S: Slot + Send + Sync, R: Record + Send + Sync> Queue<S, R> {
     /// buffer and the sorted heap are stored as runs first, and levels of runs are merged.
     ///
     /// Each refusal hands the record back. `NoFreeBlock`: the bag is as it was; the device has fewer blocks
-    /// than are enough for the peak, and the peak is above what a heap holds. `Device`: a call of the
+    /// than are enough for the peak, and the peak is above what a heap holds, unless a limit session was
+    /// begun. `Device`: a call of the
     /// block with that number failed, now or before.
     pub fn push<H: Host, G: Gate>(&mut self, rt: &H, r: R, gate: &G) -> Result<(), (R, QueueFault)>
     where
@@ -150,6 +156,7 @@ impl<S: Slot + Send + Sync, R: Record + Send + Sync> Queue<S, R> {
         ensures writes { all_writes self.old.slots ≤ all_writes self.new.slots }
         ensures peak { self.new.peak ≡ max self.old.peak (self.old.size + 1) }
         ensures sizes { self.new.sizes ≡ self.old.sizes }
+        ensures limited { self.new.limited ≡ self.old.limited }
     {
         self.raise_peak();
         if let Some(number) = self.failed {
@@ -180,6 +187,7 @@ impl<S: Slot + Send + Sync, R: Record + Send + Sync> Queue<S, R> {
         ensures writes { all_writes self.old.slots ≤ all_writes self.new.slots }
         ensures peak { self.new.peak ≡ self.old.peak }
         ensures sizes { self.new.sizes ≡ self.old.sizes }
+        ensures limited { self.new.limited ≡ self.old.limited }
     {
         self.heaps.known();
         if !self.heaps.is_full() {
@@ -227,6 +235,7 @@ impl<S: Slot + Send + Sync, R: Record + Send + Sync> Queue<S, R> {
         ensures writes { all_writes self.old.slots ≤ all_writes self.new.slots }
         ensures peak { self.new.peak ≡ self.old.peak }
         ensures sizes { self.new.sizes ≡ self.old.sizes }
+        ensures limited { self.new.limited ≡ self.old.limited }
     {
         let answer = flush_all(
             rt,
@@ -263,6 +272,7 @@ impl<S: Slot + Send + Sync, R: Record + Send + Sync> Queue<S, R> {
         ensures writes { all_writes self.old.slots ≤ all_writes self.new.slots }
         ensures peak { self.new.peak ≡ self.old.peak }
         ensures sizes { self.new.sizes ≡ self.old.sizes }
+        ensures limited { self.new.limited ≡ self.old.limited }
     {
         if let Some(number) = self.failed {
             return Err(QueueFault::Device { number });
@@ -338,6 +348,7 @@ impl<S: Slot + Send + Sync, R: Record + Send + Sync> Queue<S, R> {
         ensures writes { all_writes self.old.slots ≤ all_writes self.new.slots }
         ensures peak { self.new.peak ≡ self.old.peak }
         ensures sizes { self.new.sizes ≡ self.old.sizes }
+        ensures limited { self.new.limited ≡ self.old.limited }
     {
         record_laws::<R>();
         self.ready(rt, gate)?;
@@ -365,6 +376,7 @@ impl<S: Slot + Send + Sync, R: Record + Send + Sync> Queue<S, R> {
         ensures writes { all_writes self.old.slots ≤ all_writes self.new.slots }
         ensures peak { self.new.peak ≡ self.old.peak }
         ensures sizes { self.new.sizes ≡ self.old.sizes }
+        ensures limited { self.new.limited ≡ self.old.limited }
     {
         record_laws::<R>();
         self.ready(rt, gate)?;
@@ -403,6 +415,7 @@ impl<S: Slot + Send + Sync, R: Record + Send + Sync> Queue<S, R> {
         ensures writes { all_writes self.old.slots ≤ all_writes self.new.slots }
         ensures peak { self.new.peak ≡ self.old.peak }
         ensures sizes { self.new.sizes ≡ self.old.sizes }
+        ensures limited { self.new.limited ≡ self.old.limited }
     {
         record_laws::<R>();
         let most = k.min(u64::from(out.room())) as u32;
@@ -443,6 +456,7 @@ impl<S: Slot + Send + Sync, R: Record + Send + Sync> Queue<S, R> {
         ensures writes { all_writes self.old.slots ≤ all_writes self.new.slots }
         ensures peak { self.new.peak ≡ self.old.peak }
         ensures sizes { self.new.sizes ≡ self.old.sizes }
+        ensures limited { self.new.limited ≡ self.old.limited }
     {
         record_laws::<R>();
         let room = u64::from(out.room());
@@ -488,6 +502,7 @@ impl<S: Slot + Send + Sync, R: Record + Send + Sync> Queue<S, R> {
         ensures writes { all_writes self.old.slots ≤ all_writes self.new.slots }
         ensures peak { self.new.peak ≡ self.old.peak }
         ensures sizes { self.new.sizes ≡ self.old.sizes }
+        ensures limited { self.new.limited ≡ self.old.limited }
     {
         record_laws::<R>();
         out.clear();
@@ -553,6 +568,7 @@ impl<S: Slot + Send + Sync, R: Record + Send + Sync> Queue<S, R> {
         ensures writes { all_writes self.old.slots ≤ all_writes self.new.slots }
         ensures peak { self.new.peak ≡ self.old.peak }
         ensures sizes { self.new.sizes ≡ self.old.sizes }
+        ensures limited { self.new.limited ≡ self.old.limited }
     {
         if let Some(number) = self.failed {
             return Err(QueueFault::Device { number });
@@ -602,6 +618,7 @@ impl<S: Slot + Send + Sync, R: Record + Send + Sync> Queue<S, R> {
         ensures writes { all_writes self.old.slots ≤ all_writes self.new.slots }
         ensures peak { self.new.peak ≡ self.old.peak }
         ensures sizes { self.new.sizes ≡ self.old.sizes }
+        ensures limited { self.new.limited ≡ self.old.limited }
     {
         if let Some(number) = self.failed {
             return Err(QueueFault::Device { number });
@@ -611,6 +628,82 @@ impl<S: Slot + Send + Sync, R: Record + Send + Sync> Queue<S, R> {
             self.sizes,
             merges,
             &mut self.extract,
+            &mut self.body,
+            &mut self.supply,
+            &mut self.sources.bench,
+            gate,
+        );
+        match answer {
+            Ok(()) => Ok(()),
+            Err(StoreFault::NoFreeBlock) => Err(QueueFault::NoFreeBlock),
+            Err(StoreFault::Device { number }) => {
+                self.failed = Some(number);
+                Err(QueueFault::Device { number })
+            }
+        }
+    }
+
+    /// Makes the queue ready for a limit session: it does what `begin_session` does, and then stores each heap
+    /// that is not empty as a run of its own, with levels of runs merged after each. The queue notes that a
+    /// limit session was begun, whatever is returned.
+    ///
+    /// It costs a sort and a store of each heap. `Device` comes as from `push`, `NoFreeBlock` at any peak.
+    pub fn store_heaps<H: Host, G: Gate>(&mut self, rt: &H, gate: &G) -> Result<(), QueueFault>
+    where
+        H::Dir: Send,
+        ensures bag { OnOk result (AllTell self.old.slots → IsSameBag self.new.bag self.old.bag) }
+        ensures emptied { OnOk result (self.new.in_extract ≡ 0) }
+        ensures heaps { OnOk result (self.new.in_heap ≡ 0) }
+        ensures settled { OnOk result (self.new.runs ≤ 64) }
+        ensures sound { OnOk result (self.new.failed ≡ None) }
+        ensures refused { IfErr result (IsRefusal self.old self.new) }
+        ensures latched { (number : ℕ) → self.old.failed ≡ Some number → (result ≡ Err (Device number)) × (self.new ≡ record self.old { limited = true }) }
+        ensures size { self.new.size ≡ self.old.size }
+        ensures slots { SameSlots self.old.slots self.new.slots }
+        ensures tells { AllTell self.old.slots → AllTell self.new.slots }
+        ensures writes { all_writes self.old.slots ≤ all_writes self.new.slots }
+        ensures peak { self.new.peak ≡ self.old.peak }
+        ensures sizes { self.new.sizes ≡ self.old.sizes }
+        ensures limited { self.new.limited ≡ true }
+    {
+        self.note_limit();
+        self.begin_session(rt, false, gate)?;
+        self.store_all(rt, gate)
+    }
+
+    // A limit session is about to begin.
+    fn note_limit(&mut self)
+        ensures { self.new ≡ record self.old { limited = true } }
+    {
+        self.limited = true;
+    }
+
+    // Stores all heaps of a queue whose extract buffer is empty.
+    fn store_all<H: Host, G: Gate>(&mut self, rt: &H, gate: &G) -> Result<(), QueueFault>
+    where
+        H::Dir: Send,
+        requires sound { self.old.failed ≡ None }
+        requires emptied { self.old.in_extract ≡ 0 }
+        requires settled { self.old.runs ≤ 64 }
+        requires limited { self.old.limited ≡ true }
+        ensures bag { OnOk result (AllTell self.old.slots → IsSameBag self.new.bag self.old.bag) }
+        ensures emptied { self.new.in_extract ≡ 0 }
+        ensures heaps { OnOk result (self.new.in_heap ≡ 0) }
+        ensures settled { OnOk result (self.new.runs ≤ 64) }
+        ensures sound { OnOk result (self.new.failed ≡ None) }
+        ensures refused { IfErr result (IsRefusal self.old self.new) }
+        ensures size { self.new.size ≡ self.old.size }
+        ensures slots { SameSlots self.old.slots self.new.slots }
+        ensures tells { AllTell self.old.slots → AllTell self.new.slots }
+        ensures writes { all_writes self.old.slots ≤ all_writes self.new.slots }
+        ensures peak { self.new.peak ≡ self.old.peak }
+        ensures sizes { self.new.sizes ≡ self.old.sizes }
+        ensures limited { self.new.limited ≡ true }
+    {
+        let answer = store_heaps(
+            rt,
+            self.sizes,
+            &mut self.heaps,
             &mut self.body,
             &mut self.supply,
             &mut self.sources.bench,
@@ -641,6 +734,7 @@ impl<S: Slot + Send + Sync, R: Record + Send + Sync> Queue<S, R> {
             count,
             peak,
             failed,
+            limited,
             slots,
         } = self;
         QueueParts {
@@ -653,6 +747,7 @@ impl<S: Slot + Send + Sync, R: Record + Send + Sync> Queue<S, R> {
             count,
             peak,
             failed,
+            limited,
             slots,
         }
     }
@@ -672,6 +767,7 @@ impl<S: Slot + Send + Sync, R: Record + Send + Sync> Queue<S, R> {
             count,
             peak,
             failed,
+            limited,
             slots,
         } = parts;
         Queue {
@@ -684,6 +780,7 @@ impl<S: Slot + Send + Sync, R: Record + Send + Sync> Queue<S, R> {
             count,
             peak,
             failed,
+            limited,
             slots,
         }
     }

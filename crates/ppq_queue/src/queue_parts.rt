@@ -9,7 +9,7 @@ use ppq_spill::PassBody;
 
 /// All parts of a queue, as `Queue::into_parts` hands them over and `Queue::from_parts` takes them back.
 ///
-/// It is there for bulk sessions, which give each heap to a worker of its own. What of these parts makes
+/// It is there for sessions, which give each heap to a worker of its own. What of these parts makes
 /// a queue is the word `IsWhole` of contracts, and what that queue shows is `holding_of`.
 #[derive(Drop)]
 pub struct QueueParts<S: Slot + Send + Sync, R: Record + Send + Sync> {
@@ -31,6 +31,8 @@ pub struct QueueParts<S: Slot + Send + Sync, R: Record + Send + Sync> {
     pub peak: u64,
     /// The block that failed first; from then on the queue is stopped.
     pub failed: Option<u32>,
+    /// Whether a limit session was begun.
+    pub limited: bool,
     /// The emptied list of the slots that came in.
     pub slots: Vec<S>,
 }

@@ -303,3 +303,22 @@ fn a_thousand_generated_sequences_do_as_a_sorted_list(rt: HostRuntime) -> Result
     }
     Ok(())
 }
+
+#[test]
+fn a_heap_that_is_not_full_is_stored_for_a_limit_session(rt: HostRuntime) -> Result<(), Fail> {
+    let mut queue = opened(&rt, rt.alloc(), small(), &mut MemRack::new())?;
+    assert_eq!(rt; queue.push(&rt, pair(4), &OpenGate), Ok(()));
+    assert_eq!(rt; queue.store_heaps(&rt, &OpenGate), Ok(()));
+    assert_eq!(rt; queue.pop(&rt, &OpenGate), Ok(Some(pair(4))));
+    assert_eq!(rt; calls_of(queue.close().as_slice(), 0), Some((1, 1, 0)));
+
+    let none = Sizes::new(1, 2, 1, 158, 0);
+    let mut queue = opened(&rt, rt.alloc(), none, &mut MemRack::new())?;
+    assert_eq!(rt; queue.push(&rt, pair(1), &OpenGate), Ok(()));
+    assert_eq!(rt;
+        queue.store_heaps(&rt, &OpenGate),
+        Err(QueueFault::NoFreeBlock)
+    );
+    assert_eq!(rt; queue.pop(&rt, &OpenGate), Ok(Some(pair(1))));
+    Ok(())
+}

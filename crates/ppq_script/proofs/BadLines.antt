@@ -7,7 +7,7 @@ use Rattle.ppq_script.specs.declared.command.Command.{Command}
 use Rattle.ppq_script.specs.declared.command.Command.TheVariants.{Bulk}
 use Rattle.ppq_script.specs.declared.numbered.Numbered.{Numbered}
 use Rattle.ppq_script.specs.declared.session.Session.{Session}
-use Rattle.ppq_script.specs.declared.session.Session.TheVariants.{Outside, InBulk}
+use Rattle.ppq_script.specs.declared.session.Session.TheVariants.{Outside, InBulk, InLimit}
 use Rattle.ppq_script.specs.Sessions.{is_outside, may_stand}
 use Rattle.ppq_script.specs.Lines.{Kind, Skipped, Plain, OfFile, Bad, kind_of, placed, kinds_of, numbered_of, names_of, first_bad_by}
 use Rattle.ppq_script.specs.Meaning.{Reads, ReadsFile, IsBlankOrComment, IsSession, IsGoodIn, IsBadIn, IsGood, IsBad, IsOpen, IsFirstBad, AreGood, IsBefore, HasLine, Asks, AsksFile, AreCommands, line_at}
@@ -20,6 +20,7 @@ use Rattle.ppq_script.proofs.BadKinds.{is_good, FirstBadFrom, is_first_bad, firs
 outside_is : (s : Session) → is_outside s ≡ true → s ≡ Outside
 outside_is Outside e = refl
 outside_is InBulk e = cc
+outside_is (InLimit limit) e = cc
 
 same_command : (line : List ℕ) (c d : Command) → kind_of line ≡ Plain c → Reads line d → c ≡ d
 same_command line c d is h = let k = Plain-Reads line d h in cc

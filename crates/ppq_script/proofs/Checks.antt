@@ -6,7 +6,7 @@ use Rattle.std.proofs.lemmas.Bool.{le-leb, eq-eqb}
 use Rattle.std.proofs.lemmas.List.Elements.{AllZip-get_or, length_all_zip}
 use Rattle.ppq_outside.specs.Told.{Reply, OfLength, Remembers, TellsReply, length_of, bytes_or_none}
 use Rattle.ppq_script.specs.declared.command.Command.{Command}
-use Rattle.ppq_script.specs.declared.command.Command.TheVariants.{Push, Pop, Top, Size, Bulk, Gen, BulkPop, BulkPopLimit, Drain, BulkBegin, BulkPush, BulkEnd}
+use Rattle.ppq_script.specs.declared.command.Command.TheVariants.{Push, Pop, Top, Size, Bulk, Gen, BulkPop, BulkPopLimit, Drain, BulkBegin, BulkPush, BulkEnd, LimitBegin, LimitPush, LimitTop, LimitPop, LimitEnd}
 use Rattle.ppq_script.specs.declared.numbered.Numbered.{Numbered}
 use Rattle.ppq_script.specs.declared.session.Session.{Session}
 use Rattle.ppq_script.specs.declared.session.Session.TheVariants.{Outside}
@@ -43,6 +43,11 @@ same_file (Drain count) = refl
 same_file BulkBegin = refl
 same_file (BulkPush pass item) = refl
 same_file BulkEnd = refl
+same_file (LimitBegin limit) = refl
+same_file (LimitPush pass item) = refl
+same_file LimitTop = refl
+same_file LimitPop = refl
+same_file LimitEnd = refl
 
 -- what does not look at the length of a file is the same of it
 same_by : {X : Type 0} (f : Command → X) → ((file n m : ℕ) → f (Bulk file n) ≡ f (Bulk file m)) → (old new : Command) → IsSameFile (file_in old) old new → f new ≡ f old
@@ -58,6 +63,11 @@ same_by f k (Drain count) new e = ap f e
 same_by f k BulkBegin new e = ap f e
 same_by f k (BulkPush pass item) new e = ap f e
 same_by f k BulkEnd new e = ap f e
+same_by f k (LimitBegin limit) new e = ap f e
+same_by f k (LimitPush pass item) new e = ap f e
+same_by f k LimitTop new e = ap f e
+same_by f k LimitPop new e = ap f e
+same_by f k LimitEnd new e = ap f e
 
 -- so the commands stand where they stood
 same_in_place : (workers : ℕ) (s : Session) (old new : List Numbered) → AllZip IsSameItem old new → are_in_place workers s (commands_in new) ≡ are_in_place workers s (commands_in old)

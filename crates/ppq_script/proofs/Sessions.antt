@@ -1,20 +1,28 @@
 -- Lemmas on sessions: where a command may stand, and the session before a line.
-use Rattle.std.proofs.Common.{◌≡◌, ℕ, zero, suc, Bool, true, false, ◌&&◌, ◌+◌, ◌-◌, ◌<◌, ◌≤◌, nat_lt, inl, inr, List, [], length, get_or, Option, Some, None, refl, sym, ap, ◌∙◌, subst, arith}
+use Rattle.std.proofs.Common.{◌≡◌, ℕ, zero, suc, Bool, true, false, not, ◌&&◌, ◌+◌, ◌-◌, ◌<◌, ◌≤◌, nat_lt, inl, inr, List, [], length, get_or, Option, Some, None, refl, sym, ap, ◌∙◌, subst, arith}
 use Rattle.std.specs.Prelude.{unwrap_or}
 use Rattle.std.proofs.lemmas.Bool.{and_parts, and_from, ltb-true, ltb-false, lt-ltb}
+use Rattle.std.specs.declared.cmp.Ordering.{Ordering}
+use Rattle.std.specs.declared.cmp.Ordering.TheVariants.{Less, Equal, Greater}
+use Rattle.std.specs.Ordering.{is_lt}
+use Rattle.ppq_record.specs.declared.pair.Pair.{Pair}
+use Rattle.ppq_record.specs.Pair.{pair_cmp}
+use Rattle.ppq_record.specs.Order.{is_before}
+use Rattle.ppq_record.proofs.ByteOrder.{less_is_before, before_is_less}
 use Rattle.ppq_script.specs.declared.command.Command.{Command}
-use Rattle.ppq_script.specs.declared.command.Command.TheVariants.{Push, Pop, Top, Size, Bulk, Gen, BulkPop, BulkPopLimit, Drain, BulkBegin, BulkPush, BulkEnd}
+use Rattle.ppq_script.specs.declared.command.Command.TheVariants.{Push, Pop, Top, Size, Bulk, Gen, BulkPop, BulkPopLimit, Drain, BulkBegin, BulkPush, BulkEnd, LimitBegin, LimitPush, LimitTop, LimitPop, LimitEnd}
 use Rattle.ppq_script.specs.declared.session.Session.{Session}
-use Rattle.ppq_script.specs.declared.session.Session.TheVariants.{Outside, InBulk}
-use Rattle.ppq_script.specs.Sessions.{turn_of, is_outside, is_in_bulk, may_stand}
+use Rattle.ppq_script.specs.declared.session.Session.TheVariants.{Outside, InBulk, InLimit}
+use Rattle.ppq_script.specs.Sessions.{turn_of, is_outside, is_in_bulk, is_in_limit, is_at_limit, may_stand}
 use Rattle.ppq_script.specs.Lines.{Kind, Skipped, Plain, OfFile, Bad, kind_of, session_behind}
-use Rattle.ppq_script.specs.Meaning.{Stands, Turns, NoTurn, IsLastTurn, IsSession, HasOneSession, line_at}
+use Rattle.ppq_script.specs.Meaning.{Stands, IsInLimit, IsAtLimit, IsBelow, Turns, NoTurn, IsLastTurn, IsSession, HasOneSession, line_at}
 use Rattle.ppq_script.proofs.Spelling.{Reads-Plain, Plain-Reads}
 
--- no session, and a bulk session
+-- no session, a bulk session, a limit session, and one at or below a record
 outside_is : (s : Session) → is_outside s ≡ true → s ≡ Outside
 outside_is Outside e = refl
 outside_is InBulk e = cc
+outside_is (InLimit limit) e = cc
 
 is_outside-is : (s : Session) → s ≡ Outside → is_outside s ≡ true
 is_outside-is s e = ap is_outside e
@@ -22,9 +30,39 @@ is_outside-is s e = ap is_outside e
 bulk_is : (s : Session) → is_in_bulk s ≡ true → s ≡ InBulk
 bulk_is Outside e = cc
 bulk_is InBulk e = refl
+bulk_is (InLimit limit) e = cc
 
 is_in_bulk-is : (s : Session) → s ≡ InBulk → is_in_bulk s ≡ true
 is_in_bulk-is s e = ap is_in_bulk e
+
+limit_is : (s : Session) → is_in_limit s ≡ true → IsInLimit s
+limit_is Outside e = cc
+limit_is InBulk e = cc
+limit_is (InLimit limit) e = (limit, refl)
+
+is_in_limit-is : (s : Session) → IsInLimit s → is_in_limit s ≡ true
+is_in_limit-is s (limit, e) = ap is_in_limit e
+
+less_is : (o : Ordering) → is_lt o ≡ true → o ≡ Less
+less_is Less e = refl
+less_is Equal e = cc
+less_is Greater e = cc
+
+not_below : (item limit : Pair) (t : Bool) → is_before pair_cmp item limit ≡ t → not t ≡ true → ¬ IsBelow item limit
+not_below item limit true is e = λ below. cc
+not_below item limit false is e = λ below. (let less : is_before pair_cmp item limit ≡ true = ap is_lt (before_is_less item limit below) in cc)
+
+below_not : (item limit : Pair) (t : Bool) → is_before pair_cmp item limit ≡ t → ¬ IsBelow item limit → not t ≡ true
+below_not item limit true is h = absurd (h (less_is_before item limit (less_is (pair_cmp item limit) is)))
+below_not item limit false is h = refl
+
+at_limit_is : (s : Session) (item : Pair) → is_at_limit s item ≡ true → IsAtLimit s item
+at_limit_is Outside item e = cc
+at_limit_is InBulk item e = cc
+at_limit_is (InLimit limit) item e = (limit, (refl, not_below item limit (is_before pair_cmp item limit) refl e))
+
+is_at_limit-is : (s : Session) (item : Pair) → IsAtLimit s item → is_at_limit s item ≡ true
+is_at_limit-is s item (limit, (e, h)) = ap (λ (r : Session). is_at_limit r item) e ∙ below_not item limit (is_before pair_cmp item limit) refl h
 
 -- in a session, and with a pass below the workers
 pass_is : (t : Bool) (pass workers : ℕ) → (t && nat_lt pass workers) ≡ true → (t ≡ true) × (pass < workers)
@@ -46,6 +84,11 @@ Stands-may_stand workers s (Drain count) e = outside_is s e
 Stands-may_stand workers s BulkBegin e = outside_is s e
 Stands-may_stand workers s (BulkPush pass item) e = let both = pass_is (is_in_bulk s) pass workers e in (bulk_is s both.0, both.1)
 Stands-may_stand workers s BulkEnd e = bulk_is s e
+Stands-may_stand workers s (LimitBegin limit) e = outside_is s e
+Stands-may_stand workers s (LimitPush pass item) e = let both = pass_is (is_at_limit s item) pass workers e in (at_limit_is s item both.0, both.1)
+Stands-may_stand workers s LimitTop e = limit_is s e
+Stands-may_stand workers s LimitPop e = limit_is s e
+Stands-may_stand workers s LimitEnd e = limit_is s e
 
 pub may_stand-Stands : (workers : ℕ) (s : Session) (c : Command) → Stands workers s c → may_stand workers s c ≡ true
 may_stand-Stands workers s (Push item) h = is_outside-is s h
@@ -60,6 +103,11 @@ may_stand-Stands workers s (Drain count) h = is_outside-is s h
 may_stand-Stands workers s BulkBegin h = is_outside-is s h
 may_stand-Stands workers s (BulkPush pass item) h = is_pass (is_in_bulk s) pass workers (is_in_bulk-is s h.0) h.1
 may_stand-Stands workers s BulkEnd h = is_in_bulk-is s h
+may_stand-Stands workers s (LimitBegin limit) h = is_outside-is s h
+may_stand-Stands workers s (LimitPush pass item) h = is_pass (is_at_limit s item) pass workers (is_at_limit-is s item h.0) h.1
+may_stand-Stands workers s LimitTop h = is_in_limit-is s h
+may_stand-Stands workers s LimitPop h = is_in_limit-is s h
+may_stand-Stands workers s LimitEnd h = is_in_limit-is s h
 
 -- the session that a line tells, if it begins or ends one
 abbrev pub turn_in : Kind → Option Session
@@ -86,7 +134,12 @@ command_turns line (BulkPopLimit limit count) s k e = cc
 command_turns line (Drain count) s k e = cc
 command_turns line BulkBegin s k e = let is : InBulk ≡ s = cc in subst (Turns line) is (Reads-Plain line BulkBegin k)
 command_turns line (BulkPush pass item) s k e = cc
-command_turns line BulkEnd s k e = let is : Outside ≡ s = cc in subst (Turns line) is (Reads-Plain line BulkEnd k)
+command_turns line BulkEnd s k e = let is : Outside ≡ s = cc in subst (Turns line) is (inl (Reads-Plain line BulkEnd k))
+command_turns line (LimitBegin limit) s k e = let is : InLimit limit ≡ s = cc in subst (Turns line) is (Reads-Plain line (LimitBegin limit) k)
+command_turns line (LimitPush pass item) s k e = cc
+command_turns line LimitTop s k e = cc
+command_turns line LimitPop s k e = cc
+command_turns line LimitEnd s k e = let is : Outside ≡ s = cc in subst (Turns line) is (inr (Reads-Plain line LimitEnd k))
 
 line_turns : (line : List ℕ) (k : Kind) (s : Session) → kind_of line ≡ k → turn_in k ≡ Some s → Turns line s
 line_turns line Skipped s k e = cc
@@ -95,8 +148,10 @@ line_turns line (OfFile name) s k e = cc
 line_turns line Bad s k e = cc
 
 turns_line : (line : List ℕ) (s : Session) → Turns line s → turn_in (kind_of line) ≡ Some s
-turns_line line Outside h = ap turn_in (Plain-Reads line BulkEnd h)
+turns_line line Outside (inl h) = ap turn_in (Plain-Reads line BulkEnd h)
+turns_line line Outside (inr h) = ap turn_in (Plain-Reads line LimitEnd h)
 turns_line line InBulk h = ap turn_in (Plain-Reads line BulkBegin h)
+turns_line line (InLimit limit) h = ap turn_in (Plain-Reads line (LimitBegin limit) h)
 
 -- the session before the line at place i
 abbrev pub session_at : List (List ℕ) → ℕ → Session

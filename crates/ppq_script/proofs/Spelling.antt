@@ -9,9 +9,9 @@ use Rattle.std.proofs.lemmas.Str.{IsUtf8-from_ascii}
 use Rattle.std.specs.Prelude.{IsUtf8, slice_index}
 use Rattle.ppq_record.specs.declared.pair.Pair.{Pair}
 use Rattle.ppq_script.specs.declared.command.Command.{Command}
-use Rattle.ppq_script.specs.declared.command.Command.TheVariants.{Push, Pop, Top, Size, Bulk, Gen, BulkPop, BulkPopLimit, Drain, BulkBegin, BulkPush, BulkEnd}
+use Rattle.ppq_script.specs.declared.command.Command.TheVariants.{Push, Pop, Top, Size, Bulk, Gen, BulkPop, BulkPopLimit, Drain, BulkBegin, BulkPush, BulkEnd, LimitBegin, LimitPush, LimitTop, LimitPop, LimitEnd}
 use Rattle.ppq_script.specs.Number.{value_from, number_of}
-use Rattle.ppq_script.specs.Command.{command_of, many_of, session_of, alone, one_of, two_of, three_of, both_of, push_of, gen_of, bulk_pop_of, drain_of, bulk_pop_limit_of, pass_of, bulk_push_of, file_of, is_file_name}
+use Rattle.ppq_script.specs.Command.{command_of, many_of, session_of, limit_of, alone, one_of, two_of, three_of, both_of, push_of, gen_of, bulk_pop_of, drain_of, bulk_pop_limit_of, pass_of, bulk_push_of, limit_push_of, limit_begin_of, file_of, is_file_name}
 use Rattle.ppq_script.specs.Lines.{Skipped, Plain, OfFile, kind_of, kind_of_fields, plain_or_bad, file_or_bad}
 use Rattle.ppq_script.specs.Files.{file_in}
 use Rattle.ppq_script.specs.Meaning.{IsDigit, Spells, IsGraphic, IsFileName, HasOne, HasTwo, HasThree, IsSpelled, IsBulk, IsSkipped, IsBlankOrComment, Reads, ReadsFile, fields_in}
@@ -180,12 +180,32 @@ spells_bulk_push name fields (Some p) c three n e =
     let is : BulkPush p.0 p.1 ≡ c = cc in
     subst (λ (d : Command). IsSpelled (name ∷ fields) d) is (has_pass name (codes "bulk_push") fields (three_of fields) p refl n three)
 
+spells_limit_push : (name : List ℕ) (fields : List (List ℕ)) (push : Option (ℕ × Pair)) (c : Command) → pass_of (three_of fields) ≡ push → name ≡ codes "limit_push" → limit_push_of push ≡ Some c → IsSpelled (name ∷ fields) c
+spells_limit_push name fields None c three n e = cc
+spells_limit_push name fields (Some p) c three n e =
+    let is : LimitPush p.0 p.1 ≡ c = cc in
+    subst (λ (d : Command). IsSpelled (name ∷ fields) d) is (has_pass name (codes "limit_push") fields (three_of fields) p refl n three)
+
+spells_limit_begin : (name : List ℕ) (fields : List (List ℕ)) (numbers : Option (ℕ × ℕ)) (c : Command) → two_of fields ≡ numbers → name ≡ codes "limit_begin" → limit_begin_of numbers ≡ Some c → IsSpelled (name ∷ fields) c
+spells_limit_begin name fields None c two n e = cc
+spells_limit_begin name fields (Some p) c two n e =
+    let is : LimitBegin (record { key = p.0; value = p.1 }) ≡ c = cc in
+    subst (λ (d : Command). IsSpelled (name ∷ fields) d) is (has_two name (codes "limit_begin") fields p n two)
+
 -- fields that are read as a command spell it
+spells_limit : (name : List ℕ) (fields : List (List ℕ)) (c : Command) → limit_of name fields ≡ Some c → IsSpelled (name ∷ fields) c
+spells_limit name fields c e =
+    by_name name (codes "limit_begin") _ _ c (spells_limit_begin name fields (two_of fields) c refl)
+    (by_name name (codes "limit_push") _ _ c (spells_limit_push name fields (pass_of (three_of fields)) c refl)
+    (by_name name (codes "limit_top") _ _ c (IsSpelled-alone name (codes "limit_top") fields LimitTop c refl)
+    (by_name name (codes "limit_pop") _ _ c (IsSpelled-alone name (codes "limit_pop") fields LimitPop c refl)
+    (by_name name (codes "limit_end") _ _ c (IsSpelled-alone name (codes "limit_end") fields LimitEnd c refl) (λ (none : None ≡ Some c). cc))))) e
+
 spells_session : (name : List ℕ) (fields : List (List ℕ)) (c : Command) → session_of name fields ≡ Some c → IsSpelled (name ∷ fields) c
 spells_session name fields c e =
     by_name name (codes "bulk_begin") _ _ c (IsSpelled-alone name (codes "bulk_begin") fields BulkBegin c refl)
     (by_name name (codes "bulk_push") _ _ c (spells_bulk_push name fields (pass_of (three_of fields)) c refl)
-    (by_name name (codes "bulk_end") _ _ c (IsSpelled-alone name (codes "bulk_end") fields BulkEnd c refl) (λ (none : None ≡ Some c). cc))) e
+    (by_name name (codes "bulk_end") _ _ c (IsSpelled-alone name (codes "bulk_end") fields BulkEnd c refl) (spells_limit name fields c))) e
 
 spells_many : (name : List ℕ) (fields : List (List ℕ)) (c : Command) → many_of name fields ≡ Some c → IsSpelled (name ∷ fields) c
 spells_many name fields c e =
@@ -260,6 +280,14 @@ Plain-IsSpelled fields BulkBegin h = ap kind_of_fields h
 Plain-IsSpelled fields (BulkPush pass item) h =
     ap kind_of_fields h.0.spelled ∙ ap (λ (push : Option (ℕ × Pair)). plain_or_bad (bulk_push_of push)) (pass_of-Spells pass item (codes "bulk_push") fields h.0 h.1)
 Plain-IsSpelled fields BulkEnd h = ap kind_of_fields h
+Plain-IsSpelled fields (LimitBegin limit) h =
+    ap kind_of_fields h.spelled
+    ∙ ap₂ (λ (one other : Option ℕ). plain_or_bad (limit_begin_of (both_of one other))) (number_of-Spells h.digits limit.key h.spells) (number_of-Spells h.others limit.value h.spells_other)
+Plain-IsSpelled fields (LimitPush pass item) h =
+    ap kind_of_fields h.0.spelled ∙ ap (λ (push : Option (ℕ × Pair)). plain_or_bad (limit_push_of push)) (pass_of-Spells pass item (codes "limit_push") fields h.0 h.1)
+Plain-IsSpelled fields LimitTop h = ap kind_of_fields h
+Plain-IsSpelled fields LimitPop h = ap kind_of_fields h
+Plain-IsSpelled fields LimitEnd h = ap kind_of_fields h
 
 -- a command that is spelled names no file
 file_in-IsSpelled : (fields : List (List ℕ)) (c : Command) → IsSpelled fields c → file_in c ≡ None
@@ -275,6 +303,11 @@ file_in-IsSpelled fields (Drain count) h = refl
 file_in-IsSpelled fields BulkBegin h = refl
 file_in-IsSpelled fields (BulkPush pass item) h = refl
 file_in-IsSpelled fields BulkEnd h = refl
+file_in-IsSpelled fields (LimitBegin limit) h = refl
+file_in-IsSpelled fields (LimitPush pass item) h = refl
+file_in-IsSpelled fields LimitTop h = refl
+file_in-IsSpelled fields LimitPop h = refl
+file_in-IsSpelled fields LimitEnd h = refl
 
 -- a line is read as a command where it is spelled as it
 pub Reads-Plain : (line : List ℕ) (c : Command) → kind_of line ≡ Plain c → Reads line c

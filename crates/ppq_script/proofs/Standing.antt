@@ -6,7 +6,7 @@ use Rattle.std.proofs.lemmas.Bool.{and_from}
 use Rattle.ppq_script.specs.declared.command.Command.{Command}
 use Rattle.ppq_script.specs.declared.numbered.Numbered.{Numbered}
 use Rattle.ppq_script.specs.declared.session.Session.{Session}
-use Rattle.ppq_script.specs.declared.session.Session.TheVariants.{Outside, InBulk}
+use Rattle.ppq_script.specs.declared.session.Session.TheVariants.{Outside, InBulk, InLimit}
 use Rattle.ppq_script.specs.Sessions.{turn_of, is_outside, may_stand, are_in_place}
 use Rattle.ppq_script.specs.Lines.{Kind, Skipped, Plain, OfFile, Bad, kind_of, session_behind, placed, kinds_from, kinds_of, file_after, numbered_from, numbered_of, before_bad, bad_or, first_bad}
 use Rattle.ppq_script.specs.Files.{file_in}
@@ -54,12 +54,14 @@ length_kinds workers lines = length_from workers Outside lines ∙ ap (λ (s : S
 pub end_from : (workers : ℕ) (s : Session) (lines : List (List ℕ)) → get_or (kinds_from workers s lines) (length lines) Bad ≡ Bad
 end_from workers Outside [] = refl
 end_from workers InBulk [] = refl
+end_from workers (InLimit limit) [] = refl
 end_from workers s (l ∷ ls) = end_from workers (session_behind s (kind_of l)) ls
 
 -- how many lines more there are behind the last
 pub ends_outside : (s : Session) → length (ending s) ≡ 0 → s ≡ Outside
 ends_outside Outside e = refl
 ends_outside InBulk e = cc
+ends_outside (InLimit limit) e = cc
 
 pub outside_ends : (s : Session) → s ≡ Outside → length (ending s) ≡ 0
 outside_ends s e = ap (λ (t : Session). length (ending t)) e
@@ -67,10 +69,12 @@ outside_ends s e = ap (λ (t : Session). length (ending t)) e
 pub open_ends : (s : Session) → s ≢ Outside → length (ending s) ≡ 1
 open_ends Outside e = absurd (e refl)
 open_ends InBulk e = refl
+open_ends (InLimit limit) e = refl
 
 pub few_ends : (s : Session) → length (ending s) ≤ 1
 few_ends Outside = omega arith
 few_ends InBulk = omega arith
+few_ends (InLimit limit) = omega arith
 
 -- a command that is no `bulk` names no file
 abbrev pub IsProper : Kind → Type 0
@@ -92,6 +96,7 @@ proper_placed workers s line Bad is = tt
 pub all_proper : (workers : ℕ) (s : Session) (lines : List (List ℕ)) → Each IsProper (kinds_from workers s lines)
 all_proper workers Outside [] = tt
 all_proper workers InBulk [] = (tt, tt)
+all_proper workers (InLimit limit) [] = (tt, tt)
 all_proper workers s (l ∷ ls) = (proper_placed workers s l (kind_of l) refl, all_proper workers (session_behind s (kind_of l)) ls)
 
 -- where no line is bad the commands stand where they may
@@ -119,6 +124,7 @@ place_first workers m file s ls Bad e rest = cc
 place_from : (workers m file : ℕ) (s : Session) (lines : List (List ℕ)) → first_bad m (kinds_from workers s lines) ≡ None → are_in_place workers s (commands_in (numbered_from m file (kinds_from workers s lines))) ≡ true
 place_from workers m file Outside [] e = refl
 place_from workers m file InBulk [] e = cc
+place_from workers m file (InLimit limit) [] e = cc
 place_from workers m file s (l ∷ ls) e = place_first workers m file s ls (kind_of l) e (λ (g : ℕ). place_from workers (m + 1) g (session_behind s (kind_of l)) ls)
 
 pub all_in_place : (workers : ℕ) (lines : List (List ℕ)) → first_bad 1 (kinds_of workers lines) ≡ None → are_in_place workers Outside (commands_in (numbered_of 1 (kinds_of workers lines))) ≡ true

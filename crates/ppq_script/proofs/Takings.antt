@@ -4,7 +4,7 @@ use Rattle.ppq_script.specs.declared.command.Command.{Command}
 use Rattle.ppq_script.specs.declared.command.Command.TheVariants.{Bulk}
 use Rattle.ppq_script.specs.declared.numbered.Numbered.{Numbered}
 use Rattle.ppq_script.specs.declared.session.Session.{Session}
-use Rattle.ppq_script.specs.declared.session.Session.TheVariants.{Outside, InBulk}
+use Rattle.ppq_script.specs.declared.session.Session.TheVariants.{Outside, InBulk, InLimit}
 use Rattle.ppq_script.specs.Sessions.{is_outside}
 use Rattle.ppq_script.specs.Lines.{Kind, Skipped, Plain, OfFile, Bad, lines_of, kind_of, session_behind, placed, kinds_from, kinds_of, file_after, numbered_from, names_of, first_bad}
 use Rattle.ppq_script.specs.Taken.{IsTaken}
@@ -94,14 +94,17 @@ nothing_left (b ∷ bs) e = absurd (omega (arith, e))
 end_names : (workers : ℕ) (session : Session) → names_of (kinds_from workers session []) ≡ []
 end_names workers Outside = refl
 end_names workers InBulk = refl
+end_names workers (InLimit limit) = refl
 
 end_commands : (workers line file : ℕ) (session : Session) → numbered_from line file (kinds_from workers session []) ≡ []
 end_commands workers line file Outside = refl
 end_commands workers line file InBulk = refl
+end_commands workers line file (InLimit limit) = refl
 
 end_bad : (workers line : ℕ) (session : Session) → first_bad line (kinds_from workers session []) ≡ cond (is_outside session) None (Some line)
 end_bad workers line Outside = refl
 end_bad workers line InBulk = refl
+end_bad workers line (InLimit limit) = refl
 
 pub fronts_end : (workers : ℕ) (bytes rest : List ℕ) (line : ℕ) (session : Session) (had : List Numbered) (knew : List (List ℕ)) → Fronts workers bytes line session rest had knew → rest ≡ []
     → (numbered_from 1 0 (kinds_of workers (lines_of bytes)) ≡ had) × ((names_of (kinds_of workers (lines_of bytes)) ≡ knew) × (first_bad 1 (kinds_of workers (lines_of bytes)) ≡ cond (is_outside session) None (Some line)))

@@ -4,7 +4,7 @@ use Rattle.std.specs.List.{list_all}
 use Rattle.std.specs.Char.{is_ascii_graphic}
 use Rattle.ppq_record.specs.declared.pair.Pair.{Pair}
 use Rattle.ppq_script.specs.declared.command.Command.{Command}
-use Rattle.ppq_script.specs.declared.command.Command.TheVariants.{Push, Pop, Top, Size, Gen, BulkPop, BulkPopLimit, Drain, BulkBegin, BulkPush, BulkEnd}
+use Rattle.ppq_script.specs.declared.command.Command.TheVariants.{Push, Pop, Top, Size, Gen, BulkPop, BulkPopLimit, Drain, BulkBegin, BulkPush, BulkEnd, LimitBegin, LimitPush, LimitTop, LimitPop, LimitEnd}
 use Rattle.ppq_script.specs.Number.{number_of}
 
 -- a command whose name stands alone
@@ -72,18 +72,37 @@ abbrev pub pass_of : Option (ℕ × (ℕ × ℕ)) → Option (ℕ × Pair)
 pass_of None = None
 pass_of (Some triple) = if nat_le triple.0 4294967295 then Some (triple.0, record { key = triple.1.0; value = triple.1.1 }) else None
 
--- the command by which the pass of this number pushes the record
+-- the commands by which the pass of this number pushes the record
 abbrev pub bulk_push_of : Option (ℕ × Pair) → Option Command
 bulk_push_of None = None
 bulk_push_of (Some push) = Some (BulkPush push.0 push.1)
 
--- the command of this name with these fields behind it, of those of a session
+abbrev pub limit_push_of : Option (ℕ × Pair) → Option Command
+limit_push_of None = None
+limit_push_of (Some push) = Some (LimitPush push.0 push.1)
+
+-- the one that begins a session with the record of a key and a value as its limit
+abbrev pub limit_begin_of : Option (ℕ × ℕ) → Option Command
+limit_begin_of None = None
+limit_begin_of (Some limit) = Some (LimitBegin (record { key = limit.0; value = limit.1 }))
+
+-- the command of this name with these fields behind it, of those of a limit session
+abbrev pub limit_of : List ℕ → List (List ℕ) → Option Command
+limit_of name fields =
+    if bytes_eq name (codes "limit_begin") then limit_begin_of (two_of fields)
+    else if bytes_eq name (codes "limit_push") then limit_push_of (pass_of (three_of fields))
+    else if bytes_eq name (codes "limit_top") then alone LimitTop fields
+    else if bytes_eq name (codes "limit_pop") then alone LimitPop fields
+    else if bytes_eq name (codes "limit_end") then alone LimitEnd fields
+    else None
+
+-- of those of a session
 abbrev pub session_of : List ℕ → List (List ℕ) → Option Command
 session_of name fields =
     if bytes_eq name (codes "bulk_begin") then alone BulkBegin fields
     else if bytes_eq name (codes "bulk_push") then bulk_push_of (pass_of (three_of fields))
     else if bytes_eq name (codes "bulk_end") then alone BulkEnd fields
-    else None
+    else limit_of name fields
 
 -- of those on many records and of a session
 abbrev pub many_of : List ℕ → List (List ℕ) → Option Command

@@ -2,7 +2,7 @@
 use Rattle.std.specs.Prelude.{◌≡◌, ◌⊎◌, ⊤, ℕ, ◌+◌, ◌<◌, ◌≤◌, ◌%◌, Bool, true, false, ◌&&◌, ◌==◌, nat_le, List, [], ◌∷◌, Option, Some, None, IfSome, get_or, if◌then◌else◌}
 use Rattle.ppq_outside.specs.Told.{Reply, OfLength, OfRead, length_of}
 use Rattle.ppq_script.specs.declared.command.Command.{Command}
-use Rattle.ppq_script.specs.declared.command.Command.TheVariants.{Push, Pop, Top, Size, Bulk, Gen, BulkPop, BulkPopLimit, Drain, BulkBegin, BulkPush, BulkEnd}
+use Rattle.ppq_script.specs.declared.command.Command.TheVariants.{Push, Pop, Top, Size, Bulk, Gen, BulkPop, BulkPopLimit, Drain, BulkBegin, BulkPush, BulkEnd, LimitBegin, LimitPush, LimitTop, LimitPop, LimitEnd}
 use Rattle.ppq_script.specs.declared.numbered.Numbered.{Numbered}
 use Rattle.ppq_script.specs.Lines.{Kind, Skipped, Plain, OfFile, Bad}
 
@@ -36,6 +36,11 @@ file_in (Drain count) = None
 file_in BulkBegin = None
 file_in (BulkPush pass item) = None
 file_in BulkEnd = None
+file_in (LimitBegin limit) = None
+file_in (LimitPush pass item) = None
+file_in LimitTop = None
+file_in LimitPop = None
+file_in LimitEnd = None
 
 -- the file that a command names, if it names one, is among so many
 abbrev pub NamesFile : ℕ → Command → Type 0

@@ -1,11 +1,12 @@
 -- What numbers, commands and lines mean to a reader: relations above the definitions that compute.
 use Rattle.std.specs.Prelude.{◌≡◌, ◌≢◌, ◌⊎◌, ⊤, Bool, true, false, Option, ℕ, ◌-◌, ◌*◌, ◌+◌, ◌^◌, ◌≤◌, ◌<◌, ◌↔◌, List, [], ◌∷◌, ◌++◌, length, get_or, Some, None, MatchOption, codes}
 use Rattle.std.specs.List.{AllByRecursion as Each}
+use Rattle.ppq_record.specs.declared.pair.Pair.{Pair}
 use Rattle.ppq_script.specs.declared.command.Command.{Command}
-use Rattle.ppq_script.specs.declared.command.Command.TheVariants.{Push, Pop, Top, Size, Bulk, Gen, BulkPop, BulkPopLimit, Drain, BulkBegin, BulkPush, BulkEnd}
+use Rattle.ppq_script.specs.declared.command.Command.TheVariants.{Push, Pop, Top, Size, Bulk, Gen, BulkPop, BulkPopLimit, Drain, BulkBegin, BulkPush, BulkEnd, LimitBegin, LimitPush, LimitTop, LimitPop, LimitEnd}
 use Rattle.ppq_script.specs.declared.numbered.Numbered.{Numbered}
 use Rattle.ppq_script.specs.declared.session.Session.{Session}
-use Rattle.ppq_script.specs.declared.session.Session.TheVariants.{Outside, InBulk}
+use Rattle.ppq_script.specs.declared.session.Session.TheVariants.{Outside, InBulk, InLimit}
 use Rattle.ppq_script.specs.Number.{value_from, number_of}
 use Rattle.ppq_script.specs.Lines.{lines_of, text_of, fields_of, kind_of, Skipped, Plain, OfFile, kinds_of, numbered_of, names_of, first_bad, first_bad_by}
 use Rattle.ppq_script.specs.Sessions.{may_stand}
@@ -94,6 +95,11 @@ IsSpelled fields (Drain count) = HasOne (codes "drain") fields count
 IsSpelled fields BulkBegin = fields ≡ codes "bulk_begin" ∷ []
 IsSpelled fields (BulkPush pass item) = HasThree (codes "bulk_push") fields pass item.key item.value × (pass ≤ 4294967295)
 IsSpelled fields BulkEnd = fields ≡ codes "bulk_end" ∷ []
+IsSpelled fields (LimitBegin limit) = HasTwo (codes "limit_begin") fields limit.key limit.value
+IsSpelled fields (LimitPush pass item) = HasThree (codes "limit_push") fields pass item.key item.value × (pass ≤ 4294967295)
+IsSpelled fields LimitTop = fields ≡ codes "limit_top" ∷ []
+IsSpelled fields LimitPop = fields ≡ codes "limit_pop" ∷ []
+IsSpelled fields LimitEnd = fields ≡ codes "limit_end" ∷ []
 
 -- `bulk` and the name of a file
 pub record IsBulk (fields : List (List ℕ)) (name : List ℕ) : Type 0 where
@@ -118,8 +124,9 @@ line_at lines n = get_or lines (n - 1) []
 
 -- a line that begins or ends a session, and the session behind it
 abbrev pub Turns : List ℕ → Session → Type 0
-Turns line Outside = Reads line BulkEnd
+Turns line Outside = Reads line BulkEnd ⊎ Reads line LimitEnd
 Turns line InBulk = Reads line BulkBegin
+Turns line (InLimit limit) = Reads line (LimitBegin limit)
 
 -- no line from one number on and before another begins or ends a session
 abbrev pub NoTurn : List (List ℕ) → ℕ → ℕ → Type 0
@@ -137,6 +144,18 @@ pub record IsLastTurn (lines : List (List ℕ)) (n : ℕ) (session : Session) : 
 abbrev pub IsSession : List (List ℕ) → ℕ → Session → Type 0
 IsSession lines n session = IsLastTurn lines n session ⊎ ((session ≡ Outside) × NoTurn lines 1 n)
 
+-- a record below a limit: its key is less, or else its value
+abbrev pub IsBelow : Pair → Pair → Type 0
+IsBelow item limit = (item.key < limit.key) ⊎ ((item.key ≡ limit.key) × (item.value < limit.value))
+
+-- a limit session
+abbrev pub IsInLimit : Session → Type 0
+IsInLimit session = (limit : Pair) × (session ≡ InLimit limit)
+
+-- a limit session whose limit this record is not below
+abbrev pub IsAtLimit : Session → Pair → Type 0
+IsAtLimit session item = (limit : Pair) × ((session ≡ InLimit limit) × ¬ IsBelow item limit)
+
 -- where a command may stand in a script for so many workers
 abbrev pub Stands : ℕ → Session → Command → Type 0
 Stands workers session (Push item) = session ≡ Outside
@@ -151,6 +170,11 @@ Stands workers session (Drain count) = session ≡ Outside
 Stands workers session BulkBegin = session ≡ Outside
 Stands workers session (BulkPush pass item) = (session ≡ InBulk) × (pass < workers)
 Stands workers session BulkEnd = session ≡ InBulk
+Stands workers session (LimitBegin limit) = session ≡ Outside
+Stands workers session (LimitPush pass item) = IsAtLimit session item × (pass < workers)
+Stands workers session LimitTop = IsInLimit session
+Stands workers session LimitPop = IsInLimit session
+Stands workers session LimitEnd = IsInLimit session
 
 -- a line that is blank, a comment, or spelled as some command that may stand in this session, whose file, if it names one, can be used
 abbrev pub IsGoodIn : (List ℕ → Bool) → ℕ → Session → List ℕ → Type 0

@@ -1,9 +1,12 @@
 -- Sessions, and where a command may stand.
-use Rattle.std.specs.Prelude.{ℕ, Bool, true, false, ◌&&◌, List, [], ◌∷◌, Option, Some, None, unwrap_or, nat_lt}
+use Rattle.std.specs.Prelude.{ℕ, Bool, true, false, not, ◌&&◌, List, [], ◌∷◌, Option, Some, None, unwrap_or, nat_lt}
+use Rattle.ppq_record.specs.declared.pair.Pair.{Pair}
+use Rattle.ppq_record.specs.Pair.{pair_cmp}
+use Rattle.ppq_record.specs.Order.{is_before}
 use Rattle.ppq_script.specs.declared.command.Command.{Command}
-use Rattle.ppq_script.specs.declared.command.Command.TheVariants.{Push, Pop, Top, Size, Bulk, Gen, BulkPop, BulkPopLimit, Drain, BulkBegin, BulkPush, BulkEnd}
+use Rattle.ppq_script.specs.declared.command.Command.TheVariants.{Push, Pop, Top, Size, Bulk, Gen, BulkPop, BulkPopLimit, Drain, BulkBegin, BulkPush, BulkEnd, LimitBegin, LimitPush, LimitTop, LimitPop, LimitEnd}
 use Rattle.ppq_script.specs.declared.session.Session.{Session}
-use Rattle.ppq_script.specs.declared.session.Session.TheVariants.{Outside, InBulk}
+use Rattle.ppq_script.specs.declared.session.Session.TheVariants.{Outside, InBulk, InLimit}
 
 -- the session behind a command that begins or ends one
 abbrev pub turn_of : Command → Option Session
@@ -19,16 +22,35 @@ turn_of (Drain count) = None
 turn_of BulkBegin = Some InBulk
 turn_of (BulkPush pass item) = None
 turn_of BulkEnd = Some Outside
+turn_of (LimitBegin limit) = Some (InLimit limit)
+turn_of (LimitPush pass item) = None
+turn_of LimitTop = None
+turn_of LimitPop = None
+turn_of LimitEnd = Some Outside
 
 -- no session is open
 abbrev pub is_outside : Session → Bool
 is_outside Outside = true
 is_outside InBulk = false
+is_outside (InLimit limit) = false
 
 -- a bulk session is
 abbrev pub is_in_bulk : Session → Bool
 is_in_bulk Outside = false
 is_in_bulk InBulk = true
+is_in_bulk (InLimit limit) = false
+
+-- a limit session is
+abbrev pub is_in_limit : Session → Bool
+is_in_limit Outside = false
+is_in_limit InBulk = false
+is_in_limit (InLimit limit) = true
+
+-- a limit session is, and the record is not below its limit
+abbrev pub is_at_limit : Session → Pair → Bool
+is_at_limit Outside item = false
+is_at_limit InBulk item = false
+is_at_limit (InLimit limit) item = not (is_before pair_cmp item limit)
 
 -- a command may stand in this session of a script for so many workers
 abbrev pub may_stand : ℕ → Session → Command → Bool
@@ -44,6 +66,11 @@ may_stand workers session (Drain count) = is_outside session
 may_stand workers session BulkBegin = is_outside session
 may_stand workers session (BulkPush pass item) = is_in_bulk session && nat_lt pass workers
 may_stand workers session BulkEnd = is_in_bulk session
+may_stand workers session (LimitBegin limit) = is_outside session
+may_stand workers session (LimitPush pass item) = is_at_limit session item && nat_lt pass workers
+may_stand workers session LimitTop = is_in_limit session
+may_stand workers session LimitPop = is_in_limit session
+may_stand workers session LimitEnd = is_in_limit session
 
 -- each command may stand where it does, the first in this session, and no session is open behind the last
 abbrev pub are_in_place : ℕ → Session → List Command → Bool

@@ -1,7 +1,7 @@
 //! The fields of a line as a command.
 ghost use Rattle.std.specs.Prelude.{◌≡◌};
 ghost use Rattle.ppq_script.specs.Lines.{fields_of};
-ghost use Rattle.ppq_script.specs.Command.{alone, one_of, two_of, three_of, push_of, gen_of, bulk_pop_of, drain_of, bulk_pop_limit_of, pass_of, bulk_push_of, command_of, many_of, session_of};
+ghost use Rattle.ppq_script.specs.Command.{alone, one_of, two_of, three_of, push_of, gen_of, bulk_pop_of, drain_of, bulk_pop_limit_of, pass_of, bulk_push_of, limit_begin_of, limit_push_of, command_of, many_of, session_of, limit_of};
 
 use crate::digits::number;
 use crate::fields::next_field;
@@ -37,6 +37,21 @@ pub enum Command {
     BulkPush { pass: u32, item: Pair },
     /// `bulk_end`: ends the bulk session; the bag gains all records that were pushed in it.
     BulkEnd,
+    /// `limit_begin K V`: begins a limit session with that record as its limit. Until its end only
+    /// `limit_push`, `limit_top` and `limit_pop` may stand.
+    LimitBegin { limit: Pair },
+    /// `limit_push I K V`: in a limit session, the pass with that number, which is below the number
+    /// of workers, takes the record, which is not below the limit; it joins the bag when the session
+    /// ends.
+    LimitPush { pass: u32, item: Pair },
+    /// `limit_top`: in a limit session, prints the least record of the bag if it is below the limit,
+    /// and leaves it there.
+    LimitTop,
+    /// `limit_pop`: in a limit session, removes the least record of the bag if it is below the
+    /// limit, and prints it.
+    LimitPop,
+    /// `limit_end`: ends the limit session; the bag gains all records that were pushed in it.
+    LimitEnd,
 }
 
 // The command, if no field is left.
@@ -147,6 +162,46 @@ fn bulk_push(push: Option<(u32, Pair)>) -> Option<Command>
     Some(Command::BulkPush { pass, item })
 }
 
+// The command that pushes a record by a pass of a limit session.
+fn limit_push(push: Option<(u32, Pair)>) -> Option<Command>
+    ensures { result ≡ limit_push_of push }
+{
+    let (pass, item) = push?;
+    Some(Command::LimitPush { pass, item })
+}
+
+// The command that begins a session with the record of a key and a value as its limit.
+fn limit_begin(numbers: Option<(u64, u64)>) -> Option<Command>
+    ensures { result ≡ limit_begin_of numbers }
+{
+    let (key, value) = numbers?;
+    Some(Command::LimitBegin {
+        limit: Pair { key, value },
+    })
+}
+
+// The command of this name of a limit session, whose further fields are those of the rest.
+fn read_limit(name: &[u8], rest: &[u8]) -> Option<Command>
+    ensures { result ≡ limit_of name.now (fields_of rest.now) }
+{
+    if name == b"limit_begin".as_slice() {
+        return limit_begin(two_numbers(rest));
+    }
+    if name == b"limit_push".as_slice() {
+        return limit_push(pass_and_item(three_numbers(rest)));
+    }
+    if name == b"limit_top".as_slice() {
+        return alone(Command::LimitTop, rest);
+    }
+    if name == b"limit_pop".as_slice() {
+        return alone(Command::LimitPop, rest);
+    }
+    if name == b"limit_end".as_slice() {
+        return alone(Command::LimitEnd, rest);
+    }
+    None
+}
+
 // The command of this name of a session, whose further fields are those of the rest.
 fn read_session(name: &[u8], rest: &[u8]) -> Option<Command>
     ensures { result ≡ session_of name.now (fields_of rest.now) }
@@ -160,7 +215,7 @@ fn read_session(name: &[u8], rest: &[u8]) -> Option<Command>
     if name == b"bulk_end".as_slice() {
         return alone(Command::BulkEnd, rest);
     }
-    None
+    read_limit(name, rest)
 }
 
 // The command of this name on many records, but for `bulk`, or of a session, whose further fields

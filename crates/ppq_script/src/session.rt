@@ -1,11 +1,12 @@
 //! Sessions, and where a line may stand.
 ghost use Rattle.std.specs.Prelude.{◌≡◌};
-ghost use Rattle.ppq_script.specs.Sessions.{turn_of, may_stand, is_outside};
+ghost use Rattle.ppq_script.specs.Sessions.{turn_of, may_stand, is_outside, is_in_limit, is_at_limit};
 ghost use Rattle.ppq_script.specs.Lines.{placed, session_behind};
 ghost use Rattle.ppq_script.specs.Shown.{kind_in};
 
 use crate::Command;
 use crate::line::Line;
+use ppq_record::{Pair, Record};
 
 // The session in which a line stands.
 #[derive(Clone, Copy, Debug, PartialEq, Eq)]
@@ -14,6 +15,8 @@ pub enum Session {
     Outside,
     // A bulk session.
     InBulk,
+    // A limit session with this limit.
+    InLimit { limit: Pair },
 }
 
 // Whether no session is open.
@@ -23,6 +26,23 @@ pub fn stands_outside(session: Session) -> bool
     matches!(session, Session::Outside)
 }
 
+// Whether a limit session is open.
+fn stands_in_limit(session: Session) -> bool
+    ensures { result ≡ is_in_limit session }
+{
+    matches!(session, Session::InLimit { .. })
+}
+
+// Whether a limit session is open whose limit this record is not below.
+fn reaches_limit(session: Session, item: Pair) -> bool
+    ensures { result ≡ is_at_limit session item }
+{
+    match session {
+        Session::InLimit { limit } => !item.is_less(&limit),
+        _ => false,
+    }
+}
+
 // Whether a command may stand in a session of a script for so many workers.
 fn allows(session: Session, command: Command, workers: u32) -> bool
     ensures { result ≡ may_stand workers session command }
@@ -30,6 +50,8 @@ fn allows(session: Session, command: Command, workers: u32) -> bool
     match command {
         Command::BulkPush { pass, .. } => matches!(session, Session::InBulk) && pass < workers,
         Command::BulkEnd => matches!(session, Session::InBulk),
+        Command::LimitPush { pass, item } => reaches_limit(session, item) && pass < workers,
+        Command::LimitTop | Command::LimitPop | Command::LimitEnd => stands_in_limit(session),
         _ => stands_outside(session),
     }
 }
@@ -40,7 +62,8 @@ fn turn(command: Command) -> Option<Session>
 {
     match command {
         Command::BulkBegin => Some(Session::InBulk),
-        Command::BulkEnd => Some(Session::Outside),
+        Command::LimitBegin { limit } => Some(Session::InLimit { limit }),
+        Command::BulkEnd | Command::LimitEnd => Some(Session::Outside),
         _ => None,
     }
 }

@@ -165,8 +165,13 @@ fn bad_lines(rt: HostRuntime) -> Result<(), Fail> {
         b"drain x\n".as_slice(),
         b"bulk_begin 1\n".as_slice(),
         b"bulk_end\n".as_slice(),
+        b"limit_begin 1\n".as_slice(),
+        b"limit_begin 1 2 3\n".as_slice(),
+        b"limit_end\n".as_slice(),
         b"bulk_push 0 1 2\n".as_slice(),
-        b"limit_begin 1 2\n".as_slice(),
+        b"limit_push 0 1 2\n".as_slice(),
+        b"limit_top\n".as_slice(),
+        b"limit_pop\n".as_slice(),
     ];
     for text in cases {
         assert!(rt; text.len() < 100);
@@ -259,74 +264,248 @@ fn reads_the_commands_of_a_bulk_session(rt: HostRuntime) -> Result<(), Fail> {
 }
 
 #[test]
-fn a_line_in_its_session_is_good(rt: HostRuntime) -> Result<(), Fail> {
+fn reads_the_commands_of_a_limit_session(rt: HostRuntime) -> Result<(), Fail> {
+    let text = b"limit_begin 4 7\nlimit_top\nlimit_push 0 4 8\nlimit_pop\nlimit_end";
+    let script = read(rt.alloc(), text, 1)?;
+    assert_eq!(rt; script.bad(), None);
+    assert_eq!(rt; script.len(), 5);
+    assert_eq!(rt;
+        script.at(0),
+        Command::LimitBegin {
+            limit: Pair { key: 4, value: 7 }
+        }
+    );
+    assert_eq!(rt; script.at(1), Command::LimitTop);
+    assert_eq!(rt;
+        script.at(2),
+        Command::LimitPush {
+            pass: 0,
+            item: Pair { key: 4, value: 8 }
+        }
+    );
+    assert_eq!(rt; script.at(3), Command::LimitPop);
+    assert_eq!(rt; script.at(4), Command::LimitEnd);
+    assert_eq!(rt; script.line(4), 5);
+    Ok(())
+}
+
+// The first bad line of this script for two workers.
+fn bad_for_two(alloc: Global, text: &[u8]) -> Result<Option<u32>, Memory>
+    requires { length text.now ≤ 1_048_576 }
+{
+    let script = read(alloc, text, 2)?;
+    Ok(script.bad())
+}
+
+#[test]
+fn a_session_may_follow_another(rt: HostRuntime) -> Result<(), Fail> {
     let cases = [
         b"bulk_begin\nbulk_end\nbulk_begin\nbulk_end\n".as_slice(),
-        b"bulk_begin\nbulk_end\nsize\n".as_slice(),
-        b"bulk_begin\n#\n\n   \n#pop\nbulk_end".as_slice(),
-        b"bulk_begin\nbulk_push 1 0 0\nbulk_end\n".as_slice(),
-        b"bulk_begin\nbulk_push 00000000000000000001 0 0\nbulk_end\n".as_slice(),
-        b"bulk_begin\nbulk_end\npush 1 1\ngen 1 1\nbulk f\n".as_slice(),
+        b"bulk_begin\nbulk_end\nlimit_begin 1 2\nlimit_end\nsize\n".as_slice(),
+        b"limit_begin 4 7\nlimit_end\nlimit_begin 3 0\nlimit_push 0 4 0\nlimit_end\n".as_slice(),
+        b"limit_begin 4 7\nlimit_end\npush 1 1\ngen 1 1\nbulk f\n".as_slice(),
     ];
     for text in cases {
         assert!(rt; text.len() < 100);
-        let script = read(rt.alloc(), text, 2)?;
-        assert_eq!(rt; script.bad(), None);
+        assert_eq!(rt; bad_for_two(rt.alloc(), text)?, None);
     }
     Ok(())
 }
 
 #[test]
-fn a_line_out_of_its_session_is_bad(rt: HostRuntime) -> Result<(), Fail> {
+fn sessions_do_not_nest(rt: HostRuntime) -> Result<(), Fail> {
     let cases = [
-        // a command outside
-        (b"pop\nbulk_push 0 1 2\n".as_slice(), 2),
-        (b"pop\nbulk_end\n".as_slice(), 2),
-        (b"bulk_begin\nbulk_end\nbulk_end\n".as_slice(), 3),
-        // a command inside
-        (b"bulk_begin\npop\nbulk_end\n".as_slice(), 2),
-        (b"bulk_begin\ntop\nbulk_end\n".as_slice(), 2),
-        (b"bulk_begin\nsize\nbulk_end\n".as_slice(), 2),
-        (b"bulk_begin\npush 1 2\nbulk_end\n".as_slice(), 2),
-        (b"bulk_begin\nbulk f\nbulk_end\n".as_slice(), 2),
-        (b"bulk_begin\ngen 1 2\nbulk_end\n".as_slice(), 2),
-        (b"bulk_begin\nbulk_pop 1\nbulk_end\n".as_slice(), 2),
-        (
-            b"bulk_begin\nbulk_pop_limit 1 1 1\nbulk_end\n".as_slice(),
-            2,
-        ),
-        (b"bulk_begin\ndrain 1\nbulk_end\n".as_slice(), 2),
-        // a session in a session
         (b"bulk_begin\nbulk_begin\nbulk_end\n".as_slice(), 2),
-        (b"bulk_begin\n#\nbulk_begin\n".as_slice(), 3),
-        // a pass that is none of two
-        (b"bulk_begin\nbulk_push 2 1 1\nbulk_end\n".as_slice(), 2),
-        (b"bulk_begin\nbulk_push 3 1 1\nbulk_end\n".as_slice(), 2),
+        (b"bulk_begin\n\nlimit_begin 4 0\nlimit_end\n".as_slice(), 3),
+        (b"limit_begin 4 0\n#\nbulk_begin\n".as_slice(), 3),
         (
-            b"bulk_begin\nbulk_push 4294967296 1 1\nbulk_end\n".as_slice(),
+            b"limit_begin 4 0\nlimit_begin 4 0\nlimit_end\n".as_slice(),
             2,
         ),
-        (b"bulk_begin\nbulk_push 1 1\nbulk_end\n".as_slice(), 2),
-        (
-            b"bulk_begin\nbulk_push 1 9 9\nbulk_push 2 9 9\n".as_slice(),
-            3,
-        ),
-        // a session that is open at the end
-        (b"bulk_begin".as_slice(), 2),
-        (b"bulk_begin\n".as_slice(), 2),
-        (b"bulk_begin\n\n".as_slice(), 3),
-        (b"bulk_begin\nbulk_push 0 1 1\n# no end".as_slice(), 4),
-        (b"bulk_begin\nbulk_push 0 1 1\n# no end\n".as_slice(), 4),
-        // a line that begins and ends no session
-        (b"bulk_begin x\nbulk_push 0 1 1\nbulk_end\n".as_slice(), 1),
-        (b"pop\n#bulk_begin\nbulk_push 0 1 1\n".as_slice(), 3),
-        (b"bulk_begin\n# bulk_end\npop\n".as_slice(), 3),
-        (b"bulk_begin\nbulk_end x\nbulk_end\n".as_slice(), 2),
     ];
     for (text, bad) in cases {
         assert!(rt; text.len() < 100);
-        let script = read(rt.alloc(), text, 2)?;
-        assert_eq!(rt; script.bad(), Some(bad));
+        assert_eq!(rt; bad_for_two(rt.alloc(), text)?, Some(bad));
+    }
+    Ok(())
+}
+
+#[test]
+fn a_command_of_a_session_is_bad_outside(rt: HostRuntime) -> Result<(), Fail> {
+    let cases = [
+        (b"pop\nbulk_push 0 1 2\n".as_slice(), 2),
+        (b"pop\nbulk_end\n".as_slice(), 2),
+        (b"bulk_begin\nbulk_end\nbulk_end\n".as_slice(), 3),
+        (b"limit_push 0 1 2".as_slice(), 1),
+        (b"limit_top".as_slice(), 1),
+        (b"limit_end".as_slice(), 1),
+        (b"limit_begin 1 2\nlimit_end\nlimit_pop\n".as_slice(), 3),
+    ];
+    for (text, bad) in cases {
+        assert!(rt; text.len() < 100);
+        assert_eq!(rt; bad_for_two(rt.alloc(), text)?, Some(bad));
+    }
+    Ok(())
+}
+
+#[test]
+fn all_other_commands_are_bad_in_a_session(rt: HostRuntime) -> Result<(), Fail> {
+    let cases = [
+        b"bulk_begin\npop\nbulk_end\n".as_slice(),
+        b"bulk_begin\ntop\nbulk_end\n".as_slice(),
+        b"bulk_begin\nsize\nbulk_end\n".as_slice(),
+        b"bulk_begin\npush 1 2\nbulk_end\n".as_slice(),
+        b"bulk_begin\nbulk f\nbulk_end\n".as_slice(),
+        b"bulk_begin\ngen 1 2\nbulk_end\n".as_slice(),
+        b"limit_begin 4 0\npop\nlimit_end\n".as_slice(),
+        b"limit_begin 4 0\npush 5 0\nlimit_end\n".as_slice(),
+        b"limit_begin 4 0\nbulk_pop 1\nlimit_end\n".as_slice(),
+        b"limit_begin 4 0\nbulk_pop_limit 1 1 1\nlimit_end\n".as_slice(),
+        b"limit_begin 4 0\ndrain 1\nlimit_end\n".as_slice(),
+        b"limit_begin 4 0\nbulk f\nlimit_end\n".as_slice(),
+    ];
+    for text in cases {
+        assert!(rt; text.len() < 100);
+        assert_eq!(rt; bad_for_two(rt.alloc(), text)?, Some(2));
+    }
+    Ok(())
+}
+
+#[test]
+fn a_command_of_the_other_session_is_bad(rt: HostRuntime) -> Result<(), Fail> {
+    let cases = [
+        b"bulk_begin\nlimit_push 0 5 0\nbulk_end\n".as_slice(),
+        b"bulk_begin\nlimit_top\nbulk_end\n".as_slice(),
+        b"bulk_begin\nlimit_pop\nbulk_end\n".as_slice(),
+        b"bulk_begin\nlimit_end\nbulk_end\n".as_slice(),
+        b"limit_begin 4 0\nbulk_push 0 5 0\nlimit_end\n".as_slice(),
+        b"limit_begin 4 0\nbulk_end".as_slice(),
+    ];
+    for text in cases {
+        assert!(rt; text.len() < 100);
+        assert_eq!(rt; bad_for_two(rt.alloc(), text)?, Some(2));
+    }
+    Ok(())
+}
+
+#[test]
+fn a_pass_is_below_the_workers(rt: HostRuntime) -> Result<(), Fail> {
+    let cases = [
+        (b"bulk_begin\nbulk_push 1 0 0\nbulk_end\n".as_slice(), None),
+        (
+            b"bulk_begin\nbulk_push 00000000000000000001 0 0\nbulk_end\n".as_slice(),
+            None,
+        ),
+        (
+            b"bulk_begin\nbulk_push 2 1 1\nbulk_end\n".as_slice(),
+            Some(2),
+        ),
+        (
+            b"bulk_begin\nbulk_push 3 1 1\nbulk_end\n".as_slice(),
+            Some(2),
+        ),
+        (
+            b"bulk_begin\nbulk_push 4294967296 1 1\nbulk_end\n".as_slice(),
+            Some(2),
+        ),
+        (b"bulk_begin\nbulk_push 1 1\nbulk_end\n".as_slice(), Some(2)),
+        (
+            b"limit_begin 4 0\nlimit_push 1 5 0\nlimit_end\n".as_slice(),
+            None,
+        ),
+        (
+            b"limit_begin 4 0\nlimit_push 2 5 0\nlimit_end\n".as_slice(),
+            Some(2),
+        ),
+        (
+            b"limit_begin 4 0\nlimit_push 4294967296 5 0\nlimit_end\n".as_slice(),
+            Some(2),
+        ),
+    ];
+    for (text, bad) in cases {
+        assert!(rt; text.len() < 100);
+        assert_eq!(rt; bad_for_two(rt.alloc(), text)?, bad);
+    }
+    Ok(())
+}
+
+#[test]
+fn a_record_below_the_limit_is_bad(rt: HostRuntime) -> Result<(), Fail> {
+    let cases = [
+        (
+            b"push 1 0\nlimit_begin 4 0\nlimit_push 0 3 9\nlimit_end\n".as_slice(),
+            3,
+        ),
+        (
+            b"limit_begin 4 7\nlimit_push 0 4 6\nlimit_end\n".as_slice(),
+            2,
+        ),
+        (
+            b"limit_begin 4 7\nlimit_push 0 4 8\nlimit_push 0 3 8\n".as_slice(),
+            3,
+        ),
+        // the limit is that of the session in which the line stands
+        (
+            b"limit_begin 1 1\nlimit_end\nlimit_begin 4 7\nlimit_push 0 4 6\n".as_slice(),
+            4,
+        ),
+    ];
+    for (text, bad) in cases {
+        assert!(rt; text.len() < 100);
+        assert_eq!(rt; bad_for_two(rt.alloc(), text)?, Some(bad));
+    }
+    Ok(())
+}
+
+#[test]
+fn a_record_equal_to_the_limit_or_above_is_good(rt: HostRuntime) -> Result<(), Fail> {
+    let cases = [
+        b"limit_begin 4 7\nlimit_push 0 4 7\nlimit_end\n".as_slice(),
+        b"limit_begin 4 7\nlimit_push 0 4 8\nlimit_end\n".as_slice(),
+        b"limit_begin 4 7\nlimit_push 0 5 0\nlimit_end\n".as_slice(),
+        b"limit_begin 0 0\nlimit_push 0 0 0\nlimit_end\n".as_slice(),
+    ];
+    for text in cases {
+        assert!(rt; text.len() < 100);
+        assert_eq!(rt; bad_for_two(rt.alloc(), text)?, None);
+    }
+    Ok(())
+}
+
+#[test]
+fn an_open_session_is_bad_after_the_last_line(rt: HostRuntime) -> Result<(), Fail> {
+    let cases = [
+        (b"bulk_begin".as_slice(), 2),
+        (b"bulk_begin\n".as_slice(), 2),
+        (b"bulk_begin\n\n".as_slice(), 3),
+        (b"limit_begin 4 0".as_slice(), 2),
+        (b"limit_begin 4 0\n".as_slice(), 2),
+        (b"limit_begin 4 0\nlimit_pop\n# no end".as_slice(), 4),
+        (b"limit_begin 4 0\nlimit_pop\n# no end\n".as_slice(), 4),
+    ];
+    for (text, bad) in cases {
+        assert!(rt; text.len() < 100);
+        assert_eq!(rt; bad_for_two(rt.alloc(), text)?, Some(bad));
+    }
+    Ok(())
+}
+
+#[test]
+fn comments_and_bad_lines_begin_and_end_no_session(rt: HostRuntime) -> Result<(), Fail> {
+    let cases = [
+        (b"bulk_begin\n#\n\n   \n#pop\nbulk_end".as_slice(), None),
+        (
+            b"bulk_begin x\nbulk_push 0 1 1\nbulk_end\n".as_slice(),
+            Some(1),
+        ),
+        (b"pop\n#bulk_begin\nbulk_push 0 1 1\n".as_slice(), Some(3)),
+        (b"bulk_begin\n# bulk_end\npop\n".as_slice(), Some(3)),
+        (b"bulk_begin\nbulk_end x\nbulk_end\n".as_slice(), Some(2)),
+        (b"limit_begin 4 0\n# limit_end\npop\n".as_slice(), Some(3)),
+    ];
+    for (text, bad) in cases {
+        assert!(rt; text.len() < 100);
+        assert_eq!(rt; bad_for_two(rt.alloc(), text)?, bad);
     }
     Ok(())
 }

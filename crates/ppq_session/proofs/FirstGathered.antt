@@ -1,5 +1,5 @@
 -- A session that was closed, before the first pass is put in.
-use Rattle.std.proofs.Common.{◌≡◌, ℕ, ◌+◌, ◌-◌, ◌*◌, ◌<◌, ◌≤◌, List, [], ◌∷◌, ◌++◌, length, take, drop, map, sum_by, All, None, refl, sym, ap, ap₂, ◌∙◌, subst, arith, inl, length-append, length-drop, take-append-drop}
+use Rattle.std.proofs.Common.{◌≡◌, ℕ, ◌+◌, ◌-◌, ◌*◌, ◌<◌, ◌≤◌, List, [], ◌∷◌, ◌++◌, length, take, drop, map, sum_by, All, Option, None, refl, sym, ap, ap₂, ◌∙◌, subst, arith, inl, length-append, length-drop, take-append-drop}
 use Rattle.std.specs.Prelude.{flat_map}
 use Rattle.std.specs.declared.cmp.Ordering.{Ordering}
 use Rattle.std.proofs.lemmas.Nat.{mul-le}
@@ -12,25 +12,26 @@ use native.Mathlib.Decide.{dec_le}
 use Rattle.ppq_table.specs.Sums.{times, once_below}
 use Rattle.ppq_table.proofs.Numbers.{times_in, once-in}
 use Rattle.ppq_pool.specs.Seats.{count_of as pool_count}
-use Rattle.ppq_outside.specs.Shown.{Shown, Tells, AllTell}
-use Rattle.ppq_budget.specs.Sizes.{heap_of, pool_of}
+use Rattle.ppq_outside.specs.Shown.{Shown, AllTell}
+use Rattle.ppq_budget.specs.Sizes.{heap_of}
 use Rattle.ppq_heap.specs.Heap.{Contents}
 use Rattle.ppq_heap.specs.Heaps.{items_in}
-use Rattle.ppq_extract.specs.Extracted.{held}
 use Rattle.ppq_array.specs.declared.berth.DeviceBlock.{DeviceBlock}
 use Rattle.ppq_array.specs.Owner.{slots_shown}
 use Rattle.ppq_array.specs.Kept.{SameSlots, all_writes}
-use Rattle.ppq_array.specs.Holdings.{external_slots}
-use Rattle.ppq_spill.specs.Body.{held_by, job_slots}
+use Rattle.ppq_spill.specs.Body.{held_by, body_slots}
+use Rattle.ppq_record.specs.Order.{Le, is_before}
+use Rattle.ppq_record.proofs.Order.{Each-append_right}
+use Rattle.ppq_fetch.specs.Taking.{NoneAfter}
 use Rattle.ppq_spill.proofs.Keeping.{slots_long}
 use Rattle.ppq_spill.proofs.SameSlots.{SameSlots-refl, SameSlots-sums, SameSlots-trans}
 use Rattle.ppq_spill.specs.Untold.{untold}
 use Rattle.ppq_spill.proofs.Telling.{tell_sum, sum_tell}
 use Rattle.ppq_pass.specs.Passing.{items_at}
 use Rattle.ppq_pass.specs.Passed.{PassHolding, PassTells, slots_of as pass_slots}
-use Rattle.ppq_queue.specs.Resting.{slots_of, count_of}
+use Rattle.ppq_queue.specs.Resting.{slots_of}
 use Rattle.ppq_queue.proofs.Slots.{SameSums-length}
-use Rattle.ppq_begin.specs.State.{IsBulk, bulk_slots}
+use Rattle.ppq_session.specs.Apart.{IsApart, IsSoundApart, GoesBefore, apart_slots}
 use Rattle.ppq_gather.specs.Passes.{IsBrought, pass_of}
 use Rattle.ppq_session.specs.Bringing.{BroughtAll}
 use Rattle.ppq_gather.specs.Gathering.{IsGathered, IsGathering, IsSoundSoFar, slots_in, buffers_in, begun_in}
@@ -41,7 +42,7 @@ use Rattle.ppq_begin.specs.declared.parts.BulkParts.{BulkParts}
 use Rattle.ppq_session.proofs.Places.{items_at-once}
 use Rattle.ppq_session.proofs.Ended.{SameSlots-append, drawn_in, places_in, drawn-places, drawn-same, drawn-untold}
 
-module _ {S R : Type 0} (shown : S → Shown) (cmp : R → R → Ordering) (record_of : List ℕ → R) (width : ℕ) (q : BulkParts S R) (is : IsBulk shown cmp record_of width q) (q1 : BulkParts S R) (passes : List (PassHolding S R)) (br : BroughtAll shown record_of width q.sizes cmp passes q q1) (c : Closed S R) (cl : IsClosed shown q1 c) (count : length passes ≡ q.sizes.workers) (keys : All (λ (p : PassHolding S R). p.key.items ≡ q.row_seat.hand.items) passes) (begun : sum_by (λ (p : PassHolding S R). p.key.begun) passes + count_of q.body ≡ q.count) where
+module _ {S R : Type 0} (shown : S → Shown) (cmp : R → R → Ordering) (record_of : List ℕ → R) (width : ℕ) (q : BulkParts S R) (failed : Option ℕ) (is : IsApart shown width q failed) (q1 : BulkParts S R) (passes : List (PassHolding S R)) (br : BroughtAll shown record_of width q.sizes cmp passes q q1) (c : Closed S R) (cl : IsClosed shown q1 failed c) (count : length passes ≡ q.sizes.workers) (keys : All (λ (p : PassHolding S R). p.key.items ≡ q.row_seat.hand.items) passes) where
   abbrev rest : List (Brought S R)
   rest = br.brought
 
@@ -49,13 +50,13 @@ module _ {S R : Type 0} (shown : S → Shown) (cmp : R → R → Ordering) (reco
   items = q.row_seat.hand.items
 
   -- the parts, in terms of those that there were
-  abbrev closed : Closed S R
-  closed = record { sizes = q.sizes; heaps = q.heaps; tree = q.tree; body = q.body; supply = c.supply; extract = q.extract; sources = q.sources; count = q.count; peak = q.peak; failed = None; slots = q.slots; brought = q1.brought }
+  abbrev pub closed : Closed S R
+  closed = record { sizes = q.sizes; heaps = q.heaps; tree = q.tree; body = q.body; supply = c.supply; extract = q.extract; sources = q.sources; count = q.count; peak = q.peak; limited = q.limited; failed = failed; slots = q.slots; brought = q1.brought }
 
   pub closed_is : c ≡ closed
   closed_is =
       cl.rest
-      ∙ ap (λ (p : BulkParts S R). record { sizes = p.sizes; heaps = p.heaps; tree = p.tree; body = p.body; supply = c.supply; extract = p.extract; sources = p.sources; count = p.count; peak = p.peak; failed = None; slots = p.slots; brought = p.brought }) br.rest
+      ∙ ap (λ (p : BulkParts S R). record { sizes = p.sizes; heaps = p.heaps; tree = p.tree; body = p.body; supply = c.supply; extract = p.extract; sources = p.sources; count = p.count; peak = p.peak; limited = p.limited; failed = failed; slots = p.slots; brought = p.brought }) br.rest
 
   from_map : (xs : List (Brought S R)) (ps : List (PassHolding S R)) → map (pass_of shown record_of width q.sizes) xs ≡ ps → All (λ (p : PassHolding S R). p.key.items ≡ items) ps → All (λ (one : Brought S R). one.kept.value.row_seat.hand.items ≡ items) xs
   from_map xs ps e all = by_list xs (subst (λ l. All (λ (p : PassHolding S R). p.key.items ≡ items) l) (sym e) all)
@@ -76,7 +77,7 @@ module _ {S R : Type 0} (shown : S → Shown) (cmp : R → R → Ordering) (reco
   places = places_in shown rest
 
   places_are : q1.row_seat.hand.places ≡ places
-  places_are = br.places ∙ ap (λ l. l ++ places_in shown br.brought) is.left.undrawn
+  places_are = br.places ∙ ap (λ l. l ++ places_in shown br.brought) is.undrawn
 
   below : All (λ p. p < length items) places
   below = by_list rest same_items br.each
@@ -123,17 +124,21 @@ module _ {S R : Type 0} (shown : S → Shown) (cmp : R → R → Ordering) (reco
         sum_by-append w (take (length places) items) (drop (length places) items),
       )
 
-  kept_is : c.supply.kept ≡ slots_shown shown cl.left
-  kept_is = ap (λ s. s.kept) cl.supply
+  same_supply : q1.supply ≡ q.supply
+  same_supply = ap (λ p. p.supply) br.rest
 
-  here : (f : Shown → ℕ) → sum_by f (slots_of shown q.body c.supply) ≡ sum_by f (external_slots shown q.body.runs.external.items) + sum_by f (slots_shown shown cl.left)
+  kept_is : c.supply.kept ≡ q.supply.kept ++ slots_shown shown cl.left
+  kept_is = ap (λ s. s.kept) cl.supply ∙ ap (λ s. s.kept ++ slots_shown shown cl.left) same_supply
+
+  -- the free slots are those that were free, and what is left of the row
+  here : (f : Shown → ℕ) → sum_by f (slots_of shown q.body c.supply) ≡ sum_by f (slots_of shown q.body q.supply) + sum_by f (slots_shown shown cl.left)
   here f =
       omega (
         arith,
-        sum_by-append f (external_slots shown q.body.runs.external.items ++ job_slots shown q.body.lanes.jobs.items) c.supply.kept,
-        sum_by-append f (external_slots shown q.body.runs.external.items) (job_slots shown q.body.lanes.jobs.items),
-        ap (λ l. sum_by f (job_slots shown l)) is.left.no_job,
+        sum_by-append f (body_slots shown q.body) c.supply.kept,
+        sum_by-append f (body_slots shown q.body) q.supply.kept,
         ap (sum_by f) kept_is,
+        sum_by-append f q.supply.kept (slots_shown shown cl.left),
       )
 
   abbrev mid : List Shown
@@ -142,11 +147,11 @@ module _ {S R : Type 0} (shown : S → Shown) (cmp : R → R → Ordering) (reco
   abbrev pub now : List Shown
   now = slots_of shown q.body c.supply ++ slots_in shown rest
 
-  moved : (f : Shown → ℕ) → sum_by f (bulk_slots shown q) ≡ sum_by f mid
+  moved : (f : Shown → ℕ) → sum_by f (apart_slots shown q) ≡ sum_by f mid
   moved f =
       omega (
         arith,
-        sum_by-append f (external_slots shown q.body.runs.external.items) (slots_shown shown q.row_seat.hand.items),
+        sum_by-append f (slots_of shown q.body q.supply) (slots_shown shown q.row_seat.hand.items),
         parted f,
         sum_by-append f (slots_of shown q.body c.supply) (drawn_in shown rest),
         here f,
@@ -155,13 +160,13 @@ module _ {S R : Type 0} (shown : S → Shown) (cmp : R → R → Ordering) (reco
   drawn : SameSlots (drawn_in shown rest) (slots_in shown rest) × (all_writes (drawn_in shown rest) ≤ all_writes (slots_in shown rest))
   drawn = drawn-same shown cmp record_of width q.sizes rest br.each
 
-  pub same_now : SameSlots (bulk_slots shown q) now
+  pub same_now : SameSlots (apart_slots shown q) now
   same_now =
-      SameSlots-trans (bulk_slots shown q) mid now
-      (SameSlots-sums (bulk_slots shown q) mid moved (sym (SameSums-length (bulk_slots shown q) mid moved)))
+      SameSlots-trans (apart_slots shown q) mid now
+      (SameSlots-sums (apart_slots shown q) mid moved (sym (SameSums-length (apart_slots shown q) mid moved)))
       (SameSlots-append (slots_of shown q.body c.supply) (slots_of shown q.body c.supply) (drawn_in shown rest) (slots_in shown rest) (SameSlots-refl (slots_of shown q.body c.supply)) drawn.0)
 
-  pub writes_now : all_writes (bulk_slots shown q) ≤ all_writes now
+  pub writes_now : all_writes (apart_slots shown q) ≤ all_writes now
   writes_now =
       let f : Shown → ℕ = λ s. s.writes in
       omega (arith, moved f, drawn.1, sum_by-append f (slots_of shown q.body c.supply) (drawn_in shown rest), sum_by-append f (slots_of shown q.body c.supply) (slots_in shown rest))
@@ -192,16 +197,15 @@ module _ {S R : Type 0} (shown : S → Shown) (cmp : R → R → Ordering) (reco
       )
 
   -- where the slots of the bulk and of all passes tell, all tell now
-  pub told_now : AllTell (bulk_slots shown q) → All (PassTells shown) passes → AllTell now
+  pub told_now : AllTell (apart_slots shown q) → All (PassTells shown) passes → AllTell now
   told_now tell each =
-      let ext = external_slots shown q.body.runs.external.items in
       let none = tell_each rest (subst (All (PassTells shown)) (sym br.passes_are) each) in
       sum_tell now (
       omega (
         arith,
         none,
-        tell_sum (bulk_slots shown q) tell,
-        sum_by-append untold ext (slots_shown shown items),
+        tell_sum (apart_slots shown q) tell,
+        sum_by-append untold (slots_of shown q.body q.supply) (slots_shown shown items),
         parted untold,
         here untold,
         sum_by-append untold (slots_of shown q.body c.supply) (slots_in shown rest),
@@ -229,22 +233,33 @@ module _ {S R : Type 0} (shown : S → Shown) (cmp : R → R → Ordering) (reco
       )
 
   taken : length q1.pool_seat.hand.numbers ≡ length (numbers_of rest)
-  taken = omega (arith, ap length br.numbers, length-append q.pool_seat.hand.numbers (flat_map (λ (one : Brought S R). one.kept.value.pool_seat.hand.numbers) br.brought), ap length is.left.untaken)
+  taken = omega (arith, ap length br.numbers, length-append q.pool_seat.hand.numbers (flat_map (λ (one : Brought S R). one.kept.value.pool_seat.hand.numbers) br.brought), ap length is.untaken)
 
-  pool_same : q1.supply.buffer_room ≡ pool_of q.sizes
-  pool_same = ap (λ p. p.supply.buffer_room) br.rest ∙ is.supply.buffer_room
+  all_pool : cl.given + length (numbers_of rest) ≡ pool_count q.pool_seat.pool
+  all_pool = omega (arith, cl.given_are, taken, ap (λ p. p.slots) br.pool)
 
-  all_pool : c.supply.sure_buffers + length (numbers_of rest) ≡ pool_count q.pool_seat.pool
-  all_pool = omega (arith, cl.buffers, taken, ap (λ p. p.slots) br.pool)
+  room_is : c.supply.buffer_room ≡ q.supply.buffer_room - cl.given
+  room_is = ap (λ s. s.buffer_room) cl.supply ∙ ap (λ s. s.buffer_room - cl.given) same_supply
 
-  pool_few : pool_count q.pool_seat.pool ≤ pool_of q.sizes
-  pool_few = omega (arith, is.left.held, is.left.buffers)
+  sure_is : c.supply.sure_buffers ≡ q.supply.sure_buffers + cl.given
+  sure_is = ap (λ s. s.sure_buffers) cl.supply ∙ ap (λ s. s.sure_buffers + cl.given) same_supply
 
-  room_is : c.supply.buffer_room ≡ pool_of q.sizes - c.supply.sure_buffers
-  room_is = omega (arith, ap (λ s. s.buffer_room) cl.supply, pool_same)
+  slot_room_is : c.supply.slot_room ≡ q.supply.slot_room - length cl.left
+  slot_room_is = ap (λ s. s.slot_room) cl.supply ∙ ap (λ s. s.slot_room - length cl.left) same_supply
 
-  left_few : length cl.left ≤ q.sizes.blocks
-  left_few = omega (arith, ap length left_is, length-drop (length places) items, is.left.slots, length-append (external_slots shown q.body.runs.external.items) (slots_shown shown q.row_seat.hand.items), slots_long shown q.row_seat.hand.items)
+  items_few : length items ≤ q.supply.slot_room
+  items_few =
+      omega (
+        arith,
+        is.slots,
+        is.slot_room,
+        length-append (slots_of shown q.body q.supply) (slots_shown shown items),
+        length-append (body_slots shown q.body) q.supply.kept,
+        slots_long shown items,
+      )
+
+  left_few : length cl.left ≤ length items
+  left_few = omega (arith, ap length left_is, length-drop (length places) items)
 
   always : IsGathering shown width now (slots_shown shown items) closed rest
   always =
@@ -255,17 +270,18 @@ module _ {S R : Type 0} (shown : S → Shown) (cmp : R → R → Ordering) (reco
         heaps_room = is.heaps_room;
         caps = subst (All (λ (h : Contents R). h.cap ≡ heap_of q.sizes)) (sym is.no_heap) (All-nil (λ (h : Contents R). h.cap ≡ heap_of q.sizes));
         leaves = is.heaps_leaves;
-        block = ap (λ s. s.block) cl.supply ∙ ap (λ p. p.supply.block) br.rest ∙ is.supply.block;
-        no_row = ap (λ s. s.drawn) cl.supply ∙ ap (λ p. p.supply.drawn) br.rest ∙ is.supply.drawn;
-        pool = omega (arith, room_is, all_pool, pool_few);
-        slot_room = omega (arith, ap length kept_is, slots_long shown cl.left, ap (λ s. s.slot_room) cl.supply, ap (λ p. p.supply.slot_room) br.rest, is.supply.slot_room, left_few);
-        no_job = is.left.no_job;
-        holds = omega (arith, is.left.held, buffers_are rest br.each, rest_count, all_pool, room_is, pool_few, ap length is.left.no_job);
-        all_slots = same_now.length ∙ is.left.slots;
+        block = ap (λ s. s.block) cl.supply ∙ ap (λ s. s.block) same_supply ∙ is.block;
+        no_row = ap (λ s. s.drawn) cl.supply ∙ ap (λ s. s.drawn) same_supply ∙ is.no_row;
+        pool = omega (arith, room_is, sure_is, all_pool, is.fits, is.pool);
+        slot_room = omega (arith, ap length kept_is, length-append q.supply.kept (slots_shown shown cl.left), slots_long shown cl.left, slot_room_is, items_few, left_few, is.slot_room);
+        no_job = is.no_job;
+        holds = omega (arith, is.held, buffers_are rest br.each, rest_count, all_pool, room_is, is.fits);
+        all_slots = same_now.length ∙ is.slots;
         sums = λ f. refl;
         told = items_told;
-        fault = λ number e. absurd (cc);
-        extract = ap₂ held is.no_extract is.extract_room;
+        fault = λ number e. omega (arith, is.fault number e, same_now.faults number);
+        extract_room = is.extract_room;
+        in_extract = is.in_extract;
         workers = is.workers;
         serves = is.serves;
         no_slot = is.no_slot;
@@ -277,42 +293,66 @@ module _ {S R : Type 0} (shown : S → Shown) (cmp : R → R → Ordering) (reco
   begun_are [] = refl
   begun_are (x ∷ xs) = omega (arith, begun_are xs, sum_by-cons (λ (one : Brought S R). one.begun) x xs, sum_by-cons (λ (p : PassHolding S R). p.key.begun) (pass_of shown record_of width q.sizes x) (map (pass_of shown record_of width q.sizes) xs))
 
-  sound : IsSoundSoFar shown cmp record_of width closed rest
-  sound =
-      let l = is.left in
-      let room : q.sizes.block * q.sizes.blocks ≤ 65536 * 65536 = mul-le q.sizes.block q.sizes.blocks 65536 65536 is.range.block is.range.blocks in
-      record {
-        idle = l.idle;
-        internal = l.internal;
-        external = l.external;
-        batch = l.batch;
-        buffers = omega (arith, l.buffers, rest_count);
-        bounded = l.bounded;
-        fronts = l.fronts;
-        few = l.few;
-        internal_room = l.internal_room;
-        external_room = l.external_room;
-        tree = l.leaves;
-        rise = λ tell. l.rise (bulk_told tell);
-        small = omega (arith, is.most_count, room, rest_count, is.range.workers, is.range.memory);
-        counted = omega (arith, begun, begun_are rest, ap (sum_by (λ (p : PassHolding S R). p.key.begun)) br.passes_are, ap (λ l. length (items_in l)) is.no_heap);
-        above = λ some. inl (is.above some);
-      }
-    where
-      bulk_told : AllTell (slots_of shown q.body c.supply ++ slots_in shown rest) → AllTell (bulk_slots shown q)
-      bulk_told tell =
-          let ext = external_slots shown q.body.runs.external.items in
-          let all = tell_sum (slots_of shown q.body c.supply ++ slots_in shown rest) tell in
-          let there = sum_tell ext (omega (arith, all, sum_by-append untold (slots_of shown q.body c.supply) (slots_in shown rest), here untold)) in
-          All-append Tells ext (slots_shown shown items) there (items_told tell)
+  -- where all tells now, all did
+  was_told : AllTell now → AllTell (apart_slots shown q)
+  was_told tell =
+      let all = tell_sum now tell in
+      sum_tell (apart_slots shown q)
+      (omega (
+        arith,
+        all,
+        sum_by-append untold (slots_of shown q.body c.supply) (slots_in shown rest),
+        here untold,
+        parted untold,
+        drawn-untold shown cmp record_of width q.sizes rest br.each,
+        sum_by-append untold (slots_of shown q.body q.supply) (slots_shown shown items),
+      ))
 
-  -- the parts and the passes that came, before the first is put in
-  pub gathered-first : IsGathered shown cmp record_of width now (slots_shown shown q.row_seat.hand.items) c br.brought
-  gathered-first =
-      subst (λ k. IsGathered shown cmp record_of width now (slots_shown shown q.row_seat.hand.items) k br.brought) (sym closed_is)
-      (record {
-        always = always;
-        each = br.each;
-        items_are = λ k d h. ap (slots_shown shown) (same_items k d h);
-        sound = λ none. sound;
-      })
+  module _ (popped : ℕ) (so : failed ≡ None → IsSoundApart shown cmp record_of width q (sum_by (λ (p : PassHolding S R). p.key.begun) passes) popped) (before : failed ≡ None → All (GoesBefore shown cmp q) passes) where
+    all_mapped : (P : PassHolding S R → Type 0) (xs : List (Brought S R)) → All P (map (pass_of shown record_of width q.sizes) xs) → All (λ (x : Brought S R). P (pass_of shown record_of width q.sizes x)) xs
+    all_mapped P [] all = All-nil (λ (x : Brought S R). P (pass_of shown record_of width q.sizes x))
+    all_mapped P (x ∷ xs) all =
+        All-cons (λ (x : Brought S R). P (pass_of shown record_of width q.sizes x)) x xs (All-head P (pass_of shown record_of width q.sizes x) (map (pass_of shown record_of width q.sizes) xs) all)
+        (all_mapped P xs (All-tail P (pass_of shown record_of width q.sizes x) (map (pass_of shown record_of width q.sizes) xs) all))
+
+    none_after-right : (xs ys zs : List R) → NoneAfter cmp xs (ys ++ zs) → NoneAfter cmp xs zs
+    none_after-right [] ys zs h = tt
+    none_after-right (x ∷ xs) ys zs h = (Each-append_right (Le (is_before cmp) x) ys zs h.0, none_after-right xs ys zs h.1)
+
+    sound : failed ≡ None → IsSoundSoFar shown cmp record_of width closed rest
+    sound none =
+        let l = so none in
+        let room : q.sizes.block * q.sizes.blocks ≤ 65536 * 65536 = mul-le q.sizes.block q.sizes.blocks 65536 65536 is.range.block is.range.blocks in
+        record {
+          idle = l.idle;
+          internal = l.internal;
+          external = l.external;
+          batch = l.batch;
+          buffers = omega (arith, l.buffers, rest_count);
+          bounded = l.bounded;
+          fronts = l.fronts;
+          few = l.few;
+          internal_room = l.internal_room;
+          external_room = l.external_room;
+          tree = l.leaves;
+          rise = λ tell. l.rise (was_told tell);
+          small = omega (arith, is.most_count, room, rest_count, is.range.workers, is.range.memory);
+          counted = omega (arith, l.counted, begun_are rest, ap (sum_by (λ (p : PassHolding S R). p.key.begun)) br.passes_are, ap (λ l. length (items_in l)) is.no_heap);
+          above = λ some. inl (l.above some);
+          ascends = λ tell. l.ascends (was_told tell);
+          order = λ tell. l.order (was_told tell);
+          order_rest = λ tell k d h fine.
+              let mine = all_mapped (GoesBefore shown cmp q) rest (subst (All (GoesBefore shown cmp q)) (sym br.passes_are) (before none)) k d h (was_told tell) fine in
+              none_after-right q.extract.items _ _ mine;
+        }
+
+    -- the parts and the passes that came, before the first is put in
+    pub gathered-first : IsGathered shown cmp record_of width now (slots_shown shown q.row_seat.hand.items) c br.brought
+    gathered-first =
+        subst (λ k. IsGathered shown cmp record_of width now (slots_shown shown q.row_seat.hand.items) k br.brought) (sym closed_is)
+        (record {
+          always = always;
+          each = br.each;
+          items_are = λ k d h. ap (slots_shown shown) (same_items k d h);
+          sound = sound;
+        })

@@ -1,9 +1,12 @@
 pub mod Brings
+pub mod Bulks
 pub mod DealtParts
 pub mod Ended
 pub mod FirstGathered
 pub mod Joined
+pub mod Loads
 pub mod LineParts
+pub mod Mapped
 pub mod Places
 pub mod ShortOfBlocks
 pub mod Together

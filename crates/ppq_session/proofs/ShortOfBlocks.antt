@@ -1,8 +1,8 @@
 -- What a refused push says of the device: all its blocks were drawn, and so they are fewer than are enough for the peak.
-use Rattle.std.proofs.Common.{◌≡◌, ℕ, ◌+◌, ◌*◌, ◌<◌, ◌≤◌, true, List, [], ◌∷◌, ◌++◌, length, All, None, refl, ap, ◌∙◌, subst, arith, length-append}
+use Rattle.std.proofs.Common.{◌-◌, map, sum_by, Option, ◌≡◌, ℕ, ◌+◌, ◌*◌, ◌<◌, ◌≤◌, true, List, [], ◌∷◌, ◌++◌, length, All, None, refl, ap, ◌∙◌, subst, arith, length-append}
 use Rattle.std.specs.declared.cmp.Ordering.{Ordering}
 use Rattle.std.proofs.lemmas.Nat.{mul-le}
-use Rattle.std.proofs.Math.Nat.{add-mul, mul_comm, mul-le-mul_right, lt_of_mul-lt-mul_right, zero-mul}
+use Rattle.std.proofs.Math.Nat.{add-mul, mul_comm, lt_of_mul-lt-mul_right, zero-mul}
 use Rattle.std.proofs.lemmas.List.Sums.{sum_by-cons}
 use Rattle.std.proofs.lemmas.List.Elements.{All-nil, All-head, All-tail, All-cons, All-map}
 use Rattle.std.proofs.lemmas.List.Concat.{flat_map-cons}
@@ -16,10 +16,10 @@ use Rattle.ppq_spill.specs.Body.{body_slots, job_slots}
 use Rattle.ppq_spill.proofs.Keeping.{slots_long}
 use Rattle.ppq_pass.specs.Passed.{PassHolding, slots_of as pass_slots}
 use Rattle.ppq_pass.specs.PassState.{IsPassArray}
-use Rattle.ppq_queue.specs.Resting.{odd_of, odd_in, slots_of, count_of}
+use Rattle.ppq_queue.specs.Resting.{odd_of, odd_in, slots_of}
 use Rattle.ppq_queue.proofs.Counts.{stored_slots, internal_count}
 use Rattle.ppq_queue.proofs.Odd.{arrays_full}
-use Rattle.ppq_begin.specs.State.{IsBulk}
+use Rattle.ppq_session.specs.Apart.{IsApart, IsSoundApart, apart_slots, in_runs}
 use Rattle.ppq_begin.specs.declared.parts.BulkParts.{BulkParts}
 use Rattle.ppq_gather.specs.Passes.{IsBrought, pass_of}
 use Rattle.ppq_gather.specs.Gathering.{slots_in, begun_in, accepted_in}
@@ -29,7 +29,7 @@ use Rattle.ppq_gather.proofs.Gathered.{resting-array, even-array}
 use Rattle.ppq_session.specs.Bringing.{BroughtAll}
 use Rattle.ppq_session.specs.Closing.{IsClosed}
 
-heap_some : (n : Numbers) → AreInRange n → 0 < heap_of n
+pub heap_some : (n : Numbers) → AreInRange n → 0 < heap_of n
 heap_some n range = let least : 1 * 1 ≤ n.heap * n.block = mul-le 1 1 n.heap n.block range.some_heap (omega (arith, range.two_records)) in omega (arith, least)
 
 module _ {S R : Type 0} (shown : S → Shown) (cmp : R → R → Ordering) (record_of : List ℕ → R) (width : ℕ) (n : Numbers) (range : AreInRange n) where
@@ -95,50 +95,56 @@ few_blocks n range load h =
     let few : n.blocks < c + 66 = lt_of_mul-lt-mul_right n.block most in
     omega (arith, few)
 
-module _ {S R : Type 0} (shown : S → Shown) (cmp : R → R → Ordering) (record_of : List ℕ → R) (width : ℕ) (q : BulkParts S R) (is : IsBulk shown cmp record_of width q) (q1 : BulkParts S R) (passes : List (PassHolding S R)) (br : BroughtAll shown record_of width q.sizes cmp passes q q1) (c : Closed S R) (cl : IsClosed shown q1 c) where
+module _ {S R : Type 0} (shown : S → Shown) (cmp : R → R → Ordering) (record_of : List ℕ → R) (width : ℕ) (q : BulkParts S R) (failed : Option ℕ) (is : IsApart shown width q failed) (q1 : BulkParts S R) (passes : List (PassHolding S R)) (br : BroughtAll shown record_of width q.sizes cmp passes q q1) (c : Closed S R) (cl : IsClosed shown q1 failed c) (popped : ℕ) (so : IsSoundApart shown cmp record_of width q (sum_by (λ (p : PassHolding S R). p.key.begun) passes) popped) (same : length (slots_of shown q.body c.supply ++ slots_in shown br.brought) ≡ length (apart_slots shown q)) (whole : All (λ (x : Brought S R). x.failed ≡ None) br.brought) where
   abbrev rest : List (Brought S R)
   rest = br.brought
 
-  abbrev now : List Shown
-  now = slots_of shown q.body c.supply ++ slots_in shown rest
-
   abbrev size : ℕ
-  size = q.count + accepted_in shown rest
+  size = q.count + popped + accepted_in shown rest
 
-  -- where the row is drawn to its end, each slot is a block of a run that was there, or of a pass
-  all_drawn : length now ≡ q.sizes.blocks → cl.left ≡ [] → q.sizes.blocks ≡ blocks_in q.body.runs.external.items + length (slots_in shown rest)
-  all_drawn all none =
-      let ext = external_slots shown q.body.runs.external.items in
-      let jobs = job_slots shown q.body.lanes.jobs.items in
+  begun_are : (xs : List (Brought S R)) → begun_in shown xs ≡ sum_by (λ (p : PassHolding S R). p.key.begun) (map (pass_of shown record_of width q.sizes) xs)
+  begun_are [] = refl
+  begun_are (x ∷ xs) = omega (arith, begun_are xs, sum_by-cons (λ (one : Brought S R). one.begun) x xs, sum_by-cons (λ (p : PassHolding S R). p.key.begun) (pass_of shown record_of width q.sizes x) (map (pass_of shown record_of width q.sizes) xs))
+
+  pub counted : q.count ≡ begun_in shown rest + in_runs q
+  counted = omega (arith, so.counted, begun_are rest, ap (sum_by (λ (p : PassHolding S R). p.key.begun)) br.passes_are)
+
+  -- where the row is drawn to its end, each slot of it is with a pass
+  all_drawn : cl.left ≡ [] → length (slots_in shown rest) ≡ length q.row_seat.hand.items
+  all_drawn none =
+      let body = body_slots shown q.body in
       omega (
         arith,
-        all,
+        same,
         length-append (slots_of shown q.body c.supply) (slots_in shown rest),
-        length-append (ext ++ jobs) c.supply.kept,
-        length-append ext jobs,
-        ap (λ l. length (job_slots shown l)) is.left.no_job,
+        length-append body c.supply.kept,
         ap (λ s. length s.kept) cl.supply,
+        length-append q1.supply.kept (slots_shown shown cl.left),
+        ap (λ p. length p.supply.kept) br.rest,
         ap (λ l. length (slots_shown shown l)) none,
-        stored_slots shown q.body.runs.external.items,
+        length-append (slots_of shown q.body q.supply) (slots_shown shown q.row_seat.hand.items),
+        length-append body q.supply.kept,
+        slots_long shown q.row_seat.hand.items,
       )
 
-  -- and all of them have room for no more than all records, and a block for each odd run
-  room : length now ≡ q.sizes.blocks → cl.left ≡ [] → All (λ (x : Brought S R). x.failed ≡ None) rest → begun_in shown rest + count_of q.body ≡ q.count → q.sizes.blocks * q.sizes.block ≤ size + 65 * q.sizes.block
-  room all none whole begun =
-      let k = blocks_in q.body.runs.external.items in
-      let odd : odd_in q.sizes.block q.body.runs.external.items * q.sizes.block ≤ 65 * q.sizes.block = mul-le-mul_right q.sizes.block is.left.few in
-      let product : q.sizes.blocks * q.sizes.block ≡ k * q.sizes.block + length (slots_in shown rest) * q.sizes.block = ap (λ m. m * q.sizes.block) (all_drawn all none) ∙ add-mul k (length (slots_in shown rest)) q.sizes.block in
-      omega (arith, product, odd, arrays_full q.sizes.block shown width q.body.runs.external.items is.left.external, passes_full shown cmp record_of width q.sizes is.range rest br.each whole, begun)
+  -- so all blocks have room for no more than all records, and a block for each odd run
+  room : cl.left ≡ [] → q.sizes.blocks * q.sizes.block ≤ size + 65 * q.sizes.block
+  room none =
+      let items = length q.row_seat.hand.items in
+      let out = q.sizes.blocks - items in
+      let few : items ≤ q.sizes.blocks = omega (arith, is.slots, length-append (slots_of shown q.body q.supply) (slots_shown shown q.row_seat.hand.items), slots_long shown q.row_seat.hand.items) in
+      let parts : q.sizes.blocks ≡ out + items = omega (arith, few) in
+      let product : q.sizes.blocks * q.sizes.block ≡ out * q.sizes.block + items * q.sizes.block = ap (λ m. m * q.sizes.block) parts ∙ add-mul out items q.sizes.block in
+      let drawn : length (slots_in shown rest) * q.sizes.block ≡ items * q.sizes.block = ap (λ m. m * q.sizes.block) (all_drawn none) in
+      omega (arith, product, drawn, so.packed, passes_full shown cmp record_of width q.sizes is.range rest br.each whole, counted)
 
   -- what a pass whose push was refused says
-  pub short :
-      length now ≡ q.sizes.blocks → All (λ (x : Brought S R). x.failed ≡ None) rest → begun_in shown rest + count_of q.body ≡ q.count → (peak : ℕ) → size ≤ peak
-      → All (λ (p : PassHolding S R). p.refused ≡ true → (q.sizes.blocks < room_of q.sizes peak) × (heap_of q.sizes ≤ size)) passes
-  short all whole begun peak least =
-      let P : PassHolding S R → Type 0 = λ p. p.refused ≡ true → (q.sizes.blocks < room_of q.sizes peak) × (heap_of q.sizes ≤ size) in
+  pub short : (peak : ℕ) → size ≤ peak → All (λ (p : PassHolding S R). p.refused ≡ true → (q.sizes.blocks < room_of q.sizes peak) × (heap_of q.sizes ≤ q.count + accepted_in shown rest)) passes
+  short peak least =
+      let P : PassHolding S R → Type 0 = λ p. p.refused ≡ true → (q.sizes.blocks < room_of q.sizes peak) × (heap_of q.sizes ≤ q.count + accepted_in shown rest) in
       subst (All P) br.passes_are (
       All-map P (pass_of shown record_of width q.sizes) rest (λ k d h refused.
       let one = br.each k d h in
       let none = cl.noted (br.noted k d h (one.always.supply.ended (one.always.ended refused))) in
-      let full = heap_full shown cmp record_of width q.sizes is.range size rest br.each whole (omega (arith, begun)) in
-      (few_blocks q.sizes is.range peak (omega (arith, room all none whole begun, least)), full k d h refused)))
+      let full = heap_full shown cmp record_of width q.sizes is.range (q.count + accepted_in shown rest) rest br.each whole (omega (arith, counted)) in
+      (few_blocks q.sizes is.range peak (omega (arith, room none, least)), full k d h refused)))

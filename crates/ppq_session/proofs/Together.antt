@@ -1,11 +1,11 @@
 -- All passes of a session were put into the parts of its queue: what the queue has then.
-use Rattle.std.proofs.Common.{◌≡◌, ℕ, ◌+◌, ◌<◌, ◌≤◌, Bool, true, List, [], ◌∷◌, ◌++◌, length, map, max, reverse, sum_by, All, None, refl, sym, ap, ◌∙◌, subst, arith, append-nil}
+use Rattle.std.proofs.Common.{◌≡◌, ℕ, ◌*◌, ◌+◌, ◌<◌, ◌≤◌, Bool, true, List, [], ◌∷◌, ◌++◌, length, map, max, min, reverse, sum_by, All, None, refl, sym, ap, ◌∙◌, subst, arith, append-nil}
 use Rattle.std.specs.Prelude.{vec_capacity, flat_map, count_by, Option, Some, Result, Ok, Err}
 use Rattle.std.specs.List.{Any}
 use Rattle.std.specs.declared.cmp.Ordering.{Ordering}
 use Rattle.std.proofs.lemmas.List.{length-map, length-reverse}
 use Rattle.std.proofs.lemmas.List.Sums.{sum_by-cons}
-use Rattle.std.proofs.lemmas.List.Elements.{All-nil, All-cons, All-head, All-tail, All-map}
+use Rattle.std.proofs.lemmas.List.Elements.{All-map}
 use Rattle.std.proofs.lemmas.List.Concat.{flat_map-cons}
 use Rattle.std.proofs.lemmas.List.Folds.{flat_map-map}
 use Rattle.std.proofs.lemmas.List.Sorted.{All-permutation, IsPermutation-reverse, IsPermutation-sym, sum_by-IsPermutation}
@@ -24,19 +24,22 @@ use Rattle.ppq_queue.specs.declared.fault.QueueFault.{QueueFault}
 use Rattle.ppq_queue.specs.declared.fault.QueueFault.TheVariants.{NoFreeBlock, Device}
 use Rattle.ppq_begin.specs.declared.fault.SessionEnd.TheVariants.{Stopped}
 use Rattle.ppq_queue.specs.Slots.{SameSums}
-use Rattle.ppq_queue.specs.Resting.{slots_of, count_of, runs_bag}
+use Rattle.ppq_queue.specs.Resting.{slots_of, runs_bag}
 use Rattle.ppq_queue.proofs.Slots.{slots-sums, tells-sums}
-use Rattle.ppq_begin.specs.Session.{AreOf, IsTogether, EndsIn, keys_of, bag_of, accepted_of, pass_key, shared_by}
-use Rattle.ppq_begin.specs.State.{IsBulk, bulk_slots, bulk_holding}
+use Rattle.ppq_begin.specs.Session.{bag_of, accepted_of}
+use Rattle.ppq_session.specs.Apart.{IsApart, IsSoundApart, GoesBefore, HasAll, EndsApart, apart_slots, apart_key}
+use Rattle.ppq_pass.specs.declared.shared.Shared.{Shared}
 use Rattle.ppq_begin.specs.declared.parts.BulkParts.{BulkParts}
 use Rattle.ppq_gather.specs.Passes.{pass_of}
-use Rattle.ppq_gather.specs.Gathering.{IsGathered, gathered_bag, slots_in, begun_in, accepted_in}
+use Rattle.ppq_gather.specs.Gathering.{IsGathered, gathered_bag, slots_in, accepted_in}
 use Rattle.ppq_gather.specs.declared.brought.Brought.{Brought}
 use Rattle.ppq_gather.specs.declared.closed.Closed.{Closed}
 use Rattle.ppq_session.specs.Bringing.{BroughtAll, IsShareOf}
 use Rattle.ppq_session.specs.Closing.{IsClosed}
-use Rattle.ppq_session.proofs.FirstGathered.{gathered-first, closed_is, same_now, writes_now, told_now}
+use Rattle.ppq_session.proofs.Mapped.{sum-mapped}
+use Rattle.ppq_session.proofs.FirstGathered.{gathered-first, closed, closed_is, same_now, writes_now, told_now}
 use Rattle.ppq_session.proofs.ShortOfBlocks.{short}
+use Rattle.ppq_session.proofs.Loads.{load_within}
 
 module _ {X : Type 0} where
   any_all : {C : Type 0} (Q : X → Type 0) (xs : List X) → Any Q xs → All (λ x. Q x → C) xs → C
@@ -51,15 +54,6 @@ module _ {X : Type 0} where
   sum-turned : (f : X → ℕ) (xs : List X) → sum_by f (reverse xs) ≡ sum_by f xs
   sum-turned f xs = sum_by-IsPermutation f xs (reverse xs) (IsPermutation-reverse xs)
 
-module _ {X Y : Type 0} (f : X → Y) where
-  sum-mapped : (w : Y → ℕ) (xs : List X) → sum_by w (map f xs) ≡ sum_by (λ x. w (f x)) xs
-  sum-mapped w [] = refl
-  sum-mapped w (x ∷ xs) = omega (arith, sum-mapped w xs, sum_by-cons w (f x) (map f xs), sum_by-cons (λ y. w (f y)) x xs)
-
-  all_mapped : (P : Y → Type 0) (xs : List X) → All P (map f xs) → All (λ x. P (f x)) xs
-  all_mapped P [] all = All-nil (λ x. P (f x))
-  all_mapped P (x ∷ xs) all = All-cons (λ x. P (f x)) x xs (All-head P (f x) (map f xs) all) (all_mapped P xs (All-tail P (f x) (map f xs) all))
-
 module _ {X R : Type 0} (f : X → List R) where
   count-flat : (p : R → Bool) (xs : List X) → count_by p (flat_map f xs) ≡ sum_by (λ x. count_by p (f x)) xs
   count-flat p [] = refl
@@ -69,12 +63,12 @@ module _ {X R : Type 0} (f : X → List R) where
   flat-turned xs p = count-flat p (reverse xs) ∙ sum-turned (λ x. count_by p (f x)) xs ∙ sym (count-flat p xs)
 
 -- what a queue shows that was made of the parts into which all passes were put
-pub record IsMade {S R : Type 0} (shown : S → Shown) (cmp : R → R → Ordering) (record_of : List ℕ → R) (width : ℕ) (d : Closed S R) (queue : Holding R) : Type 0 where
+pub record IsMade {S R : Type 0} (shown : S → Shown) (cmp : R → R → Ordering) (record_of : List ℕ → R) (width : ℕ) (popped : ℕ) (d : Closed S R) (queue : Holding R) : Type 0 where
   pub bag : queue.bag ≡ gathered_bag shown cmp record_of width d []
   pub slots : queue.slots ≡ slots_of shown d.body d.supply
   pub failed : queue.failed ≡ d.failed
   pub size : d.failed ≡ None → queue.size ≡ d.count
-  pub peak : queue.peak ≡ max d.peak queue.size
+  pub peak : queue.peak ≡ max d.peak (min (d.count + popped) (d.sizes.memory + d.sizes.block * d.sizes.blocks))
 
 -- A settling tells a fault that was met before, if there is one. So where it answers Ok, or another fault, there is none
 module _ {A : Type 0} (failed : Option ℕ) (r : Result A QueueFault) (latched : (number : ℕ) → failed ≡ Some number → r ≡ Err (Device number)) where
@@ -98,35 +92,29 @@ module _ {A : Type 0} (failed : Option ℕ) (r : Result A QueueFault) (latched :
       by_fault None told = refl
       by_fault (Some number) told = absurd (clash number (ap (λ x. Err x) (sym e) ∙ sym is ∙ told number refl))
 
-module _ {S R : Type 0} (shown : S → Shown) (cmp : R → R → Ordering) (record_of : List ℕ → R) (width : ℕ) (q : BulkParts S R) (ps : List (PassHolding S R)) (of : AreOf (bulk_holding shown record_of width q) (keys_of ps)) where
-  each_key : All (λ (p : PassHolding S R). p.key ≡ pass_key (bulk_holding shown record_of width q) p.key.begun) ps
-  each_key = all_mapped (λ (p : PassHolding S R). p.key) (λ (k : PassKey S R). k ≡ pass_key (bulk_holding shown record_of width q) k.begun) ps of.each
-
+module _ {S R : Type 0} (shown : S → Shown) (cmp : R → R → Ordering) (record_of : List ℕ → R) (width : ℕ) (q : BulkParts S R) (failed : Option ℕ) (is : IsApart shown width q failed) (ps : List (PassHolding S R)) (many : length ps ≡ q.sizes.workers) (of : All (λ (p : PassHolding S R). p.key ≡ apart_key q p.key.begun) ps) where
   -- each has a share of both seats
-  pub all_shares_of : All (IsShareOf (shared_by (bulk_holding shown record_of width q)) q.sizes) ps
-  all_shares_of k d h =
-      let key = each_key k d h in
+  pub all_shares_of : (shared : Shared S R) → q.row_seat.row ≡ shared.row → q.pool_seat.pool ≡ shared.pool → All (IsShareOf shared q.sizes) ps
+  all_shares_of shared row pool k d h =
+      let key = of k d h in
       record {
-        row = ap (λ (x : PassKey S R). x.row) key;
-        pool = ap (λ (x : PassKey S R). x.pool) key;
+        row = ap (λ (x : PassKey S R). x.row) key ∙ row;
+        pool = ap (λ (x : PassKey S R). x.pool) key ∙ pool;
         row_share = ap (λ (x : PassKey S R). x.row_shares) key;
         pool_share = ap (λ (x : PassKey S R). x.pool_shares) key;
         sizes = ap (λ (x : PassKey S R). x.sizes) key;
       }
 
-  pub many : length ps ≡ q.sizes.workers
-  many = sym (length-map ps (λ (p : PassHolding S R). p.key)) ∙ of.count
-
   -- the list of what passes bring has room for all
-  pub room_for_all : IsBulk shown cmp record_of width q → length q.brought.items + length ps ≤ vec_capacity q.brought
-  room_for_all is = omega (arith, ap length is.none_brought, many, is.brought_room)
+  pub room_for_all : length q.brought.items + length ps ≤ vec_capacity q.brought
+  room_for_all = omega (arith, ap length is.none_brought, many, is.brought_room)
 
-  module _ (is : IsBulk shown cmp record_of width q) (q1 : BulkParts S R) (br : BroughtAll shown record_of width q.sizes cmp (reverse ps) q q1) where
+  module _ (q1 : BulkParts S R) (br : BroughtAll shown record_of width q.sizes cmp (reverse ps) q q1) where
     -- as many came as there are
     pub came : length br.brought ≡ q.sizes.workers
     came = sym (length-map br.brought (pass_of shown record_of width q.sizes)) ∙ ap length br.passes_are ∙ length-reverse ps ∙ many
 
-    module _ (c : Closed S R) (cl : IsClosed shown q1 c) where
+    module _ (c : Closed S R) (cl : IsClosed shown q1 failed c) (popped : ℕ) (so : failed ≡ None → IsSoundApart shown cmp record_of width q (sum_by (λ (p : PassHolding S R). p.key.begun) ps) popped) (before : failed ≡ None → All (GoesBefore shown cmp q) ps) where
       abbrev items : List (DeviceBlock S R)
       items = q.row_seat.hand.items
 
@@ -137,88 +125,93 @@ module _ {S R : Type 0} (shown : S → Shown) (cmp : R → R → Ordering) (reco
       count = length-reverse ps ∙ many
 
       keys : All (λ (p : PassHolding S R). p.key.items ≡ items) (reverse ps)
-      keys = turned (λ (p : PassHolding S R). p.key.items ≡ items) ps (λ k d h. ap (λ (x : PassKey S R). x.items) (each_key k d h))
+      keys = turned (λ (p : PassHolding S R). p.key.items ≡ items) ps (λ k d h. ap (λ (x : PassKey S R). x.items) (of k d h))
 
-      begun : sum_by (λ (p : PassHolding S R). p.key.begun) (reverse ps) + count_of q.body ≡ q.count
-      begun = omega (arith, sum-turned (λ (p : PassHolding S R). p.key.begun) ps, sum-mapped (λ (p : PassHolding S R). p.key) (λ (k : PassKey S R). k.begun) ps, of.begun, is.counted)
-
-      begun_here : begun_in shown br.brought + count_of q.body ≡ q.count
-      begun_here =
-          let pass = pass_of shown record_of width q.sizes in
-          omega (arith, begun, sum-mapped pass (λ (p : PassHolding S R). p.key.begun) br.brought, ap (sum_by (λ (p : PassHolding S R). p.key.begun)) br.passes_are)
+      sound_turned : failed ≡ None → IsSoundApart shown cmp record_of width q (sum_by (λ (p : PassHolding S R). p.key.begun) (reverse ps)) popped
+      sound_turned none = subst (λ k. IsSoundApart shown cmp record_of width q k popped) (sym (sum-turned (λ (p : PassHolding S R). p.key.begun) ps)) (so none)
 
       brought_is : c.brought.items ≡ br.brought
       brought_is = ap (λ k. k.brought.items) cl.rest ∙ br.items ∙ ap (λ l. l ++ br.brought) is.none_brought
 
+      first_is : c ≡ closed shown cmp record_of width q failed is q1 (reverse ps) br c cl count keys
+      first_is = closed_is shown cmp record_of width q failed is q1 (reverse ps) br c cl count keys
+
+      same : SameSlots (apart_slots shown q) now
+      same = same_now shown cmp record_of width q failed is q1 (reverse ps) br c cl count keys
+
       -- the condition of putting all passes in
       pub first : IsGathered shown cmp record_of width now (slots_shown shown items) c c.brought.items
-      first = subst (IsGathered shown cmp record_of width now (slots_shown shown items) c) (sym brought_is) (gathered-first shown cmp record_of width q is q1 (reverse ps) br c cl count keys begun)
+      first =
+          subst (IsGathered shown cmp record_of width now (slots_shown shown items) c) (sym brought_is)
+          (gathered-first shown cmp record_of width q failed is q1 (reverse ps) br c cl count keys popped sound_turned (λ none. turned (GoesBefore shown cmp q) ps (before none)))
 
-      -- the records of the bulk and of the passes
-      bag_first : IsSameBag (gathered_bag shown cmp record_of width c c.brought.items) (runs_bag shown record_of width q.body ++ bag_of ps)
+      -- the records of the parts and of the passes
+      bag_first : IsSameBag (gathered_bag shown cmp record_of width c c.brought.items) (q.extract.items ++ runs_bag shown record_of width q.body ++ bag_of ps)
       bag_first p =
           let pass = pass_of shown record_of width q.sizes in
-          let runs = runs_bag shown record_of width q.body in
+          let kept = q.extract.items ++ runs_bag shown record_of width q.body in
           let bag : PassHolding S R → List R = λ x. x.bag in
-          let there : gathered_bag shown cmp record_of width c c.brought.items ≡ runs ++ bag_of (reverse ps) =
+          let there : gathered_bag shown cmp record_of width c c.brought.items ≡ kept ++ bag_of (reverse ps) =
           ap (gathered_bag shown cmp record_of width c) brought_is
-          ∙ ap (λ k. gathered_bag shown cmp record_of width k br.brought) (closed_is shown cmp record_of width q is q1 (reverse ps) br c cl count keys begun)
-          ∙ ap (λ h. items_in h ++ runs ++ flat_map (λ (one : Brought S R). (pass one).bag) br.brought) is.no_heap
-          ∙ ap (λ l. runs ++ l) (sym (flat_map-map bag pass br.brought) ∙ ap (flat_map bag) br.passes_are)
+          ∙ ap (λ k. gathered_bag shown cmp record_of width k br.brought) first_is
+          ∙ ap (λ h. items_in h ++ q.extract.items ++ runs_bag shown record_of width q.body ++ flat_map (λ (one : Brought S R). (pass one).bag) br.brought) is.no_heap
+          ∙ ap (λ l. kept ++ l) (sym (flat_map-map bag pass br.brought) ∙ ap (flat_map bag) br.passes_are)
           in
-          omega (arith, ap (count_by p) there, count_by-append p runs (bag_of (reverse ps)), count_by-append p runs (bag_of ps), flat-turned bag ps p)
+          omega (arith, ap (count_by p) there, count_by-append p kept (bag_of (reverse ps)), count_by-append p kept (bag_of ps), flat-turned bag ps p)
 
-      accepted_here : accepted_in shown c.brought.items ≡ accepted_of ps
+      accepted_here : accepted_in shown br.brought ≡ accepted_of ps
       accepted_here =
           let pass = pass_of shown record_of width q.sizes in
           let accepted : PassHolding S R → ℕ = λ p. p.accepted in
-          ap (accepted_in shown) brought_is ∙ sym (sum-mapped pass accepted br.brought) ∙ ap (sum_by accepted) br.passes_are ∙ sum-turned accepted ps
+          sym (sum-mapped pass accepted br.brought) ∙ ap (sum_by accepted) br.passes_are ∙ sum-turned accepted ps
 
       module _ (d : Closed S R) (all : IsGathered shown cmp record_of width now (slots_shown shown items) d []) where
         last_sums : SameSums now (slots_of shown d.body d.supply)
         last_sums f = sym (all.always.sums f) ∙ ap (sum_by f) (append-nil (slots_of shown d.body d.supply))
 
-        -- the slots are those of the bulk
-        pub last_slots : SameSlots (bulk_slots shown q) (slots_of shown d.body d.supply)
-        last_slots =
-            SameSlots-trans (bulk_slots shown q) now (slots_of shown d.body d.supply) (same_now shown cmp record_of width q is q1 (reverse ps) br c cl count keys begun) (slots-sums now (slots_of shown d.body d.supply) last_sums)
+        -- the slots are those of the parts
+        pub last_slots : SameSlots (apart_slots shown q) (slots_of shown d.body d.supply)
+        last_slots = SameSlots-trans (apart_slots shown q) now (slots_of shown d.body d.supply) same (slots-sums now (slots_of shown d.body d.supply) last_sums)
 
-        pub last_writes : all_writes (bulk_slots shown q) ≤ all_writes (slots_of shown d.body d.supply)
-        last_writes = omega (arith, writes_now shown cmp record_of width q is q1 (reverse ps) br c cl count keys begun, last_sums (λ s. s.writes))
+        pub last_writes : all_writes (apart_slots shown q) ≤ all_writes (slots_of shown d.body d.supply)
+        last_writes = omega (arith, writes_now shown cmp record_of width q failed is q1 (reverse ps) br c cl count keys, last_sums (λ s. s.writes))
 
-        pub last_tells : AllTell (bulk_slots shown q) → All (PassTells shown) ps → AllTell (slots_of shown d.body d.supply)
+        pub last_tells : AllTell (apart_slots shown q) → All (PassTells shown) ps → AllTell (slots_of shown d.body d.supply)
         last_tells tell each =
-            tells-sums now (slots_of shown d.body d.supply) last_sums (told_now shown cmp record_of width q is q1 (reverse ps) br c cl count keys begun tell (turned (PassTells shown) ps each))
+            tells-sums now (slots_of shown d.body d.supply) last_sums (told_now shown cmp record_of width q failed is q1 (reverse ps) br c cl count keys tell (turned (PassTells shown) ps each))
 
         -- what putting all passes in did
-        module _ (whole : d.failed ≡ None → All (λ (x : Brought S R). x.failed ≡ None) c.brought.items) (bag : d.failed ≡ None → IsSameBag (gathered_bag shown cmp record_of width d []) (gathered_bag shown cmp record_of width c c.brought.items)) (more : d.failed ≡ None → d.count ≡ c.count + accepted_in shown c.brought.items) (peak : d.peak ≡ c.peak) (queue end : Holding R) (made : IsMade shown cmp record_of width d queue) (still : end.size ≡ queue.size) (top : end.peak ≡ queue.peak) where
-          -- where no pass met a fault the queue has all, also after a settling that lost nothing
-          pub together : queue.failed ≡ None → (AllTell queue.slots → IsSameBag end.bag queue.bag) → end.failed ≡ None → IsTogether shown (bulk_holding shown record_of width q) ps end
-          together fine same sound =
+        module _ (whole : d.failed ≡ None → (c.failed ≡ None) × All (λ (x : Brought S R). x.failed ≡ None) c.brought.items) (bag : d.failed ≡ None → IsSameBag (gathered_bag shown cmp record_of width d []) (gathered_bag shown cmp record_of width c c.brought.items)) (more : d.failed ≡ None → d.count ≡ c.count + accepted_in shown c.brought.items) (alike : (d.sizes ≡ c.sizes) × (d.peak ≡ c.peak)) (queue end : Holding R) (made : IsMade shown cmp record_of width popped d queue) (still : end.size ≡ queue.size) (top : end.peak ≡ queue.peak) where
+          -- where no fault was met the queue has all, also after a settling that lost nothing
+          pub together : queue.failed ≡ None → (AllTell queue.slots → IsSameBag end.bag queue.bag) → end.failed ≡ None → HasAll shown record_of width q popped failed ps end
+          together fine moved sound =
               let pass = pass_of shown record_of width q.sizes in
               let Whole : PassHolding S R → Type 0 = λ p. p.failed ≡ None in
               let none : d.failed ≡ None = sym made.failed ∙ fine in
-              let first_is = closed_is shown cmp record_of width q is q1 (reverse ps) br c cl count keys begun in
-              let here = subst (All (λ (x : Brought S R). x.failed ≡ None)) brought_is (whole none) in
-              let first_count : c.count ≡ q.count = ap (λ k. k.count) first_is in
-              let first_peak : c.peak ≡ q.peak = ap (λ k. k.peak) first_is in
-              let long = (same_now shown cmp record_of width q is q1 (reverse ps) br c cl count keys begun).length in
-              let total : end.size ≡ q.count + accepted_in shown br.brought = omega (arith, still, made.size none, more none, first_count, ap (accepted_in shown) brought_is) in
+              let begun_whole : failed ≡ None = sym (ap (λ k. k.failed) first_is) ∙ (whole none).0 in
+              let here = subst (All (λ (x : Brought S R). x.failed ≡ None)) brought_is (whole none).1 in
+              let apart = sound_turned begun_whole in
+              let counted : d.count ≡ q.count + accepted_in shown br.brought = omega (arith, more none, ap (λ k. k.count) first_is, ap (accepted_in shown) brought_is) in
+              let total : end.size ≡ q.count + accepted_in shown br.brought = omega (arith, still, made.size none, counted) in
+              let within = load_within shown cmp record_of width q failed is q1 (reverse ps) br c cl popped apart same.length here came in
+              let sizes : d.sizes ≡ q.sizes = alike.0 ∙ ap (λ k. k.sizes) first_is in
+              let limit : d.sizes.memory + d.sizes.block * d.sizes.blocks ≡ q.sizes.memory + q.sizes.block * q.sizes.blocks = ap (λ n. n.memory + n.block * n.blocks) sizes in
+              let high : end.peak ≡ max q.peak (q.count + popped + accepted_of ps) = omega (arith, top, made.peak, alike.1, ap (λ k. k.peak) first_is, counted, within, limit, accepted_here) in
               record {
-                bag = λ tell each p. omega (arith, same (subst AllTell (sym made.slots) (last_tells tell each)) p, ap (count_by p) made.bag, bag none p, bag_first p);
-                size = omega (arith, still, made.size none, more none, first_count, accepted_here);
-                peak = omega (arith, top, made.peak, still, peak, first_peak);
+                bag = λ tell each p. omega (arith, moved (subst AllTell (sym made.slots) (last_tells tell each)) p, ap (count_by p) made.bag, bag none p, bag_first p);
+                size = omega (arith, total, accepted_here);
+                peak = high;
                 sound = sound;
-                no_fault = turned_back Whole ps (subst (All Whole) br.passes_are (All-map Whole pass br.brought here));
+                no_fault = (begun_whole, turned_back Whole ps (subst (All Whole) br.passes_are (All-map Whole pass br.brought here)));
                 short = λ any.
                     let Refused : PassHolding S R → Type 0 = λ p. p.refused ≡ true in
                     let Says : PassHolding S R → Type 0 = λ p. p.refused ≡ true → (q.sizes.blocks < room_of q.sizes end.peak) × (heap_of q.sizes ≤ q.count + accepted_in shown br.brought) in
-                    let all_say = short shown cmp record_of width q is q1 (reverse ps) br c cl (long ∙ is.left.slots) here begun_here end.peak (omega (arith, total, top, made.peak, still)) in
+                    let all_say = short shown cmp record_of width q failed is q1 (reverse ps) br c cl popped apart same.length here end.peak (omega (arith, high, accepted_here)) in
                     let says = any_all Refused ps any (turned_back Says ps all_say) in
                     (says.0, omega (arith, says.1, total));
               }
 
           -- what stands where the settling was refused
-          pub stopped : (fault : QueueFault) → IsRefusal queue end fault → (fault ≡ NoFreeBlock → queue.failed ≡ None) → EndsIn shown (bulk_holding shown record_of width q) ps end (Stopped fault)
+          pub stopped : (fault : QueueFault) → IsRefusal queue end fault → (fault ≡ NoFreeBlock → queue.failed ≡ None) → EndsApart shown record_of width q popped failed ps end (Stopped fault)
           stopped NoFreeBlock refused fine = (together (fine refl) refused.bag refused.sound, record { free = refused.free; room = refused.room; above = refused.above })
           stopped (Device number) refused fine = refused

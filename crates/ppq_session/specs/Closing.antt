@@ -1,5 +1,5 @@
 -- A session whose row and pool are closed.
-use Rattle.std.specs.Prelude.{◌≡◌, ℕ, ◌+◌, ◌-◌, true, List, [], length, drop, None}
+use Rattle.std.specs.Prelude.{◌≡◌, ℕ, ◌+◌, ◌-◌, true, List, [], ◌++◌, length, drop, Option}
 use Rattle.ppq_outside.specs.Shown.{Shown}
 use Rattle.ppq_table.specs.Sums.{times, once_below}
 use Rattle.ppq_array.specs.Owner.{slots_shown}
@@ -9,12 +9,13 @@ use Rattle.ppq_gather.specs.declared.closed.Closed.{Closed}
 use Rattle.ppq_begin.specs.declared.parts.BulkParts.{BulkParts}
 
 module _ {S R : Type 0} (shown : S → Shown) where
-  -- The free slots are those that no pass drew, and the idle buffers those that no pass took; nothing else changed
-  pub record IsClosed (old : BulkParts S R) (new : Closed S R) : Type 0 where
+  -- The free slots got those that no pass drew, and the idle buffers those that no pass took; nothing else changed
+  pub record IsClosed (old : BulkParts S R) (failed : Option ℕ) (new : Closed S R) : Type 0 where
     pub left : List (DeviceBlock S R)
     pub left_is : left ≡ drop (length old.row_seat.hand.places) old.row_seat.hand.items
     pub each_once : (x : ℕ) → times x old.row_seat.hand.places ≡ once_below x (length old.row_seat.hand.places)
     pub noted : old.row_seat.hand.noted ≡ true → left ≡ []
-    pub buffers : new.supply.sure_buffers + length old.pool_seat.hand.numbers ≡ pool_count old.pool_seat.pool
-    pub supply : new.supply ≡ record old.supply { kept = slots_shown shown left; slot_room = old.supply.slot_room - length left; sure_buffers = new.supply.sure_buffers; buffer_room = old.supply.buffer_room - new.supply.sure_buffers }
-    pub rest : new ≡ record { sizes = old.sizes; heaps = old.heaps; tree = old.tree; body = old.body; supply = new.supply; extract = old.extract; sources = old.sources; count = old.count; peak = old.peak; failed = None; slots = old.slots; brought = old.brought }
+    pub given : ℕ
+    pub given_are : given + length old.pool_seat.hand.numbers ≡ pool_count old.pool_seat.pool
+    pub supply : new.supply ≡ record old.supply { kept = old.supply.kept ++ slots_shown shown left; slot_room = old.supply.slot_room - length left; sure_buffers = old.supply.sure_buffers + given; buffer_room = old.supply.buffer_room - given }
+    pub rest : new ≡ record { sizes = old.sizes; heaps = old.heaps; tree = old.tree; body = old.body; supply = new.supply; extract = old.extract; sources = old.sources; count = old.count; peak = old.peak; limited = old.limited; failed = failed; slots = old.slots; brought = old.brought }

@@ -3,7 +3,6 @@ ghost use Rattle.std.specs.Prelude.{◌≡◌, ◌≤◌, ◌<◌, ◌+◌, ◌*
 ghost use Rattle.ppq_table.specs.Sums.{all_shares};
 ghost use Rattle.ppq_array.specs.Owner.{HasSize};
 ghost use Rattle.ppq_pool.specs.Seats.{count_of};
-ghost use Rattle.ppq_begin.specs.State.{IsBare};
 ghost use Rattle.ppq_session.specs.Closing.{IsClosed};
 
 use ppq_begin::{BulkParts, Shared, put_buffers, put_slots};
@@ -11,22 +10,22 @@ use ppq_gather::Closed;
 use ppq_outside::Slot;
 use ppq_record::Record;
 
-/// Closes the row and the pool of a session whose seats were joined, and gives a supply the slots and the
-/// buffers that are left.
+/// Closes the row and the pool of a session whose seats were joined, and gives the supply the slots and
+/// the buffers that are left. `failed` is the number of a slot a call of which failed outside the passes.
 pub fn close<S: Slot + Send + Sync, R: Record + Send + Sync>(
     parts: BulkParts<S, R>,
+    failed: Option<u32>,
     shared: Shared<S, R>,
 ) -> Closed<S, R>
     requires row { parts.row_seat.row ≡ shared.row }
     requires row_shares { parts.row_seat.hand.shares ≡ all_shares }
-    requires few_slots { length parts.row_seat.hand.items ≤ parts.sizes.blocks }
-    requires bytes { All (HasSize S.shown (parts.sizes.block * R.WIDTH)) parts.row_seat.hand.items }
+    requires few_slots { length parts.row_seat.hand.items ≤ parts.supply.slot_room }
+    requires bytes { All (HasSize S.shown (parts.supply.block * R.WIDTH)) parts.row_seat.hand.items }
     requires pool { parts.pool_seat.pool ≡ shared.pool }
     requires pool_shares { parts.pool_seat.hand.shares ≡ all_shares }
     requires few_buffers { count_of parts.pool_seat.pool ≤ parts.supply.buffer_room }
-    requires shape { 0 < count_of parts.pool_seat.pool → parts.pool_seat.hand.shape ≡ parts.sizes.block }
-    requires supply { IsBare parts.sizes.block parts.sizes.blocks parts.supply.buffer_room parts.supply }
-    ensures { IsClosed S.shown parts result }
+    requires shape { 0 < count_of parts.pool_seat.pool → parts.pool_seat.hand.shape ≡ parts.supply.block }
+    ensures { IsClosed S.shown parts failed result }
 {
     let BulkParts {
         sizes,
@@ -38,6 +37,7 @@ pub fn close<S: Slot + Send + Sync, R: Record + Send + Sync>(
         sources,
         count,
         peak,
+        limited,
         slots,
         row_seat,
         pool_seat,
@@ -57,7 +57,8 @@ pub fn close<S: Slot + Send + Sync, R: Record + Send + Sync>(
         sources,
         count,
         peak,
-        failed: None,
+        limited,
+        failed,
         slots,
         brought,
     }

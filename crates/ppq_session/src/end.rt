@@ -1,14 +1,15 @@
 //! The end of a session.
-ghost use Rattle.std.specs.Prelude.{◌≡◌, ◌≤◌, All};
+ghost use Rattle.std.specs.Prelude.{◌≡◌, ◌≤◌, List, All};
 ghost use Rattle.ppq_outside.specs.Shown.{AllTell};
 ghost use Rattle.ppq_array.specs.Kept.{SameSlots, all_writes};
-ghost use Rattle.ppq_pass.specs.Passed.{PassTells};
+ghost use Rattle.ppq_pass.specs.Passed.{PassHolding, PassTells};
 ghost use Rattle.ppq_begin.specs.declared.fault.SessionEnd.TheVariants.{Whole};
 ghost use Rattle.ppq_begin.specs.Session.{AreOf, EndsIn, keys_of, shared_by};
+ghost use Rattle.ppq_session.specs.Apart.{IsJoined, HasEnded, BulkHeld};
 
-use crate::bring::bring_all;
+use crate::bringing::bring_all;
 use crate::close::close;
-use ppq_begin::{Bulk, Pass, SessionEnd, Shared};
+use ppq_begin::{Bulk, BulkParts, Pass, SessionEnd, Shared};
 use ppq_gather::{gather_all, rejoin};
 use ppq_outside::{Gate, Host, Slot};
 use ppq_queue::Queue;
@@ -19,9 +20,9 @@ use ppq_record::Record;
 ///
 /// The runs of the passes become runs of the queue, whose levels are merged at last. It takes no memory.
 ///
-/// `Whole`: the queue has all records, and its levels are settled. `Stopped(NoFreeBlock)`: it has all
-/// records, but a merge of levels found no blocks. `Stopped(Device)`: a call of the block with that number failed, in a pass or now; records may
-/// be lost, but no slot.
+/// `Whole`: the queue has all records, and its levels are settled: at most 64 runs are in blocks.
+/// `Stopped(NoFreeBlock)`: it has all records, but a merge of levels found no blocks. `Stopped(Device)`: a
+/// call of the block with that number failed, in a pass or now; records may be lost, but no slot.
 pub fn bulk_end<H: Host, S: Slot + Send + Sync, R: Record + Send + Sync, G: Gate>(
     rt: &H,
     b: Bulk<S, R>,
@@ -39,12 +40,34 @@ where
     ensures tells { AllTell b.slots → All (PassTells S.shown) passes.items → AllTell result.0.slots }
     ensures writes { all_writes b.slots ≤ all_writes result.0.slots }
     ensures sizes { result.0.sizes ≡ b.sizes }
+    ensures limited { result.0.limited ≡ b.limited }
 {
     let mut parts = b.into_parts();
     bring_all(&mut parts, &shared, passes);
-    let mut closed = close(parts, shared);
+    end_joined(rt, parts, 0, None, shared, gate)
+}
+
+/// Ends a session all passes of which were brought: the queue with the records of the parts that it left
+/// and those of all passes.
+///
+/// `popped` records were taken out in the session, which count in the queue's peak. `failed` is the number
+/// of a slot a call of which failed outside the passes.
+pub fn end_joined<H: Host, S: Slot + Send + Sync, R: Record + Send + Sync, G: Gate>(
+    rt: &H,
+    parts: BulkParts<S, R>,
+    popped: u64,
+    failed: Option<u32>,
+    shared: Shared<S, R>,
+    gate: &G,
+) -> (Queue<S, R>, SessionEnd)
+where
+    H::Dir: Send,
+    requires { (q : BulkHeld S R) × (passes : List (PassHolding S R)) × IsJoined S.shown R.Ord.cmp R.record_of R.WIDTH shared q popped failed passes parts }
+    ensures { (q : BulkHeld S R) (passes : List (PassHolding S R)) → IsJoined S.shown R.Ord.cmp R.record_of R.WIDTH shared q popped failed passes parts → HasEnded S.shown R.record_of R.WIDTH q popped failed passes result.0 result.1 }
+{
+    let mut closed = close(parts, failed, shared);
     gather_all(&mut closed);
-    let mut queue = rejoin(closed);
+    let mut queue = rejoin(closed, popped);
     match queue.settle(rt, gate) {
         Ok(()) => (queue, SessionEnd::Whole),
         Err(fault) => (queue, SessionEnd::Stopped(fault)),

@@ -9,7 +9,7 @@
 //! Nothing is said of the order in which passes run: the contracts add up what each of them holds.
 #![tactic(auto)]
 
-mod bring;
+mod bringing;
 mod close;
 mod dealing;
 mod end;
@@ -18,8 +18,9 @@ mod lines;
 #[cfg(test)]
 mod tests;
 
+pub use bringing::bring;
 pub use dealing::{are_going, deal};
-pub use end::bulk_end;
+pub use end::{bulk_end, end_joined};
 pub use line::Line;
 pub use lines::push_lines;
 pub use ppq_begin::{BeginFault, Bulk, Full, Pass, PoolBuf, SessionEnd, Shared, bulk_begin};

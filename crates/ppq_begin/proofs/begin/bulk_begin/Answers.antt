@@ -29,6 +29,18 @@ returns-in-Ok-clause-size g c = ok_with (λ b. b.size) (λ n. n ≡ c.args.q.siz
 pub returns-in-Ok-clause-peak : goal.returns-in-Ok-clause-peak
 returns-in-Ok-clause-peak g c = ok_with (λ b. b.peak) (λ n. n ≡ c.args.q.peak) c.begin_session.new.self.peak c.hand_out.result c.begin_session.ensures.peak c.hand_out.ensures.peak
 
+pub returns-in-Ok-clause-begun : goal.returns-in-Ok-clause-begun
+returns-in-Ok-clause-begun g c = ok_with (λ b. b.begun) (λ n. n ≡ c.args.q.in_heap) c.begin_session.new.self.in_heap c.hand_out.result c.in-Ok.ensures.heaps c.hand_out.ensures.begun
+
+pub returns-in-Ok-clause-runs : goal.returns-in-Ok-clause-runs
+returns-in-Ok-clause-runs g c = ok_with (λ b. b.runs) (λ n. n ≤ 64) c.begin_session.new.self.runs c.hand_out.result c.in-Ok.ensures.settled c.hand_out.ensures.runs
+
+pub returns-in-Ok-clause-limited : goal.returns-in-Ok-clause-limited
+returns-in-Ok-clause-limited g c = ok_with (λ b. b.limited) (λ n. n ≡ c.args.q.limited) c.begin_session.new.self.limited c.hand_out.result c.begin_session.ensures.limited c.hand_out.ensures.limited
+
+pub returns-in-Ok-clause-back_limited : goal.returns-in-Ok-clause-back_limited
+returns-in-Ok-clause-back_limited g c = err_with (λ e. e.0.limited ≡ c.args.q.limited) c.begin_session.new.self c.hand_out.result c.begin_session.ensures.limited c.hand_out.ensures.back
+
 pub returns-in-Ok-clause-sizes : goal.returns-in-Ok-clause-sizes
 returns-in-Ok-clause-sizes g c = ok_with (λ b. b.sizes) (λ n. n ≡ c.args.q.sizes) c.begin_session.new.self.sizes c.hand_out.result c.begin_session.ensures.sizes c.hand_out.ensures.sizes
 

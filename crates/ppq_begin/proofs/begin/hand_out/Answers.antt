@@ -59,6 +59,15 @@ returns-in-Ok-share-clause-fresh g c = c.deal_out.ensures.fresh
 pub returns-in-Ok-share-clause-no_slots : goal.returns-in-Ok-share-clause-no_slots
 returns-in-Ok-share-clause-no_slots g c = c.deal_out.ensures.no_slots
 
+pub returns-in-Ok-share-clause-whole : goal.returns-in-Ok-share-clause-whole
+returns-in-Ok-share-clause-whole g c = c.deal_out.ensures.whole
+
+pub returns-in-Ok-share-clause-begun : goal.returns-in-Ok-share-clause-begun
+returns-in-Ok-share-clause-begun g c = c.deal_out.ensures.begun ∙ ap (λ (q : Holding g.row.R.Denot). q.in_heap) c.into_parts-parts.ensures.shows
+
+pub returns-in-Ok-share-clause-runs : goal.returns-in-Ok-share-clause-runs
+returns-in-Ok-share-clause-runs g c = c.deal_out.ensures.runs ∙ ap (λ (q : Holding g.row.R.Denot). q.runs) c.into_parts-parts.ensures.shows
+
 pub returns-in-Ok-share-clause-bag : goal.returns-in-Ok-share-clause-bag
 returns-in-Ok-share-clause-bag g c =
     let r = c.deal_out.result in
@@ -83,6 +92,9 @@ returns-in-Ok-share-clause-size g c = c.deal_out.ensures.size ∙ ap (λ (q : Ho
 
 pub returns-in-Ok-share-clause-peak : goal.returns-in-Ok-share-clause-peak
 returns-in-Ok-share-clause-peak g c = c.deal_out.ensures.peak ∙ ap (λ (q : Holding g.row.R.Denot). q.peak) c.into_parts-parts.ensures.shows
+
+pub returns-in-Ok-share-clause-limited : goal.returns-in-Ok-share-clause-limited
+returns-in-Ok-share-clause-limited g c = c.deal_out.ensures.limited ∙ ap (λ (q : Holding g.row.R.Denot). q.limited) c.into_parts-parts.ensures.shows
 
 pub returns-in-Ok-share-clause-sizes : goal.returns-in-Ok-share-clause-sizes
 returns-in-Ok-share-clause-sizes g c = c.deal_out.ensures.sizes ∙ ap (λ (q : Holding g.row.R.Denot). q.sizes) c.into_parts-parts.ensures.shows

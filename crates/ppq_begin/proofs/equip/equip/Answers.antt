@@ -9,7 +9,7 @@ use Rattle.ppq_pool.specs.Seats.{count_of}
 use Rattle.ppq_pass.specs.Passed.{PassHolding}
 use Rattle.ppq_begin.specs.Session.{IsFresh, bag_of}
 use Rattle.ppq_begin.specs.Outfits.{IsOutfit}
-use Rattle.ppq_begin.specs.Equipped.{MayEquip, Equipped, session_key}
+use Rattle.ppq_begin.specs.Equipped.{MayEquip, Equipped, HasBegun, session_key}
 use Rattle.ppq_begin.specs.declared.outfit.Outfit.{Outfit}
 use Rattle.ppq_begin.proofs.Equipping.{all_front, all_last, dealt_bag, dealt_begun, key_is, may_still, one_more, none_in}
 use Rattle.ppq_begin.proofs.equip.equip.Goals as goal
@@ -54,6 +54,7 @@ dealing-preserved-in-Some-pop g c =
       bag = subst (λ l. IsSameBag (bag_of l ++ items_in rest) (items_in c.args.heaps.now.items)) (sym all)
           (dealt_bag passes x rest heap (items_in c.args.heaps.now.items) made.pass.bag (subst (λ l. IsSameBag (bag_of passes ++ items_in l) (items_in c.args.heaps.now.items)) heaps i.bag));
       slots = subst (All no_slot) (sym all) (All-push no_slot passes x i.slots made.pass.slots);
+      whole = subst (All HasBegun) (sym all) (All-push HasBegun passes x i.whole (ap length made.pass.bag ∙ sym (ap (λ k. k.begun) made.pass.key)));
       fresh = subst (All IsFresh) (sym all) (All-push IsFresh passes x i.fresh made.pass.fresh);
       caps = all_front cap rest heap (subst (All cap) heaps i.caps);
       outfits = omega (arith, i.outfits, left, spare);
@@ -77,5 +78,6 @@ returns-clause-passes g c =
       begun = omega (arith, i.begun, ap length empty);
       bag = subst (λ l. IsSameBag l (items_in c.args.heaps.now.items)) (ap (λ l. bag_of c.dealing.passes.items ++ l) empty ∙ append-nil (bag_of c.dealing.passes.items)) i.bag;
       slots = i.slots;
+      whole = i.whole;
       fresh = i.fresh;
     }

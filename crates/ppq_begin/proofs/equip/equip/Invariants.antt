@@ -8,7 +8,7 @@ use Rattle.ppq_pool.specs.Seats.{count_of}
 use Rattle.ppq_pass.specs.Passed.{PassHolding}
 use Rattle.ppq_begin.specs.Session.{IsFresh, bag_of}
 use Rattle.ppq_begin.specs.Outfits.{IsOutfit}
-use Rattle.ppq_begin.specs.Equipped.{MayEquip, Equipped, session_key}
+use Rattle.ppq_begin.specs.Equipped.{MayEquip, Equipped, HasBegun, session_key}
 use Rattle.ppq_begin.proofs.equip.equip.Given as goal
 
 abbrev pub invariant-dealing : goal.invariant-dealing
@@ -18,6 +18,7 @@ invariant-dealing g l = record {
   begun : sum_by (λ (p : PassHolding g.row.S.Denot g.row.R.Denot). p.key.begun) l.passes.items + length (items_in l.heaps.items) ≡ length (items_in l.fn.heaps.items);
   bag : IsSameBag (bag_of l.passes.items ++ items_in l.heaps.items) (items_in l.fn.heaps.items);
   slots : All (λ (p : PassHolding g.row.S.Denot g.row.R.Denot). p.slots ≡ []) l.passes.items;
+  whole : All HasBegun l.passes.items;
   fresh : All IsFresh l.passes.items;
   caps : All (λ (heap : Contents g.row.R.Denot). heap.cap ≡ heap_of l.sizes) l.heaps.items;
   outfits : length l.outfits.items ≡ length l.heaps.items;

@@ -32,7 +32,7 @@ returns-clause-peak g c =
 pub returns-clause-refused : goal.returns-clause-refused
 returns-clause-refused g c =
     let q = c.load_file-queue in
-    loaded-refused c.args.line c.args.said q.result.1 c.stopped.result c.stopped.ensures (max c.args.queue.peak (c.args.queue.size + c.args.said / 16)) c.args.queue.sizes q.result.0.slots q.ensures.refused
+    loaded-refused c.args.line c.args.said q.result.1 c.stopped.result c.stopped.ensures (max c.args.queue.peak (c.args.queue.size + c.args.said / 16)) c.args.queue.sizes c.args.queue.limited q.result.0.slots q.ensures.refused
 
 pub returns-clause-by_file : goal.returns-clause-by_file
 returns-clause-by_file g c = let q = c.load_file-queue in loaded-by_file c.args.line c.args.said q.result.1 c.stopped.result c.stopped.ensures

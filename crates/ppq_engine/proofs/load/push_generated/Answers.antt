@@ -31,7 +31,7 @@ returns-clause-peak g c =
 pub returns-clause-refused : goal.returns-clause-refused
 returns-clause-refused g c =
     let q = c.load_generated-queue in
-    loaded-refused c.args.line 0 q.result.1 c.stopped.result c.stopped.ensures (max c.args.queue.peak (c.args.queue.size + c.args.count)) c.args.queue.sizes q.result.0.slots q.ensures.refused
+    loaded-refused c.args.line 0 q.result.1 c.stopped.result c.stopped.ensures (max c.args.queue.peak (c.args.queue.size + c.args.count)) c.args.queue.sizes c.args.queue.limited q.result.0.slots q.ensures.refused
 
 pub returns-clause-by_session : goal.returns-clause-by_session
 returns-clause-by_session g c = let q = c.load_generated-queue in loaded-by_session c.args.line 0 q.result.1 c.stopped.result c.stopped.ensures q.ensures.by_load

@@ -6,8 +6,9 @@ use Rattle.ppq_script.specs.Reading.{command_list}
 use Rattle.ppq_script.specs.Sessions.{are_in_place}
 use Rattle.ppq_load.specs.Refusal.{Keeps}
 use Rattle.ppq_engine.specs.Output.{AreFilesOf, given_of}
-use Rattle.ppq_engine.specs.Running.{HasRun, HasSizes}
+use Rattle.ppq_engine.specs.Running.{HasRun, HasSizes, behind_part}
 use Rattle.ppq_engine.specs.Files.{IsReadInScript}
+use Rattle.ppq_engine.proofs.Lines.{session_from}
 use Rattle.ppq_engine.proofs.run.run_commands.Given as goal
 
 abbrev pub invariant-commands : goal.invariant-commands
@@ -16,10 +17,11 @@ invariant-commands g l = record {
       AllTell l.fn.queue.slots → (files : List ℕ → Option (List ℕ)) → AreFilesOf (g.L.Library.told l.fn.library) l.script files
       → HasRun (given_of files l.script) (g.O.Sink.told l.fn.out) (g.O.Sink.told l.out) l.gathered l.queue.bag l.queue.size l.queue.peak l.fn.queue.sizes l.queue.slots (take l.place (command_list l.script));
   has : HasSizes l.queue.size l.queue.peak l.fn.queue.sizes l.queue.slots (take l.place (command_list l.script));
+  closed : session_from Outside (take l.place (command_list l.script)) ≡ Outside;
   within : l.place ≤ length l.script.commands;
   in_place : are_in_place l.script.workers Outside (drop l.place (command_list l.script)) ≡ true;
   sound : l.queue.failed ≡ None;
-  kept : Keeps l.fn.queue l.queue;
+  kept : Keeps (behind_part l.fn.queue (take l.place (command_list l.script))) l.queue;
   list : l.list.room ≡ l.fn.list.room;
   told : g.L.Library.told l.library ≡ g.L.Library.told l.fn.library;
   remembers : Remembers (g.L.Library.replied l.fn.library) (g.L.Library.replied l.library);

@@ -2,13 +2,12 @@ use Rattle.std.proofs.Common.{◌+◌, List, All, length, drop, max, sym, subst,
 use Rattle.ppq_record.specs.declared.pair.Pair.{Pair}
 use Rattle.ppq_script.specs.Reading.{command_list}
 use Rattle.ppq_session.specs.Dealing.{IsGoing}
-use Rattle.ppq_engine.specs.Files.{load_stop}
+use Rattle.ppq_load.proofs.Refusals.{stop-later}
 use Rattle.ppq_engine.specs.Parts.{up_to_end, pushed_in}
 use Rattle.ppq_engine.specs.Running.{StopsFor}
 use Rattle.ppq_engine.specs.declared.stop.Stop.{Stop}
 use Rattle.ppq_engine.proofs.Loads.{stop-refused}
 use Rattle.ppq_engine.proofs.Pushes.{ended-bag, ended-size, ended-sound, ended-peak, ended-refused}
-use Rattle.ppq_engine.proofs.Stops.{stops-more}
 use Rattle.ppq_engine.proofs.session.run_bulk.Given as given
 use Rattle.ppq_engine.proofs.session.run_bulk.Goals as goal
 
@@ -43,5 +42,6 @@ returns-clause-refused g c =
     let queue = c.args.queue in
     let slots = c.in-Err.queue.slots in
     let higher = max queue.peak (queue.size + length (pushed_in (up_to_end (drop (c.args.place + 1) (command_list c.args.script.now))))) in
-    let P : Stop → Type 0 = λ s. StopsFor higher queue.sizes slots s in
-    subst P (sym c.stop_of.ensures) (stops-more queue.sizes slots queue.peak higher (load_stop 0 0 c.in-Err.fault) (omega (arith, c.known.ensures.range.two_records)) (omega arith) (stop-refused queue.peak queue.sizes slots 0 0 c.in-Err.fault c.in-Err.ensures.refused))
+    let P : Stop → Type 0 = λ s. StopsFor higher queue.sizes queue.limited slots s in
+    subst P (sym c.stop_of.ensures)
+    (stop-refused higher queue.sizes queue.limited slots 0 0 c.in-Err.fault (stop-later queue.sizes queue.limited queue.limited queue.peak higher (omega (arith, c.known.ensures.range.two_records)) (λ same. same) (omega arith) slots c.in-Err.fault c.in-Err.ensures.refused))

@@ -1,4 +1,4 @@
-use Rattle.std.proofs.Common.{◌≡◌, ◌≤◌, ◌++◌, ℕ, List, Option, Some, max, length, refl, sym, ap, ◌∙◌, subst, arith}
+use Rattle.std.proofs.Common.{◌≡◌, ◌≤◌, ◌++◌, ℕ, Bool, List, Option, Some, max, length, refl, sym, ap, ◌∙◌, subst, arith}
 use Rattle.std.specs.Prelude.{IfErr}
 use Rattle.ppq_record.specs.declared.pair.Pair.{Pair}
 use Rattle.ppq_record.specs.Bag.{IsSameBag}
@@ -13,7 +13,7 @@ use Rattle.ppq_load.specs.Reading.{IsReadWithin}
 use Rattle.ppq_engine.specs.Files.{IsByFile, IsBySession, EndsEarly, IsReadInScript}
 use Rattle.ppq_engine.specs.Gathers.{Gathers}
 use Rattle.ppq_engine.specs.Loads.{none_go, size_after}
-use Rattle.ppq_engine.specs.Output.{text_of, after, given_of, AreFilesOf}
+use Rattle.ppq_engine.specs.Output.{outside, text_of, after, given_of, AreFilesOf}
 use Rattle.ppq_engine.specs.Popping.{NotByFile}
 use Rattle.ppq_engine.specs.Running.{WritesPart, IsOfFile, ChangedIn, LibraryAfter, StopsFor}
 use Rattle.ppq_engine.specs.declared.stop.Stop.{Stop}
@@ -30,7 +30,7 @@ push_file-requires-clause-long g c = λ lives fits files tells.
 pub returns-in-Bulk-clause-text : goal.returns-in-Bulk-clause-text
 returns-in-Bulk-clause-text g c =
     let told = g.O.Sink.told c.args.out.now in
-    let T : Command → Type 0 = λ k. AllTell c.args.queue.slots → Gathers told told c.args.gathered.now (text_of c.args.queue.bag k) c.args.gathered.now in
+    let T : Command → Type 0 = λ k. AllTell c.args.queue.slots → Gathers told told c.args.gathered.now (text_of (outside c.args.queue.bag) k) c.args.gathered.now in
     on-ok c.push_file.result.1 (T c.args.command) (subst T (sym c.in-Bulk.is) (λ tells. gathers-nothing told c.args.gathered.now))
 
 pub returns-in-Bulk-clause-bag : goal.returns-in-Bulk-clause-bag
@@ -40,13 +40,13 @@ returns-in-Bulk-clause-bag g c =
     let bag = c.args.queue.bag in
     let next = c.push_file.result.0.bag in
     on-ok-map c.push_file.result.1 (AllTell c.args.queue.slots → (files : List ℕ → Option (List ℕ)) → told ≡ Some files → IsSameBag next (records_of (bytes_or_none (files c.name-name.result.now)) ++ bag))
-    (AllTell c.args.queue.slots → (files : List ℕ → Option (List ℕ)) → AreFilesOf told script files → IsSameBag next (after (given_of files script) bag c.args.command))
+    (AllTell c.args.queue.slots → (files : List ℕ → Option (List ℕ)) → AreFilesOf told script files → IsSameBag next (after (given_of files script) (outside bag) c.args.command).bag)
     (λ loaded tells. file-bag told script c.args.i c.in-Bulk.file c.in-Bulk.length c.args.command c.name-name.result.now bag next c.requires.here c.in-Bulk.is c.name-name.ensures (loaded tells)) c.push_file.ensures.bag
 
 pub returns-in-Bulk-clause-part : goal.returns-in-Bulk-clause-part
 returns-in-Bulk-clause-part g c =
     let told = g.O.Sink.told c.args.out.now in
-    let text = text_of c.args.queue.bag c.args.command in
+    let text = text_of (outside c.args.queue.bag) c.args.command in
     let P : Stop → Type 0 = λ stop. AllTell c.args.queue.slots → WritesPart told told c.args.gathered.now text c.args.gathered.now stop in
     if-err-map c.push_file.result.1 IsByFile P (λ stop by tells. file-part told c.args.gathered.now text stop by) c.push_file.ensures.by_file
 
@@ -80,7 +80,7 @@ returns-in-Bulk-clause-asks g c =
 pub returns-in-Gen-clause-text : goal.returns-in-Gen-clause-text
 returns-in-Gen-clause-text g c =
     let told = g.O.Sink.told c.args.out.now in
-    let T : Command → Type 0 = λ k. AllTell c.args.queue.slots → Gathers told told c.args.gathered.now (text_of c.args.queue.bag k) c.args.gathered.now in
+    let T : Command → Type 0 = λ k. AllTell c.args.queue.slots → Gathers told told c.args.gathered.now (text_of (outside c.args.queue.bag) k) c.args.gathered.now in
     on-ok c.push_generated.result.1 (T c.args.command) (subst T (sym c.in-Gen.is) (λ tells. gathers-nothing told c.args.gathered.now))
 
 pub returns-in-Gen-clause-bag : goal.returns-in-Gen-clause-bag
@@ -89,14 +89,14 @@ returns-in-Gen-clause-bag g c =
     let script = c.args.script.now in
     let bag = c.args.queue.bag in
     let next = c.push_generated.result.0.bag in
-    let B : Command → Type 0 = λ k. AllTell c.args.queue.slots → (files : List ℕ → Option (List ℕ)) → AreFilesOf told script files → IsSameBag next (after (given_of files script) bag k) in
+    let B : Command → Type 0 = λ k. AllTell c.args.queue.slots → (files : List ℕ → Option (List ℕ)) → AreFilesOf told script files → IsSameBag next (after (given_of files script) (outside bag) k).bag in
     on-ok-map c.push_generated.result.1 (AllTell c.args.queue.slots → IsSameBag next (generated c.in-Gen.seed c.in-Gen.count ++ bag)) (B c.args.command)
     (λ loaded. subst B (sym c.in-Gen.is) (λ tells files are. loaded tells)) c.push_generated.ensures.bag
 
 pub returns-in-Gen-clause-part : goal.returns-in-Gen-clause-part
 returns-in-Gen-clause-part g c =
     let told = g.O.Sink.told c.args.out.now in
-    let text = text_of c.args.queue.bag c.args.command in
+    let text = text_of (outside c.args.queue.bag) c.args.command in
     let P : Stop → Type 0 = λ stop. AllTell c.args.queue.slots → WritesPart told told c.args.gathered.now text c.args.gathered.now stop in
     if-err-map c.push_generated.result.1 IsBySession P (λ stop by tells. file-part told c.args.gathered.now text stop (session_by_file stop by)) c.push_generated.ensures.by_session
 
@@ -111,20 +111,20 @@ returns-in_default g c =
     let replied = g.L.Library.replied c.args.library.now in
     let faults = g.L.Library.faults c.args.library.now in
     let higher = max old.peak (size_after none_go old.size c.args.command) in
-    let Why : Stop → Numbers → Type 0 = λ stop n. StopsFor new.peak n new.slots stop in
+    let Why : Stop → Numbers → Bool → Type 0 = λ stop n b. StopsFor new.peak n b new.slots stop in
     record {
       text = a.text;
       bag =
-          on-ok-map r (AllTell old.slots → (given : ℕ → List Pair) → IsSameBag new.bag (after given old.bag c.args.command))
-          (AllTell old.slots → (files : List ℕ → Option (List ℕ)) → AreFilesOf told script files → IsSameBag new.bag (after (given_of files script) old.bag c.args.command)) (λ bag tells files is. bag tells (given_of files script)) a.bag;
+          on-ok-map r (AllTell old.slots → (given : ℕ → List Pair) → IsSameBag new.bag (after given (outside old.bag) c.args.command).bag)
+          (AllTell old.slots → (files : List ℕ → Option (List ℕ)) → AreFilesOf told script files → IsSameBag new.bag (after (given_of files script) (outside old.bag) c.args.command).bag) (λ bag tells files is. bag tells (given_of files script)) a.bag;
       part = a.part;
       low = a.low;
       high = a.high;
       sound = a.sound;
       peak = on-ok r (new.peak ≤ higher) a.peak;
       refused =
-          if-err-map r (StopsFor new.peak new.sizes new.slots) (StopsFor higher old.sizes new.slots)
-          (λ stop why. stops-more old.sizes new.slots new.peak higher stop c.requires.block a.peak (subst (Why stop) a.kept.sizes why)) a.refused;
+          if-err-map r (StopsFor new.peak new.sizes new.limited new.slots) (StopsFor higher old.sizes old.limited new.slots)
+          (λ stop why. stops-more old.sizes old.limited new.slots new.peak higher stop c.requires.block a.peak (subst (Why stop old.sizes) a.kept.limited (subst (λ (n : Numbers). Why stop n new.limited) a.kept.sizes why))) a.refused;
       of_file = if-err-map r NotByFile (IsOfFile c.args.command) (not_of_file c.args.command) a.no_file;
       changed = if-err-map r NotByFile (ChangedIn told replied script) (not_changed told replied script) a.no_file;
       kept = a.kept;

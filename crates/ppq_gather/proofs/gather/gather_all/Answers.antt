@@ -12,6 +12,8 @@ pub gathering-init : goal.gathering-init
 gathering-init g c = record {
   gathered = λ slots items is. is;
   bag = λ none p. refl;
+  limited = refl;
+  fault = λ none. none;
   came = record { came = []; parts = sym (append-nil c.args.c.now.brought.items); whole = λ none. All-nil (λ (one : Brought g.row.S.Denot g.row.R.Denot). one.failed ≡ None); size = λ none. omega arith };
   same = (refl, refl);
 }
@@ -49,6 +51,8 @@ gathering-preserved g c =
           ∙ e.bag none p
           ∙ ap (λ l. count_by p (gathered_bag shown cmp record_of width q l)) (sym popped)
           ∙ i.bag (e.failed none).0 p;
+      limited = e.limited ∙ i.limited;
+      fault = λ none. i.fault (e.failed none).0;
       came = record {
         came = one ∷ i.came.came;
         parts = i.came.parts ∙ ap (λ l. l ++ i.came.came) popped ∙ append_assoc rest (one ∷ []) i.came.came ∙ ap (λ l. l ++ one ∷ i.came.came) (sym brought);
@@ -74,7 +78,7 @@ pub returns-clause-failed : goal.returns-clause-failed
 returns-clause-failed g c whole =
     let came = c.gathering.invariant.came in
     let none = nothing c.gathering.c.brought.items (omega (arith, c.in_default.ensures.cases)) in
-    subst (λ l. All (λ (one : Brought g.row.S.Denot g.row.R.Denot). one.failed ≡ None) l) (all_came g.S.Slot.shown c.args.c.now c.gathering.c came none) (came.whole whole)
+    (c.gathering.invariant.fault whole, subst (λ l. All (λ (one : Brought g.row.S.Denot g.row.R.Denot). one.failed ≡ None) l) (all_came g.S.Slot.shown c.args.c.now c.gathering.c came none) (came.whole whole))
 
 pub returns-clause-size : goal.returns-clause-size
 returns-clause-size g c whole =

@@ -8,7 +8,7 @@ use Rattle.ppq_outside.specs.Told.{bytes_or_none}
 use Rattle.ppq_queue.specs.Holding.{Holding}
 use Rattle.ppq_load.specs.Loading.{InSession, HasGiven, LoadStopsFor, LoadEndsIn, LoadCountsFrom}
 use Rattle.ppq_load.specs.Reading.{IsReadWithin}
-use Rattle.ppq_load.proofs.Refusals.{stop-more}
+use Rattle.ppq_load.proofs.Refusals.{stop-later}
 use Rattle.ppq_load.proofs.Replies.{no_replies}
 use Rattle.ppq_load.proofs.Results.{first-bag, first-size, first-sound, first-peak, first-refused, first-err, first-ok, on_ok, on_ok-map, unread-ends, unread-counts}
 use Rattle.ppq_load.proofs.file.load_file.Goals as goal
@@ -75,7 +75,7 @@ returns-in-Ok-clause-refused g c =
     on_ok-map c.deal_file-read.result ((queue : Holding Pair) → InSession g.S.Slot.shown queue [] c.in-Ok.load → HasGiven g.S.Slot.shown queue told c.args.name.now (c.args.said / 16) load)
     (HasGiven g.S.Slot.shown q told c.args.name.now (c.args.said / 16) load) (λ all. all q c.in-Ok.ensures.session) c.deal_file-read.ensures.given
     in
-    subst (λ r. IfErr r (LoadStopsFor (max q.peak (q.size + c.args.said / 16)) q.sizes new.slots)) (sym c.first_fault.ensures)
+    subst (λ r. IfErr r (LoadStopsFor (max q.peak (q.size + c.args.said / 16)) q.sizes q.limited new.slots)) (sym c.first_fault.ensures)
     (first-refused g.S.Slot.shown told c.args.name.now c.args.said load q new c.end-queue.result.1 (c.end-queue.ensures.loaded q) c.deal_file-read.result given c.deal_file-read.ensures.by_file)
 
 pub returns-in-Ok-clause-ended : goal.returns-in-Ok-clause-ended
@@ -104,7 +104,7 @@ returns-in-Ok-clause-cause g c =
 pub returns-in-Err-clause-refused : goal.returns-in-Err-clause-refused
 returns-in-Err-clause-refused g c =
     let q = c.args.queue in
-    stop-more q.sizes c.in-Err.queue.slots q.peak (max q.peak (q.size + c.args.said / 16)) c.in-Err.fault (omega (arith, c.known.ensures.range.two_records)) (omega arith) c.in-Err.ensures.refused
+    stop-later q.sizes q.limited q.limited q.peak (max q.peak (q.size + c.args.said / 16)) (omega (arith, c.known.ensures.range.two_records)) (λ same. same) (omega arith) c.in-Err.queue.slots c.in-Err.fault c.in-Err.ensures.refused
 
 pub returns-in-Err-clause-ended : goal.returns-in-Err-clause-ended
 returns-in-Err-clause-ended g c = unread-ends (g.L.Library.told c.args.library.now) (g.L.Library.replied c.args.library.now) c.args.name.now c.args.said c.in-Err.fault c.in-Err.ensures.by_load

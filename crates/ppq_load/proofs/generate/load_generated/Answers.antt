@@ -5,7 +5,7 @@ use Rattle.ppq_record.specs.Given.{generated}
 use Rattle.ppq_outside.specs.Shown.{AllTell}
 use Rattle.ppq_load.specs.Loading.{IsByLoad, LoadStopsFor}
 use Rattle.ppq_load.proofs.Generated.{length-generated}
-use Rattle.ppq_load.proofs.Refusals.{stop-more}
+use Rattle.ppq_load.proofs.Refusals.{stop-later}
 use Rattle.ppq_load.proofs.Results.{loaded-bag, loaded-size, loaded-sound, loaded-peak, loaded-refused, loaded-by}
 use Rattle.ppq_load.proofs.generate.load_generated.Goals as goal
 
@@ -47,7 +47,7 @@ returns-in-Ok-clause-refused g c =
     let records = generated c.args.seed c.args.count in
     let new = c.end-queue.result.0 in
     let done = c.end-queue.ensures.loaded q records (c.deal_generated.ensures.session q c.in-Ok.ensures.session) in
-    subst (λ r. IfErr r (LoadStopsFor (max q.peak (q.size + c.args.count)) q.sizes new.slots)) (sym c.loaded.ensures) (loaded-refused q new records c.args.count (length-generated c.args.seed 0 c.args.count) c.end-queue.result.1 done)
+    subst (λ r. IfErr r (LoadStopsFor (max q.peak (q.size + c.args.count)) q.sizes q.limited new.slots)) (sym c.loaded.ensures) (loaded-refused q new records c.args.count (length-generated c.args.seed 0 c.args.count) c.end-queue.result.1 done)
 
 pub returns-in-Ok-clause-by_load : goal.returns-in-Ok-clause-by_load
 returns-in-Ok-clause-by_load g c =
@@ -61,4 +61,4 @@ returns-in-Ok-clause-kept g c = (c.end-queue.ensures.loaded c.args.queue (genera
 pub returns-in-Err-clause-refused : goal.returns-in-Err-clause-refused
 returns-in-Err-clause-refused g c =
     let q = c.args.queue in
-    stop-more q.sizes c.in-Err.queue.slots q.peak (max q.peak (q.size + c.args.count)) c.in-Err.fault (omega (arith, c.known.ensures.range.two_records)) (omega arith) c.in-Err.ensures.refused
+    stop-later q.sizes q.limited q.limited q.peak (max q.peak (q.size + c.args.count)) (omega (arith, c.known.ensures.range.two_records)) (λ same. same) (omega arith) c.in-Err.queue.slots c.in-Err.fault c.in-Err.ensures.refused

@@ -18,7 +18,7 @@ returns-in-Stopped-clause-loaded g c =
     let new = c.bulk_end-queue.result.0 in
     let end = subst (λ how. EndsIn shown bulk passes new how) c.in-Stopped.is e.end in
     subst (λ old. (queue : Holding Pair) → (records : List Pair) → InSession shown queue records old → IsLoaded {T = ⊤} queue records new (Err c.in-Stopped.fault)) c.self.view_is
-    (λ queue records s. loaded-stopped shown queue records bulk passes s new c.in-Stopped.fault (end-keeps shown queue records bulk passes s new e.slots e.tells e.writes e.sizes) (omega (arith, c.known.ensures.range.two_records)) e.sizes end)
+    (λ queue records s. loaded-stopped shown queue records bulk passes s new c.in-Stopped.fault (end-keeps shown queue records bulk passes s new e.slots e.tells e.writes e.sizes e.limited) (omega (arith, c.known.ensures.range.two_records)) e.sizes end)
 
 pub returns-in-Whole-clause-all : goal.returns-in-Whole-clause-all
 returns-in-Whole-clause-all g c =
@@ -35,7 +35,7 @@ returns-in-Whole-clause-loaded g c =
     let end = subst (λ how. EndsIn shown bulk passes new how) c.in-Whole.is e.end in
     let going = subst (λ ps. All IsGoing ps) c.as_slice.ensures.value (c.are_going-all.ensures.all.0 c.if-all.true) in
     subst (λ old. (queue : Holding Pair) → (records : List Pair) → InSession shown queue records old → IsLoaded queue records new (Ok tt)) c.self.view_is
-    (λ queue records s. loaded-whole shown queue records bulk passes s new end tt (end-keeps shown queue records bulk passes s new e.slots e.tells e.writes e.sizes) going)
+    (λ queue records s. loaded-whole shown queue records bulk passes s new end tt (end-keeps shown queue records bulk passes s new e.slots e.tells e.writes e.sizes e.limited) going)
 
 pub returns-in-Whole-2-clause-loaded : goal.returns-in-Whole-2-clause-loaded
 returns-in-Whole-2-clause-loaded g c =
@@ -47,4 +47,4 @@ returns-in-Whole-2-clause-loaded g c =
     let end = subst (λ how. EndsIn shown bulk passes new how) c.in-Whole-2.is e.end in
     let ended = subst (λ ps. Any HasEnded ps) c.as_slice.ensures.value (c.are_going-all.ensures.ended c.if-all.false) in
     subst (λ old. (queue : Holding Pair) → (records : List Pair) → InSession shown queue records old → IsLoaded {T = ⊤} queue records new (Err NoFreeBlock)) c.self.view_is
-    (λ queue records s. loaded-short shown queue records bulk passes s new end (end-keeps shown queue records bulk passes s new e.slots e.tells e.writes e.sizes) (omega (arith, c.known.ensures.range.two_records)) ended)
+    (λ queue records s. loaded-short shown queue records bulk passes s new end (end-keeps shown queue records bulk passes s new e.slots e.tells e.writes e.sizes e.limited) (omega (arith, c.known.ensures.range.two_records)) ended)

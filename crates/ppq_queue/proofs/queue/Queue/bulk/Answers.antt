@@ -37,7 +37,7 @@ invariant_of-self g c =
       queue-less shown n m.new.heaps m.new.extract b t s.count less s.peak s.failed (omega (arith, sub)) all,
       (λ none.
           let sound = c.self.invariant.1 none in
-          sound-took shown n cmp record_of width c.args.limit c.args.most s.heaps m.new.heaps s.extract m.new.extract a b st t s.sources m.new.sources s.count less s.peak out sound e.kept c.in-Ok.ensures.took sub e.sources.workers (record { bench = omega (arith, sound.serves.bench, e.sources.bench); places = omega (arith, sound.serves.places, e.sources.places) })),
+          sound-took shown n cmp record_of width c.args.limit c.args.most s.heaps m.new.heaps s.extract m.new.extract a b st t s.sources m.new.sources s.count less s.peak s.limited out sound e.kept c.in-Ok.ensures.took sub e.sources.workers (record { bench = omega (arith, sound.serves.bench, e.sources.bench); places = omega (arith, sound.serves.places, e.sources.places) })),
       c.self.invariant.2,
       c.self.invariant.3,
     )
@@ -69,7 +69,7 @@ invariant_of-self-in-Err-NoFreeBlock g c =
       (λ none.
           let sound = c.self.invariant.1 none in
           let above = sound.above (omega (arith, sound.counted, some)) in
-          sound-moved shown n cmp record_of width s.heaps m.new.heaps s.extract m.new.extract a b st t s.sources m.new.sources s.count s.peak sound e.kept moved (λ more. above) e.sources.workers (record { bench = omega (arith, sound.serves.bench, e.sources.bench); places = omega (arith, sound.serves.places, e.sources.places) })),
+          sound-moved shown n cmp record_of width s.heaps m.new.heaps s.extract m.new.extract a b st t s.sources m.new.sources s.count s.peak s.limited sound e.kept moved (λ more. above) e.sources.workers (record { bench = omega (arith, sound.serves.bench, e.sources.bench); places = omega (arith, sound.serves.places, e.sources.places) })),
       c.self.invariant.2,
       c.self.invariant.3,
     )

@@ -3,6 +3,7 @@ use Rattle.std.specs.Prelude.{count_by}
 use Rattle.ppq_outside.specs.Shown.{AllTell}
 use Rattle.ppq_budget.specs.Sizes.{heap_of, batch_of}
 use Rattle.ppq_array.specs.declared.store_fault.StoreFault.TheVariants.{NoFreeBlock}
+use Rattle.ppq_queue.specs.Holding.{IsAbove}
 use Rattle.ppq_queue.proofs.Moves.{matched}
 use Rattle.ppq_queue.proofs.Flushed.{queue-kept, fault-kept, sound-moved, moved-bounds}
 use Rattle.ppq_queue.proofs.queue.Queue.flush.Goals as goal
@@ -26,12 +27,12 @@ invariant_of-self-in-Err-NoFreeBlock g c =
     let same_fault : c.in-Err-NoFreeBlock.field-0 ≡ NoFreeBlock = rw c.in-Err-NoFreeBlock.is at c.in-Err-NoFreeBlock.field-0-is in
     let short = e.none_free (matched m.result c.in-Err-NoFreeBlock.field-0 c.in-Err-NoFreeBlock.is same_fault) in
     let src = record s.sources { bench = m.new.bench } in
-    let above : heap_of n < s.peak = subst (λ q. heap_of q.sizes < q.peak) (sym view) c.requires.peak in
+    let above : IsAbove n s.peak s.limited = λ full. subst (λ q. heap_of q.sizes < q.peak) (sym view) c.requires.peak in
     let within : length m.new.extract.items ≤ batch_of n = omega (arith, i.in_extract, e.extract) in (
       queue-kept shown n s.heaps m.new.heaps s.extract m.new.extract a b st t s.count s.peak s.failed s.failed i e.kept e.no_row e.cap e.heaps e.fewer e.room within (fault-kept shown n a b st t s.failed e.kept i.fault),
       (λ none.
           let sound = c.self.invariant.1 none in
-          sound-moved shown n cmp record_of width s.heaps m.new.heaps s.extract m.new.extract a b st t s.sources src s.count s.peak sound e.kept short.moved (λ more. above) e.workers (record { bench = omega (arith, sound.serves.bench, e.places); places = sound.serves.places })),
+          sound-moved shown n cmp record_of width s.heaps m.new.heaps s.extract m.new.extract a b st t s.sources src s.count s.peak s.limited sound e.kept short.moved (λ more. above) e.workers (record { bench = omega (arith, sound.serves.bench, e.places); places = sound.serves.places })),
       c.self.invariant.2,
       c.self.invariant.3,
     )
@@ -77,5 +78,5 @@ returns-in-Err-NoFreeBlock-clause-refused g c =
       sound = none;
       free = bounds.0;
       room = bounds.1;
-      above = subst (λ q. heap_of q.sizes < q.peak) (sym view) c.requires.peak;
+      above = λ full. subst (λ q. heap_of q.sizes < q.peak) (sym view) c.requires.peak;
     }

@@ -31,7 +31,7 @@ invariant_of-self g c =
       queue-kept shown n s.heaps s.heaps s.extract m.new.extract a b st t s.count s.peak s.failed s.failed i e.kept e.no_row refl refl (omega arith) e.room within (fault-kept shown n a b st t s.failed e.kept i.fault),
       (λ none.
           let sound = c.self.invariant.1 none in
-          sound-readied shown n cmp record_of width s.heaps s.extract m.new.extract a b st t s.sources m.new.sources s.count s.peak sound e.kept c.in-Ok.ensures.readied e.sources.workers (record { bench = omega (arith, sound.serves.bench, e.sources.bench); places = omega (arith, sound.serves.places, e.sources.places) })),
+          sound-readied shown n cmp record_of width s.heaps s.extract m.new.extract a b st t s.sources m.new.sources s.count s.peak s.limited sound e.kept c.in-Ok.ensures.readied e.sources.workers (record { bench = omega (arith, sound.serves.bench, e.sources.bench); places = omega (arith, sound.serves.places, e.sources.places) })),
       c.self.invariant.2,
       c.self.invariant.3,
     )
@@ -64,7 +64,7 @@ invariant_of-self-in-Err-NoFreeBlock g c =
       (λ none.
           let sound = c.self.invariant.1 none in
           let above = sound.above (omega (arith, sound.counted, some)) in
-          sound-moved shown n cmp record_of width s.heaps s.heaps s.extract m.new.extract a b st t s.sources m.new.sources s.count s.peak sound e.kept moved (λ more. above) e.sources.workers (record { bench = omega (arith, sound.serves.bench, e.sources.bench); places = omega (arith, sound.serves.places, e.sources.places) })),
+          sound-moved shown n cmp record_of width s.heaps s.heaps s.extract m.new.extract a b st t s.sources m.new.sources s.count s.peak s.limited sound e.kept moved (λ more. above) e.sources.workers (record { bench = omega (arith, sound.serves.bench, e.sources.bench); places = omega (arith, sound.serves.places, e.sources.places) })),
       c.self.invariant.2,
       c.self.invariant.3,
     )

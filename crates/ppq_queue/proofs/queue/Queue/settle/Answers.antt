@@ -31,7 +31,7 @@ invariant_of-self g c =
       queue-kept shown n s.heaps s.heaps s.extract s.extract a b st t s.count s.peak s.failed s.failed i e.kept e.no_row refl refl (omega arith) refl within (fault-kept shown n a b st t s.failed e.kept i.fault),
       (λ none.
           let sound = c.self.invariant.1 none in
-          sound-moved shown n cmp record_of width s.heaps s.heaps s.extract s.extract a b st t s.sources src s.count s.peak sound e.kept moved sound.above e.workers (record { bench = omega (arith, sound.serves.bench, e.places); places = sound.serves.places })),
+          sound-moved shown n cmp record_of width s.heaps s.heaps s.extract s.extract a b st t s.sources src s.count s.peak s.limited sound e.kept moved sound.above e.workers (record { bench = omega (arith, sound.serves.bench, e.places); places = sound.serves.places })),
       c.self.invariant.2,
       c.self.invariant.3,
     )
@@ -62,7 +62,7 @@ invariant_of-self-in-Err-NoFreeBlock g c =
       queue-kept shown n s.heaps s.heaps s.extract s.extract a b st t s.count s.peak s.failed s.failed i e.kept e.no_row refl refl (omega arith) refl within (fault-kept shown n a b st t s.failed e.kept i.fault),
       (λ none.
           let sound = c.self.invariant.1 none in
-          sound-moved shown n cmp record_of width s.heaps s.heaps s.extract s.extract a b st t s.sources src s.count s.peak sound e.kept moved sound.above e.workers (record { bench = omega (arith, sound.serves.bench, e.places); places = sound.serves.places })),
+          sound-moved shown n cmp record_of width s.heaps s.heaps s.extract s.extract a b st t s.sources src s.count s.peak s.limited sound e.kept moved sound.above e.workers (record { bench = omega (arith, sound.serves.bench, e.places); places = sound.serves.places })),
       c.self.invariant.2,
       c.self.invariant.3,
     )

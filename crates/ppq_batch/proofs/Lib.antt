@@ -1,0 +1,4 @@
+pub mod Answered
+pub mod Limited
+pub mod Session
+pub mod TakenAlong

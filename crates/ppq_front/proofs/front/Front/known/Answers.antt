@@ -1,0 +1,15 @@
+use Rattle.std.proofs.Common.{◌++◌, length, subst, arith, length-append}
+use Rattle.std.proofs.lemmas.List.{get_or_append_left}
+use Rattle.ppq_outside.specs.Shown.{AllTell, Tells}
+use Rattle.ppq_array.specs.Owner.{slots_shown}
+use Rattle.ppq_queue.specs.Resting.{slots_of}
+use Rattle.ppq_front.proofs.front.Front.known.Goals as goal
+
+pub returns-clause-items : goal.returns-clause-items
+returns-clause-items g c =
+    let shown = g.S.Slot.shown in
+    let parts = c.self.inside.parts in
+    let put = slots_shown shown parts.row_seat.hand.items in
+    let rest = slots_of shown parts.body parts.supply in
+    subst (λ f. AllTell f.slots → AllTell (slots_shown shown f.items)) c.self.view_is
+    (λ t k d l. subst Tells (get_or_append_left put rest d k l) (t k d (omega (arith, l, length-append put rest))))

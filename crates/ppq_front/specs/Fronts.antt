@@ -1,0 +1,54 @@
+-- What contracts see of a front, and what its calls take of it.
+use Rattle.std.specs.Prelude.{◌≡◌, ℕ, min, List, Option, Some, None}
+use Rattle.std.specs.declared.cmp.Ordering.{Ordering}
+use Rattle.atomic_table.specs.Seated.{TableId}
+use Rattle.ppq_record.specs.Bag.{first_of, front, without_front, size_below}
+use Rattle.ppq_outside.specs.Shown.{Shown, AllTell}
+use Rattle.ppq_budget.specs.Sizes.{Numbers}
+use Rattle.ppq_array.specs.Kept.{HasFailed}
+use Rattle.ppq_array.specs.declared.berth.DeviceBlock.{DeviceBlock}
+use Rattle.ppq_fetch.specs.Taking.{NoneBelow}
+use Rattle.ppq_queue.specs.declared.fault.QueueFault.{QueueFault}
+use Rattle.ppq_queue.specs.declared.fault.QueueFault.TheVariants.{NoFreeBlock, Device}
+
+-- The bag of its records, as far as its slots tell, and the limit; how many records it counts, and how many it gave; its sizes; the
+-- greatest size of the queue when the session began; all slots, those of its runs, those that it freed and those that were put into the
+-- row; how many records its extract buffer has; the row with the slots that were put into it, and the pool; and the number of the slot a
+-- call of which failed first, if any
+pub record FrontHolding (S R : Type 0) : Type 0 where
+  pub bag : List R
+  pub limit : R
+  pub size : ℕ
+  pub popped : ℕ
+  pub sizes : Numbers
+  pub peak : ℕ
+  pub slots : List Shown
+  pub in_extract : ℕ
+  pub row : TableId
+  pub items : List (DeviceBlock S R)
+  pub pool : TableId
+  pub failed : Option ℕ
+
+module _ {R : Type 0} (cmp : R → R → Ordering) (limit : R) where
+  -- the least record of a bag that is below the limit, and none where none is below it
+  abbrev pub least_below : List R → Option R
+  least_below bag = first_of (front cmp bag (min 1 (size_below cmp bag limit)))
+
+  -- the bag without that record
+  abbrev pub without_least_below : List R → List R
+  without_least_below bag = without_front cmp bag (min 1 (size_below cmp bag limit))
+
+-- how many records an answer has
+abbrev pub number_in : {R : Type 0} → Option R → ℕ
+number_in None = 0
+number_in (Some r) = 1
+
+module _ {S R : Type 0} where
+  -- the extract buffer is empty only if no record below the limit is left, where slots tell
+  abbrev pub IsReady : (R → R → Ordering) → FrontHolding S R → Type 0
+  IsReady cmp front = front.in_extract ≡ 0 → AllTell front.slots → NoneBelow cmp (Some front.limit) front.bag
+
+  -- A call of the slot with this number failed, now or before, and the front keeps that number. No front wants a free block
+  abbrev pub IsFrontRefusal : FrontHolding S R → QueueFault → Type 0
+  IsFrontRefusal front NoFreeBlock = ⊥
+  IsFrontRefusal front (Device number) = HasFailed number front.slots × (front.failed ≡ Some number)

@@ -1,0 +1,3 @@
+pub mod CameBack
+pub mod Fronted
+pub mod Sends

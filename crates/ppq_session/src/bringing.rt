@@ -1,0 +1,72 @@
+//! Passes that come back.
+ghost use Rattle.std.specs.Prelude.{◌≡◌, ◌≤◌, ◌<◌, ◌+◌, [], ◌∷◌, length, reverse, All, vec_len, vec_capacity};
+ghost use Rattle.ppq_pass.specs.Passed.{IsOf};
+ghost use Rattle.ppq_session.specs.Bringing.{BroughtAll, IsShareOf};
+
+use ppq_begin::{BulkParts, Pass, Shared};
+use ppq_gather::Brought;
+use ppq_outside::Slot;
+use ppq_pass::{PassHeld, PassParts};
+use ppq_record::Record;
+use std::snapshot::Snapshot;
+
+/// Takes all passes apart, the last first, and joins their seats.
+pub fn bring_all<S: Slot + Send + Sync, R: Record + Send + Sync>(
+    parts: &mut BulkParts<S, R>,
+    shared: &Shared<S, R>,
+    passes: Vec<Pass<S, R>>,
+)
+    requires row { parts.old.row_seat.row ≡ shared.now.row }
+    requires pool { parts.old.pool_seat.pool ≡ shared.now.pool }
+    requires of { All (IsShareOf shared.now parts.old.sizes) passes.items }
+    requires room { length parts.old.brought.items + length passes.items ≤ vec_capacity parts.old.brought }
+    ensures brought { BroughtAll S.shown R.record_of R.WIDTH parts.old.sizes R.Ord.cmp (reverse passes.items) parts.old parts.new }
+{
+    let mut passes = passes;
+    'bringing: while let Some(pass) = passes.pop() {
+        bring(parts, shared, pass);
+    }
+}
+
+/// Takes a pass apart, and joins its seats.
+pub fn bring<S: Slot + Send + Sync, R: Record + Send + Sync>(
+    parts: &mut BulkParts<S, R>,
+    shared: &Shared<S, R>,
+    pass: Pass<S, R>,
+)
+    requires row { parts.old.row_seat.row ≡ shared.now.row }
+    requires pool { parts.old.pool_seat.pool ≡ shared.now.pool }
+    requires of { IsShareOf shared.now parts.old.sizes pass }
+    requires room { vec_len parts.old.brought < vec_capacity parts.old.brought }
+    ensures brought { BroughtAll S.shown R.record_of R.WIDTH parts.old.sizes R.Ord.cmp (pass ∷ []) parts.old parts.new }
+    ensures capacity { vec_capacity parts.new.brought ≡ vec_capacity parts.old.brought }
+{
+    let PassHeld {
+        heap,
+        body,
+        parts: held,
+        begun,
+        accepted,
+        refused,
+        failed,
+    } = pass.into_parts();
+    let kept = Snapshot::of(&held);
+    let PassParts {
+        row_seat,
+        stash,
+        pool_seat,
+        ..
+    } = held;
+    shared.row.join(&mut parts.row_seat, row_seat);
+    shared.pool.join(&mut parts.pool_seat, pool_seat);
+    parts.brought.push_reserved(Brought {
+        heap,
+        body,
+        stash,
+        kept,
+        begun,
+        accepted,
+        refused,
+        failed,
+    });
+}
