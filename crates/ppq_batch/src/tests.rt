@@ -1,6 +1,6 @@
 //! Worked examples of batches of two workers over blocks in memory, with two records a block and one block
 //! a heap. A number stands for the pair with that key and value 0.
-ghost use Rattle.std.specs.Prelude.{◌≡◌, ◌<◌, false, [], All, IsTrue, IfOk, OnOk, map};
+ghost use Rattle.std.specs.Prelude.{◌≡◌, ◌<◌, false, All, IsTrue, IfOk, map};
 ghost use Rattle.ppq_record.specs.Order.{is_before};
 ghost use Rattle.ppq_outside.specs.MemoryDevice.{slot_shown};
 ghost use Rattle.ppq_queue.specs.Holding.{AreNewSlots};

@@ -2,7 +2,7 @@
 use Rattle.std.specs.Prelude.{◌≡◌, ℕ, ◌+◌, ◌-◌, ◌*◌, ◌<◌, ◌≤◌, List, [], ◌++◌, length, All, vec_capacity}
 use Rattle.std.specs.declared.cmp.Ordering.{Ordering}
 use Rattle.ppq_outside.specs.Shown.{Shown, AllTell}
-use Rattle.ppq_budget.specs.Sizes.{AreInRange, fixed_of, heap_of, batch_of, pool_of}
+use Rattle.ppq_budget.specs.Sizes.{AreInRange, fixed_of, batch_of, pool_of}
 use Rattle.ppq_table.specs.Sums.{all_shares}
 use Rattle.ppq_array.specs.Supply.{Stock}
 use Rattle.ppq_array.specs.Owner.{slots_shown, HasSize, HasBlock}

@@ -1,7 +1,7 @@
 //! Passes that are made of what a queue has.
-ghost use Rattle.std.specs.Prelude.{◌≡◌, ◌≤◌, ◌<◌, ◌+◌, ◌-◌, ◌*◌, ◌/◌, ◌++◌, ◌∷◌, [], length, All, vec_capacity};
+ghost use Rattle.std.specs.Prelude.{◌≡◌, ◌≤◌, ◌<◌, ◌+◌, ◌-◌, ◌/◌, [], length, All, vec_capacity};
 ghost use Rattle.ppq_budget.specs.Sizes.{heap_of, pool_of};
-ghost use Rattle.ppq_array.specs.Owner.{HasBlock, HasSize};
+ghost use Rattle.ppq_array.specs.Owner.{HasBlock};
 ghost use Rattle.ppq_pool.specs.Seats.{count_of};
 ghost use Rattle.ppq_begin.specs.Equipped.{MayEquip, Equipped, IsNewPass, ArePasses};
 ghost use Rattle.ppq_begin.specs.Outfits.{IsOutfit};

@@ -1,6 +1,5 @@
 //! What is allocated for a pass.
-ghost use Rattle.std.specs.Prelude.{◌≡◌, ◌≤◌, ◌/◌, ◌+◌, [], length, All, IfOk};
-ghost use Rattle.ppq_budget.specs.Sizes.{pool_of};
+ghost use Rattle.std.specs.Prelude.{◌≡◌, ◌≤◌, ◌/◌, ◌+◌, length, All, IfOk};
 ghost use Rattle.ppq_begin.specs.Outfits.{IsOutfit};
 
 use ppq_array::Runs;

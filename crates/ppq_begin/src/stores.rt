@@ -1,6 +1,6 @@
 //! All that is allocated for a session.
-ghost use Rattle.std.specs.Prelude.{◌≡◌, ◌≤◌, IfOk};
-ghost use Rattle.ppq_budget.specs.Sizes.{fixed_of, pool_of};
+ghost use Rattle.std.specs.Prelude.{◌≤◌, IfOk};
+ghost use Rattle.ppq_budget.specs.Sizes.{fixed_of};
 ghost use Rattle.ppq_begin.specs.Outfits.{AreStores};
 
 use crate::outfit::{Outfit, outfits};

@@ -1,5 +1,5 @@
 //! A worked example of a session that begins.
-ghost use Rattle.std.specs.Prelude.{◌≡◌, IfOk, map};
+ghost use Rattle.std.specs.Prelude.{IfOk, map};
 ghost use Rattle.ppq_outside.specs.MemoryDevice.{slot_shown};
 ghost use Rattle.ppq_queue.specs.Holding.{AreNewSlots};
 

@@ -1,5 +1,5 @@
 //! Makes the blocks of a device.
-ghost use Rattle.std.specs.Prelude.{◌≡◌, ◌≤◌, ◌*◌, length, map, vec_len, IfOk, IfErr, OnOk};
+ghost use Rattle.std.specs.Prelude.{◌≡◌, ◌≤◌, ◌*◌, length, map, IfOk, IfErr, OnOk};
 ghost use Rattle.std.specs.List.{range_with_len};
 ghost use Rattle.ppq_outside.specs.Made.{HasMade};
 ghost use Rattle.ppq_outside.specs.Shown.{AllTell};

@@ -1,5 +1,5 @@
 //! The line that reports an end.
-ghost use Rattle.std.specs.Prelude.{◌≡◌, ◌++◌, OnOk, decimal};
+ghost use Rattle.std.specs.Prelude.{◌++◌, OnOk, decimal};
 ghost use Rattle.ppq_outside.specs.Told.{HasOneCause, TakesAll, TakesPart};
 ghost use Rattle.ppq_cli.specs.Report.{report_of, changed_text};
 

@@ -1,10 +1,9 @@
 //! A batch of lines of a limit session.
-ghost use Rattle.std.specs.Prelude.{◌≡◌, ◌≤◌, ◌<◌, ◌+◌, ◌^◌, ◌++◌, [], ℕ, false, length, All, None, Some, IsTrue, IfOk, OnOk, OnErr, slice_get};
+ghost use Rattle.std.specs.Prelude.{◌≡◌, ◌≤◌, ◌<◌, ◌+◌, ◌^◌, ◌++◌, ℕ, false, length, All, None, Some, IsTrue, IfOk, OnOk, OnErr, slice_get};
 ghost use Rattle.ppq_record.specs.declared.pair.Pair.{Pair};
 ghost use Rattle.ppq_record.specs.Order.{is_before};
 ghost use Rattle.ppq_record.specs.Pair.{pair_cmp};
 ghost use Rattle.ppq_outside.specs.Told.{HasOneCause, TakesPart};
-ghost use Rattle.ppq_script.specs.Reading.{command_list};
 ghost use Rattle.ppq_batch.specs.Batches.{AreGoing, HasStopped};
 ghost use Rattle.ppq_engine.specs.Gathers.{answer_text, Gathers};
 ghost use Rattle.ppq_engine.specs.Output.{limited_text};

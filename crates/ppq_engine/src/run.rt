@@ -1,5 +1,5 @@
 //! Runs the commands of a script.
-ghost use Rattle.std.specs.Prelude.{◌≡◌, false, ◌≤◌, ◌<◌, ◌⊎◌, ◌*◌, ◌+◌, ◌^◌, List, ℕ, Option, [], Some, None, OnOk, IfErr, IsTrue, length, map, vec_len, IfOk};
+ghost use Rattle.std.specs.Prelude.{◌≡◌, false, ◌≤◌, ◌<◌, ◌⊎◌, ◌*◌, ◌+◌, List, ℕ, Option, [], Some, None, OnOk, IfErr, IsTrue, length, map};
 ghost use Rattle.ppq_outside.specs.Shown.{AllTell};
 ghost use Rattle.ppq_outside.specs.Told.{TakesAll, TakesPart, Rose, Remembers, RepliesOnly};
 ghost use Rattle.ppq_budget.specs.Sizes.{fixed_of, batch_of};

@@ -1,5 +1,5 @@
 -- A front that begins: what the owner of a queue keeps, all of whose records are in runs.
-use Rattle.std.proofs.Common.{◌≡◌, ℕ, ◌+◌, ◌-◌, ◌*◌, ◌<◌, ◌≤◌, true, List, [], ◌++◌, length, sum_by, Some, None, All, refl, sym, ap, ◌∙◌, subst, arith, length-append}
+use Rattle.std.proofs.Common.{◌≡◌, ℕ, ◌+◌, ◌-◌, ◌*◌, ◌≤◌, true, List, ◌++◌, length, sum_by, Some, None, All, refl, sym, ap, ◌∙◌, subst, arith, length-append}
 use Rattle.std.specs.declared.cmp.Ordering.{Ordering}
 use Rattle.std.proofs.lemmas.List.Elements.{All-append}
 use Rattle.std.proofs.lemmas.List.Sums.{sum_by-append}
@@ -7,7 +7,7 @@ use Rattle.ppq_record.specs.Order.{Ascends}
 use Rattle.ppq_outside.specs.Shown.{Shown, Tells, AllTell}
 use Rattle.ppq_fetch.specs.Taking.{NoneAfter, AllBelow}
 use Rattle.std.proofs.Math.Nat.{add-mul, mul-le-mul_right}
-use Rattle.ppq_budget.specs.Sizes.{Numbers, pool_of}
+use Rattle.ppq_budget.specs.Sizes.{pool_of}
 use Rattle.ppq_pool.specs.Seats.{count_of as pool_count}
 use Rattle.ppq_array.specs.declared.berth.DeviceBlock.{DeviceBlock}
 use Rattle.ppq_array.specs.Owner.{slots_shown, HasBlock}
@@ -19,7 +19,7 @@ use Rattle.ppq_spill.proofs.Keeping.{slots_long}
 use Rattle.ppq_spill.proofs.SameSlots.{SameSlots-sums}
 use Rattle.ppq_spill.proofs.Telling.{tell_sum, sum_tell}
 use Rattle.ppq_spill.specs.Untold.{untold}
-use Rattle.ppq_queue.specs.Resting.{AtRest, IsRestingRun, IsRestingArray, AllRise, count_of, lane_buffers, odd_in, runs_bag, slots_of}
+use Rattle.ppq_queue.specs.Resting.{AtRest, IsRestingRun, IsRestingArray, count_of, lane_buffers, odd_in, runs_bag, slots_of}
 use Rattle.ppq_queue.proofs.Counts.{runs_fit, internal_count, stored_slots, arrays_fit}
 use Rattle.ppq_queue.proofs.Odd.{arrays_full}
 use Rattle.ppq_queue.proofs.Slots.{SameSums-length}
@@ -29,7 +29,7 @@ use Rattle.ppq_begin.specs.Session.{BulkHolding}
 use Rattle.ppq_front.specs.Fronts.{FrontHolding}
 use Rattle.ppq_front.specs.Sessions.{IsFrontOf}
 use Rattle.ppq_front.specs.FrontState.{with_lent, with_shared, front_slots, front_holding, IsHome, IsFront, IsTallied, IsSoundFront}
-use Rattle.ppq_front.proofs.Moved.{lent-length, lent-blocks, told-whole, told-parts}
+use Rattle.ppq_front.proofs.Moved.{lent-length, lent-blocks, told-parts}
 
 module _ {S R : Type 0} (shown : S → Shown) (cmp : R → R → Ordering) (record_of : List ℕ → R) (width : ℕ) (q : BulkParts S R) (is : IsBulk shown cmp record_of width q) where
   abbrev items : List (DeviceBlock S R)

@@ -1,5 +1,5 @@
 -- A limit pass to which a record was added, or refused.
-use Rattle.std.proofs.Common.{◌≡◌, ℕ, false, List, [], ◌∷◌, ◌++◌, Option, Some, None, refl, sym, ap, ◌∙◌, subst, Ordering}
+use Rattle.std.proofs.Common.{◌≡◌, ℕ, false, List, ◌∷◌, ◌++◌, Option, Some, None, refl, sym, ap, ◌∙◌, subst, Ordering}
 use Rattle.std.specs.Prelude.{Result, Ok, Err, OnOk, OnErr, IfErr}
 use Rattle.std.specs.List.{AllByRecursion as Each}
 use Rattle.ppq_record.specs.Order.{is_before}
@@ -11,7 +11,6 @@ use Rattle.ppq_fetch.specs.Taking.{NoneBelow}
 use Rattle.ppq_queue.specs.declared.fault.QueueFault.{QueueFault}
 use Rattle.ppq_queue.specs.declared.fault.QueueFault.TheVariants.{NoFreeBlock, Device}
 use Rattle.ppq_pass.specs.Passed.{PassHolding, PassTells, with_one, IsRefusedPush}
-use Rattle.ppq_pass.specs.declared.full.Full.{Full}
 use Rattle.ppq_front.specs.Limited.{HoldsNothing, IsLimited}
 
 module _ {S R : Type 0} (shown : S → Shown) (cmp : R → R → Ordering) (limit : R) where

@@ -1,15 +1,14 @@
 -- What is out, beside what a front has: buffers of passes, slots of the row, buffers of the pool.
-use Rattle.std.proofs.Common.{◌≡◌, ℕ, ◌+◌, ◌-◌, ◌*◌, ◌<◌, ◌≤◌, List, [], ◌++◌, length, sum_by, replicate, All, Option, Some, refl, sym, ap, ◌∙◌, subst, arith, length-append}
-use Rattle.std.specs.declared.cmp.Ordering.{Ordering}
+use Rattle.std.proofs.Common.{◌≡◌, ℕ, ◌+◌, ◌-◌, ◌*◌, ◌≤◌, List, [], ◌++◌, length, sum_by, replicate, All, Option, Some, sym, ap, ◌∙◌, arith, length-append}
 use Rattle.std.proofs.lemmas.List.{length-replicate}
 use Rattle.std.proofs.lemmas.List.Sums.{sum_by-append}
 use Rattle.std.proofs.lemmas.List.Elements.{All-append, All-replicate}
 use Rattle.ppq_outside.specs.Shown.{Shown, Tells, AllTell}
-use Rattle.ppq_budget.specs.Sizes.{Numbers, batch_of}
+use Rattle.ppq_budget.specs.Sizes.{Numbers}
 use Rattle.ppq_block.specs.Block.{Block, holding}
 use Rattle.ppq_array.specs.Supply.{Stock}
 use Rattle.ppq_array.specs.Owner.{slots_shown, HasBlock}
-use Rattle.ppq_array.specs.Kept.{SameSlots, HasFailed, all_writes, weight_at, faults_at}
+use Rattle.ppq_array.specs.Kept.{SameSlots, HasFailed, all_writes, weight_at}
 use Rattle.ppq_array.specs.declared.berth.DeviceBlock.{DeviceBlock}
 use Rattle.ppq_array.proofs.Noted.{all_left, all_right}
 use Rattle.ppq_extract.specs.Extracted.{Held, SourcesRest}

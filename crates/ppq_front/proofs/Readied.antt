@@ -1,5 +1,5 @@
 -- What a front shows after its extract buffer was refilled.
-use Rattle.std.proofs.Common.{◌≡◌, ℕ, ◌≤◌, List, [], ◌++◌, length, Option, Some, None, refl, sym, ap, ◌∙◌, subst, arith}
+use Rattle.std.proofs.Common.{◌≡◌, ℕ, ◌≤◌, List, [], ◌++◌, length, Option, Some, None, sym, ap, ◌∙◌, subst}
 use Rattle.std.specs.declared.cmp.Ordering.{Ordering}
 use Rattle.ppq_outside.specs.Shown.{Shown, AllTell}
 use Rattle.ppq_array.specs.Kept.{SameSlots, HasFailed, all_writes}

@@ -1,34 +1,33 @@
 -- A front whose extract buffer is refilled: its runs rest, with all that is out, and nothing below the limit is passed over.
-use Rattle.std.proofs.Common.{◌≡◌, ℕ, ◌+◌, ◌-◌, ◌*◌, ◌<◌, ◌≤◌, Bool, true, false, cond, List, [], ◌∷◌, ◌++◌, length, min, take, drop, get_or, sum_by, Some, All, refl, sym, ap, ◌∙◌, subst, arith, length-append, length-drop, length-take}
-use Rattle.std.specs.Prelude.{flat_map, vec_capacity, count_by}
+use Rattle.std.proofs.Common.{◌≡◌, ℕ, ◌+◌, ◌-◌, ◌*◌, ◌<◌, ◌≤◌, Bool, true, false, cond, List, [], ◌∷◌, ◌++◌, length, min, take, drop, Some, All, sym, ap, ◌∙◌, subst, arith, length-append, length-take}
+use Rattle.std.specs.Prelude.{count_by}
 use Rattle.std.specs.declared.cmp.Ordering.{Ordering}
 use Rattle.std.specs.Cmp.{IsTotalOrder}
 use Rattle.std.proofs.lemmas.Nat.{mul-le}
-use Rattle.std.proofs.lemmas.List.Elements.{All-contains, All-from_recursion, recursion_from_All, All-drop, All-append}
+use Rattle.std.proofs.lemmas.List.Elements.{All-contains, All-from_recursion, recursion_from_All, All-drop}
 use Rattle.ppq_record.specs.Order.{is_before, Ascends}
 use Rattle.ppq_record.specs.Bag.{IsSameBag, front, size_below, ascending}
-use Rattle.ppq_record.proofs.Order.{count_by-append, count_by-cons, each_fails, Each-same_bag, IsSameBag-length, IsSameBag-trans, in_order-same_bag}
+use Rattle.ppq_record.proofs.Order.{count_by-append, count_by-cons, each_fails, Each-same_bag, IsSameBag-length, in_order-same_bag}
 use Rattle.ppq_record.proofs.Fronts.{ranks}
 use Rattle.ppq_outside.specs.Shown.{Shown, Tells, AllTell}
-use Rattle.ppq_budget.specs.Sizes.{Numbers, AreInRange, fixed_of, pool_of}
-use Rattle.ppq_table.specs.Sums.{all_shares}
+use Rattle.ppq_budget.specs.Sizes.{Numbers, AreInRange, pool_of}
 use Rattle.ppq_pool.specs.Seats.{count_of as pool_count}
 use Rattle.ppq_block.specs.Block.{Block}
 use Rattle.ppq_array.specs.declared.berth.DeviceBlock.{DeviceBlock}
 use Rattle.ppq_array.specs.Run.{Run, items_of}
 use Rattle.ppq_array.specs.External.{External, records_in, IsPacked}
 use Rattle.ppq_array.specs.Owner.{slots_shown, HasBlock}
-use Rattle.ppq_array.specs.Holdings.{external_slots, internal_buffers, external_buffers}
+use Rattle.ppq_array.specs.Holdings.{external_slots, internal_buffers}
 use Rattle.ppq_array.specs.Supply.{Stock}
 use Rattle.ppq_array.proofs.Noted.{all_left, all_right}
-use Rattle.ppq_fetch.specs.Fetching.{MayFetch, SourcesTell, RunsRise, source_items, count_in}
-use Rattle.ppq_fetch.specs.Taking.{wanted, NoneAfter, NoneBelow}
+use Rattle.ppq_fetch.specs.Fetching.{MayFetch, SourcesTell, RunsRise, source_items}
+use Rattle.ppq_fetch.specs.Taking.{wanted, NoneBelow}
 use Rattle.ppq_extract.specs.Extracted.{Held, sources_of, Refilled}
 use Rattle.ppq_extract.specs.declared.sources.Sources.{Sources}
 use Rattle.ppq_spill.specs.Body.{body_slots, job_slots}
 use Rattle.ppq_spill.proofs.Keeping.{slots_long}
 use Rattle.ppq_spill.specs.declared.body.PassBody.{PassBody}
-use Rattle.ppq_queue.specs.Resting.{BodyKept, IsRestingRun, IsRestingArray, AtRest, runs_bag, slots_of, count_of}
+use Rattle.ppq_queue.specs.Resting.{BodyKept, IsRestingRun, IsRestingArray, AtRest, runs_bag, slots_of}
 use Rattle.ppq_queue.proofs.Bounds.{pool_small, runs_few, idle_most, records_most}
 use Rattle.ppq_queue.proofs.Counts.{fronts_few}
 use Rattle.ppq_queue.proofs.Odd.{odd_most}
@@ -36,7 +35,7 @@ use Rattle.ppq_queue.proofs.Moves.{none_after-same}
 use Rattle.ppq_queue.proofs.Refilled.{packed-drop, sources-bag}
 use Rattle.ppq_begin.specs.declared.parts.BulkParts.{BulkParts}
 use Rattle.ppq_front.specs.FrontState.{lent, with_lent, with_shared, front_slots, front_bag, IsFront, IsSoundFront}
-use Rattle.ppq_front.proofs.Moved.{lent-length, lent-blocks, told-whole, told-parts, refilled, tells-refilled, told-refilled}
+use Rattle.ppq_front.proofs.Moved.{lent-length, lent-blocks, told-whole, told-parts, refilled, told-refilled}
 
 one_at_most : (b : Bool) → cond b 1 0 ≤ 1
 one_at_most true = omega arith

@@ -1,5 +1,5 @@
 -- A record that leaves the extract buffer of a front.
-use Rattle.std.proofs.Common.{◌≡◌, ℕ, ◌+◌, ◌-◌, ◌<◌, ◌≤◌, List, [], ◌∷◌, ◌++◌, length, drop, Option, Some, None, refl, sym, ap, ◌∙◌, subst, arith, length-drop}
+use Rattle.std.proofs.Common.{◌≡◌, ℕ, ◌+◌, ◌-◌, ◌<◌, List, [], ◌∷◌, ◌++◌, length, drop, Option, Some, None, refl, sym, ap, ◌∙◌, subst, arith, length-drop}
 use Rattle.std.specs.Prelude.{count_by}
 use Rattle.std.specs.declared.cmp.Ordering.{Ordering}
 use Rattle.std.specs.declared.cmp.Ordering.TheVariants.{Equal}
@@ -7,13 +7,12 @@ use Rattle.std.specs.Cmp.{IsTotalOrder}
 use Rattle.ppq_record.specs.Order.{Ascends}
 use Rattle.ppq_record.specs.Bag.{IsSameBag, first_of}
 use Rattle.ppq_outside.specs.Shown.{Shown, AllTell}
-use Rattle.ppq_array.specs.Kept.{HasFailed}
 use Rattle.ppq_fetch.specs.Taking.{NoneAfter, AllBelow}
 use Rattle.ppq_extract.specs.Extracted.{Held, held}
 use Rattle.ppq_queue.specs.Resting.{runs_bag, count_of}
 use Rattle.ppq_queue.proofs.Ready.{each_rest, ascends_rest}
 use Rattle.ppq_begin.specs.declared.parts.BulkParts.{BulkParts}
-use Rattle.ppq_front.specs.Fronts.{FrontHolding, IsReady, without_least_below}
+use Rattle.ppq_front.specs.Fronts.{IsReady, without_least_below}
 use Rattle.ppq_front.specs.FrontState.{front_slots, front_bag, front_holding, IsHome, IsFront, IsTallied, IsSoundFront}
 use Rattle.ppq_front.proofs.Belows.{ready_rest}
 

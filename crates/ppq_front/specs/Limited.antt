@@ -1,5 +1,5 @@
 -- What contracts see of a pass of a limit session.
-use Rattle.std.specs.Prelude.{◌≡◌, [], Option, Some, None}
+use Rattle.std.specs.Prelude.{◌≡◌, [], Some, None}
 use Rattle.std.specs.declared.cmp.Ordering.{Ordering}
 use Rattle.ppq_outside.specs.Shown.{Shown, AllTell}
 use Rattle.ppq_array.specs.Owner.{slots_shown}

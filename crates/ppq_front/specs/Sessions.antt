@@ -4,7 +4,7 @@ use Rattle.ppq_record.specs.Bag.{IsSameBag}
 use Rattle.ppq_outside.specs.Shown.{Shown, AllTell}
 use Rattle.ppq_budget.specs.Sizes.{heap_of, room_of}
 use Rattle.ppq_array.specs.Kept.{SameSlots, all_writes}
-use Rattle.ppq_pass.specs.Passed.{PassKey, PassHolding, PassTells}
+use Rattle.ppq_pass.specs.Passed.{PassKey, PassTells}
 use Rattle.ppq_pass.specs.declared.shared.Shared.{Shared}
 use Rattle.ppq_queue.specs.Holding.{Holding, HasStopped}
 use Rattle.ppq_queue.specs.declared.fault.QueueFault.TheVariants.{NoFreeBlock, Device}

@@ -1,6 +1,6 @@
 //! What the owner of a queue keeps while a limit session is on.
-ghost use Rattle.std.specs.Prelude.{◌≡◌, ◌≤◌, ◌+◌, ◌↔◌, ℕ, [], length, true, Some, None, IsNone, Err, IfOk, IfErr, OnOk, OnErr};
-ghost use Rattle.ppq_record.specs.Bag.{IsSameBag, first_of, size_below};
+ghost use Rattle.std.specs.Prelude.{◌≡◌, ◌≤◌, ◌+◌, ◌↔◌, ℕ, length, true, Some, None, IsNone, Err, IfOk, IfErr, OnOk, OnErr};
+ghost use Rattle.ppq_record.specs.Bag.{IsSameBag, size_below};
 ghost use Rattle.ppq_budget.specs.Sizes.{AreInRange};
 ghost use Rattle.ppq_outside.specs.Shown.{AllTell};
 ghost use Rattle.ppq_array.specs.Kept.{SameSlots, HasFailed, all_writes};

@@ -1,5 +1,5 @@
 //! The extract buffer of a front, refilled.
-ghost use Rattle.std.specs.Prelude.{◌≡◌, ◌≤◌, ◌<◌, ◌*◌, ℕ, [], length, Some, OnOk, IsErrOf};
+ghost use Rattle.std.specs.Prelude.{◌≡◌, ◌<◌, ℕ, [], Some, OnOk, IsErrOf};
 ghost use Rattle.ppq_record.specs.Bag.{IsSameBag};
 ghost use Rattle.ppq_outside.specs.Shown.{AllTell};
 ghost use Rattle.ppq_array.specs.Kept.{HasFailed};

@@ -1,7 +1,6 @@
 -- A pass that begins.
-use Rattle.std.proofs.Common.{◌≡◌, ℕ, ◌+◌, ◌*◌, ◌/◌, ◌<◌, ◌≤◌, ◌^◌, Bool, true, false, List, [], ◌++◌, length, sum_by, All, Option, Some, None, refl, sym, ap, ap₂, ◌∙◌, subst, arith}
-use Rattle.std.specs.Prelude.{Vec, vec_capacity}
-use Rattle.std.specs.Global.{Global}
+use Rattle.std.proofs.Common.{◌≡◌, ℕ, ◌+◌, ◌*◌, ◌/◌, ◌<◌, ◌≤◌, false, List, [], ◌++◌, length, sum_by, All, None, refl, sym, ap, ap₂, ◌∙◌, subst, arith}
+use Rattle.std.specs.Prelude.{vec_capacity}
 use Rattle.std.specs.declared.cmp.Ordering.{Ordering}
 use Rattle.std.proofs.lemmas.List.Elements.{All-nil}
 use Rattle.ppq_table.specs.Sums.{times}
@@ -14,20 +13,17 @@ use Rattle.ppq_array.specs.Run.{Run, items_of}
 use Rattle.ppq_array.specs.External.{External, records_in}
 use Rattle.ppq_array.specs.Owner.{HasBlock, HasSize, slots_shown}
 use Rattle.ppq_array.specs.Kept.{SameSlots, all_writes}
-use Rattle.ppq_array.specs.Holdings.{internal_items, internal_buffers, external_slots, external_buffers, RunHasBlock, ArrayHasSize}
+use Rattle.ppq_array.specs.Holdings.{internal_buffers, external_slots, external_buffers, RunHasBlock, ArrayHasSize}
 use Rattle.ppq_fetch.specs.Fetching.{count_in}
-use Rattle.ppq_spill.specs.Body.{IsNewBody, body_slots, job_slots}
+use Rattle.ppq_spill.specs.Body.{IsNewBody, job_slots}
 use Rattle.ppq_spill.specs.declared.body.PassBody.{PassBody}
 use Rattle.ppq_spill.specs.Untold.{untold}
 use Rattle.ppq_spill.proofs.SameSlots.{SameSlots-refl}
-use Rattle.ppq_row.specs.Known.{Known as RowKnown}
-use Rattle.ppq_pool.specs.Known.{Known as PoolKnown}
 use Rattle.ppq_pool.specs.Seats.{count_of}
-use Rattle.ppq_pass.specs.declared.shared.PoolBuf.{PoolBuf}
 use Rattle.ppq_pass.specs.declared.parts.PassParts.{PassParts}
 use Rattle.ppq_pass.specs.Passing.{IsPass, items_at}
 use Rattle.ppq_pass.specs.Passed.{slots_of}
-use Rattle.ppq_pass.specs.PassState.{IsPassed, IsSoundPass, IsPassRun, IsPassArray, shared_of, stock_of, drawn_of}
+use Rattle.ppq_pass.specs.PassState.{IsPassed, IsSoundPass, IsPassRun, IsPassArray, shared_of, drawn_of}
 
 module _ {S R : Type 0} (shown : S → Shown) (cmp : R → R → Ordering) (record_of : List ℕ → R) (width : ℕ) (n : Numbers) (heap : Contents R) (body : PassBody S R) (p : PassParts S R)
     (range : AreInRange n) (new : IsNewBody n.block (pool_of n / n.heap + 1) (n.blocks / n.heap + 1) body) (block : p.block ≡ n.block) (stash : p.stash ≡ []) (dry : p.dry ≡ 0) (undrawn : p.row_seat.hand.places ≡ []) (slots : length p.row_seat.hand.items ≤ n.blocks)

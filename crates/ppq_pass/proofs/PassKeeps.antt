@@ -1,17 +1,14 @@
 -- A store of a pass: that it may be made, and what always holds after it.
-use Rattle.std.proofs.Common.{◌≡◌, ℕ, ◌+◌, ◌-◌, ◌*◌, ◌/◌, ◌<◌, ◌≤◌, ◌^◌, Bool, true, List, [], ◌∷◌, length, All, Option, Some, None, refl, sym, ap, ap₂, ◌∙◌, subst, arith}
-use Rattle.std.specs.Prelude.{Vec, vec_capacity}
-use Rattle.std.specs.Global.{Global}
+use Rattle.std.proofs.Common.{◌≡◌, ℕ, ◌+◌, ◌-◌, ◌*◌, ◌/◌, ◌<◌, ◌≤◌, ◌^◌, Bool, true, List, length, Option, Some, sym, ap, ap₂, ◌∙◌, subst, arith}
 use Rattle.std.specs.declared.cmp.Ordering.{Ordering}
-use Rattle.std.proofs.Math.Nat.{mul_assoc, mul-le-mul_right, div-mul-le_self, le-div_iff_mul-le}
+use Rattle.std.proofs.Math.Nat.{mul-le-mul_right, div-mul-le_self, le-div_iff_mul-le}
 use Rattle.ppq_record.specs.Order.{Ascends}
 use Rattle.ppq_outside.specs.Shown.{Shown}
 use Rattle.ppq_budget.specs.Sizes.{Numbers, AreInRange, heap_of, fixed_of, pool_of}
 use Rattle.ppq_heap.specs.Heap.{Contents}
-use Rattle.ppq_array.specs.declared.berth.DeviceBlock.{DeviceBlock}
-use Rattle.ppq_array.specs.Run.{Run, items_of}
+use Rattle.ppq_array.specs.Run.{Run}
 use Rattle.ppq_array.specs.Kept.{HasFailed}
-use Rattle.ppq_array.specs.Holdings.{internal_items, internal_buffers, external_slots}
+use Rattle.ppq_array.specs.Holdings.{internal_buffers, external_slots}
 use Rattle.ppq_fetch.specs.Fetching.{count_in}
 use Rattle.ppq_spill.specs.Storing.{MayStore, RunsAscend, in_buffers}
 use Rattle.ppq_spill.specs.declared.body.PassBody.{PassBody}
@@ -23,7 +20,7 @@ use Rattle.ppq_pass.specs.Passed.{slots_of}
 use Rattle.ppq_pass.specs.PassState.{IsPassed, IsSoundPass, shared_of, stock_of}
 use Rattle.ppq_pass.specs.PassStore.{StoreKept}
 use Rattle.ppq_pass.proofs.Passes.{few_numbers}
-use Rattle.ppq_pass.proofs.PassRuns.{runs_buffers, runs_records, records_fit, arrays_blocks, arrays_size, runs_count}
+use Rattle.ppq_pass.proofs.PassRuns.{runs_buffers, records_fit, arrays_blocks, arrays_size, runs_count}
 use Rattle.ppq_pass.proofs.PassSlots.{same_slots, same_untold, more_writes}
 
 -- the buffers of the budget hold no more than the budget

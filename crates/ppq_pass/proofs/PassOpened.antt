@@ -1,5 +1,5 @@
 -- A pass that is about to store its heap, and what it shows before and after.
-use Rattle.std.proofs.Common.{◌≡◌, ℕ, ◌+◌, ◌*◌, ◌<◌, ◌≤◌, Bool, true, List, [], ◌∷◌, ◌++◌, length, Option, Some, None, sym, ap, ap₂, ◌∙◌, subst, arith, refl}
+use Rattle.std.proofs.Common.{◌≡◌, ℕ, ◌<◌, Bool, true, List, ◌∷◌, length, Option, Some, None, sym, ap, ap₂, ◌∙◌, subst, arith, refl}
 use Rattle.std.specs.Prelude.{count_by, Result, Ok, Err, IsErr, OnOk, IsErrOf}
 use Rattle.std.specs.declared.cmp.Ordering.{Ordering}
 use Rattle.std.specs.Cmp.{IsTotalOrder}
@@ -12,11 +12,10 @@ use Rattle.ppq_outside.specs.Shown.{Shown}
 use Rattle.ppq_budget.specs.Sizes.{Numbers, heap_of}
 use Rattle.ppq_heap.specs.Heap.{Contents}
 use Rattle.ppq_array.specs.declared.berth.DeviceBlock.{DeviceBlock}
-use Rattle.ppq_array.specs.declared.store_fault.StoreFault.{StoreFault}
 use Rattle.ppq_spill.specs.declared.body.PassBody.{PassBody}
 use Rattle.ppq_pass.specs.declared.shared.Shared.{Shared}
 use Rattle.ppq_pass.specs.declared.parts.PassParts.{PassParts}
-use Rattle.ppq_pass.specs.Passed.{PassHolding, PassKey, IsOf, key_of, holding_of, shown_holding}
+use Rattle.ppq_pass.specs.Passed.{PassHolding, PassKey, key_of, holding_of, shown_holding}
 use Rattle.ppq_pass.specs.PassState.{IsPassed, IsSoundPass, IsPassing, shared_of}
 use Rattle.ppq_pass.specs.PassStore.{StoreKept}
 

@@ -1,5 +1,5 @@
 -- A pass whose heap gets one record more, and what is known of every pass.
-use Rattle.std.proofs.Common.{◌≡◌, ◌≢◌, ℕ, ◌+◌, ◌*◌, ◌<◌, ◌≤◌, ◌^◌, Bool, true, List, length, Option, Some, None, refl, sym, ap, ap₂, ◌∙◌, subst, arith}
+use Rattle.std.proofs.Common.{◌≡◌, ◌≢◌, ℕ, ◌+◌, ◌<◌, ◌≤◌, ◌^◌, Bool, List, length, Option, Some, None, refl, sym, ap, ap₂, ◌∙◌, subst, arith}
 use Rattle.std.specs.Prelude.{Result, Ok, Err, IsErr}
 use Rattle.std.specs.declared.cmp.Ordering.{Ordering}
 use Rattle.ppq_outside.specs.Shown.{Shown}
@@ -7,8 +7,8 @@ use Rattle.ppq_budget.specs.Sizes.{Numbers, heap_of}
 use Rattle.ppq_heap.specs.Heap.{Contents}
 use Rattle.ppq_spill.specs.declared.body.PassBody.{PassBody}
 use Rattle.ppq_pass.specs.declared.parts.PassParts.{PassParts}
-use Rattle.ppq_pass.specs.Passed.{PassHolding, IsKnown, holding_of, shown_holding, with_one, runs_bag}
-use Rattle.ppq_pass.specs.PassState.{IsPassed, IsSoundPass, IsPassing}
+use Rattle.ppq_pass.specs.Passed.{PassHolding, IsKnown, holding_of, shown_holding, with_one}
+use Rattle.ppq_pass.specs.PassState.{IsPassed, IsPassing}
 use Rattle.ppq_pass.proofs.PassKeeps.{size_few}
 
 -- a heap that took a record was not full

@@ -9,7 +9,7 @@ use Rattle.std.proofs.lemmas.Grind.{flat_map-append}
 use Rattle.std.proofs.Math.Nat.{suc-mul, mul_assoc, add-mul, le_of_mul-le-mul_right}
 use Rattle.ppq_record.specs.Order.{Ascends}
 use Rattle.ppq_record.specs.Bag.{IsSameBag}
-use Rattle.ppq_record.proofs.Order.{count_by-append, count_by-cons, IsSameBag-length}
+use Rattle.ppq_record.proofs.Order.{count_by-append}
 use Rattle.ppq_outside.specs.Shown.{Shown, AllTell}
 use Rattle.ppq_budget.specs.Sizes.{Numbers, heap_of}
 use Rattle.ppq_heap.specs.Heap.{Contents}

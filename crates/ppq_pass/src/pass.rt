@@ -1,5 +1,5 @@
 //! A pass of a session.
-ghost use Rattle.std.specs.Prelude.{◌≡◌, ◌<◌, ◌≤◌, ◌+◌, ◌*◌, ◌/◌, ◌↔◌, ◌∷◌, [], ℕ, length, All, Some, None, Err, IsOk, IsErr, IfOk, IfErr, OnOk, OnErr, vec_capacity};
+ghost use Rattle.std.specs.Prelude.{◌≡◌, ◌<◌, ◌≤◌, ◌+◌, ◌*◌, ◌/◌, ◌↔◌, ◌∷◌, [], ℕ, length, All, Some, None, Err, IsOk, IsErr, IfErr, OnOk, OnErr, vec_capacity};
 ghost use Rattle.ppq_record.specs.Bag.{IsSameBag};
 ghost use Rattle.ppq_budget.specs.Sizes.{heap_of, pool_of};
 ghost use Rattle.ppq_array.specs.Owner.{HasSize};

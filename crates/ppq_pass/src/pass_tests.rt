@@ -1,9 +1,8 @@
 //! Worked examples of passes over four slots in memory and two buffers, of two pairs each, with heaps of
 //! two pairs. A number stands for the pair with that key and value 0.
-ghost use Rattle.std.specs.Prelude.{◌≡◌, ◌<◌, ◌≤◌, [], All, length, IfOk};
+ghost use Rattle.std.specs.Prelude.{◌≡◌, ◌<◌, [], All, length, IfOk};
 ghost use Rattle.ppq_outside.specs.MemoryDevice.{slot_shown};
-ghost use Rattle.ppq_row.specs.Seats.{IsSeatOf as IsRowSeat};
-ghost use Rattle.ppq_pool.specs.Seats.{IsSeatOf as IsPoolSeat, count_of};
+ghost use Rattle.ppq_pool.specs.Seats.{count_of};
 ghost use Rattle.ppq_array.specs.Owner.{HasSize};
 ghost use Rattle.ppq_pass.specs.Passed.{IsOf};
 

@@ -1,6 +1,5 @@
 //! Storing a sorted heap as a run of a pass.
-ghost use Rattle.std.specs.Prelude.{◌≡◌, ◌<◌, ℕ, length, OnOk, IsErrOf};
-ghost use Rattle.ppq_record.specs.Order.{Ascends};
+ghost use Rattle.std.specs.Prelude.{◌<◌, ℕ, length, OnOk, IsErrOf};
 ghost use Rattle.ppq_spill.specs.Storing.{MayStore, RunsAscend, IsStored, NoneFree, DeviceFailed};
 ghost use Rattle.ppq_pass.specs.Passing.{IsPass};
 ghost use Rattle.ppq_pass.specs.PassState.{stock_of};

@@ -4,7 +4,6 @@ ghost use Rattle.ppq_array.specs.Kept.{SameSlots};
 ghost use Rattle.ppq_array.specs.Owner.{slots_shown};
 ghost use Rattle.ppq_array.specs.Holdings.{external_slots};
 ghost use Rattle.ppq_lane.specs.declared.job.Job.{Job};
-ghost use Rattle.ppq_array.specs.declared.berth.DeviceBlock.{DeviceBlock};
 ghost use Rattle.ppq_spill.specs.Body.{job_slots, body_slots};
 ghost use Rattle.ppq_queue.specs.Slots.{SameSums, with_slots};
 

@@ -1,8 +1,7 @@
 //! The parts of a queue that take memory once.
 ghost use Rattle.std.specs.Prelude.{◌≡◌, ◌≤◌, ◌<◌, ◌+◌, ◌*◌, [], length, All, IfOk, vec_capacity};
 ghost use Rattle.ppq_block.specs.Block.{holding};
-ghost use Rattle.ppq_budget.specs.Sizes.{AreInRange, fixed_of, heap_of, batch_of, pool_of};
-ghost use Rattle.ppq_extract.specs.Extracted.{held, ServesFor};
+ghost use Rattle.ppq_budget.specs.Sizes.{fixed_of, batch_of, pool_of};
 ghost use Rattle.ppq_queue.specs.State.{AreNewParts};
 
 use crate::berths::make_buffers;

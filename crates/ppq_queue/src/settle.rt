@@ -1,6 +1,6 @@
 //! Levels of runs that are merged until none has more than 8.
 ghost use Rattle.std.specs.Prelude.{◌≡◌, ◌≤◌, ◌<◌, ℕ, [], length, OnOk, IsErrOf};
-ghost use Rattle.ppq_budget.specs.Sizes.{AreInRange, fixed_of};
+ghost use Rattle.ppq_budget.specs.Sizes.{fixed_of};
 ghost use Rattle.ppq_spill.specs.Leveling.{count_level};
 ghost use Rattle.ppq_queue.specs.Resting.{AtRest, BodyKept, Moved, Settled, LevelShort, BodyFailed, count_of};
 

@@ -1,8 +1,8 @@
 //! Runs that are stored: the rest of the extract buffer, and the first heap.
-ghost use Rattle.std.specs.Prelude.{◌≡◌, ◌≤◌, ◌<◌, ◌+◌, ◌*◌, ◌++◌, ℕ, [], length, OnOk, IsErrOf};
+ghost use Rattle.std.specs.Prelude.{◌≡◌, ◌≤◌, ◌<◌, ◌+◌, ℕ, [], length, OnOk, IsErrOf};
 ghost use Rattle.ppq_record.specs.Order.{Ascends};
 ghost use Rattle.ppq_outside.specs.Shown.{AllTell};
-ghost use Rattle.ppq_budget.specs.Sizes.{AreInRange, fixed_of};
+ghost use Rattle.ppq_budget.specs.Sizes.{fixed_of};
 ghost use Rattle.ppq_spill.specs.Storing.{in_buffers};
 ghost use Rattle.ppq_queue.specs.Resting.{AtRest, BodyKept, Moved, StoreShort, BodyFailed, slots_of};
 

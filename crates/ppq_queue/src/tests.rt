@@ -1,5 +1,5 @@
 //! Worked examples of a queue over blocks in memory.
-ghost use Rattle.std.specs.Prelude.{◌≡◌, ◌<◌, IfOk, map, max};
+ghost use Rattle.std.specs.Prelude.{◌<◌, IfOk, map, max};
 ghost use Rattle.ppq_outside.specs.MemoryDevice.{slot_shown};
 ghost use Rattle.ppq_queue.specs.Holding.{AreNewSlots};
 

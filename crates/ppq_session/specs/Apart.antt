@@ -1,6 +1,6 @@
 -- What a queue is while a session is on: the row of its free slots, the pool of its idle buffers, two buffers for each pass and its heaps
 -- are out.
-use Rattle.std.specs.Prelude.{◌≡◌, ◌⊎◌, ℕ, ◌+◌, ◌-◌, ◌*◌, ◌<◌, ◌≤◌, true, Any, List, [], ◌++◌, length, max, reverse, sum_by, Option, Some, None, All, vec_capacity}
+use Rattle.std.specs.Prelude.{◌≡◌, ℕ, ◌+◌, ◌-◌, ◌*◌, ◌<◌, ◌≤◌, true, Any, List, [], ◌++◌, length, max, reverse, sum_by, Option, Some, None, All, vec_capacity}
 use Rattle.std.specs.declared.cmp.Ordering.{Ordering}
 use Rattle.ppq_record.specs.Order.{Ascends}
 use Rattle.ppq_record.specs.Bag.{IsSameBag}

@@ -1,6 +1,5 @@
 //! Passes that come back.
 ghost use Rattle.std.specs.Prelude.{◌≡◌, ◌≤◌, ◌<◌, ◌+◌, [], ◌∷◌, length, reverse, All, vec_len, vec_capacity};
-ghost use Rattle.ppq_pass.specs.Passed.{IsOf};
 ghost use Rattle.ppq_session.specs.Bringing.{BroughtAll, IsShareOf};
 
 use ppq_begin::{BulkParts, Pass, Shared};

@@ -1,5 +1,5 @@
 //! Records dealt to passes, each of which adds its part on a thread of its own.
-ghost use Rattle.std.specs.Prelude.{◌≡◌, ◌<◌, ◌≤◌, ◌*◌, ◌+◌, ◌^◌, ◌↔◌, false, length, All, IsTrue};
+ghost use Rattle.std.specs.Prelude.{◌≡◌, ◌<◌, ◌*◌, ◌+◌, ◌^◌, ◌↔◌, false, length, All, IsTrue};
 ghost use Rattle.std.specs.List.{Any};
 ghost use Rattle.std.specs.Fork.{slice_chunk};
 ghost use Rattle.ppq_pass.specs.Passed.{IsOf};

@@ -7,7 +7,7 @@ use Rattle.ppq_outside.specs.Shown.{AllTell}
 use Rattle.ppq_array.specs.Kept.{SameSlots, all_writes}
 use Rattle.ppq_begin.specs.Session.{IsBeginRefusal, bag_of}
 use Rattle.ppq_begin.specs.declared.fault.BeginFault.TheVariants.{Device}
-use Rattle.ppq_front.proofs.Limiting.{all_nothing, bag_none, passes_count, are_limited, shared_front, limited_of, refused_later}
+use Rattle.ppq_front.proofs.Limiting.{all_nothing, bag_none, passes_count, are_limited, shared_front, limited_of}
 use Rattle.ppq_front.proofs.begin.limit_begin.Goals as goal
 
 pub limit_passes-passes-requires-clause-nothing : goal.limit_passes-passes-requires-clause-nothing

@@ -1,4 +1,4 @@
-use Rattle.std.proofs.Common.{◌≡◌, ◌∙◌, ap, ap₂, sym, subst}
+use Rattle.std.proofs.Common.{◌≡◌, ◌∙◌, ap, sym, subst}
 use Rattle.std.specs.Prelude.{◌↔◌, IsNone}
 use Rattle.ppq_record.specs.Bag.{size_below}
 use Rattle.ppq_front.specs.Fronts.{least_below}

@@ -1,4 +1,4 @@
-use Rattle.std.proofs.Common.{◌∷◌, ◌∙◌, sym, ap, subst, arith}
+use Rattle.std.proofs.Common.{sym, ap, subst, arith}
 use Rattle.std.specs.Prelude.{count_by}
 use Rattle.ppq_record.proofs.Order.{count_by-cons}
 use Rattle.ppq_pass.specs.Passed.{PassTells}

@@ -1,4 +1,4 @@
-use Rattle.std.proofs.Common.{◌≡◌, ℕ, ◌+◌, ◌*◌, ◌<◌, ◌∷◌, ◌++◌, [], length, Some, None, true, refl, sym, ap, ◌∙◌, subst, arith}
+use Rattle.std.proofs.Common.{◌≡◌, ◌+◌, ◌*◌, ◌<◌, ◌∷◌, ◌++◌, [], length, Some, None, true, refl, sym, ap, ◌∙◌, subst, arith}
 use Rattle.std.specs.Prelude.{count_by, flat_map}
 use Rattle.ppq_record.specs.Bag.{IsSameBag}
 use Rattle.ppq_record.proofs.Order.{count_by-append, count_by-cons, IsSameBag-length}
@@ -12,7 +12,7 @@ use Rattle.ppq_pass.specs.Passing.{IsPass}
 use Rattle.ppq_pass.specs.Passed.{PassTells, slots_of, runs_bag}
 use Rattle.ppq_pass.specs.PassState.{IsPassing}
 use Rattle.ppq_pass.proofs.PassKeeps.{heap_small, may_store, runs_ascend, size_few, passed_stored}
-use Rattle.ppq_pass.proofs.PassOpened.{not_both, same_number, on_ok, matched, has_room, opened, seen, at_store, key_stored, refused_holding, of_shared}
+use Rattle.ppq_pass.proofs.PassOpened.{not_both, same_number, on_ok, matched, has_room, seen, at_store, key_stored, refused_holding, of_shared}
 use Rattle.ppq_pass.proofs.PassSlots.{still_tell}
 use Rattle.ppq_pass.proofs.PassStored.{sound_stored, size_stored, bag_stored, sound_refused, few_stash, int, ext}
 use Rattle.ppq_pass.proofs.pass.Pass.store_and_put.Goals as goal

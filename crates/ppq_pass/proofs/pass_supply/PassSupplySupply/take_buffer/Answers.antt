@@ -1,4 +1,4 @@
-use Rattle.std.proofs.Common.{◌<◌, length, arith}
+use Rattle.std.proofs.Common.{arith}
 use Rattle.ppq_pass.proofs.Passes.{IsPass-took, room_for}
 use Rattle.ppq_pass.proofs.pass_supply.PassSupplySupply.take_buffer.Goals as goal
 
