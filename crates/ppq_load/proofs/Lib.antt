@@ -3,5 +3,4 @@ pub mod Generated
 pub mod Loadings
 pub mod Reading
 pub mod Refusals
-pub mod Replies
 pub mod Results

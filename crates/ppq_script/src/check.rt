@@ -17,7 +17,7 @@ pub enum CheckFault {
     BadLine { line: u32 },
     /// The library failed.
     ReadFault,
-    /// Memory was wanting.
+    /// An allocation failed.
     Memory,
 }
 

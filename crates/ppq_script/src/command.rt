@@ -7,16 +7,16 @@ use crate::digits::number;
 use crate::fields::next_field;
 use ppq_record::Pair;
 
-/// What a line of a script asks for. Each command acts on one bag of records and gives one text.
+/// What a line of a script asks for. Each command acts on one multiset of records and gives one text.
 #[derive(Clone, Copy, Debug, PartialEq, Eq)]
 pub enum Command {
     /// `push K V`: adds the record with that key and value.
     Push { item: Pair },
     /// `pop`: removes the least record, if there is one, and prints it.
     Pop,
-    /// `top`: prints the least record, if there is one, and leaves it in the bag.
+    /// `top`: prints the least record, if there is one, and leaves it in the multiset.
     Top,
-    /// `size`: prints how many records are in the bag.
+    /// `size`: prints how many records are in the multiset.
     Size,
     /// `bulk FILE`: adds the records of a file. The script has its name under this number; the
     /// length, in bytes, is 0 until `check_files` keeps the file's.
@@ -33,24 +33,24 @@ pub enum Command {
     /// `bulk_begin`: begins a bulk session. Until its end only `bulk_push` may stand.
     BulkBegin,
     /// `bulk_push I K V`: in a bulk session, the pass with that number, which is below the number
-    /// of workers, takes the record; it joins the bag when the session ends.
+    /// of workers, takes the record; it joins the multiset when the session ends.
     BulkPush { pass: u32, item: Pair },
-    /// `bulk_end`: ends the bulk session; the bag gains all records that were pushed in it.
+    /// `bulk_end`: ends the bulk session; the multiset gains all records that were pushed in it.
     BulkEnd,
     /// `limit_begin K V`: begins a limit session with that record as its limit. Until its end only
     /// `limit_push`, `limit_top` and `limit_pop` may stand.
     LimitBegin { limit: Pair },
     /// `limit_push I K V`: in a limit session, the pass with that number, which is below the number
-    /// of workers, takes the record, which is not below the limit; it joins the bag when the session
+    /// of workers, takes the record, which is not below the limit; it joins the multiset when the session
     /// ends.
     LimitPush { pass: u32, item: Pair },
-    /// `limit_top`: in a limit session, prints the least record of the bag if it is below the limit,
+    /// `limit_top`: in a limit session, prints the least record of the multiset if it is below the limit,
     /// and leaves it there.
     LimitTop,
-    /// `limit_pop`: in a limit session, removes the least record of the bag if it is below the
+    /// `limit_pop`: in a limit session, removes the least record of the multiset if it is below the
     /// limit, and prints it.
     LimitPop,
-    /// `limit_end`: ends the limit session; the bag gains all records that were pushed in it.
+    /// `limit_end`: ends the limit session; the multiset gains all records that were pushed in it.
     LimitEnd,
 }
 

@@ -3,6 +3,7 @@ use Rattle.std.specs.Prelude.{OnOk, IfErr, ◌||◌}
 use Rattle.std.proofs.Math.Bool.{false-or}
 use Rattle.std.proofs.lemmas.List.{length-map}
 use Rattle.ppq_outside.specs.Shown.{AllTell}
+use Rattle.ppq_outside.proofs.Replies.{no_replies, replies_then}
 use Rattle.ppq_budget.specs.Sizes.{Numbers}
 use Rattle.ppq_record.specs.Bag.{IsSameBag}
 use Rattle.ppq_record.specs.declared.pair.Pair.{Pair}
@@ -11,7 +12,6 @@ use Rattle.ppq_script.specs.declared.session.Session.{Session}
 use Rattle.ppq_script.specs.declared.session.Session.TheVariants.{Outside}
 use Rattle.ppq_script.specs.Reading.{Reading, command_list}
 use Rattle.ppq_script.specs.Sessions.{are_in_place}
-use Rattle.ppq_script.proofs.Replies.{no_replies, replies_then}
 use Rattle.ppq_load.specs.Refusal.{Keeps}
 use Rattle.ppq_engine.specs.Files.{IsReadInScript}
 use Rattle.ppq_engine.specs.Gathers.{Gathers}

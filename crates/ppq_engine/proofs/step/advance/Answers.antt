@@ -4,12 +4,12 @@ use Rattle.std.proofs.lemmas.List.{length-map}
 use Rattle.ppq_record.specs.declared.pair.Pair.{Pair}
 use Rattle.ppq_record.specs.Bag.{IsSameBag}
 use Rattle.ppq_outside.specs.Shown.{AllTell}
+use Rattle.ppq_outside.proofs.Replies.{no_replies}
 use Rattle.ppq_script.specs.declared.command.Command.{Command}
 use Rattle.ppq_script.specs.declared.command.Command.TheVariants.{BulkBegin, LimitBegin}
 use Rattle.ppq_script.specs.declared.session.Session.TheVariants.{Outside, InBulk, InLimit}
 use Rattle.ppq_script.specs.Reading.{Reading, command_list}
 use Rattle.ppq_script.specs.Sessions.{are_in_place}
-use Rattle.ppq_script.proofs.Replies.{no_replies}
 use Rattle.ppq_load.specs.Refusal.{Keeps}
 use Rattle.ppq_batch.specs.Batches.{begun_in}
 use Rattle.ppq_engine.specs.Files.{IsBySession, IsReadInScript}

@@ -5,10 +5,10 @@ use Rattle.ppq_record.specs.Bag.{IsSameBag}
 use Rattle.ppq_record.specs.Given.{records_of, generated}
 use Rattle.ppq_outside.specs.Shown.{AllTell}
 use Rattle.ppq_outside.specs.Told.{bytes_or_none}
+use Rattle.ppq_outside.proofs.Replies.{no_replies, replies_wider}
 use Rattle.ppq_budget.specs.Sizes.{Numbers}
 use Rattle.ppq_script.specs.declared.command.Command.{Command}
 use Rattle.ppq_script.specs.Files.{name_at}
-use Rattle.ppq_script.proofs.Replies.{no_replies, replies_wider}
 use Rattle.ppq_load.specs.Reading.{IsReadWithin}
 use Rattle.ppq_engine.specs.Files.{IsByFile, IsBySession, EndsEarly, IsReadInScript}
 use Rattle.ppq_engine.specs.Gathers.{Gathers}

@@ -1,10 +1,10 @@
 use Rattle.std.proofs.Common.{◌≡◌, ◌∙◌, ◌+◌, ◌*◌, ◌/◌, drop, ap, refl, sym, subst, arith, length-append, length-drop}
+use Rattle.ppq_outside.proofs.Replies.{no_replies, replies_then}
 use Rattle.ppq_budget.specs.Sizes.{batch_of}
 use Rattle.ppq_load.specs.Loading.{InSession, HasGiven}
 use Rattle.ppq_load.specs.Reading.{IsReadWithin}
 use Rattle.ppq_load.proofs.FileRecords.{given-none, given-stopped}
 use Rattle.ppq_load.proofs.Loadings.{batch-some}
-use Rattle.ppq_load.proofs.Replies.{no_replies, replies_then}
 use Rattle.ppq_load.proofs.file.deal_file.Goals as goal
 
 pub returns-in_err-deal_piece-clause-session : goal.returns-in_err-deal_piece-clause-session

@@ -1,11 +1,11 @@
 use Rattle.std.proofs.Common.{◌≡◌, ◌+◌, ◌*◌, length, take, sym, subst, arith}
+use Rattle.ppq_outside.proofs.Replies.{replies_wider}
 use Rattle.ppq_load.specs.declared.fault.LoadFault.{LoadFault}
 use Rattle.ppq_load.specs.Loading.{InSession, IsByRead, LoadEndsIn, LoadCountsFrom}
 use Rattle.ppq_load.specs.Reading.{IsReadWithin}
 use Rattle.ppq_load.proofs.FileRecords.{given-more, piece-are}
 use Rattle.ppq_load.proofs.Loadings.{session-batch}
 use Rattle.ppq_load.proofs.Reading.{read-ended, read-counts, read-by, within-wider}
-use Rattle.ppq_load.proofs.Replies.{replies_wider}
 use Rattle.ppq_load.proofs.file.deal_piece.Goals as goal
 
 pub returns-clause-given : goal.returns-clause-given

@@ -5,11 +5,11 @@ use Rattle.ppq_record.specs.Bag.{IsSameBag}
 use Rattle.ppq_record.specs.Given.{records_of}
 use Rattle.ppq_outside.specs.Shown.{AllTell}
 use Rattle.ppq_outside.specs.Told.{bytes_or_none}
+use Rattle.ppq_outside.proofs.Replies.{no_replies}
 use Rattle.ppq_queue.specs.Holding.{Holding}
 use Rattle.ppq_load.specs.Loading.{InSession, HasGiven, LoadStopsFor, LoadEndsIn, LoadCountsFrom}
 use Rattle.ppq_load.specs.Reading.{IsReadWithin}
 use Rattle.ppq_load.proofs.Refusals.{stop-later}
-use Rattle.ppq_load.proofs.Replies.{no_replies}
 use Rattle.ppq_load.proofs.Results.{first-bag, first-size, first-sound, first-peak, first-refused, first-err, first-ok, on_ok, on_ok-map, unread-ends, unread-counts}
 use Rattle.ppq_load.proofs.file.load_file.Goals as goal
 

@@ -1,12 +1,12 @@
 use Rattle.std.proofs.Common.{◌≡◌, ◌<◌, ◌∙◌, length, take, get_or, map, refl, sym, subst, rules}
 use Rattle.std.specs.Prelude.{string_bytes}
 use Rattle.ppq_outside.proofs.Shrunk.{done_more, left_more}
+use Rattle.ppq_outside.proofs.Replies.{no_replies, replies_then}
 use Rattle.ppq_script.specs.declared.command.Command.TheVariants.{Push}
 use Rattle.ppq_script.specs.declared.numbered.Numbered.{Numbered}
 use Rattle.ppq_script.specs.Files.{NamesFile, IsLength}
 use Rattle.ppq_script.specs.Checking.{IsAsked, IsSameItem, ItemRefusalIsRight}
 use Rattle.ppq_script.proofs.Checks.{same_items, item_here, all_asked_later, commands_refusal, AllZip-set, IsSameItem-IsAsked}
-use Rattle.ppq_script.proofs.Replies.{no_replies, replies_then}
 use Rattle.ppq_script.proofs.check.ask_all.Goals as goal
 
 -- what `commands[i]` is past their end
