@@ -99,15 +99,33 @@ of_shared {S = S} {R = R} p shared row pool = ap₂ made row pool
     made : TableId → TableId → Shared S R
     made r l = record { row = r; pool = l }
 
--- two holdings with the same numbers differ in bag, slots, stash, note and refusal alone
+-- two holdings with the same numbers differ in bag, slots, stash, draws, numbers of buffers, note, steps and refusal alone
 pub refused_holding :
-    {S R : Type 0} (old new : PassHolding S R) → new.key ≡ old.key → new.size ≡ old.size → new.in_heap ≡ old.in_heap → new.in_buffers ≡ old.in_buffers → new.noted ≡ true → new.accepted ≡ old.accepted → new.refused ≡ true → new.failed ≡ old.failed
-    → new ≡ record old { bag = new.bag; slots = new.slots; stash = new.stash; noted = true; refused = true }
-refused_holding {S = S} {R = R} old new key size heap buffers noted accepted refused failed =
-    ap₂ (λ (k : PassKey S R) (s : ℕ). made k s new.in_heap new.in_buffers new.noted new.accepted new.refused new.failed) key size
-    ∙ ap₂ (λ (h m : ℕ). made old.key old.size h m new.noted new.accepted new.refused new.failed) heap buffers
-    ∙ ap₂ (λ (b : Bool) (k : ℕ). made old.key old.size old.in_heap old.in_buffers b k new.refused new.failed) noted accepted
-    ∙ ap₂ (λ (b : Bool) (f : Option ℕ). made old.key old.size old.in_heap old.in_buffers true old.accepted b f) refused failed
+    {S R : Type 0} (old new : PassHolding S R) → new.key ≡ old.key → new.size ≡ old.size → new.in_heap ≡ old.in_heap → new.in_buffers ≡ old.in_buffers → new.buffers ≡ old.buffers → new.noted ≡ true → new.accepted ≡ old.accepted → new.refused ≡ true → new.failed ≡ old.failed
+    → new ≡ record old { bag = new.bag; slots = new.slots; stash = new.stash; drawn = new.drawn; numbers = new.numbers; noted = true; steps = new.steps; refused = true }
+refused_holding {S = S} {R = R} old new key size heap in_buffers buffers noted accepted refused failed =
+    ap₂ (λ (k : PassKey S R) (s : ℕ). made k s new.in_heap new.in_buffers new.buffers new.noted new.accepted new.refused new.failed) key size
+    ∙ ap₂ (λ (h m : ℕ). made old.key old.size h m new.buffers new.noted new.accepted new.refused new.failed) heap in_buffers
+    ∙ ap₂ (λ (u : ℕ) (b : Bool). made old.key old.size old.in_heap old.in_buffers u b new.accepted new.refused new.failed) buffers noted
+    ∙ ap₂ (λ (k : ℕ) (b : Bool). made old.key old.size old.in_heap old.in_buffers old.buffers true k b new.failed) accepted refused
+    ∙ ap (λ (f : Option ℕ). made old.key old.size old.in_heap old.in_buffers old.buffers true old.accepted true f) failed
   where
-    made : PassKey S R → ℕ → ℕ → ℕ → Bool → ℕ → Bool → Option ℕ → PassHolding S R
-    made k s h m b a r f = record { key = k; bag = new.bag; size = s; in_heap = h; in_buffers = m; slots = new.slots; stash = new.stash; noted = b; accepted = a; refused = r; failed = f }
+    made : PassKey S R → ℕ → ℕ → ℕ → ℕ → Bool → ℕ → Bool → Option ℕ → PassHolding S R
+    made k s h m u b a r f =
+        record {
+          key = k;
+          bag = new.bag;
+          size = s;
+          in_heap = h;
+          in_buffers = m;
+          slots = new.slots;
+          stash = new.stash;
+          drawn = new.drawn;
+          buffers = u;
+          numbers = new.numbers;
+          noted = b;
+          steps = new.steps;
+          accepted = a;
+          refused = r;
+          failed = f;
+        }

@@ -1,11 +1,13 @@
 -- A pass whose heap gets one record more, and what is known of every pass.
-use Rattle.std.proofs.Common.{◌≡◌, ◌≢◌, ℕ, ◌+◌, ◌<◌, ◌≤◌, ◌^◌, Bool, List, length, Option, Some, None, refl, sym, ap, ap₂, ◌∙◌, subst, arith}
+use Rattle.std.proofs.Common.{◌≡◌, ◌≢◌, ℕ, ◌+◌, ◌<◌, ◌≤◌, ◌^◌, Bool, List, length, Option, Some, None, All, refl, sym, ap, ap₂, ◌∙◌, subst, arith}
 use Rattle.std.specs.Prelude.{Result, Ok, Err, IsErr}
 use Rattle.std.specs.declared.cmp.Ordering.{Ordering}
+use Rattle.ppq_table.specs.Sums.{times}
 use Rattle.ppq_outside.specs.Shown.{Shown}
 use Rattle.ppq_budget.specs.Sizes.{Numbers, heap_of}
 use Rattle.ppq_heap.specs.Heap.{Contents}
 use Rattle.ppq_spill.specs.declared.body.PassBody.{PassBody}
+use Rattle.ppq_pool.specs.Seats.{count_of}
 use Rattle.ppq_pass.specs.declared.parts.PassParts.{PassParts}
 use Rattle.ppq_pass.specs.Passed.{PassHolding, IsKnown, holding_of, shown_holding, with_one}
 use Rattle.ppq_pass.specs.PassState.{IsPassed, IsPassing}
@@ -107,6 +109,11 @@ module _ {S R : Type 0} (shown : S → Shown) (cmp : R → R → Ordering) (reco
       subst (λ (w : PassHolding S R). IsKnown w) view record {
         range = is.0.range;
         in_heap = is.0.in_heap;
+        slots = is.0.slots;
+        buffers = is.0.buffers ∙ ap (λ (l : List ℕ). length l + 2) is.0.supply.numbers_are;
+        numbers = subst (All (λ i. i < count_of p.pool_seat.pool)) is.0.supply.numbers_are is.0.supply.below;
+        each_once = λ i. subst (λ (l : List ℕ). times i l ≤ 1) is.0.supply.numbers_are (is.0.supply.each_once i);
+        pool = is.0.few_buffers;
         counted = λ none. (is.1 none).counted;
         noted = λ r. is.0.supply.ended (is.0.ended r);
         full = λ r none. (is.1 none).whole r;

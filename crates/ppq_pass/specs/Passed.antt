@@ -1,26 +1,29 @@
 -- What contracts see of a pass.
-use Rattle.std.specs.Prelude.{◌≡◌, ℕ, ◌+◌, ◌*◌, ◌<◌, ◌≤◌, Bool, true, false, List, [], ◌++◌, length, flat_map, Option, Some, None}
+use Rattle.std.specs.Prelude.{◌≡◌, ℕ, ◌+◌, ◌*◌, ◌<◌, ◌≤◌, Bool, true, false, List, [], ◌++◌, length, flat_map, All, Option, Some, None}
 use Rattle.atomic_table.specs.Seated.{TableId}
+use Rattle.ppq_table.specs.Sums.{times}
 use Rattle.ppq_record.specs.Bag.{IsSameBag}
 use Rattle.ppq_outside.specs.Shown.{Shown, AllTell}
-use Rattle.ppq_budget.specs.Sizes.{Numbers, numbers, AreInRange, heap_of}
+use Rattle.ppq_budget.specs.Sizes.{Numbers, numbers, AreInRange, heap_of, pool_of}
 use Rattle.ppq_heap.specs.Heap.{Contents}
 use Rattle.ppq_array.specs.declared.berth.DeviceBlock.{DeviceBlock}
 use Rattle.ppq_array.specs.External.{records_in}
-use Rattle.ppq_array.specs.Kept.{HasFailed}
+use Rattle.ppq_array.specs.Kept.{SameSlots, HasFailed}
 use Rattle.ppq_array.specs.Owner.{slots_shown}
 use Rattle.ppq_array.specs.Holdings.{internal_items}
 use Rattle.ppq_fetch.specs.Fetching.{count_in}
-use Rattle.ppq_spill.specs.Body.{body_slots}
+use Rattle.ppq_spill.specs.Body.{body_slots, held_by}
 use Rattle.ppq_spill.specs.Storing.{in_buffers}
 use Rattle.ppq_spill.specs.declared.body.PassBody.{PassBody}
 use Rattle.ppq_row.specs.Known.{Known as RowKnown}
 use Rattle.ppq_pool.specs.Known.{Known as PoolKnown}
+use Rattle.ppq_pool.specs.Seats.{count_of}
 use Rattle.ppq_queue.specs.declared.fault.QueueFault.{QueueFault}
 use Rattle.ppq_queue.specs.declared.fault.QueueFault.TheVariants.{NoFreeBlock, Device}
 use Rattle.ppq_pass.specs.declared.shared.Shared.{Shared}
 use Rattle.ppq_pass.specs.declared.shared.PoolBuf.{PoolBuf}
 use Rattle.ppq_pass.specs.declared.parts.PassParts.{PassParts}
+use Rattle.ppq_pass.specs.Passing.{items_at, steps_of}
 
 -- What no call of a pass changes: the row and the pool of its session, the slots as they were put into the row, its shares of both, the
 -- sizes, and how many records it had in the beginning
@@ -34,9 +37,10 @@ pub record PassKey (S R : Type 0) : Type 0 where
   pub begun : ℕ
 
 -- Its key. The bag of its records, in its heap and in its runs, as far as its slots tell; how many they are, how many of them are in the
--- heap, and how many in runs in buffers. All slots that it holds, in its runs and its stash, and how many the stash has. Whether it knows
--- that the row is drawn to its end. How many of its pushes answered Ok, whether one answered NoFreeBlock, and the number of the slot a
--- call of which failed first, if any
+-- heap, and how many in runs in buffers. All slots that it holds, in its runs and its stash, and how many the stash has; all that it drew,
+-- as they were put into the row. How many buffers of a block it holds, in its runs and two that are idle, and the numbers that its seat of
+-- the pool holds. Whether it knows that the row is drawn to its end, and how many steps it took at what is shared. How many of its pushes
+-- answered Ok, whether one answered NoFreeBlock, and the number of the slot a call of which failed first, if any
 pub record PassHolding (S R : Type 0) : Type 0 where
   pub key : PassKey S R
   pub bag : List R
@@ -45,7 +49,11 @@ pub record PassHolding (S R : Type 0) : Type 0 where
   pub in_buffers : ℕ
   pub slots : List Shown
   pub stash : ℕ
+  pub drawn : List Shown
+  pub buffers : ℕ
+  pub numbers : List ℕ
   pub noted : Bool
+  pub steps : ℕ
   pub accepted : ℕ
   pub refused : Bool
   pub failed : Option ℕ
@@ -64,17 +72,26 @@ module _ {S R : Type 0} where
   abbrev pub PassTells : (S → Shown) → PassHolding S R → Type 0
   PassTells shown pass = AllTell (reach_of shown pass)
 
-  -- so many of its records are added
+  -- The pass with one record more, and with these records. Nothing else changes, so no step was taken at what is shared
   abbrev pub with_one : PassHolding S R → List R → PassHolding S R
   with_one old bag = record old { bag = bag; size = old.size + 1; in_heap = old.in_heap + 1; accepted = old.accepted + 1 }
 
   -- A store found too few slots: the row is drawn to its end, and the stash has fewer than the records of the heap and of the runs in
-  -- buffers want. The slots that it drew stay with it, and no record went
+  -- buffers want. The slots that it drew stay with it, and no record went. It gave back each buffer that it took. Its steps at what is shared are
+  -- counted
   pub record FoundNone (old new : PassHolding S R) : Type 0 where
     pub bag : IsSameBag new.bag old.bag
     pub noted : new.noted ≡ true
     pub few : new.stash * old.key.sizes.block < heap_of old.key.sizes + old.in_buffers
-    pub rest : new ≡ record old { bag = new.bag; slots = new.slots; stash = new.stash; noted = true; refused = true }
+    pub rest : new ≡ record old { bag = new.bag; slots = new.slots; stash = new.stash; drawn = new.drawn; numbers = new.numbers; noted = true; steps = new.steps; refused = true }
+
+  -- The slots that it holds are those that it held and those that it drew since, each once; no count of a slot fell. Nor did that of its
+  -- steps at what is shared
+  pub record KeptSlots (old new : PassHolding S R) : Type 0 where
+    pub more : List Shown
+    pub drawn : new.drawn ≡ old.drawn ++ more
+    pub slots : SameSlots (old.slots ++ more) new.slots
+    pub steps : old.steps ≤ new.steps
 
   -- a call of the slot with this number failed, which the pass keeps
   pub record MetFault (number : ℕ) (old new : PassHolding S R) : Type 0 where
@@ -88,12 +105,19 @@ module _ {S R : Type 0} where
   IsRefusedPush old new NoFreeBlock = FoundNone old new
   IsRefusedPush old new (Device number) = MetFault number old new
 
-  -- What always holds of a pass: its sizes are in range, and its heap is within them. Unless a fault was met, its records are those that it
-  -- had in the beginning and those that it accepted; after a refusal it knows the end of the row, and has as many records as a heap holds.
-  -- A call of the slot that is kept as failed did fail, and the heap is full then
+  -- What always holds of a pass: its sizes are in range, and its heap is within them. The slots that it holds are those that it drew. It
+  -- holds the buffers whose numbers its seat of the pool holds, and two more. The numbers are of buffers of the pool, each once, and the pool
+  -- has no more than the budget. Unless a fault was met, its records are those that it had in the beginning and those that it accepted; after
+  -- a refusal it knows the end of the row, and has as many records as a heap holds. A call of the slot that is kept as failed did fail, and
+  -- the heap is full then
   pub record IsKnown (pass : PassHolding S R) : Type 0 where
     pub range : AreInRange pass.key.sizes
     pub in_heap : pass.in_heap ≤ heap_of pass.key.sizes
+    pub slots : SameSlots pass.drawn pass.slots
+    pub buffers : pass.buffers ≡ length pass.numbers + 2
+    pub numbers : All (λ i. i < count_of pass.key.pool) pass.numbers
+    pub each_once : (i : ℕ) → times i pass.numbers ≤ 1
+    pub pool : count_of pass.key.pool ≤ pool_of pass.key.sizes
     pub counted : pass.failed ≡ None → pass.size ≡ pass.key.begun + pass.accepted
     pub noted : pass.refused ≡ true → pass.noted ≡ true
     pub full : pass.refused ≡ true → pass.failed ≡ None → heap_of pass.key.sizes ≤ pass.size
@@ -123,7 +147,11 @@ module _ {S R : Type 0} where
         in_buffers = 0;
         slots = [];
         stash = 0;
+        drawn = [];
+        buffers = 2;
+        numbers = [];
         noted = row.hand.noted;
+        steps = steps_of row pool;
         accepted = 0;
         refused = false;
         failed = None;
@@ -149,7 +177,11 @@ module _ {S R : Type 0} where
           in_buffers = in_buffers body;
           slots = slots_of body parts;
           stash = length parts.stash;
+          drawn = slots_shown shown (items_at parts.row_seat.hand.items parts.row_seat.hand.places);
+          buffers = (held_by shown body).buffers;
+          numbers = parts.pool_seat.hand.numbers;
           noted = parts.row_seat.hand.noted;
+          steps = steps_of parts.row_seat parts.pool_seat;
           accepted = accepted;
           refused = refused;
           failed = failed;
@@ -175,7 +207,11 @@ module _ {S R : Type 0} where
           in_buffers = 0;
           slots = [];
           stash = 0;
+          drawn = [];
+          buffers = 0;
+          numbers = [];
           noted = false;
+          steps = 0;
           accepted = 0;
           refused = false;
           failed = None;

@@ -1,5 +1,5 @@
 -- What contracts see of a pass's supply.
-use Rattle.std.specs.Prelude.{◌≡◌, ℕ, ◌-◌, ◌*◌, ◌<◌, ◌≤◌, ◌^◌, Bool, true, false, List, [], ◌∷◌, length, All, Vec, vec_capacity}
+use Rattle.std.specs.Prelude.{◌≡◌, ℕ, ◌+◌, ◌-◌, ◌*◌, ◌<◌, ◌≤◌, ◌^◌, Bool, true, false, List, [], ◌∷◌, ◌++◌, length, All, Vec, vec_capacity}
 use mathlib.Core.Option.{Option, none, some}
 use lib.ListN.{get_elem?}
 use Rattle.std.specs.Global.{Global}
@@ -16,13 +16,16 @@ use Rattle.ppq_pass.specs.declared.shared.Shared.{Shared}
 use Rattle.ppq_pass.specs.declared.shared.PoolBuf.{PoolBuf}
 use Rattle.ppq_pass.specs.declared.home.PassHome.{PassHome}
 
--- what the session shares, what its two seats know, what it shows as a supply, and whether a draw had answered None before it was made
+-- What the session shares, what its two seats know, what it shows as a supply. Of the time before it was made: whether a draw had answered
+-- None, the places that its seat of the row had, and how many steps its seats had taken
 pub record Passing (S R : Type 0) : Type 0 where
   pub home : Shared S R
   pub row_seat : RowKnown (DeviceBlock S R)
   pub pool_seat : PoolKnown (PoolBuf R)
   pub stock : Stock
   pub was_dry : Bool
+  pub had_places : List ℕ
+  pub had_steps : ℕ
 
 -- what no call of a supply changes
 abbrev pub home_of : {S R : Type 0} → Passing S R → PassHome S R
@@ -33,11 +36,26 @@ home_of p =
       row_shares = p.row_seat.hand.shares;
       pool_shares = p.pool_seat.hand.shares;
       was_dry = p.was_dry;
+      places = p.had_places;
+      steps = p.had_steps;
     }
 
 -- where a draw had answered None once, it is counted still
 abbrev pub IsWasDry : Bool → ℕ → Type 0
 IsWasDry was_dry dry = was_dry ≡ true → 0 < dry
+
+module _ {S R : Type 0} where
+  -- How many steps two seats took at what is shared. The seat of the pool has on its trail each take, each look at a buffer that was held,
+  -- and each give; that of the row has a place for each draw, and a None for each draw that found the end. A draw, a take or a give that
+  -- comes to a shared word adds one at least
+  abbrev pub steps_of : RowKnown (DeviceBlock S R) → PoolKnown (PoolBuf R) → ℕ
+  steps_of row pool = length pool.hand.trail + (length row.hand.places + row.hand.nones)
+
+  -- since the seat of the row had these places, and both had taken so many steps, places were added behind these, and no step was lost
+  pub record IsSince (had_places : List ℕ) (had_steps : ℕ) (row : RowKnown (DeviceBlock S R)) (pool : PoolKnown (PoolBuf R)) : Type 0 where
+    pub more : List ℕ
+    pub places : row.hand.places ≡ had_places ++ more
+    pub steps : had_steps ≤ steps_of row pool
 
 -- an item with those behind it, where there is one
 abbrev pub with_item : {T : Type 0} → Option T → List T → List T
@@ -65,9 +83,17 @@ module _ {S R : Type 0} (shown : S → Shown) where
         room_when_scant = room_when_scant;
       }
 
-  abbrev pub passing : Shared S R → RowKnown (DeviceBlock S R) → PoolKnown (PoolBuf R) → List (DeviceBlock S R) → List ℕ → ℕ → ℕ → ℕ → ℕ → Bool → Passing S R
-  passing home row_seat pool_seat stash numbers block dry scant room_when_scant was_dry =
-      record { home = home; row_seat = row_seat; pool_seat = pool_seat; stock = pass_stock row_seat stash numbers block dry scant room_when_scant; was_dry = was_dry }
+  abbrev pub passing : Shared S R → RowKnown (DeviceBlock S R) → PoolKnown (PoolBuf R) → List (DeviceBlock S R) → List ℕ → ℕ → ℕ → ℕ → ℕ → Bool → List ℕ → ℕ → Passing S R
+  passing home row_seat pool_seat stash numbers block dry scant room_when_scant was_dry had_places had_steps =
+      record {
+        home = home;
+        row_seat = row_seat;
+        pool_seat = pool_seat;
+        stock = pass_stock row_seat stash numbers block dry scant room_when_scant;
+        was_dry = was_dry;
+        had_places = had_places;
+        had_steps = had_steps;
+      }
 
   -- The seats are of the session's row and pool; all slots and buffers are of one block size. No place of the row was drawn twice, and the
   -- stash has no more slots than were drawn. The numbers are those that the seat of the pool holds, each once, and there is room for all
@@ -97,4 +123,6 @@ new_pass home row_seat pool_seat block =
       pool_seat = pool_seat;
       stock = record { block = block; kept = []; drawn = []; slot_room = 0; sure_buffers = 0; buffer_room = 0; dry = 0; scant = 0; room_when_scant = 0 };
       was_dry = false;
+      had_places = row_seat.hand.places;
+      had_steps = steps_of row_seat pool_seat;
     }

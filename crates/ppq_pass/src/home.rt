@@ -19,4 +19,8 @@ pub struct PassHome<S: Slot, R: Record> {
     pub pool_shares: u64,
     /// Whether a draw had answered None before the supply was made. The end of the row is noted then.
     pub was_dry: bool,
+    /// The places that the row's seat had before the supply was made.
+    pub places: LinkedList<u32>,
+    /// How many steps both seats had taken before the supply was made.
+    pub steps: u64,
 }

@@ -5,7 +5,7 @@ ghost use Rattle.ppq_budget.specs.Sizes.{heap_of, pool_of};
 ghost use Rattle.ppq_array.specs.Owner.{HasSize};
 ghost use Rattle.ppq_spill.specs.Body.{IsNewBody};
 ghost use Rattle.ppq_pool.specs.Seats.{count_of};
-ghost use Rattle.ppq_pass.specs.Passed.{IsOf, PassTells, with_one, IsRefusedPush, IsKnown, holding_of, new_holding};
+ghost use Rattle.ppq_pass.specs.Passed.{IsOf, PassTells, KeptSlots, with_one, IsRefusedPush, IsKnown, holding_of, new_holding};
 ghost use Rattle.ppq_pass.specs.PassState.{IsPassed, IsSoundPass};
 ghost use Rattle.ppq_queue.specs.declared.fault.QueueFault.TheVariants.{Device};
 
@@ -29,8 +29,9 @@ use std::marker::Model;
 /// in slots of the stash and the shared row. No call takes memory.
 ///
 /// Contracts see its key, which no call changes; the bag of its records, as far as slots tell, and how
-/// many they are; all slots that it holds; how many pushes were accepted, and whether one was refused
-/// for want of blocks; and the slot that failed.
+/// many they are; all slots and how many buffers it holds; how many steps it took at the row and the
+/// pool, which it shares with others; how many pushes were accepted, and whether one was refused for
+/// want of blocks; and the slot that failed.
 #[derive(Drop)]
 pub struct Pass<S: Slot, R: Record> {
     /// The five numbers from which all sizes follow.
@@ -134,11 +135,12 @@ impl<S: Slot, R: Record> Pass<S, R> {
 
     /// Adds a record. Where the heap has room it costs one sift, and touches nothing that is shared.
     /// Where the heap is full, it is sorted first and stored as a run: `h` takes of buffers, or else a draw
-    /// and a write for each block of the heap and of all runs in buffers.
+    /// and a write for each block of the heap and of all runs in buffers. The heap has one record then.
     ///
     /// Each refusal hands the record back. `NoFreeBlock`: the bag is as it was; the row is drawn to its
     /// end, and the slots that the pass drew, which stay with it, are too few. A later push tries again.
-    /// `Device`: a call of the slot with that number failed, now or before.
+    /// `Device`: a call of the slot with that number failed, now or before. Whatever it returns, the pass
+    /// holds the slots that it held and those that it drew, each once.
     pub fn push<H: Host>(
         &mut self,
         rt: &H,
@@ -151,11 +153,13 @@ impl<S: Slot, R: Record> Pass<S, R> {
         ensures accepted { OnOk result (self.new.accepted ≡ self.old.accepted + 1) }
         ensures same { OnOk result (self.new.refused ≡ self.old.refused) }
         ensures sound { OnOk result (self.new.failed ≡ None) }
+        ensures stored { OnOk result (self.old.in_heap ≡ heap_of self.old.key.sizes → self.new.in_heap ≡ 1) }
         ensures easy { self.old.failed ≡ None → self.old.in_heap < heap_of self.old.key.sizes → IsOk result × (self.new ≡ with_one self.old self.new.bag) }
         ensures back { IfErr result (λ e. e.0 ≡ r) }
         ensures refused { IfErr result (λ e. IsRefusedPush self.old self.new e.1) }
         ensures latched { (number : ℕ) → self.old.failed ≡ Some number → (result ≡ Err (r, Device number)) × (self.new ≡ self.old) }
         ensures tells { PassTells S.shown self.old → PassTells S.shown self.new }
+        ensures kept { KeptSlots self.old self.new }
         ensures key { self.new.key ≡ self.old.key }
     {
         if let Some(number) = self.failed {
@@ -186,8 +190,10 @@ impl<S: Slot, R: Record> Pass<S, R> {
         ensures accepted { OnOk result (self.new.accepted ≡ self.old.accepted + 1) }
         ensures same { OnOk result (self.new.refused ≡ self.old.refused) }
         ensures sound { OnOk result (self.new.failed ≡ None) }
+        ensures stored { OnOk result (self.new.in_heap ≡ 1) }
         ensures refused { IfErr result (IsRefusedPush self.old self.new) }
         ensures tells { PassTells S.shown self.old → PassTells S.shown self.new }
+        ensures kept { KeptSlots self.old self.new }
         ensures key { self.new.key ≡ self.old.key }
     {
         record_laws::<R>();

@@ -3,7 +3,7 @@ ghost use Rattle.std.specs.Prelude.{◌≡◌, ◌<◌, ◌≤◌, ◌*◌, ◌^
 ghost use Rattle.ppq_row.specs.Seats.{IsSeatOf as IsRowSeat};
 ghost use Rattle.ppq_pool.specs.Seats.{IsSeatOf as IsPoolSeat, count_of};
 ghost use Rattle.ppq_array.specs.Owner.{HasSize};
-ghost use Rattle.ppq_pass.specs.Passing.{passing, IsPass, IsWasDry, new_pass};
+ghost use Rattle.ppq_pass.specs.Passing.{passing, steps_of, IsPass, IsWasDry, IsSince, new_pass};
 
 use crate::{PassHome, PassParts, PoolBuf, Shared};
 use ppq_array::{Berth, BerthList, Supply};
@@ -13,6 +13,7 @@ use ppq_pool::PoolSeat;
 use ppq_record::Record;
 use ppq_row::RowSeat;
 use std::marker::Model;
+use std::snapshot::Snapshot;
 
 /// What a pass draws from: first its stash, then the shared row; and the shared pool.
 ///
@@ -45,17 +46,21 @@ pub struct PassSupply<'a, S: Slot, R: Record> {
     room_when_scant: u64,
     // whether a draw had answered None before this supply was made
     was_dry: bool,
+    // what the row's seat knew before this supply was made
+    had_row: Snapshot<RowSeat<Berth<S, R>>>,
+    // what the pool's seat knew before this supply was made
+    had_pool: Snapshot<PoolSeat<PoolBuf<R>>>,
 }
 
 impl<'a, S: Slot, R: Record> Model for PassSupply<'a, S, R> {
     ghost use Rattle.std.specs.Prelude.{true};
-    ghost use Rattle.ppq_pass.specs.Passing.{Passing, passing, IsPass, IsWasDry};
+    ghost use Rattle.ppq_pass.specs.Passing.{Passing, passing, steps_of, IsPass, IsWasDry, IsSince};
 
     ghost Value = { Passing S R };
 
-    ghost view = { λ p. passing S.shown p.shared.now p.row_seat p.pool_seat p.stash p.numbers.items p.block p.dry p.scant p.room_when_scant p.was_dry };
+    ghost view = { λ p. passing S.shown p.shared.now p.row_seat p.pool_seat p.stash p.numbers.items p.block p.dry p.scant p.room_when_scant p.was_dry p.had_row.value.hand.places (steps_of p.had_row.value p.had_pool.value) };
 
-    ghost invariant = { λ p. IsPass S.shown R.WIDTH p.shared.now p.row_seat p.pool_seat p.stash p.numbers p.block p.dry × IsWasDry p.was_dry p.dry };
+    ghost invariant = { λ p. IsPass S.shown R.WIDTH p.shared.now p.row_seat p.pool_seat p.stash p.numbers p.block p.dry × IsWasDry p.was_dry p.dry × IsSince p.had_row.value.hand.places (steps_of p.had_row.value p.had_pool.value) p.row_seat p.pool_seat };
 }
 
 impl<'a, S: Slot, R: Record> PassSupply<'a, S, R> {
@@ -81,6 +86,8 @@ impl<'a, S: Slot, R: Record> PassSupply<'a, S, R> {
         requires room { count_of shared.now.pool ≤ vec_capacity numbers }
         ensures { result ≡ new_pass shared.now row_seat pool_seat block }
     {
+        let had_row = Snapshot::of(&row_seat);
+        let had_pool = Snapshot::of(&pool_seat);
         PassSupply {
             shared,
             row_seat,
@@ -92,13 +99,15 @@ impl<'a, S: Slot, R: Record> PassSupply<'a, S, R> {
             scant: 0,
             room_when_scant: 0,
             was_dry: false,
+            had_row,
+            had_pool,
         }
     }
 
     /// The supply of a pass, of what it kept since it was last taken apart.
     pub fn from_parts(shared: &'a Shared<S, R>, parts: PassParts<S, R>) -> Self
         requires { IsPass S.shown R.WIDTH shared.now parts.row_seat parts.pool_seat parts.stash parts.numbers parts.block parts.dry }
-        ensures { result ≡ passing S.shown shared.now parts.row_seat parts.pool_seat parts.stash parts.numbers.items parts.block parts.dry parts.scant parts.room_when_scant (nat_lt 0 parts.dry) }
+        ensures { result ≡ passing S.shown shared.now parts.row_seat parts.pool_seat parts.stash parts.numbers.items parts.block parts.dry parts.scant parts.room_when_scant (nat_lt 0 parts.dry) parts.row_seat.hand.places (steps_of parts.row_seat parts.pool_seat) }
     {
         let PassParts {
             row_seat,
@@ -111,6 +120,8 @@ impl<'a, S: Slot, R: Record> PassSupply<'a, S, R> {
             room_when_scant,
         } = parts;
         let was_dry = dry > 0;
+        let had_row = Snapshot::of(&row_seat);
+        let had_pool = Snapshot::of(&pool_seat);
         PassSupply {
             shared,
             row_seat,
@@ -122,14 +133,18 @@ impl<'a, S: Slot, R: Record> PassSupply<'a, S, R> {
             scant,
             room_when_scant,
             was_dry,
+            had_row,
+            had_pool,
         }
     }
 
-    /// What the pass keeps. `from_parts` makes the same supply of it, over the same row and pool.
+    /// What the pass keeps. `from_parts` makes the same supply of it, over the same row and pool. The
+    /// row's seat has the places that it had and those that were drawn since, in this order.
     pub fn into_parts(self) -> PassParts<S, R>
         ensures of { IsPass S.shown R.WIDTH self.entry.home result.row_seat result.pool_seat result.stash result.numbers result.block result.dry }
-        ensures same { passing S.shown self.entry.home result.row_seat result.pool_seat result.stash result.numbers.items result.block result.dry result.scant result.room_when_scant self.entry.was_dry ≡ self.entry }
+        ensures same { passing S.shown self.entry.home result.row_seat result.pool_seat result.stash result.numbers.items result.block result.dry result.scant result.room_when_scant self.entry.was_dry self.entry.had_places self.entry.had_steps ≡ self.entry }
         ensures was_dry { IsWasDry self.entry.was_dry result.dry }
+        ensures since { IsSince self.entry.had_places self.entry.had_steps result.row_seat result.pool_seat }
     {
         let PassSupply {
             shared: _,
@@ -142,6 +157,8 @@ impl<'a, S: Slot, R: Record> PassSupply<'a, S, R> {
             scant,
             room_when_scant,
             was_dry: _,
+            had_row: _,
+            had_pool: _,
         } = self;
         PassParts {
             row_seat,

@@ -4,8 +4,8 @@ use Rattle.ppq_array.specs.Supply.{Stock}
 use Rattle.ppq_array.specs.Kept.{Kept}
 use Rattle.ppq_array.specs.Holdings.{CanTakeBack}
 use Rattle.ppq_spill.specs.Body.{held_by}
-use Rattle.ppq_spill.specs.Storing.{HasOneSize, StillTell, StillUntold, WritesFew}
-use Rattle.ppq_pass.specs.Passing.{IsPass, home_of}
+use Rattle.ppq_spill.specs.Storing.{HasOneSize, NoneFree, StillTell, StillUntold, WritesFew}
+use Rattle.ppq_pass.specs.Passing.{IsPass, IsSince, home_of}
 use Rattle.ppq_pass.specs.PassState.{stock_of}
 use Rattle.ppq_pass.proofs.store.store_run.Goals as goal
 
@@ -36,6 +36,7 @@ returns-clause-kept g c =
       row_shares = ap (λ h. h.row_shares) home;
       pool_shares = ap (λ h. h.pool_shares) home;
       dry = λ some. c.into_parts.ensures.was_dry (ap (λ h. h.was_dry) home ∙ lt-ltb 0 p.dry some);
+      since = subst (λ h. IsSince h.places h.steps q.row_seat q.pool_seat) home c.into_parts.ensures.since;
       kept = moved (λ x y. Kept x y (held_by shown a) (held_by shown b)) s0 s1 t0 t1 s t e.kept;
       takes_back = moved (λ x y. CanTakeBack shown y b.runs.internal.items b.runs.external.items) s0 s1 t0 t1 s t e.takes_back;
       tells = moved (λ x y. StillTell shown a b x y) s0 s1 t0 t1 s t e.tells;
@@ -45,3 +46,16 @@ returns-clause-kept g c =
       size = moved (λ x y. HasOneSize shown width b y) s0 s1 t0 t1 s t e.size;
       rooms = e.rooms;
     }
+
+pub returns-clause-none_free : goal.returns-clause-none_free
+returns-clause-none_free g c err =
+    let shown = g.S.Slot.shown in
+    let a = c.args.body.now in
+    let b = c.store_sorted-answer.new.body in
+    let s0 = c.from_parts-supply.result.stock in
+    let s1 = stock_of shown c.args.parts in
+    let t0 = c.store_sorted-answer.new.supply.stock in
+    let t1 = stock_of shown c.into_parts.result in
+    let s : s0 ≡ s1 = ap (λ x. x.stock) c.from_parts-supply.ensures in
+    let t : t1 ≡ t0 = ap (λ x. x.stock) c.into_parts.ensures.same in
+    moved (λ x y. NoneFree (length c.args.sorted.now) a b x y) s0 s1 t0 t1 s t (c.store_sorted-answer.ensures.none_free err)

@@ -13,6 +13,7 @@ use Rattle.ppq_pass.specs.Passed.{PassTells, slots_of, runs_bag}
 use Rattle.ppq_pass.specs.PassState.{IsPassing}
 use Rattle.ppq_pass.proofs.PassKeeps.{heap_small, may_store, runs_ascend, size_few, passed_stored}
 use Rattle.ppq_pass.proofs.PassOpened.{not_both, same_number, on_ok, matched, has_room, seen, at_store, key_stored, refused_holding, of_shared}
+use Rattle.ppq_pass.proofs.PassSince.{kept_stored}
 use Rattle.ppq_pass.proofs.PassSlots.{still_tell}
 use Rattle.ppq_pass.proofs.PassStored.{sound_stored, size_stored, bag_stored, sound_refused, few_stash, int, ext}
 use Rattle.ppq_pass.proofs.pass.Pass.store_and_put.Goals as goal
@@ -340,6 +341,7 @@ returns-in-Err-NoFreeBlock-clause-refused g c =
           (omega (arith, all, at.full, ap (λ l. count_in l b.runs.external.items) same_int, ap (λ l. count_in s.body.runs.internal.items l) same_ext, ap (λ v. v.size) view))
           (omega (arith, all, at.full, ap (λ v. v.in_heap) view))
           (ap (λ l. length (internal_items l)) same_int ∙ ap (λ v. v.in_buffers) view)
+          (omega (arith, kept.kept.buffers, none_free.slots.buffers, ap (λ v. v.buffers) view))
           noted (ap (λ v. v.accepted) view) refl (ap (λ v. v.failed) view);
     }
 
@@ -358,3 +360,40 @@ returns-in-Err-Device-clause-refused g c =
     let same_fault : c.in-Err-Device.field-0 ≡ Device c.in-Err-Device.number = rw c.in-Err-Device.is at c.in-Err-Device.field-0-is in
     let fault = m.ensures.device c.in-Err-Device.number (matched m.result.1 c.in-Err-Device.field-0 (Device c.in-Err-Device.number) c.in-Err-Device.is same_fault) in
     record { kept = refl; fault = fault; accepted = ap (λ v. v.accepted) view; refused = ap (λ v. v.refused) view }
+
+pub returns-in-Ok-clause-stored : goal.returns-in-Ok-clause-stored
+returns-in-Ok-clause-stored g c =
+    let s = c.self.inside in
+    let p = c.in-Some.parts in
+    let e : s.parts ≡ Some p = sym c.take.ensures.value ∙ c.in-Some.is in
+    let at = at_store g.S.Slot.shown g.R.Ord.cmp g.R.Record.record_of g.R.Record.WIDTH s.sizes s.heap s.body s.begun s.accepted s.refused s.failed s.parts p e c.record_laws.ensures.order c.self.invariant c.args.self.now c.self.view_is c.requires.sound c.requires.full c.as_slice.result.now c.sort_in_place.new.self.items c.as_slice.ensures c.sort_in_place.ensures.items c.sort_in_place.ensures.ascends in
+    let cap : c.clear.new.self.cap ≡ heap_of s.sizes = c.clear.ensures.cap ∙ c.sort_in_place.ensures.cap ∙ at.is.cap in
+    let bag = subst (λ l. IsSameBag c.try_push.new.self.items (c.args.r ∷ l)) c.clear.ensures.items (has_room c.try_push.result c.clear.new.self.cap c.args.r c.clear.new.self.items c.try_push.new.self.items (omega (arith, ap length c.clear.ensures.items, cap, (heap_small s.sizes at.is.range).0)) c.try_push.ensures.full.0 c.try_push.ensures.added) in
+    IsSameBag-length c.try_push.new.self.items (c.args.r ∷ []) bag
+
+pub returns-in-Ok-clause-kept : goal.returns-in-Ok-clause-kept
+returns-in-Ok-clause-kept g c =
+    let s = c.self.inside in
+    let p = c.in-Some.parts in
+    let e : s.parts ≡ Some p = sym c.take.ensures.value ∙ c.in-Some.is in
+    let view = seen g.S.Slot.shown g.R.Ord.cmp g.R.Record.record_of g.R.Record.WIDTH s.sizes s.heap s.body s.begun s.accepted s.refused s.failed s.parts p e c.args.self.now c.self.view_is in
+    let kept = c.store_run-parts.ensures.kept in
+    kept_stored g.S.Slot.shown s.body c.store_run-parts.new.body p c.store_run-parts.result.0 kept.kept kept.items kept.since c.args.self.now _ (sym (ap (λ v. v.drawn) view)) (sym (ap (λ v. v.slots) view)) (sym (ap (λ v. v.steps) view)) refl refl refl
+
+pub returns-in-Err-NoFreeBlock-clause-kept : goal.returns-in-Err-NoFreeBlock-clause-kept
+returns-in-Err-NoFreeBlock-clause-kept g c =
+    let s = c.self.inside in
+    let p = c.in-Some.parts in
+    let e : s.parts ≡ Some p = sym c.take.ensures.value ∙ c.in-Some.is in
+    let view = seen g.S.Slot.shown g.R.Ord.cmp g.R.Record.record_of g.R.Record.WIDTH s.sizes s.heap s.body s.begun s.accepted s.refused s.failed s.parts p e c.args.self.now c.self.view_is in
+    let kept = c.store_run-parts.ensures.kept in
+    kept_stored g.S.Slot.shown s.body c.store_run-parts.new.body p c.store_run-parts.result.0 kept.kept kept.items kept.since c.args.self.now _ (sym (ap (λ v. v.drawn) view)) (sym (ap (λ v. v.slots) view)) (sym (ap (λ v. v.steps) view)) refl refl refl
+
+pub returns-in-Err-Device-clause-kept : goal.returns-in-Err-Device-clause-kept
+returns-in-Err-Device-clause-kept g c =
+    let s = c.self.inside in
+    let p = c.in-Some.parts in
+    let e : s.parts ≡ Some p = sym c.take.ensures.value ∙ c.in-Some.is in
+    let view = seen g.S.Slot.shown g.R.Ord.cmp g.R.Record.record_of g.R.Record.WIDTH s.sizes s.heap s.body s.begun s.accepted s.refused s.failed s.parts p e c.args.self.now c.self.view_is in
+    let kept = c.store_run-parts.ensures.kept in
+    kept_stored g.S.Slot.shown s.body c.store_run-parts.new.body p c.store_run-parts.result.0 kept.kept kept.items kept.since c.args.self.now _ (sym (ap (λ v. v.drawn) view)) (sym (ap (λ v. v.slots) view)) (sym (ap (λ v. v.steps) view)) refl refl refl
