@@ -1,18 +1,18 @@
 -- Passes that are made one after another.
-use Rattle.std.proofs.Common.{◌≡◌, ℕ, ◌+◌, ◌*◌, ◌<◌, ◌≤◌, List, [], ◌∷◌, ◌++◌, length, sum_by, All, refl, sym, ap, ◌∙◌, subst, arith, append-nil, length-append}
-use Rattle.std.specs.Prelude.{count_by}
-use Rattle.std.proofs.lemmas.Grind.{flat_map-append}
+use Rattle.std.proofs.Common.{◌≡◌, ℕ, ◌+◌, ◌*◌, ◌<◌, ◌≤◌, List, [], ◌∷◌, ◌++◌, length, map, reverse, get_or, sum_by, All, refl, sym, ap, ◌∙◌, subst, arith, length-append}
+use Rattle.std.specs.List.{flat_map}
+use Rattle.std.proofs.lemmas.List.{reverse-append}
+use mathlib.Core.List.{map-append, append_assoc}
+use Rattle.std.proofs.lemmas.List.Folds.{flat_map-map}
 use Rattle.std.proofs.lemmas.List.Concat.{flat_map-cons}
-use Rattle.std.proofs.lemmas.List.Elements.{All-nil, All-cons, All-head, All-tail}
-use Rattle.std.proofs.lemmas.List.Sums.{sum_by-cons, sum_by-append}
+use Rattle.std.proofs.lemmas.List.Elements.{All-nil, All-cons, All-head, All-tail, All-push}
+use Rattle.std.proofs.lemmas.List.Sums.{sum_by-cons}
 use Rattle.atomic_table.specs.Seated.{TableId}
-use Rattle.ppq_record.specs.Bag.{IsSameBag}
-use Rattle.ppq_record.proofs.Order.{count_by-append}
 use Rattle.ppq_outside.specs.Shown.{Shown}
 use Rattle.ppq_budget.specs.Sizes.{Numbers, pool_of}
 use Rattle.ppq_block.specs.Block.{Block}
 use Rattle.ppq_heap.specs.Heap.{Contents}
-use Rattle.ppq_heap.specs.Heaps.{items_in}
+use Rattle.ppq_heap.specs.Heaps.{items_in, empty_heap}
 use Rattle.ppq_array.specs.declared.berth.DeviceBlock.{DeviceBlock}
 use Rattle.ppq_array.specs.Owner.{HasSize}
 use Rattle.ppq_row.specs.declared.hand.Hand.{Hand as RowHand}
@@ -21,7 +21,7 @@ use Rattle.ppq_pool.specs.Seats.{count_of}
 use Rattle.ppq_pass.specs.Passed.{PassKey, PassHolding}
 use Rattle.ppq_pass.specs.declared.shared.PoolBuf.{PoolBuf}
 use Rattle.ppq_begin.specs.Session.{bag_of}
-use Rattle.ppq_begin.specs.Equipped.{Equipped, MayEquip, IsNewPass, session_key}
+use Rattle.ppq_begin.specs.Equipped.{Equipped, MayEquip, IsNewPass, HasBegun, bags_of, bags_in, first_begun, session_key}
 use Rattle.ppq_begin.specs.declared.share.Session.{Session}
 
 module _ {X : Type 0} (P : X → Type 0) where
@@ -33,42 +33,49 @@ module _ {X : Type 0} (P : X → Type 0) where
   all_last [] x a = All-head P x [] a
   all_last (y ∷ ys) x a = all_last ys x (All-tail P y (ys ++ x ∷ []) a)
 
-module _ {R : Type 0} where
-  items_push : (rest : List (Contents R)) (heap : Contents R) → items_in (rest ++ heap ∷ []) ≡ items_in rest ++ heap.items
-  items_push rest heap =
-      flat_map-append (λ (h : Contents R). h.items) rest (heap ∷ []) ∙ ap (λ xs. items_in rest ++ xs) (flat_map-cons (λ (h : Contents R). h.items) heap [] ∙ append-nil heap.items)
+module _ {X : Type 0} (P : X → Type 0) where
+  pub all_turned : (xs : List X) → All P xs → All P (reverse xs)
+  all_turned [] a = a
+  all_turned (x ∷ xs) a = subst (All P) (sym (reverse-append (x ∷ []) xs)) (All-push P (reverse xs) x (all_turned xs (All-tail P x xs a)) (All-head P x xs a))
 
-  pub none_in : (heaps : List (Contents R)) → length heaps ≡ 0 → items_in heaps ≡ []
-  none_in [] e = refl
-  none_in (h ∷ hs) e = absurd (omega (arith, e))
+pub no_heap : {R : Type 0} (heaps : List (Contents R)) → length heaps ≡ 0 → heaps ≡ []
+no_heap [] e = refl
+no_heap (h ∷ hs) e = absurd (omega (arith, e))
 
 module _ {S R : Type 0} where
-  bag_push : (passes : List (PassHolding S R)) (x : PassHolding S R) → bag_of (passes ++ x ∷ []) ≡ bag_of passes ++ x.bag
-  bag_push passes x =
-      flat_map-append (λ (p : PassHolding S R). p.bag) passes (x ∷ []) ∙ ap (λ xs. bag_of passes ++ xs) (flat_map-cons (λ (p : PassHolding S R). p.bag) x [] ∙ append-nil x.bag)
+  abbrev bag : PassHolding S R → List R
+  bag p = p.bag
 
-  pub dealt_bag :
-      (passes : List (PassHolding S R)) (x : PassHolding S R) (rest : List (Contents R)) (heap : Contents R) (all : List R) → x.bag ≡ heap.items → IsSameBag (bag_of passes ++ items_in (rest ++ heap ∷ [])) all
-      → IsSameBag (bag_of (passes ++ x ∷ []) ++ items_in rest) all
-  dealt_bag passes x rest heap all e h t =
+  -- one more pass takes the records of the last heap
+  pub dealt_bags :
+      (passes : List (PassHolding S R)) (x : PassHolding S R) (rest : List (Contents R)) (heap : Contents R) (all : List (List R)) → x.bag ≡ heap.items
+      → bags_of passes ++ bags_in (reverse (rest ++ heap ∷ [])) ≡ all → bags_of (passes ++ x ∷ []) ++ bags_in (reverse rest) ≡ all
+  dealt_bags passes x rest heap all e h =
+      let others = bags_in (reverse rest) in
+      let last : bags_in (reverse (rest ++ heap ∷ [])) ≡ x.bag ∷ others = ap bags_in (reverse-append rest (heap ∷ [])) ∙ ap (λ b. b ∷ others) (sym e) in
+      ap (λ l. l ++ others) (map-append bag passes (x ∷ [])) ∙ append_assoc (map bag passes) (x.bag ∷ []) others ∙ ap (λ l. map bag passes ++ l) (sym last) ∙ h
+
+  -- passes with the bags of heaps have their records, and began with as many
+  pub bag_same : (passes : List (PassHolding S R)) (heaps : List (Contents R)) → bags_of passes ≡ bags_in heaps → bag_of passes ≡ items_in heaps
+  bag_same passes heaps e = sym (flat_map-map (λ (l : List R). l) bag passes) ∙ ap (flat_map (λ (l : List R). l)) e ∙ flat_map-map (λ (l : List R). l) (λ (heap : Contents R). heap.items) heaps
+
+  pub begun_same : (passes : List (PassHolding S R)) → All HasBegun passes → sum_by (λ (p : PassHolding S R). p.key.begun) passes ≡ length (bag_of passes)
+  begun_same [] whole = refl
+  begun_same (p ∷ ps) whole =
       omega (
         arith,
-        h t,
-        count_by-append t (bag_of passes) (items_in (rest ++ heap ∷ [])),
-        ap (count_by t) (items_push rest heap),
-        count_by-append t (items_in rest) heap.items,
-        count_by-append t (bag_of (passes ++ x ∷ [])) (items_in rest),
-        ap (count_by t) (bag_push passes x),
-        count_by-append t (bag_of passes) x.bag,
-        ap (count_by t) e,
+        sum_by-cons (λ (p : PassHolding S R). p.key.begun) p ps,
+        ap length (flat_map-cons bag p ps),
+        length-append p.bag (bag_of ps),
+        All-head HasBegun p ps whole,
+        begun_same ps (All-tail HasBegun p ps whole),
       )
 
-  pub dealt_begun :
-      (passes : List (PassHolding S R)) (x : PassHolding S R) (rest : List (Contents R)) (heap : Contents R) (n : ℕ) → x.key.begun ≡ length heap.items
-      → sum_by (λ (p : PassHolding S R). p.key.begun) passes + length (items_in (rest ++ heap ∷ [])) ≡ n → sum_by (λ (p : PassHolding S R). p.key.begun) (passes ++ x ∷ []) + length (items_in rest) ≡ n
-  dealt_begun passes x rest heap n e h =
-      let f : PassHolding S R → ℕ = λ p. p.key.begun in
-      omega (arith, h, ap length (items_push rest heap), length-append (items_in rest) heap.items, sum_by-append f passes (x ∷ []), sum_by-cons f x [], e)
+  pub first_same : (passes : List (PassHolding S R)) (heaps : List (Contents R)) → All HasBegun passes → bags_of passes ≡ bags_in heaps → first_begun passes ≡ length (get_or heaps 0 (empty_heap 0)).items
+  first_same [] [] whole e = refl
+  first_same [] (h ∷ hs) whole e = absurd (omega (arith, ap length e))
+  first_same (p ∷ ps) [] whole e = absurd (omega (arith, ap length e))
+  first_same (p ∷ ps) (h ∷ hs) whole e = sym (All-head HasBegun p ps whole) ∙ ap length (ap (λ (l : List (List R)). get_or l 0 []) e)
 
   module _ (sizes : Numbers) (idle idle' : List (Block R)) (s s' : Session S R) where
     pub items_stay : (n : ℕ) → Equipped sizes n idle idle' s s' → s'.row_seat.hand.items ≡ s.row_seat.hand.items

@@ -1,6 +1,6 @@
 -- What a session has when it begins.
 use Rattle.std.proofs.Common.{◌≡◌, ℕ, ◌*◌, ◌<◌, ◌≤◌, List, [], ◌∷◌, ◌++◌, length, map, sum_by, All, refl, sym, ap, ap₂, ◌∙◌, subst, arith, append-nil}
-use Rattle.std.specs.Prelude.{Vec, vec_capacity}
+use Rattle.std.specs.Prelude.{Vec, vec_capacity, count_by}
 use Rattle.std.specs.Global.{Global}
 use Rattle.std.specs.declared.cmp.Ordering.{Ordering}
 use Rattle.std.proofs.lemmas.List.{length-map}
@@ -34,6 +34,7 @@ use Rattle.ppq_begin.specs.Equipped.{Equipped, MayEquip, ArePasses, session_key}
 use Rattle.ppq_begin.specs.declared.share.Session.{Session}
 use Rattle.ppq_begin.specs.declared.parts.BulkParts.{BulkParts}
 use Rattle.ppq_gather.specs.declared.brought.Brought.{Brought}
+use Rattle.ppq_begin.proofs.Equipping.{bag_same, begun_same, first_same}
 
 sum_map : {X Y : Type 0} (f : Y → ℕ) (g : X → Y) (xs : List X) → sum_by f (map g xs) ≡ sum_by (λ x. f (g x)) xs
 sum_map f g [] = refl
@@ -180,7 +181,7 @@ module _ {S R : Type 0} (shown : S → Shown) (cmp : R → R → Ordering) (reco
         record {
           count = length-map passes (λ (x : PassHolding S R). x.key) ∙ a.count ∙ o.whole.queue.shares;
           each = All-map (λ (k : PassKey S R). k ≡ pass_key held k.begun) (λ (x : PassHolding S R). x.key) passes (λ k d h. a.keys k d h ∙ same_key _);
-          begun = omega (arith, sum_map (λ (k : PassKey S R). k.begun) (λ (x : PassHolding S R). x.key) passes, a.begun, so.counted, ap length o.extract);
+          begun = omega (arith, sum_map (λ (k : PassKey S R). k.begun) (λ (x : PassHolding S R). x.key) passes, begun_same passes a.whole, ap length (bag_same passes p.heaps.heaps a.bags), so.counted, ap length o.extract);
         }
 
     pub handed_out : (passes : List (PassHolding S R)) (bulk : BulkHolding S R) → bulk ≡ held → ArePasses p.sizes p.heaps.heaps s passes → HandedOut shown record_of width p s bulk s'.shared passes
@@ -194,8 +195,10 @@ module _ {S R : Type 0} (shown : S → Shown) (cmp : R → R → Ordering) (reco
           no_slots = a.slots;
           whole = a.whole;
           begun = (let so = o.whole.sound o.sound in omega (arith, so.counted, ap length o.extract));
+          first = first_same passes p.heaps.heaps a.whole a.bags;
           runs = refl;
-          bag = IsSameBag-trans (runs ++ bag_of passes) (bag_of passes ++ runs) (items_of p.heaps ++ runs) (IsSameBag-append_comm runs (bag_of passes)) (IsSameBag-append (bag_of passes) (items_of p.heaps) runs runs a.bag (λ t. refl));
+          buffers = left.held;
+          bag = IsSameBag-trans (runs ++ bag_of passes) (bag_of passes ++ runs) (items_of p.heaps ++ runs) (IsSameBag-append_comm runs (bag_of passes)) (IsSameBag-append (bag_of passes) (items_of p.heaps) runs runs (λ t. ap (count_by t) (bag_same passes p.heaps.heaps a.bags)) (λ t. refl));
           slots = ap (λ l. external_slots shown p.body.runs.external.items ++ slots_shown shown l) items_same;
           items = items_same;
           size = refl;

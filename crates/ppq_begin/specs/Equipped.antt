@@ -1,16 +1,18 @@
 -- Passes that are made of what a queue has.
-use Rattle.std.specs.Prelude.{◌≡◌, ℕ, ◌+◌, ◌*◌, ◌<◌, ◌≤◌, List, [], length, sum_by, All}
-use Rattle.ppq_record.specs.Bag.{IsSameBag}
+use Rattle.std.specs.Prelude.{◌≡◌, ℕ, ◌+◌, ◌*◌, ◌<◌, ◌≤◌, List, [], ◌∷◌, length, map, All}
 use Rattle.ppq_budget.specs.Sizes.{Numbers, pool_of}
 use Rattle.ppq_outside.specs.Shown.{Shown}
 use Rattle.ppq_block.specs.Block.{Block}
 use Rattle.ppq_heap.specs.Heap.{Contents}
-use Rattle.ppq_heap.specs.Heaps.{items_in}
 use Rattle.ppq_array.specs.Owner.{HasBlock, HasSize}
 use Rattle.ppq_pool.specs.Seats.{count_of}
 use Rattle.ppq_pass.specs.Passed.{PassHolding, PassKey}
-use Rattle.ppq_begin.specs.Session.{IsFresh, bag_of}
+use Rattle.ppq_begin.specs.Session.{IsFresh}
 use Rattle.ppq_begin.specs.declared.share.Session.{Session}
+
+-- the records of each heap
+abbrev pub bags_in : {R : Type 0} → List (Contents R) → List (List R)
+bags_in heaps = map (λ heap. heap.items) heaps
 
 module _ {S R : Type 0} where
   -- the key of a pass of a session that begins with so many records
@@ -64,12 +66,20 @@ module _ {S R : Type 0} where
   abbrev pub HasBegun : PassHolding S R → Type 0
   HasBegun pass = length pass.bag ≡ pass.key.begun
 
-  -- a pass for each heap, with its records
+  -- the records of each pass
+  abbrev pub bags_of : List (PassHolding S R) → List (List R)
+  bags_of passes = map (λ (p : PassHolding S R). p.bag) passes
+
+  -- how many records the first pass began with
+  abbrev pub first_begun : List (PassHolding S R) → ℕ
+  first_begun [] = 0
+  first_begun (pass ∷ passes) = pass.key.begun
+
+  -- a pass for each heap, in their order, with its records
   pub record ArePasses (sizes : Numbers) (heaps : List (Contents R)) (s : Session S R) (passes : List (PassHolding S R)) : Type 0 where
     pub count : length passes ≡ length heaps
     pub keys : All (λ (p : PassHolding S R). p.key ≡ session_key sizes s p.key.begun) passes
-    pub begun : sum_by (λ p. p.key.begun) passes ≡ length (items_in heaps)
-    pub bag : IsSameBag (bag_of passes) (items_in heaps)
+    pub bags : bags_of passes ≡ bags_in heaps
     pub slots : All (λ (p : PassHolding S R). p.slots ≡ []) passes
     pub whole : All HasBegun passes
     pub fresh : All IsFresh passes

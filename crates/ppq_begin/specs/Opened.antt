@@ -3,7 +3,7 @@ use Rattle.std.specs.Prelude.{◌≡◌, ℕ, [], List, ◌++◌, length, None, 
 use Rattle.std.specs.declared.cmp.Ordering.{Ordering}
 use Rattle.ppq_record.specs.Bag.{IsSameBag}
 use Rattle.ppq_outside.specs.Shown.{Shown}
-use Rattle.ppq_heap.specs.Heaps.{items_of}
+use Rattle.ppq_heap.specs.Heaps.{items_of, share_at}
 use Rattle.ppq_array.specs.Supply.{Stock}
 use Rattle.ppq_array.specs.Owner.{slots_shown}
 use Rattle.ppq_array.specs.Holdings.{external_slots}
@@ -12,8 +12,8 @@ use Rattle.ppq_pass.specs.declared.shared.Shared.{Shared}
 use Rattle.ppq_queue.specs.Resting.{runs_bag}
 use Rattle.ppq_queue.specs.Handed.{IsWhole}
 use Rattle.ppq_queue.specs.declared.queue_parts.QueueParts.{QueueParts}
-use Rattle.ppq_begin.specs.Session.{BulkHolding, AreOf, IsFresh, keys_of, bag_of, shared_by}
-use Rattle.ppq_begin.specs.Equipped.{HasBegun}
+use Rattle.ppq_begin.specs.Session.{BulkHolding, HasBuffers, AreOf, IsFresh, keys_of, bag_of, shared_by}
+use Rattle.ppq_begin.specs.Equipped.{HasBegun, first_begun}
 use Rattle.ppq_begin.specs.Shares.{bare, IsFirst}
 use Rattle.ppq_begin.specs.declared.share.Session.{Session}
 
@@ -40,10 +40,12 @@ module _ {S R : Type 0} where
       pub no_slots : All HoldsNoSlot passes
       pub whole : All HasBegun passes
       pub begun : bulk.begun ≡ length (items_of q.heaps)
+      pub first : first_begun passes ≡ length (share_at q.heaps 0)
       pub runs : bulk.runs ≡ length q.body.runs.external.items
       pub bag : IsSameBag (bulk.bag ++ bag_of passes) (items_of q.heaps ++ runs_bag shown record_of width q.body)
       pub slots : bulk.slots ≡ external_slots shown q.body.runs.external.items ++ slots_shown shown s.row_seat.hand.items
       pub items : bulk.items ≡ s.row_seat.hand.items
+      pub buffers : HasBuffers bulk.sizes bulk.buffers bulk.pool
       pub size : bulk.size ≡ q.count
       pub peak : bulk.peak ≡ q.peak
       pub limited : bulk.limited ≡ q.limited

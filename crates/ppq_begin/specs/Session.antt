@@ -1,13 +1,15 @@
 -- What contracts see of a bulk session.
-use Rattle.std.specs.Prelude.{◌≡◌, ℕ, ◌+◌, ◌<◌, ◌≤◌, Bool, true, false, Any, List, ◌++◌, length, map, max, sum_by, flat_map, None, All}
+use Rattle.std.specs.Prelude.{◌≡◌, ℕ, ◌+◌, ◌*◌, ◌<◌, ◌≤◌, Bool, true, false, Any, List, [], ◌++◌, length, map, max, sum_by, flat_map, None, All}
 use Rattle.atomic_table.specs.Seated.{TableId}
 use Rattle.ppq_record.specs.Bag.{IsSameBag}
 use Rattle.ppq_outside.specs.Shown.{Shown, AllTell}
-use Rattle.ppq_budget.specs.Sizes.{Numbers, heap_of, blocks_for, room_of}
+use Rattle.ppq_budget.specs.Sizes.{Numbers, heap_of, blocks_for, room_of, pool_of}
 use Rattle.ppq_array.specs.declared.berth.DeviceBlock.{DeviceBlock}
+use Rattle.ppq_pool.specs.Seats.{count_of}
 use Rattle.ppq_pass.specs.Passed.{PassKey, PassHolding, PassTells}
 use Rattle.ppq_pass.specs.declared.shared.Shared.{Shared}
 use Rattle.ppq_queue.specs.Holding.{Holding, IsAbove, FoundNoBlock, HasStopped}
+use Rattle.ppq_queue.specs.Resting.{lane_buffers}
 use Rattle.ppq_queue.specs.declared.fault.QueueFault.TheVariants.{NoFreeBlock, Device}
 use Rattle.ppq_begin.specs.declared.fault.BeginFault.{BeginFault}
 use Rattle.ppq_begin.specs.declared.fault.BeginFault.TheVariants.{Memory, NoFreeBlock as NoBlockAtBegin, Device as DeviceAtBegin}
@@ -17,7 +19,7 @@ use Rattle.ppq_begin.specs.declared.fault.SessionEnd.TheVariants.{Whole, Stopped
 -- What the owner of a queue keeps while passes fill it: the bag of the records of its runs, as far as its slots tell; how many records
 -- the queue had when the session began, and how many of them are in the heaps, which the passes have; how many runs in blocks there are;
 -- its sizes; the greatest size so far; whether a limit session was begun; all slots of the queue, those of the runs and those that were
--- put into the row; the row with these, and the pool; and a batch of records to be dealt
+-- put into the row; how many buffers of a block it has; the row with those slots, and the pool; and a batch of records to be dealt
 pub record BulkHolding (S R : Type 0) : Type 0 where
   pub bag : List R
   pub size : ℕ
@@ -27,10 +29,16 @@ pub record BulkHolding (S R : Type 0) : Type 0 where
   pub peak : ℕ
   pub limited : Bool
   pub slots : List Shown
+  pub buffers : ℕ
   pub row : TableId
   pub items : List (DeviceBlock S R)
   pub pool : TableId
   pub batch : List R
+
+-- With so many buffers at the owner, two at each pass and those of the pool, there are just the buffers of the budget: those that blocks are
+-- written from and merged by, and those of the pool
+abbrev pub HasBuffers : Numbers → ℕ → TableId → Type 0
+HasBuffers sizes owned pool = owned + 2 * sizes.workers + count_of pool ≡ lane_buffers sizes + pool_of sizes
 
 module _ {R : Type 0} where
   -- The queue as it was, in another order at most
@@ -79,8 +87,10 @@ module _ {S R : Type 0} where
   abbrev pub shared_by : BulkHolding S R → Shared S R
   shared_by bulk = record { row = bulk.row; pool = bulk.pool }
 
-  -- a pass to which nothing was pushed yet
+  -- A pass to which nothing was pushed yet. It holds two buffers, and none of the pool
   pub record IsFresh (pass : PassHolding S R) : Type 0 where
+    pub buffers : pass.buffers ≡ 2
+    pub numbers : pass.numbers ≡ []
     pub accepted : pass.accepted ≡ 0
     pub refused : pass.refused ≡ false
     pub failed : pass.failed ≡ None

@@ -41,6 +41,7 @@ module _ {S R : Type 0} (shown : S → Shown) where
         peak = q.peak;
         limited = q.limited;
         slots = bulk_slots q;
+        buffers = internal_buffers q.body.runs.internal.items + external_buffers q.body.runs.external.items + length q.body.lanes.idle;
         row = q.row_seat.row;
         items = q.row_seat.hand.items;
         pool = q.pool_seat.pool;

@@ -4,9 +4,9 @@ ghost use Rattle.ppq_record.specs.Bag.{IsSameBag};
 ghost use Rattle.ppq_outside.specs.Shown.{AllTell};
 ghost use Rattle.ppq_array.specs.Kept.{SameSlots, all_writes};
 ghost use Rattle.ppq_pass.specs.Passed.{PassTells, IsOf};
-ghost use Rattle.ppq_begin.specs.Session.{AreOf, IsFresh, IsBeginRefusal, keys_of, bag_of, shared_by};
+ghost use Rattle.ppq_begin.specs.Session.{AreOf, HasBuffers, IsFresh, IsBeginRefusal, keys_of, bag_of, shared_by};
 ghost use Rattle.ppq_begin.specs.declared.fault.BeginFault.TheVariants.{Memory, Device};
-ghost use Rattle.ppq_begin.specs.Equipped.{HasBegun};
+ghost use Rattle.ppq_begin.specs.Equipped.{HasBegun, first_begun};
 ghost use Rattle.ppq_begin.specs.Opened.{IsOpened, HandedOut, HoldsNoSlot};
 ghost use Rattle.ppq_begin.specs.Outfits.{IsOutfit};
 ghost use Rattle.ppq_pool.specs.Seats.{count_of};
@@ -30,7 +30,9 @@ use std::alloc::Global;
 /// pool are idle then, runs in buffers are merged into one run in blocks. Each pass begins with
 /// the records of its worker's heap. It allocates what the passes keep, and they do not allocate later.
 ///
-/// Each refusal hands the queue back. `Memory` and `NoFreeBlock`: its bag is as it was. `Device`: the
+/// A session is to be ended with all its passes: what is dropped before takes its blocks and records along.
+///
+/// Each refusal hands the queue back. `Memory` and `NoFreeBlock`: its multiset is as it was. `Device`: the
 /// block with that number failed, now or before.
 pub fn bulk_begin<H: Host, S: Slot + Send + Sync, R: Record + Send + Sync, G: Gate>(
     rt: &H,
@@ -48,6 +50,7 @@ where
     ensures whole { IfOk result (λ r. All HasBegun r.2.items) }
     ensures begun { IfOk result (λ r. r.0.begun ≡ q.in_heap) }
     ensures runs { IfOk result (λ r. r.0.runs ≤ 64) }
+    ensures buffers { IfOk result (λ r. HasBuffers r.0.sizes r.0.buffers r.0.pool) }
     ensures bag { IfOk result (λ r. AllTell q.slots → IsSameBag (r.0.bag ++ bag_of r.2.items) q.bag) }
     ensures slots { IfOk result (λ r. SameSlots q.slots r.0.slots) }
     ensures tells { IfOk result (λ r. AllTell q.slots → AllTell r.0.slots × All (PassTells S.shown) r.2.items) }
@@ -74,8 +77,9 @@ where
     }
 }
 
-/// Begins a session of a queue whose extract buffer is empty, with its runs as they are. `Err` hands the
-/// queue back as it was; it is returned only if an allocation failed.
+/// Begins a session of a queue whose extract buffer is empty, with its runs as they are. The passes have
+/// the queue's heaps in their order. `Err` hands the queue back as it was; it is returned only if an
+/// allocation failed.
 pub fn hand_out<S: Slot + Send + Sync, R: Record + Send + Sync>(
     alloc: Global,
     q: Queue<S, R>,
@@ -88,7 +92,9 @@ pub fn hand_out<S: Slot + Send + Sync, R: Record + Send + Sync>(
     ensures no_slots { IfOk result (λ r. All HoldsNoSlot r.2.items) }
     ensures whole { IfOk result (λ r. All HasBegun r.2.items) }
     ensures begun { IfOk result (λ r. r.0.begun ≡ q.in_heap) }
+    ensures first { IfOk result (λ r. first_begun r.2.items ≡ q.in_first) }
     ensures runs { IfOk result (λ r. r.0.runs ≡ q.runs) }
+    ensures buffers { IfOk result (λ r. HasBuffers r.0.sizes r.0.buffers r.0.pool) }
     ensures bag { IfOk result (λ r. IsSameBag (r.0.bag ++ bag_of r.2.items) q.bag) }
     ensures slots { IfOk result (λ r. r.0.slots ≡ q.slots) }
     ensures items { IfOk result (λ r. AllTell q.slots → AllTell (slots_shown S.shown r.0.items)) }
@@ -152,6 +158,8 @@ fn deal_out<S: Slot + Send + Sync, R: Record + Send + Sync>(
     let mut session = session;
     let mut passes = passes;
     let (mut heaps, tree) = heaps.into_parts();
+    // the last heap of the list gets the first pass
+    heaps.reverse();
     equip(
         sizes,
         &mut heaps,

@@ -11,7 +11,7 @@ use std::marker::Model;
 /// What the owner of a queue keeps while a bulk session is on: the runs that were there, and a batch of
 /// `p * B` records, to be filled and dealt to the passes.
 ///
-/// Contracts see the bag of its records, how many the queue had when the session began, all that tells
+/// Contracts see the multiset of its records, how many the queue had when the session began, all that tells
 /// which passes are of this session, and the batch.
 #[derive(Drop)]
 pub struct Bulk<S: Slot + Send + Sync, R: Record + Send + Sync> {

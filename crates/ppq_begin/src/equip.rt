@@ -1,5 +1,5 @@
 //! Passes that are made of what a queue has.
-ghost use Rattle.std.specs.Prelude.{◌≡◌, ◌≤◌, ◌<◌, ◌+◌, ◌-◌, ◌/◌, [], length, All, vec_capacity};
+ghost use Rattle.std.specs.Prelude.{◌≡◌, ◌≤◌, ◌<◌, ◌+◌, ◌-◌, ◌/◌, [], length, reverse, All, vec_capacity};
 ghost use Rattle.ppq_budget.specs.Sizes.{heap_of, pool_of};
 ghost use Rattle.ppq_array.specs.Owner.{HasBlock};
 ghost use Rattle.ppq_pool.specs.Seats.{count_of};
@@ -69,7 +69,7 @@ pub fn equip<S: Slot, R: Record>(
     requires may { MayEquip S.shown R.WIDTH sizes (length heaps.old.items) idle.old session.old }
     ensures emptied { heaps.new.items ≡ [] }
     ensures capacity { vec_capacity heaps.new ≡ vec_capacity heaps.old }
-    ensures passes { ArePasses sizes heaps.old.items session.old passes.new.items }
+    ensures passes { ArePasses sizes (reverse heaps.old.items) session.old passes.new.items }
     ensures equipped { Equipped sizes (length heaps.old.items) idle.old idle.new session.old session.new }
 {
     let mut outfits = outfits;

@@ -1,8 +1,9 @@
 //! What passes bring back at the end of a session, put into the parts of a queue.
 //!
 //! A pass that was taken apart is a [`Brought`], and the queue's parts are [`Closed`] once the session's
-//! row and pool are: [`gather_all`] puts all passes into them, and [`rejoin`] makes the queue. A pass that
-//! met no fault gives its runs; one that met a fault gives its slots and buffers alone.
+//! row and pool are: [`gather_all`] puts all passes into them, and [`rejoin`] makes the queue. A pass
+//! gives its heap, and its runs as long as no pass met a fault; from the first on that met one, each gives
+//! the slots and buffers of its runs alone.
 #![tactic(auto)]
 
 mod brought;

@@ -65,8 +65,14 @@ returns-in-Ok-share-clause-whole g c = c.deal_out.ensures.whole
 pub returns-in-Ok-share-clause-begun : goal.returns-in-Ok-share-clause-begun
 returns-in-Ok-share-clause-begun g c = c.deal_out.ensures.begun ∙ ap (λ (q : Holding g.row.R.Denot). q.in_heap) c.into_parts-parts.ensures.shows
 
+pub returns-in-Ok-share-clause-first : goal.returns-in-Ok-share-clause-first
+returns-in-Ok-share-clause-first g c = c.deal_out.ensures.first ∙ ap (λ (q : Holding g.row.R.Denot). q.in_first) c.into_parts-parts.ensures.shows
+
 pub returns-in-Ok-share-clause-runs : goal.returns-in-Ok-share-clause-runs
 returns-in-Ok-share-clause-runs g c = c.deal_out.ensures.runs ∙ ap (λ (q : Holding g.row.R.Denot). q.runs) c.into_parts-parts.ensures.shows
+
+pub returns-in-Ok-share-clause-buffers : goal.returns-in-Ok-share-clause-buffers
+returns-in-Ok-share-clause-buffers g c = c.deal_out.ensures.buffers
 
 pub returns-in-Ok-share-clause-bag : goal.returns-in-Ok-share-clause-bag
 returns-in-Ok-share-clause-bag g c =

@@ -1,17 +1,16 @@
-use Rattle.std.proofs.Common.{◌≡◌, ◌+◌, ◌/◌, ◌∷◌, ◌++◌, [], All, length, sum_by, sym, ap, ◌∙◌, subst, arith, length-append, append-nil}
+use Rattle.std.proofs.Common.{◌≡◌, ◌+◌, ◌/◌, ◌∷◌, ◌++◌, [], All, length, reverse, sym, ap, ◌∙◌, subst, arith, length-append, append-nil}
+use Rattle.std.proofs.lemmas.List.{length-reverse}
 use Rattle.std.proofs.lemmas.List.Elements.{All-push}
 use Rattle.atomic_table.specs.Seated.{TableId}
-use Rattle.ppq_record.specs.Bag.{IsSameBag}
 use Rattle.ppq_budget.specs.Sizes.{heap_of, pool_of}
 use Rattle.ppq_heap.specs.Heap.{Contents}
-use Rattle.ppq_heap.specs.Heaps.{items_in}
 use Rattle.ppq_pool.specs.Seats.{count_of}
 use Rattle.ppq_pass.specs.Passed.{PassHolding}
-use Rattle.ppq_begin.specs.Session.{IsFresh, bag_of}
+use Rattle.ppq_begin.specs.Session.{IsFresh}
 use Rattle.ppq_begin.specs.Outfits.{IsOutfit}
-use Rattle.ppq_begin.specs.Equipped.{MayEquip, Equipped, HasBegun, session_key}
+use Rattle.ppq_begin.specs.Equipped.{MayEquip, Equipped, HasBegun, bags_of, bags_in, session_key}
 use Rattle.ppq_begin.specs.declared.outfit.Outfit.{Outfit}
-use Rattle.ppq_begin.proofs.Equipping.{all_front, all_last, dealt_bag, dealt_begun, key_is, may_still, one_more, none_in}
+use Rattle.ppq_begin.proofs.Equipping.{all_front, all_last, dealt_bags, key_is, may_still, one_more, no_heap}
 use Rattle.ppq_begin.proofs.equip.equip.Goals as goal
 
 pub new_pass-requires-clause-outfit : goal.new_pass-requires-clause-outfit
@@ -44,15 +43,13 @@ dealing-preserved-in-Some-pop g c =
     let spare : length c.dealing.outfits.items ≡ length others + 1 = omega (arith, ap length outfits, length-append others (outfit ∷ [])) in
     let key = λ (p : PassHolding g.row.S.Denot g.row.R.Denot). p.key ≡ session_key sizes begin p.key.begun in
     let no_slot = λ (p : PassHolding g.row.S.Denot g.row.R.Denot). p.slots ≡ [] in
+    let before = bags_in (reverse c.args.heaps.now.items) in
     let cap = λ (h : Contents g.row.R.Denot). h.cap ≡ heap_of sizes in
     let fits = IsOutfit {S = g.row.S.Denot} {R = g.row.R.Denot} (pool_of sizes / sizes.heap + 1) (sizes.blocks / sizes.heap + 1) (count_of begin.pool_seat.pool) in
     record {
       count = omega (arith, i.count, long, left);
       keys = subst (All key) (sym all) (All-push key passes x i.keys (key_is sizes c.args.idle.now c.dealing.idle begin c.dealing.session (length passes) i.equipped heap.items x made.pass));
-      begun = subst (λ l. sum_by (λ (p : PassHolding g.row.S.Denot g.row.R.Denot). p.key.begun) l + length (items_in rest) ≡ length (items_in c.args.heaps.now.items)) (sym all)
-          (dealt_begun passes x rest heap (length (items_in c.args.heaps.now.items)) (ap (λ k. k.begun) made.pass.key) (subst (λ l. sum_by (λ (p : PassHolding g.row.S.Denot g.row.R.Denot). p.key.begun) passes + length (items_in l) ≡ length (items_in c.args.heaps.now.items)) heaps i.begun));
-      bag = subst (λ l. IsSameBag (bag_of l ++ items_in rest) (items_in c.args.heaps.now.items)) (sym all)
-          (dealt_bag passes x rest heap (items_in c.args.heaps.now.items) made.pass.bag (subst (λ l. IsSameBag (bag_of passes ++ items_in l) (items_in c.args.heaps.now.items)) heaps i.bag));
+      bags = subst (λ l. bags_of l ++ bags_in (reverse rest) ≡ before) (sym all) (dealt_bags passes x rest heap before made.pass.bag (subst (λ l. bags_of passes ++ bags_in (reverse l) ≡ before) heaps i.bags));
       slots = subst (All no_slot) (sym all) (All-push no_slot passes x i.slots made.pass.slots);
       whole = subst (All HasBegun) (sym all) (All-push HasBegun passes x i.whole (ap length made.pass.bag ∙ sym (ap (λ k. k.begun) made.pass.key)));
       fresh = subst (All IsFresh) (sym all) (All-push IsFresh passes x i.fresh made.pass.fresh);
@@ -71,12 +68,11 @@ pub returns-clause-passes : goal.returns-clause-passes
 returns-clause-passes g c =
     let i = c.dealing.invariant in
     let none : length c.dealing.heaps.items ≡ 0 = omega (arith, c.in_default.ensures.cases) in
-    let empty = none_in c.dealing.heaps.items none in
+    let empty = no_heap c.dealing.heaps.items none in
     record {
-      count = omega (arith, i.count, none);
+      count = omega (arith, i.count, none, length-reverse c.args.heaps.now.items);
       keys = i.keys;
-      begun = omega (arith, i.begun, ap length empty);
-      bag = subst (λ l. IsSameBag l (items_in c.args.heaps.now.items)) (ap (λ l. bag_of c.dealing.passes.items ++ l) empty ∙ append-nil (bag_of c.dealing.passes.items)) i.bag;
+      bags = sym (append-nil (bags_of c.dealing.passes.items)) ∙ ap (λ l. bags_of c.dealing.passes.items ++ bags_in (reverse l)) (sym empty) ∙ i.bags;
       slots = i.slots;
       whole = i.whole;
       fresh = i.fresh;

@@ -1,22 +1,19 @@
 use Rattle.std.specs.Prelude.{vec_capacity}
-use Rattle.std.proofs.Common.{◌≡◌, ◌+◌, ◌/◌, ◌++◌, [], length, sum_by, All}
-use Rattle.ppq_record.specs.Bag.{IsSameBag}
+use Rattle.std.proofs.Common.{◌≡◌, ◌+◌, ◌/◌, ◌++◌, [], length, reverse, All}
 use Rattle.ppq_budget.specs.Sizes.{heap_of, pool_of}
 use Rattle.ppq_heap.specs.Heap.{Contents}
-use Rattle.ppq_heap.specs.Heaps.{items_in}
 use Rattle.ppq_pool.specs.Seats.{count_of}
 use Rattle.ppq_pass.specs.Passed.{PassHolding}
-use Rattle.ppq_begin.specs.Session.{IsFresh, bag_of}
+use Rattle.ppq_begin.specs.Session.{IsFresh}
 use Rattle.ppq_begin.specs.Outfits.{IsOutfit}
-use Rattle.ppq_begin.specs.Equipped.{MayEquip, Equipped, HasBegun, session_key}
+use Rattle.ppq_begin.specs.Equipped.{MayEquip, Equipped, HasBegun, bags_of, bags_in, session_key}
 use Rattle.ppq_begin.proofs.equip.equip.Given as goal
 
 abbrev pub invariant-dealing : goal.invariant-dealing
 invariant-dealing g l = record {
   count : length l.passes.items + length l.heaps.items ≡ length l.fn.heaps.items;
   keys : All (λ (p : PassHolding g.row.S.Denot g.row.R.Denot). p.key ≡ session_key l.sizes l.fn.session p.key.begun) l.passes.items;
-  begun : sum_by (λ (p : PassHolding g.row.S.Denot g.row.R.Denot). p.key.begun) l.passes.items + length (items_in l.heaps.items) ≡ length (items_in l.fn.heaps.items);
-  bag : IsSameBag (bag_of l.passes.items ++ items_in l.heaps.items) (items_in l.fn.heaps.items);
+  bags : bags_of l.passes.items ++ bags_in (reverse l.heaps.items) ≡ bags_in (reverse l.fn.heaps.items);
   slots : All (λ (p : PassHolding g.row.S.Denot g.row.R.Denot). p.slots ≡ []) l.passes.items;
   whole : All HasBegun l.passes.items;
   fresh : All IsFresh l.passes.items;
