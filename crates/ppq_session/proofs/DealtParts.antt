@@ -3,10 +3,12 @@ use Rattle.std.proofs.Common.{◌≡◌, ◌⊎◌, inl, inr, ℕ, zero, suc, �
 use Rattle.std.specs.Prelude.{count_by}
 use Rattle.std.specs.List.{Any}
 use Rattle.std.specs.Fork.{slice_chunk}
+use Rattle.std.specs.Int.{div_ceil}
 use Rattle.std.proofs.lemmas.List.{drop-drop, drop_all, take_all, take_more}
 use Rattle.std.proofs.lemmas.List.Sums.{sum_by-cons}
 use Rattle.std.proofs.lemmas.List.Elements.{All-cons, All-head, All-tail}
 use Rattle.std.proofs.lemmas.Bool.{cases_lt}
+use Rattle.std.proofs.lemmas.Grind.{div_ceil_times}
 use Rattle.ppq_record.specs.Bag.{IsSameBag}
 use Rattle.ppq_record.proofs.Order.{count_by-cons, count_by-append}
 use Rattle.ppq_outside.specs.Shown.{Shown}
@@ -14,7 +16,7 @@ use Rattle.ppq_pass.specs.Passed.{PassHolding, PassTells, IsRefusedPush}
 use Rattle.ppq_queue.specs.declared.fault.QueueFault.{QueueFault}
 use Rattle.ppq_queue.specs.declared.fault.QueueFault.TheVariants.{NoFreeBlock, Device}
 use Rattle.ppq_begin.specs.Session.{bag_of, accepted_of}
-use Rattle.ppq_session.specs.Dealing.{IsGoing, HasEnded, Adds, Dealt}
+use Rattle.ppq_session.specs.Dealing.{IsGoing, HasEnded, Adds, EachAdds, Dealt, part_for}
 
 -- the part of a worker, as it is cut: within the records
 pub part_is : {X : Type 0} (xs : List X) (place part : ℕ) → take (min part (length xs - min (length xs) place)) (drop (min (length xs) place) xs) ≡ take part (drop place xs)
@@ -134,18 +136,22 @@ module _ {S R : Type 0} where
         }
 
     -- each pass was given its part
-    pub dealt-parts :
+    parts-dealt :
         (part : ℕ) (records : List R) (olds news : List (PassHolding S R)) → length news ≡ length olds → length records ≤ part * length olds
         → ((i : ℕ) (d : PassHolding S R) → i < length olds → Adds shown (slice_chunk records part i) (get_or olds i d) (get_or news i d)) → Dealt shown records olds news
-    dealt-parts part [] [] [] e l each = dealt-none
-    dealt-parts part (r ∷ rs) [] [] e l each = absurd (omega arith)
-    dealt-parts part records [] (n ∷ ns) e l each = absurd (omega arith)
-    dealt-parts part records (o ∷ os) [] e l each = absurd (omega arith)
-    dealt-parts part records (o ∷ os) (n ∷ ns) e l each =
+    parts-dealt part [] [] [] e l each = dealt-none
+    parts-dealt part (r ∷ rs) [] [] e l each = absurd (omega arith)
+    parts-dealt part records [] (n ∷ ns) e l each = absurd (omega arith)
+    parts-dealt part records (o ∷ os) [] e l each = absurd (omega arith)
+    parts-dealt part records (o ∷ os) (n ∷ ns) e l each =
         let none : 0 * part ≡ 0 = omega arith in
         let first : slice_chunk records part 0 ≡ take part records = ap (λ k. take part (drop k records)) none in
-        let rest = dealt-parts part (drop part records) os ns (omega arith) (omega (arith, length-drop part records)) (λ i d h.
+        let rest = parts-dealt part (drop part records) os ns (omega arith) (omega (arith, length-drop part records)) (λ i d h.
         let next : suc i * part ≡ part + i * part = omega arith in
         let chunk : slice_chunk records part (suc i) ≡ slice_chunk (drop part records) part i = ap (take part) (ap (λ k. drop k records) next ∙ sym (drop-drop (i * part) part records)) in
         subst (λ c. Adds shown c (get_or os i d) (get_or ns i d)) chunk (each (suc i) d (omega arith))) in
         subst (λ c. Dealt shown c (o ∷ os) (n ∷ ns)) (take-append-drop part records) (dealt-cons (take part records) (drop part records) o n os ns (subst (λ c. Adds shown c o n) first (each 0 o (omega arith))) rest)
+
+    -- so all records were dealt, where the parts are equal
+    pub dealt-parts : (records : List R) (olds news : List (PassHolding S R)) → 0 < length olds → EachAdds shown (part_for (length olds) records) olds news → Dealt shown records olds news
+    dealt-parts records olds news some each = parts-dealt (div_ceil (length records) (length olds)) records olds news each.count (div_ceil_times (length records) (length olds) some).0 each.each

@@ -7,6 +7,7 @@ pub mod Joined
 pub mod Loads
 pub mod LineParts
 pub mod Mapped
+pub mod OneHistory
 pub mod Places
 pub mod ShortOfBlocks
 pub mod Together

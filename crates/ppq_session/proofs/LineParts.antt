@@ -11,7 +11,7 @@ use Rattle.ppq_outside.specs.Shown.{Shown}
 use Rattle.ppq_pass.specs.Passed.{PassHolding}
 use Rattle.ppq_begin.specs.Session.{bag_of}
 use Rattle.ppq_session.specs.declared.line.Line.{Line}
-use Rattle.ppq_session.specs.Dealing.{IsGoing, HasEnded, Adds, Dealt, records_in, records_for}
+use Rattle.ppq_session.specs.Dealing.{IsGoing, HasEnded, Adds, EachAdds, Dealt, records_in, records_for}
 use Rattle.ppq_session.proofs.DealtParts.{not_both, dealt-cons, dealt-none}
 
 module _ {R : Type 0} where
@@ -152,9 +152,8 @@ module _ {S R : Type 0} (shown : S → Shown) where
       let rest : Dealt shown (records_from (suc first) (length os) lines) os ns = dealt-from (suc first) lines os ns (omega arith) (λ i d h. subst (λ k. Adds shown (records_for k lines) (get_or os i d) (get_or ns i d)) {x = first + suc i} (omega arith) (each (suc i) d (omega arith))) in
       dealt-cons shown (records_for first lines) (records_from (suc first) (length os) lines) o n os ns here rest
 
-  pub dealt-lines :
-      (lines : List (Line R)) (olds news : List (PassHolding S R)) → length news ≡ length olds → All (λ line. line.pass < length olds) lines
-      → ((i : ℕ) (d : PassHolding S R) → i < length olds → Adds shown (records_for i lines) (get_or olds i d) (get_or news i d)) → Dealt shown (records_in lines) olds news
-  dealt-lines lines olds news e named each =
+  -- so all lines' records were dealt, where each line names one of the passes
+  pub dealt-lines : (lines : List (Line R)) (olds news : List (PassHolding S R)) → All (λ line. line.pass < length olds) lines → EachAdds shown (λ pass. records_for pass lines) olds news → Dealt shown (records_in lines) olds news
+  dealt-lines lines olds news named each =
       dealt-same_bag (records_from 0 (length olds) lines) (records_in lines) olds news (from-all (length olds) lines named)
-      (dealt-from 0 lines olds news e (λ i d h. subst (λ k. Adds shown (records_for k lines) (get_or olds i d) (get_or news i d)) (omega arith) (each i d h)))
+      (dealt-from 0 lines olds news each.count (λ i d h. subst (λ k. Adds shown (records_for k lines) (get_or olds i d) (get_or news i d)) (omega arith) (each.each i d h)))

@@ -1,5 +1,7 @@
 -- Records that are dealt to passes.
-use Rattle.std.specs.Prelude.{◌≡◌, ◌⊎◌, ◌<◌, ◌≤◌, ◌==◌, ◌+◌, ℕ, true, false, List, ◌++◌, length, map, All, Some, None}
+use Rattle.std.specs.Prelude.{◌≡◌, ◌⊎◌, ◌<◌, ◌≤◌, ◌==◌, ◌+◌, ℕ, true, false, List, ◌++◌, length, get_or, map, All, Some, None}
+use Rattle.std.specs.Fork.{slice_chunk}
+use Rattle.std.specs.Int.{div_ceil}
 use Rattle.std.specs.List.{Any, filter}
 use Rattle.ppq_record.specs.Bag.{IsSameBag}
 use Rattle.ppq_outside.specs.Shown.{Shown}
@@ -15,6 +17,10 @@ module _ {R : Type 0} where
   -- the records of the lines that name a pass
   abbrev pub records_for : ℕ → List (Line R) → List R
   records_for pass lines = records_in (filter (λ line. line.pass == pass) lines)
+
+  -- the records for a pass where all are dealt to so many passes: equal parts in a row, rounded up, of which the last ones may be smaller
+  abbrev pub part_for : ℕ → List R → ℕ → List R
+  part_for passes records pass = slice_chunk records (div_ceil (length records) passes) pass
 
 module _ {S R : Type 0} where
   -- no push of the pass was refused
@@ -35,7 +41,12 @@ module _ {S R : Type 0} where
       pub accepted : IsGoing new → new.accepted ≡ old.accepted + length records
       pub fewer : HasEnded new → new.accepted < old.accepted + length records
 
-    -- the same of several passes, which were given these records together
+    -- each of several passes was given records of its own: the first those for 0, and so on
+    pub record EachAdds (records_of : ℕ → List R) (old new : List (PassHolding S R)) : Type 0 where
+      pub count : length new ≡ length old
+      pub each : (i : ℕ) (d : PassHolding S R) → i < length old → Adds (records_of i) (get_or old i d) (get_or new i d)
+
+    -- several passes were given these records together
     pub record Dealt (records : List R) (old new : List (PassHolding S R)) : Type 0 where
       pub keys : keys_of new ≡ keys_of old
       pub tells : All (PassTells shown) old → All (PassTells shown) new

@@ -6,3 +6,4 @@ pub mod Apart
 pub mod Bringing
 pub mod Closing
 pub mod Dealing
+pub mod OneHistory

@@ -3,7 +3,7 @@ ghost use Rattle.std.specs.Prelude.{◌≡◌, ◌<◌, ◌*◌, ◌+◌, ◌^�
 ghost use Rattle.std.specs.List.{Any};
 ghost use Rattle.std.specs.Fork.{slice_chunk};
 ghost use Rattle.ppq_pass.specs.Passed.{IsOf};
-ghost use Rattle.ppq_session.specs.Dealing.{IsGoing, HasEnded, Adds, Dealt};
+ghost use Rattle.ppq_session.specs.Dealing.{IsGoing, HasEnded, Adds, EachAdds, Dealt, part_for};
 
 use ppq_outside::{Gate, Host, Slot};
 use ppq_pass::{Pass, Shared};
@@ -32,6 +32,7 @@ where
     ensures all { IsTrue result ↔ All IsGoing passes.new }
     ensures ended { result ≡ false → Any HasEnded passes.new }
     ensures dealt { Dealt S.shown records.now passes.old passes.new }
+    ensures each { EachAdds S.shown (part_for (length passes.old) records.now) passes.old passes.new }
 {
     let count = passes.len();
     let part = records.len().div_ceil(count);

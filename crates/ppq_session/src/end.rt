@@ -18,7 +18,8 @@ use ppq_record::Record;
 /// Ends a bulk session: the queue with the records that it had and those that its passes accepted. All
 /// passes of the session come, in any order.
 ///
-/// The runs of the passes become runs of the queue, whose levels are merged at last. It takes no memory.
+/// The runs of the passes become runs of the queue, whose levels are merged at last. It allocates
+/// nothing.
 ///
 /// `Whole`: the queue has all records, and its levels are settled: at most 64 runs are in blocks.
 /// `Stopped(NoFreeBlock)`: it has all records, but a merge of levels found no blocks. `Stopped(Device)`: a

@@ -6,21 +6,29 @@
 //! of row and pool. What stays is a [`Bulk`]: the runs that were there, and the batch from which records
 //! are dealt. [`bulk_end`] puts all together again. All memory is taken by `bulk_begin`.
 //!
-//! Nothing is said of the order in which passes run: the contracts add up what each of them holds.
+//! Nothing is said of the order in which passes run: the contracts add up what each of them holds. In
+//! whatever order their steps come, row and pool show one legal history of `ppq_core` together
+//! ([`sessions_are_histories`]).
 #![tactic(auto)]
 
 mod bringing;
 mod close;
 mod dealing;
 mod end;
+#[cfg(test)]
+mod law_tests;
+mod laws;
 mod line;
 mod lines;
 #[cfg(test)]
 mod tests;
+#[cfg(test)]
+mod thread_tests;
 
 pub use bringing::bring;
 pub use dealing::{are_going, deal};
 pub use end::{bulk_end, end_joined};
+pub use laws::sessions_are_histories;
 pub use line::Line;
 pub use lines::push_lines;
 pub use ppq_begin::{BeginFault, Bulk, Full, Pass, PoolBuf, SessionEnd, Shared, bulk_begin};

@@ -2,7 +2,7 @@
 ghost use Rattle.std.specs.Prelude.{◌≡◌, ◌<◌, ◌^◌, ◌↔◌, false, length, All, IsTrue, [], ◌∷◌};
 ghost use Rattle.std.specs.List.{Any};
 ghost use Rattle.ppq_pass.specs.Passed.{IsOf};
-ghost use Rattle.ppq_session.specs.Dealing.{IsGoing, HasEnded, Adds, Dealt, records_in, records_for};
+ghost use Rattle.ppq_session.specs.Dealing.{IsGoing, HasEnded, Adds, EachAdds, Dealt, records_in, records_for};
 
 use crate::dealing::are_going;
 use crate::line::Line;
@@ -34,6 +34,7 @@ where
     ensures all { IsTrue result ↔ All IsGoing passes.new }
     ensures ended { result ≡ false → Any HasEnded passes.new }
     ensures dealt { Dealt S.shown (records_in lines.now) passes.old passes.new }
+    ensures each { EachAdds S.shown (λ pass. records_for pass lines.now) passes.old passes.new }
 {
     let count = passes.len();
     thread::for_each_mut(

@@ -6,10 +6,10 @@ ghost use Rattle.ppq_queue.specs.Holding.{AreNewSlots};
 ghost use Rattle.ppq_pass.specs.Passed.{IsOf};
 ghost use Rattle.ppq_begin.specs.Session.{keys_of};
 
-use crate::{Line, Pass, SessionEnd, Shared, are_going, bulk_begin, bulk_end, push_lines};
+use crate::{Full, Line, Pass, SessionEnd, Shared, are_going, bulk_begin, bulk_end, push_lines};
 use ppq_budget::Sizes;
 use ppq_outside::{Host, MemRack, MemSlot, OpenGate, Rack, Slot};
-use ppq_queue::Queue;
+use ppq_queue::{Queue, QueueFault};
 use ppq_record::{Pair, Record};
 use std::alloc::Global;
 use std::process::Abort;
@@ -51,14 +51,23 @@ fn blocks_of<H: Host>(
     Ok(slots)
 }
 
-// An empty queue with so much memory, over so many blocks.
+// An empty queue for two workers with so much memory, over so many blocks.
 fn opened<H: Host>(
     rt: &H,
     alloc: Global,
     memory: u64,
     blocks: u32,
 ) -> Result<Queue<MemSlot, Pair>, Fail> {
-    let sizes = Sizes::new(2, 2, 1, memory, blocks).ok_or("a number is out of range")?;
+    opened_with(rt, alloc, Sizes::new(2, 2, 1, memory, blocks))
+}
+
+// An empty queue of these sizes.
+fn opened_with<H: Host>(
+    rt: &H,
+    alloc: Global,
+    sizes: Option<Sizes>,
+) -> Result<Queue<MemSlot, Pair>, Fail> {
+    let sizes = sizes.ok_or("a number is out of range")?;
     let slots = blocks_of(rt, alloc, &mut MemRack::new(), sizes)?;
     match Queue::open(alloc, sizes, slots) {
         Ok(queue) => Ok(queue),
@@ -228,5 +237,86 @@ fn records_from_before_and_of_both_passes_come_out_together(rt: HostRuntime) -> 
         assert_eq!(rt; queue.pop(&rt, &OpenGate), Ok(Some(pair(key))));
     }
     assert_eq!(rt; queue.pop(&rt, &OpenGate), Ok(None));
+    Ok(())
+}
+
+// What a session of one pass says of three records.
+#[derive(Clone, Copy, Debug, PartialEq, Eq)]
+struct Said<R: Record> {
+    // what `try_push` of the first, the second and the third returned
+    tried: (Result<(), Full>, Result<(), Full>, Result<(), Full>),
+    // what `push` of the third returned then
+    pushed: Result<(), (R, QueueFault)>,
+    // whether the pass refused one
+    refused: bool,
+}
+
+// Tries three records at a pass, and pushes the third then.
+fn push_three<H: Host, S: Slot, R: Record>(
+    rt: &H,
+    shared: &Shared<S, R>,
+    records: (R, R, R),
+    pass: &mut Pass<S, R>,
+) -> Said<R>
+    requires { IsOf shared.now pass.old }
+    ensures { pass.new.key ≡ pass.old.key }
+{
+    let first = pass.try_push(records.0);
+    let second = pass.try_push(records.1);
+    let third = pass.try_push(records.2);
+    let pushed = pass.push(rt, shared, records.2);
+    Said {
+        tried: (first, second, third),
+        pushed,
+        refused: pass.refused(),
+    }
+}
+
+// Pushes three records to the only pass of a session.
+fn push_to_one<H: Host, S: Slot, R: Record>(
+    rt: &H,
+    shared: &Shared<S, R>,
+    records: (R, R, R),
+    passes: &mut [Pass<S, R>],
+) -> Result<Said<R>, ()>
+    requires { All (IsOf shared.now) passes.old }
+    ensures { keys_of passes.new ≡ keys_of passes.old }
+{
+    if passes.len() != 1 {
+        return Err(());
+    }
+    Ok(push_three(rt, shared, records, &mut passes[0]))
+}
+
+// A session of a queue with one worker, whose pass gets three records: what the pass says of them, how
+// the session ends, and how many records the queue has then.
+fn in_one_pass<H: Host, S: Slot + Send + Sync, R: Record + Send + Sync>(
+    rt: &H,
+    alloc: Global,
+    queue: Queue<S, R>,
+    records: (R, R, R),
+) -> Result<(Said<R>, SessionEnd, u64), Fail>
+where
+    H::Dir: Send,
+{
+    let Ok((bulk, shared, mut passes)) = bulk_begin(rt, alloc, queue, &OpenGate) else {
+        return Err(Fail::from("no session began"));
+    };
+    let Ok(said) = push_to_one(rt, &shared, records, passes.as_mut_slice()) else {
+        return Err(Fail::from("not one pass"));
+    };
+    let (queue, end) = bulk_end(rt, bulk, shared, passes, &OpenGate);
+    Ok((said, end, queue.size()))
+}
+
+#[test]
+fn a_pass_without_a_device_holds_one_heap(rt: HostRuntime) -> Result<(), Fail> {
+    let alloc = rt.alloc();
+    let queue = opened_with(&rt, alloc, Sizes::new(1, 2, 1, 158, 0))?;
+    let (said, end, size) = in_one_pass(&rt, alloc, queue, (pair(1), pair(2), pair(3)))?;
+    assert_eq!(rt; said.tried, (Ok(()), Ok(()), Err(Full)));
+    assert_eq!(rt; said.pushed, Err((pair(3), QueueFault::NoFreeBlock)));
+    assert!(rt; said.refused);
+    assert_eq!(rt; (end, size), (SessionEnd::Whole, 2));
     Ok(())
 }

@@ -1,0 +1,12 @@
+//! The law of a session's events, at the buffers and blocks of a session of pairs.
+
+use crate::sessions_are_histories;
+use ppq_array::Berth;
+use ppq_outside::MemSlot;
+use ppq_pass::PoolBuf;
+use ppq_record::Pair;
+
+#[test]
+fn the_law_holds_of_a_session_of_pairs() {
+    sessions_are_histories::<PoolBuf<Pair>, Berth<MemSlot, Pair>, Pair>();
+}

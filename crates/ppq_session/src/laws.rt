@@ -1,0 +1,30 @@
+//! The law of a session's events.
+ghost use Rattle.ppq_session.specs.OneHistory.{StatesShowOne, PlaysAreSteps, EachStepShowsOne, AllStepsShowOne};
+
+use ppq_core::{interleaving_laws, slot_laws};
+use ppq_record::Record;
+
+/// One history of a pool of buffers and a row of slots, whose seats are of the passes of a session.
+///
+/// While their rules hold and no two seats of the pool were joined, they show one legal history
+/// together (`shown`). A buffer is free where its word is 0, and held by the pass of the seat that
+/// lists it. A slot is free where the counter is at most its number; else the pass of the seat that
+/// lists it holds it, or has stored it. Each step of any seat that is no join adds one event of the
+/// seat's pass to this history, or none: a `Take` where a buffer was claimed, a `Give` where one was
+/// put back, a `Draw` where a slot was drawn. A pass may always push, and may store a slot that it
+/// holds (`step`). What the tables tell of each play at a word makes it such a step (`plays`). So pool
+/// and row show one legal history after any steps of any threads (`steps`).
+///
+/// It does nothing: its clauses are for the proof of whoever calls it, and for a reader.
+#[inline]
+pub fn sessions_are_histories<B, S, R: Record>()
+    ensures shown { StatesShowOne B S R }
+    ensures plays { PlaysAreSteps B S R }
+    ensures step { EachStepShowsOne B S R }
+    ensures steps { AllStepsShowOne B S R }
+{
+    slot_laws::<R>();
+    interleaving_laws::<R>();
+    ppq_pool::steps_are_events::<B, R>();
+    ppq_row::steps_are_events::<S, R>();
+}
