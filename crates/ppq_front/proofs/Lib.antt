@@ -6,3 +6,4 @@ pub mod Refilling
 pub mod Readied
 pub mod Begun
 pub mod Limiting
+pub mod Beside

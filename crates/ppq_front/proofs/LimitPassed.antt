@@ -1,17 +1,20 @@
--- A limit pass to which a record was added, or refused.
-use Rattle.std.proofs.Common.{◌≡◌, ℕ, false, List, ◌∷◌, ◌++◌, Option, Some, None, refl, sym, ap, ◌∙◌, subst, Ordering}
+-- A limit pass to which a record was added, or refused; and all passes of a session.
+use Rattle.std.proofs.Common.{◌≡◌, ℕ, false, All, List, [], ◌∷◌, ◌++◌, Option, Some, None, refl, sym, ap, ◌∙◌, subst, Ordering}
 use Rattle.std.specs.Prelude.{Result, Ok, Err, OnOk, OnErr, IfErr}
 use Rattle.std.specs.List.{AllByRecursion as Each}
+use Rattle.std.proofs.lemmas.List.Elements.{recursion_from_All}
 use Rattle.ppq_record.specs.Order.{is_before}
 use Rattle.ppq_record.specs.Bag.{IsSameBag}
-use Rattle.ppq_record.proofs.Order.{Each-same_bag}
+use Rattle.ppq_record.proofs.Order.{Each-same_bag, Each-append}
 use Rattle.ppq_outside.specs.Shown.{Shown, AllTell}
 use Rattle.ppq_array.specs.Owner.{slots_shown}
 use Rattle.ppq_fetch.specs.Taking.{NoneBelow}
 use Rattle.ppq_queue.specs.declared.fault.QueueFault.{QueueFault}
 use Rattle.ppq_queue.specs.declared.fault.QueueFault.TheVariants.{NoFreeBlock, Device}
-use Rattle.ppq_pass.specs.Passed.{PassHolding, PassTells, with_one, IsRefusedPush}
-use Rattle.ppq_front.specs.Limited.{HoldsNothing, IsLimited}
+use Rattle.ppq_pass.specs.Passed.{PassKey, PassHolding, PassTells, with_one, IsRefusedPush}
+use Rattle.ppq_front.specs.Fronts.{FrontHolding}
+use Rattle.ppq_front.specs.Limited.{LimitHolding, HoldsNothing, IsLimited}
+use Rattle.ppq_front.specs.Sessions.{AreLimited, front_key, limited_bag}
 
 module _ {S R : Type 0} (shown : S → Shown) (cmp : R → R → Ordering) (limit : R) where
   -- a pass without records
@@ -66,3 +69,23 @@ module _ {S R : Type 0} (shown : S → Shown) (cmp : R → R → Ordering) (limi
           → ((number : ℕ) → old.failed ≡ Some number → (result ≡ Err (r, Device number)) × (new ≡ old)) → (PassTells shown old → PassTells shown new)
           → IsLimited shown cmp limit new
       limited-pushed result added refused latched tells = record { tells = λ t. tells (is.tells (was t)); above = after result old.failed refl added refused latched }
+
+module _ {S R : Type 0} (shown : S → Shown) (cmp : R → R → Ordering) (front : FrontHolding S R) where
+  above-each :
+      (passes : List (LimitHolding S R)) → AllTell (slots_shown shown front.items)
+      → Each (λ p. p.pass.key ≡ front_key front) passes → Each (λ p. p.limit ≡ front.limit) passes → Each (λ p. IsLimited shown cmp p.limit p.pass) passes
+      → Each (λ p. p.pass.failed ≡ None) passes → NoneBelow cmp (Some front.limit) (limited_bag passes)
+  above-each [] tell keys limits known sound = tt
+  above-each (p ∷ ps) tell keys limits known sound =
+      let told = subst (λ (k : PassKey S R). AllTell (slots_shown shown k.items)) (sym keys.0) tell in
+      let none = subst (λ (l : R). NoneBelow cmp (Some l) p.pass.bag) limits.0 (known.0.above told sound.0) in
+      Each-append (λ x. is_before cmp x front.limit ≡ false) p.pass.bag (limited_bag ps) none (above-each ps tell keys.1 limits.1 known.1 sound.1)
+
+  -- no pass of a session has a record below its limit
+  pub passes-above :
+      (passes : List (LimitHolding S R))
+      → AreLimited front passes → All (λ p. IsLimited shown cmp p.limit p.pass) passes → AllTell (slots_shown shown front.items)
+      → All (λ p. p.pass.failed ≡ None) passes → NoneBelow cmp (Some front.limit) (limited_bag passes)
+  passes-above passes are known tell sound =
+      above-each passes tell (recursion_from_All (λ p. p.pass.key ≡ front_key front) passes are.keys) (recursion_from_All (λ p. p.limit ≡ front.limit) passes are.limits)
+      (recursion_from_All (λ p. IsLimited shown cmp p.limit p.pass) passes known) (recursion_from_All (λ p. p.pass.failed ≡ None) passes sound)

@@ -1,9 +1,10 @@
 -- What a front shows after its extract buffer was refilled.
-use Rattle.std.proofs.Common.{◌≡◌, ℕ, ◌≤◌, List, [], ◌++◌, length, Option, Some, None, sym, ap, ◌∙◌, subst}
+use Rattle.std.proofs.Common.{◌≡◌, ℕ, ◌+◌, ◌≤◌, List, [], ◌++◌, length, Option, Some, None, sym, ap, ◌∙◌, subst, arith}
 use Rattle.std.specs.declared.cmp.Ordering.{Ordering}
 use Rattle.ppq_outside.specs.Shown.{Shown, AllTell}
 use Rattle.ppq_array.specs.Kept.{SameSlots, HasFailed, all_writes}
 use Rattle.ppq_fetch.specs.Taking.{NoneBelow}
+use Rattle.ppq_spill.specs.Body.{held_by}
 use Rattle.ppq_queue.specs.Resting.{BodyKept, runs_bag}
 use Rattle.ppq_queue.proofs.Took.{empty_list}
 use Rattle.ppq_begin.specs.declared.parts.BulkParts.{BulkParts}
@@ -42,7 +43,10 @@ module _ {S R : Type 0} (shown : S → Shown) (record_of : List ℕ → R) (widt
       (limit : R) (popped : ℕ) (failed failed' : Option ℕ) (old : FrontHolding S R) → front_holding shown record_of width q limit popped failed ≡ old
       → front_holding shown record_of width q' limit popped failed' ≡ record old { bag = front_bag shown record_of width q'; slots = front_slots shown q'; in_extract = length q'.extract.items; failed = failed' }
   shows-ready limit popped failed failed' old view =
-      let shows : BulkParts S R → FrontHolding S R = λ p.
+      let before = (held_by shown q.body).buffers + q.supply.sure_buffers in
+      let now = (held_by shown q'.body).buffers + q'.supply.sure_buffers in
+      let same : now ≡ before = omega (arith, kept.held, kept.all_buffers) in
+      let shows : BulkParts S R → ℕ → FrontHolding S R = λ p buffers.
       record {
         bag = front_bag shown record_of width q';
         limit = limit;
@@ -51,6 +55,7 @@ module _ {S R : Type 0} (shown : S → Shown) (record_of : List ℕ → R) (widt
         sizes = p.sizes;
         peak = p.peak;
         slots = front_slots shown q';
+        buffers = buffers;
         in_extract = length q'.extract.items;
         row = p.row_seat.row;
         items = p.row_seat.hand.items;
@@ -58,4 +63,4 @@ module _ {S R : Type 0} (shown : S → Shown) (record_of : List ℕ → R) (widt
         failed = failed';
       }
       in
-      ap shows rest ∙ ap (λ (h : FrontHolding S R). record h { bag = front_bag shown record_of width q'; slots = front_slots shown q'; in_extract = length q'.extract.items; failed = failed' }) view
+      ap (λ p. shows p now) rest ∙ ap (shows q) same ∙ ap (λ (h : FrontHolding S R). record h { bag = front_bag shown record_of width q'; slots = front_slots shown q'; in_extract = length q'.extract.items; failed = failed' }) view

@@ -58,6 +58,7 @@ module _ {S R : Type 0} where
           sizes = q.sizes;
           peak = q.peak;
           slots = front_slots q;
+          buffers = (held_by shown q.body).buffers + q.supply.sure_buffers;
           in_extract = length q.extract.items;
           row = q.row_seat.row;
           items = q.row_seat.hand.items;

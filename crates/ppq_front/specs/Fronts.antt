@@ -1,8 +1,8 @@
 -- What contracts see of a front, and what its calls take of it.
-use Rattle.std.specs.Prelude.{◌≡◌, ℕ, min, List, Option, Some, None}
+use Rattle.std.specs.Prelude.{◌≡◌, ◌++◌, ℕ, min, List, Option, Some, None}
 use Rattle.std.specs.declared.cmp.Ordering.{Ordering}
 use Rattle.atomic_table.specs.Seated.{TableId}
-use Rattle.ppq_record.specs.Bag.{first_of, front, without_front, size_below}
+use Rattle.ppq_record.specs.Bag.{IsSameBag, first_of, front, without_front, size_below}
 use Rattle.ppq_outside.specs.Shown.{Shown, AllTell}
 use Rattle.ppq_budget.specs.Sizes.{Numbers}
 use Rattle.ppq_array.specs.Kept.{HasFailed}
@@ -13,7 +13,7 @@ use Rattle.ppq_queue.specs.declared.fault.QueueFault.TheVariants.{NoFreeBlock, D
 
 -- The bag of its records, as far as its slots tell, and the limit; how many records it counts, and how many it gave; its sizes; the
 -- greatest size of the queue when the session began; all slots, those of its runs, those that it freed and those that were put into the
--- row; how many records its extract buffer has; the row with the slots that were put into it, and the pool; and the number of the slot a
+-- row; how many buffers of a block it has, idle ones too; how many records its extract buffer has; the row with the slots that were put into it, and the pool; and the number of the slot a
 -- call of which failed first, if any
 pub record FrontHolding (S R : Type 0) : Type 0 where
   pub bag : List R
@@ -23,6 +23,7 @@ pub record FrontHolding (S R : Type 0) : Type 0 where
   pub sizes : Numbers
   pub peak : ℕ
   pub slots : List Shown
+  pub buffers : ℕ
   pub in_extract : ℕ
   pub row : TableId
   pub items : List (DeviceBlock S R)
@@ -37,6 +38,17 @@ module _ {R : Type 0} (cmp : R → R → Ordering) (limit : R) where
   -- the bag without that record
   abbrev pub without_least_below : List R → List R
   without_least_below bag = without_front cmp bag (min 1 (size_below cmp bag limit))
+
+  -- Other records stand back beside a bag: of all together the least record below the limit is that of the bag, without it the others stay,
+  -- and as many are below the limit as are in the bag
+  pub record StandBack (bag others : List R) : Type 0 where
+    pub least : least_below (bag ++ others) ≡ least_below bag
+    pub left : IsSameBag (without_least_below (bag ++ others)) (without_least_below bag ++ others)
+    pub size : size_below cmp (bag ++ others) limit ≡ size_below cmp bag limit
+
+-- records that are not below a limit stand back beside any bag
+abbrev pub HighStandBack : {R : Type 0} → (R → R → Ordering) → Type 0
+HighStandBack {R} cmp = (limit : R) (bag others : List R) → NoneBelow cmp (Some limit) others → StandBack cmp limit bag others
 
 -- how many records an answer has
 abbrev pub number_in : {R : Type 0} → Option R → ℕ

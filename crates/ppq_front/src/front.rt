@@ -7,6 +7,7 @@ ghost use Rattle.ppq_array.specs.Kept.{SameSlots, HasFailed, all_writes};
 ghost use Rattle.ppq_array.specs.Owner.{slots_shown};
 ghost use Rattle.ppq_queue.specs.Resting.{count_of};
 ghost use Rattle.ppq_queue.specs.declared.fault.QueueFault.TheVariants.{Device};
+ghost use Rattle.ppq_begin.specs.Session.{HasBuffers};
 ghost use Rattle.ppq_begin.specs.State.{IsBulk};
 ghost use Rattle.ppq_front.specs.Fronts.{least_below, without_least_below, number_in, IsReady, IsFrontRefusal};
 ghost use Rattle.ppq_front.specs.FrontState.{IsFront, IsTallied, IsSoundFront, front_holding};
@@ -147,6 +148,7 @@ impl<S: Slot + Send + Sync, R: Record + Send + Sync> Front<S, R> {
             }
         }
     }
+
     // The first record of the extract buffer.
     fn first(&self) -> Option<R>
         requires sound { self.now.failed ≡ None }
@@ -195,6 +197,7 @@ impl<S: Slot + Send + Sync, R: Record + Send + Sync> Front<S, R> {
         ensures range { AreInRange self.now.sizes }
         ensures slots { length self.now.slots ≡ self.now.sizes.blocks }
         ensures items { AllTell self.now.slots → AllTell (slots_shown S.shown self.now.items) }
+        ensures buffers { HasBuffers self.now.sizes self.now.buffers self.now.pool }
         ensures peak { self.now.size + self.now.popped ≤ self.now.peak }
         ensures failed { (number : ℕ) → self.now.failed ≡ Some number → HasFailed number self.now.slots }
     {

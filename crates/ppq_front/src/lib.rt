@@ -3,11 +3,13 @@
 //!
 //! The owner keeps a [`Front`]: the runs that the queue had, and an extract buffer that is refilled with
 //! records below the limit alone. Each worker has a [`LimitPass`]. No pass has a record below the limit,
-//! so what the front gives is the least of all records there are. [`limit_begin`] takes a queue apart.
+//! so what the front gives is the least of all records there are ([`passes_stand_back`]). [`limit_begin`]
+//! takes a queue apart.
 #![tactic(auto)]
 
 mod begin;
 mod front;
+mod laws;
 mod limit_pass;
 mod refill;
 #[cfg(test)]
@@ -15,4 +17,5 @@ mod tests;
 
 pub use begin::limit_begin;
 pub use front::Front;
+pub use laws::{high_records_stand_back, passes_stand_back};
 pub use limit_pass::LimitPass;

@@ -45,6 +45,7 @@ where
         Some(limit),
         gate,
     );
+    // The number is not used: the call's clause says that the supply still has no row, as the proof needs.
     let _free = q.supply.free_slots();
     answer
 }

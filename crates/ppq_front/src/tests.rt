@@ -1,10 +1,13 @@
 //! Worked examples of a front and of a limit pass. A number stands for the pair with that key and value 0.
-ghost use Rattle.std.specs.Prelude.{◌≡◌, IfOk, map};
+ghost use Rattle.std.specs.Prelude.{◌≡◌, ◌++◌, None, All, IfOk, map};
 ghost use Rattle.ppq_outside.specs.MemoryDevice.{slot_shown};
+ghost use Rattle.ppq_outside.specs.Shown.{AllTell};
 ghost use Rattle.ppq_queue.specs.Holding.{AreNewSlots};
 ghost use Rattle.ppq_pass.specs.Passed.{IsOf};
+ghost use Rattle.ppq_front.specs.Fronts.{least_below};
+ghost use Rattle.ppq_front.specs.Sessions.{AreLimited, limited_bag};
 
-use crate::{Front, LimitPass, limit_begin};
+use crate::{Front, LimitPass, limit_begin, passes_stand_back};
 use ppq_begin::Shared;
 use ppq_budget::Sizes;
 use ppq_outside::{Host, MemRack, MemSlot, OpenGate, Rack, Slot};
@@ -162,7 +165,8 @@ fn adds<H: Host, S: Slot, R: Record>(
     r: R,
 ) -> Result<bool, Fail>
     requires { IsOf shared.now pass.old.pass }
-    ensures { pass.new.pass.key ≡ pass.old.pass.key }
+    ensures key { pass.new.pass.key ≡ pass.old.pass.key }
+    ensures limit { pass.new.limit ≡ pass.old.limit }
 {
     if r.is_less(&pass.limit()) {
         return Err(Fail::from("a record below the limit"));
@@ -184,6 +188,8 @@ fn adds_all<H: Host, S: Slot, R: Record>(
     records: &[R],
 ) -> Result<Accepted, Fail>
     requires { IsOf shared.now pass.old.pass }
+    ensures key { pass.new.pass.key ≡ pass.old.pass.key }
+    ensures limit { pass.new.limit ≡ pass.old.limit }
 {
     let mut easy = 0u64;
     'adding: for r in records {
@@ -195,6 +201,79 @@ fn adds_all<H: Host, S: Slot, R: Record>(
         easy,
         in_all: pass.accepted(),
     })
+}
+
+// Adds records to the first pass of a session.
+fn adds_to_first<H: Host, S: Slot + Send + Sync, R: Record + Send + Sync>(
+    rt: &H,
+    front: &Front<S, R>,
+    shared: &Shared<S, R>,
+    passes: &mut Vec<LimitPass<S, R>>,
+    records: &[R],
+) -> Result<(), Fail>
+    requires session { AreLimited front.now passes.old.items }
+    requires of { All (λ p. IsOf shared.now p.pass) passes.old.items }
+    ensures { AreLimited front.now passes.new.items }
+{
+    if passes.is_empty() {
+        return Err(Fail::from("no pass"));
+    }
+    adds_all(rt, shared, &mut passes[0], records)?;
+    Ok(())
+}
+
+// What a front gives is the smallest record of all, also of those of the passes.
+fn least_of_all<H: Host, S: Slot + Send + Sync, R: Record + Send + Sync>(
+    rt: &H,
+    front: &mut Front<S, R>,
+    passes: &[LimitPass<S, R>],
+) -> Result<Option<R>, QueueFault>
+where
+    H::Dir: Send,
+    requires { AreLimited front.old passes.now }
+    ensures { IfOk result (λ answer. AllTell front.old.slots → All (λ p. p.pass.failed ≡ None) passes.now → answer ≡ least_below R.Ord.cmp front.old.limit (front.old.bag ++ limited_bag passes.now)) }
+{
+    passes_stand_back(front, passes);
+    front.pop(rt, &OpenGate)
+}
+
+// What the front of a session gives, after records were added to its first pass.
+fn least_beside<H: Host, S: Slot + Send + Sync, R: Record + Send + Sync>(
+    rt: &H,
+    front: Front<S, R>,
+    shared: &Shared<S, R>,
+    passes: Vec<LimitPass<S, R>>,
+    records: &[R],
+) -> Result<Option<R>, Fail>
+where
+    H::Dir: Send,
+    requires session { AreLimited front passes.items }
+    requires of { All (λ p. IsOf shared.now p.pass) passes.items }
+{
+    let mut front = front;
+    let mut passes = passes;
+    adds_to_first(rt, &front, shared, &mut passes, records)?;
+    match least_of_all(rt, &mut front, passes.as_slice()) {
+        Ok(least) => Ok(least),
+        Err(_) => Err(Fail::from("a pop was refused")),
+    }
+}
+
+// What the front of a queue gives in a session in which a pass has these records.
+fn least_in<H: Host, S: Slot + Send + Sync, R: Record + Send + Sync>(
+    rt: &H,
+    alloc: Global,
+    queue: Queue<S, R>,
+    limit: R,
+    records: &[R],
+) -> Result<Option<R>, Fail>
+where
+    H::Dir: Send,
+{
+    match limit_begin(rt, alloc, queue, limit, &OpenGate) {
+        Ok((front, shared, passes)) => least_beside(rt, front, &shared, passes, records),
+        Err(_) => Err(Fail::from("no session began")),
+    }
 }
 
 #[test]
@@ -232,6 +311,18 @@ fn a_limit_pass_takes_records_at_and_above_the_limit(rt: HostRuntime) -> Result<
     assert_eq!(rt;
         adds_all(&rt, &shared, &mut pass, &records)?,
         Accepted { easy: 3, in_all: 5 }
+    );
+    Ok(())
+}
+
+#[test]
+fn a_front_gives_the_least_record_of_all_passes_too(rt: HostRuntime) -> Result<(), Fail> {
+    let alloc = rt.alloc();
+    let queue = pushed(&rt, opened(&rt, alloc)?, &[pair(6), pair(3)])?;
+    let records = [5, 4, 7].map(pair);
+    assert_eq!(rt;
+        least_in(&rt, alloc, queue, pair(4), &records)?,
+        Some(pair(3))
     );
     Ok(())
 }

@@ -3,6 +3,7 @@ use Rattle.std.proofs.lemmas.List.{get_or_append_left}
 use Rattle.ppq_outside.specs.Shown.{AllTell, Tells}
 use Rattle.ppq_array.specs.Owner.{slots_shown}
 use Rattle.ppq_queue.specs.Resting.{slots_of}
+use Rattle.ppq_begin.specs.Session.{HasBuffers}
 use Rattle.ppq_front.proofs.front.Front.known.Goals as goal
 
 pub returns-clause-items : goal.returns-clause-items
@@ -13,3 +14,8 @@ returns-clause-items g c =
     let rest = slots_of shown parts.body parts.supply in
     subst (λ f. AllTell f.slots → AllTell (slots_shown shown f.items)) c.self.view_is
     (λ t k d l. subst Tells (get_or_append_left put rest d k l) (t k d (omega (arith, l, length-append put rest))))
+
+pub returns-clause-buffers : goal.returns-clause-buffers
+returns-clause-buffers g c =
+    let front = c.self.invariant.0 in
+    subst (λ f. HasBuffers f.sizes f.buffers f.pool) c.self.view_is (omega (arith, front.held, front.pool))
