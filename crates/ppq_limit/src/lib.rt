@@ -8,6 +8,8 @@
 mod bringing;
 mod end;
 mod room;
+#[cfg(test)]
+mod tests;
 
 pub use end::limit_end;
 pub use ppq_front::{Front, LimitPass, limit_begin};
