@@ -8,7 +8,7 @@ use Rattle.ppq_outside.specs.Shown.{Shown}
 use Rattle.ppq_pass.specs.Passed.{PassHolding}
 use Rattle.ppq_begin.specs.Session.{bag_of, accepted_of}
 use Rattle.ppq_session.specs.declared.line.Line.{Line}
-use Rattle.ppq_session.specs.Dealing.{Adds, Dealt, records_in, records_for}
+use Rattle.ppq_session.specs.Dealing.{Adds, EachAdds, Dealt, records_in, records_for}
 use Rattle.ppq_session.proofs.LineParts.{dealt-lines}
 use Rattle.ppq_front.specs.Limited.{LimitHolding}
 use Rattle.ppq_front.specs.Sessions.{limited_bag, limited_accepted}
@@ -54,18 +54,26 @@ module _ {S R : Type 0} where
   limits-same (o ∷ os) (n ∷ ns) e each = ap₂ (λ (l : R) (ls : List R). l ∷ ls) (each 0 o (omega arith)) (limits-same os ns (omega arith) (λ i d h. each (suc i) d (omega arith)))
 
   module _ (shown : S → Shown) where
-    -- each pass was given the records of its lines
-    pub limited-lines :
-        (lines : List (Line R)) (olds news : List (LimitHolding S R)) → length news ≡ length olds → All (λ line. line.pass < length olds) lines
-        → ((i : ℕ) (d : LimitHolding S R) → i < length olds → Adds shown (records_for i lines) (get_or olds i d).pass (get_or news i d).pass)
-        → Dealt shown (records_in lines) (passes_of olds) (passes_of news)
-    limited-lines lines [] [] e named each = dealt-lines shown lines [] [] refl named (λ i d h. absurd (omega arith))
-    limited-lines lines [] (n ∷ ns) e named each = absurd (omega arith)
-    limited-lines lines (o ∷ os) news e named each =
+    -- each was given its records, said of their passes
+    pub limited-each :
+        (records_of : ℕ → List R) (olds news : List (LimitHolding S R)) → length news ≡ length olds
+        → ((i : ℕ) (d : LimitHolding S R) → i < length olds → Adds shown (records_of i) (get_or olds i d).pass (get_or news i d).pass) → EachAdds shown records_of (passes_of olds) (passes_of news)
+    limited-each records_of [] news e each = record { count = length-map news (λ (p : LimitHolding S R). p.pass) ∙ e; each = λ i d h. absurd (omega arith) }
+    limited-each records_of (o ∷ os) news e each =
+        let pass_of = λ (p : LimitHolding S R). p.pass in
         let olds = o ∷ os in
-        let count : length (passes_of olds) ≡ length olds = length-map olds (λ (p : LimitHolding S R). p.pass) in
-        dealt-lines shown lines (passes_of olds) (passes_of news) (length-map news (λ (p : LimitHolding S R). p.pass) ∙ (e ∙ sym count)) (subst (λ n. All (λ line. line.pass < n) lines) (sym count) named)
-        (λ i d h.
-        let within : i < length olds = omega (arith, count) in
-        subst (λ (n : PassHolding S R). Adds shown (records_for i lines) (get_or (passes_of olds) i d) n) (sym (get_or-map (λ (p : LimitHolding S R). p.pass) news i o d (omega (arith, within, e))))
-        (subst (λ (p : PassHolding S R). Adds shown (records_for i lines) p (get_or news i o).pass) (sym (get_or-map (λ (p : LimitHolding S R). p.pass) olds i o d within)) (each i o within)))
+        let count : length (passes_of olds) ≡ length olds = length-map olds pass_of in
+        record {
+          count = length-map news pass_of ∙ (e ∙ sym count);
+          each = λ i d h.
+              let within : i < length olds = omega (arith, count) in
+              subst (λ (n : PassHolding S R). Adds shown (records_of i) (get_or (passes_of olds) i d) n) (sym (get_or-map pass_of news i o d (omega (arith, within, e))))
+              (subst (λ (p : PassHolding S R). Adds shown (records_of i) p (get_or news i o).pass) (sym (get_or-map pass_of olds i o d within)) (each i o within));
+        }
+
+    -- so all lines' records were dealt, where each line names one of the passes
+    pub limited-lines :
+        (lines : List (Line R)) (olds news : List (LimitHolding S R)) → All (λ line. line.pass < length olds) lines → EachAdds shown (λ pass. records_for pass lines) (passes_of olds) (passes_of news)
+        → Dealt shown (records_in lines) (passes_of olds) (passes_of news)
+    limited-lines lines olds news named each =
+        dealt-lines shown lines (passes_of olds) (passes_of news) (subst (λ n. All (λ line. line.pass < n) lines) (sym (length-map olds (λ (p : LimitHolding S R). p.pass))) named) each

@@ -8,7 +8,7 @@ ghost use Rattle.ppq_outside.specs.Shown.{AllTell};
 ghost use Rattle.ppq_pass.specs.Passed.{PassTells};
 ghost use Rattle.ppq_queue.specs.Holding.{Holding};
 ghost use Rattle.ppq_queue.specs.declared.fault.QueueFault.TheVariants.{NoFreeBlock, Device};
-ghost use Rattle.ppq_session.specs.Dealing.{records_in};
+ghost use Rattle.ppq_session.specs.Dealing.{EachAdds, records_in, records_for};
 ghost use Rattle.ppq_load.specs.declared.fault.LoadFault.TheVariants.{Queue as ByQueue};
 ghost use Rattle.ppq_load.specs.Loading.{LoadStopsFor, IsByLoad, IsHandedBack};
 ghost use Rattle.ppq_load.specs.Refusal.{Keeps};
@@ -120,6 +120,7 @@ impl<S: Slot + Send + Sync> Limits<S> {
         ensures fewer { length answers.new.items ≤ length asks.now }
         ensures room { vec_capacity answers.new ≡ vec_capacity answers.old }
         ensures session { (queue : Holding Pair) (limit : Pair) (given left : List Pair) (popped : ℕ) → InLimits S.shown queue limit given left popped self.old → InLimits S.shown queue limit (given ++ records_in lines.now) (left_after pair_cmp limit left asks.now) (popped + pops_in asks.now) self.new }
+        ensures each { EachAdds S.shown (λ pass. records_for pass lines.now) (passes_of self.old.passes) (passes_of self.new.passes) }
         ensures sizes { self.new.front.sizes ≡ self.old.front.sizes }
         ensures limit { self.new.front.limit ≡ self.old.front.limit }
     {
@@ -154,7 +155,7 @@ impl<S: Slot + Send + Sync> Limits<S> {
     }
 
     /// Ends the session: the queue with the records that are left of what it had and those that its passes
-    /// accepted. The runs of the passes become runs of the queue, and levels are merged. It takes no memory.
+    /// accepted. The runs of the passes become runs of the queue, and levels are merged. It allocates nothing.
     ///
     /// `Ok`: the queue has all records that were given. `NoFreeBlock`: a pass or a merge of levels found no
     /// blocks, and no accepted record is lost. `Device`: the block with that number failed.

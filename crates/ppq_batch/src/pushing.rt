@@ -2,7 +2,7 @@
 ghost use Rattle.std.specs.Prelude.{◌≡◌, ◌<◌, ◌^◌, ◌↔◌, false, length, map, All, Any, IsTrue, [], ◌∷◌};
 ghost use Rattle.ppq_record.specs.Order.{is_before};
 ghost use Rattle.ppq_pass.specs.Passed.{IsOf};
-ghost use Rattle.ppq_session.specs.Dealing.{IsGoing, HasEnded, Adds, Dealt, records_in, records_for};
+ghost use Rattle.ppq_session.specs.Dealing.{IsGoing, HasEnded, Adds, EachAdds, Dealt, records_in, records_for};
 ghost use Rattle.ppq_batch.specs.Batches.{AreAbove, passes_of};
 
 use ppq_front::LimitPass;
@@ -31,6 +31,7 @@ where
     requires of { All (λ p. IsOf shared.now p.pass) passes.old }
     requires going { All (λ p. IsGoing p.pass) passes.old }
     ensures dealt { Dealt S.shown (records_in lines.now) (passes_of passes.old) (passes_of passes.new) }
+    ensures each { EachAdds S.shown (λ pass. records_for pass lines.now) (passes_of passes.old) (passes_of passes.new) }
     ensures limits { map (λ p. p.limit) passes.new ≡ map (λ p. p.limit) passes.old }
 {
     let count = passes.len();

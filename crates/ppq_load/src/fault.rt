@@ -13,7 +13,7 @@ pub enum LoadFault {
     Queue { fault: QueueFault },
     /// The library failed.
     Read,
-    /// Memory was wanting, for a session or for a read.
+    /// An allocation failed, for a session or for a read.
     Memory,
     /// The file ended at this byte, before the length that was said of it.
     Ended { got: u64 },

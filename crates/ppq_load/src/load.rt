@@ -25,11 +25,11 @@ use std::marker::Model;
 /// records were given to them.
 #[derive(Drop)]
 pub struct Load<S: Slot + Send + Sync> {
-    /// What is left of the queue, with the batch from which records are dealt.
+    // What is left of the queue, with the batch from which records are dealt.
     bulk: Bulk<S, Pair>,
-    /// What all passes share.
+    // What all passes share.
     shared: Shared<S, Pair>,
-    /// A pass for each worker.
+    // A pass for each worker.
     passes: Vec<Pass<S, Pair>>,
 }
 

@@ -4,7 +4,7 @@ use Rattle.ppq_record.specs.Pair.{pair_cmp}
 use Rattle.ppq_outside.specs.Shown.{AllTell}
 use Rattle.ppq_pass.specs.Passed.{IsOf}
 use Rattle.ppq_queue.specs.Holding.{Holding}
-use Rattle.ppq_session.specs.Dealing.{IsGoing, Dealt, records_in}
+use Rattle.ppq_session.specs.Dealing.{IsGoing, EachAdds, Dealt, records_in, records_for}
 use Rattle.ppq_load.proofs.Loadings.{kept_back}
 use Rattle.ppq_front.specs.Limited.{LimitHolding}
 use Rattle.ppq_front.specs.Sessions.{AreLimited, shared_of}
@@ -70,3 +70,15 @@ returns-clause-answers g c =
     subst (λ l. (queue : Holding Pair) (limit : Pair) (given left : List Pair) (popped : ℕ) → InLimits shown queue limit given left popped l → AllTell queue.slots → answers ≡ take (length answers) (answers_to pair_cmp limit left asks))
     c.self.view_is
     (λ queue limit given left popped s t. session-answers shown queue limit given left popped asks answers inside.front c.run_both.new.front inside.passes.items going c.run_both.ensures.answered s t)
+
+pub returns-clause-each : goal.returns-clause-each
+returns-clause-each g c =
+    let shown = g.S.Slot.shown in
+    let inside = c.self.inside in
+    let olds = inside.passes.items in
+    let news = c.run_both.new.passes in
+    let records = λ (pass : ℕ). records_for pass c.args.lines.now in
+    let back = kept_back inside.passes.len news (drop (length news) olds) (c.run_both.auto.passes ∙ c.as_mut_slice.ensures.len) in
+    let each = subst (λ ps. EachAdds shown records (passes_of ps) (passes_of news)) c.as_mut_slice.ensures.value c.run_both.ensures.each in
+    subst (λ l. EachAdds shown records (passes_of l.passes) (passes_of (take inside.passes.len (news ++ drop (length news) olds)))) c.self.view_is
+    (subst (λ ps. EachAdds shown records (passes_of olds) (passes_of ps)) (sym back) each)
