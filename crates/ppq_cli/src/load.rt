@@ -21,7 +21,7 @@ const LONGEST: u64 = 1_048_576;
 pub enum LoadFault {
     /// The library failed.
     ReadFault,
-    /// Memory was wanting.
+    /// An allocation failed.
     Memory,
     /// There is no such file.
     NoScript,

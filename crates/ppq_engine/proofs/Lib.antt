@@ -2,6 +2,7 @@ pub mod Advancing
 pub mod Asked
 pub mod Batches
 pub mod Below
+pub mod Deferred
 pub mod Ending
 pub mod Kept
 pub mod Lengths

@@ -1,6 +1,8 @@
 pub use Rattle.ppq_load.specs.Reading as Reading
 pub use Rattle.ppq_load.specs.Refusal as Refusal
+pub mod Deferred
 pub mod Ends
+pub mod Examples
 pub mod Files
 pub mod Gathers
 pub mod Limits

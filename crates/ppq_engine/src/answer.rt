@@ -5,13 +5,21 @@ use ppq_record::Pair;
 /// are, whether a limited pop gave all, that no record is below a session's limit, or what was drained.
 #[derive(Clone, Copy, Debug, PartialEq, Eq)]
 pub enum Answer {
+    /// Nothing.
     Nothing,
+    /// `empty`: there is no record.
     Empty,
+    /// A record's line.
     Record { item: Pair },
+    /// How many records there are.
     Size { records: u64 },
+    /// `all`: no record below the limit of a limited pop is left.
     All,
+    /// `more`: one is left.
     More,
+    /// `limit`: no record is below the limit of the session.
     Limit,
+    /// What was drained.
     Drained { drained: Drained },
 }
 

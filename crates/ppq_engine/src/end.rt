@@ -19,7 +19,7 @@ pub enum End {
     NoFreeBlock,
     /// The budget is below its fixed part, which is `need` records.
     BudgetTooSmall { need: u64 },
-    /// Memory was wanting.
+    /// An allocation failed.
     Memory,
     /// A file ended at `got`, before the length that it had, which was `said`, both in bytes.
     FileChanged { line: u32, said: u64, got: u64 },

@@ -5,6 +5,7 @@ mod answer;
 mod batch;
 mod end;
 mod gathered;
+mod laws;
 mod limits;
 mod load;
 mod pop;
@@ -17,7 +18,10 @@ mod stop;
 mod tests;
 #[cfg(test)]
 mod tests_generated;
+#[cfg(test)]
+mod tests_laws;
 
 pub use answer::{Answer, Drained};
 pub use end::{End, Ended};
+pub use laws::session_laws;
 pub use run::run_script;

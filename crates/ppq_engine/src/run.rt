@@ -243,7 +243,7 @@ where
 
 /// Runs a checked script on a queue of these sizes over these blocks, which all come back. Its output
 /// goes to the sink, gathered into pieces of tens of kilobytes. Its files are read by pieces of as many
-/// records as each worker has a block, into memory that is taken before the first command.
+/// records as each worker has a block, into memory that is allocated before the first command.
 ///
 /// `Done`: the sink took the script's output. `WriteFault`: the sink failed; it took a prefix of
 /// it. `ReadFault`: the library failed. `DeviceFault`: the block with that number failed.
@@ -252,9 +252,9 @@ where
 /// begins a limit session; at least what all commands up to such a load print was taken. `FileChanged`:
 /// the file of the command on that line ended at `got`, before the length `said` that the script keeps,
 /// which no library does that tells.
-/// `BudgetTooSmall` comes exactly where the budget is below its fixed part, unless memory was wanting;
-/// nothing was written there. On `Memory` nothing was written, or what the commands before a `bulk`, `gen`,
-/// `bulk_begin` or `limit_begin` print: such a command takes memory for its session. No other end comes.
+/// `BudgetTooSmall` comes if and only if the budget is below its fixed part, unless an allocation failed;
+/// nothing was written then. On `Memory` nothing was written, or what the commands before a `bulk`, `gen`,
+/// `bulk_begin` or `limit_begin` print: such a command allocates for its session. No other end comes.
 ///
 /// What is said of the output holds where the contents of the blocks and of the library are visible to
 /// proofs; where the script reads no file, the library's need not be. When each end comes, and which

@@ -362,10 +362,15 @@ fn a_limit_session_pops_below_its_limit(rt: HostRuntime) -> Result<(), Fail> {
 
 #[test]
 fn one_record_in_a_limit_session_wants_a_block(rt: HostRuntime) -> Result<(), Fail> {
-    let text = b"size\npush 1 0\nlimit_begin 4 0\nlimit_end\n";
-    let (end, wrote) = plain(&rt, rt.alloc(), text, Sizes::new(1, 2, 1, 158, 0))?;
-    assert_eq!(rt; end, End::NoFreeBlock);
-    assert_eq!(rt; wrote.as_slice(), b"0\n".as_slice());
+    let table: [(&[u8], &[u8]); 2] = [
+        (b"push 1 0\nlimit_begin 4 0\nlimit_end\n", b""),
+        (b"size\npush 1 0\nlimit_begin 4 0\nlimit_end\n", b"0\n"),
+    ];
+    for (text, wants) in table {
+        let (end, wrote) = plain(&rt, rt.alloc(), text, Sizes::new(1, 2, 1, 158, 0))?;
+        assert_eq!(rt; end, End::NoFreeBlock);
+        assert_eq!(rt; wrote.as_slice(), wants);
+    }
     Ok(())
 }
 
@@ -456,19 +461,13 @@ impl Gate for PairGate {
 
 #[test]
 fn two_workers_add_records_at_once(rt: HostRuntime) -> Result<(), Fail> {
-    let table: [(&[u8], &[u8]); 4] = [
-        (
-            b"limit_begin 4 0\nlimit_push 0 5 0\nlimit_push 1 6 0\nlimit_end\nbulk_pop 2\n",
-            b"5 0\n6 0\n",
-        ),
-        (
-            b"bulk_begin\nbulk_push 0 2 0\nbulk_push 1 1 0\nbulk_end\nbulk_pop 2\n",
-            b"1 0\n2 0\n",
-        ),
-        (b"bulk f\nbulk_pop 4\n", b"7 7\n7 7\n7 7\n7 7\n"),
-        (b"gen 1 4\nsize\n", b"4\n"),
+    let table: [&[u8]; 4] = [
+        b"bulk f\n",
+        b"gen 1 4\n",
+        b"bulk_begin\nbulk_push 0 1 0\nbulk_push 1 2 0\nbulk_end\n",
+        b"limit_begin 4 0\nlimit_push 0 5 0\nlimit_push 1 6 0\nlimit_end\n",
     ];
-    for (text, wants) in table {
+    for text in table {
         let gate = PairGate::new();
         let (ended, wrote) = outcome_past(
             &rt,
@@ -481,7 +480,7 @@ fn two_workers_add_records_at_once(rt: HostRuntime) -> Result<(), Fail> {
         )?;
         assert!(rt; gate.is_passed());
         assert_eq!(rt; ended.end, End::Done);
-        assert_eq!(rt; wrote.as_slice(), wants);
+        assert_eq!(rt; wrote.len(), 0);
     }
     Ok(())
 }

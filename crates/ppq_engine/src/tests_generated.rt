@@ -65,6 +65,8 @@ struct Case {
     load: u64,
     // How many records were popped in the open limit session.
     popped: u64,
+    // Whether a bulk session was begun.
+    bulked: bool,
     // Whether a limit session was begun.
     limited: bool,
 }
@@ -78,6 +80,7 @@ impl Case {
             list: Vec::new(alloc),
             load: 0,
             popped: 0,
+            bulked: false,
             limited: false,
         }
     }
@@ -117,6 +120,7 @@ impl Case {
     // A bulk session with so many pushes, each by a pass below a number of workers.
     fn session(&mut self, seed: &mut u64, mood: Mood, count: u64) -> Result<(), Fail> {
         self.command(b"bulk_begin", &[])?;
+        self.bulked = true;
         for _ in 0..count {
             let item = record(seed, mood.keys);
             let pass = draw(seed, mood.workers);
@@ -318,14 +322,14 @@ fn add_command(case: &mut Case, seed: &mut u64, mood: Mood) -> Result<(), Fail> 
     let is_full = case.list.len() as u64 >= mood.load;
     if draw(seed, 100) < mood.pushes && !is_full {
         let room = mood.load.saturating_sub(case.list.len() as u64);
-        return match draw(seed, 40) {
+        return match draw(seed, 8) {
             0 => case.generate(draw(seed, 1_000), draw(seed, 6).min(room)),
             1 => {
-                let count = draw(seed, 12).min(room);
+                let count = draw(seed, 30).min(room);
                 case.session(seed, mood, count)
             }
             2 => {
-                let count = draw(seed, 24).min(room);
+                let count = draw(seed, 40).min(room);
                 case.limit_session(seed, mood, count)
             }
             _ => case.push(record(seed, mood.keys)),
@@ -365,26 +369,58 @@ fn one_script(alloc: Global, seed: &mut u64) -> Result<Case, Fail> {
     script(alloc, seed, commands, 400, 1)
 }
 
-// How many blocks are enough for a load: those that it fills twice, 72, and four for each worker.
-fn room(load: u64, workers: u32, block: u32) -> u64 {
-    let filled = load.div_ceil(u64::from(block.max(1)));
-    filled
-        .saturating_mul(2)
-        .saturating_add(u64::from(workers).saturating_mul(4))
-        .saturating_add(72)
+// The sizes of a queue but for the blocks of its device.
+#[derive(Clone, Copy)]
+struct Shape {
+    workers: u32,
+    // How many records a block has.
+    block: u32,
+    // How many blocks a heap has.
+    heap: u32,
+    // How many buffers the budget leaves in the pool.
+    buffers: u64,
 }
 
-// The sizes with these blocks of a device, and no more budget than is fixed: a block of records for
-// each of 72 buffers, and, for each worker, its heap and 6 blocks; and a record for each block.
-fn exact(workers: u32, block: u32, heap: u32, blocks: u64) -> Option<Sizes> {
-    let buffers = u64::from(heap)
-        .saturating_add(6)
-        .saturating_mul(u64::from(workers))
-        .saturating_add(72);
-    let budget = buffers
-        .saturating_mul(u64::from(block))
-        .saturating_add(blocks);
-    Sizes::new(workers, block, heap, budget, blocks.min(65_536) as u32)
+impl Shape {
+    // How many blocks are enough for a load: those that it fills twice, 72, and four for each worker.
+    fn room(self, load: u64) -> u64 {
+        let filled = load.div_ceil(u64::from(self.block.max(1)));
+        filled
+            .saturating_mul(2)
+            .saturating_add(u64::from(self.workers).saturating_mul(4))
+            .saturating_add(72)
+    }
+
+    // The sizes with these blocks of a device. The budget is what is fixed, and the buffers of the pool: a
+    // block of records for each of these and of 72 more, and, for each worker, its heap and 6 blocks; and a
+    // record for each block of the device.
+    fn over(self, blocks: u64) -> Option<Sizes> {
+        let buffers = u64::from(self.heap)
+            .saturating_add(6)
+            .saturating_mul(u64::from(self.workers))
+            .saturating_add(72)
+            .saturating_add(self.buffers);
+        let budget = buffers
+            .saturating_mul(u64::from(self.block))
+            .saturating_add(blocks);
+        Sizes::new(
+            self.workers,
+            self.block,
+            self.heap,
+            budget,
+            blocks.min(65_536) as u32,
+        )
+    }
+}
+
+// One worker, two records a block, one block a heap, and an empty pool.
+fn alone() -> Shape {
+    Shape {
+        workers: 1,
+        block: 2,
+        heap: 1,
+        buffers: 0,
+    }
 }
 
 // A run of the script is done, and prints what the list does.
@@ -419,9 +455,9 @@ where
 fn the_room_is_enough_for_generated_scripts(rt: HostRuntime) -> Result<(), Fail> {
     let mut seed = 1;
     let mut most = 0u64;
-    for _ in 0..1_500 {
+    for _ in 0..150 {
         let case = one_script(rt.alloc(), &mut seed)?;
-        is_done(&rt, &case, exact(1, 2, 1, room(case.load, 1, 2)))?;
+        is_done(&rt, &case, alone().over(alone().room(case.load)))?;
         most = most.max(case.load);
     }
     assert_eq!(rt; most, 400);
@@ -431,53 +467,103 @@ fn the_room_is_enough_for_generated_scripts(rt: HostRuntime) -> Result<(), Fail>
 #[test]
 fn a_block_less_than_the_room_refuses_no_load_of_a_heap(rt: HostRuntime) -> Result<(), Fail> {
     let mut seed = 2;
-    for _ in 0..1_500 {
+    for _ in 0..150 {
         let case = one_script(rt.alloc(), &mut seed)?;
-        let blocks = room(case.load, 1, 2).saturating_sub(1);
-        let is_whole = is_cut(&rt, &case, exact(1, 2, 1, blocks))?;
+        let blocks = alone().room(case.load).saturating_sub(1);
+        let is_whole = is_cut(&rt, &case, alone().over(blocks))?;
         assert!(rt; is_whole || case.load > 2 || case.limited);
     }
     Ok(())
 }
 
-// One generated script on a device that is large enough, and on one with fewer blocks. It says whether
-// the second run was done.
+// What some generated scripts were.
+#[derive(Drop)]
+struct Tally {
+    // How many had sessions of both kinds.
+    both: u64,
+    // How many were done on a device with fewer blocks.
+    whole: u64,
+    // How many found no free block there.
+    cut: u64,
+}
+
+// Runs a generated script on a device that is large enough, and on one with fewer blocks.
 fn on_two_devices<H: Host + Abort>(
     rt: &H,
     alloc: Global,
     seed: &mut u64,
-    (workers, block, heap): (u32, u32, u32),
-) -> Result<bool, Fail>
+    shape: Shape,
+    tally: &mut Tally,
+) -> Result<(), Fail>
 where
     H::Dir: Send,
 {
-    let commands = draw(seed, 120);
-    let case = script(alloc, seed, commands, 100, workers)?;
-    let enough = room(case.load, workers, block);
-    is_done(rt, &case, exact(workers, block, heap, enough))?;
+    let commands = 10 + draw(seed, 30);
+    let case = script(alloc, seed, commands, 100, shape.workers)?;
+    is_done(rt, &case, shape.over(shape.room(case.load)))?;
     let fewer = draw(seed, 12);
-    let is_whole = is_cut(rt, &case, exact(workers, block, heap, fewer))?;
-    let in_heap = u64::from(heap).saturating_mul(u64::from(block));
+    let is_whole = is_cut(rt, &case, shape.over(fewer))?;
+    let in_heap = u64::from(shape.heap).saturating_mul(u64::from(shape.block));
     assert!(rt; is_whole || case.load > in_heap || case.limited);
-    Ok(is_whole)
+    let has_both = u64::from(case.bulked && case.limited);
+    tally.both = tally.both.saturating_add(has_both);
+    tally.whole = tally.whole.saturating_add(u64::from(is_whole));
+    tally.cut = tally.cut.saturating_add(u64::from(!is_whole));
+    Ok(())
+}
+
+// Runs 405 generated scripts for so many workers: one in three with no buffer in the pool, one with two and
+// one with five. Most have sessions of both kinds; with fewer blocks some are done, and some are not.
+fn do_as_a_list<H: Host + Abort>(
+    rt: &H,
+    alloc: Global,
+    workers: u32,
+    block: u32,
+    heap: u32,
+) -> Result<(), Fail>
+where
+    H::Dir: Send,
+{
+    let mut seed = u64::from(workers);
+    let mut tally = Tally {
+        both: 0,
+        whole: 0,
+        cut: 0,
+    };
+    for _ in 0..135 {
+        for buffers in [0, 2, 5] {
+            let shape = Shape {
+                workers,
+                block,
+                heap,
+                buffers,
+            };
+            on_two_devices(rt, alloc, &mut seed, shape, &mut tally)?;
+        }
+    }
+    let Tally { both, whole, cut } = tally;
+    assert!(rt; both > 202 && whole > 40 && cut > 40);
+    Ok(())
 }
 
 #[test]
-fn a_device_that_is_too_small_cuts_the_output(rt: HostRuntime) -> Result<(), Fail> {
-    let mut seed = 3;
-    let mut whole = 0u64;
-    let mut cut = 0u64;
-    for _ in 0..150 {
-        for sizes in [(2, 2, 1), (1, 4, 2), (3, 3, 1), (7, 2, 1)] {
-            if on_two_devices(&rt, rt.alloc(), &mut seed, sizes)? {
-                whole = whole.saturating_add(1);
-            } else {
-                cut = cut.saturating_add(1);
-            }
-        }
-    }
-    assert!(rt; whole > 60 && cut > 60);
-    Ok(())
+fn one_worker_does_as_a_list(rt: HostRuntime) -> Result<(), Fail> {
+    do_as_a_list(&rt, rt.alloc(), 1, 4, 2)
+}
+
+#[test]
+fn two_workers_do_as_a_list(rt: HostRuntime) -> Result<(), Fail> {
+    do_as_a_list(&rt, rt.alloc(), 2, 2, 1)
+}
+
+#[test]
+fn three_workers_do_as_a_list(rt: HostRuntime) -> Result<(), Fail> {
+    do_as_a_list(&rt, rt.alloc(), 3, 3, 1)
+}
+
+#[test]
+fn seven_workers_do_as_a_list(rt: HostRuntime) -> Result<(), Fail> {
+    do_as_a_list(&rt, rt.alloc(), 7, 2, 1)
 }
 
 // How many writes these blocks had in all.
