@@ -5,8 +5,8 @@ use Rattle.std.specs.List.{AllByRecursion as Each, slice_get}
 use Rattle.std.specs.Cmp.{IsStrictWeakOrder}
 use Rattle.std.proofs.lemmas.Bool.{cases_Bool}
 use Rattle.std.proofs.lemmas.List.{drop_all}
-use Rattle.ppq_record.specs.Order.{Le, Rising}
-use Rattle.ppq_record.proofs.Order.{Each-weaker, Le-refl, Le-trans, count_by-cons, count_by-append}
+use Rattle.ppq_block.specs.ppq_record.Order.{Le, Rising}
+use Rattle.ppq_block.proofs.ppq_record.Order.{Each-weaker, Le-refl, Le-trans, count_by-cons, count_by-append}
 
 abbrev one_if : Bool → ℕ
 one_if b = cond b 1 0

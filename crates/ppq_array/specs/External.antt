@@ -1,6 +1,6 @@
 -- What a contract sees of a run in blocks.
 use Rattle.std.specs.Prelude.{◌≡◌, ℕ, ◌+◌, ◌-◌, ◌*◌, ◌≤◌, ⊤, List, [], ◌∷◌, ◌++◌, length, take, Option, None, IsSome, sum_by, flat_map, All}
-use Rattle.ppq_record.specs.Bag.{first_of}
+use Rattle.ppq_block.specs.ppq_record.Bag.{first_of}
 use Rattle.ppq_block.specs.Block.{Block}
 use Rattle.ppq_block.specs.Told.{records_told}
 use Rattle.ppq_outside.specs.Shown.{Shown, Tells}

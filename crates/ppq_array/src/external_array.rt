@@ -1,7 +1,7 @@
 //! A run in blocks.
 ghost use Rattle.std.specs.Prelude.{◌≡◌, ◌+◌, ◌-◌, ◌*◌, ◌^◌, ◌<◌, ◌≤◌, ◌↔◌, not, count_by, [], ◌∷◌, ◌++◌, length, drop, slice_get, Some, IsNone, IfNone, IfSome, All};
-ghost use Rattle.ppq_record.specs.Bag.{first_of};
-ghost use Rattle.ppq_record.specs.Order.{Ascends, is_before};
+ghost use Rattle.ppq_block.specs.ppq_record.Bag.{first_of};
+ghost use Rattle.ppq_block.specs.ppq_record.Order.{Ascends, is_before};
 ghost use Rattle.ppq_outside.specs.Shown.{Tells};
 ghost use Rattle.ppq_array.specs.Run.{run_of, items_of, buffers_of, IsRun};
 ghost use Rattle.ppq_array.specs.External.{external, size_of, next_of, records_in, block_items, Accepts, FirstTells, IsLabelled, counts};
@@ -9,9 +9,8 @@ ghost use Rattle.ppq_array.specs.External.{external, size_of, next_of, records_i
 use crate::berth::Berth;
 use crate::berth_list::BerthList;
 use crate::internal_array::InternalArray;
-use ppq_block::BlockBuf;
+use ppq_block::{BlockBuf, Record, record_laws};
 use ppq_outside::Slot;
-use ppq_record::{Record, record_laws};
 use std::marker::Model;
 use std::snapshot::Snapshot;
 

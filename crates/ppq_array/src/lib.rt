@@ -12,8 +12,6 @@
 
 mod berth;
 mod berth_list;
-#[cfg(test)]
-mod device_tests;
 mod external_array;
 mod internal_array;
 mod owner_lists;
@@ -21,14 +19,14 @@ mod retire;
 mod runs;
 mod store_fault;
 mod supply;
-#[cfg(test)]
-mod tests;
 
 pub use berth::{Berth, DeviceBlock};
 pub use berth_list::BerthList;
 pub use external_array::ExternalArray;
 pub use internal_array::InternalArray;
 pub use owner_lists::OwnerLists;
+pub use ppq_block::{BlockBuf, BufList, Listing, Memory, Record, record_laws};
+pub use ppq_outside::{Gate, Host, Library, OpenGate, OutsideFault, Rack, Slot};
 pub use runs::Runs;
 pub use store_fault::StoreFault;
 pub use supply::{Supply, free_slot, give_buffer};

@@ -5,9 +5,8 @@ ghost use Rattle.ppq_array.specs.Owner.{new_owner, owner_home};
 use crate::berth::Berth;
 use crate::berth_list::BerthList;
 use crate::supply::Supply;
-use ppq_block::{BlockBuf, BufList};
+use ppq_block::{BlockBuf, BufList, Record};
 use ppq_outside::Slot;
-use ppq_record::Record;
 use std::marker::Model;
 
 /// The supply of one owner: its free slots and its idle buffers, in two lists. Slots and buffers leave at

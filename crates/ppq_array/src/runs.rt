@@ -3,8 +3,8 @@ ghost use Rattle.std.specs.Prelude.{◌≡◌, ◌≤◌, [], IfOk, vec_capacity
 
 use crate::external_array::ExternalArray;
 use crate::internal_array::InternalArray;
+use ppq_block::{Memory, Record};
 use ppq_outside::Slot;
-use ppq_record::{Memory, Record};
 use std::alloc::Global;
 
 /// The runs of one owner.

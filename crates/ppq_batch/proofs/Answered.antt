@@ -4,17 +4,17 @@ use Rattle.std.specs.Cmp.{IsTotalOrder}
 use Rattle.std.specs.Prelude.{count_by, drop}
 use Rattle.std.proofs.lemmas.Cmp.{then_total, on_total, nat_cmp_total}
 use Rattle.std.proofs.lemmas.List.{take_more, take_all}
-use Rattle.ppq_record.specs.declared.pair.Pair.{Pair}
-use Rattle.ppq_record.specs.Order.{is_before}
-use Rattle.ppq_record.specs.Pair.{pair_cmp, pair_same}
-use Rattle.ppq_record.specs.Bag.{IsSameBag, ascending, first_of}
-use Rattle.ppq_record.proofs.Order.{IsSameBag-trans}
-use Rattle.ppq_record.proofs.Fronts.{ascending-same_bag}
-use Rattle.ppq_outside.specs.Shown.{AllTell}
-use Rattle.ppq_spill.proofs.SameSlots.{SameSlots-refl, SameSlots-trans}
-use Rattle.ppq_queue.specs.declared.fault.QueueFault.{QueueFault}
-use Rattle.ppq_queue.specs.declared.fault.QueueFault.TheVariants.{NoFreeBlock, Device}
-use Rattle.ppq_front.specs.Fronts.{FrontHolding, IsFrontRefusal, least_below}
+use Rattle.ppq_limit.specs.ppq_record.declared.pair.Pair.{Pair}
+use Rattle.ppq_limit.specs.ppq_record.Order.{is_before}
+use Rattle.ppq_limit.specs.ppq_record.Pair.{pair_cmp, pair_same}
+use Rattle.ppq_limit.specs.ppq_record.Bag.{IsSameBag, ascending, first_of}
+use Rattle.ppq_limit.proofs.ppq_record.Order.{IsSameBag-trans}
+use Rattle.ppq_limit.proofs.ppq_record.Fronts.{ascending-same_bag}
+use Rattle.ppq_limit.specs.ppq_outside.Shown.{AllTell}
+use Rattle.ppq_limit.proofs.ppq_spill.SameSlots.{SameSlots-refl, SameSlots-trans}
+use Rattle.ppq_limit.specs.ppq_queue.declared.fault.QueueFault.{QueueFault}
+use Rattle.ppq_limit.specs.ppq_queue.declared.fault.QueueFault.TheVariants.{NoFreeBlock, Device}
+use Rattle.ppq_limit.specs.ppq_front.Fronts.{FrontHolding, IsFrontRefusal, least_below}
 use Rattle.ppq_batch.specs.declared.ask.Ask.{Ask}
 use Rattle.ppq_batch.specs.declared.ask.Ask.TheVariants.{Top, Pop}
 use Rattle.ppq_batch.specs.Asks.{pops_by, pops_in, left_by, left_after, answers_to}

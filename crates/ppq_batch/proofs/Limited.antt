@@ -4,14 +4,14 @@ use Rattle.std.specs.List.{Any}
 use Rattle.std.proofs.lemmas.List.{length-map}
 use Rattle.std.proofs.lemmas.List.Sums.{sum_by-cons}
 use Rattle.std.proofs.lemmas.List.Elements.{All-nil, All-cons, All-head, All-tail}
-use Rattle.ppq_outside.specs.Shown.{Shown}
-use Rattle.ppq_pass.specs.Passed.{PassHolding}
-use Rattle.ppq_begin.specs.Session.{bag_of, accepted_of}
-use Rattle.ppq_session.specs.declared.line.Line.{Line}
-use Rattle.ppq_session.specs.Dealing.{Adds, EachAdds, Dealt, records_in, records_for}
-use Rattle.ppq_session.proofs.LineParts.{dealt-lines}
-use Rattle.ppq_front.specs.Limited.{LimitHolding}
-use Rattle.ppq_front.specs.Sessions.{limited_bag, limited_accepted}
+use Rattle.ppq_limit.specs.ppq_outside.Shown.{Shown}
+use Rattle.ppq_limit.specs.ppq_pass.Passed.{PassHolding}
+use Rattle.ppq_limit.specs.ppq_begin.Session.{bag_of, accepted_of}
+use Rattle.ppq_limit.specs.ppq_session.declared.line.Line.{Line}
+use Rattle.ppq_limit.specs.ppq_session.Dealing.{Adds, EachAdds, Dealt, records_in, records_for}
+use Rattle.ppq_limit.proofs.ppq_session.LineParts.{dealt-lines}
+use Rattle.ppq_limit.specs.ppq_front.Limited.{LimitHolding}
+use Rattle.ppq_limit.specs.ppq_front.Sessions.{limited_bag, limited_accepted}
 use Rattle.ppq_batch.specs.Batches.{passes_of}
 
 -- what holds of each result of a map holds of each item

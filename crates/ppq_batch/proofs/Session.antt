@@ -6,35 +6,35 @@ use Rattle.std.proofs.lemmas.List.Sums.{sum_by-cons}
 use Rattle.std.proofs.lemmas.List.Elements.{All-head, All-tail, All-map}
 use Rattle.std.proofs.lemmas.List.{length-map}
 use Rattle.atomic_table.specs.Seated.{TableId}
-use Rattle.ppq_record.specs.declared.pair.Pair.{Pair}
-use Rattle.ppq_record.specs.Pair.{pair_cmp}
-use Rattle.ppq_record.specs.Bag.{IsSameBag}
-use Rattle.ppq_record.proofs.Order.{count_by-append, IsSameBag-trans}
-use Rattle.ppq_outside.specs.Shown.{Shown, AllTell}
-use Rattle.ppq_budget.specs.Sizes.{Numbers, room_of}
-use Rattle.ppq_spill.proofs.SameSlots.{SameSlots-trans}
-use Rattle.ppq_array.specs.Kept.{SameSlots, all_writes}
-use Rattle.ppq_array.specs.declared.berth.DeviceBlock.{DeviceBlock}
-use Rattle.ppq_array.specs.Owner.{slots_shown}
-use Rattle.ppq_pass.specs.Passed.{PassKey, PassHolding, PassTells, IsOf}
-use Rattle.ppq_pass.specs.declared.shared.Shared.{Shared}
-use Rattle.ppq_queue.specs.Holding.{Holding}
-use Rattle.ppq_queue.specs.declared.fault.QueueFault.{QueueFault}
-use Rattle.ppq_queue.specs.declared.fault.QueueFault.TheVariants.{NoFreeBlock, Device}
-use Rattle.ppq_begin.specs.Session.{IsBeginRefusal, keys_of, bag_of}
-use Rattle.ppq_begin.specs.declared.fault.BeginFault.{BeginFault}
-use Rattle.ppq_begin.specs.declared.fault.BeginFault.TheVariants as begin
-use Rattle.ppq_begin.specs.declared.fault.SessionEnd.TheVariants.{Stopped}
-use Rattle.ppq_session.specs.Dealing.{IsGoing, HasEnded, Dealt}
-use Rattle.ppq_session.proofs.DealtParts.{not_both}
+use Rattle.ppq_limit.specs.ppq_record.declared.pair.Pair.{Pair}
+use Rattle.ppq_limit.specs.ppq_record.Pair.{pair_cmp}
+use Rattle.ppq_limit.specs.ppq_record.Bag.{IsSameBag}
+use Rattle.ppq_limit.proofs.ppq_record.Order.{count_by-append, IsSameBag-trans}
+use Rattle.ppq_limit.specs.ppq_outside.Shown.{Shown, AllTell}
+use Rattle.ppq_limit.specs.ppq_budget.Sizes.{Numbers, room_of}
+use Rattle.ppq_limit.proofs.ppq_spill.SameSlots.{SameSlots-trans}
+use Rattle.ppq_limit.specs.ppq_array.Kept.{SameSlots, all_writes}
+use Rattle.ppq_limit.specs.ppq_array.declared.berth.DeviceBlock.{DeviceBlock}
+use Rattle.ppq_limit.specs.ppq_array.Owner.{slots_shown}
+use Rattle.ppq_limit.specs.ppq_pass.Passed.{PassKey, PassHolding, PassTells, IsOf}
+use Rattle.ppq_limit.specs.ppq_pass.declared.shared.Shared.{Shared}
+use Rattle.ppq_limit.specs.ppq_queue.Holding.{Holding}
+use Rattle.ppq_limit.specs.ppq_queue.declared.fault.QueueFault.{QueueFault}
+use Rattle.ppq_limit.specs.ppq_queue.declared.fault.QueueFault.TheVariants.{NoFreeBlock, Device}
+use Rattle.ppq_limit.specs.ppq_begin.Session.{IsBeginRefusal, keys_of, bag_of}
+use Rattle.ppq_limit.specs.ppq_begin.declared.fault.BeginFault.{BeginFault}
+use Rattle.ppq_limit.specs.ppq_begin.declared.fault.BeginFault.TheVariants as begin
+use Rattle.ppq_limit.specs.ppq_begin.declared.fault.SessionEnd.TheVariants.{Stopped}
+use Rattle.ppq_limit.specs.ppq_session.Dealing.{IsGoing, HasEnded, Dealt}
+use Rattle.ppq_limit.proofs.ppq_session.DealtParts.{not_both}
 use Rattle.ppq_load.specs.Refusal.{Keeps, HasNoRoom}
 use Rattle.ppq_load.specs.declared.fault.LoadFault.{LoadFault}
 use Rattle.ppq_load.specs.declared.fault.LoadFault.TheVariants.{Queue}
 use Rattle.ppq_load.specs.Loading.{LoadStopsFor, begin_fault_of}
 use Rattle.ppq_load.proofs.Refusals.{room-more}
-use Rattle.ppq_front.specs.Fronts.{FrontHolding}
-use Rattle.ppq_front.specs.Limited.{LimitHolding}
-use Rattle.ppq_front.specs.Sessions.{AreLimited, IsNew, IsTogether, EndsIn, limited_bag, limited_accepted, shared_of, front_key}
+use Rattle.ppq_limit.specs.ppq_front.Fronts.{FrontHolding}
+use Rattle.ppq_limit.specs.ppq_front.Limited.{LimitHolding}
+use Rattle.ppq_limit.specs.ppq_front.Sessions.{AreLimited, IsNew, IsTogether, EndsIn, limited_bag, limited_accepted, shared_of, front_key}
 use Rattle.ppq_batch.specs.declared.ask.Ask.{Ask}
 use Rattle.ppq_batch.specs.Asks.{answers_to, left_after, pops_in}
 use Rattle.ppq_batch.specs.Answering.{KeepsFront, HasAnswered}

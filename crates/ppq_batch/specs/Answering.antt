@@ -1,11 +1,11 @@
 -- What a front does that answers asks.
 use Rattle.std.specs.Prelude.{◌≡◌, ℕ, ◌+◌, ◌≤◌, List, length, take, Option, None}
-use Rattle.ppq_record.specs.declared.pair.Pair.{Pair}
-use Rattle.ppq_record.specs.Pair.{pair_cmp}
-use Rattle.ppq_record.specs.Bag.{IsSameBag}
-use Rattle.ppq_outside.specs.Shown.{AllTell}
-use Rattle.ppq_array.specs.Kept.{SameSlots, all_writes}
-use Rattle.ppq_front.specs.Fronts.{FrontHolding}
+use Rattle.ppq_limit.specs.ppq_record.declared.pair.Pair.{Pair}
+use Rattle.ppq_limit.specs.ppq_record.Pair.{pair_cmp}
+use Rattle.ppq_limit.specs.ppq_record.Bag.{IsSameBag}
+use Rattle.ppq_limit.specs.ppq_outside.Shown.{AllTell}
+use Rattle.ppq_limit.specs.ppq_array.Kept.{SameSlots, all_writes}
+use Rattle.ppq_limit.specs.ppq_front.Fronts.{FrontHolding}
 use Rattle.ppq_batch.specs.declared.ask.Ask.{Ask}
 use Rattle.ppq_batch.specs.Asks.{answers_to, left_after, pops_in}
 

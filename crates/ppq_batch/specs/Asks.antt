@@ -1,7 +1,7 @@
 -- Asks of the owner in a limit session, and their answers.
 use Rattle.std.specs.Prelude.{ℕ, ◌+◌, List, [], ◌∷◌, Option}
 use Rattle.std.specs.declared.cmp.Ordering.{Ordering}
-use Rattle.ppq_front.specs.Fronts.{least_below, without_least_below}
+use Rattle.ppq_limit.specs.ppq_front.Fronts.{least_below, without_least_below}
 use Rattle.ppq_batch.specs.declared.ask.Ask.{Ask}
 use Rattle.ppq_batch.specs.declared.ask.Ask.TheVariants.{Top, Pop}
 

@@ -2,20 +2,20 @@
 use Rattle.std.specs.Prelude.{◌≡◌, ◌⊎◌, ◌<◌, ◌≤◌, ◌+◌, ℕ, true, false, List, ◌++◌, length, max, map, All, Some, None, Result, OnOk, IfErr}
 use Rattle.std.specs.List.{Any}
 use Rattle.std.specs.declared.cmp.Ordering.{Ordering}
-use Rattle.ppq_record.specs.declared.pair.Pair.{Pair}
-use Rattle.ppq_record.specs.Order.{is_before}
-use Rattle.ppq_record.specs.Bag.{IsSameBag}
-use Rattle.ppq_outside.specs.Shown.{Shown, AllTell}
-use Rattle.ppq_array.specs.Kept.{SameSlots, all_writes}
-use Rattle.ppq_pass.specs.Passed.{PassHolding, PassTells}
-use Rattle.ppq_queue.specs.Holding.{Holding}
-use Rattle.ppq_queue.specs.declared.fault.QueueFault.{QueueFault}
-use Rattle.ppq_session.specs.declared.line.Line.{Line}
-use Rattle.ppq_session.specs.Dealing.{IsGoing, HasEnded}
+use Rattle.ppq_limit.specs.ppq_record.declared.pair.Pair.{Pair}
+use Rattle.ppq_limit.specs.ppq_record.Order.{is_before}
+use Rattle.ppq_limit.specs.ppq_record.Bag.{IsSameBag}
+use Rattle.ppq_limit.specs.ppq_outside.Shown.{Shown, AllTell}
+use Rattle.ppq_limit.specs.ppq_array.Kept.{SameSlots, all_writes}
+use Rattle.ppq_limit.specs.ppq_pass.Passed.{PassHolding, PassTells}
+use Rattle.ppq_limit.specs.ppq_queue.Holding.{Holding}
+use Rattle.ppq_limit.specs.ppq_queue.declared.fault.QueueFault.{QueueFault}
+use Rattle.ppq_limit.specs.ppq_session.declared.line.Line.{Line}
+use Rattle.ppq_limit.specs.ppq_session.Dealing.{IsGoing, HasEnded}
 use Rattle.ppq_load.specs.Refusal.{Keeps, IsRefusedBy}
-use Rattle.ppq_front.specs.Fronts.{FrontHolding}
-use Rattle.ppq_front.specs.Limited.{LimitHolding}
-use Rattle.ppq_front.specs.Sessions.{limited_bag, limited_accepted}
+use Rattle.ppq_limit.specs.ppq_front.Fronts.{FrontHolding}
+use Rattle.ppq_limit.specs.ppq_front.Limited.{LimitHolding}
+use Rattle.ppq_limit.specs.ppq_front.Sessions.{limited_bag, limited_accepted}
 
 -- What contracts see of an open limit session: what its owner keeps, and the passes, in the order of their workers
 pub record LimitsHolding (S : Type 0) : Type 0 where

@@ -1,17 +1,14 @@
 //! Asks answered in turn.
 ghost use Rattle.std.specs.Prelude.{◌≡◌, ◌≤◌, [], None, IfOk, IfErr, OnOk, length, vec_capacity};
-ghost use Rattle.ppq_record.specs.Pair.{pair_cmp};
-ghost use Rattle.ppq_record.specs.Bag.{IsSameBag};
-ghost use Rattle.ppq_outside.specs.Shown.{AllTell};
-ghost use Rattle.ppq_front.specs.Fronts.{IsFrontRefusal, least_below};
+ghost use Rattle.ppq_limit.specs.ppq_record.Pair.{pair_cmp};
+ghost use Rattle.ppq_limit.specs.ppq_record.Bag.{IsSameBag};
+ghost use Rattle.ppq_limit.specs.ppq_outside.Shown.{AllTell};
+ghost use Rattle.ppq_limit.specs.ppq_front.Fronts.{IsFrontRefusal, least_below};
 ghost use Rattle.ppq_batch.specs.Asks.{left_by, pops_by};
 ghost use Rattle.ppq_batch.specs.Answering.{HasAnswered, KeepsFront};
 
 use crate::Ask;
-use ppq_front::Front;
-use ppq_outside::{Gate, Host, Slot};
-use ppq_queue::QueueFault;
-use ppq_record::Pair;
+use ppq_limit::{Front, Gate, Host, Pair, QueueFault, Slot};
 
 // The answer to an ask.
 fn answer_one<H: Host, S: Slot + Send + Sync, G: Gate>(

@@ -7,10 +7,8 @@ mod ask;
 mod limits;
 mod pushing;
 mod running;
-#[cfg(test)]
-mod tests;
 
 pub use ask::Ask;
 pub use limits::Limits;
-pub use ppq_load::LoadFault;
-pub use ppq_session::Line;
+pub use ppq_limit::{Line, OpenFault, Out, Queue, QueueFault, Sizes};
+pub use ppq_load::{Load, LoadFault, load_file, load_generated};

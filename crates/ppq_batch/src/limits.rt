@@ -1,32 +1,29 @@
 //! An open limit session as one value.
 ghost use Rattle.std.specs.Prelude.{◌≡◌, ◌≤◌, ◌<◌, ◌+◌, ◌++◌, ℕ, true, false, [], List, All, Some, None, Err, IsTrue, IfOk, IfErr, OnOk, length, take, vec_capacity};
-ghost use Rattle.ppq_record.specs.declared.pair.Pair.{Pair};
-ghost use Rattle.ppq_record.specs.Order.{is_before};
-ghost use Rattle.ppq_record.specs.Pair.{pair_cmp};
-ghost use Rattle.ppq_record.specs.Bag.{IsSameBag};
-ghost use Rattle.ppq_outside.specs.Shown.{AllTell};
-ghost use Rattle.ppq_pass.specs.Passed.{PassTells};
-ghost use Rattle.ppq_queue.specs.Holding.{Holding};
-ghost use Rattle.ppq_queue.specs.declared.fault.QueueFault.TheVariants.{NoFreeBlock, Device};
-ghost use Rattle.ppq_session.specs.Dealing.{EachAdds, records_in, records_for};
+ghost use Rattle.ppq_limit.specs.ppq_record.declared.pair.Pair.{Pair};
+ghost use Rattle.ppq_limit.specs.ppq_record.Order.{is_before};
+ghost use Rattle.ppq_limit.specs.ppq_record.Pair.{pair_cmp};
+ghost use Rattle.ppq_limit.specs.ppq_record.Bag.{IsSameBag};
+ghost use Rattle.ppq_limit.specs.ppq_outside.Shown.{AllTell};
+ghost use Rattle.ppq_limit.specs.ppq_pass.Passed.{PassTells};
+ghost use Rattle.ppq_limit.specs.ppq_queue.Holding.{Holding};
+ghost use Rattle.ppq_limit.specs.ppq_queue.declared.fault.QueueFault.TheVariants.{NoFreeBlock, Device};
+ghost use Rattle.ppq_limit.specs.ppq_session.Dealing.{EachAdds, records_in, records_for};
 ghost use Rattle.ppq_load.specs.declared.fault.LoadFault.TheVariants.{Queue as ByQueue};
 ghost use Rattle.ppq_load.specs.Loading.{LoadStopsFor, IsByLoad, IsHandedBack};
 ghost use Rattle.ppq_load.specs.Refusal.{Keeps};
-ghost use Rattle.ppq_front.specs.Sessions.{limited_bag, limited_accepted};
+ghost use Rattle.ppq_limit.specs.ppq_front.Sessions.{limited_bag, limited_accepted};
 ghost use Rattle.ppq_batch.specs.Asks.{answers_to, left_after, pops_in};
 ghost use Rattle.ppq_batch.specs.Batches.{AreGoing, HasStopped, InLimits, IsOver, begun_in, passes_of};
 
 use crate::Ask;
 use crate::pushing::are_going;
 use crate::running::run_both;
-use ppq_front::{Front, LimitPass, limit_begin};
-use ppq_limit::limit_end;
+use ppq_limit::{
+    Front, Gate, Host, LimitPass, Line, Pair, Queue, QueueFault, SessionEnd, Shared, Slot,
+    limit_begin, limit_end,
+};
 use ppq_load::LoadFault;
-use ppq_outside::{Gate, Host, Slot};
-use ppq_pass::Shared;
-use ppq_queue::{Queue, QueueFault};
-use ppq_record::Pair;
-use ppq_session::{Line, SessionEnd};
 use std::alloc::Global;
 use std::marker::Model;
 
@@ -42,8 +39,8 @@ pub struct Limits<S: Slot + Send + Sync> {
 
 impl<S: Slot + Send + Sync> Model for Limits<S> {
     ghost use Rattle.std.specs.Prelude.{◌≡◌, All};
-    ghost use Rattle.ppq_pass.specs.Passed.{IsOf};
-    ghost use Rattle.ppq_front.specs.Sessions.{AreLimited, shared_of};
+    ghost use Rattle.ppq_limit.specs.ppq_pass.Passed.{IsOf};
+    ghost use Rattle.ppq_limit.specs.ppq_front.Sessions.{AreLimited, shared_of};
     ghost use Rattle.ppq_batch.specs.Batches.{LimitsHolding};
 
     ghost Value = { LimitsHolding S };

@@ -1,15 +1,11 @@
 //! Lines pushed to the passes of a limit session, each pass on a thread of its own.
 ghost use Rattle.std.specs.Prelude.{◌≡◌, ◌<◌, ◌^◌, ◌↔◌, false, length, map, All, Any, IsTrue, [], ◌∷◌};
-ghost use Rattle.ppq_record.specs.Order.{is_before};
-ghost use Rattle.ppq_pass.specs.Passed.{IsOf};
-ghost use Rattle.ppq_session.specs.Dealing.{IsGoing, HasEnded, Adds, EachAdds, Dealt, records_in, records_for};
+ghost use Rattle.ppq_limit.specs.ppq_record.Order.{is_before};
+ghost use Rattle.ppq_limit.specs.ppq_pass.Passed.{IsOf};
+ghost use Rattle.ppq_limit.specs.ppq_session.Dealing.{IsGoing, HasEnded, Adds, EachAdds, Dealt, records_in, records_for};
 ghost use Rattle.ppq_batch.specs.Batches.{AreAbove, passes_of};
 
-use ppq_front::LimitPass;
-use ppq_outside::{Gate, Host, Slot};
-use ppq_pass::Shared;
-use ppq_record::Record;
-use ppq_session::Line;
+use ppq_limit::{Gate, Host, LimitPass, Line, Record, Shared, Slot};
 use std::thread;
 
 // Pushes the record of each line to the pass that the line names, on a thread for each pass, after its

@@ -1,19 +1,15 @@
 //! A batch of a limit session.
 ghost use Rattle.std.specs.Prelude.{◌≡◌, ◌≤◌, ◌<◌, ◌^◌, [], length, map, All, None, vec_capacity};
-ghost use Rattle.ppq_record.specs.Pair.{pair_cmp};
-ghost use Rattle.ppq_pass.specs.Passed.{IsOf};
-ghost use Rattle.ppq_session.specs.Dealing.{IsGoing, EachAdds, Dealt, records_in, records_for};
+ghost use Rattle.ppq_limit.specs.ppq_record.Pair.{pair_cmp};
+ghost use Rattle.ppq_limit.specs.ppq_pass.Passed.{IsOf};
+ghost use Rattle.ppq_limit.specs.ppq_session.Dealing.{IsGoing, EachAdds, Dealt, records_in, records_for};
 ghost use Rattle.ppq_batch.specs.Answering.{HasAnswered};
 ghost use Rattle.ppq_batch.specs.Batches.{AreAbove, passes_of};
 
 use crate::Ask;
 use crate::answering::answer_all;
 use crate::pushing::push_limited;
-use ppq_front::{Front, LimitPass};
-use ppq_outside::{Gate, Host, Slot};
-use ppq_pass::Shared;
-use ppq_record::Pair;
-use ppq_session::Line;
+use ppq_limit::{Front, Gate, Host, LimitPass, Line, Pair, Shared, Slot};
 use std::thread::join_mut;
 
 // Pushes lines to the passes that they name, and answers asks beside them.

@@ -3,13 +3,13 @@ use Rattle.std.proofs.Common.{◌≡◌, List, [], ◌∷◌, ◌++◌, map, All
 use Rattle.std.specs.Prelude.{slice_index_or, Vec, Result, Ok, Err, IfOk, IfErr}
 use Rattle.std.specs.Global.{Global}
 use Rattle.std.proofs.lemmas.List.Elements.{All-nil, All-cons, All-head, All-tail}
-use Rattle.ppq_record.specs.Bag.{IsSameBag}
-use Rattle.ppq_record.proofs.Order.{IsSameBag-trans}
-use Rattle.ppq_outside.specs.Shown.{Shown, AllTell}
-use Rattle.ppq_array.specs.Owner.{slots_shown}
-use Rattle.ppq_pass.specs.Passed.{PassKey, PassHolding, PassTells, IsOf}
-use Rattle.ppq_pass.specs.declared.shared.Shared.{Shared}
-use Rattle.ppq_queue.specs.Holding.{Holding}
+use Rattle.ppq_gather.specs.ppq_record.Bag.{IsSameBag}
+use Rattle.ppq_gather.proofs.ppq_record.Order.{IsSameBag-trans}
+use Rattle.ppq_gather.specs.ppq_outside.Shown.{Shown, AllTell}
+use Rattle.ppq_gather.specs.ppq_array.Owner.{slots_shown}
+use Rattle.ppq_gather.specs.ppq_pass.Passed.{PassKey, PassHolding, PassTells, IsOf}
+use Rattle.ppq_gather.specs.ppq_pass.declared.shared.Shared.{Shared}
+use Rattle.ppq_gather.specs.ppq_queue.Holding.{Holding}
 use Rattle.ppq_begin.specs.Session.{BulkHolding, AreOf, keys_of, bag_of, shared_by, pass_key}
 use Rattle.ppq_begin.specs.declared.fault.BeginFault.{BeginFault}
 use Rattle.ppq_begin.specs.declared.fault.BeginFault.TheVariants.{Memory}

@@ -8,18 +8,18 @@ use Rattle.std.proofs.lemmas.List.Concat.{flat_map-cons}
 use Rattle.std.proofs.lemmas.List.Elements.{All-nil, All-cons, All-head, All-tail, All-push}
 use Rattle.std.proofs.lemmas.List.Sums.{sum_by-cons}
 use Rattle.atomic_table.specs.Seated.{TableId}
-use Rattle.ppq_outside.specs.Shown.{Shown}
-use Rattle.ppq_budget.specs.Sizes.{Numbers, pool_of}
-use Rattle.ppq_block.specs.Block.{Block}
-use Rattle.ppq_heap.specs.Heap.{Contents}
-use Rattle.ppq_heap.specs.Heaps.{items_in, empty_heap}
-use Rattle.ppq_array.specs.declared.berth.DeviceBlock.{DeviceBlock}
-use Rattle.ppq_array.specs.Owner.{HasSize}
-use Rattle.ppq_row.specs.declared.hand.Hand.{Hand as RowHand}
-use Rattle.ppq_pool.specs.declared.hand.Hand.{Hand as PoolHand}
-use Rattle.ppq_pool.specs.Seats.{count_of}
-use Rattle.ppq_pass.specs.Passed.{PassKey, PassHolding}
-use Rattle.ppq_pass.specs.declared.shared.PoolBuf.{PoolBuf}
+use Rattle.ppq_gather.specs.ppq_outside.Shown.{Shown}
+use Rattle.ppq_gather.specs.ppq_budget.Sizes.{Numbers, pool_of}
+use Rattle.ppq_gather.specs.ppq_block.Block.{Block}
+use Rattle.ppq_gather.specs.ppq_heap.Heap.{Contents}
+use Rattle.ppq_gather.specs.ppq_heap.Heaps.{items_in, empty_heap}
+use Rattle.ppq_gather.specs.ppq_array.declared.berth.DeviceBlock.{DeviceBlock}
+use Rattle.ppq_gather.specs.ppq_array.Owner.{HasSize}
+use Rattle.ppq_gather.specs.ppq_row.declared.hand.Hand.{Hand as RowHand}
+use Rattle.ppq_gather.specs.ppq_pool.declared.hand.Hand.{Hand as PoolHand}
+use Rattle.ppq_gather.specs.ppq_pool.Seats.{count_of}
+use Rattle.ppq_gather.specs.ppq_pass.Passed.{PassKey, PassHolding}
+use Rattle.ppq_gather.specs.ppq_pass.declared.shared.PoolBuf.{PoolBuf}
 use Rattle.ppq_begin.specs.Session.{bag_of}
 use Rattle.ppq_begin.specs.Equipped.{Equipped, MayEquip, IsNewPass, HasBegun, bags_of, bags_in, first_begun, session_key}
 use Rattle.ppq_begin.specs.declared.share.Session.{Session}

@@ -2,17 +2,17 @@
 use Rattle.std.proofs.Common.{◌≡◌, ℕ, List, [], ◌∷◌, ◌++◌, length, None, refl, sym, ap, ap₂, ◌∙◌, subst, arith, append-nil}
 use Rattle.std.specs.declared.cmp.Ordering.{Ordering}
 use Rattle.std.proofs.lemmas.List.Elements.{All-tail}
-use Rattle.ppq_record.specs.Bag.{IsSameBag}
-use Rattle.ppq_outside.specs.Shown.{Shown, Tells, AllTell}
-use Rattle.ppq_heap.specs.Heaps.{items_of}
-use Rattle.ppq_array.specs.Supply.{Stock}
-use Rattle.ppq_array.specs.Owner.{slots_shown}
-use Rattle.ppq_array.specs.Holdings.{external_slots}
-use Rattle.ppq_spill.specs.Body.{job_slots}
-use Rattle.ppq_queue.specs.Holding.{Holding}
-use Rattle.ppq_queue.specs.Resting.{runs_bag}
-use Rattle.ppq_queue.specs.Handed.{IsWhole, holding_of}
-use Rattle.ppq_queue.specs.declared.queue_parts.QueueParts.{QueueParts}
+use Rattle.ppq_gather.specs.ppq_record.Bag.{IsSameBag}
+use Rattle.ppq_gather.specs.ppq_outside.Shown.{Shown, Tells, AllTell}
+use Rattle.ppq_gather.specs.ppq_heap.Heaps.{items_of}
+use Rattle.ppq_gather.specs.ppq_array.Supply.{Stock}
+use Rattle.ppq_gather.specs.ppq_array.Owner.{slots_shown}
+use Rattle.ppq_gather.specs.ppq_array.Holdings.{external_slots}
+use Rattle.ppq_gather.specs.ppq_spill.Body.{job_slots}
+use Rattle.ppq_gather.specs.ppq_queue.Holding.{Holding}
+use Rattle.ppq_gather.specs.ppq_queue.Resting.{runs_bag}
+use Rattle.ppq_gather.specs.ppq_queue.Handed.{IsWhole, holding_of}
+use Rattle.ppq_gather.specs.ppq_queue.declared.queue_parts.QueueParts.{QueueParts}
 use Rattle.ppq_begin.specs.Shares.{bare, IsFirst}
 use Rattle.ppq_begin.specs.Opened.{IsOpened}
 use Rattle.ppq_begin.specs.declared.share.Session.{Session}

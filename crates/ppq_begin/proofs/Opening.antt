@@ -7,26 +7,26 @@ use Rattle.std.proofs.lemmas.List.{length-map}
 use Rattle.std.proofs.lemmas.List.Elements.{All-map}
 use Rattle.std.proofs.lemmas.List.Sums.{sum_by-cons}
 use Rattle.atomic_table.specs.Seated.{TableId}
-use Rattle.ppq_record.proofs.Order.{IsSameBag-trans, IsSameBag-append, IsSameBag-append_comm}
-use Rattle.ppq_outside.specs.Shown.{Shown, AllTell}
-use Rattle.ppq_budget.specs.Sizes.{pool_of}
-use Rattle.ppq_block.specs.Block.{Block}
-use Rattle.ppq_tree.specs.Tree.{Leaves}
-use Rattle.ppq_heap.specs.Heap.{Contents}
-use Rattle.ppq_heap.specs.Heaps.{items_of}
-use Rattle.ppq_array.specs.declared.berth.DeviceBlock.{DeviceBlock}
-use Rattle.ppq_array.specs.Owner.{slots_shown, HasSize, HasBlock}
-use Rattle.ppq_array.specs.Holdings.{external_slots}
-use Rattle.ppq_spill.specs.Body.{job_slots}
-use Rattle.ppq_row.specs.declared.hand.Hand.{Hand as RowHand}
-use Rattle.ppq_pool.specs.declared.hand.Hand.{Hand as PoolHand}
-use Rattle.ppq_pool.specs.Seats.{count_of as pool_count}
-use Rattle.ppq_pass.specs.Passed.{PassKey, PassHolding}
-use Rattle.ppq_pass.specs.declared.shared.PoolBuf.{PoolBuf}
-use Rattle.ppq_pass.specs.declared.shared.Shared.{Shared}
-use Rattle.ppq_queue.specs.Resting.{AtRest, IsRestingRun, IsRestingArray, slots_of, runs_bag, odd_in}
-use Rattle.ppq_queue.specs.State.{IsSound}
-use Rattle.ppq_queue.specs.declared.queue_parts.QueueParts.{QueueParts}
+use Rattle.ppq_gather.proofs.ppq_record.Order.{IsSameBag-trans, IsSameBag-append, IsSameBag-append_comm}
+use Rattle.ppq_gather.specs.ppq_outside.Shown.{Shown, AllTell}
+use Rattle.ppq_gather.specs.ppq_budget.Sizes.{pool_of}
+use Rattle.ppq_gather.specs.ppq_block.Block.{Block}
+use Rattle.ppq_gather.specs.ppq_tree.Tree.{Leaves}
+use Rattle.ppq_gather.specs.ppq_heap.Heap.{Contents}
+use Rattle.ppq_gather.specs.ppq_heap.Heaps.{items_of}
+use Rattle.ppq_gather.specs.ppq_array.declared.berth.DeviceBlock.{DeviceBlock}
+use Rattle.ppq_gather.specs.ppq_array.Owner.{slots_shown, HasSize, HasBlock}
+use Rattle.ppq_gather.specs.ppq_array.Holdings.{external_slots}
+use Rattle.ppq_gather.specs.ppq_spill.Body.{job_slots}
+use Rattle.ppq_gather.specs.ppq_row.declared.hand.Hand.{Hand as RowHand}
+use Rattle.ppq_gather.specs.ppq_pool.declared.hand.Hand.{Hand as PoolHand}
+use Rattle.ppq_gather.specs.ppq_pool.Seats.{count_of as pool_count}
+use Rattle.ppq_gather.specs.ppq_pass.Passed.{PassKey, PassHolding}
+use Rattle.ppq_gather.specs.ppq_pass.declared.shared.PoolBuf.{PoolBuf}
+use Rattle.ppq_gather.specs.ppq_pass.declared.shared.Shared.{Shared}
+use Rattle.ppq_gather.specs.ppq_queue.Resting.{AtRest, IsRestingRun, IsRestingArray, slots_of, runs_bag, odd_in}
+use Rattle.ppq_gather.specs.ppq_queue.State.{IsSound}
+use Rattle.ppq_gather.specs.ppq_queue.declared.queue_parts.QueueParts.{QueueParts}
 use Rattle.ppq_begin.specs.Session.{BulkHolding, AreOf, keys_of, bag_of, pass_key}
 use Rattle.ppq_begin.specs.State.{AreLeft, IsBulk, IsBare, bulk_holding, bulk_slots}
 use Rattle.ppq_begin.specs.Opened.{IsOpened, HandedOut}

@@ -2,11 +2,11 @@
 use Rattle.std.proofs.Common.{◌≡◌, ℕ, ◌+◌, ◌-◌, ◌<◌, List, [], ◌∷◌, ◌++◌, length, drop, All, sym, ap, ap₂, ◌∙◌, arith}
 use Rattle.std.proofs.lemmas.List.{length-map}
 use Rattle.std.proofs.lemmas.List.Elements.{All-head}
-use Rattle.ppq_outside.specs.Shown.{Shown}
-use Rattle.ppq_array.specs.Supply.{Stock}
-use Rattle.ppq_array.specs.Owner.{slots_shown}
-use Rattle.ppq_array.specs.declared.berth.DeviceBlock.{DeviceBlock}
-use Rattle.ppq_queue.specs.Slots.{with_slots, with_pool}
+use Rattle.ppq_gather.specs.ppq_outside.Shown.{Shown}
+use Rattle.ppq_gather.specs.ppq_array.Supply.{Stock}
+use Rattle.ppq_gather.specs.ppq_array.Owner.{slots_shown}
+use Rattle.ppq_gather.specs.ppq_array.declared.berth.DeviceBlock.{DeviceBlock}
+use Rattle.ppq_gather.specs.ppq_queue.Slots.{with_slots, with_pool}
 
 module _ {S R : Type 0} (shown : S → Shown) where
   -- a list that was empty has all that was kept

@@ -1,12 +1,12 @@
 -- Passes that are made of what a queue has.
 use Rattle.std.specs.Prelude.{◌≡◌, ℕ, ◌+◌, ◌*◌, ◌<◌, ◌≤◌, List, [], ◌∷◌, length, map, All}
-use Rattle.ppq_budget.specs.Sizes.{Numbers, pool_of}
-use Rattle.ppq_outside.specs.Shown.{Shown}
-use Rattle.ppq_block.specs.Block.{Block}
-use Rattle.ppq_heap.specs.Heap.{Contents}
-use Rattle.ppq_array.specs.Owner.{HasBlock, HasSize}
-use Rattle.ppq_pool.specs.Seats.{count_of}
-use Rattle.ppq_pass.specs.Passed.{PassHolding, PassKey}
+use Rattle.ppq_gather.specs.ppq_budget.Sizes.{Numbers, pool_of}
+use Rattle.ppq_gather.specs.ppq_outside.Shown.{Shown}
+use Rattle.ppq_gather.specs.ppq_block.Block.{Block}
+use Rattle.ppq_gather.specs.ppq_heap.Heap.{Contents}
+use Rattle.ppq_gather.specs.ppq_array.Owner.{HasBlock, HasSize}
+use Rattle.ppq_gather.specs.ppq_pool.Seats.{count_of}
+use Rattle.ppq_gather.specs.ppq_pass.Passed.{PassHolding, PassKey}
 use Rattle.ppq_begin.specs.Session.{IsFresh}
 use Rattle.ppq_begin.specs.declared.share.Session.{Session}
 

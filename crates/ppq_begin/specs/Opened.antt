@@ -1,17 +1,17 @@
 -- A session that begins.
 use Rattle.std.specs.Prelude.{◌≡◌, ℕ, [], List, ◌++◌, length, None, All}
 use Rattle.std.specs.declared.cmp.Ordering.{Ordering}
-use Rattle.ppq_record.specs.Bag.{IsSameBag}
-use Rattle.ppq_outside.specs.Shown.{Shown}
-use Rattle.ppq_heap.specs.Heaps.{items_of, share_at}
-use Rattle.ppq_array.specs.Supply.{Stock}
-use Rattle.ppq_array.specs.Owner.{slots_shown}
-use Rattle.ppq_array.specs.Holdings.{external_slots}
-use Rattle.ppq_pass.specs.Passed.{PassHolding}
-use Rattle.ppq_pass.specs.declared.shared.Shared.{Shared}
-use Rattle.ppq_queue.specs.Resting.{runs_bag}
-use Rattle.ppq_queue.specs.Handed.{IsWhole}
-use Rattle.ppq_queue.specs.declared.queue_parts.QueueParts.{QueueParts}
+use Rattle.ppq_gather.specs.ppq_record.Bag.{IsSameBag}
+use Rattle.ppq_gather.specs.ppq_outside.Shown.{Shown}
+use Rattle.ppq_gather.specs.ppq_heap.Heaps.{items_of, share_at}
+use Rattle.ppq_gather.specs.ppq_array.Supply.{Stock}
+use Rattle.ppq_gather.specs.ppq_array.Owner.{slots_shown}
+use Rattle.ppq_gather.specs.ppq_array.Holdings.{external_slots}
+use Rattle.ppq_gather.specs.ppq_pass.Passed.{PassHolding}
+use Rattle.ppq_gather.specs.ppq_pass.declared.shared.Shared.{Shared}
+use Rattle.ppq_gather.specs.ppq_queue.Resting.{runs_bag}
+use Rattle.ppq_gather.specs.ppq_queue.Handed.{IsWhole}
+use Rattle.ppq_gather.specs.ppq_queue.declared.queue_parts.QueueParts.{QueueParts}
 use Rattle.ppq_begin.specs.Session.{BulkHolding, HasBuffers, AreOf, IsFresh, keys_of, bag_of, shared_by}
 use Rattle.ppq_begin.specs.Equipped.{HasBegun, first_begun}
 use Rattle.ppq_begin.specs.Shares.{bare, IsFirst}

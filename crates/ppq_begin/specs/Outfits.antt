@@ -1,6 +1,6 @@
 -- What is allocated for a pass.
 use Rattle.std.specs.Prelude.{◌≡◌, ℕ, ◌+◌, ◌/◌, ◌≤◌, [], length, All, vec_capacity}
-use Rattle.ppq_budget.specs.Sizes.{Numbers, pool_of}
+use Rattle.ppq_gather.specs.ppq_budget.Sizes.{Numbers, pool_of}
 use Rattle.ppq_begin.specs.declared.outfit.Outfit.{Outfit}
 use Rattle.ppq_begin.specs.declared.stores.Stores.{Stores}
 

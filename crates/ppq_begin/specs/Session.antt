@@ -1,16 +1,16 @@
 -- What contracts see of a bulk session.
 use Rattle.std.specs.Prelude.{◌≡◌, ℕ, ◌+◌, ◌*◌, ◌<◌, ◌≤◌, Bool, true, false, Any, List, [], ◌++◌, length, map, max, sum_by, flat_map, None, All}
 use Rattle.atomic_table.specs.Seated.{TableId}
-use Rattle.ppq_record.specs.Bag.{IsSameBag}
-use Rattle.ppq_outside.specs.Shown.{Shown, AllTell}
-use Rattle.ppq_budget.specs.Sizes.{Numbers, heap_of, blocks_for, room_of, pool_of}
-use Rattle.ppq_array.specs.declared.berth.DeviceBlock.{DeviceBlock}
-use Rattle.ppq_pool.specs.Seats.{count_of}
-use Rattle.ppq_pass.specs.Passed.{PassKey, PassHolding, PassTells}
-use Rattle.ppq_pass.specs.declared.shared.Shared.{Shared}
-use Rattle.ppq_queue.specs.Holding.{Holding, IsAbove, FoundNoBlock, HasStopped}
-use Rattle.ppq_queue.specs.Resting.{lane_buffers}
-use Rattle.ppq_queue.specs.declared.fault.QueueFault.TheVariants.{NoFreeBlock, Device}
+use Rattle.ppq_gather.specs.ppq_record.Bag.{IsSameBag}
+use Rattle.ppq_gather.specs.ppq_outside.Shown.{Shown, AllTell}
+use Rattle.ppq_gather.specs.ppq_budget.Sizes.{Numbers, heap_of, blocks_for, room_of, pool_of}
+use Rattle.ppq_gather.specs.ppq_array.declared.berth.DeviceBlock.{DeviceBlock}
+use Rattle.ppq_gather.specs.ppq_pool.Seats.{count_of}
+use Rattle.ppq_gather.specs.ppq_pass.Passed.{PassKey, PassHolding, PassTells}
+use Rattle.ppq_gather.specs.ppq_pass.declared.shared.Shared.{Shared}
+use Rattle.ppq_gather.specs.ppq_queue.Holding.{Holding, IsAbove, FoundNoBlock, HasStopped}
+use Rattle.ppq_gather.specs.ppq_queue.Resting.{lane_buffers}
+use Rattle.ppq_gather.specs.ppq_queue.declared.fault.QueueFault.TheVariants.{NoFreeBlock, Device}
 use Rattle.ppq_begin.specs.declared.fault.BeginFault.{BeginFault}
 use Rattle.ppq_begin.specs.declared.fault.BeginFault.TheVariants.{Memory, NoFreeBlock as NoBlockAtBegin, Device as DeviceAtBegin}
 use Rattle.ppq_begin.specs.declared.fault.SessionEnd.{SessionEnd}

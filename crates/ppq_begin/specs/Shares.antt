@@ -1,10 +1,10 @@
 -- The free slots and the idle buffers of a supply, as a row and a pool.
 use Rattle.std.specs.Prelude.{◌≡◌, ℕ, ◌+◌, ◌*◌, ◌<◌, [], length, All}
-use Rattle.ppq_table.specs.Sums.{all_shares}
-use Rattle.ppq_outside.specs.Shown.{Shown}
-use Rattle.ppq_array.specs.Supply.{Stock}
-use Rattle.ppq_array.specs.Owner.{slots_shown, HasSize}
-use Rattle.ppq_pool.specs.Seats.{count_of}
+use Rattle.ppq_gather.specs.ppq_table.Sums.{all_shares}
+use Rattle.ppq_gather.specs.ppq_outside.Shown.{Shown}
+use Rattle.ppq_gather.specs.ppq_array.Supply.{Stock}
+use Rattle.ppq_gather.specs.ppq_array.Owner.{slots_shown, HasSize}
+use Rattle.ppq_gather.specs.ppq_pool.Seats.{count_of}
 use Rattle.ppq_begin.specs.declared.share.Session.{Session}
 
 -- a supply whose slots and buffers are all out

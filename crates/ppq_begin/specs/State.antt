@@ -1,17 +1,17 @@
 -- What holds of a bulk session while its passes are out.
 use Rattle.std.specs.Prelude.{◌≡◌, ℕ, ◌+◌, ◌-◌, ◌*◌, ◌<◌, ◌≤◌, List, [], ◌++◌, length, All, vec_capacity}
 use Rattle.std.specs.declared.cmp.Ordering.{Ordering}
-use Rattle.ppq_outside.specs.Shown.{Shown, AllTell}
-use Rattle.ppq_budget.specs.Sizes.{AreInRange, fixed_of, batch_of, pool_of}
-use Rattle.ppq_table.specs.Sums.{all_shares}
-use Rattle.ppq_array.specs.Supply.{Stock}
-use Rattle.ppq_array.specs.Owner.{slots_shown, HasSize, HasBlock}
-use Rattle.ppq_array.specs.Holdings.{internal_buffers, external_slots, external_buffers}
-use Rattle.ppq_fetch.specs.Fetching.{fronts_in}
-use Rattle.ppq_extract.specs.Extracted.{ServesFor}
-use Rattle.ppq_pool.specs.Seats.{count_of as pool_count}
-use Rattle.ppq_queue.specs.Holding.{IsAbove}
-use Rattle.ppq_queue.specs.Resting.{IsRestingRun, IsRestingArray, AllRise, runs_bag, count_of, lane_buffers, odd_in}
+use Rattle.ppq_gather.specs.ppq_outside.Shown.{Shown, AllTell}
+use Rattle.ppq_gather.specs.ppq_budget.Sizes.{AreInRange, fixed_of, batch_of, pool_of}
+use Rattle.ppq_gather.specs.ppq_table.Sums.{all_shares}
+use Rattle.ppq_gather.specs.ppq_array.Supply.{Stock}
+use Rattle.ppq_gather.specs.ppq_array.Owner.{slots_shown, HasSize, HasBlock}
+use Rattle.ppq_gather.specs.ppq_array.Holdings.{internal_buffers, external_slots, external_buffers}
+use Rattle.ppq_gather.specs.ppq_fetch.Fetching.{fronts_in}
+use Rattle.ppq_gather.specs.ppq_extract.Extracted.{ServesFor}
+use Rattle.ppq_gather.specs.ppq_pool.Seats.{count_of as pool_count}
+use Rattle.ppq_gather.specs.ppq_queue.Holding.{IsAbove}
+use Rattle.ppq_gather.specs.ppq_queue.Resting.{IsRestingRun, IsRestingArray, AllRise, runs_bag, count_of, lane_buffers, odd_in}
 use Rattle.ppq_begin.specs.Session.{BulkHolding}
 use Rattle.ppq_begin.specs.declared.parts.BulkParts.{BulkParts}
 

@@ -1,26 +1,24 @@
 //! The beginning of a session.
 ghost use Rattle.std.specs.Prelude.{◌≡◌, ◌≤◌, ◌+◌, ◌/◌, ℕ, [], ◌++◌, length, All, Some, None, Err, IfOk, IfErr, vec_capacity};
-ghost use Rattle.ppq_record.specs.Bag.{IsSameBag};
-ghost use Rattle.ppq_outside.specs.Shown.{AllTell};
-ghost use Rattle.ppq_array.specs.Kept.{SameSlots, all_writes};
-ghost use Rattle.ppq_pass.specs.Passed.{PassTells, IsOf};
+ghost use Rattle.ppq_gather.specs.ppq_record.Bag.{IsSameBag};
+ghost use Rattle.ppq_gather.specs.ppq_outside.Shown.{AllTell};
+ghost use Rattle.ppq_gather.specs.ppq_array.Kept.{SameSlots, all_writes};
+ghost use Rattle.ppq_gather.specs.ppq_pass.Passed.{PassTells, IsOf};
 ghost use Rattle.ppq_begin.specs.Session.{AreOf, HasBuffers, IsFresh, IsBeginRefusal, keys_of, bag_of, shared_by};
 ghost use Rattle.ppq_begin.specs.declared.fault.BeginFault.TheVariants.{Memory, Device};
 ghost use Rattle.ppq_begin.specs.Equipped.{HasBegun, first_begun};
 ghost use Rattle.ppq_begin.specs.Opened.{IsOpened, HandedOut, HoldsNoSlot};
 ghost use Rattle.ppq_begin.specs.Outfits.{IsOutfit};
-ghost use Rattle.ppq_pool.specs.Seats.{count_of};
-ghost use Rattle.ppq_budget.specs.Sizes.{pool_of};
-ghost use Rattle.ppq_array.specs.Owner.{slots_shown};
+ghost use Rattle.ppq_gather.specs.ppq_pool.Seats.{count_of};
+ghost use Rattle.ppq_gather.specs.ppq_budget.Sizes.{pool_of};
+ghost use Rattle.ppq_gather.specs.ppq_array.Owner.{slots_shown};
 
 use crate::equip::equip;
 use crate::outfit::Outfit;
 use crate::share::{Session, share};
 use crate::stores::{Stores, make_stores};
 use crate::{BeginFault, Brought, Bulk, BulkParts, Pass, Shared};
-use ppq_outside::{Gate, Host, Slot};
-use ppq_queue::{Queue, QueueFault, QueueParts};
-use ppq_record::Record;
+use ppq_gather::{Gate, Host, Queue, QueueFault, QueueParts, Record, Slot};
 use std::alloc::Global;
 
 /// Begins a bulk session. Returns what stays of the queue, what all passes share, and a pass for each

@@ -1,11 +1,10 @@
 //! What the owner of a queue keeps while a session is on.
 ghost use Rattle.std.specs.Prelude.{◌≡◌, ◌<◌, ◌*◌, length, slice_set};
-ghost use Rattle.ppq_budget.specs.Sizes.{AreInRange, batch_of};
+ghost use Rattle.ppq_gather.specs.ppq_budget.Sizes.{AreInRange, batch_of};
 ghost use Rattle.ppq_begin.specs.State.{bulk_holding, IsBulk};
 
 use crate::BulkParts;
-use ppq_outside::Slot;
-use ppq_record::Record;
+use ppq_gather::{Record, Slot};
 use std::marker::Model;
 
 /// What the owner of a queue keeps while a bulk session is on: the runs that were there, and a batch of

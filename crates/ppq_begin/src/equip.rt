@@ -1,19 +1,14 @@
 //! Passes that are made of what a queue has.
 ghost use Rattle.std.specs.Prelude.{◌≡◌, ◌≤◌, ◌<◌, ◌+◌, ◌-◌, ◌/◌, [], length, reverse, All, vec_capacity};
-ghost use Rattle.ppq_budget.specs.Sizes.{heap_of, pool_of};
-ghost use Rattle.ppq_array.specs.Owner.{HasBlock};
-ghost use Rattle.ppq_pool.specs.Seats.{count_of};
+ghost use Rattle.ppq_gather.specs.ppq_budget.Sizes.{heap_of, pool_of};
+ghost use Rattle.ppq_gather.specs.ppq_array.Owner.{HasBlock};
+ghost use Rattle.ppq_gather.specs.ppq_pool.Seats.{count_of};
 ghost use Rattle.ppq_begin.specs.Equipped.{MayEquip, Equipped, IsNewPass, ArePasses};
 ghost use Rattle.ppq_begin.specs.Outfits.{IsOutfit};
 
 use crate::outfit::Outfit;
 use crate::share::Session;
-use ppq_block::BufList;
-use ppq_budget::Sizes;
-use ppq_heap::InsertionHeap;
-use ppq_outside::Slot;
-use ppq_pass::Pass;
-use ppq_record::Record;
+use ppq_gather::{BufList, InsertionHeap, Pass, Record, Sizes, Slot};
 
 // Moves a buffer from the front of a list to the end of another.
 fn lend<R: Record>(from: &mut BufList<R>, to: &mut BufList<R>)

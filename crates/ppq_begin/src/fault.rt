@@ -1,6 +1,6 @@
 //! Why a session did not begin, and how one ended.
 
-use ppq_queue::QueueFault;
+use ppq_gather::QueueFault;
 
 /// Why a session did not begin. The queue has the records that it had, but after `Device`.
 #[derive(Clone, Copy, Debug, PartialEq, Eq)]

@@ -15,13 +15,15 @@ mod parts;
 mod share;
 mod slots;
 mod stores;
-#[cfg(test)]
-mod tests;
 
 pub use begin::{bulk_begin, hand_out};
 pub use bulk::Bulk;
 pub use fault::{BeginFault, SessionEnd};
 pub use parts::BulkParts;
-pub use ppq_gather::Brought;
-pub use ppq_pass::{Full, Pass, PoolBuf, Shared};
+pub use ppq_gather::{
+    Brought, BufList, Closed, Full, Gate, Host, Library, OpenFault, Out, OutsideFault, OwnerLists,
+    Pair, Pass, PassHeld, PassParts, PoolBuf, Queue, QueueFault, Record, Shared, Sizes, Slot,
+    StoreFault, Supply, buffer_steps_are_events, gather_all, interleaving_laws, record_laws,
+    rejoin, slot_laws, slot_steps_are_events,
+};
 pub use slots::{put_buffers, put_slots};

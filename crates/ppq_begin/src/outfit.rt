@@ -2,13 +2,7 @@
 ghost use Rattle.std.specs.Prelude.{◌≡◌, ◌≤◌, ◌/◌, ◌+◌, length, All, IfOk};
 ghost use Rattle.ppq_begin.specs.Outfits.{IsOutfit};
 
-use ppq_array::Runs;
-use ppq_budget::Sizes;
-use ppq_lane::Lanes;
-use ppq_outside::Slot;
-use ppq_record::{Memory, Record};
-use ppq_spill::PassBody;
-use ppq_tree::MinTree;
+use ppq_gather::{Lanes, Memory, MinTree, PassBody, Record, Runs, Sizes, Slot};
 use std::alloc::Global;
 
 /// What is allocated for a pass.

@@ -1,17 +1,10 @@
 //! The parts of a queue while its heaps, free slots and idle buffers are out.
 
 use crate::Brought;
-use ppq_array::{Berth, OwnerLists};
-use ppq_budget::Sizes;
-use ppq_extract::{Extract, Sources};
-use ppq_heap::InsertionHeap;
-use ppq_outside::Slot;
-use ppq_pass::PoolBuf;
-use ppq_pool::PoolSeat;
-use ppq_record::Record;
-use ppq_row::RowSeat;
-use ppq_spill::PassBody;
-use ppq_tree::MinTree;
+use ppq_gather::{
+    Berth, Extract, InsertionHeap, MinTree, OwnerLists, PassBody, PoolBuf, PoolSeat, Record,
+    RowSeat, Sizes, Slot, Sources,
+};
 
 /// The parts of a queue while its heaps, free slots and idle buffers are out.
 #[derive(Drop)]

@@ -1,19 +1,16 @@
 //! The free slots and the idle buffers of a supply, as a row and a pool.
 ghost use Rattle.std.specs.Prelude.{◌≡◌, ◌≤◌, ◌<◌, ◌+◌, ◌-◌, ◌*◌, ◌^◌, [], length, All, IfOk, OnErr, vec_capacity};
-ghost use Rattle.ppq_table.specs.Sums.{all_shares};
-ghost use Rattle.ppq_array.specs.Owner.{HasSize, slots_shown};
-ghost use Rattle.ppq_row.specs.Seats.{IsSeatOf as IsRowSeat};
-ghost use Rattle.ppq_pool.specs.Seats.{IsSeatOf as IsPoolSeat, count_of};
-ghost use Rattle.ppq_queue.specs.Slots.{with_slots, with_pool};
+ghost use Rattle.ppq_gather.specs.ppq_table.Sums.{all_shares};
+ghost use Rattle.ppq_gather.specs.ppq_array.Owner.{HasSize, slots_shown};
+ghost use Rattle.ppq_gather.specs.ppq_row.Seats.{IsSeatOf as IsRowSeat};
+ghost use Rattle.ppq_gather.specs.ppq_pool.Seats.{IsSeatOf as IsPoolSeat, count_of};
+ghost use Rattle.ppq_gather.specs.ppq_queue.Slots.{with_slots, with_pool};
 ghost use Rattle.ppq_begin.specs.Shares.{bare, IsFirst};
 
 use crate::slots::{put_buffers, put_slots, take_buffers, take_slots};
-use ppq_array::{Berth, OwnerLists};
-use ppq_outside::Slot;
-use ppq_pass::{PoolBuf, Shared};
-use ppq_pool::{Pool, PoolSeat};
-use ppq_record::{Memory, Record};
-use ppq_row::{Row, RowSeat};
+use ppq_gather::{
+    Berth, Memory, OwnerLists, Pool, PoolBuf, PoolSeat, Record, Row, RowSeat, Shared, Slot,
+};
 use std::alloc::Global;
 
 /// What passes share, with seats that have all shares.

@@ -1,12 +1,9 @@
 //! Slots and buffers that leave a supply and come back to it.
 ghost use Rattle.std.specs.Prelude.{◌≡◌, ◌≤◌, ◌+◌, ◌-◌, ◌*◌, ◌++◌, [], length, reverse, All, vec_capacity};
-ghost use Rattle.ppq_array.specs.Owner.{HasSize, slots_shown};
-ghost use Rattle.ppq_queue.specs.Slots.{with_slots, with_pool};
+ghost use Rattle.ppq_gather.specs.ppq_array.Owner.{HasSize, slots_shown};
+ghost use Rattle.ppq_gather.specs.ppq_queue.Slots.{with_slots, with_pool};
 
-use ppq_array::{Berth, OwnerLists, Supply, free_slot, give_buffer};
-use ppq_outside::Slot;
-use ppq_pass::PoolBuf;
-use ppq_record::Record;
+use ppq_gather::{Berth, OwnerLists, PoolBuf, Record, Slot, Supply, free_slot, give_buffer};
 
 /// Moves all free slots of a supply to the end of a list, in order.
 pub fn take_slots<S: Slot, R: Record>(supply: &mut OwnerLists<S, R>, slots: &mut Vec<Berth<S, R>>)

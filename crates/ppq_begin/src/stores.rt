@@ -1,15 +1,11 @@
 //! All that is allocated for a session.
 ghost use Rattle.std.specs.Prelude.{◌≤◌, IfOk};
-ghost use Rattle.ppq_budget.specs.Sizes.{fixed_of};
+ghost use Rattle.ppq_gather.specs.ppq_budget.Sizes.{fixed_of};
 ghost use Rattle.ppq_begin.specs.Outfits.{AreStores};
 
 use crate::outfit::{Outfit, outfits};
 use crate::{Brought, Pass};
-use ppq_array::Berth;
-use ppq_budget::Sizes;
-use ppq_outside::Slot;
-use ppq_pass::PoolBuf;
-use ppq_record::{Memory, Record};
+use ppq_gather::{Berth, Memory, PoolBuf, Record, Sizes, Slot};
 use std::alloc::Global;
 
 /// All that is allocated for a session, beside its row and its pool. The lists are empty.

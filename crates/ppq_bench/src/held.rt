@@ -1,11 +1,8 @@
 //! Records that are held in a queue over a device file, while others come and go.
 use crate::load::out_of_memory;
 use crate::slots::make_slots;
-use ppq_budget::Sizes;
 use ppq_edge::{FileRack, FileSlot};
-use ppq_outside::{Host, OpenGate};
-use ppq_queue::{Queue, QueueFault};
-use ppq_record::Pair;
+use ppq_queue::{Host, OpenGate, Pair, Queue, QueueFault, Sizes};
 use std::alloc::Global;
 use std::io;
 use std::io::ErrorKind;

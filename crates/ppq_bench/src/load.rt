@@ -1,7 +1,7 @@
 //! Runs to merge.
 ghost use Rattle.std.specs.Prelude.{◌<◌, ◌^◌, length};
 
-use ppq_record::{Pair, sort};
+use ppq_queue::{Pair, sort};
 use std::alloc::Global;
 use std::io;
 use std::io::ErrorKind;

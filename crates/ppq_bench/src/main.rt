@@ -19,7 +19,7 @@ mod slots;
 use held::{Removed, Shape, hold};
 use load::{Load, out_of_memory};
 use merges::{as_sorted, picoseconds};
-use ppq_outside::Host;
+use ppq_queue::Host;
 use std::alloc::Global;
 use std::io::ErrorKind;
 use std::rt::Clock;

@@ -1,9 +1,6 @@
 //! Merges of a load.
 use crate::load::{Load, out_of_memory};
-use ppq_merge::{Bench, merge_workers};
-use ppq_outside::OpenGate;
-use ppq_record::{Listing, Lists, Pair, sort};
-use ppq_split::size_of;
+use ppq_queue::{Bench, Listing, Lists, OpenGate, Pair, merge_workers, size_of, sort};
 use std::alloc::Global;
 use std::io;
 use std::rt::Clock;

@@ -3,9 +3,7 @@ ghost use Rattle.std.specs.Prelude.{map, IfOk};
 ghost use Rattle.ppq_queue.specs.Holding.{AreNewSlots};
 
 use crate::load::out_of_memory;
-use ppq_budget::Sizes;
-use ppq_outside::{Host, OutsideFault, Rack};
-use ppq_record::{Pair, Record};
+use ppq_queue::{Host, OutsideFault, Pair, Rack, Record, Sizes};
 use std::alloc::Global;
 use std::io;
 use std::io::ErrorKind;

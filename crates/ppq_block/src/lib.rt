@@ -10,8 +10,6 @@ mod buf_list;
 mod buffer;
 mod bytes;
 mod chain;
-#[cfg(test)]
-mod tests;
 mod walk;
 
 pub use block_buf::BlockBuf;
@@ -20,3 +18,4 @@ pub use buffer::Buffer;
 // A crate can name a buffer in a contract only if the types of its fields are exported.
 #[doc(hidden)]
 pub use chain::{Chain, Node};
+pub use ppq_record::{Listing, Memory, Record, record_laws};

@@ -3,8 +3,6 @@
 #![tactic(auto)]
 
 mod sizes;
-#[cfg(test)]
-mod tests;
 mod too_small;
 
 pub use sizes::{Sizes, fixed_parts};

@@ -8,9 +8,9 @@ use Rattle.std.proofs.lemmas.Bool.{cases_eq, ne_eqb}
 use Rattle.std.proofs.lemmas.List.Sums.{sum_by-append, sum_by-cons}
 use Rattle.std.proofs.lemmas.List.Sorted.{IsPermutation-refl, IsPermutation-cons, IsPermutation-middle, IsPermutation-trans}
 use Rattle.std.proofs.lemmas.Simd.{map-map}
-use Rattle.ppq_outside.specs.Shown.{Shown}
-use Rattle.ppq_outside.specs.Made.{HasMade, HasMadeJust}
-use Rattle.ppq_array.specs.Kept.{weight_at, times_of, SameSlots}
+use Rattle.ppq_words.specs.ppq_outside.Shown.{Shown}
+use Rattle.ppq_words.specs.ppq_outside.Made.{HasMade, HasMadeJust}
+use Rattle.ppq_engine.specs.ppq_array.Kept.{weight_at, times_of, SameSlots}
 
 abbrev is_at : ℕ → ℕ → ℕ
 is_at n x = cond (x == n) 1 0

@@ -2,15 +2,15 @@
 use Rattle.std.proofs.Common.{◌≡◌, ℕ, Bool, true, ◌≤◌, List, length, Option, Some, None, refl, sym, ◌∙◌, subst, inl, inr}
 use Rattle.std.specs.Prelude.{Result, Ok, Err, IfSome}
 use Rattle.std.specs.List.{AllZip}
-use Rattle.ppq_outside.specs.Told.{Reply, Remembers}
-use Rattle.ppq_script.specs.declared.numbered.Numbered.{Numbered}
-use Rattle.ppq_script.specs.declared.check.CheckFault.{CheckFault}
-use Rattle.ppq_script.specs.declared.check.CheckFault.TheVariants as check
-use Rattle.ppq_script.specs.Lines.{lines_of, names_of, numbered_of, first_bad, first_bad_by}
-use Rattle.ppq_script.specs.Files.{is_usable, IsBadAmong}
-use Rattle.ppq_script.specs.Checking.{bad_of, IsCheckAnswer, CheckRefusalIsRight, IsAsked, IsSameScript, with_sizes}
-use Rattle.ppq_script.specs.Reading.{Reading}
-use Rattle.ppq_script.proofs.BadFiles.{IsBadLine-IsBadAmong}
+use Rattle.ppq_words.specs.ppq_outside.Told.{Reply, Remembers}
+use Rattle.ppq_words.specs.ppq_script.declared.numbered.Numbered.{Numbered}
+use Rattle.ppq_words.specs.ppq_script.declared.check.CheckFault.{CheckFault}
+use Rattle.ppq_words.specs.ppq_script.declared.check.CheckFault.TheVariants as check
+use Rattle.ppq_words.specs.ppq_script.Lines.{lines_of, names_of, numbered_of, first_bad, first_bad_by}
+use Rattle.ppq_words.specs.ppq_script.Files.{is_usable, IsBadAmong}
+use Rattle.ppq_words.specs.ppq_script.Checking.{bad_of, IsCheckAnswer, CheckRefusalIsRight, IsAsked, IsSameScript, with_sizes}
+use Rattle.ppq_words.specs.ppq_script.Reading.{Reading}
+use Rattle.ppq_words.proofs.ppq_script.BadFiles.{IsBadLine-IsBadAmong}
 use Rattle.ppq_cli.specs.Load.{IsLoaded, check_fault_load, script_kinds}
 use Rattle.ppq_cli.specs.Replies.{IsReplied, IsUnloaded, IsScript}
 use Rattle.ppq_cli.proofs.Given.{replied_remembered}

@@ -3,17 +3,17 @@ use Rattle.std.proofs.Common.{◌≡◌, ℕ, ◌<◌, ◌≤◌, List, [], leng
 use Rattle.std.specs.Prelude.{◌⊎◌, Bool, true, false, if◌then◌else◌, nat_lt, IfSome, MatchOption, map}
 use Rattle.std.proofs.lemmas.List.Sorted.{IsPermutation-refl}
 use Rattle.std.proofs.lemmas.Bool.{cases_lt, lt-ltb, le-ltb}
-use Rattle.ppq_record.specs.declared.pair.Pair.{Pair}
-use Rattle.ppq_record.specs.Given.{records_of}
-use Rattle.ppq_outside.specs.Shown.{Shown, AllTell}
-use Rattle.ppq_outside.specs.Told.{Reply, Remembers, TakesAll, bytes_or_none}
-use Rattle.ppq_budget.specs.Sizes.{Numbers, fixed_of}
-use Rattle.ppq_script.specs.declared.command.Command.{Command}
-use Rattle.ppq_script.specs.declared.numbered.Numbered.{Numbered}
-use Rattle.ppq_script.specs.Files.{name_at, is_usable}
-use Rattle.ppq_script.specs.Lines.{names_of, numbered_of, first_bad_by}
-use Rattle.ppq_script.specs.Checking.{with_sizes}
-use Rattle.ppq_script.specs.Reading.{Reading, command_list}
+use Rattle.ppq_words.specs.ppq_record.declared.pair.Pair.{Pair}
+use Rattle.ppq_words.specs.ppq_record.Given.{records_of}
+use Rattle.ppq_words.specs.ppq_outside.Shown.{Shown, AllTell}
+use Rattle.ppq_words.specs.ppq_outside.Told.{Reply, Remembers, TakesAll, bytes_or_none}
+use Rattle.ppq_words.specs.ppq_budget.Sizes.{Numbers, fixed_of}
+use Rattle.ppq_words.specs.ppq_script.declared.command.Command.{Command}
+use Rattle.ppq_words.specs.ppq_script.declared.numbered.Numbered.{Numbered}
+use Rattle.ppq_words.specs.ppq_script.Files.{name_at, is_usable}
+use Rattle.ppq_words.specs.ppq_script.Lines.{names_of, numbered_of, first_bad_by}
+use Rattle.ppq_words.specs.ppq_script.Checking.{with_sizes}
+use Rattle.ppq_words.specs.ppq_script.Reading.{Reading, command_list}
 use Rattle.ppq_engine.specs.Loads.{most_of, least_of, begins_limit, FitsWritten}
 use Rattle.ppq_engine.specs.Refusal.{HasRoom, HasNoRoom}
 use Rattle.ppq_engine.specs.Output.{AreFilesOf, KeepsLengths, given_of, output_of, load_of, crest_of, TakesWithin}

@@ -2,15 +2,15 @@
 use Rattle.std.proofs.Common.{◌≡◌, ℕ, zero, suc, List, [], ◌∷◌, Option, Some, sym, subst}
 use Rattle.std.specs.Prelude.{slice_get, map}
 use Rattle.std.specs.List.{AllZip}
-use Rattle.ppq_outside.specs.Told.{Reply, OfLength, OfRead, Remembers, RepliesOnly}
-use Rattle.ppq_outside.proofs.Replies.{replies_wider, replies_then}
-use Rattle.ppq_script.specs.declared.command.Command.{Command}
-use Rattle.ppq_script.specs.declared.command.Command.TheVariants.{Push, Pop, Top, Size, Bulk, Gen, BulkPop, BulkPopLimit, Drain, BulkBegin, BulkPush, BulkEnd, LimitBegin, LimitPush, LimitTop, LimitPop, LimitEnd}
-use Rattle.ppq_script.specs.declared.numbered.Numbered.{Numbered}
-use Rattle.ppq_script.specs.Lines.{names_of, numbered_of}
-use Rattle.ppq_script.specs.Files.{file_in, name_at}
-use Rattle.ppq_script.specs.Checking.{IsAskedFile, IsAsked}
-use Rattle.ppq_script.specs.Reading.{Reading}
+use Rattle.ppq_words.specs.ppq_outside.Told.{Reply, OfLength, OfRead, Remembers, RepliesOnly}
+use Rattle.ppq_words.proofs.ppq_outside.Replies.{replies_wider, replies_then}
+use Rattle.ppq_words.specs.ppq_script.declared.command.Command.{Command}
+use Rattle.ppq_words.specs.ppq_script.declared.command.Command.TheVariants.{Push, Pop, Top, Size, Bulk, Gen, BulkPop, BulkPopLimit, Drain, BulkBegin, BulkPush, BulkEnd, LimitBegin, LimitPush, LimitTop, LimitPop, LimitEnd}
+use Rattle.ppq_words.specs.ppq_script.declared.numbered.Numbered.{Numbered}
+use Rattle.ppq_words.specs.ppq_script.Lines.{names_of, numbered_of}
+use Rattle.ppq_words.specs.ppq_script.Files.{file_in, name_at}
+use Rattle.ppq_words.specs.ppq_script.Checking.{IsAskedFile, IsAsked}
+use Rattle.ppq_words.specs.ppq_script.Reading.{Reading}
 use Rattle.ppq_engine.specs.Files.{IsReadInScript}
 use Rattle.ppq_cli.specs.Load.{script_kinds}
 use Rattle.ppq_cli.specs.Replies.{IsInLength, ReadsWithin, IsScript}

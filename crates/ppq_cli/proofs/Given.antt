@@ -5,14 +5,14 @@ use Rattle.std.proofs.lemmas.List.{take-append-le}
 use Rattle.std.proofs.lemmas.List.Folds.{concat-append}
 use Rattle.std.proofs.Math.Seq.{take-append-add}
 use borrow.Rule.Slice.PartMut.{put_mid, post_of}
-use Rattle.ppq_outside.specs.Told.{Reply, OfLength, OfRead, Remembers}
+use Rattle.ppq_words.specs.ppq_outside.Told.{Reply, OfLength, OfRead, Remembers}
 use Rattle.std.specs.List.{AllZip}
-use Rattle.ppq_script.specs.declared.command.Command.{Command}
-use Rattle.ppq_script.specs.declared.numbered.Numbered.{Numbered}
-use Rattle.ppq_script.specs.Lines.{names_of, numbered_of}
-use Rattle.ppq_script.specs.Files.{file_in, name_at}
-use Rattle.ppq_script.specs.Checking.{IsAskedFile, IsAsked}
-use Rattle.ppq_script.specs.Reading.{Reading}
+use Rattle.ppq_words.specs.ppq_script.declared.command.Command.{Command}
+use Rattle.ppq_words.specs.ppq_script.declared.numbered.Numbered.{Numbered}
+use Rattle.ppq_words.specs.ppq_script.Lines.{names_of, numbered_of}
+use Rattle.ppq_words.specs.ppq_script.Files.{file_in, name_at}
+use Rattle.ppq_words.specs.ppq_script.Checking.{IsAskedFile, IsAsked}
+use Rattle.ppq_words.specs.ppq_script.Reading.{Reading}
 use Rattle.ppq_cli.specs.Load.{script_kinds}
 use Rattle.ppq_cli.specs.Replies.{AreGiven, IsGiven, IsReplied, IsScript}
 

@@ -2,11 +2,11 @@
 use Rattle.std.proofs.Common.{◌≡◌, ◌∙◌, ℕ, List, Option, Some, sym, ap, subst}
 use Rattle.std.specs.Prelude.{IfSome, option_map, String}
 use Rattle.std.specs.declared.alloc.Global.{Global}
-use Rattle.ppq_record.specs.declared.pair.Pair.{Pair}
-use Rattle.ppq_outside.specs.Told.{Reply}
-use Rattle.ppq_budget.specs.Sizes.{Numbers}
-use Rattle.ppq_script.specs.declared.command.Command.{Command}
-use Rattle.ppq_script.specs.Reading.{Reading as Script, command_list}
+use Rattle.ppq_words.specs.ppq_record.declared.pair.Pair.{Pair}
+use Rattle.ppq_words.specs.ppq_outside.Told.{Reply}
+use Rattle.ppq_words.specs.ppq_budget.Sizes.{Numbers}
+use Rattle.ppq_words.specs.ppq_script.declared.command.Command.{Command}
+use Rattle.ppq_words.specs.ppq_script.Reading.{Reading as Script, command_list}
 use Rattle.ppq_words.specs.Reading.{Reading, as_reading}
 use Rattle.ppq_words.specs.declared.run_arguments.RunArguments.{RunArguments}
 use Rattle.ppq_engine.specs.Output.{AreFilesOf, given_of}

@@ -3,9 +3,9 @@ use Rattle.std.proofs.Common.{◌≡◌, ℕ, ◌+◌, zero, suc, List, [], ◌�
 use Rattle.std.specs.List.{range_with_len}
 use Rattle.std.proofs.lemmas.List.{map-append}
 use Rattle.std.proofs.lemmas.List.Elements.{All-push}
-use Rattle.ppq_outside.specs.Shown.{Shown}
-use Rattle.ppq_outside.specs.Made.{HasMade}
-use Rattle.ppq_queue.specs.Holding.{IsNewSlot}
+use Rattle.ppq_words.specs.ppq_outside.Shown.{Shown}
+use Rattle.ppq_words.specs.ppq_outside.Made.{HasMade}
+use Rattle.ppq_engine.specs.ppq_queue.Holding.{IsNewSlot}
 use Rattle.ppq_cli.specs.Device.{AreNew}
 
 range-suc : (a n : ℕ) → range_with_len a (suc n) ≡ range_with_len a n ++ (a + n) ∷ []

@@ -1,17 +1,17 @@
 -- Two runs of one script, whatever their sizes, write the same.
 use Rattle.std.proofs.Common.{◌≡◌, ℕ, ◌+◌, Bool, true, false, cond, List, [], ◌∷◌, Option, Some, None, refl, sym, ap, ap₂, subst, inl, inr}
 use Rattle.std.specs.Prelude.{IfSome, if◌then◌else◌, nat_lt, length, map}
-use Rattle.ppq_record.specs.Given.{records_of}
-use Rattle.ppq_outside.specs.Told.{TakesAll, bytes_or_none}
-use Rattle.ppq_budget.specs.Sizes.{Numbers}
-use Rattle.ppq_script.specs.declared.command.Command.{Command}
-use Rattle.ppq_script.specs.declared.session.Session.{Session}
-use Rattle.ppq_script.specs.declared.session.Session.TheVariants.{Outside}
-use Rattle.ppq_script.specs.Sessions.{is_outside, may_stand}
-use Rattle.ppq_script.specs.Lines.{Kind, Skipped, Plain, OfFile as Naming, Bad, kind_of, lines_of, session_behind, placed, kinds_from, bad_or, names_of, numbered_of, first_bad_by}
-use Rattle.ppq_script.specs.declared.numbered.Numbered.{Numbered}
-use Rattle.ppq_script.specs.Checking.{with_sizes}
-use Rattle.ppq_script.specs.Files.{is_usable, name_at}
+use Rattle.ppq_words.specs.ppq_record.Given.{records_of}
+use Rattle.ppq_words.specs.ppq_outside.Told.{TakesAll, bytes_or_none}
+use Rattle.ppq_words.specs.ppq_budget.Sizes.{Numbers}
+use Rattle.ppq_words.specs.ppq_script.declared.command.Command.{Command}
+use Rattle.ppq_words.specs.ppq_script.declared.session.Session.{Session}
+use Rattle.ppq_words.specs.ppq_script.declared.session.Session.TheVariants.{Outside}
+use Rattle.ppq_words.specs.ppq_script.Sessions.{is_outside, may_stand}
+use Rattle.ppq_words.specs.ppq_script.Lines.{Kind, Skipped, Plain, OfFile as Naming, Bad, kind_of, lines_of, session_behind, placed, kinds_from, bad_or, names_of, numbered_of, first_bad_by}
+use Rattle.ppq_words.specs.ppq_script.declared.numbered.Numbered.{Numbered}
+use Rattle.ppq_words.specs.ppq_script.Checking.{with_sizes}
+use Rattle.ppq_words.specs.ppq_script.Files.{is_usable, name_at}
 use Rattle.ppq_words.specs.Reading.{Reading}
 use Rattle.ppq_engine.specs.declared.end.End.TheVariants.{Done, ScriptTooLong}
 use Rattle.ppq_engine.specs.Output.{output_of}

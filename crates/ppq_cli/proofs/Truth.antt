@@ -3,7 +3,7 @@ use Rattle.std.proofs.Common.{◌≡◌, ℕ, ◌+◌, ◌≤◌, List, [], ◌�
 use Rattle.std.specs.List.{concat}
 use Rattle.std.proofs.lemmas.List.{take_all, drop-drop}
 use Rattle.std.proofs.Math.Seq.{take-add}
-use Rattle.ppq_outside.specs.Told.{Reply, OfLength, OfRead, TellsReply, length_of, bytes_or_none}
+use Rattle.ppq_words.specs.ppq_outside.Told.{Reply, OfLength, OfRead, TellsReply, length_of, bytes_or_none}
 use Rattle.ppq_cli.specs.Load.{IsLoaded}
 use Rattle.ppq_cli.specs.Replies.{AreGiven, IsGiven, IsReplied}
 

@@ -3,12 +3,12 @@ use Rattle.std.specs.Prelude.{◌≡◌, ◌≤◌, ◌⊎◌, ⊤, ℕ, List, l
 use Rattle.std.specs.List.{range_with_len}
 use Rattle.std.specs.List.Sorted.{IsPermutation}
 use Rattle.std.specs.declared.alloc.Global.{Global}
-use Rattle.ppq_outside.specs.declared.fault.OutsideFault.{OutsideFault}
-use Rattle.ppq_outside.specs.declared.fault.OutsideFault.TheVariants.{Failed, Memory}
-use Rattle.ppq_outside.specs.Told.{Rose}
-use Rattle.ppq_outside.specs.Shown.{Shown}
-use Rattle.ppq_budget.specs.Sizes.{Numbers}
-use Rattle.ppq_queue.specs.Holding.{IsNewSlot}
+use Rattle.ppq_words.specs.ppq_outside.declared.fault.OutsideFault.{OutsideFault}
+use Rattle.ppq_words.specs.ppq_outside.declared.fault.OutsideFault.TheVariants.{Failed, Memory}
+use Rattle.ppq_words.specs.ppq_outside.Told.{Rose}
+use Rattle.ppq_words.specs.ppq_outside.Shown.{Shown}
+use Rattle.ppq_words.specs.ppq_budget.Sizes.{Numbers}
+use Rattle.ppq_engine.specs.ppq_queue.Holding.{IsNewSlot}
 use Rattle.ppq_engine.specs.Ends.{BeganCommands}
 use Rattle.ppq_engine.specs.declared.end.End.{End}
 use Rattle.ppq_engine.specs.declared.end.End.TheVariants as end

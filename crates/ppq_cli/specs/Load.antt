@@ -1,12 +1,12 @@
 -- Loading a script from a library.
 use Rattle.std.specs.Prelude.{◌≡◌, ℕ, ◌<◌, ◌≤◌, List, length, Option, Some, None, IfSome, ⊤}
-use Rattle.ppq_outside.specs.Told.{bytes_or_none}
-use Rattle.ppq_outside.specs.declared.fault.OutsideFault.{OutsideFault}
-use Rattle.ppq_outside.specs.declared.fault.OutsideFault.TheVariants as outside
-use Rattle.ppq_script.specs.Lines.{Kind, lines_of, kinds_of, first_bad_by}
-use Rattle.ppq_script.specs.Files.{is_usable}
-use Rattle.ppq_script.specs.declared.check.CheckFault.{CheckFault}
-use Rattle.ppq_script.specs.declared.check.CheckFault.TheVariants as check
+use Rattle.ppq_words.specs.ppq_outside.Told.{bytes_or_none}
+use Rattle.ppq_words.specs.ppq_outside.declared.fault.OutsideFault.{OutsideFault}
+use Rattle.ppq_words.specs.ppq_outside.declared.fault.OutsideFault.TheVariants as outside
+use Rattle.ppq_words.specs.ppq_script.Lines.{Kind, lines_of, kinds_of, first_bad_by}
+use Rattle.ppq_words.specs.ppq_script.Files.{is_usable}
+use Rattle.ppq_words.specs.ppq_script.declared.check.CheckFault.{CheckFault}
+use Rattle.ppq_words.specs.ppq_script.declared.check.CheckFault.TheVariants as check
 use Rattle.ppq_engine.specs.declared.end.End.{End}
 use Rattle.ppq_engine.specs.declared.end.End.TheVariants as end
 use Rattle.ppq_cli.specs.declared.load.LoadFault.{LoadFault}

@@ -1,16 +1,16 @@
 -- What a library replied of a file, and how a run ends for it. It is said of every library, also of one that does not tell.
 use Rattle.std.specs.Prelude.{◌≡◌, ◌⊎◌, ℕ, ◌+◌, ◌<◌, ◌≤◌, List, [], ◌∷◌, length, take, slice_get, Option, Some, None, IfSome, IsTrue, ⊤}
 use Rattle.std.specs.List.{AllZip, concat}
-use Rattle.ppq_record.specs.declared.pair.Pair.{Pair}
-use Rattle.ppq_outside.specs.Shown.{Shown}
-use Rattle.ppq_outside.specs.Told.{Reply, OfLength, OfRead, RepliesOnly, TakesAll, TakesPart}
-use Rattle.ppq_budget.specs.Sizes.{Numbers, fixed_of}
-use Rattle.ppq_script.specs.declared.command.Command.{Command}
-use Rattle.ppq_script.specs.declared.command.Command.TheVariants.{Bulk}
-use Rattle.ppq_script.specs.Lines.{numbered_of, names_of, first_bad, first_bad_by}
-use Rattle.ppq_script.specs.Files.{is_usable, IsBadLine}
-use Rattle.ppq_script.specs.Checking.{IsAsked, with_sizes}
-use Rattle.ppq_script.specs.Reading.{Reading, command_list}
+use Rattle.ppq_words.specs.ppq_record.declared.pair.Pair.{Pair}
+use Rattle.ppq_words.specs.ppq_outside.Shown.{Shown}
+use Rattle.ppq_words.specs.ppq_outside.Told.{Reply, OfLength, OfRead, RepliesOnly, TakesAll, TakesPart}
+use Rattle.ppq_words.specs.ppq_budget.Sizes.{Numbers, fixed_of}
+use Rattle.ppq_words.specs.ppq_script.declared.command.Command.{Command}
+use Rattle.ppq_words.specs.ppq_script.declared.command.Command.TheVariants.{Bulk}
+use Rattle.ppq_words.specs.ppq_script.Lines.{numbered_of, names_of, first_bad, first_bad_by}
+use Rattle.ppq_words.specs.ppq_script.Files.{is_usable, IsBadLine}
+use Rattle.ppq_words.specs.ppq_script.Checking.{IsAsked, with_sizes}
+use Rattle.ppq_words.specs.ppq_script.Reading.{Reading, command_list}
 use Rattle.ppq_engine.specs.Loads.{most_of, least_of, begins_limit, FitsWritten, IsLoad}
 use Rattle.ppq_engine.specs.Output.{AreFilesOf, given_of, output_of, load_of, crest_of, TakesWithin}
 use Rattle.ppq_engine.specs.Reading.{EndsAt}

@@ -1,6 +1,6 @@
 -- The line that reports an end, and a line that was taken.
 use Rattle.std.specs.Prelude.{◌⊎◌, ℕ, List, [], ◌++◌, Option, codes, decimal}
-use Rattle.ppq_outside.specs.Told.{TakesAll, TakesPart, Rose}
+use Rattle.ppq_words.specs.ppq_outside.Told.{TakesAll, TakesPart, Rose}
 use Rattle.ppq_engine.specs.declared.end.End.{End}
 use Rattle.ppq_engine.specs.declared.end.End.TheVariants.{Done, BadLine, Usage, ReadFault, WriteFault, DeviceFault, NoFreeBlock, BudgetTooSmall, Memory, FileChanged, NoDevice, NoScript, ScriptTooLong}
 

@@ -1,15 +1,15 @@
 -- The words of the contract of `run_words`, in the order of its clauses. `run_over`, `run_and_report` and `run_twice` use them too.
 use Rattle.std.specs.Prelude.{◌≡◌, ◌⊎◌, ℕ, List, length, Option, Some, None, if◌then◌else◌, IfSome, nat_lt, MatchOption, map, String}
 use Rattle.std.specs.declared.alloc.Global.{Global}
-use Rattle.ppq_record.specs.declared.pair.Pair.{Pair}
-use Rattle.ppq_record.specs.Given.{records_of}
-use Rattle.ppq_outside.specs.Shown.{Shown}
-use Rattle.ppq_outside.specs.Told.{Reply, TakesAll, TakesPart, bytes_or_none}
-use Rattle.ppq_budget.specs.Sizes.{Numbers}
-use Rattle.ppq_script.specs.declared.command.Command.{Command}
-use Rattle.ppq_script.specs.Lines.{numbered_of, names_of, first_bad_by}
-use Rattle.ppq_script.specs.Files.{name_at, is_usable}
-use Rattle.ppq_script.specs.Checking.{with_sizes}
+use Rattle.ppq_words.specs.ppq_record.declared.pair.Pair.{Pair}
+use Rattle.ppq_words.specs.ppq_record.Given.{records_of}
+use Rattle.ppq_words.specs.ppq_outside.Shown.{Shown}
+use Rattle.ppq_words.specs.ppq_outside.Told.{Reply, TakesAll, TakesPart, bytes_or_none}
+use Rattle.ppq_words.specs.ppq_budget.Sizes.{Numbers}
+use Rattle.ppq_words.specs.ppq_script.declared.command.Command.{Command}
+use Rattle.ppq_words.specs.ppq_script.Lines.{numbered_of, names_of, first_bad_by}
+use Rattle.ppq_words.specs.ppq_script.Files.{name_at, is_usable}
+use Rattle.ppq_words.specs.ppq_script.Checking.{with_sizes}
 use Rattle.ppq_words.specs.Reading.{Reading, reading_of, texts_of}
 use Rattle.ppq_engine.specs.declared.end.End.{End}
 use Rattle.ppq_engine.specs.declared.end.End.TheVariants.{Done, BadLine, Usage, ReadFault, Memory, NoDevice, NoScript, ScriptTooLong}

@@ -1,6 +1,6 @@
 -- What two runs of one script wrote.
 use Rattle.std.specs.Prelude.{◌≡◌, ℕ, List, Option, Some, None}
-use Rattle.ppq_outside.specs.Told.{TakesAll}
+use Rattle.ppq_words.specs.ppq_outside.Told.{TakesAll}
 use Rattle.ppq_words.specs.Reading.{Reading}
 
 -- where both sinks tell, each took the same bytes behind what it had

@@ -1,13 +1,11 @@
 //! Makes the blocks of a device.
 ghost use Rattle.std.specs.Prelude.{◌≡◌, ◌≤◌, ◌*◌, length, map, IfOk, IfErr, OnOk};
 ghost use Rattle.std.specs.List.{range_with_len};
-ghost use Rattle.ppq_outside.specs.Made.{HasMade};
-ghost use Rattle.ppq_outside.specs.Shown.{AllTell};
+ghost use Rattle.ppq_words.specs.ppq_outside.Made.{HasMade};
+ghost use Rattle.ppq_words.specs.ppq_outside.Shown.{AllTell};
 ghost use Rattle.ppq_cli.specs.Device.{AreNew, made_in, HasReason};
 
-use ppq_budget::Sizes;
-use ppq_outside::{Host, OutsideFault, Rack};
-use ppq_record::{Pair, Record};
+use ppq_words::{Host, OutsideFault, Pair, Rack, Record, Sizes};
 use std::alloc::Global;
 
 /// Makes all blocks of a device, from block 0 on. It takes the memory of their list first. Where one

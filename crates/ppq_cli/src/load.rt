@@ -1,16 +1,15 @@
 //! Loads a script from a library.
 ghost use Rattle.std.specs.Prelude.{◌≡◌, ◌≤◌, ◌<◌, ◌+◌, ℕ, Some, length, take, IfOk, OnOk, IfErr, IsErrOf, vec_len};
-ghost use Rattle.ppq_outside.specs.Told.{HasCause, Rose, OfLength, Remembers, RepliesOnly};
+ghost use Rattle.ppq_words.specs.ppq_outside.Told.{HasCause, Rose, OfLength, Remembers, RepliesOnly};
 ghost use Rattle.ppq_cli.specs.Load.{IsLoaded, IsNotLoaded, load_end};
 ghost use Rattle.ppq_engine.specs.Reading.{EndsAt, IsReadWithin};
-ghost use Rattle.ppq_script.specs.Files.{IsLength};
+ghost use Rattle.ppq_words.specs.ppq_script.Files.{IsLength};
 ghost use Rattle.ppq_cli.specs.Replies.{IsGiven, IsReplied, IsUnloaded, IsScript, ReadsWithin};
 ghost use Rattle.ppq_engine.specs.Ends.{NoFault};
 ghost use Rattle.ppq_cli.specs.declared.load.LoadFault.TheVariants.{ReadFault};
 
 use ppq_engine::End;
-use ppq_outside::{Host, Library, OutsideFault};
-use ppq_script::{CheckFault, Script, check_files, read};
+use ppq_words::{CheckFault, Host, Library, OutsideFault, Script, check_files, read};
 use std::alloc::Global;
 
 // The longest script, in bytes.

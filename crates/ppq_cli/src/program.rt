@@ -5,11 +5,11 @@ ghost use Rattle.ppq_cli.specs.Report.{report_of, TakesLine};
 ghost use Rattle.ppq_cli.specs.Status.{status_of, IsReported};
 ghost use Rattle.ppq_cli.specs.RunWords.{reading, OfScript, WritesAll, WritesPart, IsOutcome};
 
-use crate::report::report;
-use crate::run_words::run_words;
-use crate::status::status;
+use crate::reports::report;
+use crate::statuses::status;
+use crate::top_call::run_words;
 use ppq_engine::End;
-use ppq_outside::{Gate, Host, Library, Rack, Sink};
+use ppq_words::{Gate, Host, Library, Rack, Sink};
 use std::alloc::Global;
 
 /// Reports an end, and gives its status. The whole line is taken, or the sink's count of faults

@@ -1,9 +1,9 @@
 //! Runs a script over a device.
 ghost use Rattle.std.specs.Prelude.{◌≡◌, ◌≤◌, ◌⊎◌, ℕ, List, Option, [], Some, IsTrue, map};
-ghost use Rattle.ppq_array.specs.Kept.{HasFailed};
-ghost use Rattle.ppq_outside.specs.Told.{Rose, Remembers, RepliesOnly};
-ghost use Rattle.ppq_outside.specs.Made.{HasMadeJust};
-ghost use Rattle.ppq_script.specs.Reading.{command_list};
+ghost use Rattle.ppq_engine.specs.ppq_array.Kept.{HasFailed};
+ghost use Rattle.ppq_words.specs.ppq_outside.Told.{Rose, Remembers, RepliesOnly};
+ghost use Rattle.ppq_words.specs.ppq_outside.Made.{HasMadeJust};
+ghost use Rattle.ppq_words.specs.ppq_script.Reading.{command_list};
 ghost use Rattle.ppq_engine.specs.Loads.{most_of, least_of, begins_limit, FitsWritten};
 ghost use Rattle.ppq_engine.specs.Refusal.{HasNoRoom};
 ghost use Rattle.ppq_engine.specs.Output.{load_of, crest_of, KeepsLengths};
@@ -17,10 +17,8 @@ ghost use Rattle.ppq_cli.specs.RunWords.{WritesAll, WritesRoom, MayWrite, UsesDe
 ghost use Rattle.ppq_cli.specs.Device.{AreBlocks, make_end};
 
 use crate::device::make_blocks;
-use ppq_budget::Sizes;
 use ppq_engine::{End, Ended, run_script};
-use ppq_outside::{Gate, Host, Library, OutsideFault, Rack, Sink, Slot};
-use ppq_script::Script;
+use ppq_words::{Gate, Host, Library, OutsideFault, Rack, Script, Sink, Sizes, Slot};
 use std::alloc::Global;
 
 /// An end before a block was made.

@@ -4,9 +4,9 @@ ghost use Rattle.ppq_cli.specs.RunWords.{reading};
 ghost use Rattle.ppq_cli.specs.Twice.{WriteTheSame, NameOneScript};
 ghost use Rattle.ppq_engine.specs.declared.end.End.TheVariants.{Done};
 
-use crate::run_words::run_words;
+use crate::top_call::run_words;
 use ppq_engine::End;
-use ppq_outside::{Gate, Host, Library, Rack, Sink};
+use ppq_words::{Gate, Host, Library, Rack, Sink};
 use std::alloc::Global;
 
 /// Runs two lists of words over one library, each with a rack, a gate and a sink of its own, and

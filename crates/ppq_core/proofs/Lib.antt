@@ -1,3 +1,4 @@
+pub use Rattle.ppq_record.proofs as ppq_record
 pub mod Among
 pub mod Buffers
 pub mod Parts

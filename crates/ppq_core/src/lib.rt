@@ -15,11 +15,10 @@ mod laws;
 mod place;
 mod pushed;
 mod state;
-#[cfg(test)]
-mod tests;
 
 pub use event::Event;
 pub use fault::StepFault;
 pub use laws::{buffer_laws, interleaving_laws, order_laws, slot_laws, step_laws};
 pub use place::Place;
+pub use ppq_record::{Memory, Pair, Record, record_laws};
 pub use state::State;

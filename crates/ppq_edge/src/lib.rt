@@ -10,8 +10,6 @@ mod dir_library;
 mod file_rack;
 mod file_slot;
 mod std_sink;
-#[cfg(test)]
-mod tests;
 
 pub use dir_library::DirLibrary;
 pub use file_rack::FileRack;

@@ -4,15 +4,15 @@ use Rattle.std.specs.Prelude.{slice_get, ◌⊎◌, ◌&&◌, not, nat_lt, if◌
 use Rattle.std.proofs.lemmas.Bool.{ltb-true, and_parts, not-true}
 use Rattle.std.proofs.lemmas.List.{drop-drop, length-map}
 use Rattle.std.proofs.lemmas.List.Concat.{flat_map-append}
-use Rattle.ppq_record.specs.declared.pair.Pair.{Pair}
-use Rattle.ppq_record.specs.Pair.{pair_cmp}
-use Rattle.ppq_record.specs.Order.{is_before}
+use Rattle.ppq_script.specs.ppq_record.declared.pair.Pair.{Pair}
+use Rattle.ppq_script.specs.ppq_record.Pair.{pair_cmp}
+use Rattle.ppq_script.specs.ppq_record.Order.{is_before}
 use Rattle.ppq_script.specs.declared.command.Command.{Command}
 use Rattle.ppq_script.specs.declared.command.Command.TheVariants.{Push, Pop, Top, Size, Bulk, Gen, BulkPop, BulkPopLimit, Drain, BulkBegin, BulkPush, BulkEnd, LimitBegin, LimitPush, LimitTop, LimitPop, LimitEnd}
 use Rattle.ppq_script.specs.declared.session.Session.TheVariants.{InLimit}
 use Rattle.ppq_script.specs.Sessions.{are_in_place}
 use Rattle.ppq_script.specs.Reading.{Reading, command_list}
-use Rattle.ppq_session.specs.declared.line.Line.{Line}
+use Rattle.ppq_batch.specs.ppq_session.declared.line.Line.{Line}
 use Rattle.ppq_batch.specs.declared.ask.Ask.{Ask}
 use Rattle.ppq_engine.specs.Parts.{up_to_end}
 use Rattle.ppq_engine.specs.Limits.{line_by, ask_by, lines_in, asks_in, IsLimitLine, AreLimitLines, IsInLimit, EndsLimit, between, IsBatch}

@@ -6,13 +6,13 @@ use Rattle.std.specs.Cmp.{IsStrictWeakOrder}
 use Rattle.std.proofs.lemmas.Bool.{cases_Bool}
 use Rattle.std.proofs.lemmas.List.Sums.{count_by-le-length}
 use Rattle.std.proofs.lemmas.List.{take-append-le, take-take, length-take}
-use Rattle.ppq_record.specs.declared.pair.Pair.{Pair}
-use Rattle.ppq_record.specs.Pair.{pair_cmp, pair_same}
-use Rattle.ppq_record.specs.Order.{is_before, Le, Rising}
-use Rattle.ppq_record.specs.Bag.{IsSameBag, ascending, front, without_front, first_of, size_below}
-use Rattle.ppq_record.proofs.Order.{count_by-cons, count_by-append, none_pass, each_fails, Each-weaker, Rising-take, Rising-append, Rising-in_order, in_order-same_bag}
-use Rattle.ppq_record.proofs.Fronts.{ranks, ascending_is, ascending-same_bag, front-parts}
-use Rattle.ppq_front.specs.Fronts.{least_below, without_least_below}
+use Rattle.ppq_script.specs.ppq_record.declared.pair.Pair.{Pair}
+use Rattle.ppq_script.specs.ppq_record.Pair.{pair_cmp, pair_same}
+use Rattle.ppq_script.specs.ppq_record.Order.{is_before, Le, Rising}
+use Rattle.ppq_script.specs.ppq_record.Bag.{IsSameBag, ascending, front, without_front, first_of, size_below}
+use Rattle.ppq_script.proofs.ppq_record.Order.{count_by-cons, count_by-append, none_pass, each_fails, Each-weaker, Rising-take, Rising-append, Rising-in_order, in_order-same_bag}
+use Rattle.ppq_script.proofs.ppq_record.Fronts.{ranks, ascending_is, ascending-same_bag, front-parts}
+use Rattle.ppq_batch.specs.ppq_front.Fronts.{least_below, without_least_below}
 use Rattle.ppq_engine.specs.Output.{limited_count}
 use Rattle.ppq_engine.proofs.Pairs.{pair_total}
 

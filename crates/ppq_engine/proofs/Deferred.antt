@@ -6,13 +6,13 @@ use Rattle.std.proofs.lemmas.Bool.{cases_Bool, cases_lt, le-leb, leb-true}
 use Rattle.std.proofs.lemmas.List.{take-take, length-take}
 use Rattle.std.proofs.lemmas.List.Filters.{sum_by-filter_both}
 use Rattle.std.proofs.lemmas.List.Sums.{length-filter}
-use Rattle.ppq_record.specs.declared.pair.Pair.{Pair}
-use Rattle.ppq_record.specs.Pair.{pair_cmp, pair_same}
-use Rattle.ppq_record.specs.Order.{is_before}
-use Rattle.ppq_record.specs.Bag.{IsSameBag, ascending, front, without_front, first_of, size_below}
-use Rattle.ppq_record.specs.Given.{generated}
-use Rattle.ppq_record.proofs.Order.{count_by-cons, count_by-append, IsSameBag-length, IsSameBag-append_comm, Each-append, in_order-same_bag}
-use Rattle.ppq_record.proofs.Fronts.{ranks, ascending-same_bag, front-parts}
+use Rattle.ppq_script.specs.ppq_record.declared.pair.Pair.{Pair}
+use Rattle.ppq_script.specs.ppq_record.Pair.{pair_cmp, pair_same}
+use Rattle.ppq_script.specs.ppq_record.Order.{is_before}
+use Rattle.ppq_script.specs.ppq_record.Bag.{IsSameBag, ascending, front, without_front, first_of, size_below}
+use Rattle.ppq_script.specs.ppq_record.Given.{generated}
+use Rattle.ppq_script.proofs.ppq_record.Order.{count_by-cons, count_by-append, IsSameBag-length, IsSameBag-append_comm, Each-append, in_order-same_bag}
+use Rattle.ppq_script.proofs.ppq_record.Fronts.{ranks, ascending-same_bag, front-parts}
 use Rattle.ppq_script.specs.declared.command.Command.{Command}
 use Rattle.ppq_script.specs.declared.command.Command.TheVariants.{Push, Pop, Top, Size, Bulk, Gen, BulkPop, BulkPopLimit, Drain, BulkBegin, BulkPush, BulkEnd, LimitBegin, LimitPush, LimitTop, LimitPop, LimitEnd}
 use Rattle.ppq_script.specs.declared.session.Session.{Session}

@@ -1,12 +1,12 @@
 -- A file of a checked script has as many records as its length says.
 use Rattle.std.proofs.Common.{◌≡◌, ℕ, ◌/◌, List, [], ◌∷◌, ◌++◌, Option, Some, sym, ap, ◌∙◌, inl, inr, length, subst, zero, suc}
 use Rattle.std.specs.Prelude.{slice_get, map}
-use Rattle.ppq_record.specs.declared.pair.Pair.{Pair}
-use Rattle.ppq_record.specs.Pair.{pair_of}
-use Rattle.ppq_record.specs.Bag.{IsSameBag}
-use Rattle.ppq_record.specs.Given.{records_of}
-use Rattle.ppq_block.proofs.Blocks.{length-records_from}
-use Rattle.ppq_outside.specs.Told.{bytes_or_none}
+use Rattle.ppq_script.specs.ppq_record.declared.pair.Pair.{Pair}
+use Rattle.ppq_script.specs.ppq_record.Pair.{pair_of}
+use Rattle.ppq_script.specs.ppq_record.Bag.{IsSameBag}
+use Rattle.ppq_script.specs.ppq_record.Given.{records_of}
+use Rattle.ppq_batch.proofs.ppq_block.Blocks.{length-records_from}
+use Rattle.ppq_script.specs.ppq_outside.Told.{bytes_or_none}
 use Rattle.ppq_script.specs.declared.command.Command.{Command}
 use Rattle.ppq_script.specs.declared.command.Command.TheVariants.{Push, Pop, Top, Size, Bulk, Gen, BulkPop, BulkPopLimit, Drain, BulkBegin, BulkPush, BulkEnd, LimitBegin, LimitPush, LimitTop, LimitPop, LimitEnd}
 use Rattle.ppq_script.specs.declared.numbered.Numbered.{Numbered}

@@ -3,23 +3,23 @@ use Rattle.std.proofs.Common.{◌≡◌, ℕ, suc, ◌+◌, ◌-◌, ◌<◌, �
 use Rattle.std.specs.Prelude.{count_by, Result, Ok, Err, OnOk, OnErr, IfOk, IfErr, ⊤}
 use Rattle.std.proofs.Math.Seq.{take-append_seam}
 use Rattle.std.proofs.lemmas.List.Concat.{flat_map-append}
-use Rattle.ppq_record.specs.declared.pair.Pair.{Pair}
-use Rattle.ppq_record.specs.Pair.{pair_cmp}
-use Rattle.ppq_record.specs.Bag.{IsSameBag}
-use Rattle.ppq_outside.specs.Shown.{Shown, AllTell}
-use Rattle.ppq_outside.specs.Told.{TakesPart, HasOneCause}
-use Rattle.ppq_outside.specs.declared.fault.Failed.{Failed}
-use Rattle.ppq_array.specs.Kept.{SameSlots}
+use Rattle.ppq_script.specs.ppq_record.declared.pair.Pair.{Pair}
+use Rattle.ppq_script.specs.ppq_record.Pair.{pair_cmp}
+use Rattle.ppq_script.specs.ppq_record.Bag.{IsSameBag}
+use Rattle.ppq_script.specs.ppq_outside.Shown.{Shown, AllTell}
+use Rattle.ppq_script.specs.ppq_outside.Told.{TakesPart, HasOneCause}
+use Rattle.ppq_script.specs.ppq_outside.declared.fault.Failed.{Failed}
+use Rattle.ppq_batch.specs.ppq_array.Kept.{SameSlots}
 use Rattle.ppq_script.specs.declared.command.Command.{Command}
 use Rattle.ppq_script.specs.declared.command.Command.TheVariants.{LimitBegin, LimitEnd}
 use Rattle.ppq_script.specs.declared.session.Session.TheVariants.{InLimit}
 use Rattle.ppq_script.specs.Sessions.{are_in_place}
 use Rattle.ppq_script.specs.Reading.{Reading, command_list}
-use Rattle.ppq_queue.specs.Holding.{Holding}
-use Rattle.ppq_queue.specs.declared.fault.QueueFault.{QueueFault}
-use Rattle.ppq_queue.specs.declared.fault.QueueFault.TheVariants.{NoFreeBlock, Device}
-use Rattle.ppq_load.specs.Refusal.{Keeps, IsRefusedBy}
-use Rattle.ppq_load.proofs.Refusals.{cause-later}
+use Rattle.ppq_batch.specs.ppq_queue.Holding.{Holding}
+use Rattle.ppq_batch.specs.ppq_queue.declared.fault.QueueFault.{QueueFault}
+use Rattle.ppq_batch.specs.ppq_queue.declared.fault.QueueFault.TheVariants.{NoFreeBlock, Device}
+use Rattle.ppq_batch.specs.ppq_load.Refusal.{Keeps, IsRefusedBy}
+use Rattle.ppq_batch.proofs.ppq_load.Refusals.{cause-later}
 use Rattle.ppq_batch.specs.declared.ask.Ask.{Ask}
 use Rattle.ppq_batch.specs.Asks.{pops_in, left_after, answers_to}
 use Rattle.ppq_batch.specs.Batches.{LimitsHolding, InLimits, AreGoing, IsOver, begun_in}

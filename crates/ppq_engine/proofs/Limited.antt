@@ -2,17 +2,17 @@
 use Rattle.std.proofs.Common.{◌≡◌, ℕ, ◌+◌, ◌≤◌, List, [], ◌++◌, length, take, drop, Option, None, refl, sym, ap, ◌∙◌, subst, arith, inl, inr, append_assoc, append-nil, take-append-drop}
 use Rattle.std.proofs.Math.Seq.{take-length}
 use Rattle.std.proofs.lemmas.List.Concat.{flat_map-append}
-use Rattle.ppq_record.specs.declared.pair.Pair.{Pair}
-use Rattle.ppq_record.specs.Pair.{pair_cmp}
-use Rattle.ppq_outside.specs.Shown.{Shown, AllTell}
-use Rattle.ppq_outside.specs.Told.{TakesPart}
-use Rattle.ppq_outside.proofs.Takes.{takes_and_part, part_of_more}
+use Rattle.ppq_script.specs.ppq_record.declared.pair.Pair.{Pair}
+use Rattle.ppq_script.specs.ppq_record.Pair.{pair_cmp}
+use Rattle.ppq_script.specs.ppq_outside.Shown.{Shown, AllTell}
+use Rattle.ppq_script.specs.ppq_outside.Told.{TakesPart}
+use Rattle.ppq_script.proofs.ppq_outside.Takes.{takes_and_part, part_of_more}
 use Rattle.ppq_script.specs.declared.command.Command.{Command}
 use Rattle.ppq_script.specs.Reading.{Reading, command_list}
-use Rattle.ppq_pass.specs.Passed.{PassHolding}
-use Rattle.ppq_queue.specs.Holding.{Holding}
-use Rattle.ppq_session.specs.declared.line.Line.{Line}
-use Rattle.ppq_session.specs.Dealing.{IsGoing, HasEnded, records_in}
+use Rattle.ppq_batch.specs.ppq_pass.Passed.{PassHolding}
+use Rattle.ppq_batch.specs.ppq_queue.Holding.{Holding}
+use Rattle.ppq_batch.specs.ppq_session.declared.line.Line.{Line}
+use Rattle.ppq_batch.specs.ppq_session.Dealing.{IsGoing, HasEnded, records_in}
 use Rattle.ppq_batch.specs.declared.ask.Ask.{Ask}
 use Rattle.ppq_batch.specs.Asks.{pops_in, left_after, answers_to}
 use Rattle.ppq_batch.specs.Batches.{LimitsHolding, InLimits, AreGoing, HasStopped}

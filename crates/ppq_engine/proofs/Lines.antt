@@ -3,13 +3,13 @@ use Rattle.std.proofs.Common.{◌≡◌, ℕ, zero, suc, ◌+◌, ◌/◌, ◌�
 use Rattle.std.specs.Prelude.{if◌then◌else◌, unwrap_or, ⊤}
 use Rattle.std.proofs.Math.Seq.{take-nil}
 use Rattle.std.proofs.lemmas.List.Sums.{count_by-le-length}
-use Rattle.ppq_record.specs.declared.pair.Pair.{Pair}
-use Rattle.ppq_record.specs.Pair.{pair_cmp}
-use Rattle.ppq_record.specs.Order.{is_before}
-use Rattle.ppq_record.specs.Bag.{IsSameBag, ascending, without_front}
-use Rattle.ppq_record.specs.Given.{generated_from, next_seed}
-use Rattle.ppq_record.proofs.Order.{count_by-cons, count_by-append, in_order-same_bag, IsSameBag-length}
-use Rattle.ppq_record.proofs.Fronts.{ranks}
+use Rattle.ppq_script.specs.ppq_record.declared.pair.Pair.{Pair}
+use Rattle.ppq_script.specs.ppq_record.Pair.{pair_cmp}
+use Rattle.ppq_script.specs.ppq_record.Order.{is_before}
+use Rattle.ppq_script.specs.ppq_record.Bag.{IsSameBag, ascending, without_front}
+use Rattle.ppq_script.specs.ppq_record.Given.{generated_from, next_seed}
+use Rattle.ppq_script.proofs.ppq_record.Order.{count_by-cons, count_by-append, in_order-same_bag, IsSameBag-length}
+use Rattle.ppq_script.proofs.ppq_record.Fronts.{ranks}
 use Rattle.ppq_script.specs.declared.command.Command.{Command}
 use Rattle.ppq_script.specs.declared.command.Command.TheVariants.{Push, Pop, Top, Size, Bulk, Gen, BulkPop, BulkPopLimit, Drain, BulkBegin, BulkPush, BulkEnd, LimitBegin, LimitPush, LimitTop, LimitPop, LimitEnd}
 use Rattle.ppq_script.specs.declared.session.Session.{Session}

@@ -1,12 +1,12 @@
 -- What a load answers, as an answer of the engine.
 use Rattle.std.proofs.Common.{◌≡◌, ℕ, Bool, List, Option, refl, sym, subst}
 use Rattle.std.specs.Prelude.{Result, Ok, Err, IfErr, OnOk}
-use Rattle.ppq_outside.specs.Shown.{Shown}
-use Rattle.ppq_outside.specs.Told.{Reply}
-use Rattle.ppq_budget.specs.Sizes.{Numbers}
-use Rattle.ppq_load.specs.Loading.{IsByLoad, LoadStopsFor, LoadCountsFrom, LoadEndsIn}
-use Rattle.ppq_load.specs.declared.fault.LoadFault.{LoadFault}
-use Rattle.ppq_load.specs.declared.fault.LoadFault.TheVariants.{Queue, Read, Memory, Ended}
+use Rattle.ppq_script.specs.ppq_outside.Shown.{Shown}
+use Rattle.ppq_script.specs.ppq_outside.Told.{Reply}
+use Rattle.ppq_batch.specs.ppq_budget.Sizes.{Numbers}
+use Rattle.ppq_batch.specs.ppq_load.Loading.{IsByLoad, LoadStopsFor, LoadCountsFrom, LoadEndsIn}
+use Rattle.ppq_batch.specs.ppq_load.declared.fault.LoadFault.{LoadFault}
+use Rattle.ppq_batch.specs.ppq_load.declared.fault.LoadFault.TheVariants.{Queue, Read, Memory, Ended}
 use Rattle.ppq_engine.specs.Files.{load_stop, load_result, IsByFile, IsBySession, EndsEarly}
 use Rattle.ppq_engine.specs.Running.{StopsFor, LibraryAfter}
 use Rattle.ppq_engine.specs.declared.stop.Stop.{Stop}

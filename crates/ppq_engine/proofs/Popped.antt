@@ -9,15 +9,15 @@ use Rattle.std.proofs.Math.Seq.{take-length}
 use Rattle.std.proofs.lemmas.List.Sums.{sum_by-append}
 use Rattle.std.proofs.lemmas.List.Concat.{flat_map-append}
 use Rattle.std.proofs.Math.Nat.{mod-add-mod, mul-le-mul_left}
-use Rattle.ppq_record.specs.declared.pair.Pair.{Pair}
-use Rattle.ppq_record.specs.Pair.{pair_cmp, pair_same}
-use Rattle.ppq_record.specs.Order.{is_before, Le, Rising}
-use Rattle.ppq_record.specs.Bag.{IsSameBag, ascending, without_front, least, first_of, size_below}
-use Rattle.ppq_record.proofs.Order.{count_by-cons, none_pass, Rising-in_order, in_order-same_bag}
-use Rattle.ppq_record.proofs.Fronts.{ranks, ascending_is}
-use Rattle.ppq_budget.specs.Sizes.{Numbers, AreInRange, batch_of}
-use Rattle.ppq_outside.specs.Told.{TakesPart}
-use Rattle.ppq_outside.proofs.Takes.{takes_two, takes_and_part, takes_nothing, part_of_more}
+use Rattle.ppq_script.specs.ppq_record.declared.pair.Pair.{Pair}
+use Rattle.ppq_script.specs.ppq_record.Pair.{pair_cmp, pair_same}
+use Rattle.ppq_script.specs.ppq_record.Order.{is_before, Le, Rising}
+use Rattle.ppq_script.specs.ppq_record.Bag.{IsSameBag, ascending, without_front, least, first_of, size_below}
+use Rattle.ppq_script.proofs.ppq_record.Order.{count_by-cons, none_pass, Rising-in_order, in_order-same_bag}
+use Rattle.ppq_script.proofs.ppq_record.Fronts.{ranks, ascending_is}
+use Rattle.ppq_batch.specs.ppq_budget.Sizes.{Numbers, AreInRange, batch_of}
+use Rattle.ppq_script.specs.ppq_outside.Told.{TakesPart}
+use Rattle.ppq_script.proofs.ppq_outside.Takes.{takes_two, takes_and_part, takes_nothing, part_of_more}
 use Rattle.ppq_engine.specs.Output.{line_of, lines_text, last_of, limited_count, mark_text}
 use Rattle.ppq_engine.specs.Gathers.{Gathers, IsSummary}
 use Rattle.ppq_engine.specs.Running.{GathersPart, WritesPart}

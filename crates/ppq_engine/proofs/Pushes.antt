@@ -3,20 +3,20 @@ use Rattle.std.proofs.Common.{◌≡◌, ℕ, suc, ◌+◌, ◌<◌, ◌≤◌, 
 use Rattle.std.specs.Prelude.{slice_get, Result, Ok, Err, OnOk, IfErr, ⊤}
 use Rattle.std.proofs.lemmas.Bool.{ltb-true}
 use Rattle.std.proofs.lemmas.List.{map-append, length-map}
-use Rattle.ppq_record.specs.declared.pair.Pair.{Pair}
-use Rattle.ppq_record.specs.Bag.{IsSameBag}
-use Rattle.ppq_outside.specs.Shown.{Shown, AllTell}
+use Rattle.ppq_script.specs.ppq_record.declared.pair.Pair.{Pair}
+use Rattle.ppq_script.specs.ppq_record.Bag.{IsSameBag}
+use Rattle.ppq_script.specs.ppq_outside.Shown.{Shown, AllTell}
 use Rattle.ppq_script.specs.declared.command.Command.{Command}
 use Rattle.ppq_script.specs.declared.command.Command.TheVariants.{Push, Pop, Top, Size, Bulk, Gen, BulkPop, BulkPopLimit, Drain, BulkBegin, BulkPush, BulkEnd, LimitBegin, LimitPush, LimitTop, LimitPop, LimitEnd}
 use Rattle.ppq_script.specs.declared.session.Session.TheVariants.{InBulk}
 use Rattle.ppq_script.specs.Sessions.{are_in_place}
 use Rattle.ppq_script.specs.Reading.{Reading, command_list}
-use Rattle.ppq_queue.specs.Holding.{Holding}
-use Rattle.ppq_queue.specs.declared.fault.QueueFault.{QueueFault}
-use Rattle.ppq_session.specs.declared.line.Line.{Line}
-use Rattle.ppq_session.specs.Dealing.{records_in}
-use Rattle.ppq_load.specs.Loading.{LoadHolding, InSession, IsLoaded}
-use Rattle.ppq_load.proofs.Refusals.{cause-later}
+use Rattle.ppq_batch.specs.ppq_queue.Holding.{Holding}
+use Rattle.ppq_batch.specs.ppq_queue.declared.fault.QueueFault.{QueueFault}
+use Rattle.ppq_batch.specs.ppq_session.declared.line.Line.{Line}
+use Rattle.ppq_batch.specs.ppq_session.Dealing.{records_in}
+use Rattle.ppq_batch.specs.ppq_load.Loading.{LoadHolding, InSession, IsLoaded}
+use Rattle.ppq_batch.proofs.ppq_load.Refusals.{cause-later}
 use Rattle.ppq_engine.specs.Parts.{up_to_end, pushed_in, behind_session}
 use Rattle.ppq_engine.specs.Pushes.{IsPushAt, IsEndAt, GivesFirst}
 use Rattle.ppq_engine.specs.Running.{StopsFor}

@@ -2,15 +2,15 @@
 use Rattle.std.proofs.Common.{◌≡◌, ℕ, ◌+◌, ◌-◌, ◌<◌, ◌≤◌, List, [], ◌∷◌, ◌++◌, length, take, drop, min, max, Option, Some, None, refl, sym, ap, ap₂, ◌∙◌, subst, arith, append_assoc, suc, drop-cons, take-add, take-append-drop}
 use Rattle.std.specs.Prelude.{slice_get, count_by, nat_le, codes, if◌then◌else◌}
 use Rattle.std.proofs.lemmas.Option.{get_or_from_slice_get}
-use Rattle.ppq_record.specs.declared.pair.Pair.{Pair}
-use Rattle.ppq_record.specs.Pair.{pair_cmp, pair_same}
-use Rattle.ppq_record.specs.Order.{is_before}
-use Rattle.ppq_record.specs.Bag.{IsSameBag, ascending, front, first_of}
-use Rattle.ppq_record.proofs.Order.{IsSameBag-cons, IsSameBag-append, IsSameBag-length}
-use Rattle.ppq_record.specs.Given.{generated}
-use Rattle.ppq_record.proofs.Fronts.{ascending-same_bag}
-use Rattle.ppq_outside.specs.Told.{TakesAll, TakesPart}
-use Rattle.ppq_outside.proofs.Takes.{takes_two, takes_and_part}
+use Rattle.ppq_script.specs.ppq_record.declared.pair.Pair.{Pair}
+use Rattle.ppq_script.specs.ppq_record.Pair.{pair_cmp, pair_same}
+use Rattle.ppq_script.specs.ppq_record.Order.{is_before}
+use Rattle.ppq_script.specs.ppq_record.Bag.{IsSameBag, ascending, front, first_of}
+use Rattle.ppq_script.proofs.ppq_record.Order.{IsSameBag-cons, IsSameBag-append, IsSameBag-length}
+use Rattle.ppq_script.specs.ppq_record.Given.{generated}
+use Rattle.ppq_script.proofs.ppq_record.Fronts.{ascending-same_bag}
+use Rattle.ppq_script.specs.ppq_outside.Told.{TakesAll, TakesPart}
+use Rattle.ppq_script.proofs.ppq_outside.Takes.{takes_two, takes_and_part}
 use Rattle.ppq_script.specs.declared.command.Command.{Command}
 use Rattle.ppq_script.specs.declared.command.Command.TheVariants.{Push, Pop, Top, Size, Bulk, Gen, BulkPop, BulkPopLimit, Drain, BulkBegin, BulkPush, BulkEnd, LimitBegin, LimitPush, LimitTop, LimitPop, LimitEnd}
 use Rattle.ppq_script.specs.declared.session.Session.{Session}

@@ -1,10 +1,10 @@
 -- What a script prints, by a second definition: what is pushed in a session is kept apart from the bag until the session ends.
 use Rattle.std.specs.Prelude.{◌≡◌, ℕ, true, not, List, [], ◌∷◌, ◌++◌, length, filter, max, codes, if◌then◌else◌, ◌+◌}
-use Rattle.ppq_record.specs.declared.pair.Pair.{Pair}
-use Rattle.ppq_record.specs.Order.{is_before}
-use Rattle.ppq_record.specs.Pair.{pair_cmp}
-use Rattle.ppq_record.specs.Bag.{least, front, without_front, first_of}
-use Rattle.ppq_record.specs.Given.{generated}
+use Rattle.ppq_script.specs.ppq_record.declared.pair.Pair.{Pair}
+use Rattle.ppq_script.specs.ppq_record.Order.{is_before}
+use Rattle.ppq_script.specs.ppq_record.Pair.{pair_cmp}
+use Rattle.ppq_script.specs.ppq_record.Bag.{least, front, without_front, first_of}
+use Rattle.ppq_script.specs.ppq_record.Given.{generated}
 use Rattle.ppq_script.specs.declared.command.Command.{Command}
 use Rattle.ppq_script.specs.declared.command.Command.TheVariants.{Push, Pop, Top, Size, Bulk, Gen, BulkPop, BulkPopLimit, Drain, BulkBegin, BulkPush, BulkEnd, LimitBegin, LimitPush, LimitTop, LimitPop, LimitEnd}
 use Rattle.ppq_script.specs.declared.session.Session.{Session}

@@ -1,8 +1,8 @@
 -- Output that is gathered before it is put.
 use Rattle.std.specs.Prelude.{◌≡◌, ℕ, List, [], ◌++◌, length, Option, codes}
-use Rattle.ppq_record.specs.declared.pair.Pair.{Pair}
-use Rattle.ppq_record.specs.Bag.{first_of}
-use Rattle.ppq_outside.specs.Told.{TakesAll}
+use Rattle.ppq_script.specs.ppq_record.declared.pair.Pair.{Pair}
+use Rattle.ppq_script.specs.ppq_record.Bag.{first_of}
+use Rattle.ppq_script.specs.ppq_outside.Told.{TakesAll}
 use Rattle.ppq_engine.specs.Output.{line_of, size_text, drained_text, last_of, key_sum}
 use Rattle.ppq_engine.specs.declared.answer.Answer.{Answer}
 use Rattle.ppq_engine.specs.declared.answer.Answer.TheVariants as answer

@@ -1,20 +1,20 @@
 -- Lines of a limit session: what they push and ask, what is answered, and how they are run in batches.
 use Rattle.std.specs.Prelude.{◌≡◌, ◌<◌, ◌≤◌, ◌+◌, ◌-◌, ℕ, true, false, List, [], ◌∷◌, ◌++◌, flat_map, length, take, drop, Option, Some, None, slice_get, Result, Ok, Err, ⊤}
-use Rattle.ppq_record.specs.declared.pair.Pair.{Pair}
-use Rattle.ppq_record.specs.Pair.{pair_cmp}
-use Rattle.ppq_record.specs.Order.{is_before}
-use Rattle.ppq_outside.specs.Shown.{Shown, AllTell}
-use Rattle.ppq_outside.specs.Told.{TakesPart}
-use Rattle.ppq_outside.specs.declared.fault.Failed.{Failed}
+use Rattle.ppq_script.specs.ppq_record.declared.pair.Pair.{Pair}
+use Rattle.ppq_script.specs.ppq_record.Pair.{pair_cmp}
+use Rattle.ppq_script.specs.ppq_record.Order.{is_before}
+use Rattle.ppq_script.specs.ppq_outside.Shown.{Shown, AllTell}
+use Rattle.ppq_script.specs.ppq_outside.Told.{TakesPart}
+use Rattle.ppq_script.specs.ppq_outside.declared.fault.Failed.{Failed}
 use Rattle.ppq_script.specs.declared.command.Command.{Command}
 use Rattle.ppq_script.specs.declared.command.Command.TheVariants.{Push, Pop, Top, Size, Bulk, Gen, BulkPop, BulkPopLimit, Drain, BulkBegin, BulkPush, BulkEnd, LimitBegin, LimitPush, LimitTop, LimitPop, LimitEnd}
 use Rattle.ppq_script.specs.declared.session.Session.TheVariants.{InLimit}
 use Rattle.ppq_script.specs.Sessions.{are_in_place}
 use Rattle.ppq_script.specs.Reading.{Reading, command_list}
-use Rattle.ppq_queue.specs.Holding.{Holding}
-use Rattle.ppq_queue.specs.declared.fault.QueueFault.{QueueFault}
-use Rattle.ppq_session.specs.declared.line.Line.{Line}
-use Rattle.ppq_session.specs.Dealing.{records_in}
+use Rattle.ppq_batch.specs.ppq_queue.Holding.{Holding}
+use Rattle.ppq_batch.specs.ppq_queue.declared.fault.QueueFault.{QueueFault}
+use Rattle.ppq_batch.specs.ppq_session.declared.line.Line.{Line}
+use Rattle.ppq_batch.specs.ppq_session.Dealing.{records_in}
 use Rattle.ppq_batch.specs.declared.ask.Ask.{Ask}
 use Rattle.ppq_batch.specs.declared.ask.Ask.TheVariants as ask
 use Rattle.ppq_batch.specs.Asks.{answers_to, left_after, pops_in}

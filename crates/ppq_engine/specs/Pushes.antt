@@ -1,14 +1,14 @@
 -- Lines of a bulk session, and how they are given to its passes.
 use Rattle.std.specs.Prelude.{◌≡◌, ◌<◌, ◌+◌, ℕ, true, List, ◌∷◌, ◌++◌, drop}
-use Rattle.ppq_record.specs.declared.pair.Pair.{Pair}
-use Rattle.ppq_outside.specs.Shown.{Shown}
+use Rattle.ppq_script.specs.ppq_record.declared.pair.Pair.{Pair}
+use Rattle.ppq_script.specs.ppq_outside.Shown.{Shown}
 use Rattle.ppq_script.specs.declared.command.Command.TheVariants.{BulkPush, BulkEnd}
 use Rattle.ppq_script.specs.declared.session.Session.TheVariants.{InBulk}
 use Rattle.ppq_script.specs.Sessions.{are_in_place}
 use Rattle.ppq_script.specs.Reading.{Reading, command_list}
-use Rattle.ppq_queue.specs.Holding.{Holding}
-use Rattle.ppq_session.specs.declared.line.Line.{Line}
-use Rattle.ppq_load.specs.Loading.{LoadHolding, InSession}
+use Rattle.ppq_batch.specs.ppq_queue.Holding.{Holding}
+use Rattle.ppq_batch.specs.ppq_session.declared.line.Line.{Line}
+use Rattle.ppq_batch.specs.ppq_load.Loading.{LoadHolding, InSession}
 
 -- the command at a place of a bulk session pushes this record by this pass, and the session goes on behind it
 pub record IsPushAt (script : Reading) (place : ℕ) (line : Line Pair) : Type 0 where

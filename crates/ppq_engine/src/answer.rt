@@ -1,5 +1,5 @@
 //! What a command prints.
-use ppq_record::Pair;
+use ppq_script::Pair;
 
 /// What a command prints, or a line of it: nothing, `empty`, a record's line, how many records there
 /// are, whether a limited pop gave all, that no record is below a session's limit, or what was drained.

@@ -1,9 +1,9 @@
 //! A batch of lines of a limit session.
 ghost use Rattle.std.specs.Prelude.{◌≡◌, ◌≤◌, ◌<◌, ◌+◌, ◌^◌, ◌++◌, ℕ, false, length, All, None, Some, IsTrue, IfOk, OnOk, OnErr, slice_get};
-ghost use Rattle.ppq_record.specs.declared.pair.Pair.{Pair};
-ghost use Rattle.ppq_record.specs.Order.{is_before};
-ghost use Rattle.ppq_record.specs.Pair.{pair_cmp};
-ghost use Rattle.ppq_outside.specs.Told.{HasOneCause, TakesPart};
+ghost use Rattle.ppq_script.specs.ppq_record.declared.pair.Pair.{Pair};
+ghost use Rattle.ppq_script.specs.ppq_record.Order.{is_before};
+ghost use Rattle.ppq_script.specs.ppq_record.Pair.{pair_cmp};
+ghost use Rattle.ppq_script.specs.ppq_outside.Told.{HasOneCause, TakesPart};
 ghost use Rattle.ppq_batch.specs.Batches.{AreGoing, HasStopped};
 ghost use Rattle.ppq_engine.specs.Gathers.{answer_text, Gathers};
 ghost use Rattle.ppq_engine.specs.Output.{limited_text};
@@ -12,9 +12,7 @@ ghost use Rattle.ppq_engine.specs.Limits.{line_by, ask_by, answers_text, IsLimit
 use crate::Answer;
 use crate::gathered::Gathered;
 use ppq_batch::{Ask, Limits, Line};
-use ppq_outside::{Failed, Gate, Host, Sink, Slot};
-use ppq_record::{Memory, Pair};
-use ppq_script::{Command, Script};
+use ppq_script::{Command, Failed, Gate, Host, Memory, Pair, Script, Sink, Slot};
 use std::alloc::Global;
 use std::marker::Model;
 

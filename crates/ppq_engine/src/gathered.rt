@@ -1,13 +1,12 @@
 //! Output that is gathered before it is put.
 ghost use Rattle.std.specs.Prelude.{◌≡◌, ◌≤◌, ◌+◌, ◌++◌, [], length, IfOk, OnOk, OnErr, decimal};
-ghost use Rattle.ppq_outside.specs.Told.{HasOneCause, TakesAll, TakesPart};
+ghost use Rattle.ppq_script.specs.ppq_outside.Told.{HasOneCause, TakesAll, TakesPart};
 ghost use Rattle.ppq_engine.specs.Output.{pair_text, drained_text};
 ghost use Rattle.ppq_engine.specs.Gathers.{answer_text, Gathers};
 
 use crate::{Answer, Drained};
 use itoa::Buffer;
-use ppq_outside::{Failed, Host, Sink};
-use ppq_record::{Memory, Pair};
+use ppq_script::{Failed, Host, Memory, Pair, Sink};
 use std::alloc::Global;
 use std::marker::Model;
 

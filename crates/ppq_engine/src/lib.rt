@@ -14,14 +14,9 @@ mod run;
 mod session;
 mod step;
 mod stop;
-#[cfg(test)]
-mod tests;
-#[cfg(test)]
-mod tests_generated;
-#[cfg(test)]
-mod tests_laws;
 
 pub use answer::{Answer, Drained};
 pub use end::{End, Ended};
 pub use laws::session_laws;
+pub use ppq_script::{Script, check_files, read};
 pub use run::run_script;

@@ -1,15 +1,15 @@
 //! Runs a limit session of a script.
 ghost use Rattle.std.specs.Prelude.{◌≡◌, ◌≤◌, ◌<◌, ◌+◌, ◌^◌, true, false, List, ℕ, None, IsTrue, IfOk, OnOk, OnErr, IfErr, length, drop, max};
-ghost use Rattle.ppq_record.specs.declared.pair.Pair.{Pair};
-ghost use Rattle.ppq_record.specs.Bag.{IsSameBag};
-ghost use Rattle.ppq_outside.specs.Shown.{AllTell};
-ghost use Rattle.ppq_outside.specs.Told.{HasOneCause};
-ghost use Rattle.ppq_budget.specs.Sizes.{batch_of};
+ghost use Rattle.ppq_script.specs.ppq_record.declared.pair.Pair.{Pair};
+ghost use Rattle.ppq_script.specs.ppq_record.Bag.{IsSameBag};
+ghost use Rattle.ppq_script.specs.ppq_outside.Shown.{AllTell};
+ghost use Rattle.ppq_script.specs.ppq_outside.Told.{HasOneCause};
+ghost use Rattle.ppq_batch.specs.ppq_budget.Sizes.{batch_of};
 ghost use Rattle.ppq_script.specs.Sessions.{are_in_place};
 ghost use Rattle.ppq_script.specs.Reading.{command_list};
 ghost use Rattle.ppq_script.specs.declared.session.Session.TheVariants.{InLimit};
-ghost use Rattle.ppq_array.specs.Kept.{SameSlots};
-ghost use Rattle.ppq_load.specs.Refusal.{Keeps};
+ghost use Rattle.ppq_batch.specs.ppq_array.Kept.{SameSlots};
+ghost use Rattle.ppq_batch.specs.ppq_load.Refusal.{Keeps};
 ghost use Rattle.ppq_batch.specs.Batches.{AreGoing, begun_in};
 ghost use Rattle.ppq_engine.specs.Gathers.{Gathers};
 ghost use Rattle.ppq_engine.specs.Limits.{IsInLimit, EndsLimit, RunsLines, BreaksOff, behind_limit};
@@ -23,11 +23,8 @@ use crate::batch::Batch;
 use crate::gathered::Gathered;
 use crate::load::stop_of;
 use crate::stop::Stop;
-use ppq_batch::Limits;
-use ppq_outside::{Failed, Gate, Host, Sink, Slot};
-use ppq_queue::{Queue, QueueFault};
-use ppq_record::Pair;
-use ppq_script::{Command, Script};
+use ppq_batch::{Limits, Queue, QueueFault};
+use ppq_script::{Command, Failed, Gate, Host, Pair, Script, Sink, Slot};
 use std::alloc::Global;
 
 // Whether the session goes on at this place.

@@ -1,19 +1,17 @@
 //! Adds many records to a queue by a session: generated ones, or those of a file.
 ghost use Rattle.std.specs.Prelude.{◌≡◌, ◌≤◌, ◌+◌, ◌/◌, ◌++◌, List, ℕ, Option, Some, None, OnOk, IfErr, length, max};
-ghost use Rattle.ppq_record.specs.Bag.{IsSameBag};
-ghost use Rattle.ppq_record.specs.Given.{records_of, generated};
-ghost use Rattle.ppq_outside.specs.Shown.{AllTell};
-ghost use Rattle.ppq_outside.specs.Told.{Remembers, RepliesOnly, bytes_or_none};
-ghost use Rattle.ppq_load.specs.Reading.{IsReadWithin};
-ghost use Rattle.ppq_load.specs.Refusal.{Keeps};
+ghost use Rattle.ppq_script.specs.ppq_record.Bag.{IsSameBag};
+ghost use Rattle.ppq_script.specs.ppq_record.Given.{records_of, generated};
+ghost use Rattle.ppq_script.specs.ppq_outside.Shown.{AllTell};
+ghost use Rattle.ppq_script.specs.ppq_outside.Told.{Remembers, RepliesOnly, bytes_or_none};
+ghost use Rattle.ppq_batch.specs.ppq_load.Reading.{IsReadWithin};
+ghost use Rattle.ppq_batch.specs.ppq_load.Refusal.{Keeps};
 ghost use Rattle.ppq_engine.specs.Running.{StopsFor, LibraryAfter};
 ghost use Rattle.ppq_engine.specs.Files.{load_stop, load_result, IsByFile, IsBySession, EndsEarly};
 
 use crate::stop::Stop;
-use ppq_load::{LoadFault, load_file, load_generated};
-use ppq_outside::{Gate, Host, Library, Slot};
-use ppq_queue::Queue;
-use ppq_record::Pair;
+use ppq_batch::{LoadFault, Queue, load_file, load_generated};
+use ppq_script::{Gate, Host, Library, Pair, Slot};
 use std::alloc::Global;
 
 // A fault of a load, for the command on this line, whose file has so many bytes.

@@ -1,23 +1,22 @@
 //! Removes many records from a queue, and prints them or what they add up to.
 ghost use Rattle.std.specs.Prelude.{◌≡◌, ◌≤◌, ◌<◌, ◌+◌, ◌-◌, ◌^◌, ◌∷◌, ◌++◌, [], List, None, Some, OnOk, OnErr, IfOk, IfErr, length, slice_get};
-ghost use Rattle.ppq_record.specs.declared.pair.Pair.{Pair};
-ghost use Rattle.ppq_record.specs.Bag.{IsSameBag, least, front, without_front};
-ghost use Rattle.ppq_record.specs.Pair.{pair_cmp};
-ghost use Rattle.ppq_budget.specs.Sizes.{batch_of};
-ghost use Rattle.ppq_outside.specs.Shown.{AllTell};
-ghost use Rattle.ppq_outside.specs.Told.{HasOneCause, TakesPart};
+ghost use Rattle.ppq_script.specs.ppq_record.declared.pair.Pair.{Pair};
+ghost use Rattle.ppq_script.specs.ppq_record.Bag.{IsSameBag, least, front, without_front};
+ghost use Rattle.ppq_script.specs.ppq_record.Pair.{pair_cmp};
+ghost use Rattle.ppq_batch.specs.ppq_budget.Sizes.{batch_of};
+ghost use Rattle.ppq_script.specs.ppq_outside.Shown.{AllTell};
+ghost use Rattle.ppq_script.specs.ppq_outside.Told.{HasOneCause, TakesPart};
 ghost use Rattle.ppq_engine.specs.Output.{lines_text, mark_text, limited_count};
 ghost use Rattle.ppq_engine.specs.Gathers.{answer_text, Gathers, IsSummary};
-ghost use Rattle.ppq_load.specs.Refusal.{Keeps, IsRefusedBy};
+ghost use Rattle.ppq_batch.specs.ppq_load.Refusal.{Keeps, IsRefusedBy};
 ghost use Rattle.ppq_engine.specs.Running.{StopsFor, WritesPart, SinkAfter};
 ghost use Rattle.ppq_engine.specs.Popping.{next_of, popped_count, left_mark, IsRound, NotByFile};
 
 use crate::gathered::Gathered;
 use crate::stop::Stop;
 use crate::{Answer, Drained};
-use ppq_outside::{Failed, Gate, Host, Sink, Slot};
-use ppq_queue::{Out, Queue, QueueFault};
-use ppq_record::{Pair, Record};
+use ppq_batch::{Out, Queue, QueueFault};
+use ppq_script::{Failed, Gate, Host, Pair, Record, Sink, Slot};
 
 impl Drained {
     /// No record.

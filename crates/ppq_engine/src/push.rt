@@ -1,12 +1,11 @@
 //! Adds a record to a queue.
 ghost use Rattle.std.specs.Prelude.{◌≡◌, ◌+◌, ◌∷◌, None, OnOk, IfErr, max};
-ghost use Rattle.ppq_record.specs.Bag.{IsSameBag};
-ghost use Rattle.ppq_outside.specs.Shown.{AllTell};
-ghost use Rattle.ppq_load.specs.Refusal.{Keeps, IsRefusedBy};
+ghost use Rattle.ppq_script.specs.ppq_record.Bag.{IsSameBag};
+ghost use Rattle.ppq_script.specs.ppq_outside.Shown.{AllTell};
+ghost use Rattle.ppq_batch.specs.ppq_load.Refusal.{Keeps, IsRefusedBy};
 
-use ppq_outside::{Gate, Host, Slot};
-use ppq_queue::{Queue, QueueFault};
-use ppq_record::Pair;
+use ppq_batch::{Queue, QueueFault};
+use ppq_script::{Gate, Host, Pair, Slot};
 
 // Adds a record.
 pub fn push_one<H: Host, S: Slot + Send + Sync, G: Gate>(

@@ -1,6 +1,6 @@
 //! Why commands did not all run.
-use ppq_outside::Failed;
-use ppq_queue::QueueFault;
+use ppq_batch::QueueFault;
+use ppq_script::Failed;
 
 // Why the commands of a script did not all run.
 #[derive(Clone, Copy, Debug, PartialEq, Eq)]

@@ -6,11 +6,10 @@
 ghost use Rattle.std.specs.Prelude.{map, IfOk};
 ghost use Rattle.ppq_queue.specs.Holding.{AreNewSlots};
 
-use ppq_budget::Sizes;
 use ppq_edge::{FileRack, FileSlot};
-use ppq_outside::{Host, OpenGate, OutsideFault, Rack, Slot};
-use ppq_queue::{OpenFault, Queue, QueueFault};
-use ppq_record::{Pair, Record};
+use ppq_queue::{
+    Host, OpenFault, OpenGate, OutsideFault, Pair, Queue, QueueFault, Rack, Record, Sizes, Slot,
+};
 use std::alloc::Global;
 use std::process::ExitCode;
 

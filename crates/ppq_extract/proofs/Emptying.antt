@@ -1,11 +1,11 @@
 -- What a run has that has no record left.
 use Rattle.std.proofs.Common.{◌≡◌, ℕ, zero, suc, true, false, true≢false, eqb, ◌<◌, List, [], ◌∷◌, ◌++◌, length, Option, Some, IsNone, ◌↔◌, All, subst, refl, ap, ap₂, arith, length-append}
 use Rattle.std.proofs.lemmas.List.Sums.{sum_by-cons, sum_by-append}
-use Rattle.ppq_outside.specs.Shown.{Shown}
-use Rattle.ppq_array.specs.declared.berth.DeviceBlock.{DeviceBlock}
-use Rattle.ppq_array.specs.Run.{Run, IsRun, items_of, buffers_of}
-use Rattle.ppq_array.specs.External.{External, IsLabelled, counts, size_of, waiting}
-use Rattle.ppq_array.proofs.Items.{no_items, no_live}
+use Rattle.ppq_fetch.specs.ppq_outside.Shown.{Shown}
+use Rattle.ppq_fetch.specs.ppq_array.declared.berth.DeviceBlock.{DeviceBlock}
+use Rattle.ppq_fetch.specs.ppq_array.Run.{Run, IsRun, items_of, buffers_of}
+use Rattle.ppq_fetch.specs.ppq_array.External.{External, IsLabelled, counts, size_of, waiting}
+use Rattle.ppq_fetch.proofs.ppq_array.Items.{no_items, no_live}
 use Rattle.ppq_extract.specs.Emptied.{IsEmptyRun, IsEmptyArray}
 
 nothing : {X : Type 0} (xs : List X) → length xs ≡ 0 → xs ≡ []

@@ -6,13 +6,13 @@ use Rattle.std.specs.List.{AllZip}
 use Rattle.std.proofs.lemmas.List.Sums.{sum_by-cons}
 use Rattle.std.proofs.lemmas.List.Elements.{AllZip-get_or, length_all_zip, Contains-get_or}
 use Rattle.std.specs.declared.cmp.Ordering.{Ordering}
-use Rattle.ppq_block.specs.Block.{Block}
-use Rattle.ppq_outside.specs.Shown.{Shown}
-use Rattle.ppq_array.specs.Run.{Run, items_of}
-use Rattle.ppq_array.specs.External.{External, size_of}
-use Rattle.ppq_array.specs.Supply.{Stock}
-use Rattle.ppq_array.specs.Holdings.{external_slots}
-use Rattle.ppq_record.specs.Bag.{front}
+use Rattle.ppq_fetch.specs.ppq_block.Block.{Block}
+use Rattle.ppq_fetch.specs.ppq_outside.Shown.{Shown}
+use Rattle.ppq_fetch.specs.ppq_array.Run.{Run, items_of}
+use Rattle.ppq_fetch.specs.ppq_array.External.{External, size_of}
+use Rattle.ppq_fetch.specs.ppq_array.Supply.{Stock}
+use Rattle.ppq_fetch.specs.ppq_array.Holdings.{external_slots}
+use Rattle.ppq_fetch.specs.ppq_record.Bag.{front}
 use Rattle.ppq_fetch.specs.Taking.{wanted}
 use Rattle.ppq_fetch.specs.Fetching.{State, state, blocks_in, slots_in, source_items, SourcesTell, RunsRise, WentOn, Fetched}
 use Rattle.ppq_extract.specs.Emptied.{LostOnly, IsEmptyRun, IsEmptyArray}

@@ -4,8 +4,8 @@ use Rattle.std.specs.Prelude.{sum_by, flat_map}
 use Rattle.std.proofs.lemmas.List.Concat.{flat_map-cons}
 use Rattle.std.proofs.lemmas.List.Sums.{sum_by-cons, sum_by-append}
 use Rattle.std.proofs.lemmas.List.Elements.{All-nil, All-cons, All-head, All-tail}
-use Rattle.ppq_record.specs.Runs.{all_of}
-use Rattle.ppq_outside.specs.Shown.{Shown, Tells, AllTell}
+use Rattle.ppq_fetch.specs.ppq_record.Runs.{all_of}
+use Rattle.ppq_fetch.specs.ppq_outside.Shown.{Shown, Tells, AllTell}
 
 -- every measure adds up to the same over both lists
 abbrev pub SameSums : {X : Type 0} → List X → List X → Type 0

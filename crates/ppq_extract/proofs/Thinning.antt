@@ -5,18 +5,18 @@ use Rattle.std.specs.List.{AllByRecursion as Each}
 use Rattle.std.proofs.lemmas.List.Sums.{sum_by-append}
 use Rattle.std.proofs.lemmas.List.Elements.{All-from_recursion, recursion_from_All}
 use Rattle.std.specs.declared.cmp.Ordering.{Ordering}
-use Rattle.ppq_record.specs.Order.{Le, is_before, Ascends}
-use Rattle.ppq_record.specs.Bag.{IsSameBag}
-use Rattle.ppq_record.specs.Runs.{all_of}
-use Rattle.ppq_record.proofs.Order.{Each-weaker, Each-same_bag, IsSameBag-append, IsSameBag-trans}
-use Rattle.ppq_block.specs.Block.{Block}
-use Rattle.ppq_outside.specs.Shown.{Shown}
-use Rattle.ppq_array.specs.Run.{Run, items_of, buffers_of}
-use Rattle.ppq_array.specs.External.{External, size_of, waiting, blocks_items, records_in}
-use Rattle.ppq_array.specs.Owner.{slots_shown}
-use Rattle.ppq_array.specs.Supply.{Stock}
-use Rattle.ppq_array.specs.Kept.{Held, Kept, weight_at}
-use Rattle.ppq_array.specs.Holdings.{external_slots, external_buffers, internal_buffers, RunHasBlock, ArrayHasSize}
+use Rattle.ppq_fetch.specs.ppq_record.Order.{Le, is_before, Ascends}
+use Rattle.ppq_fetch.specs.ppq_record.Bag.{IsSameBag}
+use Rattle.ppq_fetch.specs.ppq_record.Runs.{all_of}
+use Rattle.ppq_fetch.proofs.ppq_record.Order.{Each-weaker, Each-same_bag, IsSameBag-append, IsSameBag-trans}
+use Rattle.ppq_fetch.specs.ppq_block.Block.{Block}
+use Rattle.ppq_fetch.specs.ppq_outside.Shown.{Shown}
+use Rattle.ppq_fetch.specs.ppq_array.Run.{Run, items_of, buffers_of}
+use Rattle.ppq_fetch.specs.ppq_array.External.{External, size_of, waiting, blocks_items, records_in}
+use Rattle.ppq_fetch.specs.ppq_array.Owner.{slots_shown}
+use Rattle.ppq_fetch.specs.ppq_array.Supply.{Stock}
+use Rattle.ppq_fetch.specs.ppq_array.Kept.{Held, Kept, weight_at}
+use Rattle.ppq_fetch.specs.ppq_array.Holdings.{external_slots, external_buffers, internal_buffers, RunHasBlock, ArrayHasSize}
 use Rattle.ppq_fetch.specs.Taking.{IsTaken}
 use Rattle.ppq_fetch.specs.Fetching.{state, one_if_some, IsFitting, loaded_lists, count_in, fronts_in, blocks_in, waiting_items, source_items, RunsRise, held_in, slots_in, AreSources, MayFetch}
 use Rattle.ppq_extract.specs.Emptied.{LostOnly, IsEmptyRun, IsEmptyArray}

@@ -1,8 +1,8 @@
 -- Runs with no record left, and lists that they were taken out of.
 use Rattle.std.specs.Prelude.{◌≡◌, List, [], ◌++◌, All}
 use Rattle.std.specs.List.Sorted.{IsPermutation}
-use Rattle.ppq_array.specs.Run.{Run}
-use Rattle.ppq_array.specs.External.{External}
+use Rattle.ppq_fetch.specs.ppq_array.Run.{Run}
+use Rattle.ppq_fetch.specs.ppq_array.External.{External}
 
 -- The old list is the new one and such elements beside, in any order
 pub record LostOnly {X : Type 0} (IsLost : X → Type 0) (old new : List X) : Type 0 where

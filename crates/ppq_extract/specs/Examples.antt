@@ -1,10 +1,10 @@
 -- The runs of the worked examples.
 use Rattle.std.specs.Prelude.{◌≡◌, [], ◌∷◌, length}
-use Rattle.ppq_outside.specs.Shown.{Shown}
-use Rattle.ppq_block.specs.Block.{Block}
-use Rattle.ppq_array.specs.Run.{Run, run_of}
-use Rattle.ppq_array.specs.External.{External, external}
-use Rattle.ppq_array.specs.declared.berth.DeviceBlock.{DeviceBlock}
+use Rattle.ppq_fetch.specs.ppq_outside.Shown.{Shown}
+use Rattle.ppq_fetch.specs.ppq_block.Block.{Block}
+use Rattle.ppq_fetch.specs.ppq_array.Run.{Run, run_of}
+use Rattle.ppq_fetch.specs.ppq_array.External.{External, external}
+use Rattle.ppq_fetch.specs.ppq_array.declared.berth.DeviceBlock.{DeviceBlock}
 
 -- the run has one buffer, with the two records that it can hold
 pub record IsRunOfTwo {R : Type 0} (run : Run R) : Type 0 where

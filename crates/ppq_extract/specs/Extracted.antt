@@ -1,14 +1,14 @@
 -- The extract buffer, and what a refill of it does to the sources.
 use Rattle.std.specs.Prelude.{◌≡◌, ◌↔◌, ℕ, ◌+◌, ◌-◌, ◌<◌, ◌≤◌, List, length, sum_by, All, Contains, Option}
 use Rattle.std.specs.declared.cmp.Ordering.{Ordering}
-use Rattle.ppq_outside.specs.Shown.{Shown, AllTell}
-use Rattle.ppq_array.specs.Run.{Run, items_of}
-use Rattle.ppq_array.specs.External.{External, size_of}
-use Rattle.ppq_array.specs.Kept.{Kept}
-use Rattle.ppq_array.specs.Holdings.{external_buffers}
-use Rattle.ppq_array.specs.declared.runs.Runs.{Runs}
-use Rattle.ppq_array.specs.Supply.{Stock}
-use Rattle.ppq_block.specs.Block.{Block}
+use Rattle.ppq_fetch.specs.ppq_outside.Shown.{Shown, AllTell}
+use Rattle.ppq_fetch.specs.ppq_array.Run.{Run, items_of}
+use Rattle.ppq_fetch.specs.ppq_array.External.{External, size_of}
+use Rattle.ppq_fetch.specs.ppq_array.Kept.{Kept}
+use Rattle.ppq_fetch.specs.ppq_array.Holdings.{external_buffers}
+use Rattle.ppq_fetch.specs.ppq_array.declared.runs.Runs.{Runs}
+use Rattle.ppq_fetch.specs.ppq_array.Supply.{Stock}
+use Rattle.ppq_fetch.specs.ppq_block.Block.{Block}
 use Rattle.ppq_fetch.specs.Taking.{IsTaken, AllBelow}
 use Rattle.ppq_fetch.specs.Fetching.{State, state, held_in, slots_in, count_in, blocks_in, source_items, SourcesTell, RunsRise, WentOn, StockWentOn, MoreReads}
 use Rattle.ppq_extract.specs.declared.sources.Sources.{Sources}

@@ -1,13 +1,11 @@
 //! Runs with no record left leave their lists.
 ghost use Rattle.std.specs.Prelude.{◌≡◌, ◌+◌, ◌<◌, ◌≤◌, [], true, false, length, vec_capacity, All};
 ghost use Rattle.std.specs.List.{AllWithin};
-ghost use Rattle.ppq_array.specs.Run.{Run, items_of};
-ghost use Rattle.ppq_array.specs.External.{External, size_of};
+ghost use Rattle.ppq_fetch.specs.ppq_array.Run.{Run, items_of};
+ghost use Rattle.ppq_fetch.specs.ppq_array.External.{External, size_of};
 ghost use Rattle.ppq_extract.specs.Emptied.{LostOnly, IsEmptyRun, IsEmptyArray};
 
-use ppq_array::{ExternalArray, InternalArray};
-use ppq_outside::Slot;
-use ppq_record::Record;
+use ppq_fetch::{ExternalArray, InternalArray, Record, Slot};
 
 // Takes the runs in buffers out that have no record left. The others may move. It looks at each once.
 pub(crate) fn drop_emptied_internal<R: Record>(runs: &mut Vec<InternalArray<R>>)

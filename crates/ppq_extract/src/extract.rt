@@ -1,6 +1,6 @@
 //! The extract buffer.
 ghost use Rattle.std.specs.Prelude.{◌≡◌, ◌+◌, ◌≤◌, ◌↔◌, ℕ, [], min, length, drop, vec_capacity, Option, None, IsTrue, IfOk, OnOk, OnErr, IsErrOf};
-ghost use Rattle.ppq_record.specs.Bag.{front, first_of};
+ghost use Rattle.ppq_fetch.specs.ppq_record.Bag.{front, first_of};
 ghost use Rattle.ppq_budget.specs.Sizes.{batch_of};
 ghost use Rattle.ppq_fetch.specs.Taking.{wanted};
 ghost use Rattle.ppq_fetch.specs.Fetching.{source_items, AreSources, MayFetch, FetchFailed, SourcesTell, RunsRise, count_in};
@@ -9,11 +9,10 @@ ghost use Rattle.ppq_extract.specs.Extracted.{held, sources_of, ServesFor, Sourc
 use crate::emptied::{drop_emptied_external, drop_emptied_internal};
 use crate::sources::Sources;
 use crate::taking::take_from_runs;
-use ppq_array::{Berth, Runs, StoreFault, Supply};
 use ppq_budget::Sizes;
-use ppq_lane::Lanes;
-use ppq_outside::{Gate, Host, Slot};
-use ppq_record::{Memory, Record, record_laws};
+use ppq_fetch::{
+    Berth, Gate, Host, Lanes, Memory, Record, Runs, Slot, StoreFault, Supply, record_laws,
+};
 use std::alloc::Global;
 use std::marker::Model;
 

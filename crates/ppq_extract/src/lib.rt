@@ -8,8 +8,12 @@ mod emptied;
 mod extract;
 mod sources;
 mod taking;
-#[cfg(test)]
-mod tests;
 
 pub use extract::Extract;
+pub use ppq_budget::Sizes;
+pub use ppq_fetch::{
+    Bench, Berth, BerthList, BlockBuf, BufList, ExternalArray, Gate, Host, InternalArray, Job,
+    Lanes, Library, OpenGate, OutsideFault, OwnerLists, Rack, Runs, Slot, StoreFault, Supply,
+    free_slot, give_buffer, merge_workers, size_of,
+};
 pub use sources::Sources;

@@ -4,8 +4,7 @@ ghost use Rattle.ppq_budget.specs.Sizes.{fixed_of, pool_of};
 ghost use Rattle.ppq_extract.specs.Extracted.{ServesFor};
 
 use ppq_budget::Sizes;
-use ppq_merge::Bench;
-use ppq_record::{Memory, Record};
+use ppq_fetch::{Bench, Memory, Record};
 use std::alloc::Global;
 
 /// The bench of the workers, and a place for each run, for the merges of refills. Other merges may use

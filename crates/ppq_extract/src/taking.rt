@@ -1,18 +1,15 @@
 //! Taking the least records of the runs of one owner.
 ghost use Rattle.std.specs.Prelude.{◌≡◌, ◌+◌, ◌≤◌, ℕ, min, length, take, vec_capacity, None, IfOk, OnOk, IsErrOf};
-ghost use Rattle.ppq_record.specs.Bag.{front};
+ghost use Rattle.ppq_fetch.specs.ppq_record.Bag.{front};
 ghost use Rattle.ppq_fetch.specs.Taking.{wanted};
 ghost use Rattle.ppq_fetch.specs.Fetching.{state, source_items, AreSources, MayFetch, Fetched, FetchFailed, SourcesTell, RunsRise, count_in};
 ghost use Rattle.ppq_extract.specs.Extracted.{sources_of, ServesFor, SourcesRest};
 
 use crate::sources::Sources;
-use ppq_array::{Berth, ExternalArray, InternalArray, Runs, StoreFault, Supply};
-use ppq_block::BufList;
-use ppq_fetch::take_least;
-use ppq_lane::Lanes;
-use ppq_merge::Bench;
-use ppq_outside::{Gate, Host, Slot};
-use ppq_record::Record;
+use ppq_fetch::{
+    Bench, Berth, BufList, ExternalArray, Gate, Host, InternalArray, Lanes, Record, Runs, Slot,
+    StoreFault, Supply, take_least,
+};
 
 // Takes the least records of all runs, as many as stand in `records`, or all there are; with a limit only
 // those below it. They take the first places of `records`, and it gives how many they are. As many blocks

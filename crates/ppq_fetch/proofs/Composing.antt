@@ -1,7 +1,7 @@
 -- Two calls, one after the other, keep slots and buffers as one does.
 use Rattle.std.proofs.Common.{◌≡◌, ℕ, ◌+◌, List, ◌++◌, length, sum_by, ◌∙◌, arith, length-append}
 use Rattle.std.proofs.lemmas.List.Sums.{sum_by-append}
-use Rattle.ppq_outside.specs.Shown.{Shown}
+use Rattle.ppq_array.specs.ppq_outside.Shown.{Shown}
 use Rattle.ppq_array.specs.Supply.{Stock}
 use Rattle.ppq_array.specs.Kept.{Kept, Held, weight_at}
 

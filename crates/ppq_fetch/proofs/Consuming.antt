@@ -5,8 +5,8 @@ use Rattle.std.proofs.lemmas.List.{map-append, take_all}
 use Rattle.std.proofs.lemmas.Grind.{take_at_read, take-set_at}
 use Rattle.std.proofs.lemmas.List.Sums.{sum_by-cons, sum_by-append}
 use Rattle.std.proofs.lemmas.List.Elements.{recursion_from_All}
-use Rattle.ppq_record.proofs.Order.{Each-append, Each-append_left, Each-append_right}
-use Rattle.ppq_block.specs.Block.{Block, all_items}
+use Rattle.ppq_array.proofs.ppq_record.Order.{Each-append, Each-append_left, Each-append_right}
+use Rattle.ppq_array.specs.ppq_block.Block.{Block, all_items}
 use Rattle.ppq_array.specs.Run.{Run, run_of, items_of, buffers_of, IsRun}
 use Rattle.ppq_array.specs.External.{External, external}
 use Rattle.ppq_array.specs.Supply.{Stock, GetsBuffer}

@@ -3,7 +3,7 @@ use Rattle.std.proofs.Common.{◌≡◌, ℕ, ◌+◌, List, [], ◌∷◌, ◌+
 use Rattle.std.specs.List.{AllByRecursion as Each}
 use Rattle.std.specs.declared.cmp.Ordering.{Ordering}
 use Rattle.std.proofs.lemmas.List.Sums.{sum_by-cons}
-use Rattle.ppq_record.specs.Runs.{all_of}
+use Rattle.ppq_array.specs.ppq_record.Runs.{all_of}
 use Rattle.ppq_array.specs.Run.{Run, items_of}
 use Rattle.ppq_array.specs.External.{External, size_of, waiting, counts}
 use Rattle.ppq_fetch.specs.Edges.{edge_of}

@@ -1,3 +1,8 @@
+pub use Rattle.ppq_array.proofs as ppq_array
+pub use Rattle.ppq_array.proofs.ppq_block as ppq_block
+pub use Rattle.ppq_lane.proofs as ppq_lane
+pub use Rattle.ppq_array.proofs.ppq_outside as ppq_outside
+pub use Rattle.ppq_array.proofs.ppq_record as ppq_record
 pub mod Composing
 pub mod Consuming
 pub mod Counts

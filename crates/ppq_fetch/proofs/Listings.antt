@@ -3,8 +3,8 @@ use Rattle.std.proofs.Common.{◌≡◌, ℕ, zero, suc, ◌+◌, ◌<◌, ◌�
 use Rattle.std.specs.List.{slice_get}
 use Rattle.ppq_fetch.specs.Parts.{firsts}
 use Rattle.std.proofs.lemmas.List.{length-map}
-use Rattle.ppq_record.specs.Runs.{all_of, list_at}
-use Rattle.ppq_split.specs.Cut.{AreWithin, total}
+use Rattle.ppq_array.specs.ppq_record.Runs.{all_of, list_at}
+use Rattle.ppq_merge.specs.ppq_split.Cut.{AreWithin, total}
 
 pub run_left : {A X : Type 0} (f : A → List X) (xs : List A) (qs : List (List X)) (n : ℕ) (d : A) → n < length xs → list_at (map f xs ++ qs) n ≡ f (get_or xs n d)
 run_left f [] qs n d h = absurd (omega arith)

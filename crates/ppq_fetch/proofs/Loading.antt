@@ -3,13 +3,13 @@ use Rattle.std.proofs.Common.{◌≡◌, inl, inr, ℕ, ◌+◌, ◌*◌, ◌<�
 use Rattle.std.specs.Prelude.{unwrap_or}
 use Rattle.std.proofs.lemmas.Bool.{cases_lt}
 use Rattle.std.proofs.lemmas.Result.{IfOk-at_ok, IfErr-at_err}
-use Rattle.ppq_record.specs.Given.{records_from}
-use Rattle.ppq_block.specs.Block.{Block, holding}
-use Rattle.ppq_block.specs.Told.{records_told}
-use Rattle.ppq_block.proofs.Blocks.{length-records_from}
-use Rattle.ppq_block.proofs.Buffers.{fits_one}
-use Rattle.ppq_outside.specs.Shown.{Shown, Tells, IsRead}
-use Rattle.ppq_outside.specs.Told.{Keeps, Rose, next_count}
+use Rattle.ppq_array.specs.ppq_record.Given.{records_from}
+use Rattle.ppq_array.specs.ppq_block.Block.{Block, holding}
+use Rattle.ppq_array.specs.ppq_block.Told.{records_told}
+use Rattle.ppq_array.proofs.ppq_block.Blocks.{length-records_from}
+use Rattle.ppq_array.proofs.ppq_block.Buffers.{fits_one}
+use Rattle.ppq_array.specs.ppq_outside.Shown.{Shown, Tells, IsRead}
+use Rattle.ppq_array.specs.ppq_outside.Told.{Keeps, Rose, next_count}
 use Rattle.ppq_lane.specs.Jobs.{IsReadInto}
 use Rattle.ppq_array.specs.declared.berth.DeviceBlock.{DeviceBlock}
 use Rattle.ppq_array.specs.Run.{Run, run_of, items_of}

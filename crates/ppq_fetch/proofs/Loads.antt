@@ -9,12 +9,12 @@ use Rattle.std.proofs.lemmas.List.{length-map}
 use Rattle.std.proofs.lemmas.List.Concat.{flat_map-cons}
 use Rattle.std.proofs.lemmas.List.Sums.{sum_by-cons, sum_by-append, sum_by-set}
 use Rattle.std.proofs.lemmas.List.Elements.{All-set, All-get_or, All-head, All-tail, All-append, All-nil, All-cons}
-use Rattle.ppq_record.specs.Order.{is_before, Ascends}
-use Rattle.ppq_record.specs.Bag.{IsSameBag}
-use Rattle.ppq_record.specs.Runs.{all_of}
-use Rattle.ppq_record.proofs.Order.{count_by-append}
-use Rattle.ppq_block.specs.Block.{Block}
-use Rattle.ppq_outside.specs.Shown.{Shown, Tells, AllTell}
+use Rattle.ppq_array.specs.ppq_record.Order.{is_before, Ascends}
+use Rattle.ppq_array.specs.ppq_record.Bag.{IsSameBag}
+use Rattle.ppq_array.specs.ppq_record.Runs.{all_of}
+use Rattle.ppq_array.proofs.ppq_record.Order.{count_by-append}
+use Rattle.ppq_array.specs.ppq_block.Block.{Block}
+use Rattle.ppq_array.specs.ppq_outside.Shown.{Shown, Tells, AllTell}
 use Rattle.ppq_array.specs.declared.berth.DeviceBlock.{DeviceBlock}
 use Rattle.ppq_array.specs.Run.{Run, items_of, buffers_of}
 use Rattle.ppq_array.specs.External.{External, counts, waiting, size_of, records_in, blocks_items}

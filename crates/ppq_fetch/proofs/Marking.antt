@@ -2,8 +2,8 @@
 use Rattle.std.proofs.Common.{◌≡◌, ℕ, zero, suc, ◌+◌, ◌<◌, ◌≤◌, Bool, List, [], ◌∷◌, ◌++◌, length, take, slice_set, refl, ap, ap₂, arith, add-one, length-append}
 use Rattle.std.specs.Prelude.{count_by}
 use Rattle.std.specs.List.{AllByRecursion as Each}
-use Rattle.ppq_record.specs.Runs.{all_of, list_at}
-use Rattle.ppq_split.specs.Cut.{AreWithin, total}
+use Rattle.ppq_array.specs.ppq_record.Runs.{all_of, list_at}
+use Rattle.ppq_merge.specs.ppq_split.Cut.{AreWithin, total}
 use Rattle.ppq_fetch.specs.Parts.{passed}
 
 total_suc : (bs : List ℕ) (i c : ℕ) → i < length bs → total (take (suc i) (slice_set bs i c)) ≡ total (take i bs) + c

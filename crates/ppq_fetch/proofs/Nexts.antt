@@ -6,8 +6,8 @@ use Rattle.std.specs.declared.cmp.Ordering.{Ordering}
 use Rattle.std.proofs.lemmas.Bool.{cases_Bool}
 use Rattle.std.proofs.lemmas.List.Sums.{sum_by-cons}
 use mir.Val.{bool_byte}
-use Rattle.ppq_record.specs.Order.{is_before}
-use Rattle.ppq_record.proofs.Order.{Each-weaker, Each-append, Le-refl, Le-trans}
+use Rattle.ppq_array.specs.ppq_record.Order.{is_before}
+use Rattle.ppq_array.proofs.ppq_record.Order.{Each-weaker, Each-append, Le-refl, Le-trans}
 use Rattle.ppq_array.specs.Run.{items_of}
 use Rattle.ppq_array.specs.External.{External, next_of}
 use Rattle.ppq_array.specs.declared.berth.DeviceBlock.{DeviceBlock}

@@ -5,11 +5,11 @@ use Rattle.std.specs.List.{AllByRecursion as Each}
 use Rattle.std.specs.Cmp.{IsStrictWeakOrder}
 use Rattle.std.specs.declared.cmp.Ordering.{Ordering}
 use Rattle.std.proofs.lemmas.Bool.{cases_Bool}
-use Rattle.ppq_record.specs.Order.{is_before, Ascends, Le, Rising}
-use Rattle.ppq_record.specs.Bag.{IsSameBag, front}
-use Rattle.ppq_record.specs.Runs.{all_of}
-use Rattle.ppq_record.proofs.Order.{count_by-cons, count_by-append, none_pass, Each-weaker, Each-append, Each-append_left, Each-append_right, Rising-take}
-use Rattle.ppq_split.specs.Cut.{AreWithin, total}
+use Rattle.ppq_array.specs.ppq_record.Order.{is_before, Ascends, Le, Rising}
+use Rattle.ppq_array.specs.ppq_record.Bag.{IsSameBag, front}
+use Rattle.ppq_array.specs.ppq_record.Runs.{all_of}
+use Rattle.ppq_array.proofs.ppq_record.Order.{count_by-cons, count_by-append, none_pass, Each-weaker, Each-append, Each-append_left, Each-append_right, Rising-take}
+use Rattle.ppq_merge.specs.ppq_split.Cut.{AreWithin, total}
 use Rattle.ppq_merge.specs.Parts.{before, after}
 use Rattle.ppq_fetch.specs.Parts.{firsts, rests, passed}
 use Rattle.ppq_fetch.specs.Taking.{NoneAfter, IsTaken, IsDownward, IsSafe}

@@ -2,7 +2,7 @@
 use Rattle.std.proofs.Common.{◌≡◌, inl, inr, ℕ, zero, suc, ◌+◌, ◌<◌, ◌≤◌, List, [], ◌∷◌, ◌++◌, length, take, get_or, Some, refl, ap, ◌∙◌, arith}
 use Rattle.std.specs.List.{slice_get}
 use Rattle.std.proofs.lemmas.List.Sums.{sum_by-cons}
-use Rattle.ppq_outside.specs.Shown.{Shown}
+use Rattle.ppq_array.specs.ppq_outside.Shown.{Shown}
 use Rattle.ppq_array.specs.Run.{items_of, buffers_of}
 use Rattle.ppq_array.specs.External.{External}
 use Rattle.ppq_fetch.specs.Turns.{HasBuffer}

@@ -2,10 +2,10 @@
 use Rattle.std.proofs.Common.{◌≡◌, ◌⊎◌, inl, inr, ℕ, ◌+◌, ◌-◌, ◌≤◌, true, List, [], ◌++◌, length, Option, Some, None, refl, sym, ap, ◌∙◌, arith, length-append, append-nil, append_assoc}
 use Rattle.std.specs.Cmp.{IsStrictWeakOrder}
 use Rattle.std.specs.declared.cmp.Ordering.{Ordering}
-use Rattle.ppq_record.specs.Order.{is_before, Le}
-use Rattle.ppq_record.specs.Bag.{front}
-use Rattle.ppq_record.proofs.Order.{Each-append}
-use Rattle.ppq_outside.specs.Shown.{Shown}
+use Rattle.ppq_array.specs.ppq_record.Order.{is_before, Le}
+use Rattle.ppq_array.specs.ppq_record.Bag.{front}
+use Rattle.ppq_array.proofs.ppq_record.Order.{Each-append}
+use Rattle.ppq_array.specs.ppq_outside.Shown.{Shown}
 use Rattle.ppq_array.specs.Supply.{Stock}
 use Rattle.ppq_fetch.specs.Taking.{AllBelow, NoneBelow, wanted}
 use Rattle.ppq_fetch.specs.Fetching.{State, Fetched, PartsKept, StockWentOn, WentOn, blocks_in, held_in, source_items, SourcesTell, RunsRise, FetchFailed}

@@ -6,8 +6,8 @@ use Rattle.std.specs.Cmp.{IsStrictWeakOrder}
 use Rattle.std.specs.declared.cmp.Ordering.{Ordering}
 use Rattle.std.proofs.lemmas.Bool.{cases_Bool}
 use Rattle.std.proofs.lemmas.List.{drop_all}
-use Rattle.ppq_record.specs.Order.{Le, Ascends, is_before}
-use Rattle.ppq_record.proofs.Order.{Each-weaker, Le-refl, Le-trans, count_by-cons, count_by-append, none_pass}
+use Rattle.ppq_array.specs.ppq_record.Order.{Le, Ascends, is_before}
+use Rattle.ppq_array.proofs.ppq_record.Order.{Each-weaker, Le-refl, Le-trans, count_by-cons, count_by-append, none_pass}
 use Rattle.ppq_fetch.specs.Edges.{is_within}
 use Rattle.ppq_fetch.specs.Taking.{IsDownward}
 use Rattle.ppq_fetch.specs.declared.edge.Edge.{Edge}

@@ -5,9 +5,9 @@ use Rattle.std.specs.List.{AllByRecursion as Each}
 use Rattle.std.specs.Cmp.{IsStrictWeakOrder}
 use Rattle.std.specs.declared.cmp.Ordering.{Ordering}
 use Rattle.std.proofs.lemmas.List.{take_all}
-use Rattle.ppq_record.specs.Order.{is_before, Le, Rising}
-use Rattle.ppq_record.specs.Bag.{IsSameBag, ascending, front, without_front, size_below}
-use Rattle.ppq_record.proofs.Order.{count_by-cons, count_by-append, IsSameBag-length, IsSameBag-append, Each_le-same_bag, Each-append_left, Each-append_right, Each-weaker, Each-append, Rising-append, Rising-take, Rising-in_order, in_order-same_bag, front_is, none_pass}
+use Rattle.ppq_array.specs.ppq_record.Order.{is_before, Le, Rising}
+use Rattle.ppq_array.specs.ppq_record.Bag.{IsSameBag, ascending, front, without_front, size_below}
+use Rattle.ppq_array.proofs.ppq_record.Order.{count_by-cons, count_by-append, IsSameBag-length, IsSameBag-append, Each_le-same_bag, Each-append_left, Each-append_right, Each-weaker, Each-append, Rising-append, Rising-take, Rising-in_order, in_order-same_bag, front_is, none_pass}
 use Rattle.ppq_fetch.specs.Taking.{NoneAfter, IsTaken, wanted, AllBelow, NoneBelow}
 
 -- in an ascending list no record is after a later one

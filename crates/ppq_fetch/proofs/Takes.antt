@@ -5,19 +5,19 @@ use Rattle.std.specs.Cmp.{IsStrictWeakOrder}
 use Rattle.std.specs.declared.cmp.Ordering.{Ordering}
 use Rattle.std.proofs.lemmas.List.{length-map}
 use Rattle.std.proofs.lemmas.List.Elements.{All-from_recursion, recursion_from_All}
-use Rattle.ppq_record.specs.Order.{is_before, Ascends}
-use Rattle.ppq_record.specs.Bag.{IsSameBag, front}
-use Rattle.ppq_record.specs.Runs.{all_of}
-use Rattle.ppq_record.proofs.Order.{Each-weaker, Each-append_left, Each-same_bag, IsSameBag-length}
-use Rattle.ppq_block.specs.Block.{Block}
-use Rattle.ppq_outside.specs.Shown.{Shown, AllTell}
+use Rattle.ppq_array.specs.ppq_record.Order.{is_before, Ascends}
+use Rattle.ppq_array.specs.ppq_record.Bag.{IsSameBag, front}
+use Rattle.ppq_array.specs.ppq_record.Runs.{all_of}
+use Rattle.ppq_array.proofs.ppq_record.Order.{Each-weaker, Each-append_left, Each-same_bag, IsSameBag-length}
+use Rattle.ppq_array.specs.ppq_block.Block.{Block}
+use Rattle.ppq_array.specs.ppq_outside.Shown.{Shown, AllTell}
 use Rattle.ppq_array.specs.Run.{Run, items_of, buffers_of}
 use Rattle.ppq_array.specs.External.{External, counts, waiting, records_in, blocks_items}
 use Rattle.ppq_array.specs.Supply.{Stock}
 use Rattle.ppq_array.specs.Owner.{HasBlock, slots_shown}
 use Rattle.ppq_array.specs.Kept.{SameSlots}
 use Rattle.ppq_array.specs.Holdings.{external_slots, RunHasBlock, ArrayHasSize}
-use Rattle.ppq_split.specs.Cut.{AreWithin}
+use Rattle.ppq_merge.specs.ppq_split.Cut.{AreWithin}
 use Rattle.ppq_merge.specs.Parts.{before, after}
 use Rattle.ppq_fetch.specs.Edges.{is_within, IsSafeEdge}
 use Rattle.ppq_fetch.specs.Parts.{firsts, rests, passed}

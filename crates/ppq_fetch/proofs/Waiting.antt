@@ -6,11 +6,11 @@ use Rattle.std.specs.declared.cmp.Ordering.{Ordering}
 use Rattle.std.proofs.lemmas.Bool.{cases_Bool}
 use Rattle.std.proofs.lemmas.List.Concat.{flat_map-cons}
 use Rattle.std.proofs.lemmas.List.Elements.{All-head}
-use Rattle.ppq_record.specs.Order.{is_before, Ascends, Le, Rising}
-use Rattle.ppq_record.specs.Bag.{first_of}
-use Rattle.ppq_record.specs.Runs.{all_of}
-use Rattle.ppq_record.proofs.Order.{Each-weaker, Each-append, Each-append_left, Each-append_right, Le-refl, Le-trans, each_fails}
-use Rattle.ppq_outside.specs.Shown.{Shown, Tells, AllTell}
+use Rattle.ppq_array.specs.ppq_record.Order.{is_before, Ascends, Le, Rising}
+use Rattle.ppq_array.specs.ppq_record.Bag.{first_of}
+use Rattle.ppq_array.specs.ppq_record.Runs.{all_of}
+use Rattle.ppq_array.proofs.ppq_record.Order.{Each-weaker, Each-append, Each-append_left, Each-append_right, Le-refl, Le-trans, each_fails}
+use Rattle.ppq_array.specs.ppq_outside.Shown.{Shown, Tells, AllTell}
 use Rattle.ppq_array.specs.declared.berth.DeviceBlock.{DeviceBlock}
 use Rattle.ppq_array.specs.Run.{Run, items_of}
 use Rattle.ppq_array.specs.External.{External, next_of, waiting, block_items, blocks_items, records_in, IsLabelled}
@@ -18,7 +18,7 @@ use Rattle.ppq_array.specs.Owner.{slots_shown}
 use Rattle.ppq_array.specs.Holdings.{external_slots}
 use Rattle.ppq_array.proofs.Noted.{all_left, all_right}
 use Rattle.ppq_fetch.specs.Edges.{is_within, edge_of, nearer, IsSafeEdge}
-use Rattle.ppq_split.specs.Cut.{total}
+use Rattle.ppq_merge.specs.ppq_split.Cut.{total}
 use Rattle.ppq_fetch.specs.Parts.{passed}
 use Rattle.ppq_fetch.specs.Taking.{NoneBelow}
 use Rattle.ppq_fetch.specs.Turns.{NotAfter, IsNext, IsLeastNext, minimum_of}

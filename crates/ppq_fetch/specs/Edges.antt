@@ -2,7 +2,7 @@
 use Rattle.std.specs.Prelude.{◌≡◌, Bool, true, not, List, Option, Some, None, cond}
 use Rattle.std.specs.declared.cmp.Ordering.{Ordering}
 use Rattle.std.specs.List.{AllByRecursion as Each}
-use Rattle.ppq_record.specs.Order.{is_before}
+use Rattle.ppq_array.specs.ppq_record.Order.{is_before}
 use Rattle.ppq_fetch.specs.Taking.{IsSafe, AllBelow}
 use Rattle.ppq_fetch.specs.declared.edge.Edge.{Edge}
 use Rattle.ppq_fetch.specs.declared.edge.Edge.TheVariants.{Whole, AtMost, Below}

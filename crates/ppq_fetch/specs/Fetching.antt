@@ -2,10 +2,10 @@
 use Rattle.std.specs.Prelude.{◌≡◌, ◌↔◌, ℕ, ◌+◌, ◌-◌, ◌*◌, ◌<◌, ◌≤◌, ◌^◌, List, [], ◌∷◌, ◌++◌, length, map, drop, flat_map, sum_by, All, Option}
 use Rattle.std.specs.declared.cmp.Ordering.{Ordering}
 use Rattle.std.specs.List.{AllByRecursion as Each, AllZip}
-use Rattle.ppq_record.specs.Order.{Ascends}
-use Rattle.ppq_record.specs.Runs.{all_of}
-use Rattle.ppq_block.specs.Block.{Block}
-use Rattle.ppq_outside.specs.Shown.{Shown, AllTell}
+use Rattle.ppq_array.specs.ppq_record.Order.{Ascends}
+use Rattle.ppq_array.specs.ppq_record.Runs.{all_of}
+use Rattle.ppq_array.specs.ppq_block.Block.{Block}
+use Rattle.ppq_array.specs.ppq_outside.Shown.{Shown, AllTell}
 use Rattle.ppq_array.specs.Run.{Run, items_of, buffers_of}
 use Rattle.ppq_array.specs.External.{External, size_of, records_in, waiting, blocks_items}
 use Rattle.ppq_array.specs.Supply.{Stock}

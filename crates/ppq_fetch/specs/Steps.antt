@@ -2,18 +2,18 @@
 use Rattle.std.specs.Prelude.{◌≡◌, ℕ, ◌+◌, ◌*◌, ◌<◌, ◌≤◌, List, [], ◌∷◌, ◌++◌, length, drop, map, All}
 use Rattle.std.specs.declared.cmp.Ordering.{Ordering}
 use Rattle.std.specs.List.{AllByRecursion as Each, AllZip}
-use Rattle.ppq_record.specs.Order.{Ascends}
-use Rattle.ppq_record.specs.Bag.{IsSameBag, front}
-use Rattle.ppq_record.specs.Runs.{all_of}
-use Rattle.ppq_block.specs.Block.{Block}
-use Rattle.ppq_outside.specs.Shown.{Shown, Tells}
+use Rattle.ppq_array.specs.ppq_record.Order.{Ascends}
+use Rattle.ppq_array.specs.ppq_record.Bag.{IsSameBag, front}
+use Rattle.ppq_array.specs.ppq_record.Runs.{all_of}
+use Rattle.ppq_array.specs.ppq_block.Block.{Block}
+use Rattle.ppq_array.specs.ppq_outside.Shown.{Shown, Tells}
 use Rattle.ppq_array.specs.declared.berth.DeviceBlock.{DeviceBlock}
 use Rattle.ppq_array.specs.Run.{Run, run_of, items_of, buffers_of}
 use Rattle.ppq_array.specs.External.{External, external, records_in}
 use Rattle.ppq_array.specs.Supply.{Stock, GetsSlot}
 use Rattle.ppq_array.specs.Owner.{HasBlock}
 use Rattle.ppq_array.specs.Holdings.{internal_buffers, external_buffers, RunHasBlock}
-use Rattle.ppq_split.specs.Cut.{AreWithin}
+use Rattle.ppq_merge.specs.ppq_split.Cut.{AreWithin}
 use Rattle.ppq_merge.specs.Parts.{before}
 use Rattle.ppq_fetch.specs.Parts.{firsts, rests}
 use Rattle.ppq_fetch.specs.Fetching.{one_if_some, fronts_in, IsFitting, loaded_lists}

@@ -2,8 +2,8 @@
 use Rattle.std.specs.Prelude.{◌≡◌, ℕ, Bool, true, false, min, List, [], ◌++◌, Option, Some, None, ⊤}
 use Rattle.std.specs.declared.cmp.Ordering.{Ordering}
 use Rattle.std.specs.List.{AllByRecursion as Each}
-use Rattle.ppq_record.specs.Order.{is_before, Le, Ascends}
-use Rattle.ppq_record.specs.Bag.{IsSameBag, size_below}
+use Rattle.ppq_array.specs.ppq_record.Order.{is_before, Le, Ascends}
+use Rattle.ppq_array.specs.ppq_record.Bag.{IsSameBag, size_below}
 
 module _ {R : Type 0} (cmp : R → R → Ordering) where
   -- no record of one list is after one of the other

@@ -2,7 +2,7 @@
 use Rattle.std.specs.Prelude.{◌≡◌, ◌≢◌, ◌⊎◌, ℕ, ◌+◌, ◌<◌, ◌≤◌, ⊤, ◌==◌, if◌then◌else◌, cond, List, [], length, Option, Some, None, slice_get}
 use Rattle.std.specs.declared.cmp.Ordering.{Ordering}
 use Rattle.std.specs.List.{AllByRecursion as Each}
-use Rattle.ppq_record.specs.Order.{Le, is_before}
+use Rattle.ppq_array.specs.ppq_record.Order.{Le, is_before}
 use Rattle.ppq_array.specs.Run.{items_of}
 use Rattle.ppq_array.specs.External.{External, next_of}
 use Rattle.ppq_array.specs.Holdings.{external_buffers}

@@ -2,7 +2,7 @@
 ghost use Rattle.std.specs.Prelude.{◌≡◌};
 ghost use Rattle.ppq_fetch.specs.Edges.{edge_of};
 
-use ppq_record::Record;
+use ppq_array::Record;
 
 // Up to where records may be given.
 #[derive(Clone, Copy)]

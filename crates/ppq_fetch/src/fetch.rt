@@ -1,6 +1,6 @@
 //! Taking the least records of runs.
 ghost use Rattle.std.specs.Prelude.{◌≡◌, ◌+◌, ◌<◌, ◌≤◌, ℕ, min, length, take, Option, None, IfOk, OnOk, IsErrOf};
-ghost use Rattle.ppq_record.specs.Bag.{front};
+ghost use Rattle.ppq_array.specs.ppq_record.Bag.{front};
 ghost use Rattle.ppq_fetch.specs.Taking.{wanted, NoneBelow};
 ghost use Rattle.ppq_fetch.specs.Turns.{IfTook, IfEnded, IfFailed};
 ghost use Rattle.ppq_fetch.specs.Fetching.{state, source_items, AreSources, MayFetch, Fetched, FetchFailed, SourcesTell, RunsRise, count_in, blocks_in};
@@ -10,11 +10,11 @@ use crate::load::load_block;
 use crate::mark::mark_runs;
 use crate::take::take_safe;
 use crate::turn::{Step, Turn, choose, first_of, next_block};
-use ppq_array::{ExternalArray, InternalArray, StoreFault, Supply};
-use ppq_block::BufList;
+use ppq_array::{
+    BufList, ExternalArray, Gate, Host, InternalArray, Record, Slot, StoreFault, Supply,
+    record_laws,
+};
 use ppq_merge::Bench;
-use ppq_outside::{Gate, Host, Slot};
-use ppq_record::{Record, record_laws};
 
 /// Takes the least records of all runs, as many as `out` has room for, or all there are; with a limit
 /// only those below it. They stand at the beginning of `out` in ascending order, and it gives how many.

@@ -14,3 +14,10 @@ mod take;
 mod turn;
 
 pub use fetch::take_least;
+pub use ppq_array::{
+    Berth, BerthList, BlockBuf, BufList, ExternalArray, Gate, Host, InternalArray, Library, Memory,
+    OpenGate, OutsideFault, OwnerLists, Rack, Record, Runs, Slot, StoreFault, Supply, free_slot,
+    give_buffer, record_laws,
+};
+pub use ppq_lane::{Job, JobKind, Lanes, run_job};
+pub use ppq_merge::{Bench, MinTree, merge_workers, size_of};

@@ -4,11 +4,8 @@ ghost use Rattle.ppq_array.specs.Run.{buffers_of};
 ghost use Rattle.ppq_array.specs.Owner.{HasBlock, HasSize};
 ghost use Rattle.ppq_fetch.specs.Steps.{BlockLoaded, BlockLost};
 
-use ppq_array::{ExternalArray, Supply, free_slot};
-use ppq_block::BufList;
+use ppq_array::{BufList, ExternalArray, Host, Record, Slot, Supply, free_slot, record_laws};
 use ppq_lane::{Job, JobKind, run_job};
-use ppq_outside::{Host, Slot};
-use ppq_record::{Record, record_laws};
 
 // Loads the next block of a run into an idle buffer; its slot goes to the supply. Where the read fails,
 // it gives the slot's number.

@@ -1,13 +1,11 @@
 //! The loaded parts of runs, shown as runs.
 ghost use Rattle.std.specs.Prelude.{◌≡◌, ◌+◌, ◌<◌, ◌≤◌, ◌^◌, ◌++◌, ℕ, List, Some, length, map, get_or, slice_get};
-ghost use Rattle.ppq_record.specs.Runs.{list_at};
+ghost use Rattle.ppq_array.specs.ppq_record.Runs.{list_at};
 ghost use Rattle.ppq_array.specs.Run.{items_of};
-ghost use Rattle.ppq_split.specs.Cut.{AreWithin};
+ghost use Rattle.ppq_merge.specs.ppq_split.Cut.{AreWithin};
 ghost use Rattle.ppq_fetch.specs.Parts.{firsts};
 
-use ppq_array::{ExternalArray, InternalArray};
-use ppq_outside::Slot;
-use ppq_record::{Listing, Record};
+use ppq_array::{ExternalArray, InternalArray, Listing, Record, Slot};
 use std::marker::PhantomData;
 
 // A list of records that is at hand.

@@ -1,18 +1,16 @@
 //! How many records of each run are safe.
 ghost use Rattle.std.specs.Prelude.{◌≡◌, ◌+◌, ◌<◌, ◌≤◌, ◌^◌, length, map, count_by};
 ghost use Rattle.std.specs.List.{AllByRecursion as Each};
-ghost use Rattle.ppq_record.specs.Order.{Ascends};
-ghost use Rattle.ppq_record.specs.Runs.{all_of};
-ghost use Rattle.ppq_split.specs.Cut.{AreWithin, total};
+ghost use Rattle.ppq_array.specs.ppq_record.Order.{Ascends};
+ghost use Rattle.ppq_array.specs.ppq_record.Runs.{all_of};
+ghost use Rattle.ppq_merge.specs.ppq_split.Cut.{AreWithin, total};
 ghost use Rattle.ppq_fetch.specs.Edges.{is_within};
 ghost use Rattle.ppq_fetch.specs.Parts.{passed};
 ghost use Rattle.ppq_fetch.specs.Fetching.{loaded_lists, count_in};
 
 use crate::edge::Edge;
 use crate::loaded::Loaded;
-use ppq_array::{ExternalArray, InternalArray};
-use ppq_outside::Slot;
-use ppq_record::{Record, record_laws};
+use ppq_array::{ExternalArray, InternalArray, Record, Slot, record_laws};
 
 // Whether a record is on this side of the edge.
 fn is_inside<R: Record>(x: R, edge: &Edge<R>) -> bool

@@ -1,25 +1,24 @@
 //! Taking safe records.
 ghost use Rattle.std.specs.Prelude.{◌≡◌, ◌+◌, ◌-◌, ◌<◌, ◌≤◌, ◌^◌, [], ◌++◌, length, map, take, All};
 ghost use Rattle.std.specs.List.{AllByRecursion as Each};
-ghost use Rattle.ppq_record.specs.Order.{Ascends};
-ghost use Rattle.ppq_record.specs.Bag.{IsSameBag, front};
-ghost use Rattle.ppq_record.specs.Runs.{all_of};
+ghost use Rattle.ppq_array.specs.ppq_record.Order.{Ascends};
+ghost use Rattle.ppq_array.specs.ppq_record.Bag.{IsSameBag, front};
+ghost use Rattle.ppq_array.specs.ppq_record.Runs.{all_of};
 ghost use Rattle.ppq_array.specs.Run.{run_of, items_of, buffers_of};
 ghost use Rattle.ppq_array.specs.External.{external};
 ghost use Rattle.ppq_array.specs.Owner.{HasBlock};
 ghost use Rattle.ppq_array.specs.Holdings.{internal_buffers, external_buffers, RunHasBlock};
-ghost use Rattle.ppq_split.specs.Cut.{AreWithin, total};
+ghost use Rattle.ppq_merge.specs.ppq_split.Cut.{AreWithin, total};
 ghost use Rattle.ppq_merge.specs.Parts.{before, places_for};
 ghost use Rattle.ppq_fetch.specs.Parts.{firsts};
 ghost use Rattle.ppq_fetch.specs.Steps.{BuffersGiven, RunConsumed, RunsConsumed, ArrayConsumed, ArraysConsumed, TakesSafe};
 ghost use Rattle.ppq_fetch.specs.Fetching.{loaded_lists, count_in};
 
 use crate::loaded::{Loaded, SafeParts};
-use ppq_array::{ExternalArray, InternalArray, Supply, give_buffer};
-use ppq_block::BufList;
+use ppq_array::{
+    BufList, ExternalArray, Gate, Host, InternalArray, Listing, Record, Slot, Supply, give_buffer,
+};
 use ppq_merge::{Bench, merge_workers};
-use ppq_outside::{Gate, Host, Slot};
-use ppq_record::{Listing, Record};
 use std::thread::Threads;
 
 // Merges the least of the safe records into `out`, and takes them out of their runs. The places say

@@ -8,9 +8,7 @@ ghost use Rattle.ppq_fetch.specs.Edges.{edge_of};
 ghost use Rattle.ppq_fetch.specs.Turns.{IsNext, IsTurn, minimum_of, lesser_block, rest_turn};
 
 use crate::edge::Edge;
-use ppq_array::ExternalArray;
-use ppq_outside::Slot;
-use ppq_record::{Record, record_laws};
+use ppq_array::{ExternalArray, Record, Slot, record_laws};
 
 // The first block of a run that is not loaded.
 #[derive(Clone, Copy)]

@@ -3,26 +3,26 @@ use Rattle.std.proofs.Common.{◌≡◌, ℕ, ◌+◌, ◌-◌, ◌*◌, ◌≤�
 use Rattle.std.specs.declared.cmp.Ordering.{Ordering}
 use Rattle.std.proofs.lemmas.List.Elements.{All-append}
 use Rattle.std.proofs.lemmas.List.Sums.{sum_by-append}
-use Rattle.ppq_record.specs.Order.{Ascends}
-use Rattle.ppq_outside.specs.Shown.{Shown, Tells, AllTell}
-use Rattle.ppq_fetch.specs.Taking.{NoneAfter, AllBelow}
+use Rattle.ppq_begin.specs.ppq_record.Order.{Ascends}
+use Rattle.ppq_begin.specs.ppq_outside.Shown.{Shown, Tells, AllTell}
+use Rattle.ppq_begin.specs.ppq_fetch.Taking.{NoneAfter, AllBelow}
 use Rattle.std.proofs.Math.Nat.{add-mul, mul-le-mul_right}
-use Rattle.ppq_budget.specs.Sizes.{pool_of}
-use Rattle.ppq_pool.specs.Seats.{count_of as pool_count}
-use Rattle.ppq_array.specs.declared.berth.DeviceBlock.{DeviceBlock}
-use Rattle.ppq_array.specs.Owner.{slots_shown, HasBlock}
-use Rattle.ppq_array.specs.Holdings.{internal_buffers, external_buffers, external_slots}
-use Rattle.ppq_fetch.specs.Fetching.{blocks_in}
-use Rattle.ppq_array.proofs.Noted.{all_left, all_right}
-use Rattle.ppq_spill.specs.Body.{body_slots, job_slots}
-use Rattle.ppq_spill.proofs.Keeping.{slots_long}
-use Rattle.ppq_spill.proofs.SameSlots.{SameSlots-sums}
-use Rattle.ppq_spill.proofs.Telling.{tell_sum, sum_tell}
-use Rattle.ppq_spill.specs.Untold.{untold}
-use Rattle.ppq_queue.specs.Resting.{AtRest, IsRestingRun, IsRestingArray, count_of, lane_buffers, odd_in, runs_bag, slots_of}
-use Rattle.ppq_queue.proofs.Counts.{runs_fit, internal_count, stored_slots, arrays_fit}
-use Rattle.ppq_queue.proofs.Odd.{arrays_full}
-use Rattle.ppq_queue.proofs.Slots.{SameSums-length}
+use Rattle.ppq_begin.specs.ppq_budget.Sizes.{pool_of}
+use Rattle.ppq_begin.specs.ppq_pool.Seats.{count_of as pool_count}
+use Rattle.ppq_begin.specs.ppq_array.declared.berth.DeviceBlock.{DeviceBlock}
+use Rattle.ppq_begin.specs.ppq_array.Owner.{slots_shown, HasBlock}
+use Rattle.ppq_begin.specs.ppq_array.Holdings.{internal_buffers, external_buffers, external_slots}
+use Rattle.ppq_begin.specs.ppq_fetch.Fetching.{blocks_in}
+use Rattle.ppq_begin.proofs.ppq_array.Noted.{all_left, all_right}
+use Rattle.ppq_begin.specs.ppq_spill.Body.{body_slots, job_slots}
+use Rattle.ppq_begin.proofs.ppq_spill.Keeping.{slots_long}
+use Rattle.ppq_begin.proofs.ppq_spill.SameSlots.{SameSlots-sums}
+use Rattle.ppq_begin.proofs.ppq_spill.Telling.{tell_sum, sum_tell}
+use Rattle.ppq_begin.specs.ppq_spill.Untold.{untold}
+use Rattle.ppq_begin.specs.ppq_queue.Resting.{AtRest, IsRestingRun, IsRestingArray, count_of, lane_buffers, odd_in, runs_bag, slots_of}
+use Rattle.ppq_begin.proofs.ppq_queue.Counts.{runs_fit, internal_count, stored_slots, arrays_fit}
+use Rattle.ppq_begin.proofs.ppq_queue.Odd.{arrays_full}
+use Rattle.ppq_begin.proofs.ppq_queue.Slots.{SameSums-length}
 use Rattle.ppq_begin.specs.State.{IsBulk, bulk_slots, bulk_holding}
 use Rattle.ppq_begin.specs.declared.parts.BulkParts.{BulkParts}
 use Rattle.ppq_begin.specs.Session.{BulkHolding}

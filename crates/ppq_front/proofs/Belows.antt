@@ -3,12 +3,12 @@ use Rattle.std.proofs.Common.{◌≡◌, ℕ, zero, suc, ◌+◌, Bool, true, co
 use Rattle.std.specs.Prelude.{count_by, ◌↔◌, IsNone}
 use Rattle.std.specs.declared.cmp.Ordering.TheVariants.{Equal}
 use Rattle.std.specs.Cmp.{IsTotalOrder}
-use Rattle.ppq_record.specs.Order.{is_before, Le, Ascends}
-use Rattle.ppq_record.specs.Bag.{IsSameBag, first_of, least, ascending, size_below}
-use Rattle.ppq_record.proofs.Order.{none_pass, Each-append, count_by-cons, in_order-same_bag}
-use Rattle.ppq_record.proofs.Fronts.{ranks, ascending-same_bag}
-use Rattle.ppq_fetch.specs.Taking.{NoneAfter, AllBelow, NoneBelow}
-use Rattle.ppq_queue.proofs.Least.{least_is, least-none, without_least}
+use Rattle.ppq_begin.specs.ppq_record.Order.{is_before, Le, Ascends}
+use Rattle.ppq_begin.specs.ppq_record.Bag.{IsSameBag, first_of, least, ascending, size_below}
+use Rattle.ppq_begin.proofs.ppq_record.Order.{none_pass, Each-append, count_by-cons, in_order-same_bag}
+use Rattle.ppq_begin.proofs.ppq_record.Fronts.{ranks, ascending-same_bag}
+use Rattle.ppq_begin.specs.ppq_fetch.Taking.{NoneAfter, AllBelow, NoneBelow}
+use Rattle.ppq_begin.proofs.ppq_queue.Least.{least_is, least-none, without_least}
 use Rattle.ppq_front.specs.Fronts.{least_below, without_least_below}
 
 module _ {R : Type 0} {cmp : R → R → Ordering} (o : IsTotalOrder cmp) (same : (x y : R) → cmp x y ≡ Equal → x ≡ y) (limit : R) where

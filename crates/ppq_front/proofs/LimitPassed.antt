@@ -3,15 +3,15 @@ use Rattle.std.proofs.Common.{◌≡◌, ℕ, false, All, List, [], ◌∷◌, �
 use Rattle.std.specs.Prelude.{Result, Ok, Err, OnOk, OnErr, IfErr}
 use Rattle.std.specs.List.{AllByRecursion as Each}
 use Rattle.std.proofs.lemmas.List.Elements.{recursion_from_All}
-use Rattle.ppq_record.specs.Order.{is_before}
-use Rattle.ppq_record.specs.Bag.{IsSameBag}
-use Rattle.ppq_record.proofs.Order.{Each-same_bag, Each-append}
-use Rattle.ppq_outside.specs.Shown.{Shown, AllTell}
-use Rattle.ppq_array.specs.Owner.{slots_shown}
-use Rattle.ppq_fetch.specs.Taking.{NoneBelow}
-use Rattle.ppq_queue.specs.declared.fault.QueueFault.{QueueFault}
-use Rattle.ppq_queue.specs.declared.fault.QueueFault.TheVariants.{NoFreeBlock, Device}
-use Rattle.ppq_pass.specs.Passed.{PassKey, PassHolding, PassTells, with_one, IsRefusedPush}
+use Rattle.ppq_begin.specs.ppq_record.Order.{is_before}
+use Rattle.ppq_begin.specs.ppq_record.Bag.{IsSameBag}
+use Rattle.ppq_begin.proofs.ppq_record.Order.{Each-same_bag, Each-append}
+use Rattle.ppq_begin.specs.ppq_outside.Shown.{Shown, AllTell}
+use Rattle.ppq_begin.specs.ppq_array.Owner.{slots_shown}
+use Rattle.ppq_begin.specs.ppq_fetch.Taking.{NoneBelow}
+use Rattle.ppq_begin.specs.ppq_queue.declared.fault.QueueFault.{QueueFault}
+use Rattle.ppq_begin.specs.ppq_queue.declared.fault.QueueFault.TheVariants.{NoFreeBlock, Device}
+use Rattle.ppq_begin.specs.ppq_pass.Passed.{PassKey, PassHolding, PassTells, with_one, IsRefusedPush}
 use Rattle.ppq_front.specs.Fronts.{FrontHolding}
 use Rattle.ppq_front.specs.Limited.{LimitHolding, HoldsNothing, IsLimited}
 use Rattle.ppq_front.specs.Sessions.{AreLimited, front_key, limited_bag}

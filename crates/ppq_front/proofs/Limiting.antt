@@ -5,15 +5,15 @@ use Rattle.std.proofs.lemmas.List.Elements.{All-nil, All-cons, All-head, All-tai
 use Rattle.std.proofs.lemmas.List.Concat.{flat_map-cons}
 use Rattle.std.proofs.lemmas.List.Sums.{sum_by-cons}
 use Rattle.atomic_table.specs.Seated.{TableId}
-use Rattle.ppq_budget.specs.Sizes.{Numbers}
-use Rattle.ppq_array.proofs.Noted.{all_left, all_right}
-use Rattle.ppq_array.specs.declared.berth.DeviceBlock.{DeviceBlock}
-use Rattle.ppq_pass.specs.Passed.{PassKey, PassHolding, IsOf}
-use Rattle.ppq_queue.proofs.Took.{empty_list}
-use Rattle.ppq_record.specs.Bag.{IsSameBag}
-use Rattle.ppq_outside.specs.Shown.{AllTell}
-use Rattle.ppq_queue.specs.Holding.{Holding}
-use Rattle.ppq_pass.specs.declared.shared.Shared.{Shared}
+use Rattle.ppq_begin.specs.ppq_budget.Sizes.{Numbers}
+use Rattle.ppq_begin.proofs.ppq_array.Noted.{all_left, all_right}
+use Rattle.ppq_begin.specs.ppq_array.declared.berth.DeviceBlock.{DeviceBlock}
+use Rattle.ppq_begin.specs.ppq_pass.Passed.{PassKey, PassHolding, IsOf}
+use Rattle.ppq_begin.proofs.ppq_queue.Took.{empty_list}
+use Rattle.ppq_begin.specs.ppq_record.Bag.{IsSameBag}
+use Rattle.ppq_begin.specs.ppq_outside.Shown.{AllTell}
+use Rattle.ppq_begin.specs.ppq_queue.Holding.{Holding}
+use Rattle.ppq_begin.specs.ppq_pass.declared.shared.Shared.{Shared}
 use Rattle.ppq_begin.specs.declared.fault.BeginFault.{BeginFault}
 use Rattle.ppq_begin.specs.declared.fault.BeginFault.TheVariants.{Memory, NoFreeBlock, Device}
 use Rattle.ppq_begin.specs.Equipped.{HasBegun}

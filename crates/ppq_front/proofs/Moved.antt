@@ -3,19 +3,19 @@ use Rattle.std.proofs.Common.{◌≡◌, ℕ, ◌+◌, ◌-◌, ◌*◌, ◌≤�
 use Rattle.std.proofs.lemmas.List.{length-replicate}
 use Rattle.std.proofs.lemmas.List.Sums.{sum_by-append}
 use Rattle.std.proofs.lemmas.List.Elements.{All-append, All-replicate}
-use Rattle.ppq_outside.specs.Shown.{Shown, Tells, AllTell}
-use Rattle.ppq_budget.specs.Sizes.{Numbers}
-use Rattle.ppq_block.specs.Block.{Block, holding}
-use Rattle.ppq_array.specs.Supply.{Stock}
-use Rattle.ppq_array.specs.Owner.{slots_shown, HasBlock}
-use Rattle.ppq_array.specs.Kept.{SameSlots, HasFailed, all_writes, weight_at}
-use Rattle.ppq_array.specs.declared.berth.DeviceBlock.{DeviceBlock}
-use Rattle.ppq_array.proofs.Noted.{all_left, all_right}
-use Rattle.ppq_extract.specs.Extracted.{Held, SourcesRest}
-use Rattle.ppq_extract.specs.declared.sources.Sources.{Sources}
-use Rattle.ppq_spill.specs.Body.{body_slots}
-use Rattle.ppq_spill.specs.declared.body.PassBody.{PassBody}
-use Rattle.ppq_queue.specs.Resting.{BodyKept, slots_of}
+use Rattle.ppq_begin.specs.ppq_outside.Shown.{Shown, Tells, AllTell}
+use Rattle.ppq_begin.specs.ppq_budget.Sizes.{Numbers}
+use Rattle.ppq_begin.specs.ppq_block.Block.{Block, holding}
+use Rattle.ppq_begin.specs.ppq_array.Supply.{Stock}
+use Rattle.ppq_begin.specs.ppq_array.Owner.{slots_shown, HasBlock}
+use Rattle.ppq_begin.specs.ppq_array.Kept.{SameSlots, HasFailed, all_writes, weight_at}
+use Rattle.ppq_begin.specs.ppq_array.declared.berth.DeviceBlock.{DeviceBlock}
+use Rattle.ppq_begin.proofs.ppq_array.Noted.{all_left, all_right}
+use Rattle.ppq_begin.specs.ppq_extract.Extracted.{Held, SourcesRest}
+use Rattle.ppq_begin.specs.ppq_extract.declared.sources.Sources.{Sources}
+use Rattle.ppq_begin.specs.ppq_spill.Body.{body_slots}
+use Rattle.ppq_begin.specs.ppq_spill.declared.body.PassBody.{PassBody}
+use Rattle.ppq_begin.specs.ppq_queue.Resting.{BodyKept, slots_of}
 use Rattle.ppq_begin.specs.declared.parts.BulkParts.{BulkParts}
 use Rattle.ppq_front.specs.FrontState.{lent, with_lent, with_shared, front_slots, IsHome, IsFront, IsTallied}
 

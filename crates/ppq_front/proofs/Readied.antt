@@ -1,12 +1,12 @@
 -- What a front shows after its extract buffer was refilled.
 use Rattle.std.proofs.Common.{◌≡◌, ℕ, ◌+◌, ◌≤◌, List, [], ◌++◌, length, Option, Some, None, sym, ap, ◌∙◌, subst, arith}
 use Rattle.std.specs.declared.cmp.Ordering.{Ordering}
-use Rattle.ppq_outside.specs.Shown.{Shown, AllTell}
-use Rattle.ppq_array.specs.Kept.{SameSlots, HasFailed, all_writes}
-use Rattle.ppq_fetch.specs.Taking.{NoneBelow}
-use Rattle.ppq_spill.specs.Body.{held_by}
-use Rattle.ppq_queue.specs.Resting.{BodyKept, runs_bag}
-use Rattle.ppq_queue.proofs.Took.{empty_list}
+use Rattle.ppq_begin.specs.ppq_outside.Shown.{Shown, AllTell}
+use Rattle.ppq_begin.specs.ppq_array.Kept.{SameSlots, HasFailed, all_writes}
+use Rattle.ppq_begin.specs.ppq_fetch.Taking.{NoneBelow}
+use Rattle.ppq_begin.specs.ppq_spill.Body.{held_by}
+use Rattle.ppq_begin.specs.ppq_queue.Resting.{BodyKept, runs_bag}
+use Rattle.ppq_begin.proofs.ppq_queue.Took.{empty_list}
 use Rattle.ppq_begin.specs.declared.parts.BulkParts.{BulkParts}
 use Rattle.ppq_front.specs.Fronts.{FrontHolding}
 use Rattle.ppq_front.specs.FrontState.{front_slots, front_bag, front_holding, IsTallied}

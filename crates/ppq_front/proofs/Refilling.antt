@@ -5,34 +5,34 @@ use Rattle.std.specs.declared.cmp.Ordering.{Ordering}
 use Rattle.std.specs.Cmp.{IsTotalOrder}
 use Rattle.std.proofs.lemmas.Nat.{mul-le}
 use Rattle.std.proofs.lemmas.List.Elements.{All-contains, All-from_recursion, recursion_from_All, All-drop}
-use Rattle.ppq_record.specs.Order.{is_before, Ascends}
-use Rattle.ppq_record.specs.Bag.{IsSameBag, front, size_below, ascending}
-use Rattle.ppq_record.proofs.Order.{count_by-append, count_by-cons, each_fails, Each-same_bag, IsSameBag-length, in_order-same_bag}
-use Rattle.ppq_record.proofs.Fronts.{ranks}
-use Rattle.ppq_outside.specs.Shown.{Shown, Tells, AllTell}
-use Rattle.ppq_budget.specs.Sizes.{Numbers, AreInRange, pool_of}
-use Rattle.ppq_pool.specs.Seats.{count_of as pool_count}
-use Rattle.ppq_block.specs.Block.{Block}
-use Rattle.ppq_array.specs.declared.berth.DeviceBlock.{DeviceBlock}
-use Rattle.ppq_array.specs.Run.{Run, items_of}
-use Rattle.ppq_array.specs.External.{External, records_in, IsPacked}
-use Rattle.ppq_array.specs.Owner.{slots_shown, HasBlock}
-use Rattle.ppq_array.specs.Holdings.{external_slots, internal_buffers}
-use Rattle.ppq_array.specs.Supply.{Stock}
-use Rattle.ppq_array.proofs.Noted.{all_left, all_right}
-use Rattle.ppq_fetch.specs.Fetching.{MayFetch, SourcesTell, RunsRise, source_items}
-use Rattle.ppq_fetch.specs.Taking.{wanted, NoneBelow}
-use Rattle.ppq_extract.specs.Extracted.{Held, sources_of, Refilled}
-use Rattle.ppq_extract.specs.declared.sources.Sources.{Sources}
-use Rattle.ppq_spill.specs.Body.{body_slots, job_slots}
-use Rattle.ppq_spill.proofs.Keeping.{slots_long}
-use Rattle.ppq_spill.specs.declared.body.PassBody.{PassBody}
-use Rattle.ppq_queue.specs.Resting.{BodyKept, IsRestingRun, IsRestingArray, AtRest, runs_bag, slots_of}
-use Rattle.ppq_queue.proofs.Bounds.{pool_small, runs_few, idle_most, records_most}
-use Rattle.ppq_queue.proofs.Counts.{fronts_few}
-use Rattle.ppq_queue.proofs.Odd.{odd_most}
-use Rattle.ppq_queue.proofs.Moves.{none_after-same}
-use Rattle.ppq_queue.proofs.Refilled.{packed-drop, sources-bag}
+use Rattle.ppq_begin.specs.ppq_record.Order.{is_before, Ascends}
+use Rattle.ppq_begin.specs.ppq_record.Bag.{IsSameBag, front, size_below, ascending}
+use Rattle.ppq_begin.proofs.ppq_record.Order.{count_by-append, count_by-cons, each_fails, Each-same_bag, IsSameBag-length, in_order-same_bag}
+use Rattle.ppq_begin.proofs.ppq_record.Fronts.{ranks}
+use Rattle.ppq_begin.specs.ppq_outside.Shown.{Shown, Tells, AllTell}
+use Rattle.ppq_begin.specs.ppq_budget.Sizes.{Numbers, AreInRange, pool_of}
+use Rattle.ppq_begin.specs.ppq_pool.Seats.{count_of as pool_count}
+use Rattle.ppq_begin.specs.ppq_block.Block.{Block}
+use Rattle.ppq_begin.specs.ppq_array.declared.berth.DeviceBlock.{DeviceBlock}
+use Rattle.ppq_begin.specs.ppq_array.Run.{Run, items_of}
+use Rattle.ppq_begin.specs.ppq_array.External.{External, records_in, IsPacked}
+use Rattle.ppq_begin.specs.ppq_array.Owner.{slots_shown, HasBlock}
+use Rattle.ppq_begin.specs.ppq_array.Holdings.{external_slots, internal_buffers}
+use Rattle.ppq_begin.specs.ppq_array.Supply.{Stock}
+use Rattle.ppq_begin.proofs.ppq_array.Noted.{all_left, all_right}
+use Rattle.ppq_begin.specs.ppq_fetch.Fetching.{MayFetch, SourcesTell, RunsRise, source_items}
+use Rattle.ppq_begin.specs.ppq_fetch.Taking.{wanted, NoneBelow}
+use Rattle.ppq_begin.specs.ppq_extract.Extracted.{Held, sources_of, Refilled}
+use Rattle.ppq_begin.specs.ppq_extract.declared.sources.Sources.{Sources}
+use Rattle.ppq_begin.specs.ppq_spill.Body.{body_slots, job_slots}
+use Rattle.ppq_begin.proofs.ppq_spill.Keeping.{slots_long}
+use Rattle.ppq_begin.specs.ppq_spill.declared.body.PassBody.{PassBody}
+use Rattle.ppq_begin.specs.ppq_queue.Resting.{BodyKept, IsRestingRun, IsRestingArray, AtRest, runs_bag, slots_of}
+use Rattle.ppq_begin.proofs.ppq_queue.Bounds.{pool_small, runs_few, idle_most, records_most}
+use Rattle.ppq_begin.proofs.ppq_queue.Counts.{fronts_few}
+use Rattle.ppq_begin.proofs.ppq_queue.Odd.{odd_most}
+use Rattle.ppq_begin.proofs.ppq_queue.Moves.{none_after-same}
+use Rattle.ppq_begin.proofs.ppq_queue.Refilled.{packed-drop, sources-bag}
 use Rattle.ppq_begin.specs.declared.parts.BulkParts.{BulkParts}
 use Rattle.ppq_front.specs.FrontState.{lent, with_lent, with_shared, front_slots, front_bag, IsFront, IsSoundFront}
 use Rattle.ppq_front.proofs.Moved.{lent-length, lent-blocks, told-whole, told-parts, refilled, told-refilled}

@@ -4,13 +4,13 @@ use Rattle.std.specs.Prelude.{count_by}
 use Rattle.std.specs.declared.cmp.Ordering.{Ordering}
 use Rattle.std.specs.declared.cmp.Ordering.TheVariants.{Equal}
 use Rattle.std.specs.Cmp.{IsTotalOrder}
-use Rattle.ppq_record.specs.Order.{Ascends}
-use Rattle.ppq_record.specs.Bag.{IsSameBag, first_of}
-use Rattle.ppq_outside.specs.Shown.{Shown, AllTell}
-use Rattle.ppq_fetch.specs.Taking.{NoneAfter, AllBelow}
-use Rattle.ppq_extract.specs.Extracted.{Held, held}
-use Rattle.ppq_queue.specs.Resting.{runs_bag, count_of}
-use Rattle.ppq_queue.proofs.Ready.{each_rest, ascends_rest}
+use Rattle.ppq_begin.specs.ppq_record.Order.{Ascends}
+use Rattle.ppq_begin.specs.ppq_record.Bag.{IsSameBag, first_of}
+use Rattle.ppq_begin.specs.ppq_outside.Shown.{Shown, AllTell}
+use Rattle.ppq_begin.specs.ppq_fetch.Taking.{NoneAfter, AllBelow}
+use Rattle.ppq_begin.specs.ppq_extract.Extracted.{Held, held}
+use Rattle.ppq_begin.specs.ppq_queue.Resting.{runs_bag, count_of}
+use Rattle.ppq_begin.proofs.ppq_queue.Ready.{each_rest, ascends_rest}
 use Rattle.ppq_begin.specs.declared.parts.BulkParts.{BulkParts}
 use Rattle.ppq_front.specs.Fronts.{IsReady, without_least_below}
 use Rattle.ppq_front.specs.FrontState.{front_slots, front_bag, front_holding, IsHome, IsFront, IsTallied, IsSoundFront}

@@ -1,21 +1,21 @@
 -- What holds of a front between its calls.
 use Rattle.std.specs.Prelude.{◌≡◌, ℕ, ◌+◌, ◌-◌, ◌*◌, ◌<◌, ◌≤◌, true, List, [], ◌++◌, length, replicate, Option, Some, None, All, vec_capacity}
 use Rattle.std.specs.declared.cmp.Ordering.{Ordering}
-use Rattle.ppq_record.specs.Order.{Ascends}
-use Rattle.ppq_outside.specs.Shown.{Shown, AllTell}
-use Rattle.ppq_budget.specs.Sizes.{Numbers, AreInRange, fixed_of, batch_of, pool_of}
-use Rattle.ppq_table.specs.Sums.{all_shares}
-use Rattle.ppq_block.specs.Block.{Block, holding}
-use Rattle.ppq_array.specs.declared.berth.DeviceBlock.{DeviceBlock}
-use Rattle.ppq_array.specs.Supply.{Stock}
-use Rattle.ppq_array.specs.Kept.{HasFailed}
-use Rattle.ppq_array.specs.Owner.{slots_shown, HasSize}
-use Rattle.ppq_fetch.specs.Taking.{NoneAfter, AllBelow}
-use Rattle.ppq_extract.specs.Extracted.{ServesFor}
-use Rattle.ppq_pool.specs.Seats.{count_of as pool_count}
-use Rattle.ppq_spill.specs.Body.{held_by}
-use Rattle.ppq_spill.specs.declared.body.PassBody.{PassBody}
-use Rattle.ppq_queue.specs.Resting.{AtRest, runs_bag, count_of, lane_buffers, slots_of}
+use Rattle.ppq_begin.specs.ppq_record.Order.{Ascends}
+use Rattle.ppq_begin.specs.ppq_outside.Shown.{Shown, AllTell}
+use Rattle.ppq_begin.specs.ppq_budget.Sizes.{Numbers, AreInRange, fixed_of, batch_of, pool_of}
+use Rattle.ppq_begin.specs.ppq_table.Sums.{all_shares}
+use Rattle.ppq_begin.specs.ppq_block.Block.{Block, holding}
+use Rattle.ppq_begin.specs.ppq_array.declared.berth.DeviceBlock.{DeviceBlock}
+use Rattle.ppq_begin.specs.ppq_array.Supply.{Stock}
+use Rattle.ppq_begin.specs.ppq_array.Kept.{HasFailed}
+use Rattle.ppq_begin.specs.ppq_array.Owner.{slots_shown, HasSize}
+use Rattle.ppq_begin.specs.ppq_fetch.Taking.{NoneAfter, AllBelow}
+use Rattle.ppq_begin.specs.ppq_extract.Extracted.{ServesFor}
+use Rattle.ppq_begin.specs.ppq_pool.Seats.{count_of as pool_count}
+use Rattle.ppq_begin.specs.ppq_spill.Body.{held_by}
+use Rattle.ppq_begin.specs.ppq_spill.declared.body.PassBody.{PassBody}
+use Rattle.ppq_begin.specs.ppq_queue.Resting.{AtRest, runs_bag, count_of, lane_buffers, slots_of}
 use Rattle.ppq_begin.specs.declared.parts.BulkParts.{BulkParts}
 use Rattle.ppq_front.specs.Fronts.{FrontHolding}
 

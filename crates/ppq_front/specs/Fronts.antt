@@ -2,14 +2,14 @@
 use Rattle.std.specs.Prelude.{◌≡◌, ◌++◌, ℕ, min, List, Option, Some, None}
 use Rattle.std.specs.declared.cmp.Ordering.{Ordering}
 use Rattle.atomic_table.specs.Seated.{TableId}
-use Rattle.ppq_record.specs.Bag.{IsSameBag, first_of, front, without_front, size_below}
-use Rattle.ppq_outside.specs.Shown.{Shown, AllTell}
-use Rattle.ppq_budget.specs.Sizes.{Numbers}
-use Rattle.ppq_array.specs.Kept.{HasFailed}
-use Rattle.ppq_array.specs.declared.berth.DeviceBlock.{DeviceBlock}
-use Rattle.ppq_fetch.specs.Taking.{NoneBelow}
-use Rattle.ppq_queue.specs.declared.fault.QueueFault.{QueueFault}
-use Rattle.ppq_queue.specs.declared.fault.QueueFault.TheVariants.{NoFreeBlock, Device}
+use Rattle.ppq_begin.specs.ppq_record.Bag.{IsSameBag, first_of, front, without_front, size_below}
+use Rattle.ppq_begin.specs.ppq_outside.Shown.{Shown, AllTell}
+use Rattle.ppq_begin.specs.ppq_budget.Sizes.{Numbers}
+use Rattle.ppq_begin.specs.ppq_array.Kept.{HasFailed}
+use Rattle.ppq_begin.specs.ppq_array.declared.berth.DeviceBlock.{DeviceBlock}
+use Rattle.ppq_begin.specs.ppq_fetch.Taking.{NoneBelow}
+use Rattle.ppq_begin.specs.ppq_queue.declared.fault.QueueFault.{QueueFault}
+use Rattle.ppq_begin.specs.ppq_queue.declared.fault.QueueFault.TheVariants.{NoFreeBlock, Device}
 
 -- The bag of its records, as far as its slots tell, and the limit; how many records it counts, and how many it gave; its sizes; the
 -- greatest size of the queue when the session began; all slots, those of its runs, those that it freed and those that were put into the

@@ -1,6 +1,6 @@
-pub use Rattle.ppq_array.specs.Kept as Kept
-pub use Rattle.ppq_outside.specs.Shown as Shown
-pub use Rattle.ppq_pass.specs.Passed as Passed
+pub use Rattle.ppq_begin.specs.ppq_array.Kept as Kept
+pub use Rattle.ppq_begin.specs.ppq_outside.Shown as Shown
+pub use Rattle.ppq_begin.specs.ppq_pass.Passed as Passed
 pub mod Fronts
 pub mod FrontState
 pub mod Limited

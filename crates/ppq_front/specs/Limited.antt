@@ -1,10 +1,10 @@
 -- What contracts see of a pass of a limit session.
 use Rattle.std.specs.Prelude.{◌≡◌, [], Some, None}
 use Rattle.std.specs.declared.cmp.Ordering.{Ordering}
-use Rattle.ppq_outside.specs.Shown.{Shown, AllTell}
-use Rattle.ppq_array.specs.Owner.{slots_shown}
-use Rattle.ppq_fetch.specs.Taking.{NoneBelow}
-use Rattle.ppq_pass.specs.Passed.{PassHolding, PassTells}
+use Rattle.ppq_begin.specs.ppq_outside.Shown.{Shown, AllTell}
+use Rattle.ppq_begin.specs.ppq_array.Owner.{slots_shown}
+use Rattle.ppq_begin.specs.ppq_fetch.Taking.{NoneBelow}
+use Rattle.ppq_begin.specs.ppq_pass.Passed.{PassHolding, PassTells}
 
 -- the pass, and the limit of its session
 pub record LimitHolding (S R : Type 0) : Type 0 where

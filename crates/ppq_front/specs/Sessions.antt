@@ -1,13 +1,13 @@
 -- What contracts see of a limit session.
 use Rattle.std.specs.Prelude.{◌≡◌, ℕ, ◌+◌, ◌<◌, ◌≤◌, true, Any, List, ◌++◌, length, map, max, sum_by, flat_map, None, All}
-use Rattle.ppq_record.specs.Bag.{IsSameBag}
-use Rattle.ppq_outside.specs.Shown.{Shown, AllTell}
-use Rattle.ppq_budget.specs.Sizes.{heap_of, room_of}
-use Rattle.ppq_array.specs.Kept.{SameSlots, all_writes}
-use Rattle.ppq_pass.specs.Passed.{PassKey, PassTells}
-use Rattle.ppq_pass.specs.declared.shared.Shared.{Shared}
-use Rattle.ppq_queue.specs.Holding.{Holding, HasStopped}
-use Rattle.ppq_queue.specs.declared.fault.QueueFault.TheVariants.{NoFreeBlock, Device}
+use Rattle.ppq_begin.specs.ppq_record.Bag.{IsSameBag}
+use Rattle.ppq_begin.specs.ppq_outside.Shown.{Shown, AllTell}
+use Rattle.ppq_begin.specs.ppq_budget.Sizes.{heap_of, room_of}
+use Rattle.ppq_begin.specs.ppq_array.Kept.{SameSlots, all_writes}
+use Rattle.ppq_begin.specs.ppq_pass.Passed.{PassKey, PassTells}
+use Rattle.ppq_begin.specs.ppq_pass.declared.shared.Shared.{Shared}
+use Rattle.ppq_begin.specs.ppq_queue.Holding.{Holding, HasStopped}
+use Rattle.ppq_begin.specs.ppq_queue.declared.fault.QueueFault.TheVariants.{NoFreeBlock, Device}
 use Rattle.ppq_begin.specs.Session.{BulkHolding, IsFresh, HasNoBlock}
 use Rattle.ppq_begin.specs.declared.fault.SessionEnd.{SessionEnd}
 use Rattle.ppq_begin.specs.declared.fault.SessionEnd.TheVariants.{Whole, Stopped}

@@ -1,19 +1,18 @@
 //! The beginning of a limit session.
 ghost use Rattle.std.specs.Prelude.{◌≡◌, ◌≤◌, ℕ, [], length, true, All, Some, None, Err, IfOk, IfErr, vec_capacity};
-ghost use Rattle.ppq_record.specs.Bag.{IsSameBag};
-ghost use Rattle.ppq_outside.specs.Shown.{AllTell};
-ghost use Rattle.ppq_array.specs.Kept.{SameSlots, all_writes};
-ghost use Rattle.ppq_pass.specs.Passed.{IsOf};
+ghost use Rattle.ppq_begin.specs.ppq_record.Bag.{IsSameBag};
+ghost use Rattle.ppq_begin.specs.ppq_outside.Shown.{AllTell};
+ghost use Rattle.ppq_begin.specs.ppq_array.Kept.{SameSlots, all_writes};
+ghost use Rattle.ppq_begin.specs.ppq_pass.Passed.{IsOf};
 ghost use Rattle.ppq_begin.specs.Session.{IsFresh, IsBeginRefusal};
 ghost use Rattle.ppq_begin.specs.declared.fault.BeginFault.TheVariants.{Device};
 ghost use Rattle.ppq_front.specs.Limited.{HoldsNothing};
 ghost use Rattle.ppq_front.specs.Sessions.{AreLimited, IsNew, shared_of, IsFrontOf};
 
 use crate::{Front, LimitPass};
-use ppq_begin::{BeginFault, Bulk, Pass, Shared, hand_out};
-use ppq_outside::{Gate, Host, Slot};
-use ppq_queue::{Queue, QueueFault};
-use ppq_record::Record;
+use ppq_begin::{
+    BeginFault, Bulk, Gate, Host, Pass, Queue, QueueFault, Record, Shared, Slot, hand_out,
+};
 use std::alloc::Global;
 
 /// Begins a limit session. Returns what the owner keeps, what all passes share, and a pass without records

@@ -1,23 +1,19 @@
 //! What the owner of a queue keeps while a limit session is on.
 ghost use Rattle.std.specs.Prelude.{◌≡◌, ◌≤◌, ◌+◌, ◌↔◌, ℕ, length, true, Some, None, IsNone, Err, IfOk, IfErr, OnOk, OnErr};
-ghost use Rattle.ppq_record.specs.Bag.{IsSameBag, size_below};
-ghost use Rattle.ppq_budget.specs.Sizes.{AreInRange};
-ghost use Rattle.ppq_outside.specs.Shown.{AllTell};
-ghost use Rattle.ppq_array.specs.Kept.{SameSlots, HasFailed, all_writes};
-ghost use Rattle.ppq_array.specs.Owner.{slots_shown};
-ghost use Rattle.ppq_queue.specs.Resting.{count_of};
-ghost use Rattle.ppq_queue.specs.declared.fault.QueueFault.TheVariants.{Device};
+ghost use Rattle.ppq_begin.specs.ppq_record.Bag.{IsSameBag, size_below};
+ghost use Rattle.ppq_begin.specs.ppq_budget.Sizes.{AreInRange};
+ghost use Rattle.ppq_begin.specs.ppq_outside.Shown.{AllTell};
+ghost use Rattle.ppq_begin.specs.ppq_array.Kept.{SameSlots, HasFailed, all_writes};
+ghost use Rattle.ppq_begin.specs.ppq_array.Owner.{slots_shown};
+ghost use Rattle.ppq_begin.specs.ppq_queue.Resting.{count_of};
+ghost use Rattle.ppq_begin.specs.ppq_queue.declared.fault.QueueFault.TheVariants.{Device};
 ghost use Rattle.ppq_begin.specs.Session.{HasBuffers};
 ghost use Rattle.ppq_begin.specs.State.{IsBulk};
 ghost use Rattle.ppq_front.specs.Fronts.{least_below, without_least_below, number_in, IsReady, IsFrontRefusal};
 ghost use Rattle.ppq_front.specs.FrontState.{IsFront, IsTallied, IsSoundFront, front_holding};
 
 use crate::refill::refill_front;
-use ppq_array::StoreFault;
-use ppq_begin::BulkParts;
-use ppq_outside::{Gate, Host, Slot};
-use ppq_queue::QueueFault;
-use ppq_record::{Record, record_laws};
+use ppq_begin::{BulkParts, Gate, Host, QueueFault, Record, Slot, StoreFault, record_laws};
 use std::marker::Model;
 
 /// What the owner of a queue keeps while a limit session is on: all records that the queue had, in runs,

@@ -1,12 +1,11 @@
 //! Why what a front returns is the least of all records of its session: those of the passes stand back.
 ghost use Rattle.std.specs.Prelude.{◌≡◌, None, All};
-ghost use Rattle.ppq_outside.specs.Shown.{AllTell};
+ghost use Rattle.ppq_begin.specs.ppq_outside.Shown.{AllTell};
 ghost use Rattle.ppq_front.specs.Fronts.{StandBack, HighStandBack};
 ghost use Rattle.ppq_front.specs.Sessions.{AreLimited, limited_bag};
 
 use crate::{Front, LimitPass};
-use ppq_outside::Slot;
-use ppq_record::{Record, record_laws};
+use ppq_begin::{Record, Slot, record_laws};
 
 /// The law of records that are not below a limit, as a clause for the proof of whoever calls it, and for
 /// a reader: whatever multiset they are added to, its smallest record below the limit stays the same, they

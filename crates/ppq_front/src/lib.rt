@@ -12,8 +12,6 @@ mod front;
 mod laws;
 mod limit_pass;
 mod refill;
-#[cfg(test)]
-mod tests;
 
 pub use begin::limit_begin;
 pub use front::Front;

@@ -1,16 +1,13 @@
 //! A pass of a limit session.
 ghost use Rattle.std.specs.Prelude.{◌≡◌, ◌<◌, ◌+◌, ◌↔◌, ◌∷◌, ℕ, false, Some, None, Err, IsOk, IsErr, IfErr, OnOk, OnErr};
-ghost use Rattle.ppq_record.specs.Order.{is_before};
-ghost use Rattle.ppq_record.specs.Bag.{IsSameBag};
-ghost use Rattle.ppq_budget.specs.Sizes.{heap_of};
-ghost use Rattle.ppq_pass.specs.Passed.{IsOf, PassTells, with_one, IsRefusedPush};
-ghost use Rattle.ppq_queue.specs.declared.fault.QueueFault.TheVariants.{Device};
+ghost use Rattle.ppq_begin.specs.ppq_record.Order.{is_before};
+ghost use Rattle.ppq_begin.specs.ppq_record.Bag.{IsSameBag};
+ghost use Rattle.ppq_begin.specs.ppq_budget.Sizes.{heap_of};
+ghost use Rattle.ppq_begin.specs.ppq_pass.Passed.{IsOf, PassTells, with_one, IsRefusedPush};
+ghost use Rattle.ppq_begin.specs.ppq_queue.declared.fault.QueueFault.TheVariants.{Device};
 ghost use Rattle.ppq_front.specs.Limited.{HoldsNothing, IsLimited, limited};
 
-use ppq_outside::{Host, Slot};
-use ppq_pass::{Full, Pass, Shared};
-use ppq_queue::QueueFault;
-use ppq_record::Record;
+use ppq_begin::{Full, Host, Pass, QueueFault, Record, Shared, Slot};
 use std::marker::Model;
 
 /// A pass of a limit session: what one worker adds records to that are not below the session's limit.

@@ -1,16 +1,13 @@
 //! The extract buffer of a front, refilled.
 ghost use Rattle.std.specs.Prelude.{◌≡◌, ◌<◌, ℕ, [], Some, OnOk, IsErrOf};
-ghost use Rattle.ppq_record.specs.Bag.{IsSameBag};
-ghost use Rattle.ppq_outside.specs.Shown.{AllTell};
-ghost use Rattle.ppq_array.specs.Kept.{HasFailed};
-ghost use Rattle.ppq_fetch.specs.Taking.{NoneBelow};
-ghost use Rattle.ppq_queue.specs.Resting.{BodyKept, runs_bag};
+ghost use Rattle.ppq_begin.specs.ppq_record.Bag.{IsSameBag};
+ghost use Rattle.ppq_begin.specs.ppq_outside.Shown.{AllTell};
+ghost use Rattle.ppq_begin.specs.ppq_array.Kept.{HasFailed};
+ghost use Rattle.ppq_begin.specs.ppq_fetch.Taking.{NoneBelow};
+ghost use Rattle.ppq_begin.specs.ppq_queue.Resting.{BodyKept, runs_bag};
 ghost use Rattle.ppq_front.specs.FrontState.{IsFront, IsSoundFront, front_slots, front_bag};
 
-use ppq_array::StoreFault;
-use ppq_begin::BulkParts;
-use ppq_outside::{Gate, Host, Slot};
-use ppq_record::{Record, record_laws};
+use ppq_begin::{BulkParts, Gate, Host, Record, Slot, StoreFault, record_laws};
 
 /// Takes the least records of the runs that are below a limit into the empty extract buffer, as many as
 /// it has room for. The slots and buffers that get free go to the front's own lists. What stays empty

@@ -1,10 +1,10 @@
 -- Runs all of whose records were consumed.
 use Rattle.std.proofs.Common.{◌≡◌, ℕ, ◌+◌, List, [], ◌∷◌, ◌++◌, length, drop, refl, ap, ◌∙◌, arith, append-nil, length-drop}
 use Rattle.std.proofs.lemmas.List.Sums.{sum_by-append, sum_by-cons}
-use Rattle.ppq_array.specs.Run.{Run, IsRun, items_of, buffers_of}
-use Rattle.ppq_array.specs.External.{External}
-use Rattle.ppq_array.specs.Holdings.{external_buffers}
-use Rattle.ppq_array.proofs.Items.{no_live}
+use Rattle.ppq_pass.specs.ppq_array.Run.{Run, IsRun, items_of, buffers_of}
+use Rattle.ppq_pass.specs.ppq_array.External.{External}
+use Rattle.ppq_pass.specs.ppq_array.Holdings.{external_buffers}
+use Rattle.ppq_pass.proofs.ppq_array.Items.{no_live}
 
 pub nothing : {X : Type 0} (xs : List X) → length xs ≡ 0 → xs ≡ []
 nothing [] e = refl

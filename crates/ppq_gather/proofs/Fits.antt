@@ -3,12 +3,12 @@ use Rattle.std.proofs.Common.{◌≡◌, ℕ, ◌+◌, ◌-◌, ◌*◌, ◌^◌
 use Rattle.std.specs.Prelude.{vec_capacity}
 use Rattle.std.specs.declared.cmp.Ordering.{Ordering}
 use Rattle.std.proofs.lemmas.List.Sums.{sum_by-append}
-use Rattle.ppq_outside.specs.Shown.{Shown}
-use Rattle.ppq_array.specs.Owner.{HasSize, slots_shown}
-use Rattle.ppq_array.specs.Supply.{Stock}
-use Rattle.ppq_array.specs.Holdings.{ArrayHasSize, external_slots, internal_buffers, external_buffers}
-use Rattle.ppq_spill.proofs.Keeping.{slots_long}
-use Rattle.ppq_queue.specs.Slots.{SameSums, with_slots}
+use Rattle.ppq_pass.specs.ppq_outside.Shown.{Shown}
+use Rattle.ppq_pass.specs.ppq_array.Owner.{HasSize, slots_shown}
+use Rattle.ppq_pass.specs.ppq_array.Supply.{Stock}
+use Rattle.ppq_pass.specs.ppq_array.Holdings.{ArrayHasSize, external_slots, internal_buffers, external_buffers}
+use Rattle.ppq_pass.proofs.ppq_spill.Keeping.{slots_long}
+use Rattle.ppq_pass.specs.ppq_queue.Slots.{SameSums, with_slots}
 use Rattle.ppq_gather.specs.Passes.{IsBrought}
 use Rattle.ppq_gather.specs.Gathering.{IsGathered}
 use Rattle.ppq_gather.specs.declared.brought.Brought.{Brought}

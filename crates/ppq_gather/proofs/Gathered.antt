@@ -10,45 +10,45 @@ use Rattle.std.proofs.lemmas.List.Elements.{All-nil, All-cons, All-head, All-tai
 use Rattle.std.proofs.lemmas.List.Sorted.{All-permutation, IsPermutation-reverse, sum_by-IsPermutation}
 use Rattle.std.proofs.lemmas.List.Concat.{flat_map-cons}
 use Rattle.std.proofs.lemmas.Grind.{flat_map-append}
-use Rattle.ppq_table.specs.Sums.{times}
-use Rattle.ppq_table.proofs.Numbers.{upto, upto-times}
-use Rattle.ppq_pool.specs.Seats.{count_of as pool_count}
-use Rattle.ppq_record.specs.Order.{Ascends}
-use Rattle.ppq_outside.specs.Shown.{Shown, Tells, AllTell}
-use Rattle.ppq_budget.specs.Sizes.{heap_of, pool_of}
-use Rattle.ppq_array.specs.declared.berth.DeviceBlock.{DeviceBlock}
-use Rattle.ppq_array.specs.Run.{Run, items_of, buffers_of}
-use Rattle.ppq_array.specs.External.{External, size_of, counts, records_in}
-use Rattle.ppq_array.specs.Owner.{HasBlock, slots_shown}
-use Rattle.ppq_array.specs.Holdings.{external_slots, internal_buffers, external_buffers}
-use Rattle.ppq_array.specs.Supply.{Stock}
-use Rattle.ppq_fetch.specs.Fetching.{IsFitting, count_in, fronts_in, blocks_in, one_if_some}
+use Rattle.ppq_pass.specs.ppq_table.Sums.{times}
+use Rattle.ppq_pass.proofs.ppq_table.Numbers.{upto, upto-times}
+use Rattle.ppq_pass.specs.ppq_pool.Seats.{count_of as pool_count}
+use Rattle.ppq_pass.specs.ppq_record.Order.{Ascends}
+use Rattle.ppq_pass.specs.ppq_outside.Shown.{Shown, Tells, AllTell}
+use Rattle.ppq_pass.specs.ppq_budget.Sizes.{heap_of, pool_of}
+use Rattle.ppq_pass.specs.ppq_array.declared.berth.DeviceBlock.{DeviceBlock}
+use Rattle.ppq_pass.specs.ppq_array.Run.{Run, items_of, buffers_of}
+use Rattle.ppq_pass.specs.ppq_array.External.{External, size_of, counts, records_in}
+use Rattle.ppq_pass.specs.ppq_array.Owner.{HasBlock, slots_shown}
+use Rattle.ppq_pass.specs.ppq_array.Holdings.{external_slots, internal_buffers, external_buffers}
+use Rattle.ppq_pass.specs.ppq_array.Supply.{Stock}
+use Rattle.ppq_pass.specs.ppq_fetch.Fetching.{IsFitting, count_in, fronts_in, blocks_in, one_if_some}
 use Rattle.ppq_pass.specs.PassState.{IsPassed, IsSoundPass, IsPassRun, IsPassArray, all_slots}
-use Rattle.ppq_array.specs.Kept.{HasFailed, weight_at}
-use Rattle.ppq_extract.specs.Extracted.{ServesFor}
-use Rattle.ppq_heap.specs.Heap.{Contents}
-use Rattle.ppq_heap.specs.Heaps.{items_in}
-use Rattle.ppq_spill.specs.Body.{held_by, body_slots, job_slots}
-use Rattle.ppq_spill.specs.declared.body.PassBody.{PassBody}
-use Rattle.ppq_spill.specs.Untold.{untold}
-use Rattle.ppq_spill.proofs.Telling.{tell_sum, sum_tell}
+use Rattle.ppq_pass.specs.ppq_array.Kept.{HasFailed, weight_at}
+use Rattle.ppq_pass.specs.ppq_extract.Extracted.{ServesFor}
+use Rattle.ppq_pass.specs.ppq_heap.Heap.{Contents}
+use Rattle.ppq_pass.specs.ppq_heap.Heaps.{items_in}
+use Rattle.ppq_pass.specs.ppq_spill.Body.{held_by, body_slots, job_slots}
+use Rattle.ppq_pass.specs.ppq_spill.declared.body.PassBody.{PassBody}
+use Rattle.ppq_pass.specs.ppq_spill.Untold.{untold}
+use Rattle.ppq_pass.proofs.ppq_spill.Telling.{tell_sum, sum_tell}
 use Rattle.ppq_pass.specs.Passed.{slots_of as pass_slots}
-use Rattle.ppq_queue.specs.Slots.{with_slots}
-use Rattle.ppq_queue.proofs.Counts.{runs_fit, arrays_fit, stored_slots, internal_count}
-use Rattle.ppq_queue.specs.Resting.{IsRestingRun, IsRestingArray, odd_of, odd_in, slots_of, count_of}
+use Rattle.ppq_pass.specs.ppq_queue.Slots.{with_slots}
+use Rattle.ppq_pass.proofs.ppq_queue.Counts.{runs_fit, arrays_fit, stored_slots, internal_count}
+use Rattle.ppq_pass.specs.ppq_queue.Resting.{IsRestingRun, IsRestingArray, odd_of, odd_in, slots_of, count_of}
 use Rattle.ppq_gather.specs.Gathering.{IsGathering, IsSoundSoFar, slots_in, buffers_in, begun_in}
 use Rattle.ppq_gather.specs.declared.brought.Brought.{Brought}
 use Rattle.ppq_gather.specs.declared.closed.Closed.{Closed}
 use Rattle.std.specs.Prelude.{Bool, None, flat_map, count_by}
-use Rattle.ppq_record.specs.Order.{Le, is_before}
-use Rattle.ppq_record.specs.Bag.{IsSameBag}
-use Rattle.ppq_record.proofs.Order.{count_by-append, Each-append}
-use Rattle.ppq_array.specs.Holdings.{internal_items}
-use Rattle.ppq_array.proofs.Noted.{all_left, all_right}
-use Rattle.ppq_fetch.specs.Taking.{NoneAfter}
-use Rattle.ppq_queue.specs.Holding.{IsAbove}
-use Rattle.ppq_queue.specs.Resting.{runs_bag}
-use Rattle.ppq_queue.proofs.Moves.{none_after-same}
+use Rattle.ppq_pass.specs.ppq_record.Order.{Le, is_before}
+use Rattle.ppq_pass.specs.ppq_record.Bag.{IsSameBag}
+use Rattle.ppq_pass.proofs.ppq_record.Order.{count_by-append, Each-append}
+use Rattle.ppq_pass.specs.ppq_array.Holdings.{internal_items}
+use Rattle.ppq_pass.proofs.ppq_array.Noted.{all_left, all_right}
+use Rattle.ppq_pass.specs.ppq_fetch.Taking.{NoneAfter}
+use Rattle.ppq_pass.specs.ppq_queue.Holding.{IsAbove}
+use Rattle.ppq_pass.specs.ppq_queue.Resting.{runs_bag}
+use Rattle.ppq_pass.proofs.ppq_queue.Moves.{none_after-same}
 
 module _ {X : Type 0} where
   -- a list after another, the last first

@@ -5,20 +5,20 @@ use Rattle.std.specs.Option.{option_or}
 use Rattle.std.specs.declared.cmp.Ordering.{Ordering}
 use Rattle.std.proofs.lemmas.List.Elements.{All-head}
 use Rattle.std.proofs.lemmas.List.Sums.{sum_by-cons, sum_by-append}
-use Rattle.ppq_record.specs.Bag.{IsSameBag}
-use Rattle.ppq_record.proofs.Order.{count_by-append}
-use Rattle.ppq_heap.specs.Heap.{Contents}
-use Rattle.ppq_heap.specs.Heaps.{items_in}
-use Rattle.ppq_array.specs.Run.{items_of}
-use Rattle.ppq_array.specs.External.{records_in}
-use Rattle.ppq_outside.specs.Shown.{Shown}
-use Rattle.ppq_array.specs.Owner.{slots_shown}
-use Rattle.ppq_array.specs.Holdings.{external_slots, internal_items, internal_buffers, external_buffers}
-use Rattle.ppq_array.proofs.Noted.{all_left, all_right}
-use Rattle.ppq_spill.specs.Body.{body_slots, job_slots}
+use Rattle.ppq_pass.specs.ppq_record.Bag.{IsSameBag}
+use Rattle.ppq_pass.proofs.ppq_record.Order.{count_by-append}
+use Rattle.ppq_pass.specs.ppq_heap.Heap.{Contents}
+use Rattle.ppq_pass.specs.ppq_heap.Heaps.{items_in}
+use Rattle.ppq_pass.specs.ppq_array.Run.{items_of}
+use Rattle.ppq_pass.specs.ppq_array.External.{records_in}
+use Rattle.ppq_pass.specs.ppq_outside.Shown.{Shown}
+use Rattle.ppq_pass.specs.ppq_array.Owner.{slots_shown}
+use Rattle.ppq_pass.specs.ppq_array.Holdings.{external_slots, internal_items, internal_buffers, external_buffers}
+use Rattle.ppq_pass.proofs.ppq_array.Noted.{all_left, all_right}
+use Rattle.ppq_pass.specs.ppq_spill.Body.{body_slots, job_slots}
 use Rattle.ppq_pass.specs.Passed.{slots_of as pass_slots}
-use Rattle.ppq_queue.specs.Slots.{with_slots}
-use Rattle.ppq_queue.specs.Resting.{slots_of, runs_bag}
+use Rattle.ppq_pass.specs.ppq_queue.Slots.{with_slots}
+use Rattle.ppq_pass.specs.ppq_queue.Resting.{slots_of, runs_bag}
 use Rattle.ppq_gather.specs.Passes.{IsBrought, pass_of}
 use Rattle.ppq_gather.specs.Gathering.{IsGathered, IsGathering, IsSoundSoFar, gathered_bag}
 use Rattle.ppq_gather.specs.declared.brought.Brought.{Brought}

@@ -3,22 +3,22 @@ use Rattle.std.proofs.Common.{◌≡◌, ℕ, ◌+◌, ◌*◌, ◌<◌, ◌≤�
 use Rattle.std.specs.Prelude.{◌⊎◌}
 use Rattle.std.specs.declared.cmp.Ordering.{Ordering}
 use Rattle.std.proofs.lemmas.List.Elements.{All-head}
-use Rattle.ppq_outside.specs.Shown.{Shown, AllTell}
-use Rattle.ppq_budget.specs.Sizes.{heap_of, heaps_of}
-use Rattle.ppq_heap.specs.Heap.{Contents}
-use Rattle.ppq_heap.specs.Heaps.{Shares, AreShares, cap_of, items_of, items_in}
-use Rattle.ppq_array.specs.Owner.{HasBlock}
-use Rattle.ppq_array.specs.Holdings.{external_slots}
-use Rattle.ppq_spill.specs.Body.{job_slots}
-use Rattle.ppq_queue.specs.declared.queue_parts.QueueParts.{QueueParts}
-use Rattle.ppq_queue.specs.Handed.{IsWhole}
-use Rattle.ppq_queue.specs.State.{IsQueue, IsSound}
-use Rattle.ppq_queue.specs.Resting.{AtRest, IsRestingRun, IsRestingArray, count_of, slots_of, odd_in}
-use Rattle.ppq_queue.proofs.Bounds.{records_most}
-use Rattle.ppq_queue.proofs.Slots.{SameSums-length}
-use Rattle.ppq_queue.proofs.Shared.{all_within}
-use Rattle.ppq_array.specs.Kept.{HasFailed, weight_at}
-use Rattle.ppq_queue.specs.Holding.{IsAbove}
+use Rattle.ppq_pass.specs.ppq_outside.Shown.{Shown, AllTell}
+use Rattle.ppq_pass.specs.ppq_budget.Sizes.{heap_of, heaps_of}
+use Rattle.ppq_pass.specs.ppq_heap.Heap.{Contents}
+use Rattle.ppq_pass.specs.ppq_heap.Heaps.{Shares, AreShares, cap_of, items_of, items_in}
+use Rattle.ppq_pass.specs.ppq_array.Owner.{HasBlock}
+use Rattle.ppq_pass.specs.ppq_array.Holdings.{external_slots}
+use Rattle.ppq_pass.specs.ppq_spill.Body.{job_slots}
+use Rattle.ppq_pass.specs.ppq_queue.declared.queue_parts.QueueParts.{QueueParts}
+use Rattle.ppq_pass.specs.ppq_queue.Handed.{IsWhole}
+use Rattle.ppq_pass.specs.ppq_queue.State.{IsQueue, IsSound}
+use Rattle.ppq_pass.specs.ppq_queue.Resting.{AtRest, IsRestingRun, IsRestingArray, count_of, slots_of, odd_in}
+use Rattle.ppq_pass.proofs.ppq_queue.Bounds.{records_most}
+use Rattle.ppq_pass.proofs.ppq_queue.Slots.{SameSums-length}
+use Rattle.ppq_pass.proofs.ppq_queue.Shared.{all_within}
+use Rattle.ppq_pass.specs.ppq_array.Kept.{HasFailed, weight_at}
+use Rattle.ppq_pass.specs.ppq_queue.Holding.{IsAbove}
 use Rattle.ppq_gather.specs.Gathering.{IsGathered, IsGathering, IsSoundSoFar}
 use Rattle.ppq_gather.specs.declared.closed.Closed.{Closed}
 

@@ -6,18 +6,18 @@ use Rattle.std.proofs.lemmas.List.Sums.{sum_by-cons, sum_by-append}
 use Rattle.std.proofs.lemmas.List.Elements.{All-head, All-tail}
 use Rattle.std.proofs.lemmas.List.Concat.{flat_map-cons}
 use Rattle.std.proofs.lemmas.Grind.{flat_map-append}
-use Rattle.ppq_outside.specs.Shown.{Shown}
-use Rattle.ppq_budget.specs.Sizes.{heap_of, pool_of}
-use Rattle.ppq_array.specs.Owner.{slots_shown}
-use Rattle.ppq_array.specs.Holdings.{external_slots, internal_buffers, external_buffers}
-use Rattle.ppq_spill.specs.Body.{held_by, body_slots, job_slots}
-use Rattle.ppq_spill.proofs.Keeping.{slots_long}
+use Rattle.ppq_pass.specs.ppq_outside.Shown.{Shown}
+use Rattle.ppq_pass.specs.ppq_budget.Sizes.{heap_of, pool_of}
+use Rattle.ppq_pass.specs.ppq_array.Owner.{slots_shown}
+use Rattle.ppq_pass.specs.ppq_array.Holdings.{external_slots, internal_buffers, external_buffers}
+use Rattle.ppq_pass.specs.ppq_spill.Body.{held_by, body_slots, job_slots}
+use Rattle.ppq_pass.proofs.ppq_spill.Keeping.{slots_long}
 use Rattle.ppq_pass.specs.Passed.{slots_of as pass_slots}
 use Rattle.ppq_pass.specs.PassState.{IsPassed, IsSoundPass}
-use Rattle.ppq_queue.specs.Resting.{slots_of}
-use Rattle.ppq_queue.proofs.Counts.{runs_some, stored_slots}
-use Rattle.ppq_queue.proofs.Slots.{SameSums-length}
-use Rattle.ppq_queue.proofs.Odd.{runs_most}
+use Rattle.ppq_pass.specs.ppq_queue.Resting.{slots_of}
+use Rattle.ppq_pass.proofs.ppq_queue.Counts.{runs_some, stored_slots}
+use Rattle.ppq_pass.proofs.ppq_queue.Slots.{SameSums-length}
+use Rattle.ppq_pass.proofs.ppq_queue.Odd.{runs_most}
 use Rattle.ppq_gather.specs.Passes.{IsBrought}
 use Rattle.ppq_gather.specs.Gathering.{IsGathering, IsSoundSoFar, slots_in, buffers_in}
 use Rattle.ppq_gather.specs.declared.brought.Brought.{Brought}

@@ -1,22 +1,22 @@
 -- Passes that are put into the parts of a queue.
 use Rattle.std.specs.Prelude.{◌≡◌, ◌⊎◌, ℕ, ◌+◌, ◌*◌, ◌<◌, ◌≤◌, List, [], ◌++◌, length, sum_by, flat_map, Some, None, All, vec_capacity}
 use Rattle.std.specs.declared.cmp.Ordering.{Ordering}
-use Rattle.ppq_outside.specs.Shown.{Shown, AllTell}
-use Rattle.ppq_budget.specs.Sizes.{AreInRange, fixed_of, heap_of, batch_of, pool_of}
-use Rattle.ppq_heap.specs.Heap.{Contents}
-use Rattle.ppq_heap.specs.Heaps.{items_in}
-use Rattle.ppq_array.specs.Owner.{HasBlock, slots_shown}
-use Rattle.ppq_array.specs.Kept.{HasFailed}
-use Rattle.ppq_array.specs.Holdings.{external_buffers}
-use Rattle.ppq_extract.specs.Extracted.{ServesFor}
-use Rattle.ppq_fetch.specs.Fetching.{fronts_in}
-use Rattle.ppq_spill.specs.Body.{held_by}
+use Rattle.ppq_pass.specs.ppq_outside.Shown.{Shown, AllTell}
+use Rattle.ppq_pass.specs.ppq_budget.Sizes.{AreInRange, fixed_of, heap_of, batch_of, pool_of}
+use Rattle.ppq_pass.specs.ppq_heap.Heap.{Contents}
+use Rattle.ppq_pass.specs.ppq_heap.Heaps.{items_in}
+use Rattle.ppq_pass.specs.ppq_array.Owner.{HasBlock, slots_shown}
+use Rattle.ppq_pass.specs.ppq_array.Kept.{HasFailed}
+use Rattle.ppq_pass.specs.ppq_array.Holdings.{external_buffers}
+use Rattle.ppq_pass.specs.ppq_extract.Extracted.{ServesFor}
+use Rattle.ppq_pass.specs.ppq_fetch.Fetching.{fronts_in}
+use Rattle.ppq_pass.specs.ppq_spill.Body.{held_by}
 use Rattle.ppq_pass.specs.Passed.{slots_of as pass_slots}
-use Rattle.ppq_queue.specs.Slots.{SameSums}
-use Rattle.ppq_queue.specs.Resting.{IsRestingRun, IsRestingArray, AllRise, runs_bag, count_of, lane_buffers, odd_in, slots_of}
-use Rattle.ppq_record.specs.Order.{Ascends}
-use Rattle.ppq_fetch.specs.Taking.{NoneAfter}
-use Rattle.ppq_queue.specs.Holding.{IsAbove}
+use Rattle.ppq_pass.specs.ppq_queue.Slots.{SameSums}
+use Rattle.ppq_pass.specs.ppq_queue.Resting.{IsRestingRun, IsRestingArray, AllRise, runs_bag, count_of, lane_buffers, odd_in, slots_of}
+use Rattle.ppq_pass.specs.ppq_record.Order.{Ascends}
+use Rattle.ppq_pass.specs.ppq_fetch.Taking.{NoneAfter}
+use Rattle.ppq_pass.specs.ppq_queue.Holding.{IsAbove}
 use Rattle.ppq_gather.specs.Passes.{IsBrought, pass_of}
 use Rattle.ppq_gather.specs.declared.brought.Brought.{Brought}
 use Rattle.ppq_gather.specs.declared.closed.Closed.{Closed}

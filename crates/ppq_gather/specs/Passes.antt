@@ -1,8 +1,8 @@
 -- A pass that was taken apart.
 use Rattle.std.specs.Prelude.{◌≡◌, ℕ, List, None}
 use Rattle.std.specs.declared.cmp.Ordering.{Ordering}
-use Rattle.ppq_budget.specs.Sizes.{Numbers}
-use Rattle.ppq_outside.specs.Shown.{Shown}
+use Rattle.ppq_pass.specs.ppq_budget.Sizes.{Numbers}
+use Rattle.ppq_pass.specs.ppq_outside.Shown.{Shown}
 use Rattle.ppq_pass.specs.Passed.{PassHolding, holding_of}
 use Rattle.ppq_pass.specs.PassState.{IsPassed, IsSoundPass}
 use Rattle.ppq_gather.specs.declared.brought.Brought.{Brought}

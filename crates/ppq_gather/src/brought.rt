@@ -1,11 +1,6 @@
 //! A pass that was taken apart.
 
-use ppq_array::BerthList;
-use ppq_heap::InsertionHeap;
-use ppq_outside::Slot;
-use ppq_pass::PassParts;
-use ppq_record::Record;
-use ppq_spill::PassBody;
+use ppq_pass::{BerthList, InsertionHeap, PassBody, PassParts, Record, Slot};
 use std::snapshot::Snapshot;
 
 /// What a pass brought to the end of its session. Its seats are joined.

@@ -1,14 +1,9 @@
 //! The parts of a queue after its session's row and pool were closed.
 
 use crate::Brought;
-use ppq_array::OwnerLists;
-use ppq_budget::Sizes;
-use ppq_extract::{Extract, Sources};
-use ppq_heap::InsertionHeap;
-use ppq_outside::Slot;
-use ppq_record::Record;
-use ppq_spill::PassBody;
-use ppq_tree::MinTree;
+use ppq_pass::{
+    Extract, InsertionHeap, MinTree, OwnerLists, PassBody, Record, Sizes, Slot, Sources,
+};
 
 /// The parts of a queue after its session's row and pool were closed, while passes are put into it.
 #[derive(Drop)]

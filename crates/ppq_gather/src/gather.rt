@@ -1,21 +1,19 @@
 //! Passes that are put into the parts of a queue.
 ghost use Rattle.std.specs.Prelude.{◌≡◌, ◌≤◌, ◌<◌, ◌+◌, ◌-◌, ◌*◌, ◌^◌, ◌++◌, [], ◌∷◌, length, reverse, All, List, None, vec_capacity};
-ghost use Rattle.ppq_record.specs.Bag.{IsSameBag};
-ghost use Rattle.ppq_outside.specs.Shown.{Shown};
-ghost use Rattle.ppq_array.specs.Owner.{slots_shown};
-ghost use Rattle.ppq_array.specs.Holdings.{ArrayHasSize, internal_buffers, external_buffers, external_slots};
-ghost use Rattle.ppq_array.specs.Run.{buffers_of};
-ghost use Rattle.ppq_queue.specs.Slots.{SameSums, with_slots};
+ghost use Rattle.ppq_pass.specs.ppq_record.Bag.{IsSameBag};
+ghost use Rattle.ppq_pass.specs.ppq_outside.Shown.{Shown};
+ghost use Rattle.ppq_pass.specs.ppq_array.Owner.{slots_shown};
+ghost use Rattle.ppq_pass.specs.ppq_array.Holdings.{ArrayHasSize, internal_buffers, external_buffers, external_slots};
+ghost use Rattle.ppq_pass.specs.ppq_array.Run.{buffers_of};
+ghost use Rattle.ppq_pass.specs.ppq_queue.Slots.{SameSums, with_slots};
 ghost use Rattle.ppq_gather.specs.Gathering.{IsGathered, gathered_bag, accepted_in};
 
 use crate::Brought;
 use crate::closed::Closed;
 use crate::moving::{free_all, move_all, move_buffers};
-use ppq_array::{ExternalArray, InternalArray, OwnerLists, free_slot};
-use ppq_block::BufList;
-use ppq_outside::Slot;
-use ppq_record::Record;
-use ppq_spill::PassBody;
+use ppq_pass::{
+    BufList, ExternalArray, InternalArray, OwnerLists, PassBody, Record, Slot, free_slot,
+};
 
 /// Puts all passes that came back into the parts of the queue.
 pub fn gather_all<S: Slot + Send + Sync, R: Record + Send + Sync>(c: &mut Closed<S, R>)

@@ -15,4 +15,11 @@ mod rejoining;
 pub use brought::Brought;
 pub use closed::Closed;
 pub use gather::gather_all;
+pub use ppq_pass::{
+    Berth, BufList, Extract, Full, Gate, Host, InsertionHeap, Lanes, Library, Memory, MinTree,
+    OpenFault, Out, OutsideFault, OwnerLists, Pair, Pass, PassBody, PassHeld, PassParts, Pool,
+    PoolBuf, PoolSeat, Queue, QueueFault, QueueParts, Record, Row, RowSeat, Runs, Shared, Sizes,
+    Slot, Sources, StoreFault, Supply, buffer_steps_are_events, free_slot, give_buffer,
+    interleaving_laws, record_laws, slot_laws, slot_steps_are_events,
+};
 pub use rejoining::rejoin;

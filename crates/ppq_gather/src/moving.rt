@@ -1,12 +1,9 @@
 //! Lists that are moved into others.
 ghost use Rattle.std.specs.Prelude.{◌≡◌, ◌≤◌, ◌<◌, ◌+◌, ◌-◌, ◌*◌, ◌^◌, ◌++◌, length, reverse, All, vec_capacity};
-ghost use Rattle.ppq_array.specs.Owner.{HasSize, slots_shown};
-ghost use Rattle.ppq_queue.specs.Slots.{with_slots};
+ghost use Rattle.ppq_pass.specs.ppq_array.Owner.{HasSize, slots_shown};
+ghost use Rattle.ppq_pass.specs.ppq_queue.Slots.{with_slots};
 
-use ppq_array::{BerthList, OwnerLists, free_slot};
-use ppq_block::BufList;
-use ppq_outside::Slot;
-use ppq_record::Record;
+use ppq_pass::{BerthList, BufList, OwnerLists, Record, Slot, free_slot};
 
 /// Moves all of a list to the end of another, the last first.
 pub fn move_all<T: Drop>(from: Vec<T>, to: &mut Vec<T>)

@@ -1,15 +1,11 @@
 //! A queue of the parts into which all passes were put.
 ghost use Rattle.std.specs.Prelude.{◌≡◌, ◌+◌, ◌*◌, ◌≤◌, [], List, None, max, min};
-ghost use Rattle.ppq_outside.specs.Shown.{Shown};
-ghost use Rattle.ppq_queue.specs.Resting.{slots_of};
+ghost use Rattle.ppq_pass.specs.ppq_outside.Shown.{Shown};
+ghost use Rattle.ppq_pass.specs.ppq_queue.Resting.{slots_of};
 ghost use Rattle.ppq_gather.specs.Gathering.{IsGathered, gathered_bag};
 
 use crate::closed::Closed;
-use ppq_budget::Sizes;
-use ppq_heap::Heaps;
-use ppq_outside::Slot;
-use ppq_queue::{Queue, QueueParts};
-use ppq_record::Record;
+use ppq_pass::{Heaps, Queue, QueueParts, Record, Sizes, Slot};
 
 /// The queue of these parts, of a session in which so many records were popped: they count in its peak.
 pub fn rejoin<S: Slot + Send + Sync, R: Record + Send + Sync>(

@@ -6,9 +6,9 @@ use Rattle.std.specs.Cmp.{IsStrictWeakOrder}
 use Rattle.std.proofs.lemmas.Bool.{cases_lt, cases_eq}
 use Rattle.std.proofs.lemmas.List.{get_or_read, get_or-set_same, get_or-set_other, length-set, length-append, get_or_append_left}
 use Rattle.std.proofs.lemmas.List.Sums.{sum_by-set}
-use Rattle.ppq_record.specs.Order.{Le, Rising, in_order, put_in_order}
-use Rattle.ppq_record.specs.Bag.{IsSameBag, first_of}
-use Rattle.ppq_record.proofs.Order.{Le-trans, Le-refl, front_is, IsSameBag-append_comm}
+use Rattle.ppq_tree.specs.ppq_record.Order.{Le, Rising, in_order, put_in_order}
+use Rattle.ppq_tree.specs.ppq_record.Bag.{IsSameBag, first_of}
+use Rattle.ppq_tree.proofs.ppq_record.Order.{Le-trans, Le-refl, front_is, IsSameBag-append_comm}
 use Rattle.ppq_heap.specs.Heap.{IsMinHeap, IsHeapRound}
 
 -- of what stays in a bag

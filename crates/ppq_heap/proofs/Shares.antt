@@ -8,9 +8,9 @@ use Rattle.std.proofs.Math.Seq.{map-set_same}
 use Rattle.std.proofs.lemmas.Bool.{cases_eq}
 use Rattle.std.proofs.lemmas.List.{get_or-map, get_or_default, get_or-replicate, length-map, length-set, length-replicate, map-set, map_more, take_all, take_more_set, get_or-set_same, get_or-set_other}
 use Rattle.std.proofs.lemmas.List.Elements.{All-set, All-head, All-tail}
-use Rattle.ppq_record.specs.Order.{is_before, Le, Rising, in_order}
-use Rattle.ppq_record.specs.Bag.{IsSameBag, first_of, least}
-use Rattle.ppq_record.proofs.Order.{count_by-cons, count_by-append, IsSameBag-length, Each-same_bag, Each-weaker, Each-append, Le-refl, Le-trans, in_order-same_bag, Rising-in_order, front_is}
+use Rattle.ppq_tree.specs.ppq_record.Order.{is_before, Le, Rising, in_order}
+use Rattle.ppq_tree.specs.ppq_record.Bag.{IsSameBag, first_of, least}
+use Rattle.ppq_tree.proofs.ppq_record.Order.{count_by-cons, count_by-append, IsSameBag-length, Each-same_bag, Each-weaker, Each-append, Le-refl, Le-trans, in_order-same_bag, Rising-in_order, front_is}
 use Rattle.ppq_tree.specs.Tree.{IsLeastLeaf, HasNoItems}
 use Rattle.ppq_heap.specs.Heap.{Contents}
 use Rattle.ppq_heap.specs.Heaps.{Shares, empty_heap, cap_of, items_in, share_at, AreShares, HasLeasts, ChangesOnly, Left}

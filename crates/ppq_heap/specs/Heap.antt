@@ -1,6 +1,6 @@
 -- What an insertion heap holds, and the order in which it lies.
 use Rattle.std.specs.Prelude.{◌≡◌, ℕ, ◌-◌, ◌/◌, ◌<◌, Bool, List, length, get_or}
-use Rattle.ppq_record.specs.Order.{Le}
+use Rattle.ppq_tree.specs.ppq_record.Order.{Le}
 
 -- the records of an insertion heap as they lie, and how many it has room for
 pub record Contents (R : Type 0) : Type 0 where

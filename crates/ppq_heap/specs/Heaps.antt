@@ -2,7 +2,7 @@
 use Rattle.std.specs.Prelude.{◌≡◌, ◌≢◌, ℕ, ◌<◌, ◌≤◌, ◌^◌, List, [], ◌∷◌, length, get_or, map, All, Option}
 use Rattle.std.specs.declared.cmp.Ordering.{Ordering}
 use Rattle.std.specs.List.{flat_map}
-use Rattle.ppq_record.specs.Bag.{IsSameBag, least}
+use Rattle.ppq_tree.specs.ppq_record.Bag.{IsSameBag, least}
 use Rattle.ppq_heap.specs.Heap.{Contents}
 
 -- the heaps of all workers, and how many records each has room for

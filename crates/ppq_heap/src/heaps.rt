@@ -1,13 +1,12 @@
 //! The insertion heaps of several workers.
 ghost use Rattle.std.specs.Prelude.{◌≡◌, ◌≤◌, ◌<◌, ◌*◌, ◌^◌, ◌↔◌, ◌∷◌, [], ◌++◌, All, if◌then◌else◌, Some, length, replicate, IfErr, IfOk, IfSome, IsErr, IsNone, IsTrue, OnErr, OnOk};
-ghost use Rattle.ppq_record.specs.Order.{Ascends};
-ghost use Rattle.ppq_record.specs.Bag.{IsSameBag, ascending, least};
+ghost use Rattle.ppq_tree.specs.ppq_record.Order.{Ascends};
+ghost use Rattle.ppq_tree.specs.ppq_record.Bag.{IsSameBag, ascending, least};
 ghost use Rattle.ppq_heap.specs.Heap.{Contents};
 ghost use Rattle.ppq_heap.specs.Heaps.{empty_heap, cap_of, items_in, items_of, share_at, AreShares, HasLeasts, ChangesOnly, LeftOne};
 
 use crate::InsertionHeap;
-use ppq_record::{Memory, Record, record_laws};
-use ppq_tree::MinTree;
+use ppq_tree::{Memory, MinTree, Record, record_laws};
 use std::alloc::Global;
 use std::marker::Model;
 

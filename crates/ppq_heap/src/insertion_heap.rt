@@ -1,10 +1,10 @@
 //! The insertion heap.
 ghost use Rattle.std.specs.Prelude.{◌≡◌, ◌≤◌, ◌↔◌, ◌∷◌, [], drop, length, IfErr, IfOk, IfSome, IsErr, IsNone, IsTrue, OnErr, OnOk};
-ghost use Rattle.ppq_record.specs.Order.{Ascends};
-ghost use Rattle.ppq_record.specs.Bag.{IsSameBag, ascending, least};
+ghost use Rattle.ppq_tree.specs.ppq_record.Order.{Ascends};
+ghost use Rattle.ppq_tree.specs.ppq_record.Bag.{IsSameBag, ascending, least};
 
 use crate::sift::{replace_root, rise};
-use ppq_record::{Memory, Record, record_laws, sort};
+use ppq_tree::{Memory, Record, record_laws, sort};
 use std::alloc::Global;
 use std::marker::Model;
 
@@ -22,7 +22,7 @@ pub struct InsertionHeap<R: Record> {
 
 impl<R: Record> Model for InsertionHeap<R> {
     ghost use Rattle.std.specs.Prelude.{◌≤◌, ◌<◌, ◌^◌, vec_len, vec_capacity};
-    ghost use Rattle.ppq_record.specs.Order.{is_before};
+    ghost use Rattle.ppq_tree.specs.ppq_record.Order.{is_before};
     ghost use Rattle.ppq_heap.specs.Heap.{Contents, IsMinHeap};
 
     ghost Value = { Contents R };

@@ -7,12 +7,9 @@
 #![tactic(auto)]
 
 mod heaps;
-#[cfg(test)]
-mod heaps_tests;
 mod insertion_heap;
 mod sift;
-#[cfg(test)]
-mod tests;
 
 pub use heaps::Heaps;
 pub use insertion_heap::InsertionHeap;
+pub use ppq_tree::{Listing, Lists, Memory, MinTree, Pair, Record, record_laws, sort};

@@ -5,11 +5,11 @@
 //! record that is to be put, which then rises: about one comparison a level, as std's `BinaryHeap`
 //! does it.
 ghost use Rattle.std.specs.Prelude.{◌≡◌, ◌≤◌, ◌<◌, ◌+◌, ◌-◌, ◌*◌, ◌/◌, ◌∷◌, Some, length, slice_get, slice_set};
-ghost use Rattle.ppq_record.specs.Order.{is_before};
-ghost use Rattle.ppq_record.specs.Bag.{IsSameBag};
+ghost use Rattle.ppq_tree.specs.ppq_record.Order.{is_before};
+ghost use Rattle.ppq_tree.specs.ppq_record.Bag.{IsSameBag};
 ghost use Rattle.ppq_heap.specs.Heap.{IsMinHeap, IsHeapRound, IsLesserChild};
 
-use ppq_record::{Record, record_laws};
+use ppq_tree::{Record, record_laws};
 
 // Puts a record into a heap with a hole at a leaf: the hole rises to the place below the first
 // parent that the record is not before.

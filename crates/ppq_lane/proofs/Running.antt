@@ -1,7 +1,7 @@
 -- Jobs that were run, of either kind.
 use Rattle.std.proofs.Common.{◌≡◌, ℕ, List, length, Option, Some, IsSome, Result, refl, sym, ap, ◌∙◌, subst}
 use Rattle.std.proofs.lemmas.Result.{on_ok_weaker}
-use Rattle.ppq_record.specs.Given.{records_from}
+use Rattle.ppq_block.specs.ppq_record.Given.{records_from}
 use Rattle.ppq_block.specs.Block.{Block, padded}
 use Rattle.ppq_block.specs.Told.{records_told}
 use Rattle.ppq_outside.specs.Shown.{Shown, IsWritten}

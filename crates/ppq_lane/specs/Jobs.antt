@@ -1,6 +1,6 @@
 -- What a job may ask of its slot, and what running it does.
 use Rattle.std.specs.Prelude.{◌≡◌, ℕ, ◌*◌, ◌≤◌, List, [], length, Some, Result, OnOk, OnErr}
-use Rattle.ppq_record.specs.Given.{records_from}
+use Rattle.ppq_block.specs.ppq_record.Given.{records_from}
 use Rattle.ppq_block.specs.Block.{Block, IsSettled, holding, padded}
 use Rattle.ppq_block.specs.Told.{records_told}
 use Rattle.ppq_outside.specs.Shown.{Shown, IsWritten, IsRead, Tells}

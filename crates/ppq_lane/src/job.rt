@@ -1,8 +1,7 @@
 //! One call of a slot.
 
-use ppq_block::BlockBuf;
+use ppq_block::{BlockBuf, Record};
 use ppq_outside::{Failed, Slot};
-use ppq_record::Record;
 
 /// What a job asks of its slot.
 #[derive(Clone, Copy, Debug, PartialEq, Eq)]

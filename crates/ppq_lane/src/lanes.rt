@@ -3,9 +3,8 @@ ghost use Rattle.std.specs.Prelude.{◌≡◌, ◌≤◌, ◌-◌, ◌^◌, ◌<
 ghost use Rattle.ppq_block.specs.Block.{holding};
 
 use crate::Job;
-use ppq_block::{BlockBuf, BufList};
+use ppq_block::{BlockBuf, BufList, Memory, Record, record_laws};
 use ppq_outside::Slot;
-use ppq_record::{Memory, Record, record_laws};
 use std::alloc::Global;
 
 /// What an owner of runs needs to transfer blocks and to merge: buffers, jobs, and a batch of records.

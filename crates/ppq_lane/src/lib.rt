@@ -10,8 +10,6 @@
 mod job;
 mod lanes;
 mod run;
-#[cfg(test)]
-mod tests;
 
 pub use job::{Job, JobKind};
 pub use lanes::Lanes;

@@ -4,9 +4,8 @@ ghost use Rattle.std.specs.List.{AllZip};
 ghost use Rattle.ppq_lane.specs.Jobs.{MayRun, IsDone, IsReadInto};
 
 use crate::{Job, JobKind};
-use ppq_block::BlockBuf;
+use ppq_block::{BlockBuf, Record};
 use ppq_outside::{Failed, Host, Slot};
-use ppq_record::Record;
 
 /// Runs jobs, one after the other on the calling thread: the slot of each is called once, and `done`
 /// says what it returned. Slots and buffers stay in their jobs. It costs one block transfer a job.

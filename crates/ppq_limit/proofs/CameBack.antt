@@ -3,10 +3,10 @@ use Rattle.std.proofs.Common.{◌≡◌, ℕ, List, [], ◌∷◌, ◌++◌, map
 use Rattle.std.specs.declared.cmp.Ordering.{Ordering}
 use Rattle.std.proofs.lemmas.List.{reverse-append}
 use Rattle.std.proofs.lemmas.List.Elements.{All-nil, All-cons}
-use Rattle.ppq_budget.specs.Sizes.{Numbers}
-use Rattle.ppq_outside.specs.Shown.{Shown}
-use Rattle.ppq_pass.specs.Passed.{PassHolding}
-use Rattle.ppq_begin.specs.declared.parts.BulkParts.{BulkParts}
+use Rattle.ppq_session.specs.ppq_budget.Sizes.{Numbers}
+use Rattle.ppq_session.specs.ppq_outside.Shown.{Shown}
+use Rattle.ppq_session.specs.ppq_pass.Passed.{PassHolding}
+use Rattle.ppq_session.specs.ppq_begin.declared.parts.BulkParts.{BulkParts}
 use Rattle.ppq_front.specs.Limited.{LimitHolding, IsLimited}
 use Rattle.ppq_session.specs.Bringing.{BroughtAll}
 use Rattle.ppq_session.proofs.Brings.{brought-none, brought-then}

@@ -7,35 +7,35 @@ use Rattle.std.proofs.lemmas.List.{length-map}
 use Rattle.std.proofs.lemmas.List.Sums.{sum_by-append, sum_by-cons}
 use Rattle.std.proofs.lemmas.List.Elements.{All-head, All-tail, All-append, All-map}
 use Rattle.std.proofs.lemmas.List.Folds.{flat_map-map}
-use Rattle.ppq_record.specs.Order.{is_before, Le}
-use Rattle.ppq_record.specs.Bag.{IsSameBag}
-use Rattle.ppq_record.proofs.Order.{Each-weaker}
-use Rattle.ppq_record.proofs.Fronts.{ranks}
-use Rattle.ppq_outside.specs.Shown.{Shown, Tells, AllTell}
-use Rattle.ppq_budget.specs.Sizes.{pool_of}
-use Rattle.ppq_array.specs.Owner.{HasBlock, slots_shown}
-use Rattle.ppq_array.specs.Kept.{SameSlots, all_writes, weight_at}
-use Rattle.ppq_array.proofs.Noted.{all_left, all_right}
-use Rattle.ppq_fetch.specs.Taking.{NoneAfter, AllBelow, NoneBelow}
-use Rattle.ppq_spill.proofs.SameSlots.{SameSlots-sums}
-use Rattle.ppq_pool.specs.Seats.{count_of as pool_count}
-use Rattle.ppq_pass.specs.Passed.{PassKey, PassHolding, PassTells}
-use Rattle.ppq_block.specs.Block.{Block}
+use Rattle.ppq_session.specs.ppq_record.Order.{is_before, Le}
+use Rattle.ppq_session.specs.ppq_record.Bag.{IsSameBag}
+use Rattle.ppq_session.proofs.ppq_record.Order.{Each-weaker}
+use Rattle.ppq_session.proofs.ppq_record.Fronts.{ranks}
+use Rattle.ppq_session.specs.ppq_outside.Shown.{Shown, Tells, AllTell}
+use Rattle.ppq_session.specs.ppq_budget.Sizes.{pool_of}
+use Rattle.ppq_session.specs.ppq_array.Owner.{HasBlock, slots_shown}
+use Rattle.ppq_session.specs.ppq_array.Kept.{SameSlots, all_writes, weight_at}
+use Rattle.ppq_session.proofs.ppq_array.Noted.{all_left, all_right}
+use Rattle.ppq_session.specs.ppq_fetch.Taking.{NoneAfter, AllBelow, NoneBelow}
+use Rattle.ppq_session.proofs.ppq_spill.SameSlots.{SameSlots-sums}
+use Rattle.ppq_session.specs.ppq_pool.Seats.{count_of as pool_count}
+use Rattle.ppq_session.specs.ppq_pass.Passed.{PassKey, PassHolding, PassTells}
+use Rattle.ppq_session.specs.ppq_block.Block.{Block}
 use Rattle.ppq_limit.specs.Emptied.{emptied}
-use Rattle.ppq_queue.specs.Holding.{Holding}
-use Rattle.ppq_queue.specs.declared.fault.QueueFault.TheVariants.{NoFreeBlock, Device}
-use Rattle.ppq_queue.specs.Resting.{IsRestingRun, IsRestingArray, slots_of, runs_bag, odd_in}
-use Rattle.ppq_begin.specs.Session.{accepted_of}
-use Rattle.ppq_begin.specs.declared.fault.SessionEnd.{SessionEnd}
-use Rattle.ppq_begin.specs.declared.fault.SessionEnd.TheVariants.{Whole, Stopped}
-use Rattle.ppq_begin.specs.declared.parts.BulkParts.{BulkParts}
+use Rattle.ppq_session.specs.ppq_queue.Holding.{Holding}
+use Rattle.ppq_session.specs.ppq_queue.declared.fault.QueueFault.TheVariants.{NoFreeBlock, Device}
+use Rattle.ppq_session.specs.ppq_queue.Resting.{IsRestingRun, IsRestingArray, slots_of, runs_bag, odd_in}
+use Rattle.ppq_session.specs.ppq_begin.Session.{accepted_of}
+use Rattle.ppq_session.specs.ppq_begin.declared.fault.SessionEnd.{SessionEnd}
+use Rattle.ppq_session.specs.ppq_begin.declared.fault.SessionEnd.TheVariants.{Whole, Stopped}
+use Rattle.ppq_session.specs.ppq_begin.declared.parts.BulkParts.{BulkParts}
 use Rattle.ppq_front.specs.FrontState.{IsFront, IsTallied, IsSoundFront, front_slots, front_holding, with_lent}
 use Rattle.ppq_front.specs.Limited.{LimitHolding, IsLimited}
 use Rattle.ppq_front.specs.Fronts.{FrontHolding}
 use Rattle.ppq_front.specs.Sessions.{AreLimited, IsTogether, EndsIn, front_key, shared_of, limited_accepted}
 use Rattle.ppq_front.proofs.Moved.{lent-length, told-whole}
-use Rattle.ppq_spill.proofs.SameSlots.{SameSlots-trans}
-use Rattle.ppq_pass.specs.declared.shared.Shared.{Shared}
+use Rattle.ppq_session.proofs.ppq_spill.SameSlots.{SameSlots-trans}
+use Rattle.ppq_session.specs.ppq_pass.declared.shared.Shared.{Shared}
 use Rattle.ppq_session.specs.Bringing.{BroughtAll, IsShareOf}
 use Rattle.ppq_session.proofs.Mapped.{sum-mapped, all_mapped, any_mapped}
 use Rattle.ppq_session.proofs.Together.{all_shares_of, room_for_all}

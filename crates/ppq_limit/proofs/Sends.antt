@@ -6,9 +6,9 @@ use denote.Struct.Declared as declared
 use Rattle.std.specs.declared.cmp.Ord as Ord
 use Rattle.std.specs.declared.cmp.PartialEq as PartialEq
 use Rattle.std.specs.declared.cmp.PartialOrd as PartialOrd
-use Rattle.ppq_record.specs.declared.record.Record as Record
-use Rattle.ppq_outside.specs.declared.slot.Slot as Slot
-use Rattle.ppq_pass.proofs.Sends.{pass_sends}
+use Rattle.ppq_session.specs.ppq_record.declared.record.Record as Record
+use Rattle.ppq_session.specs.ppq_outside.declared.slot.Slot as Slot
+use Rattle.ppq_session.proofs.ppq_pass.Sends.{pass_sends}
 use Rattle.ppq_front.specs.contracts.limit_pass.LimitPass as LimitPass
 use Rattle.ppq_front.specs.contracts.limit_pass.LimitPass.TheInside as limit_pass
 

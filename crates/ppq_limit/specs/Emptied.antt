@@ -1,8 +1,8 @@
 -- Parts whose own idle buffers are all in the lanes.
 use Rattle.std.specs.Prelude.{◌+◌, List}
-use Rattle.ppq_block.specs.Block.{Block}
-use Rattle.ppq_queue.specs.Slots.{with_pool}
-use Rattle.ppq_begin.specs.declared.parts.BulkParts.{BulkParts}
+use Rattle.ppq_session.specs.ppq_block.Block.{Block}
+use Rattle.ppq_session.specs.ppq_queue.Slots.{with_pool}
+use Rattle.ppq_session.specs.ppq_begin.declared.parts.BulkParts.{BulkParts}
 
 -- the parts with these idle buffers in the lanes, and none in the supply
 abbrev pub emptied : {S R : Type 0} → List (Block R) → BulkParts S R → BulkParts S R

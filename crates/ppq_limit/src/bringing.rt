@@ -3,11 +3,8 @@ ghost use Rattle.std.specs.Prelude.{◌≡◌, ◌≤◌, ◌+◌, length, map, 
 ghost use Rattle.ppq_front.specs.Limited.{IsLimited};
 ghost use Rattle.ppq_session.specs.Bringing.{BroughtAll, IsShareOf};
 
-use ppq_begin::BulkParts;
 use ppq_front::LimitPass;
-use ppq_outside::Slot;
-use ppq_record::Record;
-use ppq_session::{Shared, bring};
+use ppq_session::{BulkParts, Record, Shared, Slot, bring};
 
 /// Takes all passes apart, the last first, and joins their seats.
 pub fn bring_limited<S: Slot + Send + Sync, R: Record + Send + Sync>(

@@ -1,18 +1,15 @@
 //! The end of a limit session.
 ghost use Rattle.std.specs.Prelude.{◌≡◌, ◌≤◌, true, All};
-ghost use Rattle.ppq_outside.specs.Shown.{AllTell};
-ghost use Rattle.ppq_array.specs.Kept.{SameSlots, all_writes};
-ghost use Rattle.ppq_pass.specs.Passed.{PassTells};
-ghost use Rattle.ppq_begin.specs.declared.fault.SessionEnd.TheVariants.{Whole};
+ghost use Rattle.ppq_session.specs.ppq_outside.Shown.{AllTell};
+ghost use Rattle.ppq_session.specs.ppq_array.Kept.{SameSlots, all_writes};
+ghost use Rattle.ppq_session.specs.ppq_pass.Passed.{PassTells};
+ghost use Rattle.ppq_session.specs.ppq_begin.declared.fault.SessionEnd.TheVariants.{Whole};
 ghost use Rattle.ppq_front.specs.Sessions.{AreLimited, EndsIn, shared_of};
 
 use crate::bringing::bring_limited;
 use crate::room::with_room;
 use ppq_front::{Front, LimitPass};
-use ppq_outside::{Gate, Host, Slot};
-use ppq_queue::Queue;
-use ppq_record::{Record, record_laws};
-use ppq_session::{SessionEnd, Shared, end_joined};
+use ppq_session::{Gate, Host, Queue, Record, SessionEnd, Shared, Slot, end_joined, record_laws};
 
 /// Ends a limit session: the queue with the records that the front has left and those that the passes
 /// accepted. All passes of the session come, in any order.

@@ -8,9 +8,11 @@
 mod bringing;
 mod end;
 mod room;
-#[cfg(test)]
-mod tests;
 
 pub use end::limit_end;
-pub use ppq_front::{Front, LimitPass, limit_begin};
-pub use ppq_session::{BeginFault, SessionEnd, Shared};
+pub use ppq_front::{Front, LimitPass, limit_begin, passes_stand_back};
+pub use ppq_session::{
+    BeginFault, Full, Gate, Host, Line, OpenFault, Out, Pair, Pass, PoolBuf, Queue, QueueFault,
+    Record, SessionEnd, Shared, Sizes, Slot, are_going, bulk_begin, bulk_end, push_lines,
+    sessions_are_histories,
+};

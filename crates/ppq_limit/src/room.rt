@@ -1,16 +1,12 @@
 //! Room for the buffers of the pool, whatever a front did.
 ghost use Rattle.std.specs.Prelude.{◌≡◌, ℕ, ◌<◌, ◌≤◌, ◌+◌, ◌-◌, ◌^◌, length, None};
-ghost use Rattle.ppq_pool.specs.Seats.{count_of};
-ghost use Rattle.ppq_queue.specs.Slots.{with_pool};
+ghost use Rattle.ppq_session.specs.ppq_pool.Seats.{count_of};
+ghost use Rattle.ppq_session.specs.ppq_queue.Slots.{with_pool};
 ghost use Rattle.ppq_front.specs.FrontState.{IsFront, IsTallied};
 ghost use Rattle.ppq_session.specs.Apart.{IsApart, apart_slots};
 ghost use Rattle.ppq_limit.specs.Emptied.{emptied};
 
-use ppq_array::{OwnerLists, Supply};
-use ppq_begin::BulkParts;
-use ppq_block::BufList;
-use ppq_outside::Slot;
-use ppq_record::Record;
+use ppq_session::{BufList, BulkParts, OwnerLists, Record, Slot, Supply};
 
 /// The parts of a front, with room for the buffers that come back from the pool. There is room unless the
 /// front met a fault: then its own idle buffers go to the lanes.

@@ -3,14 +3,14 @@ use Rattle.std.proofs.Common.{◌≡◌, ℕ, zero, suc, ◌+◌, ◌-◌, ◌*�
 use Rattle.std.proofs.lemmas.List.{take_more_set, drop-drop}
 use Rattle.std.proofs.Math.Nat.{suc-mul}
 use Rattle.std.specs.Prelude.{Any}
-use Rattle.ppq_record.specs.declared.pair.Pair.{Pair}
-use Rattle.ppq_record.specs.Pair.{pair_of}
-use Rattle.ppq_record.specs.Bag.{IsSameBag}
-use Rattle.ppq_record.specs.Given.{records_from, records_of}
-use Rattle.ppq_outside.specs.Shown.{Shown}
-use Rattle.ppq_outside.specs.Told.{bytes_or_none}
-use Rattle.ppq_block.proofs.Blocks.{length-records_from, records_from-suc, records_from-take}
-use Rattle.ppq_queue.specs.Holding.{Holding}
+use Rattle.ppq_session.specs.ppq_record.declared.pair.Pair.{Pair}
+use Rattle.ppq_session.specs.ppq_record.Pair.{pair_of}
+use Rattle.ppq_session.specs.ppq_record.Bag.{IsSameBag}
+use Rattle.ppq_session.specs.ppq_record.Given.{records_from, records_of}
+use Rattle.ppq_session.specs.ppq_outside.Shown.{Shown}
+use Rattle.ppq_session.specs.ppq_outside.Told.{bytes_or_none}
+use Rattle.ppq_session.proofs.ppq_block.Blocks.{length-records_from, records_from-suc, records_from-take}
+use Rattle.ppq_session.specs.ppq_queue.Holding.{Holding}
 use Rattle.ppq_session.specs.Dealing.{HasEnded}
 use Rattle.ppq_load.specs.Loading.{LoadHolding, InSession, AreRecordsAt, HasGiven, told_bytes}
 use Rattle.ppq_load.proofs.Loadings.{session-rest}

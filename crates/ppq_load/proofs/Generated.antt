@@ -2,10 +2,10 @@
 use Rattle.std.proofs.Common.{◌≡◌, ℕ, zero, suc, ◌+◌, ◌-◌, ◌<◌, ◌≤◌, List, [], ◌∷◌, ◌++◌, length, take, slice_set, refl, sym, ap, ap₂, ◌∙◌, subst, arith}
 use Rattle.std.proofs.lemmas.List.{take_more_set}
 use Rattle.std.specs.Prelude.{Any}
-use Rattle.ppq_record.specs.declared.pair.Pair.{Pair}
-use Rattle.ppq_record.specs.Given.{next_seed, generated_from, generated}
-use Rattle.ppq_outside.specs.Shown.{Shown}
-use Rattle.ppq_queue.specs.Holding.{Holding}
+use Rattle.ppq_session.specs.ppq_record.declared.pair.Pair.{Pair}
+use Rattle.ppq_session.specs.ppq_record.Given.{next_seed, generated_from, generated}
+use Rattle.ppq_session.specs.ppq_outside.Shown.{Shown}
+use Rattle.ppq_session.specs.ppq_queue.Holding.{Holding}
 use Rattle.ppq_session.specs.Dealing.{HasEnded}
 use Rattle.ppq_load.specs.Loading.{LoadHolding, InSession, seed_after, with_batch}
 use Rattle.ppq_load.proofs.Loadings.{session-batch, session-rest}

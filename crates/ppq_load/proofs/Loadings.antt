@@ -6,22 +6,22 @@ use Rattle.std.proofs.Math.Nat.{mul-le-mul_left, mul-le-mul_right}
 use Rattle.std.proofs.Math.Seq.{take-append_seam}
 use Rattle.std.proofs.lemmas.List.Sums.{sum_by-cons}
 use Rattle.std.proofs.lemmas.List.Elements.{All-nil, All-cons, All-head, All-tail}
-use Rattle.ppq_record.specs.declared.pair.Pair.{Pair}
-use Rattle.ppq_record.specs.Bag.{IsSameBag}
-use Rattle.ppq_record.proofs.Order.{count_by-append}
-use Rattle.ppq_outside.specs.Shown.{Shown, AllTell}
-use Rattle.ppq_budget.specs.Sizes.{Numbers, AreInRange, batch_of}
-use Rattle.ppq_spill.proofs.SameSlots.{SameSlots-trans}
-use Rattle.ppq_array.specs.Kept.{SameSlots, all_writes}
-use Rattle.ppq_pass.specs.Passed.{PassKey, PassHolding, PassTells, IsOf}
-use Rattle.ppq_pass.specs.declared.shared.Shared.{Shared}
-use Rattle.ppq_queue.specs.Holding.{Holding}
-use Rattle.ppq_queue.specs.declared.fault.QueueFault.{QueueFault}
-use Rattle.ppq_queue.specs.declared.fault.QueueFault.TheVariants.{NoFreeBlock, Device}
-use Rattle.ppq_begin.specs.Session.{BulkHolding, AreOf, IsFresh, IsTogether, HasNoBlock, EndsIn, IsBeginRefusal, keys_of, shared_by, pass_key, bag_of, accepted_of}
-use Rattle.ppq_begin.specs.declared.fault.BeginFault.{BeginFault}
-use Rattle.ppq_begin.specs.declared.fault.BeginFault.TheVariants as begin
-use Rattle.ppq_begin.specs.declared.fault.SessionEnd.TheVariants.{Stopped}
+use Rattle.ppq_session.specs.ppq_record.declared.pair.Pair.{Pair}
+use Rattle.ppq_session.specs.ppq_record.Bag.{IsSameBag}
+use Rattle.ppq_session.proofs.ppq_record.Order.{count_by-append}
+use Rattle.ppq_session.specs.ppq_outside.Shown.{Shown, AllTell}
+use Rattle.ppq_session.specs.ppq_budget.Sizes.{Numbers, AreInRange, batch_of}
+use Rattle.ppq_session.proofs.ppq_spill.SameSlots.{SameSlots-trans}
+use Rattle.ppq_session.specs.ppq_array.Kept.{SameSlots, all_writes}
+use Rattle.ppq_session.specs.ppq_pass.Passed.{PassKey, PassHolding, PassTells, IsOf}
+use Rattle.ppq_session.specs.ppq_pass.declared.shared.Shared.{Shared}
+use Rattle.ppq_session.specs.ppq_queue.Holding.{Holding}
+use Rattle.ppq_session.specs.ppq_queue.declared.fault.QueueFault.{QueueFault}
+use Rattle.ppq_session.specs.ppq_queue.declared.fault.QueueFault.TheVariants.{NoFreeBlock, Device}
+use Rattle.ppq_session.specs.ppq_begin.Session.{BulkHolding, AreOf, IsFresh, IsTogether, HasNoBlock, EndsIn, IsBeginRefusal, keys_of, shared_by, pass_key, bag_of, accepted_of}
+use Rattle.ppq_session.specs.ppq_begin.declared.fault.BeginFault.{BeginFault}
+use Rattle.ppq_session.specs.ppq_begin.declared.fault.BeginFault.TheVariants as begin
+use Rattle.ppq_session.specs.ppq_begin.declared.fault.SessionEnd.TheVariants.{Stopped}
 use Rattle.ppq_session.specs.Dealing.{IsGoing, HasEnded, Dealt}
 use Rattle.ppq_load.specs.Refusal.{Keeps, HasNoRoom}
 use Rattle.ppq_load.specs.declared.fault.LoadFault.{LoadFault}

@@ -3,7 +3,7 @@ use Rattle.std.proofs.Common.{◌≡◌, ℕ, ◌+◌, ◌<◌, ◌≤◌, List,
 use Rattle.std.proofs.lemmas.List.{take-append-le, drop-drop}
 use Rattle.std.proofs.Math.Seq.{take-append-add, take-add}
 use borrow.Rule.Slice.PartMut.{put_mid, post_of}
-use Rattle.ppq_outside.specs.Told.{Reply, OfLength, OfRead, TellsReply, ReadsAt, bytes_or_none, length_of}
+use Rattle.ppq_session.specs.ppq_outside.Told.{Reply, OfLength, OfRead, TellsReply, ReadsAt, bytes_or_none, length_of}
 use Rattle.ppq_load.specs.declared.fill.FileFault.{FileFault}
 use Rattle.ppq_load.specs.declared.fill.FileFault.TheVariants.{Failed, Memory, Ended}
 use Rattle.ppq_load.specs.Reading.{AreBytesAt, EndsAt, IsReadWithin, ReadEndsIn, FaultAfter}

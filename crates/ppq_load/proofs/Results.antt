@@ -1,13 +1,13 @@
 -- What a load says, by what its session and its reading said.
 use Rattle.std.proofs.Common.{◌≡◌, ℕ, ◌+◌, ◌/◌, List, ◌++◌, length, max, Option, Some, None, refl, ap, ◌∙◌, subst}
 use Rattle.std.specs.Prelude.{Result, Ok, Err, OnOk, IfErr}
-use Rattle.ppq_record.specs.declared.pair.Pair.{Pair}
-use Rattle.ppq_record.specs.Bag.{IsSameBag}
-use Rattle.ppq_record.specs.Given.{records_of}
-use Rattle.ppq_outside.specs.Shown.{Shown, AllTell}
-use Rattle.ppq_outside.specs.Told.{Reply, bytes_or_none}
-use Rattle.ppq_queue.specs.Holding.{Holding}
-use Rattle.ppq_queue.specs.declared.fault.QueueFault.{QueueFault}
+use Rattle.ppq_session.specs.ppq_record.declared.pair.Pair.{Pair}
+use Rattle.ppq_session.specs.ppq_record.Bag.{IsSameBag}
+use Rattle.ppq_session.specs.ppq_record.Given.{records_of}
+use Rattle.ppq_session.specs.ppq_outside.Shown.{Shown, AllTell}
+use Rattle.ppq_session.specs.ppq_outside.Told.{Reply, bytes_or_none}
+use Rattle.ppq_session.specs.ppq_queue.Holding.{Holding}
+use Rattle.ppq_session.specs.ppq_queue.declared.fault.QueueFault.{QueueFault}
 use Rattle.ppq_load.specs.declared.fault.LoadFault.{LoadFault}
 use Rattle.ppq_load.specs.declared.fault.LoadFault.TheVariants.{Queue, Read, Memory, Ended}
 use Rattle.ppq_load.specs.Loading.{LoadHolding, InSession, IsLoaded, HasGiven, LoadStopsFor, LoadEndsIn, LoadCountsFrom, IsByLoad, IsByRead, loaded_of, first_of}

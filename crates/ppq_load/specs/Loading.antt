@@ -1,20 +1,20 @@
 -- Sessions in which a queue gets many records, by a pass for each worker.
 use Rattle.std.specs.Prelude.{◌≡◌, ◌<◌, ◌≤◌, ◌+◌, ◌*◌, Bool, ℕ, zero, suc, List, [], ◌++◌, length, drop, max, All, Any, Option, Some, None, Result, Ok, Err, OnOk, IfErr, ⊤}
-use Rattle.ppq_record.specs.declared.pair.Pair.{Pair}
-use Rattle.ppq_record.specs.Pair.{pair_of}
-use Rattle.ppq_record.specs.Bag.{IsSameBag}
-use Rattle.ppq_record.specs.Given.{records_from, next_seed}
-use Rattle.ppq_outside.specs.Shown.{Shown, AllTell}
-use Rattle.ppq_outside.specs.Told.{Reply, Rose, bytes_or_none}
-use Rattle.ppq_budget.specs.Sizes.{Numbers}
-use Rattle.ppq_array.specs.Kept.{SameSlots, all_writes}
-use Rattle.ppq_pass.specs.Passed.{PassHolding, PassTells}
-use Rattle.ppq_queue.specs.Holding.{Holding, HasStopped}
-use Rattle.ppq_queue.specs.declared.fault.QueueFault.{QueueFault}
-use Rattle.ppq_begin.specs.Session.{BulkHolding, IsIntact, IsTogether, bag_of, accepted_of}
-use Rattle.ppq_begin.specs.declared.fault.BeginFault.{BeginFault}
-use Rattle.ppq_begin.specs.declared.fault.BeginFault.TheVariants as begin
-use Rattle.ppq_queue.specs.declared.fault.QueueFault.TheVariants as queue_fault
+use Rattle.ppq_session.specs.ppq_record.declared.pair.Pair.{Pair}
+use Rattle.ppq_session.specs.ppq_record.Pair.{pair_of}
+use Rattle.ppq_session.specs.ppq_record.Bag.{IsSameBag}
+use Rattle.ppq_session.specs.ppq_record.Given.{records_from, next_seed}
+use Rattle.ppq_session.specs.ppq_outside.Shown.{Shown, AllTell}
+use Rattle.ppq_session.specs.ppq_outside.Told.{Reply, Rose, bytes_or_none}
+use Rattle.ppq_session.specs.ppq_budget.Sizes.{Numbers}
+use Rattle.ppq_session.specs.ppq_array.Kept.{SameSlots, all_writes}
+use Rattle.ppq_session.specs.ppq_pass.Passed.{PassHolding, PassTells}
+use Rattle.ppq_session.specs.ppq_queue.Holding.{Holding, HasStopped}
+use Rattle.ppq_session.specs.ppq_queue.declared.fault.QueueFault.{QueueFault}
+use Rattle.ppq_session.specs.ppq_begin.Session.{BulkHolding, IsIntact, IsTogether, bag_of, accepted_of}
+use Rattle.ppq_session.specs.ppq_begin.declared.fault.BeginFault.{BeginFault}
+use Rattle.ppq_session.specs.ppq_begin.declared.fault.BeginFault.TheVariants as begin
+use Rattle.ppq_session.specs.ppq_queue.declared.fault.QueueFault.TheVariants as queue_fault
 use Rattle.ppq_session.specs.Dealing.{IsGoing, HasEnded}
 use Rattle.ppq_load.specs.Reading.{EndsAt}
 use Rattle.ppq_load.specs.Refusal.{Keeps, IsRefusedBy}

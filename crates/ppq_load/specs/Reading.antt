@@ -1,8 +1,8 @@
 -- Pieces of a file that are read.
 use Rattle.std.specs.Prelude.{◌≡◌, ◌≤◌, ◌<◌, ◌+◌, ℕ, List, [], length, take, drop, Option, Some, ⊤}
-use Rattle.ppq_outside.specs.Told.{Reply, OfLength, OfRead, Rose, bytes_or_none}
-use Rattle.ppq_outside.specs.declared.fault.OutsideFault.{OutsideFault}
-use Rattle.ppq_outside.specs.declared.fault.OutsideFault.TheVariants as outside
+use Rattle.ppq_session.specs.ppq_outside.Told.{Reply, OfLength, OfRead, Rose, bytes_or_none}
+use Rattle.ppq_session.specs.ppq_outside.declared.fault.OutsideFault.{OutsideFault}
+use Rattle.ppq_session.specs.ppq_outside.declared.fault.OutsideFault.TheVariants as outside
 use Rattle.ppq_load.specs.declared.fill.FileFault.{FileFault}
 use Rattle.ppq_load.specs.declared.fill.FileFault.TheVariants.{Failed, Memory, Ended}
 

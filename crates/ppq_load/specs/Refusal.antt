@@ -1,12 +1,12 @@
 -- What calls that hand a queue back keep, and what a refused one says of it.
 use Rattle.std.specs.Prelude.{◌≡◌, ◌⊎◌, ◌<◌, ◌≤◌, ℕ, Bool, false, List}
-use Rattle.ppq_record.specs.declared.pair.Pair.{Pair}
-use Rattle.ppq_outside.specs.Shown.{Shown, AllTell}
-use Rattle.ppq_budget.specs.Sizes.{Numbers, heap_of, room_of}
-use Rattle.ppq_array.specs.Kept.{SameSlots, HasFailed, all_writes}
-use Rattle.ppq_queue.specs.Holding.{Holding, IsAbove}
-use Rattle.ppq_queue.specs.declared.fault.QueueFault.{QueueFault}
-use Rattle.ppq_queue.specs.declared.fault.QueueFault.TheVariants.{NoFreeBlock, Device}
+use Rattle.ppq_session.specs.ppq_record.declared.pair.Pair.{Pair}
+use Rattle.ppq_session.specs.ppq_outside.Shown.{Shown, AllTell}
+use Rattle.ppq_session.specs.ppq_budget.Sizes.{Numbers, heap_of, room_of}
+use Rattle.ppq_session.specs.ppq_array.Kept.{SameSlots, HasFailed, all_writes}
+use Rattle.ppq_session.specs.ppq_queue.Holding.{Holding, IsAbove}
+use Rattle.ppq_session.specs.ppq_queue.declared.fault.QueueFault.{QueueFault}
+use Rattle.ppq_session.specs.ppq_queue.declared.fault.QueueFault.TheVariants.{NoFreeBlock, Device}
 
 -- what calls of the queue keep, whatever they answer: its sizes, whether a limit session was begun, its slots, that these tell, and their
 -- writes

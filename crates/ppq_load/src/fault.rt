@@ -3,8 +3,7 @@ ghost use Rattle.std.specs.Prelude.{◌≡◌};
 ghost use Rattle.ppq_load.specs.Loading.{loaded_of};
 
 use crate::fill::FileFault;
-use ppq_queue::QueueFault;
-use ppq_session::BeginFault;
+use ppq_session::{BeginFault, QueueFault};
 
 /// Why records were not loaded.
 #[derive(Clone, Copy, Debug, PartialEq, Eq)]

@@ -1,13 +1,13 @@
 //! Sessions of the records of a file.
 ghost use Rattle.std.specs.Prelude.{◌≡◌, ◌≤◌, ◌<◌, ◌+◌, ◌*◌, ◌/◌, ◌++◌, [], List, ℕ, Option, Some, None, All, Any, IsTrue, false, ◌↔◌, OnOk, IfOk, IfErr, length, take, max};
-ghost use Rattle.ppq_record.specs.declared.pair.Pair.{Pair};
-ghost use Rattle.ppq_record.specs.Pair.{pair_of};
-ghost use Rattle.ppq_record.specs.Bag.{IsSameBag};
-ghost use Rattle.ppq_record.specs.Given.{records_from, records_of};
-ghost use Rattle.ppq_outside.specs.Shown.{AllTell};
-ghost use Rattle.ppq_outside.specs.Told.{Remembers, RepliesOnly, bytes_or_none};
-ghost use Rattle.ppq_budget.specs.Sizes.{batch_of};
-ghost use Rattle.ppq_queue.specs.Holding.{Holding};
+ghost use Rattle.ppq_session.specs.ppq_record.declared.pair.Pair.{Pair};
+ghost use Rattle.ppq_session.specs.ppq_record.Pair.{pair_of};
+ghost use Rattle.ppq_session.specs.ppq_record.Bag.{IsSameBag};
+ghost use Rattle.ppq_session.specs.ppq_record.Given.{records_from, records_of};
+ghost use Rattle.ppq_session.specs.ppq_outside.Shown.{AllTell};
+ghost use Rattle.ppq_session.specs.ppq_outside.Told.{Remembers, RepliesOnly, bytes_or_none};
+ghost use Rattle.ppq_session.specs.ppq_budget.Sizes.{batch_of};
+ghost use Rattle.ppq_session.specs.ppq_queue.Holding.{Holding};
 ghost use Rattle.ppq_session.specs.Dealing.{IsGoing, HasEnded};
 ghost use Rattle.ppq_load.specs.Reading.{IsReadWithin};
 ghost use Rattle.ppq_load.specs.Refusal.{Keeps};
@@ -16,9 +16,7 @@ ghost use Rattle.ppq_load.specs.Loading.{InSession, HasGiven, IsByRead, LoadStop
 use crate::fault::{LoadFault, loaded};
 use crate::fill::fill;
 use crate::load::Load;
-use ppq_outside::{Gate, Host, Library, Slot};
-use ppq_queue::{Queue, QueueFault};
-use ppq_record::{Pair, Record};
+use ppq_session::{Gate, Host, Library, Pair, Queue, QueueFault, Record, Slot};
 use std::alloc::Global;
 
 /// Adds the records of a file of `said` bytes in a session. They are read by pieces of as many records as

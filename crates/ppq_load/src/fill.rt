@@ -1,9 +1,9 @@
 //! Reads pieces of a file.
 ghost use Rattle.std.specs.Prelude.{◌≡◌, ◌≤◌, ◌<◌, ◌+◌, ◌^◌, List, ℕ, Option, Some, length, take, drop, IfOk, OnOk, IfErr};
-ghost use Rattle.ppq_outside.specs.Told.{HasCause, Remembers, RepliesOnly, bytes_or_none};
+ghost use Rattle.ppq_session.specs.ppq_outside.Told.{HasCause, Remembers, RepliesOnly, bytes_or_none};
 ghost use Rattle.ppq_load.specs.Reading.{AreBytesAt, EndsAt, ReadEndsIn, FaultAfter, IsReadWithin};
 
-use ppq_outside::{Host, Library, OutsideFault};
+use ppq_session::{Host, Library, OutsideFault};
 use std::alloc::Global;
 
 // Why a piece of a file was not read.

@@ -1,20 +1,18 @@
 //! Sessions of generated records.
 ghost use Rattle.std.specs.Prelude.{◌≡◌, ◌≤◌, ◌+◌, ◌<◌, ◌^◌, [], All, ◌++◌, OnOk, IfErr, max, take, None};
-ghost use Rattle.ppq_record.specs.declared.pair.Pair.{Pair};
-ghost use Rattle.ppq_record.specs.Bag.{IsSameBag};
-ghost use Rattle.ppq_record.specs.Given.{next_seed, generated, generated_from};
-ghost use Rattle.ppq_outside.specs.Shown.{AllTell};
-ghost use Rattle.ppq_budget.specs.Sizes.{batch_of};
-ghost use Rattle.ppq_queue.specs.Holding.{Holding};
+ghost use Rattle.ppq_session.specs.ppq_record.declared.pair.Pair.{Pair};
+ghost use Rattle.ppq_session.specs.ppq_record.Bag.{IsSameBag};
+ghost use Rattle.ppq_session.specs.ppq_record.Given.{next_seed, generated, generated_from};
+ghost use Rattle.ppq_session.specs.ppq_outside.Shown.{AllTell};
+ghost use Rattle.ppq_session.specs.ppq_budget.Sizes.{batch_of};
+ghost use Rattle.ppq_session.specs.ppq_queue.Holding.{Holding};
 ghost use Rattle.ppq_session.specs.Dealing.{IsGoing};
 ghost use Rattle.ppq_load.specs.Refusal.{Keeps};
 ghost use Rattle.ppq_load.specs.Loading.{InSession, IsByLoad, LoadStopsFor, seed_after, with_batch};
 
 use crate::fault::{LoadFault, loaded};
 use crate::load::Load;
-use ppq_outside::{Gate, Host, Slot};
-use ppq_queue::Queue;
-use ppq_record::Pair;
+use ppq_session::{Gate, Host, Pair, Queue, Slot};
 use std::alloc::Global;
 
 /// Adds so many generated records in a session: they are dealt to the passes batch by batch.

@@ -13,8 +13,6 @@ mod file;
 mod fill;
 mod generate;
 mod load;
-#[cfg(test)]
-mod tests;
 
 pub use fault::LoadFault;
 pub use file::load_file;

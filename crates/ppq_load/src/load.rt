@@ -1,20 +1,18 @@
 //! An open session, as one value.
 ghost use Rattle.std.specs.Prelude.{◌≡◌, ◌<◌, ◌≤◌, ◌++◌, ◌↔◌, [], ℕ, List, All, Any, Some, Err, IsTrue, false, IfOk, IfErr, OnOk, length, take, slice_set};
-ghost use Rattle.ppq_record.specs.declared.pair.Pair.{Pair};
-ghost use Rattle.ppq_budget.specs.Sizes.{AreInRange, batch_of};
-ghost use Rattle.ppq_queue.specs.Holding.{Holding};
-ghost use Rattle.ppq_queue.specs.declared.fault.QueueFault.TheVariants.{Device};
+ghost use Rattle.ppq_session.specs.ppq_record.declared.pair.Pair.{Pair};
+ghost use Rattle.ppq_session.specs.ppq_budget.Sizes.{AreInRange, batch_of};
+ghost use Rattle.ppq_session.specs.ppq_queue.Holding.{Holding};
+ghost use Rattle.ppq_session.specs.ppq_queue.declared.fault.QueueFault.TheVariants.{Device};
 ghost use Rattle.ppq_session.specs.Dealing.{IsGoing, HasEnded, records_in};
 ghost use Rattle.ppq_load.specs.Refusal.{Keeps};
 ghost use Rattle.ppq_load.specs.Loading.{InSession, IsLoaded, IsByLoad, IsHandedBack, IsLeftBy, LoadStopsFor, with_batch};
 ghost use Rattle.ppq_load.specs.declared.fault.LoadFault.TheVariants as load_fault;
 
 use crate::fault::LoadFault;
-use ppq_outside::{Gate, Host, Slot};
-use ppq_queue::{Queue, QueueFault};
-use ppq_record::Pair;
 use ppq_session::{
-    Bulk, Line, Pass, SessionEnd, Shared, are_going, bulk_begin, bulk_end, deal, push_lines,
+    Bulk, Gate, Host, Line, Pair, Pass, Queue, QueueFault, SessionEnd, Shared, Slot, are_going,
+    bulk_begin, bulk_end, deal, push_lines,
 };
 use std::alloc::Global;
 use std::marker::Model;
@@ -35,7 +33,7 @@ pub struct Load<S: Slot + Send + Sync> {
 
 impl<S: Slot + Send + Sync> Model for Load<S> {
     ghost use Rattle.std.specs.Prelude.{◌≡◌};
-    ghost use Rattle.ppq_begin.specs.Session.{AreOf, keys_of, shared_by};
+    ghost use Rattle.ppq_session.specs.ppq_begin.Session.{AreOf, keys_of, shared_by};
     ghost use Rattle.ppq_load.specs.Loading.{LoadHolding};
 
     ghost Value = { LoadHolding S };

@@ -4,9 +4,9 @@ use Rattle.std.specs.Prelude.{count_by}
 use Rattle.std.specs.List.{AllByRecursion as Each, All}
 use Rattle.std.proofs.lemmas.List.{length-append, length-take-le, take-append-drop, take-take, drop-append-le, get_or-take, get_or-drop, length-take, length-drop, get_or_default, take_all}
 use Rattle.std.proofs.lemmas.List.Elements.{recursion_from_All}
-use Rattle.ppq_record.specs.Order.{Le}
-use Rattle.ppq_record.specs.Runs.{list_at, all_of}
-use Rattle.ppq_record.proofs.Order.{count_by-append, Each-append, Each-append_left, Each-append_right}
+use Rattle.ppq_split.specs.ppq_record.Order.{Le}
+use Rattle.ppq_split.specs.ppq_record.Runs.{list_at, all_of}
+use Rattle.ppq_split.proofs.ppq_record.Order.{count_by-append, Each-append, Each-append_left, Each-append_right}
 use Rattle.ppq_split.specs.Cut.{AreWithin, total, IsCutBy}
 use Rattle.ppq_split.specs.Edge.{ends}
 use Rattle.ppq_split.proofs.Cuts.{IsCut-rises}

@@ -6,11 +6,11 @@ use Rattle.std.specs.Cmp.{IsStrictWeakOrder}
 use Rattle.std.proofs.lemmas.Bool.{cases_lt}
 use Rattle.std.proofs.lemmas.List.{length-take, length-drop, length-append, drop_all, get_or_past}
 use Rattle.std.specs.Prelude.{count_by}
-use Rattle.ppq_record.specs.Order.{Le, Rising}
-use Rattle.ppq_record.specs.Bag.{IsSameBag, first_of}
-use Rattle.ppq_record.specs.Runs.{list_at}
+use Rattle.ppq_split.specs.ppq_record.Order.{Le, Rising}
+use Rattle.ppq_split.specs.ppq_record.Bag.{IsSameBag, first_of}
+use Rattle.ppq_split.specs.ppq_record.Runs.{list_at}
 use Rattle.ppq_merge.specs.Parts.{between, AreParts, size_between}
-use Rattle.ppq_record.proofs.Order.{count_by-cons, count_by-append, Le-trans, Each-append, Each-weaker}
+use Rattle.ppq_split.proofs.ppq_record.Order.{count_by-cons, count_by-append, Le-trans, Each-append, Each-weaker}
 use Rattle.ppq_merge.specs.Heads.{heads, head}
 
 nothing_below : (ts : List ℕ) (i : ℕ) → length ts ≡ 0 → 0 < get_or ts i 0 → ⊥

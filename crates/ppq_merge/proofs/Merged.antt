@@ -6,11 +6,11 @@ use Rattle.std.specs.declared.cmp.Ordering.TheVariants.{Equal}
 use Rattle.std.specs.List.{AllByRecursion as Each}
 use Rattle.std.specs.Cmp.{IsTotalOrder}
 use Rattle.std.proofs.lemmas.List.{length-replicate}
-use Rattle.ppq_record.specs.Order.{is_before, Le, in_order}
-use Rattle.ppq_record.specs.Bag.{IsSameBag}
-use Rattle.ppq_record.specs.Runs.{all_of}
-use Rattle.ppq_record.proofs.Fronts.{ranks, no_tie}
-use Rattle.ppq_record.proofs.Order.{count_by-append, front_is}
+use Rattle.ppq_split.specs.ppq_record.Order.{is_before, Le, in_order}
+use Rattle.ppq_split.specs.ppq_record.Bag.{IsSameBag}
+use Rattle.ppq_split.specs.ppq_record.Runs.{all_of}
+use Rattle.ppq_split.proofs.ppq_record.Fronts.{ranks, no_tie}
+use Rattle.ppq_split.proofs.ppq_record.Order.{count_by-append, front_is}
 use Rattle.ppq_split.specs.Cut.{AllAscend, AreWithin, total, IsCutBy}
 use Rattle.ppq_split.specs.Edge.{ends}
 use Rattle.ppq_split.proofs.Cuts.{ends-total}

@@ -6,9 +6,9 @@ use Rattle.std.specs.Cmp.{IsStrictWeakOrder}
 use Rattle.std.proofs.lemmas.Bool.{cases_lt, cases_eq}
 use Rattle.std.proofs.lemmas.List.{nil_from_length, get_or-set_same, get_or-set_other}
 use Rattle.std.proofs.lemmas.Option.{slice_get-get_or, get_or_from_slice_get}
-use Rattle.ppq_record.specs.Order.{Le, Rising}
-use Rattle.ppq_record.specs.Runs.{list_at}
-use Rattle.ppq_record.proofs.Order.{count_by-cons, count_by-append, Le-trans, Each-append, Each-weaker, Each-same_bag, Rising-append}
+use Rattle.ppq_split.specs.ppq_record.Order.{Le, Rising}
+use Rattle.ppq_split.specs.ppq_record.Runs.{list_at}
+use Rattle.ppq_split.proofs.ppq_record.Order.{count_by-cons, count_by-append, Le-trans, Each-append, Each-weaker, Each-same_bag, Rising-append}
 use Rattle.ppq_split.specs.Edge.{ends}
 use Rattle.ppq_split.proofs.Cuts.{ends-past}
 use Rattle.ppq_split.proofs.Edges.{rising_run, rising_at}

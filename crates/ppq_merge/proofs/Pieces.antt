@@ -4,10 +4,10 @@ use Rattle.std.specs.Prelude.{count_by, All}
 use Rattle.std.specs.List.{AllByRecursion as Each}
 use Rattle.std.specs.Cmp.{IsStrictWeakOrder}
 use Rattle.std.proofs.lemmas.List.{append_assoc, append-nil}
-use Rattle.ppq_record.specs.Order.{Le, Rising, in_order}
-use Rattle.ppq_record.specs.Bag.{IsSameBag}
-use Rattle.ppq_record.specs.Runs.{all_of}
-use Rattle.ppq_record.proofs.Order.{count_by-append, Each-weaker, Each_le-same_bag, Rising-append, front_is}
+use Rattle.ppq_split.specs.ppq_record.Order.{Le, Rising, in_order}
+use Rattle.ppq_split.specs.ppq_record.Bag.{IsSameBag}
+use Rattle.ppq_split.specs.ppq_record.Runs.{all_of}
+use Rattle.ppq_split.proofs.ppq_record.Order.{count_by-append, Each-weaker, Each_le-same_bag, Rising-append, front_is}
 use Rattle.ppq_split.specs.Cut.{AreWithin, total}
 use Rattle.ppq_merge.specs.declared.seat.Seat.{Seat}
 use Rattle.ppq_merge.specs.Parts.{between, before, after, AreParts, size_between, IsParted, IsMergeBy}

@@ -9,10 +9,10 @@ use Rattle.std.proofs.lemmas.Bool.{cases_lt}
 use Rattle.std.proofs.lemmas.List.{get_or_past, get_or-drop, take_more_set}
 use Rattle.std.proofs.Math.Nat.{mul-le-mul_left, div-mul-le_self}
 use Rattle.std.proofs.lemmas.Nat.{le-div}
-use Rattle.ppq_record.specs.Order.{is_before, Rising, in_order}
-use Rattle.ppq_record.specs.Bag.{IsSameBag, front}
-use Rattle.ppq_record.specs.Runs.{all_of}
-use Rattle.ppq_record.proofs.Fronts.{ranks, no_tie}
+use Rattle.ppq_split.specs.ppq_record.Order.{is_before, Rising, in_order}
+use Rattle.ppq_split.specs.ppq_record.Bag.{IsSameBag, front}
+use Rattle.ppq_split.specs.ppq_record.Runs.{all_of}
+use Rattle.ppq_split.proofs.ppq_record.Fronts.{ranks, no_tie}
 use Rattle.ppq_split.specs.Cut.{AreWithin, total, IsCutBy}
 use Rattle.ppq_split.proofs.Cuts.{IsCut-rises}
 use Rattle.ppq_merge.specs.declared.seat.Seat.{Seat}

@@ -1,8 +1,8 @@
 -- The next records of runs that are merged.
 use Rattle.std.specs.Prelude.{◌≡◌, ℕ, Bool, List, [], ◌∷◌, ◌++◌, take, drop, get_or, Option, None}
 use Rattle.std.specs.List.{AllByRecursion as Each}
-use Rattle.ppq_record.specs.Order.{Le, Rising}
-use Rattle.ppq_record.specs.Bag.{IsSameBag, first_of}
+use Rattle.ppq_split.specs.ppq_record.Order.{Le, Rising}
+use Rattle.ppq_split.specs.ppq_record.Bag.{IsSameBag, first_of}
 use Rattle.ppq_split.specs.Cut.{total, IsCutBy}
 use Rattle.ppq_split.specs.Edge.{ends}
 

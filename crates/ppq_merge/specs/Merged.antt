@@ -1,8 +1,8 @@
 -- What a merge by workers makes.
 use Rattle.std.specs.Prelude.{◌≡◌, ℕ, List}
 use Rattle.std.specs.declared.cmp.Ordering.{Ordering}
-use Rattle.ppq_record.specs.Bag.{IsSameBag, front}
-use Rattle.ppq_record.specs.Runs.{all_of}
+use Rattle.ppq_split.specs.ppq_record.Bag.{IsSameBag, front}
+use Rattle.ppq_split.specs.ppq_record.Runs.{all_of}
 use Rattle.ppq_split.specs.Cut.{AllAscend, AreWithin, IsCut, total}
 use Rattle.ppq_merge.specs.Parts.{before}
 

@@ -3,8 +3,8 @@ use Rattle.std.specs.Prelude.{ℕ, ◌+◌, ◌-◌, ◌≤◌, Bool, List, [], 
 use Rattle.std.specs.Coded.{×_prop, Unit-prop, le_prop}
 use Rattle.std.specs.declared.cmp.Ordering.{Ordering}
 use Rattle.std.specs.List.{AllByRecursion as Each}
-use Rattle.ppq_record.specs.Order.{is_before, Le, Rising}
-use Rattle.ppq_record.specs.Bag.{IsSameBag}
+use Rattle.ppq_split.specs.ppq_record.Order.{is_before, Le, Rising}
+use Rattle.ppq_split.specs.ppq_record.Bag.{IsSameBag}
 
 -- of some places those that belong to the runs: one for each
 abbrev pub places_for : {X : Type 0} → List X → List ℕ → List ℕ

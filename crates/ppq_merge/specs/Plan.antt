@@ -1,7 +1,7 @@
 -- The pieces of several workers.
 use Rattle.std.specs.Prelude.{◌≡◌, ℕ, ◌+◌, ◌≤◌, Bool, List, [], ◌∷◌, ◌++◌, get_or, ⊤}
 use Rattle.std.specs.declared.cmp.Ordering.{Ordering}
-use Rattle.ppq_record.specs.Order.{is_before}
+use Rattle.ppq_split.specs.ppq_record.Order.{is_before}
 use Rattle.ppq_split.specs.Cut.{IsCutBy}
 use Rattle.ppq_merge.specs.declared.seat.Seat.{Seat}
 use Rattle.ppq_merge.specs.Seat.{from_of, to_of, HasRoom}

@@ -1,7 +1,7 @@
 //! Merging by one of the workers alone, which needs no cut.
 ghost use Rattle.std.specs.Prelude.{◌≡◌, ◌+◌, ◌^◌, ◌<◌, ◌≤◌, length};
 ghost use Rattle.std.specs.Thread.{IsSync, IsSend};
-ghost use Rattle.ppq_record.specs.Runs.{all_of};
+ghost use Rattle.ppq_split.specs.ppq_record.Runs.{all_of};
 ghost use Rattle.ppq_split.specs.Edge.{ends};
 ghost use Rattle.ppq_merge.specs.Merged.{IsMerged};
 
@@ -9,7 +9,7 @@ use crate::idle::enter_all;
 use crate::merge::merge_front;
 use crate::seat::Seat;
 use ppq_outside::Gate;
-use ppq_record::{Listing, Record, record_laws};
+use ppq_split::{Listing, Record, record_laws};
 use ppq_tree::MinTree;
 use std::thread::{Threads, join_mut};
 

@@ -1,7 +1,7 @@
 //! The bench of the workers, and merging by all of them.
 ghost use Rattle.std.specs.Prelude.{◌≡◌, ◌≤◌, ◌<◌, ◌^◌, ℕ, All, length, get_or, replicate, IfOk};
-ghost use Rattle.ppq_record.specs.Bag.{IsSameBag, front};
-ghost use Rattle.ppq_record.specs.Runs.{all_of};
+ghost use Rattle.ppq_split.specs.ppq_record.Bag.{IsSameBag, front};
+ghost use Rattle.ppq_split.specs.ppq_record.Runs.{all_of};
 ghost use Rattle.ppq_split.specs.Cut.{AllAscend, AreWithin, IsCut, total};
 ghost use Rattle.ppq_merge.specs.Merged.{IsMerged};
 ghost use Rattle.ppq_merge.specs.Parts.{before, places_for};
@@ -12,7 +12,7 @@ use crate::crew::merge_cut;
 use crate::plan::active_workers;
 use crate::seat::{Seat, zeros};
 use ppq_outside::Gate;
-use ppq_record::{Listing, Memory, Record};
+use ppq_split::{Listing, Memory, Record};
 use std::alloc::Global;
 use std::marker::Model;
 use std::thread::Threads;

@@ -1,7 +1,7 @@
 //! Merging by the workers who have pieces.
 ghost use Rattle.std.specs.Prelude.{◌≡◌, ℕ, ◌+◌, ◌^◌, ◌<◌, ◌≤◌, length, All, true, replicate};
 ghost use Rattle.std.specs.Thread.{IsSync, IsSend};
-ghost use Rattle.ppq_record.specs.Runs.{all_of};
+ghost use Rattle.ppq_split.specs.ppq_record.Runs.{all_of};
 ghost use Rattle.ppq_split.specs.Cut.{AllAscend};
 ghost use Rattle.ppq_merge.specs.Merged.{IsMerged};
 ghost use Rattle.ppq_merge.specs.Plan.{Pieces, Fill};
@@ -12,7 +12,7 @@ use crate::idle::enter_all;
 use crate::plan::plan_cuts;
 use crate::seat::Seat;
 use ppq_outside::Gate;
-use ppq_record::{Listing, Record, record_laws};
+use ppq_split::{Listing, Record, record_laws};
 use std::thread::{Threads, join_mut};
 
 // Merges the pieces of the first workers while the others, who have none, enter the gate.

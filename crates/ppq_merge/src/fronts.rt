@@ -2,7 +2,7 @@
 ghost use Rattle.ppq_merge.specs.Heads.{heads};
 ghost use Rattle.ppq_merge.specs.Parts.{AreParts, AreParts-prop};
 
-use ppq_record::{Listing, Record};
+use ppq_split::{Listing, Record};
 use ppq_tree::Heads;
 use std::marker::PhantomData;
 

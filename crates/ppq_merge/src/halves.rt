@@ -6,7 +6,7 @@ ghost use Rattle.ppq_merge.specs.Seat.{AreSized};
 
 use crate::seat::{Seat, merge_piece};
 use ppq_outside::Gate;
-use ppq_record::{Listing, Record};
+use ppq_split::{Listing, Record};
 use std::thread::{Threads, join_mut};
 
 // Merges the pieces of some workers, the first of whom has the number `first`, into `out`, one piece

@@ -16,8 +16,8 @@ mod idle;
 mod merge;
 mod plan;
 mod seat;
-#[cfg(test)]
-mod tests;
 
 pub use bench::{Bench, merge_workers};
 pub use merge::merge_into;
+pub use ppq_split::size_of;
+pub use ppq_tree::MinTree;

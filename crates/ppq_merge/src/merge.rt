@@ -1,11 +1,11 @@
 //! Merging by one worker.
 ghost use Rattle.std.specs.Prelude.{◌≡◌, ◌≤◌, ◌<◌, ◌+◌, length};
-ghost use Rattle.ppq_record.specs.Order.{is_before};
+ghost use Rattle.ppq_split.specs.ppq_record.Order.{is_before};
 ghost use Rattle.ppq_merge.specs.Heads.{heads, IsMerging, IsNext, LeadsToCut};
 ghost use Rattle.ppq_merge.specs.Parts.{AreParts, IsMerge, size_between, between};
 
 use crate::fronts::Fronts;
-use ppq_record::{Listing, Record, record_laws};
+use ppq_split::{Listing, Record, record_laws};
 use ppq_tree::{Heads, MinTree};
 use std::marker::PhantomData;
 

@@ -1,14 +1,13 @@
 //! Which piece each worker merges.
 ghost use Rattle.std.specs.Prelude.{◌≡◌, ◌+◌, ◌*◌, ◌/◌, ◌^◌, ◌<◌, ◌≤◌, length, All, true, min, max};
-ghost use Rattle.ppq_record.specs.Order.{is_before};
-ghost use Rattle.ppq_record.specs.Runs.{all_of};
+ghost use Rattle.ppq_split.specs.ppq_record.Order.{is_before};
+ghost use Rattle.ppq_split.specs.ppq_record.Runs.{all_of};
 ghost use Rattle.ppq_split.specs.Cut.{AllAscend, AreWithin, IsCut, total};
 ghost use Rattle.ppq_merge.specs.Plan.{IsPlan, IsCutPlan, Rises};
 ghost use Rattle.ppq_merge.specs.Seat.{IsSized, from_of, to_of};
 
 use crate::seat::{Seat, copy_front, copy_used, first_used};
-use ppq_record::{Listing, Record, record_laws};
-use ppq_split::cut_at;
+use ppq_split::{Listing, Record, cut_at, record_laws};
 
 // How many records a piece has at least, beside those for each run. Starting a thread takes some
 // twenty microseconds, in which one worker merges about so many.

@@ -4,7 +4,7 @@ ghost use Rattle.ppq_merge.specs.Parts.{AreParts, IsMerge, size_between, places_
 ghost use Rattle.ppq_merge.specs.Seat.{IsSized, HasRoom, from_of, to_of, used};
 
 use crate::merge::merge_into;
-use ppq_record::{Listing, Memory, Record};
+use ppq_split::{Listing, Memory, Record};
 use ppq_tree::MinTree;
 use std::alloc::Global;
 

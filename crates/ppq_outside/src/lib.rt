@@ -31,6 +31,3 @@ pub use memory_slot::MemSlot;
 pub use rack::Rack;
 pub use sink::Sink;
 pub use slot::Slot;
-
-#[cfg(test)]
-mod tests;

@@ -4,15 +4,15 @@ use Rattle.std.specs.Prelude.{count_by, Result, Ok, Err, IsErr, OnOk, IsErrOf}
 use Rattle.std.specs.declared.cmp.Ordering.{Ordering}
 use Rattle.std.specs.Cmp.{IsTotalOrder}
 use Rattle.atomic_table.specs.Seated.{TableId}
-use Rattle.ppq_record.specs.Order.{Ascends, is_before}
-use Rattle.ppq_record.specs.Bag.{IsSameBag, ascending}
-use Rattle.ppq_record.proofs.Order.{IsSameBag-length, in_order-same_bag}
-use Rattle.ppq_record.proofs.Fronts.{ranks}
-use Rattle.ppq_outside.specs.Shown.{Shown}
-use Rattle.ppq_budget.specs.Sizes.{Numbers, heap_of}
-use Rattle.ppq_heap.specs.Heap.{Contents}
-use Rattle.ppq_array.specs.declared.berth.DeviceBlock.{DeviceBlock}
-use Rattle.ppq_spill.specs.declared.body.PassBody.{PassBody}
+use Rattle.ppq_pool.specs.ppq_record.Order.{Ascends, is_before}
+use Rattle.ppq_pool.specs.ppq_record.Bag.{IsSameBag, ascending}
+use Rattle.ppq_pool.proofs.ppq_record.Order.{IsSameBag-length, in_order-same_bag}
+use Rattle.ppq_pool.proofs.ppq_record.Fronts.{ranks}
+use Rattle.ppq_queue.specs.ppq_outside.Shown.{Shown}
+use Rattle.ppq_queue.specs.ppq_budget.Sizes.{Numbers, heap_of}
+use Rattle.ppq_queue.specs.ppq_heap.Heap.{Contents}
+use Rattle.ppq_queue.specs.ppq_array.declared.berth.DeviceBlock.{DeviceBlock}
+use Rattle.ppq_queue.specs.ppq_spill.declared.body.PassBody.{PassBody}
 use Rattle.ppq_pass.specs.declared.shared.Shared.{Shared}
 use Rattle.ppq_pass.specs.declared.parts.PassParts.{PassParts}
 use Rattle.ppq_pass.specs.Passed.{PassHolding, PassKey, key_of, holding_of, shown_holding}

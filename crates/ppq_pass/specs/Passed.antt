@@ -1,20 +1,20 @@
 -- What contracts see of a pass.
 use Rattle.std.specs.Prelude.{◌≡◌, ℕ, ◌+◌, ◌*◌, ◌<◌, ◌≤◌, Bool, true, false, List, [], ◌++◌, length, flat_map, All, Option, Some, None}
 use Rattle.atomic_table.specs.Seated.{TableId}
-use Rattle.ppq_table.specs.Sums.{times}
-use Rattle.ppq_record.specs.Bag.{IsSameBag}
-use Rattle.ppq_outside.specs.Shown.{Shown, AllTell}
-use Rattle.ppq_budget.specs.Sizes.{Numbers, numbers, AreInRange, heap_of, pool_of}
-use Rattle.ppq_heap.specs.Heap.{Contents}
-use Rattle.ppq_array.specs.declared.berth.DeviceBlock.{DeviceBlock}
-use Rattle.ppq_array.specs.External.{records_in}
-use Rattle.ppq_array.specs.Kept.{SameSlots, HasFailed}
-use Rattle.ppq_array.specs.Owner.{slots_shown}
-use Rattle.ppq_array.specs.Holdings.{internal_items}
-use Rattle.ppq_fetch.specs.Fetching.{count_in}
-use Rattle.ppq_spill.specs.Body.{body_slots, held_by}
-use Rattle.ppq_spill.specs.Storing.{in_buffers}
-use Rattle.ppq_spill.specs.declared.body.PassBody.{PassBody}
+use Rattle.ppq_pool.specs.ppq_table.Sums.{times}
+use Rattle.ppq_pool.specs.ppq_record.Bag.{IsSameBag}
+use Rattle.ppq_queue.specs.ppq_outside.Shown.{Shown, AllTell}
+use Rattle.ppq_queue.specs.ppq_budget.Sizes.{Numbers, numbers, AreInRange, heap_of, pool_of}
+use Rattle.ppq_queue.specs.ppq_heap.Heap.{Contents}
+use Rattle.ppq_queue.specs.ppq_array.declared.berth.DeviceBlock.{DeviceBlock}
+use Rattle.ppq_queue.specs.ppq_array.External.{records_in}
+use Rattle.ppq_queue.specs.ppq_array.Kept.{SameSlots, HasFailed}
+use Rattle.ppq_queue.specs.ppq_array.Owner.{slots_shown}
+use Rattle.ppq_queue.specs.ppq_array.Holdings.{internal_items}
+use Rattle.ppq_queue.specs.ppq_fetch.Fetching.{count_in}
+use Rattle.ppq_queue.specs.ppq_spill.Body.{body_slots, held_by}
+use Rattle.ppq_queue.specs.ppq_spill.Storing.{in_buffers}
+use Rattle.ppq_queue.specs.ppq_spill.declared.body.PassBody.{PassBody}
 use Rattle.ppq_row.specs.Known.{Known as RowKnown}
 use Rattle.ppq_pool.specs.Known.{Known as PoolKnown}
 use Rattle.ppq_pool.specs.Seats.{count_of}

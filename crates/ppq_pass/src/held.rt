@@ -1,10 +1,8 @@
 //! What a pass has when its session ends.
 
 use crate::PassParts;
-use ppq_heap::InsertionHeap;
-use ppq_outside::Slot;
-use ppq_record::Record;
-use ppq_spill::PassBody;
+use ppq_pool::Record;
+use ppq_queue::{InsertionHeap, PassBody, Slot};
 
 /// All that a pass has, for the end of its session.
 #[derive(Drop)]

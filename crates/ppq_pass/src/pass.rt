@@ -1,9 +1,9 @@
 //! A pass of a session.
 ghost use Rattle.std.specs.Prelude.{◌≡◌, ◌<◌, ◌≤◌, ◌+◌, ◌*◌, ◌/◌, ◌↔◌, ◌∷◌, [], ℕ, length, All, Some, None, Err, IsOk, IsErr, IfErr, OnOk, OnErr, vec_capacity};
-ghost use Rattle.ppq_record.specs.Bag.{IsSameBag};
-ghost use Rattle.ppq_budget.specs.Sizes.{heap_of, pool_of};
-ghost use Rattle.ppq_array.specs.Owner.{HasSize};
-ghost use Rattle.ppq_spill.specs.Body.{IsNewBody};
+ghost use Rattle.ppq_pool.specs.ppq_record.Bag.{IsSameBag};
+ghost use Rattle.ppq_queue.specs.ppq_budget.Sizes.{heap_of, pool_of};
+ghost use Rattle.ppq_queue.specs.ppq_array.Owner.{HasSize};
+ghost use Rattle.ppq_queue.specs.ppq_spill.Body.{IsNewBody};
 ghost use Rattle.ppq_pool.specs.Seats.{count_of};
 ghost use Rattle.ppq_pass.specs.Passed.{IsOf, PassTells, KeptSlots, with_one, IsRefusedPush, IsKnown, holding_of, new_holding};
 ghost use Rattle.ppq_pass.specs.PassState.{IsPassed, IsSoundPass};
@@ -11,15 +11,11 @@ ghost use Rattle.ppq_queue.specs.declared.fault.QueueFault.TheVariants.{Device};
 
 use crate::store::store_run;
 use crate::{Full, PassHeld, PassParts, PoolBuf, Shared};
-use ppq_array::{Berth, BerthList, StoreFault};
-use ppq_budget::Sizes;
-use ppq_heap::InsertionHeap;
-use ppq_outside::{Host, Slot};
-use ppq_pool::PoolSeat;
-use ppq_queue::QueueFault;
-use ppq_record::{Record, record_laws};
+use ppq_pool::{PoolSeat, Record, record_laws};
+use ppq_queue::{
+    Berth, BerthList, Host, InsertionHeap, PassBody, QueueFault, Sizes, Slot, StoreFault,
+};
 use ppq_row::RowSeat;
-use ppq_spill::PassBody;
 use std::marker::Model;
 
 /// A pass of a session: what one worker adds records to, beside the others and with no lock.

@@ -1,3 +1,6 @@
+pub use Rattle.ppq_core.specs as ppq_core
+pub use Rattle.ppq_core.specs.ppq_record as ppq_record
+pub use Rattle.ppq_table.specs as ppq_table
 pub mod Hands
 pub mod Histories
 pub mod Known

@@ -20,11 +20,10 @@ mod pool;
 mod rule;
 mod seat;
 mod shaped;
-#[cfg(test)]
-mod tests;
 
 pub use hand::{Hand, Move};
 pub use laws::{looks_are_true, steps_are_events};
 pub use pool::Pool;
+pub use ppq_core::{Memory, Pair, Record, interleaving_laws, record_laws, slot_laws};
 pub use seat::PoolSeat;
 pub use shaped::Shaped;

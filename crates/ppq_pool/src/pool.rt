@@ -7,7 +7,7 @@ use crate::plays::{Claims, Clears, OneShare, Reaches, Settles, Together};
 use crate::rule::HeldOnce;
 use crate::{Hand, PoolSeat, Shaped};
 use atomic_table::{Refused, Table};
-use ppq_record::Memory;
+use ppq_core::Memory;
 use ppq_table::{Place, items_from, lay, unlay};
 use std::alloc::Global;
 use std::marker::Model;

@@ -6,16 +6,16 @@ use Rattle.std.proofs.lemmas.List.Elements.{All-head, All-tail, All-cons}
 use Rattle.std.proofs.lemmas.List.Concat.{flat_map-cons}
 use Rattle.std.proofs.lemmas.Nat.{mul-le}
 use Rattle.std.proofs.Math.Nat.{suc-mul, zero-mul, add-mul}
-use Rattle.ppq_outside.specs.Shown.{Shown, Tells}
-use Rattle.ppq_block.specs.Told.{records_told}
-use Rattle.ppq_block.proofs.Blocks.{length-records_from}
-use Rattle.ppq_block.specs.Block.{Block, all_items}
-use Rattle.ppq_array.specs.declared.berth.DeviceBlock.{DeviceBlock}
-use Rattle.ppq_array.specs.Run.{Run, items_of, buffers_of}
-use Rattle.ppq_array.specs.External.{External, counts, waiting, size_of, records_in, blocks_items, block_items}
-use Rattle.ppq_array.specs.Owner.{HasBlock, slots_shown}
-use Rattle.ppq_array.specs.Holdings.{internal_items, internal_buffers, external_buffers, external_slots, RunHasBlock}
-use Rattle.ppq_fetch.specs.Fetching.{IsFitting, one_if_some, fronts_in, blocks_in, count_in}
+use Rattle.ppq_extract.specs.ppq_outside.Shown.{Shown, Tells}
+use Rattle.ppq_extract.specs.ppq_block.Told.{records_told}
+use Rattle.ppq_extract.proofs.ppq_block.Blocks.{length-records_from}
+use Rattle.ppq_extract.specs.ppq_block.Block.{Block, all_items}
+use Rattle.ppq_extract.specs.ppq_array.declared.berth.DeviceBlock.{DeviceBlock}
+use Rattle.ppq_extract.specs.ppq_array.Run.{Run, items_of, buffers_of}
+use Rattle.ppq_extract.specs.ppq_array.External.{External, counts, waiting, size_of, records_in, blocks_items, block_items}
+use Rattle.ppq_extract.specs.ppq_array.Owner.{HasBlock, slots_shown}
+use Rattle.ppq_extract.specs.ppq_array.Holdings.{internal_items, internal_buffers, external_buffers, external_slots, RunHasBlock}
+use Rattle.ppq_extract.specs.ppq_fetch.Fetching.{IsFitting, one_if_some, fronts_in, blocks_in, count_in}
 use Rattle.ppq_spill.proofs.Keeping.{slots_long}
 use Rattle.ppq_queue.specs.Resting.{IsRestingRun, IsRestingArray}
 

@@ -4,15 +4,15 @@ use Rattle.std.specs.Prelude.{count_by, ◌⊎◌}
 use Rattle.std.specs.declared.cmp.Ordering.TheVariants.{Equal}
 use Rattle.std.specs.Cmp.{IsTotalOrder}
 use Rattle.std.proofs.lemmas.Bool.{cases_Bool}
-use Rattle.ppq_record.specs.Order.{is_before, Le}
-use Rattle.ppq_record.specs.Bag.{IsSameBag, first_of, least, front, without_front, size_below}
-use Rattle.ppq_record.proofs.Order.{count_by-cons, count_by-append, Each-weaker, Le-trans, none_pass}
-use Rattle.ppq_record.proofs.Fronts.{ranks, front-parts}
-use Rattle.ppq_outside.specs.Shown.{Shown}
-use Rattle.ppq_budget.specs.Sizes.{Numbers, pool_of}
+use Rattle.ppq_heap.specs.ppq_record.Order.{is_before, Le}
+use Rattle.ppq_heap.specs.ppq_record.Bag.{IsSameBag, first_of, least, front, without_front, size_below}
+use Rattle.ppq_heap.proofs.ppq_record.Order.{count_by-cons, count_by-append, Each-weaker, Le-trans, none_pass}
+use Rattle.ppq_heap.proofs.ppq_record.Fronts.{ranks, front-parts}
+use Rattle.ppq_extract.specs.ppq_outside.Shown.{Shown}
+use Rattle.ppq_extract.specs.ppq_budget.Sizes.{Numbers, pool_of}
 use Rattle.ppq_heap.specs.Heaps.{Shares, items_of}
-use Rattle.ppq_array.specs.Supply.{Stock}
-use Rattle.ppq_fetch.specs.Taking.{IsTaken, NoneBelow}
+use Rattle.ppq_extract.specs.ppq_array.Supply.{Stock}
+use Rattle.ppq_extract.specs.ppq_fetch.Taking.{IsTaken, NoneBelow}
 use Rattle.ppq_extract.specs.Extracted.{Held, ServesFor}
 use Rattle.ppq_extract.specs.declared.sources.Sources.{Sources}
 use Rattle.ppq_spill.specs.declared.body.PassBody.{PassBody}

@@ -1,11 +1,11 @@
 -- A flush, step by step: levels are settled, the extract buffer is stored, the first heap is stored.
 use Rattle.std.proofs.Common.{◌≡◌, ℕ, ◌+◌, ◌≤◌, List, [], ◌++◌, length, refl, sym, ap, subst, arith, inl, inr}
 use Rattle.std.specs.declared.cmp.Ordering.{Ordering}
-use Rattle.ppq_record.specs.Bag.{IsSameBag}
-use Rattle.ppq_record.proofs.Order.{IsSameBag-length}
-use Rattle.ppq_outside.specs.Shown.{Shown}
-use Rattle.ppq_budget.specs.Sizes.{Numbers}
-use Rattle.ppq_array.specs.Supply.{Stock}
+use Rattle.ppq_heap.specs.ppq_record.Bag.{IsSameBag}
+use Rattle.ppq_heap.proofs.ppq_record.Order.{IsSameBag-length}
+use Rattle.ppq_extract.specs.ppq_outside.Shown.{Shown}
+use Rattle.ppq_extract.specs.ppq_budget.Sizes.{Numbers}
+use Rattle.ppq_extract.specs.ppq_array.Supply.{Stock}
 use Rattle.ppq_spill.specs.declared.body.PassBody.{PassBody}
 use Rattle.ppq_queue.specs.Resting.{BodyKept, AtRest, Moved, Settled, LevelShort, StoreShort, WholeMoved, WholeShort, Emptied, count_of}
 use Rattle.ppq_queue.proofs.Moves.{moved-refl, moved-whole, whole-trans, heap-stored, heap-sorted, extract-stored, whole-beside, short-more}

@@ -3,11 +3,11 @@ use Rattle.std.proofs.Common.{◌≡◌, ℕ, suc, ◌+◌, ◌<◌, ◌≤◌, 
 use Rattle.std.specs.declared.cmp.Ordering.{Ordering}
 use mathlib.Core.Logic.{dite}
 use native.Mathlib.Decide.{dec_le}
-use Rattle.ppq_outside.specs.Shown.{Shown}
-use Rattle.ppq_budget.specs.Sizes.{Numbers}
+use Rattle.ppq_extract.specs.ppq_outside.Shown.{Shown}
+use Rattle.ppq_extract.specs.ppq_budget.Sizes.{Numbers}
 use Rattle.ppq_heap.specs.Heap.{Contents}
 use Rattle.ppq_heap.specs.Heaps.{Shares, ChangesOnly, empty_heap, items_in, items_of, share_at}
-use Rattle.ppq_array.specs.Supply.{Stock}
+use Rattle.ppq_extract.specs.ppq_array.Supply.{Stock}
 use Rattle.ppq_spill.specs.declared.body.PassBody.{PassBody}
 use Rattle.ppq_queue.specs.Resting.{BodyKept, AtRest, WholeMoved, WholeShort, Emptied, count_of}
 use Rattle.ppq_queue.proofs.Moves.{moved-refl, moved-whole, whole-trans, short-more}

@@ -5,10 +5,10 @@ use Rattle.std.specs.declared.cmp.Ordering.TheVariants.{Equal}
 use Rattle.std.specs.List.{AllByRecursion as Each}
 use Rattle.std.specs.Cmp.{IsTotalOrder}
 use Rattle.std.proofs.lemmas.Bool.{cases_Bool}
-use Rattle.ppq_record.specs.Order.{is_before, Le, Rising, in_order}
-use Rattle.ppq_record.specs.Bag.{IsSameBag, first_of, without_front, least, ascending}
-use Rattle.ppq_record.proofs.Order.{front_is, in_order-same_bag, Rising-in_order, Each-same_bag, Each-weaker, Each-append, Le-refl, Le-trans, IsSameBag-length, count_by-cons, count_by-append}
-use Rattle.ppq_record.proofs.Fronts.{ranks, no_tie}
+use Rattle.ppq_heap.specs.ppq_record.Order.{is_before, Le, Rising, in_order}
+use Rattle.ppq_heap.specs.ppq_record.Bag.{IsSameBag, first_of, without_front, least, ascending}
+use Rattle.ppq_heap.proofs.ppq_record.Order.{front_is, in_order-same_bag, Rising-in_order, Each-same_bag, Each-weaker, Each-append, Le-refl, Le-trans, IsSameBag-length, count_by-cons, count_by-append}
+use Rattle.ppq_heap.proofs.ppq_record.Fronts.{ranks, no_tie}
 use Rattle.ppq_queue.specs.Choice.{goes_first}
 
 cut_head : (a b c : ℕ) → a + b ≡ a + c → b ≡ c

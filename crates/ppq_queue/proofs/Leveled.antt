@@ -9,18 +9,18 @@ use Rattle.std.proofs.lemmas.List.Sums.{sum_by-cons, sum_by-append}
 use Rattle.std.proofs.lemmas.List.Elements.{All-head, All-tail, All-nil, All-push}
 use Rattle.std.proofs.lemmas.List.Sorted.{All-permutation, sum_by-IsPermutation, length_permutation}
 use Rattle.std.proofs.lemmas.List.Concat.{flat_map-cons}
-use Rattle.ppq_record.specs.Order.{Ascends}
-use Rattle.ppq_record.specs.Bag.{IsSameBag}
-use Rattle.ppq_record.proofs.Order.{count_by-append}
-use Rattle.ppq_outside.specs.Shown.{Shown, AllTell}
-use Rattle.ppq_budget.specs.Sizes.{Numbers, AreInRange, fixed_of}
-use Rattle.ppq_array.specs.Run.{Run, items_of, buffers_of}
-use Rattle.ppq_array.specs.External.{External, size_of, records_in, IsPacked}
-use Rattle.ppq_array.specs.Supply.{Stock}
-use Rattle.ppq_array.specs.Kept.{Kept, SameSlots, all_writes}
-use Rattle.ppq_array.specs.Holdings.{internal_items, internal_buffers, external_buffers, external_slots, ArrayHasSize}
-use Rattle.ppq_array.proofs.Noted.{all_left, all_right}
-use Rattle.ppq_fetch.specs.Fetching.{IsFitting, fronts_in, one_if_some}
+use Rattle.ppq_heap.specs.ppq_record.Order.{Ascends}
+use Rattle.ppq_heap.specs.ppq_record.Bag.{IsSameBag}
+use Rattle.ppq_heap.proofs.ppq_record.Order.{count_by-append}
+use Rattle.ppq_extract.specs.ppq_outside.Shown.{Shown, AllTell}
+use Rattle.ppq_extract.specs.ppq_budget.Sizes.{Numbers, AreInRange, fixed_of}
+use Rattle.ppq_extract.specs.ppq_array.Run.{Run, items_of, buffers_of}
+use Rattle.ppq_extract.specs.ppq_array.External.{External, size_of, records_in, IsPacked}
+use Rattle.ppq_extract.specs.ppq_array.Supply.{Stock}
+use Rattle.ppq_extract.specs.ppq_array.Kept.{Kept, SameSlots, all_writes}
+use Rattle.ppq_extract.specs.ppq_array.Holdings.{internal_items, internal_buffers, external_buffers, external_slots, ArrayHasSize}
+use Rattle.ppq_extract.proofs.ppq_array.Noted.{all_left, all_right}
+use Rattle.ppq_extract.specs.ppq_fetch.Fetching.{IsFitting, fronts_in, one_if_some}
 use Rattle.ppq_spill.specs.Body.{job_slots}
 use Rattle.ppq_spill.specs.Leveling.{MayLevel, AreOneSize, LanesStay, LevelCalls, LevelTells, LevelMerged, NoneForLevel, HasLevel, count_level, records_count, held_in}
 use Rattle.ppq_spill.specs.declared.body.PassBody.{PassBody}

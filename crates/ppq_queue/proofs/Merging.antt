@@ -5,12 +5,12 @@ use Rattle.std.specs.declared.cmp.Ordering.TheVariants.{Equal}
 use Rattle.std.specs.List.{AllByRecursion as Each}
 use Rattle.std.specs.Cmp.{IsTotalOrder}
 use Rattle.std.proofs.lemmas.Bool.{cases_Bool}
-use Rattle.ppq_record.specs.Order.{is_before, Le, Ascends}
-use Rattle.ppq_record.specs.Bag.{IsSameBag, first_of, least}
-use Rattle.ppq_record.proofs.Order.{Each-same_bag, Each-weaker, Each-append, Each-append_right, IsSameBag-length, Le-trans, count_by-cons, count_by-append}
-use Rattle.ppq_record.proofs.Fronts.{ranks}
-use Rattle.ppq_fetch.specs.Taking.{NoneAfter, IsTaken, AllBelow, NoneBelow}
-use Rattle.ppq_fetch.proofs.Taken.{taken_more}
+use Rattle.ppq_heap.specs.ppq_record.Order.{is_before, Le, Ascends}
+use Rattle.ppq_heap.specs.ppq_record.Bag.{IsSameBag, first_of, least}
+use Rattle.ppq_heap.proofs.ppq_record.Order.{Each-same_bag, Each-weaker, Each-append, Each-append_right, IsSameBag-length, Le-trans, count_by-cons, count_by-append}
+use Rattle.ppq_heap.proofs.ppq_record.Fronts.{ranks}
+use Rattle.ppq_extract.specs.ppq_fetch.Taking.{NoneAfter, IsTaken, AllBelow, NoneBelow}
+use Rattle.ppq_extract.proofs.ppq_fetch.Taken.{taken_more}
 use Rattle.ppq_queue.specs.Choice.{goes_first}
 use Rattle.ppq_queue.specs.Bulk.{kept_below, Merged, Exhausted}
 use Rattle.ppq_queue.proofs.Least.{least-le, least-none}

@@ -1,17 +1,17 @@
 -- One step after the other: what runs hold, and what heap, extract buffer and runs hold together.
 use Rattle.std.proofs.Common.{◌≡◌, ℕ, ◌≤◌, List, [], ◌++◌, refl, sym, ap, ◌∙◌, arith, inl, inr, length-append}
 use Rattle.std.specs.Prelude.{Result, Ok, Err, OnOk, OnErr, IsErrOf, IsErrAnd}
-use Rattle.ppq_array.specs.declared.store_fault.StoreFault.{StoreFault}
-use Rattle.ppq_array.specs.declared.store_fault.StoreFault.TheVariants.{NoFreeBlock, Device}
+use Rattle.ppq_extract.specs.ppq_array.declared.store_fault.StoreFault.{StoreFault}
+use Rattle.ppq_extract.specs.ppq_array.declared.store_fault.StoreFault.TheVariants.{NoFreeBlock, Device}
 use Rattle.std.specs.declared.cmp.Ordering.{Ordering}
-use Rattle.ppq_outside.specs.Shown.{Shown}
-use Rattle.ppq_budget.specs.Sizes.{Numbers}
-use Rattle.ppq_record.specs.Bag.{IsSameBag}
-use Rattle.ppq_record.proofs.Order.{count_by-append, IsSameBag-length, Each-weaker, Each-same_bag}
-use Rattle.ppq_record.specs.Order.{Le, is_before}
-use Rattle.ppq_fetch.specs.Taking.{NoneAfter}
+use Rattle.ppq_extract.specs.ppq_outside.Shown.{Shown}
+use Rattle.ppq_extract.specs.ppq_budget.Sizes.{Numbers}
+use Rattle.ppq_heap.specs.ppq_record.Bag.{IsSameBag}
+use Rattle.ppq_heap.proofs.ppq_record.Order.{count_by-append, IsSameBag-length, Each-weaker, Each-same_bag}
+use Rattle.ppq_heap.specs.ppq_record.Order.{Le, is_before}
+use Rattle.ppq_extract.specs.ppq_fetch.Taking.{NoneAfter}
 use Rattle.std.specs.List.{AllByRecursion as Each}
-use Rattle.ppq_array.specs.Supply.{Stock}
+use Rattle.ppq_extract.specs.ppq_array.Supply.{Stock}
 use Rattle.ppq_spill.specs.declared.body.PassBody.{PassBody}
 use Rattle.ppq_spill.proofs.SameSlots.{SameSlots-refl, SameSlots-trans}
 use Rattle.ppq_queue.specs.Resting.{ExtractStays, BodyKept, AtRest, Moved, Settled, LevelShort, WholeMoved, Readied, IsShort, runs_bag, slots_of}

@@ -5,11 +5,11 @@ use Rattle.std.proofs.Math.Nat.{zero-mul, add-mul, mul-le-mul_right, lt_of_mul-l
 use Rattle.std.proofs.lemmas.Bool.Decides.{nat_tests}
 use Rattle.std.proofs.lemmas.List.Sums.{sum_by-cons}
 use Rattle.std.proofs.lemmas.List.Elements.{All-head, All-tail}
-use Rattle.ppq_outside.specs.Shown.{Shown}
-use Rattle.ppq_array.specs.declared.berth.DeviceBlock.{DeviceBlock}
-use Rattle.ppq_array.specs.Run.{items_of}
-use Rattle.ppq_array.specs.External.{External, size_of}
-use Rattle.ppq_fetch.specs.Fetching.{blocks_in}
+use Rattle.ppq_extract.specs.ppq_outside.Shown.{Shown}
+use Rattle.ppq_extract.specs.ppq_array.declared.berth.DeviceBlock.{DeviceBlock}
+use Rattle.ppq_extract.specs.ppq_array.Run.{items_of}
+use Rattle.ppq_extract.specs.ppq_array.External.{External, size_of}
+use Rattle.ppq_extract.specs.ppq_fetch.Fetching.{blocks_in}
 use Rattle.ppq_queue.specs.Resting.{IsRestingArray, odd_of, odd_in}
 use Rattle.ppq_queue.proofs.Counts.{counts_fit, counts_full, waiting_is}
 

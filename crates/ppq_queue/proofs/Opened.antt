@@ -3,17 +3,17 @@ use Rattle.std.proofs.Common.{◌≡◌, ℕ, ◌-◌, ◌*◌, ◌≤◌, List,
 use Rattle.std.specs.Prelude.{flat_map, Result, Ok, Err, OnOk, OnErr, is_err, Bool, true, false}
 use Rattle.std.specs.declared.cmp.Ordering.{Ordering}
 use Rattle.std.proofs.lemmas.List.Elements.{All-nil, All-weaker, All-cons, All-head, All-tail}
-use Rattle.ppq_record.specs.Order.{Ascends}
-use Rattle.ppq_outside.specs.Shown.{Shown}
-use Rattle.ppq_budget.specs.Sizes.{Numbers, AreInRange, fixed_of, pool_of}
-use Rattle.ppq_block.specs.Block.{Block, holding}
-use Rattle.ppq_array.specs.Run.{Run, items_of}
-use Rattle.ppq_array.specs.External.{External, records_in}
-use Rattle.ppq_array.specs.Supply.{Stock}
-use Rattle.ppq_array.specs.Owner.{HasBlock}
-use Rattle.ppq_array.specs.Holdings.{internal_buffers, external_buffers, external_slots, internal_items}
-use Rattle.ppq_fetch.specs.Fetching.{fronts_in, count_in}
-use Rattle.ppq_fetch.specs.Taking.{NoneAfter}
+use Rattle.ppq_heap.specs.ppq_record.Order.{Ascends}
+use Rattle.ppq_extract.specs.ppq_outside.Shown.{Shown}
+use Rattle.ppq_extract.specs.ppq_budget.Sizes.{Numbers, AreInRange, fixed_of, pool_of}
+use Rattle.ppq_extract.specs.ppq_block.Block.{Block, holding}
+use Rattle.ppq_extract.specs.ppq_array.Run.{Run, items_of}
+use Rattle.ppq_extract.specs.ppq_array.External.{External, records_in}
+use Rattle.ppq_extract.specs.ppq_array.Supply.{Stock}
+use Rattle.ppq_extract.specs.ppq_array.Owner.{HasBlock}
+use Rattle.ppq_extract.specs.ppq_array.Holdings.{internal_buffers, external_buffers, external_slots, internal_items}
+use Rattle.ppq_extract.specs.ppq_fetch.Fetching.{fronts_in, count_in}
+use Rattle.ppq_extract.specs.ppq_fetch.Taking.{NoneAfter}
 use Rattle.ppq_spill.specs.Body.{job_slots}
 use Rattle.ppq_queue.specs.declared.parts.Parts.{Parts}
 use Rattle.ppq_queue.specs.Holding.{IsNewSlot}

@@ -3,11 +3,11 @@ use Rattle.std.proofs.Common.{◌≡◌, ℕ, zero, suc, inl, inr, ◌+◌, ◌-
 use Rattle.std.specs.Prelude.{count_by, ◌⊎◌, IfSome, IsNone, Result, Ok, Err, IsErr, OnOk}
 use Rattle.std.specs.declared.cmp.Ordering.TheVariants.{Equal}
 use Rattle.std.specs.Cmp.{IsTotalOrder}
-use Rattle.ppq_record.specs.Order.{is_before, Le, Ascends}
-use Rattle.ppq_record.specs.Bag.{IsSameBag, first_of, without_front, least, ascending}
-use Rattle.ppq_record.proofs.Order.{Each-append, count_by-cons, count_by-append, IsSameBag-length, in_order-same_bag}
-use Rattle.ppq_record.proofs.Fronts.{ranks}
-use Rattle.ppq_fetch.specs.Taking.{NoneAfter}
+use Rattle.ppq_heap.specs.ppq_record.Order.{is_before, Le, Ascends}
+use Rattle.ppq_heap.specs.ppq_record.Bag.{IsSameBag, first_of, without_front, least, ascending}
+use Rattle.ppq_heap.proofs.ppq_record.Order.{Each-append, count_by-cons, count_by-append, IsSameBag-length, in_order-same_bag}
+use Rattle.ppq_heap.proofs.ppq_record.Fronts.{ranks}
+use Rattle.ppq_extract.specs.ppq_fetch.Taking.{NoneAfter}
 use Rattle.ppq_queue.specs.Choice.{goes_first}
 use Rattle.ppq_queue.proofs.Least.{least_is, least_of_empty, least_of_two, without_answer}
 

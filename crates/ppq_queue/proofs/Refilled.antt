@@ -6,20 +6,20 @@ use Rattle.std.proofs.lemmas.Nat.{mul-le}
 use Rattle.std.proofs.lemmas.List.{get_or-take, get_or-drop, length-take}
 use Rattle.std.proofs.lemmas.List.Elements.{All-contains, All-from_recursion, recursion_from_All, All-drop}
 use Rattle.std.proofs.lemmas.List.Concat.{flat_map-cons}
-use Rattle.ppq_record.specs.Order.{Ascends}
-use Rattle.ppq_record.specs.Bag.{IsSameBag}
-use Rattle.ppq_record.specs.Runs.{all_of}
-use Rattle.ppq_record.proofs.Order.{count_by-append}
-use Rattle.ppq_outside.specs.Shown.{Shown, Tells, AllTell}
-use Rattle.ppq_budget.specs.Sizes.{Numbers, AreInRange, fixed_of}
-use Rattle.ppq_array.specs.declared.berth.DeviceBlock.{DeviceBlock}
-use Rattle.ppq_array.specs.Run.{Run, items_of}
-use Rattle.ppq_array.specs.External.{External, records_in, IsPacked, waiting, blocks_items}
-use Rattle.ppq_array.specs.Supply.{Stock}
-use Rattle.ppq_array.specs.Kept.{Kept, SameSlots, all_writes}
-use Rattle.ppq_array.specs.Holdings.{internal_items, external_slots}
-use Rattle.ppq_array.proofs.Noted.{all_left}
-use Rattle.ppq_fetch.specs.Fetching.{State, held_in, slots_in, count_in, MayFetch, source_items, loaded_lists, waiting_items, SourcesTell, RunsRise, MoreReads}
+use Rattle.ppq_heap.specs.ppq_record.Order.{Ascends}
+use Rattle.ppq_heap.specs.ppq_record.Bag.{IsSameBag}
+use Rattle.ppq_heap.specs.ppq_record.Runs.{all_of}
+use Rattle.ppq_heap.proofs.ppq_record.Order.{count_by-append}
+use Rattle.ppq_extract.specs.ppq_outside.Shown.{Shown, Tells, AllTell}
+use Rattle.ppq_extract.specs.ppq_budget.Sizes.{Numbers, AreInRange, fixed_of}
+use Rattle.ppq_extract.specs.ppq_array.declared.berth.DeviceBlock.{DeviceBlock}
+use Rattle.ppq_extract.specs.ppq_array.Run.{Run, items_of}
+use Rattle.ppq_extract.specs.ppq_array.External.{External, records_in, IsPacked, waiting, blocks_items}
+use Rattle.ppq_extract.specs.ppq_array.Supply.{Stock}
+use Rattle.ppq_extract.specs.ppq_array.Kept.{Kept, SameSlots, all_writes}
+use Rattle.ppq_extract.specs.ppq_array.Holdings.{internal_items, external_slots}
+use Rattle.ppq_extract.proofs.ppq_array.Noted.{all_left}
+use Rattle.ppq_extract.specs.ppq_fetch.Fetching.{State, held_in, slots_in, count_in, MayFetch, source_items, loaded_lists, waiting_items, SourcesTell, RunsRise, MoreReads}
 use Rattle.ppq_extract.specs.Extracted.{sources_of, Refilled}
 use Rattle.ppq_spill.specs.declared.body.PassBody.{PassBody}
 use Rattle.ppq_queue.specs.Resting.{BodyKept, IsRestingRun, IsRestingArray, AtRest, Readied, runs_bag, slots_of}

@@ -4,11 +4,11 @@ use Rattle.std.specs.Prelude.{Option, Some, None, IsSome, is_some}
 use Rattle.std.proofs.lemmas.List.Elements.{All-nil, All-cons, All-head, All-tail}
 use Rattle.std.proofs.lemmas.List.{map-append, reverse-append, length-reverse, drop_all, take_all}
 use Rattle.std.proofs.lemmas.List.Sums.{sum_by-cons, sum_by-append}
-use Rattle.ppq_outside.specs.Shown.{Shown, Tells, AllTell}
-use Rattle.ppq_array.specs.External.{External}
-use Rattle.ppq_array.specs.Kept.{SameSlots}
-use Rattle.ppq_array.specs.Owner.{slots_shown}
-use Rattle.ppq_array.specs.Holdings.{external_slots}
+use Rattle.ppq_extract.specs.ppq_outside.Shown.{Shown, Tells, AllTell}
+use Rattle.ppq_extract.specs.ppq_array.External.{External}
+use Rattle.ppq_extract.specs.ppq_array.Kept.{SameSlots}
+use Rattle.ppq_extract.specs.ppq_array.Owner.{slots_shown}
+use Rattle.ppq_extract.specs.ppq_array.Holdings.{external_slots}
 use Rattle.ppq_spill.proofs.SameSlots.{SameSlots-sums}
 use Rattle.ppq_spill.proofs.Keeping.{slots_more, slots_long}
 use Rattle.ppq_queue.specs.Slots.{SameSums}

@@ -2,15 +2,15 @@
 use Rattle.std.proofs.Common.{◌≡◌, ℕ, ◌+◌, ◌<◌, ◌≤◌, Bool, true, false, List, [], ◌∷◌, ◌++◌, length, Option, Some, None, refl, sym, ap, ◌∙◌, inl, inr, arith, length-append, Ordering}
 use Rattle.std.specs.Prelude.{◌⊎◌}
 use Rattle.std.specs.Cmp.{IsTotalOrder}
-use Rattle.ppq_record.specs.Order.{Ascends}
-use Rattle.ppq_record.specs.Bag.{IsSameBag}
-use Rattle.ppq_record.proofs.Order.{count_by-append}
-use Rattle.ppq_record.proofs.Fronts.{ranks}
-use Rattle.ppq_outside.specs.Shown.{Shown, AllTell}
-use Rattle.ppq_budget.specs.Sizes.{Numbers}
-use Rattle.ppq_array.specs.Supply.{Stock}
-use Rattle.ppq_fetch.specs.Taking.{NoneAfter, AllBelow, NoneBelow}
-use Rattle.ppq_fetch.proofs.Taken.{taken_none, taken_same, taken_of}
+use Rattle.ppq_heap.specs.ppq_record.Order.{Ascends}
+use Rattle.ppq_heap.specs.ppq_record.Bag.{IsSameBag}
+use Rattle.ppq_heap.proofs.ppq_record.Order.{count_by-append}
+use Rattle.ppq_heap.proofs.ppq_record.Fronts.{ranks}
+use Rattle.ppq_extract.specs.ppq_outside.Shown.{Shown, AllTell}
+use Rattle.ppq_extract.specs.ppq_budget.Sizes.{Numbers}
+use Rattle.ppq_extract.specs.ppq_array.Supply.{Stock}
+use Rattle.ppq_extract.specs.ppq_fetch.Taking.{NoneAfter, AllBelow, NoneBelow}
+use Rattle.ppq_extract.proofs.ppq_fetch.Taken.{taken_none, taken_same, taken_of}
 use Rattle.ppq_spill.specs.declared.body.PassBody.{PassBody}
 use Rattle.ppq_queue.specs.Resting.{BodyKept, AtRest, Moved, Readied, slots_of, runs_bag, count_of}
 use Rattle.ppq_queue.specs.Bulk.{Merged, HasEnded, TookOut, TookAll}

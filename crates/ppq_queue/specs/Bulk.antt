@@ -1,12 +1,12 @@
 -- Taking many records out of a queue at once.
 use Rattle.std.specs.Prelude.{◌≡◌, ◌⊎◌, ℕ, ◌+◌, ◌<◌, ◌≤◌, Bool, true, false, cond, List, [], ◌++◌, length, Option, Some, None}
 use Rattle.std.specs.declared.cmp.Ordering.{Ordering}
-use Rattle.ppq_record.specs.Order.{is_before, Ascends}
-use Rattle.ppq_record.specs.Bag.{size_below}
-use Rattle.ppq_outside.specs.Shown.{Shown, AllTell}
-use Rattle.ppq_budget.specs.Sizes.{Numbers}
-use Rattle.ppq_array.specs.Supply.{Stock}
-use Rattle.ppq_fetch.specs.Taking.{NoneAfter, IsTaken, AllBelow, NoneBelow}
+use Rattle.ppq_heap.specs.ppq_record.Order.{is_before, Ascends}
+use Rattle.ppq_heap.specs.ppq_record.Bag.{size_below}
+use Rattle.ppq_extract.specs.ppq_outside.Shown.{Shown, AllTell}
+use Rattle.ppq_extract.specs.ppq_budget.Sizes.{Numbers}
+use Rattle.ppq_extract.specs.ppq_array.Supply.{Stock}
+use Rattle.ppq_extract.specs.ppq_fetch.Taking.{NoneAfter, IsTaken, AllBelow, NoneBelow}
 use Rattle.ppq_spill.specs.declared.body.PassBody.{PassBody}
 use Rattle.ppq_queue.specs.Resting.{AtRest, runs_bag, count_of, slots_of}
 use Rattle.ppq_queue.specs.declared.limit_end.LimitEnd.{LimitEnd}

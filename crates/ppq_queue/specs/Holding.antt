@@ -1,9 +1,9 @@
 -- What a queue holds.
 use Rattle.std.specs.Prelude.{◌≡◌, ◌<◌, ◌+◌, ◌-◌, ◌*◌, ℕ, Bool, false, List, length, max, Option, Some, None, ⊤, All}
-use Rattle.ppq_record.specs.Bag.{IsSameBag}
-use Rattle.ppq_budget.specs.Sizes.{Numbers, fixed_of, batch_of, heap_of, blocks_for, room_of}
-use Rattle.ppq_outside.specs.Shown.{Shown, AllTell}
-use Rattle.ppq_array.specs.Kept.{HasFailed}
+use Rattle.ppq_heap.specs.ppq_record.Bag.{IsSameBag}
+use Rattle.ppq_extract.specs.ppq_budget.Sizes.{Numbers, fixed_of, batch_of, heap_of, blocks_for, room_of}
+use Rattle.ppq_extract.specs.ppq_outside.Shown.{Shown, AllTell}
+use Rattle.ppq_extract.specs.ppq_array.Kept.{HasFailed}
 use Rattle.ppq_queue.specs.declared.fault.OpenFault.{OpenFault}
 use Rattle.ppq_queue.specs.declared.fault.OpenFault.TheVariants.{TooSmall, Memory}
 use Rattle.ppq_queue.specs.declared.fault.QueueFault.{QueueFault}

@@ -1,19 +1,19 @@
 -- The runs of a queue between its calls.
 use Rattle.std.specs.Prelude.{◌≡◌, ◌↔◌, ◌⊎◌, ◌==◌, cond, ℕ, ◌+◌, ◌*◌, ◌<◌, ◌≤◌, List, [], ◌++◌, length, sum_by, flat_map, All, vec_capacity}
 use Rattle.std.specs.declared.cmp.Ordering.{Ordering}
-use Rattle.ppq_record.specs.Order.{Ascends}
-use Rattle.ppq_record.specs.Bag.{IsSameBag}
-use Rattle.ppq_outside.specs.Shown.{Shown, AllTell}
-use Rattle.ppq_budget.specs.Sizes.{Numbers, pool_of}
-use Rattle.ppq_array.specs.declared.berth.DeviceBlock.{DeviceBlock}
-use Rattle.ppq_array.specs.Run.{Run, items_of, buffers_of}
-use Rattle.ppq_array.specs.External.{External, size_of, records_in, IsPacked}
-use Rattle.ppq_array.specs.Supply.{Stock}
-use Rattle.ppq_array.specs.Owner.{HasBlock}
-use Rattle.ppq_array.specs.Kept.{SameSlots, HasFailed, all_writes}
-use Rattle.ppq_array.specs.Holdings.{internal_items, internal_buffers, external_buffers, RunHasBlock, ArrayHasSize, CanTakeBack}
-use Rattle.ppq_fetch.specs.Fetching.{IsFitting, fronts_in, count_in}
-use Rattle.ppq_fetch.specs.Taking.{NoneAfter}
+use Rattle.ppq_heap.specs.ppq_record.Order.{Ascends}
+use Rattle.ppq_heap.specs.ppq_record.Bag.{IsSameBag}
+use Rattle.ppq_extract.specs.ppq_outside.Shown.{Shown, AllTell}
+use Rattle.ppq_extract.specs.ppq_budget.Sizes.{Numbers, pool_of}
+use Rattle.ppq_extract.specs.ppq_array.declared.berth.DeviceBlock.{DeviceBlock}
+use Rattle.ppq_extract.specs.ppq_array.Run.{Run, items_of, buffers_of}
+use Rattle.ppq_extract.specs.ppq_array.External.{External, size_of, records_in, IsPacked}
+use Rattle.ppq_extract.specs.ppq_array.Supply.{Stock}
+use Rattle.ppq_extract.specs.ppq_array.Owner.{HasBlock}
+use Rattle.ppq_extract.specs.ppq_array.Kept.{SameSlots, HasFailed, all_writes}
+use Rattle.ppq_extract.specs.ppq_array.Holdings.{internal_items, internal_buffers, external_buffers, RunHasBlock, ArrayHasSize, CanTakeBack}
+use Rattle.ppq_extract.specs.ppq_fetch.Fetching.{IsFitting, fronts_in, count_in}
+use Rattle.ppq_extract.specs.ppq_fetch.Taking.{NoneAfter}
 use Rattle.ppq_spill.specs.Body.{body_slots, held_by}
 use Rattle.ppq_spill.specs.declared.body.PassBody.{PassBody}
 

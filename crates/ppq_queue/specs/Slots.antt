@@ -1,7 +1,7 @@
 -- The slots of a queue.
 use Rattle.std.specs.Prelude.{◌≡◌, ℕ, List, sum_by}
-use Rattle.ppq_outside.specs.Shown.{Shown}
-use Rattle.ppq_array.specs.Supply.{Stock}
+use Rattle.ppq_extract.specs.ppq_outside.Shown.{Shown}
+use Rattle.ppq_extract.specs.ppq_array.Supply.{Stock}
 
 -- the same slots as they are, in any order: they add up to the same, whatever is added
 abbrev pub SameSums : List Shown → List Shown → Type 0

@@ -1,15 +1,15 @@
 -- What holds of a queue between its calls.
 use Rattle.std.specs.Prelude.{◌≡◌, ℕ, ◌+◌, ◌*◌, ◌<◌, ◌≤◌, Bool, List, [], length, Option, Some, All, vec_capacity}
 use Rattle.std.specs.declared.cmp.Ordering.{Ordering}
-use Rattle.ppq_record.specs.Order.{Ascends}
-use Rattle.ppq_outside.specs.Shown.{Shown, AllTell}
-use Rattle.ppq_budget.specs.Sizes.{Numbers, AreInRange, fixed_of, heap_of, heaps_of, batch_of, pool_of}
+use Rattle.ppq_heap.specs.ppq_record.Order.{Ascends}
+use Rattle.ppq_extract.specs.ppq_outside.Shown.{Shown, AllTell}
+use Rattle.ppq_extract.specs.ppq_budget.Sizes.{Numbers, AreInRange, fixed_of, heap_of, heaps_of, batch_of, pool_of}
 use Rattle.ppq_heap.specs.Heaps.{Shares, items_of}
-use Rattle.ppq_block.specs.Block.{holding}
-use Rattle.ppq_array.specs.Supply.{Stock}
-use Rattle.ppq_array.specs.Kept.{HasFailed}
-use Rattle.ppq_array.specs.Owner.{new_owner}
-use Rattle.ppq_fetch.specs.Taking.{NoneAfter}
+use Rattle.ppq_extract.specs.ppq_block.Block.{holding}
+use Rattle.ppq_extract.specs.ppq_array.Supply.{Stock}
+use Rattle.ppq_extract.specs.ppq_array.Kept.{HasFailed}
+use Rattle.ppq_extract.specs.ppq_array.Owner.{new_owner}
+use Rattle.ppq_extract.specs.ppq_fetch.Taking.{NoneAfter}
 use Rattle.ppq_extract.specs.Extracted.{Held, held, ServesFor}
 use Rattle.ppq_extract.specs.declared.sources.Sources.{Sources}
 use Rattle.ppq_spill.specs.Body.{held_by}

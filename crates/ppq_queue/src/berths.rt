@@ -1,17 +1,16 @@
 //! Slots that go into boxes when a queue is opened, and out of them when it is closed.
 ghost use Rattle.std.specs.Prelude.{◌≡◌, ◌≤◌, ◌<◌, ◌+◌, ◌-◌, ◌*◌, ◌∷◌, ◌++◌, [], length, map, reverse, All, OnOk, OnErr, IfErr, vec_capacity};
-ghost use Rattle.ppq_array.specs.Kept.{SameSlots};
-ghost use Rattle.ppq_array.specs.Owner.{slots_shown};
-ghost use Rattle.ppq_array.specs.Holdings.{external_slots};
-ghost use Rattle.ppq_lane.specs.declared.job.Job.{Job};
+ghost use Rattle.ppq_extract.specs.ppq_array.Kept.{SameSlots};
+ghost use Rattle.ppq_extract.specs.ppq_array.Owner.{slots_shown};
+ghost use Rattle.ppq_extract.specs.ppq_array.Holdings.{external_slots};
+ghost use Rattle.ppq_extract.specs.ppq_lane.declared.job.Job.{Job};
 ghost use Rattle.ppq_spill.specs.Body.{job_slots, body_slots};
 ghost use Rattle.ppq_queue.specs.Slots.{SameSums, with_slots};
 
-use ppq_array::{Berth, ExternalArray, OwnerLists, Supply, free_slot, give_buffer};
-use ppq_block::BlockBuf;
-use ppq_lane::Job;
-use ppq_outside::Slot;
-use ppq_record::{Memory, Record};
+use ppq_extract::{
+    Berth, BlockBuf, ExternalArray, Job, OwnerLists, Slot, Supply, free_slot, give_buffer,
+};
+use ppq_heap::{Memory, Record};
 use ppq_spill::PassBody;
 use std::alloc::Global;
 

@@ -1,11 +1,11 @@
 //! Many records that are taken out at once: the least of the heaps and of an extract buffer go into a list,
 //! and the extract buffer is refilled on the way.
 ghost use Rattle.std.specs.Prelude.{◌≡◌, ◌≤◌, ◌<◌, ◌+◌, ◌⊎◌, ℕ, true, false, [], length, Some, None, OnOk, IsErrOf};
-ghost use Rattle.ppq_record.specs.Order.{Ascends};
-ghost use Rattle.ppq_outside.specs.Shown.{AllTell};
-ghost use Rattle.ppq_budget.specs.Sizes.{fixed_of, pool_of};
+ghost use Rattle.ppq_heap.specs.ppq_record.Order.{Ascends};
+ghost use Rattle.ppq_extract.specs.ppq_outside.Shown.{AllTell};
+ghost use Rattle.ppq_extract.specs.ppq_budget.Sizes.{fixed_of, pool_of};
 ghost use Rattle.ppq_heap.specs.Heaps.{items_of};
-ghost use Rattle.ppq_fetch.specs.Taking.{NoneAfter};
+ghost use Rattle.ppq_extract.specs.ppq_fetch.Taking.{NoneAfter};
 ghost use Rattle.ppq_extract.specs.Extracted.{ServesFor, SourcesRest};
 ghost use Rattle.ppq_queue.specs.Resting.{AtRest, BodyKept, LevelShort, BodyFailed, slots_of, runs_bag, count_of};
 ghost use Rattle.ppq_queue.specs.Bulk.{Merged, Exhausted, HasEnded, TookOut, TookAll};
@@ -15,12 +15,8 @@ use crate::Out;
 use crate::choice::goes_first;
 use crate::refill::{has_run, refill};
 use crate::settle::settle_some;
-use ppq_array::{OwnerLists, StoreFault};
-use ppq_budget::Sizes;
-use ppq_extract::{Extract, Sources};
-use ppq_heap::Heaps;
-use ppq_outside::{Gate, Host, Slot};
-use ppq_record::{Record, record_laws};
+use ppq_extract::{Extract, Gate, Host, OwnerLists, Sizes, Slot, Sources, StoreFault};
+use ppq_heap::{Heaps, Record, record_laws};
 use ppq_spill::PassBody;
 
 // Takes the least records out of heaps, an extract buffer and runs into an empty list: at most so many,

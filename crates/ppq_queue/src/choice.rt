@@ -2,7 +2,7 @@
 ghost use Rattle.std.specs.Prelude.{◌≡◌};
 ghost use Rattle.ppq_queue.specs.Choice as spec;
 
-use ppq_record::Record;
+use ppq_heap::Record;
 
 // Whether the first of two least records goes first: it is there, and the other is not before it.
 #[inline]

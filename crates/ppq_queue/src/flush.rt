@@ -1,21 +1,16 @@
 //! A heap and the rest of an extract buffer that are stored as runs.
 ghost use Rattle.std.specs.Prelude.{◌≡◌, ◌⊎◌, ◌≤◌, ◌<◌, ◌+◌, ◌*◌, ℕ, [], length, false, IsTrue, OnOk, IsErrOf};
-ghost use Rattle.ppq_record.specs.Order.{Ascends};
-ghost use Rattle.ppq_outside.specs.Shown.{AllTell};
-ghost use Rattle.ppq_budget.specs.Sizes.{fixed_of, pool_of};
+ghost use Rattle.ppq_heap.specs.ppq_record.Order.{Ascends};
+ghost use Rattle.ppq_extract.specs.ppq_outside.Shown.{AllTell};
+ghost use Rattle.ppq_extract.specs.ppq_budget.Sizes.{fixed_of, pool_of};
 ghost use Rattle.ppq_heap.specs.Heaps.{items_of, share_at, ChangesOnly};
 ghost use Rattle.ppq_spill.specs.Storing.{in_buffers};
 ghost use Rattle.ppq_queue.specs.Resting.{AtRest, BodyKept, WholeShort, Emptied, BodyFailed, slots_of, count_of};
 
 use crate::settle::{settle, settle_some};
 use crate::store::{merge_runs, store_run};
-use ppq_array::{OwnerLists, StoreFault};
-use ppq_budget::Sizes;
-use ppq_extract::Extract;
-use ppq_heap::Heaps;
-use ppq_merge::Bench;
-use ppq_outside::{Gate, Host, Slot};
-use ppq_record::{Record, record_laws};
+use ppq_extract::{Bench, Extract, Gate, Host, OwnerLists, Sizes, Slot, StoreFault};
+use ppq_heap::{Heaps, Record, record_laws};
 use ppq_spill::PassBody;
 
 // Stores the rest of an extract buffer as a run, and then the first heap. Before, between and after,

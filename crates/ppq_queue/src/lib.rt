@@ -11,8 +11,6 @@
 
 mod berths;
 mod bulk;
-#[cfg(test)]
-mod bulk_tests;
 mod choice;
 mod fault;
 mod flush;
@@ -25,11 +23,16 @@ mod refill;
 mod settle;
 mod shares;
 mod store;
-#[cfg(test)]
-mod tests;
 
 pub use fault::{OpenFault, QueueFault};
 pub use limit_end::LimitEnd;
 pub use out::Out;
+pub use ppq_extract::{
+    Bench, Berth, BerthList, BlockBuf, BufList, ExternalArray, Extract, Gate, Host, InternalArray,
+    Lanes, Library, OpenGate, OutsideFault, OwnerLists, Rack, Runs, Sizes, Slot, Sources,
+    StoreFault, Supply, free_slot, give_buffer, merge_workers, size_of,
+};
+pub use ppq_heap::{Heaps, InsertionHeap, Listing, Lists, MinTree, Pair, Record, sort};
+pub use ppq_spill::{PassBody, store_sorted};
 pub use queue::Queue;
 pub use queue_parts::QueueParts;

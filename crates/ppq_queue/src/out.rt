@@ -1,10 +1,10 @@
 //! The list in which a bulk pop returns its records.
 ghost use Rattle.std.specs.Prelude.{◌≡◌, ◌<◌, ◌≤◌, ◌↔◌, ◌∷◌, ◌++◌, [], length, IfOk, IsTrue};
-ghost use Rattle.ppq_budget.specs.Sizes.{batch_of};
+ghost use Rattle.ppq_extract.specs.ppq_budget.Sizes.{batch_of};
 ghost use Rattle.ppq_queue.specs.Out.{listed};
 
-use ppq_budget::Sizes;
-use ppq_record::{Memory, Record};
+use ppq_extract::Sizes;
+use ppq_heap::{Memory, Record};
 use std::alloc::Global;
 use std::marker::Model;
 

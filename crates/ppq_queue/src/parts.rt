@@ -1,19 +1,13 @@
 //! The parts of a queue that take memory once.
 ghost use Rattle.std.specs.Prelude.{◌≡◌, ◌≤◌, ◌<◌, ◌+◌, ◌*◌, [], length, All, IfOk, vec_capacity};
-ghost use Rattle.ppq_block.specs.Block.{holding};
-ghost use Rattle.ppq_budget.specs.Sizes.{fixed_of, batch_of, pool_of};
+ghost use Rattle.ppq_extract.specs.ppq_block.Block.{holding};
+ghost use Rattle.ppq_extract.specs.ppq_budget.Sizes.{fixed_of, batch_of, pool_of};
 ghost use Rattle.ppq_queue.specs.State.{AreNewParts};
 
 use crate::berths::make_buffers;
-use ppq_array::{OwnerLists, Runs};
-use ppq_budget::Sizes;
-use ppq_extract::{Extract, Sources};
-use ppq_heap::Heaps;
-use ppq_lane::Lanes;
-use ppq_outside::Slot;
-use ppq_record::{Memory, Record};
+use ppq_extract::{Extract, Lanes, OwnerLists, Runs, Sizes, Slot, Sources};
+use ppq_heap::{Heaps, Memory, MinTree, Record};
 use ppq_spill::PassBody;
-use ppq_tree::MinTree;
 use std::alloc::Global;
 
 // All parts of a queue but its list of slots.

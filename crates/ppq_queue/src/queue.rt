@@ -1,10 +1,10 @@
 //! The queue.
 ghost use Rattle.std.specs.Prelude.{◌≡◌, ◌≤◌, ◌<◌, ◌+◌, ◌-◌, ◌*◌, ◌↔◌, ◌⊎◌, ◌∷◌, [], ℕ, length, map, All, Some, None, IsNone, Err, IfOk, IfErr, OnOk, OnErr, max, min, true, false};
-ghost use Rattle.ppq_record.specs.Bag.{IsSameBag, least, front, without_front, size_below};
-ghost use Rattle.ppq_budget.specs.Sizes.{AreInRange, fixed_of, heap_of, heaps_of, batch_of};
-ghost use Rattle.ppq_outside.specs.Shown.{AllTell};
-ghost use Rattle.ppq_array.specs.Kept.{SameSlots, HasFailed, all_writes};
-ghost use Rattle.ppq_fetch.specs.Taking.{wanted, NoneBelow};
+ghost use Rattle.ppq_heap.specs.ppq_record.Bag.{IsSameBag, least, front, without_front, size_below};
+ghost use Rattle.ppq_extract.specs.ppq_budget.Sizes.{AreInRange, fixed_of, heap_of, heaps_of, batch_of};
+ghost use Rattle.ppq_extract.specs.ppq_outside.Shown.{AllTell};
+ghost use Rattle.ppq_extract.specs.ppq_array.Kept.{SameSlots, HasFailed, all_writes};
+ghost use Rattle.ppq_extract.specs.ppq_fetch.Taking.{wanted, NoneBelow};
 ghost use Rattle.ppq_queue.specs.Bulk.{IsEnd};
 ghost use Rattle.ppq_queue.specs.Handed.{holding_of, IsWhole};
 ghost use Rattle.ppq_queue.specs.Holding.{resident_of, NamesNeed, AreNewSlots, IsRefusal};
@@ -19,12 +19,8 @@ use crate::refill::make_ready;
 use crate::settle::settle_some;
 use crate::shares::store_heaps;
 use crate::{LimitEnd, OpenFault, Out, QueueFault, QueueParts};
-use ppq_array::{OwnerLists, StoreFault, Supply};
-use ppq_budget::Sizes;
-use ppq_extract::{Extract, Sources};
-use ppq_heap::Heaps;
-use ppq_outside::{Gate, Host, Slot};
-use ppq_record::{Record, record_laws};
+use ppq_extract::{Extract, Gate, Host, OwnerLists, Sizes, Slot, Sources, StoreFault, Supply};
+use ppq_heap::{Heaps, Record, record_laws};
 use ppq_spill::PassBody;
 use std::alloc::Global;
 use std::marker::Model;
@@ -62,7 +58,7 @@ pub struct Queue<S: Slot + Send + Sync, R: Record + Send + Sync> {
 
 impl<S: Slot + Send + Sync, R: Record + Send + Sync> Model for Queue<S, R> {
     ghost use Rattle.std.specs.Prelude.{◌≡◌, ◌+◌, ◌≤◌, ◌++◌, [], length, None, vec_capacity};
-    ghost use Rattle.ppq_budget.specs.Sizes.{pool_of};
+    ghost use Rattle.ppq_extract.specs.ppq_budget.Sizes.{pool_of};
     ghost use Rattle.ppq_heap.specs.Heaps.{items_of, share_at};
     ghost use Rattle.ppq_queue.specs.Holding.{Holding};
     ghost use Rattle.ppq_queue.specs.Resting.{slots_of, runs_bag, lane_buffers};

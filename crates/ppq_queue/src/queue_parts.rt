@@ -1,10 +1,6 @@
 //! The parts of a queue, for whoever works on them outside of it.
-use ppq_array::OwnerLists;
-use ppq_budget::Sizes;
-use ppq_extract::{Extract, Sources};
-use ppq_heap::Heaps;
-use ppq_outside::Slot;
-use ppq_record::Record;
+use ppq_extract::{Extract, OwnerLists, Sizes, Slot, Sources};
+use ppq_heap::{Heaps, Record};
 use ppq_spill::PassBody;
 
 /// All parts of a queue, as `Queue::into_parts` hands them over and `Queue::from_parts` takes them back.

@@ -1,18 +1,15 @@
 //! An extract buffer that is made ready for the next pop.
 ghost use Rattle.std.specs.Prelude.{◌≡◌, ◌≤◌, ◌<◌, ◌+◌, ℕ, true, false, [], length, OnOk, OnErr, IsErrOf};
-ghost use Rattle.ppq_record.specs.Order.{Ascends};
-ghost use Rattle.ppq_outside.specs.Shown.{AllTell};
-ghost use Rattle.ppq_budget.specs.Sizes.{fixed_of, pool_of};
-ghost use Rattle.ppq_fetch.specs.Taking.{NoneAfter};
+ghost use Rattle.ppq_heap.specs.ppq_record.Order.{Ascends};
+ghost use Rattle.ppq_extract.specs.ppq_outside.Shown.{AllTell};
+ghost use Rattle.ppq_extract.specs.ppq_budget.Sizes.{fixed_of, pool_of};
+ghost use Rattle.ppq_extract.specs.ppq_fetch.Taking.{NoneAfter};
 ghost use Rattle.ppq_extract.specs.Extracted.{ServesFor, SourcesRest};
 ghost use Rattle.ppq_queue.specs.Resting.{AtRest, BodyKept, Readied, LevelShort, BodyFailed, slots_of, runs_bag, count_of};
 
 use crate::settle::settle;
-use ppq_array::{OwnerLists, StoreFault};
-use ppq_budget::Sizes;
-use ppq_extract::{Extract, Sources};
-use ppq_outside::{Gate, Host, Slot};
-use ppq_record::Record;
+use ppq_extract::{Extract, Gate, Host, OwnerLists, Sizes, Slot, Sources, StoreFault};
+use ppq_heap::Record;
 use ppq_spill::PassBody;
 
 // Takes the least records of the runs into an extract buffer, where it is empty and there is a run.

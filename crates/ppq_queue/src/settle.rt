@@ -1,15 +1,12 @@
 //! Levels of runs that are merged until none has more than 8.
 ghost use Rattle.std.specs.Prelude.{◌≡◌, ◌≤◌, ◌<◌, ℕ, [], length, OnOk, IsErrOf};
-ghost use Rattle.ppq_budget.specs.Sizes.{fixed_of};
+ghost use Rattle.ppq_extract.specs.ppq_budget.Sizes.{fixed_of};
 ghost use Rattle.ppq_spill.specs.Leveling.{count_level};
 ghost use Rattle.ppq_queue.specs.Resting.{AtRest, BodyKept, Moved, Settled, LevelShort, BodyFailed, count_of};
 
 use crate::refill::has_run;
-use ppq_array::{ExternalArray, OwnerLists, StoreFault};
-use ppq_budget::Sizes;
-use ppq_merge::Bench;
-use ppq_outside::{Gate, Host, Slot};
-use ppq_record::Record;
+use ppq_extract::{Bench, ExternalArray, Gate, Host, OwnerLists, Sizes, Slot, StoreFault};
+use ppq_heap::Record;
 use ppq_spill::{PassBody, merge_level};
 
 // Merges levels of runs, if there is a run.

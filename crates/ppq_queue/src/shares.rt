@@ -1,16 +1,12 @@
 //! All heaps that are stored as runs.
 ghost use Rattle.std.specs.Prelude.{◌≡◌, ◌≤◌, ◌<◌, ℕ, [], length, OnOk, IsErrOf};
-ghost use Rattle.ppq_budget.specs.Sizes.{fixed_of};
+ghost use Rattle.ppq_extract.specs.ppq_budget.Sizes.{fixed_of};
 ghost use Rattle.ppq_heap.specs.Heaps.{items_of, share_at, ChangesOnly};
 ghost use Rattle.ppq_queue.specs.Resting.{AtRest, BodyKept, WholeShort, Emptied, BodyFailed};
 
 use crate::flush::store_heap;
-use ppq_array::{OwnerLists, StoreFault};
-use ppq_budget::Sizes;
-use ppq_heap::Heaps;
-use ppq_merge::Bench;
-use ppq_outside::{Gate, Host, Slot};
-use ppq_record::Record;
+use ppq_extract::{Bench, Gate, Host, OwnerLists, Sizes, Slot, StoreFault};
+use ppq_heap::{Heaps, Record};
 use ppq_spill::PassBody;
 
 // Stores each heap that is not empty as a run of its own, the first heap first. After each, levels of runs

@@ -1,15 +1,13 @@
 //! Runs that are stored: the rest of the extract buffer, and the first heap.
 ghost use Rattle.std.specs.Prelude.{◌≡◌, ◌≤◌, ◌<◌, ◌+◌, ℕ, [], length, OnOk, IsErrOf};
-ghost use Rattle.ppq_record.specs.Order.{Ascends};
-ghost use Rattle.ppq_outside.specs.Shown.{AllTell};
-ghost use Rattle.ppq_budget.specs.Sizes.{fixed_of};
+ghost use Rattle.ppq_heap.specs.ppq_record.Order.{Ascends};
+ghost use Rattle.ppq_extract.specs.ppq_outside.Shown.{AllTell};
+ghost use Rattle.ppq_extract.specs.ppq_budget.Sizes.{fixed_of};
 ghost use Rattle.ppq_spill.specs.Storing.{in_buffers};
 ghost use Rattle.ppq_queue.specs.Resting.{AtRest, BodyKept, Moved, StoreShort, BodyFailed, slots_of};
 
-use ppq_array::{OwnerLists, StoreFault};
-use ppq_budget::Sizes;
-use ppq_outside::{Host, Slot};
-use ppq_record::Record;
+use ppq_extract::{Host, OwnerLists, Sizes, Slot, StoreFault};
+use ppq_heap::Record;
 use ppq_spill::{PassBody, store_buffers, store_sorted};
 
 // Stores an ascending list of records as one more run.

@@ -13,8 +13,6 @@ mod lists;
 mod memory;
 mod pair;
 mod record;
-#[cfg(test)]
-mod tests;
 
 pub use bag::{one_front, sort};
 pub use bytes::{put_all, take_at, taken_back};

@@ -24,8 +24,6 @@ mod plays;
 mod row;
 mod rule;
 mod seat;
-#[cfg(test)]
-mod tests;
 
 pub use hand::Hand;
 pub use laws::{counter_never_wraps, steps_are_events};

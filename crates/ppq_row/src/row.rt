@@ -8,7 +8,7 @@ use crate::plays::{Draws, Moved, OneShare, Together};
 use crate::rule::DrawnOnce;
 use crate::{Hand, RowSeat};
 use atomic_table::{Refused, Seat, Table};
-use ppq_record::Memory;
+use ppq_core::Memory;
 use ppq_table::{Place, items_from, lay, unlay};
 use std::alloc::Global;
 use std::marker::Model;

@@ -1,3 +1,5 @@
+pub use Rattle.ppq_outside.specs as ppq_outside
+pub use Rattle.ppq_record.specs as ppq_record
 pub mod Checking
 pub mod Command
 pub mod Files

@@ -14,13 +14,13 @@ mod numbered;
 mod reader;
 mod script;
 mod session;
-#[cfg(test)]
-mod tests;
 
 pub use check::{CheckFault, check_files};
 pub use command::Command;
 pub use digits::number;
 pub use laws::lines_mean;
 pub use numbered::Numbered;
+pub use ppq_outside::{Failed, Gate, Host, Library, OpenGate, OutsideFault, Rack, Sink, Slot};
+pub use ppq_record::{Memory, Pair, Record};
 pub use reader::read;
 pub use script::Script;

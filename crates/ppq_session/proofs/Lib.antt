@@ -1,3 +1,10 @@
+pub use Rattle.ppq_begin.proofs.ppq_array as ppq_array
+pub use Rattle.ppq_begin.proofs.ppq_block as ppq_block
+pub use Rattle.ppq_begin.proofs.ppq_gather as ppq_gather
+pub use Rattle.ppq_begin.proofs.ppq_outside as ppq_outside
+pub use Rattle.ppq_begin.proofs.ppq_pass as ppq_pass
+pub use Rattle.ppq_begin.proofs.ppq_record as ppq_record
+pub use Rattle.ppq_begin.proofs.ppq_spill as ppq_spill
 pub mod Brings
 pub mod Bulks
 pub mod DealtParts

@@ -2,25 +2,25 @@
 -- are out.
 use Rattle.std.specs.Prelude.{◌≡◌, ℕ, ◌+◌, ◌-◌, ◌*◌, ◌<◌, ◌≤◌, true, Any, List, [], ◌++◌, length, max, reverse, sum_by, Option, Some, None, All, vec_capacity}
 use Rattle.std.specs.declared.cmp.Ordering.{Ordering}
-use Rattle.ppq_record.specs.Order.{Ascends}
-use Rattle.ppq_record.specs.Bag.{IsSameBag}
-use Rattle.ppq_outside.specs.Shown.{Shown, AllTell}
-use Rattle.ppq_budget.specs.Sizes.{AreInRange, fixed_of, heap_of, batch_of, pool_of, room_of}
-use Rattle.ppq_table.specs.Sums.{all_shares}
-use Rattle.ppq_array.specs.Owner.{slots_shown, HasSize, HasBlock}
-use Rattle.ppq_array.specs.Kept.{HasFailed, SameSlots, all_writes}
-use Rattle.ppq_array.specs.Holdings.{external_buffers}
-use Rattle.ppq_fetch.specs.Fetching.{fronts_in}
-use Rattle.ppq_fetch.specs.Taking.{NoneAfter}
-use Rattle.ppq_extract.specs.Extracted.{ServesFor}
-use Rattle.ppq_pool.specs.Seats.{count_of as pool_count}
-use Rattle.ppq_spill.specs.Body.{held_by}
-use Rattle.ppq_pass.specs.Passed.{PassKey, PassHolding, PassTells}
-use Rattle.ppq_pass.specs.declared.shared.Shared.{Shared}
+use Rattle.ppq_begin.specs.ppq_record.Order.{Ascends}
+use Rattle.ppq_begin.specs.ppq_record.Bag.{IsSameBag}
+use Rattle.ppq_begin.specs.ppq_outside.Shown.{Shown, AllTell}
+use Rattle.ppq_begin.specs.ppq_budget.Sizes.{AreInRange, fixed_of, heap_of, batch_of, pool_of, room_of}
+use Rattle.ppq_begin.specs.ppq_table.Sums.{all_shares}
+use Rattle.ppq_begin.specs.ppq_array.Owner.{slots_shown, HasSize, HasBlock}
+use Rattle.ppq_begin.specs.ppq_array.Kept.{HasFailed, SameSlots, all_writes}
+use Rattle.ppq_begin.specs.ppq_array.Holdings.{external_buffers}
+use Rattle.ppq_begin.specs.ppq_fetch.Fetching.{fronts_in}
+use Rattle.ppq_begin.specs.ppq_fetch.Taking.{NoneAfter}
+use Rattle.ppq_begin.specs.ppq_extract.Extracted.{ServesFor}
+use Rattle.ppq_begin.specs.ppq_pool.Seats.{count_of as pool_count}
+use Rattle.ppq_begin.specs.ppq_spill.Body.{held_by}
+use Rattle.ppq_begin.specs.ppq_pass.Passed.{PassKey, PassHolding, PassTells}
+use Rattle.ppq_begin.specs.ppq_pass.declared.shared.Shared.{Shared}
 use Rattle.ppq_session.specs.Bringing.{BroughtAll}
-use Rattle.ppq_queue.specs.Holding.{Holding, IsAbove, HasStopped}
-use Rattle.ppq_queue.specs.Resting.{IsRestingRun, IsRestingArray, AllRise, runs_bag, count_of, lane_buffers, odd_in, slots_of}
-use Rattle.ppq_queue.specs.declared.fault.QueueFault.TheVariants.{NoFreeBlock, Device}
+use Rattle.ppq_begin.specs.ppq_queue.Holding.{Holding, IsAbove, HasStopped}
+use Rattle.ppq_begin.specs.ppq_queue.Resting.{IsRestingRun, IsRestingArray, AllRise, runs_bag, count_of, lane_buffers, odd_in, slots_of}
+use Rattle.ppq_begin.specs.ppq_queue.declared.fault.QueueFault.TheVariants.{NoFreeBlock, Device}
 use Rattle.ppq_begin.specs.Session.{HasNoBlock, bag_of, accepted_of}
 use Rattle.ppq_begin.specs.declared.fault.SessionEnd.{SessionEnd}
 use Rattle.ppq_begin.specs.declared.fault.SessionEnd.TheVariants.{Whole, Stopped}

@@ -1,11 +1,11 @@
 -- A session whose row and pool are closed.
 use Rattle.std.specs.Prelude.{◌≡◌, ℕ, ◌+◌, ◌-◌, true, List, [], ◌++◌, length, drop, Option}
-use Rattle.ppq_outside.specs.Shown.{Shown}
-use Rattle.ppq_table.specs.Sums.{times, once_below}
-use Rattle.ppq_array.specs.Owner.{slots_shown}
-use Rattle.ppq_array.specs.declared.berth.DeviceBlock.{DeviceBlock}
-use Rattle.ppq_pool.specs.Seats.{count_of as pool_count}
-use Rattle.ppq_gather.specs.declared.closed.Closed.{Closed}
+use Rattle.ppq_begin.specs.ppq_outside.Shown.{Shown}
+use Rattle.ppq_begin.specs.ppq_table.Sums.{times, once_below}
+use Rattle.ppq_begin.specs.ppq_array.Owner.{slots_shown}
+use Rattle.ppq_begin.specs.ppq_array.declared.berth.DeviceBlock.{DeviceBlock}
+use Rattle.ppq_begin.specs.ppq_pool.Seats.{count_of as pool_count}
+use Rattle.ppq_begin.specs.ppq_gather.declared.closed.Closed.{Closed}
 use Rattle.ppq_begin.specs.declared.parts.BulkParts.{BulkParts}
 
 module _ {S R : Type 0} (shown : S → Shown) where

@@ -2,11 +2,7 @@
 ghost use Rattle.std.specs.Prelude.{◌≡◌, ◌≤◌, ◌<◌, ◌+◌, [], ◌∷◌, length, reverse, All, vec_len, vec_capacity};
 ghost use Rattle.ppq_session.specs.Bringing.{BroughtAll, IsShareOf};
 
-use ppq_begin::{BulkParts, Pass, Shared};
-use ppq_gather::Brought;
-use ppq_outside::Slot;
-use ppq_pass::{PassHeld, PassParts};
-use ppq_record::Record;
+use ppq_begin::{Brought, BulkParts, Pass, PassHeld, PassParts, Record, Shared, Slot};
 use std::snapshot::Snapshot;
 
 /// Takes all passes apart, the last first, and joins their seats.

@@ -1,8 +1,9 @@
 //! The law of a session's events.
 ghost use Rattle.ppq_session.specs.OneHistory.{StatesShowOne, PlaysAreSteps, EachStepShowsOne, AllStepsShowOne};
 
-use ppq_core::{interleaving_laws, slot_laws};
-use ppq_record::Record;
+use ppq_begin::{
+    Record, buffer_steps_are_events, interleaving_laws, slot_laws, slot_steps_are_events,
+};
 
 /// One history of a pool of buffers and a row of slots, whose seats are of the passes of a session.
 ///
@@ -25,6 +26,6 @@ pub fn sessions_are_histories<B, S, R: Record>()
 {
     slot_laws::<R>();
     interleaving_laws::<R>();
-    ppq_pool::steps_are_events::<B, R>();
-    ppq_row::steps_are_events::<S, R>();
+    buffer_steps_are_events::<B, R>();
+    slot_steps_are_events::<S, R>();
 }

@@ -15,15 +15,9 @@ mod bringing;
 mod close;
 mod dealing;
 mod end;
-#[cfg(test)]
-mod law_tests;
 mod laws;
 mod line;
 mod lines;
-#[cfg(test)]
-mod tests;
-#[cfg(test)]
-mod thread_tests;
 
 pub use bringing::bring;
 pub use dealing::{are_going, deal};
@@ -31,4 +25,8 @@ pub use end::{bulk_end, end_joined};
 pub use laws::sessions_are_histories;
 pub use line::Line;
 pub use lines::push_lines;
-pub use ppq_begin::{BeginFault, Bulk, Full, Pass, PoolBuf, SessionEnd, Shared, bulk_begin};
+pub use ppq_begin::{
+    BeginFault, BufList, Bulk, BulkParts, Full, Gate, Host, Library, OpenFault, Out, OutsideFault,
+    OwnerLists, Pair, Pass, PoolBuf, Queue, QueueFault, Record, SessionEnd, Shared, Sizes, Slot,
+    Supply, bulk_begin, record_laws,
+};

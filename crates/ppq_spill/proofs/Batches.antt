@@ -5,11 +5,11 @@ use Rattle.std.proofs.lemmas.Nat.{mul-le}
 use Rattle.std.proofs.lemmas.Grind.{flat_map-append}
 use Rattle.std.proofs.lemmas.List.{take_all, length-take, length-drop}
 use Rattle.std.proofs.lemmas.List.Elements.{All-nil, All-append}
-use Rattle.ppq_outside.specs.Shown.{Shown, AllTell}
-use Rattle.ppq_array.specs.declared.berth.DeviceBlock.{DeviceBlock}
-use Rattle.ppq_array.specs.declared.store_fault.StoreFault.{StoreFault}
-use Rattle.ppq_array.specs.Run.{run_of}
-use Rattle.ppq_array.specs.External.{External, external, size_of, counts, block_items, blocks_items, IsPacked}
+use Rattle.ppq_fetch.specs.ppq_outside.Shown.{Shown, AllTell}
+use Rattle.ppq_fetch.specs.ppq_array.declared.berth.DeviceBlock.{DeviceBlock}
+use Rattle.ppq_fetch.specs.ppq_array.declared.store_fault.StoreFault.{StoreFault}
+use Rattle.ppq_fetch.specs.ppq_array.Run.{run_of}
+use Rattle.ppq_fetch.specs.ppq_array.External.{External, external, size_of, counts, block_items, blocks_items, IsPacked}
 use Rattle.ppq_spill.specs.Making.{Hand, hand_slots, Wrote, WroteAll, WroteSome, AllFull, AllFit}
 use Rattle.ppq_spill.proofs.Parts.{Wrote-trans, Wrote-none, hand_long}
 use Rattle.ppq_spill.proofs.Blocks.{counts_append, counts_full, full_fit, all_full, packed_append, packed_full, fewer_than}

@@ -6,11 +6,11 @@ use Rattle.std.specs.Cmp.{IsStrictWeakOrder}
 use Rattle.std.specs.declared.cmp.Ordering.{Ordering}
 use Rattle.std.proofs.lemmas.List.Concat.{flat_map-cons}
 use Rattle.std.proofs.lemmas.List.Elements.{All-cons, All-head, All-tail}
-use Rattle.ppq_record.specs.Order.{is_before, Ascends, Le}
-use Rattle.ppq_record.specs.Bag.{IsSameBag, first_of}
-use Rattle.ppq_record.proofs.Order.{count_by-cons, count_by-append, IsSameBag-length, IsSameBag-append, Each-append, Le-trans}
-use Rattle.ppq_array.specs.Run.{Run, items_of, buffers_of}
-use Rattle.ppq_array.specs.Holdings.{internal_items}
+use Rattle.ppq_fetch.specs.ppq_record.Order.{is_before, Ascends, Le}
+use Rattle.ppq_fetch.specs.ppq_record.Bag.{IsSameBag, first_of}
+use Rattle.ppq_fetch.proofs.ppq_record.Order.{count_by-cons, count_by-append, IsSameBag-length, IsSameBag-append, Each-append, Le-trans}
+use Rattle.ppq_fetch.specs.ppq_array.Run.{Run, items_of, buffers_of}
+use Rattle.ppq_fetch.specs.ppq_array.Holdings.{internal_items}
 use Rattle.ppq_spill.specs.Choosing.{NotBefore, IsBest}
 use Rattle.ppq_spill.specs.Writing.{Merged, left_in}
 

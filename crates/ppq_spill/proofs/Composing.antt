@@ -1,9 +1,9 @@
 -- Two calls, one after the other, keep slots and buffers as one does.
 use Rattle.std.proofs.Common.{◌≡◌, ℕ, ◌+◌, List, ◌++◌, length, sum_by, ◌∙◌, arith, length-append}
 use Rattle.std.proofs.lemmas.List.Sums.{sum_by-append}
-use Rattle.ppq_outside.specs.Shown.{Shown}
-use Rattle.ppq_array.specs.Supply.{Stock}
-use Rattle.ppq_array.specs.Kept.{Kept, Held, weight_at}
+use Rattle.ppq_fetch.specs.ppq_outside.Shown.{Shown}
+use Rattle.ppq_fetch.specs.ppq_array.Supply.{Stock}
+use Rattle.ppq_fetch.specs.ppq_array.Kept.{Kept, Held, weight_at}
 
 three : (f : Shown → ℕ) (a b c : List Shown) → sum_by f (a ++ b ++ c) ≡ sum_by f a + sum_by f b + sum_by f c
 three f a b c = omega (arith, sum_by-append f (a ++ b) c, sum_by-append f a b)

@@ -2,11 +2,11 @@
 use Rattle.std.proofs.Common.{◌≡◌, ℕ, ◌+◌, ◌<◌, ◌≤◌, List, [], ◌∷◌, ◌++◌, length, sum_by, All, refl, sym, ap, ◌∙◌, subst, arith}
 use Rattle.std.proofs.lemmas.List.Sums.{sum_by-cons}
 use Rattle.std.proofs.lemmas.List.Elements.{All-head}
-use Rattle.ppq_outside.specs.Shown.{Shown}
-use Rattle.ppq_array.specs.declared.berth.DeviceBlock.{DeviceBlock}
-use Rattle.ppq_array.specs.Run.{Run, IsRun, items_of, buffers_of}
-use Rattle.ppq_array.specs.External.{External, size_of, counts, IsLabelled}
-use Rattle.ppq_array.proofs.Items.{no_live}
+use Rattle.ppq_fetch.specs.ppq_outside.Shown.{Shown}
+use Rattle.ppq_fetch.specs.ppq_array.declared.berth.DeviceBlock.{DeviceBlock}
+use Rattle.ppq_fetch.specs.ppq_array.Run.{Run, IsRun, items_of, buffers_of}
+use Rattle.ppq_fetch.specs.ppq_array.External.{External, size_of, counts, IsLabelled}
+use Rattle.ppq_fetch.proofs.ppq_array.Items.{no_live}
 use Rattle.ppq_spill.specs.Making.{IsEmptied}
 
 nothing : {X : Type 0} (xs : List X) → length xs ≡ 0 → xs ≡ []

@@ -7,13 +7,13 @@ use Rattle.std.proofs.lemmas.List.Sums.{sum_by-cons, sum_by-append}
 use Rattle.std.proofs.lemmas.List.Elements.{All-cons, All-head, All-tail, All-nil, All-take, All-drop}
 use Rattle.std.proofs.lemmas.Grind.{flat_map-append}
 use Rattle.std.proofs.lemmas.List.Concat.{flat_map-cons}
-use Rattle.ppq_outside.specs.Shown.{Shown, AllTell}
-use Rattle.ppq_array.specs.declared.berth.DeviceBlock.{DeviceBlock}
-use Rattle.ppq_array.specs.Run.{items_of}
-use Rattle.ppq_array.specs.External.{External, size_of, counts}
-use Rattle.ppq_array.specs.Kept.{SameSlots, weight_at}
-use Rattle.ppq_array.specs.Owner.{slots_shown}
-use Rattle.ppq_array.specs.Holdings.{external_slots, internal_buffers}
+use Rattle.ppq_fetch.specs.ppq_outside.Shown.{Shown, AllTell}
+use Rattle.ppq_fetch.specs.ppq_array.declared.berth.DeviceBlock.{DeviceBlock}
+use Rattle.ppq_fetch.specs.ppq_array.Run.{items_of}
+use Rattle.ppq_fetch.specs.ppq_array.External.{External, size_of, counts}
+use Rattle.ppq_fetch.specs.ppq_array.Kept.{SameSlots, weight_at}
+use Rattle.ppq_fetch.specs.ppq_array.Owner.{slots_shown}
+use Rattle.ppq_fetch.specs.ppq_array.Holdings.{external_slots, internal_buffers}
 use Rattle.ppq_fetch.specs.Fetching.{State, state, held_in, slots_in, WentOn, PartsKept, blocks_in, count_in}
 use Rattle.ppq_spill.specs.Went.{Went}
 use Rattle.ppq_spill.specs.Making.{AllFit, SameRest, loaded_count}

@@ -1,12 +1,12 @@
 -- A new body can store a run.
 use Rattle.std.proofs.Common.{◌≡◌, ℕ, ◌-◌, ◌*◌, ◌<◌, ◌≤◌, ◌^◌, [], ◌∷◌, length, All, sym, ap, subst, arith}
 use Rattle.std.specs.declared.cmp.Ordering.{Ordering}
-use Rattle.ppq_record.specs.Order.{Ascends}
-use Rattle.ppq_outside.specs.Shown.{Shown}
-use Rattle.ppq_array.specs.Run.{Run, items_of}
-use Rattle.ppq_array.specs.Supply.{Stock}
-use Rattle.ppq_array.specs.Owner.{HasBlock}
-use Rattle.ppq_array.specs.Holdings.{internal_items, internal_buffers, external_slots, RunHasBlock, ArrayHasSize}
+use Rattle.ppq_fetch.specs.ppq_record.Order.{Ascends}
+use Rattle.ppq_fetch.specs.ppq_outside.Shown.{Shown}
+use Rattle.ppq_fetch.specs.ppq_array.Run.{Run, items_of}
+use Rattle.ppq_fetch.specs.ppq_array.Supply.{Stock}
+use Rattle.ppq_fetch.specs.ppq_array.Owner.{HasBlock}
+use Rattle.ppq_fetch.specs.ppq_array.Holdings.{internal_items, internal_buffers, external_slots, RunHasBlock, ArrayHasSize}
 use Rattle.ppq_spill.specs.declared.body.PassBody.{PassBody}
 use Rattle.ppq_spill.specs.Body.{IsNewBody}
 use Rattle.ppq_spill.specs.Storing.{MayStore, RunsAscend}

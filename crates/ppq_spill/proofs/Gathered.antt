@@ -7,7 +7,7 @@ use Rattle.std.proofs.lemmas.List.Edits.{swapped_from_swap}
 use Rattle.std.proofs.lemmas.List.Sorted.{sum_by-IsPermutation}
 use Rattle.std.proofs.lemmas.List.Sums.{sum_by-cons, sum_by-take-drop, sum_by_more}
 use Rattle.std.proofs.lemmas.List.Elements.{All-head, All-tail, All-get_or, All-from_get_or}
-use Rattle.ppq_array.specs.External.{External}
+use Rattle.ppq_fetch.specs.ppq_array.External.{External}
 use Rattle.ppq_spill.specs.Leveling.{HasLevel, count_level}
 
 module _ {S R : Type 0} (level : ℕ) where

@@ -2,9 +2,9 @@
 use Rattle.std.proofs.Common.{◌≡◌, ℕ, ◌+◌, ◌*◌, ◌≤◌, List, [], ◌∷◌, ◌++◌, length, sum_by, Option, Some, None, IsSome, refl, sym, ap, ap₂, ◌∙◌, subst, arith}
 use Rattle.std.proofs.lemmas.List.Sums.{sum_by-cons, sum_by-append}
 use Rattle.std.proofs.lemmas.List.Elements.{All-cons, All-head, All-nil}
-use Rattle.ppq_outside.specs.Shown.{Shown, Tells, AllTell}
-use Rattle.ppq_array.specs.Supply.{Stock}
-use Rattle.ppq_array.specs.Kept.{SameSlots, MoreWrites, weight_at}
+use Rattle.ppq_fetch.specs.ppq_outside.Shown.{Shown, Tells, AllTell}
+use Rattle.ppq_fetch.specs.ppq_array.Supply.{Stock}
+use Rattle.ppq_fetch.specs.ppq_array.Kept.{SameSlots, MoreWrites, weight_at}
 use Rattle.ppq_spill.specs.Leveling.{MoreCalls}
 use Rattle.ppq_spill.specs.Went.{Went}
 use Rattle.ppq_spill.specs.Writing.{Grew}

@@ -4,9 +4,9 @@ use Rattle.std.proofs.lemmas.Bool.{cases_lt, cases_eq}
 use Rattle.std.proofs.lemmas.List.{get_or-set_same, get_or-set_other, get_or_past}
 use Rattle.std.specs.declared.cmp.Ordering.{Ordering}
 use Rattle.std.specs.Ordering.{is_lt}
-use Rattle.ppq_record.specs.Bag.{first_of}
-use Rattle.ppq_array.specs.Run.{Run, items_of}
-use Rattle.ppq_tree.specs.Tree.{IsLeastLeaf, HasNoItems}
+use Rattle.ppq_fetch.specs.ppq_record.Bag.{first_of}
+use Rattle.ppq_fetch.specs.ppq_array.Run.{Run, items_of}
+use Rattle.ppq_fetch.specs.ppq_tree.Tree.{IsLeastLeaf, HasNoItems}
 use Rattle.ppq_spill.specs.Choosing.{first_at, HasHeads, NotBefore, IsBest}
 
 module _ {R : Type 0} where

@@ -4,16 +4,16 @@ use Rattle.std.specs.Prelude.{count_by}
 use Rattle.std.proofs.lemmas.List.Sums.{sum_by-cons, sum_by-append}
 use Rattle.std.proofs.lemmas.List.Elements.{All-cons, All-head, All-tail, All-nil}
 use Rattle.std.specs.declared.cmp.Ordering.{Ordering}
-use Rattle.ppq_record.proofs.Order.{IsSameBag-append_comm}
-use Rattle.ppq_outside.specs.Shown.{Shown, Tells, AllTell}
-use Rattle.ppq_outside.specs.Told.{Rose}
-use Rattle.ppq_array.specs.declared.berth.DeviceBlock.{DeviceBlock}
-use Rattle.ppq_array.specs.Run.{Run}
-use Rattle.ppq_array.specs.External.{External, size_of, records_in, IsPacked}
-use Rattle.ppq_array.specs.Supply.{Stock}
-use Rattle.ppq_array.specs.Owner.{slots_shown}
-use Rattle.ppq_array.specs.Holdings.{internal_items}
-use Rattle.ppq_array.proofs.Noted.{all_left}
+use Rattle.ppq_fetch.proofs.ppq_record.Order.{IsSameBag-append_comm}
+use Rattle.ppq_fetch.specs.ppq_outside.Shown.{Shown, Tells, AllTell}
+use Rattle.ppq_fetch.specs.ppq_outside.Told.{Rose}
+use Rattle.ppq_fetch.specs.ppq_array.declared.berth.DeviceBlock.{DeviceBlock}
+use Rattle.ppq_fetch.specs.ppq_array.Run.{Run}
+use Rattle.ppq_fetch.specs.ppq_array.External.{External, size_of, records_in, IsPacked}
+use Rattle.ppq_fetch.specs.ppq_array.Supply.{Stock}
+use Rattle.ppq_fetch.specs.ppq_array.Owner.{slots_shown}
+use Rattle.ppq_fetch.specs.ppq_array.Holdings.{internal_items}
+use Rattle.ppq_fetch.proofs.ppq_array.Noted.{all_left}
 use Rattle.ppq_spill.specs.declared.body.PassBody.{PassBody}
 use Rattle.ppq_spill.specs.Body.{body_slots}
 use Rattle.ppq_spill.specs.Moves.{SameSums, DrewSlots, FoundScant}

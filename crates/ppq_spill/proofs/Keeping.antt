@@ -6,13 +6,13 @@ use Rattle.std.proofs.lemmas.Grind.{flat_map-append}
 use Rattle.std.proofs.lemmas.List.Concat.{flat_map-cons}
 use Rattle.std.proofs.lemmas.List.Sums.{sum_by-cons, sum_by-append}
 use Rattle.std.proofs.lemmas.List.Elements.{All-cons, All-head, All-tail}
-use Rattle.ppq_outside.specs.Shown.{Shown}
-use Rattle.ppq_array.specs.declared.berth.DeviceBlock.{DeviceBlock}
-use Rattle.ppq_array.specs.Run.{Run, run_of, buffers_of}
-use Rattle.ppq_array.specs.External.{External, external}
-use Rattle.ppq_array.specs.Kept.{SameSlots, weight_at}
-use Rattle.ppq_array.specs.Owner.{slots_shown, HasBlock}
-use Rattle.ppq_array.specs.Holdings.{internal_buffers, external_slots, external_buffers, RunHasBlock}
+use Rattle.ppq_fetch.specs.ppq_outside.Shown.{Shown}
+use Rattle.ppq_fetch.specs.ppq_array.declared.berth.DeviceBlock.{DeviceBlock}
+use Rattle.ppq_fetch.specs.ppq_array.Run.{Run, run_of, buffers_of}
+use Rattle.ppq_fetch.specs.ppq_array.External.{External, external}
+use Rattle.ppq_fetch.specs.ppq_array.Kept.{SameSlots, weight_at}
+use Rattle.ppq_fetch.specs.ppq_array.Owner.{slots_shown, HasBlock}
+use Rattle.ppq_fetch.specs.ppq_array.Holdings.{internal_buffers, external_slots, external_buffers, RunHasBlock}
 use Rattle.ppq_spill.specs.Moves.{SameSums}
 
 -- fewer blocks than so many records need

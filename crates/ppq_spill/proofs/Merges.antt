@@ -8,18 +8,18 @@ use Rattle.std.proofs.Math.Nat.{add-mul}
 use Rattle.std.proofs.lemmas.List.Sums.{sum_by-cons, sum_by-append}
 use Rattle.std.proofs.lemmas.List.Elements.{All-nil, All-append}
 use Rattle.std.proofs.lemmas.Grind.{flat_map-append}
-use Rattle.ppq_record.specs.Order.{is_before, Ascends, Le}
-use Rattle.ppq_record.specs.Bag.{IsSameBag}
-use Rattle.ppq_record.proofs.Order.{IsSameBag-append, Each_le-same_bag, Each-append_left, Each-append_right, Each-weaker, Each-append, Rising-append}
-use Rattle.ppq_block.specs.Block.{Block}
-use Rattle.ppq_outside.specs.Shown.{Shown, AllTell}
-use Rattle.ppq_array.specs.declared.berth.DeviceBlock.{DeviceBlock}
-use Rattle.ppq_array.specs.declared.store_fault.StoreFault.{StoreFault}
-use Rattle.ppq_array.specs.Run.{run_of, items_of, buffers_of}
-use Rattle.ppq_array.specs.External.{External, external, size_of, counts, records_in, block_items, blocks_items, IsPacked}
-use Rattle.ppq_array.specs.Supply.{Stock}
-use Rattle.ppq_array.specs.Owner.{slots_shown, HasBlock, HasSize}
-use Rattle.ppq_array.specs.Holdings.{external_slots, external_buffers, internal_buffers, ArrayHasSize, RunHasBlock}
+use Rattle.ppq_fetch.specs.ppq_record.Order.{is_before, Ascends, Le}
+use Rattle.ppq_fetch.specs.ppq_record.Bag.{IsSameBag}
+use Rattle.ppq_fetch.proofs.ppq_record.Order.{IsSameBag-append, Each_le-same_bag, Each-append_left, Each-append_right, Each-weaker, Each-append, Rising-append}
+use Rattle.ppq_fetch.specs.ppq_block.Block.{Block}
+use Rattle.ppq_fetch.specs.ppq_outside.Shown.{Shown, AllTell}
+use Rattle.ppq_fetch.specs.ppq_array.declared.berth.DeviceBlock.{DeviceBlock}
+use Rattle.ppq_fetch.specs.ppq_array.declared.store_fault.StoreFault.{StoreFault}
+use Rattle.ppq_fetch.specs.ppq_array.Run.{run_of, items_of, buffers_of}
+use Rattle.ppq_fetch.specs.ppq_array.External.{External, external, size_of, counts, records_in, block_items, blocks_items, IsPacked}
+use Rattle.ppq_fetch.specs.ppq_array.Supply.{Stock}
+use Rattle.ppq_fetch.specs.ppq_array.Owner.{slots_shown, HasBlock, HasSize}
+use Rattle.ppq_fetch.specs.ppq_array.Holdings.{external_slots, external_buffers, internal_buffers, ArrayHasSize, RunHasBlock}
 use Rattle.ppq_fetch.specs.Fetching.{State, state, held_in, slots_in, AreSources, MayFetch, PartsKept, Fetched, RunsRise, SourcesTell, source_items, blocks_in, count_in, fronts_in, one_if_some}
 use Rattle.ppq_fetch.specs.Taking.{IsTaken}
 use Rattle.ppq_spill.specs.Writing.{NoneAfter}

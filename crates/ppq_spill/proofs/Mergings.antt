@@ -4,9 +4,9 @@ use Rattle.std.specs.Prelude.{count_by}
 use Rattle.std.specs.List.{AllByRecursion as Each}
 use Rattle.std.specs.Cmp.{IsStrictWeakOrder}
 use Rattle.std.specs.declared.cmp.Ordering.{Ordering}
-use Rattle.ppq_record.specs.Order.{is_before, Le}
-use Rattle.ppq_record.proofs.Order.{IsSameBag-length, IsSameBag-append, Each_le-same_bag, Each-append_left, Each-append_right, Each-weaker, Each-append, Rising-append}
-use Rattle.ppq_array.specs.Run.{Run}
+use Rattle.ppq_fetch.specs.ppq_record.Order.{is_before, Le}
+use Rattle.ppq_fetch.proofs.ppq_record.Order.{IsSameBag-length, IsSameBag-append, Each_le-same_bag, Each-append_left, Each-append_right, Each-weaker, Each-append, Rising-append}
+use Rattle.ppq_fetch.specs.ppq_array.Run.{Run}
 use Rattle.ppq_spill.specs.Writing.{Merged, left_in, NoneAfter}
 
 module _ {R : Type 0} (cmp : R → R → Ordering) where

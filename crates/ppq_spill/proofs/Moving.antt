@@ -3,10 +3,10 @@ use Rattle.std.proofs.Common.{◌≡◌, ℕ, suc, ◌+◌, ◌-◌, ◌*◌, �
 use Rattle.std.proofs.lemmas.List.{map-append}
 use Rattle.std.proofs.lemmas.List.Sums.{sum_by-cons, sum_by-append}
 use Rattle.std.proofs.lemmas.List.Elements.{All-push}
-use Rattle.ppq_outside.specs.Shown.{Shown}
-use Rattle.ppq_array.specs.declared.berth.DeviceBlock.{DeviceBlock}
-use Rattle.ppq_array.specs.Supply.{Stock, DrawsFrom, DrawsSlot, GetsSlot, GetsBuffer}
-use Rattle.ppq_array.specs.Owner.{slots_shown, HasSize}
+use Rattle.ppq_fetch.specs.ppq_outside.Shown.{Shown}
+use Rattle.ppq_fetch.specs.ppq_array.declared.berth.DeviceBlock.{DeviceBlock}
+use Rattle.ppq_fetch.specs.ppq_array.Supply.{Stock, DrawsFrom, DrawsSlot, GetsSlot, GetsBuffer}
+use Rattle.ppq_fetch.specs.ppq_array.Owner.{slots_shown, HasSize}
 use Rattle.ppq_spill.specs.Moves.{with_buffers, DrewSlots}
 
 -- a buffer comes back

@@ -6,15 +6,15 @@ use Rattle.std.proofs.lemmas.Grind.{flat_map-append}
 use Rattle.std.proofs.lemmas.List.Concat.{flat_map-cons}
 use Rattle.std.proofs.lemmas.List.Sums.{sum_by-cons, sum_by-append}
 use Rattle.std.proofs.lemmas.List.Elements.{All-cons, All-head, All-nil, All-append, All-push}
-use Rattle.ppq_outside.specs.Shown.{Shown, Tells, AllTell}
-use Rattle.ppq_array.specs.declared.berth.DeviceBlock.{DeviceBlock}
-use Rattle.ppq_array.specs.declared.store_fault.StoreFault.TheVariants.{Device}
-use Rattle.ppq_array.specs.Run.{run_of}
-use Rattle.ppq_array.specs.External.{External, external, counts, block_items, blocks_items, IsPacked}
-use Rattle.ppq_array.specs.Supply.{Stock, GetsSlot}
-use Rattle.ppq_array.specs.Owner.{slots_shown, HasSize}
-use Rattle.ppq_array.specs.Kept.{HasFailed, MoreWrites, weight_at}
-use Rattle.ppq_array.proofs.Noted.{all_left, all_right}
+use Rattle.ppq_fetch.specs.ppq_outside.Shown.{Shown, Tells, AllTell}
+use Rattle.ppq_fetch.specs.ppq_array.declared.berth.DeviceBlock.{DeviceBlock}
+use Rattle.ppq_fetch.specs.ppq_array.declared.store_fault.StoreFault.TheVariants.{Device}
+use Rattle.ppq_fetch.specs.ppq_array.Run.{run_of}
+use Rattle.ppq_fetch.specs.ppq_array.External.{External, external, counts, block_items, blocks_items, IsPacked}
+use Rattle.ppq_fetch.specs.ppq_array.Supply.{Stock, GetsSlot}
+use Rattle.ppq_fetch.specs.ppq_array.Owner.{slots_shown, HasSize}
+use Rattle.ppq_fetch.specs.ppq_array.Kept.{HasFailed, MoreWrites, weight_at}
+use Rattle.ppq_fetch.proofs.ppq_array.Noted.{all_left, all_right}
 use Rattle.ppq_spill.specs.Moves.{SameSums}
 use Rattle.ppq_spill.specs.Writing.{BlockStored, BlockFailed}
 use Rattle.ppq_spill.specs.Went.{Went}

@@ -4,16 +4,16 @@ use Rattle.std.specs.Cmp.{IsStrictWeakOrder}
 use Rattle.std.specs.declared.cmp.Ordering.{Ordering}
 use Rattle.std.proofs.Math.Nat.{add-mul}
 use Rattle.std.proofs.lemmas.List.Elements.{length_all_zip}
-use Rattle.ppq_record.specs.Order.{is_before}
-use Rattle.ppq_block.specs.Block.{Block}
-use Rattle.ppq_outside.specs.Shown.{Shown}
-use Rattle.ppq_array.specs.declared.berth.DeviceBlock.{DeviceBlock}
-use Rattle.ppq_array.specs.declared.store_fault.StoreFault.{StoreFault}
-use Rattle.ppq_array.specs.declared.store_fault.StoreFault.TheVariants.{NoFreeBlock, Device}
-use Rattle.ppq_array.specs.External.{External, size_of, counts}
-use Rattle.ppq_array.specs.Kept.{HasFailed}
-use Rattle.ppq_array.specs.Supply.{Stock}
-use Rattle.ppq_array.specs.Owner.{HasBlock}
+use Rattle.ppq_fetch.specs.ppq_record.Order.{is_before}
+use Rattle.ppq_fetch.specs.ppq_block.Block.{Block}
+use Rattle.ppq_fetch.specs.ppq_outside.Shown.{Shown}
+use Rattle.ppq_fetch.specs.ppq_array.declared.berth.DeviceBlock.{DeviceBlock}
+use Rattle.ppq_fetch.specs.ppq_array.declared.store_fault.StoreFault.{StoreFault}
+use Rattle.ppq_fetch.specs.ppq_array.declared.store_fault.StoreFault.TheVariants.{NoFreeBlock, Device}
+use Rattle.ppq_fetch.specs.ppq_array.External.{External, size_of, counts}
+use Rattle.ppq_fetch.specs.ppq_array.Kept.{HasFailed}
+use Rattle.ppq_fetch.specs.ppq_array.Supply.{Stock}
+use Rattle.ppq_fetch.specs.ppq_array.Owner.{HasBlock}
 use Rattle.ppq_fetch.specs.Fetching.{state, AreSources, MayFetch, PartsKept, Fetched, FetchFailed, WentOn, blocks_in, count_in}
 use Rattle.ppq_spill.specs.Making.{hand, Wrote, WroteAll, WroteSome, Table, table, table_slots, total, IsReady, Merging, MergedOn, MergeFailed, IsRising, all_records, AllFull, IsFaultOf}
 use Rattle.ppq_spill.proofs.Parts.{Wrote-none}

@@ -1,8 +1,8 @@
 -- The same slots after calls of them.
 use Rattle.std.proofs.Common.{◌≡◌, ℕ, ◌+◌, ◌≤◌, ◌==◌, Bool, true, false, cond, List, ◌∷◌, ◌++◌, length, sum_by, refl, sym, ap, ◌∙◌, arith, length-append}
 use Rattle.std.proofs.lemmas.List.Sums.{sum_by-cons, sum_by-append}
-use Rattle.ppq_outside.specs.Shown.{Shown}
-use Rattle.ppq_array.specs.Kept.{SameSlots, weight_at}
+use Rattle.ppq_fetch.specs.ppq_outside.Shown.{Shown}
+use Rattle.ppq_fetch.specs.ppq_array.Kept.{SameSlots, weight_at}
 use Rattle.ppq_spill.specs.Writing.{Grew}
 
 pub SameSlots-refl : (slots : List Shown) → SameSlots slots slots

@@ -8,16 +8,16 @@ use Rattle.std.proofs.lemmas.List.Concat.{flat_map-cons}
 use Rattle.std.proofs.lemmas.List.Sums.{sum_by-cons, sum_by-append}
 use Rattle.std.proofs.lemmas.List.Sorted.{sum_by-IsPermutation, All-permutation}
 use Rattle.std.proofs.lemmas.List.Elements.{All-head, All-tail, All-nil, All-weaker, recursion_from_All}
-use Rattle.ppq_block.specs.Block.{Block, all_items}
-use Rattle.ppq_outside.specs.Shown.{Shown}
-use Rattle.ppq_lane.specs.declared.lanes.Lanes.{Lanes}
-use Rattle.ppq_array.specs.declared.berth.DeviceBlock.{DeviceBlock}
-use Rattle.ppq_array.specs.Run.{Run, run_of, items_of, buffers_of}
-use Rattle.ppq_array.specs.External.{External, external, size_of, counts, IsPacked}
-use Rattle.ppq_array.specs.Supply.{Stock}
-use Rattle.ppq_array.specs.Owner.{HasBlock, HasSize}
-use Rattle.ppq_array.specs.Holdings.{external_slots, external_buffers, RunHasBlock, ArrayHasSize}
-use Rattle.ppq_array.proofs.Noted.{all_left, all_right}
+use Rattle.ppq_fetch.specs.ppq_block.Block.{Block, all_items}
+use Rattle.ppq_fetch.specs.ppq_outside.Shown.{Shown}
+use Rattle.ppq_fetch.specs.ppq_lane.declared.lanes.Lanes.{Lanes}
+use Rattle.ppq_fetch.specs.ppq_array.declared.berth.DeviceBlock.{DeviceBlock}
+use Rattle.ppq_fetch.specs.ppq_array.Run.{Run, run_of, items_of, buffers_of}
+use Rattle.ppq_fetch.specs.ppq_array.External.{External, external, size_of, counts, IsPacked}
+use Rattle.ppq_fetch.specs.ppq_array.Supply.{Stock}
+use Rattle.ppq_fetch.specs.ppq_array.Owner.{HasBlock, HasSize}
+use Rattle.ppq_fetch.specs.ppq_array.Holdings.{external_slots, external_buffers, RunHasBlock, ArrayHasSize}
+use Rattle.ppq_fetch.proofs.ppq_array.Noted.{all_left, all_right}
 use Rattle.ppq_fetch.specs.Fetching.{state, IsFitting, blocks_in, count_in, fronts_in, one_if_some}
 use Rattle.ppq_spill.specs.Leveling.{HasLevel, EightOf, MayLevel, records_count}
 use Rattle.ppq_spill.specs.Moves.{DrewSlots}

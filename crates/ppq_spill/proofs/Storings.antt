@@ -1,15 +1,15 @@
 -- What storing in blocks keeps, and what it makes.
 use Rattle.std.proofs.Common.{◌≡◌, ℕ, ◌+◌, ◌-◌, ◌*◌, ◌≤◌, List, [], ◌∷◌, ◌++◌, length, sum_by, All, refl, sym, ap, ap₂, ◌∙◌, subst, arith, length-append, append-nil}
 use Rattle.std.proofs.lemmas.List.Sums.{sum_by-cons, sum_by-append}
-use Rattle.ppq_outside.specs.Shown.{Shown}
-use Rattle.ppq_array.specs.declared.berth.DeviceBlock.{DeviceBlock}
-use Rattle.ppq_array.specs.External.{External, external}
-use Rattle.ppq_array.specs.Supply.{Stock, GetsSlot}
-use Rattle.ppq_array.specs.Owner.{slots_shown, HasBlock}
-use Rattle.ppq_array.specs.Holdings.{RunHasBlock, ArrayHasSize}
+use Rattle.ppq_fetch.specs.ppq_outside.Shown.{Shown}
+use Rattle.ppq_fetch.specs.ppq_array.declared.berth.DeviceBlock.{DeviceBlock}
+use Rattle.ppq_fetch.specs.ppq_array.External.{External, external}
+use Rattle.ppq_fetch.specs.ppq_array.Supply.{Stock, GetsSlot}
+use Rattle.ppq_fetch.specs.ppq_array.Owner.{slots_shown, HasBlock}
+use Rattle.ppq_fetch.specs.ppq_array.Holdings.{RunHasBlock, ArrayHasSize}
 use Rattle.ppq_spill.specs.declared.body.PassBody.{PassBody}
 use Rattle.ppq_spill.specs.Storing.{HasOneSize}
-use Rattle.ppq_array.specs.Kept.{SameSlots, Held, Kept, MoreWrites}
+use Rattle.ppq_fetch.specs.ppq_array.Kept.{SameSlots, Held, Kept, MoreWrites}
 use Rattle.ppq_spill.specs.Moves.{SameSums, DrewSlots, FoundFewSlots, with_buffers}
 use Rattle.ppq_spill.proofs.SameSlots.{SameSlots-refl}
 use Rattle.ppq_spill.proofs.Keeping.{slots_kept, slots_long}

@@ -2,7 +2,7 @@
 use Rattle.std.proofs.Common.{◌≡◌, ℕ, ◌+◌, ◌≤◌, List, [], ◌∷◌, length, sum_by, Option, Some, None, IsSome, refl, sym, ◌∙◌, arith}
 use Rattle.std.proofs.lemmas.List.Sums.{sum_by-cons}
 use Rattle.std.proofs.lemmas.List.Elements.{All-cons, All-head, All-tail, All-nil}
-use Rattle.ppq_outside.specs.Shown.{Shown, Tells, AllTell}
+use Rattle.ppq_fetch.specs.ppq_outside.Shown.{Shown, Tells, AllTell}
 use Rattle.ppq_spill.specs.Moves.{SameSums}
 use Rattle.ppq_spill.specs.Untold.{untold, untold_of}
 

@@ -10,16 +10,16 @@ use Rattle.std.specs.Cmp.{IsStrictWeakOrder}
 use Rattle.std.specs.declared.cmp.Ordering.{Ordering}
 use Rattle.std.specs.List.{AllByRecursion as Each}
 use Rattle.std.specs.Prelude.{count_by}
-use Rattle.ppq_record.specs.Order.{is_before, Ascends, Le}
-use Rattle.ppq_record.specs.Bag.{IsSameBag}
-use Rattle.ppq_record.proofs.Order.{IsSameBag-length, IsSameBag-append, Each_le-same_bag, Each-append_left, Each-append_right, Each-weaker, Each-append, Rising-append}
-use Rattle.ppq_outside.specs.Shown.{Shown, Tells, AllTell}
-use Rattle.ppq_array.specs.declared.berth.DeviceBlock.{DeviceBlock}
-use Rattle.ppq_array.specs.Run.{Run, run_of, buffers_of}
-use Rattle.ppq_array.specs.External.{External, external, size_of, counts, records_in, blocks_items, block_items, IsPacked}
-use Rattle.ppq_array.specs.Owner.{slots_shown, HasSize}
-use Rattle.ppq_array.specs.Kept.{SameSlots, MoreWrites}
-use Rattle.ppq_array.proofs.Noted.{all_left, all_right, take_whole}
+use Rattle.ppq_fetch.specs.ppq_record.Order.{is_before, Ascends, Le}
+use Rattle.ppq_fetch.specs.ppq_record.Bag.{IsSameBag}
+use Rattle.ppq_fetch.proofs.ppq_record.Order.{IsSameBag-length, IsSameBag-append, Each_le-same_bag, Each-append_left, Each-append_right, Each-weaker, Each-append, Rising-append}
+use Rattle.ppq_fetch.specs.ppq_outside.Shown.{Shown, Tells, AllTell}
+use Rattle.ppq_fetch.specs.ppq_array.declared.berth.DeviceBlock.{DeviceBlock}
+use Rattle.ppq_fetch.specs.ppq_array.Run.{Run, run_of, buffers_of}
+use Rattle.ppq_fetch.specs.ppq_array.External.{External, external, size_of, counts, records_in, blocks_items, block_items, IsPacked}
+use Rattle.ppq_fetch.specs.ppq_array.Owner.{slots_shown, HasSize}
+use Rattle.ppq_fetch.specs.ppq_array.Kept.{SameSlots, MoreWrites}
+use Rattle.ppq_fetch.proofs.ppq_array.Noted.{all_left, all_right, take_whole}
 use Rattle.ppq_spill.specs.Writing.{Grew, Merged, BlockStored, BlockFailed, WriteFailed, Writing, left_in, NoneAfter}
 use Rattle.ppq_spill.proofs.SameSlots.{SameSlots-trans, SameSlots-grown, SameSlots-refl}
 use Rattle.ppq_spill.specs.Went.{Went}

@@ -2,14 +2,14 @@
 use Rattle.std.proofs.Common.{◌≡◌, ℕ, ◌≤◌, List, [], ◌∷◌, ◌++◌, length, Option, Some, None, Result, Ok, Err, IsSome, refl, sym, ap, ◌∙◌, subst, arith}
 use Rattle.std.specs.Prelude.{unwrap_or}
 use Rattle.std.proofs.lemmas.Result.{IfOk-at_ok, IfErr-at_err}
-use Rattle.ppq_block.specs.Block.{Block}
-use Rattle.ppq_block.specs.Told.{records_told}
-use Rattle.ppq_outside.specs.Shown.{Shown, Tells}
-use Rattle.ppq_outside.specs.Told.{StillTells, Rose, next_count}
-use Rattle.ppq_lane.specs.Jobs.{IsWrittenFrom}
-use Rattle.ppq_array.specs.declared.berth.DeviceBlock.{DeviceBlock}
-use Rattle.ppq_array.specs.External.{External, external}
-use Rattle.ppq_array.specs.Kept.{MoreWrites}
+use Rattle.ppq_fetch.specs.ppq_block.Block.{Block}
+use Rattle.ppq_fetch.specs.ppq_block.Told.{records_told}
+use Rattle.ppq_fetch.specs.ppq_outside.Shown.{Shown, Tells}
+use Rattle.ppq_fetch.specs.ppq_outside.Told.{StillTells, Rose, next_count}
+use Rattle.ppq_fetch.specs.ppq_lane.Jobs.{IsWrittenFrom}
+use Rattle.ppq_fetch.specs.ppq_array.declared.berth.DeviceBlock.{DeviceBlock}
+use Rattle.ppq_fetch.specs.ppq_array.External.{External, external}
+use Rattle.ppq_fetch.specs.ppq_array.Kept.{MoreWrites}
 use Rattle.ppq_spill.specs.Writing.{Grew, BlockStored, BlockFailed}
 use Rattle.ppq_spill.proofs.Transfers.{one_slot}
 

@@ -1,12 +1,12 @@
 -- What a body of runs and lanes holds.
 use Rattle.std.specs.Prelude.{◌≡◌, ℕ, ◌+◌, ◌≤◌, List, [], ◌++◌, length, map, All, vec_capacity}
-use Rattle.ppq_outside.specs.Shown.{Shown, AllTell}
-use Rattle.ppq_lane.specs.declared.job.Job.{Job}
-use Rattle.ppq_array.specs.declared.berth.DeviceBlock.{DeviceBlock}
-use Rattle.ppq_array.specs.Supply.{Stock}
-use Rattle.ppq_array.specs.Owner.{HasBlock}
-use Rattle.ppq_array.specs.Kept.{Held}
-use Rattle.ppq_array.specs.Holdings.{external_slots, external_buffers, internal_buffers}
+use Rattle.ppq_fetch.specs.ppq_outside.Shown.{Shown, AllTell}
+use Rattle.ppq_fetch.specs.ppq_lane.declared.job.Job.{Job}
+use Rattle.ppq_fetch.specs.ppq_array.declared.berth.DeviceBlock.{DeviceBlock}
+use Rattle.ppq_fetch.specs.ppq_array.Supply.{Stock}
+use Rattle.ppq_fetch.specs.ppq_array.Owner.{HasBlock}
+use Rattle.ppq_fetch.specs.ppq_array.Kept.{Held}
+use Rattle.ppq_fetch.specs.ppq_array.Holdings.{external_slots, external_buffers, internal_buffers}
 use Rattle.ppq_spill.specs.declared.body.PassBody.{PassBody}
 
 -- a body with no runs and two idle buffers of so many records, with room for so many runs in buffers and so many in blocks

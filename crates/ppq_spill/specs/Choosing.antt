@@ -1,9 +1,9 @@
 -- The first records of runs and of a list, in a tree of minima, and the least of them.
 use Rattle.std.specs.Prelude.{◌≡◌, ◌⊎◌, ℕ, zero, suc, ◌<◌, ⊤, List, [], ◌∷◌, length, get_or, Option, Some, None, IsSome, slice_index_or, All}
 use Rattle.std.specs.declared.cmp.Ordering.{Ordering}
-use Rattle.ppq_record.specs.Order.{Le, is_before}
-use Rattle.ppq_record.specs.Bag.{first_of}
-use Rattle.ppq_array.specs.Run.{Run, items_of}
+use Rattle.ppq_fetch.specs.ppq_record.Order.{Le, is_before}
+use Rattle.ppq_fetch.specs.ppq_record.Bag.{first_of}
+use Rattle.ppq_fetch.specs.ppq_array.Run.{Run, items_of}
 
 module _ {R : Type 0} where
   -- the first record of the run at a place; after all runs that of a list; and none after that

@@ -2,18 +2,18 @@
 use Rattle.std.specs.Prelude.{◌≡◌, ◌↔◌, ℕ, ◌+◌, ◌-◌, ◌*◌, ◌<◌, ◌≤◌, ◌^◌, ◌==◌, cond, min, List, [], ◌∷◌, ◌++◌, length, sum_by, flat_map, All, vec_capacity}
 use Rattle.std.specs.List.Sorted.{IsPermutation}
 use Rattle.std.specs.declared.cmp.Ordering.{Ordering}
-use Rattle.ppq_record.specs.Order.{Ascends}
-use Rattle.ppq_record.specs.Bag.{IsSameBag}
-use Rattle.ppq_outside.specs.Shown.{Shown, AllTell}
-use Rattle.ppq_outside.specs.Told.{Rose}
-use Rattle.ppq_lane.specs.declared.lanes.Lanes.{Lanes}
-use Rattle.ppq_array.specs.declared.berth.DeviceBlock.{DeviceBlock}
-use Rattle.ppq_array.specs.Supply.{Stock, sure_slots}
-use Rattle.ppq_array.specs.Owner.{HasBlock}
-use Rattle.ppq_array.specs.Run.{run_of, buffers_of}
-use Rattle.ppq_array.specs.External.{External, size_of, records_in, IsPacked}
-use Rattle.ppq_array.specs.Kept.{Held, HasFailed, all_writes, all_reads}
-use Rattle.ppq_array.specs.Holdings.{external_slots, external_buffers, RunHasBlock, ArrayHasSize}
+use Rattle.ppq_fetch.specs.ppq_record.Order.{Ascends}
+use Rattle.ppq_fetch.specs.ppq_record.Bag.{IsSameBag}
+use Rattle.ppq_fetch.specs.ppq_outside.Shown.{Shown, AllTell}
+use Rattle.ppq_fetch.specs.ppq_outside.Told.{Rose}
+use Rattle.ppq_fetch.specs.ppq_lane.declared.lanes.Lanes.{Lanes}
+use Rattle.ppq_fetch.specs.ppq_array.declared.berth.DeviceBlock.{DeviceBlock}
+use Rattle.ppq_fetch.specs.ppq_array.Supply.{Stock, sure_slots}
+use Rattle.ppq_fetch.specs.ppq_array.Owner.{HasBlock}
+use Rattle.ppq_fetch.specs.ppq_array.Run.{run_of, buffers_of}
+use Rattle.ppq_fetch.specs.ppq_array.External.{External, size_of, records_in, IsPacked}
+use Rattle.ppq_fetch.specs.ppq_array.Kept.{Held, HasFailed, all_writes, all_reads}
+use Rattle.ppq_fetch.specs.ppq_array.Holdings.{external_slots, external_buffers, RunHasBlock, ArrayHasSize}
 use Rattle.ppq_fetch.specs.Fetching.{IsFitting, fronts_in, blocks_in}
 use Rattle.ppq_spill.specs.Body.{job_slots}
 

@@ -1,13 +1,13 @@
 -- Slots and buffers that are taken from a supply and given back.
 use Rattle.std.specs.Prelude.{◌≡◌, ℕ, ◌+◌, ◌-◌, ◌*◌, ◌<◌, ◌≤◌, List, [], ◌++◌, length, sum_by, All}
-use Rattle.ppq_block.specs.Block.{Block, holding}
-use Rattle.ppq_outside.specs.Shown.{Shown}
-use Rattle.ppq_outside.specs.Told.{Rose}
-use Rattle.ppq_array.specs.declared.berth.DeviceBlock.{DeviceBlock}
-use Rattle.ppq_array.specs.Run.{Run, items_of, buffers_of}
-use Rattle.ppq_array.specs.Supply.{Stock}
-use Rattle.ppq_array.specs.Owner.{slots_shown, HasSize}
-use Rattle.ppq_array.specs.Holdings.{RunHasBlock}
+use Rattle.ppq_fetch.specs.ppq_block.Block.{Block, holding}
+use Rattle.ppq_fetch.specs.ppq_outside.Shown.{Shown}
+use Rattle.ppq_fetch.specs.ppq_outside.Told.{Rose}
+use Rattle.ppq_fetch.specs.ppq_array.declared.berth.DeviceBlock.{DeviceBlock}
+use Rattle.ppq_fetch.specs.ppq_array.Run.{Run, items_of, buffers_of}
+use Rattle.ppq_fetch.specs.ppq_array.Supply.{Stock}
+use Rattle.ppq_fetch.specs.ppq_array.Owner.{slots_shown, HasSize}
+use Rattle.ppq_fetch.specs.ppq_array.Holdings.{RunHasBlock}
 use Rattle.ppq_fetch.specs.Fetching.{IsFitting}
 use Rattle.ppq_spill.specs.Storing.{IsShortOfBuffers}
 

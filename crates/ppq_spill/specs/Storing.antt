@@ -1,18 +1,18 @@
 -- What it takes to store a run, and what stands afterwards.
 use Rattle.std.specs.Prelude.{◌≡◌, ◌↔◌, ◌⊎◌, ℕ, ◌+◌, ◌-◌, ◌*◌, ◌<◌, ◌≤◌, ◌^◌, List, [], ◌∷◌, ◌++◌, length, All, vec_capacity}
 use Rattle.std.specs.declared.cmp.Ordering.{Ordering}
-use Rattle.ppq_record.specs.Order.{Ascends}
-use Rattle.ppq_record.specs.Bag.{IsSameBag}
-use Rattle.ppq_outside.specs.Shown.{Shown, AllTell}
-use Rattle.ppq_outside.specs.Told.{Rose}
-use Rattle.ppq_lane.specs.declared.lanes.Lanes.{Lanes}
-use Rattle.ppq_array.specs.declared.berth.DeviceBlock.{DeviceBlock}
-use Rattle.ppq_array.specs.Supply.{Stock, sure_slots}
-use Rattle.ppq_array.specs.Owner.{HasBlock}
-use Rattle.ppq_array.specs.Run.{Run, run_of, items_of, buffers_of}
-use Rattle.ppq_array.specs.External.{External, size_of, records_in, IsPacked}
-use Rattle.ppq_array.specs.Kept.{HasFailed, MoreWrites, all_writes}
-use Rattle.ppq_array.specs.Holdings.{internal_items, RunHasBlock, ArrayHasSize, CanTakeBack}
+use Rattle.ppq_fetch.specs.ppq_record.Order.{Ascends}
+use Rattle.ppq_fetch.specs.ppq_record.Bag.{IsSameBag}
+use Rattle.ppq_fetch.specs.ppq_outside.Shown.{Shown, AllTell}
+use Rattle.ppq_fetch.specs.ppq_outside.Told.{Rose}
+use Rattle.ppq_fetch.specs.ppq_lane.declared.lanes.Lanes.{Lanes}
+use Rattle.ppq_fetch.specs.ppq_array.declared.berth.DeviceBlock.{DeviceBlock}
+use Rattle.ppq_fetch.specs.ppq_array.Supply.{Stock, sure_slots}
+use Rattle.ppq_fetch.specs.ppq_array.Owner.{HasBlock}
+use Rattle.ppq_fetch.specs.ppq_array.Run.{Run, run_of, items_of, buffers_of}
+use Rattle.ppq_fetch.specs.ppq_array.External.{External, size_of, records_in, IsPacked}
+use Rattle.ppq_fetch.specs.ppq_array.Kept.{HasFailed, MoreWrites, all_writes}
+use Rattle.ppq_fetch.specs.ppq_array.Holdings.{internal_items, RunHasBlock, ArrayHasSize, CanTakeBack}
 use Rattle.ppq_fetch.specs.Fetching.{IsFitting}
 use Rattle.ppq_spill.specs.Body.{body_slots}
 use Rattle.ppq_spill.specs.Untold.{SameUntold}

@@ -1,6 +1,6 @@
 -- How many slots do not tell.
 use Rattle.std.specs.Prelude.{◌≡◌, ℕ, List, sum_by, Option, Some, None}
-use Rattle.ppq_outside.specs.Shown.{Shown}
+use Rattle.ppq_fetch.specs.ppq_outside.Shown.{Shown}
 
 -- 1 where nothing is told
 abbrev pub untold_of : Option (List ℕ) → ℕ

@@ -1,7 +1,7 @@
 -- Slots that are moved, written and read.
 use Rattle.std.specs.Prelude.{◌↔◌, ℕ, List}
-use Rattle.ppq_outside.specs.Shown.{Shown, AllTell}
-use Rattle.ppq_array.specs.Kept.{SameSlots}
+use Rattle.ppq_fetch.specs.ppq_outside.Shown.{Shown, AllTell}
+use Rattle.ppq_fetch.specs.ppq_array.Kept.{SameSlots}
 use Rattle.ppq_spill.specs.Leveling.{MoreCalls}
 
 -- The same slots, none lost or made. No count of a slot fell; they were written and read at most so many times more, and tell just where

@@ -2,11 +2,7 @@
 ghost use Rattle.std.specs.Prelude.{◌≡◌, ◌+◌, ◌-◌, ◌^◌, ◌<◌, IfOk};
 ghost use Rattle.ppq_spill.specs.Body.{IsNewBody};
 
-use ppq_array::{Berth, Runs};
-use ppq_lane::Lanes;
-use ppq_outside::Slot;
-use ppq_record::{Memory, Record};
-use ppq_tree::MinTree;
+use ppq_fetch::{Berth, Lanes, Memory, MinTree, Record, Runs, Slot};
 use std::alloc::Global;
 
 /// The runs of one owner, with the lanes and the tree that store and merge them.

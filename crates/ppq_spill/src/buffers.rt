@@ -1,15 +1,12 @@
 //! Buffers that are taken from a supply, filled, or given back.
 ghost use Rattle.std.specs.Prelude.{◌≡◌, ◌+◌, ◌-◌, ◌*◌, ◌<◌, ◌≤◌, ◌^◌, ◌∷◌, ◌++◌, [], length, All, IfSome, IfNone};
-ghost use Rattle.ppq_block.specs.Block.{holding};
-ghost use Rattle.ppq_array.specs.Owner.{HasBlock};
-ghost use Rattle.ppq_array.specs.Run.{items_of};
+ghost use Rattle.ppq_fetch.specs.ppq_block.Block.{holding};
+ghost use Rattle.ppq_fetch.specs.ppq_array.Owner.{HasBlock};
+ghost use Rattle.ppq_fetch.specs.ppq_array.Run.{items_of};
 ghost use Rattle.ppq_fetch.specs.Fetching.{IsFitting};
 ghost use Rattle.ppq_spill.specs.Moves.{TookBuffers, FilledRun, FoundFewBuffers, FoundScant, with_buffers};
 
-use ppq_array::{InternalArray, Supply, give_buffer};
-use ppq_block::{BlockBuf, BufList};
-use ppq_outside::Slot;
-use ppq_record::Record;
+use ppq_fetch::{BlockBuf, BufList, InternalArray, Record, Slot, Supply, give_buffer};
 
 // Writes records into buffers of the supply, as a run. None comes where it has too few, and they are all
 // given back.

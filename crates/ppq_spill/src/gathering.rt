@@ -1,13 +1,11 @@
 //! Arrays of one level, brought to the end of their list.
 ghost use Rattle.std.specs.Prelude.{◌≡◌, ◌+◌, ◌-◌, ◌<◌, ◌≤◌, ◌^◌, length, take, drop, slice_index_or, All, vec_capacity};
 ghost use Rattle.std.specs.List.Sorted.{IsPermutation};
-ghost use Rattle.ppq_array.specs.External.{External};
-ghost use Rattle.ppq_array.specs.Holdings.{external_buffers};
+ghost use Rattle.ppq_fetch.specs.ppq_array.External.{External};
+ghost use Rattle.ppq_fetch.specs.ppq_array.Holdings.{external_buffers};
 ghost use Rattle.ppq_spill.specs.Leveling.{HasLevel, count_level};
 
-use ppq_array::ExternalArray;
-use ppq_outside::Slot;
-use ppq_record::Record;
+use ppq_fetch::{ExternalArray, Record, Slot};
 
 // Brings 8 arrays of a level to the end of a list, by exchanges. It looks at no array more than 8 times.
 pub(crate) fn gather_level<S: Slot, R: Record>(arrays: &mut Vec<ExternalArray<S, R>>, level: u32)

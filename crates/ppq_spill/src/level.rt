@@ -1,9 +1,9 @@
 //! Merging 8 arrays of a level into one of the next.
 ghost use Rattle.std.specs.Prelude.{◌≡◌, ◌+◌, ◌-◌, ◌*◌, ◌^◌, ◌<◌, ◌≤◌, ℕ, [], length, take, drop, min, vec_capacity, All, OnOk, IfOk, IfErr, IfSome, IfNone, IsErrOf, None};
-ghost use Rattle.ppq_array.specs.Run.{run_of};
-ghost use Rattle.ppq_array.specs.External.{External, external, size_of};
-ghost use Rattle.ppq_array.specs.Kept.{Kept};
-ghost use Rattle.ppq_array.specs.Holdings.{external_buffers};
+ghost use Rattle.ppq_fetch.specs.ppq_array.Run.{run_of};
+ghost use Rattle.ppq_fetch.specs.ppq_array.External.{External, external, size_of};
+ghost use Rattle.ppq_fetch.specs.ppq_array.Kept.{Kept};
+ghost use Rattle.ppq_fetch.specs.ppq_array.Holdings.{external_buffers};
 ghost use Rattle.ppq_fetch.specs.Fetching.{state, count_in, MayFetch, AreSources, Fetched, PartsKept};
 ghost use Rattle.ppq_spill.specs.Moves.{DrewSlots, FoundFewSlots};
 ghost use Rattle.ppq_spill.specs.Making.{table, IsReady, IsFaultOf, MergedOn, MergeFailed, IsEmptied, LastMerged, LastFailed};
@@ -12,12 +12,10 @@ ghost use Rattle.ppq_spill.specs.Leveling.{held_in, count_level, MayLevel, AreOn
 use crate::gathering::{count_buffers, gather_level};
 use crate::making::write_batch;
 use crate::slots::{draw_slots, free_slots};
-use ppq_array::{Berth, BerthList, ExternalArray, InternalArray, StoreFault, Supply};
-use ppq_fetch::take_least;
-use ppq_lane::Lanes;
-use ppq_merge::Bench;
-use ppq_outside::{Gate, Host, Slot};
-use ppq_record::{Record, record_laws};
+use ppq_fetch::{
+    Bench, Berth, BerthList, ExternalArray, Gate, Host, InternalArray, Lanes, Record, Slot,
+    StoreFault, Supply, record_laws, take_least,
+};
 
 /// Merges 8 arrays of a level into one of the next level, and of level 7 into one of level 7. The new
 /// array stands after the others, with nothing loaded. Where the 8 ascend, so does the new one.

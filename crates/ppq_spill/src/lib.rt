@@ -22,8 +22,6 @@ mod making;
 mod merging;
 mod slots;
 mod store;
-#[cfg(test)]
-mod tests;
 mod writing;
 
 pub use body::PassBody;

@@ -1,17 +1,17 @@
 //! Writing merged records as blocks of a new array.
 ghost use Rattle.std.specs.Prelude.{◌≡◌, ◌+◌, ◌-◌, ◌*◌, ◌<◌, ◌≤◌, ◌^◌, ◌++◌, ◌∷◌, [], length, All, IfOk, IfErr};
-ghost use Rattle.ppq_array.specs.Owner.{HasBlock, HasSize, slots_shown};
-ghost use Rattle.ppq_array.specs.Run.{run_of};
-ghost use Rattle.ppq_array.specs.External.{external, size_of};
+ghost use Rattle.ppq_fetch.specs.ppq_array.Owner.{HasBlock, HasSize, slots_shown};
+ghost use Rattle.ppq_fetch.specs.ppq_array.Run.{run_of};
+ghost use Rattle.ppq_fetch.specs.ppq_array.External.{external, size_of};
 ghost use Rattle.ppq_spill.specs.Moves.{SameSums};
 ghost use Rattle.ppq_spill.specs.Making.{hand, AllFull, SameRest, WroteAll, WroteSome};
 
 use crate::buffers::put_records;
 use crate::writing::write_block;
-use ppq_array::{Berth, BerthList, ExternalArray, StoreFault, Supply, free_slot};
-use ppq_block::BufList;
-use ppq_outside::{Host, Slot};
-use ppq_record::{Record, record_laws};
+use ppq_fetch::{
+    Berth, BerthList, BufList, ExternalArray, Host, Record, Slot, StoreFault, Supply, free_slot,
+    record_laws,
+};
 
 // Writes records as the next blocks of an array, each full but the last: to slots in hand, and then to
 // slots that the supply keeps. It costs a block write for each block.

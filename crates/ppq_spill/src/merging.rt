@@ -1,15 +1,12 @@
 //! Merging runs in buffers with a sorted list, by a tree of minima.
 ghost use Rattle.std.specs.Prelude.{◌≡◌, ◌+◌, ◌≤◌, ◌<◌, ◌-◌, ◌∷◌, [], length, drop, slice_set, vec_capacity, IfSome, IfNone};
-ghost use Rattle.ppq_record.specs.Bag.{first_of};
-ghost use Rattle.ppq_array.specs.Run.{items_of, buffers_of};
-ghost use Rattle.ppq_block.specs.Block.{holding};
+ghost use Rattle.ppq_fetch.specs.ppq_record.Bag.{first_of};
+ghost use Rattle.ppq_fetch.specs.ppq_array.Run.{items_of, buffers_of};
+ghost use Rattle.ppq_fetch.specs.ppq_block.Block.{holding};
 ghost use Rattle.ppq_spill.specs.Choosing.{HasHeads, first_at};
 ghost use Rattle.ppq_spill.specs.Writing.{Merged, left_in};
 
-use ppq_array::InternalArray;
-use ppq_block::BlockBuf;
-use ppq_record::{Record, record_laws};
-use ppq_tree::MinTree;
+use ppq_fetch::{BlockBuf, InternalArray, MinTree, Record, record_laws};
 
 // Gives each run a leaf with its first record, and the leaf after them the first of a list. The other
 // leaves have none. It costs a look at each leaf, and for each one that changes its matches.

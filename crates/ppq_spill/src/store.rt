@@ -1,7 +1,7 @@
 //! Storing a sorted run.
 ghost use Rattle.std.specs.Prelude.{◌≡◌, ◌+◌, ◌^◌, ◌<◌, [], OnOk, OnErr, IsErrOf, length, ℕ};
-ghost use Rattle.ppq_array.specs.Kept.{Kept};
-ghost use Rattle.ppq_array.specs.Holdings.{CanTakeBack, internal_items};
+ghost use Rattle.ppq_fetch.specs.ppq_array.Kept.{Kept};
+ghost use Rattle.ppq_fetch.specs.ppq_array.Holdings.{CanTakeBack, internal_items};
 ghost use Rattle.ppq_spill.specs.Body.{held_by};
 ghost use Rattle.ppq_spill.specs.Storing.{in_buffers, MayStore, WritesFew, HasOneSize, RoomsRest, LanesRest, IsStored, BlocksStored, NoneFree, NoSlots, RunsAscend, DeviceFailed, SameScant, StillTell, StillUntold};
 
@@ -9,9 +9,7 @@ use crate::PassBody;
 use crate::buffers::{blocks_for, store_in_buffers};
 use crate::slots::{draw_slots, free_slots};
 use crate::writing::{release_runs, write_runs};
-use ppq_array::{ExternalArray, InternalArray, StoreFault, Supply, free_slot};
-use ppq_outside::{Host, Slot};
-use ppq_record::Record;
+use ppq_fetch::{ExternalArray, Host, InternalArray, Record, Slot, StoreFault, Supply, free_slot};
 
 /// Stores a list of records as one more run of a body. Where the list and the runs in buffers ascend, so
 /// does the new run.

@@ -1,22 +1,20 @@
 //! Merging runs into blocks, and writing them.
 ghost use Rattle.std.specs.Prelude.{◌≡◌, ◌+◌, ◌-◌, ◌*◌, ◌<◌, ◌≤◌, ◌^◌, ◌++◌, ◌∷◌, [], length, drop, map, All, vec_capacity, IfSome, IfNone};
-ghost use Rattle.ppq_block.specs.Block.{IsSettled, holding};
-ghost use Rattle.ppq_outside.specs.Shown.{Tells};
-ghost use Rattle.ppq_array.specs.Owner.{HasBlock, HasSize, slots_shown};
-ghost use Rattle.ppq_array.specs.Kept.{SameSlots};
-ghost use Rattle.ppq_array.specs.Run.{run_of, buffers_of};
-ghost use Rattle.ppq_array.specs.External.{external, size_of};
-ghost use Rattle.ppq_array.specs.Holdings.{internal_buffers, internal_items, RunHasBlock};
+ghost use Rattle.ppq_fetch.specs.ppq_block.Block.{IsSettled, holding};
+ghost use Rattle.ppq_fetch.specs.ppq_outside.Shown.{Tells};
+ghost use Rattle.ppq_fetch.specs.ppq_array.Owner.{HasBlock, HasSize, slots_shown};
+ghost use Rattle.ppq_fetch.specs.ppq_array.Kept.{SameSlots};
+ghost use Rattle.ppq_fetch.specs.ppq_array.Run.{run_of, buffers_of};
+ghost use Rattle.ppq_fetch.specs.ppq_array.External.{external, size_of};
+ghost use Rattle.ppq_fetch.specs.ppq_array.Holdings.{internal_buffers, internal_items, RunHasBlock};
 ghost use Rattle.ppq_spill.specs.Moves.{with_buffers};
 ghost use Rattle.ppq_spill.specs.Writing.{Merged, BlockStored, BlockFailed, Writing, left_in, WriteFailed};
 
 use crate::merging::{merge_least, write_heads};
-use ppq_array::{Berth, BerthList, ExternalArray, InternalArray, Supply, give_buffer};
-use ppq_block::{BlockBuf, BufList};
-use ppq_lane::{Job, JobKind, run_job};
-use ppq_outside::{Host, Slot};
-use ppq_record::{Record, record_laws};
-use ppq_tree::MinTree;
+use ppq_fetch::{
+    Berth, BerthList, BlockBuf, BufList, ExternalArray, Host, InternalArray, Job, JobKind, MinTree,
+    Record, Slot, Supply, give_buffer, record_laws, run_job,
+};
 
 // Merges runs and a sorted list into blocks, and writes them to these slots, a block for each. Where a
 // write fails, it ends there and gives that slot. It costs as many block writes as there are slots, and

@@ -13,8 +13,7 @@ mod edge;
 mod mark;
 mod places;
 mod search;
-#[cfg(test)]
-mod tests;
 
 pub use cut::{cut_at, one_cut};
 pub use places::size_of;
+pub use ppq_record::{Listing, Memory, Record, record_laws};

@@ -13,8 +13,6 @@
 mod closing;
 mod laying;
 mod place;
-#[cfg(test)]
-mod tests;
 
 pub use closing::items_from;
 pub use laying::{lay, unlay};

@@ -12,9 +12,8 @@ mod heads;
 mod matches;
 mod min_tree;
 mod steps;
-#[cfg(test)]
-mod tests;
 
 pub use heads::Heads;
 pub use min_tree::{MinTree, leaf_levels};
+pub use ppq_record::{Listing, Lists, Memory, Pair, Record, record_laws, sort};
 pub use steps::Steps;

@@ -1,3 +1,7 @@
+pub use Rattle.ppq_budget.specs as ppq_budget
+pub use Rattle.ppq_script.specs.ppq_outside as ppq_outside
+pub use Rattle.ppq_script.specs.ppq_record as ppq_record
+pub use Rattle.ppq_script.specs as ppq_script
 pub mod Command
 pub mod Meaning
 pub mod Reading

@@ -11,11 +11,14 @@ mod command;
 mod laws;
 mod run_arguments;
 mod strays;
-#[cfg(test)]
-mod tests;
 mod values;
 mod words;
 
 pub use laws::words_mean;
+pub use ppq_budget::Sizes;
+pub use ppq_script::{
+    CheckFault, Failed, Gate, Host, Library, Memory, OpenGate, OutsideFault, Pair, Rack, Record,
+    Script, Sink, Slot, check_files, read,
+};
 pub use run_arguments::RunArguments;
 pub use words::read_words;

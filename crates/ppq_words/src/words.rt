@@ -8,7 +8,7 @@ use crate::command::command;
 use crate::strays::may_run;
 use crate::values::arguments_of;
 use clap::error::ErrorKind;
-use ppq_record::Memory;
+use ppq_script::Memory;
 use std::alloc::Global;
 
 /// Reads the words after the program's name. Returns `None` if and only if they have no reading;

@@ -1,8 +1,8 @@
 use Rattle.std.proofs.Common.{All, take, refl, sym, subst, arith}
 use Rattle.std.proofs.lemmas.List.{take_all, take_more}
 use Rattle.std.proofs.lemmas.List.Elements.{All-push}
-use Rattle.ppq_session.specs.Dealing.{IsGoing}
-use Rattle.ppq_front.specs.Limited.{LimitHolding}
+use Rattle.ppq_limit.specs.ppq_session.Dealing.{IsGoing}
+use Rattle.ppq_limit.specs.ppq_front.Limited.{LimitHolding}
 use Rattle.ppq_batch.proofs.pushing.are_going.Goals as goal
 
 pub returns-then-not-is_going-clause-ended : goal.returns-then-not-is_going-clause-ended

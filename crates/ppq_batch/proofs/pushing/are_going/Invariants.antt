@@ -1,6 +1,6 @@
 use Rattle.std.proofs.Common.{All, take}
-use Rattle.ppq_session.specs.Dealing.{IsGoing}
-use Rattle.ppq_front.specs.Limited.{LimitHolding}
+use Rattle.ppq_limit.specs.ppq_session.Dealing.{IsGoing}
+use Rattle.ppq_limit.specs.ppq_front.Limited.{LimitHolding}
 use Rattle.ppq_batch.proofs.pushing.are_going.Given as goal
 
 abbrev pub invariant-loop-i : goal.invariant-loop-i

@@ -1,7 +1,7 @@
 use denote.Param.Send.{sendable}
 use Rattle.std.proofs.Common.{◌≡◌, length, slice_index_or, subst}
-use Rattle.ppq_session.specs.Dealing.{Adds, records_for}
-use Rattle.ppq_front.specs.Limited.{LimitHolding}
+use Rattle.ppq_limit.specs.ppq_session.Dealing.{Adds, records_for}
+use Rattle.ppq_limit.specs.ppq_front.Limited.{LimitHolding}
 use Rattle.ppq_limit.proofs.Sends.{limit_pass_sends}
 use Rattle.ppq_batch.proofs.Limited.{limited-each, limited-lines, limits-same}
 use Rattle.ppq_batch.proofs.pushing.push_limited.Goals as goal

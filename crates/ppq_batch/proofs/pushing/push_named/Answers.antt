@@ -1,6 +1,6 @@
 use Rattle.std.proofs.Common.{◌≡◌, ◌∙◌, ◌+◌, false, refl, sym, ap, subst, arith}
-use Rattle.ppq_record.specs.Order.{is_before}
-use Rattle.ppq_session.proofs.LineParts.{adds-none, adds-line, adds-ended}
+use Rattle.ppq_limit.specs.ppq_record.Order.{is_before}
+use Rattle.ppq_limit.proofs.ppq_session.LineParts.{adds-none, adds-line, adds-ended}
 use Rattle.ppq_batch.proofs.pushing.push_named.Goals as goal
 
 pub loop-i-init : goal.loop-i-init

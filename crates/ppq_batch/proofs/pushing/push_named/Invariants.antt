@@ -1,5 +1,5 @@
 use Rattle.std.proofs.Common.{◌≡◌, take}
-use Rattle.ppq_session.specs.Dealing.{IsGoing, Adds, records_for}
+use Rattle.ppq_limit.specs.ppq_session.Dealing.{IsGoing, Adds, records_for}
 use Rattle.ppq_batch.proofs.pushing.push_named.Given as goal
 
 abbrev pub invariant-loop-i : goal.invariant-loop-i

@@ -1,7 +1,7 @@
 use denote.Param.Send.{shr_send, shr_slice_send, mut_slice_send}
-use Rattle.ppq_record.proofs.pair.Pair.TheSendSync as pair
-use Rattle.ppq_session.proofs.line.Line.TheSendSync as line
-use Rattle.ppq_pass.proofs.Sends.{shared_syncs}
+use Rattle.ppq_limit.proofs.ppq_record.pair.Pair.TheSendSync as pair
+use Rattle.ppq_limit.proofs.ppq_session.line.Line.TheSendSync as line
+use Rattle.ppq_limit.proofs.ppq_pass.Sends.{shared_syncs}
 use Rattle.ppq_limit.proofs.Sends.{limit_pass_sends}
 use Rattle.ppq_batch.proofs.TakenAlong.{five_send}
 use Rattle.ppq_batch.proofs.running.run_both.Goals as goal

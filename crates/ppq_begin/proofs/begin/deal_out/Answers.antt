@@ -1,8 +1,8 @@
 use mathlib.Core.List.{reverse-reverse}
 use Rattle.std.proofs.Common.{◌≡◌, All, length, reverse, sym, ap, ◌∙◌, subst, arith}
 use Rattle.std.proofs.lemmas.List.{length-reverse}
-use Rattle.ppq_budget.specs.Sizes.{heap_of}
-use Rattle.ppq_heap.specs.Heap.{Contents}
+use Rattle.ppq_gather.specs.ppq_budget.Sizes.{heap_of}
+use Rattle.ppq_gather.specs.ppq_heap.Heap.{Contents}
 use Rattle.ppq_begin.specs.Equipped.{MayEquip, Equipped, ArePasses}
 use Rattle.ppq_begin.proofs.Equipping.{all_turned}
 use Rattle.ppq_begin.proofs.Opening.{may_equip, is_bulk, handed_out}

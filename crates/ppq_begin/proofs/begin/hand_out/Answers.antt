@@ -1,11 +1,11 @@
 use Rattle.std.proofs.Common.{◌≡◌, ℕ, ◌+◌, ◌/◌, ◌++◌, List, All, sym, ap, ◌∙◌, subst}
-use Rattle.ppq_budget.specs.Sizes.{pool_of}
-use Rattle.ppq_outside.specs.Shown.{AllTell}
-use Rattle.ppq_array.specs.declared.berth.DeviceBlock.{DeviceBlock}
-use Rattle.ppq_array.specs.Owner.{slots_shown}
-use Rattle.ppq_array.specs.Holdings.{external_slots}
-use Rattle.ppq_pool.specs.Seats.{count_of}
-use Rattle.ppq_queue.specs.Holding.{Holding}
+use Rattle.ppq_gather.specs.ppq_budget.Sizes.{pool_of}
+use Rattle.ppq_gather.specs.ppq_outside.Shown.{AllTell}
+use Rattle.ppq_gather.specs.ppq_array.declared.berth.DeviceBlock.{DeviceBlock}
+use Rattle.ppq_gather.specs.ppq_array.Owner.{slots_shown}
+use Rattle.ppq_gather.specs.ppq_array.Holdings.{external_slots}
+use Rattle.ppq_gather.specs.ppq_pool.Seats.{count_of}
+use Rattle.ppq_gather.specs.ppq_queue.Holding.{Holding}
 use Rattle.ppq_begin.specs.Session.{bag_of}
 use Rattle.ppq_begin.specs.Outfits.{IsOutfit}
 use Rattle.ppq_begin.specs.declared.fault.BeginFault.TheVariants.{Memory}

@@ -1,9 +1,9 @@
 use Rattle.std.specs.Prelude.{vec_capacity}
 use Rattle.std.proofs.Common.{◌≡◌, ◌+◌, ◌/◌, ◌++◌, [], length, reverse, All}
-use Rattle.ppq_budget.specs.Sizes.{heap_of, pool_of}
-use Rattle.ppq_heap.specs.Heap.{Contents}
-use Rattle.ppq_pool.specs.Seats.{count_of}
-use Rattle.ppq_pass.specs.Passed.{PassHolding}
+use Rattle.ppq_gather.specs.ppq_budget.Sizes.{heap_of, pool_of}
+use Rattle.ppq_gather.specs.ppq_heap.Heap.{Contents}
+use Rattle.ppq_gather.specs.ppq_pool.Seats.{count_of}
+use Rattle.ppq_gather.specs.ppq_pass.Passed.{PassHolding}
 use Rattle.ppq_begin.specs.Session.{IsFresh}
 use Rattle.ppq_begin.specs.Outfits.{IsOutfit}
 use Rattle.ppq_begin.specs.Equipped.{MayEquip, Equipped, HasBegun, bags_of, bags_in, session_key}

@@ -1,6 +1,6 @@
 use Rattle.std.proofs.Common.{All, ◌∷◌, sym, subst}
 use Rattle.std.proofs.lemmas.List.Elements.{All-head, All-tail, All-push}
-use Rattle.ppq_array.specs.Owner.{HasBlock}
+use Rattle.ppq_gather.specs.ppq_array.Owner.{HasBlock}
 use Rattle.ppq_begin.proofs.equip.lend.Goals as goal
 
 pub returns-in-Some-clause-blocks : goal.returns-in-Some-clause-blocks

@@ -1,10 +1,10 @@
 use Rattle.std.proofs.Common.{◌*◌, All, length, refl, sym, ap, ◌∙◌, subst, arith}
 use Rattle.std.proofs.lemmas.List.Elements.{All-nil}
-use Rattle.ppq_array.specs.declared.berth.DeviceBlock.{DeviceBlock}
-use Rattle.ppq_array.specs.Owner.{HasBlock, HasSize}
-use Rattle.ppq_row.specs.declared.hand.Hand.{Hand as RowHand}
-use Rattle.ppq_pool.specs.declared.hand.Hand.{Hand as PoolHand}
-use Rattle.ppq_pass.specs.declared.shared.PoolBuf.{PoolBuf}
+use Rattle.ppq_gather.specs.ppq_array.declared.berth.DeviceBlock.{DeviceBlock}
+use Rattle.ppq_gather.specs.ppq_array.Owner.{HasBlock, HasSize}
+use Rattle.ppq_gather.specs.ppq_row.declared.hand.Hand.{Hand as RowHand}
+use Rattle.ppq_gather.specs.ppq_pool.declared.hand.Hand.{Hand as PoolHand}
+use Rattle.ppq_gather.specs.ppq_pass.declared.shared.PoolBuf.{PoolBuf}
 use Rattle.ppq_begin.proofs.equip.new_pass.Goals as goal
 
 pub new-requires-clause-body : goal.new-requires-clause-body

@@ -1,6 +1,6 @@
 use Rattle.std.proofs.Common.{◌≡◌, All, length, sym, ap, subst, arith}
 use Rattle.std.proofs.lemmas.List.Elements.{All-nil}
-use Rattle.ppq_pass.specs.declared.shared.PoolBuf.{PoolBuf}
+use Rattle.ppq_gather.specs.ppq_pass.declared.shared.PoolBuf.{PoolBuf}
 use Rattle.ppq_begin.proofs.share.make_pool.Goals as goal
 
 pub take_buffers-requires-clause-room : goal.take_buffers-requires-clause-room

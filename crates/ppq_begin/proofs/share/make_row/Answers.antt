@@ -1,6 +1,6 @@
 use Rattle.std.proofs.Common.{◌≡◌, ◌*◌, All, length, sym, ap, subst, arith}
 use Rattle.std.proofs.lemmas.List.Elements.{All-nil}
-use Rattle.ppq_array.specs.Owner.{HasSize, slots_shown}
+use Rattle.ppq_gather.specs.ppq_array.Owner.{HasSize, slots_shown}
 use Rattle.ppq_begin.proofs.Sharing.{all_kept, as_many}
 use Rattle.ppq_begin.proofs.share.make_row.Given as given
 use Rattle.ppq_begin.proofs.share.make_row.Goals as goal

@@ -1,6 +1,6 @@
 use Rattle.std.proofs.Common.{◌≡◌, ◌+◌, ◌*◌, ◌++◌, length, reverse, All}
-use Rattle.ppq_array.specs.Owner.{HasSize, slots_shown}
-use Rattle.ppq_queue.specs.Slots.{with_slots}
+use Rattle.ppq_gather.specs.ppq_array.Owner.{HasSize, slots_shown}
+use Rattle.ppq_gather.specs.ppq_queue.Slots.{with_slots}
 use Rattle.ppq_begin.proofs.slots.put_last.Given as goal
 
 abbrev pub invariant-putting : goal.invariant-putting

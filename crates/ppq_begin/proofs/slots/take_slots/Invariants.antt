@@ -1,7 +1,7 @@
 use Rattle.std.specs.Prelude.{vec_capacity}
 use Rattle.std.proofs.Common.{◌≡◌, ◌+◌, ◌*◌, ◌++◌, length, All}
-use Rattle.ppq_array.specs.Owner.{HasSize, slots_shown}
-use Rattle.ppq_queue.specs.Slots.{with_slots}
+use Rattle.ppq_gather.specs.ppq_array.Owner.{HasSize, slots_shown}
+use Rattle.ppq_gather.specs.ppq_queue.Slots.{with_slots}
 use Rattle.ppq_begin.proofs.slots.take_slots.Given as goal
 
 abbrev pub invariant-taking : goal.invariant-taking

@@ -2,8 +2,8 @@ use Rattle.std.proofs.Common.{◌≡◌, ◌+◌, ◌*◌, ◌∷◌, ◌++◌, 
 use Rattle.std.specs.List.{range_with_len}
 use Rattle.std.proofs.lemmas.List.{map-append, length-map}
 use Rattle.std.proofs.lemmas.List.Elements.{All-push}
-use Rattle.ppq_outside.specs.Shown.{AllTell, Tells}
-use Rattle.ppq_outside.specs.Made.{HasMade}
+use Rattle.ppq_words.specs.ppq_outside.Shown.{AllTell, Tells}
+use Rattle.ppq_words.specs.ppq_outside.Made.{HasMade}
 use Rattle.ppq_cli.specs.Device.{AreNew}
 use Rattle.ppq_cli.proofs.Numbered.{new-more, made-more}
 use Rattle.ppq_cli.proofs.device.make_blocks.Goals as goal

@@ -1,7 +1,7 @@
 use Rattle.std.proofs.Common.{◌≡◌, ◌*◌, length, map, vec_capacity}
 use Rattle.std.specs.List.{range_with_len}
-use Rattle.ppq_outside.specs.Made.{HasMade}
-use Rattle.ppq_outside.specs.Shown.{AllTell}
+use Rattle.ppq_words.specs.ppq_outside.Made.{HasMade}
+use Rattle.ppq_words.specs.ppq_outside.Shown.{AllTell}
 use Rattle.ppq_cli.specs.Device.{AreNew}
 use Rattle.ppq_cli.proofs.device.make_blocks.Given as goal
 

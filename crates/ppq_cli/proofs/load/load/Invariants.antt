@@ -1,5 +1,5 @@
 use Rattle.std.proofs.Common.{◌≡◌, ◌≤◌, ◌-◌, length, take, Some}
-use Rattle.ppq_outside.specs.Told.{OfLength, Remembers}
+use Rattle.ppq_words.specs.ppq_outside.Told.{OfLength, Remembers}
 use Rattle.ppq_cli.specs.Replies.{IsGiven, ReadsWithin}
 use Rattle.ppq_cli.proofs.load.load.Given as goal
 

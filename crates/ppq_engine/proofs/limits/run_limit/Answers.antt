@@ -1,6 +1,6 @@
 use Rattle.std.proofs.Common.{◌+◌, true, length, drop, sym, ap, ◌∙◌, subst, arith}
-use Rattle.ppq_record.specs.declared.pair.Pair.{Pair}
-use Rattle.ppq_budget.specs.Sizes.{Numbers}
+use Rattle.ppq_script.specs.ppq_record.declared.pair.Pair.{Pair}
+use Rattle.ppq_batch.specs.ppq_budget.Sizes.{Numbers}
 use Rattle.ppq_script.specs.Reading.{command_list}
 use Rattle.ppq_batch.specs.Batches.{AreGoing}
 use Rattle.ppq_engine.specs.Files.{load_stop}

@@ -1,10 +1,10 @@
 use Rattle.std.proofs.Common.{◌≡◌, ◌<◌, ℕ, false, List, All, refl, sym, ap, ◌∙◌, subst, arith}
 use Rattle.std.proofs.Math.Facts.{Fits-of_lt}
-use Rattle.ppq_record.specs.declared.pair.Pair.{Pair}
-use Rattle.ppq_record.specs.Pair.{pair_cmp}
-use Rattle.ppq_record.specs.Order.{is_before}
-use Rattle.ppq_budget.specs.Sizes.{Numbers}
-use Rattle.ppq_session.specs.declared.line.Line.{Line}
+use Rattle.ppq_script.specs.ppq_record.declared.pair.Pair.{Pair}
+use Rattle.ppq_script.specs.ppq_record.Pair.{pair_cmp}
+use Rattle.ppq_script.specs.ppq_record.Order.{is_before}
+use Rattle.ppq_batch.specs.ppq_budget.Sizes.{Numbers}
+use Rattle.ppq_batch.specs.ppq_session.declared.line.Line.{Line}
 use Rattle.ppq_engine.specs.Limits.{between, BatchHolding, BreaksOff}
 use Rattle.ppq_engine.proofs.Asked.{lines-named, lines-above}
 use Rattle.ppq_engine.proofs.Batches.{limit-within, session-next}

@@ -1,8 +1,8 @@
 use Rattle.std.proofs.Common.{◌≡◌, ◌≤◌, ◌+◌, ◌/◌, ◌++◌, ℕ, List, max, Option, Some, None, arith}
-use Rattle.ppq_record.specs.Bag.{IsSameBag}
-use Rattle.ppq_record.specs.Given.{records_of}
-use Rattle.ppq_outside.specs.Shown.{AllTell}
-use Rattle.ppq_outside.specs.Told.{bytes_or_none}
+use Rattle.ppq_script.specs.ppq_record.Bag.{IsSameBag}
+use Rattle.ppq_script.specs.ppq_record.Given.{records_of}
+use Rattle.ppq_script.specs.ppq_outside.Shown.{AllTell}
+use Rattle.ppq_script.specs.ppq_outside.Told.{bytes_or_none}
 use Rattle.ppq_engine.proofs.Loads.{loaded-ok, loaded-refused, loaded-by_file, loaded-ended, loaded-counts}
 use Rattle.ppq_engine.proofs.Results.{on-ok-map}
 use Rattle.ppq_engine.proofs.load.push_file.Goals as goal

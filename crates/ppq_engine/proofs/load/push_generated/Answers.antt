@@ -1,7 +1,7 @@
 use Rattle.std.proofs.Common.{◌≡◌, ◌≤◌, ◌+◌, ◌++◌, max, None, arith}
-use Rattle.ppq_record.specs.Bag.{IsSameBag}
-use Rattle.ppq_record.specs.Given.{generated}
-use Rattle.ppq_outside.specs.Shown.{AllTell}
+use Rattle.ppq_script.specs.ppq_record.Bag.{IsSameBag}
+use Rattle.ppq_script.specs.ppq_record.Given.{generated}
+use Rattle.ppq_script.specs.ppq_outside.Shown.{AllTell}
 use Rattle.ppq_engine.proofs.Loads.{loaded-ok, loaded-refused, loaded-by_session}
 use Rattle.ppq_engine.proofs.Results.{on-ok-map}
 use Rattle.ppq_engine.proofs.load.push_generated.Goals as goal

@@ -1,6 +1,6 @@
 use Rattle.std.proofs.Common.{◌≡◌, ◌++◌, ◌∷◌, [], ◌∙◌, ℕ, List, length, ap, sym, subst, take, arith, append_assoc}
 use Rattle.std.proofs.Math.Seq.{take-length}
-use Rattle.ppq_record.specs.declared.pair.Pair.{Pair}
+use Rattle.ppq_script.specs.ppq_record.declared.pair.Pair.{Pair}
 use Rattle.ppq_engine.specs.Gathers.{IsSummary}
 use Rattle.ppq_engine.proofs.Running.{take-next}
 use Rattle.ppq_engine.proofs.pop.add_all.Goals as goal

@@ -1,5 +1,5 @@
 use Rattle.std.proofs.Common.{◌++◌, ◌∙◌, ℕ, List, ap, sym, subst, take, arith}
-use Rattle.ppq_outside.specs.Told.{TakesPart}
+use Rattle.ppq_script.specs.ppq_outside.Told.{TakesPart}
 use Rattle.ppq_engine.specs.Output.{line_of, lines_text}
 use Rattle.ppq_engine.specs.Gathers.{Gathers}
 use Rattle.ppq_engine.proofs.Popped.{gathers-more, lines-more, lines-put}

@@ -1,7 +1,7 @@
 use Rattle.std.proofs.Common.{◌++◌, ◌∙◌, ℕ, List, refl, subst}
-use Rattle.ppq_record.specs.Pair.{pair_cmp}
-use Rattle.ppq_record.specs.Bag.{front}
-use Rattle.ppq_outside.specs.Shown.{AllTell}
+use Rattle.ppq_script.specs.ppq_record.Pair.{pair_cmp}
+use Rattle.ppq_script.specs.ppq_record.Bag.{front}
+use Rattle.ppq_script.specs.ppq_outside.Shown.{AllTell}
 use Rattle.ppq_engine.specs.Output.{lines_text, mark_text, limited_count}
 use Rattle.ppq_engine.specs.Gathers.{Gathers}
 use Rattle.ppq_engine.specs.Running.{WritesPart}

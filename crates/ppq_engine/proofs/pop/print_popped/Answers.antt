@@ -1,9 +1,9 @@
 use Rattle.std.proofs.Common.{◌≡◌, ◌+◌, ◌-◌, ◌++◌, ◌∙◌, ℕ, List, length, refl, sym, subst, take, drop, arith}
-use Rattle.ppq_record.specs.declared.pair.Pair.{Pair}
-use Rattle.ppq_record.specs.Pair.{pair_cmp}
-use Rattle.ppq_record.specs.Bag.{IsSameBag, ascending}
-use Rattle.ppq_outside.specs.Shown.{AllTell}
-use Rattle.ppq_outside.specs.Told.{TakesPart}
+use Rattle.ppq_script.specs.ppq_record.declared.pair.Pair.{Pair}
+use Rattle.ppq_script.specs.ppq_record.Pair.{pair_cmp}
+use Rattle.ppq_script.specs.ppq_record.Bag.{IsSameBag, ascending}
+use Rattle.ppq_script.specs.ppq_outside.Shown.{AllTell}
+use Rattle.ppq_script.specs.ppq_outside.Told.{TakesPart}
 use Rattle.ppq_engine.specs.Output.{lines_text}
 use Rattle.ppq_engine.specs.Gathers.{Gathers}
 use Rattle.ppq_engine.specs.Popping.{popped_count}

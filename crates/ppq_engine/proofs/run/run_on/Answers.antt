@@ -1,6 +1,6 @@
 use Rattle.std.proofs.Common.{◌≡◌, ℕ, List, Option, arith}
 use Rattle.std.specs.Prelude.{IfErr, OnOk}
-use Rattle.ppq_outside.specs.Shown.{AllTell}
+use Rattle.ppq_script.specs.ppq_outside.Shown.{AllTell}
 use Rattle.ppq_script.specs.Reading.{command_list}
 use Rattle.ppq_engine.specs.Loads.{FitsWritten, least_of}
 use Rattle.ppq_engine.specs.Output.{AreFilesOf, output_of, crest_of, given_of}

@@ -1,6 +1,6 @@
 use Rattle.std.proofs.Common.{ℕ, List, Option, map, subst}
-use Rattle.ppq_outside.specs.Shown.{Shown, AllTell}
-use Rattle.ppq_outside.specs.Told.{TakesPart}
+use Rattle.ppq_script.specs.ppq_outside.Shown.{Shown, AllTell}
+use Rattle.ppq_script.specs.ppq_outside.Told.{TakesPart}
 use Rattle.ppq_script.specs.Reading.{command_list}
 use Rattle.ppq_engine.specs.Output.{AreFilesOf, given_of, output_of}
 use Rattle.ppq_engine.specs.Outcome.{EndSays, FaultBeforeFile}

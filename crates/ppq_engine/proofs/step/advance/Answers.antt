@@ -1,16 +1,16 @@
 use Rattle.std.proofs.Common.{◌≡◌, ◌≤◌, ◌<◌, ◌+◌, ◌++◌, ℕ, List, [], ◌∷◌, Option, Some, None, true, max, length, drop, refl, sym, ap, subst, arith}
 use Rattle.std.specs.Prelude.{Result, Ok, Err, IfErr, OnOk, slice_get, ◌||◌}
 use Rattle.std.proofs.lemmas.List.{length-map}
-use Rattle.ppq_record.specs.declared.pair.Pair.{Pair}
-use Rattle.ppq_record.specs.Bag.{IsSameBag}
-use Rattle.ppq_outside.specs.Shown.{AllTell}
-use Rattle.ppq_outside.proofs.Replies.{no_replies}
+use Rattle.ppq_script.specs.ppq_record.declared.pair.Pair.{Pair}
+use Rattle.ppq_script.specs.ppq_record.Bag.{IsSameBag}
+use Rattle.ppq_script.specs.ppq_outside.Shown.{AllTell}
+use Rattle.ppq_script.proofs.ppq_outside.Replies.{no_replies}
 use Rattle.ppq_script.specs.declared.command.Command.{Command}
 use Rattle.ppq_script.specs.declared.command.Command.TheVariants.{BulkBegin, LimitBegin}
 use Rattle.ppq_script.specs.declared.session.Session.TheVariants.{Outside, InBulk, InLimit}
 use Rattle.ppq_script.specs.Reading.{Reading, command_list}
 use Rattle.ppq_script.specs.Sessions.{are_in_place}
-use Rattle.ppq_load.specs.Refusal.{Keeps}
+use Rattle.ppq_batch.specs.ppq_load.Refusal.{Keeps}
 use Rattle.ppq_batch.specs.Batches.{begun_in}
 use Rattle.ppq_engine.specs.Files.{IsBySession, IsReadInScript}
 use Rattle.ppq_engine.specs.Gathers.{Gathers}

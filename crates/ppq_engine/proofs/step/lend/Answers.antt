@@ -1,5 +1,5 @@
-use Rattle.ppq_outside.specs.Shown.{AllTell}
-use Rattle.ppq_outside.proofs.Takes.{part_of_more}
+use Rattle.ppq_script.specs.ppq_outside.Shown.{AllTell}
+use Rattle.ppq_script.proofs.ppq_outside.Takes.{part_of_more}
 use Rattle.ppq_engine.specs.Output.{outside, text_of}
 use Rattle.ppq_engine.specs.Running.{WritesPart}
 use Rattle.ppq_engine.specs.declared.stop.Stop.{Stop}

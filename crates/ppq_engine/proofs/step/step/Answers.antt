@@ -1,15 +1,15 @@
 use Rattle.std.proofs.Common.{◌≡◌, ◌≤◌, ◌++◌, ℕ, Bool, List, Option, Some, max, length, refl, sym, ap, ◌∙◌, subst, arith}
 use Rattle.std.specs.Prelude.{IfErr}
-use Rattle.ppq_record.specs.declared.pair.Pair.{Pair}
-use Rattle.ppq_record.specs.Bag.{IsSameBag}
-use Rattle.ppq_record.specs.Given.{records_of, generated}
-use Rattle.ppq_outside.specs.Shown.{AllTell}
-use Rattle.ppq_outside.specs.Told.{bytes_or_none}
-use Rattle.ppq_outside.proofs.Replies.{no_replies, replies_wider}
-use Rattle.ppq_budget.specs.Sizes.{Numbers}
+use Rattle.ppq_script.specs.ppq_record.declared.pair.Pair.{Pair}
+use Rattle.ppq_script.specs.ppq_record.Bag.{IsSameBag}
+use Rattle.ppq_script.specs.ppq_record.Given.{records_of, generated}
+use Rattle.ppq_script.specs.ppq_outside.Shown.{AllTell}
+use Rattle.ppq_script.specs.ppq_outside.Told.{bytes_or_none}
+use Rattle.ppq_script.proofs.ppq_outside.Replies.{no_replies, replies_wider}
+use Rattle.ppq_batch.specs.ppq_budget.Sizes.{Numbers}
 use Rattle.ppq_script.specs.declared.command.Command.{Command}
 use Rattle.ppq_script.specs.Files.{name_at}
-use Rattle.ppq_load.specs.Reading.{IsReadWithin}
+use Rattle.ppq_batch.specs.ppq_load.Reading.{IsReadWithin}
 use Rattle.ppq_engine.specs.Files.{IsByFile, IsBySession, EndsEarly, IsReadInScript}
 use Rattle.ppq_engine.specs.Gathers.{Gathers}
 use Rattle.ppq_engine.specs.Loads.{none_go, size_after}

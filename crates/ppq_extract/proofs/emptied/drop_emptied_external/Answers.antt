@@ -1,5 +1,5 @@
 use Rattle.std.proofs.Common.{◌≡◌, ◌∙◌, []}
-use Rattle.ppq_array.specs.External.{External}
+use Rattle.ppq_fetch.specs.ppq_array.External.{External}
 use Rattle.ppq_extract.specs.Emptied.{IsEmptyArray}
 use Rattle.ppq_extract.proofs.Removing.{lost_more, All_lost}
 use Rattle.ppq_extract.proofs.emptied.drop_emptied_external.Goals as goal

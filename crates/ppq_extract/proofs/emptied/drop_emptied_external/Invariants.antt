@@ -1,6 +1,6 @@
 use Rattle.std.proofs.Common.{◌≡◌, ◌<◌, ◌≤◌, [], length, vec_capacity, All}
 use Rattle.std.specs.List.{AllWithin}
-use Rattle.ppq_array.specs.External.{External, size_of}
+use Rattle.ppq_fetch.specs.ppq_array.External.{External, size_of}
 use Rattle.ppq_extract.specs.Emptied.{LostOnly, IsEmptyArray}
 use Rattle.ppq_extract.proofs.emptied.drop_emptied_external.Given as goal
 

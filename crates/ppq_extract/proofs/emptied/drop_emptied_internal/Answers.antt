@@ -1,5 +1,5 @@
 use Rattle.std.proofs.Common.{◌≡◌, ◌∙◌, []}
-use Rattle.ppq_array.specs.Run.{Run}
+use Rattle.ppq_fetch.specs.ppq_array.Run.{Run}
 use Rattle.ppq_extract.specs.Emptied.{IsEmptyRun}
 use Rattle.ppq_extract.proofs.Removing.{lost_more, All_lost}
 use Rattle.ppq_extract.proofs.emptied.drop_emptied_internal.Goals as goal

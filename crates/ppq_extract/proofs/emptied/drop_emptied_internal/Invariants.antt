@@ -1,6 +1,6 @@
 use Rattle.std.proofs.Common.{◌≡◌, ◌<◌, ◌≤◌, [], length, vec_capacity, All}
 use Rattle.std.specs.List.{AllWithin}
-use Rattle.ppq_array.specs.Run.{Run, items_of}
+use Rattle.ppq_fetch.specs.ppq_array.Run.{Run, items_of}
 use Rattle.ppq_extract.specs.Emptied.{LostOnly, IsEmptyRun}
 use Rattle.ppq_extract.proofs.emptied.drop_emptied_internal.Given as goal
 

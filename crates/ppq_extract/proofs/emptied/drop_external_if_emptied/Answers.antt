@@ -1,5 +1,5 @@
 use Rattle.std.proofs.Common.{rules, ◌≡◌, ◌<◌, get_or, arith}
-use Rattle.ppq_array.specs.External.{External, size_of}
+use Rattle.ppq_fetch.specs.ppq_array.External.{External, size_of}
 use Rattle.ppq_extract.specs.Emptied.{IsEmptyArray}
 use Rattle.ppq_extract.proofs.Removing.{lost_none, lost_at, length_removed, within_kept, within_removed}
 use Rattle.ppq_extract.proofs.emptied.drop_external_if_emptied.Goals as goal

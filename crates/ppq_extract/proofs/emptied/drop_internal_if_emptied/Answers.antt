@@ -1,5 +1,5 @@
 use Rattle.std.proofs.Common.{rules, ◌≡◌, ◌<◌, length, get_or, arith}
-use Rattle.ppq_array.specs.Run.{Run, items_of}
+use Rattle.ppq_fetch.specs.ppq_array.Run.{Run, items_of}
 use Rattle.ppq_extract.specs.Emptied.{IsEmptyRun}
 use Rattle.ppq_extract.proofs.Removing.{lost_none, lost_at, length_removed, within_kept, within_removed}
 use Rattle.ppq_extract.proofs.emptied.drop_internal_if_emptied.Goals as goal

@@ -1,5 +1,5 @@
 use Rattle.std.proofs.Common.{◌≡◌, ◌+◌, ◌-◌, ◌≤◌, ◌++◌, [], length, take, drop, inl, inr, refl, sym, ap, ◌∙◌, subst, arith, length-take, length-drop, length-append}
-use Rattle.ppq_record.proofs.Fronts.{ranks, no_tie}
+use Rattle.ppq_array.proofs.ppq_record.Fronts.{ranks, no_tie}
 use Rattle.ppq_fetch.specs.Fetching.{state, MayFetch, Fetched, FetchFailed}
 use Rattle.ppq_fetch.proofs.Ready.{take_first, take_left, take_more}
 use Rattle.ppq_fetch.proofs.Rounds.{Fetched-none, Fetched-more, Failed-more, Fetched-front}

@@ -1,8 +1,8 @@
 use Rattle.std.proofs.Common.{◌≡◌, ◌*◌, length, drop, get_or, refl, sym, ap, ◌∙◌, subst, arith, length-take}
 use Rattle.std.specs.List.{AllByRecursion as Each}
 use Rattle.std.proofs.lemmas.List.Elements.{All-get_or}
-use Rattle.ppq_record.specs.Order.{Ascends}
-use Rattle.ppq_record.proofs.Fronts.{ranks}
+use Rattle.ppq_array.specs.ppq_record.Order.{Ascends}
+use Rattle.ppq_array.proofs.ppq_record.Fronts.{ranks}
 use Rattle.ppq_array.specs.External.{External}
 use Rattle.ppq_array.specs.Holdings.{ArrayHasSize}
 use Rattle.ppq_fetch.specs.Edges.{edge_of, IsSafeEdge, is_within}

@@ -1,5 +1,5 @@
 use Rattle.std.proofs.Common.{◌-◌, ◌≡◌, ◌≤◌, length}
-use Rattle.ppq_record.specs.Order.{Ascends}
+use Rattle.ppq_array.specs.ppq_record.Order.{Ascends}
 use Rattle.ppq_fetch.specs.Edges.{is_within}
 use Rattle.ppq_fetch.specs.declared.edge.Edge.TheVariants.{Whole}
 use Rattle.ppq_fetch.proofs.Searching.{Found}

@@ -1,8 +1,8 @@
 use Rattle.std.proofs.Common.{◌≡◌, ◌<◌, length, map, take, sym, ap, ◌∙◌, subst, arith, length-set}
 use Rattle.std.specs.Prelude.{count_by}
 use Rattle.std.proofs.lemmas.List.{length-map}
-use Rattle.ppq_record.specs.Order.{Ascends}
-use Rattle.ppq_record.specs.Runs.{list_at}
+use Rattle.ppq_array.specs.ppq_record.Order.{Ascends}
+use Rattle.ppq_array.specs.ppq_record.Runs.{list_at}
 use Rattle.ppq_fetch.specs.Edges.{is_within}
 use Rattle.ppq_fetch.proofs.Listings.{run_only}
 use Rattle.ppq_fetch.proofs.Marking.{within_more, total_more, passed_more, each_run, total_within, some_runs, runs_more}

@@ -1,10 +1,10 @@
 use Rattle.std.proofs.Common.{◌≡◌, length, map, take}
 use Rattle.std.specs.List.{AllByRecursion as Each}
-use Rattle.ppq_record.specs.Order.{Ascends}
-use Rattle.ppq_record.specs.Runs.{all_of}
+use Rattle.ppq_array.specs.ppq_record.Order.{Ascends}
+use Rattle.ppq_array.specs.ppq_record.Runs.{all_of}
 use Rattle.ppq_fetch.specs.declared.edge.Edge.TheVariants.{Whole}
 use Rattle.ppq_fetch.specs.Edges.{is_within}
-use Rattle.ppq_split.specs.Cut.{AreWithin, total}
+use Rattle.ppq_merge.specs.ppq_split.Cut.{AreWithin, total}
 use Rattle.ppq_fetch.specs.Parts.{passed}
 use Rattle.ppq_fetch.proofs.mark.mark_all.Given as goal
 

@@ -1,6 +1,6 @@
 use Rattle.std.proofs.Common.{◌++◌, map, sym, ap₂, ◌∙◌, arith}
-use Rattle.ppq_record.specs.Order.{Ascends}
-use Rattle.ppq_record.proofs.Order.{Each-append_left, Each-append_right}
+use Rattle.ppq_array.specs.ppq_record.Order.{Ascends}
+use Rattle.ppq_array.proofs.ppq_record.Order.{Each-append_left, Each-append_right}
 use Rattle.ppq_array.specs.Run.{Run, items_of}
 use Rattle.ppq_array.specs.External.{External}
 use Rattle.ppq_fetch.specs.Edges.{is_within}

@@ -1,9 +1,9 @@
 use Rattle.std.proofs.Common.{◌≡◌, length, take, sym, ap, ◌∙◌, subst, arith}
-use Rattle.ppq_record.specs.Runs.{all_of}
-use Rattle.ppq_record.specs.Bag.{IsSameBag}
+use Rattle.ppq_array.specs.ppq_record.Runs.{all_of}
+use Rattle.ppq_array.specs.ppq_record.Bag.{IsSameBag}
 use Rattle.ppq_array.specs.Run.{items_of}
 use Rattle.ppq_array.specs.External.{External}
-use Rattle.ppq_split.specs.Cut.{AreWithin}
+use Rattle.ppq_merge.specs.ppq_split.Cut.{AreWithin}
 use Rattle.ppq_merge.specs.Parts.{before}
 use Rattle.ppq_fetch.specs.Parts.{firsts}
 use Rattle.ppq_fetch.specs.Fetching.{loaded_lists}

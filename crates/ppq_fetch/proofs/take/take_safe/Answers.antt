@@ -1,10 +1,10 @@
 use Rattle.std.proofs.Common.{◌≡◌, ◌++◌, length, map, take, drop, sym, ap, ◌∙◌, subst, arith, take-append-drop}
 use Rattle.std.proofs.lemmas.List.{length-map}
-use Rattle.ppq_record.specs.Bag.{IsSameBag, front}
-use Rattle.ppq_record.specs.Runs.{all_of}
+use Rattle.ppq_array.specs.ppq_record.Bag.{IsSameBag, front}
+use Rattle.ppq_array.specs.ppq_record.Runs.{all_of}
 use Rattle.ppq_array.specs.Run.{items_of}
 use Rattle.ppq_array.specs.External.{External}
-use Rattle.ppq_split.specs.Cut.{AreWithin}
+use Rattle.ppq_merge.specs.ppq_split.Cut.{AreWithin}
 use Rattle.ppq_merge.specs.Parts.{before}
 use Rattle.ppq_fetch.specs.Parts.{firsts}
 use Rattle.ppq_fetch.specs.Fetching.{loaded_lists}

@@ -1,8 +1,8 @@
 use Rattle.std.proofs.Common.{◌≡◌, ◌+◌, ◌++◌, ◌∷◌, [], All, length, take, IsNone, refl, sym, ap, ◌∙◌, subst, arith, length-take}
 use Rattle.std.specs.List.{AllByRecursion as Each}
 use Rattle.std.proofs.lemmas.Grind.{take_at_read}
-use Rattle.ppq_record.proofs.Order.{Each-append}
-use Rattle.ppq_record.proofs.Fronts.{ranks}
+use Rattle.ppq_array.proofs.ppq_record.Order.{Each-append}
+use Rattle.ppq_array.proofs.ppq_record.Fronts.{ranks}
 use Rattle.ppq_array.specs.External.{IsLabelled}
 use Rattle.ppq_fetch.specs.Turns.{IsNext, lesser_block}
 use Rattle.ppq_fetch.proofs.Nexts.{next_more}

@@ -1,10 +1,10 @@
 use Rattle.std.proofs.Common.{◌≡◌, ℕ, ◌∙◌, ap, ap₂, sym, subst, arith}
 use Rattle.std.specs.Prelude.{count_by, Err}
-use Rattle.ppq_record.proofs.Order.{count_by-append}
-use Rattle.ppq_spill.proofs.SameSlots.{SameSlots-trans}
-use Rattle.ppq_queue.specs.Holding.{HasStopped, IsRefusal}
-use Rattle.ppq_outside.specs.Shown.{AllTell}
-use Rattle.ppq_array.specs.Kept.{SameSlots, all_writes}
+use Rattle.ppq_begin.proofs.ppq_record.Order.{count_by-append}
+use Rattle.ppq_begin.proofs.ppq_spill.SameSlots.{SameSlots-trans}
+use Rattle.ppq_begin.specs.ppq_queue.Holding.{HasStopped, IsRefusal}
+use Rattle.ppq_begin.specs.ppq_outside.Shown.{AllTell}
+use Rattle.ppq_begin.specs.ppq_array.Kept.{SameSlots, all_writes}
 use Rattle.ppq_begin.specs.Session.{IsBeginRefusal, bag_of}
 use Rattle.ppq_begin.specs.declared.fault.BeginFault.TheVariants.{Device}
 use Rattle.ppq_front.proofs.Limiting.{all_nothing, bag_none, passes_count, are_limited, shared_front, limited_of}

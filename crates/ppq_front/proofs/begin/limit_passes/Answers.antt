@@ -1,6 +1,6 @@
 use Rattle.std.proofs.Common.{◌≡◌, ◌+◌, ◌∷◌, ◌++◌, [], All, length, sym, ap, ◌∙◌, subst, arith, length-append}
 use Rattle.std.proofs.lemmas.List.Elements.{All-push}
-use Rattle.ppq_pass.specs.Passed.{PassHolding}
+use Rattle.ppq_begin.specs.ppq_pass.Passed.{PassHolding}
 use Rattle.ppq_begin.specs.Session.{IsFresh}
 use Rattle.ppq_front.specs.Limited.{LimitHolding, HoldsNothing}
 use Rattle.ppq_front.specs.Sessions.{IsNew}

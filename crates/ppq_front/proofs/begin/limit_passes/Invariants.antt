@@ -1,6 +1,6 @@
 use Rattle.std.specs.Prelude.{vec_capacity}
 use Rattle.std.proofs.Common.{◌≡◌, ◌+◌, ◌≤◌, length, All}
-use Rattle.ppq_pass.specs.Passed.{PassHolding, PassKey}
+use Rattle.ppq_begin.specs.ppq_pass.Passed.{PassHolding, PassKey}
 use Rattle.ppq_begin.specs.Session.{IsFresh}
 use Rattle.ppq_front.specs.Limited.{LimitHolding, HoldsNothing}
 use Rattle.ppq_front.specs.Sessions.{IsNew}

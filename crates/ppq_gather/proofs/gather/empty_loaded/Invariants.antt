@@ -1,5 +1,5 @@
 use Rattle.std.proofs.Common.{◌≡◌, ◌+◌, [], length}
-use Rattle.ppq_array.specs.Run.{buffers_of}
+use Rattle.ppq_pass.specs.ppq_array.Run.{buffers_of}
 use Rattle.ppq_gather.proofs.gather.empty_loaded.Given as goal
 
 abbrev pub invariant-emptying : goal.invariant-emptying

@@ -1,5 +1,5 @@
 use Rattle.std.proofs.Common.{length, ap, arith}
-use Rattle.ppq_array.specs.Run.{items_of}
+use Rattle.ppq_pass.specs.ppq_array.Run.{items_of}
 use Rattle.ppq_gather.proofs.Emptying.{no_items, spent_all}
 use Rattle.ppq_gather.proofs.gather.empty_run.Goals as goal
 

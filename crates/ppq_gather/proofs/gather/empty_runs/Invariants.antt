@@ -1,5 +1,5 @@
 use Rattle.std.proofs.Common.{◌≡◌, ◌+◌, length}
-use Rattle.ppq_array.specs.Holdings.{internal_buffers}
+use Rattle.ppq_pass.specs.ppq_array.Holdings.{internal_buffers}
 use Rattle.ppq_gather.proofs.gather.empty_runs.Given as goal
 
 abbrev pub invariant-emptying : goal.invariant-emptying

@@ -1,10 +1,10 @@
 use Rattle.std.proofs.Common.{◌-◌, ◌*◌, ◌++◌, ◌∷◌, ◌∙◌, [], All, List, length, sum_by, ap, ap₂, sym, subst, refl, arith, length-append}
 use Rattle.std.proofs.lemmas.List.{map-append}
 use Rattle.std.proofs.lemmas.List.Sums.{sum_by-append, sum_by-cons}
-use Rattle.ppq_array.specs.Owner.{HasSize, slots_shown}
-use Rattle.ppq_array.specs.declared.berth.DeviceBlock.{DeviceBlock}
-use Rattle.ppq_array.proofs.Noted.{all_left}
-use Rattle.ppq_queue.specs.Slots.{with_slots}
+use Rattle.ppq_pass.specs.ppq_array.Owner.{HasSize, slots_shown}
+use Rattle.ppq_pass.specs.ppq_array.declared.berth.DeviceBlock.{DeviceBlock}
+use Rattle.ppq_pass.proofs.ppq_array.Noted.{all_left}
+use Rattle.ppq_pass.specs.ppq_queue.Slots.{with_slots}
 use Rattle.ppq_gather.proofs.gather.free_stored.Goals as goal
 
 pub freeing-preserved : goal.freeing-preserved

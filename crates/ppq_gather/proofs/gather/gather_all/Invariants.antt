@@ -1,6 +1,6 @@
 use Rattle.std.proofs.Common.{◌≡◌, List, length, None}
-use Rattle.ppq_record.specs.Bag.{IsSameBag}
-use Rattle.ppq_outside.specs.Shown.{Shown}
+use Rattle.ppq_pass.specs.ppq_record.Bag.{IsSameBag}
+use Rattle.ppq_pass.specs.ppq_outside.Shown.{Shown}
 use Rattle.ppq_gather.specs.Gathering.{IsGathered, gathered_bag}
 use Rattle.ppq_gather.proofs.Gathers.{Came}
 use Rattle.ppq_gather.proofs.gather.gather_all.Given as goal

@@ -1,8 +1,8 @@
 use Rattle.std.proofs.Common.{◌≡◌, ◌≤◌, ◌+◌, ◌*◌, ◌∙◌, ℕ, None, All, ap, sym, subst, arith, min, max}
 use Rattle.std.proofs.lemmas.Nat.{mul-le}
-use Rattle.ppq_heap.specs.Heap.{Contents}
-use Rattle.ppq_budget.specs.Sizes.{Numbers, AreInRange, heap_of}
-use Rattle.ppq_queue.specs.Handed.{IsWhole}
+use Rattle.ppq_pass.specs.ppq_heap.Heap.{Contents}
+use Rattle.ppq_pass.specs.ppq_budget.Sizes.{Numbers, AreInRange, heap_of}
+use Rattle.ppq_pass.specs.ppq_queue.Handed.{IsWhole}
 use Rattle.ppq_gather.proofs.Rejoined.{cap_first, parts_of, count_all, whole-rejoined}
 use Rattle.ppq_gather.proofs.rejoining.rejoin.Given as given
 use Rattle.ppq_gather.proofs.rejoining.rejoin.Goals.{After-drop-c}

@@ -1,5 +1,5 @@
 use Rattle.std.proofs.Common.{sym, ◌∙◌}
-use Rattle.ppq_record.proofs.Fronts.{ranks, no_tie}
+use Rattle.ppq_tree.proofs.ppq_record.Fronts.{ranks, no_tie}
 use Rattle.ppq_heap.proofs.Shares.{pushed_none, pushed_some}
 use Rattle.ppq_heap.proofs.heaps.push.Goals as goal
 use Rattle.ppq_heap.proofs.heaps.push.Goals.{in-None, in-Some}

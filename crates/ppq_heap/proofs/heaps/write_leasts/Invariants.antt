@@ -1,5 +1,5 @@
 use Rattle.std.proofs.Common.{◌≡◌, ◌≤◌, ◌<◌, ◌^◌, length, take, map, All}
-use Rattle.ppq_record.specs.Bag.{least}
+use Rattle.ppq_tree.specs.ppq_record.Bag.{least}
 use Rattle.ppq_heap.specs.Heap.{Contents}
 use Rattle.ppq_heap.proofs.heaps.write_leasts.Given as goal
 

@@ -1,7 +1,7 @@
 use Rattle.std.proofs.Common.{◌≡◌, ◌-◌, ◌/◌, ◌<◌, true, refl, sym, ap, ◌∙◌, arith}
 use Rattle.std.proofs.lemmas.List.{length-set, get_or_read}
-use Rattle.ppq_record.specs.Order.{is_before}
-use Rattle.ppq_record.proofs.Fronts.{ranks}
+use Rattle.ppq_tree.specs.ppq_record.Order.{is_before}
+use Rattle.ppq_tree.proofs.ppq_record.Fronts.{ranks}
 use Rattle.ppq_heap.proofs.Heap.{hole_moves, rises, filled}
 use Rattle.ppq_heap.proofs.sift.rise.Goals as goal
 use Rattle.ppq_heap.proofs.sift.rise.Goals.{else-loop-hole-test, then-loop-hole-test+then-not-is_less}

@@ -1,6 +1,6 @@
 use Rattle.std.proofs.Common.{◌≡◌, ◌<◌, length, set}
-use Rattle.ppq_record.specs.Order.{is_before}
-use Rattle.ppq_record.specs.Bag.{IsSameBag}
+use Rattle.ppq_tree.specs.ppq_record.Order.{is_before}
+use Rattle.ppq_tree.specs.ppq_record.Bag.{IsSameBag}
 use Rattle.ppq_heap.specs.Heap.{IsHeapRound}
 use Rattle.ppq_heap.proofs.Heap.{NotAfterBelow}
 use Rattle.ppq_heap.proofs.sift.rise.Given as goal

@@ -1,7 +1,7 @@
 use Rattle.std.proofs.Common.{slice_index_or, refl, ap, ◌∙◌, arith}
 use Rattle.std.proofs.lemmas.List.{length-set, get_or_read}
-use Rattle.ppq_record.specs.Order.{is_before}
-use Rattle.ppq_record.proofs.Fronts.{ranks}
+use Rattle.ppq_tree.specs.ppq_record.Order.{is_before}
+use Rattle.ppq_tree.proofs.ppq_record.Fronts.{ranks}
 use Rattle.ppq_heap.proofs.Heap.{hole_moves, heap_round_root, sinks}
 use Rattle.ppq_heap.proofs.sift.sink.Goals as goal
 

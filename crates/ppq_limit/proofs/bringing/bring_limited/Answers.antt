@@ -1,10 +1,10 @@
 use Rattle.std.proofs.Common.{◌≡◌, ◌+◌, ◌++◌, ◌∷◌, ◌∙◌, [], All, length, reverse, ap, sym, subst, refl, arith, length-append}
 use Rattle.std.proofs.lemmas.List.{length-map}
 use Rattle.std.proofs.lemmas.List.Elements.{All-head}
-use Rattle.ppq_array.proofs.Noted.{all_left, all_right}
+use Rattle.ppq_session.proofs.ppq_array.Noted.{all_left, all_right}
 use Rattle.ppq_front.specs.Limited.{LimitHolding}
-use Rattle.ppq_gather.specs.Passes.{pass_of}
-use Rattle.ppq_gather.proofs.Emptying.{nothing as no_list}
+use Rattle.ppq_session.specs.ppq_gather.Passes.{pass_of}
+use Rattle.ppq_session.proofs.ppq_gather.Emptying.{nothing as no_list}
 use Rattle.ppq_session.specs.Bringing.{BroughtAll, IsShareOf}
 use Rattle.ppq_limit.proofs.CameBack.{Came, Limited, passes_of, came-none, came-more}
 use Rattle.ppq_limit.proofs.bringing.bring_limited.Goals as goal

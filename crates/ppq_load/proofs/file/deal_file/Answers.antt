@@ -1,6 +1,6 @@
 use Rattle.std.proofs.Common.{◌≡◌, ◌∙◌, ◌+◌, ◌*◌, ◌/◌, drop, ap, refl, sym, subst, arith, length-append, length-drop}
-use Rattle.ppq_outside.proofs.Replies.{no_replies, replies_then}
-use Rattle.ppq_budget.specs.Sizes.{batch_of}
+use Rattle.ppq_session.proofs.ppq_outside.Replies.{no_replies, replies_then}
+use Rattle.ppq_session.specs.ppq_budget.Sizes.{batch_of}
 use Rattle.ppq_load.specs.Loading.{InSession, HasGiven}
 use Rattle.ppq_load.specs.Reading.{IsReadWithin}
 use Rattle.ppq_load.proofs.FileRecords.{given-none, given-stopped}

@@ -1,8 +1,8 @@
 use Rattle.std.proofs.Common.{◌≡◌, ◌≤◌, ◌<◌, ◌-◌, ◌*◌, ◌/◌, ◌^◌, [], length, All}
-use Rattle.ppq_record.specs.declared.pair.Pair.{Pair}
-use Rattle.ppq_outside.specs.Told.{Remembers, RepliesOnly}
-use Rattle.ppq_budget.specs.Sizes.{batch_of}
-use Rattle.ppq_queue.specs.Holding.{Holding}
+use Rattle.ppq_session.specs.ppq_record.declared.pair.Pair.{Pair}
+use Rattle.ppq_session.specs.ppq_outside.Told.{Remembers, RepliesOnly}
+use Rattle.ppq_session.specs.ppq_budget.Sizes.{batch_of}
+use Rattle.ppq_session.specs.ppq_queue.Holding.{Holding}
 use Rattle.ppq_session.specs.Dealing.{IsGoing}
 use Rattle.ppq_load.specs.Loading.{InSession, HasGiven}
 use Rattle.ppq_load.specs.Reading.{IsReadWithin}

@@ -1,5 +1,5 @@
 use Rattle.std.proofs.Common.{◌≡◌, ◌+◌, ◌*◌, length, take, sym, subst, arith}
-use Rattle.ppq_outside.proofs.Replies.{replies_wider}
+use Rattle.ppq_session.proofs.ppq_outside.Replies.{replies_wider}
 use Rattle.ppq_load.specs.declared.fault.LoadFault.{LoadFault}
 use Rattle.ppq_load.specs.Loading.{InSession, IsByRead, LoadEndsIn, LoadCountsFrom}
 use Rattle.ppq_load.specs.Reading.{IsReadWithin}

@@ -1,6 +1,6 @@
 use Rattle.std.proofs.Common.{◌≡◌, ◌∙◌, ◌+◌, ◌-◌, ◌*◌, take, drop, length, slice_set, ap, arith, length-set}
-use Rattle.ppq_record.specs.Pair.{pair_of}
-use Rattle.ppq_budget.specs.Sizes.{batch_of}
+use Rattle.ppq_session.specs.ppq_record.Pair.{pair_of}
+use Rattle.ppq_session.specs.ppq_budget.Sizes.{batch_of}
 use Rattle.ppq_load.proofs.FileRecords.{batch-record}
 use Rattle.ppq_load.proofs.Loadings.{batch-then}
 use Rattle.ppq_load.proofs.file.fill_records.Goals as goal

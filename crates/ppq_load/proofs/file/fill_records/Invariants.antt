@@ -1,7 +1,7 @@
 use Rattle.std.proofs.Common.{◌≡◌, length, take}
-use Rattle.ppq_record.specs.Pair.{pair_of}
-use Rattle.ppq_record.specs.Given.{records_from}
-use Rattle.ppq_budget.specs.Sizes.{batch_of}
+use Rattle.ppq_session.specs.ppq_record.Pair.{pair_of}
+use Rattle.ppq_session.specs.ppq_record.Given.{records_from}
+use Rattle.ppq_session.specs.ppq_budget.Sizes.{batch_of}
 use Rattle.ppq_load.specs.Loading.{with_batch}
 use Rattle.ppq_load.proofs.file.fill_records.Given as goal
 

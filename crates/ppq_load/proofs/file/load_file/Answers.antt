@@ -1,12 +1,12 @@
 use Rattle.std.proofs.Common.{◌≡◌, ℕ, ◌+◌, ◌/◌, ◌++◌, List, Option, Some, max, None, [], sym, subst, arith}
 use Rattle.std.specs.Prelude.{OnOk, IfErr, ⊤}
-use Rattle.ppq_record.specs.declared.pair.Pair.{Pair}
-use Rattle.ppq_record.specs.Bag.{IsSameBag}
-use Rattle.ppq_record.specs.Given.{records_of}
-use Rattle.ppq_outside.specs.Shown.{AllTell}
-use Rattle.ppq_outside.specs.Told.{bytes_or_none}
-use Rattle.ppq_outside.proofs.Replies.{no_replies}
-use Rattle.ppq_queue.specs.Holding.{Holding}
+use Rattle.ppq_session.specs.ppq_record.declared.pair.Pair.{Pair}
+use Rattle.ppq_session.specs.ppq_record.Bag.{IsSameBag}
+use Rattle.ppq_session.specs.ppq_record.Given.{records_of}
+use Rattle.ppq_session.specs.ppq_outside.Shown.{AllTell}
+use Rattle.ppq_session.specs.ppq_outside.Told.{bytes_or_none}
+use Rattle.ppq_session.proofs.ppq_outside.Replies.{no_replies}
+use Rattle.ppq_session.specs.ppq_queue.Holding.{Holding}
 use Rattle.ppq_load.specs.Loading.{InSession, HasGiven, LoadStopsFor, LoadEndsIn, LoadCountsFrom}
 use Rattle.ppq_load.specs.Reading.{IsReadWithin}
 use Rattle.ppq_load.proofs.Refusals.{stop-later}

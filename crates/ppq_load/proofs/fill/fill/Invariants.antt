@@ -1,5 +1,5 @@
 use Rattle.std.proofs.Common.{◌≡◌, ◌≤◌, ◌+◌, ◌-◌, ℕ, List, Option, Some, length}
-use Rattle.ppq_outside.specs.Told.{Remembers, RepliesOnly, bytes_or_none}
+use Rattle.ppq_session.specs.ppq_outside.Told.{Remembers, RepliesOnly, bytes_or_none}
 use Rattle.ppq_load.specs.Reading.{AreBytesAt, IsReadWithin}
 use Rattle.ppq_load.proofs.fill.fill.Given as goal
 

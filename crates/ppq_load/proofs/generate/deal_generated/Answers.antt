@@ -1,6 +1,6 @@
 use Rattle.std.proofs.Common.{◌≡◌, ◌∙◌, ◌+◌, ap, sym, subst, arith}
-use Rattle.ppq_record.specs.Given.{generated}
-use Rattle.ppq_budget.specs.Sizes.{batch_of}
+use Rattle.ppq_session.specs.ppq_record.Given.{generated}
+use Rattle.ppq_session.specs.ppq_budget.Sizes.{batch_of}
 use Rattle.ppq_load.specs.Loading.{InSession, seed_after}
 use Rattle.ppq_load.proofs.Generated.{generated-dealt, generated-stopped, seed_after-append}
 use Rattle.ppq_load.proofs.generate.deal_generated.Goals as goal

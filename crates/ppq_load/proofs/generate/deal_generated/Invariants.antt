@@ -1,8 +1,8 @@
 use Rattle.std.proofs.Common.{◌≡◌, ◌≤◌, ◌<◌, ◌-◌, ◌^◌, [], All}
-use Rattle.ppq_record.specs.declared.pair.Pair.{Pair}
-use Rattle.ppq_record.specs.Given.{generated}
-use Rattle.ppq_budget.specs.Sizes.{batch_of}
-use Rattle.ppq_queue.specs.Holding.{Holding}
+use Rattle.ppq_session.specs.ppq_record.declared.pair.Pair.{Pair}
+use Rattle.ppq_session.specs.ppq_record.Given.{generated}
+use Rattle.ppq_session.specs.ppq_budget.Sizes.{batch_of}
+use Rattle.ppq_session.specs.ppq_queue.Holding.{Holding}
 use Rattle.ppq_session.specs.Dealing.{IsGoing}
 use Rattle.ppq_load.specs.Loading.{InSession, seed_after}
 use Rattle.ppq_load.proofs.generate.deal_generated.Given as goal

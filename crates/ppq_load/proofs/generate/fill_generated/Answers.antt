@@ -1,6 +1,6 @@
 use Rattle.std.proofs.Common.{◌≡◌, ◌∙◌, ◌+◌, ℕ, take, length, slice_set, ap, ap₂, arith, length-set}
-use Rattle.ppq_record.specs.declared.pair.Pair.{Pair}
-use Rattle.ppq_budget.specs.Sizes.{batch_of}
+use Rattle.ppq_session.specs.ppq_record.declared.pair.Pair.{Pair}
+use Rattle.ppq_session.specs.ppq_budget.Sizes.{batch_of}
 use Rattle.ppq_load.proofs.Generated.{batch-more, seed_after-more}
 use Rattle.ppq_load.proofs.Loadings.{batch-then}
 use Rattle.ppq_load.proofs.generate.fill_generated.Goals as goal

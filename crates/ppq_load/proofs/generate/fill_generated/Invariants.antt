@@ -1,6 +1,6 @@
 use Rattle.std.proofs.Common.{◌≡◌, length, take}
-use Rattle.ppq_record.specs.Given.{generated_from}
-use Rattle.ppq_budget.specs.Sizes.{batch_of}
+use Rattle.ppq_session.specs.ppq_record.Given.{generated_from}
+use Rattle.ppq_session.specs.ppq_budget.Sizes.{batch_of}
 use Rattle.ppq_load.specs.Loading.{seed_after, with_batch}
 use Rattle.ppq_load.proofs.generate.fill_generated.Given as goal
 

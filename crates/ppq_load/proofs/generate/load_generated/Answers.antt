@@ -1,8 +1,8 @@
 use Rattle.std.proofs.Common.{◌≡◌, ◌+◌, ◌++◌, max, None, sym, subst, arith}
 use Rattle.std.specs.Prelude.{OnOk, IfErr}
-use Rattle.ppq_record.specs.Bag.{IsSameBag}
-use Rattle.ppq_record.specs.Given.{generated}
-use Rattle.ppq_outside.specs.Shown.{AllTell}
+use Rattle.ppq_session.specs.ppq_record.Bag.{IsSameBag}
+use Rattle.ppq_session.specs.ppq_record.Given.{generated}
+use Rattle.ppq_session.specs.ppq_outside.Shown.{AllTell}
 use Rattle.ppq_load.specs.Loading.{IsByLoad, LoadStopsFor}
 use Rattle.ppq_load.proofs.Generated.{length-generated}
 use Rattle.ppq_load.proofs.Refusals.{stop-later}

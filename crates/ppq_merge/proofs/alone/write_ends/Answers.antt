@@ -1,5 +1,5 @@
 use Rattle.std.proofs.Common.{◌≡◌, ◌<◌, ◌≤◌, length, sym, ◌∙◌, arith, rules}
-use Rattle.ppq_record.specs.Runs.{list_at}
+use Rattle.ppq_split.specs.ppq_record.Runs.{list_at}
 use Rattle.ppq_split.proofs.Cuts.{same_places, ends-at, ends-length}
 use Rattle.ppq_split.specs.Edge.{ends}
 use Rattle.ppq_split.proofs.Filled.{each_more}

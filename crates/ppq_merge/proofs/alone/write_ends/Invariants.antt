@@ -1,5 +1,5 @@
 use Rattle.std.proofs.Common.{◌≡◌, ℕ, ◌<◌, length, get_or}
-use Rattle.ppq_record.specs.Runs.{list_at}
+use Rattle.ppq_split.specs.ppq_record.Runs.{list_at}
 use Rattle.ppq_merge.proofs.alone.write_ends.Given as goal
 
 abbrev pub invariant-loop-run : goal.invariant-loop-run

@@ -1,7 +1,7 @@
 use Rattle.std.proofs.Common.{rules, ◌<◌, ◌≤◌, length, take, subst, ◌∙◌, arith}
 use Rattle.std.proofs.lemmas.List.{take_more_set, take_all}
-use Rattle.ppq_record.specs.Order.{is_before}
-use Rattle.ppq_record.proofs.Fronts.{ranks}
+use Rattle.ppq_split.specs.ppq_record.Order.{is_before}
+use Rattle.ppq_split.proofs.ppq_record.Fronts.{ranks}
 use Rattle.ppq_merge.specs.Heads.{IsMerging}
 use Rattle.ppq_merge.specs.Parts.{between}
 use Rattle.ppq_merge.proofs.Heads.{heads-length}

@@ -1,5 +1,5 @@
 use Rattle.std.proofs.Common.{◌≡◌, ◌+◌, take}
-use Rattle.ppq_record.specs.Order.{is_before}
+use Rattle.ppq_split.specs.ppq_record.Order.{is_before}
 use Rattle.ppq_merge.specs.Heads.{heads, IsMerging, LeadsToCut}
 use Rattle.ppq_merge.specs.Parts.{AreParts, size_between, between}
 use Rattle.ppq_merge.proofs.merge.merge_front.Given as goal

@@ -1,6 +1,6 @@
 use Rattle.std.proofs.Common.{◌≡◌, arith}
-use Rattle.ppq_record.specs.Order.{is_before}
-use Rattle.ppq_record.proofs.Fronts.{ranks}
+use Rattle.ppq_split.specs.ppq_record.Order.{is_before}
+use Rattle.ppq_split.proofs.ppq_record.Fronts.{ranks}
 use Rattle.ppq_merge.specs.Parts.{size_between}
 use Rattle.ppq_merge.proofs.Heads.{all_moved}
 use Rattle.ppq_merge.proofs.Merging.{merging_all}

@@ -1,7 +1,7 @@
 use Rattle.std.proofs.Common.{◌≡◌, ◌+◌, ◌<◌, length, get_or, set, refl, ap₂, ◌∙◌, arith}
 use Rattle.std.proofs.lemmas.List.{length-set}
-use Rattle.ppq_record.specs.Order.{is_before}
-use Rattle.ppq_record.proofs.Fronts.{ranks}
+use Rattle.ppq_split.specs.ppq_record.Order.{is_before}
+use Rattle.ppq_split.proofs.ppq_record.Fronts.{ranks}
 use Rattle.ppq_merge.specs.Heads.{heads, IsNext, LeadsToCut}
 use Rattle.ppq_merge.specs.Parts.{between}
 use Rattle.ppq_merge.proofs.Heads.{heads-length, head_in, head_of_tree, tree_at_head, taken, nothing_left, left_least}

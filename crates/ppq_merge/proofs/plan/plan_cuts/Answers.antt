@@ -2,7 +2,7 @@ use Rattle.std.proofs.Common.{sym, ◌≤◌, rules, ◌≡◌, ◌+◌, ◌*◌
 use Rattle.std.proofs.Math.Nat.{mul-div_cancel}
 use Rattle.std.proofs.lemmas.List.{take_all}
 use Rattle.std.proofs.lemmas.List.Elements.{All-set}
-use Rattle.ppq_record.specs.Order.{is_before}
+use Rattle.ppq_split.specs.ppq_record.Order.{is_before}
 use Rattle.ppq_split.specs.Cut.{IsCutBy, total}
 use Rattle.ppq_merge.specs.Plan.{IsPlan, IsCutPlan}
 use Rattle.ppq_merge.specs.Seat.{IsSized}

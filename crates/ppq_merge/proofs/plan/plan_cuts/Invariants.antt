@@ -1,6 +1,6 @@
 use Rattle.std.proofs.Common.{◌≡◌, ◌*◌, ◌/◌, take, true}
 use Rattle.std.specs.Prelude.{All}
-use Rattle.ppq_record.specs.Order.{is_before}
+use Rattle.ppq_split.specs.ppq_record.Order.{is_before}
 use Rattle.ppq_split.specs.Cut.{AllAscend, AreWithin, total}
 use Rattle.ppq_merge.specs.Plan.{IsPlan, IsCutPlan}
 use Rattle.ppq_merge.specs.Seat.{IsSized}

@@ -1,10 +1,10 @@
 use Rattle.std.proofs.Common.{◌++◌, length, sum_by, ap, arith, map, length-append}
 use Rattle.std.proofs.lemmas.List.{length-map}
 use Rattle.std.proofs.lemmas.List.Sums.{sum_by-append}
-use Rattle.ppq_array.specs.Holdings.{external_slots}
+use Rattle.ppq_extract.specs.ppq_array.Holdings.{external_slots}
 use Rattle.ppq_spill.specs.Body.{job_slots}
-use Rattle.ppq_lane.specs.declared.job.Job.{Job}
-use Rattle.ppq_array.specs.declared.berth.DeviceBlock.{DeviceBlock}
+use Rattle.ppq_extract.specs.ppq_lane.declared.job.Job.{Job}
+use Rattle.ppq_extract.specs.ppq_array.declared.berth.DeviceBlock.{DeviceBlock}
 use Rattle.ppq_queue.proofs.berths.give_back.Goals as goal
 
 pub take_jobs-requires : goal.take_jobs-requires

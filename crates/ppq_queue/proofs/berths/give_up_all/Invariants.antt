@@ -1,7 +1,7 @@
 use Rattle.std.specs.Prelude.{vec_capacity}
 use Rattle.std.proofs.Common.{◌≡◌, ℕ, ◌+◌, length, map, sum_by}
-use Rattle.ppq_outside.specs.Shown.{Shown}
-use Rattle.ppq_array.specs.Owner.{slots_shown}
+use Rattle.ppq_extract.specs.ppq_outside.Shown.{Shown}
+use Rattle.ppq_extract.specs.ppq_array.Owner.{slots_shown}
 use Rattle.ppq_queue.proofs.berths.give_up_all.Given as goal
 
 abbrev pub invariant-loop-berth : goal.invariant-loop-berth

@@ -1,5 +1,5 @@
 use Rattle.std.proofs.Common.{◌≡◌, ◌-◌, sym, ap, ◌∙◌, arith}
-use Rattle.ppq_array.specs.Supply.{Stock}
+use Rattle.ppq_extract.specs.ppq_array.Supply.{Stock}
 use Rattle.ppq_queue.specs.Slots.{with_pool}
 use Rattle.ppq_queue.proofs.berths.make_buffers.Goals as goal
 

@@ -1,6 +1,6 @@
 use Rattle.std.specs.Prelude.{vec_capacity}
 use Rattle.std.proofs.Common.{◌≡◌, ℕ, ◌+◌, length, map, sum_by}
-use Rattle.ppq_outside.specs.Shown.{Shown}
+use Rattle.ppq_extract.specs.ppq_outside.Shown.{Shown}
 use Rattle.ppq_spill.specs.Body.{job_slots}
 use Rattle.ppq_queue.proofs.berths.take_jobs.Given as goal
 

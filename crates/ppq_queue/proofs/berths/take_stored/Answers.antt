@@ -1,8 +1,8 @@
 use Rattle.std.proofs.Common.{◌≡◌, List, length, sum_by, ap, ◌∙◌, arith, map}
 use Rattle.std.proofs.lemmas.List.Sums.{sum_by-append}
-use Rattle.ppq_array.specs.Holdings.{external_slots}
-use Rattle.ppq_array.specs.Owner.{slots_shown}
-use Rattle.ppq_array.specs.External.{External}
+use Rattle.ppq_extract.specs.ppq_array.Holdings.{external_slots}
+use Rattle.ppq_extract.specs.ppq_array.Owner.{slots_shown}
+use Rattle.ppq_extract.specs.ppq_array.External.{External}
 use Rattle.ppq_queue.proofs.Slots.{stored-push, stored-push_length, no_stored}
 use Rattle.ppq_queue.proofs.berths.take_stored.Goals as goal
 

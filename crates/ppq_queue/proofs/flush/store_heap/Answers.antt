@@ -1,5 +1,5 @@
 use Rattle.std.proofs.Common.{◌∙◌, ◌++◌, length, ap, sym, subst, arith, length-append}
-use Rattle.ppq_record.proofs.Order.{IsSameBag-length}
+use Rattle.ppq_heap.proofs.ppq_record.Order.{IsSameBag-length}
 use Rattle.ppq_heap.specs.Heaps.{items_of, share_at}
 use Rattle.ppq_queue.specs.Resting.{Moved, StoreShort}
 use Rattle.ppq_queue.proofs.Moves.{handed_on, kept-trans, ok-map}

@@ -1,5 +1,5 @@
 use Rattle.std.proofs.Common.{◌≡◌, [], All, subst}
-use Rattle.ppq_block.specs.Block.{holding}
+use Rattle.ppq_extract.specs.ppq_block.Block.{holding}
 use Rattle.ppq_queue.proofs.parts.new_body.Goals as goal
 
 pub returns-clause-blocks : goal.returns-clause-blocks

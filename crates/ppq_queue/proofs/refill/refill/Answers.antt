@@ -1,5 +1,5 @@
 use Rattle.std.proofs.Common.{ap, ◌∙◌, subst, sym, arith, refl}
-use Rattle.ppq_fetch.specs.Fetching.{MayFetch}
+use Rattle.ppq_extract.specs.ppq_fetch.Fetching.{MayFetch}
 use Rattle.ppq_extract.specs.Extracted.{sources_of}
 use Rattle.ppq_queue.specs.Resting.{BodyKept, Readied}
 use Rattle.ppq_queue.proofs.Bounds.{runs_few}

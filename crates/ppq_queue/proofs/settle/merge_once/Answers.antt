@@ -1,6 +1,6 @@
 use Rattle.std.proofs.Common.{◌+◌, ◌≤◌, ap, subst, sym, arith, refl}
-use Rattle.ppq_array.specs.Holdings.{external_buffers}
-use Rattle.ppq_fetch.specs.Fetching.{fronts_in}
+use Rattle.ppq_extract.specs.ppq_array.Holdings.{external_buffers}
+use Rattle.ppq_extract.specs.ppq_fetch.Fetching.{fronts_in}
 use Rattle.ppq_spill.specs.Leveling.{MayLevel, NoneForLevel}
 use Rattle.ppq_queue.proofs.Bounds.{arrays_few}
 use Rattle.ppq_queue.proofs.Moves.{ok-map, ok-map2}

@@ -1,9 +1,9 @@
 use Rattle.std.proofs.Common.{◌≡◌, suc, ◌+◌, ◌-◌, ◌*◌, ◌≤◌, ◌∷◌, ◌++◌, [], All, List, length, take, drop, sym, ap, ap₂, ◌∙◌, subst, arith, length-append}
 use Rattle.std.proofs.Math.Seq.{take-add}
 use Rattle.std.proofs.lemmas.List.Elements.{All-head, All-tail, All-push}
-use Rattle.ppq_block.specs.Block.{holding}
+use Rattle.ppq_fetch.specs.ppq_block.Block.{holding}
 use Rattle.std.proofs.lemmas.List.{length-take}
-use Rattle.ppq_array.specs.Owner.{HasBlock}
+use Rattle.ppq_fetch.specs.ppq_array.Owner.{HasBlock}
 use Rattle.ppq_fetch.specs.Fetching.{IsFitting}
 use Rattle.ppq_spill.proofs.Filling.{sum_times, at_least_one}
 use Rattle.ppq_spill.proofs.buffers.fill.Goals as goal

@@ -1,6 +1,6 @@
 use Rattle.std.proofs.Common.{◌+◌, All, length, ap, ◌∙◌, subst}
 use Rattle.std.proofs.lemmas.List.Elements.{All-tail}
-use Rattle.ppq_array.specs.Owner.{HasBlock}
+use Rattle.ppq_fetch.specs.ppq_array.Owner.{HasBlock}
 use Rattle.ppq_spill.proofs.Moving.{gives_back}
 use Rattle.ppq_spill.proofs.buffers.give_buffers.Goals as goal
 

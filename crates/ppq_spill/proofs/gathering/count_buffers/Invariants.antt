@@ -1,5 +1,5 @@
 use Rattle.std.proofs.Common.{◌≡◌, take}
-use Rattle.ppq_array.specs.Holdings.{external_buffers}
+use Rattle.ppq_fetch.specs.ppq_array.Holdings.{external_buffers}
 use Rattle.ppq_spill.proofs.gathering.count_buffers.Given as goal
 
 abbrev pub invariant-loop-array : goal.invariant-loop-array

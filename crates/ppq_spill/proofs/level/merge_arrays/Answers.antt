@@ -1,9 +1,9 @@
 use Rattle.std.proofs.Common.{◌≡◌, ◌+◌, ◌*◌, ◌<◌, ◌≤◌, min, ℕ, List, ◌∷◌, Some, [], length, All, refl, sym, ap, ap₂, ◌∙◌, subst, arith}
 use Rattle.std.proofs.lemmas.List.Elements.{All-from_recursion, All-head}
 use Rattle.std.specs.List.{slice_get}
-use Rattle.ppq_block.specs.Block.{Block}
-use Rattle.ppq_array.specs.Owner.{HasBlock}
-use Rattle.ppq_array.specs.External.{External}
+use Rattle.ppq_fetch.specs.ppq_block.Block.{Block}
+use Rattle.ppq_fetch.specs.ppq_array.Owner.{HasBlock}
+use Rattle.ppq_fetch.specs.ppq_array.External.{External}
 use Rattle.ppq_fetch.specs.Fetching.{state}
 use Rattle.ppq_spill.proofs.Merges.{some_idle}
 use Rattle.ppq_spill.specs.Making.{table, IsReady, MergedOn, MergeFailed}

@@ -1,8 +1,8 @@
 use Rattle.std.proofs.Common.{◌≡◌, ℕ, ◌+◌, ◌-◌, ◌*◌, ◌<◌, ◌≤◌, ◌^◌, ◌++◌, [], min, length, take, All, None, refl, sym, ap, ◌∙◌, subst, arith}
 use Rattle.std.proofs.lemmas.List.{length-take}
-use Rattle.ppq_array.specs.Owner.{HasBlock, HasSize}
-use Rattle.ppq_array.specs.External.{size_of}
-use Rattle.ppq_record.proofs.Fronts.{ranks}
+use Rattle.ppq_fetch.specs.ppq_array.Owner.{HasBlock, HasSize}
+use Rattle.ppq_fetch.specs.ppq_array.External.{size_of}
+use Rattle.ppq_fetch.proofs.ppq_record.Fronts.{ranks}
 use Rattle.ppq_fetch.specs.Fetching.{count_in, state, Fetched}
 use Rattle.ppq_spill.specs.Making.{table, hand, AllFull, WroteAll, WroteSome}
 use Rattle.ppq_spill.proofs.Rounds.{may_write, batch_merged, batch_not_read, batch_not_written}

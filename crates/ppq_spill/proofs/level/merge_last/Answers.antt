@@ -1,10 +1,10 @@
 use Rattle.std.specs.Prelude.{vec_len}
 use Rattle.std.proofs.lemmas.List.{take-append-le}
 use Rattle.std.proofs.Common.{◌≡◌, ℕ, ◌+◌, ◌-◌, ◌*◌, ◌≤◌, List, ◌++◌, ◌∷◌, [], min, length, take, drop, All, refl, sym, ap, ◌∙◌, subst, arith, take-append-drop}
-use Rattle.ppq_array.specs.Owner.{HasSize}
-use Rattle.ppq_array.proofs.Noted.{all_right, take_whole}
-use Rattle.ppq_array.specs.Run.{run_of}
-use Rattle.ppq_array.specs.External.{external}
+use Rattle.ppq_fetch.specs.ppq_array.Owner.{HasSize}
+use Rattle.ppq_fetch.proofs.ppq_array.Noted.{all_right, take_whole}
+use Rattle.ppq_fetch.specs.ppq_array.Run.{run_of}
+use Rattle.ppq_fetch.specs.ppq_array.External.{external}
 use Rattle.ppq_spill.specs.Making.{table, MergedOn, MergeFailed, IsEmptied}
 use Rattle.ppq_spill.proofs.level.merge_last.Goals as goal
 

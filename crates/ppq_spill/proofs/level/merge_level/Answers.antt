@@ -1,9 +1,9 @@
 use Rattle.std.specs.Prelude.{vec_capacity}
 use Rattle.std.proofs.Common.{◌≡◌, ℕ, ◌+◌, ◌-◌, ◌*◌, ◌<◌, ◌≤◌, ◌^◌, ◌++◌, ◌∷◌, [], min, length, take, drop, All, refl, sym, ap, ◌∙◌, subst, arith, take-append-drop}
 use Rattle.std.proofs.lemmas.List.Sorted.{length_permutation, sum_by-IsPermutation}
-use Rattle.ppq_array.specs.Run.{run_of, buffers_of}
-use Rattle.ppq_array.specs.External.{External, external}
-use Rattle.ppq_array.specs.declared.store_fault.StoreFault.TheVariants.{Device}
+use Rattle.ppq_fetch.specs.ppq_array.Run.{run_of, buffers_of}
+use Rattle.ppq_fetch.specs.ppq_array.External.{External, external}
+use Rattle.ppq_fetch.specs.ppq_array.declared.store_fault.StoreFault.TheVariants.{Device}
 use Rattle.ppq_spill.specs.Leveling.{MayLevel}
 use Rattle.ppq_spill.specs.Making.{table}
 use Rattle.ppq_spill.proofs.Starts.{eight_last, ready_first}

@@ -1,6 +1,6 @@
 use Rattle.std.proofs.Common.{◌*◌, All, subst}
 use Rattle.std.proofs.lemmas.List.Elements.{All-tail}
-use Rattle.ppq_array.specs.Owner.{HasSize}
+use Rattle.ppq_fetch.specs.ppq_array.Owner.{HasSize}
 use Rattle.ppq_spill.proofs.making.next_slot.Goals as goal
 
 pub returns-in-Some-clause-sizes : goal.returns-in-Some-clause-sizes

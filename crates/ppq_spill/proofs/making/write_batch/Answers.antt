@@ -1,7 +1,7 @@
 use Rattle.std.proofs.Common.{◌≡◌, ◌+◌, ◌-◌, ◌*◌, ◌<◌, ◌≤◌, ◌^◌, length, take, drop, min, All, refl, sym, ap, ◌∙◌, subst, arith}
 use Rattle.std.proofs.lemmas.List.{length-take}
-use Rattle.ppq_array.specs.Owner.{HasSize}
-use Rattle.ppq_array.proofs.Noted.{all_right}
+use Rattle.ppq_fetch.specs.ppq_array.Owner.{HasSize}
+use Rattle.ppq_fetch.proofs.ppq_array.Noted.{all_right}
 use Rattle.ppq_spill.specs.Making.{hand, WroteAll, WroteSome}
 use Rattle.ppq_spill.proofs.Batches.{Batch-none, Batch-more, Batch-all, Batch-failed, Batch-room}
 use Rattle.ppq_spill.proofs.making.write_batch.Goals as goal

@@ -1,5 +1,5 @@
 use Rattle.std.proofs.Common.{length, ◌-◌, ◌≡◌, ◌*◌, ◌≤◌, All}
-use Rattle.ppq_array.specs.Owner.{HasBlock}
+use Rattle.ppq_fetch.specs.ppq_array.Owner.{HasBlock}
 use Rattle.ppq_spill.specs.Making.{hand}
 use Rattle.ppq_spill.proofs.Batches.{Batch}
 use Rattle.ppq_spill.proofs.making.write_batch.Given as goal

@@ -1,6 +1,6 @@
 use Rattle.std.proofs.Common.{◌≡◌, ◌*◌, ◌∷◌, ◌++◌, [], All, ap, sym, ◌∙◌, subst}
 use Rattle.std.proofs.lemmas.List.Elements.{All-head, All-tail, All-push}
-use Rattle.ppq_array.specs.Owner.{HasBlock, HasSize}
+use Rattle.ppq_fetch.specs.ppq_array.Owner.{HasBlock, HasSize}
 use Rattle.ppq_spill.specs.Writing.{BlockStored}
 use Rattle.ppq_spill.proofs.Parts.{part_written, part_failed}
 use Rattle.ppq_spill.proofs.making.write_part.Goals as goal

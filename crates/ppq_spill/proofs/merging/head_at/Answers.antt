@@ -1,7 +1,7 @@
 use Rattle.std.proofs.Common.{◌<◌, length, inl, inr, sym, ap, ◌∙◌, arith}
 use Rattle.std.proofs.lemmas.Bool.{cases_lt}
-use Rattle.ppq_record.specs.Bag.{first_of}
-use Rattle.ppq_array.specs.Run.{items_of}
+use Rattle.ppq_fetch.specs.ppq_record.Bag.{first_of}
+use Rattle.ppq_fetch.specs.ppq_array.Run.{items_of}
 use Rattle.ppq_spill.specs.Choosing.{first_at}
 use Rattle.ppq_spill.proofs.Heads.{first_at-run, first_at-list, first_at-none}
 use Rattle.ppq_spill.proofs.merging.head_at.Goals as goal

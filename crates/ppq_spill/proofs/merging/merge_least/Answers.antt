@@ -1,6 +1,6 @@
 use Rattle.std.proofs.Common.{◌≡◌, ◌∷◌, ◌++◌, [], length, drop, refl, sym, ap, ◌∙◌, subst, arith, length-append}
-use Rattle.ppq_record.proofs.Fronts.{ranks}
-use Rattle.ppq_block.specs.Block.{holding}
+use Rattle.ppq_fetch.proofs.ppq_record.Fronts.{ranks}
+use Rattle.ppq_fetch.specs.ppq_block.Block.{holding}
 use Rattle.ppq_spill.specs.Writing.{Merged}
 use Rattle.ppq_spill.proofs.Mergings.{Merged-more, Merged-all}
 use Rattle.ppq_spill.proofs.merging.merge_least.Goals as goal

@@ -1,6 +1,6 @@
 use Rattle.std.specs.Prelude.{vec_capacity}
 use Rattle.std.proofs.Common.{◌≡◌, ◌-◌, ◌≤◌, length, drop}
-use Rattle.ppq_block.specs.Block.{holding}
+use Rattle.ppq_fetch.specs.ppq_block.Block.{holding}
 use Rattle.ppq_spill.specs.Choosing.{HasHeads}
 use Rattle.ppq_spill.specs.Writing.{Merged}
 use Rattle.ppq_spill.proofs.merging.merge_least.Given as goal

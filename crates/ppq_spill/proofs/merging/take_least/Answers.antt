@@ -1,8 +1,8 @@
 use Rattle.std.proofs.Common.{◌≡◌, ◌∷◌, ◌<◌, drop, length, Some, None, slice_set, refl, sym, ap, ◌∙◌, subst, arith, length-drop}
 use Rattle.std.proofs.Math.Seq.{drop-drop}
-use Rattle.ppq_record.specs.Bag.{first_of}
-use Rattle.ppq_record.proofs.Fronts.{ranks}
-use Rattle.ppq_array.specs.Run.{Run, items_of, buffers_of}
+use Rattle.ppq_fetch.specs.ppq_record.Bag.{first_of}
+use Rattle.ppq_fetch.proofs.ppq_record.Fronts.{ranks}
+use Rattle.ppq_fetch.specs.ppq_array.Run.{Run, items_of, buffers_of}
 use Rattle.ppq_spill.specs.Choosing.{HasHeads}
 use Rattle.ppq_spill.proofs.Choosing.{none_best, took_run, took_rest, sets_run, split_first}
 use Rattle.ppq_spill.proofs.Heads.{winner_best, winner_run, winner_list, no_winner_best, heads-run, heads-rest, some_first}

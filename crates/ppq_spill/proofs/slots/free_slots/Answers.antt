@@ -1,6 +1,6 @@
 use Rattle.std.proofs.Common.{◌≡◌, ◌+◌, ◌*◌, ◌∷◌, ◌++◌, All, length, sym, ap, ◌∙◌, subst}
 use Rattle.std.proofs.lemmas.List.Elements.{All-tail}
-use Rattle.ppq_array.specs.Owner.{HasSize, slots_shown}
+use Rattle.ppq_fetch.specs.ppq_array.Owner.{HasSize, slots_shown}
 use Rattle.ppq_spill.proofs.Moving.{frees}
 use Rattle.ppq_spill.proofs.slots.free_slots.Goals as goal
 

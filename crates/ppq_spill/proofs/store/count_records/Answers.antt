@@ -1,5 +1,5 @@
 use Rattle.std.proofs.Common.{length, ap, arith}
-use Rattle.ppq_array.specs.Run.{items_of}
+use Rattle.ppq_fetch.specs.ppq_array.Run.{items_of}
 use Rattle.ppq_spill.proofs.Counted.{take_fits}
 use Rattle.ppq_spill.proofs.store.count_records.Goals as goal
 

@@ -1,11 +1,11 @@
 use Rattle.std.proofs.Common.{◌≡◌, ◌*◌, ◌++◌, List, All, sym, ap, subst, arith}
 use Rattle.std.proofs.lemmas.List.Elements.{All-push}
-use Rattle.ppq_array.specs.Holdings.{RunHasBlock}
+use Rattle.ppq_fetch.specs.ppq_array.Holdings.{RunHasBlock}
 use Rattle.ppq_spill.proofs.Storings.{sizes_after}
 use Rattle.std.proofs.lemmas.Result.{on_ok_weaker}
 use Rattle.ppq_spill.specs.Storing.{BlocksStored}
 use Rattle.ppq_spill.specs.Body.{body_slots}
-use Rattle.ppq_outside.specs.Shown.{Shown, AllTell}
+use Rattle.ppq_fetch.specs.ppq_outside.Shown.{Shown, AllTell}
 use Rattle.ppq_spill.specs.Untold.{SameUntold}
 use Rattle.ppq_spill.proofs.Going.{went_untouched, untold_untouched}
 use Rattle.ppq_spill.proofs.Transfers.{untouched}

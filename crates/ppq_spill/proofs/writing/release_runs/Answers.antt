@@ -2,12 +2,12 @@ use Rattle.std.proofs.Common.{◌≡◌, ◌+◌, ◌-◌, ◌++◌, ◌∷◌, 
 use Rattle.std.proofs.lemmas.List.{drop_all}
 use Rattle.std.proofs.lemmas.List.Elements.{All-head}
 use Rattle.std.proofs.lemmas.List.Sums.{sum_by-cons, sum_by-append}
-use Rattle.ppq_array.specs.Run.{Run, items_of, buffers_of}
-use Rattle.ppq_array.specs.Owner.{HasBlock}
-use Rattle.ppq_array.specs.Holdings.{internal_buffers, RunHasBlock}
+use Rattle.ppq_fetch.specs.ppq_array.Run.{Run, items_of, buffers_of}
+use Rattle.ppq_fetch.specs.ppq_array.Owner.{HasBlock}
+use Rattle.ppq_fetch.specs.ppq_array.Holdings.{internal_buffers, RunHasBlock}
 use Rattle.ppq_spill.specs.Moves.{with_buffers}
-use Rattle.ppq_array.proofs.Items.{no_live}
-use Rattle.ppq_array.proofs.Noted.{all_left, all_right}
+use Rattle.ppq_fetch.proofs.ppq_array.Items.{no_live}
+use Rattle.ppq_fetch.proofs.ppq_array.Noted.{all_left, all_right}
 use Rattle.ppq_spill.proofs.writing.release_runs.Goals as goal
 
 pub release_run-requires-clause-blocks : goal.release_run-requires-clause-blocks

@@ -1,6 +1,6 @@
 use Rattle.std.specs.Prelude.{vec_capacity}
 use Rattle.std.proofs.Common.{◌≡◌, ◌+◌, All, length}
-use Rattle.ppq_array.specs.Holdings.{internal_buffers, RunHasBlock}
+use Rattle.ppq_fetch.specs.ppq_array.Holdings.{internal_buffers, RunHasBlock}
 use Rattle.ppq_spill.specs.Moves.{with_buffers}
 use Rattle.ppq_spill.proofs.writing.release_runs.Given as goal
 

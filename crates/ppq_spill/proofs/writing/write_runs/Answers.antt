@@ -1,9 +1,9 @@
 use Rattle.std.proofs.Common.{◌≡◌, suc, ◌+◌, ◌*◌, ◌<◌, ◌∷◌, [], All, length, drop, min, refl, sym, ap, ◌∙◌, subst, arith, length-append}
 use Rattle.std.proofs.lemmas.List.Elements.{All-head, All-tail, All-push}
-use Rattle.ppq_record.proofs.Fronts.{ranks}
-use Rattle.ppq_array.specs.Owner.{HasBlock, HasSize}
-use Rattle.ppq_array.specs.Holdings.{internal_items}
-use Rattle.ppq_array.proofs.Noted.{all_right}
+use Rattle.ppq_fetch.proofs.ppq_record.Fronts.{ranks}
+use Rattle.ppq_fetch.specs.ppq_array.Owner.{HasBlock, HasSize}
+use Rattle.ppq_fetch.specs.ppq_array.Holdings.{internal_items}
+use Rattle.ppq_fetch.proofs.ppq_array.Noted.{all_right}
 use Rattle.ppq_spill.specs.Writing.{Writing, Merged, left_in}
 use Rattle.ppq_spill.proofs.Writings.{Writing-more, write_failed, some_out, rest_none}
 use Rattle.ppq_spill.proofs.writing.write_runs.Goals as goal

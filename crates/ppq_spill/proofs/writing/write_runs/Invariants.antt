@@ -1,6 +1,6 @@
 use Rattle.std.specs.Prelude.{vec_capacity}
 use Rattle.std.proofs.Common.{◌≡◌, ◌≤◌, All, length, drop}
-use Rattle.ppq_array.specs.Owner.{HasBlock}
+use Rattle.ppq_fetch.specs.ppq_array.Owner.{HasBlock}
 use Rattle.ppq_spill.specs.Choosing.{HasHeads}
 use Rattle.ppq_spill.specs.Writing.{Writing}
 use Rattle.ppq_spill.proofs.writing.write_runs.Given as goal

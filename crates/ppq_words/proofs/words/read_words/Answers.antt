@@ -3,7 +3,7 @@ use Rattle.clap.specs.Words.{App, HasMatchesOf, HasKind, fault_of, is_simple_and
 use Rattle.ppq_words.specs.Command.{command_app}
 use Rattle.ppq_words.specs.Reading.{texts_of}
 use Rattle.ppq_words.specs.Strays.{may_run}
-use Rattle.ppq_words.proofs.Read.{free_is, may_not_run, read_ok, read_err}
+use Rattle.ppq_words.proofs.ReadWords.{free_is, may_not_run, read_ok, read_err}
 use Rattle.ppq_words.proofs.words.read_words.Goals as goal
 
 pub returns-then-not-may_run-clause-reading : goal.returns-then-not-may_run-clause-reading

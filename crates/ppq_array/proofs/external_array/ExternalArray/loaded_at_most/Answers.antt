@@ -1,7 +1,7 @@
 use Rattle.std.proofs.Common.{◌≡◌, ◌+◌, ◌-◌, ◌/◌, true, false, not, refl, sym, ap, ◌∙◌, subst, arith}
 use Rattle.std.specs.Prelude.{count_by}
-use Rattle.ppq_record.specs.Order.{is_before, Ascends}
-use Rattle.ppq_record.proofs.Fronts.{ranks}
+use Rattle.ppq_block.specs.ppq_record.Order.{is_before, Ascends}
+use Rattle.ppq_block.proofs.ppq_record.Fronts.{ranks}
 use Rattle.ppq_array.specs.Run.{items_of}
 use Rattle.ppq_array.proofs.Searching.{Found, found_none, found_high, found_low, found_count}
 use Rattle.ppq_array.proofs.external_array.ExternalArray.loaded_at_most.Goals as goal

@@ -1,5 +1,5 @@
 use Rattle.std.proofs.Common.{◌-◌, ◌≤◌, length}
-use Rattle.ppq_record.specs.Order.{Ascends, is_before}
+use Rattle.ppq_block.specs.ppq_record.Order.{Ascends, is_before}
 use Rattle.ppq_array.specs.Run.{items_of}
 use Rattle.ppq_array.proofs.Searching.{Found}
 use Rattle.ppq_array.proofs.external_array.ExternalArray.loaded_at_most.Given as goal

@@ -2,15 +2,15 @@ use Rattle.std.proofs.Common.{◌≡◌, ◌+◌, ◌++◌, List, All, subst, ar
 use Rattle.std.specs.List.{Any}
 use Rattle.std.proofs.lemmas.List.Elements.{All-map}
 use Rattle.std.specs.Prelude.{Ok, Err, ⊤, ℕ}
-use Rattle.ppq_record.specs.declared.pair.Pair.{Pair}
-use Rattle.ppq_record.specs.Bag.{IsSameBag}
-use Rattle.ppq_outside.specs.Shown.{AllTell}
-use Rattle.ppq_pass.specs.Passed.{PassTells}
-use Rattle.ppq_queue.specs.Holding.{Holding}
-use Rattle.ppq_queue.specs.declared.fault.QueueFault.TheVariants.{NoFreeBlock}
-use Rattle.ppq_session.specs.Dealing.{IsGoing, HasEnded}
-use Rattle.ppq_front.specs.Limited.{LimitHolding}
-use Rattle.ppq_front.specs.Sessions.{EndsIn, limited_bag, limited_accepted}
+use Rattle.ppq_limit.specs.ppq_record.declared.pair.Pair.{Pair}
+use Rattle.ppq_limit.specs.ppq_record.Bag.{IsSameBag}
+use Rattle.ppq_limit.specs.ppq_outside.Shown.{AllTell}
+use Rattle.ppq_limit.specs.ppq_pass.Passed.{PassTells}
+use Rattle.ppq_limit.specs.ppq_queue.Holding.{Holding}
+use Rattle.ppq_limit.specs.ppq_queue.declared.fault.QueueFault.TheVariants.{NoFreeBlock}
+use Rattle.ppq_limit.specs.ppq_session.Dealing.{IsGoing, HasEnded}
+use Rattle.ppq_limit.specs.ppq_front.Limited.{LimitHolding}
+use Rattle.ppq_limit.specs.ppq_front.Sessions.{EndsIn, limited_bag, limited_accepted}
 use Rattle.ppq_batch.specs.Batches.{InLimits, IsOver, AreGoing, passes_of}
 use Rattle.ppq_batch.proofs.Session.{end-keeps, over-whole, over-short, over-stopped, unfilled, all-records}
 use Rattle.ppq_batch.proofs.limits.Limits.end.Goals as goal

@@ -1,9 +1,9 @@
 use Rattle.std.proofs.Common.{inl, All, sym, ◌∙◌, subst}
 use Rattle.std.specs.List.{Any}
 use Rattle.std.proofs.lemmas.List.Elements.{All-map}
-use Rattle.ppq_record.specs.declared.pair.Pair.{Pair}
-use Rattle.ppq_session.specs.Dealing.{IsGoing, HasEnded}
-use Rattle.ppq_front.specs.Limited.{LimitHolding}
+use Rattle.ppq_limit.specs.ppq_record.declared.pair.Pair.{Pair}
+use Rattle.ppq_limit.specs.ppq_session.Dealing.{IsGoing, HasEnded}
+use Rattle.ppq_limit.specs.ppq_front.Limited.{LimitHolding}
 use Rattle.ppq_batch.specs.Batches.{AreGoing, HasStopped}
 use Rattle.ppq_batch.proofs.Limited.{any_map}
 use Rattle.ppq_batch.proofs.limits.Limits.is_going.Goals as goal

@@ -1,13 +1,13 @@
 use Rattle.std.proofs.Common.{◌≡◌, ◌+◌, ◌++◌, ◌∙◌, ℕ, List, All, map, take, drop, length, sym, subst}
-use Rattle.ppq_record.specs.declared.pair.Pair.{Pair}
-use Rattle.ppq_record.specs.Pair.{pair_cmp}
-use Rattle.ppq_outside.specs.Shown.{AllTell}
-use Rattle.ppq_pass.specs.Passed.{IsOf}
-use Rattle.ppq_queue.specs.Holding.{Holding}
-use Rattle.ppq_session.specs.Dealing.{IsGoing, EachAdds, Dealt, records_in, records_for}
+use Rattle.ppq_limit.specs.ppq_record.declared.pair.Pair.{Pair}
+use Rattle.ppq_limit.specs.ppq_record.Pair.{pair_cmp}
+use Rattle.ppq_limit.specs.ppq_outside.Shown.{AllTell}
+use Rattle.ppq_limit.specs.ppq_pass.Passed.{IsOf}
+use Rattle.ppq_limit.specs.ppq_queue.Holding.{Holding}
+use Rattle.ppq_limit.specs.ppq_session.Dealing.{IsGoing, EachAdds, Dealt, records_in, records_for}
 use Rattle.ppq_load.proofs.Loadings.{kept_back}
-use Rattle.ppq_front.specs.Limited.{LimitHolding}
-use Rattle.ppq_front.specs.Sessions.{AreLimited, shared_of}
+use Rattle.ppq_limit.specs.ppq_front.Limited.{LimitHolding}
+use Rattle.ppq_limit.specs.ppq_front.Sessions.{AreLimited, shared_of}
 use Rattle.ppq_batch.specs.Asks.{answers_to, left_after, pops_in}
 use Rattle.ppq_batch.specs.Batches.{AreGoing, InLimits, passes_of}
 use Rattle.ppq_batch.proofs.Limited.{all_of_map}

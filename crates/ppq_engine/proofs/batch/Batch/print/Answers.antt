@@ -1,8 +1,8 @@
 use Rattle.std.proofs.Common.{◌≡◌, ◌+◌, ◌<◌, ◌++◌, ◌∷◌, [], ◌∙◌, ℕ, List, Option, Some, length, ap, sym, subst, take, drop, arith, append-nil, take-append-drop}
 use Rattle.std.specs.Prelude.{slice_get}
 use Rattle.std.proofs.lemmas.List.Concat.{flat_map-append}
-use Rattle.ppq_record.specs.declared.pair.Pair.{Pair}
-use Rattle.ppq_outside.specs.Told.{TakesPart}
+use Rattle.ppq_script.specs.ppq_record.declared.pair.Pair.{Pair}
+use Rattle.ppq_script.specs.ppq_outside.Told.{TakesPart}
 use Rattle.ppq_engine.specs.Gathers.{answer_text, Gathers}
 use Rattle.ppq_engine.specs.Limits.{answers_text, BatchHolding}
 use Rattle.ppq_engine.specs.Output.{limited_text}

@@ -1,5 +1,5 @@
 use Rattle.std.proofs.Common.{◌≡◌, ◌-◌, ◌++◌, length, take, drop, sym, ap, ◌∙◌, arith}
-use Rattle.ppq_record.specs.Bag.{front}
+use Rattle.ppq_fetch.specs.ppq_record.Bag.{front}
 use Rattle.ppq_fetch.specs.Taking.{wanted}
 use Rattle.ppq_fetch.specs.Fetching.{source_items}
 use Rattle.ppq_extract.specs.Extracted.{Held, sources_of}

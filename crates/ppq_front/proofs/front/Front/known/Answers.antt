@@ -1,8 +1,8 @@
 use Rattle.std.proofs.Common.{length, subst, arith, length-append}
 use Rattle.std.proofs.lemmas.List.{get_or_append_left}
-use Rattle.ppq_outside.specs.Shown.{AllTell, Tells}
-use Rattle.ppq_array.specs.Owner.{slots_shown}
-use Rattle.ppq_queue.specs.Resting.{slots_of}
+use Rattle.ppq_begin.specs.ppq_outside.Shown.{AllTell, Tells}
+use Rattle.ppq_begin.specs.ppq_array.Owner.{slots_shown}
+use Rattle.ppq_begin.specs.ppq_queue.Resting.{slots_of}
 use Rattle.ppq_begin.specs.Session.{HasBuffers}
 use Rattle.ppq_front.proofs.front.Front.known.Goals as goal
 

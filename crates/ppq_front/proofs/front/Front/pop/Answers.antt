@@ -1,6 +1,6 @@
 use Rattle.std.proofs.Common.{◌≡◌, ◌∙◌, ap, sym, subst}
 use Rattle.std.specs.Prelude.{◌↔◌, IsNone, count_by}
-use Rattle.ppq_record.specs.Bag.{size_below}
+use Rattle.ppq_begin.specs.ppq_record.Bag.{size_below}
 use Rattle.ppq_front.specs.Fronts.{least_below, without_least_below}
 use Rattle.ppq_front.proofs.Belows.{least_below-same, without_below-same, least_below-none}
 use Rattle.ppq_front.proofs.front.Front.pop.Goals as goal

@@ -1,7 +1,7 @@
 use Rattle.std.proofs.Common.{◌∙◌, ap, sym, subst}
 use Rattle.std.specs.Prelude.{count_by}
-use Rattle.ppq_outside.specs.Shown.{AllTell}
-use Rattle.ppq_array.specs.Kept.{SameSlots}
+use Rattle.ppq_begin.specs.ppq_outside.Shown.{AllTell}
+use Rattle.ppq_begin.specs.ppq_array.Kept.{SameSlots}
 use Rattle.ppq_front.specs.FrontState.{front_slots}
 use Rattle.ppq_front.proofs.Readied.{slots-ready, tells-ready, shows-ready, is-ready}
 use Rattle.ppq_front.proofs.front.Front.ready.Goals as goal

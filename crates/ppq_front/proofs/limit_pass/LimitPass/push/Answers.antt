@@ -1,8 +1,8 @@
 use Rattle.std.proofs.Common.{◌≡◌, ◌∷◌, false, sym, subst}
 use Rattle.std.specs.Prelude.{OnOk}
-use Rattle.ppq_record.specs.Bag.{IsSameBag}
-use Rattle.ppq_pass.specs.Passed.{PassTells}
-use Rattle.ppq_record.specs.Order.{is_before}
+use Rattle.ppq_begin.specs.ppq_record.Bag.{IsSameBag}
+use Rattle.ppq_begin.specs.ppq_pass.Passed.{PassTells}
+use Rattle.ppq_begin.specs.ppq_record.Order.{is_before}
 use Rattle.ppq_front.proofs.LimitPassed.{limited-pushed}
 use Rattle.ppq_front.proofs.limit_pass.LimitPass.push.Goals as goal
 

@@ -1,5 +1,5 @@
 use Rattle.std.proofs.Common.{◌≡◌, false, sym, subst}
-use Rattle.ppq_record.specs.Order.{is_before}
+use Rattle.ppq_begin.specs.ppq_record.Order.{is_before}
 use Rattle.ppq_front.proofs.LimitPassed.{limited-tried}
 use Rattle.ppq_front.proofs.limit_pass.LimitPass.try_push.Goals as goal
 

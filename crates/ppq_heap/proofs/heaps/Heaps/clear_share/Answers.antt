@@ -1,7 +1,7 @@
 use Rattle.std.proofs.Common.{◌≡◌, ◌<◌, length, None, slice_set, sym, ap, subst, arith}
 use Rattle.std.specs.Prelude.{count_by}
-use Rattle.ppq_record.specs.Order.{is_before}
-use Rattle.ppq_record.proofs.Order.{count_by-append}
+use Rattle.ppq_tree.specs.ppq_record.Order.{is_before}
+use Rattle.ppq_tree.proofs.ppq_record.Order.{count_by-append}
 use Rattle.ppq_heap.specs.Heaps.{empty_heap, items_in, share_at, items_of, HasLeasts}
 use Rattle.ppq_heap.proofs.Heap.{least_of_none}
 use Rattle.ppq_heap.proofs.Shares.{counts-set, shares-fewer, leasts-length, leasts-set}

@@ -1,7 +1,7 @@
 use Rattle.std.proofs.Common.{◌≡◌, Some, None, refl, sym, ap, ◌∙◌}
-use Rattle.ppq_record.specs.Order.{is_before}
-use Rattle.ppq_record.specs.Bag.{least}
-use Rattle.ppq_record.proofs.Fronts.{ranks, no_tie}
+use Rattle.ppq_tree.specs.ppq_record.Order.{is_before}
+use Rattle.ppq_tree.specs.ppq_record.Bag.{least}
+use Rattle.ppq_tree.proofs.ppq_record.Fronts.{ranks, no_tie}
 use Rattle.ppq_heap.specs.Heaps.{items_of}
 use Rattle.ppq_heap.proofs.Heap.{least_of_none}
 use Rattle.ppq_heap.proofs.Shares.{no_winner, winner_least}

@@ -1,8 +1,8 @@
 use Rattle.std.proofs.Common.{◌≡◌, ◌<◌, ◌≤◌, ◌∷◌, length, Some, slice_set, suc, refl, sym, ap, ◌∙◌, subst, arith}
-use Rattle.ppq_record.specs.Order.{is_before}
-use Rattle.ppq_record.specs.Bag.{IsSameBag, least}
-use Rattle.ppq_record.proofs.Order.{IsSameBag-length}
-use Rattle.ppq_record.proofs.Fronts.{ranks, no_tie}
+use Rattle.ppq_tree.specs.ppq_record.Order.{is_before}
+use Rattle.ppq_tree.specs.ppq_record.Bag.{IsSameBag, least}
+use Rattle.ppq_tree.proofs.ppq_record.Order.{IsSameBag-length}
+use Rattle.ppq_tree.proofs.ppq_record.Fronts.{ranks, no_tie}
 use Rattle.ppq_heap.specs.Heaps.{items_of, share_at, HasLeasts, Left}
 use Rattle.ppq_heap.proofs.Heap.{least_of_none}
 use Rattle.ppq_heap.proofs.Shares.{shares_of, shares-fewer, left-set, shorter-set, bag-take, leasts-length, leasts-set, winner_share, winner_least, no_winner}

@@ -1,9 +1,9 @@
 use Rattle.std.proofs.Common.{◌≡◌, ◌<◌, length, take, slice_index_or, ap, ◌∙◌, arith}
 use Rattle.std.specs.Prelude.{count_by}
-use Rattle.ppq_record.specs.Order.{is_before}
-use Rattle.ppq_record.specs.Bag.{IsSameBag, least, first_of}
-use Rattle.ppq_record.proofs.Order.{IsSameBag-length, in_order-same_bag}
-use Rattle.ppq_record.proofs.Fronts.{ranks, ascending-same_bag}
+use Rattle.ppq_tree.specs.ppq_record.Order.{is_before}
+use Rattle.ppq_tree.specs.ppq_record.Bag.{IsSameBag, least, first_of}
+use Rattle.ppq_tree.proofs.ppq_record.Order.{IsSameBag-length, in_order-same_bag}
+use Rattle.ppq_tree.proofs.ppq_record.Fronts.{ranks, ascending-same_bag}
 use Rattle.ppq_heap.specs.Heaps.{items_in, items_of}
 use Rattle.ppq_heap.proofs.Shares.{counts-set, shares-fewer, leasts-set_same}
 use Rattle.ppq_heap.proofs.heaps.Heaps.sort_share.Given as given

@@ -1,5 +1,5 @@
 use Rattle.std.proofs.Common.{◌≡◌, true, false, Some, slice_set, if◌then◌else◌, sym, ap, ◌∙◌, subst, arith}
-use Rattle.ppq_record.specs.Bag.{least}
+use Rattle.ppq_tree.specs.ppq_record.Bag.{least}
 use Rattle.ppq_heap.specs.Heaps.{HasLeasts}
 use Rattle.ppq_heap.proofs.Shares.{shares-push, leasts-length, leasts-set, leasts-set_same}
 use Rattle.ppq_heap.proofs.heaps.Heaps.try_push.Goals as goal

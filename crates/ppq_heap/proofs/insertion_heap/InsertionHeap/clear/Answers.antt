@@ -1,5 +1,5 @@
 use Rattle.std.proofs.Common.{length, ap, arith}
-use Rattle.ppq_record.specs.Order.{is_before}
+use Rattle.ppq_tree.specs.ppq_record.Order.{is_before}
 use Rattle.ppq_heap.proofs.Heap.{heap_of_few}
 use Rattle.ppq_heap.proofs.insertion_heap.InsertionHeap.clear.Goals as goal
 

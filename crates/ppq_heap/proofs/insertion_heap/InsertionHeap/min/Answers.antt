@@ -1,7 +1,7 @@
 use Rattle.std.proofs.Common.{◌≡◌, ap, subst, ◌∙◌}
 use Rattle.std.specs.Prelude.{slice_get}
-use Rattle.ppq_record.specs.Order.{is_before}
-use Rattle.ppq_record.proofs.Fronts.{ranks, no_tie}
+use Rattle.ppq_tree.specs.ppq_record.Order.{is_before}
+use Rattle.ppq_tree.proofs.ppq_record.Fronts.{ranks, no_tie}
 use Rattle.ppq_heap.specs.Heap.{IsMinHeap}
 use Rattle.ppq_heap.proofs.Heap.{first_of_heap}
 use Rattle.ppq_heap.proofs.insertion_heap.InsertionHeap.min.Goals as goal

@@ -1,8 +1,8 @@
 use Rattle.std.proofs.Common.{◌≡◌, ◌≤◌, ◌++◌, ◌∷◌, [], length, Some, ap, sym, subst, ◌∙◌, rules}
 use Rattle.std.specs.Prelude.{slice_get}
-use Rattle.ppq_record.specs.Order.{is_before}
-use Rattle.ppq_record.specs.Bag.{least}
-use Rattle.ppq_record.proofs.Fronts.{ranks, no_tie}
+use Rattle.ppq_tree.specs.ppq_record.Order.{is_before}
+use Rattle.ppq_tree.specs.ppq_record.Bag.{least}
+use Rattle.ppq_tree.proofs.ppq_record.Fronts.{ranks, no_tie}
 use Rattle.ppq_heap.specs.Heap.{IsMinHeap}
 use Rattle.ppq_heap.proofs.Heap.{heap_of_few, heap_without_last, first_is_least, least_of_one, least_of_none}
 use Rattle.ppq_heap.proofs.insertion_heap.InsertionHeap.pop.Goals as goal

@@ -1,8 +1,8 @@
 use Rattle.std.proofs.Common.{◌≡◌, ◌++◌, take, drop, length, sym, subst, ◌∙◌, rules}
 use Rattle.std.proofs.lemmas.List.{take_at}
-use Rattle.ppq_record.specs.Order.{is_before, Rising}
-use Rattle.ppq_record.proofs.Order.{Rising-in_order}
-use Rattle.ppq_record.proofs.Fronts.{ranks}
+use Rattle.ppq_tree.specs.ppq_record.Order.{is_before, Rising}
+use Rattle.ppq_tree.proofs.ppq_record.Order.{Rising-in_order}
+use Rattle.ppq_tree.proofs.ppq_record.Fronts.{ranks}
 use Rattle.ppq_heap.specs.Heap.{IsMinHeap}
 use Rattle.ppq_heap.proofs.Heap.{heap_rising}
 use Rattle.ppq_heap.proofs.insertion_heap.InsertionHeap.sort_in_place.Goals as goal

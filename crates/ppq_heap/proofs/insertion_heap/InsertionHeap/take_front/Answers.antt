@@ -1,6 +1,6 @@
 use Rattle.std.proofs.Common.{◌≡◌, drop, ap, sym, subst, arith, rules}
 use Rattle.std.proofs.lemmas.Grind.{common_steps}
-use Rattle.ppq_record.specs.Order.{is_before, Rising}
+use Rattle.ppq_tree.specs.ppq_record.Order.{is_before, Rising}
 use Rattle.ppq_heap.specs.Heap.{IsMinHeap}
 use Rattle.ppq_heap.proofs.Heap.{heap_dropped, Rising-drop}
 use Rattle.ppq_heap.proofs.insertion_heap.InsertionHeap.take_front.Goals as goal

@@ -1,7 +1,7 @@
 use Rattle.std.proofs.Common.{◌≡◌, ◌++◌, ◌∷◌, [], take, drop, length, ap, sym, subst, ◌∙◌, rules}
 use Rattle.std.specs.Prelude.{count_by}
 use Rattle.std.proofs.lemmas.List.{take_at}
-use Rattle.ppq_record.specs.Order.{is_before}
+use Rattle.ppq_tree.specs.ppq_record.Order.{is_before}
 use Rattle.ppq_heap.specs.Heap.{IsHeapRound}
 use Rattle.ppq_heap.proofs.Heap.{heap_pushed, pushed_bag}
 use Rattle.ppq_heap.proofs.insertion_heap.InsertionHeap.try_push.Goals as goal

@@ -1,8 +1,8 @@
 use Rattle.std.proofs.Common.{◌≡◌, ◌∙◌, ◌++◌, ◌↔◌, List, All, IsTrue, false, length, take, drop, sym, subst}
 use Rattle.std.specs.Prelude.{Any}
-use Rattle.ppq_record.specs.declared.pair.Pair.{Pair}
-use Rattle.ppq_pass.specs.Passed.{IsOf}
-use Rattle.ppq_queue.specs.Holding.{Holding}
+use Rattle.ppq_session.specs.ppq_record.declared.pair.Pair.{Pair}
+use Rattle.ppq_session.specs.ppq_pass.Passed.{IsOf}
+use Rattle.ppq_session.specs.ppq_queue.Holding.{Holding}
 use Rattle.ppq_session.specs.Dealing.{IsGoing, HasEnded, Dealt, records_in}
 use Rattle.ppq_load.specs.Loading.{InSession}
 use Rattle.ppq_load.proofs.Loadings.{kept_back, of-shared, session-deal}

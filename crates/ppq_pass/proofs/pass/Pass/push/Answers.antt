@@ -1,6 +1,6 @@
 use Rattle.std.proofs.Common.{sym, ap, subst, arith}
 use Rattle.std.specs.Prelude.{count_by}
-use Rattle.ppq_record.proofs.Order.{count_by-cons}
+use Rattle.ppq_pool.proofs.ppq_record.Order.{count_by-cons}
 use Rattle.ppq_pass.specs.Passed.{PassTells}
 use Rattle.ppq_pass.proofs.PassSince.{kept_refl, kept_one}
 use Rattle.ppq_pass.proofs.pass.Pass.push.Goals as goal

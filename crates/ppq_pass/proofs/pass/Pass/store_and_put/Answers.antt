@@ -1,13 +1,13 @@
 use Rattle.std.proofs.Common.{◌≡◌, ◌+◌, ◌*◌, ◌<◌, ◌∷◌, ◌++◌, [], length, Some, None, true, refl, sym, ap, ◌∙◌, subst, arith}
 use Rattle.std.specs.Prelude.{count_by, flat_map}
-use Rattle.ppq_record.specs.Bag.{IsSameBag}
-use Rattle.ppq_record.proofs.Order.{count_by-append, count_by-cons, IsSameBag-length}
-use Rattle.ppq_budget.specs.Sizes.{heap_of}
-use Rattle.ppq_array.specs.External.{records_in}
-use Rattle.ppq_array.specs.Kept.{HasFailed}
-use Rattle.ppq_array.specs.declared.store_fault.StoreFault.TheVariants.{NoFreeBlock, Device}
-use Rattle.ppq_array.specs.Holdings.{internal_items}
-use Rattle.ppq_fetch.specs.Fetching.{count_in}
+use Rattle.ppq_pool.specs.ppq_record.Bag.{IsSameBag}
+use Rattle.ppq_pool.proofs.ppq_record.Order.{count_by-append, count_by-cons, IsSameBag-length}
+use Rattle.ppq_queue.specs.ppq_budget.Sizes.{heap_of}
+use Rattle.ppq_queue.specs.ppq_array.External.{records_in}
+use Rattle.ppq_queue.specs.ppq_array.Kept.{HasFailed}
+use Rattle.ppq_queue.specs.ppq_array.declared.store_fault.StoreFault.TheVariants.{NoFreeBlock, Device}
+use Rattle.ppq_queue.specs.ppq_array.Holdings.{internal_items}
+use Rattle.ppq_queue.specs.ppq_fetch.Fetching.{count_in}
 use Rattle.ppq_pass.specs.Passing.{IsPass}
 use Rattle.ppq_pass.specs.Passed.{PassTells, slots_of, runs_bag}
 use Rattle.ppq_pass.specs.PassState.{IsPassing}

@@ -1,5 +1,5 @@
 use Rattle.std.proofs.Common.{◌≡◌, ◌+◌, ◌<◌, ◌∷◌, length, arith}
-use Rattle.ppq_record.proofs.Order.{IsSameBag-length}
+use Rattle.ppq_pool.proofs.ppq_record.Order.{IsSameBag-length}
 use Rattle.ppq_pass.proofs.PassOpened.{on_ok}
 use Rattle.ppq_pass.proofs.PassPushed.{was_not_full, accepted_few, within_heap, pushed, same_heap, shows_one}
 use Rattle.ppq_pass.proofs.pass.Pass.try_push.Goals as goal

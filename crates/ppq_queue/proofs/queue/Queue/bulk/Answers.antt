@@ -1,12 +1,12 @@
 use Rattle.std.proofs.Common.{◌≡◌, ◌≤◌, ◌-◌, ◌∙◌, ◌++◌, length, ap, sym, subst, arith, inl}
 use Rattle.std.specs.Prelude.{count_by}
-use Rattle.ppq_outside.specs.Shown.{AllTell}
-use Rattle.ppq_budget.specs.Sizes.{batch_of}
-use Rattle.ppq_record.specs.Bag.{front, without_front}
-use Rattle.ppq_record.proofs.Fronts.{ranks, no_tie}
-use Rattle.ppq_array.specs.declared.store_fault.StoreFault.TheVariants.{NoFreeBlock}
-use Rattle.ppq_fetch.specs.Taking.{wanted}
-use Rattle.ppq_fetch.proofs.Taken.{taken_wanted}
+use Rattle.ppq_extract.specs.ppq_outside.Shown.{AllTell}
+use Rattle.ppq_extract.specs.ppq_budget.Sizes.{batch_of}
+use Rattle.ppq_heap.specs.ppq_record.Bag.{front, without_front}
+use Rattle.ppq_heap.proofs.ppq_record.Fronts.{ranks, no_tie}
+use Rattle.ppq_extract.specs.ppq_array.declared.store_fault.StoreFault.TheVariants.{NoFreeBlock}
+use Rattle.ppq_extract.specs.ppq_fetch.Taking.{wanted}
+use Rattle.ppq_extract.proofs.ppq_fetch.Taken.{taken_wanted}
 use Rattle.ppq_heap.specs.Heaps.{items_of}
 use Rattle.ppq_queue.specs.Resting.{runs_bag, WholeMoved, WholeShort}
 use Rattle.ppq_queue.proofs.Moves.{matched, moved-whole}

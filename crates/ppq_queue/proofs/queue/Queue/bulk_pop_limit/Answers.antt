@@ -1,5 +1,5 @@
 use Rattle.std.proofs.Common.{◌≡◌, ◌<◌, ◌∙◌, arith}
-use Rattle.ppq_budget.specs.Sizes.{batch_of}
+use Rattle.ppq_extract.specs.ppq_budget.Sizes.{batch_of}
 use Rattle.ppq_queue.proofs.Ends.{full_list}
 use Rattle.ppq_queue.proofs.queue.Queue.bulk_pop_limit.Goals as goal
 

@@ -1,6 +1,6 @@
 use Rattle.std.proofs.Common.{map, ap, sym, subst, arith}
-use Rattle.ppq_outside.specs.Shown.{AllTell}
-use Rattle.ppq_array.specs.Kept.{SameSlots, all_writes}
+use Rattle.ppq_extract.specs.ppq_outside.Shown.{AllTell}
+use Rattle.ppq_extract.specs.ppq_array.Kept.{SameSlots, all_writes}
 use Rattle.ppq_queue.specs.Resting.{slots_of}
 use Rattle.ppq_queue.proofs.Slots.{slots-sums, tells-sums}
 use Rattle.ppq_queue.proofs.queue.Queue.close.Goals as goal

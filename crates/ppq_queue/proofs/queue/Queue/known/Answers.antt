@@ -1,8 +1,8 @@
 use Rattle.std.proofs.Common.{◌≡◌, ◌+◌, ◌*◌, ◌≤◌, ◌++◌, length, arith, ap, ◌∙◌, subst, sym, length-append}
 use Rattle.std.proofs.Math.Nat.{mul-le-mul_right, mul_comm}
-use Rattle.ppq_outside.specs.Shown.{AllTell}
-use Rattle.ppq_array.specs.Kept.{all_writes}
-use Rattle.ppq_fetch.specs.Fetching.{blocks_in}
+use Rattle.ppq_extract.specs.ppq_outside.Shown.{AllTell}
+use Rattle.ppq_extract.specs.ppq_array.Kept.{all_writes}
+use Rattle.ppq_extract.specs.ppq_fetch.Fetching.{blocks_in}
 use Rattle.ppq_heap.specs.Heaps.{items_of}
 use Rattle.ppq_queue.specs.Resting.{slots_of, runs_bag}
 use Rattle.ppq_queue.proofs.Bounds.{records_within, written, bag_length}

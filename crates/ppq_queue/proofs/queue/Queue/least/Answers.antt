@@ -1,6 +1,6 @@
 use Rattle.std.proofs.Common.{◌≡◌, ◌∙◌, cond, length, ap, sym, subst, arith}
-use Rattle.ppq_outside.specs.Shown.{AllTell}
-use Rattle.ppq_record.specs.Bag.{least}
+use Rattle.ppq_extract.specs.ppq_outside.Shown.{AllTell}
+use Rattle.ppq_heap.specs.ppq_record.Bag.{least}
 use Rattle.ppq_heap.specs.Heaps.{items_of}
 use Rattle.ppq_queue.specs.Resting.{runs_bag}
 use Rattle.ppq_queue.proofs.Bounds.{bag_length}

@@ -1,7 +1,7 @@
 use Rattle.std.proofs.Common.{◌∙◌, take, drop, ap}
 use Rattle.std.specs.Prelude.{count_by}
-use Rattle.ppq_record.specs.Bag.{first_of}
-use Rattle.ppq_record.proofs.Fronts.{ascending-same_bag}
+use Rattle.ppq_heap.specs.ppq_record.Bag.{first_of}
+use Rattle.ppq_heap.proofs.ppq_record.Fronts.{ascending-same_bag}
 use Rattle.ppq_queue.proofs.queue.Queue.pop.Goals as goal
 
 pub returns-clause-answer : goal.returns-clause-answer

@@ -1,8 +1,8 @@
 use Rattle.std.proofs.Common.{ap, sym, subst, arith}
 use Rattle.std.specs.Prelude.{count_by}
-use Rattle.ppq_outside.specs.Shown.{AllTell}
-use Rattle.ppq_array.specs.Kept.{SameSlots}
-use Rattle.ppq_record.proofs.Order.{count_by-cons}
+use Rattle.ppq_extract.specs.ppq_outside.Shown.{AllTell}
+use Rattle.ppq_extract.specs.ppq_array.Kept.{SameSlots}
+use Rattle.ppq_heap.proofs.ppq_record.Order.{count_by-cons}
 use Rattle.ppq_queue.specs.Holding.{IsRefusal}
 use Rattle.ppq_queue.proofs.Flushed.{refusal-raised}
 use Rattle.ppq_queue.proofs.queue.Queue.push.Goals as goal

@@ -1,6 +1,6 @@
 use Rattle.std.proofs.Common.{◌+◌, ◌*◌, ◌<◌, ◌≤◌, ◌≡◌, ◌∷◌, ◌++◌, length, arith, ap, ap₂, ◌∙◌, subst}
 use Rattle.std.specs.Prelude.{count_by}
-use Rattle.ppq_record.proofs.Order.{IsSameBag-length, count_by-append, count_by-cons}
+use Rattle.ppq_heap.proofs.ppq_record.Order.{IsSameBag-length, count_by-append, count_by-cons}
 use Rattle.ppq_heap.specs.Heaps.{items_of, share_at}
 use Rattle.ppq_queue.specs.Resting.{runs_bag}
 use Rattle.ppq_queue.proofs.Bounds.{records_most}

@@ -1,5 +1,5 @@
 use Rattle.std.proofs.Common.{◌≡◌, ◌+◌, ◌-◌, ◌*◌, ◌≤◌, length, arith, ap, ap₂, ◌∙◌}
-use Rattle.ppq_budget.specs.Sizes.{batch_of, pool_of}
+use Rattle.ppq_extract.specs.ppq_budget.Sizes.{batch_of, pool_of}
 use Rattle.ppq_heap.specs.Heaps.{items_of}
 use Rattle.ppq_queue.specs.Resting.{lane_buffers}
 use Rattle.ppq_queue.proofs.Bounds.{resident_within}

@@ -1,8 +1,8 @@
 use Rattle.std.proofs.Common.{◌≡◌, ◌≤◌, ◌∙◌, length, ap, sym, subst, arith, refl}
 use Rattle.std.specs.Prelude.{count_by}
-use Rattle.ppq_outside.specs.Shown.{AllTell}
-use Rattle.ppq_budget.specs.Sizes.{batch_of}
-use Rattle.ppq_array.specs.declared.store_fault.StoreFault.TheVariants.{NoFreeBlock}
+use Rattle.ppq_extract.specs.ppq_outside.Shown.{AllTell}
+use Rattle.ppq_extract.specs.ppq_budget.Sizes.{batch_of}
+use Rattle.ppq_extract.specs.ppq_array.declared.store_fault.StoreFault.TheVariants.{NoFreeBlock}
 use Rattle.ppq_heap.specs.Heaps.{items_of}
 use Rattle.ppq_queue.proofs.Moves.{matched, moved-whole}
 use Rattle.ppq_queue.proofs.Flushing.{flush-refused}

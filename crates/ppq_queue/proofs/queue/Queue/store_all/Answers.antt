@@ -1,7 +1,7 @@
 use Rattle.std.proofs.Common.{◌≡◌, ◌∙◌, Bool, true, false, length, ap, sym, subst, arith, refl}
 use Rattle.std.specs.Prelude.{count_by}
-use Rattle.ppq_outside.specs.Shown.{AllTell}
-use Rattle.ppq_array.specs.declared.store_fault.StoreFault.TheVariants.{NoFreeBlock}
+use Rattle.ppq_extract.specs.ppq_outside.Shown.{AllTell}
+use Rattle.ppq_extract.specs.ppq_array.declared.store_fault.StoreFault.TheVariants.{NoFreeBlock}
 use Rattle.ppq_heap.specs.Heaps.{items_of}
 use Rattle.ppq_queue.proofs.Bounds.{heaps_within}
 use Rattle.ppq_queue.proofs.Moves.{matched}

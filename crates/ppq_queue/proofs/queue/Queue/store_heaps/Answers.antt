@@ -1,5 +1,5 @@
 use Rattle.std.proofs.Common.{ap, subst}
-use Rattle.ppq_array.specs.Kept.{SameSlots}
+use Rattle.ppq_extract.specs.ppq_array.Kept.{SameSlots}
 use Rattle.ppq_spill.proofs.SameSlots.{SameSlots-trans}
 use Rattle.ppq_queue.proofs.queue.Queue.store_heaps.Goals as goal
 

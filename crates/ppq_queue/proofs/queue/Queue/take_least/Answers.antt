@@ -1,11 +1,11 @@
 use Rattle.std.proofs.Common.{◌≡◌, ◌-◌, ◌∙◌, ◌++◌, cond, length, ap, sym, subst, arith, refl, length-drop}
 use Rattle.std.specs.Prelude.{count_by}
-use Rattle.ppq_outside.specs.Shown.{AllTell}
-use Rattle.ppq_record.specs.Bag.{least, without_front}
+use Rattle.ppq_extract.specs.ppq_outside.Shown.{AllTell}
+use Rattle.ppq_heap.specs.ppq_record.Bag.{least, without_front}
 use Rattle.ppq_heap.specs.Heaps.{items_of}
 use Rattle.ppq_queue.specs.Resting.{runs_bag, count_of}
-use Rattle.ppq_record.specs.Order.{Ascends}
-use Rattle.ppq_fetch.specs.Taking.{NoneAfter}
+use Rattle.ppq_heap.specs.ppq_record.Order.{Ascends}
+use Rattle.ppq_extract.specs.ppq_fetch.Taking.{NoneAfter}
 use Rattle.ppq_queue.proofs.Bounds.{bag_length}
 use Rattle.ppq_queue.proofs.Ready.{ready_least, first_some, second_empty, left_over, popped_one, rest_heap, rest_extract, each_rest, ascends_rest}
 use Rattle.ppq_queue.proofs.queue.Queue.take_least.Goals as goal

@@ -1,6 +1,6 @@
 use Rattle.std.proofs.Common.{◌∙◌, take, ap}
-use Rattle.ppq_record.specs.Bag.{first_of}
-use Rattle.ppq_record.proofs.Fronts.{ascending-same_bag}
+use Rattle.ppq_heap.specs.ppq_record.Bag.{first_of}
+use Rattle.ppq_heap.proofs.ppq_record.Fronts.{ascending-same_bag}
 use Rattle.ppq_queue.proofs.queue.Queue.top.Goals as goal
 
 pub returns-clause-answer : goal.returns-clause-answer

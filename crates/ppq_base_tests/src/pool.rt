@@ -1,0 +1,178 @@
+ghost use Rattle.std.specs.Prelude.{◌≡◌, ◌-◌, ◌<◌, ℕ, IfOk};
+ghost use Rattle.std.specs.Thread.{IsSync};
+ghost use Rattle.ppq_pool.specs.Seats.{IsSeatOf, IsOnly, count_of};
+
+use ppq_pool::{Pool, PoolSeat, Shaped, looks_are_true, steps_are_events};
+use std::alloc::{AllocError, Global};
+use std::test::Fail;
+use std::thread::{Threads, join};
+
+#[derive(Debug, Drop)]
+struct Tile {
+    value: u64,
+}
+
+impl Shaped for Tile {
+    ghost shape_of = { λ _. 4 };
+
+    fn shape(&self) -> u32 {
+        4
+    }
+}
+
+// A pool of tiles with the values from 10 on.
+fn pool_of(alloc: Global, count: u64) -> Result<(Pool<Tile>, PoolSeat<Tile>), AllocError>
+    requires { count < 1000 }
+    ensures pool { IfOk result (λ r. IsSeatOf r.0 r.1 × (count_of r.0 ≡ count)) }
+    ensures only { IfOk result (λ r. IsOnly r.1.hand) }
+{
+    let mut tiles = Vec::new(alloc);
+    for i in 0..count {
+        tiles.push(Tile { value: 10 + i })?;
+    }
+    match Pool::new(alloc, tiles) {
+        Ok(both) => Ok(both),
+        Err(_) => Err(AllocError),
+    }
+}
+
+#[test]
+fn three_takes_of_two_tiles_give_both_and_then_none(rt: HostRuntime) -> Result<(), Fail> {
+    let (pool, mut seat) = pool_of(rt.alloc(), 2)?;
+    let (Some((a, x)), Some((b, y)), None) = (
+        pool.take(&mut seat),
+        pool.take(&mut seat),
+        pool.take(&mut seat),
+    ) else {
+        panic!(rt; "two were free, and no third")
+    };
+    assert!(rt; x.shape() == 4 && y.shape() == 4);
+    assert!(rt; a == 0 && x.value == 10 && b == 1 && y.value == 11);
+    pool.give(&mut seat, a, x);
+    let Some((number, x)) = pool.take(&mut seat) else {
+        panic!(rt; "number 0 was free")
+    };
+    assert!(rt; number == 0 && x.value == 10);
+    let left = pool.close(seat);
+    assert!(rt; left.is_empty());
+    Ok(())
+}
+
+#[test]
+fn an_empty_pool_has_nothing_to_take(rt: HostRuntime) -> Result<(), Fail> {
+    let (pool, mut seat) = pool_of(rt.alloc(), 0)?;
+    assert!(rt; pool.take(&mut seat).is_none());
+    let other = pool.split(&mut seat);
+    pool.join(&mut seat, other);
+    let left = pool.close(seat);
+    assert!(rt; left.is_empty());
+    Ok(())
+}
+
+#[test]
+fn numbers_are_given_back_in_any_order(rt: HostRuntime) -> Result<(), Fail> {
+    let (pool, mut seat) = pool_of(rt.alloc(), 3)?;
+    let (Some((a, x)), Some((b, y)), Some((c, z))) = (
+        pool.take(&mut seat),
+        pool.take(&mut seat),
+        pool.take(&mut seat),
+    ) else {
+        panic!(rt; "all were free")
+    };
+    assert!(rt; a == 0 && b == 1 && c == 2);
+    pool.give(&mut seat, b, y);
+    pool.give(&mut seat, c, z);
+    pool.give(&mut seat, a, x);
+    let left = pool.close(seat);
+    assert!(rt;
+        left.len() == 3 && left[0].value == 10 && left[1].value == 11 && left[2].value == 12
+    );
+    Ok(())
+}
+
+#[test]
+fn close_gives_what_the_seat_does_not_hold(rt: HostRuntime) -> Result<(), Fail> {
+    let (pool, mut seat) = pool_of(rt.alloc(), 4)?;
+    let (Some((a, x)), Some((b, y))) = (pool.take(&mut seat), pool.take(&mut seat)) else {
+        panic!(rt; "two were free")
+    };
+    pool.give(&mut seat, a, x);
+    let left = pool.close(seat);
+    assert!(rt; b == 1 && y.value == 11);
+    assert!(rt;
+        left.len() == 3 && left[0].value == 10 && left[1].value == 12 && left[2].value == 13
+    );
+    Ok(())
+}
+
+// Takes and gives back, so often.
+fn work(pool: &Pool<Tile>, mut seat: PoolSeat<Tile>, turns: u32) -> PoolSeat<Tile>
+    requires { IsSeatOf pool.now seat }
+    ensures { IsSeatOf pool.now result × (result.hand.shares ≡ seat.hand.shares) }
+{
+    for _ in 0..turns {
+        if let Some((number, tile)) = pool.take(&mut seat) {
+            pool.give(&mut seat, number, tile);
+        }
+    }
+    seat
+}
+
+// So many more seats work beside this one, each on a thread of its own, and are joined.
+fn work_beside<R: Threads + Sync>(
+    rt: &R,
+    pool: &Pool<Tile>,
+    mut seat: PoolSeat<Tile>,
+    others: u32,
+    turns: u32,
+) -> PoolSeat<Tile>
+    requires pool { IsSeatOf pool.now seat }
+    requires shares { others < seat.hand.shares }
+    ensures { IsSeatOf pool.now result × (result.hand.shares ≡ seat.hand.shares) }
+{
+    if others == 0 {
+        return work(pool, seat, turns);
+    }
+    let other = pool.split(&mut seat);
+    let (mut seat, other) = join(
+        rt,
+        move || -> PoolSeat<Tile>
+            requires { IsSync R.row × IsSeatOf pool.now seat × (0 < others) × (others - 1 < seat.hand.shares) }
+            ensures { IsSeatOf pool.entry.now result × (result.hand.shares ≡ seat.hand.shares) }
+        { work_beside(rt, pool, seat, others - 1, turns) },
+        move || -> PoolSeat<Tile>
+            requires { IsSeatOf pool.now other }
+            ensures { IsSeatOf pool.entry.now result × (result.hand.shares ≡ other.hand.shares) }
+        { work(pool, other, turns) },
+    );
+    pool.join(&mut seat, other);
+    seat
+}
+
+fn left_after<R: Threads + Sync>(
+    rt: &R,
+    alloc: Global,
+    others: u32,
+    turns: u32,
+) -> Result<Vec<Tile>, AllocError> {
+    let (pool, seat) = pool_of(alloc, 3)?;
+    let seat = work_beside(rt, &pool, seat, others, turns);
+    Ok(pool.close(seat))
+}
+
+#[test]
+fn four_and_sixty_four_seats_share_three_tiles(rt: HostRuntime) -> Result<(), Fail> {
+    for (others, turns) in [(3, 10000), (63, 200)] {
+        let left = left_after(&rt, rt.alloc(), others, turns)?;
+        assert!(rt;
+            left.len() == 3 && left[0].value == 10 && left[1].value == 11 && left[2].value == 12
+        );
+    }
+    Ok(())
+}
+
+#[test]
+fn the_laws_hold_of_a_pool_of_tiles() {
+    steps_are_events::<Tile, u64>();
+    looks_are_true::<Tile>();
+}

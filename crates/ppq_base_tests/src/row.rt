@@ -1,0 +1,172 @@
+ghost use Rattle.std.specs.Prelude.{◌≡◌, ◌<◌, ◌≤◌, IfOk};
+ghost use Rattle.std.specs.Thread.{IsSync};
+ghost use Rattle.ppq_row.specs.Seats.{IsSeatOf};
+
+use ppq_row::{Row, RowSeat, counter_never_wraps, steps_are_events};
+use std::alloc::{AllocError, Global};
+use std::process::Abort;
+use std::test::Fail;
+use std::thread::{Threads, join};
+
+#[test]
+fn draws_in_order_and_then_none(rt: HostRuntime) -> Result<(), Fail> {
+    let items = Vec::from_array(rt.alloc(), ['a', 'b'])?;
+    let Ok((row, mut seat)) = Row::new(rt.alloc(), items) else {
+        return Err(Fail::from(AllocError));
+    };
+    let first = row.draw(&mut seat);
+    let second = row.draw(&mut seat);
+    let third = row.draw(&mut seat);
+    let left = row.close(seat);
+    assert!(rt; first == Some((0, 'a')) && second == Some((1, 'b')) && third.is_none());
+    assert!(rt; left.is_empty());
+    Ok(())
+}
+
+#[test]
+fn close_gives_the_rest_in_order(rt: HostRuntime) -> Result<(), Fail> {
+    let items = Vec::from_array(rt.alloc(), ['a', 'b', 'c', 'd'])?;
+    let Ok((row, mut seat)) = Row::new(rt.alloc(), items) else {
+        return Err(Fail::from(AllocError));
+    };
+    let first = row.draw(&mut seat);
+    let left = row.close(seat);
+    assert!(rt; first == Some((0, 'a')));
+    assert!(rt; left.as_slice() == ['b', 'c', 'd'].as_slice());
+    Ok(())
+}
+
+#[test]
+fn an_empty_row_has_nothing_to_draw(rt: HostRuntime) -> Result<(), Fail> {
+    let Ok((row, mut seat)) = Row::<char>::new(rt.alloc(), Vec::new(rt.alloc())) else {
+        return Err(Fail::from(AllocError));
+    };
+    let first = row.draw(&mut seat);
+    let left = row.close(seat);
+    assert!(rt; first.is_none() && left.is_empty());
+    Ok(())
+}
+
+#[test]
+fn split_and_join_keep_the_note(rt: HostRuntime) -> Result<(), Fail> {
+    let items = Vec::from_array(rt.alloc(), ['a'])?;
+    let Ok((row, mut seat)) = Row::new(rt.alloc(), items) else {
+        return Err(Fail::from(AllocError));
+    };
+    let mut other = row.split(&mut seat);
+    let first = row.draw(&mut other);
+    let second = row.draw(&mut other);
+    row.join(&mut seat, other);
+    let mut late = row.split(&mut seat);
+    let third = row.draw(&mut late);
+    row.join(&mut seat, late);
+    let left = row.close(seat);
+    assert!(rt; first == Some((0, 'a')) && second.is_none() && third.is_none());
+    assert!(rt; left.is_empty());
+    Ok(())
+}
+
+// The places that were drawn with their items, and the seat.
+type Drawn = Result<(Vec<(u32, u64)>, RowSeat<u64>), AllocError>;
+
+// Draws until none is left.
+fn draw_all(alloc: Global, row: &Row<u64>, mut seat: RowSeat<u64>) -> Drawn
+    requires { IsSeatOf row.now seat }
+    ensures { IfOk result (λ r. IsSeatOf row.now r.1 × (r.1.hand.shares ≡ seat.hand.shares)) }
+{
+    let mut drawn = Vec::new(alloc);
+    for _ in 0..=1000 {
+        match row.draw(&mut seat) {
+            Some(p) => drawn.push(p)?,
+            None => break,
+        }
+    }
+    Ok((drawn, seat))
+}
+
+// Draws with so many seats more, each in a thread of its own.
+#[cycle(beside)]
+fn draw_beside<R: Threads + Sync>(
+    rt: &R,
+    alloc: Global,
+    row: &Row<u64>,
+    mut seat: RowSeat<u64>,
+    more: u32,
+) -> Drawn
+    requires row { IsSeatOf row.now seat }
+    requires shares { more < seat.hand.shares }
+    ensures { IfOk result (λ r. IsSeatOf row.now r.1 × (r.1.hand.shares ≡ seat.hand.shares)) }
+{
+    if more == 0 {
+        return draw_all(alloc, row, seat);
+    }
+    let other = row.split(&mut seat);
+    let (mine, theirs) = join(
+        rt,
+        move || -> Drawn
+            requires { IsSync R.row × IsSeatOf row.now seat × (more ≤ seat.hand.shares) × (0 < more) }
+            ensures { IfOk result (λ r. IsSeatOf row.entry.now r.1 × (r.1.hand.shares ≡ seat.hand.shares)) }
+        { draw_beside(rt, alloc, row, seat, more - 1) },
+        move || -> Drawn
+            requires { IsSeatOf row.now other }
+            ensures { IfOk result (λ r. IsSeatOf row.entry.now r.1 × (r.1.hand.shares ≡ other.hand.shares)) }
+        { draw_all(alloc, row, other) },
+    );
+    let (mut drawn, mut seat) = mine?;
+    let (mut others, other) = theirs?;
+    drawn.append(&mut others)?;
+    row.join(&mut seat, other);
+    Ok((drawn, seat))
+}
+
+// A row in which the item at place `i` is `7 * i`, drawn to its end by so many seats, each in a
+// thread of its own: what was drawn, in the order of the places, and what close gives.
+fn drawn_from<R: Threads + Sync>(
+    rt: &R,
+    alloc: Global,
+    count: u64,
+    seats: u32,
+) -> Result<(Vec<(u32, u64)>, Vec<u64>), AllocError>
+    requires { (count ≤ 1000) × (0 < seats) }
+{
+    let mut items = Vec::new(alloc);
+    for i in 0..count {
+        items.push(i * 7)?;
+    }
+    let Ok((row, seat)) = Row::new(alloc, items) else {
+        return Err(AllocError);
+    };
+    let (mut drawn, seat) = draw_beside(rt, alloc, &row, seat, seats - 1)?;
+    drawn.sort()?;
+    Ok((drawn, row.close(seat)))
+}
+
+// So many seats draw each of so many places once.
+fn is_drawn_once<R: Threads + Sync + Abort>(
+    rt: &R,
+    alloc: Global,
+    count: u64,
+    seats: u32,
+) -> Result<(), Fail>
+    requires { (count ≤ 1000) × (0 < seats) }
+{
+    let (drawn, left) = drawn_from(rt, alloc, count, seats)?;
+    assert!(rt; left.is_empty() && drawn.len() as u64 == count);
+    for (i, (place, item)) in drawn.iter().enumerate() {
+        assert!(rt; *place as usize == i && *item == u64::from(*place) * 7);
+    }
+    Ok(())
+}
+
+#[test]
+fn any_number_of_seats_draws_each_place_once(rt: HostRuntime) -> Result<(), Fail> {
+    is_drawn_once(&rt, rt.alloc(), 1000, 4)?;
+    is_drawn_once(&rt, rt.alloc(), 1000, 64)?;
+    is_drawn_once(&rt, rt.alloc(), 3, 8)
+}
+
+#[test]
+fn the_laws_hold_of_a_row_of_letters() {
+    counter_never_wraps::<char>();
+    steps_are_events::<char, u64>();
+}

@@ -1,0 +1,9 @@
+//! Tests of loads and of the batches of a limit session.
+#![tactic(auto)]
+
+#[cfg(test)]
+mod batch;
+#[cfg(test)]
+mod load;
+#[cfg(test)]
+mod queues;

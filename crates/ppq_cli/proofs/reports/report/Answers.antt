@@ -1,0 +1,28 @@
+use Rattle.ppq_cli.proofs.reports.report.Goals as goal
+
+pub returns-in-BudgetTooSmall-clause-part : goal.returns-in-BudgetTooSmall-clause-part
+returns-in-BudgetTooSmall-clause-part g c = rw c.in-BudgetTooSmall.is c.put_number-in-BudgetTooSmall.ensures.part
+
+pub returns-in-Memory-clause-all : goal.returns-in-Memory-clause-all
+returns-in-Memory-clause-all g c = rw c.in-Memory.is c.put-in-Memory.ensures.all
+
+pub returns-in-Memory-clause-part : goal.returns-in-Memory-clause-part
+returns-in-Memory-clause-part g c = rw c.in-Memory.is c.put-in-Memory.ensures.part
+
+pub returns-in-NoDevice-clause-all : goal.returns-in-NoDevice-clause-all
+returns-in-NoDevice-clause-all g c = rw c.in-NoDevice.is c.put-in-NoDevice.ensures.all
+
+pub returns-in-NoDevice-clause-part : goal.returns-in-NoDevice-clause-part
+returns-in-NoDevice-clause-part g c = rw c.in-NoDevice.is c.put-in-NoDevice.ensures.part
+
+pub returns-in-NoScript-clause-all : goal.returns-in-NoScript-clause-all
+returns-in-NoScript-clause-all g c = rw c.in-NoScript.is c.put-in-NoScript.ensures.all
+
+pub returns-in-NoScript-clause-part : goal.returns-in-NoScript-clause-part
+returns-in-NoScript-clause-part g c = rw c.in-NoScript.is c.put-in-NoScript.ensures.part
+
+pub returns-in-ScriptTooLong-clause-all : goal.returns-in-ScriptTooLong-clause-all
+returns-in-ScriptTooLong-clause-all g c = rw c.in-ScriptTooLong.is c.put-in-ScriptTooLong.ensures.all
+
+pub returns-in-ScriptTooLong-clause-part : goal.returns-in-ScriptTooLong-clause-part
+returns-in-ScriptTooLong-clause-part g c = rw c.in-ScriptTooLong.is c.put-in-ScriptTooLong.ensures.part

@@ -1,0 +1,20 @@
+ghost use Rattle.std.specs.Prelude.{◌≡◌, ◌⊎◌, IfErr};
+ghost use Rattle.ppq_engine.specs.declared.end.End.TheVariants.{Usage, Memory};
+
+use ppq_engine::End;
+use std::env;
+use std::env::Env;
+use std::io::ErrorKind;
+
+/// The words after the program's name. A word that is no UTF-8 text has no reading.
+pub fn words_of<R: Env + AllocGlobal>(rt: &R) -> Result<Vec<String>, End>
+    ensures { IfErr result (λ end. (end ≡ Usage) ⊎ (end ≡ Memory)) }
+{
+    let arguments = match env::args(rt) {
+        Ok(arguments) => arguments,
+        Err(error) if error.kind() == ErrorKind::OutOfMemory => return Err(End::Memory),
+        Err(_) => return Err(End::Usage),
+    };
+    let words = arguments.skip(1).collect(rt.alloc());
+    words.map_err(|_| End::Memory)
+}

@@ -1,0 +1,25 @@
+//! The program as a library: what `ppq` does, with the outside handed in.
+//!
+//! [`run_words`] does all that the program does; [`run_and_report`] reports its outcome too, and returns the status
+//! with which the program ends.
+#![tactic(auto)]
+
+mod arguments;
+mod device;
+mod load;
+mod program;
+mod reports;
+mod run;
+mod statuses;
+mod top_call;
+mod twice;
+
+pub use arguments::words_of;
+pub use ppq_edge::{DirLibrary, FileRack, StdSink};
+pub use ppq_engine::{End, Ended};
+pub use ppq_words::OpenGate;
+pub use program::{report_end, run_and_report};
+pub use reports::report;
+pub use statuses::status;
+pub use top_call::run_words;
+pub use twice::run_twice;

@@ -1,0 +1,133 @@
+//! The top call.
+ghost use Rattle.std.specs.Prelude.{◌≡◌, ◌≤◌, ◌<◌, ◌⊎◌, ◌^◌, ℕ, [], None, false, IfSome, map};
+ghost use Rattle.ppq_engine.specs.ppq_array.Kept.{HasFailed};
+ghost use Rattle.ppq_words.specs.ppq_outside.Told.{Remembers};
+ghost use Rattle.ppq_words.specs.ppq_outside.Made.{HasMadeJust};
+ghost use Rattle.ppq_words.specs.Reading.{texts_of};
+ghost use Rattle.ppq_words.specs.Strays.{may_run};
+ghost use Rattle.ppq_engine.specs.Output.{load_of, crest_of};
+ghost use Rattle.ppq_engine.specs.Ends.{NoFault};
+ghost use Rattle.ppq_engine.specs.declared.end.End.TheVariants as ends;
+ghost use Rattle.ppq_engine.specs.declared.end.End.TheVariants.{Done, Usage, ReadFault, WriteFault, DeviceFault, NoFreeBlock, NoDevice};
+ghost use Rattle.ppq_cli.specs.Device.{AreBlocks};
+ghost use Rattle.ppq_cli.specs.Replies.{RefusalIsRight, ReadsWithin};
+ghost use Rattle.ppq_cli.specs.RunWords.{reading, OfWords, OfScript, WritesAll, WritesPart, WritesRoom, MayWrite, IfRan, UsesDevice};
+ghost use Rattle.ppq_cli.specs.RunWords.{most_by, least_by, refusal_of, IsAnswer, IsTooLarge, Completes};
+
+use crate::load::{end_of, load_script};
+use crate::run::{run_over, without_blocks};
+use ppq_engine::{End, Ended};
+use ppq_words::{Gate, Host, Library, Memory, Rack, Sink, read_words};
+use std::alloc::Global;
+
+/// Does all that the program does, with the outside handed in: reads the arguments, loads the script
+/// that they name and checks it and its files, makes the device, and executes the script over it.
+///
+/// After `Done` the sink took exactly the script's output, which is that of one multiset ordered by
+/// whole records, whatever the sizes; after every other outcome it took a prefix of it. All blocks that
+/// the rack made come back, each once, and after `Done` what the budget cannot hold was written to
+/// them; files are only read, and never past a length that the library said. Each outcome comes only
+/// for its cause, and `Usage`, `NoScript`, `ScriptTooLong`, `BadLine` and `BudgetTooSmall` if and only
+/// if they are due, in this order, unless an allocation or a read failed. No count of faults falls, and
+/// none rises unless the outcome names a fault, so the same outside can be handed in again. A script
+/// that is not refused ends `Done` or `Memory`, unless the outcome names a fault, if there is room for
+/// its load: on the device, or in one heap where the script begins no limit session. This is said of an
+/// outside that is visible to proofs; of any other library, the outcomes, and the output of a script
+/// that reads no file, are those of the bytes that its reads returned as the script.
+///
+/// What the outcomes say, besides `Done`:
+///
+/// - `Usage`: the arguments have no reading.
+/// - `NoScript`, `ScriptTooLong`: there is no such script, or it is longer than 1,048,576 bytes.
+/// - `BadLine`: the first line that is bad, or names a file that is absent, is not of whole records,
+///   or is longer than 68,719,476,736 bytes.
+/// - `BudgetTooSmall`: the budget is below its fixed part, `need`.
+/// - `NoDevice`, `ReadFault`, `WriteFault`: the count of faults of the rack, the library or the sink
+///   rose in this call.
+/// - `DeviceFault`: the block with that number, which comes back, failed.
+/// - `NoFreeBlock`: the device has fewer blocks than are enough for the load, and the load is above one
+///   heap or the script begins a limit session; the sink took at least what each prefix of the script
+///   prints for whose load there is room.
+/// - `FileChanged`: the library is not visible, said a length, and a read in front of it returned
+///   nothing. The line is 0 for the script itself.
+/// - `Memory`: an allocation failed. The sink took nothing, or just what the commands in front of a
+///   `bulk`, `gen`, `bulk_begin` or `limit_begin` line print; after `ReadFault` and `FileChanged`, of a
+///   `bulk` line.
+pub fn run_words<H: Host, L: Library, K: Rack, O: Sink, G: Gate>(
+    rt: &H,
+    alloc: Global,
+    words: &[String],
+    library: &mut L,
+    rack: &mut K,
+    gate: &G,
+    out: &mut O,
+) -> Ended<K::Slot>
+where
+    H::Dir: Send,
+    K::Slot: Send + Sync,
+    requires library { L.faults library.old < 2 ^ 63 }
+    requires rack { K.faults rack.old < 2 ^ 63 }
+    requires sink { O.faults out.old < 2 ^ 63 }
+
+    // What is written: the output to the sink, what is above the budget to the blocks that were made; files are only read.
+    ensures done { result.end ≡ Done → K.tells rack.old → OfScript L.told library.old words.now (WritesAll O.told out.old out.new) }
+    ensures part { K.tells rack.old → OfScript L.told library.old words.now (WritesPart O.told out.old out.new) }
+    ensures room { result.end ≡ NoFreeBlock → K.tells rack.old → OfScript L.told library.old words.now (WritesRoom O.told out.old out.new) }
+    ensures nothing { MayWrite result.end ⊎ (O.told out.new ≡ O.told out.old) }
+    ensures ran { IfRan words.now K.tells rack.old L.told library.old L.replied library.new O.told out.old out.new K.Slot.shown result }
+    ensures used { result.end ≡ Done → K.tells rack.old → OfScript L.told library.old words.now (UsesDevice crest_of K.Slot.shown result) }
+    ensures used_any { result.end ≡ Done → OfScript L.told library.old words.now (UsesDevice least_by K.Slot.shown result) }
+    ensures made { HasMadeJust (K.made rack.old) (K.made rack.new) (map (λ slot. (K.Slot.shown slot).number) result.blocks.items) }
+    ensures blocks { OfWords words.now (λ r. AreBlocks r.sizes result.end (map K.Slot.shown result.blocks.items)) }
+    ensures none { reading words.now ≡ None → result.blocks.items ≡ [] }
+    ensures rack_tells { K.tells rack.old → K.tells rack.new }
+    ensures files { L.told library.new ≡ L.told library.old }
+    ensures remembers { Remembers (L.replied library.old) (L.replied library.new) }
+    ensures reads { ReadsWithin (L.replied library.old) (L.replied library.new) }
+
+    // When each outcome comes: each has its cause, and a count of faults rises only with an outcome that names a fault.
+    ensures usage { result.end ≡ Usage → reading words.now ≡ None }
+    ensures no_reading { reading words.now ≡ None → (result.end ≡ Usage) ⊎ (result.end ≡ ends.Memory) }
+    ensures early { reading words.now ≡ None → may_run (texts_of words.now) ≡ false → result.end ≡ Usage }
+    ensures answer { IfSome (L.told library.old) (λ files. IsAnswer (refusal_of (reading words.now) files) result.end) }
+    ensures refused { OfWords words.now (λ r. RefusalIsRight (L.told library.old) (L.replied library.new) r.script r.sizes result.end) }
+    ensures read { result.end ≡ ReadFault → L.faults library.old < L.faults library.new }
+    ensures write { result.end ≡ WriteFault → O.faults out.old < O.faults out.new }
+    ensures device { result.end ≡ NoDevice → K.faults rack.old < K.faults rack.new }
+    ensures failed { (number : ℕ) → result.end ≡ DeviceFault number → HasFailed number (map K.Slot.shown result.blocks.items) }
+    ensures above { result.end ≡ NoFreeBlock → K.tells rack.old → OfScript L.told library.old words.now (IsTooLarge load_of) }
+    ensures above_any { result.end ≡ NoFreeBlock → OfScript L.told library.old words.now (IsTooLarge most_by) }
+    ensures library_later { L.faults library.old ≤ L.faults library.new }
+    ensures library_stays { NoFault result.end → L.faults library.new ≡ L.faults library.old }
+    ensures rack_later { K.faults rack.old ≤ K.faults rack.new }
+    ensures rack_stays { NoFault result.end → K.faults rack.new ≡ K.faults rack.old }
+    ensures sink_later { O.faults out.old ≤ O.faults out.new }
+    ensures sink_stays { NoFault result.end → O.faults out.new ≡ O.faults out.old }
+
+    // Completeness: a script that is not refused, with room for its load, is done, unless memory was wanting or the outside failed.
+    ensures complete { K.tells rack.old → NoFault result.end → Completes load_of L.told library.old words.now result.end }
+    ensures complete_any { NoFault result.end → Completes most_by L.told library.old words.now result.end }
+{
+    let found = match read_words(alloc, words) {
+        Ok(found) => found,
+        Err(Memory) => return without_blocks(alloc, End::Memory),
+    };
+    let Some(arguments) = found else {
+        return without_blocks(alloc, End::Usage);
+    };
+    let sizes = arguments.sizes;
+    match load_script(rt, alloc, library, arguments.script, sizes.workers()) {
+        Ok(script) => run_over(
+            rt,
+            alloc,
+            &script,
+            arguments.device,
+            sizes,
+            library,
+            rack,
+            gate,
+            out,
+        ),
+        Err(fault) => without_blocks(alloc, end_of(fault)),
+    }
+}

@@ -1,0 +1,318 @@
+//! Runs of small scripts over small queues, and what they print.
+
+use crate::runs::{File, NEVER, Outcome, outcome_of, plain};
+use ppq_budget::Sizes;
+use ppq_engine::End;
+use ppq_outside::{Host, OpenGate};
+use ppq_testkit::PairGate;
+use std::alloc::Global;
+use std::process::Abort;
+use std::str;
+
+// Two workers, two records a block, one block a heap, 200 blocks, and a budget without a buffer.
+fn small() -> Option<Sizes> {
+    Sizes::new(2, 2, 1, 372, 200)
+}
+
+// The run of this script ended so, and wrote this.
+fn is_as<H: Host + Abort>(rt: &H, ran: Outcome, script: &str, end: End, wants: &str) {
+    let wrote = str::from_utf8(&ran.wrote).expect(rt, "no text");
+    if ran.end != end || wrote != wants {
+        panic!(rt; "{script} ended with {:?}, and wrote {wrote}", ran.end);
+    }
+}
+
+// A run of a script that reads no file, on a device that never fails, ends so and writes this.
+fn prints<H: Host + Abort>(
+    rt: &H,
+    alloc: Global,
+    sizes: Option<Sizes>,
+    script: &str,
+    end: End,
+    wants: &str,
+)
+where
+    H::Dir: Send,
+{
+    let ran = plain(rt, alloc, script.as_bytes(), sizes);
+    is_as(rt, ran, script, end, wants);
+}
+
+#[test]
+fn scripts_print_what_they_should(rt: HostRuntime) {
+    let table = [
+        // commands outside sessions
+        ("", ""),
+        ("pop\ntop\nsize\n", "empty\nempty\n0\n"),
+        (
+            "push 5 1\npush 3 9\npush 5 1\npush 3 2\nbulk_pop 3\nsize\n",
+            "3 2\n3 9\n5 1\n1\n",
+        ),
+        (
+            "push 18446744073709551615 18446744073709551615\npop\n",
+            "18446744073709551615 18446744073709551615\n",
+        ),
+        (
+            "push 2 2\npush 1 1\nbulk_pop 0\nbulk_pop 18446744073709551615\n",
+            "1 1\n2 2\n",
+        ),
+        (
+            "push 5 1\npush 3 9\npush 5 1\npush 3 2\nbulk_pop_limit 5 0 10\n",
+            "3 2\n3 9\nall\n",
+        ),
+        (
+            "push 5 1\npush 3 9\npush 5 1\npush 3 2\nbulk_pop_limit 5 0 1\n",
+            "3 2\nmore\n",
+        ),
+        (
+            "push 5 1\npush 3 9\npush 5 1\npush 3 2\nbulk_pop_limit 5 0 2\n",
+            "3 2\n3 9\nall\n",
+        ),
+        (
+            "push 5 1\npush 3 9\npush 5 1\npush 3 2\nbulk_pop_limit 5 0 0\nbulk_pop_limit 0 0 10\n",
+            "more\nall\n",
+        ),
+        (
+            "gen 1 1\npop\ngen 1 2\ndrain 5\n",
+            "7806831264735756412 0\ncount 2 first 7806831264735756412 0 last 9396908728118811419 1 sum 17203739992854567831\n",
+        ),
+        (
+            "push 18446744073709551615 0\npush 2 0\ndrain 9\ndrain 1\n",
+            "count 2 first 2 0 last 18446744073709551615 0 sum 1\ncount 0\n",
+        ),
+        // records of bulk sessions join the bag
+        ("bulk_begin\nbulk_end\nsize\n", "0\n"),
+        (
+            "push 5 0\nbulk_begin\nbulk_push 1 3 0\nbulk_push 0 4 0\nbulk_end\nsize\nbulk_pop 9\n",
+            "3\n3 0\n4 0\n5 0\n",
+        ),
+        (
+            "bulk_begin\nbulk_push 1 9 0\nbulk_push 1 8 0\nbulk_push 1 7 0\nbulk_push 1 6 0\nbulk_push 1 5 0\nbulk_end\ntop\ndrain 9\n",
+            "5 0\ncount 5 first 5 0 last 9 0 sum 35\n",
+        ),
+        (
+            "bulk_begin\nbulk_push 0 2 0\nbulk_end\npop\nbulk_begin\nbulk_push 1 1 1\nbulk_push 0 1 0\nbulk_end\nbulk_pop 2\n",
+            "2 0\n1 0\n1 1\n",
+        ),
+        (
+            "gen 1 2\nbulk_begin\nbulk_push 0 18446744073709551615 7\nbulk_end\ndrain 9\n",
+            "count 3 first 7806831264735756412 0 last 18446744073709551615 7 sum 17203739992854567830\n",
+        ),
+        (
+            "bulk_begin\nbulk_push 0 3 0\nbulk_push 0 3 0\nbulk_end\nbulk_pop_limit 3 1 9\n",
+            "3 0\n3 0\nall\n",
+        ),
+        // limit sessions pop below their limit
+        (
+            "push 1 0\npush 4 0\nlimit_begin 4 0\nlimit_top\nlimit_push 1 4 0\nlimit_pop\nlimit_pop\nlimit_end\nbulk_pop 9\n",
+            "1 0\n1 0\nlimit\n4 0\n4 0\n",
+        ),
+        (
+            "limit_begin 0 0\nlimit_top\nlimit_end\nsize\n",
+            "limit\n0\n",
+        ),
+        (
+            "push 3 1\npush 3 2\nlimit_begin 3 2\nlimit_pop\nlimit_pop\nlimit_end\npop\n",
+            "3 1\nlimit\n3 2\n",
+        ),
+        (
+            "gen 1 9\nlimit_begin 0 1\nlimit_push 0 5 0\nlimit_push 0 4 0\nlimit_push 0 3 0\nlimit_push 0 2 0\nlimit_push 0 1 0\nlimit_pop\nlimit_end\nbulk_pop 5\nsize\n",
+            "limit\n1 0\n2 0\n3 0\n4 0\n5 0\n9\n",
+        ),
+        (
+            "push 1 0\npush 2 0\npush 3 0\npush 4 0\npush 5 0\nlimit_begin 9 0\nlimit_pop\nlimit_push 1 9 0\nlimit_pop\nlimit_pop\nlimit_push 0 10 0\nlimit_pop\nlimit_pop\nlimit_pop\nlimit_end\ndrain 9\n",
+            "1 0\n2 0\n3 0\n4 0\n5 0\nlimit\ncount 2 first 9 0 last 10 0 sum 19\n",
+        ),
+    ];
+    for (script, wants) in table {
+        prints(&rt, rt.alloc(), small(), script, End::Done, wants);
+    }
+}
+
+#[test]
+fn too_few_records_of_budget_or_blocks_end_the_run(rt: HostRuntime) {
+    // workers, records of budget and blocks, with two records a block and one block a heap
+    let table = [
+        // a budget below its fixed part names its need
+        (
+            (2, 371, 200),
+            "pop\n",
+            End::BudgetTooSmall { need: 372 },
+            "",
+        ),
+        // the third record finds no block without a device
+        (
+            (1, 158, 0),
+            "size\npush 1 0\npush 2 0\npush 3 0\n",
+            End::NoFreeBlock,
+            "0\n",
+        ),
+        (
+            (1, 158, 0),
+            "push 2 0\npush 1 0\npop\npop\n",
+            End::Done,
+            "1 0\n2 0\n",
+        ),
+        // one record in a limit session wants a block
+        (
+            (1, 158, 0),
+            "push 1 0\nlimit_begin 4 0\nlimit_end\n",
+            End::NoFreeBlock,
+            "",
+        ),
+        (
+            (1, 158, 0),
+            "size\npush 1 0\nlimit_begin 4 0\nlimit_end\n",
+            End::NoFreeBlock,
+            "0\n",
+        ),
+        // a batch prints its answers though a push was refused
+        (
+            (1, 159, 1),
+            "push 1 0\nlimit_begin 4 0\nlimit_push 0 5 0\nlimit_push 0 6 0\nlimit_push 0 7 0\nlimit_pop\nlimit_end\n",
+            End::NoFreeBlock,
+            "1 0\n",
+        ),
+        // the fifth record finds no second block, with no more budget than is fixed
+        (
+            (2, 173, 1),
+            "push 5 0\npush 4 0\npush 3 0\npush 2 0\npush 1 0\n",
+            End::NoFreeBlock,
+            "",
+        ),
+        (
+            (2, 173, 1),
+            "push 4 0\npush 3 0\npush 2 0\npush 1 0\nbulk_pop 5\n",
+            End::Done,
+            "1 0\n2 0\n3 0\n4 0\n",
+        ),
+    ];
+    for ((workers, memory, blocks), script, end, wants) in table {
+        let sizes = Sizes::new(workers, 2, 1, memory, blocks);
+        prints(&rt, rt.alloc(), sizes, script, end, wants);
+    }
+}
+
+#[test]
+fn a_failed_call_of_a_block_ends_the_run_and_all_blocks_come_back(rt: HostRuntime) {
+    let table = [
+        // a write, and a read
+        (
+            1,
+            "push 6 0\npush 5 0\npush 4 0\npush 3 0\npush 2 0\npush 1 0\nbulk_pop 6\n",
+            "",
+        ),
+        (2, "push 1 0\npush 2 0\npush 3 0\nbulk_pop 3\n", ""),
+        // a read of the front in a limit session
+        (
+            2,
+            "push 1 0\npush 2 0\npush 3 0\nlimit_begin 4 0\nlimit_pop\nlimit_pop\nlimit_end\n",
+            "",
+        ),
+        // a write in a bulk session
+        (
+            1,
+            "size\nbulk_begin\nbulk_push 0 1 0\nbulk_push 0 2 0\nbulk_push 0 3 0\nbulk_end\nsize\n",
+            "0\n",
+        ),
+    ];
+    for (call, script, wants) in table {
+        let text = script.as_bytes();
+        let ran = outcome_of(&rt, rt.alloc(), text, small(), File::of(0), call, &OpenGate);
+        assert!(rt; ran.blocks == 200 && ran.faults == 1);
+        is_as(&rt, ran, script, End::DeviceFault { number: 0 }, wants);
+    }
+}
+
+// A run of a script with this file ends so and writes this.
+fn reads<H: Host + Abort>(
+    rt: &H,
+    alloc: Global,
+    sizes: Option<Sizes>,
+    file: File,
+    script: &str,
+    end: End,
+    wants: &str,
+)
+where
+    H::Dir: Send,
+{
+    let ran = outcome_of(rt, alloc, script.as_bytes(), sizes, file, NEVER, &OpenGate);
+    is_as(rt, ran, script, end, wants);
+}
+
+// The lines of so many records `7 7`.
+fn lines_of_sevens<H: Host + Abort>(rt: &H, alloc: Global, count: usize) -> String {
+    let mut lines = String::new(alloc);
+    for _ in 0..count {
+        lines.push_str("7 7\n").expect(rt, "no memory");
+    }
+    lines
+}
+
+#[test]
+fn records_of_a_file_are_pushed_and_come_back(rt: HostRuntime) {
+    for count in [0, 1, 4, 5, 2_000] {
+        let sizes = Sizes::new(2, 2, 1, 2_372, 2_200);
+        let script = "bulk f\nbulk_pop 2000\n";
+        let lines = lines_of_sevens(&rt, rt.alloc(), count);
+        reads(
+            &rt,
+            rt.alloc(),
+            sizes,
+            File::of(count),
+            script,
+            End::Done,
+            &lines,
+        );
+    }
+}
+
+#[test]
+fn a_file_that_ended_early_or_a_failed_read_keeps_what_was_printed(rt: HostRuntime) {
+    // the file is named by its line
+    let file = File {
+        records: 2,
+        length: 16,
+        call: NEVER,
+    };
+    let end = End::FileChanged {
+        line: 2,
+        said: 32,
+        got: 16,
+    };
+    reads(&rt, rt.alloc(), small(), file, "size\nbulk f\n", end, "0\n");
+    // the third call fails, behind the lengths for two commands
+    let file = File {
+        records: 3,
+        length: u64::MAX,
+        call: 3,
+    };
+    let script = "size\nbulk f\nbulk f\n";
+    reads(
+        &rt,
+        rt.alloc(),
+        small(),
+        file,
+        script,
+        End::ReadFault,
+        "0\n",
+    );
+}
+
+#[test]
+fn two_workers_add_records_at_once(rt: HostRuntime) {
+    let table = [
+        "bulk f\n",
+        "gen 1 4\n",
+        "bulk_begin\nbulk_push 0 1 0\nbulk_push 1 2 0\nbulk_end\n",
+        "limit_begin 4 0\nlimit_push 0 5 0\nlimit_push 1 6 0\nlimit_end\n",
+    ];
+    for script in table {
+        let gate = PairGate::new();
+        let text = script.as_bytes();
+        let ran = outcome_of(&rt, rt.alloc(), text, small(), File::of(4), NEVER, &gate);
+        assert!(rt; gate.is_passed());
+        is_as(&rt, ran, script, End::Done, "");
+    }
+}

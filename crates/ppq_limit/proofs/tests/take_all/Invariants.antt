@@ -1,5 +1,0 @@
-use Rattle.std.proofs.Common.{◌≡◌}
-use Rattle.ppq_limit.proofs.tests.take_all.Given as goal
-
-abbrev pub invariant-taking : goal.invariant-taking
-invariant-taking g l = l.front ≡ record l.fn.front { bag = l.front.bag; slots = l.front.slots; in_extract = l.front.in_extract; size = l.front.size; popped = l.front.popped; failed = l.front.failed }

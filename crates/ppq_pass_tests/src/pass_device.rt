@@ -1,0 +1,228 @@
+//! Worked examples of two passes over four slots in memory and two buffers, of two pairs each, with heaps of
+//! two pairs. A number stands for the pair with that key and value 0.
+ghost use Rattle.std.specs.Prelude.{◌≡◌, ◌<◌, [], All, length};
+ghost use Rattle.ppq_outside.specs.MemoryDevice.{slot_shown};
+ghost use Rattle.ppq_pass.specs.ppq_pool.Seats.{count_of};
+ghost use Rattle.ppq_pass.specs.ppq_array.Owner.{HasSize};
+ghost use Rattle.ppq_pass.specs.Passed.{IsOf};
+
+use crate::seats::{Seats, seats_of};
+use ppq_outside::MemSlot;
+use ppq_pass::{
+    Berth, ExternalArray, Full, Host, InsertionHeap, InternalArray, Pair, Pass, PassBody, PassHeld,
+    PoolBuf, PoolSeat, QueueFault, RowSeat, Shared, Sizes,
+};
+use ppq_testkit::pair;
+use std::alloc::Global;
+use std::process::Abort;
+use std::thread::join_mut;
+
+// What is shared, and two passes of it.
+struct Session {
+    shared: Shared<MemSlot, Pair>,
+    one: Pass<MemSlot, Pair>,
+    other: Pass<MemSlot, Pair>,
+}
+
+// A pass over new seats.
+fn pass_of<H: Host + Abort>(
+    rt: &H,
+    alloc: Global,
+    row_seat: RowSeat<Berth<MemSlot, Pair>>,
+    pool_seat: PoolSeat<PoolBuf<Pair>>,
+) -> Pass<MemSlot, Pair>
+    requires undrawn { row_seat.hand.places ≡ [] }
+    requires four { length row_seat.hand.items ≡ 4 }
+    requires bytes { All (HasSize slot_shown 32) row_seat.hand.items }
+    requires untaken { pool_seat.hand.numbers ≡ [] }
+    requires shape { pool_seat.hand.shape ≡ 2 }
+    requires two { count_of pool_seat.pool ≡ 2 }
+    ensures row { result.key.row ≡ row_seat.row }
+    ensures pool { result.key.pool ≡ pool_seat.pool }
+{
+    let sizes = Sizes::new(2, 2, 1, 180, 4).expect(rt, "sizes");
+    let heap = InsertionHeap::new(alloc, 2).expect(rt, "a heap");
+    let body = PassBody::new(alloc, 2, 3, 5).expect(rt, "a body");
+    let numbers = Vec::with_capacity(alloc, 2).expect(rt, "numbers");
+    Pass::new(sizes, heap, body, row_seat, pool_seat, numbers)
+}
+
+// Two passes of a new session.
+fn two_passes<H: Host + Abort>(rt: &H, alloc: Global) -> Session
+    ensures one { IsOf result.shared result.one }
+    ensures other { IsOf result.shared result.other }
+{
+    let Seats {
+        shared,
+        mut row_seat,
+        mut pool_seat,
+    } = seats_of(rt, alloc, 4);
+    let other_row_seat = shared.row.split(&mut row_seat);
+    let other_pool_seat = shared.pool.split(&mut pool_seat);
+    let one = pass_of(rt, alloc, row_seat, pool_seat);
+    let other = pass_of(rt, alloc, other_row_seat, other_pool_seat);
+    Session { shared, one, other }
+}
+
+// Pushes 40 records, or as many as are taken.
+fn fill<H: Host>(rt: &H, shared: &Shared<MemSlot, Pair>, pass: &mut Pass<MemSlot, Pair>)
+    requires { IsOf shared.now pass.old }
+{
+    'pushing: for key in 0..40 {
+        if pass.push(rt, shared, pair(key)).is_err() {
+            break;
+        }
+    }
+}
+
+// Fills two passes, each on a thread of its own.
+fn fill_both<H: Host>(
+    rt: &H,
+    shared: &Shared<MemSlot, Pair>,
+    one: &mut Pass<MemSlot, Pair>,
+    other: &mut Pass<MemSlot, Pair>,
+)
+where
+    H::Dir: Send,
+    requires one { IsOf shared.now one.old }
+    requires other { IsOf shared.now other.old }
+{
+    join_mut(
+        rt,
+        &mut ||
+            requires { IsOf shared.now one.now }
+        { fill(rt, shared, one) },
+        &mut ||
+            requires { IsOf shared.now other.now }
+        { fill(rt, shared, other) },
+    );
+}
+
+// How many records runs in buffers have.
+fn in_buffers(runs: &[InternalArray<Pair>]) -> u64 {
+    let mut count = 0u64;
+    for run in runs {
+        count = count.saturating_add(run.len());
+    }
+    count
+}
+
+// How many records runs in blocks have.
+fn in_blocks(runs: &[ExternalArray<MemSlot, Pair>]) -> u64 {
+    let mut count = 0u64;
+    for run in runs {
+        count = count.saturating_add(run.len());
+    }
+    count
+}
+
+// How many records a pass has.
+fn records_of(pass: Pass<MemSlot, Pair>) -> u64 {
+    let PassHeld { heap, body, .. } = pass.into_parts();
+    let in_runs = in_buffers(body.runs.internal.as_slice()).saturating_add(in_blocks(
+        body.runs.external.as_slice(),
+    ));
+    in_runs.saturating_add(u64::from(heap.len()))
+}
+
+// How many records a pass accepted that refused one: it has them all.
+fn all_of_full<H: Abort>(rt: &H, pass: Pass<MemSlot, Pair>) -> u64 {
+    let (refused, accepted) = (pass.refused(), pass.accepted());
+    assert!(rt; refused & (records_of(pass) == accepted));
+    accepted
+}
+
+// How many records two passes accept, by turns or on two threads, until each refuses one.
+fn filled<H: Host + Abort>(rt: &H, alloc: Global, on_threads: bool) -> u64
+where
+    H::Dir: Send,
+{
+    let Session {
+        shared,
+        mut one,
+        mut other,
+    } = two_passes(rt, alloc);
+    if on_threads {
+        fill_both(rt, &shared, &mut one, &mut other);
+    } else {
+        fill(rt, &shared, &mut one);
+        fill(rt, &shared, &mut other);
+    }
+    all_of_full(rt, one).saturating_add(all_of_full(rt, other))
+}
+
+#[test]
+fn two_passes_fill_the_device_by_turns_and_on_two_threads(rt: HostRuntime) {
+    // at most four blocks, two buffers and two heaps
+    assert!(rt; filled(&rt, rt.alloc(), false) <= 16);
+    assert!(rt; filled(&rt, rt.alloc(), true) <= 16);
+}
+
+// Pushes records that are taken.
+fn must_push<H: Host + Abort>(
+    rt: &H,
+    shared: &Shared<MemSlot, Pair>,
+    pass: &mut Pass<MemSlot, Pair>,
+    keys: &[u64],
+)
+    requires { IsOf shared.now pass.old }
+    ensures { pass.new.key ≡ pass.old.key }
+{
+    'pushing: for key in keys {
+        assert!(rt; pass.push(rt, shared, pair(*key)).is_ok());
+    }
+}
+
+// Whether a full heap refuses a record that is tried.
+fn heap_is_full(pass: &mut Pass<MemSlot, Pair>) -> bool
+    ensures { pass.new.key ≡ pass.old.key }
+{
+    pass.try_push(pair(13)) == Err(Full)
+}
+
+// Pushes twelve records, and one that is refused.
+fn push_until_refused<H: Host + Abort>(
+    rt: &H,
+    shared: &Shared<MemSlot, Pair>,
+    pass: &mut Pass<MemSlot, Pair>,
+)
+    requires { IsOf shared.now pass.old }
+{
+    must_push(rt, shared, pass, &[5, 4]);
+    assert!(rt; heap_is_full(pass));
+    // two runs in buffers, then all in three blocks, then two runs in buffers again
+    must_push(rt, shared, pass, &[3, 2, 1, 0, 9, 8, 7, 6, 11, 12]);
+    let taken = !pass.refused();
+    // three blocks more are wanted, and there is one
+    let last = pass.push(rt, shared, pair(13)) == Err((pair(13), QueueFault::NoFreeBlock));
+    assert!(rt; taken & last & heap_is_full(pass));
+}
+
+// Whether a pass holds two records in its heap, two runs in buffers, one in blocks, and one slot in its stash.
+fn holds_all(pass: Pass<MemSlot, Pair>) -> bool {
+    let PassHeld {
+        heap,
+        body,
+        parts,
+        ..
+    } = pass.into_parts();
+    let runs = (body.runs.internal.len() == 2) & (body.runs.external.len() == 1);
+    runs & (heap.len() == 2) & (heap.min() == Some(pair(11))) & (parts.stash.len() == 1)
+}
+
+// A pass beside one that pushes nothing fills three of the four blocks, and is refused a record then.
+fn refuses_one<H: Host + Abort>(rt: &H, alloc: Global) {
+    let Session {
+        shared,
+        one: mut pass,
+        other: _other,
+    } = two_passes(rt, alloc);
+    push_until_refused(rt, &shared, &mut pass);
+    let told = pass.refused() & pass.failed().is_none() & (pass.accepted() == 12);
+    assert!(rt; told & holds_all(pass));
+}
+
+#[test]
+fn a_refused_push_keeps_heap_and_slots(rt: HostRuntime) {
+    refuses_one(&rt, rt.alloc())
+}

@@ -1,5 +1,0 @@
-use Rattle.std.proofs.Common.{refl}
-use Rattle.ppq_pool.proofs.tests.pool_of.Goals as goal
-
-pub new-requires-clause-one_shape : goal.new-requires-clause-one_shape
-new-requires-clause-one_shape c = (4, λ k d lt. refl)

@@ -1,6 +1,0 @@
-use Rattle.std.proofs.Common.{◌≡◌}
-use Rattle.ppq_pool.specs.Seats.{IsSeatOf}
-use Rattle.ppq_pool.proofs.tests.work.Given as goal
-
-abbrev pub invariant-loop : goal.invariant-loop
-invariant-loop l = IsSeatOf l.pool l.seat × (l.seat.hand.shares ≡ l.initial.seat.hand.shares)

@@ -1,0 +1,13 @@
+//! Tests of the top call over memory and over real files, and of its report.
+#![tactic(auto)]
+
+#[cfg(test)]
+mod faults;
+#[cfg(test)]
+mod files;
+#[cfg(test)]
+mod memory;
+#[cfg(test)]
+mod report;
+#[cfg(test)]
+mod scripts;

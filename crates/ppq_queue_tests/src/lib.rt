@@ -1,0 +1,7 @@
+//! Tests of the queue of one owner.
+#![tactic(auto)]
+
+#[cfg(test)]
+mod bulk;
+#[cfg(test)]
+mod queue;

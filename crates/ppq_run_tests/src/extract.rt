@@ -1,0 +1,161 @@
+//! Worked examples of refills. A number stands for the pair with that key and value 0.
+ghost use Rattle.std.specs.Prelude.{◌≡◌, ◌+◌, ◌∷◌, [], length, OnOk};
+ghost use Rattle.ppq_array.specs.Run.{run_of};
+ghost use Rattle.ppq_extract.specs.ppq_fetch.Fetching.{MayFetch};
+ghost use Rattle.ppq_extract.specs.Extracted.{sources_of, ServesFor};
+ghost use Rattle.ppq_extract.specs.Examples.{IsRunOfTwo, IsRunOfBlock};
+
+use ppq_array::{Berth, ExternalArray, InternalArray, OwnerLists, Runs, StoreFault};
+use ppq_block::BlockBuf;
+use ppq_extract::{Bench, Extract, Sizes, Sources};
+use ppq_lane::Lanes;
+use ppq_outside::{Host, OpenGate, Slot};
+use ppq_record::Pair;
+use ppq_testkit::{QuietSlot, pair, quiet_berth};
+use std::alloc::Global;
+use std::process::Abort;
+
+// What a refill needs, for two workers and blocks of two records.
+#[derive(Drop)]
+struct World {
+    extract: Extract<Pair>,
+    runs: Runs<QuietSlot, Pair>,
+    lanes: Lanes<Berth<QuietSlot, Pair>, Pair>,
+    sources: Sources<Pair>,
+    owner: OwnerLists<QuietSlot, Pair>,
+}
+
+// A run of two records in a buffer.
+fn run_of_two(rt: &impl Abort, alloc: Global, one: u64, other: u64) -> InternalArray<Pair>
+    ensures { IsRunOfTwo result }
+{
+    let mut buf = BlockBuf::new(alloc, 2).expect(rt, "memory");
+    buf.push(pair(one));
+    buf.push(pair(other));
+    let mut run = InternalArray::empty();
+    run.add(buf);
+    run
+}
+
+// A run of one block with number 4 that holds two records.
+fn run_of_block<H: Host + Abort>(
+    rt: &H,
+    alloc: Global,
+    one: u8,
+    other: u8,
+    broken: bool,
+) -> ExternalArray<QuietSlot, Pair>
+    ensures { IsRunOfBlock ⟦<QuietSlot as Slot>⟧.shown result }
+{
+    let mut bytes = [0; 32];
+    bytes[7] = one;
+    bytes[23] = other;
+    let mut slot = QuietSlot::new(4, broken);
+    assert!(rt; slot.write(rt, &bytes).is_ok() != broken);
+    let Ok(berth) = Berth::new(alloc, slot) else {
+        panic!(rt; "memory")
+    };
+    let mut run = ExternalArray::empty(0);
+    run.append(berth, pair(u64::from(one)), 2);
+    run
+}
+
+fn sizes(rt: &impl Abort) -> Sizes {
+    Sizes::new(2, 2, 1, 1 << 20, 3).expect(rt, "sizes")
+}
+
+// The runs 1 7 and 3 5 in buffers, and 2 9 in a block.
+fn three_runs<H: Host + Abort>(rt: &H, alloc: Global, broken: bool) -> World
+    ensures may { MayFetch ⟦<QuietSlot as Slot>⟧.shown 16 result.sources.bench.workers (sources_of result.runs result.lanes.idle result.owner) }
+    ensures serves { ServesFor (length result.runs.internal.items + length result.runs.external.items) result.sources }
+{
+    let mut runs = Runs::new(alloc, 2, 1).expect(rt, "memory");
+    let first = runs.internal.push(run_of_two(rt, alloc, 1, 7));
+    first.expect(rt, "memory");
+    let second = runs.internal.push(run_of_two(rt, alloc, 3, 5));
+    second.expect(rt, "memory");
+    let third = runs.external.push(run_of_block(rt, alloc, 2, 9, broken));
+    third.expect(rt, "memory");
+    World {
+        extract: Extract::new(alloc, &sizes(rt)).expect(rt, "memory"),
+        runs,
+        lanes: Lanes::new(alloc, 3, 0, 2, 0).expect(rt, "memory"),
+        sources: Sources {
+            bench: Bench::new(alloc, 2, 3).expect(rt, "memory"),
+            places: vec![in alloc; 0; 3].expect(rt, "memory"),
+        },
+        owner: OwnerLists::new(2, 1, 2),
+    }
+}
+
+// Empties the buffer and fills it.
+fn refill<H: Host>(rt: &H, w: &mut World, below: Option<Pair>) -> Result<(), StoreFault>
+    requires may { MayFetch ⟦<QuietSlot as Slot>⟧.shown 16 w.old.sources.bench.workers (sources_of w.old.runs w.old.lanes.idle w.old.owner) }
+    requires serves { ServesFor (length w.old.runs.internal.items + length w.old.runs.external.items) w.old.sources }
+    ensures may { OnOk result (MayFetch ⟦<QuietSlot as Slot>⟧.shown 16 w.new.sources.bench.workers (sources_of w.new.runs w.new.lanes.idle w.new.owner)) }
+    ensures serves { OnOk result (ServesFor (length w.new.runs.internal.items + length w.new.runs.external.items) w.new.sources) }
+{
+    w.extract.clear();
+    w.extract.refill(
+        rt,
+        &mut w.runs,
+        &mut w.lanes,
+        &mut w.sources,
+        &mut w.owner,
+        below,
+        &OpenGate,
+    )
+}
+
+// Drops the world, which in place would be proved anew in each test.
+fn end(_w: World) {}
+
+#[test]
+fn a_new_buffer_is_empty(rt: HostRuntime) {
+    let made = Extract::<Pair>::new(rt.alloc(), &sizes(&rt));
+    let mut extract = made.expect(&rt, "memory");
+    assert!(rt; extract.is_empty());
+    assert_eq!(rt; extract.len(), 0);
+    assert_eq!(rt; extract.front(), None);
+    assert_eq!(rt; extract.pop(), None);
+    assert!(rt; extract.rest().is_empty());
+}
+
+#[test]
+fn a_refill_takes_the_least_records_of_all_runs(rt: HostRuntime) {
+    let mut w = three_runs(&rt, rt.alloc(), false);
+    refill(&rt, &mut w, None).expect(&rt, "a refill");
+    assert!(rt; w.extract.rest() == [pair(1), pair(2), pair(3), pair(5)].as_slice());
+    // the run 3 5 is gone, and the slot of the block is free
+    assert_eq!(rt; (w.runs.internal.len(), w.runs.external.len()), (1, 1));
+    assert_eq!(rt; w.owner.free_slots(), 1);
+    refill(&rt, &mut w, None).expect(&rt, "a refill");
+    assert_eq!(rt; w.extract.len(), 2);
+    assert_eq!(rt; w.extract.front(), Some(pair(7)));
+    assert_eq!(rt; w.extract.pop(), Some(pair(7)));
+    assert!(rt; w.extract.rest() == [pair(9)].as_slice());
+    assert_eq!(rt; w.extract.pop(), Some(pair(9)));
+    assert_eq!(rt; w.extract.pop(), None);
+    assert_eq!(rt; (w.runs.internal.len(), w.runs.external.len()), (0, 0));
+    assert_eq!(rt; (w.owner.free_slots(), w.owner.idle_buffers()), (1, 2));
+    end(w);
+}
+
+#[test]
+fn a_limit_gives_only_what_is_below_it(rt: HostRuntime) {
+    let mut w = three_runs(&rt, rt.alloc(), false);
+    refill(&rt, &mut w, Some(pair(3))).expect(&rt, "a refill");
+    assert!(rt; w.extract.rest() == [pair(1), pair(2)].as_slice());
+    assert_eq!(rt; (w.runs.internal.len(), w.runs.external.len()), (2, 1));
+    end(w);
+}
+
+#[test]
+fn a_read_that_fails_is_answered_with_its_slot(rt: HostRuntime) {
+    let mut w = three_runs(&rt, rt.alloc(), true);
+    let refilled = refill(&rt, &mut w, None);
+    assert!(rt; refilled == Err(StoreFault::Device { number: 4 }));
+    assert!(rt; w.extract.is_empty());
+    assert_eq!(rt; w.owner.free_slots(), 1);
+    end(w);
+}

@@ -1,0 +1,17 @@
+//! Tests of runs: buffers, lanes, arrays, the extract buffer and stores.
+#![tactic(auto)]
+
+#[cfg(test)]
+mod array;
+#[cfg(test)]
+mod block;
+#[cfg(test)]
+mod device;
+#[cfg(test)]
+mod extract;
+#[cfg(test)]
+mod lane;
+#[cfg(test)]
+mod merge;
+#[cfg(test)]
+mod spill;

@@ -1,0 +1,17 @@
+//! Tests of sessions: bulk sessions and limit sessions.
+#![tactic(auto)]
+
+#[cfg(test)]
+mod bulk;
+#[cfg(test)]
+mod laws;
+#[cfg(test)]
+mod limit;
+#[cfg(test)]
+mod limited;
+#[cfg(test)]
+mod records;
+#[cfg(test)]
+mod session;
+#[cfg(test)]
+mod threads;

@@ -1,0 +1,210 @@
+//! Worked examples of bulk sessions, with two records a block and one block a heap.
+ghost use Rattle.std.specs.Prelude.{◌≡◌, ◌<◌, All, IfOk};
+
+use crate::bulk::{Adding, Done, in_session};
+use crate::records::{are_keys, are_twins, ascend, popped, queue_of};
+use ppq_limit::{Host, Line, Out, Pair, Queue, SessionEnd, Sizes};
+use ppq_outside::{MemSlot, OpenGate};
+use ppq_testkit::pair;
+use std::alloc::Global;
+use std::process::Abort;
+use std::test::Fail;
+
+// Records with the keys from 0 on, so many, the last one first.
+fn falling<H: Abort>(rt: &H, alloc: Global, count: u64) -> Vec<Pair> {
+    let mut records = Vec::new(alloc);
+    for i in 0..count {
+        records
+            .push(pair(count - 1 - i))
+            .expect(rt, "room for a record");
+    }
+    records
+}
+
+// So many lines for two passes by turns, with the keys from 0 on, the last one first.
+fn lines_of<H: Abort>(rt: &H, alloc: Global, count: u64) -> Vec<Line<Pair>>
+    ensures { All (λ line. line.pass < 2) result.items }
+{
+    let mut lines = Vec::new(alloc);
+    'lining: for i in 0..count {
+        let line = Line {
+            pass: (i % 2) as u32,
+            record: pair(count - 1 - i),
+        };
+        lines.push(line).expect(rt, "room for a line");
+    }
+    lines
+}
+
+// A session of a queue for two workers.
+#[derive(Clone, Copy)]
+struct Case {
+    memory: u64,
+    blocks: u32,
+    // how many records were pushed to the queue before
+    pushed: u64,
+    // how many lines are pushed in the session
+    lines: u64,
+}
+
+// The records that the queue has after a session, how the session ended, and what its passes did.
+fn left_by<H: Host + Abort>(
+    rt: &H,
+    alloc: Global,
+    case: Case,
+) -> Result<(Vec<Pair>, SessionEnd, Done), Fail>
+where
+    H::Dir: Send,
+{
+    let sizes = Sizes::new(2, 2, 1, case.memory, case.blocks).expect(rt, "sizes in range");
+    let queue = queue_of(rt, alloc, sizes, falling(rt, alloc, case.pushed))?;
+    let lines = lines_of(rt, alloc, case.lines);
+    let (queue, end, done) = in_session(rt, alloc, queue, Adding::Lines, lines.as_slice());
+    Ok((popped(rt, alloc, queue), end, done))
+}
+
+// A session takes all its lines, and the queue has its records and those that were pushed before then.
+fn takes_all<H: Host + Abort>(rt: &H, alloc: Global, case: Case) -> Result<(), Fail>
+where
+    H::Dir: Send,
+{
+    let (records, end, done) = left_by(rt, alloc, case)?;
+    let whole = Done {
+        taken: true,
+        accepted: (case.lines / 2, case.lines / 2),
+    };
+    let records = records.as_slice();
+    let all = if case.pushed == case.lines {
+        are_twins(records, case.lines, 0)
+    } else {
+        are_keys(records, 0, case.lines.max(case.pushed))
+    };
+    assert!(rt; all & (end == SessionEnd::Whole) & (done == whole));
+    Ok(())
+}
+
+#[test]
+fn records_from_before_and_of_both_passes_come_out_together(rt: HostRuntime) -> Result<(), Fail> {
+    // the memory, the blocks, how many records were pushed before, and how many lines are pushed
+    let cases = [
+        (472, 300, 0, 200),
+        (472, 300, 31, 0),
+        (472, 300, 20, 20),
+        (232, 20, 5, 0),
+    ];
+    for (memory, blocks, pushed, lines) in cases {
+        let case = Case {
+            memory,
+            blocks,
+            pushed,
+            lines,
+        };
+        takes_all(&rt, rt.alloc(), case)?;
+    }
+    Ok(())
+}
+
+// A session refuses some of its lines, and the queue has the records of all others then.
+fn refuses_some<H: Host + Abort>(rt: &H, alloc: Global, case: Case) -> Result<(), Fail>
+where
+    H::Dir: Send,
+{
+    let (records, _end, done) = left_by(rt, alloc, case)?;
+    let count = done.accepted.0.saturating_add(done.accepted.1);
+    let whole = (records.len() as u64 == count) & ascend(records.as_slice());
+    assert!(rt; !done.taken & whole);
+    Ok(())
+}
+
+#[test]
+fn a_full_device_refuses_pushes_and_loses_no_record(rt: HostRuntime) -> Result<(), Fail> {
+    let case = Case {
+        memory: 372,
+        blocks: 2,
+        pushed: 0,
+        lines: 400,
+    };
+    refuses_some(&rt, rt.alloc(), case)
+}
+
+// An empty queue of these sizes after a session, if it ended whole and each pass accepted so many records.
+fn after_session<H: Host + Abort>(
+    rt: &H,
+    alloc: Global,
+    sizes: Sizes,
+    adding: Adding,
+    count: u64,
+) -> Result<Queue<MemSlot, Pair>, Fail>
+where
+    H::Dir: Send,
+    ensures { IfOk result (λ queue. queue.sizes ≡ sizes) }
+{
+    let queue = queue_of(rt, alloc, sizes, Vec::new(alloc))?;
+    let (queue, end, done) = in_session(rt, alloc, queue, adding, &[]);
+    assert!(rt; (end == SessionEnd::Whole) & (done.accepted == (count, count)));
+    Ok(queue)
+}
+
+// A session of one worker without a device.
+fn without_device<H: Host + Abort>(rt: &H, alloc: Global) -> Result<(), Fail>
+where
+    H::Dir: Send,
+{
+    let sizes = Sizes::new(1, 2, 1, 158, 0).expect(rt, "sizes in range");
+    let queue = after_session(rt, alloc, sizes, Adding::Three, 2)?;
+    assert!(rt; are_keys(popped(rt, alloc, queue).as_slice(), 1, 3));
+    Ok(())
+}
+
+#[test]
+fn a_pass_without_a_device_holds_one_heap(rt: HostRuntime) -> Result<(), Fail> {
+    without_device(&rt, rt.alloc())
+}
+
+// Pops all records of a queue of these sizes, by as many calls as the list of one wants, at most 400.
+fn popped_in_bulk<H: Host + Abort>(
+    rt: &H,
+    alloc: Global,
+    queue: Queue<MemSlot, Pair>,
+    sizes: Sizes,
+) -> Vec<Pair>
+where
+    H::Dir: Send,
+    requires { queue.sizes ≡ sizes }
+{
+    let mut queue = queue;
+    let mut out = Out::new(alloc, &sizes).expect(rt, "a list");
+    let mut records = Vec::new(alloc);
+    'rounds: for _ in 0..400 {
+        let left = queue.size();
+        queue
+            .bulk_pop(rt, left, &mut out, &OpenGate)
+            .expect(rt, "a bulk pop");
+        if out.is_empty() {
+            break;
+        }
+        records
+            .extend_from_slice(out.as_slice())
+            .expect(rt, "room for records");
+    }
+    assert!(rt; queue.size() == 0);
+    let _slots = queue.close();
+    records
+}
+
+// A session in which two threads of the test's own push.
+fn with_own_threads<H: Host + Abort>(rt: &H, alloc: Global) -> Result<(), Fail>
+where
+    H::Dir: Send,
+{
+    let sizes = Sizes::new(2, 2, 1, 472, 300).expect(rt, "sizes in range");
+    let queue = after_session(rt, alloc, sizes, Adding::Hundreds, 100)?;
+    let records = popped_in_bulk(rt, alloc, queue, sizes);
+    assert!(rt; are_twins(records.as_slice(), 100, 1));
+    Ok(())
+}
+
+#[test]
+fn what_two_threads_of_ones_own_push_comes_out_in_order(rt: HostRuntime) -> Result<(), Fail> {
+    with_own_threads(&rt, rt.alloc())
+}

@@ -1,4 +1,0 @@
-use Rattle.ppq_tree.proofs.tests.a_counted_step_is_a_match.Given as goal
-
-abbrev pub ghosts-set_counted : goal.ghosts-set_counted
-ghosts-set_counted g a = record { name = a.blank.name; parts = a.blank.parts }

@@ -1,4 +1,0 @@
-use Rattle.ppq_tree.proofs.tests.all_leaves_cost_one_match_less_than_leaves.Given as goal
-
-abbrev pub ghosts-set_all_counted : goal.ghosts-set_all_counted
-ghosts-set_all_counted g a = record { name = a.blank.name; parts = a.blank.parts }
