@@ -1,4 +1,4 @@
-use Rattle.std.proofs.Common.{replicate, sym, ap, ◌∙◌, subst}
+use Rattle.std.proofs.Common.{replicate, sym, ap, ◌∙◌, subst, arith}
 use Rattle.ppq_heap.specs.Heaps.{empty_heap, items_in, AreShares, HasLeasts}
 use Rattle.ppq_heap.proofs.Shares.{shares_of, shares-new, leasts-new, items-replicate}
 use Rattle.ppq_heap.proofs.heaps.Heaps.new.Goals as goal
@@ -15,3 +15,15 @@ invariant_of-result g c =
 
 pub returns-clause-empty : goal.returns-clause-empty
 returns-clause-empty g c = ap items_in c.in_ok-heaps.ensures ∙ items-replicate c.args.workers c.args.cap
+
+pub returns-in_err-heaps : goal.returns-in_err-heaps
+returns-in_err-heaps g c = grind arith
+
+pub returns-in_err-tree : goal.returns-in_err-tree
+returns-in_err-tree g c = grind arith
+
+pub returns-clause-heaps : goal.returns-clause-heaps
+returns-clause-heaps g c = grind arith
+
+pub returns-clause-cap : goal.returns-clause-cap
+returns-clause-cap g c = grind arith

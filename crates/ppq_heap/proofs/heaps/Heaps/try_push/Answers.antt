@@ -1,4 +1,5 @@
 use Rattle.std.proofs.Common.{◌≡◌, true, false, Some, slice_set, if◌then◌else◌, sym, ap, ◌∙◌, subst, arith}
+use Rattle.std.proofs.lemmas.Grind.{common_steps}
 use Rattle.ppq_tree.specs.ppq_record.Bag.{least}
 use Rattle.ppq_heap.specs.Heaps.{HasLeasts}
 use Rattle.ppq_heap.proofs.Shares.{shares-push, leasts-length, leasts-set, leasts-set_same}
@@ -30,3 +31,15 @@ invariant_of-self-else-is_least g c =
           (λ e. let full : false ≡ true = c.in-Ok.ensures.full.1 e in absurd (cc)),
       leasts-set_same cmp heaps c.self.inside.tree.items 0 new old c.self.invariant.1 (first ∙ ap (λ h. least cmp h.items) c.index_mut.ensures.value),
     )
+
+pub index_mut-requires : goal.index_mut-requires
+index_mut-requires g c = omega arith
+
+pub invariant_of-self : goal.invariant_of-self
+invariant_of-self g c = grind arith
+
+pub returns-in-Err : goal.returns-in-Err
+returns-in-Err g c = grind arith
+
+pub returns-after-is_least : goal.returns-after-is_least
+returns-after-is_least g c = grind (arith, common_steps)

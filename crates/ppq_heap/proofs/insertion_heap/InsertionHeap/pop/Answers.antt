@@ -1,4 +1,5 @@
-use Rattle.std.proofs.Common.{◌≡◌, ◌≤◌, ◌++◌, ◌∷◌, [], length, Some, ap, sym, subst, ◌∙◌, rules}
+use Rattle.std.proofs.Common.{◌≡◌, ◌≤◌, ◌++◌, ◌∷◌, [], length, Some, ap, sym, subst, ◌∙◌, rules, arith}
+use Rattle.std.proofs.lemmas.Grind.{common_steps}
 use Rattle.std.specs.Prelude.{slice_get}
 use Rattle.ppq_tree.specs.ppq_record.Order.{is_before}
 use Rattle.ppq_tree.specs.ppq_record.Bag.{least}
@@ -18,23 +19,36 @@ replace_root-requires-clause-heap g c =
     let lt = is_before g.R.Ord.cmp in
     subst (IsMinHeap lt) (sym c.as_mut_slice.ensures.value) (heap_without_last lt c.pop.new.self.items (c.in-Some-2.last ∷ []) (subst (IsMinHeap lt) c.in-Some-2.ensures.items c.self.invariant.3))
 
-pub returns-in-None-clause-value : goal.returns-in-None-clause-value
-returns-in-None-clause-value g c =
+pub returns-in-None : goal.returns-in-None
+returns-in-None g c =
     let none : c.args.self.now.items ≡ [] = search rules in
-    least_of_none (is_before g.R.Ord.cmp) c.args.self.now.items none
+    grind (arith, least_of_none (is_before g.R.Ord.cmp) c.args.self.now.items none)
 
-pub returns-in-Some-clause-value : goal.returns-in-Some-clause-value
-returns-in-Some-clause-value g c =
+pub returns-in-Some : goal.returns-in-Some
+returns-in-Some g c =
     let same : c.self.inside.records.items ≡ c.args.self.now.items = ap (λ h. h.items) c.self.view_is in
     let rest : c.pop.new.self.items ≡ [] = search rules in
-    least_of_one (is_before g.R.Ord.cmp) c.in-Some.last c.args.self.now.items (sym same ∙ c.in-Some.ensures.items ∙ ap (λ xs. xs ++ c.in-Some.last ∷ []) rest)
+    let whole = sym same ∙ c.in-Some.ensures.items ∙ ap (λ xs. xs ++ c.in-Some.last ∷ []) rest in
+    grind (arith, least_of_one (is_before g.R.Ord.cmp) c.in-Some.last c.args.self.now.items whole)
 
-pub returns-in-Some-2-clause-value : goal.returns-in-Some-2-clause-value
-returns-in-Some-2-clause-value g c =
+pub returns-in-Some-2 : goal.returns-in-Some-2
+returns-in-Some-2 g c =
     let laws = c.record_laws.ensures in
     let lt = is_before g.R.Ord.cmp in
     let same : c.self.inside.records.items ≡ c.args.self.now.items = ap (λ h. h.items) c.self.view_is in
     let split = c.in-Some-2.ensures.items in
     let root : slice_get c.pop.new.self.items 0 ≡ Some c.replace_root.result = ap (λ xs. slice_get xs 0) (sym c.as_mut_slice.ensures.value) ∙ c.replace_root.ensures.root in
+    let value =
     first_is_least lt (ranks laws.order) (no_tie laws.order laws.same) c.pop.new.self.items (c.in-Some-2.last ∷ []) c.replace_root.result (subst (IsMinHeap lt) split c.self.invariant.3) root
     ∙ ap (least g.R.Ord.cmp) (sym split ∙ same)
+    in
+    grind (arith, common_steps, value)
+
+pub invariant_of-self : goal.invariant_of-self
+invariant_of-self g c = grind arith
+
+pub replace_root-requires-clause-some : goal.replace_root-requires-clause-some
+replace_root-requires-clause-some g c = grind arith
+
+pub invariant_of-self-in-Some-2 : goal.invariant_of-self-in-Some-2
+invariant_of-self-in-Some-2 g c = grind (arith, common_steps)

@@ -1,4 +1,5 @@
-use Rattle.std.proofs.Common.{◌≡◌, ◌++◌, ◌∷◌, [], take, drop, length, ap, sym, subst, ◌∙◌, rules}
+use Rattle.std.proofs.Common.{◌≡◌, ◌++◌, ◌∷◌, [], take, drop, length, ap, sym, subst, ◌∙◌, rules, arith}
+use Rattle.std.proofs.lemmas.Grind.{common_steps}
 use Rattle.std.specs.Prelude.{count_by}
 use Rattle.std.proofs.lemmas.List.{take_at}
 use Rattle.ppq_tree.specs.ppq_record.Order.{is_before}
@@ -22,3 +23,27 @@ returns-clause-added g c p =
     let long : length c.rise.new.items ≡ c.push_reserved.new.self.len = search rules in
     let whole : take c.push_reserved.new.self.len (c.rise.new.items ++ drop (length c.rise.new.items) c.push_reserved.new.self.items) ≡ c.rise.new.items = take_at c.rise.new.items _ _ long in
     ap (count_by p) whole ∙ c.rise.ensures.bag p ∙ pushed_bag c.self.inside.records.items c.as_mut_slice.result.now c.len-place.result c.args.item longer place p ∙ ap (λ xs. count_by p (c.args.item ∷ xs)) same
+
+pub same-self : goal.same-self
+same-self g c = assumption
+
+pub returns-then-is_full : goal.returns-then-is_full
+returns-then-is_full g c = grind arith
+
+pub push_reserved-requires : goal.push_reserved-requires
+push_reserved-requires g c = grind arith
+
+pub rise-requires-clause-from : goal.rise-requires-clause-from
+rise-requires-clause-from g c = omega arith
+
+pub rise-requires-clause-leaf : goal.rise-requires-clause-leaf
+rise-requires-clause-leaf g c = omega arith
+
+pub invariant_of-self : goal.invariant_of-self
+invariant_of-self g c = grind (arith, common_steps)
+
+pub returns-clause-full : goal.returns-clause-full
+returns-clause-full g c = grind arith
+
+pub returns-clause-cap : goal.returns-clause-cap
+returns-clause-cap g c = grind arith
