@@ -56,5 +56,6 @@ where
             records.push(record).expect(rt, "no memory");
         }
     }
+    let _slots = queue.close();
     records
 }

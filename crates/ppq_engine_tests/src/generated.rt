@@ -128,7 +128,7 @@ fn the_room_is_enough_and_a_block_less_refuses_no_load_of_a_heap(
     };
     let mut seed = 1;
     let mut tally = Tally::new();
-    for _ in 0..150 {
+    for _ in 0..300 {
         let most = if draw(&mut seed, 20) == 0 { 800 } else { 60 };
         let commands = draw(&mut seed, most);
         let case = script(rt.alloc(), &mut seed, commands, 400, 1)?;
@@ -190,7 +190,7 @@ fn three_workers_do_as_a_list(rt: HostRuntime) -> Result<(), Fail> {
 
 #[test]
 fn seven_workers_do_as_a_list(rt: HostRuntime) -> Result<(), Fail> {
-    do_as_a_list(&rt, rt.alloc(), 7, 2, 1, 90)
+    do_as_a_list(&rt, rt.alloc(), 7, 2, 1, 405)
 }
 
 // Pushes of keys from this one down to 1, with the value 0, and then two pops.

@@ -3,12 +3,12 @@
 ghost use Rattle.std.specs.Prelude.{◌≡◌, IfOk};
 ghost use Rattle.ppq_budget.specs.Sizes.{batch_of};
 
-use crate::queue::{fill, small};
+use crate::queue::{failing, fill, holding, small};
 use ppq_budget::Sizes;
 use ppq_outside::{Host, MemRack, MemSlot, OpenGate};
 use ppq_queue::{Heaps, LimitEnd, Out, Queue, QueueFault, QueueParts};
 use ppq_record::Pair;
-use ppq_testkit::{opened, pair, pushed};
+use ppq_testkit::pair;
 use std::alloc::Global;
 use std::process::Abort;
 use std::test::Fail;
@@ -17,7 +17,7 @@ use std::test::Fail;
 fn filled<H: Host>(
     rt: &H,
     alloc: Global,
-    mut rack: MemRack,
+    rack: MemRack,
     sizes: Option<Sizes>,
     records: &[Pair],
 ) -> Result<(Queue<MemSlot, Pair>, Out<Pair>), Fail>
@@ -27,8 +27,8 @@ where
 {
     let sizes = sizes.ok_or("a number is out of range")?;
     let out = Out::new(alloc, &sizes)?;
-    let queue = opened(rt, alloc, &mut rack, Some(sizes))?;
-    Ok((pushed(rt, queue, records)?, out))
+    let queue = holding(rt, alloc, rack, Some(sizes), records)?;
+    Ok((queue, out))
 }
 
 // A bulk pop of so many records gives these.
@@ -152,8 +152,7 @@ fn two_thousand_equal_records_come_out_two_thousand_times(rt: HostRuntime) -> Re
 
 #[test]
 fn a_failed_read_empties_the_list_and_stops_the_queue(rt: HostRuntime) -> Result<(), Fail> {
-    let calls = vec![in rt.alloc(); (0, 2)]?;
-    let rack = MemRack::failing(calls, Vec::new(rt.alloc()));
+    let rack = failing(rt.alloc(), 2)?;
     let (mut queue, mut out) = filled(&rt, rt.alloc(), rack, small(), &[pair(1)])?;
     gives(&rt, &mut queue, &mut out, 1, &[pair(1)]);
     fill(&rt, &mut queue, &[pair(2), pair(3), pair(4)]);

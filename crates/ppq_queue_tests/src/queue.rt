@@ -1,5 +1,5 @@
 //! Worked examples of a queue over blocks in memory.
-ghost use Rattle.std.specs.Prelude.{◌≡◌, ◌<◌, max};
+ghost use Rattle.std.specs.Prelude.{◌≡◌, ◌<◌, Some, IfOk, max};
 
 use ppq_budget::Sizes;
 use ppq_outside::{Host, MemRack, MemSlot, OpenGate, Slot};
@@ -18,6 +18,22 @@ pub(crate) fn small() -> Option<Sizes> {
 // A device in memory of whose block 0 the call with this number fails.
 pub(crate) fn failing(alloc: Global, call: u64) -> Result<MemRack, AllocError> {
     Ok(MemRack::failing(vec![in alloc; (0, call)]?, Vec::new(alloc)))
+}
+
+// A queue of these sizes over this device that holds these records.
+pub(crate) fn holding<H: Host>(
+    rt: &H,
+    alloc: Global,
+    mut rack: MemRack,
+    sizes: Option<Sizes>,
+    records: &[Pair],
+) -> Result<Queue<MemSlot, Pair>, Fail>
+where
+    H::Dir: Send,
+    ensures { IfOk result (λ queue. sizes ≡ Some queue.sizes) }
+{
+    let queue = opened(rt, alloc, &mut rack, sizes)?;
+    pushed(rt, queue, records)
 }
 
 // Pushes these records.
@@ -57,7 +73,7 @@ fn calls_of(blocks: &[MemSlot], number: u32) -> Option<(u64, u64, u64)> {
 
 #[test]
 fn equal_records_come_back_as_often_as_they_were_pushed(rt: HostRuntime) -> Result<(), Fail> {
-    let mut queue = opened(&rt, rt.alloc(), &mut MemRack::new(), small())?;
+    let mut queue = holding(&rt, rt.alloc(), MemRack::new(), small(), &[])?;
     for (key, value, size) in [(5, 1, 1), (3, 9, 2), (5, 1, 3), (3, 2, 4)] {
         fill(&rt, &mut queue, &[Pair { key, value }]);
         assert_eq!(rt; queue.size(), size);
@@ -78,8 +94,8 @@ fn a_record_that_finds_no_block_comes_back_and_fits_after_a_pop(
     rt: HostRuntime,
 ) -> Result<(), Fail> {
     let none = Sizes::new(1, 2, 1, 158, 0);
-    let mut queue = opened(&rt, rt.alloc(), &mut MemRack::new(), none)?;
-    fill(&rt, &mut queue, &[pair(1), pair(2)]);
+    let records = [pair(1), pair(2)];
+    let mut queue = holding(&rt, rt.alloc(), MemRack::new(), none, &records)?;
     let refused = Err((pair(3), QueueFault::NoFreeBlock));
     assert_eq!(rt; queue.push(&rt, pair(3), &OpenGate), refused);
     assert_eq!(rt; queue.size(), 2);
@@ -115,9 +131,8 @@ where
 
 #[test]
 fn a_failed_write_stops_the_queue_at_the_push_that_stores(rt: HostRuntime) -> Result<(), Fail> {
-    let mut rack = failing(rt.alloc(), 1)?;
-    let mut queue = opened(&rt, rt.alloc(), &mut rack, small())?;
-    fill(&rt, &mut queue, &[pair(6), pair(5)]);
+    let rack = failing(rt.alloc(), 1)?;
+    let mut queue = holding(&rt, rt.alloc(), rack, small(), &[pair(6), pair(5)])?;
     let refused = Err((pair(4), QueueFault::Device { number: 0 }));
     assert_eq!(rt; queue.push(&rt, pair(4), &OpenGate), refused);
     assert_eq!(rt; stopped(&rt, queue, 2), Some((0, 0, 1)));
@@ -126,9 +141,9 @@ fn a_failed_write_stops_the_queue_at_the_push_that_stores(rt: HostRuntime) -> Re
 
 #[test]
 fn a_failed_read_stops_the_queue_at_the_pop_that_loads(rt: HostRuntime) -> Result<(), Fail> {
-    let mut rack = failing(rt.alloc(), 2)?;
-    let mut queue = opened(&rt, rt.alloc(), &mut rack, small())?;
-    fill(&rt, &mut queue, &[pair(1), pair(2), pair(3)]);
+    let rack = failing(rt.alloc(), 2)?;
+    let records = [pair(1), pair(2), pair(3)];
+    let mut queue = holding(&rt, rt.alloc(), rack, small(), &records)?;
     let fault = QueueFault::Device { number: 0 };
     assert_eq!(rt; queue.pop(&rt, &OpenGate), Err(fault));
     assert_eq!(rt; stopped(&rt, queue, 3), Some((1, 0, 1)));
@@ -141,7 +156,7 @@ fn free_blocks_come_back_while_a_queue_is_filled_and_emptied_ten_times(
 ) -> Result<(), Fail> {
     // 60 records have room in 2 * 30 + 72 + 4 = 136 blocks; the budget is 158 and a record a block.
     let sizes = Sizes::new(1, 2, 1, 294, 136);
-    let mut queue = opened(&rt, rt.alloc(), &mut MemRack::new(), sizes)?;
+    let mut queue = holding(&rt, rt.alloc(), MemRack::new(), sizes, &[])?;
     let mut rising = [pair(0); 60];
     for (i, record) in rising.iter_mut().enumerate() {
         record.key = i as u64 / 2;
@@ -247,30 +262,33 @@ fn a_thousand_generated_sequences_do_as_a_sorted_list(rt: HostRuntime) -> Result
             1 => Sizes::new(1, 4, 2, 512, 180),
             _ => Sizes::new(3, 3, 1, 500, 200),
         };
-        let queue = opened(&rt, rt.alloc(), &mut MemRack::new(), sizes)?;
+        let queue = holding(&rt, rt.alloc(), MemRack::new(), sizes, &[])?;
         same_calls(&rt, queue, Vec::new(rt.alloc()), &mut seed);
     }
     Ok(())
 }
 
-#[test]
-fn a_heap_that_is_not_full_is_stored_for_a_limit_session(rt: HostRuntime) -> Result<(), Fail> {
-    let queue = opened(&rt, rt.alloc(), &mut MemRack::new(), small())?;
-    let mut queue = pushed(&rt, queue, &[pair(4)])?;
-    assert_eq!(rt; queue.store_heaps(&rt, &OpenGate), Ok(()));
-    drain(&rt, &mut queue, &[pair(4)]);
-    assert_eq!(rt; calls_of(queue.close().as_slice(), 0), Some((1, 1, 0)));
-    Ok(())
+// How the storing of a heap with one record goes, and how block 0 comes back then.
+fn stores_heap<H: Host + Abort>(
+    rt: &H,
+    alloc: Global,
+    sizes: Option<Sizes>,
+) -> Result<(Result<(), QueueFault>, Option<(u64, u64, u64)>), Fail>
+where
+    H::Dir: Send,
+{
+    let mut queue = holding(rt, alloc, MemRack::new(), sizes, &[pair(4)])?;
+    let stored = queue.store_heaps(rt, &OpenGate);
+    drain(rt, &mut queue, &[pair(4)]);
+    Ok((stored, calls_of(queue.close().as_slice(), 0)))
 }
 
 #[test]
-fn a_heap_that_finds_no_block_is_not_stored(rt: HostRuntime) -> Result<(), Fail> {
+fn a_heap_that_is_not_full_is_stored_for_a_limit_session(rt: HostRuntime) -> Result<(), Fail> {
+    let stored = stores_heap(&rt, rt.alloc(), small())?;
+    assert_eq!(rt; stored, (Ok(()), Some((1, 1, 0))));
     let none = Sizes::new(1, 2, 1, 158, 0);
-    let queue = opened(&rt, rt.alloc(), &mut MemRack::new(), none)?;
-    let mut queue = pushed(&rt, queue, &[pair(1)])?;
-    let stored = queue.store_heaps(&rt, &OpenGate);
-    assert_eq!(rt; stored, Err(QueueFault::NoFreeBlock));
-    drain(&rt, &mut queue, &[pair(1)]);
-    assert_eq!(rt; queue.close().len(), 0);
+    let stored = stores_heap(&rt, rt.alloc(), none)?;
+    assert_eq!(rt; stored, (Err(QueueFault::NoFreeBlock), None));
     Ok(())
 }
