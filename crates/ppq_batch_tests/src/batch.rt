@@ -9,7 +9,7 @@ use ppq_batch::{Ask, Limits, Line, Queue, QueueFault};
 use ppq_budget::Sizes;
 use ppq_outside::{Gate, Host, MemRack, MemSlot, OpenGate};
 use ppq_record::{Pair, Record};
-use ppq_testkit::{PairGate, pair};
+use ppq_testkit::{CrowdGate, PairGate, pair};
 use std::alloc::Global;
 use std::process::Abort;
 
@@ -248,6 +248,20 @@ fn two_passes_push_at_once(rt: HostRuntime) {
     answered(&rt, &told.first, &[None]);
     ended(&rt, &told, true, Ok(()));
     left(&rt, rt.alloc(), &told, &[5, 6]);
+}
+
+#[test]
+fn asks_are_answered_while_the_passes_are_under_way(rt: HostRuntime) {
+    let keys = [5, 1, 3];
+    let queue = queue_of(&rt, rt.alloc(), &mut MemRack::new(), 372, 40, &keys);
+    // The workers of two passes and one of the front's merge: each is held until all three have entered.
+    let gate = CrowdGate::new(3);
+    let lines = [line(0, 6), line(1, 5)];
+    let told = in_one(&rt, rt.alloc(), queue, 4, &lines, &[Ask::Pop], &gate);
+    assert!(rt; gate.is_passed());
+    answered(&rt, &told.first, &[Some(pair(1))]);
+    ended(&rt, &told, true, Ok(()));
+    left(&rt, rt.alloc(), &told, &[3, 5, 5, 6]);
 }
 
 #[test]

@@ -1,14 +1,16 @@
-//! What several test crates use: records, blocks and queues in memory, a slot whose contents contracts do not know, and a
-//! gate that holds two workers until both are under way.
+//! What several test crates use: records, blocks and queues in memory, a slot whose contents contracts do not know, and
+//! gates that hold workers until others are under way.
 #![tactic(auto)]
 
 mod blocks;
+mod crowd_gate;
 mod pair_gate;
 mod queues;
 mod quiet_slot;
 mod records;
 
 pub use blocks::blocks_of;
+pub use crowd_gate::CrowdGate;
 pub use pair_gate::PairGate;
 pub use queues::{opened, pushed};
 pub use quiet_slot::{QuietSlot, quiet_berth};
