@@ -1,9 +1,10 @@
 -- Seats that keep their sizes.
 use Rattle.std.proofs.Common.{◌≡◌, ℕ, ◌<◌, ◌≤◌, List, ◌++◌, length, take, drop, get_or, set, sym, subst, ◌∙◌, arith}
 use Rattle.std.specs.Prelude.{All}
+use Rattle.std.proofs.lemmas.List.{length-take-le}
 use Rattle.std.proofs.lemmas.List.Elements.{All-append, All-drop, All-set, All-take}
 use Rattle.ppq_merge.specs.declared.seat.Seat.{Seat}
-use Rattle.ppq_merge.specs.Seat.{HasRoom, IsSized, KeepsSize, KeepSizes}
+use Rattle.ppq_merge.specs.Seat.{AreSeats, HasRoom, IsSized, KeepsSize, KeepSizes}
 
 module _ {R : Type 0} where
   pub has_room : (n : ℕ) (qs : List (List R)) (s : Seat R) → length qs ≤ n → IsSized n s → HasRoom qs s
@@ -15,6 +16,18 @@ module _ {R : Type 0} where
   -- one seat is another
   pub sized_set : (n : ℕ) (ss : List (Seat R)) (k : ℕ) (d s : Seat R) → k < length ss → KeepsSize (get_or ss k d) s → All (IsSized n) ss → All (IsSized n) (set ss k s)
   sized_set n ss k d s here kept all = All-set (IsSized n) ss k s (still_sized n (get_or ss k d) s kept (all k d here)) all
+
+  -- the first seats, and those that they are written over
+  pub first_seats : (n m : ℕ) (qs : List (List R)) (ss : List (Seat R)) → 0 < m → m ≤ length ss → AreSeats n qs ss → AreSeats n qs (take m ss)
+  first_seats n m qs ss some within are = record {
+    some = omega (arith, length-take-le m ss within);
+    few = omega (arith, length-take-le m ss within, are.few);
+    enough = are.enough;
+    sized = All-take (IsSized n) m ss are.sized;
+  }
+
+  pub sized_front : (n m : ℕ) (front ss : List (Seat R)) → All (IsSized n) front → All (IsSized n) ss → All (IsSized n) (front ++ drop m ss)
+  sized_front n m front ss new old = All-append (IsSized n) front (drop m ss) new (All-drop (IsSized n) m ss old)
 
   pub keep_one : (ss : List (Seat R)) (k : ℕ) (d s : Seat R) → k < length ss → KeepsSize (get_or ss k d) s → KeepSizes ss (set ss k s)
   unfolding KeepSizes
