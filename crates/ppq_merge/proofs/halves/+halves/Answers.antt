@@ -58,3 +58,51 @@ merge_pieces-returns g t c =
       pieces = rw cut.value (Pieces-append _ _ _ _ _ _ both.low.pieces both.high.pieces);
       kept = keep_halves c.args.seats.now (length c.args.seats.now / 2) _ _ c.merge_both.new.low_seats c.merge_both.new.high_seats cut.front cut.back both.low.kept both.high.kept;
     }
+
+pub merge_both-join_mut+arg2-slice_bounds-low_seats-end : goal.merge_both-join_mut+arg2-slice_bounds-low_seats-end
+merge_both-join_mut+arg2-slice_bounds-low_seats-end g t c = assumption
+
+pub merge_both-join_mut+arg2-slice_bounds-low_out-end : goal.merge_both-join_mut+arg2-slice_bounds-low_out-end
+merge_both-join_mut+arg2-slice_bounds-low_out-end g t c = assumption
+
+pub merge_both-join_mut+arg2-merge_pieces-requires-send-R : goal.merge_both-join_mut+arg2-merge_pieces-requires-send-R
+merge_both-join_mut+arg2-merge_pieces-requires-send-R g t c = assumption
+
+pub merge_both-join_mut+arg2-merge_pieces-requires-sync-H : goal.merge_both-join_mut+arg2-merge_pieces-requires-sync-H
+merge_both-join_mut+arg2-merge_pieces-requires-sync-H g t c = assumption
+
+pub merge_both-join_mut+arg2-merge_pieces-requires-sync-Q : goal.merge_both-join_mut+arg2-merge_pieces-requires-sync-Q
+merge_both-join_mut+arg2-merge_pieces-requires-sync-Q g t c = assumption
+
+pub merge_both-join_mut+arg2-merge_pieces-requires-sync-G : goal.merge_both-join_mut+arg2-merge_pieces-requires-sync-G
+merge_both-join_mut+arg2-merge_pieces-requires-sync-G g t c = assumption
+
+pub merge_both-join_mut+arg2-merge_pieces-requires-after_bounds : goal.merge_both-join_mut+arg2-merge_pieces-requires-after_bounds
+merge_both-join_mut+arg2-merge_pieces-requires-after_bounds g t c = assumption
+
+pub merge_both-join_mut+arg2-returns : goal.merge_both-join_mut+arg2-returns
+merge_both-join_mut+arg2-returns g t c = assumption
+
+pub merge_both-join_mut+arg3-slice_bounds-high_seats-end : goal.merge_both-join_mut+arg3-slice_bounds-high_seats-end
+merge_both-join_mut+arg3-slice_bounds-high_seats-end g t c = assumption
+
+pub merge_both-join_mut+arg3-slice_bounds-high_out-end : goal.merge_both-join_mut+arg3-slice_bounds-high_out-end
+merge_both-join_mut+arg3-slice_bounds-high_out-end g t c = assumption
+
+pub merge_both-join_mut+arg3-merge_pieces-requires-send-R : goal.merge_both-join_mut+arg3-merge_pieces-requires-send-R
+merge_both-join_mut+arg3-merge_pieces-requires-send-R g t c = assumption
+
+pub merge_both-join_mut+arg3-merge_pieces-requires-sync-H : goal.merge_both-join_mut+arg3-merge_pieces-requires-sync-H
+merge_both-join_mut+arg3-merge_pieces-requires-sync-H g t c = assumption
+
+pub merge_both-join_mut+arg3-merge_pieces-requires-sync-Q : goal.merge_both-join_mut+arg3-merge_pieces-requires-sync-Q
+merge_both-join_mut+arg3-merge_pieces-requires-sync-Q g t c = assumption
+
+pub merge_both-join_mut+arg3-merge_pieces-requires-sync-G : goal.merge_both-join_mut+arg3-merge_pieces-requires-sync-G
+merge_both-join_mut+arg3-merge_pieces-requires-sync-G g t c = assumption
+
+pub merge_both-join_mut+arg3-merge_pieces-requires-after_bounds : goal.merge_both-join_mut+arg3-merge_pieces-requires-after_bounds
+merge_both-join_mut+arg3-merge_pieces-requires-after_bounds g t c = assumption
+
+pub merge_both-join_mut+arg3-returns : goal.merge_both-join_mut+arg3-returns
+merge_both-join_mut+arg3-returns g t c = assumption
