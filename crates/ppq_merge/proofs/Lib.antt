@@ -4,4 +4,5 @@ pub mod Merged
 pub mod Merging
 pub mod Pieces
 pub mod Planned
+pub mod Seats
 pub mod Used

@@ -1,5 +1,5 @@
 -- What the workers made, together or one alone.
-use Rattle.std.proofs.Common.{◌≡◌, ℕ, ◌+◌, List, ◌++◌, length, take, sym, ap, subst, ◌∙◌, arith}
+use Rattle.std.proofs.Common.{◌≡◌, ℕ, ◌+◌, true, List, ◌++◌, length, take, refl, sym, ap, subst, ◌∙◌, arith}
 use Rattle.std.specs.Prelude.{count_by, replicate}
 use Rattle.std.specs.declared.cmp.Ordering.{Ordering}
 use Rattle.std.specs.declared.cmp.Ordering.TheVariants.{Equal}
@@ -11,13 +11,13 @@ use Rattle.ppq_split.specs.ppq_record.Bag.{IsSameBag}
 use Rattle.ppq_split.specs.ppq_record.Runs.{all_of}
 use Rattle.ppq_split.proofs.ppq_record.Fronts.{ranks, no_tie}
 use Rattle.ppq_split.proofs.ppq_record.Order.{count_by-append, front_is}
-use Rattle.ppq_split.specs.Cut.{AllAscend, AreWithin, total, IsCutBy}
+use Rattle.ppq_split.specs.Cut.{AreWithin, total, IsCutBy}
 use Rattle.ppq_split.specs.Edge.{ends}
 use Rattle.ppq_split.proofs.Cuts.{ends-total}
 use Rattle.ppq_merge.specs.Heads.{IsMerging, LeadsToCut}
 use Rattle.ppq_merge.specs.Merged.{IsMerged}
 use Rattle.ppq_merge.specs.Parts.{AreParts, between, size_between, before, after}
-use Rattle.ppq_merge.specs.Plan.{IsPlan, IsCutPlan, PiecesBy}
+use Rattle.ppq_merge.specs.Plan.{IsPlanned, PiecesBy}
 use Rattle.ppq_merge.specs.declared.seat.Seat.{Seat}
 use Rattle.ppq_merge.proofs.Between.{AreWithin-start, AreParts-ends, between-ends, before-ends, between-zeros, count_by-before_after}
 use Rattle.ppq_merge.proofs.Planned.{AreWithin-zeros, IsCut-zeros, gap_total, made_bag, made_front, total_zeros}
@@ -69,16 +69,15 @@ module _ {R : Type 0} (cmp : R → R → Ordering) (o : IsTotalOrder cmp) (law :
   -- the workers merged the pieces of a plan
   pub merged_pieces :
       (zs : List ℕ) (ss : List (Seat R)) (ts : List ℕ) (out : List R) (count : ℕ) → zs ≡ replicate (length qs) 0 → length out ≡ count
-      → AreWithin ts qs → total ts ≡ count → IsPlan qs zs ss ts count → (AllAscend cmp qs → IsCutPlan (is_before cmp) qs ss ts count)
-      → PiecesBy (is_before cmp) qs ss out → IsMerged cmp qs count ts out
-  merged_pieces zs ss ts out count zeros size within adds_up plan rising pieces =
+      → IsPlanned cmp qs zs ss ts count true → PiecesBy (is_before cmp) qs ss out → IsMerged cmp qs count ts out
+  merged_pieces zs ss ts out count zeros size planned pieces =
       let lt = is_before cmp in
       let nothing = total_zeros zs (length qs) zeros in
       let long = ap length zeros ∙ length-replicate (length qs) 0 in
       record {
-        within = within;
-        adds_up = adds_up;
-        bag = made_bag lt (ranks o) qs zs ss ts count out long nothing plan pieces;
-        cut = λ up. (rising up).cut;
-        front = λ up. made_front cmp o law qs zs ss ts count out up long nothing size plan (rising up) pieces;
+        within = planned.within;
+        adds_up = planned.adds_up;
+        bag = made_bag lt (ranks o) qs zs ss ts count out long nothing (planned.plan refl) pieces;
+        cut = λ up. (planned.rising up).1.cut;
+        front = λ up. made_front cmp o law qs zs ss ts count out up long nothing size (planned.plan refl) (planned.rising up).1 pieces;
       }

@@ -1,6 +1,6 @@
 -- The pieces of several workers, one after the other.
 use Rattle.std.proofs.Common.{◌≡◌, ℕ, zero, suc, ◌+◌, ◌-◌, ◌<◌, ◌≤◌, Bool, List, [], ◌∷◌, ◌++◌, length, take, drop, get_or, refl, sym, ap, subst, ◌∙◌, arith}
-use Rattle.std.specs.Prelude.{count_by, All}
+use Rattle.std.specs.Prelude.{count_by}
 use Rattle.std.specs.List.{AllByRecursion as Each}
 use Rattle.std.specs.Cmp.{IsStrictWeakOrder}
 use Rattle.std.proofs.lemmas.List.{append_assoc, append-nil}
@@ -10,9 +10,9 @@ use Rattle.ppq_split.specs.ppq_record.Runs.{all_of}
 use Rattle.ppq_split.proofs.ppq_record.Order.{count_by-append, Each-weaker, Each_le-same_bag, Rising-append, front_is}
 use Rattle.ppq_split.specs.Cut.{AreWithin, total}
 use Rattle.ppq_merge.specs.declared.seat.Seat.{Seat}
-use Rattle.ppq_merge.specs.Parts.{between, before, after, AreParts, size_between, IsParted, IsMergeBy}
+use Rattle.ppq_merge.specs.Parts.{between, before, after, AreParts, IsParted, IsMergeBy, LieBetween}
 use Rattle.ppq_merge.specs.Plan.{Fill, PiecesBy, Chain, AllParted}
-use Rattle.ppq_merge.specs.Seat.{from_of, to_of, HasRoom, IsSized, AreSized}
+use Rattle.ppq_merge.specs.Seat.{from_of, to_of, HasRoom}
 use Rattle.ppq_merge.proofs.Between.{count_by-nil, count_by-between, AreParts-trans, Each-between_before, Each-between_after, count_by-before_after, between-zeros}
 
 module _ {R : Type 0} where
@@ -48,13 +48,13 @@ module _ {R : Type 0} where
 
   -- one worker has the whole
   pub Fill-one :
-      (qs : List (List R)) (base : ℕ) (ss : List (Seat R)) (e : ℕ) (d : Seat R)
-      → Fill qs base ss e → length ss ≡ 1
-      → AreParts (from_of qs (get_or ss 0 d)) (to_of qs (get_or ss 0 d)) qs × (e ≡ base + size_between (from_of qs (get_or ss 0 d)) (to_of qs (get_or ss 0 d))) × HasRoom qs (get_or ss 0 d)
+      (qs : List (List R)) (base : ℕ) (ss : List (Seat R)) (size : ℕ) (d : Seat R)
+      → Fill qs base ss (base + size) → length ss ≡ 1
+      → LieBetween (from_of qs (get_or ss 0 d)) (to_of qs (get_or ss 0 d)) qs size × HasRoom qs (get_or ss 0 d)
   unfolding Fill
-  Fill-one qs base [] e d f l = absurd (omega arith)
-  Fill-one qs base (s ∷ []) e d f l = (f.1, sym f.3 ∙ f.0, f.2)
-  Fill-one qs base (s ∷ (t ∷ ss)) e d f l = absurd (omega arith)
+  Fill-one qs base [] size d f l = absurd (omega arith)
+  Fill-one qs base (s ∷ []) size d f l = (record { parts = f.1; size = omega (arith, f.0, f.3) }, f.2)
+  Fill-one qs base (s ∷ (t ∷ ss)) size d f l = absurd (omega arith)
 
   pub Pieces-one :
       (lt : R → R → Bool) (qs : List (List R)) (ss : List (Seat R)) (d : Seat R) (out : List R)
@@ -144,11 +144,3 @@ module _ {R : Type 0} (lt : R → R → Bool) (o : IsStrictWeakOrder lt) where
       let e = Each_le-same_bag lt o (before t qs) (after t qs) out (after t qs) (λ q. sym (bag q)) (λ q. refl) last in
       front_is lt o anti (all_of qs) out (after t qs) up_out
       (λ q. count_by-append q out (after t qs) ∙ (ap (λ n. n + count_by q (after t qs)) (bag q) ∙ count_by-before_after q t qs (AreWithin-end f t qs r.1))) e
-
-pub are_sized : {R : Type 0} (n : ℕ) (ss : List (Seat R)) → All (IsSized n) ss → AreSized n ss
-unfolding AreSized
-are_sized n ss h = h
-
-pub all_sized : {R : Type 0} (n : ℕ) (ss : List (Seat R)) → AreSized n ss → All (IsSized n) ss
-unfolding AreSized
-all_sized n ss h = h

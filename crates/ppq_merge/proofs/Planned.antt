@@ -6,7 +6,7 @@ use Rattle.std.specs.declared.cmp.Ordering.TheVariants.{Equal}
 use Rattle.std.specs.Cmp.{IsTotalOrder, IsStrictWeakOrder}
 use Rattle.std.specs.List.{AllByRecursion as Each}
 use Rattle.std.proofs.lemmas.Bool.{cases_lt}
-use Rattle.std.proofs.lemmas.List.{get_or_past, get_or-drop, take_more_set}
+use Rattle.std.proofs.lemmas.List.{get_or_past, get_or-drop, length-replicate, take_all, take_more_set}
 use Rattle.std.proofs.Math.Nat.{mul-le-mul_left, div-mul-le_self}
 use Rattle.std.proofs.lemmas.Nat.{le-div}
 use Rattle.ppq_split.specs.ppq_record.Order.{is_before, Rising, in_order}
@@ -17,7 +17,7 @@ use Rattle.ppq_split.specs.Cut.{AreWithin, total, IsCutBy}
 use Rattle.ppq_split.proofs.Cuts.{IsCut-rises}
 use Rattle.ppq_merge.specs.declared.seat.Seat.{Seat}
 use Rattle.ppq_merge.specs.Parts.{before, AreParts, size_between, IsParted}
-use Rattle.ppq_merge.specs.Plan.{Fill, PiecesBy, Chain, AllParted, IsPlan, IsCutPlan, Rises}
+use Rattle.ppq_merge.specs.Plan.{Fill, PiecesBy, Chain, AllParted, GetsPiece, IsPlan, IsCutPlan, IsPlanned, Rises, StandsAt}
 use Rattle.ppq_merge.specs.Seat.{from_of, to_of, HasRoom}
 use Rattle.ppq_merge.proofs.Between.{parts_from_places, IsCut-parted, between-zeros}
 use Rattle.ppq_merge.proofs.Pieces.{chain_bag, chain_front}
@@ -40,6 +40,13 @@ zero_at : (cs : List ℕ) (i : ℕ) → total cs ≡ 0 → get_or cs i 0 ≡ 0
 zero_at [] i z = refl
 zero_at (c ∷ cs) zero z = omega arith
 zero_at (c ∷ cs) (suc i) z = zero_at cs i (omega arith)
+
+total_fill : (n : ℕ) → total (replicate n 0) ≡ 0
+total_fill zero = refl
+total_fill (suc n) = omega (arith, total_fill n)
+
+pub total_zeros : (zs : List ℕ) (n : ℕ) → zs ≡ replicate n 0 → total zs ≡ 0
+total_zeros zs n e = ap total e ∙ total_fill n
 
 module _ {X : Type 0} where
   pub gap_total : (fs ts : List ℕ) (qs : List (List X)) → AreParts fs ts qs → total fs + size_between fs ts ≡ total ts
@@ -82,11 +89,11 @@ module _ {R : Type 0} where
   AllParted-push lt qs [] s a p = (p, tt)
   AllParted-push lt qs (t ∷ ss) s a p = (a.0, AllParted-push lt qs ss s a.1 p)
 
-  pub plan_none : (qs : List (List R)) (f : List ℕ) → IsPlan qs f [] f 0
+  plan_none : (qs : List (List R)) (f : List ℕ) → IsPlan qs f [] f 0
   unfolding Chain Fill
   plan_none qs f = record { chain = refl; fill = refl }
 
-  pub cut_plan_none : (lt : R → R → Bool) (qs : List (List R)) (f : List ℕ) → length f ≡ length qs → total f ≡ 0 → IsCutPlan lt qs [] f 0
+  cut_plan_none : (lt : R → R → Bool) (qs : List (List R)) (f : List ℕ) → length f ≡ length qs → total f ≡ 0 → IsCutPlan lt qs [] f 0
   unfolding AllParted
   cut_plan_none lt qs f l z = record { cut = IsCut-zeros lt f qs l z; parted = tt }
 
@@ -119,8 +126,8 @@ rank_rises count j w z =
     le-div (count * j / w) (count * (j + 1)) w z (omega (arith, div-mul-le_self (count * j) w))
 
 -- the loop's step
-module _ {R : Type 0} (lt : R → R → Bool) (qs : List (List R)) (f : List ℕ) (n : ℕ) where
-  pub plan_kept :
+module _ {R : Type 0} (lt : R → R → Bool) (qs : List (List R)) (f : List ℕ) where
+  plan_kept :
       (ss : List (Seat R)) (k : ℕ) (s : Seat R) (m : List ℕ) (r t : ℕ) (ok rises : Bool)
       → k < length ss → (ok ≡ true → IsPlan qs f (take k ss) m r) → (from_of qs s) ≡ m → s.end ≡ t → total m ≡ r → total (to_of qs s) ≡ t
       → AreWithin m qs → AreWithin (to_of qs s) qs → (rises ≡ true → Rises m (to_of qs s)) → HasRoom qs s
@@ -129,7 +136,7 @@ module _ {R : Type 0} (lt : R → R → Bool) (qs : List (List R)) (f : List ℕ
       let q = and_both ok rises w in
       rw (take_more_set ss k s l) (plan_more lt qs f (take k ss) m s r t (p q.0) a b c d e g (h q.1) v)
 
-  pub cut_kept :
+  cut_kept :
       (ss : List (Seat R)) (k : ℕ) (s : Seat R) (m : List ℕ) (r t : ℕ) (ok rises : Bool)
       → k < length ss → (ok ≡ true) × IsCutPlan lt qs (take k ss) m r → IsCutBy lt qs t (to_of qs s) → r ≤ t → (Rises m (to_of qs s) → rises ≡ true)
       → ((ok && rises) ≡ true) × IsCutPlan lt qs (take (k + 1) (set ss k s)) (to_of qs s) t
@@ -138,30 +145,43 @@ module _ {R : Type 0} (lt : R → R → Bool) (qs : List (List R)) (f : List ℕ
     rw (take_more_set ss k s l) (cut_plan_more lt qs (take k ss) m s r t p.1 c),
   )
 
-  -- the same at what the code has: the places ts that the worker's end is a copy of
-  pub plan_step :
-      (ss : List (Seat R)) (k : ℕ) (s : Seat R) (m ts : List ℕ) (r t : ℕ) (ok rises : Bool)
-      → k < length ss → (ok ≡ true → IsPlan qs f (take k ss) m r) → (from_of qs s) ≡ m → (to_of qs s) ≡ ts → s.end ≡ t → total m ≡ r → total ts ≡ t
-      → AreWithin m qs → AreWithin ts qs → (rises ≡ true → Rises m ts) → HasRoom qs s
-      → (ok && rises) ≡ true → IsPlan qs f (take (k + 1) (set ss k s)) ts t
-  plan_step ss k s m ts r t ok rises l p a z b c d e g h v w =
-      subst (λ x. IsPlan qs f (take (k + 1) (set ss k s)) x t) z
-      (plan_kept ss k s m r t ok rises l p a b c (ap total z ∙ d) e (subst (λ x. AreWithin x qs) (sym z) g) (λ y. subst (Rises m) (sym z) (h y)) v w)
+-- what is planned so far: nothing, one worker more, all
+module _ {R : Type 0} (cmp : R → R → Ordering) (qs : List (List R)) (f : List ℕ) where
+  pub planned_none : (t : ℕ) → f ≡ replicate (length qs) 0 → 0 ≡ t → IsPlanned cmp qs f [] f t true
+  planned_none t zeros none =
+      let long = ap length zeros ∙ length-replicate (length qs) 0 in
+      let nothing = total_zeros f (length qs) zeros in
+      record {
+        within = AreWithin-zeros f qs long nothing;
+        adds_up = nothing ∙ none;
+        plan = λ _. subst (IsPlan qs f [] f) none (plan_none qs f);
+        rising = λ up. (refl, subst (IsCutPlan (is_before cmp) qs [] f) none (cut_plan_none (is_before cmp) qs f long nothing));
+      }
 
-  pub cut_step :
-      (ss : List (Seat R)) (k : ℕ) (s : Seat R) (m ts : List ℕ) (r t : ℕ) (ok rises : Bool)
-      → k < length ss → (ok ≡ true) × IsCutPlan lt qs (take k ss) m r → (to_of qs s) ≡ ts → IsCutBy lt qs t ts → r ≤ t → (Rises m ts → rises ≡ true)
-      → ((ok && rises) ≡ true) × IsCutPlan lt qs (take (k + 1) (set ss k s)) ts t
-  cut_step ss k s m ts r t ok rises l p z c e h =
-      subst (λ x. ((ok && rises) ≡ true) × IsCutPlan lt qs (take (k + 1) (set ss k s)) x t) z
-      (cut_kept ss k s m r t ok rises l p (subst (IsCutBy lt qs t) (sym z) c) e (λ y. h (subst (Rises m) z y)))
+  pub planned_more :
+      (ss : List (Seat R)) (k : ℕ) (d s : Seat R) (m ts : List ℕ) (r t : ℕ) (ok rises : Bool)
+      → k < length ss → r ≤ t → HasRoom qs (get_or ss k d) → IsPlanned cmp qs f (take k ss) m r ok → GetsPiece qs m ts t (get_or ss k d) s → StandsAt cmp qs t ts
+      → (rises ≡ true → Rises m ts) → (Rises m ts → rises ≡ true)
+      → IsPlanned cmp qs f (take (k + 1) (set ss k s)) ts t (ok && rises)
+  planned_more ss k d s m ts r t ok rises l le room p got at up stays =
+      let lt = is_before cmp in
+      let z = got.to in
+      let kept = got.kept in
+      let fits : HasRoom qs s = (omega (arith, room.0, kept.from), omega (arith, room.1, kept.to), omega (arith, room.2, kept.leaves)) in
+      record {
+        within = at.within;
+        adds_up = at.adds_up;
+        plan = λ both.
+            subst (λ x. IsPlan qs f (take (k + 1) (set ss k s)) x t) z
+            (plan_kept lt qs f ss k s m r t ok rises l p.plan got.from got.end p.adds_up (ap total z ∙ at.adds_up) p.within (subst (λ x. AreWithin x qs) (sym z) at.within) (λ y. subst (Rises m) (sym z) (up y)) fits both);
+        rising = λ ascend.
+            subst (λ x. ((ok && rises) ≡ true) × IsCutPlan lt qs (take (k + 1) (set ss k s)) x t) z
+            (cut_kept lt qs f ss k s m r t ok rises l (p.rising ascend) (subst (IsCutBy lt qs t) (sym z) (at.cut ascend)) le (λ y. stays (subst (Rises m) z y)));
+      }
 
-total_fill : (n : ℕ) → total (replicate n 0) ≡ 0
-total_fill zero = refl
-total_fill (suc n) = omega (arith, total_fill n)
-
-pub total_zeros : (zs : List ℕ) (n : ℕ) → zs ≡ replicate n 0 → total zs ≡ 0
-total_zeros zs n e = ap total e ∙ total_fill n
+  pub planned_all : (ss : List (Seat R)) (k r t : ℕ) (ts : List ℕ) (ok : Bool) → length ss ≤ k → r ≡ t → IsPlanned cmp qs f (take k ss) ts r ok → IsPlanned cmp qs f ss ts t ok
+  planned_all ss k r t ts ok all same p =
+      subst (λ x. IsPlanned cmp qs f x ts t ok) (take_all k ss all) (subst (λ x. IsPlanned cmp qs f (take k ss) ts x ok) same p)
 
 AreParts-same : {X : Type 0} (f : List ℕ) (qs : List (List X)) → AreWithin f qs → AreParts f f qs
 AreParts-same [] [] h = tt

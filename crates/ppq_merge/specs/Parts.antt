@@ -1,5 +1,5 @@
 -- Parts of several runs, between two places of each.
-use Rattle.std.specs.Prelude.{ℕ, ◌+◌, ◌-◌, ◌≤◌, Bool, List, [], ◌∷◌, ◌++◌, length, take, drop, ⊤}
+use Rattle.std.specs.Prelude.{◌≡◌, ℕ, ◌+◌, ◌-◌, ◌≤◌, Bool, List, [], ◌∷◌, ◌++◌, length, take, drop, ⊤}
 use Rattle.std.specs.Coded.{×_prop, Unit-prop, le_prop}
 use Rattle.std.specs.declared.cmp.Ordering.{Ordering}
 use Rattle.std.specs.List.{AllByRecursion as Each}
@@ -40,6 +40,11 @@ abbrev pub size_between : List ℕ → List ℕ → ℕ
 size_between [] ts = 0
 size_between (f ∷ fs) [] = 0
 size_between (f ∷ fs) (t ∷ ts) = (t - f) + size_between fs ts
+
+-- the records between the places of each run are so many
+pub record LieBetween {X : Type 0} (fs ts : List ℕ) (qs : List (List X)) (count : ℕ) : Type 0 where
+  pub parts : AreParts fs ts qs
+  pub size : count ≡ size_between fs ts
 
 -- the records in front of the places
 abbrev pub before : {X : Type 0} → List ℕ → List (List X) → List X

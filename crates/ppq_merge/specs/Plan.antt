@@ -1,13 +1,32 @@
 -- The pieces of several workers.
-use Rattle.std.specs.Prelude.{◌≡◌, ℕ, ◌+◌, ◌≤◌, Bool, List, [], ◌∷◌, ◌++◌, get_or, ⊤}
+use Rattle.std.specs.Prelude.{◌≡◌, ℕ, ◌+◌, ◌^◌, ◌<◌, ◌≤◌, Bool, true, List, [], ◌∷◌, ◌++◌, length, get_or, ⊤}
 use Rattle.std.specs.declared.cmp.Ordering.{Ordering}
 use Rattle.ppq_split.specs.ppq_record.Order.{is_before}
-use Rattle.ppq_split.specs.Cut.{IsCutBy}
+use Rattle.ppq_split.specs.ppq_record.Runs.{all_of}
+use Rattle.ppq_split.specs.Cut.{AllAscend, AreWithin, IsCut, IsCutBy, total}
 use Rattle.ppq_merge.specs.declared.seat.Seat.{Seat}
-use Rattle.ppq_merge.specs.Seat.{from_of, to_of, HasRoom}
+use Rattle.ppq_merge.specs.Seat.{from_of, to_of, HasRoom, KeepsSize, KeepSizes}
 use Rattle.ppq_merge.specs.Parts.{IsMergeBy, AreParts, size_between, IsParted}
 
 module _ {R : Type 0} where
+  -- the runs have at least count records, and fewer than 2 ^ 64
+  pub record HaveRecords (qs : List (List R)) (count : ℕ) : Type 0 where
+    pub enough : count ≤ length (all_of qs)
+    pub room : length (all_of qs) < 2 ^ 64
+
+  -- no place is past the end of its run, and they add up to the rank; if the runs ascend, the places are the cut of that rank
+  pub record StandsAt (cmp : R → R → Ordering) (qs : List (List R)) (rank : ℕ) (cs : List ℕ) : Type 0 where
+    pub within : AreWithin cs qs
+    pub adds_up : total cs ≡ rank
+    pub cut : AllAscend cmp qs → IsCut cmp qs rank cs
+
+  -- a seat got the piece from the places f to the places t, which stand at rank, and kept its size
+  pub record GetsPiece (qs : List (List R)) (f t : List ℕ) (rank : ℕ) (old new : Seat R) : Type 0 where
+    pub from : from_of qs new ≡ f
+    pub to : to_of qs new ≡ t
+    pub end : new.end ≡ rank
+    pub kept : KeepsSize old new
+
   -- the workers' pieces follow one another, from rank base to rank end
   unfoldable pub Fill : List (List R) → ℕ → List (Seat R) → ℕ → Type 0
   Fill qs base [] end = base ≡ end
@@ -42,6 +61,24 @@ module _ {R : Type 0} where
   pub record IsCutPlan (lt : R → R → Bool) (qs : List (List R)) (ss : List (Seat R)) (t : List ℕ) (rank : ℕ) : Type 0 where
     pub cut : IsCutBy lt qs rank t
     pub parted : AllParted lt qs ss
+
+  -- the places t stand at rank, and if no place fell the workers' pieces go from the places f to there; no place falls if the runs ascend
+  pub record IsPlanned (cmp : R → R → Ordering) (qs : List (List R)) (f : List ℕ) (ss : List (Seat R)) (t : List ℕ) (rank : ℕ) (rises : Bool) : Type 0 where
+    pub within : AreWithin t qs
+    pub adds_up : total t ≡ rank
+    pub plan : rises ≡ true → IsPlan qs f ss t rank
+    pub rising : AllAscend cmp qs → (rises ≡ true) × IsCutPlan (is_before cmp) qs ss t rank
+
+  -- there are workers, whose numbers from first on fit 32 bits, and whose pieces from rank base on are so many records
+  pub record HavePieces (qs : List (List R)) (first base : ℕ) (ss : List (Seat R)) (size : ℕ) : Type 0 where
+    pub some : 0 < length ss
+    pub numbers : first + length ss < 2 ^ 32
+    pub fill : Fill qs base ss (base + size)
+
+  -- the workers made their pieces of out, and their seats kept their sizes
+  pub record MadePieces (cmp : R → R → Ordering) (qs : List (List R)) (old new : List (Seat R)) (out : List R) : Type 0 where
+    pub pieces : Pieces cmp qs old out
+    pub kept : KeepSizes old new
 
 -- no place falls
 abbrev pub Rises : List ℕ → List ℕ → Type 0

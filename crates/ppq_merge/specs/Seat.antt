@@ -1,5 +1,5 @@
 -- A worker's seat: its places and its tree.
-use Rattle.std.specs.Prelude.{◌≡◌, ℕ, ◌+◌, ◌≤◌, List, drop, length, All}
+use Rattle.std.specs.Prelude.{◌≡◌, ℕ, ◌+◌, ◌^◌, ◌<◌, ◌≤◌, List, drop, length, All}
 use Rattle.ppq_merge.specs.Parts.{places_for}
 use Rattle.ppq_merge.specs.declared.seat.Seat.{Seat}
 
@@ -22,10 +22,23 @@ module _ {R : Type 0} where
     pub to : length s.to.items ≡ n
     pub leaves : n ≤ s.tree.room
 
-  -- each of some seats
-  unfoldable pub AreSized : ℕ → List (Seat R) → Type 0
-  AreSized n ss = All (IsSized n) ss
+  -- there are seats, fewer than 2 ^ 32, each with places and leaves for n runs, and no more runs than that
+  pub record AreSeats (n : ℕ) (qs : List (List R)) (ss : List (Seat R)) : Type 0 where
+    pub some : 0 < length ss
+    pub few : length ss < 2 ^ 32
+    pub enough : length qs ≤ n
+    pub sized : All (IsSized n) ss
 
   -- a seat has at least as many places and leaves as there are runs
   abbrev pub HasRoom : List (List R) → Seat R → Type 0
   HasRoom qs s = (16 + length qs ≤ length s.from.items) × (length qs ≤ length s.to.items) × (length qs ≤ s.tree.room)
+
+  -- a seat keeps the number of its places and leaves
+  pub record KeepsSize (old new : Seat R) : Type 0 where
+    pub from : length new.from.items ≡ length old.from.items
+    pub to : length new.to.items ≡ length old.to.items
+    pub leaves : new.tree.room ≡ old.tree.room
+
+  -- seats of one size stay so
+  unfoldable pub KeepSizes : List (Seat R) → List (Seat R) → Type 0
+  KeepSizes old new = (n : ℕ) → All (IsSized n) old → All (IsSized n) new

@@ -4,10 +4,12 @@ ghost use Rattle.std.specs.Thread.{IsSync, IsSend};
 ghost use Rattle.ppq_split.specs.ppq_record.Runs.{all_of};
 ghost use Rattle.ppq_split.specs.Edge.{ends};
 ghost use Rattle.ppq_merge.specs.Merged.{IsMerged};
+ghost use Rattle.ppq_merge.specs.Seat.{HasRoom, KeepsSize};
 
 use crate::idle::enter_all;
 use crate::merge::merge_front;
 use crate::seat::Seat;
+use crate::team::Team;
 use ppq_outside::Gate;
 use ppq_split::{Listing, Record, record_laws};
 use ppq_tree::MinTree;
@@ -55,13 +57,10 @@ fn merge_by_first<R: Record, Q: Listing<R>, G: Gate>(
     out: &mut [R],
 )
     requires places { length places.old ≡ length (Q.lists runs.now) }
-    requires to { length (Q.lists runs.now) ≤ length seat.old.to.items }
-    requires leaves { length (Q.lists runs.now) ≤ seat.old.tree.room }
+    requires room { HasRoom (Q.lists runs.now) seat.old }
     requires count { length out.old ≤ length (all_of (Q.lists runs.now)) }
     ensures merged { IsMerged R.Ord.cmp (Q.lists runs.now) (length out.old) places.new out.new }
-    ensures from { length seat.new.from.items ≡ length seat.old.from.items }
-    ensures to { length seat.new.to.items ≡ length seat.old.to.items }
-    ensures leaves { seat.new.tree.room ≡ seat.old.tree.room }
+    ensures kept { KeepsSize seat.old seat.new }
 {
     gate.enter(0);
     let Seat { to, tree, .. } = seat;
@@ -70,24 +69,20 @@ fn merge_by_first<R: Record, Q: Listing<R>, G: Gate>(
 
 // Merges the smallest records by worker 0, while the others enter the gate.
 pub(crate) fn merge_alone<H: Threads + Sync, R: Record + Send, Q: Listing<R>, G: Gate>(
-    rt: &H,
-    runs: &Q,
-    gate: &G,
+    team: &Team<'_, H, Q, G>,
     workers: u32,
     seat: &mut Seat<R>,
     places: &mut [u64],
     out: &mut [R],
 )
     requires some { 1 ≤ workers }
-    requires places { length places.old ≡ length (Q.lists runs.now) }
-    requires to { length (Q.lists runs.now) ≤ length seat.old.to.items }
-    requires leaves { length (Q.lists runs.now) ≤ seat.old.tree.room }
-    requires count { length out.old ≤ length (all_of (Q.lists runs.now)) }
-    ensures merged { IsMerged R.Ord.cmp (Q.lists runs.now) (length out.old) places.new out.new }
-    ensures from { length seat.new.from.items ≡ length seat.old.from.items }
-    ensures to { length seat.new.to.items ≡ length seat.old.to.items }
-    ensures leaves { seat.new.tree.room ≡ seat.old.tree.room }
+    requires places { length places.old ≡ length (Q.lists team.now.runs.now) }
+    requires room { HasRoom (Q.lists team.now.runs.now) seat.old }
+    requires count { length out.old ≤ length (all_of (Q.lists team.now.runs.now)) }
+    ensures merged { IsMerged R.Ord.cmp (Q.lists team.now.runs.now) (length out.old) places.new out.new }
+    ensures kept { KeepsSize seat.old seat.new }
 {
+    let Team { rt, runs, gate } = *team;
     if workers == 1 {
         merge_by_first(runs, gate, seat, places, out);
         return;
@@ -96,8 +91,8 @@ pub(crate) fn merge_alone<H: Threads + Sync, R: Record + Send, Q: Listing<R>, G:
     join_mut(
         rt,
         &mut ||
-            requires { IsSync Q.row × IsSync G.row × IsSend R.row × (length places.now ≡ length (Q.lists runs.now)) × (length (Q.lists runs.now) ≤ length seat.now.to.items) × (length (Q.lists runs.now) ≤ seat.now.tree.room) × (length out.now ≤ length (all_of (Q.lists runs.now))) }
-            ensures { IsMerged R.Ord.cmp (Q.lists runs.entry.now) (length out.entry.now) places.exit.now out.exit.now × (length seat.exit.now.from.items ≡ length seat.entry.now.from.items) × (length seat.exit.now.to.items ≡ length seat.entry.now.to.items) × (seat.exit.now.tree.room ≡ seat.entry.now.tree.room) }
+            requires { IsSync Q.row × IsSync G.row × IsSend R.row × (length places.now ≡ length (Q.lists runs.now)) × HasRoom (Q.lists runs.now) seat.now × (length out.now ≤ length (all_of (Q.lists runs.now))) }
+            ensures { IsMerged R.Ord.cmp (Q.lists runs.entry.now) (length out.entry.now) places.exit.now out.exit.now × KeepsSize seat.entry.now seat.exit.now }
         { merge_by_first(runs, gate, seat, places, out) },
         &mut ||
             requires { IsSync H.row × IsSync G.row × (1 + idle < 2 ^ 32) }

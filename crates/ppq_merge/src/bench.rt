@@ -5,12 +5,14 @@ ghost use Rattle.ppq_split.specs.ppq_record.Runs.{all_of};
 ghost use Rattle.ppq_split.specs.Cut.{AllAscend, AreWithin, IsCut, total};
 ghost use Rattle.ppq_merge.specs.Merged.{IsMerged};
 ghost use Rattle.ppq_merge.specs.Parts.{before, places_for};
-ghost use Rattle.ppq_merge.specs.Seat.{IsSized};
+ghost use Rattle.ppq_merge.specs.Plan.{HaveRecords};
+ghost use Rattle.ppq_merge.specs.Seat.{AreSeats, IsSized};
 
 use crate::alone::merge_alone;
 use crate::crew::merge_cut;
 use crate::plan::active_workers;
 use crate::seat::{Seat, zeros};
+use crate::team::Team;
 use ppq_outside::Gate;
 use ppq_split::{Listing, Memory, Record};
 use std::alloc::Global;
@@ -98,57 +100,47 @@ impl<R: Record> Bench<R> {
 // Merges by as many workers as pays, and by one if the cuts are none of runs that ascend. `places`
 // has a zero for each run.
 fn merge_runs<H: Threads + Sync, R: Record + Send, Q: Listing<R>, G: Gate>(
-    rt: &H,
-    runs: &Q,
-    gate: &G,
+    team: &Team<'_, H, Q, G>,
     seats: &mut [Seat<R>],
     leaves: usize,
     places: &mut [u64],
     out: &mut [R],
 )
-    requires some { (0 < length seats.old) × (length seats.old < 2 ^ 32) }
-    requires count { length out.old ≤ length (all_of (Q.lists runs.now)) }
-    requires room { length (all_of (Q.lists runs.now)) < 2 ^ 64 }
-    requires zeros { places.old ≡ replicate (length (Q.lists runs.now)) 0 }
-    requires seat_room { length (Q.lists runs.now) ≤ leaves }
-    requires sized { All (IsSized leaves) seats.old }
+    requires seats { AreSeats leaves (Q.lists team.now.runs.now) seats.old }
+    requires records { HaveRecords (Q.lists team.now.runs.now) (length out.old) }
+    requires zeros { places.old ≡ replicate (length (Q.lists team.now.runs.now)) 0 }
     ensures sized { All (IsSized leaves) seats.new }
-    ensures merged { IsMerged R.Ord.cmp (Q.lists runs.now) (length out.old) places.new out.new }
+    ensures merged { IsMerged R.Ord.cmp (Q.lists team.now.runs.now) (length out.old) places.new out.new }
 {
     let workers = seats.len() as u32;
-    let active = active_workers(out.len() as u64, runs.runs(), workers);
+    let active = active_workers(out.len() as u64, team.runs.runs(), workers);
     if active > 1 {
         let crew = &mut seats[..active as usize];
-        if merge_cut(rt, runs, gate, workers, crew, leaves, places, out) {
+        if merge_cut(team, workers, crew, leaves, places, out) {
             return;
         }
     }
-    merge_alone(rt, runs, gate, workers, &mut seats[0], places, out);
+    merge_alone(team, workers, &mut seats[0], places, out);
 }
 
 // Merges by the workers of a bench, whose places other than those of the runs become 0.
 fn merge_by_seats<H: Threads + Sync, R: Record + Send, Q: Listing<R>, G: Gate>(
-    rt: &H,
+    team: &Team<'_, H, Q, G>,
     seats: &mut [Seat<R>],
     places: &mut [u64],
-    runs: &Q,
     out: &mut [R],
-    gate: &G,
 )
-    requires some { (0 < length seats.old) × (length seats.old < 2 ^ 32) }
-    requires count { length out.old ≤ length (all_of (Q.lists runs.now)) }
-    requires room { length (all_of (Q.lists runs.now)) < 2 ^ 64 }
-    requires runs { length (Q.lists runs.now) ≤ length places.old }
-    requires sized { All (IsSized (length places.old)) seats.old }
+    requires seats { AreSeats (length places.old) (Q.lists team.now.runs.now) seats.old }
+    requires records { HaveRecords (Q.lists team.now.runs.now) (length out.old) }
     ensures sized { All (IsSized (length places.old)) seats.new }
-    ensures rest { (run : ℕ) → length (Q.lists runs.now) ≤ run → get_or places.new run 0 ≡ 0 }
-    ensures merged { IsMerged R.Ord.cmp (Q.lists runs.now) (length out.old) (places_for (Q.lists runs.now) places.new) out.new }
+    ensures rest { (run : ℕ) → length (Q.lists team.now.runs.now) ≤ run → get_or places.new run 0 ≡ 0 }
+    ensures merged { IsMerged R.Ord.cmp (Q.lists team.now.runs.now) (length out.old) (places_for (Q.lists team.now.runs.now) places.new) out.new }
 {
-    let used = runs.runs() as usize;
+    let used = team.runs.runs() as usize;
     let leaves = places.len();
     places.fill(0);
     let part = &mut places[..used];
-    merge_runs(rt, runs, gate, seats, leaves, part, out);
+    merge_runs(team, seats, leaves, part, out);
 }
 
 /// Merges the `count` smallest records of the runs into `out`, in ascending order, by the workers of
@@ -184,13 +176,7 @@ pub fn merge_workers<H: Threads + Sync, R: Record + Send, Q: Listing<R>, G: Gate
     ensures cut { AllAscend R.Ord.cmp (Q.lists runs.now) → IsCut R.Ord.cmp (Q.lists runs.now) count (places_for (Q.lists runs.now) bench.new.places) }
     ensures front { AllAscend R.Ord.cmp (Q.lists runs.now) → out.new ≡ front R.Ord.cmp (all_of (Q.lists runs.now)) count }
 {
+    let team = Team { rt, runs, gate };
     let Bench { seats, places } = bench;
-    merge_by_seats(
-        rt,
-        seats.as_mut_slice(),
-        places.as_mut_slice(),
-        runs,
-        out,
-        gate,
-    );
+    merge_by_seats(&team, seats.as_mut_slice(), places.as_mut_slice(), out);
 }

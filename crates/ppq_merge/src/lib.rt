@@ -16,6 +16,8 @@ mod idle;
 mod merge;
 mod plan;
 mod seat;
+mod section;
+mod team;
 
 pub use bench::{Bench, merge_workers};
 pub use merge::merge_into;

@@ -1,13 +1,10 @@
 //! Which piece each worker merges.
-ghost use Rattle.std.specs.Prelude.{◌≡◌, ◌+◌, ◌*◌, ◌/◌, ◌^◌, ◌<◌, ◌≤◌, length, All, true, min, max};
-ghost use Rattle.ppq_split.specs.ppq_record.Order.{is_before};
-ghost use Rattle.ppq_split.specs.ppq_record.Runs.{all_of};
-ghost use Rattle.ppq_split.specs.Cut.{AllAscend, AreWithin, IsCut, total};
-ghost use Rattle.ppq_merge.specs.Plan.{IsPlan, IsCutPlan, Rises};
-ghost use Rattle.ppq_merge.specs.Seat.{IsSized, from_of, to_of};
+ghost use Rattle.std.specs.Prelude.{◌≡◌, ◌+◌, ◌*◌, ◌/◌, ◌<◌, ◌≤◌, length, All, true, min, max, replicate};
+ghost use Rattle.ppq_merge.specs.Plan.{HaveRecords, StandsAt, GetsPiece, IsPlanned, Rises};
+ghost use Rattle.ppq_merge.specs.Seat.{AreSeats, HasRoom, IsSized};
 
 use crate::seat::{Seat, copy_front, copy_used, first_used};
-use ppq_split::{Listing, Record, cut_at, record_laws};
+use ppq_split::{Listing, Record, cut_at};
 
 // How many records a piece has at least, beside those for each run. Starting a thread takes some
 // twenty microseconds, in which one worker merges about so many.
@@ -60,19 +57,10 @@ fn plan_seat<R: Record, Q: Listing<R>>(
     seat: &mut Seat<R>,
 ) -> bool
     requires places { length carry.old ≡ length (Q.lists runs.now) }
-    requires rank { rank ≤ length (all_of (Q.lists runs.now)) }
-    requires room { length (all_of (Q.lists runs.now)) < 2 ^ 64 }
-    requires from_room { 16 + length carry.old ≤ length seat.old.from.items }
-    requires to_room { length carry.old ≤ length seat.old.to.items }
-    ensures from { from_of (Q.lists runs.now) seat.new ≡ carry.old }
-    ensures to { to_of (Q.lists runs.now) seat.new ≡ carry.new }
-    ensures end { seat.new.end ≡ rank }
-    ensures tree { seat.new.tree ≡ seat.old.tree }
-    ensures from_length { length seat.new.from.items ≡ length seat.old.from.items }
-    ensures to_length { length seat.new.to.items ≡ length seat.old.to.items }
-    ensures within { AreWithin carry.new (Q.lists runs.now) }
-    ensures adds_up { total carry.new ≡ rank }
-    ensures cut { AllAscend R.Ord.cmp (Q.lists runs.now) → IsCut R.Ord.cmp (Q.lists runs.now) rank carry.new }
+    requires records { HaveRecords (Q.lists runs.now) rank }
+    requires room { HasRoom (Q.lists runs.now) seat.old }
+    ensures piece { GetsPiece (Q.lists runs.now) carry.old carry.new rank seat.old seat.new }
+    ensures cut { StandsAt R.Ord.cmp (Q.lists runs.now) rank carry.new }
     ensures rises { result ≡ true → Rises carry.old carry.new }
     ensures stays { Rises carry.old carry.new → result ≡ true }
 {
@@ -92,20 +80,12 @@ pub(crate) fn plan_cuts<R: Record, Q: Listing<R>>(
     seats: &mut [Seat<R>],
     leaves: usize,
 ) -> bool
-    requires some { (0 < length seats.old) × (length seats.old < 2 ^ 32) }
-    requires places { length carry.old ≡ length (Q.lists runs.now) }
-    requires zeros { total carry.old ≡ 0 }
-    requires rank { count ≤ length (all_of (Q.lists runs.now)) }
-    requires room { length (all_of (Q.lists runs.now)) < 2 ^ 64 }
-    requires seat_room { length carry.old ≤ leaves }
-    requires sized { All (IsSized leaves) seats.old }
+    requires seats { AreSeats leaves (Q.lists runs.now) seats.old }
+    requires records { HaveRecords (Q.lists runs.now) count }
+    requires zeros { carry.old ≡ replicate (length (Q.lists runs.now)) 0 }
     ensures sized { All (IsSized leaves) seats.new }
-    ensures within { AreWithin carry.new (Q.lists runs.now) }
-    ensures adds_up { total carry.new ≡ count }
-    ensures plan { result ≡ true → IsPlan (Q.lists runs.now) carry.old seats.new carry.new count }
-    ensures rising { AllAscend R.Ord.cmp (Q.lists runs.now) → (result ≡ true) × IsCutPlan (is_before R.Ord.cmp) (Q.lists runs.now) seats.new carry.new count }
+    ensures planned { IsPlanned R.Ord.cmp (Q.lists runs.now) carry.old seats.new carry.new count result }
 {
-    record_laws::<R>();
     let workers = seats.len() as u32;
     let mut ok = true;
     for worker in 0..workers {

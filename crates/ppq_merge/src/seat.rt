@@ -1,7 +1,7 @@
 //! What one worker needs.
 ghost use Rattle.std.specs.Prelude.{◌≡◌, ◌+◌, ◌≤◌, ◌<◌, ◌^◌, length, take, replicate, IfOk};
-ghost use Rattle.ppq_merge.specs.Parts.{AreParts, IsMerge, size_between, places_for};
-ghost use Rattle.ppq_merge.specs.Seat.{IsSized, HasRoom, from_of, to_of, used};
+ghost use Rattle.ppq_merge.specs.Parts.{IsMerge, LieBetween, places_for};
+ghost use Rattle.ppq_merge.specs.Seat.{IsSized, HasRoom, KeepsSize, from_of, to_of, used};
 
 use crate::merge::merge_into;
 use ppq_split::{Listing, Memory, Record};
@@ -94,8 +94,7 @@ fn merge_between<R: Record, Q: Listing<R>>(
     requires from { length (Q.lists runs.now) ≤ length from.old }
     requires to { length (Q.lists runs.now) ≤ length to.now }
     requires leaves { length (Q.lists runs.now) ≤ tree.old.room }
-    requires parts { AreParts (places_for (Q.lists runs.now) from.old) (places_for (Q.lists runs.now) to.now) (Q.lists runs.now) }
-    requires size { length out.old ≡ size_between (places_for (Q.lists runs.now) from.old) (places_for (Q.lists runs.now) to.now) }
+    requires between { LieBetween (places_for (Q.lists runs.now) from.old) (places_for (Q.lists runs.now) to.now) (Q.lists runs.now) (length out.old) }
     ensures merge { IsMerge R.Ord.cmp (Q.lists runs.now) (places_for (Q.lists runs.now) from.old) (places_for (Q.lists runs.now) to.now) out.new }
     ensures room { tree.new.room ≡ tree.old.room }
 {
@@ -116,8 +115,7 @@ fn merge_used<R: Record, Q: Listing<R>>(
     requires from { 16 + length (Q.lists runs.now) ≤ length from.old }
     requires to { length (Q.lists runs.now) ≤ length to.now }
     requires leaves { length (Q.lists runs.now) ≤ tree.old.room }
-    requires parts { AreParts (places_for (Q.lists runs.now) (used from.old)) (places_for (Q.lists runs.now) to.now) (Q.lists runs.now) }
-    requires size { length out.old ≡ size_between (places_for (Q.lists runs.now) (used from.old)) (places_for (Q.lists runs.now) to.now) }
+    requires between { LieBetween (places_for (Q.lists runs.now) (used from.old)) (places_for (Q.lists runs.now) to.now) (Q.lists runs.now) (length out.old) }
     ensures merge { IsMerge R.Ord.cmp (Q.lists runs.now) (places_for (Q.lists runs.now) (used from.old)) (places_for (Q.lists runs.now) to.now) out.new }
     ensures room { tree.new.room ≡ tree.old.room }
 {
@@ -128,12 +126,9 @@ fn merge_used<R: Record, Q: Listing<R>>(
 // Merges a worker's piece.
 pub(crate) fn merge_piece<R: Record, Q: Listing<R>>(runs: &Q, seat: &mut Seat<R>, out: &mut [R])
     requires room { HasRoom (Q.lists runs.now) seat.old }
-    requires parts { AreParts (from_of (Q.lists runs.now) seat.old) (to_of (Q.lists runs.now) seat.old) (Q.lists runs.now) }
-    requires size { length out.old ≡ size_between (from_of (Q.lists runs.now) seat.old) (to_of (Q.lists runs.now) seat.old) }
+    requires between { LieBetween (from_of (Q.lists runs.now) seat.old) (to_of (Q.lists runs.now) seat.old) (Q.lists runs.now) (length out.old) }
     ensures merge { IsMerge R.Ord.cmp (Q.lists runs.now) (from_of (Q.lists runs.now) seat.old) (to_of (Q.lists runs.now) seat.old) out.new }
-    ensures from { length seat.new.from.items ≡ length seat.old.from.items }
-    ensures to { length seat.new.to.items ≡ length seat.old.to.items }
-    ensures leaves { seat.new.tree.room ≡ seat.old.tree.room }
+    ensures kept { KeepsSize seat.old seat.new }
 {
     let Seat { from, to, tree, .. } = seat;
     merge_used(runs, from.as_mut_slice(), to.as_slice(), tree, out);

@@ -1,7 +1,7 @@
 -- What checking a script's files answers, and what it makes of the script.
-use Rattle.std.specs.Prelude.{◌≡◌, ◌⊎◌, ℕ, Bool, ⊤, List, Option, Some, None, Result, IsOk, IsErrOf, MatchOption, map, length}
+use Rattle.std.specs.Prelude.{◌≡◌, ◌⊎◌, ℕ, ◌≤◌, Bool, ⊤, List, Option, Some, None, Result, Ok, Err, IsOk, IsErrOf, MatchOption, map, length}
 use Rattle.std.specs.List.{AllZip}
-use Rattle.ppq_outside.specs.Told.{Reply, OfLength, bytes_or_none}
+use Rattle.ppq_outside.specs.Told.{Reply, OfLength, Remembers, RepliesOnly, Rose, bytes_or_none}
 use Rattle.ppq_outside.specs.declared.fault.OutsideFault.{OutsideFault}
 use Rattle.ppq_outside.specs.declared.fault.OutsideFault.TheVariants as outside
 use Rattle.ppq_script.specs.declared.command.Command.{Command}
@@ -9,7 +9,7 @@ use Rattle.ppq_script.specs.declared.command.Command.TheVariants.{Bulk}
 use Rattle.ppq_script.specs.declared.numbered.Numbered.{Numbered}
 use Rattle.ppq_script.specs.declared.check.CheckFault.{CheckFault}
 use Rattle.ppq_script.specs.declared.check.CheckFault.TheVariants.{BadLine, ReadFault, Memory}
-use Rattle.ppq_script.specs.Files.{file_in, name_at, IsRecordLength, bad_among, IsBadAmong, IsNotFound, NoFile}
+use Rattle.ppq_script.specs.Files.{file_in, name_at, IsRecordLength, bad_among, IsBadAmong, IsLength, IsNotFound, NoFile}
 use Rattle.ppq_script.specs.Reading.{Reading}
 
 -- a library's fault as a fault of checking
@@ -87,3 +87,18 @@ abbrev pub StaysUnlessRead : ℕ → ℕ → CheckFault → Type 0
 StaysUnlessRead before now (BadLine line) = now ≡ before
 StaysUnlessRead before now ReadFault = ⊤
 StaysUnlessRead before now Memory = now ≡ before
+
+-- what the library replied it has replied, and it replied nothing more but lengths of files
+pub record AsksLengths (before now : Reply → Type 0) : Type 0 where
+  pub remembers : Remembers before now
+  pub asks : RepliesOnly before now IsLength
+
+-- the count of faults rose where a call failed, and else it stayed
+abbrev pub RisesByRead : ℕ → ℕ → CheckFault → Type 0
+RisesByRead before now (BadLine line) = now ≡ before
+RisesByRead before now ReadFault = (before ≤ now) × Rose before now
+RisesByRead before now Memory = now ≡ before
+
+abbrev pub CountsFaults : {T : Type 0} → ℕ → ℕ → Result T CheckFault → Type 0
+CountsFaults before now (Ok value) = now ≡ before
+CountsFaults before now (Err fault) = RisesByRead before now fault

@@ -3,7 +3,7 @@ ghost use Rattle.std.specs.Prelude.{◌≡◌, ◌≤◌, None, Some, length, ma
 ghost use Rattle.std.specs.List.{AllZip};
 ghost use Rattle.ppq_outside.specs.Told.{Rose, OfLength, Remembers, RepliesOnly};
 ghost use Rattle.ppq_script.specs.Files.{IsRecordLength, is_record_length, is_usable, IsLength, NamesFile};
-ghost use Rattle.ppq_script.specs.Checking.{bad_of, IsCheckAnswer, CheckRefusalIsRight, CommandsRefusalIsRight, ItemRefusalIsRight, NameRefusalIsRight, IsSameItem, IsAsked, IsSameScript, with_sizes, StaysUnlessRead};
+ghost use Rattle.ppq_script.specs.Checking.{bad_of, IsCheckAnswer, CheckRefusalIsRight, CommandsRefusalIsRight, ItemRefusalIsRight, NameRefusalIsRight, IsSameItem, IsAsked, IsSameScript, with_sizes, StaysUnlessRead, AsksLengths, CountsFaults};
 ghost use Rattle.ppq_script.specs.declared.check.CheckFault.TheVariants.{ReadFault};
 
 use crate::{Command, Numbered, Script};
@@ -80,13 +80,9 @@ pub(crate) fn ask_all<H: Host, L: Library>(
     ensures asked { OnOk result (AllZip (IsAsked (L.replied library.new) (map string_bytes names.now)) commands.old commands.new) }
     ensures same { AllZip IsSameItem commands.old commands.new }
     ensures refused { IfErr result (CommandsRefusalIsRight (L.replied library.new) (map string_bytes names.now) commands.old) }
-    ensures read { IsErrOf result ReadFault → Rose (L.faults library.old) (L.faults library.new) }
-    ensures remembers { Remembers (L.replied library.old) (L.replied library.new) }
-    ensures asks { RepliesOnly (L.replied library.old) (L.replied library.new) IsLength }
-    ensures kept { L.told library.new ≡ L.told library.old }
-    ensures later { L.faults library.old ≤ L.faults library.new }
-    ensures stays { OnOk result (L.faults library.new ≡ L.faults library.old) }
-    ensures unless { IfErr result (StaysUnlessRead (L.faults library.old) (L.faults library.new)) }
+    ensures told { L.told library.new ≡ L.told library.old }
+    ensures replied { AsksLengths (L.replied library.old) (L.replied library.new) }
+    ensures faults { CountsFaults (L.faults library.old) (L.faults library.new) result }
 {
     for item in commands.iter_mut() {
         match ask(rt, alloc, names, item, library) {
@@ -109,13 +105,9 @@ fn ask<H: Host, L: Library>(
     ensures asked { OnOk result (IsAsked (L.replied library.new) (map string_bytes names.now) item.old item.new) }
     ensures same { OnErr result (item.new ≡ item.old) }
     ensures refused { IfErr result (ItemRefusalIsRight (L.replied library.new) (map string_bytes names.now) item.old) }
-    ensures read { IsErrOf result ReadFault → Rose (L.faults library.old) (L.faults library.new) }
-    ensures remembers { Remembers (L.replied library.old) (L.replied library.new) }
-    ensures asks { RepliesOnly (L.replied library.old) (L.replied library.new) IsLength }
-    ensures kept { L.told library.new ≡ L.told library.old }
-    ensures later { L.faults library.old ≤ L.faults library.new }
-    ensures stays { OnOk result (L.faults library.new ≡ L.faults library.old) }
-    ensures unless { IfErr result (StaysUnlessRead (L.faults library.old) (L.faults library.new)) }
+    ensures told { L.told library.new ≡ L.told library.old }
+    ensures replied { AsksLengths (L.replied library.old) (L.replied library.new) }
+    ensures faults { CountsFaults (L.faults library.old) (L.faults library.new) result }
 {
     let Command::Bulk { file, .. } = item.command else {
         return Ok(());
@@ -139,13 +131,9 @@ fn record_length<H: Host, L: Library>(
 ) -> Result<u64, CheckFault>
     ensures found { IfOk result (λ length. L.replied library.new (OfLength name.now (Some length)) × IsRecordLength length) }
     ensures refused { IfErr result (NameRefusalIsRight (L.replied library.new) name.now line) }
-    ensures read { IsErrOf result ReadFault → Rose (L.faults library.old) (L.faults library.new) }
-    ensures remembers { Remembers (L.replied library.old) (L.replied library.new) }
-    ensures asks { RepliesOnly (L.replied library.old) (L.replied library.new) IsLength }
-    ensures kept { L.told library.new ≡ L.told library.old }
-    ensures later { L.faults library.old ≤ L.faults library.new }
-    ensures stays { OnOk result (L.faults library.new ≡ L.faults library.old) }
-    ensures unless { IfErr result (StaysUnlessRead (L.faults library.old) (L.faults library.new)) }
+    ensures told { L.told library.new ≡ L.told library.old }
+    ensures replied { AsksLengths (L.replied library.old) (L.replied library.new) }
+    ensures faults { CountsFaults (L.faults library.old) (L.faults library.new) result }
 {
     match library.length(rt, alloc, name)? {
         None => Err(CheckFault::BadLine { line }),

@@ -1,13 +1,11 @@
 //! A script as a list of commands.
-ghost use Rattle.std.specs.Prelude.{◌≡◌, ◌≤◌, ◌<◌, true, false, IsTrue, is_ok, OnOk, IfErr, IsErrOf, length, map, string_bytes, None, Some, All, slice_get, nat_eq};
-ghost use Rattle.ppq_script.specs.Files.{NamesFile, HasRecords, IsLength, name_at};
+ghost use Rattle.std.specs.Prelude.{◌≡◌, ◌<◌, true, false, IsTrue, is_ok, OnOk, IfErr, length, map, string_bytes, None, Some, All, slice_get, nat_eq};
+ghost use Rattle.ppq_script.specs.Files.{NamesFile, HasRecords, name_at};
 ghost use Rattle.std.specs.List.{AllZip};
-ghost use Rattle.ppq_outside.specs.Told.{Rose, Remembers, RepliesOnly};
 ghost use Rattle.ppq_script.specs.Reading.{IsReady};
 ghost use Rattle.ppq_script.specs.Sessions.{are_in_place};
 ghost use Rattle.ppq_script.specs.declared.session.Session.TheVariants.{Outside};
-ghost use Rattle.ppq_script.specs.Checking.{CheckRefusalIsRight, IsAsked, IsSameScript, StaysUnlessRead};
-ghost use Rattle.ppq_script.specs.declared.check.CheckFault.TheVariants.{ReadFault};
+ghost use Rattle.ppq_script.specs.Checking.{CheckRefusalIsRight, IsAsked, IsSameScript, AsksLengths, CountsFaults};
 
 use crate::check::ask_all;
 use crate::{CheckFault, Command, Numbered};
@@ -146,13 +144,9 @@ impl Script {
         ensures checked { self.new.checked ≡ is_ok result }
         ensures good { OnOk result (self.old.bad ≡ None) }
         ensures same { IsSameScript self.old self.new }
-        ensures read { IsErrOf result ReadFault → Rose (L.faults library.old) (L.faults library.new) }
-        ensures remembers { Remembers (L.replied library.old) (L.replied library.new) }
-        ensures asks { RepliesOnly (L.replied library.old) (L.replied library.new) IsLength }
-        ensures kept { L.told library.new ≡ L.told library.old }
-        ensures later { L.faults library.old ≤ L.faults library.new }
-        ensures stays { OnOk result (L.faults library.new ≡ L.faults library.old) }
-        ensures unless { IfErr result (StaysUnlessRead (L.faults library.old) (L.faults library.new)) }
+        ensures told { L.told library.new ≡ L.told library.old }
+        ensures replied { AsksLengths (L.replied library.old) (L.replied library.new) }
+        ensures faults { CountsFaults (L.faults library.old) (L.faults library.new) result }
     {
         self.checked = false;
         match ask_all(rt, alloc, &self.names, &mut self.commands, library) {

@@ -1,19 +1,13 @@
-use Rattle.std.proofs.Common.{◌≡◌, length, sym, subst, ◌∙◌}
-use Rattle.ppq_merge.specs.Parts.{AreParts, IsMerge, size_between, places_for}
+use Rattle.std.proofs.Common.{length, sym, subst, ◌∙◌}
+use Rattle.ppq_merge.specs.Parts.{IsMerge, LieBetween, places_for}
 use Rattle.ppq_merge.proofs.Used.{used_is}
 use Rattle.ppq_merge.proofs.seat.merge_used.Goals as goal
 
-pub merge_between-requires-clause-parts : goal.merge_between-requires-clause-parts
-merge_between-requires-clause-parts g c κs within =
+pub merge_between-requires-clause-between : goal.merge_between-requires-clause-between
+merge_between-requires-clause-between g c κs within =
     let qs = g.Q.Listing.lists c.args.runs.now in
     let places = c.split_at_mut-front.ensures.back ∙ used_is c.args.from.now in
-    subst (λ v. AreParts (places_for qs v) (places_for qs c.args.to.now) qs) (sym places) c.requires.parts
-
-pub merge_between-requires-clause-size : goal.merge_between-requires-clause-size
-merge_between-requires-clause-size g c κs within =
-    let qs = g.Q.Listing.lists c.args.runs.now in
-    let places = c.split_at_mut-front.ensures.back ∙ used_is c.args.from.now in
-    subst (λ v. length c.args.out.now ≡ size_between (places_for qs v) (places_for qs c.args.to.now)) (sym places) c.requires.size
+    subst (λ v. LieBetween (places_for qs v) (places_for qs c.args.to.now) qs (length c.args.out.now)) (sym places) c.requires.between
 
 pub returns-clause-merge : goal.returns-clause-merge
 returns-clause-merge g c =

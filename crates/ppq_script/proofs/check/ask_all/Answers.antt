@@ -1,11 +1,11 @@
 use Rattle.std.proofs.Common.{◌≡◌, ◌<◌, ◌∙◌, length, take, get_or, map, refl, sym, subst, rules}
 use Rattle.std.specs.Prelude.{string_bytes}
 use Rattle.ppq_outside.proofs.Shrunk.{done_more, left_more}
-use Rattle.ppq_outside.proofs.Replies.{no_replies, replies_then}
 use Rattle.ppq_script.specs.declared.command.Command.TheVariants.{Push}
 use Rattle.ppq_script.specs.declared.numbered.Numbered.{Numbered}
-use Rattle.ppq_script.specs.Files.{NamesFile, IsLength}
-use Rattle.ppq_script.specs.Checking.{IsAsked, IsSameItem, ItemRefusalIsRight}
+use Rattle.ppq_script.specs.Files.{NamesFile}
+use Rattle.ppq_script.specs.Checking.{IsAsked, IsSameItem, ItemRefusalIsRight, RisesByRead}
+use Rattle.ppq_script.proofs.Asking.{asks_nothing, asks_then}
 use Rattle.ppq_script.proofs.Checks.{same_items, item_here, all_asked_later, commands_refusal, AllZip-set, IsSameItem-IsAsked}
 use Rattle.ppq_script.proofs.check.ask_all.Goals as goal
 
@@ -14,7 +14,7 @@ abbrev first : Numbered
 first = record { line = 0; command = Push (record { key = 0; value = 0 }) }
 
 pub loop-item-init : goal.loop-item-init
-loop-item-init g c = record { done = tt; same = same_items c.args.commands.now; left = refl; long = refl; remembers = λ reply h. h; asks = no_replies (g.L.Library.replied c.args.library.now) IsLength; kept = refl; stays = refl }
+loop-item-init g c = record { done = tt; same = same_items c.args.commands.now; left = refl; long = refl; told = refl; replied = asks_nothing (g.L.Library.replied c.args.library.now); faults = refl }
 
 pub ask-requires-after_bounds : goal.ask-requires-after_bounds
 ask-requires-after_bounds g c κs within =
@@ -29,7 +29,7 @@ returns-in-Err-clause-refused g c =
     let replied = g.L.Library.replied c.ask.new.library in
     let below : l.item-index < length c.args.commands.now = c.loop-item-test.true in
     commands_refusal replied names l.item-index c.args.commands.now l.commands first c.in-Err.fault below
-    (all_asked_later (g.L.Library.replied l.library) replied names (take l.item-index c.args.commands.now) (take l.item-index l.commands) c.ask.ensures.remembers l.invariant.done)
+    (all_asked_later (g.L.Library.replied l.library) replied names (take l.item-index c.args.commands.now) (take l.item-index l.commands) c.ask.ensures.replied.remembers l.invariant.done)
     (subst (λ (n : Numbered). ItemRefusalIsRight replied names n c.in-Err.fault) (item_here c.args.commands.now l.commands l.item-index first below l.invariant.long l.invariant.left) c.in-Err.ensures.refused)
 
 pub loop-item-preserved : goal.loop-item-preserved
@@ -42,15 +42,17 @@ loop-item-preserved g c =
     let asked : IsAsked replied names (get_or l.commands l.item-index first) c.ask.new.item = c.in-Ok.ensures.asked in
     record {
       done = done_more (IsAsked replied names) c.args.commands.now l.commands l.item-index first c.ask.new.item below l.invariant.long l.invariant.left
-          (all_asked_later (g.L.Library.replied l.library) replied names (take l.item-index c.args.commands.now) (take l.item-index l.commands) c.ask.ensures.remembers l.invariant.done) asked;
+          (all_asked_later (g.L.Library.replied l.library) replied names (take l.item-index c.args.commands.now) (take l.item-index l.commands) c.ask.ensures.replied.remembers l.invariant.done) asked;
       same = AllZip-set IsSameItem c.args.commands.now l.commands l.item-index first c.ask.new.item l.invariant.same (subst (λ (n : Numbered). IsSameItem n c.ask.new.item) here (IsSameItem-IsAsked replied names (get_or l.commands l.item-index first) c.ask.new.item asked));
       left = left_more c.args.commands.now l.commands l.item-index first c.ask.new.item below l.invariant.long l.invariant.left;
       long = search rules;
-      remembers = λ reply h. c.ask.ensures.remembers reply (l.invariant.remembers reply h);
-      asks = replies_then (g.L.Library.replied c.args.library.now) (g.L.Library.replied l.library) replied IsLength l.invariant.asks c.ask.ensures.asks;
-      kept = c.ask.ensures.kept ∙ l.invariant.kept;
-      stays = c.in-Ok.ensures.stays ∙ l.invariant.stays;
+      told = c.ask.ensures.told ∙ l.invariant.told;
+      replied = asks_then (g.L.Library.replied c.args.library.now) (g.L.Library.replied l.library) replied l.invariant.replied c.ask.ensures.replied;
+      faults = c.in-Ok.ensures.faults ∙ l.invariant.faults;
     }
 
-pub returns-in-Err-clause-asks : goal.returns-in-Err-clause-asks
-returns-in-Err-clause-asks g c = replies_then (g.L.Library.replied c.args.library.now) (g.L.Library.replied c.loop-item.library) (g.L.Library.replied c.ask.new.library) IsLength c.loop-item.invariant.asks c.ask.ensures.asks
+pub returns-in-Err-clause-replied : goal.returns-in-Err-clause-replied
+returns-in-Err-clause-replied g c = asks_then (g.L.Library.replied c.args.library.now) (g.L.Library.replied c.loop-item.library) (g.L.Library.replied c.ask.new.library) c.loop-item.invariant.replied c.ask.ensures.replied
+
+pub returns-in-Err-clause-faults : goal.returns-in-Err-clause-faults
+returns-in-Err-clause-faults g c = subst (λ n. RisesByRead n (g.L.Library.faults c.ask.new.library) c.in-Err.fault) c.loop-item.invariant.faults c.in-Err.ensures.faults

@@ -1,9 +1,7 @@
 use Rattle.std.proofs.Common.{◌≡◌, length, take, drop, map}
 use Rattle.std.specs.Prelude.{string_bytes}
 use Rattle.std.specs.List.{AllZip}
-use Rattle.ppq_outside.specs.Told.{Remembers, RepliesOnly}
-use Rattle.ppq_script.specs.Files.{IsLength}
-use Rattle.ppq_script.specs.Checking.{IsAsked, IsSameItem}
+use Rattle.ppq_script.specs.Checking.{AsksLengths, IsAsked, IsSameItem}
 use Rattle.ppq_script.proofs.check.ask_all.Given as goal
 
 abbrev pub invariant-loop-item : goal.invariant-loop-item
@@ -12,8 +10,7 @@ invariant-loop-item g l = record {
   same : AllZip IsSameItem l.fn.commands l.commands;
   left : drop l.item-index l.commands ≡ drop l.item-index l.fn.commands;
   long : length l.commands ≡ length l.fn.commands;
-  remembers : Remembers (g.L.Library.replied l.fn.library) (g.L.Library.replied l.library);
-  asks : RepliesOnly (g.L.Library.replied l.fn.library) (g.L.Library.replied l.library) IsLength;
-  kept : g.L.Library.told l.library ≡ g.L.Library.told l.fn.library;
-  stays : g.L.Library.faults l.library ≡ g.L.Library.faults l.fn.library;
+  told : g.L.Library.told l.library ≡ g.L.Library.told l.fn.library;
+  replied : AsksLengths (g.L.Library.replied l.fn.library) (g.L.Library.replied l.library);
+  faults : g.L.Library.faults l.library ≡ g.L.Library.faults l.fn.library;
 }
