@@ -20,7 +20,7 @@ use Rattle.ppq_fetch.specs.ppq_array.External.{External, external, size_of, coun
 use Rattle.ppq_fetch.specs.ppq_array.Owner.{slots_shown, HasSize}
 use Rattle.ppq_fetch.specs.ppq_array.Kept.{SameSlots, MoreWrites}
 use Rattle.ppq_fetch.proofs.ppq_array.Noted.{all_left, all_right, take_whole}
-use Rattle.ppq_spill.specs.Writing.{Grew, Merged, BlockStored, BlockFailed, WriteFailed, Writing, left_in, NoneAfter}
+use Rattle.ppq_spill.specs.Writing.{Grew, MergedOut, BlockStored, BlockFailed, WriteFailed, Writing, left_in, NoneAfter}
 use Rattle.ppq_spill.proofs.SameSlots.{SameSlots-trans, SameSlots-grown, SameSlots-refl}
 use Rattle.ppq_spill.specs.Went.{Went}
 use Rattle.ppq_spill.specs.Untold.{SameUntold}
@@ -70,7 +70,7 @@ module _ {S R : Type 0} (cmp : R → R → Ordering) (record_of : List ℕ → R
   pub Writing-more :
       IsStrictWeakOrder (is_before cmp) → 1 ≤ block
       → (slots0 : List (DeviceBlock S R)) (runs0 : List (Run R)) (rest0 : List R) (b : DeviceBlock S R) (slots : List (DeviceBlock S R)) (runs runs' : List (Run R)) (rest rest' out : List R) (array array' : External S R)
-      → Writing cmp record_of width block shown slots0 runs0 rest0 (b ∷ slots) runs rest array → Merged cmp block runs runs' rest rest' out → BlockStored record_of width shown b.slot out array array'
+      → Writing cmp record_of width block shown slots0 runs0 rest0 (b ∷ slots) runs rest array → MergedOut cmp block runs runs' rest rest' out → BlockStored record_of width shown b.slot out array array'
       → Writing cmp record_of width block shown slots0 runs0 rest0 slots runs' rest' array'
   Writing-more o some slots0 runs0 rest0 b slots runs runs' rest rest' out array array' is merged put =
       let left = left_in runs rest in

@@ -1,14 +1,15 @@
 -- Runs that are merged into blocks and written, one after the other.
-use Rattle.std.specs.Prelude.{◌≡◌, ℕ, ◌+◌, ◌*◌, ◌<◌, ◌≤◌, List, [], ◌∷◌, ◌++◌, length, min, map, All}
+use Rattle.std.specs.Prelude.{◌≡◌, ℕ, ◌+◌, ◌*◌, ◌<◌, ◌≤◌, ◌-◌, ◌^◌, List, [], ◌∷◌, ◌++◌, length, min, map, All, Option, Some, None}
 use Rattle.std.specs.declared.cmp.Ordering.{Ordering}
 use Rattle.std.specs.List.{AllByRecursion as Each}
 use Rattle.ppq_fetch.specs.ppq_record.Order.{Ascends, Le, is_before}
 use Rattle.ppq_fetch.specs.ppq_record.Bag.{IsSameBag}
+use Rattle.ppq_fetch.specs.ppq_block.Block.{Block, IsSettled}
 use Rattle.ppq_fetch.specs.ppq_outside.Shown.{Shown, Tells, AllTell}
 use Rattle.ppq_fetch.specs.ppq_array.declared.berth.DeviceBlock.{DeviceBlock}
 use Rattle.ppq_fetch.specs.ppq_array.Run.{Run, run_of, items_of, buffers_of}
 use Rattle.ppq_fetch.specs.ppq_array.External.{External, external, size_of, records_in, block_items, IsPacked}
-use Rattle.ppq_fetch.specs.ppq_array.Owner.{slots_shown, HasSize}
+use Rattle.ppq_fetch.specs.ppq_array.Owner.{slots_shown, HasBlock, HasSize}
 use Rattle.ppq_fetch.specs.ppq_array.Kept.{SameSlots, MoreWrites}
 use Rattle.ppq_fetch.specs.ppq_array.Holdings.{internal_items}
 use Rattle.ppq_spill.specs.Untold.{SameUntold}
@@ -37,8 +38,13 @@ module _ {R : Type 0} where
   abbrev pub NoneAfter : (R → R → Ordering) → List R → List R → Type 0
   NoneAfter cmp xs ys = Each (λ x. Each (Le (is_before cmp) x) ys) xs
 
+  -- as many buffers as before, all of one block size
+  pub record SameBuffers (block : ℕ) (old new : List (Block R)) : Type 0 where
+    pub long : length new ≡ length old
+    pub blocks : All (HasBlock block) new
+
   -- so many records were merged out of runs and a list; where all of it ascends, the least
-  pub record Merged (cmp : R → R → Ordering) (most : ℕ) (runs runs' : List (Run R)) (rest rest' out : List R) : Type 0 where
+  pub record MergedOut (cmp : R → R → Ordering) (most : ℕ) (runs runs' : List (Run R)) (rest rest' out : List R) : Type 0 where
     pub count : length out ≡ min most (length (left_in runs rest))
     pub bag : IsSameBag (left_in runs rest) (out ++ left_in runs' rest')
     pub buffers : map buffers_of runs' ≡ map buffers_of runs
@@ -61,6 +67,21 @@ module _ {S R : Type 0} where
     pub grew : Grew (shown slot) (shown berth.slot)
     pub transfers : MoreWrites 0 (shown slot ∷ []) (shown berth.slot ∷ [])
     pub failed : 0 < (shown berth.slot).faults
+
+  -- a buffer's records may become the last block of a run, in this slot
+  pub record MayAppend (shown : S → Shown) (width : ℕ) (slot : S) (buf : Block R) (array : External S R) : Type 0 where
+    pub none_lifted : array.lifted ≡ []
+    pub some : 0 < length buf.items
+    pub settled : IsSettled buf
+    pub within : length buf.items ≤ buf.block
+    pub size : buf.block * width ≡ (shown slot).size
+    pub room : length array.stored < 2 ^ 32 - 1
+    pub few : size_of array + length buf.items < 2 ^ 64
+
+  -- how the write of a block ends
+  abbrev pub BlockEnds : (List ℕ → R) → ℕ → (S → Shown) → S → List R → External S R → External S R → Option (DeviceBlock S R) → Type 0
+  BlockEnds record_of width shown slot items old new None = BlockStored record_of width shown slot items old new
+  BlockEnds record_of width shown slot items old new (Some failed) = BlockFailed shown slot old new failed
 
   -- From slots, runs and a list at the beginning to what was written of them so far, and what is left
   pub record Writing (cmp : R → R → Ordering) (record_of : List ℕ → R) (width block : ℕ) (shown : S → Shown) (slots0 : List (DeviceBlock S R)) (runs0 : List (Run R)) (rest0 : List R) (slots : List (DeviceBlock S R)) (runs : List (Run R)) (rest : List R) (array : External S R) : Type 0 where
@@ -92,3 +113,22 @@ module _ {S R : Type 0} where
     pub few : length array.stored ≤ length slots0
     pub buffers : map buffers_of runs ≡ map buffers_of runs0
     pub fault : 0 < (shown failed.slot).faults
+
+  -- runs and a list may be merged into as many blocks as there are slots, by a tree with so many leaves
+  pub record MayWriteRuns (shown : S → Shown) (width block leaf_count : ℕ) (bufs : List (Block R)) (runs : List (Run R)) (rest : List R) (slots : List (DeviceBlock S R)) (array : External S R) : Type 0 where
+    pub some : 1 ≤ block
+    pub leaves : length runs < leaf_count
+    pub idle : 0 < length bufs
+    pub few_idle : length bufs < 2 ^ 32 - 1
+    pub blocks : All (HasBlock block) bufs
+    pub empty : array ≡ external 0 (run_of [] 0 []) [] []
+    pub few : length rest + length (internal_items runs) < 2 ^ 32 - 1
+    pub few_slots : length slots < 2 ^ 32 - 1
+    pub sizes : All (HasSize shown (block * width)) slots
+    pub room : length (left_in runs rest) ≤ length slots * block
+    pub least : length slots * block < length (left_in runs rest) + block
+
+  -- how it ends: all is written and no slot is left, or a write failed
+  abbrev pub RunsEnd : (R → R → Ordering) → (List ℕ → R) → ℕ → ℕ → (S → Shown) → List (DeviceBlock S R) → List (Run R) → List R → List (DeviceBlock S R) → List (Run R) → External S R → Option (DeviceBlock S R) → Type 0
+  RunsEnd cmp record_of width block shown slots0 runs0 rest0 slots runs array None = Writing cmp record_of width block shown slots0 runs0 rest0 [] runs [] array
+  RunsEnd cmp record_of width block shown slots0 runs0 rest0 slots runs array (Some failed) = WriteFailed shown (block * width) slots0 runs0 slots runs array failed
