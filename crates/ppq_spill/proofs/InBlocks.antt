@@ -43,7 +43,7 @@ module _ {S R : Type 0} (cmp : R → R → Ordering) (record_of : List ℕ → R
       let kept : AllTell (o.kept ++ r.drawn) = tell_right (body_slots shown old) o.kept r.drawn t in
       let moved = tell_moved (o.kept ++ d.drawn) (slots_shown shown slots0 ++ d.kept ++ o.drawn) drew.moved (subst (λ (x : List Shown). AllTell (o.kept ++ x)) drawn kept) in
       all_left Tells (slots_shown shown slots0) d.kept (all_left Tells (slots_shown shown slots0 ++ d.kept) o.drawn moved) in
-      let long : length array.stored ≡ length slots0 = omega (arith, writing.same.length, length-append (slots_shown shown array.stored) [], slots_long shown array.stored, slots_long shown slots0) in
+      let long : length array.stored ≡ length slots0 = omega (arith, writing.went.went.same.length, length-append (slots_shown shown array.stored) [], slots_long shown array.stored, slots_long shown slots0) in
       let size : size_of array ≡ length sorted + length items = omega (arith, writing.size, ap length empty, length-append items sorted) in
       let few : length array.stored * block < size_of array + block = subst (λ k. k * block < size_of array + block) (sym long) (omega (arith, least, size)) in
       record {

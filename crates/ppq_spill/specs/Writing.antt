@@ -10,10 +10,9 @@ use Rattle.ppq_fetch.specs.ppq_array.declared.berth.DeviceBlock.{DeviceBlock}
 use Rattle.ppq_fetch.specs.ppq_array.Run.{Run, run_of, items_of, buffers_of}
 use Rattle.ppq_fetch.specs.ppq_array.External.{External, external, size_of, records_in, block_items, IsPacked}
 use Rattle.ppq_fetch.specs.ppq_array.Owner.{slots_shown, HasBlock, HasSize}
-use Rattle.ppq_fetch.specs.ppq_array.Kept.{SameSlots, MoreWrites}
+use Rattle.ppq_fetch.specs.ppq_array.Kept.{MoreWrites}
 use Rattle.ppq_fetch.specs.ppq_array.Holdings.{internal_items}
-use Rattle.ppq_spill.specs.Untold.{SameUntold}
-use Rattle.ppq_spill.specs.Went.{Went}
+use Rattle.ppq_spill.specs.Went.{WentWriting}
 
 -- a slot after a call: the same slot, and no count of it fell
 pub record Grew (before now : Shown) : Type 0 where
@@ -85,7 +84,6 @@ module _ {S R : Type 0} where
 
   -- From slots, runs and a list at the beginning to what was written of them so far, and what is left
   pub record Writing (cmp : R → R → Ordering) (record_of : List ℕ → R) (width block : ℕ) (shown : S → Shown) (slots0 : List (DeviceBlock S R)) (runs0 : List (Run R)) (rest0 : List R) (slots : List (DeviceBlock S R)) (runs : List (Run R)) (rest : List R) (array : External S R) : Type 0 where
-    pub same : SameSlots (slots_shown shown slots0) (slots_shown shown array.stored ++ slots_shown shown slots)
     pub sizes : All (HasSize shown (block * width)) (array.stored ++ slots)
     pub shape : array ≡ external 0 (run_of [] 0 []) [] array.stored
     pub size : size_of array + length (left_in runs rest) ≡ length (left_in runs0 rest0)
@@ -93,9 +91,7 @@ module _ {S R : Type 0} where
     pub least : 0 < length slots → length slots * block < length (left_in runs rest) + block
     pub buffers : map buffers_of runs ≡ map buffers_of runs0
     pub written : All (λ (b : DeviceBlock S R). 1 ≤ (shown b.slot).writes) array.stored
-    pub transfers : MoreWrites (length array.stored) (slots_shown shown slots0) (slots_shown shown array.stored ++ slots_shown shown slots)
-    pub went : Went (length array.stored) 0 (slots_shown shown slots0) (slots_shown shown array.stored ++ slots_shown shown slots)
-    pub untold : SameUntold (slots_shown shown slots0) (slots_shown shown array.stored ++ slots_shown shown slots)
+    pub went : WentWriting (length array.stored) (slots_shown shown slots0) (slots_shown shown array.stored ++ slots_shown shown slots)
     pub full : 0 < length slots → All (λ (b : DeviceBlock S R). b.count ≡ block) array.stored
     pub packed : IsPacked block array.stored
     pub tells : AllTell (slots_shown shown slots0) → AllTell (slots_shown shown slots)
@@ -104,12 +100,9 @@ module _ {S R : Type 0} where
 
   -- a write failed: that slot, those that hold blocks now and those that are left are the slots from before, and a call of the first failed
   pub record WriteFailed (shown : S → Shown) (bytes : ℕ) (slots0 : List (DeviceBlock S R)) (runs0 : List (Run R)) (slots : List (DeviceBlock S R)) (runs : List (Run R)) (array : External S R) (failed : DeviceBlock S R) : Type 0 where
-    pub same : SameSlots (slots_shown shown slots0) (slots_shown shown array.stored ++ (shown failed.slot ∷ slots_shown shown slots))
     pub sizes : All (HasSize shown bytes) (array.stored ++ failed ∷ slots)
     pub shape : array ≡ external 0 (run_of [] 0 []) [] array.stored
-    pub transfers : MoreWrites (length array.stored) (slots_shown shown slots0) (slots_shown shown array.stored ++ (shown failed.slot ∷ slots_shown shown slots))
-    pub went : Went (length array.stored) 0 (slots_shown shown slots0) (slots_shown shown array.stored ++ (shown failed.slot ∷ slots_shown shown slots))
-    pub untold : SameUntold (slots_shown shown slots0) (slots_shown shown array.stored ++ (shown failed.slot ∷ slots_shown shown slots))
+    pub went : WentWriting (length array.stored) (slots_shown shown slots0) (slots_shown shown array.stored ++ (shown failed.slot ∷ slots_shown shown slots))
     pub few : length array.stored ≤ length slots0
     pub buffers : map buffers_of runs ≡ map buffers_of runs0
     pub fault : 0 < (shown failed.slot).faults

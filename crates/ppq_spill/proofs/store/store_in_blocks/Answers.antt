@@ -6,7 +6,8 @@ use Rattle.ppq_fetch.proofs.ppq_array.Noted.{all_left, all_right}
 use Rattle.ppq_spill.specs.Body.{job_slots}
 use Rattle.ppq_spill.proofs.Keeping.{too_few, same_buffers, same_blocks, slots_more, buffers_more, slots_long}
 use Rattle.ppq_spill.proofs.InBlocks.{blocks_stored}
-use Rattle.ppq_spill.proofs.Storings.{kept_refused, kept_written, kept_failed, calls_refused, calls_written, calls_failed, went_refused, went_written, went_failed, untold_refused, untold_written, untold_failed, sizes_after}
+use Rattle.ppq_spill.proofs.Storings.{kept_refused, kept_written, kept_failed, went_refused, went_written, went_failed, room_failed, buffers_failed, sizes_after}
+use Rattle.ppq_spill.proofs.Going.{more_writes}
 use Rattle.ppq_spill.proofs.Transfers.{fewer}
 use Rattle.ppq_spill.proofs.store.store_in_blocks.Goals as goal
 
@@ -43,25 +44,28 @@ free_slots-requires-clause-size g c =
 pub returns-in_default-clause-leaves : goal.returns-in_default-clause-leaves
 returns-in_default-clause-leaves g c =
     let body = c.args.body.now in
+    let shown = g.S.Slot.shown in
     let stock = g.P.Supply.stock c.args.supply.now in
+    let now = g.P.Supply.stock c.draw_slots.new.supply in
     let is = c.requires.room.size in
+    let found = c.in_default.ensures.few in
+    let calls = went_refused stock now c.blocks_for.result (external_slots shown body.runs.external.items) (job_slots shown body.lanes.jobs.items) found in
     record {
-      kept = kept_refused (g.P.Supply.stock c.args.supply.now) (g.P.Supply.stock c.draw_slots.new.supply) c.blocks_for.result (external_slots g.S.Slot.shown body.runs.external.items) (job_slots g.S.Slot.shown body.lanes.jobs.items)
-          _ c.in_default.ensures.few;
+      kept = kept_refused stock now c.blocks_for.result (external_slots shown body.runs.external.items) (job_slots shown body.lanes.jobs.items) _ found;
       takes_back = record {
-        slots = omega (arith, c.requires.room.takes_back.slots, ap (λ s. s.slot_room) c.in_default.ensures.few.stock);
-        buffers = omega (arith, c.requires.room.takes_back.buffers, ap (λ s. s.buffer_room) c.in_default.ensures.few.stock);
+        slots = omega (arith, c.requires.room.takes_back.slots, ap (λ s. s.slot_room) found.stock);
+        buffers = omega (arith, c.requires.room.takes_back.buffers, ap (λ s. s.buffer_room) found.stock);
       };
-      tells = ((went_refused stock (g.P.Supply.stock c.draw_slots.new.supply) c.blocks_for.result (external_slots g.S.Slot.shown body.runs.external.items) (job_slots g.S.Slot.shown body.lanes.jobs.items) c.in_default.ensures.few)).tells;
-      untold = untold_refused stock (g.P.Supply.stock c.draw_slots.new.supply) c.blocks_for.result (external_slots g.S.Slot.shown body.runs.external.items) (job_slots g.S.Slot.shown body.lanes.jobs.items) c.in_default.ensures.few;
+      tells = calls.went.tells;
+      untold = calls.untold;
       writes = record {
         blocks = 0;
         few = omega (arith, c.requires.some, (let z : 0 * stock.block ≡ 0 = omega arith in z));
-        transfers = calls_refused stock (g.P.Supply.stock c.draw_slots.new.supply) c.blocks_for.result (external_slots g.S.Slot.shown body.runs.external.items) (job_slots g.S.Slot.shown body.lanes.jobs.items) c.in_default.ensures.few;
-        stay = (went_refused stock (g.P.Supply.stock c.draw_slots.new.supply) c.blocks_for.result (external_slots g.S.Slot.shown body.runs.external.items) (job_slots g.S.Slot.shown body.lanes.jobs.items) c.in_default.ensures.few).calls.stay;
+        transfers = more_writes 0 _ _ calls.went;
+        stay = calls.went.calls.stay;
       };
       lanes = search;
-      size = sizes_after g.S.Slot.shown g.R.Record.WIDTH c.args.body.now _ (g.P.Supply.stock c.args.supply.now) (g.P.Supply.stock c.draw_slots.new.supply) is (ap (λ s. s.block) c.in_default.ensures.few.stock) is.idle is.internal is.external;
+      size = sizes_after shown g.R.Record.WIDTH body _ stock now is (ap (λ s. s.block) found.stock) is.idle is.internal is.external;
       rooms = search;
     }
 
@@ -93,29 +97,30 @@ returns-in-None-clause-leaves g c =
     let old = g.P.Supply.stock c.args.supply.now in
     let all = length c.args.sorted.now + length (internal_items body.runs.internal.items) in
     let total : length c.args.sorted.now + c.count_records.result ≡ all = ap (λ n. length c.args.sorted.now + n) (c.count_records.ensures ∙ ap (λ xs. length (internal_items xs)) c.deref.ensures.value) in
-    let long : length array.stored ≡ c.blocks_for.result = omega (arith, writing.same.length, length-append (slots_shown shown array.stored) [], slots_long shown array.stored, slots_long shown c.in-Some.berths, c.in-Some.ensures.all) in
+    let long : length array.stored ≡ c.blocks_for.result = omega (arith, writing.went.went.same.length, length-append (slots_shown shown array.stored) [], slots_long shown array.stored, slots_long shown c.in-Some.berths, c.in-Some.ensures.all) in
     let few : length array.stored * c.args.block < all + c.args.block = subst (λ k. k * c.args.block < all + c.args.block) (sym long) (omega (arith, c.blocks_for.ensures.least, total)) in
     let is = c.requires.room.size in
     let w = g.R.Record.WIDTH in
     let block : (g.P.Supply.stock c.release_runs.new.supply).block ≡ old.block = ap (λ s. s.block) c.release_runs.ensures.stock ∙ ap (λ s. s.block) c.in-Some.ensures.drawn.stock in
     let put = subst (λ b. All (HasSize shown (b * w)) array.stored) c.requires.block (all_left (HasSize shown (c.args.block * w)) array.stored [] c.in-None.ensures.outcome.sizes) in
+    let drew = g.P.Supply.stock c.draw_slots.new.supply in
+    let now = g.P.Supply.stock c.release_runs.new.supply in
+    let more = ap (external_slots shown) c.push_reserved.ensures.items ∙ slots_more shown body.runs.external.items array in
+    let calls = went_written shown w old drew (external_slots shown body.runs.external.items) (job_slots shown body.lanes.jobs.items) (external_slots shown c.push_reserved.new.self.items) c.in-Some.berths array c.in-Some.ensures.drawn more now now.sure_buffers _ c.release_runs.ensures.stock (length array.stored) writing.went in
     record {
-      kept = kept_written shown g.R.Record.WIDTH old (g.P.Supply.stock c.draw_slots.new.supply) (g.P.Supply.stock c.release_runs.new.supply)
-          (external_slots shown body.runs.external.items) (job_slots shown body.lanes.jobs.items) (external_slots shown c.push_reserved.new.self.items) c.in-Some.berths array
+      kept = kept_written shown w old drew (external_slots shown body.runs.external.items) (job_slots shown body.lanes.jobs.items) (external_slots shown c.push_reserved.new.self.items) c.in-Some.berths array c.in-Some.ensures.drawn more now now.sure_buffers _ c.release_runs.ensures.stock (length array.stored)
           (internal_buffers body.runs.internal.items) (internal_buffers c.write_runs-failed.new.internal.items) (internal_buffers c.release_runs.new.internal.items)
           (external_buffers body.runs.external.items) (external_buffers c.push_reserved.new.self.items)
           (length body.lanes.idle + length body.lanes.jobs.items) (length c.write_runs-failed.new.idle + length body.lanes.jobs.items)
-          c.in-Some.ensures.drawn writing.same c.release_runs.ensures.stock
-          (same_buffers body.runs.internal.items c.write_runs-failed.new.internal.items writing.buffers) c.requires.room.takes_back.buffers
+          writing.went refl (same_buffers body.runs.internal.items c.write_runs-failed.new.internal.items writing.buffers) c.requires.room.takes_back.buffers
           (ap internal_buffers c.release_runs.ensures.none)
-          (ap (external_slots shown) c.push_reserved.ensures.items ∙ slots_more shown body.runs.external.items array)
           (ap external_buffers c.push_reserved.ensures.items ∙ buffers_more shown body.runs.external.items array writing.shape)
           (ap (λ n. n + length body.lanes.jobs.items) c.in-None.ensures.idle.long);
       takes_back = record {
         slots = omega (
           arith,
           c.requires.room.takes_back.slots,
-          ap length (ap (external_slots shown) c.push_reserved.ensures.items ∙ slots_more shown body.runs.external.items array),
+          ap length more,
           length-append (external_slots shown body.runs.external.items) (slots_shown shown array.stored),
           slots_long shown array.stored,
           long,
@@ -125,25 +130,13 @@ returns-in-None-clause-leaves g c =
         );
         buffers = omega (arith, ap internal_buffers c.release_runs.ensures.none);
       };
-      tells = ((went_written shown g.R.Record.WIDTH (g.P.Supply.stock c.args.supply.now) (g.P.Supply.stock c.draw_slots.new.supply) (g.P.Supply.stock c.release_runs.new.supply)
-          (external_slots shown body.runs.external.items) (job_slots shown body.lanes.jobs.items) (external_slots shown c.push_reserved.new.self.items) c.in-Some.berths array
-          (length array.stored) (g.P.Supply.stock c.release_runs.new.supply).sure_buffers _ c.in-Some.ensures.drawn writing.went c.release_runs.ensures.stock
-          (ap (external_slots shown) c.push_reserved.ensures.items ∙ slots_more shown body.runs.external.items array))).tells;
-      untold = untold_written shown g.R.Record.WIDTH (g.P.Supply.stock c.args.supply.now) (g.P.Supply.stock c.draw_slots.new.supply) (g.P.Supply.stock c.release_runs.new.supply)
-          (external_slots shown body.runs.external.items) (job_slots shown body.lanes.jobs.items) (external_slots shown c.push_reserved.new.self.items) c.in-Some.berths array
-          (g.P.Supply.stock c.release_runs.new.supply).sure_buffers _ c.in-Some.ensures.drawn c.in-None.ensures.outcome.untold c.release_runs.ensures.stock
-          (ap (external_slots shown) c.push_reserved.ensures.items ∙ slots_more shown body.runs.external.items array);
+      tells = calls.went.tells;
+      untold = calls.untold;
       writes = record {
         blocks = length array.stored;
         few = subst (λ b. length array.stored * b < all + b) c.requires.block few;
-        transfers = calls_written shown g.R.Record.WIDTH (g.P.Supply.stock c.args.supply.now) (g.P.Supply.stock c.draw_slots.new.supply) (g.P.Supply.stock c.release_runs.new.supply)
-            (external_slots shown body.runs.external.items) (job_slots shown body.lanes.jobs.items) (external_slots shown c.push_reserved.new.self.items) c.in-Some.berths array
-            (length array.stored) (g.P.Supply.stock c.release_runs.new.supply).sure_buffers _ c.in-Some.ensures.drawn writing.transfers c.release_runs.ensures.stock
-            (ap (external_slots shown) c.push_reserved.ensures.items ∙ slots_more shown body.runs.external.items array);
-        stay = (went_written shown g.R.Record.WIDTH (g.P.Supply.stock c.args.supply.now) (g.P.Supply.stock c.draw_slots.new.supply) (g.P.Supply.stock c.release_runs.new.supply)
-            (external_slots shown body.runs.external.items) (job_slots shown body.lanes.jobs.items) (external_slots shown c.push_reserved.new.self.items) c.in-Some.berths array
-            (length array.stored) (g.P.Supply.stock c.release_runs.new.supply).sure_buffers _ c.in-Some.ensures.drawn writing.went c.release_runs.ensures.stock
-            (ap (external_slots shown) c.push_reserved.ensures.items ∙ slots_more shown body.runs.external.items array)).calls.stay;
+        transfers = more_writes (length array.stored) _ _ calls.went;
+        stay = calls.went.calls.stay;
       };
       lanes = search;
       size = sizes_after shown w c.args.body.now _ old (g.P.Supply.stock c.release_runs.new.supply) is block
@@ -170,11 +163,6 @@ returns-in-Some-failed-clause-leaves g c =
     let array = c.write_runs-failed.new.making.made in
     let old = g.P.Supply.stock c.args.supply.now in
     let more = ap (external_slots shown) c.push_reserved.ensures.items ∙ slots_more shown body.runs.external.items array in
-    let buffers = same_buffers body.runs.internal.items c.write_runs-failed.new.internal.items failed.buffers in
-    let kept = kept_failed shown g.R.Record.WIDTH old (g.P.Supply.stock c.draw_slots.new.supply) (g.P.Supply.stock c.free_slot.new.supply) (g.P.Supply.stock c.free_slots.new.supply)
-    (external_slots shown body.runs.external.items) (job_slots shown body.lanes.jobs.items) (external_slots shown c.push_reserved.new.self.items) c.in-Some.berths c.write_runs-failed.new.making.berths array c.in-Some-failed.berth
-    (internal_buffers body.runs.internal.items) (internal_buffers c.write_runs-failed.new.internal.items) 0 0 0 0
-    c.in-Some.ensures.drawn failed.same c.free_slot.ensures.back c.free_slots.ensures.stock buffers more refl refl in
     let all = length c.args.sorted.now + length (internal_items body.runs.internal.items) in
     let total : length c.args.sorted.now + c.count_records.result ≡ all = ap (λ n. length c.args.sorted.now + n) (c.count_records.ensures ∙ ap (λ xs. length (internal_items xs)) c.deref.ensures.value) in
     let few : length array.stored * c.args.block < all + c.args.block = fewer (length array.stored) c.blocks_for.result c.args.block (all + c.args.block) (omega (arith, failed.few, c.in-Some.ensures.all)) (omega (arith, c.blocks_for.ensures.least, total)) in
@@ -182,40 +170,30 @@ returns-in-Some-failed-clause-leaves g c =
     let w = g.R.Record.WIDTH in
     let block : (g.P.Supply.stock c.free_slots.new.supply).block ≡ old.block = ap (λ s. s.block) c.free_slots.ensures.stock ∙ ap (λ s. s.block) c.free_slot.ensures.back ∙ ap (λ s. s.block) c.in-Some.ensures.drawn.stock in
     let put = subst (λ b. All (HasSize shown (b * w)) array.stored) c.requires.block (all_left (HasSize shown (c.args.block * w)) array.stored (c.in-Some-failed.berth ∷ c.write_runs-failed.new.making.berths) failed.sizes) in
+    let drew = g.P.Supply.stock c.draw_slots.new.supply in
+    let freed = g.P.Supply.stock c.free_slot.new.supply in
+    let now = g.P.Supply.stock c.free_slots.new.supply in
+    let same = same_buffers body.runs.internal.items c.write_runs-failed.new.internal.items failed.buffers in
+    let calls = went_failed shown w old drew (external_slots shown body.runs.external.items) (job_slots shown body.lanes.jobs.items) (external_slots shown c.push_reserved.new.self.items) c.in-Some.berths array c.in-Some.ensures.drawn more freed now c.write_runs-failed.new.making.berths c.in-Some-failed.berth c.free_slot.ensures.back c.free_slots.ensures.stock (length array.stored) failed.went in
+    let room = room_failed shown w old drew (external_slots shown body.runs.external.items) (job_slots shown body.lanes.jobs.items) (external_slots shown c.push_reserved.new.self.items) c.in-Some.berths array c.in-Some.ensures.drawn more freed now c.write_runs-failed.new.making.berths c.in-Some-failed.berth c.free_slot.ensures.back c.free_slots.ensures.stock (length array.stored) failed.went in
+    let buffers = buffers_failed shown w old drew (external_slots shown body.runs.external.items) (job_slots shown body.lanes.jobs.items) (external_slots shown c.push_reserved.new.self.items) c.in-Some.berths array c.in-Some.ensures.drawn more freed now c.write_runs-failed.new.making.berths c.in-Some-failed.berth c.free_slot.ensures.back c.free_slots.ensures.stock (length array.stored) failed.went in
     record {
-      kept = (kept_failed shown g.R.Record.WIDTH old (g.P.Supply.stock c.draw_slots.new.supply) (g.P.Supply.stock c.free_slot.new.supply) (g.P.Supply.stock c.free_slots.new.supply)
-          (external_slots shown body.runs.external.items) (job_slots shown body.lanes.jobs.items) (external_slots shown c.push_reserved.new.self.items) c.in-Some.berths c.write_runs-failed.new.making.berths array c.in-Some-failed.berth
+      kept = kept_failed shown w old drew (external_slots shown body.runs.external.items) (job_slots shown body.lanes.jobs.items) (external_slots shown c.push_reserved.new.self.items) c.in-Some.berths array c.in-Some.ensures.drawn more freed now c.write_runs-failed.new.making.berths c.in-Some-failed.berth c.free_slot.ensures.back c.free_slots.ensures.stock (length array.stored) failed.went
           (internal_buffers body.runs.internal.items) (internal_buffers c.write_runs-failed.new.internal.items)
           (external_buffers body.runs.external.items) (external_buffers c.push_reserved.new.self.items)
           (length body.lanes.idle + length body.lanes.jobs.items) (length c.write_runs-failed.new.idle + length body.lanes.jobs.items)
-          c.in-Some.ensures.drawn failed.same c.free_slot.ensures.back c.free_slots.ensures.stock
-          (same_buffers body.runs.internal.items c.write_runs-failed.new.internal.items failed.buffers)
-          (ap (external_slots shown) c.push_reserved.ensures.items ∙ slots_more shown body.runs.external.items array)
-          (ap external_buffers c.push_reserved.ensures.items ∙ buffers_more shown body.runs.external.items array failed.shape)
-          (ap (λ n. n + length body.lanes.jobs.items) c.in-Some-failed.ensures.idle.long)).0;
+          same (ap external_buffers c.push_reserved.ensures.items ∙ buffers_more shown body.runs.external.items array failed.shape) (ap (λ n. n + length body.lanes.jobs.items) c.in-Some-failed.ensures.idle.long);
       takes_back = record {
-        slots = omega (arith, c.requires.room.takes_back.slots, kept.1, ap length more, length-append (external_slots shown body.runs.external.items) (slots_shown shown array.stored), slots_long shown array.stored);
-        buffers = omega (arith, c.requires.room.takes_back.buffers, kept.2, buffers);
+        slots = omega (arith, c.requires.room.takes_back.slots, room, ap length more, length-append (external_slots shown body.runs.external.items) (slots_shown shown array.stored), slots_long shown array.stored);
+        buffers = omega (arith, c.requires.room.takes_back.buffers, buffers, same);
       };
-      tells = ((went_failed shown g.R.Record.WIDTH (g.P.Supply.stock c.args.supply.now) (g.P.Supply.stock c.draw_slots.new.supply) (g.P.Supply.stock c.free_slot.new.supply) (g.P.Supply.stock c.free_slots.new.supply)
-          (external_slots shown body.runs.external.items) (job_slots shown body.lanes.jobs.items) (external_slots shown c.push_reserved.new.self.items) c.in-Some.berths c.write_runs-failed.new.making.berths array c.in-Some-failed.berth
-          (length array.stored) c.in-Some.ensures.drawn failed.went c.free_slot.ensures.back c.free_slots.ensures.stock
-          (ap (external_slots shown) c.push_reserved.ensures.items ∙ slots_more shown body.runs.external.items array))).tells;
-      untold = untold_failed shown g.R.Record.WIDTH (g.P.Supply.stock c.args.supply.now) (g.P.Supply.stock c.draw_slots.new.supply) (g.P.Supply.stock c.free_slot.new.supply) (g.P.Supply.stock c.free_slots.new.supply)
-          (external_slots shown body.runs.external.items) (job_slots shown body.lanes.jobs.items) (external_slots shown c.push_reserved.new.self.items) c.in-Some.berths c.write_runs-failed.new.making.berths array c.in-Some-failed.berth
-          c.in-Some.ensures.drawn c.in-Some-failed.ensures.outcome.untold c.free_slot.ensures.back c.free_slots.ensures.stock
-          (ap (external_slots shown) c.push_reserved.ensures.items ∙ slots_more shown body.runs.external.items array);
+      tells = calls.went.tells;
+      untold = calls.untold;
       writes = record {
         blocks = length array.stored;
         few = subst (λ b. length array.stored * b < all + b) c.requires.block few;
-        transfers = calls_failed shown g.R.Record.WIDTH (g.P.Supply.stock c.args.supply.now) (g.P.Supply.stock c.draw_slots.new.supply) (g.P.Supply.stock c.free_slot.new.supply) (g.P.Supply.stock c.free_slots.new.supply)
-            (external_slots shown body.runs.external.items) (job_slots shown body.lanes.jobs.items) (external_slots shown c.push_reserved.new.self.items) c.in-Some.berths c.write_runs-failed.new.making.berths array c.in-Some-failed.berth
-            (length array.stored) c.in-Some.ensures.drawn failed.transfers c.free_slot.ensures.back c.free_slots.ensures.stock
-            (ap (external_slots shown) c.push_reserved.ensures.items ∙ slots_more shown body.runs.external.items array);
-        stay = (went_failed shown g.R.Record.WIDTH (g.P.Supply.stock c.args.supply.now) (g.P.Supply.stock c.draw_slots.new.supply) (g.P.Supply.stock c.free_slot.new.supply) (g.P.Supply.stock c.free_slots.new.supply)
-            (external_slots shown body.runs.external.items) (job_slots shown body.lanes.jobs.items) (external_slots shown c.push_reserved.new.self.items) c.in-Some.berths c.write_runs-failed.new.making.berths array c.in-Some-failed.berth
-            (length array.stored) c.in-Some.ensures.drawn failed.went c.free_slot.ensures.back c.free_slots.ensures.stock
-            (ap (external_slots shown) c.push_reserved.ensures.items ∙ slots_more shown body.runs.external.items array)).calls.stay;
+        transfers = more_writes (length array.stored) _ _ calls.went;
+        stay = calls.went.calls.stay;
       };
       lanes = search;
       size = sizes_after shown w c.args.body.now _ old (g.P.Supply.stock c.free_slots.new.supply) is block

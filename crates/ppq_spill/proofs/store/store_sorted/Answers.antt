@@ -5,8 +5,7 @@ use Rattle.ppq_spill.proofs.Storings.{sizes_after}
 use Rattle.std.proofs.lemmas.Result.{on_ok_weaker}
 use Rattle.ppq_spill.specs.Storing.{BlocksStored}
 use Rattle.ppq_spill.specs.Body.{body_slots}
-use Rattle.ppq_spill.proofs.Going.{went_untouched, untold_untouched}
-use Rattle.ppq_spill.proofs.Transfers.{untouched}
+use Rattle.ppq_spill.proofs.Going.{went_untouched, more_writes}
 use Rattle.ppq_spill.proofs.InBlocks.{stored_after, ascend_still, leaves_still, ends_stored, none_after}
 use Rattle.ppq_spill.proofs.store.store_sorted.Goals as goal
 
@@ -34,12 +33,12 @@ returns-in-Some-clause-writes g c =
     let o = g.P.Supply.stock c.args.supply.now in
     let n = g.P.Supply.stock c.store_in_buffers.new.supply in
     let is = c.in-Some.ensures.stored.stock in
-    let slots = body_slots g.S.Slot.shown c.args.body.now in
+    let went = (went_untouched (body_slots g.S.Slot.shown c.args.body.now) o n (ap (λ s. s.kept) is) (ap (λ s. s.drawn) is)).went in
     record {
       blocks = 0;
       few = omega (arith, c.requires.some, (let z : 0 * o.block ≡ 0 = omega arith in z));
-      transfers = untouched slots o n (ap (λ s. s.kept) is) (ap (λ s. s.drawn) is);
-      stay = (went_untouched slots o n (ap (λ s. s.kept) is) (ap (λ s. s.drawn) is)).calls.stay;
+      transfers = more_writes 0 _ _ went;
+      stay = went.calls.stay;
     }
 
 pub returns-in-Some-clause-tells : goal.returns-in-Some-clause-tells
@@ -47,14 +46,14 @@ returns-in-Some-clause-tells g c =
     let o = g.P.Supply.stock c.args.supply.now in
     let n = g.P.Supply.stock c.store_in_buffers.new.supply in
     let is = c.in-Some.ensures.stored.stock in
-    (went_untouched (body_slots g.S.Slot.shown c.args.body.now) o n (ap (λ s. s.kept) is) (ap (λ s. s.drawn) is)).tells
+    (went_untouched (body_slots g.S.Slot.shown c.args.body.now) o n (ap (λ s. s.kept) is) (ap (λ s. s.drawn) is)).went.tells
 
 pub returns-in-Some-clause-untold : goal.returns-in-Some-clause-untold
 returns-in-Some-clause-untold g c =
     let o = g.P.Supply.stock c.args.supply.now in
     let n = g.P.Supply.stock c.store_in_buffers.new.supply in
     let is = c.in-Some.ensures.stored.stock in
-    untold_untouched (body_slots g.S.Slot.shown c.args.body.now) o n (ap (λ s. s.kept) is) (ap (λ s. s.drawn) is)
+    (went_untouched (body_slots g.S.Slot.shown c.args.body.now) o n (ap (λ s. s.kept) is) (ap (λ s. s.drawn) is)).untold
 
 pub returns-in-None-clause-kept : goal.returns-in-None-clause-kept
 returns-in-None-clause-kept g c = (leaves_still g.S.Slot.shown g.R.Record.WIDTH (length c.args.sorted.now) (length c.args.sorted.now) c.args.body.now c.store_in_blocks.new.body (g.P.Supply.stock c.args.supply.now) (g.P.Supply.stock c.store_in_buffers.new.supply) (g.P.Supply.stock c.store_in_blocks.new.supply) c.in-None.ensures.scant c.store_in_blocks.ensures.leaves).kept

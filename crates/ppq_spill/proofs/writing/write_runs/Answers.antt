@@ -45,7 +45,7 @@ write_block-buf-requires-clause-may g c κs within =
       settled = ap (λ b. b.raw) c.merge_least.ensures.buf;
       within = omega (arith, count, put);
       size = ap (λ n. n * w) put ∙ sym (All-head (HasSize g.S.Slot.shown (block * w)) c.in-Some.berth rest (subst (All (HasSize g.S.Slot.shown (block * w))) e sizes));
-      room = omega (arith, i.writing.same.length, length-append (slots_shown shown made.stored) (slots_shown shown c.loop-berth.making.berths), slots_long shown made.stored, slots_long shown c.loop-berth.making.berths, slots_long shown c.args.making.now.berths, c.requires.may.few_slots, long);
+      room = omega (arith, i.writing.went.went.same.length, length-append (slots_shown shown made.stored) (slots_shown shown c.loop-berth.making.berths), slots_long shown made.stored, slots_long shown c.loop-berth.making.berths, slots_long shown c.args.making.now.berths, c.requires.may.few_slots, long);
       few = omega (arith, i.writing.size, count, c.requires.may.few, length-append (internal_items c.args.internal.now.items) c.args.sorted.now);
     }
 
