@@ -13,10 +13,10 @@ use Rattle.ppq_fetch.specs.ppq_array.declared.berth.DeviceBlock.{DeviceBlock}
 use Rattle.ppq_fetch.specs.ppq_array.declared.store_fault.StoreFault.{StoreFault}
 use Rattle.ppq_fetch.specs.ppq_array.Run.{run_of}
 use Rattle.ppq_fetch.specs.ppq_array.External.{External, external, size_of, counts, block_items, blocks_items, IsPacked}
-use Rattle.ppq_spill.specs.Making.{Hand, hand_slots, Wrote, WroteAll, WroteSome, AllFull, AllFit, MayWrite, MayWritePart}
+use Rattle.ppq_spill.specs.Making.{Hand, hand_slots, Wrote, WroteAll, WroteSome, AllFull, MayWrite, MayWritePart}
 use Rattle.ppq_spill.specs.Writing.{SameBuffers}
 use Rattle.ppq_spill.proofs.Parts.{Wrote-trans, Wrote-none, hand_long}
-use Rattle.ppq_spill.proofs.Blocks.{counts_append, counts_full, full_fit, all_full, packed_append, packed_full, fewer_than}
+use Rattle.ppq_spill.proofs.Blocks.{counts_append, counts_full, all_full, packed_append, packed_full, fewer_than}
 
 -- So many of the records were written, in blocks that are full as long as records are left
 pub record Batch {S R : Type 0} (record_of : List ℕ → R) (width block : ℕ) (shown : S → Shown) (bytes : ℕ) (records : List R) (at : ℕ) (old new : Hand S R) : Type 0 where

@@ -1,5 +1,5 @@
 -- How the merge of a level ends, case by case.
-use Rattle.std.proofs.Common.{◌≡◌, ℕ, ◌+◌, ◌-◌, ◌*◌, ◌≤◌, ◌++◌, List, [], min, length, take, drop, All, refl, sym, ap, ◌∙◌, subst, take-append-drop, IsPermutation}
+use Rattle.std.proofs.Common.{◌≡◌, ℕ, ◌+◌, ◌-◌, ◌*◌, ◌≤◌, ◌++◌, List, [], min, length, All, refl, sym, ap, ◌∙◌, subst, take-append-drop, IsPermutation}
 use Rattle.std.specs.declared.cmp.Ordering.{Ordering}
 use Rattle.ppq_fetch.specs.ppq_outside.Shown.{Shown}
 use Rattle.ppq_fetch.specs.ppq_lane.declared.lanes.Lanes.{Lanes}
@@ -12,7 +12,7 @@ use Rattle.ppq_fetch.specs.ppq_array.Kept.{Kept}
 use Rattle.ppq_fetch.specs.ppq_array.Holdings.{external_buffers}
 use Rattle.ppq_spill.specs.Leveling.{HasLevel, EightOf, MayLevel, AreOneSize, LevelCalls, LevelMerged, NoneForLevel, LevelTells, ArraysAscend, held_in}
 use Rattle.ppq_spill.specs.Moves.{DrewSlots, FoundFewSlots}
-use Rattle.ppq_spill.specs.Making.{Table, table, last_eight, all_but_eight, IsReady, MayMerge, LastMerged, LastFailed}
+use Rattle.ppq_spill.specs.Making.{Table, table, last_eight, all_but_eight, BetweenBatches, MayMerge, LastMerged, LastFailed}
 use Rattle.ppq_spill.proofs.Starts.{eight_last, ready_first}
 use Rattle.ppq_spill.proofs.Leveled.{placed_merged, placed_failed, failed_size, level_kept, level_tells, level_calls, level_again, level_idle, level_merged, none_for_level, none_kept, none_tells, none_calls, none_size, none_again}
 
@@ -51,7 +51,7 @@ module _ {S R : Type 0} (shown : S → Shown) (width workers level : ℕ) (old m
     abbrev start : External S R → Table S R
     start made = table (last_eight mid) lanes.idle made berths stock1
 
-    ready : IsReady shown width workers (start (external next (run_of [] 0 []) [] []))
+    ready : BetweenBatches shown width workers (start (external next (run_of [] 0 []) [] []))
     ready = ready_first shown width workers level next old (last_eight mid) (all_but_eight mid) lanes stock stock1 berths may of drew long
 
     -- they may be merged
@@ -59,7 +59,7 @@ module _ {S R : Type 0} (shown : S → Shown) (width workers level : ℕ) (old m
     may_merge places worker bench =
         record {
           eight = of.eight;
-          ready = subst (λ m. IsReady shown width workers (start m)) (sym empty) ready;
+          ready = subst (λ m. BetweenBatches shown width workers (start m)) (sym empty) ready;
           worker = worker;
           bench = bench;
           batch = may.batch ∙ ap (λ k. workers * k) (sym (ap (λ s. s.block) drew.stock));

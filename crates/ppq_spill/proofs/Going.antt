@@ -1,11 +1,10 @@
 -- Slots that are moved, written and read, one step after the other.
-use Rattle.std.proofs.Common.{◌≡◌, ℕ, ◌+◌, ◌*◌, ◌≤◌, List, [], ◌∷◌, ◌++◌, length, sum_by, Option, Some, None, IsSome, refl, sym, ap, ap₂, ◌∙◌, subst, arith}
+use Rattle.std.proofs.Common.{◌≡◌, ℕ, ◌+◌, List, [], ◌∷◌, ◌++◌, length, sum_by, Option, Some, None, IsSome, refl, sym, subst, arith}
 use Rattle.std.proofs.lemmas.List.Sums.{sum_by-cons, sum_by-append}
 use Rattle.std.proofs.lemmas.List.Elements.{All-cons, All-head, All-nil}
-use Rattle.ppq_fetch.specs.ppq_outside.Shown.{Shown, Tells, AllTell}
+use Rattle.ppq_fetch.specs.ppq_outside.Shown.{Shown, Tells}
 use Rattle.ppq_fetch.specs.ppq_array.Supply.{Stock}
-use Rattle.ppq_fetch.specs.ppq_array.Kept.{SameSlots, MoreWrites, weight_at}
-use Rattle.ppq_spill.specs.Leveling.{MoreCalls}
+use Rattle.ppq_fetch.specs.ppq_array.Kept.{MoreWrites, weight_at}
 use Rattle.ppq_spill.specs.Went.{Went, WentWriting}
 use Rattle.ppq_spill.specs.Moves.{SameSums}
 use Rattle.ppq_spill.specs.Writing.{Grew}

@@ -1,8 +1,7 @@
 -- A run that was stored in blocks.
-use Rattle.std.proofs.Common.{◌≡◌, inr, ℕ, ◌+◌, ◌-◌, ◌*◌, ◌<◌, List, [], ◌∷◌, ◌++◌, length, sum_by, Option, Some, None, IsSome, refl, sym, ap, ◌∙◌, subst, arith, length-append, append-nil}
+use Rattle.std.proofs.Common.{◌≡◌, inr, ℕ, ◌+◌, ◌-◌, ◌*◌, ◌<◌, List, [], ◌∷◌, ◌++◌, length, sum_by, refl, sym, ap, ◌∙◌, subst, arith, length-append, append-nil}
 use Rattle.std.specs.Prelude.{count_by, Result, Ok, Err, OnOk}
-use Rattle.std.proofs.lemmas.List.Sums.{sum_by-cons, sum_by-append}
-use Rattle.std.proofs.lemmas.List.Elements.{All-cons, All-head, All-tail, All-nil}
+use Rattle.std.proofs.lemmas.List.Sums.{sum_by-append}
 use Rattle.std.specs.declared.cmp.Ordering.{Ordering}
 use Rattle.ppq_fetch.proofs.ppq_record.Order.{IsSameBag-append_comm}
 use Rattle.ppq_fetch.specs.ppq_outside.Shown.{Shown, Tells, AllTell}
@@ -17,7 +16,7 @@ use Rattle.ppq_fetch.specs.ppq_array.Holdings.{internal_items}
 use Rattle.ppq_fetch.proofs.ppq_array.Noted.{all_left}
 use Rattle.ppq_spill.specs.declared.body.PassBody.{PassBody}
 use Rattle.ppq_spill.specs.Body.{body_slots}
-use Rattle.ppq_spill.specs.Moves.{SameSums, DrewSlots, FoundScant}
+use Rattle.ppq_spill.specs.Moves.{DrewSlots, FoundScant}
 use Rattle.ppq_spill.specs.Storing.{RunsAscend, BlocksStored, IsStored, StoreLeaves, StoreEnds, NoSlots, NoneFree, SameScant, TooFew}
 use Rattle.ppq_spill.specs.Writing.{Writing, left_in}
 use Rattle.ppq_spill.proofs.Keeping.{slots_long}

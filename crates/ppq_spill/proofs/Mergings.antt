@@ -7,7 +7,8 @@ use Rattle.std.specs.declared.cmp.Ordering.{Ordering}
 use Rattle.ppq_fetch.specs.ppq_record.Order.{is_before, Le}
 use Rattle.ppq_fetch.proofs.ppq_record.Order.{IsSameBag-length, IsSameBag-append, Each_le-same_bag, Each-append_left, Each-append_right, Each-weaker, Each-append, Rising-append}
 use Rattle.ppq_fetch.specs.ppq_array.Run.{Run}
-use Rattle.ppq_spill.specs.Writing.{MergedOut, left_in, NoneAfter}
+use Rattle.ppq_fetch.specs.Taking.{NoneAfter}
+use Rattle.ppq_spill.specs.Writing.{MergedOut, left_in}
 
 module _ {R : Type 0} (cmp : R → R → Ordering) where
   pub MergedOut-more :

@@ -1,5 +1,5 @@
 -- One batch of a merge, and one batch after the other.
-use Rattle.std.proofs.Common.{◌≡◌, ℕ, ◌+◌, ◌-◌, ◌*◌, ◌<◌, ◌≤◌, ◌^◌, ◌⊎◌, inl, inr, min, List, [], ◌∷◌, ◌++◌, length, take, All, None, refl, sym, ap, ◌∙◌, subst, arith, length-append}
+use Rattle.std.proofs.Common.{◌≡◌, ℕ, ◌+◌, ◌-◌, ◌*◌, ◌<◌, ◌≤◌, ◌^◌, inl, inr, min, List, [], ◌++◌, length, take, All, None, refl, sym, ap, ◌∙◌, subst, arith, length-append}
 use Rattle.std.specs.Cmp.{IsStrictWeakOrder}
 use Rattle.std.specs.declared.cmp.Ordering.{Ordering}
 use Rattle.std.proofs.Math.Nat.{add-mul}
@@ -16,10 +16,10 @@ use Rattle.ppq_fetch.specs.ppq_array.External.{External, size_of, counts}
 use Rattle.ppq_fetch.specs.ppq_array.Kept.{HasFailed}
 use Rattle.ppq_fetch.specs.ppq_array.Supply.{Stock}
 use Rattle.ppq_fetch.specs.ppq_array.Owner.{HasBlock, HasSize}
-use Rattle.ppq_fetch.specs.Fetching.{State, state, AreSources, MayFetch, PartsKept, Fetched, FetchFailed, WentOn, blocks_in, count_in}
+use Rattle.ppq_fetch.specs.Fetching.{State, state, AreSources, MayFetch, PartsKept, Fetched, WentOn, count_in}
 use Rattle.ppq_fetch.specs.ppq_lane.declared.lanes.Lanes.{Lanes}
 use Rattle.ppq_spill.specs.Writing.{SameBuffers}
-use Rattle.ppq_spill.specs.Making.{hand, Wrote, WroteAll, WroteSome, MayWrite, Table, table, table_slots, total, IsReady, MayMerge, SameTools, Merging, MergedOn, MergeFailed, MergedBatch, IsRising, all_records, AllFull, IsFaultOf}
+use Rattle.ppq_spill.specs.Making.{hand, WroteAll, WroteSome, MayWrite, Table, table, total, BetweenBatches, MayMerge, SameTools, MergedOn, MergeFailed, MergedBatch, AllFull, IsFaultOf}
 use Rattle.ppq_spill.proofs.Parts.{Wrote-none}
 use Rattle.ppq_spill.proofs.Blocks.{counts_full}
 use Rattle.ppq_spill.proofs.Fetches.{went_fit}
@@ -126,7 +126,7 @@ module _ {S R : Type 0} (cmp : R → R → Ordering) (record_of : List ℕ → R
   -- a read failed
   pub batch_not_read :
       (o : Table S R) (inputs1 : List (External S R)) (idle1 : List (Block R)) (stock1 : Stock) (fault : StoreFault)
-      → IsReady shown width workers o → ReadFailed shown width workers (state [] o.inputs o.idle o.hand.stock) (state [] inputs1 idle1 stock1) fault
+      → BetweenBatches shown width workers o → ReadFailed shown width workers (state [] o.inputs o.idle o.hand.stock) (state [] inputs1 idle1 stock1) fault
       → MergeFailed shown width o (table inputs1 idle1 o.hand.made o.hand.berths stock1) fault
   batch_not_read o inputs1 idle1 stock1 fault ready is =
       let parts = is.parts in
@@ -143,7 +143,7 @@ module _ {S R : Type 0} (cmp : R → R → Ordering) (record_of : List ℕ → R
   -- a write failed
   pub batch_not_written :
       (o : Table S R) (inputs1 : List (External S R)) (idle1 idle2 : List (Block R)) (stock1 stock2 : Stock) (made2 : External S R) (berths2 : List (DeviceBlock S R)) (batch : List R) (count : ℕ) (fault : StoreFault)
-      → IsReady shown width workers o → TookBatch cmp record_of width workers shown (state [] o.inputs o.idle o.hand.stock) (state [] inputs1 idle1 stock1) batch count
+      → BetweenBatches shown width workers o → TookBatch cmp record_of width workers shown (state [] o.inputs o.idle o.hand.stock) (state [] inputs1 idle1 stock1) batch count
       → WroteSome shown stock1.block (stock1.block * width) (take count batch) (hand o.hand.made o.hand.berths stock1) (hand made2 berths2 stock2) fault
       → SameBuffers stock1.block idle1 idle2 → MergeFailed shown width o (table inputs1 idle2 made2 berths2 stock2) fault
   batch_not_written o inputs1 idle1 idle2 stock1 stock2 made2 berths2 batch count fault ready took put1 same =
@@ -171,7 +171,7 @@ module _ {S R : Type 0} (cmp : R → R → Ordering) (record_of : List ℕ → R
         failed = put.failed;
       }
 
-  pub MergedOn-none : (o : Table S R) → IsReady shown width workers o → MergedOn cmp record_of width workers shown o o
+  pub MergedOn-none : (o : Table S R) → BetweenBatches shown width workers o → MergedOn cmp record_of width workers shown o o
   MergedOn-none o ready = record { merging = Merging-none shown width workers o ready; ready = ready; same = refl; rise = λ t r. r; records = λ t r p. refl }
 
   pub MergedOn-trans : (o h n : Table S R) → MergedOn cmp record_of width workers shown o h → MergedOn cmp record_of width workers shown h n → MergedOn cmp record_of width workers shown o n

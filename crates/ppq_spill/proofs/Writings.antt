@@ -20,7 +20,8 @@ use Rattle.ppq_fetch.specs.ppq_array.External.{External, external, size_of, coun
 use Rattle.ppq_fetch.specs.ppq_array.Owner.{slots_shown, HasSize}
 use Rattle.ppq_fetch.specs.ppq_array.Kept.{MoreWrites}
 use Rattle.ppq_fetch.proofs.ppq_array.Noted.{all_left, all_right, take_whole}
-use Rattle.ppq_spill.specs.Writing.{Grew, MergedOut, BlockStored, BlockFailed, WriteFailed, Writing, left_in, NoneAfter}
+use Rattle.ppq_fetch.specs.Taking.{NoneAfter}
+use Rattle.ppq_spill.specs.Writing.{Grew, MergedOut, BlockStored, BlockFailed, WriteFailed, Writing, left_in}
 use Rattle.ppq_spill.specs.Went.{WentWriting}
 use Rattle.ppq_spill.proofs.Going.{WentWriting-refl, WentWriting-more}
 use Rattle.ppq_spill.proofs.Keeping.{slots_long}

@@ -18,7 +18,7 @@ use Rattle.ppq_fetch.specs.Fetching.{state, source_items, MayFetch, RunsRise, bl
 use Rattle.ppq_fetch.specs.ppq_lane.declared.lanes.Lanes.{Lanes}
 use Rattle.ppq_spill.specs.declared.new_array.NewArray.{NewArray}
 use Rattle.ppq_spill.specs.Went.{Went}
-use Rattle.ppq_spill.specs.Writing.{NoneAfter}
+use Rattle.ppq_fetch.specs.Taking.{NoneAfter}
 
 -- no slot was drawn from a row, and the supply can take back as many buffers
 pub record SameRest (old new : Stock) : Type 0 where
@@ -155,7 +155,7 @@ module _ {S R : Type 0} where
 
   -- What holds between two batches. All blocks made but the last are full, and all of them while records are left. Made and loaded records
   -- fit in the slots of the made blocks and those that are at hand, so there is a slot for each block that is to be written
-  pub record IsReady (shown : S → Shown) (width workers : ℕ) (t : Table S R) : Type 0 where
+  pub record BetweenBatches (shown : S → Shown) (width workers : ℕ) (t : Table S R) : Type 0 where
     pub may : MayFetch shown width workers (state [] t.inputs t.idle t.hand.stock)
     pub some : 1 ≤ t.hand.stock.block
     pub small : t.hand.stock.block ≤ 65536
@@ -173,7 +173,7 @@ module _ {S R : Type 0} where
   -- 8 arrays may be merged, a batch at a time, by so many workers, with so many places for runs and a batch with room for so many records
   pub record MayMerge (shown : S → Shown) (width workers places most : ℕ) (t : Table S R) : Type 0 where
     pub eight : length t.inputs ≡ 8
-    pub ready : IsReady shown width workers t
+    pub ready : BetweenBatches shown width workers t
     pub worker : 1 ≤ workers
     pub bench : 8 ≤ places
     pub batch : most ≡ workers * t.hand.stock.block
@@ -215,7 +215,7 @@ module _ {S R : Type 0} where
   -- so many records went from the arrays to made blocks
   pub record MergedOn (cmp : R → R → Ordering) (record_of : List ℕ → R) (width workers : ℕ) (shown : S → Shown) (old new : Table S R) : Type 0 where
     pub merging : Merging shown width old new
-    pub ready : IsReady shown width workers new
+    pub ready : BetweenBatches shown width workers new
     pub same : total new ≡ total old
     pub rise : AllTell (table_slots shown old) → IsRising cmp record_of width shown old → IsRising cmp record_of width shown new
     pub records : AllTell (table_slots shown old) → IsRising cmp record_of width shown old → IsSameBag (all_records record_of width shown old) (all_records record_of width shown new)
@@ -237,13 +237,13 @@ module _ {S R : Type 0} where
   BatchMergeEnds cmp record_of width workers shown old new (Err fault) = MergeFailed shown width old new fault
 
   -- an array has no slot and no buffer any more
-  pub record IsEmptied (a : External S R) : Type 0 where
+  pub record HasNothing (a : External S R) : Type 0 where
     pub stored : a.stored ≡ []
     pub loaded : buffers_of a.loaded ≡ []
 
   -- how the merge of arrays ends: nothing is left of them, or a read or write failed
   abbrev pub MergeEnds : {T : Type 0} → (R → R → Ordering) → (List ℕ → R) → ℕ → ℕ → (S → Shown) → Table S R → Table S R → Result T StoreFault → Type 0
-  MergeEnds cmp record_of width workers shown old new (Ok _) = MergedOn cmp record_of width workers shown old new × All IsEmptied new.inputs
+  MergeEnds cmp record_of width workers shown old new (Ok _) = MergedOn cmp record_of width workers shown old new × All HasNothing new.inputs
   MergeEnds cmp record_of width workers shown old new (Err fault) = MergeFailed shown width old new fault
 
   -- the slots that are left in hand went back to the supply
@@ -254,7 +254,7 @@ module _ {S R : Type 0} where
   pub record LastMerged (cmp : R → R → Ordering) (record_of : List ℕ → R) (width workers : ℕ) (shown : S → Shown) (others : List (External S R)) (old : Table S R) (arrays : List (External S R)) (idle : List (Block R)) (stock : Stock) : Type 0 where
     pub end : Table S R
     pub merged : MergedOn cmp record_of width workers shown old end
-    pub emptied : All IsEmptied end.inputs
+    pub emptied : All HasNothing end.inputs
     pub arrays_are : arrays ≡ others ++ end.hand.made ∷ []
     pub idle_is : idle ≡ end.idle
     pub stock_is : stock ≡ freed shown end.hand

@@ -1,8 +1,7 @@
 -- Runs that are merged into blocks and written, one after the other.
 use Rattle.std.specs.Prelude.{◌≡◌, ℕ, ◌+◌, ◌*◌, ◌<◌, ◌≤◌, ◌-◌, ◌^◌, List, [], ◌∷◌, ◌++◌, length, min, map, All, Option, Some, None}
 use Rattle.std.specs.declared.cmp.Ordering.{Ordering}
-use Rattle.std.specs.List.{AllByRecursion as Each}
-use Rattle.ppq_fetch.specs.ppq_record.Order.{Ascends, Le, is_before}
+use Rattle.ppq_fetch.specs.ppq_record.Order.{Ascends}
 use Rattle.ppq_fetch.specs.ppq_record.Bag.{IsSameBag}
 use Rattle.ppq_fetch.specs.ppq_block.Block.{Block, IsSettled}
 use Rattle.ppq_fetch.specs.ppq_outside.Shown.{Shown, Tells, AllTell}
@@ -12,6 +11,7 @@ use Rattle.ppq_fetch.specs.ppq_array.External.{External, external, size_of, reco
 use Rattle.ppq_fetch.specs.ppq_array.Owner.{slots_shown, HasBlock, HasSize}
 use Rattle.ppq_fetch.specs.ppq_array.Kept.{MoreWrites}
 use Rattle.ppq_fetch.specs.ppq_array.Holdings.{internal_items}
+use Rattle.ppq_fetch.specs.Taking.{NoneAfter}
 use Rattle.ppq_spill.specs.Went.{WentWriting}
 
 -- a slot after a call: the same slot, and no count of it fell
@@ -32,10 +32,6 @@ module _ {R : Type 0} where
   -- all of it ascends
   abbrev pub AllAscend : (R → R → Ordering) → List (Run R) → List R → Type 0
   AllAscend cmp runs rest = All (λ (run : Run R). Ascends cmp (items_of run)) runs × Ascends cmp rest
-
-  -- no record of one list is after one of the other
-  abbrev pub NoneAfter : (R → R → Ordering) → List R → List R → Type 0
-  NoneAfter cmp xs ys = Each (λ x. Each (Le (is_before cmp) x) ys) xs
 
   -- as many buffers as before, all of one block size
   pub record SameBuffers (block : ℕ) (old new : List (Block R)) : Type 0 where

@@ -5,7 +5,7 @@ ghost use Rattle.ppq_fetch.specs.ppq_array.Kept.{Kept};
 ghost use Rattle.ppq_fetch.specs.ppq_array.Holdings.{external_buffers};
 ghost use Rattle.ppq_fetch.specs.Fetching.{state, count_in, MayFetch, AreSources, Fetched, PartsKept};
 ghost use Rattle.ppq_spill.specs.Moves.{DrewSlots, FoundFewSlots};
-ghost use Rattle.ppq_spill.specs.Making.{table_of, last_eight, all_but_eight, MayMerge, SameTools, IsFaultOf, BatchMergeEnds, MergeEnds, LastEnds, IsEmptied};
+ghost use Rattle.ppq_spill.specs.Making.{table_of, last_eight, all_but_eight, MayMerge, SameTools, IsFaultOf, BatchMergeEnds, MergeEnds, LastEnds, HasNothing};
 ghost use Rattle.ppq_spill.specs.Leveling.{held_in, count_level, MayLevel, AreOneSize, LanesStay, LevelCalls, LevelMerged, NoneForLevel, ArraysAscend, LevelFailed, LevelTells};
 
 use crate::crew::Crew;
@@ -255,7 +255,7 @@ fn see_emptied<S: Slot, R: Record>(arrays: &[ExternalArray<S, R>])
     requires none { count_in [] arrays.now ≡ 0 }
     requires lifted { All (λ (a : External S R). a.lifted ≡ []) arrays.now }
     requires spent { All (λ (a : External S R). a.loaded.spent ≡ []) arrays.now }
-    ensures { All IsEmptied arrays.now }
+    ensures { All HasNothing arrays.now }
 {
     for array in arrays {
         see_one_emptied(array);
@@ -267,7 +267,7 @@ fn see_one_emptied<S: Slot, R: Record>(array: &ExternalArray<S, R>)
     requires none { size_of array.now ≡ 0 }
     requires lifted { array.now.lifted ≡ [] }
     requires spent { array.now.loaded.spent ≡ [] }
-    ensures { IsEmptied array.now }
+    ensures { HasNothing array.now }
 {
     let _loaded = array.loaded();
     let _next = array.next_minimum();

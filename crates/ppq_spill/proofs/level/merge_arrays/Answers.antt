@@ -1,7 +1,7 @@
-use Rattle.std.proofs.Common.{◌≡◌, ◌*◌, ◌+◌, ◌<◌, ◌≤◌, ℕ, min, [], length, All, refl, sym, ap₂, ◌∙◌, subst, arith}
+use Rattle.std.proofs.Common.{◌≡◌, ◌*◌, ℕ, [], length, refl, sym, ap₂, ◌∙◌, subst, arith}
 use Rattle.std.proofs.lemmas.List.Elements.{All-from_recursion}
 use Rattle.ppq_fetch.specs.ppq_array.External.{External}
-use Rattle.ppq_spill.specs.Making.{table_of, IsReady, MergedOn}
+use Rattle.ppq_spill.specs.Making.{table_of, BetweenBatches, MergedOn}
 use Rattle.ppq_spill.proofs.Rounds.{MergedOn-none, MergedOn-trans, MergeFailed-trans, SameTools-trans}
 use Rattle.ppq_spill.proofs.level.merge_arrays.Goals as goal
 
@@ -20,7 +20,7 @@ merge_batch-requires-clause-may g c κs within =
     let t = i.tools in
     record {
       eight = i.merged.merging.eight ∙ c.requires.may.eight;
-      ready = subst (λ k. IsReady g.S.Slot.shown g.R.Record.WIDTH k (table_of c.loop-last.inputs c.loop-last.lanes c.loop-last.making (g.P.Supply.stock c.loop-last.supply))) (sym t.workers) i.merged.ready;
+      ready = subst (λ k. BetweenBatches g.S.Slot.shown g.R.Record.WIDTH k (table_of c.loop-last.inputs c.loop-last.lanes c.loop-last.making (g.P.Supply.stock c.loop-last.supply))) (sym t.workers) i.merged.ready;
       worker = omega (arith, t.workers, c.requires.may.worker);
       bench = omega (arith, t.same_places, c.requires.may.bench);
       batch = t.batch ∙ c.requires.may.batch ∙ ap₂ (λ (a b : ℕ). a * b) (sym t.workers) (sym i.merged.merging.rest.block);

@@ -1,4 +1,4 @@
-use Rattle.std.proofs.Common.{◌≡◌, ◌*◌, [], length, min, take, sym, ap, ◌∙◌, subst}
+use Rattle.std.proofs.Common.{[], length, min, take, sym, ap, ◌∙◌, subst}
 use Rattle.ppq_fetch.proofs.ppq_record.Fronts.{ranks}
 use Rattle.ppq_fetch.specs.Fetching.{count_in}
 use Rattle.ppq_spill.specs.Making.{table_of, hand_of, MayWrite}

@@ -1,9 +1,9 @@
 use Rattle.std.specs.Prelude.{vec_len}
 use Rattle.std.proofs.lemmas.List.{take-append-le}
-use Rattle.std.proofs.Common.{◌≡◌, ℕ, ◌+◌, ◌-◌, ◌*◌, ◌≤◌, List, ◌++◌, ◌∷◌, [], length, take, drop, All, refl, sym, ap, ◌∙◌, subst, arith, take-append-drop}
+use Rattle.std.proofs.Common.{◌≡◌, ℕ, ◌-◌, ◌*◌, List, ◌++◌, ◌∷◌, [], length, take, drop, All, refl, sym, ap, ◌∙◌, subst, arith, take-append-drop}
 use Rattle.ppq_fetch.specs.ppq_array.Owner.{HasSize}
 use Rattle.ppq_fetch.proofs.ppq_array.Noted.{all_right, take_whole}
-use Rattle.ppq_spill.specs.Making.{table_of, all_but_eight, MergeEnds}
+use Rattle.ppq_spill.specs.Making.{table_of}
 use Rattle.ppq_spill.proofs.level.merge_last.Goals as goal
 
 -- what is written back into a list of the same length

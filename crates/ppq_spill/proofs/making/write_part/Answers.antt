@@ -1,7 +1,7 @@
-use Rattle.std.proofs.Common.{◌≡◌, ◌*◌, ◌∷◌, ◌++◌, ◌+◌, ◌<◌, ◌≤◌, ◌^◌, [], All, length, ap, sym, ◌∙◌, subst, arith, length-append}
-use Rattle.std.proofs.lemmas.List.Elements.{All-head, All-tail, All-push}
+use Rattle.std.proofs.Common.{◌≡◌, ◌*◌, All, length, ap, sym, ◌∙◌, subst, arith}
+use Rattle.std.proofs.lemmas.List.Elements.{All-head}
 use Rattle.ppq_fetch.specs.ppq_array.Owner.{HasBlock}
-use Rattle.ppq_spill.specs.Writing.{BlockStored, BlockEnds}
+use Rattle.ppq_spill.specs.Writing.{BlockStored}
 use Rattle.ppq_spill.proofs.Idle.{buffer_back}
 use Rattle.ppq_spill.proofs.Parts.{part_written, part_failed}
 use Rattle.ppq_spill.proofs.making.write_part.Goals as goal

@@ -1,4 +1,4 @@
-use Rattle.std.proofs.Common.{◌≡◌, suc, ◌+◌, ◌*◌, ◌<◌, ◌≤◌, ◌^◌, ◌∷◌, [], All, length, drop, min, refl, sym, ap, ◌∙◌, subst, arith, length-append}
+use Rattle.std.proofs.Common.{◌≡◌, suc, ◌+◌, ◌*◌, ◌<◌, ◌∷◌, [], All, length, drop, min, refl, sym, ap, ◌∙◌, subst, arith, length-append}
 use Rattle.std.proofs.lemmas.List.Elements.{All-head}
 use Rattle.ppq_fetch.proofs.ppq_record.Fronts.{ranks}
 use Rattle.ppq_fetch.specs.ppq_array.Owner.{slots_shown, HasBlock, HasSize}
