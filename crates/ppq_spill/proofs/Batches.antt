@@ -5,14 +5,18 @@ use Rattle.std.proofs.lemmas.Nat.{mul-le}
 use Rattle.std.proofs.lemmas.Grind.{flat_map-append}
 use Rattle.std.proofs.lemmas.List.{take_all, length-take, length-drop}
 use Rattle.std.proofs.lemmas.List.Elements.{All-nil, All-append}
+use Rattle.ppq_fetch.specs.ppq_block.Block.{Block}
 use Rattle.ppq_fetch.specs.ppq_outside.Shown.{Shown, AllTell}
+use Rattle.ppq_fetch.specs.ppq_array.Owner.{HasBlock, HasSize}
+use Rattle.ppq_fetch.proofs.ppq_array.Noted.{all_right}
 use Rattle.ppq_fetch.specs.ppq_array.declared.berth.DeviceBlock.{DeviceBlock}
 use Rattle.ppq_fetch.specs.ppq_array.declared.store_fault.StoreFault.{StoreFault}
 use Rattle.ppq_fetch.specs.ppq_array.Run.{run_of}
 use Rattle.ppq_fetch.specs.ppq_array.External.{External, external, size_of, counts, block_items, blocks_items, IsPacked}
-use Rattle.ppq_spill.specs.Making.{Hand, hand_slots, Wrote, WroteAll, WroteSome, AllFull, AllFit}
+use Rattle.ppq_spill.specs.Making.{Hand, hand_slots, Wrote, WroteAll, WroteSome, AllFull, MayWrite, MayWritePart}
+use Rattle.ppq_spill.specs.Writing.{SameBuffers}
 use Rattle.ppq_spill.proofs.Parts.{Wrote-trans, Wrote-none, hand_long}
-use Rattle.ppq_spill.proofs.Blocks.{counts_append, counts_full, full_fit, all_full, packed_append, packed_full, fewer_than}
+use Rattle.ppq_spill.proofs.Blocks.{counts_append, counts_full, all_full, packed_append, packed_full, fewer_than}
 
 -- So many of the records were written, in blocks that are full as long as records are left
 pub record Batch {S R : Type 0} (record_of : List ℕ → R) (width block : ℕ) (shown : S → Shown) (bytes : ℕ) (records : List R) (at : ℕ) (old new : Hand S R) : Type 0 where
@@ -116,28 +120,41 @@ module _ {S R : Type 0} (record_of : List ℕ → R) (width block : ℕ) (shown 
       let few : length (bs ++ cs) * block ≤ length records = subst (λ n. n * block ≤ length records) (sym (length-append bs cs)) (omega (arith, sum, before, put.few, batch.within)) in
       record { blocks = bs ++ cs; wrote = Wrote-trans shown bytes old now new bs cs batch.wrote put.wrote; few = few; failed = put.failed }
 
-  -- there is a slot for one more block, room in the list of blocks, and the numbers fit
-  pub Batch-room :
-      (at end : ℕ) (old now : Hand S R) → block ≤ 65536 → 1 ≤ block → Batch record_of width block shown bytes records at old now → at < length records → end ≤ length records
-      → old.made ≡ external old.made.level (run_of [] 0 []) [] old.made.stored → AllFull block old.made.stored
-      → length records ≤ (length old.berths + length old.stock.kept) * block → length old.made.stored + length old.berths ≤ old.stock.slot_room → size_of old.made + length records ≤ (2 ^ 32 - 2) * block
-      → (0 < length now.berths + length now.stock.kept) × (length now.berths ≤ now.stock.slot_room) × (length now.made.stored < 2 ^ 32 - 1) × (size_of now.made + (end - at) < 2 ^ 64) × (now.made ≡ external now.made.level (run_of [] 0 []) [] now.made.stored)
-  Batch-room at end old now small some batch more ends shape full slots back few =
+  -- there is all that one more block asks for
+  pub Batch-part :
+      (at end n : ℕ) (bufs bufs' : List (Block R)) (old now : Hand S R) → MayWrite shown width (length records) bufs old → bytes ≡ block * width → block ≡ old.stock.block → SameBuffers block bufs bufs' → Batch record_of width block shown bytes records at old now
+      → at < length records → end ≡ min (length records) (at + block) → n ≡ end - at → MayWritePart shown width n bufs' now
+  Batch-part at end n bufs bufs' old now may bytes_is block_is same batch more is n_is =
+      let small : block ≤ 65536 = omega (arith, block_is, may.small) in
+      let some : 1 ≤ block = omega (arith, block_is, may.some) in
+      let shape = may.shape in
+      let full : AllFull block old.made.stored = subst (λ b. AllFull b old.made.stored) (sym block_is) (may.full (omega (arith, more))) in
+      let slots : length records ≤ (length old.berths + length old.stock.kept) * block = subst (λ b. length records ≤ (length old.berths + length old.stock.kept) * b) (sym block_is) may.slots in
+      let few : size_of old.made + length records ≤ (2 ^ 32 - 2) * block = subst (λ b. size_of old.made + length records ≤ (2 ^ 32 - 2) * b) (sym block_is) may.few in
+      let block' : block ≡ now.stock.block = block_is ∙ sym batch.wrote.rest.block in
       let bs = batch.blocks in
       let stored : now.made.stored ≡ old.made.stored ++ bs = ap (λ a. a.stored) batch.wrote.made in
       let long : length now.made.stored ≡ length old.made.stored + length bs = ap length stored ∙ length-append old.made.stored bs in
       let before : length bs * block ≡ at = sym (counts_full block bs (batch.full more)) ∙ batch.size in
       let all : length now.made.stored + length now.berths + length now.stock.kept ≡ length old.made.stored + length old.berths + length old.stock.kept = omega (arith, batch.wrote.went.same.length, hand_long shown old, hand_long shown now) in
       let fewer : length bs < length old.berths + length old.stock.kept = fewer_than (length bs) (length old.berths + length old.stock.kept) block (omega (arith, before, more, slots)) in
-      let is : now.made ≡ external now.made.level (run_of [] 0 []) [] now.made.stored = shape_on shape batch.wrote.made in
+      let is_shape : now.made ≡ external now.made.level (run_of [] 0 []) [] now.made.stored = shape_on shape batch.wrote.made in
       let old_size : size_of old.made ≡ length old.made.stored * block = ap size_of shape ∙ (let e : 0 + counts old.made.stored ≡ length old.made.stored * block = omega (arith, counts_full block old.made.stored full) in e) in
-      let new_size : size_of now.made ≡ size_of old.made + at = ap size_of is ∙ (let e : 0 + counts now.made.stored ≡ size_of old.made + at = omega (arith, ap counts stored, counts_append block old.made.stored bs, counts_full block old.made.stored full, old_size, batch.size) in e) in
+      let new_size : size_of now.made ≡ size_of old.made + at = ap size_of is_shape ∙ (let e : 0 + counts now.made.stored ≡ size_of old.made + at = omega (arith, ap counts stored, counts_append block old.made.stored bs, counts_full block old.made.stored full, old_size, batch.size) in e) in
       let sum : (length old.made.stored + length bs) * block ≡ length old.made.stored * block + length bs * block = add-mul (length old.made.stored) (length bs) block in
       let most : (2 ^ 32 - 2) * block ≤ (2 ^ 32 - 2) * 65536 = mul-le (2 ^ 32 - 2) block (2 ^ 32 - 2) 65536 (omega arith) small in
-      let blocks : length old.made.stored + length bs < 2 ^ 32 - 2 = fewer_than (length old.made.stored + length bs) (2 ^ 32 - 2) block (omega (arith, sum, before, old_size, few, more)) in (
-        omega (arith, all, long, fewer),
-        omega (arith, batch.wrote.room, back),
-        omega (arith, long, blocks),
-        omega (arith, new_size, few, most, ends, more),
-        is,
-      )
+      let blocks : length old.made.stored + length bs < 2 ^ 32 - 2 = fewer_than (length old.made.stored + length bs) (2 ^ 32 - 2) block (omega (arith, sum, before, old_size, few, more)) in
+      record {
+        small = omega (arith, small, block');
+        idle = omega (arith, may.idle, same.long);
+        few_idle = omega (arith, may.few_idle, same.long);
+        blocks = subst (λ b. All (HasBlock b) bufs') block' same.blocks;
+        shape = is_shape;
+        some = omega (arith, n_is, is, more, some);
+        fit = omega (arith, n_is, is, more, block');
+        slots = omega (arith, all, long, fewer);
+        sizes = subst (λ b. All (HasSize shown (b * width)) now.berths) block' (all_right (HasSize shown (block * width)) now.made.stored now.berths (subst (λ k. All (HasSize shown k) (now.made.stored ++ now.berths)) bytes_is (batch.wrote.sizes (subst (λ k. All (HasSize shown k) (old.made.stored ++ old.berths)) (ap (λ b. b * width) (sym block_is) ∙ sym bytes_is) may.sizes))));
+        takes_back = omega (arith, batch.wrote.room, may.takes_back);
+        room = omega (arith, long, blocks);
+        few = omega (arith, new_size, few, most, is, more, n_is);
+      }

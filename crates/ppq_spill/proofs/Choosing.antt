@@ -12,7 +12,7 @@ use Rattle.ppq_fetch.proofs.ppq_record.Order.{count_by-cons, count_by-append, Is
 use Rattle.ppq_fetch.specs.ppq_array.Run.{Run, items_of, buffers_of}
 use Rattle.ppq_fetch.specs.ppq_array.Holdings.{internal_items}
 use Rattle.ppq_spill.specs.Choosing.{NotBefore, IsBest}
-use Rattle.ppq_spill.specs.Writing.{Merged, left_in}
+use Rattle.ppq_spill.specs.Writing.{MergedOut, left_in}
 
 pub same_at : {X : Type 0} (xs : List X) (i : ℕ) (d e : X) → i < length xs → slice_index_or xs i d ≡ slice_index_or xs i e
 same_at [] i d e h = absurd (omega arith)
@@ -100,7 +100,7 @@ module _ {R : Type 0} (cmp : R → R → Ordering) (o : IsStrictWeakOrder (is_be
 
   -- the least record is taken out of a run
   pub took_run :
-      (runs : List (Run R)) (rest : List R) (from : ℕ) (best : Option R) (r : R) (runs' : List (Run R)) → IsBest cmp runs (first_of rest) from best → best ≡ Some r → SetsRun runs r runs' → Merged cmp 1 runs runs' rest rest (r ∷ [])
+      (runs : List (Run R)) (rest : List R) (from : ℕ) (best : Option R) (r : R) (runs' : List (Run R)) → IsBest cmp runs (first_of rest) from best → best ≡ Some r → SetsRun runs r runs' → MergedOut cmp 1 runs runs' rest rest (r ∷ [])
   took_run runs rest from best r runs' is e sets =
       let bag : IsSameBag (left_in runs rest) ((r ∷ []) ++ left_in runs' rest) = λ p. IsSameBag-append (internal_items runs) (r ∷ internal_items runs') rest rest sets.bag (λ q. refl) p in
       record {
@@ -119,7 +119,7 @@ module _ {R : Type 0} (cmp : R → R → Ordering) (o : IsStrictWeakOrder (is_be
 
   -- the least record is taken out of the list
   pub took_rest :
-      (runs : List (Run R)) (rest rest' : List R) (from : ℕ) (best : Option R) (r : R) → IsBest cmp runs (first_of rest) from best → best ≡ Some r → rest ≡ r ∷ rest' → Merged cmp 1 runs runs rest rest' (r ∷ [])
+      (runs : List (Run R)) (rest rest' : List R) (from : ℕ) (best : Option R) (r : R) → IsBest cmp runs (first_of rest) from best → best ≡ Some r → rest ≡ r ∷ rest' → MergedOut cmp 1 runs runs rest rest' (r ∷ [])
   took_rest runs rest rest' from best r is e split =
       let bag : IsSameBag (left_in runs rest) ((r ∷ []) ++ left_in runs rest') = λ p.
       ap (λ ys. count_by p (internal_items runs ++ ys)) split ∙ (let s : count_by p (internal_items runs ++ r ∷ rest') ≡ count_by p (r ∷ (internal_items runs ++ rest')) = omega (arith, count_by-append p (internal_items runs) (r ∷ rest'), count_by-cons p r rest', count_by-cons p r (internal_items runs ++ rest'), count_by-append p (internal_items runs) rest') in s) in

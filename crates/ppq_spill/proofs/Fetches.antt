@@ -1,23 +1,22 @@
 -- What taking the least records does to arrays: blocks are loaded, and their slots freed.
-use Rattle.std.proofs.Common.{◌≡◌, ℕ, zero, suc, ◌+◌, ◌-◌, ◌*◌, ◌<◌, ◌≤◌, List, [], ◌∷◌, ◌++◌, length, take, drop, sum_by, All, refl, sym, ap, ◌∙◌, subst, arith, length-append, take-append-drop}
+use Rattle.std.proofs.Common.{◌≡◌, ℕ, ◌+◌, ◌-◌, ◌*◌, ◌≤◌, List, [], ◌∷◌, ◌++◌, length, take, drop, sum_by, All, refl, sym, ap, ◌∙◌, subst, arith, length-append, take-append-drop}
 use Rattle.std.specs.List.{AllByRecursion as Each, AllZip}
 use Rattle.std.proofs.Math.Nat.{add-mul}
 use Rattle.std.proofs.lemmas.List.{length-take, length-drop}
 use Rattle.std.proofs.lemmas.List.Sums.{sum_by-cons, sum_by-append}
-use Rattle.std.proofs.lemmas.List.Elements.{All-cons, All-head, All-tail, All-nil, All-take, All-drop}
-use Rattle.std.proofs.lemmas.Grind.{flat_map-append}
+use Rattle.std.proofs.lemmas.List.Elements.{All-cons, All-head, All-tail, All-take, All-drop}
 use Rattle.std.proofs.lemmas.List.Concat.{flat_map-cons}
-use Rattle.ppq_fetch.specs.ppq_outside.Shown.{Shown, AllTell}
+use Rattle.ppq_fetch.specs.ppq_outside.Shown.{Shown}
 use Rattle.ppq_fetch.specs.ppq_array.declared.berth.DeviceBlock.{DeviceBlock}
 use Rattle.ppq_fetch.specs.ppq_array.Run.{items_of}
 use Rattle.ppq_fetch.specs.ppq_array.External.{External, size_of, counts}
 use Rattle.ppq_fetch.specs.ppq_array.Kept.{SameSlots, weight_at}
 use Rattle.ppq_fetch.specs.ppq_array.Owner.{slots_shown}
 use Rattle.ppq_fetch.specs.ppq_array.Holdings.{external_slots, internal_buffers}
-use Rattle.ppq_fetch.specs.Fetching.{State, state, held_in, slots_in, WentOn, PartsKept, blocks_in, count_in}
+use Rattle.ppq_fetch.specs.Fetching.{State, slots_in, WentOn, PartsKept, blocks_in}
 use Rattle.ppq_spill.specs.Went.{Went}
 use Rattle.ppq_spill.specs.Making.{AllFit, SameRest, loaded_count}
-use Rattle.ppq_spill.proofs.Keeping.{slots_long, sum_ones}
+use Rattle.ppq_spill.proofs.Keeping.{slots_long}
 use Rattle.ppq_spill.proofs.Blocks.{counts_fit, counts_append}
 
 -- all records that arrays have in stored blocks

@@ -1,16 +1,16 @@
 -- Slots that are moved, written and read, one step after the other.
-use Rattle.std.proofs.Common.{◌≡◌, ℕ, ◌+◌, ◌*◌, ◌≤◌, List, [], ◌∷◌, ◌++◌, length, sum_by, Option, Some, None, IsSome, refl, sym, ap, ap₂, ◌∙◌, subst, arith}
+use Rattle.std.proofs.Common.{◌≡◌, ℕ, ◌+◌, List, [], ◌∷◌, ◌++◌, length, sum_by, Option, Some, None, IsSome, refl, sym, subst, arith}
 use Rattle.std.proofs.lemmas.List.Sums.{sum_by-cons, sum_by-append}
 use Rattle.std.proofs.lemmas.List.Elements.{All-cons, All-head, All-nil}
-use Rattle.ppq_fetch.specs.ppq_outside.Shown.{Shown, Tells, AllTell}
+use Rattle.ppq_fetch.specs.ppq_outside.Shown.{Shown, Tells}
 use Rattle.ppq_fetch.specs.ppq_array.Supply.{Stock}
-use Rattle.ppq_fetch.specs.ppq_array.Kept.{SameSlots, MoreWrites, weight_at}
-use Rattle.ppq_spill.specs.Leveling.{MoreCalls}
-use Rattle.ppq_spill.specs.Went.{Went}
+use Rattle.ppq_fetch.specs.ppq_array.Kept.{MoreWrites, weight_at}
+use Rattle.ppq_spill.specs.Went.{Went, WentWriting}
+use Rattle.ppq_spill.specs.Moves.{SameSums}
 use Rattle.ppq_spill.specs.Writing.{Grew}
 use Rattle.ppq_spill.proofs.SameSlots.{SameSlots-refl, SameSlots-trans, SameSlots-grown}
 use Rattle.ppq_spill.proofs.Keeping.{sum_ones}
-use Rattle.ppq_spill.specs.Untold.{untold, untold_of, SameUntold}
+use Rattle.ppq_spill.specs.Untold.{untold, untold_of}
 use Rattle.ppq_spill.proofs.Telling.{tell_sum, sum_tell}
 
 abbrev w_of : Shown → ℕ
@@ -81,25 +81,6 @@ Went-more base xs ys s t n k m before grew calls e =
     (Went-one k s t grew calls) in
     subst (λ w. Went w 0 base (xs ++ t ∷ ys)) (sym e) (Went-trans n 0 k 0 base (xs ++ s ∷ ys) (xs ++ t ∷ ys) before one)
 
--- of what is held and kept, only slots that were drawn were called
-pub went_kept :
-    (most : ℕ) (e j k0 d1 b0 e' j' k1 d0 b k : List Shown) → ((f : Shown → ℕ) → sum_by f (k0 ++ d1) ≡ sum_by f (b0 ++ k ++ d0)) → Went most 0 b0 b
-    → ((f : Shown → ℕ) → sum_by f e' + sum_by f j' + sum_by f k1 ≡ sum_by f e + sum_by f j + sum_by f k + sum_by f b)
-    → Went most 0 (e ++ j ++ k0 ++ d1) (e' ++ j' ++ k1 ++ d0)
-went_kept most e j k0 d1 b0 e' j' k1 d0 b k moved went placed =
-    Went-placed most 0 (e ++ j ++ k ++ d0) b0 b (e ++ j ++ k0 ++ d1) (e' ++ j' ++ k1 ++ d0)
-    (λ f. omega (arith, four f e j k0 d1, four f e j k d0, moved f, sum_by-append f k0 d1, sum_by-append f (b0 ++ k) d0, sum_by-append f b0 k))
-    (λ f. omega (arith, four f e' j' k1 d0, four f e j k d0, placed f)) went
-  where
-    four : (f : Shown → ℕ) (a b c d : List Shown) → sum_by f (a ++ b ++ c ++ d) ≡ sum_by f a + sum_by f b + sum_by f c + sum_by f d
-    four f a b c d = omega (arith, sum_by-append f (a ++ b ++ c) d, sum_by-append f (a ++ b) c, sum_by-append f a b)
-
--- the supply's slots are as they were
-pub went_untouched : (slots : List Shown) (o n : Stock) → n.kept ≡ o.kept → n.drawn ≡ o.drawn → Went 0 0 (slots ++ o.kept ++ n.drawn) (slots ++ n.kept ++ o.drawn)
-went_untouched slots o n kept drawn =
-    subst (λ d. Went 0 0 (slots ++ o.kept ++ d) (slots ++ n.kept ++ o.drawn)) (sym drawn)
-    (subst (λ k. Went 0 0 (slots ++ o.kept ++ o.drawn) (slots ++ k ++ o.drawn)) (sym kept) (Went-refl (slots ++ o.kept ++ o.drawn)))
-
 -- a slot that grew tells or does not, as before
 same_told : (s t : Option (List ℕ)) → (IsSome s → IsSome t) → (IsSome t → IsSome s) → untold_of s ≡ untold_of t
 same_told None None f g = refl
@@ -116,37 +97,42 @@ same_told (Some x) (Some y) f g = refl
 pub untold_grown : (s t : Shown) → Grew s t → untold s ≡ untold t
 untold_grown s t grew = same_told s.told t.told grew.tells grew.told
 
--- one slot more was called: as many do not tell
-pub untold_more : (base xs ys : List Shown) (s t : Shown) → SameUntold base (xs ++ s ∷ ys) → Grew s t → SameUntold base (xs ++ t ∷ ys)
-untold_more base xs ys s t before grew =
-    let e : sum_by untold base ≡ sum_by untold (xs ++ t ∷ ys) =
-    omega (arith, before, untold_grown s t grew, sum_by-append untold xs (s ∷ ys), sum_by-cons untold s ys, sum_by-append untold xs (t ∷ ys), sum_by-cons untold t ys) in
-    e
+-- no slot was called
+pub WentWriting-refl : (xs : List Shown) → WentWriting 0 xs xs
+WentWriting-refl xs = record { went = Went-refl xs; untold = refl }
+
+-- the same slots among others, in any order
+pub WentWriting-placed :
+    (w : ℕ) (xs a b a' b' : List Shown) → ((f : Shown → ℕ) → sum_by f a' ≡ sum_by f xs + sum_by f a) → ((f : Shown → ℕ) → sum_by f b' ≡ sum_by f xs + sum_by f b) → WentWriting w a b
+    → WentWriting w a' b'
+WentWriting-placed w xs a b a' b' before now is = record { went = Went-placed w 0 xs a b a' b' before now is.went; untold = (let e : sum_by untold a' ≡ sum_by untold b' = omega (arith, before untold, now untold, is.untold) in e) }
+
+-- one slot more was called
+pub WentWriting-more : (base xs ys : List Shown) (s t : Shown) (n k m : ℕ) → WentWriting n base (xs ++ s ∷ ys) → Grew s t → MoreWrites k (s ∷ []) (t ∷ []) → m ≡ n + k → WentWriting m base (xs ++ t ∷ ys)
+WentWriting-more base xs ys s t n k m before grew calls e =
+    let same : sum_by untold base ≡ sum_by untold (xs ++ t ∷ ys) =
+    omega (arith, before.untold, untold_grown s t grew, sum_by-append untold xs (s ∷ ys), sum_by-cons untold s ys, sum_by-append untold xs (t ∷ ys), sum_by-cons untold t ys) in
+    record { went = Went-more base xs ys s t n k m before.went grew calls e; untold = same }
 
 -- of what is held and kept, only slots that were drawn were called
-pub untold_kept :
-    (e j k0 d1 b0 e' j' k1 d0 b k : List Shown) → ((f : Shown → ℕ) → sum_by f (k0 ++ d1) ≡ sum_by f (b0 ++ k ++ d0)) → SameUntold b0 b
+pub went_kept :
+    (most : ℕ) (e j k0 d1 b0 e' j' k1 d0 b k : List Shown) → SameSums (k0 ++ d1) (b0 ++ k ++ d0) → WentWriting most b0 b
     → ((f : Shown → ℕ) → sum_by f e' + sum_by f j' + sum_by f k1 ≡ sum_by f e + sum_by f j + sum_by f k + sum_by f b)
-    → SameUntold (e ++ j ++ k0 ++ d1) (e' ++ j' ++ k1 ++ d0)
-untold_kept e j k0 d1 b0 e' j' k1 d0 b k moved same placed =
-    let all : sum_by untold (e ++ j ++ k0 ++ d1) ≡ sum_by untold (e' ++ j' ++ k1 ++ d0) =
-    omega (
-      arith,
-      four e j k0 d1,
-      four e' j' k1 d0,
-      moved untold,
-      placed untold,
-      same,
-      sum_by-append untold k0 d1,
-      sum_by-append untold (b0 ++ k) d0,
-      sum_by-append untold b0 k,
-    )
-    in
-    all
+    → WentWriting most (e ++ j ++ k0 ++ d1) (e' ++ j' ++ k1 ++ d0)
+went_kept most e j k0 d1 b0 e' j' k1 d0 b k moved went placed =
+    WentWriting-placed most (e ++ j ++ k ++ d0) b0 b (e ++ j ++ k0 ++ d1) (e' ++ j' ++ k1 ++ d0)
+    (λ f. omega (arith, four f e j k0 d1, four f e j k d0, moved f, sum_by-append f k0 d1, sum_by-append f (b0 ++ k) d0, sum_by-append f b0 k))
+    (λ f. omega (arith, four f e' j' k1 d0, four f e j k d0, placed f)) went
   where
-    four : (a b c d : List Shown) → sum_by untold (a ++ b ++ c ++ d) ≡ sum_by untold a + sum_by untold b + sum_by untold c + sum_by untold d
-    four a b c d = omega (arith, sum_by-append untold (a ++ b ++ c) d, sum_by-append untold (a ++ b) c, sum_by-append untold a b)
+    four : (f : Shown → ℕ) (a b c d : List Shown) → sum_by f (a ++ b ++ c ++ d) ≡ sum_by f a + sum_by f b + sum_by f c + sum_by f d
+    four f a b c d = omega (arith, sum_by-append f (a ++ b ++ c) d, sum_by-append f (a ++ b) c, sum_by-append f a b)
 
 -- the supply's slots are as they were
-pub untold_untouched : (slots : List Shown) (o n : Stock) → n.kept ≡ o.kept → n.drawn ≡ o.drawn → SameUntold (slots ++ o.kept ++ n.drawn) (slots ++ n.kept ++ o.drawn)
-untold_untouched slots o n kept drawn = ap₂ (λ (k d : List Shown). sum_by untold (slots ++ k ++ d)) (sym kept) drawn
+pub went_untouched : (slots : List Shown) (o n : Stock) → n.kept ≡ o.kept → n.drawn ≡ o.drawn → WentWriting 0 (slots ++ o.kept ++ n.drawn) (slots ++ n.kept ++ o.drawn)
+went_untouched slots o n kept drawn =
+    subst (λ d. WentWriting 0 (slots ++ o.kept ++ d) (slots ++ n.kept ++ o.drawn)) (sym drawn)
+    (subst (λ k. WentWriting 0 (slots ++ o.kept ++ o.drawn) (slots ++ k ++ o.drawn)) (sym kept) (WentWriting-refl (slots ++ o.kept ++ o.drawn)))
+
+-- how often they were called
+pub more_writes : (n : ℕ) (a b : List Shown) → Went n 0 a b → MoreWrites n a b
+more_writes n a b went = record { writes = went.calls.written; reads = omega (arith, went.calls.read) }

@@ -1,13 +1,13 @@
 -- A run that was stored in blocks.
-use Rattle.std.proofs.Common.{◌≡◌, inr, ℕ, ◌+◌, ◌-◌, ◌*◌, ◌<◌, List, [], ◌∷◌, ◌++◌, length, sum_by, Option, Some, None, IsSome, refl, sym, ap, ◌∙◌, subst, arith, length-append, append-nil}
-use Rattle.std.specs.Prelude.{count_by}
-use Rattle.std.proofs.lemmas.List.Sums.{sum_by-cons, sum_by-append}
-use Rattle.std.proofs.lemmas.List.Elements.{All-cons, All-head, All-tail, All-nil}
+use Rattle.std.proofs.Common.{◌≡◌, inr, ℕ, ◌+◌, ◌-◌, ◌*◌, ◌<◌, List, [], ◌∷◌, ◌++◌, length, sum_by, refl, sym, ap, ◌∙◌, subst, arith, length-append, append-nil}
+use Rattle.std.specs.Prelude.{count_by, Result, Ok, Err, OnOk}
+use Rattle.std.proofs.lemmas.List.Sums.{sum_by-append}
 use Rattle.std.specs.declared.cmp.Ordering.{Ordering}
 use Rattle.ppq_fetch.proofs.ppq_record.Order.{IsSameBag-append_comm}
 use Rattle.ppq_fetch.specs.ppq_outside.Shown.{Shown, Tells, AllTell}
 use Rattle.ppq_fetch.specs.ppq_outside.Told.{Rose}
 use Rattle.ppq_fetch.specs.ppq_array.declared.berth.DeviceBlock.{DeviceBlock}
+use Rattle.ppq_fetch.specs.ppq_array.declared.store_fault.StoreFault.{StoreFault}
 use Rattle.ppq_fetch.specs.ppq_array.Run.{Run}
 use Rattle.ppq_fetch.specs.ppq_array.External.{External, size_of, records_in, IsPacked}
 use Rattle.ppq_fetch.specs.ppq_array.Supply.{Stock}
@@ -16,8 +16,8 @@ use Rattle.ppq_fetch.specs.ppq_array.Holdings.{internal_items}
 use Rattle.ppq_fetch.proofs.ppq_array.Noted.{all_left}
 use Rattle.ppq_spill.specs.declared.body.PassBody.{PassBody}
 use Rattle.ppq_spill.specs.Body.{body_slots}
-use Rattle.ppq_spill.specs.Moves.{SameSums, DrewSlots, FoundScant}
-use Rattle.ppq_spill.specs.Storing.{RunsAscend, BlocksStored, IsStored, SameScant, TooFew}
+use Rattle.ppq_spill.specs.Moves.{DrewSlots, FoundScant}
+use Rattle.ppq_spill.specs.Storing.{RunsAscend, BlocksStored, IsStored, StoreLeaves, StoreEnds, NoSlots, NoneFree, SameScant, TooFew}
 use Rattle.ppq_spill.specs.Writing.{Writing, left_in}
 use Rattle.ppq_spill.proofs.Keeping.{slots_long}
 use Rattle.ppq_spill.specs.Untold.{untold}
@@ -42,7 +42,7 @@ module _ {S R : Type 0} (cmp : R → R → Ordering) (record_of : List ℕ → R
       let kept : AllTell (o.kept ++ r.drawn) = tell_right (body_slots shown old) o.kept r.drawn t in
       let moved = tell_moved (o.kept ++ d.drawn) (slots_shown shown slots0 ++ d.kept ++ o.drawn) drew.moved (subst (λ (x : List Shown). AllTell (o.kept ++ x)) drawn kept) in
       all_left Tells (slots_shown shown slots0) d.kept (all_left Tells (slots_shown shown slots0 ++ d.kept) o.drawn moved) in
-      let long : length array.stored ≡ length slots0 = omega (arith, writing.same.length, length-append (slots_shown shown array.stored) [], slots_long shown array.stored, slots_long shown slots0) in
+      let long : length array.stored ≡ length slots0 = omega (arith, writing.went.went.same.length, length-append (slots_shown shown array.stored) [], slots_long shown array.stored, slots_long shown slots0) in
       let size : size_of array ≡ length sorted + length items = omega (arith, writing.size, ap length empty, length-append items sorted) in
       let few : length array.stored * block < size_of array + block = subst (λ k. k * block < size_of array + block) (sym long) (omega (arith, least, size)) in
       record {
@@ -104,3 +104,40 @@ ascend_still cmp shown sorted body o m found up =
     let kept : m.kept ≡ o.kept = ap (λ s. s.kept) found.stock in
     let as_before : AllTell (body_slots shown body ++ m.kept) → AllTell (body_slots shown body ++ o.kept) = subst (λ (k : List Shown). AllTell (body_slots shown body ++ k)) kept in
     record { run = λ t. up.run (as_before t); internal = λ t. up.internal (as_before t) }
+
+-- what is left is the same as before too few buffers were had
+pub leaves_still :
+    {S R : Type 0} (shown : S → Shown) (width n k : ℕ) (old new : PassBody S R) (o m r : Stock) → FoundScant k o m → StoreLeaves shown width n old new m r → StoreLeaves shown width n old new o r
+leaves_still shown width n k old new o m r found is =
+    let at = subst (λ s. StoreLeaves shown width n old new s r) found.stock is in
+    record {
+      kept = record { slots = at.kept.slots; slot_room = at.kept.slot_room; buffers = at.kept.buffers; block = at.kept.block };
+      takes_back = at.takes_back;
+      tells = at.tells;
+      untold = at.untold;
+      writes = record { blocks = at.writes.blocks; few = at.writes.few; transfers = at.writes.transfers; stay = at.writes.stay };
+      lanes = at.lanes;
+      size = at.size;
+      rooms = at.rooms;
+    }
+
+-- a store that does not fail has stored all
+pub ends_stored :
+    {S R T : Type 0} (cmp : R → R → Ordering) (record_of : List ℕ → R) (width : ℕ) (shown : S → Shown) (sorted : List R) (old new : PassBody S R) (o r : Stock) (result : Result T StoreFault)
+    → StoreEnds cmp record_of width shown sorted old new o r result → OnOk result (BlocksStored cmp record_of width shown sorted old new o r)
+ends_stored cmp record_of width shown sorted old new o r (Ok v) is = is
+ends_stored cmp record_of width shown sorted old new o r (Err fault) is = tt
+
+-- too few slots, after too few buffers were had
+pub none_after :
+    {S R : Type 0} (n : ℕ) (old new : PassBody S R) (o m r : Stock) → FoundScant n o m → SameScant m r → NoSlots n old new m r → NoneFree n old new o r
+none_after n old new o m r found same is =
+    let at = subst (λ s. NoSlots n old new s r) found.stock is in
+    record {
+      short = record {
+        counted = subst (λ n. Rose o.scant n) (sym same.scant) found.short.counted;
+        unsure = found.short.unsure;
+        few = subst (λ k. TooFew (k - o.buffer_room) o.block n) (sym same.room) found.short.few;
+      };
+      slots = record { dry = at.dry; unsure = at.unsure; still = at.still; still_few = at.still_few; internal = at.internal; external = at.external; idle = at.idle; buffers = at.buffers };
+    }

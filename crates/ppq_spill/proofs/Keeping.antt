@@ -10,10 +10,8 @@ use Rattle.ppq_fetch.specs.ppq_outside.Shown.{Shown}
 use Rattle.ppq_fetch.specs.ppq_array.declared.berth.DeviceBlock.{DeviceBlock}
 use Rattle.ppq_fetch.specs.ppq_array.Run.{Run, run_of, buffers_of}
 use Rattle.ppq_fetch.specs.ppq_array.External.{External, external}
-use Rattle.ppq_fetch.specs.ppq_array.Kept.{SameSlots, weight_at}
 use Rattle.ppq_fetch.specs.ppq_array.Owner.{slots_shown, HasBlock}
 use Rattle.ppq_fetch.specs.ppq_array.Holdings.{internal_buffers, external_slots, external_buffers, RunHasBlock}
-use Rattle.ppq_spill.specs.Moves.{SameSums}
 
 -- fewer blocks than so many records need
 pub too_few : (k need n block : ℕ) → k < need → need * block < n + block → k * block < n
@@ -28,30 +26,6 @@ too_few k need n block h least =
 pub sum_ones : (xs : List Shown) → sum_by (λ _. 1) xs ≡ length xs
 sum_ones [] = refl
 sum_ones (x ∷ xs) = let e : sum_by (λ _. 1) (x ∷ xs) ≡ suc (length xs) = omega (arith, sum_by-cons (λ (_ : Shown). 1) x xs, sum_ones xs) in e
-
-sum4 : (f : Shown → ℕ) (a b c d : List Shown) → sum_by f (a ++ b ++ c ++ d) ≡ sum_by f a + sum_by f b + sum_by f c + sum_by f d
-sum4 f a b c d = omega (arith, sum_by-append f (a ++ b ++ c) d, sum_by-append f (a ++ b) c, sum_by-append f a b)
-
--- what is held and kept, where some slots were drawn and then were held or kept with others
-pub slots_kept :
-    (e j k0 d1 b0 e' j' k1 d0 : List Shown) (b k : List Shown) → SameSums (k0 ++ d1) (b0 ++ k ++ d0) → SameSlots b0 b
-    → ((f : Shown → ℕ) → sum_by f e' + sum_by f j' + sum_by f k1 ≡ sum_by f e + sum_by f j + sum_by f k + sum_by f b)
-    → SameSlots (e ++ j ++ k0 ++ d1) (e' ++ j' ++ k1 ++ d0)
-slots_kept e j k0 d1 b0 e' j' k1 d0 b k moved same placed =
-    let three = λ (f : Shown → ℕ). sum3 f b0 k d0 in
-    let two = λ (f : Shown → ℕ). sum_by-append f k0 d1 in
-    let one : Shown → ℕ = λ _. 1 in
-    record {
-      length =
-          omega (arith, sum_ones (e ++ j ++ k0 ++ d1), sum_ones (e' ++ j' ++ k1 ++ d0), sum4 one e j k0 d1, sum4 one e' j' k1 d0, moved one, three one, two one, placed one, sum_ones b0, sum_ones b, same.length);
-      each_once = λ n. let w = weight_at (λ s. 1) n in omega (arith, sum4 w e j k0 d1, sum4 w e' j' k1 d0, moved w, three w, two w, placed w, same.each_once n);
-      faults = λ n. let w = weight_at (λ s. s.faults) n in omega (arith, sum4 w e j k0 d1, sum4 w e' j' k1 d0, moved w, three w, two w, placed w, same.faults n);
-      writes = λ n. let w = weight_at (λ s. s.writes) n in omega (arith, sum4 w e j k0 d1, sum4 w e' j' k1 d0, moved w, three w, two w, placed w, same.writes n);
-      reads = λ n. let w = weight_at (λ s. s.reads) n in omega (arith, sum4 w e j k0 d1, sum4 w e' j' k1 d0, moved w, three w, two w, placed w, same.reads n);
-    }
-  where
-    sum3 : (f : Shown → ℕ) (a b c : List Shown) → sum_by f (a ++ b ++ c) ≡ sum_by f a + sum_by f b + sum_by f c
-    sum3 f a b c = omega (arith, sum_by-append f (a ++ b) c, sum_by-append f a b)
 
 module _ {R : Type 0} where
   -- runs that only lost records have the same buffers

@@ -1,44 +1,41 @@
 -- What stands after a level was merged, from what its merge tells.
-use Rattle.std.proofs.Common.{◌≡◌, ℕ, zero, suc, ◌+◌, ◌-◌, ◌*◌, ◌<◌, ◌≤◌, ◌^◌, min, List, [], ◌∷◌, ◌++◌, length, map, drop, sum_by, All, refl, sym, ap, ap₂, ◌∙◌, subst, arith, length-append, append-nil, append_assoc, IsPermutation}
+use Rattle.std.proofs.Common.{◌≡◌, ℕ, zero, suc, ◌+◌, ◌-◌, ◌*◌, ◌<◌, ◌≤◌, min, List, [], ◌∷◌, ◌++◌, length, map, drop, sum_by, All, refl, sym, ap, ap₂, ◌∙◌, subst, arith, length-append, append-nil, IsPermutation}
 use Rattle.std.specs.Prelude.{count_by, flat_map, Bool}
 use Rattle.std.specs.declared.cmp.Ordering.{Ordering}
 use Rattle.std.specs.List.{AllByRecursion as Each}
 use Rattle.std.proofs.Math.Nat.{add-mul}
-use Rattle.std.proofs.lemmas.Grind.{flat_map-append}
 use Rattle.std.proofs.lemmas.List.Concat.{flat_map-cons}
 use Rattle.std.proofs.lemmas.List.Sums.{sum_by-cons, sum_by-append}
 use Rattle.std.proofs.lemmas.List.Sorted.{All-permutation, sum_by-IsPermutation}
-use Rattle.std.proofs.lemmas.List.Elements.{All-head, All-tail, All-nil, All-cons, All-append, All-push, recursion_from_All, All-from_recursion}
+use Rattle.std.proofs.lemmas.List.Elements.{All-head, All-tail, All-nil, All-append, All-push, recursion_from_All}
 use Rattle.ppq_fetch.specs.ppq_record.Order.{Ascends}
 use Rattle.ppq_fetch.specs.ppq_record.Bag.{IsSameBag}
 use Rattle.ppq_fetch.specs.ppq_record.Runs.{all_of}
 use Rattle.ppq_fetch.proofs.ppq_record.Order.{count_by-append}
 use Rattle.ppq_fetch.specs.ppq_block.Block.{Block, all_items}
 use Rattle.ppq_fetch.specs.ppq_outside.Shown.{Shown, Tells, AllTell}
-use Rattle.ppq_fetch.specs.ppq_outside.Told.{Rose}
 use Rattle.ppq_fetch.specs.ppq_lane.declared.lanes.Lanes.{Lanes}
 use Rattle.ppq_fetch.specs.ppq_array.declared.berth.DeviceBlock.{DeviceBlock}
 use Rattle.ppq_fetch.specs.ppq_array.declared.store_fault.StoreFault.{StoreFault}
 use Rattle.ppq_fetch.specs.ppq_array.declared.store_fault.StoreFault.TheVariants.{NoFreeBlock, Device}
-use Rattle.ppq_fetch.specs.ppq_array.Run.{Run, run_of, items_of, buffers_of}
+use Rattle.ppq_fetch.specs.ppq_array.Run.{run_of, items_of, buffers_of}
 use Rattle.ppq_fetch.specs.ppq_array.External.{External, external, size_of, counts, records_in, waiting, blocks_items, IsPacked}
 use Rattle.ppq_fetch.specs.ppq_array.Supply.{Stock}
 use Rattle.ppq_fetch.specs.ppq_array.Owner.{slots_shown, HasBlock, HasSize}
 use Rattle.ppq_fetch.specs.ppq_array.Kept.{Kept, HasFailed, SameSlots, weight_at}
 use Rattle.ppq_fetch.specs.ppq_array.Holdings.{external_slots, external_buffers, RunHasBlock, ArrayHasSize}
-use Rattle.ppq_fetch.proofs.ppq_array.Noted.{all_left, all_right}
-use Rattle.ppq_fetch.specs.Fetching.{state, source_items, waiting_items, loaded_lists, RunsRise, IsFitting, blocks_in, count_in, fronts_in, one_if_some}
+use Rattle.ppq_fetch.proofs.ppq_array.Noted.{all_left}
+use Rattle.ppq_fetch.specs.Fetching.{state, source_items, waiting_items, IsFitting, blocks_in, one_if_some}
 use Rattle.ppq_spill.specs.Body.{job_slots}
-use Rattle.ppq_spill.specs.Writing.{NoneAfter}
-use Rattle.ppq_spill.specs.Leveling.{HasLevel, EightOf, MayLevel, AreOneSize, LevelCalls, LevelMerged, NoneForLevel, LevelTells, LevelFailed, ArraysAscend, MoreCalls, held_in, records_count, arrays_before, arrays_after}
+use Rattle.ppq_fetch.specs.Taking.{NoneAfter}
+use Rattle.ppq_spill.specs.Leveling.{EightOf, MayLevel, AreOneSize, LevelCalls, LevelMerged, NoneForLevel, LevelTells, LevelFailed, ArraysAscend, held_in, records_count, arrays_before, arrays_after}
 use Rattle.ppq_spill.specs.Moves.{DrewSlots, FoundFewSlots}
 use Rattle.ppq_spill.specs.Went.{Went}
-use Rattle.ppq_spill.specs.Making.{Hand, Table, table, table_slots, held_slots, hand_slots, total, IsReady, Merging, MergedOn, MergeFailed, IsRising, all_records, IsEmptied, IsFaultOf, LastMerged, LastFailed, AllFit, AllFull, freed}
-use Rattle.ppq_spill.proofs.Going.{Went-refl, Went-placed}
-use Rattle.ppq_spill.proofs.Parts.{hand_sum}
+use Rattle.ppq_spill.specs.Making.{Hand, Table, table, table_slots, total, BetweenBatches, Merging, MergedOn, IsRising, all_records, HasNothing, IsFaultOf, LastMerged, LastFailed, freed}
+use Rattle.ppq_spill.proofs.Going.{Went-placed, WentWriting-refl, went_kept}
 use Rattle.ppq_spill.proofs.Keeping.{slots_long, sum_ones}
 use Rattle.ppq_spill.specs.Untold.{untold}
-use Rattle.ppq_spill.proofs.Telling.{tell_sum, sum_tell, tell_part}
+use Rattle.ppq_spill.proofs.Telling.{tell_part}
 use Rattle.ppq_spill.proofs.Blocks.{fewer_than}
 use Rattle.ppq_spill.proofs.Fetches.{slots_counted}
 use Rattle.ppq_spill.proofs.Merges.{table_sum, fronts_most}
@@ -58,14 +55,14 @@ drop_none X (suc n) = refl
 
 module _ {S R : Type 0} where
   -- an array that was emptied has no record loaded
-  none_loaded : (x : External S R) → IsEmptied x → length (items_of x.loaded) ≡ 0
+  none_loaded : (x : External S R) → HasNothing x → length (items_of x.loaded) ≡ 0
   none_loaded x is = ap (λ bs. length (drop x.loaded.taken (all_items bs))) (right_nil x.loaded.spent x.loaded.live is.loaded) ∙ drop_none R x.loaded.taken
 
   -- no record is left of arrays that were emptied
-  pub count_none : (xs : List (External S R)) → All IsEmptied xs → Each (λ (a : External S R). a.lifted ≡ []) xs → sum_by size_of xs ≡ 0
+  pub count_none : (xs : List (External S R)) → All HasNothing xs → Each (λ (a : External S R). a.lifted ≡ []) xs → sum_by size_of xs ≡ 0
   count_none [] a e = refl
   count_none (x ∷ xs) a e =
-      let P : External S R → Type 0 = IsEmptied in
+      let P : External S R → Type 0 = HasNothing in
       let here = All-head P x xs a in
       let items = none_loaded x here in
       let waits : counts (x.lifted ++ x.stored) ≡ 0 = ap₂ (λ (us vs : List (DeviceBlock S R)). counts (us ++ vs)) e.0 here.stored in
@@ -103,10 +100,10 @@ module _ {S R : Type 0} (shown : S → Shown) where
       omega (arith, slots_sum f (xs ++ ys), slots_sum f xs, slots_sum f ys, sum_by-append g xs ys)
 
   -- what was emptied has no slot and no buffer
-  pub emptied_none : (xs : List (External S R)) → All IsEmptied xs → (external_slots shown xs ≡ []) × (external_buffers xs ≡ 0)
+  pub emptied_none : (xs : List (External S R)) → All HasNothing xs → (external_slots shown xs ≡ []) × (external_buffers xs ≡ 0)
   emptied_none [] a = (refl, refl)
   emptied_none (x ∷ xs) a =
-      let P : External S R → Type 0 = IsEmptied in
+      let P : External S R → Type 0 = HasNothing in
       let here = All-head P x xs a in
       let rest = emptied_none xs (All-tail P x xs a) in (
         flat_map-cons (λ (a : External S R). slots_shown shown a.stored) x xs ∙ ap₂ (λ (bs : List (DeviceBlock S R)) (ys : List Shown). slots_shown shown bs ++ ys) here.stored rest.0,
@@ -260,7 +257,7 @@ module _ {S R : Type 0} (shown : S → Shown) (width level : ℕ) (old new other
   made_size = subst (λ b. All (HasSize shown (b * width)) t.hand.made.stored) start_block (all_left (HasSize shown (o.hand.stock.block * width)) t.hand.made.stored t.hand.berths is.merging.sizes)
 
   -- 8 arrays became one
-  module _ (lanes lanes' : Lanes (DeviceBlock S R) R) (workers : ℕ) (may : MayLevel shown width workers old lanes stock) (ready : IsReady shown width workers t) (emptied : All IsEmptied t.inputs) (same : total t ≡ total o)
+  module _ (lanes lanes' : Lanes (DeviceBlock S R) R) (workers : ℕ) (may : MayLevel shown width workers old lanes stock) (ready : BetweenBatches shown width workers t) (emptied : All HasNothing t.inputs) (same : total t ≡ total o)
       (idle : lanes.idle ≡ o.idle) (idle' : lanes'.idle ≡ t.idle) (jobs : lanes'.jobs ≡ lanes.jobs) (batch : length lanes'.batch.items ≡ length lanes.batch.items) (new_is : new ≡ others ++ t.hand.made ∷ []) where
     abbrev pushed : (P : External S R → Type 0) → All P others → P t.hand.made → All P new
     pushed P a p = subst (All P) (sym new_is) (All-push P others t.hand.made a p)
@@ -350,22 +347,22 @@ module _ {S R : Type 0} (record_of : List ℕ → R) (width : ℕ) (shown : S �
       count_append : (p : R → Bool) (ys zs : List R) → count_by p (ys ++ zs) ≡ count_by p ys + count_by p zs
       count_append p ys zs = count_by-append p ys zs
 
-  pub sources_none : (xs : List (External S R)) → All IsEmptied xs → Each (λ (a : External S R). a.lifted ≡ []) xs → sources xs ≡ []
+  pub sources_none : (xs : List (External S R)) → All HasNothing xs → Each (λ (a : External S R). a.lifted ≡ []) xs → sources xs ≡ []
   sources_none xs a e = nothing (sources xs) (let z : length (sources xs) ≡ 0 = omega (arith, length-append (all_of (map (λ (a : External S R). items_of a.loaded) xs)) (waiting_items record_of width shown xs), loaded_none xs a, waiting_none xs a e) in z)
     where
-      loaded_none : (xs : List (External S R)) → All IsEmptied xs → length (all_of (map (λ (a : External S R). items_of a.loaded) xs)) ≡ 0
+      loaded_none : (xs : List (External S R)) → All HasNothing xs → length (all_of (map (λ (a : External S R). items_of a.loaded) xs)) ≡ 0
       loaded_none [] a = refl
       loaded_none (x ∷ xs) a =
-          let P : External S R → Type 0 = IsEmptied in
+          let P : External S R → Type 0 = HasNothing in
           let here = All-head P x xs a in
           let items = none_loaded x here in
           let z : length (items_of x.loaded ++ all_of (map (λ (a : External S R). items_of a.loaded) xs)) ≡ 0 = omega (arith, length-append (items_of x.loaded) (all_of (map (λ (a : External S R). items_of a.loaded) xs)), items, loaded_none xs (All-tail P x xs a)) in
           z
 
-      waiting_none : (xs : List (External S R)) → All IsEmptied xs → Each (λ (a : External S R). a.lifted ≡ []) xs → length (waiting_items record_of width shown xs) ≡ 0
+      waiting_none : (xs : List (External S R)) → All HasNothing xs → Each (λ (a : External S R). a.lifted ≡ []) xs → length (waiting_items record_of width shown xs) ≡ 0
       waiting_none [] a e = refl
       waiting_none (x ∷ xs) a e =
-          let P : External S R → Type 0 = IsEmptied in
+          let P : External S R → Type 0 = HasNothing in
           let here = All-head P x xs a in
           let w : External S R → List R = λ a. blocks_items record_of width shown (waiting a) in
           let waits : length (w x) ≡ 0 = ap₂ (λ (us vs : List (DeviceBlock S R)). length (blocks_items record_of width shown (us ++ vs))) e.0 here.stored in
@@ -375,7 +372,7 @@ module _ {S R : Type 0} (record_of : List ℕ → R) (width : ℕ) (shown : S �
 -- 8 arrays became one
 pub level_merged :
     {S R : Type 0} (cmp : R → R → Ordering) (record_of : List ℕ → R) (width workers level next : ℕ) (shown : S → Shown) (old new others : List (External S R)) (o t : Table S R) (lanes : Lanes (DeviceBlock S R) R) (stock now : Stock)
-    → Placed shown width level old new others o t stock now → MayLevel shown width workers old lanes stock → MergedOn cmp record_of width workers shown o t → All IsEmptied t.inputs
+    → Placed shown width level old new others o t stock now → MayLevel shown width workers old lanes stock → MergedOn cmp record_of width workers shown o t → All HasNothing t.inputs
     → o.hand.made ≡ external next (run_of [] 0 []) [] [] → next ≡ min (level + 1) 7 → new ≡ others ++ t.hand.made ∷ [] → ArraysAscend cmp record_of width shown old stock
     → LevelMerged cmp record_of width shown level old new stock now
 level_merged {S} {R} cmp record_of width workers level next shown old new others o t lanes stock now is may on emptied start next_is new_is ascend =
@@ -422,7 +419,7 @@ level_merged {S} {R} cmp record_of width workers level next shown old new others
     size_is = omega (arith, on.same, is.none_size, count_none t.inputs emptied on.ready.may.none_lifted)
 
 module _ {S R : Type 0} (shown : S → Shown) (width workers level next : ℕ) (old inputs others : List (External S R)) (lanes : Lanes (DeviceBlock S R) R) (stock stock1 : Stock) (berths : List (DeviceBlock S R))
-    (of : EightOf level old inputs others) (drew : DrewSlots shown width stock stock1 berths) (ready : IsReady shown width workers (table inputs lanes.idle (external next (run_of [] 0 []) [] []) berths stock1)) where
+    (of : EightOf level old inputs others) (drew : DrewSlots shown width stock stock1 berths) (ready : BetweenBatches shown width workers (table inputs lanes.idle (external next (run_of [] 0 []) [] []) berths stock1)) where
   abbrev pub start : Table S R
   start = table inputs lanes.idle (external next (run_of [] 0 []) [] []) berths stock1
 
@@ -546,25 +543,8 @@ module _ {S R : Type 0} (shown : S → Shown) (width workers level : ℕ) (old n
 
   went_none : (j : List Shown) → Went 0 0 (external_slots shown old ++ j ++ stock.kept ++ now.drawn) (external_slots shown new ++ j ++ now.kept ++ stock.drawn)
   went_none j =
-      let g : (Shown → ℕ) → External S R → ℕ = λ f a. sum_by f (slots_shown shown a.stored) in
-      Went-placed 0 0 (external_slots shown old ++ j ++ stock.kept ++ now.drawn) [] [] (external_slots shown old ++ j ++ stock.kept ++ now.drawn) (external_slots shown new ++ j ++ now.kept ++ stock.drawn)
-      (λ f. (let z : sum_by f [] ≡ 0 = refl in omega (arith, z)))
-      (λ f. (let z : sum_by f [] ≡ 0 = refl in omega (
-        arith,
-        z,
-        four f (external_slots shown old) j stock.kept now.drawn,
-        four f (external_slots shown new) j now.kept stock.drawn,
-        found.moved f,
-        sum_by-append f stock.kept now.drawn,
-        sum_by-append f now.kept stock.drawn,
-        slots_sum shown f old,
-        slots_sum shown f new,
-        sum_same (g f),
-      )))
-      (Went-refl [])
-    where
-      four : (f : Shown → ℕ) (a b c d : List Shown) → sum_by f (a ++ b ++ c ++ d) ≡ sum_by f a + sum_by f b + sum_by f c + sum_by f d
-      four f a b c d = omega (arith, sum_by-append f (a ++ b ++ c) d, sum_by-append f (a ++ b) c, sum_by-append f a b)
+      (went_kept 0 (external_slots shown old) j stock.kept now.drawn [] (external_slots shown new) j now.kept stock.drawn [] now.kept found.moved (WentWriting-refl [])
+      (λ f. (let z : sum_by f [] ≡ 0 = refl in omega (arith, z, slots_sum shown f old, slots_sum shown f new, sum_same (λ a. sum_by f (slots_shown shown a.stored)))))).went
 
   went_plain : Went 0 0 (arrays_before shown old stock now) (arrays_after shown new stock now)
   went_plain =

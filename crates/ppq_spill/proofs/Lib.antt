@@ -1,11 +1,12 @@
 pub mod Batches
 pub mod Blocks
+pub mod Idle
 pub mod Choosing
-pub mod Composing
 pub mod Counted
 pub mod Fetches
 pub mod Filling
 pub mod Emptied
+pub mod Ends
 pub mod Fresh
 pub mod Gathered
 pub mod Going

@@ -1,36 +1,19 @@
 -- A batch of the least records of arrays that is written as blocks, and one batch after the other.
-use Rattle.std.proofs.Common.{◌≡◌, ℕ, zero, suc, ◌+◌, ◌-◌, ◌*◌, ◌<◌, ◌≤◌, ◌^◌, min, List, [], ◌∷◌, ◌++◌, length, sum_by, All, refl, sym, ap, ap₂, ◌∙◌, subst, arith, append_assoc, length-append, append-nil}
-use Rattle.std.specs.Prelude.{count_by}
-use Rattle.std.specs.Cmp.{IsStrictWeakOrder}
-use Rattle.std.specs.declared.cmp.Ordering.{Ordering}
-use Rattle.std.specs.List.{AllByRecursion as Each}
-use Rattle.std.proofs.Math.Nat.{add-mul}
+use Rattle.std.proofs.Common.{◌≡◌, ℕ, ◌+◌, ◌-◌, ◌*◌, ◌<◌, ◌≤◌, List, [], ◌∷◌, ◌++◌, length, sum_by, All, refl, sym, ap, ◌∙◌, subst, arith, append_assoc, length-append, append-nil}
 use Rattle.std.proofs.lemmas.List.Sums.{sum_by-cons, sum_by-append}
 use Rattle.std.proofs.lemmas.List.Elements.{All-nil, All-append}
-use Rattle.std.proofs.lemmas.Grind.{flat_map-append}
-use Rattle.ppq_fetch.specs.ppq_record.Order.{is_before, Ascends, Le}
-use Rattle.ppq_fetch.specs.ppq_record.Bag.{IsSameBag}
-use Rattle.ppq_fetch.proofs.ppq_record.Order.{IsSameBag-append, Each_le-same_bag, Each-append_left, Each-append_right, Each-weaker, Each-append, Rising-append}
-use Rattle.ppq_fetch.specs.ppq_block.Block.{Block}
-use Rattle.ppq_fetch.specs.ppq_outside.Shown.{Shown, AllTell}
+use Rattle.ppq_fetch.specs.ppq_outside.Shown.{Shown}
 use Rattle.ppq_fetch.specs.ppq_array.declared.berth.DeviceBlock.{DeviceBlock}
-use Rattle.ppq_fetch.specs.ppq_array.declared.store_fault.StoreFault.{StoreFault}
-use Rattle.ppq_fetch.specs.ppq_array.Run.{run_of, items_of, buffers_of}
-use Rattle.ppq_fetch.specs.ppq_array.External.{External, external, size_of, counts, records_in, block_items, blocks_items, IsPacked}
-use Rattle.ppq_fetch.specs.ppq_array.Supply.{Stock}
+use Rattle.ppq_fetch.specs.ppq_array.Run.{items_of}
+use Rattle.ppq_fetch.specs.ppq_array.External.{External, external}
 use Rattle.ppq_fetch.specs.ppq_array.Owner.{slots_shown, HasBlock, HasSize}
-use Rattle.ppq_fetch.specs.ppq_array.Holdings.{external_slots, external_buffers, internal_buffers, ArrayHasSize, RunHasBlock}
-use Rattle.ppq_fetch.specs.Fetching.{State, state, held_in, slots_in, AreSources, MayFetch, PartsKept, Fetched, RunsRise, SourcesTell, source_items, blocks_in, count_in, fronts_in, one_if_some}
-use Rattle.ppq_fetch.specs.Taking.{IsTaken}
-use Rattle.ppq_spill.specs.Writing.{NoneAfter}
+use Rattle.ppq_fetch.specs.ppq_array.Holdings.{external_slots, external_buffers, ArrayHasSize, RunHasBlock}
+use Rattle.ppq_fetch.specs.Fetching.{State, state, slots_in, AreSources, PartsKept, blocks_in, fronts_in, one_if_some}
 use Rattle.ppq_spill.specs.Went.{Went}
-use Rattle.ppq_spill.specs.Making.{Hand, hand, hand_slots, SameRest, Wrote, WroteAll, WroteSome, Table, table, table_slots, held_slots, total, loaded_count, IsReady, Merging, MergedOn, MergeFailed, IsRising, all_records, AllFull, AllFit, IsFaultOf}
+use Rattle.ppq_spill.specs.Making.{hand_slots, Wrote, Table, table, table_slots, total, BetweenBatches, Merging}
 use Rattle.ppq_spill.proofs.Going.{Went-refl, Went-trans, Went-placed}
-use Rattle.ppq_spill.proofs.Parts.{SameRest-trans, Wrote-none, hand_sum, hand_long}
-use Rattle.ppq_spill.proofs.Blocks.{counts_append, counts_full, full_fit, all_full, full_exact, packed_append, packed_full, fewer_than}
-use Rattle.ppq_spill.specs.Untold.{untold}
-use Rattle.ppq_spill.proofs.Telling.{tell_part}
-use Rattle.ppq_spill.proofs.Fetches.{went_fit, parts_counted, slots_counted, parts_went, parts_rest, stored_count}
+use Rattle.ppq_spill.proofs.Parts.{SameRest-trans, hand_sum}
+use Rattle.ppq_spill.proofs.Fetches.{parts_went, parts_rest}
 
 -- at most one for each list
 one_most : {X : Type 0} (xs : List X) → one_if_some xs ≤ 1
@@ -52,7 +35,7 @@ module _ {S R : Type 0} (shown : S → Shown) where
   -- Blocks were loaded, and then blocks written
   pub merging_of :
       (width workers : ℕ) (o h n : Table S R) (blocks : List (DeviceBlock S R))
-      → IsReady shown width workers o → h.hand.made ≡ o.hand.made → h.hand.berths ≡ o.hand.berths
+      → BetweenBatches shown width workers o → h.hand.made ≡ o.hand.made → h.hand.berths ≡ o.hand.berths
       → PartsKept shown (state [] o.inputs o.idle o.hand.stock) (state [] h.inputs h.idle h.hand.stock) → AreSources shown width workers (state [] h.inputs h.idle h.hand.stock)
       → blocks_in h.inputs ≤ blocks_in o.inputs → length h.inputs ≡ length o.inputs
       → Wrote shown (o.hand.stock.block * width) h.hand n.hand blocks → n.inputs ≡ h.inputs → length n.idle ≡ length h.idle → All (HasBlock o.hand.stock.block) n.idle
@@ -107,7 +90,7 @@ module _ {S R : Type 0} (shown : S → Shown) where
       }
 
   -- nothing was merged yet
-  pub Merging-none : (width workers : ℕ) (o : Table S R) → IsReady shown width workers o → Merging shown width o o
+  pub Merging-none : (width workers : ℕ) (o : Table S R) → BetweenBatches shown width workers o → Merging shown width o o
   Merging-none width workers o ready =
       record {
         blocks = [];

@@ -7,13 +7,14 @@ use Rattle.std.specs.declared.cmp.Ordering.{Ordering}
 use Rattle.ppq_fetch.specs.ppq_record.Order.{is_before, Le}
 use Rattle.ppq_fetch.proofs.ppq_record.Order.{IsSameBag-length, IsSameBag-append, Each_le-same_bag, Each-append_left, Each-append_right, Each-weaker, Each-append, Rising-append}
 use Rattle.ppq_fetch.specs.ppq_array.Run.{Run}
-use Rattle.ppq_spill.specs.Writing.{Merged, left_in, NoneAfter}
+use Rattle.ppq_fetch.specs.Taking.{NoneAfter}
+use Rattle.ppq_spill.specs.Writing.{MergedOut, left_in}
 
 module _ {R : Type 0} (cmp : R → R → Ordering) where
-  pub Merged-more :
-      IsStrictWeakOrder (is_before cmp) → (n m : ℕ) (runs runs' runs'' : List (Run R)) (rest rest' rest'' out : List R) (r : R) → Merged cmp n runs runs' rest rest' out → Merged cmp 1 runs' runs'' rest' rest'' (r ∷ [])
-      → m ≡ length (out ++ r ∷ []) → Merged cmp m runs runs'' rest rest'' (out ++ r ∷ [])
-  Merged-more o n m runs runs' runs'' rest rest' rest'' out r some one e =
+  pub MergedOut-more :
+      IsStrictWeakOrder (is_before cmp) → (n m : ℕ) (runs runs' runs'' : List (Run R)) (rest rest' rest'' out : List R) (r : R) → MergedOut cmp n runs runs' rest rest' out → MergedOut cmp 1 runs' runs'' rest' rest'' (r ∷ [])
+      → m ≡ length (out ++ r ∷ []) → MergedOut cmp m runs runs'' rest rest'' (out ++ r ∷ [])
+  MergedOut-more o n m runs runs' runs'' rest rest' rest'' out r some one e =
       let left = left_in runs rest in
       let left' = left_in runs' rest' in
       let left'' = left_in runs'' rest'' in
@@ -34,8 +35,8 @@ module _ {R : Type 0} (cmp : R → R → Ordering) where
       }
 
   -- nothing is left
-  pub Merged-all : (n block : ℕ) (runs runs' : List (Run R)) (rest rest' out : List R) → Merged cmp n runs runs' rest rest' out → left_in runs' rest' ≡ [] → length out ≤ block → Merged cmp block runs runs' rest rest' out
-  Merged-all n block runs runs' rest rest' out some none few =
+  pub MergedOut-all : (n block : ℕ) (runs runs' : List (Run R)) (rest rest' out : List R) → MergedOut cmp n runs runs' rest rest' out → left_in runs' rest' ≡ [] → length out ≤ block → MergedOut cmp block runs runs' rest rest' out
+  MergedOut-all n block runs runs' rest rest' out some none few =
       record {
         count = omega (arith, IsSameBag-length (left_in runs rest) (out ++ left_in runs' rest') some.bag, length-append out (left_in runs' rest'), ap length none, few);
         bag = some.bag;

@@ -1,8 +1,6 @@
 -- Records that are written as blocks: one block, and one more.
-use Rattle.std.proofs.Common.{◌≡◌, ℕ, suc, ◌+◌, ◌-◌, ◌*◌, ◌<◌, ◌≤◌, ◌==◌, true, cond, List, [], ◌∷◌, ◌++◌, length, take, map, sum_by, All, refl, sym, ap, ap₂, ◌∙◌, subst, arith, append_assoc, length-append, append-nil}
-use Rattle.std.proofs.Math.Nat.{add-mul}
+use Rattle.std.proofs.Common.{◌≡◌, ℕ, ◌+◌, ◌-◌, ◌*◌, ◌<◌, ◌≤◌, ◌==◌, true, cond, List, [], ◌∷◌, ◌++◌, length, sum_by, All, refl, sym, ap, ◌∙◌, subst, arith, append_assoc, length-append, append-nil}
 use Rattle.std.proofs.lemmas.List.{map-append}
-use Rattle.std.proofs.lemmas.Grind.{flat_map-append}
 use Rattle.std.proofs.lemmas.List.Concat.{flat_map-cons}
 use Rattle.std.proofs.lemmas.List.Sums.{sum_by-cons, sum_by-append}
 use Rattle.std.proofs.lemmas.List.Elements.{All-cons, All-head, All-nil, All-append, All-push}
@@ -10,20 +8,19 @@ use Rattle.ppq_fetch.specs.ppq_outside.Shown.{Shown, Tells, AllTell}
 use Rattle.ppq_fetch.specs.ppq_array.declared.berth.DeviceBlock.{DeviceBlock}
 use Rattle.ppq_fetch.specs.ppq_array.declared.store_fault.StoreFault.TheVariants.{Device}
 use Rattle.ppq_fetch.specs.ppq_array.Run.{run_of}
-use Rattle.ppq_fetch.specs.ppq_array.External.{External, external, counts, block_items, blocks_items, IsPacked}
+use Rattle.ppq_fetch.specs.ppq_array.External.{External, external, counts, block_items}
 use Rattle.ppq_fetch.specs.ppq_array.Supply.{Stock, GetsSlot}
 use Rattle.ppq_fetch.specs.ppq_array.Owner.{slots_shown, HasSize}
-use Rattle.ppq_fetch.specs.ppq_array.Kept.{HasFailed, MoreWrites, weight_at}
-use Rattle.ppq_fetch.proofs.ppq_array.Noted.{all_left, all_right}
+use Rattle.ppq_fetch.specs.ppq_array.Kept.{HasFailed, weight_at}
+use Rattle.ppq_fetch.proofs.ppq_array.Noted.{all_left}
 use Rattle.ppq_spill.specs.Moves.{SameSums}
 use Rattle.ppq_spill.specs.Writing.{BlockStored, BlockFailed}
 use Rattle.ppq_spill.specs.Went.{Went}
-use Rattle.ppq_spill.specs.Making.{Hand, hand, hand_slots, SameRest, Wrote, WroteAll, WroteSome, AllFull, AllFit}
+use Rattle.ppq_spill.specs.Making.{Hand, hand, hand_slots, SameRest, Wrote, WroteAll, WroteSome}
 use Rattle.ppq_spill.proofs.Going.{Went-refl, Went-trans, Went-placed, Went-one}
 use Rattle.ppq_spill.proofs.Keeping.{slots_long}
 use Rattle.ppq_spill.specs.Untold.{untold}
-use Rattle.ppq_spill.proofs.Telling.{tell_sum, tell_part, tell_moved}
-use Rattle.ppq_spill.proofs.Blocks.{counts_append, counts_full, full_exact, packed_append, packed_full, fewer_than}
+use Rattle.ppq_spill.proofs.Telling.{tell_part, tell_moved}
 
 -- a slot that failed is among those it was put to
 pub failed_there : (kept : List Shown) (slot : Shown) (number : ℕ) → slot.number ≡ number → 0 < slot.faults → HasFailed number (kept ++ slot ∷ [])

@@ -14,20 +14,20 @@ use Rattle.ppq_fetch.proofs.ppq_record.Order.{IsSameBag-append, Each_le-same_bag
 use Rattle.ppq_fetch.specs.ppq_block.Block.{Block}
 use Rattle.ppq_fetch.specs.ppq_outside.Shown.{Shown, AllTell}
 use Rattle.ppq_fetch.specs.ppq_array.declared.berth.DeviceBlock.{DeviceBlock}
-use Rattle.ppq_fetch.specs.ppq_array.Run.{Run, run_of}
+use Rattle.ppq_fetch.specs.ppq_array.Run.{run_of}
 use Rattle.ppq_fetch.specs.ppq_array.External.{External, external, size_of, counts, records_in, block_items, blocks_items, IsPacked}
 use Rattle.ppq_fetch.specs.ppq_array.Supply.{Stock}
 use Rattle.ppq_fetch.specs.ppq_array.Owner.{HasBlock, HasSize}
 use Rattle.ppq_fetch.specs.ppq_array.Holdings.{external_slots, external_buffers, ArrayHasSize, RunHasBlock}
-use Rattle.ppq_fetch.specs.Fetching.{state, AreSources, MayFetch, PartsKept, Fetched, RunsRise, SourcesTell, source_items, blocks_in, count_in}
-use Rattle.ppq_spill.specs.Writing.{NoneAfter}
-use Rattle.ppq_spill.specs.Making.{hand, hand_slots, WroteAll, Table, table, table_slots, total, loaded_count, IsReady, IsRising, all_records, AllFull, AllFit}
+use Rattle.ppq_fetch.specs.Fetching.{state, MayFetch, PartsKept, Fetched, source_items, blocks_in, count_in}
+use Rattle.ppq_fetch.specs.Taking.{NoneAfter}
+use Rattle.ppq_spill.specs.Making.{hand, hand_slots, WroteAll, Table, table, table_slots, total, loaded_count, BetweenBatches, IsRising, all_records, AllFull, AllFit}
 use Rattle.ppq_spill.proofs.Parts.{hand_sum, hand_long}
 use Rattle.ppq_spill.proofs.Batches.{shape_on}
 use Rattle.ppq_spill.proofs.Blocks.{counts_append, counts_full, full_exact, packed_append, fewer_than}
 use Rattle.ppq_spill.specs.Untold.{untold}
 use Rattle.ppq_spill.proofs.Telling.{tell_sum, sum_tell, tell_part}
-use Rattle.ppq_spill.proofs.Fetches.{went_fit, parts_counted, stored_count}
+use Rattle.ppq_spill.proofs.Fetches.{went_fit, parts_counted}
 use Rattle.ppq_spill.proofs.Merges.{table_sum}
 
 pub zero_or : (n : ℕ) → (n ≡ 0) ⊎ (0 < n)
@@ -41,7 +41,7 @@ nothing (x ∷ xs) e = absurd (omega (arith, e))
 module _ {S R : Type 0} (shown : S → Shown) where
   -- there is room for what was taken in slots that are at hand, once its blocks were freed
   pub enough_taken :
-      (width workers : ℕ) (o : Table S R) (inputs1 : List (External S R)) (idle1 : List (Block R)) (stock1 : Stock) (n : ℕ) → IsReady shown width workers o
+      (width workers : ℕ) (o : Table S R) (inputs1 : List (External S R)) (idle1 : List (Block R)) (stock1 : Stock) (n : ℕ) → BetweenBatches shown width workers o
       → PartsKept shown (state [] o.inputs o.idle o.hand.stock) (state [] inputs1 idle1 stock1) → Each (λ (a : External S R). a.lifted ≡ []) inputs1 → n + count_in [] inputs1 ≡ count_in [] o.inputs
       → All (λ (a : External S R). AllFit o.hand.stock.block a.stored) inputs1 × (blocks_in inputs1 ≤ blocks_in o.inputs)
       × (size_of o.hand.made + (n + loaded_count inputs1) ≤ (length o.hand.made.stored + length o.hand.berths + length stock1.kept) * o.hand.stock.block)
@@ -62,11 +62,11 @@ module _ {S R : Type 0} (shown : S → Shown) where
 
   pub ready_after :
       (record_of : List ℕ → R) (width workers : ℕ) (o : Table S R) (inputs1 : List (External S R)) (idle1 idle2 : List (Block R)) (stock1 stock2 : Stock) (made2 : External S R) (berths2 : List (DeviceBlock S R)) (records : List R)
-      → IsReady shown width workers o → PartsKept shown (state [] o.inputs o.idle o.hand.stock) (state [] inputs1 idle1 stock1) → MayFetch shown width workers (state [] inputs1 idle1 stock1)
+      → BetweenBatches shown width workers o → PartsKept shown (state [] o.inputs o.idle o.hand.stock) (state [] inputs1 idle1 stock1) → MayFetch shown width workers (state [] inputs1 idle1 stock1)
       → length records + count_in [] inputs1 ≡ count_in [] o.inputs → length records ≡ min (workers * o.hand.stock.block) (count_in [] o.inputs)
       → WroteAll record_of width o.hand.stock.block shown (o.hand.stock.block * width) records (hand o.hand.made o.hand.berths stock1) (hand made2 berths2 stock2)
       → length idle2 ≡ length idle1 → All (HasBlock o.hand.stock.block) idle2
-      → IsReady shown width workers (table inputs1 idle2 made2 berths2 stock2) × (total (table inputs1 idle2 made2 berths2 stock2) ≡ total o)
+      → BetweenBatches shown width workers (table inputs1 idle2 made2 berths2 stock2) × (total (table inputs1 idle2 made2 berths2 stock2) ≡ total o)
   ready_after record_of width workers o inputs1 idle1 idle2 stock1 stock2 made2 berths2 records ready parts may counted most put idle_long idle_blocks =
       let b = o.hand.stock.block in
       let blocks = put.blocks in

@@ -1,8 +1,10 @@
 -- One batch of a merge, and one batch after the other.
-use Rattle.std.proofs.Common.{◌≡◌, ℕ, ◌+◌, ◌-◌, ◌*◌, ◌<◌, ◌≤◌, ◌^◌, ◌⊎◌, inl, inr, min, List, [], ◌∷◌, ◌++◌, length, All, None, refl, sym, ap, ◌∙◌, subst, arith, length-append}
+use Rattle.std.proofs.Common.{◌≡◌, ℕ, ◌+◌, ◌-◌, ◌*◌, ◌<◌, ◌≤◌, ◌^◌, inl, inr, min, List, [], ◌++◌, length, take, All, None, refl, sym, ap, ◌∙◌, subst, arith, length-append}
 use Rattle.std.specs.Cmp.{IsStrictWeakOrder}
 use Rattle.std.specs.declared.cmp.Ordering.{Ordering}
 use Rattle.std.proofs.Math.Nat.{add-mul}
+use Rattle.std.proofs.lemmas.Nat.{mul-le}
+use Rattle.std.proofs.lemmas.List.{length-take}
 use Rattle.std.proofs.lemmas.List.Elements.{length_all_zip}
 use Rattle.ppq_fetch.specs.ppq_record.Order.{is_before}
 use Rattle.ppq_fetch.specs.ppq_block.Block.{Block}
@@ -13,9 +15,11 @@ use Rattle.ppq_fetch.specs.ppq_array.declared.store_fault.StoreFault.TheVariants
 use Rattle.ppq_fetch.specs.ppq_array.External.{External, size_of, counts}
 use Rattle.ppq_fetch.specs.ppq_array.Kept.{HasFailed}
 use Rattle.ppq_fetch.specs.ppq_array.Supply.{Stock}
-use Rattle.ppq_fetch.specs.ppq_array.Owner.{HasBlock}
-use Rattle.ppq_fetch.specs.Fetching.{state, AreSources, MayFetch, PartsKept, Fetched, FetchFailed, WentOn, blocks_in, count_in}
-use Rattle.ppq_spill.specs.Making.{hand, Wrote, WroteAll, WroteSome, Table, table, table_slots, total, IsReady, Merging, MergedOn, MergeFailed, IsRising, all_records, AllFull, IsFaultOf}
+use Rattle.ppq_fetch.specs.ppq_array.Owner.{HasBlock, HasSize}
+use Rattle.ppq_fetch.specs.Fetching.{State, state, AreSources, MayFetch, PartsKept, Fetched, WentOn, count_in}
+use Rattle.ppq_fetch.specs.ppq_lane.declared.lanes.Lanes.{Lanes}
+use Rattle.ppq_spill.specs.Writing.{SameBuffers}
+use Rattle.ppq_spill.specs.Making.{hand, WroteAll, WroteSome, MayWrite, Table, table, total, BetweenBatches, MayMerge, SameTools, MergedOn, MergeFailed, MergedBatch, AllFull, IsFaultOf}
 use Rattle.ppq_spill.proofs.Parts.{Wrote-none}
 use Rattle.ppq_spill.proofs.Blocks.{counts_full}
 use Rattle.ppq_spill.proofs.Fetches.{went_fit}
@@ -27,88 +31,129 @@ pub fault_of : (stock : Stock) (fault : StoreFault) → (fault ≡ NoFreeBlock �
 fault_of stock NoFreeBlock never named = never refl
 fault_of stock (Device number) never named = named number refl
 
--- what the writing of a batch asks for
-pub record MayWrite {S R : Type 0} (shown : S → Shown) (width : ℕ) (o : Table S R) (bufs : List (Block R)) (stock : Stock) (n : ℕ) : Type 0 where
-  pub idle : 0 < length bufs
-  pub few_idle : length bufs < 2 ^ 32 - 1
-  pub blocks : All (HasBlock o.hand.stock.block) bufs
-  pub full : 0 < n → AllFull o.hand.stock.block o.hand.made.stored
-  pub slots : n ≤ (length o.hand.berths + length stock.kept) * o.hand.stock.block
-  pub takes_back : length o.hand.made.stored + length o.hand.berths ≤ stock.slot_room
-  pub few : size_of o.hand.made + n ≤ (2 ^ 32 - 2) * o.hand.stock.block
+-- tools that are left as they were, twice
+pub SameTools-trans :
+    {S R : Type 0} (a b c : Lanes (DeviceBlock S R) R) (n m k p q r : ℕ) → SameTools a b n m p q → SameTools b c m k q r → SameTools a c n k p r
+SameTools-trans a b c n m k p q r h i = record { jobs = i.jobs ∙ h.jobs; batch = i.batch ∙ h.batch; workers = i.workers ∙ h.workers; same_places = i.same_places ∙ h.same_places }
+
+-- so many of the records were taken for a batch, all there are or as many as it has room for
+pub record TookBatch {S R : Type 0} (cmp : R → R → Ordering) (record_of : List ℕ → R) (width workers : ℕ) (shown : S → Shown) (old new : State S R) (batch : List R) (count : ℕ) : Type 0 where
+  pub within : count ≤ length batch
+  pub taken : Fetched cmp record_of width shown None old new (take count batch)
+  pub all : count ≡ min (length batch) (count_in old.internal old.external)
+  pub may : MayFetch shown width workers new
+
+-- a read failed
+pub record ReadFailed {S R : Type 0} (shown : S → Shown) (width workers : ℕ) (old new : State S R) (fault : StoreFault) : Type 0 where
+  pub sources : AreSources shown width workers new
+  pub failed : IsFaultOf new.stock fault
+  pub parts : PartsKept shown old new
 
 module _ {S R : Type 0} (cmp : R → R → Ordering) (record_of : List ℕ → R) (width workers : ℕ) (shown : S → Shown) where
+  -- what was taken may be written
   pub may_write :
-      (o : Table S R) (inputs1 : List (External S R)) (idle1 : List (Block R)) (stock1 : Stock) (records : List R) → 1 ≤ workers → length o.inputs ≡ 8 → IsReady shown width workers o
-      → Fetched cmp record_of width shown None (state [] o.inputs o.idle o.hand.stock) (state [] inputs1 idle1 stock1) records → MayFetch shown width workers (state [] inputs1 idle1 stock1)
-      → MayWrite shown width o idle1 stock1 (length records)
-  may_write o inputs1 idle1 stock1 records some eight ready got may =
+      (places most : ℕ) (o : Table S R) (inputs1 : List (External S R)) (idle1 : List (Block R)) (stock1 : Stock) (batch : List R) (count : ℕ) → MayMerge shown width workers places most o
+      → TookBatch cmp record_of width workers shown (state [] o.inputs o.idle o.hand.stock) (state [] inputs1 idle1 stock1) batch count
+      → MayWrite shown width (length (take count batch)) idle1 (hand o.hand.made o.hand.berths stock1)
+  may_write places most o inputs1 idle1 stock1 batch count is took =
+      let ready = is.ready in
+      let got = took.taken in
+      let may = took.may in
       let b = o.hand.stock.block in
       let made = o.hand.made in
-      let n = length records in
+      let n = length (take count batch) in
       let taken = enough_taken shown width workers o inputs1 idle1 stock1 n ready got.parts may.none_lifted got.counted in
-      let long : length inputs1 ≡ 8 = sym (length_all_zip WentOn o.inputs inputs1 got.parts.went_on) ∙ eight in
+      let long : length inputs1 ≡ 8 = sym (length_all_zip WentOn o.inputs inputs1 got.parts.went_on) ∙ is.eight in
       let size0 : size_of made ≡ counts made.stored = ap size_of ready.shape ∙ (let e : 0 + counts made.stored ≡ counts made.stored = omega arith in e) in
       let group : length made.stored + length o.hand.berths + length stock1.kept ≡ length made.stored + (length o.hand.berths + length stock1.kept) = omega arith in
       let sum : (length made.stored + length o.hand.berths + length stock1.kept) * b ≡ length made.stored * b + (length o.hand.berths + length stock1.kept) * b = ap (λ k. k * b) group ∙ add-mul (length made.stored) (length o.hand.berths + length stock1.kept) b in
       let full : 0 < n → AllFull b made.stored = λ h. ready.full (omega (arith, got.counted, h)) in
+      let same : b ≡ stock1.block = sym got.parts.kept.block in
+      let slots : n ≤ (length o.hand.berths + length stock1.kept) * b = elim (zero_or n) as (λ _. n ≤ (length o.hand.berths + length stock1.kept) * b) [ inl e ↦ omega (arith, e) | inr h ↦ omega (arith, taken.2, sum, size0, counts_full b made.stored (full h)) ] in
+      let few : size_of made + n ≤ (2 ^ 32 - 2) * b = omega (arith, ready.few, got.counted) in
       record {
-        idle = some_idle shown width workers (state [] inputs1 idle1 stock1) may.sources long (omega (arith, ready.buffers, got.parts.buffers)) some;
+        some = omega (arith, ready.some, same);
+        small = omega (arith, ready.small, same);
+        idle = some_idle shown width workers (state [] inputs1 idle1 stock1) may.sources long (omega (arith, ready.buffers, got.parts.buffers)) is.worker;
         few_idle = omega (arith, may.sources.few_buffers);
-        blocks = subst (λ k. All (HasBlock k) idle1) got.parts.kept.block may.sources.idle;
-        full = full;
-        slots = elim (zero_or n) as (λ _. n ≤ (length o.hand.berths + length stock1.kept) * b) [ inl e ↦ omega (arith, e) | inr h ↦ omega (arith, taken.2, sum, size0, counts_full b made.stored (full h)) ];
+        blocks = may.sources.idle;
+        shape = ready.shape;
+        full = λ h. subst (λ k. AllFull k made.stored) same (full h);
+        slots = subst (λ k. n ≤ (length o.hand.berths + length stock1.kept) * k) same slots;
+        sizes = subst (λ k. All (HasSize shown (k * width)) (made.stored ++ o.hand.berths)) same ready.sizes;
         takes_back = omega (arith, ready.room, got.parts.kept.slot_room);
-        few = omega (arith, ready.few, got.counted);
+        few = subst (λ k. size_of made + n ≤ (2 ^ 32 - 2) * k) same few;
       }
 
   -- a batch was taken and written
   pub batch_merged :
-      (o : Table S R) (inputs1 : List (External S R)) (idle1 idle2 : List (Block R)) (stock1 stock2 : Stock) (made2 : External S R) (berths2 : List (DeviceBlock S R)) (records : List R)
-      → IsStrictWeakOrder (is_before cmp) → IsReady shown width workers o → Fetched cmp record_of width shown None (state [] o.inputs o.idle o.hand.stock) (state [] inputs1 idle1 stock1) records
-      → MayFetch shown width workers (state [] inputs1 idle1 stock1) → length records ≡ min (workers * o.hand.stock.block) (count_in [] o.inputs)
-      → WroteAll record_of width o.hand.stock.block shown (o.hand.stock.block * width) records (hand o.hand.made o.hand.berths stock1) (hand made2 berths2 stock2)
-      → length idle2 ≡ length idle1 → All (HasBlock o.hand.stock.block) idle2
-      → MergedOn cmp record_of width workers shown o (table inputs1 idle2 made2 berths2 stock2)
-  batch_merged o inputs1 idle1 idle2 stock1 stock2 made2 berths2 records order ready got may most put idle_long idle_blocks =
+      (places most : ℕ) (o : Table S R) (inputs1 : List (External S R)) (idle1 idle2 : List (Block R)) (stock1 stock2 : Stock) (made2 : External S R) (berths2 : List (DeviceBlock S R)) (batch : List R) (count : ℕ)
+      → IsStrictWeakOrder (is_before cmp) → MayMerge shown width workers places most o → length batch ≡ most
+      → TookBatch cmp record_of width workers shown (state [] o.inputs o.idle o.hand.stock) (state [] inputs1 idle1 stock1) batch count
+      → WroteAll record_of width stock1.block shown (stock1.block * width) (take count batch) (hand o.hand.made o.hand.berths stock1) (hand made2 berths2 stock2)
+      → SameBuffers stock1.block idle1 idle2 → MergedBatch cmp record_of width workers shown o (table inputs1 idle2 made2 berths2 stock2) count
+  batch_merged places long o inputs1 idle1 idle2 stock1 stock2 made2 berths2 batch count order is long_is took put1 same =
+      let records = take count batch in
+      let ready = is.ready in
+      let got = took.taken in
+      let may = took.may in
       let n = table inputs1 idle2 made2 berths2 stock2 in
       let b = o.hand.stock.block in
-      let after = ready_after shown record_of width workers o inputs1 idle1 idle2 stock1 stock2 made2 berths2 records ready got.parts may got.counted most put idle_long idle_blocks in
+      let block1 : stock1.block ≡ b = got.parts.kept.block in
+      let put = subst (λ k. WroteAll record_of width k shown (k * width) records (hand o.hand.made o.hand.berths stock1) (hand made2 berths2 stock2)) block1 put1 in
+      let idle_blocks = subst (λ k. All (HasBlock k) idle2) block1 same.blocks in
+      let all : count ≡ min (workers * b) (count_in [] o.inputs) = took.all ∙ ap (λ k. min k (count_in [] o.inputs)) (long_is ∙ is.batch) in
+      let taken_is : length records ≡ count = omega (arith, length-take count batch, took.within) in
+      let most : length records ≡ min (workers * b) (count_in [] o.inputs) = taken_is ∙ all in
+      let some : 1 * 1 ≤ workers * b = mul-le 1 1 workers b is.worker ready.some in
+      let after = ready_after shown record_of width workers o inputs1 idle1 idle2 stock1 stock2 made2 berths2 records ready got.parts may got.counted most put same.long idle_blocks in
       let taken = enough_taken shown width workers o inputs1 idle1 stock1 (length records) ready got.parts may.none_lifted got.counted in
       let block2 : stock2.block ≡ b = put.wrote.rest.block ∙ got.parts.kept.block in
       let tight : length made2.stored * b < size_of made2 + b = subst (λ k. length made2.stored * k < size_of made2 + k) block2 after.0.tight in
       let eight : length inputs1 ≡ length o.inputs = sym (length_all_zip WentOn o.inputs inputs1 got.parts.went_on) in
       record {
-        merging = merging_of shown width workers o (table inputs1 idle1 o.hand.made o.hand.berths stock1) n put.blocks ready refl refl got.parts may.sources taken.1 eight put.wrote refl idle_long idle_blocks (omega (arith, tight, after.1));
-        ready = after.0;
-        same = after.1;
-        rise = λ t r. (rising_after shown cmp record_of width o inputs1 idle1 idle2 stock1 stock2 made2 berths2 records order ready.shape got put t r).0;
-        records = λ t r. (rising_after shown cmp record_of width o inputs1 idle1 idle2 stock1 stock2 made2 berths2 records order ready.shape got put t r).1;
+        merged = record {
+          merging = merging_of shown width workers o (table inputs1 idle1 o.hand.made o.hand.berths stock1) n put.blocks ready refl refl got.parts may.sources taken.1 eight put.wrote refl same.long idle_blocks (omega (arith, tight, after.1));
+          ready = after.0;
+          same = after.1;
+          rise = λ t r. (rising_after shown cmp record_of width o inputs1 idle1 idle2 stock1 stock2 made2 berths2 records order ready.shape got put t r).0;
+          records = λ t r. (rising_after shown cmp record_of width o inputs1 idle1 idle2 stock1 stock2 made2 berths2 records order ready.shape got put t r).1;
+        };
+        count_is = omega (arith, got.counted, taken_is);
+        end = λ e. omega (arith, e, all, some, got.counted, taken_is);
       }
 
   -- a read failed
   pub batch_not_read :
       (o : Table S R) (inputs1 : List (External S R)) (idle1 : List (Block R)) (stock1 : Stock) (fault : StoreFault)
-      → IsReady shown width workers o → PartsKept shown (state [] o.inputs o.idle o.hand.stock) (state [] inputs1 idle1 stock1) → AreSources shown width workers (state [] inputs1 idle1 stock1) → IsFaultOf stock1 fault
+      → BetweenBatches shown width workers o → ReadFailed shown width workers (state [] o.inputs o.idle o.hand.stock) (state [] inputs1 idle1 stock1) fault
       → MergeFailed shown width o (table inputs1 idle1 o.hand.made o.hand.berths stock1) fault
-  batch_not_read o inputs1 idle1 stock1 fault ready parts sources failed =
+  batch_not_read o inputs1 idle1 stock1 fault ready is =
+      let parts = is.parts in
+      let sources = is.sources in
       let h = table inputs1 idle1 o.hand.made o.hand.berths stock1 in
       let b = o.hand.stock.block in
       let fit = went_fit b o.inputs inputs1 parts.went_on ready.fit in
       let eight : length inputs1 ≡ length o.inputs = sym (length_all_zip WentOn o.inputs inputs1 parts.went_on) in
       record {
         merging = merging_of shown width workers o h h [] ready refl refl parts sources fit.1 eight (Wrote-none shown (b * width) h.hand) refl refl (subst (λ k. All (HasBlock k) idle1) parts.kept.block sources.idle) (omega (arith, ready.tight));
-        failed = failed;
+        failed = is.failed;
       }
 
   -- a write failed
   pub batch_not_written :
-      (o : Table S R) (inputs1 : List (External S R)) (idle1 idle2 : List (Block R)) (stock1 stock2 : Stock) (made2 : External S R) (berths2 : List (DeviceBlock S R)) (records : List R) (fault : StoreFault)
-      → IsReady shown width workers o → Fetched cmp record_of width shown None (state [] o.inputs o.idle o.hand.stock) (state [] inputs1 idle1 stock1) records → MayFetch shown width workers (state [] inputs1 idle1 stock1)
-      → WroteSome shown o.hand.stock.block (o.hand.stock.block * width) records (hand o.hand.made o.hand.berths stock1) (hand made2 berths2 stock2) fault
-      → length idle2 ≡ length idle1 → All (HasBlock o.hand.stock.block) idle2
-      → MergeFailed shown width o (table inputs1 idle2 made2 berths2 stock2) fault
-  batch_not_written o inputs1 idle1 idle2 stock1 stock2 made2 berths2 records fault ready got may put idle_long idle_blocks =
+      (o : Table S R) (inputs1 : List (External S R)) (idle1 idle2 : List (Block R)) (stock1 stock2 : Stock) (made2 : External S R) (berths2 : List (DeviceBlock S R)) (batch : List R) (count : ℕ) (fault : StoreFault)
+      → BetweenBatches shown width workers o → TookBatch cmp record_of width workers shown (state [] o.inputs o.idle o.hand.stock) (state [] inputs1 idle1 stock1) batch count
+      → WroteSome shown stock1.block (stock1.block * width) (take count batch) (hand o.hand.made o.hand.berths stock1) (hand made2 berths2 stock2) fault
+      → SameBuffers stock1.block idle1 idle2 → MergeFailed shown width o (table inputs1 idle2 made2 berths2 stock2) fault
+  batch_not_written o inputs1 idle1 idle2 stock1 stock2 made2 berths2 batch count fault ready took put1 same =
+      let records = take count batch in
+      let got = took.taken in
+      let may = took.may in
+      let block1 : stock1.block ≡ o.hand.stock.block = got.parts.kept.block in
+      let put = subst (λ k. WroteSome shown k (k * width) records (hand o.hand.made o.hand.berths stock1) (hand made2 berths2 stock2) fault) block1 put1 in
+      let idle_blocks = subst (λ k. All (HasBlock k) idle2) block1 same.blocks in
+      let idle_long = same.long in
       let n = table inputs1 idle2 made2 berths2 stock2 in
       let b = o.hand.stock.block in
       let made = o.hand.made in
@@ -126,7 +171,7 @@ module _ {S R : Type 0} (cmp : R → R → Ordering) (record_of : List ℕ → R
         failed = put.failed;
       }
 
-  pub MergedOn-none : (o : Table S R) → IsReady shown width workers o → MergedOn cmp record_of width workers shown o o
+  pub MergedOn-none : (o : Table S R) → BetweenBatches shown width workers o → MergedOn cmp record_of width workers shown o o
   MergedOn-none o ready = record { merging = Merging-none shown width workers o ready; ready = ready; same = refl; rise = λ t r. r; records = λ t r p. refl }
 
   pub MergedOn-trans : (o h n : Table S R) → MergedOn cmp record_of width workers shown o h → MergedOn cmp record_of width workers shown h n → MergedOn cmp record_of width workers shown o n

@@ -1,9 +1,8 @@
 -- 8 arrays that are to be merged: there is all that their merge asks for.
 use Rattle.std.proofs.Common.{◌≡◌, ℕ, zero, suc, ◌+◌, ◌-◌, ◌*◌, ◌<◌, ◌≤◌, ◌^◌, List, [], ◌∷◌, ◌++◌, length, take, drop, sum_by, All, refl, sym, ap, ◌∙◌, subst, arith, length-append, take-append-drop, IsPermutation}
-use Rattle.std.specs.List.{AllByRecursion as Each}
 use Rattle.std.proofs.Math.Nat.{add-mul, suc-mul}
 use Rattle.std.proofs.lemmas.Nat.{mul-le}
-use Rattle.std.proofs.lemmas.List.{length-drop, length-take}
+use Rattle.std.proofs.lemmas.List.{length-drop}
 use Rattle.std.proofs.lemmas.List.Concat.{flat_map-cons}
 use Rattle.std.proofs.lemmas.List.Sums.{sum_by-cons, sum_by-append}
 use Rattle.std.proofs.lemmas.List.Sorted.{sum_by-IsPermutation, All-permutation}
@@ -18,10 +17,10 @@ use Rattle.ppq_fetch.specs.ppq_array.Supply.{Stock}
 use Rattle.ppq_fetch.specs.ppq_array.Owner.{HasBlock, HasSize}
 use Rattle.ppq_fetch.specs.ppq_array.Holdings.{external_slots, external_buffers, RunHasBlock, ArrayHasSize}
 use Rattle.ppq_fetch.proofs.ppq_array.Noted.{all_left, all_right}
-use Rattle.ppq_fetch.specs.Fetching.{state, IsFitting, blocks_in, count_in, fronts_in, one_if_some}
+use Rattle.ppq_fetch.specs.Fetching.{IsFitting, blocks_in, fronts_in, one_if_some}
 use Rattle.ppq_spill.specs.Leveling.{HasLevel, EightOf, MayLevel, records_count}
 use Rattle.ppq_spill.specs.Moves.{DrewSlots}
-use Rattle.ppq_spill.specs.Making.{table, IsReady, AllFull, AllFit, loaded_count}
+use Rattle.ppq_spill.specs.Making.{table, BetweenBatches, AllFit, loaded_count}
 use Rattle.ppq_spill.proofs.Blocks.{counts_fit, packed_full}
 use Rattle.ppq_spill.proofs.Fetches.{parts_counted, slots_counted, stored_count}
 
@@ -130,7 +129,7 @@ module _ {S R : Type 0} (shown : S → Shown) (width workers level : ℕ) where
   pub ready_first :
       (next : ℕ) (old inputs others : List (External S R)) (lanes : Lanes (DeviceBlock S R) R) (stock stock1 : Stock) (berths : List (DeviceBlock S R))
       → MayLevel shown width workers old lanes stock → EightOf level old inputs others → DrewSlots shown width stock stock1 berths → length berths ≡ external_buffers inputs
-      → IsReady shown width workers (table inputs lanes.idle (external next (run_of [] 0 []) [] []) berths stock1)
+      → BetweenBatches shown width workers (table inputs lanes.idle (external next (run_of [] 0 []) [] []) berths stock1)
   ready_first next old inputs others lanes stock stock1 berths may is drew long =
       let b = stock.block in
       let all = eight_all level old inputs others is in

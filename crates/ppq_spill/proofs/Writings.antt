@@ -18,14 +18,12 @@ use Rattle.ppq_fetch.specs.ppq_array.declared.berth.DeviceBlock.{DeviceBlock}
 use Rattle.ppq_fetch.specs.ppq_array.Run.{Run, run_of, buffers_of}
 use Rattle.ppq_fetch.specs.ppq_array.External.{External, external, size_of, counts, records_in, blocks_items, block_items, IsPacked}
 use Rattle.ppq_fetch.specs.ppq_array.Owner.{slots_shown, HasSize}
-use Rattle.ppq_fetch.specs.ppq_array.Kept.{SameSlots, MoreWrites}
+use Rattle.ppq_fetch.specs.ppq_array.Kept.{MoreWrites}
 use Rattle.ppq_fetch.proofs.ppq_array.Noted.{all_left, all_right, take_whole}
-use Rattle.ppq_spill.specs.Writing.{Grew, Merged, BlockStored, BlockFailed, WriteFailed, Writing, left_in, NoneAfter}
-use Rattle.ppq_spill.proofs.SameSlots.{SameSlots-trans, SameSlots-grown, SameSlots-refl}
-use Rattle.ppq_spill.specs.Went.{Went}
-use Rattle.ppq_spill.specs.Untold.{SameUntold}
-use Rattle.ppq_spill.proofs.Going.{Went-refl, Went-more, untold_more}
-use Rattle.ppq_spill.proofs.Transfers.{one_call_more, no_call}
+use Rattle.ppq_fetch.specs.Taking.{NoneAfter}
+use Rattle.ppq_spill.specs.Writing.{Grew, MergedOut, BlockStored, BlockFailed, WriteFailed, Writing, left_in}
+use Rattle.ppq_spill.specs.Went.{WentWriting}
+use Rattle.ppq_spill.proofs.Going.{WentWriting-refl, WentWriting-more}
 use Rattle.ppq_spill.proofs.Keeping.{slots_long}
 
 module _ {S R : Type 0} (cmp : R → R → Ordering) (record_of : List ℕ → R) (width block : ℕ) (shown : S → Shown) where
@@ -49,7 +47,6 @@ module _ {S R : Type 0} (cmp : R → R → Ordering) (record_of : List ℕ → R
   Writing-none slots runs rest array e sizes room least =
       let none : array.stored ≡ [] = ap (λ a. a.stored) e in
       record {
-        same = subst (λ bs. SameSlots (slots_shown shown slots) (slots_shown shown bs ++ slots_shown shown slots)) (sym none) (SameSlots-refl (slots_shown shown slots));
         sizes = subst (λ bs. All (HasSize shown (block * width)) (bs ++ slots)) (sym none) sizes;
         shape = e ∙ ap (λ bs. external 0 (run_of [] 0 []) [] bs) (sym none);
         size = ap (λ a. size_of a + length (left_in runs rest)) e ∙ (let z : 0 + 0 + length (left_in runs rest) ≡ length (left_in runs rest) = omega arith in z);
@@ -57,9 +54,7 @@ module _ {S R : Type 0} (cmp : R → R → Ordering) (record_of : List ℕ → R
         least = λ some. least;
         buffers = refl;
         written = subst (λ bs. All (λ (b : DeviceBlock S R). 1 ≤ (shown b.slot).writes) bs) (sym none) (λ k d h. absurd (omega arith));
-        transfers = subst (λ bs. MoreWrites (length bs) (slots_shown shown slots) (slots_shown shown bs ++ slots_shown shown slots)) (sym none) (no_call (slots_shown shown slots));
-        went = subst (λ bs. Went (length bs) 0 (slots_shown shown slots) (slots_shown shown bs ++ slots_shown shown slots)) (sym none) (Went-refl (slots_shown shown slots));
-        untold = subst (λ bs. SameUntold (slots_shown shown slots) (slots_shown shown bs ++ slots_shown shown slots)) (sym none) refl;
+        went = subst (λ bs. WentWriting (length bs) (slots_shown shown slots) (slots_shown shown bs ++ slots_shown shown slots)) (sym none) (WentWriting-refl (slots_shown shown slots));
         full = λ some. subst (λ bs. All (λ (b : DeviceBlock S R). b.count ≡ block) bs) (sym none) (λ k d h. absurd (omega arith));
         packed = subst (IsPacked block) (sym none) (record { full = λ k d h. absurd (omega arith); last = λ k d h. absurd (omega arith) });
         tells = λ t. t;
@@ -70,7 +65,7 @@ module _ {S R : Type 0} (cmp : R → R → Ordering) (record_of : List ℕ → R
   pub Writing-more :
       IsStrictWeakOrder (is_before cmp) → 1 ≤ block
       → (slots0 : List (DeviceBlock S R)) (runs0 : List (Run R)) (rest0 : List R) (b : DeviceBlock S R) (slots : List (DeviceBlock S R)) (runs runs' : List (Run R)) (rest rest' out : List R) (array array' : External S R)
-      → Writing cmp record_of width block shown slots0 runs0 rest0 (b ∷ slots) runs rest array → Merged cmp block runs runs' rest rest' out → BlockStored record_of width shown b.slot out array array'
+      → Writing cmp record_of width block shown slots0 runs0 rest0 (b ∷ slots) runs rest array → MergedOut cmp block runs runs' rest rest' out → BlockStored record_of width shown b.slot out array array'
       → Writing cmp record_of width block shown slots0 runs0 rest0 slots runs' rest' array'
   Writing-more o some slots0 runs0 rest0 b slots runs runs' rest rest' out array array' is merged put =
       let left = left_in runs rest in
@@ -87,7 +82,6 @@ module _ {S R : Type 0} (cmp : R → R → Ordering) (record_of : List ℕ → R
       let records' : AllTell (slots_shown shown slots0) → now_records array' ≡ now_records array ++ out =
       λ t. ap now_records shape ∙ records_more stored last out (put.items_are (told t)) ∙ ap (λ a. now_records a ++ out) (sym is.shape) in
       record {
-        same = same_more slots0 stored b last slots put.grew is.same blocks;
         sizes = sizes_more stored b last slots put.grew is.sizes blocks;
         shape = shape ∙ ap (λ bs. external 0 (run_of [] 0 []) [] bs) (sym blocks);
         size = omega (arith, is.size, size', sum);
@@ -95,9 +89,7 @@ module _ {S R : Type 0} (cmp : R → R → Ordering) (record_of : List ℕ → R
         least = λ h. omega (arith, is.least (omega arith), more, sum, merged.count, at_least block (length slots) h);
         buffers = merged.buffers ∙ is.buffers;
         written = subst (λ bs. All (λ (b : DeviceBlock S R). 1 ≤ (shown b.slot).writes) bs) (sym blocks) (All-push (λ (b : DeviceBlock S R). 1 ≤ (shown b.slot).writes) stored last is.written put.written);
-        transfers = transfers_more slots0 stored b last slots put.transfers is.transfers blocks;
         went = went_more slots0 stored b last slots put.grew put.transfers is.went blocks;
-        untold = subst (SameUntold (slots_shown shown slots0)) (shown_more stored last slots blocks) (untold_more (slots_shown shown slots0) (slots_shown shown stored) (slots_shown shown slots) (shown b.slot) (shown last.slot) is.untold put.grew);
         full = λ h. subst (All IsFull) (sym blocks) (All-push IsFull stored last (is.full (omega arith)) (omega (arith, is.least (omega arith), more, sum, merged.count, at_least block (length slots) h, put.count)));
         packed = subst (IsPacked block) (sym blocks) (record {
           full = subst (All IsFull) (sym (but_last stored last)) (is.full (omega arith));
@@ -141,28 +133,13 @@ module _ {S R : Type 0} (cmp : R → R → Ordering) (record_of : List ℕ → R
       shown_more stored last slots {stored'} e =
           sym (ap (λ bs. slots_shown shown bs ++ slots_shown shown slots) e ∙ ap (λ xs. xs ++ slots_shown shown slots) (map-append (λ (b : DeviceBlock S R). shown b.slot) stored (last ∷ [])) ∙ append_assoc (slots_shown shown stored) (shown last.slot ∷ []) (slots_shown shown slots))
 
-      transfers_more :
-          (slots0 stored : List (DeviceBlock S R)) (b last : DeviceBlock S R) (slots : List (DeviceBlock S R)) → MoreWrites 1 (shown b.slot ∷ []) (shown last.slot ∷ []) → MoreWrites (length stored) (slots_shown shown slots0) (slots_shown shown stored ++ slots_shown shown (b ∷ slots)) → {stored' : List (DeviceBlock S R)} → stored' ≡ stored ++ last ∷ []
-          → MoreWrites (length stored') (slots_shown shown slots0) (slots_shown shown stored' ++ slots_shown shown slots)
-      transfers_more slots0 stored b last slots one before {stored'} e =
-          let long : length stored' ≡ length stored + 1 = ap length e ∙ length-append stored (last ∷ []) in
-          subst (MoreWrites (length stored') (slots_shown shown slots0)) (shown_more stored last slots e)
-          (one_call_more (slots_shown shown slots0) (slots_shown shown stored) (slots_shown shown slots) (shown b.slot) (shown last.slot) (length stored) 1 (length stored') before one long)
-
       went_more :
-          (slots0 stored : List (DeviceBlock S R)) (b last : DeviceBlock S R) (slots : List (DeviceBlock S R)) → Grew (shown b.slot) (shown last.slot) → MoreWrites 1 (shown b.slot ∷ []) (shown last.slot ∷ []) → Went (length stored) 0 (slots_shown shown slots0) (slots_shown shown stored ++ slots_shown shown (b ∷ slots)) → {stored' : List (DeviceBlock S R)} → stored' ≡ stored ++ last ∷ []
-          → Went (length stored') 0 (slots_shown shown slots0) (slots_shown shown stored' ++ slots_shown shown slots)
+          (slots0 stored : List (DeviceBlock S R)) (b last : DeviceBlock S R) (slots : List (DeviceBlock S R)) → Grew (shown b.slot) (shown last.slot) → MoreWrites 1 (shown b.slot ∷ []) (shown last.slot ∷ []) → WentWriting (length stored) (slots_shown shown slots0) (slots_shown shown stored ++ slots_shown shown (b ∷ slots)) → {stored' : List (DeviceBlock S R)} → stored' ≡ stored ++ last ∷ []
+          → WentWriting (length stored') (slots_shown shown slots0) (slots_shown shown stored' ++ slots_shown shown slots)
       went_more slots0 stored b last slots grew one before {stored'} e =
           let long : length stored' ≡ length stored + 1 = ap length e ∙ length-append stored (last ∷ []) in
-          subst (Went (length stored') 0 (slots_shown shown slots0)) (shown_more stored last slots e)
-          (Went-more (slots_shown shown slots0) (slots_shown shown stored) (slots_shown shown slots) (shown b.slot) (shown last.slot) (length stored) 1 (length stored') before grew one long)
-
-      same_more :
-          (slots0 stored : List (DeviceBlock S R)) (b last : DeviceBlock S R) (slots : List (DeviceBlock S R)) → Grew (shown b.slot) (shown last.slot) → SameSlots (slots_shown shown slots0) (slots_shown shown stored ++ slots_shown shown (b ∷ slots)) → {stored' : List (DeviceBlock S R)} → stored' ≡ stored ++ last ∷ []
-          → SameSlots (slots_shown shown slots0) (slots_shown shown stored' ++ slots_shown shown slots)
-      same_more slots0 stored b last slots grew same {stored'} e =
-          SameSlots-trans (slots_shown shown slots0) (slots_shown shown stored ++ shown b.slot ∷ slots_shown shown slots) (slots_shown shown stored' ++ slots_shown shown slots) same
-          (subst (SameSlots (slots_shown shown stored ++ shown b.slot ∷ slots_shown shown slots)) (shown_more stored last slots e) (SameSlots-grown (slots_shown shown stored) (slots_shown shown slots) (shown b.slot) (shown last.slot) grew))
+          subst (WentWriting (length stored') (slots_shown shown slots0)) (shown_more stored last slots e)
+          (WentWriting-more (slots_shown shown slots0) (slots_shown shown stored) (slots_shown shown slots) (shown b.slot) (shown last.slot) (length stored) 1 (length stored') before grew one long)
 
       sizes_more :
           (stored : List (DeviceBlock S R)) (b last : DeviceBlock S R) (slots : List (DeviceBlock S R)) → Grew (shown b.slot) (shown last.slot) → All (HasSize shown (block * width)) (stored ++ b ∷ slots) → {stored' : List (DeviceBlock S R)} → stored' ≡ stored ++ last ∷ []
@@ -194,14 +171,9 @@ module _ {S R : Type 0} (cmp : R → R → Ordering) (record_of : List ℕ → R
       let behind = all_right P array.stored (b ∷ slots) is.sizes in
       let sizes : All P (array.stored ++ failed ∷ slots) = All-append P array.stored (failed ∷ slots) (all_left P array.stored (b ∷ slots) is.sizes) (All-cons P failed slots (put.grew.size ∙ All-head P b slots behind) (All-tail P b slots behind)) in
       record {
-        same = subst (λ bs. SameSlots (slots_shown shown slots0) (slots_shown shown bs ++ shown failed.slot ∷ ys)) blocks
-            (SameSlots-trans (slots_shown shown slots0) (xs ++ shown b.slot ∷ ys) (xs ++ shown failed.slot ∷ ys) is.same (SameSlots-grown xs ys (shown b.slot) (shown failed.slot) put.grew));
-        transfers = subst (λ bs. MoreWrites (length bs) (slots_shown shown slots0) (slots_shown shown bs ++ shown failed.slot ∷ ys)) blocks
-            (one_call_more (slots_shown shown slots0) xs ys (shown b.slot) (shown failed.slot) (length array.stored) 0 (length array.stored) is.transfers put.transfers (omega arith));
-        went = subst (λ bs. Went (length bs) 0 (slots_shown shown slots0) (slots_shown shown bs ++ shown failed.slot ∷ ys)) blocks
-            (Went-more (slots_shown shown slots0) xs ys (shown b.slot) (shown failed.slot) (length array.stored) 0 (length array.stored) is.went put.grew put.transfers (omega arith));
-        untold = subst (λ bs. SameUntold (slots_shown shown slots0) (slots_shown shown bs ++ shown failed.slot ∷ ys)) blocks (untold_more (slots_shown shown slots0) xs ys (shown b.slot) (shown failed.slot) is.untold put.grew);
-        few = omega (arith, ap length blocks, is.same.length, length-append xs (shown b.slot ∷ ys), slots_long shown array.stored, slots_long shown slots0);
+        went = subst (λ bs. WentWriting (length bs) (slots_shown shown slots0) (slots_shown shown bs ++ shown failed.slot ∷ ys)) blocks
+            (WentWriting-more (slots_shown shown slots0) xs ys (shown b.slot) (shown failed.slot) (length array.stored) 0 (length array.stored) is.went put.grew put.transfers (omega arith));
+        few = omega (arith, ap length blocks, is.went.went.same.length, length-append xs (shown b.slot ∷ ys), slots_long shown array.stored, slots_long shown slots0);
         sizes = subst (λ bs. All P (bs ++ failed ∷ slots)) blocks sizes;
         shape = put.run ∙ is.shape ∙ ap (λ bs. external 0 (run_of [] 0 []) [] bs) blocks;
         buffers = same ∙ is.buffers;

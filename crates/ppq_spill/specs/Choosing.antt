@@ -1,5 +1,5 @@
 -- The first records of runs and of a list, in a tree of minima, and the least of them.
-use Rattle.std.specs.Prelude.{◌≡◌, ◌⊎◌, ℕ, zero, suc, ◌<◌, ⊤, List, [], ◌∷◌, length, get_or, Option, Some, None, IsSome, slice_index_or, All}
+use Rattle.std.specs.Prelude.{◌≡◌, ◌⊎◌, ℕ, zero, suc, ◌<◌, ◌≤◌, ⊤, List, [], ◌∷◌, length, drop, get_or, Option, Some, None, IsSome, slice_index_or, All}
 use Rattle.std.specs.declared.cmp.Ordering.{Ordering}
 use Rattle.ppq_fetch.specs.ppq_record.Order.{Le, is_before}
 use Rattle.ppq_fetch.specs.ppq_record.Bag.{first_of}
@@ -16,6 +16,12 @@ module _ {R : Type 0} where
   -- each leaf of the tree has the first record of its run; the leaf after them that of the list; and the others none
   abbrev pub HasHeads : List (Run R) → List R → List (Option R) → Type 0
   HasHeads runs rest tree = (leaf : ℕ) → get_or tree leaf None ≡ first_at runs rest leaf
+
+  -- a list from a place on, and runs beside it, are merged by a tree that has a leaf for each of them
+  pub record OnTree (sorted : List R) (at : ℕ) (runs : List (Run R)) (tree : List (Option R)) : Type 0 where
+    pub within : at ≤ length sorted
+    pub leaves : length runs < length tree
+    pub heads : HasHeads runs (drop at sorted) tree
 
 module _ {R : Type 0} (cmp : R → R → Ordering) where
   -- there is no such record, or the other is there and not after it

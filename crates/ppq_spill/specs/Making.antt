@@ -1,5 +1,5 @@
 -- Blocks that are made of records, one after the other, and merged arrays that give the records.
-use Rattle.std.specs.Prelude.{◌≡◌, ℕ, ◌+◌, ◌-◌, ◌*◌, ◌<◌, ◌≤◌, ◌^◌, List, [], ◌∷◌, ◌++◌, length, sum_by, All}
+use Rattle.std.specs.Prelude.{◌≡◌, ℕ, ◌+◌, ◌-◌, ◌*◌, ◌<◌, ◌≤◌, ◌^◌, List, [], ◌∷◌, ◌++◌, length, take, drop, sum_by, All, Result, Ok, Err}
 use Rattle.std.specs.declared.cmp.Ordering.{Ordering}
 use Rattle.ppq_fetch.specs.ppq_record.Order.{Ascends}
 use Rattle.ppq_fetch.specs.ppq_record.Bag.{IsSameBag}
@@ -15,8 +15,10 @@ use Rattle.ppq_fetch.specs.ppq_array.External.{External, external, size_of, coun
 use Rattle.ppq_fetch.specs.ppq_array.Kept.{HasFailed}
 use Rattle.ppq_fetch.specs.ppq_array.Holdings.{external_slots, external_buffers, RunHasBlock, ArrayHasSize}
 use Rattle.ppq_fetch.specs.Fetching.{state, source_items, MayFetch, RunsRise, blocks_in, count_in}
+use Rattle.ppq_fetch.specs.ppq_lane.declared.lanes.Lanes.{Lanes}
+use Rattle.ppq_spill.specs.declared.new_array.NewArray.{NewArray}
 use Rattle.ppq_spill.specs.Went.{Went}
-use Rattle.ppq_spill.specs.Writing.{NoneAfter}
+use Rattle.ppq_fetch.specs.Taking.{NoneAfter}
 
 -- no slot was drawn from a row, and the supply can take back as many buffers
 pub record SameRest (old new : Stock) : Type 0 where
@@ -44,6 +46,10 @@ pub record Table (S R : Type 0) : Type 0 where
 module _ {S R : Type 0} where
   abbrev pub hand : External S R → List (DeviceBlock S R) → Stock → Hand S R
   hand made berths stock = record { made = made; berths = berths; stock = stock }
+
+  -- a new array and its slots, and the supply
+  abbrev pub hand_of : NewArray S R → Stock → Hand S R
+  hand_of making stock = hand making.made making.berths stock
 
   -- all slots that blocks can still be written to, and those of blocks that were made
   abbrev pub hand_slots : (S → Shown) → Hand S R → List Shown
@@ -82,8 +88,54 @@ module _ {S R : Type 0} where
     pub few : length blocks * block ≤ length records
     pub failed : IsFaultOf new.stock fault
 
+  -- what one more batch of n records asks for: buffers and slots, an array with nothing loaded that is full so far, and numbers that fit
+  pub record MayWrite (shown : S → Shown) (width n : ℕ) (bufs : List (Block R)) (h : Hand S R) : Type 0 where
+    pub some : 1 ≤ h.stock.block
+    pub small : h.stock.block ≤ 65536
+    pub idle : 0 < length bufs
+    pub few_idle : length bufs < 2 ^ 32 - 1
+    pub blocks : All (HasBlock h.stock.block) bufs
+    pub shape : h.made ≡ external h.made.level (run_of [] 0 []) [] h.made.stored
+    pub full : 0 < n → AllFull h.stock.block h.made.stored
+    pub slots : n ≤ (length h.berths + length h.stock.kept) * h.stock.block
+    pub sizes : All (HasSize shown (h.stock.block * width)) (h.made.stored ++ h.berths)
+    pub takes_back : length h.made.stored + length h.berths ≤ h.stock.slot_room
+    pub few : size_of h.made + n ≤ (2 ^ 32 - 2) * h.stock.block
+
+  -- what one more block of n records asks for
+  pub record MayWritePart (shown : S → Shown) (width n : ℕ) (bufs : List (Block R)) (h : Hand S R) : Type 0 where
+    pub small : h.stock.block ≤ 65536
+    pub idle : 0 < length bufs
+    pub few_idle : length bufs < 2 ^ 32 - 1
+    pub blocks : All (HasBlock h.stock.block) bufs
+    pub shape : h.made ≡ external h.made.level (run_of [] 0 []) [] h.made.stored
+    pub some : 0 < n
+    pub fit : n ≤ h.stock.block
+    pub slots : 0 < length h.berths + length h.stock.kept
+    pub sizes : All (HasSize shown (h.stock.block * width)) h.berths
+    pub takes_back : length h.berths ≤ h.stock.slot_room
+    pub room : length h.made.stored < 2 ^ 32 - 1
+    pub few : size_of h.made + n < 2 ^ 64
+
+  -- how a write of records ends: all of them are written, or it failed after full blocks of no more records than those of a part
+  abbrev pub BatchEnds : {T : Type 0} → (List ℕ → R) → ℕ → (S → Shown) → List R → List R → Hand S R → Hand S R → Result T StoreFault → Type 0
+  BatchEnds record_of width shown records part old new (Ok _) = WroteAll record_of width old.stock.block shown (old.stock.block * width) records old new
+  BatchEnds record_of width shown records part old new (Err fault) = WroteSome shown old.stock.block (old.stock.block * width) part old new fault
+
+  -- the last 8 of a list of arrays
+  abbrev pub last_eight : List (External S R) → List (External S R)
+  last_eight arrays = drop (length arrays - 8) arrays
+
+  -- and those in front of them
+  abbrev pub all_but_eight : List (External S R) → List (External S R)
+  all_but_eight arrays = take (length arrays - 8) arrays
+
   abbrev pub table : List (External S R) → List (Block R) → External S R → List (DeviceBlock S R) → Stock → Table S R
   table inputs idle made berths stock = record { inputs = inputs; idle = idle; hand = hand made berths stock }
+
+  -- arrays, lanes, a new array and the supply
+  abbrev pub table_of : List (External S R) → Lanes (DeviceBlock S R) R → NewArray S R → Stock → Table S R
+  table_of inputs lanes making stock = table inputs lanes.idle making.made making.berths stock
 
   -- how many records of arrays are loaded
   abbrev pub loaded_count : List (External S R) → ℕ
@@ -103,7 +155,7 @@ module _ {S R : Type 0} where
 
   -- What holds between two batches. All blocks made but the last are full, and all of them while records are left. Made and loaded records
   -- fit in the slots of the made blocks and those that are at hand, so there is a slot for each block that is to be written
-  pub record IsReady (shown : S → Shown) (width workers : ℕ) (t : Table S R) : Type 0 where
+  pub record BetweenBatches (shown : S → Shown) (width workers : ℕ) (t : Table S R) : Type 0 where
     pub may : MayFetch shown width workers (state [] t.inputs t.idle t.hand.stock)
     pub some : 1 ≤ t.hand.stock.block
     pub small : t.hand.stock.block ≤ 65536
@@ -117,6 +169,21 @@ module _ {S R : Type 0} where
     pub sizes : All (HasSize shown (t.hand.stock.block * width)) (t.hand.made.stored ++ t.hand.berths)
     pub room : held_slots shown t ≤ t.hand.stock.slot_room
     pub buffers : 2 * workers + 8 ≤ length t.idle + external_buffers t.inputs
+
+  -- 8 arrays may be merged, a batch at a time, by so many workers, with so many places for runs and a batch with room for so many records
+  pub record MayMerge (shown : S → Shown) (width workers places most : ℕ) (t : Table S R) : Type 0 where
+    pub eight : length t.inputs ≡ 8
+    pub ready : BetweenBatches shown width workers t
+    pub worker : 1 ≤ workers
+    pub bench : 8 ≤ places
+    pub batch : most ≡ workers * t.hand.stock.block
+
+  -- what a merge uses is left as it was: jobs, room in the batch, workers, and places for runs
+  pub record SameTools (old new : Lanes (DeviceBlock S R) R) (before now places places' : ℕ) : Type 0 where
+    pub jobs : new.jobs ≡ old.jobs
+    pub batch : length new.batch.items ≡ length old.batch.items
+    pub workers : now ≡ before
+    pub same_places : places' ≡ places
 
   -- What holds after merging, whatever the answer
   pub record Merging (shown : S → Shown) (width : ℕ) (old new : Table S R) : Type 0 where
@@ -148,7 +215,7 @@ module _ {S R : Type 0} where
   -- so many records went from the arrays to made blocks
   pub record MergedOn (cmp : R → R → Ordering) (record_of : List ℕ → R) (width workers : ℕ) (shown : S → Shown) (old new : Table S R) : Type 0 where
     pub merging : Merging shown width old new
-    pub ready : IsReady shown width workers new
+    pub ready : BetweenBatches shown width workers new
     pub same : total new ≡ total old
     pub rise : AllTell (table_slots shown old) → IsRising cmp record_of width shown old → IsRising cmp record_of width shown new
     pub records : AllTell (table_slots shown old) → IsRising cmp record_of width shown old → IsSameBag (all_records record_of width shown old) (all_records record_of width shown new)
@@ -158,10 +225,26 @@ module _ {S R : Type 0} where
     pub merging : Merging shown width old new
     pub failed : IsFaultOf new.hand.stock fault
 
+  -- so many records were merged, and none only if none is left
+  pub record MergedBatch (cmp : R → R → Ordering) (record_of : List ℕ → R) (width workers : ℕ) (shown : S → Shown) (old new : Table S R) (count : ℕ) : Type 0 where
+    pub merged : MergedOn cmp record_of width workers shown old new
+    pub count_is : count + count_in [] new.inputs ≡ count_in [] old.inputs
+    pub end : count ≡ 0 → count_in [] new.inputs ≡ 0
+
+  -- how the merge of a batch ends
+  abbrev pub BatchMergeEnds : (R → R → Ordering) → (List ℕ → R) → ℕ → ℕ → (S → Shown) → Table S R → Table S R → Result ℕ StoreFault → Type 0
+  BatchMergeEnds cmp record_of width workers shown old new (Ok count) = MergedBatch cmp record_of width workers shown old new count
+  BatchMergeEnds cmp record_of width workers shown old new (Err fault) = MergeFailed shown width old new fault
+
   -- an array has no slot and no buffer any more
-  pub record IsEmptied (a : External S R) : Type 0 where
+  pub record HasNothing (a : External S R) : Type 0 where
     pub stored : a.stored ≡ []
     pub loaded : buffers_of a.loaded ≡ []
+
+  -- how the merge of arrays ends: nothing is left of them, or a read or write failed
+  abbrev pub MergeEnds : {T : Type 0} → (R → R → Ordering) → (List ℕ → R) → ℕ → ℕ → (S → Shown) → Table S R → Table S R → Result T StoreFault → Type 0
+  MergeEnds cmp record_of width workers shown old new (Ok _) = MergedOn cmp record_of width workers shown old new × All HasNothing new.inputs
+  MergeEnds cmp record_of width workers shown old new (Err fault) = MergeFailed shown width old new fault
 
   -- the slots that are left in hand went back to the supply
   abbrev pub freed : (S → Shown) → Hand S R → Stock
@@ -171,7 +254,7 @@ module _ {S R : Type 0} where
   pub record LastMerged (cmp : R → R → Ordering) (record_of : List ℕ → R) (width workers : ℕ) (shown : S → Shown) (others : List (External S R)) (old : Table S R) (arrays : List (External S R)) (idle : List (Block R)) (stock : Stock) : Type 0 where
     pub end : Table S R
     pub merged : MergedOn cmp record_of width workers shown old end
-    pub emptied : All IsEmptied end.inputs
+    pub emptied : All HasNothing end.inputs
     pub arrays_are : arrays ≡ others ++ end.hand.made ∷ []
     pub idle_is : idle ≡ end.idle
     pub stock_is : stock ≡ freed shown end.hand
@@ -183,3 +266,8 @@ module _ {S R : Type 0} where
     pub arrays_are : arrays ≡ others ++ end.inputs ++ end.hand.made ∷ []
     pub idle_is : idle ≡ end.idle
     pub stock_is : stock ≡ freed shown end.hand
+
+  -- how the merge of the last arrays ends
+  abbrev pub LastEnds : {T : Type 0} → (R → R → Ordering) → (List ℕ → R) → ℕ → ℕ → (S → Shown) → List (External S R) → Table S R → List (External S R) → List (Block R) → Stock → Result T StoreFault → Type 0
+  LastEnds cmp record_of width workers shown others old arrays idle stock (Ok _) = LastMerged cmp record_of width workers shown others old arrays idle stock
+  LastEnds cmp record_of width workers shown others old arrays idle stock (Err fault) = LastFailed shown width others old arrays idle stock fault

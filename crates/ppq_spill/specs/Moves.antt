@@ -1,12 +1,12 @@
 -- Slots and buffers that are taken from a supply and given back.
-use Rattle.std.specs.Prelude.{◌≡◌, ℕ, ◌+◌, ◌-◌, ◌*◌, ◌<◌, ◌≤◌, List, [], ◌++◌, length, sum_by, All}
+use Rattle.std.specs.Prelude.{◌≡◌, ℕ, ◌+◌, ◌-◌, ◌*◌, ◌<◌, ◌≤◌, ◌^◌, List, [], ◌++◌, length, sum_by, All}
 use Rattle.ppq_fetch.specs.ppq_block.Block.{Block, holding}
 use Rattle.ppq_fetch.specs.ppq_outside.Shown.{Shown}
 use Rattle.ppq_fetch.specs.ppq_outside.Told.{Rose}
 use Rattle.ppq_fetch.specs.ppq_array.declared.berth.DeviceBlock.{DeviceBlock}
 use Rattle.ppq_fetch.specs.ppq_array.Run.{Run, items_of, buffers_of}
 use Rattle.ppq_fetch.specs.ppq_array.Supply.{Stock}
-use Rattle.ppq_fetch.specs.ppq_array.Owner.{slots_shown, HasSize}
+use Rattle.ppq_fetch.specs.ppq_array.Owner.{slots_shown, HasBlock, HasSize}
 use Rattle.ppq_fetch.specs.ppq_array.Holdings.{RunHasBlock}
 use Rattle.ppq_fetch.specs.Fetching.{IsFitting}
 use Rattle.ppq_spill.specs.Storing.{IsShortOfBuffers}
@@ -25,6 +25,23 @@ module _ {R : Type 0} where
     pub empty : All (λ b. b ≡ holding old.block []) taken
     pub stock : new ≡ with_buffers old new.sure_buffers (old.buffer_room + length taken)
     pub sure : old.sure_buffers ≤ new.sure_buffers + length taken
+
+  -- n records may be written into empty buffers: they are just as many as it takes
+  pub record MayFill (block n : ℕ) (bufs : List (Block R)) : Type 0 where
+    pub some : 1 ≤ block
+    pub small : block ≤ 65536
+    pub empty : All (λ b. b ≡ holding block []) bufs
+    pub few : length bufs < 2 ^ 32 - 1
+    pub room : n ≤ length bufs * block
+    pub least : length bufs * block < n + block
+
+  -- the records lie in so many buffers
+  pub record IsFilled (block : ℕ) (records : List R) (count : ℕ) (run : Run R) : Type 0 where
+    pub items : items_of run ≡ records
+    pub unspent : run.spent ≡ []
+    pub fitting : All IsFitting run.live
+    pub blocks : All (HasBlock block) run.live
+    pub buffers : length run.live ≡ count
 
   -- the records lie in buffers that were taken
   pub record FilledRun (sorted : List R) (old new : Stock) (run : Run R) : Type 0 where

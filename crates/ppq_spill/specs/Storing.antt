@@ -1,5 +1,5 @@
 -- What it takes to store a run, and what stands afterwards.
-use Rattle.std.specs.Prelude.{◌≡◌, ◌↔◌, ◌⊎◌, ℕ, ◌+◌, ◌-◌, ◌*◌, ◌<◌, ◌≤◌, ◌^◌, List, [], ◌∷◌, ◌++◌, length, All, vec_capacity}
+use Rattle.std.specs.Prelude.{◌≡◌, ◌↔◌, ◌⊎◌, ℕ, ◌+◌, ◌-◌, ◌*◌, ◌<◌, ◌≤◌, ◌^◌, List, [], ◌∷◌, ◌++◌, length, All, vec_capacity, Result, Ok, Err}
 use Rattle.std.specs.declared.cmp.Ordering.{Ordering}
 use Rattle.ppq_fetch.specs.ppq_record.Order.{Ascends}
 use Rattle.ppq_fetch.specs.ppq_record.Bag.{IsSameBag}
@@ -11,10 +11,12 @@ use Rattle.ppq_fetch.specs.ppq_array.Supply.{Stock, sure_slots}
 use Rattle.ppq_fetch.specs.ppq_array.Owner.{HasBlock}
 use Rattle.ppq_fetch.specs.ppq_array.Run.{Run, run_of, items_of, buffers_of}
 use Rattle.ppq_fetch.specs.ppq_array.External.{External, size_of, records_in, IsPacked}
-use Rattle.ppq_fetch.specs.ppq_array.Kept.{HasFailed, MoreWrites, all_writes}
+use Rattle.ppq_fetch.specs.ppq_array.declared.store_fault.StoreFault.{StoreFault}
+use Rattle.ppq_fetch.specs.ppq_array.declared.store_fault.StoreFault.TheVariants.{NoFreeBlock, Device}
+use Rattle.ppq_fetch.specs.ppq_array.Kept.{Kept, HasFailed, MoreWrites, all_writes}
 use Rattle.ppq_fetch.specs.ppq_array.Holdings.{internal_items, RunHasBlock, ArrayHasSize, CanTakeBack}
 use Rattle.ppq_fetch.specs.Fetching.{IsFitting}
-use Rattle.ppq_spill.specs.Body.{body_slots}
+use Rattle.ppq_spill.specs.Body.{body_slots, held_by}
 use Rattle.ppq_spill.specs.Untold.{SameUntold}
 use Rattle.ppq_spill.specs.declared.body.PassBody.{PassBody}
 
@@ -35,6 +37,12 @@ pub record SlotsUntouched (old new : Stock) : Type 0 where
   pub drawn : new.drawn ≡ old.drawn
   pub slot_room : new.slot_room ≡ old.slot_room
   pub dry : new.dry ≡ old.dry
+
+-- no buffer was taken
+pub record SameScant (before now : Stock) : Type 0 where
+  pub scant : now.scant ≡ before.scant
+  pub room : now.room_when_scant ≡ before.room_when_scant
+  pub block : now.block ≡ before.block
 
 module _ {S R : Type 0} where
   -- How many records a body has in runs in buffers
@@ -157,8 +165,19 @@ module _ {S R : Type 0} where
   abbrev pub DeviceFailed : (S → Shown) → ℕ → PassBody S R → Stock → Type 0
   DeviceFailed shown number body stock = HasFailed number (body_slots shown body ++ stock.kept)
 
--- no buffer was taken
-pub record SameScant (before now : Stock) : Type 0 where
-  pub scant : now.scant ≡ before.scant
-  pub room : now.room_when_scant ≡ before.room_when_scant
-  pub block : now.block ≡ before.block
+  -- what storing runs in blocks leaves, whatever the answer
+  pub record StoreLeaves (shown : S → Shown) (width n : ℕ) (old new : PassBody S R) (before now : Stock) : Type 0 where
+    pub kept : Kept before now (held_by shown old) (held_by shown new)
+    pub takes_back : CanTakeBack shown now new.runs.internal.items new.runs.external.items
+    pub tells : StillTell shown old new before now
+    pub untold : StillUntold shown old new before now
+    pub writes : WritesFew shown n old new before now
+    pub lanes : LanesRest old.lanes new.lanes
+    pub size : HasOneSize shown width new now
+    pub rooms : RoomsRest old new
+
+  -- how it ends; no buffer came back unless all is stored
+  abbrev pub StoreEnds : {T : Type 0} → (R → R → Ordering) → (List ℕ → R) → ℕ → (S → Shown) → List R → PassBody S R → PassBody S R → Stock → Stock → Result T StoreFault → Type 0
+  StoreEnds cmp record_of width shown sorted old new before now (Ok _) = BlocksStored cmp record_of width shown sorted old new before now
+  StoreEnds cmp record_of width shown sorted old new before now (Err NoFreeBlock) = NoSlots (length sorted) old new before now
+  StoreEnds cmp record_of width shown sorted old new before now (Err (Device number)) = DeviceFailed shown number new now

@@ -4,7 +4,7 @@ ghost use Rattle.ppq_fetch.specs.ppq_block.Block.{holding};
 ghost use Rattle.ppq_fetch.specs.ppq_array.Owner.{HasBlock};
 ghost use Rattle.ppq_fetch.specs.ppq_array.Run.{items_of};
 ghost use Rattle.ppq_fetch.specs.Fetching.{IsFitting};
-ghost use Rattle.ppq_spill.specs.Moves.{TookBuffers, FilledRun, FoundFewBuffers, FoundScant, with_buffers};
+ghost use Rattle.ppq_spill.specs.Moves.{TookBuffers, MayFill, IsFilled, FilledRun, FoundFewBuffers, FoundScant, with_buffers};
 
 use ppq_fetch::{BlockBuf, BufList, InternalArray, Record, Slot, Supply, give_buffer};
 
@@ -89,17 +89,8 @@ pub(crate) fn give_buffers<S: Slot, R: Record, P: Supply<S, R>>(supply: &mut P, 
 
 // Writes records into empty buffers, in order, each full but the last: just as many buffers as it takes.
 fn fill<R: Record>(bufs: BufList<R>, records: &[R], block: u32) -> InternalArray<R>
-    requires block { 1 ≤ block }
-    requires small { block ≤ 65536 }
-    requires empty { All (λ b. b ≡ holding block []) bufs }
-    requires few { length bufs < 2 ^ 32 - 1 }
-    requires room { length records.now ≤ length bufs * block }
-    requires least { length bufs * block < length records.now + block }
-    ensures items { items_of result ≡ records.now }
-    ensures unspent { result.spent ≡ [] }
-    ensures fitting { All IsFitting result.live }
-    ensures blocks { All (HasBlock block) result.live }
-    ensures buffers { length result.live ≡ length bufs }
+    requires may { MayFill block (length records.now) bufs }
+    ensures filled { IsFilled block records.now (length bufs) result }
 {
     let mut bufs = bufs;
     let mut run = InternalArray::empty();

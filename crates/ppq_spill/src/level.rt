@@ -1,16 +1,17 @@
 //! Merging 8 arrays of a level into one of the next.
-ghost use Rattle.std.specs.Prelude.{◌≡◌, ◌+◌, ◌-◌, ◌*◌, ◌^◌, ◌<◌, ◌≤◌, ℕ, [], length, take, drop, min, vec_capacity, All, OnOk, IfOk, IfErr, IfSome, IfNone, IsErrOf, None};
-ghost use Rattle.ppq_fetch.specs.ppq_array.Run.{run_of};
-ghost use Rattle.ppq_fetch.specs.ppq_array.External.{External, external, size_of};
+ghost use Rattle.std.specs.Prelude.{◌≡◌, ◌-◌, ◌^◌, ◌<◌, ◌≤◌, ℕ, [], length, take, drop, min, vec_capacity, All, OnOk, IfOk, IfErr, IfSome, IfNone, None, IsErrOf};
+ghost use Rattle.ppq_fetch.specs.ppq_array.External.{External, size_of};
 ghost use Rattle.ppq_fetch.specs.ppq_array.Kept.{Kept};
 ghost use Rattle.ppq_fetch.specs.ppq_array.Holdings.{external_buffers};
 ghost use Rattle.ppq_fetch.specs.Fetching.{state, count_in, MayFetch, AreSources, Fetched, PartsKept};
 ghost use Rattle.ppq_spill.specs.Moves.{DrewSlots, FoundFewSlots};
-ghost use Rattle.ppq_spill.specs.Making.{table, IsReady, IsFaultOf, MergedOn, MergeFailed, IsEmptied, LastMerged, LastFailed};
+ghost use Rattle.ppq_spill.specs.Making.{table_of, last_eight, all_but_eight, MayMerge, SameTools, IsFaultOf, BatchMergeEnds, MergeEnds, LastEnds, HasNothing};
 ghost use Rattle.ppq_spill.specs.Leveling.{held_in, count_level, MayLevel, AreOneSize, LanesStay, LevelCalls, LevelMerged, NoneForLevel, ArraysAscend, LevelFailed, LevelTells};
 
+use crate::crew::Crew;
 use crate::gathering::{count_buffers, gather_level};
 use crate::making::write_batch;
+use crate::new_array::NewArray;
 use crate::slots::{draw_slots, free_slots};
 use ppq_fetch::{
     Bench, Berth, BerthList, ExternalArray, Gate, Host, InternalArray, Lanes, Record, Slot,
@@ -71,14 +72,14 @@ pub fn merge_level<
     ensures bench { length bench.new.places ≡ length bench.old.places }
 {
     gather_level(arrays, level);
-    match draw_for_last(arrays, supply) {
-        None => Err(StoreFault::NoFreeBlock),
-        Some(berths) => {
-            match merge_last(rt, arrays, level, berths, supply, lanes, bench, gate) {
-                Ok(()) => Ok(()),
-                Err(fault) => Err(fault),
-            }
-        }
+    let Some(berths) = draw_for_last(arrays, supply) else {
+        return Err(StoreFault::NoFreeBlock);
+    };
+    let made = ExternalArray::empty((level + 1).min(7));
+    let making = NewArray { made, berths };
+    match merge_last(&Crew { rt, gate }, arrays, making, supply, lanes, bench) {
+        Ok(()) => Ok(()),
+        Err(fault) => Err(fault),
     }
 }
 
@@ -90,9 +91,9 @@ fn draw_for_last<S: Slot, R: Record, P: Supply<S, R>>(
 ) -> Option<BerthList<S, R>>
     requires eight { 8 ≤ length arrays.now.items }
     requires few { external_buffers arrays.now.items < 2 ^ 32 - 1 }
-    ensures all { IfSome result (λ berths. length berths ≡ external_buffers (drop (length arrays.now.items - 8) arrays.now.items)) }
+    ensures all { IfSome result (λ berths. length berths ≡ external_buffers (last_eight arrays.now.items)) }
     ensures drawn { IfSome result (DrewSlots S.shown R.WIDTH (P.stock supply.old) (P.stock supply.new)) }
-    ensures few { IfNone result (FoundFewSlots (external_buffers (drop (length arrays.now.items - 8) arrays.now.items)) (P.stock supply.old) (P.stock supply.new)) }
+    ensures few { IfNone result (FoundFewSlots (external_buffers (last_eight arrays.now.items)) (P.stock supply.old) (P.stock supply.new)) }
     ensures home { P.home supply.new ≡ P.home supply.old }
 {
     let first = arrays.len() - 8;
@@ -100,53 +101,35 @@ fn draw_for_last<S: Slot, R: Record, P: Supply<S, R>>(
     draw_slots(supply, need)
 }
 
-// Merges the last 8 arrays into one, which replaces them, and returns the slots that are left.
+// Merges the last 8 arrays into a new one, which replaces them, and gives back the slots that are left.
 fn merge_last<H: Host, S: Slot + Send + Sync, R: Record + Send + Sync, P: Supply<S, R>, G: Gate>(
-    rt: &H,
+    crew: &Crew<H, G>,
     arrays: &mut Vec<ExternalArray<S, R>>,
-    level: u32,
-    berths: BerthList<S, R>,
+    making: NewArray<S, R>,
     supply: &mut P,
     lanes: &mut Lanes<Berth<S, R>, R>,
     bench: &mut Bench<R>,
-    gate: &G,
 ) -> Result<(), StoreFault>
-    requires level { level ≤ 7 }
     requires eight { 8 ≤ length arrays.old.items }
     requires room { length arrays.old.items < vec_capacity arrays.old }
-    requires ready { IsReady S.shown R.WIDTH bench.old.workers (table (drop (length arrays.old.items - 8) arrays.old.items) lanes.old.idle (external (min (level + 1) 7) (run_of [] 0 []) [] []) berths (P.stock supply.old)) }
-    requires worker { 1 ≤ bench.old.workers }
-    requires bench { 8 ≤ length bench.old.places }
-    requires batch { length lanes.old.batch.items ≡ bench.old.workers * (P.stock supply.old).block }
-    ensures merged { OnOk result (LastMerged R.Ord.cmp R.record_of R.WIDTH bench.old.workers S.shown (take (length arrays.old.items - 8) arrays.old.items) (table (drop (length arrays.old.items - 8) arrays.old.items) lanes.old.idle (external (min (level + 1) 7) (run_of [] 0 []) [] []) berths (P.stock supply.old)) arrays.new.items lanes.new.idle (P.stock supply.new)) }
-    ensures failed { IfErr result (LastFailed S.shown R.WIDTH (take (length arrays.old.items - 8) arrays.old.items) (table (drop (length arrays.old.items - 8) arrays.old.items) lanes.old.idle (external (min (level + 1) 7) (run_of [] 0 []) [] []) berths (P.stock supply.old)) arrays.new.items lanes.new.idle (P.stock supply.new)) }
+    requires may { MayMerge S.shown R.WIDTH bench.old.workers (length bench.old.places) (length lanes.old.batch.items) (table_of (last_eight arrays.old.items) lanes.old making (P.stock supply.old)) }
+    ensures outcome { LastEnds R.Ord.cmp R.record_of R.WIDTH bench.old.workers S.shown (all_but_eight arrays.old.items) (table_of (last_eight arrays.old.items) lanes.old making (P.stock supply.old)) arrays.new.items lanes.new.idle (P.stock supply.new) result }
     ensures home { P.home supply.new ≡ P.home supply.old }
-    ensures jobs { lanes.new.jobs ≡ lanes.old.jobs }
-    ensures batch { length lanes.new.batch.items ≡ length lanes.old.batch.items }
     ensures rooms { vec_capacity arrays.new ≡ vec_capacity arrays.old }
-    ensures workers { bench.new.workers ≡ bench.old.workers }
-    ensures bench { length bench.new.places ≡ length bench.old.places }
+    ensures tools { SameTools lanes.old lanes.new bench.old.workers bench.new.workers (length bench.old.places) (length bench.new.places) }
 {
     let first = arrays.len() - 8;
-    let mut berths = berths;
-    let mut made = ExternalArray::empty((level + 1).min(7));
-    match merge_behind(
-        rt,
-        arrays,
-        &mut made,
-        &mut berths,
-        supply,
-        lanes,
-        bench,
-        gate,
-    ) {
+    let mut making = making;
+    match merge_behind(crew, arrays, &mut making, supply, lanes, bench) {
         Ok(()) => {
+            let NewArray { made, berths } = making;
             free_slots(supply, berths);
             arrays.truncate(first);
             arrays.push_reserved(made);
             Ok(())
         }
         Err(fault) => {
+            let NewArray { made, berths } = making;
             free_slots(supply, berths);
             arrays.push_reserved(made);
             Err(fault)
@@ -156,72 +139,41 @@ fn merge_last<H: Host, S: Slot + Send + Sync, R: Record + Send + Sync, P: Supply
 
 // Merges the last 8 arrays into a new one.
 fn merge_behind<H: Host, S: Slot + Send + Sync, R: Record + Send + Sync, P: Supply<S, R>, G: Gate>(
-    rt: &H,
+    crew: &Crew<H, G>,
     arrays: &mut [ExternalArray<S, R>],
-    made: &mut ExternalArray<S, R>,
-    berths: &mut BerthList<S, R>,
+    making: &mut NewArray<S, R>,
     supply: &mut P,
     lanes: &mut Lanes<Berth<S, R>, R>,
     bench: &mut Bench<R>,
-    gate: &G,
 ) -> Result<(), StoreFault>
     requires eight { 8 ≤ length arrays.old }
-    requires ready { IsReady S.shown R.WIDTH bench.old.workers (table (drop (length arrays.old - 8) arrays.old) lanes.old.idle made.old berths.old (P.stock supply.old)) }
-    requires worker { 1 ≤ bench.old.workers }
-    requires bench { 8 ≤ length bench.old.places }
-    requires batch { length lanes.old.batch.items ≡ bench.old.workers * (P.stock supply.old).block }
-    ensures others { take (length arrays.old - 8) arrays.new ≡ take (length arrays.old - 8) arrays.old }
-    ensures merged { OnOk result (MergedOn R.Ord.cmp R.record_of R.WIDTH bench.old.workers S.shown (table (drop (length arrays.old - 8) arrays.old) lanes.old.idle made.old berths.old (P.stock supply.old)) (table (drop (length arrays.old - 8) arrays.new) lanes.new.idle made.new berths.new (P.stock supply.new))) }
-    ensures emptied { OnOk result (All IsEmptied (drop (length arrays.old - 8) arrays.new)) }
-    ensures failed { IfErr result (MergeFailed S.shown R.WIDTH (table (drop (length arrays.old - 8) arrays.old) lanes.old.idle made.old berths.old (P.stock supply.old)) (table (drop (length arrays.old - 8) arrays.new) lanes.new.idle made.new berths.new (P.stock supply.new))) }
+    requires may { MayMerge S.shown R.WIDTH bench.old.workers (length bench.old.places) (length lanes.old.batch.items) (table_of (last_eight arrays.old) lanes.old making.old (P.stock supply.old)) }
+    ensures others { take (length arrays.old - 8) arrays.new ≡ all_but_eight arrays.old }
+    ensures outcome { MergeEnds R.Ord.cmp R.record_of R.WIDTH bench.old.workers S.shown (table_of (last_eight arrays.old) lanes.old making.old (P.stock supply.old)) (table_of (drop (length arrays.old - 8) arrays.new) lanes.new making.new (P.stock supply.new)) result }
     ensures home { P.home supply.new ≡ P.home supply.old }
-    ensures jobs { lanes.new.jobs ≡ lanes.old.jobs }
-    ensures batch { length lanes.new.batch.items ≡ length lanes.old.batch.items }
-    ensures workers { bench.new.workers ≡ bench.old.workers }
-    ensures bench { length bench.new.places ≡ length bench.old.places }
+    ensures tools { SameTools lanes.old lanes.new bench.old.workers bench.new.workers (length bench.old.places) (length bench.new.places) }
 {
     let first = arrays.len() - 8;
-    merge_arrays(
-        rt,
-        &mut arrays[first..],
-        made,
-        berths,
-        supply,
-        lanes,
-        bench,
-        gate,
-    )
+    merge_arrays(crew, &mut arrays[first..], making, supply, lanes, bench)
 }
 
 // Merges 8 arrays into a new one, until nothing is left of them.
 fn merge_arrays<H: Host, S: Slot + Send + Sync, R: Record + Send + Sync, P: Supply<S, R>, G: Gate>(
-    rt: &H,
+    crew: &Crew<H, G>,
     inputs: &mut [ExternalArray<S, R>],
-    made: &mut ExternalArray<S, R>,
-    berths: &mut BerthList<S, R>,
+    making: &mut NewArray<S, R>,
     supply: &mut P,
     lanes: &mut Lanes<Berth<S, R>, R>,
     bench: &mut Bench<R>,
-    gate: &G,
 ) -> Result<(), StoreFault>
-    requires eight { length inputs.old ≡ 8 }
-    requires ready { IsReady S.shown R.WIDTH bench.old.workers (table inputs.old lanes.old.idle made.old berths.old (P.stock supply.old)) }
-    requires worker { 1 ≤ bench.old.workers }
-    requires bench { 8 ≤ length bench.old.places }
-    requires batch { length lanes.old.batch.items ≡ bench.old.workers * (P.stock supply.old).block }
-    ensures merged { OnOk result (MergedOn R.Ord.cmp R.record_of R.WIDTH bench.old.workers S.shown (table inputs.old lanes.old.idle made.old berths.old (P.stock supply.old)) (table inputs.new lanes.new.idle made.new berths.new (P.stock supply.new))) }
-    ensures emptied { OnOk result (All IsEmptied inputs.new) }
-    ensures failed { IfErr result (MergeFailed S.shown R.WIDTH (table inputs.old lanes.old.idle made.old berths.old (P.stock supply.old)) (table inputs.new lanes.new.idle made.new berths.new (P.stock supply.new))) }
+    requires may { MayMerge S.shown R.WIDTH bench.old.workers (length bench.old.places) (length lanes.old.batch.items) (table_of inputs.old lanes.old making.old (P.stock supply.old)) }
+    ensures outcome { MergeEnds R.Ord.cmp R.record_of R.WIDTH bench.old.workers S.shown (table_of inputs.old lanes.old making.old (P.stock supply.old)) (table_of inputs.new lanes.new making.new (P.stock supply.new)) result }
     ensures home { P.home supply.new ≡ P.home supply.old }
-    ensures jobs { lanes.new.jobs ≡ lanes.old.jobs }
-    ensures batch { length lanes.new.batch.items ≡ length lanes.old.batch.items }
-    ensures workers { bench.new.workers ≡ bench.old.workers }
-    ensures bench { length bench.new.places ≡ length bench.old.places }
+    ensures tools { SameTools lanes.old lanes.new bench.old.workers bench.new.workers (length bench.old.places) (length bench.new.places) }
 {
-    let block = lanes.idle.at(0).block();
     let mut last = 1;
     while 0 < last {
-        match merge_batch(rt, inputs, made, berths, supply, lanes, bench, block, gate) {
+        match merge_batch(crew, inputs, making, supply, lanes, bench) {
             Ok(count) => last = count,
             Err(fault) => return Err(fault),
         }
@@ -233,37 +185,23 @@ fn merge_arrays<H: Host, S: Slot + Send + Sync, R: Record + Send + Sync, P: Supp
 // Merges the least records of 8 arrays, a batch of them, and writes them as the next blocks of a new
 // array. It returns how many they were.
 fn merge_batch<H: Host, S: Slot + Send + Sync, R: Record + Send + Sync, P: Supply<S, R>, G: Gate>(
-    rt: &H,
+    crew: &Crew<H, G>,
     inputs: &mut [ExternalArray<S, R>],
-    made: &mut ExternalArray<S, R>,
-    berths: &mut BerthList<S, R>,
+    making: &mut NewArray<S, R>,
     supply: &mut P,
     lanes: &mut Lanes<Berth<S, R>, R>,
     bench: &mut Bench<R>,
-    block: u32,
-    gate: &G,
 ) -> Result<usize, StoreFault>
-    requires eight { length inputs.old ≡ 8 }
-    requires block { block ≡ (P.stock supply.old).block }
-    requires ready { IsReady S.shown R.WIDTH bench.old.workers (table inputs.old lanes.old.idle made.old berths.old (P.stock supply.old)) }
-    requires worker { 1 ≤ bench.old.workers }
-    requires bench { 8 ≤ length bench.old.places }
-    requires batch { length lanes.old.batch.items ≡ bench.old.workers * block }
-    ensures merged { IfOk result (λ _. MergedOn R.Ord.cmp R.record_of R.WIDTH bench.old.workers S.shown (table inputs.old lanes.old.idle made.old berths.old (P.stock supply.old)) (table inputs.new lanes.new.idle made.new berths.new (P.stock supply.new))) }
-    ensures count { IfOk result (λ count. count + count_in [] inputs.new ≡ count_in [] inputs.old) }
-    ensures end { IfOk result (λ count. count ≡ 0 → count_in [] inputs.new ≡ 0) }
-    ensures failed { IfErr result (MergeFailed S.shown R.WIDTH (table inputs.old lanes.old.idle made.old berths.old (P.stock supply.old)) (table inputs.new lanes.new.idle made.new berths.new (P.stock supply.new))) }
+    requires may { MayMerge S.shown R.WIDTH bench.old.workers (length bench.old.places) (length lanes.old.batch.items) (table_of inputs.old lanes.old making.old (P.stock supply.old)) }
+    ensures outcome { BatchMergeEnds R.Ord.cmp R.record_of R.WIDTH bench.old.workers S.shown (table_of inputs.old lanes.old making.old (P.stock supply.old)) (table_of inputs.new lanes.new making.new (P.stock supply.new)) result }
     ensures home { P.home supply.new ≡ P.home supply.old }
-    ensures jobs { lanes.new.jobs ≡ lanes.old.jobs }
-    ensures batch { length lanes.new.batch.items ≡ length lanes.old.batch.items }
-    ensures workers { bench.new.workers ≡ bench.old.workers }
-    ensures bench { length bench.new.places ≡ length bench.old.places }
+    ensures tools { SameTools lanes.old lanes.new bench.old.workers bench.new.workers (length bench.old.places) (length bench.new.places) }
 {
     record_laws::<R>();
-    match take_batch(rt, inputs, supply, lanes, bench, gate) {
+    match take_batch(crew, inputs, supply, lanes, bench) {
         Ok(count) => {
             let records = &lanes.batch[..count];
-            match write_batch(rt, supply, &mut lanes.idle, berths, made, records, block) {
+            match write_batch(crew.rt, supply, &mut lanes.idle, making, records) {
                 Ok(()) => Ok(count),
                 Err(fault) => Err(fault),
             }
@@ -275,12 +213,11 @@ fn merge_batch<H: Host, S: Slot + Send + Sync, R: Record + Send + Sync, P: Suppl
 // Takes the least records of 8 arrays into the batch, as many as it has room for, or all there are. It
 // returns how many.
 fn take_batch<H: Host, S: Slot + Send + Sync, R: Record + Send + Sync, P: Supply<S, R>, G: Gate>(
-    rt: &H,
+    crew: &Crew<H, G>,
     inputs: &mut [ExternalArray<S, R>],
     supply: &mut P,
     lanes: &mut Lanes<Berth<S, R>, R>,
     bench: &mut Bench<R>,
-    gate: &G,
 ) -> Result<usize, StoreFault>
     requires eight { length inputs.old ≡ 8 }
     requires may { MayFetch S.shown R.WIDTH bench.old.workers (state [] inputs.old lanes.old.idle (P.stock supply.old)) }
@@ -293,16 +230,13 @@ fn take_batch<H: Host, S: Slot + Send + Sync, R: Record + Send + Sync, P: Supply
     ensures failed { IfErr result (λ fault. IsFaultOf (P.stock supply.new) fault) }
     ensures parts { IfErr result (λ _. PartsKept S.shown (state [] inputs.old lanes.old.idle (P.stock supply.old)) (state [] inputs.new lanes.new.idle (P.stock supply.new))) }
     ensures home { P.home supply.new ≡ P.home supply.old }
-    ensures jobs { lanes.new.jobs ≡ lanes.old.jobs }
-    ensures batch { length lanes.new.batch.items ≡ length lanes.old.batch.items }
-    ensures workers { bench.new.workers ≡ bench.old.workers }
-    ensures bench { length bench.new.places ≡ length bench.old.places }
+    ensures tools { SameTools lanes.old lanes.new bench.old.workers bench.new.workers (length bench.old.places) (length bench.new.places) }
 {
     let mut internal: [InternalArray<R>; 0] = [];
     let mut places = [0; 8];
     let ahead = bench.workers();
     take_least(
-        rt,
+        crew.rt,
         &mut internal,
         inputs,
         &mut lanes.idle,
@@ -312,7 +246,7 @@ fn take_batch<H: Host, S: Slot + Send + Sync, R: Record + Send + Sync, P: Supply
         None,
         ahead,
         &mut lanes.batch,
-        gate,
+        crew.gate,
     )
 }
 
@@ -321,7 +255,7 @@ fn see_emptied<S: Slot, R: Record>(arrays: &[ExternalArray<S, R>])
     requires none { count_in [] arrays.now ≡ 0 }
     requires lifted { All (λ (a : External S R). a.lifted ≡ []) arrays.now }
     requires spent { All (λ (a : External S R). a.loaded.spent ≡ []) arrays.now }
-    ensures { All IsEmptied arrays.now }
+    ensures { All HasNothing arrays.now }
 {
     for array in arrays {
         see_one_emptied(array);
@@ -333,7 +267,7 @@ fn see_one_emptied<S: Slot, R: Record>(array: &ExternalArray<S, R>)
     requires none { size_of array.now ≡ 0 }
     requires lifted { array.now.lifted ≡ [] }
     requires spent { array.now.loaded.spent ≡ [] }
-    ensures { IsEmptied array.now }
+    ensures { HasNothing array.now }
 {
     let _loaded = array.loaded();
     let _next = array.next_minimum();

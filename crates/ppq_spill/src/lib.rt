@@ -16,10 +16,12 @@
 
 mod body;
 mod buffers;
+mod crew;
 mod gathering;
 mod level;
 mod making;
 mod merging;
+mod new_array;
 mod slots;
 mod store;
 mod writing;

@@ -1,16 +1,15 @@
 //! Writing merged records as blocks of a new array.
-ghost use Rattle.std.specs.Prelude.{◌≡◌, ◌+◌, ◌-◌, ◌*◌, ◌<◌, ◌≤◌, ◌^◌, ◌++◌, ◌∷◌, [], length, All, IfOk, IfErr};
-ghost use Rattle.ppq_fetch.specs.ppq_array.Owner.{HasBlock, HasSize, slots_shown};
-ghost use Rattle.ppq_fetch.specs.ppq_array.Run.{run_of};
-ghost use Rattle.ppq_fetch.specs.ppq_array.External.{external, size_of};
+ghost use Rattle.std.specs.Prelude.{◌≡◌, ◌+◌, ◌*◌, ◌<◌, ◌++◌, ◌∷◌, [], length, All};
+ghost use Rattle.ppq_fetch.specs.ppq_array.Owner.{HasSize, slots_shown};
 ghost use Rattle.ppq_spill.specs.Moves.{SameSums};
-ghost use Rattle.ppq_spill.specs.Making.{hand, AllFull, SameRest, WroteAll, WroteSome};
+ghost use Rattle.ppq_spill.specs.Writing.{SameBuffers};
+ghost use Rattle.ppq_spill.specs.Making.{hand_of, MayWrite, MayWritePart, BatchEnds, SameRest};
 
 use crate::buffers::put_records;
+use crate::new_array::NewArray;
 use crate::writing::write_block;
 use ppq_fetch::{
-    Berth, BerthList, BufList, ExternalArray, Host, Record, Slot, StoreFault, Supply, free_slot,
-    record_laws,
+    Berth, BerthList, BufList, Host, Record, Slot, StoreFault, Supply, free_slot, record_laws,
 };
 
 // Writes records as the next blocks of an array, each full but the last: to slots in hand, and then to
@@ -19,33 +18,19 @@ pub(crate) fn write_batch<H: Host, S: Slot, R: Record, P: Supply<S, R>>(
     rt: &H,
     supply: &mut P,
     idle: &mut BufList<R>,
-    berths: &mut BerthList<S, R>,
-    made: &mut ExternalArray<S, R>,
+    making: &mut NewArray<S, R>,
     records: &[R],
-    block: u32,
 ) -> Result<(), StoreFault>
-    requires block { block ≡ (P.stock supply.old).block }
-    requires some { 1 ≤ block }
-    requires small { block ≤ 65536 }
-    requires idle { 0 < length idle.old }
-    requires few_idle { length idle.old < 2 ^ 32 - 1 }
-    requires blocks { All (HasBlock block) idle.old }
-    requires shape { made.old ≡ external made.old.level (run_of [] 0 []) [] made.old.stored }
-    requires full { 0 < length records.now → AllFull block made.old.stored }
-    requires slots { length records.now ≤ (length berths.old + length (P.stock supply.old).kept) * block }
-    requires sizes { All (HasSize S.shown (block * R.WIDTH)) (made.old.stored ++ berths.old) }
-    requires takes_back { length made.old.stored + length berths.old ≤ (P.stock supply.old).slot_room }
-    requires few { size_of made.old + length records.now ≤ (2 ^ 32 - 2) * block }
-    ensures idle { length idle.new ≡ length idle.old }
-    ensures blocks { All (HasBlock block) idle.new }
-    ensures written { IfOk result (λ _. WroteAll R.record_of R.WIDTH block S.shown (block * R.WIDTH) records.now (hand made.old berths.old (P.stock supply.old)) (hand made.new berths.new (P.stock supply.new))) }
-    ensures failed { IfErr result (WroteSome S.shown block (block * R.WIDTH) records.now (hand made.old berths.old (P.stock supply.old)) (hand made.new berths.new (P.stock supply.new))) }
+    requires may { MayWrite S.shown R.WIDTH (length records.now) idle.old (hand_of making.old (P.stock supply.old)) }
+    ensures idle { SameBuffers (P.stock supply.old).block idle.old idle.new }
+    ensures outcome { BatchEnds R.record_of R.WIDTH S.shown records.now records.now (hand_of making.old (P.stock supply.old)) (hand_of making.new (P.stock supply.new)) result }
     ensures home { P.home supply.new ≡ P.home supply.old }
 {
+    let block = idle.at(0).block();
     let mut at = 0;
     while at < records.len() {
         let end = records.len().min(at + block as usize);
-        match write_part(rt, supply, idle, berths, made, &records[at..end], block) {
+        match write_part(rt, supply, idle, making, &records[at..end]) {
             Ok(()) => at = end,
             Err(fault) => return Err(fault),
         }
@@ -58,36 +43,20 @@ fn write_part<H: Host, S: Slot, R: Record, P: Supply<S, R>>(
     rt: &H,
     supply: &mut P,
     idle: &mut BufList<R>,
-    berths: &mut BerthList<S, R>,
-    made: &mut ExternalArray<S, R>,
+    making: &mut NewArray<S, R>,
     records: &[R],
-    block: u32,
 ) -> Result<(), StoreFault>
-    requires block { block ≡ (P.stock supply.old).block }
-    requires small { block ≤ 65536 }
-    requires idle { 0 < length idle.old }
-    requires few_idle { length idle.old < 2 ^ 32 - 1 }
-    requires blocks { All (HasBlock block) idle.old }
-    requires shape { made.old ≡ external made.old.level (run_of [] 0 []) [] made.old.stored }
-    requires some { 0 < length records.now }
-    requires fit { length records.now ≤ block }
-    requires slots { 0 < length berths.old + length (P.stock supply.old).kept }
-    requires sizes { All (HasSize S.shown (block * R.WIDTH)) berths.old }
-    requires takes_back { length berths.old ≤ (P.stock supply.old).slot_room }
-    requires room { length made.old.stored < 2 ^ 32 - 1 }
-    requires few { size_of made.old + length records.now < 2 ^ 64 }
-    ensures idle { length idle.new ≡ length idle.old }
-    ensures blocks { All (HasBlock block) idle.new }
-    ensures written { IfOk result (λ _. WroteAll R.record_of R.WIDTH block S.shown (block * R.WIDTH) records.now (hand made.old berths.old (P.stock supply.old)) (hand made.new berths.new (P.stock supply.new))) }
-    ensures failed { IfErr result (WroteSome S.shown block (block * R.WIDTH) [] (hand made.old berths.old (P.stock supply.old)) (hand made.new berths.new (P.stock supply.new))) }
+    requires may { MayWritePart S.shown R.WIDTH (length records.now) idle.old (hand_of making.old (P.stock supply.old)) }
+    ensures idle { SameBuffers (P.stock supply.old).block idle.old idle.new }
+    ensures outcome { BatchEnds R.record_of R.WIDTH S.shown records.now [] (hand_of making.old (P.stock supply.old)) (hand_of making.new (P.stock supply.new)) result }
     ensures home { P.home supply.new ≡ P.home supply.old }
 {
     record_laws::<R>();
-    let berth = next_slot(supply, berths);
+    let berth = next_slot(supply, &mut making.berths);
     let mut buf = idle.pop_front().unwrap();
     buf.clear();
     put_records(&mut buf, records);
-    let (buf, failed) = write_block(rt, made, berth, buf);
+    let (buf, failed) = write_block(rt, &mut making.made, berth, buf);
     idle.push_back(buf);
     match failed {
         None => Ok(()),

@@ -3,8 +3,8 @@ ghost use Rattle.std.specs.Prelude.{◌≡◌, ◌+◌, ◌≤◌, ◌<◌, ◌-
 ghost use Rattle.ppq_fetch.specs.ppq_record.Bag.{first_of};
 ghost use Rattle.ppq_fetch.specs.ppq_array.Run.{items_of, buffers_of};
 ghost use Rattle.ppq_fetch.specs.ppq_block.Block.{holding};
-ghost use Rattle.ppq_spill.specs.Choosing.{HasHeads, first_at};
-ghost use Rattle.ppq_spill.specs.Writing.{Merged, left_in};
+ghost use Rattle.ppq_spill.specs.Choosing.{HasHeads, OnTree, first_at};
+ghost use Rattle.ppq_spill.specs.Writing.{MergedOut, left_in};
 
 use ppq_fetch::{BlockBuf, InternalArray, MinTree, Record, record_laws};
 
@@ -59,16 +59,12 @@ pub(crate) fn merge_least<R: Record>(
     buf: &mut BlockBuf<R>,
 )
     requires empty { buf.old ≡ holding buf.old.block [] }
-    requires within { at.old ≤ length sorted.now }
-    requires leaves { length internal.old.items < length tree.old.items }
-    requires heads { HasHeads internal.old.items (drop at.old sorted.now) tree.old.items }
-    ensures within { at.new ≤ length sorted.now }
+    requires ready { OnTree sorted.now at.old internal.old.items tree.old.items }
+    ensures ready { OnTree sorted.now at.new internal.new.items tree.new.items }
     ensures leaves { length tree.new.items ≡ length tree.old.items }
-    ensures runs { length internal.new.items ≡ length internal.old.items }
-    ensures heads { HasHeads internal.new.items (drop at.new sorted.now) tree.new.items }
     ensures room { vec_capacity internal.new ≡ vec_capacity internal.old }
     ensures buf { buf.new ≡ holding buf.old.block buf.new.items }
-    ensures merged { Merged R.Ord.cmp buf.old.block internal.old.items internal.new.items (drop at.old sorted.now) (drop at.new sorted.now) buf.new.items }
+    ensures merged { MergedOut R.Ord.cmp buf.old.block internal.old.items internal.new.items (drop at.old sorted.now) (drop at.new sorted.now) buf.new.items }
 {
     record_laws::<R>();
     while buf.len() < buf.block() {
@@ -86,17 +82,12 @@ fn take_least<R: Record>(
     sorted: &[R],
     at: &mut usize,
 ) -> Option<R>
-    requires within { at.old ≤ length sorted.now }
-    requires leaves { length internal.old.items < length tree.old.items }
-    requires heads { HasHeads internal.old.items (drop at.old sorted.now) tree.old.items }
-    ensures within { at.new ≤ length sorted.now }
+    requires ready { OnTree sorted.now at.old internal.old.items tree.old.items }
+    ensures ready { OnTree sorted.now at.new internal.new.items tree.new.items }
     ensures leaves { length tree.new.items ≡ length tree.old.items }
-    ensures runs { length internal.new.items ≡ length internal.old.items }
-    ensures heads { HasHeads internal.new.items (drop at.new sorted.now) tree.new.items }
     ensures room { vec_capacity internal.new ≡ vec_capacity internal.old }
-    ensures merged { IfSome result (λ r. Merged R.Ord.cmp 1 internal.old.items internal.new.items (drop at.old sorted.now) (drop at.new sorted.now) (r ∷ [])) }
-    ensures none { IfNone result (left_in internal.old.items (drop at.old sorted.now) ≡ []) }
-    ensures same { IfNone result ((internal.new.items ≡ internal.old.items) × (at.new ≡ at.old)) }
+    ensures taken { IfSome result (λ r. MergedOut R.Ord.cmp 1 internal.old.items internal.new.items (drop at.old sorted.now) (drop at.new sorted.now) (r ∷ [])) }
+    ensures none { IfNone result ((left_in internal.old.items (drop at.old sorted.now) ≡ []) × (internal.new.items ≡ internal.old.items) × (at.new ≡ at.old)) }
 {
     record_laws::<R>();
     let Some(won) = tree.winner() else {

@@ -3,10 +3,11 @@ ghost use Rattle.std.specs.Prelude.{◌≡◌, ◌+◌, ◌^◌, ◌<◌, [], On
 ghost use Rattle.ppq_fetch.specs.ppq_array.Kept.{Kept};
 ghost use Rattle.ppq_fetch.specs.ppq_array.Holdings.{CanTakeBack, internal_items};
 ghost use Rattle.ppq_spill.specs.Body.{held_by};
-ghost use Rattle.ppq_spill.specs.Storing.{in_buffers, MayStore, WritesFew, HasOneSize, RoomsRest, LanesRest, IsStored, BlocksStored, NoneFree, NoSlots, RunsAscend, DeviceFailed, SameScant, StillTell, StillUntold};
+ghost use Rattle.ppq_spill.specs.Storing.{in_buffers, MayStore, WritesFew, HasOneSize, RoomsRest, LanesRest, IsStored, BlocksStored, NoneFree, NoSlots, RunsAscend, DeviceFailed, SameScant, StillTell, StillUntold, StoreLeaves, StoreEnds};
 
 use crate::PassBody;
 use crate::buffers::{blocks_for, store_in_buffers};
+use crate::new_array::NewArray;
 use crate::slots::{draw_slots, free_slots};
 use crate::writing::{release_runs, write_runs};
 use ppq_fetch::{ExternalArray, Host, InternalArray, Record, Slot, StoreFault, Supply, free_slot};
@@ -100,37 +101,28 @@ fn store_in_blocks<H: Host, S: Slot, R: Record, P: Supply<S, R>>(
     requires block { block ≡ (P.stock supply.old).block }
     requires room { MayStore S.shown R.WIDTH (length sorted.now) body.old (P.stock supply.old) }
     requires ascend { RunsAscend R.Ord.cmp S.shown sorted.now body.old (P.stock supply.old) }
-    ensures kept { Kept (P.stock supply.old) (P.stock supply.new) (held_by S.shown body.old) (held_by S.shown body.new) }
-    ensures takes_back { CanTakeBack S.shown (P.stock supply.new) body.new.runs.internal.items body.new.runs.external.items }
-    ensures tells { StillTell S.shown body.old body.new (P.stock supply.old) (P.stock supply.new) }
-    ensures untold { StillUntold S.shown body.old body.new (P.stock supply.old) (P.stock supply.new) }
+    ensures leaves { StoreLeaves S.shown R.WIDTH (length sorted.now) body.old body.new (P.stock supply.old) (P.stock supply.new) }
+    ensures outcome { StoreEnds R.Ord.cmp R.record_of R.WIDTH S.shown sorted.now body.old body.new (P.stock supply.old) (P.stock supply.new) result }
     ensures home { P.home supply.new ≡ P.home supply.old }
-    ensures stored { OnOk result (BlocksStored R.Ord.cmp R.record_of R.WIDTH S.shown sorted.now body.old body.new (P.stock supply.old) (P.stock supply.new)) }
-    ensures none_free { IsErrOf result StoreFault.NoFreeBlock → NoSlots (length sorted.now) body.old body.new (P.stock supply.old) (P.stock supply.new) }
-    ensures device { (number : ℕ) → IsErrOf result (StoreFault.Device number) → DeviceFailed S.shown number body.new (P.stock supply.new) }
-    ensures writes { WritesFew S.shown (length sorted.now) body.old body.new (P.stock supply.old) (P.stock supply.new) }
-    ensures lanes { LanesRest body.old.lanes body.new.lanes }
-    ensures size { HasOneSize S.shown R.WIDTH body.new (P.stock supply.new) }
-    ensures rooms { RoomsRest body.old body.new }
-    ensures buffers { OnErr result ((P.stock supply.new).buffer_room ≡ (P.stock supply.old).buffer_room) }
     ensures scant { SameScant (P.stock supply.old) (P.stock supply.new) }
 {
     let total = sorted.len() as u32 + count_records(&body.runs.internal);
-    let Some(mut berths) = draw_slots(supply, blocks_for(total, block)) else {
+    let Some(berths) = draw_slots(supply, blocks_for(total, block)) else {
         return Err(StoreFault::NoFreeBlock);
     };
-    let mut array = ExternalArray::empty(0);
+    let made = ExternalArray::empty(0);
+    let mut making = NewArray { made, berths };
     let failed = write_runs(
         rt,
         &mut body.tree,
         &mut body.lanes.idle,
         &mut body.runs.internal,
         sorted,
-        &mut berths,
-        &mut array,
+        &mut making,
         block,
     );
-    body.runs.external.push_reserved(array);
+    let NewArray { made, berths } = making;
+    body.runs.external.push_reserved(made);
     match failed {
         None => {
             release_runs(supply, &mut body.runs.internal);

@@ -1,19 +1,15 @@
 //! Merging runs into blocks, and writing them.
-ghost use Rattle.std.specs.Prelude.{◌≡◌, ◌+◌, ◌-◌, ◌*◌, ◌<◌, ◌≤◌, ◌^◌, ◌++◌, ◌∷◌, [], length, drop, map, All, vec_capacity, IfSome, IfNone};
-ghost use Rattle.ppq_fetch.specs.ppq_block.Block.{IsSettled, holding};
-ghost use Rattle.ppq_fetch.specs.ppq_outside.Shown.{Tells};
-ghost use Rattle.ppq_fetch.specs.ppq_array.Owner.{HasBlock, HasSize, slots_shown};
-ghost use Rattle.ppq_fetch.specs.ppq_array.Kept.{SameSlots};
-ghost use Rattle.ppq_fetch.specs.ppq_array.Run.{run_of, buffers_of};
-ghost use Rattle.ppq_fetch.specs.ppq_array.External.{external, size_of};
-ghost use Rattle.ppq_fetch.specs.ppq_array.Holdings.{internal_buffers, internal_items, RunHasBlock};
+ghost use Rattle.std.specs.Prelude.{◌≡◌, ◌-◌, ◌≤◌, [], length, All, vec_capacity};
+ghost use Rattle.ppq_fetch.specs.ppq_array.Owner.{HasBlock};
+ghost use Rattle.ppq_fetch.specs.ppq_array.Holdings.{internal_buffers, RunHasBlock};
 ghost use Rattle.ppq_spill.specs.Moves.{with_buffers};
-ghost use Rattle.ppq_spill.specs.Writing.{Merged, BlockStored, BlockFailed, Writing, left_in, WriteFailed};
+ghost use Rattle.ppq_spill.specs.Writing.{SameBuffers, MayAppend, BlockEnds, MayWriteRuns, RunsEnd};
 
 use crate::merging::{merge_least, write_heads};
+use crate::new_array::NewArray;
 use ppq_fetch::{
-    Berth, BerthList, BlockBuf, BufList, ExternalArray, Host, InternalArray, Job, JobKind, MinTree,
-    Record, Slot, Supply, give_buffer, record_laws, run_job,
+    Berth, BlockBuf, BufList, ExternalArray, Host, InternalArray, Job, JobKind, MinTree, Record,
+    Slot, Supply, give_buffer, record_laws, run_job,
 };
 
 // Merges runs and a sorted list into blocks, and writes them to these slots, a block for each. Where a
@@ -25,36 +21,23 @@ pub(crate) fn write_runs<H: Host, S: Slot, R: Record>(
     idle: &mut BufList<R>,
     internal: &mut Vec<InternalArray<R>>,
     sorted: &[R],
-    berths: &mut BerthList<S, R>,
-    array: &mut ExternalArray<S, R>,
+    making: &mut NewArray<S, R>,
     block: u32,
 ) -> Option<Berth<S, R>>
-    requires block { 1 ≤ block }
-    requires leaves { length internal.old.items < length tree.old.items }
-    requires idle { 0 < length idle.old }
-    requires few_idle { length idle.old < 2 ^ 32 - 1 }
-    requires blocks { All (HasBlock block) idle.old }
-    requires empty { array.old ≡ external 0 (run_of [] 0 []) [] [] }
-    requires few { length sorted.now + length (internal_items internal.old.items) < 2 ^ 32 - 1 }
-    requires few_slots { length berths.old < 2 ^ 32 - 1 }
-    requires sizes { All (HasSize S.shown (block * R.WIDTH)) berths.old }
-    requires room { length (left_in internal.old.items sorted.now) ≤ length berths.old * block }
-    requires least { length berths.old * block < length (left_in internal.old.items sorted.now) + block }
+    requires may { MayWriteRuns S.shown R.WIDTH block (length tree.old.items) idle.old internal.old.items sorted.now making.old.berths making.old.made }
     ensures leaves { length tree.new.items ≡ length tree.old.items }
-    ensures idle { length idle.new ≡ length idle.old }
-    ensures blocks { All (HasBlock block) idle.new }
+    ensures idle { SameBuffers block idle.old idle.new }
     ensures room { vec_capacity internal.new ≡ vec_capacity internal.old }
-    ensures written { IfNone result (Writing R.Ord.cmp R.record_of R.WIDTH block S.shown berths.old internal.old.items sorted.now [] internal.new.items [] array.new) }
-    ensures failed { IfSome result (WriteFailed S.shown (block * R.WIDTH) berths.old internal.old.items berths.new internal.new.items array.new) }
+    ensures outcome { RunsEnd R.Ord.cmp R.record_of R.WIDTH block S.shown making.old.berths internal.old.items sorted.now making.new.berths internal.new.items making.new.made result }
 {
     record_laws::<R>();
     write_heads(tree, &*internal, sorted);
     let mut at = 0;
-    while let Some(berth) = berths.pop_front() {
+    while let Some(berth) = making.berths.pop_front() {
         let mut buf = idle.pop_front().unwrap();
         buf.clear();
         merge_least(tree, internal, sorted, &mut at, &mut buf);
-        let (buf, failed) = write_block(rt, array, berth, buf);
+        let (buf, failed) = write_block(rt, &mut making.made, berth, buf);
         idle.push_back(buf);
         match failed {
             Some(berth) => return Some(berth),
@@ -71,16 +54,9 @@ pub(crate) fn write_block<H: Host, S: Slot, R: Record>(
     berth: Berth<S, R>,
     buf: BlockBuf<R>,
 ) -> (BlockBuf<R>, Option<Berth<S, R>>)
-    requires none_lifted { array.old.lifted ≡ [] }
-    requires some { 0 < length buf.items }
-    requires settled { IsSettled buf }
-    requires within { length buf.items ≤ buf.block }
-    requires size { buf.block * R.WIDTH ≡ (S.shown berth.slot).size }
-    requires room { length array.old.stored < 2 ^ 32 - 1 }
-    requires few { size_of array.old + length buf.items < 2 ^ 64 }
+    requires may { MayAppend S.shown R.WIDTH berth.slot buf array.old }
     ensures buf { result.0 ≡ buf }
-    ensures stored { IfNone result.1 (BlockStored R.record_of R.WIDTH S.shown berth.slot buf.items array.old array.new) }
-    ensures failed { IfSome result.1 (BlockFailed S.shown berth.slot array.old array.new) }
+    ensures outcome { BlockEnds R.record_of R.WIDTH S.shown berth.slot buf.items array.old array.new result.1 }
 {
     let minimum = buf.at(0);
     let count = buf.len();

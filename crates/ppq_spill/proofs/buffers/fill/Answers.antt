@@ -43,6 +43,6 @@ filling-preserved g c =
       buffers = omega (arith, i.buffers, long, count);
       empty = All-tail (λ b. b ≡ holding block []) buf bufs empties;
       within = omega (arith, c.min-end.ensures);
-      full = λ h. (let s : end ≡ lives * block + block = omega (arith, c.min-end.ensures, here, c.requires.least, products, one, at_least_one k block h) in s) ∙ sym next ∙ ap (λ n. n * block) (sym count);
-      done = λ none. (let z : k * block ≡ 0 * block = ap (λ bs. length bs * block) none in let o : 0 * block ≡ 0 = omega arith in omega (arith, c.min-end.ensures, i.within, here, c.requires.room, products, one, z, o));
+      full = λ h. (let s : end ≡ lives * block + block = omega (arith, c.min-end.ensures, here, c.requires.may.least, products, one, at_least_one k block h) in s) ∙ sym next ∙ ap (λ n. n * block) (sym count);
+      done = λ none. (let z : k * block ≡ 0 * block = ap (λ bs. length bs * block) none in let o : 0 * block ≡ 0 = omega arith in omega (arith, c.min-end.ensures, i.within, here, c.requires.may.room, products, one, z, o));
     }

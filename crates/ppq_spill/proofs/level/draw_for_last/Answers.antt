@@ -1,10 +1,9 @@
-use Rattle.std.proofs.Common.{◌≡◌, ℕ, ◌+◌, ◌-◌, ◌<◌, ◌≤◌, ◌^◌, List, length, take, drop, sum_by, sym, ap, ◌∙◌, subst, arith}
+use Rattle.std.proofs.Common.{◌≡◌, ℕ, ◌-◌, ◌≤◌, List, length, take, drop, ap, ◌∙◌, arith}
 use Rattle.std.proofs.lemmas.List.{take_rest}
 use Rattle.std.proofs.lemmas.List.Sums.{sum_by-take-drop}
 use Rattle.ppq_fetch.specs.ppq_array.Run.{buffers_of}
 use Rattle.ppq_fetch.specs.ppq_array.External.{External}
 use Rattle.ppq_fetch.specs.ppq_array.Holdings.{external_buffers}
-use Rattle.ppq_spill.specs.Moves.{FoundFewSlots}
 use Rattle.ppq_spill.proofs.level.draw_for_last.Goals as goal
 
 -- the last arrays have no more buffers than all

@@ -1,13 +1,11 @@
-use Rattle.std.specs.Prelude.{vec_capacity}
-use Rattle.std.proofs.Common.{◌≡◌, ℕ, ◌+◌, ◌-◌, ◌*◌, ◌<◌, ◌≤◌, ◌^◌, ◌++◌, ◌∷◌, [], min, length, take, drop, All, refl, sym, ap, ◌∙◌, subst, arith, take-append-drop}
+use Rattle.std.proofs.Common.{◌≡◌, [], length, sym, ap, ◌∙◌, subst, arith}
 use Rattle.std.proofs.lemmas.List.Sorted.{length_permutation, sum_by-IsPermutation}
 use Rattle.ppq_fetch.specs.ppq_array.Run.{run_of, buffers_of}
 use Rattle.ppq_fetch.specs.ppq_array.External.{External, external}
 use Rattle.ppq_fetch.specs.ppq_array.declared.store_fault.StoreFault.TheVariants.{Device}
 use Rattle.ppq_spill.specs.Leveling.{MayLevel}
-use Rattle.ppq_spill.specs.Making.{table}
-use Rattle.ppq_spill.proofs.Starts.{eight_last, ready_first}
-use Rattle.ppq_spill.proofs.Leveled.{placed_merged, placed_failed, failed_size, level_failed, level_kept, level_tells, level_calls, level_again, level_idle, level_merged, none_for_level, none_kept, none_tells, none_calls, none_size, none_again}
+use Rattle.ppq_spill.proofs.Ends.{no_slots, may_merge, level_ends, level_stops}
+use Rattle.ppq_spill.proofs.Leveled.{level_failed}
 use Rattle.ppq_spill.proofs.level.merge_level.Goals as goal
 
 pub draw_for_last-requires-clause-few : goal.draw_for_last-requires-clause-few
@@ -16,468 +14,103 @@ draw_for_last-requires-clause-few g c =
     let same = sum_by-IsPermutation (λ (a : External g.row.S.Denot g.row.R.Denot). length (buffers_of a.loaded)) c.args.arrays.now.items mid c.gather_level.ensures.moved in
     omega (arith, same, c.requires.may.few_buffers)
 
-pub merge_last-requires-clause-ready : goal.merge_last-requires-clause-ready
-merge_last-requires-clause-ready g c κs within =
-    let shown = g.S.Slot.shown in
-    let w = g.R.Record.WIDTH in
-    let workers = c.args.bench.now.workers in
-    let level = c.args.level in
-    let old = c.args.arrays.now.items in
-    let mid = c.gather_level.new.arrays.items in
-    let others = take (length mid - 8) mid in
-    let inputs = drop (length mid - 8) mid in
-    let lanes = c.args.lanes.now in
-    let stock = g.P.Supply.stock c.args.supply.now in
-    let stock1 = g.P.Supply.stock c.draw_for_last.new.supply in
-    let of = eight_last level old mid c.gather_level.ensures.moved c.gather_level.ensures.eight c.gather_level.ensures.levels in
-    let next = min (level + 1) 7 in
-    let berths = c.in-Some.berths in
-    let drew = c.in-Some.ensures.drawn in
-    let ready = ready_first shown w workers level next old inputs others lanes stock stock1 berths c.requires.may of drew c.in-Some.ensures.all in
-    ready
+pub merge_last-requires-clause-may : goal.merge_last-requires-clause-may
+merge_last-requires-clause-may g c κs within =
+    may_merge g.S.Slot.shown g.R.Record.WIDTH c.args.bench.now.workers c.args.level c.args.arrays.now.items c.gather_level.new.arrays.items c.args.lanes.now (g.P.Supply.stock c.args.supply.now) c.gather_level.ensures.moved c.gather_level.ensures.eight c.gather_level.ensures.levels c.requires.may
+    (g.P.Supply.stock c.draw_for_last.new.supply) c.in-Some.berths c.in-Some.ensures.drawn c.in-Some.ensures.all c.empty-made.result (c.empty-made.ensures ∙ ap (λ n. external n (run_of [] 0 []) [] []) c.min.ensures)
+    (length c.args.bench.now.places) c.requires.worker c.requires.bench
 
 pub merge_last-requires-clause-room : goal.merge_last-requires-clause-room
 merge_last-requires-clause-room g c κs within =
-    let mid = c.gather_level.new.arrays.items in
-    let long = length_permutation c.args.arrays.now.items mid c.gather_level.ensures.moved in
+    let long = length_permutation c.args.arrays.now.items c.gather_level.new.arrays.items c.gather_level.ensures.moved in
     omega (arith, long, c.requires.room, c.gather_level.ensures.room)
 
-pub merge_last-requires-clause-batch : goal.merge_last-requires-clause-batch
-merge_last-requires-clause-batch g c κs within =
-    let shown = g.S.Slot.shown in
-    let w = g.R.Record.WIDTH in
-    let workers = c.args.bench.now.workers in
-    let level = c.args.level in
-    let old = c.args.arrays.now.items in
-    let mid = c.gather_level.new.arrays.items in
-    let others = take (length mid - 8) mid in
-    let inputs = drop (length mid - 8) mid in
-    let lanes = c.args.lanes.now in
-    let stock = g.P.Supply.stock c.args.supply.now in
-    let stock1 = g.P.Supply.stock c.draw_for_last.new.supply in
-    let of = eight_last level old mid c.gather_level.ensures.moved c.gather_level.ensures.eight c.gather_level.ensures.levels in
-    let next = min (level + 1) 7 in
-    let berths = c.in-Some.berths in
-    let drew = c.in-Some.ensures.drawn in
-    let ready = ready_first shown w workers level next old inputs others lanes stock stock1 berths c.requires.may of drew c.in-Some.ensures.all in
-    c.requires.may.batch ∙ ap (λ k. workers * k) (sym (ap (λ s. s.block) drew.stock))
+pub returns-in_default-clause-kept : goal.returns-in_default-clause-kept
+returns-in_default-clause-kept g c = (no_slots g.S.Slot.shown g.R.Record.WIDTH c.args.bench.now.workers c.args.level c.args.arrays.now.items c.gather_level.new.arrays.items c.args.lanes.now (g.P.Supply.stock c.args.supply.now) c.gather_level.ensures.moved c.gather_level.ensures.eight c.gather_level.ensures.levels c.requires.may (g.P.Supply.stock c.draw_for_last.new.supply) c.in_default.ensures.few).0.kept
 
-pub returns-in-None-clause-kept : goal.returns-in-None-clause-kept
-returns-in-None-clause-kept g c =
-    let shown = g.S.Slot.shown in
-    let w = g.R.Record.WIDTH in
-    let workers = c.args.bench.now.workers in
-    let level = c.args.level in
-    let old = c.args.arrays.now.items in
-    let mid = c.gather_level.new.arrays.items in
-    let others = take (length mid - 8) mid in
-    let inputs = drop (length mid - 8) mid in
-    let lanes = c.args.lanes.now in
-    let stock = g.P.Supply.stock c.args.supply.now in
-    let stock1 = g.P.Supply.stock c.draw_for_last.new.supply in
-    let of = eight_last level old mid c.gather_level.ensures.moved c.gather_level.ensures.eight c.gather_level.ensures.levels in
-    let new_is : mid ≡ others ++ inputs = sym (take-append-drop (length mid - 8) mid) in
-    let found = c.in-None.ensures.few in
-    none_kept shown w workers level old mid inputs others lanes stock stock1 of c.requires.may found new_is
+pub returns-in_default-clause-tells : goal.returns-in_default-clause-tells
+returns-in_default-clause-tells g c = (no_slots g.S.Slot.shown g.R.Record.WIDTH c.args.bench.now.workers c.args.level c.args.arrays.now.items c.gather_level.new.arrays.items c.args.lanes.now (g.P.Supply.stock c.args.supply.now) c.gather_level.ensures.moved c.gather_level.ensures.eight c.gather_level.ensures.levels c.requires.may (g.P.Supply.stock c.draw_for_last.new.supply) c.in_default.ensures.few).0.tells
 
-pub returns-in-None-clause-tells : goal.returns-in-None-clause-tells
-returns-in-None-clause-tells g c =
-    let shown = g.S.Slot.shown in
-    let w = g.R.Record.WIDTH in
-    let workers = c.args.bench.now.workers in
-    let level = c.args.level in
-    let old = c.args.arrays.now.items in
-    let mid = c.gather_level.new.arrays.items in
-    let others = take (length mid - 8) mid in
-    let inputs = drop (length mid - 8) mid in
-    let lanes = c.args.lanes.now in
-    let stock = g.P.Supply.stock c.args.supply.now in
-    let stock1 = g.P.Supply.stock c.draw_for_last.new.supply in
-    let of = eight_last level old mid c.gather_level.ensures.moved c.gather_level.ensures.eight c.gather_level.ensures.levels in
-    let new_is : mid ≡ others ++ inputs = sym (take-append-drop (length mid - 8) mid) in
-    let found = c.in-None.ensures.few in
-    none_tells shown w workers level old mid inputs others lanes stock stock1 of c.requires.may found new_is
+pub returns-in_default-clause-calls : goal.returns-in_default-clause-calls
+returns-in_default-clause-calls g c = (no_slots g.S.Slot.shown g.R.Record.WIDTH c.args.bench.now.workers c.args.level c.args.arrays.now.items c.gather_level.new.arrays.items c.args.lanes.now (g.P.Supply.stock c.args.supply.now) c.gather_level.ensures.moved c.gather_level.ensures.eight c.gather_level.ensures.levels c.requires.may (g.P.Supply.stock c.draw_for_last.new.supply) c.in_default.ensures.few).0.calls
 
-pub returns-in-None-clause-calls : goal.returns-in-None-clause-calls
-returns-in-None-clause-calls g c =
-    let shown = g.S.Slot.shown in
-    let w = g.R.Record.WIDTH in
-    let workers = c.args.bench.now.workers in
-    let level = c.args.level in
-    let old = c.args.arrays.now.items in
-    let mid = c.gather_level.new.arrays.items in
-    let others = take (length mid - 8) mid in
-    let inputs = drop (length mid - 8) mid in
-    let lanes = c.args.lanes.now in
-    let stock = g.P.Supply.stock c.args.supply.now in
-    let stock1 = g.P.Supply.stock c.draw_for_last.new.supply in
-    let of = eight_last level old mid c.gather_level.ensures.moved c.gather_level.ensures.eight c.gather_level.ensures.levels in
-    let new_is : mid ≡ others ++ inputs = sym (take-append-drop (length mid - 8) mid) in
-    let found = c.in-None.ensures.few in
-    none_calls shown w workers level old mid inputs others lanes stock stock1 of c.requires.may found new_is
+pub returns-in_default-clause-size : goal.returns-in_default-clause-size
+returns-in_default-clause-size g c = (no_slots g.S.Slot.shown g.R.Record.WIDTH c.args.bench.now.workers c.args.level c.args.arrays.now.items c.gather_level.new.arrays.items c.args.lanes.now (g.P.Supply.stock c.args.supply.now) c.gather_level.ensures.moved c.gather_level.ensures.eight c.gather_level.ensures.levels c.requires.may (g.P.Supply.stock c.draw_for_last.new.supply) c.in_default.ensures.few).0.size
 
-pub returns-in-None-clause-size : goal.returns-in-None-clause-size
-returns-in-None-clause-size g c =
-    let shown = g.S.Slot.shown in
-    let w = g.R.Record.WIDTH in
-    let workers = c.args.bench.now.workers in
-    let level = c.args.level in
-    let old = c.args.arrays.now.items in
-    let mid = c.gather_level.new.arrays.items in
-    let others = take (length mid - 8) mid in
-    let inputs = drop (length mid - 8) mid in
-    let lanes = c.args.lanes.now in
-    let stock = g.P.Supply.stock c.args.supply.now in
-    let stock1 = g.P.Supply.stock c.draw_for_last.new.supply in
-    let of = eight_last level old mid c.gather_level.ensures.moved c.gather_level.ensures.eight c.gather_level.ensures.levels in
-    let new_is : mid ≡ others ++ inputs = sym (take-append-drop (length mid - 8) mid) in
-    let found = c.in-None.ensures.few in
-    none_size shown w workers level old mid inputs others lanes stock stock1 of c.requires.may found new_is
+pub returns-in_default-clause-none_free : goal.returns-in_default-clause-none_free
+returns-in_default-clause-none_free g c = λ _. (no_slots g.S.Slot.shown g.R.Record.WIDTH c.args.bench.now.workers c.args.level c.args.arrays.now.items c.gather_level.new.arrays.items c.args.lanes.now (g.P.Supply.stock c.args.supply.now) c.gather_level.ensures.moved c.gather_level.ensures.eight c.gather_level.ensures.levels c.requires.may (g.P.Supply.stock c.draw_for_last.new.supply) c.in_default.ensures.few).1
 
-pub returns-in-None-clause-none_free : goal.returns-in-None-clause-none_free
-returns-in-None-clause-none_free g c =
-    let shown = g.S.Slot.shown in
-    let w = g.R.Record.WIDTH in
-    let workers = c.args.bench.now.workers in
-    let level = c.args.level in
-    let old = c.args.arrays.now.items in
-    let mid = c.gather_level.new.arrays.items in
-    let others = take (length mid - 8) mid in
-    let inputs = drop (length mid - 8) mid in
-    let lanes = c.args.lanes.now in
-    let stock = g.P.Supply.stock c.args.supply.now in
-    let stock1 = g.P.Supply.stock c.draw_for_last.new.supply in
-    let of = eight_last level old mid c.gather_level.ensures.moved c.gather_level.ensures.eight c.gather_level.ensures.levels in
-    let new_is : mid ≡ others ++ inputs = sym (take-append-drop (length mid - 8) mid) in
-    let found = c.in-None.ensures.few in
-    λ _. none_for_level shown w workers level old mid inputs others lanes stock stock1 of c.requires.may found new_is
-
-pub returns-in-None-clause-may_still : goal.returns-in-None-clause-may_still
-returns-in-None-clause-may_still g c =
-    let shown = g.S.Slot.shown in
-    let w = g.R.Record.WIDTH in
-    let workers = c.args.bench.now.workers in
-    let level = c.args.level in
-    let old = c.args.arrays.now.items in
-    let mid = c.gather_level.new.arrays.items in
-    let others = take (length mid - 8) mid in
-    let inputs = drop (length mid - 8) mid in
-    let lanes = c.args.lanes.now in
-    let stock = g.P.Supply.stock c.args.supply.now in
-    let stock1 = g.P.Supply.stock c.draw_for_last.new.supply in
-    let of = eight_last level old mid c.gather_level.ensures.moved c.gather_level.ensures.eight c.gather_level.ensures.levels in
-    let new_is : mid ≡ others ++ inputs = sym (take-append-drop (length mid - 8) mid) in
-    let found = c.in-None.ensures.few in
-    λ _. none_again shown w workers level old mid inputs others lanes stock stock1 of c.requires.may found new_is
+pub returns-in_default-clause-may_still : goal.returns-in_default-clause-may_still
+returns-in_default-clause-may_still g c = λ _. (no_slots g.S.Slot.shown g.R.Record.WIDTH c.args.bench.now.workers c.args.level c.args.arrays.now.items c.gather_level.new.arrays.items c.args.lanes.now (g.P.Supply.stock c.args.supply.now) c.gather_level.ensures.moved c.gather_level.ensures.eight c.gather_level.ensures.levels c.requires.may (g.P.Supply.stock c.draw_for_last.new.supply) c.in_default.ensures.few).2
 
 pub returns-in-Ok-clause-kept : goal.returns-in-Ok-clause-kept
 returns-in-Ok-clause-kept g c =
-    let shown = g.S.Slot.shown in
-    let w = g.R.Record.WIDTH in
-    let workers = c.args.bench.now.workers in
-    let level = c.args.level in
-    let old = c.args.arrays.now.items in
-    let mid = c.gather_level.new.arrays.items in
-    let others = take (length mid - 8) mid in
-    let inputs = drop (length mid - 8) mid in
-    let lanes = c.args.lanes.now in
-    let stock = g.P.Supply.stock c.args.supply.now in
-    let stock1 = g.P.Supply.stock c.draw_for_last.new.supply in
-    let of = eight_last level old mid c.gather_level.ensures.moved c.gather_level.ensures.eight c.gather_level.ensures.levels in
-    let next = min (level + 1) 7 in
-    let berths = c.in-Some.berths in
-    let drew = c.in-Some.ensures.drawn in
-    let ready = ready_first shown w workers level next old inputs others lanes stock stock1 berths c.requires.may of drew c.in-Some.ensures.all in
-    let o = table inputs lanes.idle (external next (run_of [] 0 []) [] []) berths stock1 in
-    let new = c.merge_last.new.arrays.items in
-    let lanes' = c.merge_last.new.lanes in
-    let now = g.P.Supply.stock c.merge_last.new.supply in
-    let last = c.in-Ok.ensures.merged in
-    let is = placed_merged shown w workers level next old inputs others lanes stock stock1 berths of drew ready g.R.Ord.cmp g.R.Record.record_of new lanes'.idle now last in
-    level_kept shown w level old new others o last.end stock now is lanes lanes' refl last.idle_is c.merge_last.ensures.jobs
+    (level_ends g.S.Slot.shown g.R.Record.WIDTH c.args.bench.now.workers c.args.level c.args.arrays.now.items c.gather_level.new.arrays.items c.args.lanes.now (g.P.Supply.stock c.args.supply.now) c.gather_level.ensures.moved c.gather_level.ensures.eight c.gather_level.ensures.levels c.requires.may
+    (g.P.Supply.stock c.draw_for_last.new.supply) c.in-Some.berths c.in-Some.ensures.drawn c.in-Some.ensures.all c.empty-made.result (c.empty-made.ensures ∙ ap (λ n. external n (run_of [] 0 []) [] []) c.min.ensures)
+    g.R.Ord.cmp g.R.Record.record_of c.merge_last.new.arrays.items c.merge_last.new.lanes (g.P.Supply.stock c.merge_last.new.supply) c.merge_last.ensures.tools.jobs c.merge_last.ensures.tools.batch c.requires.ascend c.in-Ok.ensures.outcome).0.kept
 
 pub returns-in-Ok-clause-tells : goal.returns-in-Ok-clause-tells
 returns-in-Ok-clause-tells g c =
-    let shown = g.S.Slot.shown in
-    let w = g.R.Record.WIDTH in
-    let workers = c.args.bench.now.workers in
-    let level = c.args.level in
-    let old = c.args.arrays.now.items in
-    let mid = c.gather_level.new.arrays.items in
-    let others = take (length mid - 8) mid in
-    let inputs = drop (length mid - 8) mid in
-    let lanes = c.args.lanes.now in
-    let stock = g.P.Supply.stock c.args.supply.now in
-    let stock1 = g.P.Supply.stock c.draw_for_last.new.supply in
-    let of = eight_last level old mid c.gather_level.ensures.moved c.gather_level.ensures.eight c.gather_level.ensures.levels in
-    let next = min (level + 1) 7 in
-    let berths = c.in-Some.berths in
-    let drew = c.in-Some.ensures.drawn in
-    let ready = ready_first shown w workers level next old inputs others lanes stock stock1 berths c.requires.may of drew c.in-Some.ensures.all in
-    let o = table inputs lanes.idle (external next (run_of [] 0 []) [] []) berths stock1 in
-    let new = c.merge_last.new.arrays.items in
-    let lanes' = c.merge_last.new.lanes in
-    let now = g.P.Supply.stock c.merge_last.new.supply in
-    let last = c.in-Ok.ensures.merged in
-    let is = placed_merged shown w workers level next old inputs others lanes stock stock1 berths of drew ready g.R.Ord.cmp g.R.Record.record_of new lanes'.idle now last in
-    level_tells shown w level old new others o last.end stock now is
+    (level_ends g.S.Slot.shown g.R.Record.WIDTH c.args.bench.now.workers c.args.level c.args.arrays.now.items c.gather_level.new.arrays.items c.args.lanes.now (g.P.Supply.stock c.args.supply.now) c.gather_level.ensures.moved c.gather_level.ensures.eight c.gather_level.ensures.levels c.requires.may
+    (g.P.Supply.stock c.draw_for_last.new.supply) c.in-Some.berths c.in-Some.ensures.drawn c.in-Some.ensures.all c.empty-made.result (c.empty-made.ensures ∙ ap (λ n. external n (run_of [] 0 []) [] []) c.min.ensures)
+    g.R.Ord.cmp g.R.Record.record_of c.merge_last.new.arrays.items c.merge_last.new.lanes (g.P.Supply.stock c.merge_last.new.supply) c.merge_last.ensures.tools.jobs c.merge_last.ensures.tools.batch c.requires.ascend c.in-Ok.ensures.outcome).0.tells
 
 pub returns-in-Ok-clause-calls : goal.returns-in-Ok-clause-calls
 returns-in-Ok-clause-calls g c =
-    let shown = g.S.Slot.shown in
-    let w = g.R.Record.WIDTH in
-    let workers = c.args.bench.now.workers in
-    let level = c.args.level in
-    let old = c.args.arrays.now.items in
-    let mid = c.gather_level.new.arrays.items in
-    let others = take (length mid - 8) mid in
-    let inputs = drop (length mid - 8) mid in
-    let lanes = c.args.lanes.now in
-    let stock = g.P.Supply.stock c.args.supply.now in
-    let stock1 = g.P.Supply.stock c.draw_for_last.new.supply in
-    let of = eight_last level old mid c.gather_level.ensures.moved c.gather_level.ensures.eight c.gather_level.ensures.levels in
-    let next = min (level + 1) 7 in
-    let berths = c.in-Some.berths in
-    let drew = c.in-Some.ensures.drawn in
-    let ready = ready_first shown w workers level next old inputs others lanes stock stock1 berths c.requires.may of drew c.in-Some.ensures.all in
-    let o = table inputs lanes.idle (external next (run_of [] 0 []) [] []) berths stock1 in
-    let new = c.merge_last.new.arrays.items in
-    let lanes' = c.merge_last.new.lanes in
-    let now = g.P.Supply.stock c.merge_last.new.supply in
-    let last = c.in-Ok.ensures.merged in
-    let is = placed_merged shown w workers level next old inputs others lanes stock stock1 berths of drew ready g.R.Ord.cmp g.R.Record.record_of new lanes'.idle now last in
-    level_calls shown w level old new others o last.end stock now is
+    (level_ends g.S.Slot.shown g.R.Record.WIDTH c.args.bench.now.workers c.args.level c.args.arrays.now.items c.gather_level.new.arrays.items c.args.lanes.now (g.P.Supply.stock c.args.supply.now) c.gather_level.ensures.moved c.gather_level.ensures.eight c.gather_level.ensures.levels c.requires.may
+    (g.P.Supply.stock c.draw_for_last.new.supply) c.in-Some.berths c.in-Some.ensures.drawn c.in-Some.ensures.all c.empty-made.result (c.empty-made.ensures ∙ ap (λ n. external n (run_of [] 0 []) [] []) c.min.ensures)
+    g.R.Ord.cmp g.R.Record.record_of c.merge_last.new.arrays.items c.merge_last.new.lanes (g.P.Supply.stock c.merge_last.new.supply) c.merge_last.ensures.tools.jobs c.merge_last.ensures.tools.batch c.requires.ascend c.in-Ok.ensures.outcome).0.calls
 
 pub returns-in-Ok-clause-size : goal.returns-in-Ok-clause-size
 returns-in-Ok-clause-size g c =
-    let shown = g.S.Slot.shown in
-    let w = g.R.Record.WIDTH in
-    let workers = c.args.bench.now.workers in
-    let level = c.args.level in
-    let old = c.args.arrays.now.items in
-    let mid = c.gather_level.new.arrays.items in
-    let others = take (length mid - 8) mid in
-    let inputs = drop (length mid - 8) mid in
-    let lanes = c.args.lanes.now in
-    let stock = g.P.Supply.stock c.args.supply.now in
-    let stock1 = g.P.Supply.stock c.draw_for_last.new.supply in
-    let of = eight_last level old mid c.gather_level.ensures.moved c.gather_level.ensures.eight c.gather_level.ensures.levels in
-    let next = min (level + 1) 7 in
-    let berths = c.in-Some.berths in
-    let drew = c.in-Some.ensures.drawn in
-    let ready = ready_first shown w workers level next old inputs others lanes stock stock1 berths c.requires.may of drew c.in-Some.ensures.all in
-    let o = table inputs lanes.idle (external next (run_of [] 0 []) [] []) berths stock1 in
-    let new = c.merge_last.new.arrays.items in
-    let lanes' = c.merge_last.new.lanes in
-    let now = g.P.Supply.stock c.merge_last.new.supply in
-    let last = c.in-Ok.ensures.merged in
-    let is = placed_merged shown w workers level next old inputs others lanes stock stock1 berths of drew ready g.R.Ord.cmp g.R.Record.record_of new lanes'.idle now last in
-    (level_again shown w level old new others o last.end stock now is lanes lanes' workers c.requires.may last.merged.ready last.emptied last.merged.same refl last.idle_is c.merge_last.ensures.jobs c.merge_last.ensures.batch last.arrays_are).size
+    (level_ends g.S.Slot.shown g.R.Record.WIDTH c.args.bench.now.workers c.args.level c.args.arrays.now.items c.gather_level.new.arrays.items c.args.lanes.now (g.P.Supply.stock c.args.supply.now) c.gather_level.ensures.moved c.gather_level.ensures.eight c.gather_level.ensures.levels c.requires.may
+    (g.P.Supply.stock c.draw_for_last.new.supply) c.in-Some.berths c.in-Some.ensures.drawn c.in-Some.ensures.all c.empty-made.result (c.empty-made.ensures ∙ ap (λ n. external n (run_of [] 0 []) [] []) c.min.ensures)
+    g.R.Ord.cmp g.R.Record.record_of c.merge_last.new.arrays.items c.merge_last.new.lanes (g.P.Supply.stock c.merge_last.new.supply) c.merge_last.ensures.tools.jobs c.merge_last.ensures.tools.batch c.requires.ascend c.in-Ok.ensures.outcome).0.size
 
 pub returns-in-Ok-clause-again : goal.returns-in-Ok-clause-again
 returns-in-Ok-clause-again g c =
-    let shown = g.S.Slot.shown in
-    let w = g.R.Record.WIDTH in
-    let workers = c.args.bench.now.workers in
-    let level = c.args.level in
-    let old = c.args.arrays.now.items in
-    let mid = c.gather_level.new.arrays.items in
-    let others = take (length mid - 8) mid in
-    let inputs = drop (length mid - 8) mid in
-    let lanes = c.args.lanes.now in
-    let stock = g.P.Supply.stock c.args.supply.now in
-    let stock1 = g.P.Supply.stock c.draw_for_last.new.supply in
-    let of = eight_last level old mid c.gather_level.ensures.moved c.gather_level.ensures.eight c.gather_level.ensures.levels in
-    let next = min (level + 1) 7 in
-    let berths = c.in-Some.berths in
-    let drew = c.in-Some.ensures.drawn in
-    let ready = ready_first shown w workers level next old inputs others lanes stock stock1 berths c.requires.may of drew c.in-Some.ensures.all in
-    let o = table inputs lanes.idle (external next (run_of [] 0 []) [] []) berths stock1 in
-    let new = c.merge_last.new.arrays.items in
-    let lanes' = c.merge_last.new.lanes in
-    let now = g.P.Supply.stock c.merge_last.new.supply in
-    let last = c.in-Ok.ensures.merged in
-    let is = placed_merged shown w workers level next old inputs others lanes stock stock1 berths of drew ready g.R.Ord.cmp g.R.Record.record_of new lanes'.idle now last in
-    subst (λ k. MayLevel shown w k new lanes' now) (sym c.merge_last.ensures.workers) (level_again shown w level old new others o last.end stock now is lanes lanes' workers c.requires.may last.merged.ready last.emptied last.merged.same refl last.idle_is c.merge_last.ensures.jobs c.merge_last.ensures.batch last.arrays_are)
+    subst (λ k. MayLevel g.S.Slot.shown g.R.Record.WIDTH k c.merge_last.new.arrays.items c.merge_last.new.lanes (g.P.Supply.stock c.merge_last.new.supply)) (sym c.merge_last.ensures.tools.workers)
+    (level_ends g.S.Slot.shown g.R.Record.WIDTH c.args.bench.now.workers c.args.level c.args.arrays.now.items c.gather_level.new.arrays.items c.args.lanes.now (g.P.Supply.stock c.args.supply.now) c.gather_level.ensures.moved c.gather_level.ensures.eight c.gather_level.ensures.levels c.requires.may
+    (g.P.Supply.stock c.draw_for_last.new.supply) c.in-Some.berths c.in-Some.ensures.drawn c.in-Some.ensures.all c.empty-made.result (c.empty-made.ensures ∙ ap (λ n. external n (run_of [] 0 []) [] []) c.min.ensures)
+    g.R.Ord.cmp g.R.Record.record_of c.merge_last.new.arrays.items c.merge_last.new.lanes (g.P.Supply.stock c.merge_last.new.supply) c.merge_last.ensures.tools.jobs c.merge_last.ensures.tools.batch c.requires.ascend c.in-Ok.ensures.outcome).1
 
 pub returns-in-Ok-clause-idle : goal.returns-in-Ok-clause-idle
 returns-in-Ok-clause-idle g c =
-    let shown = g.S.Slot.shown in
-    let w = g.R.Record.WIDTH in
-    let workers = c.args.bench.now.workers in
-    let level = c.args.level in
-    let old = c.args.arrays.now.items in
-    let mid = c.gather_level.new.arrays.items in
-    let others = take (length mid - 8) mid in
-    let inputs = drop (length mid - 8) mid in
-    let lanes = c.args.lanes.now in
-    let stock = g.P.Supply.stock c.args.supply.now in
-    let stock1 = g.P.Supply.stock c.draw_for_last.new.supply in
-    let of = eight_last level old mid c.gather_level.ensures.moved c.gather_level.ensures.eight c.gather_level.ensures.levels in
-    let next = min (level + 1) 7 in
-    let berths = c.in-Some.berths in
-    let drew = c.in-Some.ensures.drawn in
-    let ready = ready_first shown w workers level next old inputs others lanes stock stock1 berths c.requires.may of drew c.in-Some.ensures.all in
-    let o = table inputs lanes.idle (external next (run_of [] 0 []) [] []) berths stock1 in
-    let new = c.merge_last.new.arrays.items in
-    let lanes' = c.merge_last.new.lanes in
-    let now = g.P.Supply.stock c.merge_last.new.supply in
-    let last = c.in-Ok.ensures.merged in
-    let is = placed_merged shown w workers level next old inputs others lanes stock stock1 berths of drew ready g.R.Ord.cmp g.R.Record.record_of new lanes'.idle now last in
-    level_idle shown w level old new others o last.end stock now is lanes lanes' workers c.requires.may last.merged.ready last.emptied last.merged.same refl last.idle_is c.merge_last.ensures.jobs c.merge_last.ensures.batch last.arrays_are
+    (level_ends g.S.Slot.shown g.R.Record.WIDTH c.args.bench.now.workers c.args.level c.args.arrays.now.items c.gather_level.new.arrays.items c.args.lanes.now (g.P.Supply.stock c.args.supply.now) c.gather_level.ensures.moved c.gather_level.ensures.eight c.gather_level.ensures.levels c.requires.may
+    (g.P.Supply.stock c.draw_for_last.new.supply) c.in-Some.berths c.in-Some.ensures.drawn c.in-Some.ensures.all c.empty-made.result (c.empty-made.ensures ∙ ap (λ n. external n (run_of [] 0 []) [] []) c.min.ensures)
+    g.R.Ord.cmp g.R.Record.record_of c.merge_last.new.arrays.items c.merge_last.new.lanes (g.P.Supply.stock c.merge_last.new.supply) c.merge_last.ensures.tools.jobs c.merge_last.ensures.tools.batch c.requires.ascend c.in-Ok.ensures.outcome).2
 
 pub returns-in-Ok-clause-merged : goal.returns-in-Ok-clause-merged
 returns-in-Ok-clause-merged g c =
-    let shown = g.S.Slot.shown in
-    let w = g.R.Record.WIDTH in
-    let workers = c.args.bench.now.workers in
-    let level = c.args.level in
-    let old = c.args.arrays.now.items in
-    let mid = c.gather_level.new.arrays.items in
-    let others = take (length mid - 8) mid in
-    let inputs = drop (length mid - 8) mid in
-    let lanes = c.args.lanes.now in
-    let stock = g.P.Supply.stock c.args.supply.now in
-    let stock1 = g.P.Supply.stock c.draw_for_last.new.supply in
-    let of = eight_last level old mid c.gather_level.ensures.moved c.gather_level.ensures.eight c.gather_level.ensures.levels in
-    let next = min (level + 1) 7 in
-    let berths = c.in-Some.berths in
-    let drew = c.in-Some.ensures.drawn in
-    let ready = ready_first shown w workers level next old inputs others lanes stock stock1 berths c.requires.may of drew c.in-Some.ensures.all in
-    let o = table inputs lanes.idle (external next (run_of [] 0 []) [] []) berths stock1 in
-    let new = c.merge_last.new.arrays.items in
-    let lanes' = c.merge_last.new.lanes in
-    let now = g.P.Supply.stock c.merge_last.new.supply in
-    let last = c.in-Ok.ensures.merged in
-    let is = placed_merged shown w workers level next old inputs others lanes stock stock1 berths of drew ready g.R.Ord.cmp g.R.Record.record_of new lanes'.idle now last in
-    level_merged g.R.Ord.cmp g.R.Record.record_of w workers level next shown old new others o last.end lanes stock now is c.requires.may last.merged last.emptied refl refl last.arrays_are c.requires.ascend
+    (level_ends g.S.Slot.shown g.R.Record.WIDTH c.args.bench.now.workers c.args.level c.args.arrays.now.items c.gather_level.new.arrays.items c.args.lanes.now (g.P.Supply.stock c.args.supply.now) c.gather_level.ensures.moved c.gather_level.ensures.eight c.gather_level.ensures.levels c.requires.may
+    (g.P.Supply.stock c.draw_for_last.new.supply) c.in-Some.berths c.in-Some.ensures.drawn c.in-Some.ensures.all c.empty-made.result (c.empty-made.ensures ∙ ap (λ n. external n (run_of [] 0 []) [] []) c.min.ensures)
+    g.R.Ord.cmp g.R.Record.record_of c.merge_last.new.arrays.items c.merge_last.new.lanes (g.P.Supply.stock c.merge_last.new.supply) c.merge_last.ensures.tools.jobs c.merge_last.ensures.tools.batch c.requires.ascend c.in-Ok.ensures.outcome).3
 
 pub returns-in-Err-clause-kept : goal.returns-in-Err-clause-kept
 returns-in-Err-clause-kept g c =
-    let shown = g.S.Slot.shown in
-    let w = g.R.Record.WIDTH in
-    let workers = c.args.bench.now.workers in
-    let level = c.args.level in
-    let old = c.args.arrays.now.items in
-    let mid = c.gather_level.new.arrays.items in
-    let others = take (length mid - 8) mid in
-    let inputs = drop (length mid - 8) mid in
-    let lanes = c.args.lanes.now in
-    let stock = g.P.Supply.stock c.args.supply.now in
-    let stock1 = g.P.Supply.stock c.draw_for_last.new.supply in
-    let of = eight_last level old mid c.gather_level.ensures.moved c.gather_level.ensures.eight c.gather_level.ensures.levels in
-    let next = min (level + 1) 7 in
-    let berths = c.in-Some.berths in
-    let drew = c.in-Some.ensures.drawn in
-    let ready = ready_first shown w workers level next old inputs others lanes stock stock1 berths c.requires.may of drew c.in-Some.ensures.all in
-    let o = table inputs lanes.idle (external next (run_of [] 0 []) [] []) berths stock1 in
-    let new = c.merge_last.new.arrays.items in
-    let lanes' = c.merge_last.new.lanes in
-    let now = g.P.Supply.stock c.merge_last.new.supply in
-    let last = c.in-Err.ensures.failed in
-    let is = placed_failed shown w workers level next old inputs others lanes stock stock1 berths of drew ready new lanes'.idle now c.in-Err.fault last in
-    level_kept shown w level old new others o last.end stock now is lanes lanes' refl last.idle_is c.merge_last.ensures.jobs
+    (level_stops g.S.Slot.shown g.R.Record.WIDTH c.args.bench.now.workers c.args.level c.args.arrays.now.items c.gather_level.new.arrays.items c.args.lanes.now (g.P.Supply.stock c.args.supply.now) c.gather_level.ensures.moved c.gather_level.ensures.eight c.gather_level.ensures.levels c.requires.may
+    (g.P.Supply.stock c.draw_for_last.new.supply) c.in-Some.berths c.in-Some.ensures.drawn c.in-Some.ensures.all c.empty-made.result (c.empty-made.ensures ∙ ap (λ n. external n (run_of [] 0 []) [] []) c.min.ensures)
+    c.merge_last.new.arrays.items c.merge_last.new.lanes (g.P.Supply.stock c.merge_last.new.supply) c.in-Err.fault c.merge_last.ensures.tools.jobs c.in-Err.ensures.outcome).kept
 
 pub returns-in-Err-clause-tells : goal.returns-in-Err-clause-tells
 returns-in-Err-clause-tells g c =
-    let shown = g.S.Slot.shown in
-    let w = g.R.Record.WIDTH in
-    let workers = c.args.bench.now.workers in
-    let level = c.args.level in
-    let old = c.args.arrays.now.items in
-    let mid = c.gather_level.new.arrays.items in
-    let others = take (length mid - 8) mid in
-    let inputs = drop (length mid - 8) mid in
-    let lanes = c.args.lanes.now in
-    let stock = g.P.Supply.stock c.args.supply.now in
-    let stock1 = g.P.Supply.stock c.draw_for_last.new.supply in
-    let of = eight_last level old mid c.gather_level.ensures.moved c.gather_level.ensures.eight c.gather_level.ensures.levels in
-    let next = min (level + 1) 7 in
-    let berths = c.in-Some.berths in
-    let drew = c.in-Some.ensures.drawn in
-    let ready = ready_first shown w workers level next old inputs others lanes stock stock1 berths c.requires.may of drew c.in-Some.ensures.all in
-    let o = table inputs lanes.idle (external next (run_of [] 0 []) [] []) berths stock1 in
-    let new = c.merge_last.new.arrays.items in
-    let lanes' = c.merge_last.new.lanes in
-    let now = g.P.Supply.stock c.merge_last.new.supply in
-    let last = c.in-Err.ensures.failed in
-    let is = placed_failed shown w workers level next old inputs others lanes stock stock1 berths of drew ready new lanes'.idle now c.in-Err.fault last in
-    level_tells shown w level old new others o last.end stock now is
+    (level_stops g.S.Slot.shown g.R.Record.WIDTH c.args.bench.now.workers c.args.level c.args.arrays.now.items c.gather_level.new.arrays.items c.args.lanes.now (g.P.Supply.stock c.args.supply.now) c.gather_level.ensures.moved c.gather_level.ensures.eight c.gather_level.ensures.levels c.requires.may
+    (g.P.Supply.stock c.draw_for_last.new.supply) c.in-Some.berths c.in-Some.ensures.drawn c.in-Some.ensures.all c.empty-made.result (c.empty-made.ensures ∙ ap (λ n. external n (run_of [] 0 []) [] []) c.min.ensures)
+    c.merge_last.new.arrays.items c.merge_last.new.lanes (g.P.Supply.stock c.merge_last.new.supply) c.in-Err.fault c.merge_last.ensures.tools.jobs c.in-Err.ensures.outcome).tells
 
 pub returns-in-Err-clause-calls : goal.returns-in-Err-clause-calls
 returns-in-Err-clause-calls g c =
-    let shown = g.S.Slot.shown in
-    let w = g.R.Record.WIDTH in
-    let workers = c.args.bench.now.workers in
-    let level = c.args.level in
-    let old = c.args.arrays.now.items in
-    let mid = c.gather_level.new.arrays.items in
-    let others = take (length mid - 8) mid in
-    let inputs = drop (length mid - 8) mid in
-    let lanes = c.args.lanes.now in
-    let stock = g.P.Supply.stock c.args.supply.now in
-    let stock1 = g.P.Supply.stock c.draw_for_last.new.supply in
-    let of = eight_last level old mid c.gather_level.ensures.moved c.gather_level.ensures.eight c.gather_level.ensures.levels in
-    let next = min (level + 1) 7 in
-    let berths = c.in-Some.berths in
-    let drew = c.in-Some.ensures.drawn in
-    let ready = ready_first shown w workers level next old inputs others lanes stock stock1 berths c.requires.may of drew c.in-Some.ensures.all in
-    let o = table inputs lanes.idle (external next (run_of [] 0 []) [] []) berths stock1 in
-    let new = c.merge_last.new.arrays.items in
-    let lanes' = c.merge_last.new.lanes in
-    let now = g.P.Supply.stock c.merge_last.new.supply in
-    let last = c.in-Err.ensures.failed in
-    let is = placed_failed shown w workers level next old inputs others lanes stock stock1 berths of drew ready new lanes'.idle now c.in-Err.fault last in
-    level_calls shown w level old new others o last.end stock now is
+    (level_stops g.S.Slot.shown g.R.Record.WIDTH c.args.bench.now.workers c.args.level c.args.arrays.now.items c.gather_level.new.arrays.items c.args.lanes.now (g.P.Supply.stock c.args.supply.now) c.gather_level.ensures.moved c.gather_level.ensures.eight c.gather_level.ensures.levels c.requires.may
+    (g.P.Supply.stock c.draw_for_last.new.supply) c.in-Some.berths c.in-Some.ensures.drawn c.in-Some.ensures.all c.empty-made.result (c.empty-made.ensures ∙ ap (λ n. external n (run_of [] 0 []) [] []) c.min.ensures)
+    c.merge_last.new.arrays.items c.merge_last.new.lanes (g.P.Supply.stock c.merge_last.new.supply) c.in-Err.fault c.merge_last.ensures.tools.jobs c.in-Err.ensures.outcome).calls
 
 pub returns-in-Err-clause-size : goal.returns-in-Err-clause-size
 returns-in-Err-clause-size g c =
-    let shown = g.S.Slot.shown in
-    let w = g.R.Record.WIDTH in
-    let workers = c.args.bench.now.workers in
-    let level = c.args.level in
-    let old = c.args.arrays.now.items in
-    let mid = c.gather_level.new.arrays.items in
-    let others = take (length mid - 8) mid in
-    let inputs = drop (length mid - 8) mid in
-    let lanes = c.args.lanes.now in
-    let stock = g.P.Supply.stock c.args.supply.now in
-    let stock1 = g.P.Supply.stock c.draw_for_last.new.supply in
-    let of = eight_last level old mid c.gather_level.ensures.moved c.gather_level.ensures.eight c.gather_level.ensures.levels in
-    let next = min (level + 1) 7 in
-    let berths = c.in-Some.berths in
-    let drew = c.in-Some.ensures.drawn in
-    let ready = ready_first shown w workers level next old inputs others lanes stock stock1 berths c.requires.may of drew c.in-Some.ensures.all in
-    let o = table inputs lanes.idle (external next (run_of [] 0 []) [] []) berths stock1 in
-    let new = c.merge_last.new.arrays.items in
-    let lanes' = c.merge_last.new.lanes in
-    let now = g.P.Supply.stock c.merge_last.new.supply in
-    let last = c.in-Err.ensures.failed in
-    let is = placed_failed shown w workers level next old inputs others lanes stock stock1 berths of drew ready new lanes'.idle now c.in-Err.fault last in
-    failed_size shown w workers level next old inputs others lanes stock stock1 berths of drew ready new now lanes' c.in-Err.fault c.requires.may.size last
+    (level_stops g.S.Slot.shown g.R.Record.WIDTH c.args.bench.now.workers c.args.level c.args.arrays.now.items c.gather_level.new.arrays.items c.args.lanes.now (g.P.Supply.stock c.args.supply.now) c.gather_level.ensures.moved c.gather_level.ensures.eight c.gather_level.ensures.levels c.requires.may
+    (g.P.Supply.stock c.draw_for_last.new.supply) c.in-Some.berths c.in-Some.ensures.drawn c.in-Some.ensures.all c.empty-made.result (c.empty-made.ensures ∙ ap (λ n. external n (run_of [] 0 []) [] []) c.min.ensures)
+    c.merge_last.new.arrays.items c.merge_last.new.lanes (g.P.Supply.stock c.merge_last.new.supply) c.in-Err.fault c.merge_last.ensures.tools.jobs c.in-Err.ensures.outcome).size
 
 pub returns-in-Err-clause-device : goal.returns-in-Err-clause-device
 returns-in-Err-clause-device g c =
-    let shown = g.S.Slot.shown in
-    let w = g.R.Record.WIDTH in
-    let workers = c.args.bench.now.workers in
-    let level = c.args.level in
-    let old = c.args.arrays.now.items in
-    let mid = c.gather_level.new.arrays.items in
-    let others = take (length mid - 8) mid in
-    let inputs = drop (length mid - 8) mid in
-    let lanes = c.args.lanes.now in
-    let stock = g.P.Supply.stock c.args.supply.now in
-    let stock1 = g.P.Supply.stock c.draw_for_last.new.supply in
-    let of = eight_last level old mid c.gather_level.ensures.moved c.gather_level.ensures.eight c.gather_level.ensures.levels in
-    let next = min (level + 1) 7 in
-    let berths = c.in-Some.berths in
-    let drew = c.in-Some.ensures.drawn in
-    let ready = ready_first shown w workers level next old inputs others lanes stock stock1 berths c.requires.may of drew c.in-Some.ensures.all in
-    let o = table inputs lanes.idle (external next (run_of [] 0 []) [] []) berths stock1 in
-    let new = c.merge_last.new.arrays.items in
-    let lanes' = c.merge_last.new.lanes in
-    let now = g.P.Supply.stock c.merge_last.new.supply in
-    let last = c.in-Err.ensures.failed in
-    let is = placed_failed shown w workers level next old inputs others lanes stock stock1 berths of drew ready new lanes'.idle now c.in-Err.fault last in
-    λ number e. level_failed shown new last.end.hand now c.in-Err.fault number last.stock_is last.failed.failed (let same : c.in-Err.fault ≡ Device number = cc in same)
+    let last = c.in-Err.ensures.outcome in
+    λ number e. level_failed g.S.Slot.shown c.merge_last.new.arrays.items last.end.hand (g.P.Supply.stock c.merge_last.new.supply) c.in-Err.fault number last.stock_is last.failed.failed (let same : c.in-Err.fault ≡ Device number = cc in same)

@@ -1,15 +1,12 @@
-use Rattle.std.proofs.Common.{◌≡◌, ◌*◌, ◌++◌, List, All, sym, ap, subst, arith}
+use Rattle.std.proofs.Common.{◌≡◌, ◌*◌, length, All, sym, ap, subst, arith}
 use Rattle.std.proofs.lemmas.List.Elements.{All-push}
 use Rattle.ppq_fetch.specs.ppq_array.Holdings.{RunHasBlock}
 use Rattle.ppq_spill.proofs.Storings.{sizes_after}
 use Rattle.std.proofs.lemmas.Result.{on_ok_weaker}
 use Rattle.ppq_spill.specs.Storing.{BlocksStored}
 use Rattle.ppq_spill.specs.Body.{body_slots}
-use Rattle.ppq_fetch.specs.ppq_outside.Shown.{Shown, AllTell}
-use Rattle.ppq_spill.specs.Untold.{SameUntold}
-use Rattle.ppq_spill.proofs.Going.{went_untouched, untold_untouched}
-use Rattle.ppq_spill.proofs.Transfers.{untouched}
-use Rattle.ppq_spill.proofs.InBlocks.{stored_after, ascend_still}
+use Rattle.ppq_spill.proofs.Going.{went_untouched, more_writes}
+use Rattle.ppq_spill.proofs.InBlocks.{stored_after, ascend_still, leaves_still, ends_stored, none_after}
 use Rattle.ppq_spill.proofs.store.store_sorted.Goals as goal
 
 pub store_in_blocks-requires-clause-ascend : goal.store_in_blocks-requires-clause-ascend
@@ -22,7 +19,7 @@ returns-in-None-clause-stored g c =
     (λ (b : BlocksStored g.R.Ord.cmp g.R.Record.record_of g.R.Record.WIDTH g.S.Slot.shown c.args.sorted.now c.args.body.now c.store_in_blocks.new.body (g.P.Supply.stock c.store_in_buffers.new.supply) (g.P.Supply.stock c.store_in_blocks.new.supply)).
     stored_after g.R.Ord.cmp g.R.Record.record_of g.R.Record.WIDTH c.block-block.result g.S.Slot.shown c.args.sorted.now c.args.body.now c.store_in_blocks.new.body (g.P.Supply.stock c.args.supply.now) (g.P.Supply.stock c.store_in_buffers.new.supply) (g.P.Supply.stock c.store_in_blocks.new.supply)
     c.in-None.ensures.scant c.store_in_blocks.ensures.scant b)
-    c.store_in_blocks.ensures.stored
+    (ends_stored g.R.Ord.cmp g.R.Record.record_of g.R.Record.WIDTH g.S.Slot.shown c.args.sorted.now c.args.body.now c.store_in_blocks.new.body (g.P.Supply.stock c.store_in_buffers.new.supply) (g.P.Supply.stock c.store_in_blocks.new.supply) c.store_in_blocks.result c.store_in_blocks.ensures.outcome)
 
 pub returns-in-Some-clause-size : goal.returns-in-Some-clause-size
 returns-in-Some-clause-size g c =
@@ -36,12 +33,12 @@ returns-in-Some-clause-writes g c =
     let o = g.P.Supply.stock c.args.supply.now in
     let n = g.P.Supply.stock c.store_in_buffers.new.supply in
     let is = c.in-Some.ensures.stored.stock in
-    let slots = body_slots g.S.Slot.shown c.args.body.now in
+    let went = (went_untouched (body_slots g.S.Slot.shown c.args.body.now) o n (ap (λ s. s.kept) is) (ap (λ s. s.drawn) is)).went in
     record {
       blocks = 0;
       few = omega (arith, c.requires.some, (let z : 0 * o.block ≡ 0 = omega arith in z));
-      transfers = untouched slots o n (ap (λ s. s.kept) is) (ap (λ s. s.drawn) is);
-      stay = (went_untouched slots o n (ap (λ s. s.kept) is) (ap (λ s. s.drawn) is)).calls.stay;
+      transfers = more_writes 0 _ _ went;
+      stay = went.calls.stay;
     }
 
 pub returns-in-Some-clause-tells : goal.returns-in-Some-clause-tells
@@ -49,36 +46,42 @@ returns-in-Some-clause-tells g c =
     let o = g.P.Supply.stock c.args.supply.now in
     let n = g.P.Supply.stock c.store_in_buffers.new.supply in
     let is = c.in-Some.ensures.stored.stock in
-    (went_untouched (body_slots g.S.Slot.shown c.args.body.now) o n (ap (λ s. s.kept) is) (ap (λ s. s.drawn) is)).tells
-
-pub returns-in-None-clause-tells : goal.returns-in-None-clause-tells
-returns-in-None-clause-tells g c =
-    let shown = g.S.Slot.shown in
-    let o = g.P.Supply.stock c.args.supply.now in
-    let m = g.P.Supply.stock c.store_in_buffers.new.supply in
-    let r = g.P.Supply.stock c.store_in_blocks.new.supply in
-    let kept : m.kept ≡ o.kept = ap (λ s. s.kept) c.in-None.ensures.scant.stock in
-    let drawn : m.drawn ≡ o.drawn = ap (λ s. s.drawn) c.in-None.ensures.scant.stock in
-    let old : List Shown → Type 0 = λ k. AllTell (body_slots shown c.args.body.now ++ k ++ r.drawn) in
-    let new : List Shown → Type 0 = λ d. AllTell (body_slots shown c.store_in_blocks.new.body ++ r.kept ++ d) in (
-      (λ t. subst new drawn (c.store_in_blocks.ensures.tells.0 (subst old (sym kept) t))),
-      (λ t. subst old kept (c.store_in_blocks.ensures.tells.1 (subst new (sym drawn) t))),
-    )
+    (went_untouched (body_slots g.S.Slot.shown c.args.body.now) o n (ap (λ s. s.kept) is) (ap (λ s. s.drawn) is)).went.tells
 
 pub returns-in-Some-clause-untold : goal.returns-in-Some-clause-untold
 returns-in-Some-clause-untold g c =
     let o = g.P.Supply.stock c.args.supply.now in
     let n = g.P.Supply.stock c.store_in_buffers.new.supply in
     let is = c.in-Some.ensures.stored.stock in
-    untold_untouched (body_slots g.S.Slot.shown c.args.body.now) o n (ap (λ s. s.kept) is) (ap (λ s. s.drawn) is)
+    (went_untouched (body_slots g.S.Slot.shown c.args.body.now) o n (ap (λ s. s.kept) is) (ap (λ s. s.drawn) is)).untold
+
+pub returns-in-None-clause-kept : goal.returns-in-None-clause-kept
+returns-in-None-clause-kept g c = (leaves_still g.S.Slot.shown g.R.Record.WIDTH (length c.args.sorted.now) (length c.args.sorted.now) c.args.body.now c.store_in_blocks.new.body (g.P.Supply.stock c.args.supply.now) (g.P.Supply.stock c.store_in_buffers.new.supply) (g.P.Supply.stock c.store_in_blocks.new.supply) c.in-None.ensures.scant c.store_in_blocks.ensures.leaves).kept
+
+pub returns-in-None-clause-takes_back : goal.returns-in-None-clause-takes_back
+returns-in-None-clause-takes_back g c = (leaves_still g.S.Slot.shown g.R.Record.WIDTH (length c.args.sorted.now) (length c.args.sorted.now) c.args.body.now c.store_in_blocks.new.body (g.P.Supply.stock c.args.supply.now) (g.P.Supply.stock c.store_in_buffers.new.supply) (g.P.Supply.stock c.store_in_blocks.new.supply) c.in-None.ensures.scant c.store_in_blocks.ensures.leaves).takes_back
+
+pub returns-in-None-clause-tells : goal.returns-in-None-clause-tells
+returns-in-None-clause-tells g c = (leaves_still g.S.Slot.shown g.R.Record.WIDTH (length c.args.sorted.now) (length c.args.sorted.now) c.args.body.now c.store_in_blocks.new.body (g.P.Supply.stock c.args.supply.now) (g.P.Supply.stock c.store_in_buffers.new.supply) (g.P.Supply.stock c.store_in_blocks.new.supply) c.in-None.ensures.scant c.store_in_blocks.ensures.leaves).tells
 
 pub returns-in-None-clause-untold : goal.returns-in-None-clause-untold
-returns-in-None-clause-untold g c =
-    let shown = g.S.Slot.shown in
-    let o = g.P.Supply.stock c.args.supply.now in
-    let m = g.P.Supply.stock c.store_in_buffers.new.supply in
-    let r = g.P.Supply.stock c.store_in_blocks.new.supply in
-    let kept : m.kept ≡ o.kept = ap (λ s. s.kept) c.in-None.ensures.scant.stock in
-    let drawn : m.drawn ≡ o.drawn = ap (λ s. s.drawn) c.in-None.ensures.scant.stock in
-    subst (λ (k : List Shown). SameUntold (body_slots shown c.args.body.now ++ k ++ r.drawn) (body_slots shown c.store_in_blocks.new.body ++ r.kept ++ o.drawn)) kept
-    (subst (λ (d : List Shown). SameUntold (body_slots shown c.args.body.now ++ m.kept ++ r.drawn) (body_slots shown c.store_in_blocks.new.body ++ r.kept ++ d)) drawn c.store_in_blocks.ensures.untold)
+returns-in-None-clause-untold g c = (leaves_still g.S.Slot.shown g.R.Record.WIDTH (length c.args.sorted.now) (length c.args.sorted.now) c.args.body.now c.store_in_blocks.new.body (g.P.Supply.stock c.args.supply.now) (g.P.Supply.stock c.store_in_buffers.new.supply) (g.P.Supply.stock c.store_in_blocks.new.supply) c.in-None.ensures.scant c.store_in_blocks.ensures.leaves).untold
+
+pub returns-in-None-clause-writes : goal.returns-in-None-clause-writes
+returns-in-None-clause-writes g c = (leaves_still g.S.Slot.shown g.R.Record.WIDTH (length c.args.sorted.now) (length c.args.sorted.now) c.args.body.now c.store_in_blocks.new.body (g.P.Supply.stock c.args.supply.now) (g.P.Supply.stock c.store_in_buffers.new.supply) (g.P.Supply.stock c.store_in_blocks.new.supply) c.in-None.ensures.scant c.store_in_blocks.ensures.leaves).writes
+
+pub returns-in-None-clause-lanes : goal.returns-in-None-clause-lanes
+returns-in-None-clause-lanes g c = (leaves_still g.S.Slot.shown g.R.Record.WIDTH (length c.args.sorted.now) (length c.args.sorted.now) c.args.body.now c.store_in_blocks.new.body (g.P.Supply.stock c.args.supply.now) (g.P.Supply.stock c.store_in_buffers.new.supply) (g.P.Supply.stock c.store_in_blocks.new.supply) c.in-None.ensures.scant c.store_in_blocks.ensures.leaves).lanes
+
+pub returns-in-None-clause-size : goal.returns-in-None-clause-size
+returns-in-None-clause-size g c = (leaves_still g.S.Slot.shown g.R.Record.WIDTH (length c.args.sorted.now) (length c.args.sorted.now) c.args.body.now c.store_in_blocks.new.body (g.P.Supply.stock c.args.supply.now) (g.P.Supply.stock c.store_in_buffers.new.supply) (g.P.Supply.stock c.store_in_blocks.new.supply) c.in-None.ensures.scant c.store_in_blocks.ensures.leaves).size
+
+pub returns-in-None-clause-rooms : goal.returns-in-None-clause-rooms
+returns-in-None-clause-rooms g c = (leaves_still g.S.Slot.shown g.R.Record.WIDTH (length c.args.sorted.now) (length c.args.sorted.now) c.args.body.now c.store_in_blocks.new.body (g.P.Supply.stock c.args.supply.now) (g.P.Supply.stock c.store_in_buffers.new.supply) (g.P.Supply.stock c.store_in_blocks.new.supply) c.in-None.ensures.scant c.store_in_blocks.ensures.leaves).rooms
+
+pub returns-in-None-clause-none_free : goal.returns-in-None-clause-none_free
+returns-in-None-clause-none_free g c =
+    λ e. none_after (length c.args.sorted.now) c.args.body.now c.store_in_blocks.new.body (g.P.Supply.stock c.args.supply.now) (g.P.Supply.stock c.store_in_buffers.new.supply) (g.P.Supply.stock c.store_in_blocks.new.supply) c.in-None.ensures.scant c.store_in_blocks.ensures.scant (rw e at c.store_in_blocks.ensures.outcome)
+
+pub returns-in-None-clause-device : goal.returns-in-None-clause-device
+returns-in-None-clause-device g c = λ number e. rw e at c.store_in_blocks.ensures.outcome
