@@ -42,6 +42,12 @@ parts_within n range =
 pub heaps_within : (n : Numbers) → AreInRange n → fixed_of n ≤ n.memory → heaps_of n ≤ n.memory
 heaps_within n range budget = omega (arith, parts_within n range, budget)
 
+-- a round of merging gives some records
+pub batch_some : (n : Numbers) → AreInRange n → 0 < batch_of n
+batch_some n range =
+    let one : 1 * n.block ≤ n.workers * n.block = mul-le-mul_right n.block range.some_worker in
+    omega (arith, one, range.two_records)
+
 pub heap_within : (n : Numbers) → AreInRange n → fixed_of n ≤ n.memory → heap_of n ≤ n.memory
 heap_within n range budget =
     let one : 1 * (n.heap * n.block) ≤ n.workers * (n.heap * n.block) = mul-le-mul_right (n.heap * n.block) range.some_worker in

@@ -9,16 +9,14 @@ use Rattle.ppq_heap.specs.ppq_record.Bag.{IsSameBag, first_of, least, front, wit
 use Rattle.ppq_heap.proofs.ppq_record.Order.{count_by-cons, count_by-append, Each-weaker, Le-trans, none_pass}
 use Rattle.ppq_heap.proofs.ppq_record.Fronts.{ranks, front-parts}
 use Rattle.ppq_extract.specs.ppq_outside.Shown.{Shown}
-use Rattle.ppq_extract.specs.ppq_budget.Sizes.{Numbers, pool_of}
-use Rattle.ppq_heap.specs.Heaps.{Shares, items_of}
+use Rattle.ppq_extract.specs.ppq_budget.Sizes.{Numbers}
+use Rattle.ppq_heap.specs.Heaps.{Shares}
 use Rattle.ppq_extract.specs.ppq_array.Supply.{Stock}
 use Rattle.ppq_extract.specs.ppq_fetch.Taking.{IsTaken, NoneBelow}
-use Rattle.ppq_extract.specs.Extracted.{Held, ServesFor}
-use Rattle.ppq_extract.specs.declared.sources.Sources.{Sources}
+use Rattle.ppq_extract.specs.Extracted.{Held}
 use Rattle.ppq_spill.specs.declared.body.PassBody.{PassBody}
-use Rattle.ppq_queue.specs.Resting.{BodyKept}
-use Rattle.ppq_queue.specs.State.{IsQueue, IsSound}
-use Rattle.ppq_queue.specs.Bulk.{kept_below, TookOut}
+use Rattle.ppq_queue.specs.State.{IsQueue}
+use Rattle.ppq_queue.specs.Bulk.{kept_below}
 use Rattle.ppq_queue.proofs.Least.{least-le, least-none}
 
 module _ {S R : Type 0} (shown : S → Shown) (n : Numbers) where
@@ -41,23 +39,6 @@ module _ {S R : Type 0} (shown : S → Shown) (n : Numbers) where
         most = is.most;
         most_count = omega (arith, is.most_count, few);
         fault = is.fault;
-      }
-
-  -- a sound queue after records were taken out
-  pub sound-took :
-      (cmp : R → R → Ordering) (record_of : List ℕ → R) (width : ℕ) (limit : Option R) (most : ℕ) (h h' : Shares R) (x x' : Held R) (a b : PassBody S R) (s t : Stock) (src src' : Sources R) (count less peak : ℕ) (limited : Bool) (out : List R)
-      → IsSound shown cmp record_of width n h x a s src count peak limited → BodyKept shown a b s t → TookOut shown cmp record_of width n limit most (items_of h) (items_of h') x.items x'.items a b s t out → less ≡ count - length out
-      → src'.bench.workers ≡ src.bench.workers → ServesFor (pool_of n + 65) src'
-      → IsSound shown cmp record_of width n h' x' b t src' less peak limited
-  sound-took cmp record_of width limit most h h' x x' a b s t src src' count less peak limited out is kept took e workers serves =
-      record {
-        rest = took.rest;
-        counted = omega (arith, is.counted, took.count, e);
-        ascends = λ tell. took.ascends (kept.tells.1 tell);
-        order = λ tell. took.order (kept.tells.1 tell);
-        above = λ more. is.above (omega (arith, more, took.stored, took.count, is.counted, e));
-        workers = workers ∙ is.workers;
-        serves = serves;
       }
 
 module _ {R : Type 0} {cmp : R → R → Ordering} (o : IsTotalOrder cmp) (same : (x y : R) → cmp x y ≡ Equal → x ≡ y) where

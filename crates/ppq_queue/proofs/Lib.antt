@@ -19,8 +19,9 @@ pub mod Refilled
 pub mod Least
 pub mod Ready
 pub mod Opened
+pub mod Stores
 pub mod Flushed
-pub mod Flushing
+pub mod Calls
 pub mod Merging
 pub mod Took
 pub mod Ends

@@ -21,7 +21,7 @@ use Rattle.ppq_queue.specs.Slots.{with_slots}
 use Rattle.ppq_queue.specs.Resting.{AtRest, IsRestingRun, IsRestingArray, slots_of, runs_bag, count_of, odd_in}
 use Rattle.ppq_queue.specs.State.{IsQueue, IsSound, AreNewParts}
 
-module _ {S R : Type 0} (shown : S → Shown) (n : Numbers) (parts : Parts S R) (is : AreNewParts n parts) (slots : List Shown) (stock : Stock) (e : stock ≡ with_slots parts.supply slots (parts.supply.slot_room - length slots)) (count : length slots ≡ n.blocks) where
+module _ {S R : Type 0} (shown : S → Shown) (n : Numbers) (parts : Parts S R) (is : AreNewParts n parts) (slots : List Shown) (stock : Stock) (e : stock ≡ with_slots parts.store.supply slots (parts.store.supply.slot_room - length slots)) (count : length slots ≡ n.blocks) where
   kept_is : stock.kept ≡ slots
   kept_is = ap (λ s. s.kept) e
 
@@ -38,30 +38,30 @@ module _ {S R : Type 0} (shown : S → Shown) (n : Numbers) (parts : Parts S R) 
   none_out = ap (λ s. s.buffer_room) e ∙ ap (λ s. s.buffer_room) is.supply
 
   -- its slots are those that came, in their order
-  pub slots-opened : slots_of shown parts.body stock ≡ slots
+  pub slots-opened : slots_of shown parts.store.body stock ≡ slots
   slots-opened =
-      ap (λ l. external_slots shown l ++ job_slots shown parts.body.lanes.jobs.items ++ stock.kept) is.no_external ∙ ap (λ l. job_slots shown l ++ stock.kept) is.no_job ∙ kept_is
+      ap (λ l. external_slots shown l ++ job_slots shown parts.store.body.lanes.jobs.items ++ stock.kept) is.no_external ∙ ap (λ l. job_slots shown l ++ stock.kept) is.no_job ∙ kept_is
 
-  pub bag-opened : (record_of : List ℕ → R) (width : ℕ) → runs_bag shown record_of width parts.body ≡ []
-  bag-opened record_of width = ap (λ l. internal_items l ++ flat_map (records_in record_of width shown) parts.body.runs.external.items) is.no_internal ∙ ap (λ l. flat_map (records_in record_of width shown) l) is.no_external
+  pub bag-opened : (record_of : List ℕ → R) (width : ℕ) → runs_bag shown record_of width parts.store.body ≡ []
+  bag-opened record_of width = ap (λ l. internal_items l ++ flat_map (records_in record_of width shown) parts.store.body.runs.external.items) is.no_internal ∙ ap (λ l. flat_map (records_in record_of width shown) l) is.no_external
 
-  internal_none : internal_buffers parts.body.runs.internal.items ≡ 0
+  internal_none : internal_buffers parts.store.body.runs.internal.items ≡ 0
   internal_none = ap internal_buffers is.no_internal
 
-  external_none : external_buffers parts.body.runs.external.items ≡ 0
+  external_none : external_buffers parts.store.body.runs.external.items ≡ 0
   external_none = ap external_buffers is.no_external
 
-  count_none : count_of parts.body ≡ 0
-  count_none = ap (λ l. count_in l parts.body.runs.external.items) is.no_internal ∙ ap (λ l. count_in [] l) is.no_external
+  count_none : count_of parts.store.body ≡ 0
+  count_none = ap (λ l. count_in l parts.store.body.runs.external.items) is.no_internal ∙ ap (λ l. count_in [] l) is.no_external
 
   module _ (cmp : R → R → Ordering) (record_of : List ℕ → R) (width : ℕ) where
-    rest-opened : AtRest shown cmp record_of width n parts.body stock
+    rest-opened : AtRest shown cmp record_of width n parts.store.body stock
     rest-opened =
         let P : Run R → Type 0 = λ run. Ascends cmp (items_of run) in
         let Q : External S R → Type 0 = λ x. Ascends cmp (records_in record_of width shown x) in
         record {
           block = block_is;
-          idle = All-weaker (λ (b : Block R). b ≡ holding n.block []) (HasBlock stock.block) (λ b h. ap (λ (x : Block R). x.block) h ∙ sym block_is) parts.body.lanes.idle is.blocks;
+          idle = All-weaker (λ (b : Block R). b ≡ holding n.block []) (HasBlock stock.block) (λ b h. ap (λ (x : Block R). x.block) h ∙ sym block_is) parts.store.body.lanes.idle is.blocks;
           internal = subst (All (IsRestingRun stock.block)) (sym is.no_internal) (All-nil (IsRestingRun stock.block));
           external = subst (All (IsRestingArray shown width stock.block)) (sym is.no_external) (All-nil (IsRestingArray shown width stock.block));
           takes_back = record { slots = omega (arith, ap (λ l. length (external_slots shown l)) is.no_external); buffers = omega (arith, internal_none) };
@@ -80,20 +80,20 @@ module _ {S R : Type 0} (shown : S → Shown) (n : Numbers) (parts : Parts S R) 
           rise = λ tell. record { internal = subst (All P) (sym is.no_internal) (All-nil P); external = subst (All Q) (sym is.no_external) (All-nil Q) };
         }
 
-    pub sound-opened : IsSound shown cmp record_of width n parts.heaps parts.extract parts.body stock parts.sources 0 0 false
+    pub sound-opened : IsSound shown cmp record_of width n parts.heaps parts.store.extract parts.store.body stock parts.store.sources 0 0 false
     sound-opened =
         let none = ap (λ x. x.items) is.extract in
         record {
           rest = rest-opened;
           counted = omega (arith, ap length is.no_record, ap length none, count_none);
           ascends = λ tell. subst (Ascends cmp) (sym none) tt;
-          order = λ tell. subst (λ l. NoneAfter cmp l (runs_bag shown record_of width parts.body)) (sym none) tt;
+          order = λ tell. subst (λ l. NoneAfter cmp l (runs_bag shown record_of width parts.store.body)) (sym none) tt;
           above = λ more. absurd (omega arith);
           workers = is.workers;
           serves = is.serves;
         }
 
-  pub queue-opened : AreInRange n → fixed_of n ≤ n.memory → IsQueue shown n parts.heaps parts.extract parts.body stock 0 0 None
+  pub queue-opened : AreInRange n → fixed_of n ≤ n.memory → IsQueue shown n parts.heaps parts.store.extract parts.store.body stock 0 0 None
   queue-opened range budget =
       let none = ap (λ x. x.items) is.extract in
       record {

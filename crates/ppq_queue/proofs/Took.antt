@@ -2,20 +2,19 @@
 use Rattle.std.proofs.Common.{◌≡◌, ℕ, ◌+◌, ◌<◌, ◌≤◌, Bool, true, false, List, [], ◌∷◌, ◌++◌, length, Option, Some, None, refl, sym, ap, ◌∙◌, inl, inr, arith, length-append, Ordering}
 use Rattle.std.specs.Prelude.{◌⊎◌}
 use Rattle.std.specs.Cmp.{IsTotalOrder}
-use Rattle.ppq_heap.specs.ppq_record.Order.{Ascends}
-use Rattle.ppq_heap.specs.ppq_record.Bag.{IsSameBag}
-use Rattle.ppq_heap.proofs.ppq_record.Order.{count_by-append}
 use Rattle.ppq_heap.proofs.ppq_record.Fronts.{ranks}
 use Rattle.ppq_extract.specs.ppq_outside.Shown.{Shown, AllTell}
-use Rattle.ppq_extract.specs.ppq_budget.Sizes.{Numbers}
-use Rattle.ppq_extract.specs.ppq_array.Supply.{Stock}
-use Rattle.ppq_extract.specs.ppq_fetch.Taking.{NoneAfter, AllBelow, NoneBelow}
+use Rattle.ppq_extract.specs.ppq_fetch.Taking.{AllBelow, NoneBelow}
+use Rattle.ppq_extract.specs.Extracted.{Held}
 use Rattle.ppq_extract.proofs.ppq_fetch.Taken.{taken_none, taken_same, taken_of}
-use Rattle.ppq_spill.specs.declared.body.PassBody.{PassBody}
-use Rattle.ppq_queue.specs.Resting.{BodyKept, AtRest, Moved, Readied, slots_of, runs_bag, count_of}
+use Rattle.ppq_queue.specs.Resting.{runs_bag, count_of}
+use Rattle.ppq_queue.specs.Stores.{StoreKept, MayWork, Holds, stored, slots_in, whole_bag}
+use Rattle.ppq_queue.specs.declared.store.Store.{Store}
 use Rattle.ppq_queue.specs.Bulk.{Merged, HasEnded, TookOut, TookAll}
 use Rattle.ppq_queue.proofs.Bounds.{bag_length}
 use Rattle.ppq_queue.proofs.Merging.{exhausted-runs}
+use Rattle.ppq_queue.proofs.Moves.{kept-refl}
+use Rattle.ppq_queue.proofs.Stores.{same-sources, works-step, holds-beside}
 
 pub empty_list : {X : Type 0} (l : List X) → length l ≡ 0 → l ≡ []
 empty_list [] h = refl
@@ -30,147 +29,117 @@ none_taken : {R : Type 0} (cmp : R → R → Ordering) (limit : Option R) → Al
 none_taken cmp None = tt
 none_taken cmp (Some l) = tt
 
--- the three parts hold the same where each holds the same
-parts_same : {R : Type 0} (h h' e e' r r' : List R) → IsSameBag h h' → IsSameBag (e ++ r) (e' ++ r') → IsSameBag (h ++ e ++ r) (h' ++ e' ++ r')
-parts_same h h' e e' r r' a b p =
-    omega (
-      arith,
-      a p,
-      b p,
-      count_by-append p (h ++ e) r,
-      count_by-append p h e,
-      count_by-append p e r,
-      count_by-append p (h' ++ e') r',
-      count_by-append p h' e',
-      count_by-append p e' r',
-    )
-
 module _ {S R : Type 0} (shown : S → Shown) (cmp : R → R → Ordering) (record_of : List ℕ → R) (width : ℕ) (limit : Option R) (most : ℕ) where
   -- where a merge ended: the list is full, or the extract buffer is empty and there are runs, or nothing that is wanted is left
-  pub data Stands (h e : List R) (a : PassBody S R) (s : Stock) (out : List R) : Type 0 where
-    Full : length out ≡ most → Stands h e a s out
-    Dry : e ≡ [] → 0 < count_of a → Stands h e a s out
-    Done :
-        (limit ≡ None → length h + length e + count_of a ≡ 0)
-        → (AllTell (slots_of shown a s) → Ascends cmp e → NoneAfter cmp e (runs_bag shown record_of width a) → NoneBelow cmp limit (h ++ e ++ runs_bag shown record_of width a))
-        → Stands h e a s out
+  pub data Stands (h : List R) (x : Store S R) (out : List R) : Type 0 where
+    Full : length out ≡ most → Stands h x out
+    Dry : x.extract.items ≡ [] → 0 < count_of x.body → Stands h x out
+    Done : (limit ≡ None → length h + stored x ≡ 0) → (AllTell (slots_in shown x) → NoneBelow cmp limit (whole_bag shown cmp record_of width h x)) → Stands h x out
 
-module _ {S R : Type 0} (shown : S → Shown) {cmp : R → R → Ordering} (o : IsTotalOrder cmp) (record_of : List ℕ → R) (width : ℕ) (n : Numbers) (limit : Option R) (most : ℕ) where
-  -- a body without records shows none
-  no_runs : (a : PassBody S R) (s : Stock) → AtRest shown cmp record_of width n a s → AllTell (slots_of shown a s) → count_of a ≡ 0 → runs_bag shown record_of width a ≡ []
-  no_runs a s rest tell none = empty_list (runs_bag shown record_of width a) (bag_length shown cmp record_of width n a s rest tell ∙ none)
+module _ {S R : Type 0} (shown : S → Shown) {cmp : R → R → Ordering} (o : IsTotalOrder cmp) (record_of : List ℕ → R) (width : ℕ) (limit : Option R) (most : ℕ) where
+  -- runs without records show none
+  no_runs : (x : Store S R) → MayWork shown cmp record_of width x → AllTell (slots_in shown x) → count_of x.body ≡ 0 → runs_bag shown record_of width x.body ≡ []
+  no_runs x works tell none = empty_list (runs_bag shown record_of width x.body) (bag_length shown cmp record_of width x.sizes x.body x.supply works.runs.rest tell ∙ none)
 
   -- nothing was taken
-  pub took-none :
-      (h e : List R) (a : PassBody S R) (s : Stock)
-      → AtRest shown cmp record_of width n a s → (AllTell (slots_of shown a s) → Ascends cmp e) → (AllTell (slots_of shown a s) → NoneAfter cmp e (runs_bag shown record_of width a))
-      → TookOut shown cmp record_of width n limit most h h e e a a s s []
-  took-none h e a s rest up order =
+  pub took-none : (h : List R) (x : Store S R) → MayWork shown cmp record_of width x → TookOut shown cmp record_of width limit most h h x x []
+  took-none h x works =
       record {
-        rest = rest;
+        works = works;
         few = omega arith;
         count = omega arith;
-        stored = omega arith;
-        ascends = up;
-        order = order;
-        taken = λ tell. taken_none cmp (ranks o) (h ++ e ++ runs_bag shown record_of width a);
+        fewer = omega arith;
+        taken = λ tell. taken_none cmp (ranks o) (whole_bag shown cmp record_of width h x);
         under = λ tell. none_taken cmp limit;
       }
 
   -- then a merge took some
   pub took-merged :
-      (h h1 h2 e e1 e2 : List R) (a b : PassBody S R) (s t : Stock) (out out' : List R) (more : Bool)
-      → BodyKept shown a b s t → TookOut shown cmp record_of width n limit most h h1 e e1 a b s t out → (more ≡ false → count_of b ≡ 0) → Merged cmp more limit h1 h2 e1 e2 out out' → length out' ≤ most
-      → TookOut shown cmp record_of width n limit most h h2 e e2 a b s t out'
-  took-merged h h1 h2 e e1 e2 a b s t out out' more kept took none m few =
-      let runs = runs_bag shown record_of width b in
+      (h h1 h2 : List R) (x y : Store S R) (v : Held R) (out out' : List R) (more : Bool)
+      → StoreKept shown x y → TookOut shown cmp record_of width limit most h h1 x y out → (more ≡ false → count_of y.body ≡ 0) → Merged cmp more limit h1 h2 y.extract.items v.items out out' → v.room ≡ y.extract.room → length out' ≤ most
+      → TookOut shown cmp record_of width limit most h h2 x (record y { extract = v }) out'
+  took-merged h h1 h2 x y v out out' more kept took none m room few =
+      let runs = runs_bag shown record_of width y.body in
+      let works = took.works in
       record {
-        rest = took.rest;
+        works = works-step shown cmp record_of width y y.body y.supply works (kept-refl shown y.body y.supply) works.runs.no_row v y.sources (same-sources shown y) works.runs.rest room (omega (arith, m.fewer, works.within, room)) (λ tell. m.ascends (works.ascends tell)) (λ tell. m.order runs (works.order tell));
         few = few;
         count = omega (arith, took.count, m.count);
-        stored = omega (arith, took.stored, m.fewer);
-        ascends = λ tell. m.ascends (took.ascends tell);
-        order = λ tell. m.order runs (took.order tell);
-        taken = λ tell. m.taken (h ++ e ++ runs_bag shown record_of width a) runs (λ f. no_runs b t took.rest (kept.tells.0 tell) (none f)) (took.ascends tell) (took.order tell) (took.taken tell);
+        fewer = omega (arith, took.fewer, m.fewer);
+        taken = λ tell. (let told = kept.body.tells.0 tell in m.taken (whole_bag shown cmp record_of width h x) runs (λ f. no_runs y works told (none f)) (works.ascends told) (works.order told) (took.taken tell));
         under = λ tell. m.under (took.under tell);
       }
 
-  -- then the extract buffer, which had nothing, was refilled
-  pub took-refilled :
-      (h h1 e e1 e2 : List R) (a b c : PassBody S R) (s t u : Stock) (out : List R)
-      → BodyKept shown a b s t → TookOut shown cmp record_of width n limit most h h1 e e1 a b s t out → Readied shown cmp record_of width n e1 e2 b c t u
-      → TookOut shown cmp record_of width n limit most h h1 e e2 a c s u out
-  took-refilled h h1 e e1 e2 a b c s t u out kept took r =
+  -- then the store took in what was in its runs
+  pub took-held : (h h1 : List R) (x y z : Store S R) (out : List R) → StoreKept shown x y → TookOut shown cmp record_of width limit most h h1 x y out → Holds shown cmp record_of width [] [] y z → TookOut shown cmp record_of width limit most h h1 x z out
+  took-held h h1 x y z out kept took holds =
       record {
-        rest = r.rest;
+        works = holds.works;
         few = took.few;
-        count = omega (arith, took.count, r.count);
-        stored = omega (arith, took.stored, r.count);
-        ascends = λ tell. r.ascends (kept.tells.0 tell);
-        order = λ tell. r.order (kept.tells.0 tell);
+        count = omega (arith, took.count, holds.count);
+        fewer = omega (arith, took.fewer, holds.count);
         taken = λ tell.
-            taken_same cmp (ranks o) (h ++ e ++ runs_bag shown record_of width a) out (h1 ++ e1 ++ runs_bag shown record_of width b) (h1 ++ e2 ++ runs_bag shown record_of width c) (took.taken tell)
-            (parts_same h1 h1 e1 e2 (runs_bag shown record_of width b) (runs_bag shown record_of width c) (λ p. refl) (λ p. sym (r.bag (kept.tells.0 tell) p)));
+            taken_same cmp (ranks o) (whole_bag shown cmp record_of width h x) out (whole_bag shown cmp record_of width h1 y) (whole_bag shown cmp record_of width h1 z) (took.taken tell)
+            (λ p. sym ((holds-beside shown cmp record_of width h1 y z holds).bag (kept.body.tells.0 tell) p));
         under = took.under;
       }
 
   -- before that, levels were settled
-  pub took-settled :
-      (h h' e e' : List R) (a b c : PassBody S R) (s t u : Stock) (out : List R)
-      → BodyKept shown a b s t → Moved shown cmp record_of width n [] a b s t → TookOut shown cmp record_of width n limit most h h' e e' b c t u out
-      → TookOut shown cmp record_of width n limit most h h' e e' a c s u out
-  took-settled h h' e e' a b c s t u out kept moved took =
+  took-settled : (h h' : List R) (x y z : Store S R) (out : List R) → StoreKept shown x y → Holds shown cmp record_of width [] [] x y → TookOut shown cmp record_of width limit most h h' y z out → TookOut shown cmp record_of width limit most h h' x z out
+  took-settled h h' x y z out kept holds took =
       record {
-        rest = took.rest;
+        works = took.works;
         few = took.few;
-        count = omega (arith, took.count, moved.count);
-        stored = omega (arith, took.stored, moved.count);
-        ascends = λ tell. took.ascends (kept.tells.0 tell);
-        order = λ tell. took.order (kept.tells.0 tell);
+        count = omega (arith, took.count, holds.count);
+        fewer = omega (arith, took.fewer, holds.count);
         taken = λ tell.
-            taken_of cmp (ranks o) (h ++ e ++ runs_bag shown record_of width b) (h ++ e ++ runs_bag shown record_of width a) out (h' ++ e' ++ runs_bag shown record_of width c) (took.taken (kept.tells.0 tell))
-            (parts_same h h e e (runs_bag shown record_of width a) (runs_bag shown record_of width b) (λ p. refl) (λ p. omega (arith, count_by-append p e (runs_bag shown record_of width a), count_by-append p e (runs_bag shown record_of width b), moved.bag tell p)));
-        under = λ tell. took.under (kept.tells.0 tell);
+            taken_of cmp (ranks o) (whole_bag shown cmp record_of width h y) (whole_bag shown cmp record_of width h x) out (whole_bag shown cmp record_of width h' z) (took.taken (kept.body.tells.0 tell))
+            (λ p. sym ((holds-beside shown cmp record_of width h x y holds).bag tell p));
+        under = λ tell. took.under (kept.body.tells.0 tell);
       }
 
+  pub all-settled : (h h' : List R) (x y z : Store S R) (out : List R) → StoreKept shown x y → Holds shown cmp record_of width [] [] x y → TookAll shown cmp record_of width limit most h h' y z out → TookAll shown cmp record_of width limit most h h' x z out
+  all-settled h h' x y z out kept holds all = record { took = took-settled h h' x y z out kept holds all.took; all = all.all; low = all.low; ready = all.ready }
+
   pub stands-ended :
-      (h e : List R) (a : PassBody S R) (s : Stock) (out : List R) (more : Bool)
-      → AtRest shown cmp record_of width n a s → (more ≡ true → 0 < count_of a) → (more ≡ false → count_of a ≡ 0) → HasEnded cmp most more limit h e out → Stands shown cmp record_of width limit most h e a s out
-  stands-ended h e a s out more rest some none (inl full) = Full full
-  stands-ended h e a s out more rest some none (inr (inl dry)) = Dry dry.0 (some dry.1)
-  stands-ended h e a s out more rest some none (inr (inr done)) =
+      (h : List R) (x : Store S R) (out : List R) (more : Bool)
+      → MayWork shown cmp record_of width x → (more ≡ true → 0 < count_of x.body) → (more ≡ false → count_of x.body ≡ 0) → HasEnded cmp most more limit h x.extract.items out → Stands shown cmp record_of width limit most h x out
+  stands-ended h x out more works some none (inl full) = Full full
+  stands-ended h x out more works some none (inr (inl dry)) = Dry dry.0 (some dry.1)
+  stands-ended h x out more works some none (inr (inr done)) =
+      let e = x.extract.items in
       Done
       (λ unset. (
       let all : h ++ e ≡ [] = done.all unset in
       let long : length h + length e ≡ 0 = sym (length-append h e) ∙ ap length all in
       let gone : e ≡ [] = empty_list e (omega (arith, long)) in
       omega (arith, long, none (done.whole gone))))
-      (λ tell up order. exhausted-runs o more limit h e (runs_bag shown record_of width a) done (λ f. no_runs a s rest tell (none f)) up order)
+      (λ tell. exhausted-runs o more limit h e (runs_bag shown record_of width x.body) done (λ f. no_runs x works tell (none f)) (works.ascends tell) (works.order tell))
 
   -- all that was wanted was taken, where no refill is wanted
   pub took-all :
-      (h e : List R) (a : PassBody S R) (s : Stock) (out : List R)
-      → Stands shown cmp record_of width limit most h e a s out → length out ≤ most → (e ≡ [] → (count_of a ≡ 0) ⊎ ((limit ≡ None) × (most ≤ length out)))
-      → TookAll shown cmp record_of width limit most h e a s out
-  took-all h e a s out stands few ready = record { all = all stands; low = low stands; ready = λ l is gone. look l is (ready gone) }
+      (before h : List R) (w x : Store S R) (out : List R)
+      → Stands shown cmp record_of width limit most h x out → TookOut shown cmp record_of width limit most before h w x out → (x.extract.items ≡ [] → (count_of x.body ≡ 0) ⊎ ((limit ≡ None) × (most ≤ length out)))
+      → TookAll shown cmp record_of width limit most before h w x out
+  took-all before h w x out stands took ready = record { took = took; all = all stands; low = low stands; ready = λ l is gone. look l is (ready gone) }
     where
       full : most ≤ length out → length out ≡ most
-      full h = omega (arith, few, h)
+      full more = omega (arith, took.few, more)
 
-      dry : {P : Type 0} → 0 < count_of a → (count_of a ≡ 0) ⊎ ((limit ≡ None) × (most ≤ length out)) → (length out ≡ most) ⊎ P
+      dry : {P : Type 0} → 0 < count_of x.body → (count_of x.body ≡ 0) ⊎ ((limit ≡ None) × (most ≤ length out)) → (length out ≡ most) ⊎ P
       dry some (inl none) = absurd (omega (arith, some, none))
-      dry some (inr x) = inl (full x.1)
+      dry some (inr all) = inl (full all.1)
 
-      all : Stands shown cmp record_of width limit most h e a s out → limit ≡ None → (length out ≡ most) ⊎ (length h + length e + count_of a ≡ 0)
+      all : Stands shown cmp record_of width limit most h x out → limit ≡ None → (length out ≡ most) ⊎ (length h + stored x ≡ 0)
       all (Full is) unset = inl is
       all (Dry gone some) unset = dry some (ready gone)
       all (Done none f) unset = inr (none unset)
 
-      low : Stands shown cmp record_of width limit most h e a s out → AllTell (slots_of shown a s) → Ascends cmp e → NoneAfter cmp e (runs_bag shown record_of width a) → (length out ≡ most) ⊎ NoneBelow cmp limit (h ++ e ++ runs_bag shown record_of width a)
-      low (Full is) tell up order = inl is
-      low (Dry gone some) tell up order = dry some (ready gone)
-      low (Done none f) tell up order = inr (f tell up order)
+      low : Stands shown cmp record_of width limit most h x out → AllTell (slots_in shown x) → (length out ≡ most) ⊎ NoneBelow cmp limit (whole_bag shown cmp record_of width h x)
+      low (Full is) tell = inl is
+      low (Dry gone some) tell = dry some (ready gone)
+      low (Done none f) tell = inr (f tell)
 
-      look : (l : R) → limit ≡ Some l → (count_of a ≡ 0) ⊎ ((limit ≡ None) × (most ≤ length out)) → count_of a ≡ 0
+      look : (l : R) → limit ≡ Some l → (count_of x.body ≡ 0) ⊎ ((limit ≡ None) × (most ≤ length out)) → count_of x.body ≡ 0
       look l is (inl none) = none
-      look l is (inr x) = absurd (let odd : ◌≡◌ {A = Option R} None (Some l) = sym x.0 ∙ is in cc)
+      look l is (inr all) = absurd (let odd : ◌≡◌ {A = Option R} None (Some l) = sym all.0 ∙ is in cc)

@@ -1,14 +1,14 @@
 -- Taking many records out of a queue at once.
-use Rattle.std.specs.Prelude.{◌≡◌, ◌⊎◌, ℕ, ◌+◌, ◌<◌, ◌≤◌, Bool, true, false, cond, List, [], ◌++◌, length, Option, Some, None}
+use Rattle.std.specs.Prelude.{◌≡◌, ◌⊎◌, ℕ, ◌+◌, ◌<◌, ◌≤◌, Bool, true, false, cond, List, [], ◌++◌, length, min, Option, Some, None}
 use Rattle.std.specs.declared.cmp.Ordering.{Ordering}
 use Rattle.ppq_heap.specs.ppq_record.Order.{is_before, Ascends}
-use Rattle.ppq_heap.specs.ppq_record.Bag.{size_below}
+use Rattle.ppq_heap.specs.ppq_record.Bag.{IsSameBag, front, without_front, size_below}
 use Rattle.ppq_extract.specs.ppq_outside.Shown.{Shown, AllTell}
-use Rattle.ppq_extract.specs.ppq_budget.Sizes.{Numbers}
-use Rattle.ppq_extract.specs.ppq_array.Supply.{Stock}
-use Rattle.ppq_extract.specs.ppq_fetch.Taking.{NoneAfter, IsTaken, AllBelow, NoneBelow}
-use Rattle.ppq_spill.specs.declared.body.PassBody.{PassBody}
-use Rattle.ppq_queue.specs.Resting.{AtRest, runs_bag, count_of, slots_of}
+use Rattle.ppq_extract.specs.ppq_fetch.Taking.{wanted, NoneAfter, IsTaken, AllBelow, NoneBelow}
+use Rattle.ppq_queue.specs.Holding.{Holding}
+use Rattle.ppq_queue.specs.Resting.{count_of}
+use Rattle.ppq_queue.specs.Stores.{MayWork, stored, slots_in, whole_bag}
+use Rattle.ppq_queue.specs.declared.store.Store.{Store}
 use Rattle.ppq_queue.specs.declared.limit_end.LimitEnd.{LimitEnd}
 use Rattle.ppq_queue.specs.declared.limit_end.LimitEnd.TheVariants.{All, More, Round}
 
@@ -46,22 +46,31 @@ module _ {R : Type 0} (cmp : R → R → Ordering) where
   abbrev pub HasEnded : (most : ℕ) (more : Bool) (limit : Option R) (heap extract out : List R) → Type 0
   HasEnded most more limit heap extract out = (length out ≡ most) ⊎ ((extract ≡ []) × (more ≡ true)) ⊎ Exhausted more limit heap extract
 
-module _ {S R : Type 0} (shown : S → Shown) (cmp : R → R → Ordering) (record_of : List ℕ → R) (width : ℕ) where
-  -- Out of heaps, an extract buffer and runs, the least records were taken, at most so many, all below the limit, if there is one. The runs
-  -- rest, and the extract buffer has the least records of what it and they have left
-  pub record TookOut (sizes : Numbers) (limit : Option R) (most : ℕ) (heap heap' extract extract' : List R) (old new : PassBody S R) (before now : Stock) (out : List R) : Type 0 where
-    pub rest : AtRest shown cmp record_of width sizes new now
+  -- The least records of a queue were taken, at most so many, all below the limit, if there is one. With a limit the extract buffer is ready for
+  -- a look at the least record that is left
+  pub record TookFront (limit : Option R) (most : ℕ) (old new : Holding R) (out : List R) : Type 0 where
+    pub taken : AllTell old.slots → out ≡ front cmp old.bag (wanted cmp most limit old.bag)
+    pub rest : AllTell old.slots → IsSameBag new.bag (without_front cmp old.bag (wanted cmp most limit old.bag))
+    pub left : AllTell old.slots → (length out ≡ most) ⊎ NoneBelow cmp limit new.bag
+    pub ready : (l : R) → limit ≡ Some l → new.in_extract ≡ 0 → new.size ≡ new.in_heap
     pub few : length out ≤ most
-    pub count : length out + length heap' + length extract' + count_of new ≡ length heap + length extract + count_of old
-    pub stored : length extract' + count_of new ≤ length extract + count_of old
-    pub ascends : AllTell (slots_of shown old before) → Ascends cmp extract'
-    pub order : AllTell (slots_of shown old before) → NoneAfter cmp extract' (runs_bag shown record_of width new)
-    pub taken : AllTell (slots_of shown old before) → IsTaken cmp (heap ++ extract ++ runs_bag shown record_of width old) out (heap' ++ extract' ++ runs_bag shown record_of width new)
-    pub under : AllTell (slots_of shown old before) → AllBelow cmp limit out
+    pub count : limit ≡ None → length out ≡ min most old.size
+    pub sound : new.failed ≡ None
+
+module _ {S R : Type 0} (shown : S → Shown) (cmp : R → R → Ordering) (record_of : List ℕ → R) (width : ℕ) where
+  -- Out of heaps and a store the least records were taken, at most so many, all below the limit, if there is one. The store may work on
+  pub record TookOut (limit : Option R) (most : ℕ) (heap heap' : List R) (old new : Store S R) (out : List R) : Type 0 where
+    pub works : MayWork shown cmp record_of width new
+    pub few : length out ≤ most
+    pub count : length out + length heap' + stored new ≡ length heap + stored old
+    pub fewer : stored new ≤ stored old
+    pub taken : AllTell (slots_in shown old) → IsTaken cmp (whole_bag shown cmp record_of width heap old) out (whole_bag shown cmp record_of width heap' new)
+    pub under : AllTell (slots_in shown old) → AllBelow cmp limit out
 
   -- All that was wanted was taken: as many as could be, or nothing that is wanted is left. With a limit the extract buffer is ready for a look
   -- at the least record that is left
-  pub record TookAll (limit : Option R) (most : ℕ) (heap' extract' : List R) (new : PassBody S R) (now : Stock) (out : List R) : Type 0 where
-    pub all : limit ≡ None → (length out ≡ most) ⊎ (length heap' + length extract' + count_of new ≡ 0)
-    pub low : AllTell (slots_of shown new now) → Ascends cmp extract' → NoneAfter cmp extract' (runs_bag shown record_of width new) → (length out ≡ most) ⊎ NoneBelow cmp limit (heap' ++ extract' ++ runs_bag shown record_of width new)
-    pub ready : (l : R) → limit ≡ Some l → extract' ≡ [] → count_of new ≡ 0
+  pub record TookAll (limit : Option R) (most : ℕ) (heap heap' : List R) (old new : Store S R) (out : List R) : Type 0 where
+    pub took : TookOut limit most heap heap' old new out
+    pub all : limit ≡ None → (length out ≡ most) ⊎ (length heap' + stored new ≡ 0)
+    pub low : AllTell (slots_in shown new) → (length out ≡ most) ⊎ NoneBelow cmp limit (whole_bag shown cmp record_of width heap' new)
+    pub ready : (l : R) → limit ≡ Some l → new.extract.items ≡ [] → count_of new.body ≡ 0

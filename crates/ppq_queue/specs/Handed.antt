@@ -1,12 +1,13 @@
 -- A queue that is handed over in its parts.
-use Rattle.std.specs.Prelude.{◌≡◌, ℕ, ◌+◌, ◌≤◌, List, [], ◌++◌, length, None, vec_capacity}
+use Rattle.std.specs.Prelude.{◌≡◌, ℕ, ◌+◌, ◌≤◌, Bool, List, [], ◌++◌, length, Option, None, vec_capacity}
 use Rattle.std.specs.declared.cmp.Ordering.{Ordering}
 use Rattle.ppq_extract.specs.ppq_outside.Shown.{Shown}
 use Rattle.ppq_extract.specs.ppq_budget.Sizes.{pool_of}
-use Rattle.ppq_heap.specs.Heaps.{items_of, share_at}
+use Rattle.ppq_heap.specs.Heaps.{Shares, items_of, share_at}
 use Rattle.ppq_queue.specs.Holding.{Holding}
 use Rattle.ppq_queue.specs.Resting.{slots_of, runs_bag, lane_buffers}
 use Rattle.ppq_queue.specs.State.{IsQueue, IsSound}
+use Rattle.ppq_queue.specs.declared.store.Store.{Store}
 use Rattle.ppq_queue.specs.declared.queue_parts.QueueParts.{QueueParts}
 
 module _ {S R : Type 0} (shown : S → Shown) where
@@ -27,6 +28,25 @@ module _ {S R : Type 0} (shown : S → Shown) where
         runs = length q.body.runs.external.items;
         buffers = lane_buffers q.sizes + pool_of q.sizes;
         limited = q.limited;
+      }
+
+  -- what a queue of this store and these heaps shows
+  abbrev pub viewed : (List ℕ → R) → ℕ → Store S R → Shares R → (count peak : ℕ) → (failed : Option ℕ) → (limited : Bool) → Holding R
+  viewed record_of width store heaps count peak failed limited =
+      record {
+        bag = items_of heaps ++ store.extract.items ++ runs_bag shown record_of width store.body;
+        size = count;
+        sizes = store.sizes;
+        peak = peak;
+        slots = slots_of shown store.body store.supply;
+        free = length store.supply.kept;
+        failed = failed;
+        in_heap = length (items_of heaps);
+        in_first = length (share_at heaps 0);
+        in_extract = length store.extract.items;
+        runs = length store.body.runs.external.items;
+        buffers = lane_buffers store.sizes + pool_of store.sizes;
+        limited = limited;
       }
 
   -- the parts make a queue: what holds of it between its calls holds of them

@@ -1,13 +1,13 @@
 -- What a queue holds.
-use Rattle.std.specs.Prelude.{◌≡◌, ◌<◌, ◌+◌, ◌-◌, ◌*◌, ℕ, Bool, false, List, length, max, Option, Some, None, ⊤, All}
+use Rattle.std.specs.Prelude.{◌≡◌, ◌<◌, ◌≤◌, ◌+◌, ◌-◌, ◌*◌, ℕ, Bool, false, List, length, max, Option, Some, None, Result, Ok, Err, ⊤, All}
 use Rattle.ppq_heap.specs.ppq_record.Bag.{IsSameBag}
 use Rattle.ppq_extract.specs.ppq_budget.Sizes.{Numbers, fixed_of, batch_of, heap_of, blocks_for, room_of}
 use Rattle.ppq_extract.specs.ppq_outside.Shown.{Shown, AllTell}
-use Rattle.ppq_extract.specs.ppq_array.Kept.{HasFailed}
+use Rattle.ppq_extract.specs.ppq_array.Kept.{SameSlots, HasFailed, all_writes}
+use Rattle.ppq_extract.specs.ppq_array.declared.store_fault.StoreFault.{StoreFault}
+use Rattle.ppq_extract.specs.ppq_array.declared.store_fault.StoreFault.TheVariants.{NoFreeBlock, Device}
 use Rattle.ppq_queue.specs.declared.fault.OpenFault.{OpenFault}
 use Rattle.ppq_queue.specs.declared.fault.OpenFault.TheVariants.{TooSmall, Memory}
-use Rattle.ppq_queue.specs.declared.fault.QueueFault.{QueueFault}
-use Rattle.ppq_queue.specs.declared.fault.QueueFault.TheVariants.{NoFreeBlock, Device}
 
 -- The bag of its records, as far as its slots tell; how many records it counts; its sizes; the greatest size that it had or was to get
 -- by a push; all its slots, in some order, and how many of them are free; the number of the slot a call of which failed first, if any;
@@ -58,7 +58,29 @@ abbrev pub NamesNeed : Numbers → OpenFault → Type 0
 NamesNeed sizes (TooSmall need) = (sizes.memory < fixed_of sizes) × (need ≡ fixed_of sizes)
 NamesNeed sizes Memory = ⊤
 
+-- the number of the block that failed, after an answer
+abbrev pub latched : {T : Type 0} → Result T StoreFault → Option ℕ → Option ℕ
+latched (Ok value) failed = failed
+latched (Err NoFreeBlock) failed = failed
+latched (Err (Device number)) failed = Some number
+
 module _ {R : Type 0} where
+  -- the same records, and no call failed
+  pub record SameRecords (old new : Holding R) : Type 0 where
+    pub bag : AllTell old.slots → IsSameBag new.bag old.bag
+    pub size : new.size ≡ old.size
+    pub sound : new.failed ≡ None
+
+  -- whatever is answered: the slots stay, those that tell go on telling, and no write is forgotten; so stay peak, sizes, and whether a limit
+  -- session was begun
+  pub record Keeps (old new : Holding R) : Type 0 where
+    pub slots : SameSlots old.slots new.slots
+    pub tells : AllTell old.slots → AllTell new.slots
+    pub writes : all_writes old.slots ≤ all_writes new.slots
+    pub peak : new.peak ≡ old.peak
+    pub sizes : new.sizes ≡ old.sizes
+    pub limited : new.limited ≡ old.limited
+
   -- No block was free: the bag is as it was, where slots tell. Fewer slots are free than a merge or a store may want; the device has fewer
   -- blocks than are enough for the peak; and the peak is above what one heap holds, unless a limit session was begun
   pub record FoundNoBlock (old new : Holding R) : Type 0 where
@@ -75,6 +97,6 @@ module _ {R : Type 0} where
     pub kept : new.failed ≡ Some number
 
   -- what stands after a refusal
-  abbrev pub IsRefusal : Holding R → Holding R → QueueFault → Type 0
+  abbrev pub IsRefusal : Holding R → Holding R → StoreFault → Type 0
   IsRefusal old new NoFreeBlock = FoundNoBlock old new
   IsRefusal old new (Device number) = HasStopped number new

@@ -19,3 +19,4 @@ pub mod Out
 pub mod Resting
 pub mod Slots
 pub mod State
+pub mod Stores

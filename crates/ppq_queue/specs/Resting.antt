@@ -10,7 +10,7 @@ use Rattle.ppq_extract.specs.ppq_array.Run.{Run, items_of, buffers_of}
 use Rattle.ppq_extract.specs.ppq_array.External.{External, size_of, records_in, IsPacked}
 use Rattle.ppq_extract.specs.ppq_array.Supply.{Stock}
 use Rattle.ppq_extract.specs.ppq_array.Owner.{HasBlock}
-use Rattle.ppq_extract.specs.ppq_array.Kept.{SameSlots, HasFailed, all_writes}
+use Rattle.ppq_extract.specs.ppq_array.Kept.{SameSlots, all_writes}
 use Rattle.ppq_extract.specs.ppq_array.Holdings.{internal_items, internal_buffers, external_buffers, RunHasBlock, ArrayHasSize, CanTakeBack}
 use Rattle.ppq_extract.specs.ppq_fetch.Fetching.{IsFitting, fronts_in, count_in}
 use Rattle.ppq_extract.specs.ppq_fetch.Taking.{NoneAfter}
@@ -81,10 +81,6 @@ module _ {S R : Type 0} where
     abbrev pub runs_bag : (List ℕ → R) → ℕ → PassBody S R → List R
     runs_bag record_of width body = internal_items body.runs.internal.items ++ flat_map (records_in record_of width shown) body.runs.external.items
 
-    -- an extract buffer has what it had, and so have the runs; or it has nothing
-    abbrev pub ExtractStays : (List ℕ → R) → ℕ → List R → List R → PassBody S R → PassBody S R → Stock → Type 0
-    ExtractStays record_of width extract extract' old new before = ((extract' ≡ extract) × (AllTell (slots_of old before) → IsSameBag (runs_bag record_of width new) (runs_bag record_of width old))) ⊎ (extract' ≡ [])
-
     module _ (cmp : R → R → Ordering) (record_of : List ℕ → R) (width : ℕ) where
       -- each run ascends
       pub record AllRise (body : PassBody S R) : Type 0 where
@@ -120,11 +116,6 @@ module _ {S R : Type 0} where
         pub bag : AllTell (slots_of old before) → IsSameBag (runs_bag record_of width new) (added ++ runs_bag record_of width old)
         pub count : count_of new ≡ length added + count_of old
 
-      -- the same, and there is room for one run in blocks more: no level has more than 8
-      pub record Settled (sizes : Numbers) (added : List R) (old new : PassBody S R) (before now : Stock) : Type 0 where
-        pub moved : Moved sizes added old new before now
-        pub few : length new.runs.external.items ≤ 64
-
       -- a merge of a level found too few free slots: fewer than it has loaded blocks
       pub record LevelShort (sizes : Numbers) (old new : PassBody S R) (before now : Stock) : Type 0 where
         pub moved : Moved sizes [] old new before now
@@ -135,26 +126,6 @@ module _ {S R : Type 0} where
         pub moved : Moved sizes [] old new before now
         pub short : length now.kept * sizes.block < n + count_of old
 
-      -- Heaps, extract buffer and runs hold together what they held. The heaps have no more than before. The extract buffer has what it had, and so
-      -- have the runs; or it has nothing
-      pub record WholeMoved (sizes : Numbers) (heap heap' extract extract' : List R) (old new : PassBody S R) (before now : Stock) : Type 0 where
-        pub rest : AtRest sizes new now
-        pub bag : AllTell (slots_of old before) → IsSameBag (heap' ++ extract' ++ runs_bag record_of width new) (heap ++ extract ++ runs_bag record_of width old)
-        pub count : length heap' + length extract' + count_of new ≡ length heap + length extract + count_of old
-        pub fewer : length heap' ≤ length heap
-        pub same_extract : ExtractStays record_of width extract extract' old new before
-
-      -- the same, and a merge or a store found too few free slots, of what is held together
-      pub record WholeShort (sizes : Numbers) (heap heap' extract extract' : List R) (old new : PassBody S R) (before now : Stock) : Type 0 where
-        pub moved : WholeMoved sizes heap heap' extract extract' old new before now
-        pub short : IsShort sizes (length now.kept) (length heap + length extract + count_of old)
-
-      -- the extract buffer was stored, and maybe records of the heaps
-      pub record Emptied (sizes : Numbers) (heap heap' extract extract' : List R) (old new : PassBody S R) (before now : Stock) : Type 0 where
-        pub moved : WholeMoved sizes heap heap' extract extract' old new before now
-        pub no_extract : extract' ≡ []
-        pub few : length new.runs.external.items ≤ 64
-
       -- The extract buffer has the least records of what it and the runs held, in order, and is empty only if no run is left
       pub record Readied (sizes : Numbers) (extract extract' : List R) (old new : PassBody S R) (before now : Stock) : Type 0 where
         pub rest : AtRest sizes new now
@@ -163,7 +134,3 @@ module _ {S R : Type 0} where
         pub ascends : AllTell (slots_of old before) → Ascends cmp extract'
         pub order : AllTell (slots_of old before) → NoneAfter cmp extract' (runs_bag record_of width new)
         pub some : extract' ≡ [] → count_of new ≡ 0
-
-    -- a call of the slot with this number failed
-    abbrev pub BodyFailed : ℕ → PassBody S R → Stock → Type 0
-    BodyFailed number body stock = HasFailed number (slots_of body stock)

@@ -51,19 +51,20 @@ module _ {S R : Type 0} (shown : S → Shown) where
 
 -- the parts of a new queue
 pub record AreNewParts {S R : Type 0} (sizes : Numbers) (parts : Parts S R) : Type 0 where
+  pub same_sizes : parts.store.sizes ≡ sizes
   pub no_record : items_of parts.heaps ≡ []
   pub cap : parts.heaps.cap ≡ heap_of sizes
   pub shares : length parts.heaps.heaps ≡ sizes.workers
-  pub no_internal : parts.body.runs.internal.items ≡ []
-  pub no_external : parts.body.runs.external.items ≡ []
-  pub internal_room : pool_of sizes < vec_capacity parts.body.runs.internal
-  pub external_room : sizes.blocks + 66 ≤ vec_capacity parts.body.runs.external
-  pub idle : length parts.body.lanes.idle ≡ lane_buffers sizes
-  pub blocks : All (λ b. b ≡ holding sizes.block []) parts.body.lanes.idle
-  pub no_job : parts.body.lanes.jobs.items ≡ []
-  pub batch : length parts.body.lanes.batch.items ≡ batch_of sizes
-  pub leaves : length parts.body.tree.items ≡ pool_of sizes + 1
-  pub extract : parts.extract ≡ held [] (batch_of sizes)
-  pub workers : parts.sources.bench.workers ≡ sizes.workers
-  pub serves : ServesFor (pool_of sizes + 65) parts.sources
-  pub supply : parts.supply ≡ record (new_owner sizes.block sizes.blocks (pool_of sizes)) { sure_buffers = pool_of sizes; buffer_room = 0 }
+  pub no_internal : parts.store.body.runs.internal.items ≡ []
+  pub no_external : parts.store.body.runs.external.items ≡ []
+  pub internal_room : pool_of sizes < vec_capacity parts.store.body.runs.internal
+  pub external_room : sizes.blocks + 66 ≤ vec_capacity parts.store.body.runs.external
+  pub idle : length parts.store.body.lanes.idle ≡ lane_buffers sizes
+  pub blocks : All (λ b. b ≡ holding sizes.block []) parts.store.body.lanes.idle
+  pub no_job : parts.store.body.lanes.jobs.items ≡ []
+  pub batch : length parts.store.body.lanes.batch.items ≡ batch_of sizes
+  pub leaves : length parts.store.body.tree.items ≡ pool_of sizes + 1
+  pub extract : parts.store.extract ≡ held [] (batch_of sizes)
+  pub workers : parts.store.sources.bench.workers ≡ sizes.workers
+  pub serves : ServesFor (pool_of sizes + 65) parts.store.sources
+  pub supply : parts.store.supply ≡ record (new_owner sizes.block sizes.blocks (pool_of sizes)) { sure_buffers = pool_of sizes; buffer_room = 0 }

@@ -1,163 +1,106 @@
 //! Many records that are taken out at once: the least of the heaps and of an extract buffer go into a list,
 //! and the extract buffer is refilled on the way.
-ghost use Rattle.std.specs.Prelude.{◌≡◌, ◌≤◌, ◌<◌, ◌+◌, ◌⊎◌, ℕ, true, false, [], length, Some, None, OnOk, IsErrOf};
-ghost use Rattle.ppq_heap.specs.ppq_record.Order.{Ascends};
-ghost use Rattle.ppq_extract.specs.ppq_outside.Shown.{AllTell};
-ghost use Rattle.ppq_extract.specs.ppq_budget.Sizes.{fixed_of, pool_of};
+ghost use Rattle.std.specs.Prelude.{◌≡◌, ◌≤◌, ◌<◌, ◌+◌, ◌⊎◌, true, false, [], length, Some, None, OnOk, OnErr, IfErr, IsErrOf};
 ghost use Rattle.ppq_heap.specs.Heaps.{items_of};
-ghost use Rattle.ppq_extract.specs.ppq_fetch.Taking.{NoneAfter};
-ghost use Rattle.ppq_extract.specs.Extracted.{ServesFor, SourcesRest};
-ghost use Rattle.ppq_queue.specs.Resting.{AtRest, BodyKept, LevelShort, BodyFailed, slots_of, runs_bag, count_of};
-ghost use Rattle.ppq_queue.specs.Bulk.{Merged, Exhausted, HasEnded, TookOut, TookAll};
+ghost use Rattle.ppq_queue.specs.Resting.{count_of};
+ghost use Rattle.ppq_queue.specs.Stores.{MayWork, StoreKept, HeapsStay, Refuses, FailsAlone};
+ghost use Rattle.ppq_queue.specs.Bulk.{Merged, Exhausted, HasEnded, TookAll};
 ghost use Rattle.ppq_queue.specs.Bulk as spec;
 
-use crate::Out;
 use crate::choice::goes_first;
-use crate::refill::{has_run, refill};
-use crate::settle::settle_some;
-use ppq_extract::{Extract, Gate, Host, OwnerLists, Sizes, Slot, Sources, StoreFault};
+use crate::store::Store;
+use crate::{Out, QueueFault};
+use ppq_extract::{Extract, Gate, Host, Slot, StoreFault};
 use ppq_heap::{Heaps, Record, record_laws};
-use ppq_spill::PassBody;
 
-// Takes the least records out of heaps, an extract buffer and runs into an empty list: at most so many,
-// and with a limit only those below it. Levels of runs are merged first; only that finds too few free
-// blocks, with nothing taken. A record of a heap costs a sift there, so the heaps are not sorted. With a
-// limit the extract buffer is ready afterwards for a look at what is left.
-pub fn take_out<H: Host, S: Slot + Send + Sync, R: Record + Send + Sync, G: Gate>(
-    rt: &H,
-    sizes: Sizes,
-    heaps: &mut Heaps<R>,
-    extract: &mut Extract<R>,
-    body: &mut PassBody<S, R>,
-    supply: &mut OwnerLists<S, R>,
-    sources: &mut Sources<R>,
-    limit: Option<R>,
-    most: u32,
-    out: &mut Out<R>,
-    gate: &G,
-) -> Result<(), StoreFault>
-where
-    H::Dir: Send,
-    requires none { out.old.items ≡ [] }
-    requires most { most ≤ out.old.room }
-    requires within { length extract.old.items ≤ extract.old.room }
-    requires room { 0 < extract.old.room }
-    requires ascends { AllTell (slots_of S.shown body.old supply.old) → Ascends R.Ord.cmp extract.old.items }
-    requires order { AllTell (slots_of S.shown body.old supply.old) → NoneAfter R.Ord.cmp extract.old.items (runs_bag S.shown R.record_of R.WIDTH body.old) }
-    requires rest { AtRest S.shown R.Ord.cmp R.record_of R.WIDTH sizes body.old supply.old }
-    requires budget { fixed_of sizes ≤ sizes.memory }
-    requires workers { sources.old.bench.workers ≡ sizes.workers }
-    requires serves { ServesFor (pool_of sizes + 65) sources.old }
-    requires no_row { supply.old.drawn ≡ [] }
-    ensures kept { BodyKept S.shown body.old body.new supply.old supply.new }
-    ensures took { OnOk result (TookOut S.shown R.Ord.cmp R.record_of R.WIDTH sizes limit most (items_of heaps.old) (items_of heaps.new) extract.old.items extract.new.items body.old body.new supply.old supply.new out.new.items) }
-    ensures all { OnOk result (TookAll S.shown R.Ord.cmp R.record_of R.WIDTH limit most (items_of heaps.new) extract.new.items body.new supply.new out.new.items) }
-    ensures none_free { IsErrOf result StoreFault.NoFreeBlock → LevelShort S.shown R.Ord.cmp R.record_of R.WIDTH sizes body.old body.new supply.old supply.new }
-    ensures some { IsErrOf result StoreFault.NoFreeBlock → 0 < count_of body.old }
-    ensures same_heap { IsErrOf result StoreFault.NoFreeBlock → heaps.new ≡ heaps.old }
-    ensures same_extract { IsErrOf result StoreFault.NoFreeBlock → extract.new.items ≡ extract.old.items }
-    ensures same_out { IsErrOf result StoreFault.NoFreeBlock → out.new ≡ out.old }
-    ensures device { (number : ℕ) → IsErrOf result (StoreFault.Device number) → BodyFailed S.shown number body.new supply.new }
-    ensures fewer { length (items_of heaps.new) ≤ length (items_of heaps.old) }
-    ensures heaps { length heaps.new.heaps ≡ length heaps.old.heaps }
-    ensures cap { heaps.new.cap ≡ heaps.old.cap }
-    ensures within { length extract.new.items ≤ extract.old.room }
-    ensures room { extract.new.room ≡ extract.old.room }
-    ensures list_room { out.new.room ≡ out.old.room }
-    ensures sources { SourcesRest sources.old sources.new }
-    ensures no_row { supply.new.drawn ≡ [] }
-{
-    record_laws::<R>();
-    if wants_nothing(extract, limit, most) {
-        return Ok(());
+impl<S: Slot + Send + Sync, R: Record + Send + Sync> Store<S, R> {
+    // Takes the least records out of heaps and the store into an empty list: at most so many, and with a
+    // limit only those below it. Levels of runs are merged first; only that finds too few free blocks, with
+    // nothing taken. A record of a heap costs a sift there, so the heaps are not sorted. With a limit the
+    // extract buffer is ready afterwards for a look at what is left.
+    pub fn take_out<H: Host, G: Gate>(
+        &mut self,
+        rt: &H,
+        heaps: &mut Heaps<R>,
+        limit: Option<R>,
+        most: u32,
+        out: &mut Out<R>,
+        gate: &G,
+    ) -> Result<(), QueueFault>
+    where
+        H::Dir: Send,
+        requires works { MayWork S.shown R.Ord.cmp R.record_of R.WIDTH self.old }
+        requires none { out.old.items ≡ [] }
+        requires most { most ≤ out.old.room }
+        ensures kept { StoreKept S.shown self.old self.new }
+        ensures heaps { HeapsStay heaps.old heaps.new }
+        ensures list_room { out.new.room ≡ out.old.room }
+        ensures took { OnOk result (TookAll S.shown R.Ord.cmp R.record_of R.WIDTH limit most (items_of heaps.old) (items_of heaps.new) self.old self.new out.new.items) }
+        ensures same_heaps { IsErrOf result StoreFault.NoFreeBlock → heaps.new ≡ heaps.old }
+        ensures refused { IfErr result (Refuses S.shown R.Ord.cmp R.record_of R.WIDTH [] [] self.old self.new) }
+    {
+        record_laws::<R>();
+        if self.wants_nothing(limit, most) {
+            return Ok(());
+        }
+        self.settle_some(rt, gate)?;
+        self.gather(rt, heaps, limit, most, out, gate)
     }
-    settle_some(rt, sizes, body, supply, &mut sources.bench, gate)?;
-    gather(
-        rt, sizes, heaps, extract, body, supply, sources, limit, most, out, gate,
-    )
-}
 
-// Whether no record is wanted, and no look at what is left that is not to be had already.
-fn wants_nothing<R: Record>(extract: &Extract<R>, limit: Option<R>, most: u32) -> bool
-    ensures none { result ≡ true → most ≡ 0 }
-    ensures ready { result ≡ true → (l : R) → limit ≡ Some l → extract.now.items ≡ [] → ⊥ }
-{
-    most == 0 && (limit.is_none() || !extract.is_empty())
-}
-
-// Takes the least records of heaps, an extract buffer and runs into an empty list.
-fn gather<H: Host, S: Slot + Send + Sync, R: Record + Send + Sync, G: Gate>(
-    rt: &H,
-    sizes: Sizes,
-    heaps: &mut Heaps<R>,
-    extract: &mut Extract<R>,
-    body: &mut PassBody<S, R>,
-    supply: &mut OwnerLists<S, R>,
-    sources: &mut Sources<R>,
-    limit: Option<R>,
-    most: u32,
-    out: &mut Out<R>,
-    gate: &G,
-) -> Result<(), StoreFault>
-where
-    H::Dir: Send,
-    requires none { out.old.items ≡ [] }
-    requires most { most ≤ out.old.room }
-    requires within { length extract.old.items ≤ extract.old.room }
-    requires room { 0 < extract.old.room }
-    requires ascends { AllTell (slots_of S.shown body.old supply.old) → Ascends R.Ord.cmp extract.old.items }
-    requires order { AllTell (slots_of S.shown body.old supply.old) → NoneAfter R.Ord.cmp extract.old.items (runs_bag S.shown R.record_of R.WIDTH body.old) }
-    requires rest { AtRest S.shown R.Ord.cmp R.record_of R.WIDTH sizes body.old supply.old }
-    requires few { length body.old.runs.external.items ≤ 64 }
-    requires budget { fixed_of sizes ≤ sizes.memory }
-    requires workers { sources.old.bench.workers ≡ sizes.workers }
-    requires serves { ServesFor (pool_of sizes + 65) sources.old }
-    requires no_row { supply.old.drawn ≡ [] }
-    ensures kept { BodyKept S.shown body.old body.new supply.old supply.new }
-    ensures took { OnOk result (TookOut S.shown R.Ord.cmp R.record_of R.WIDTH sizes limit most (items_of heaps.old) (items_of heaps.new) extract.old.items extract.new.items body.old body.new supply.old supply.new out.new.items) }
-    ensures all { OnOk result (TookAll S.shown R.Ord.cmp R.record_of R.WIDTH limit most (items_of heaps.new) extract.new.items body.new supply.new out.new.items) }
-    ensures device_alone { IsErrOf result StoreFault.NoFreeBlock → ⊥ }
-    ensures device { (number : ℕ) → IsErrOf result (StoreFault.Device number) → BodyFailed S.shown number body.new supply.new }
-    ensures fewer { length (items_of heaps.new) ≤ length (items_of heaps.old) }
-    ensures heaps { length heaps.new.heaps ≡ length heaps.old.heaps }
-    ensures cap { heaps.new.cap ≡ heaps.old.cap }
-    ensures within { length extract.new.items ≤ extract.old.room }
-    ensures room { extract.new.room ≡ extract.old.room }
-    ensures list_room { out.new.room ≡ out.old.room }
-    ensures sources { SourcesRest sources.old sources.new }
-    ensures no_row { supply.new.drawn ≡ [] }
-{
-    record_laws::<R>();
-    let first = has_run(sizes, body, supply);
-    merge(heaps, extract, first, limit, most, out);
-    'refilling: while wants_refill(sizes, extract, body, supply, limit, most, out) {
-        refill(rt, sizes, extract, body, supply, sources, gate)?;
-        let more = has_run(sizes, body, supply);
-        merge(heaps, extract, more, limit, most, out);
+    // Whether no record is wanted, and no look at what is left that is not to be had already.
+    fn wants_nothing(&self, limit: Option<R>, most: u32) -> bool
+        ensures none { result ≡ true → most ≡ 0 }
+        ensures ready { result ≡ true → (l : R) → limit ≡ Some l → self.now.extract.items ≡ [] → ⊥ }
+    {
+        most == 0 && (limit.is_none() || !self.extract.is_empty())
     }
-    Ok(())
-}
 
-// Whether the extract buffer is to be refilled: it is empty, there is a run, and the list is not full or a
-// look at what is left is wanted.
-fn wants_refill<S: Slot, R: Record>(
-    sizes: Sizes,
-    extract: &Extract<R>,
-    body: &PassBody<S, R>,
-    supply: &OwnerLists<S, R>,
-    limit: Option<R>,
-    most: u32,
-    out: &Out<R>,
-) -> bool
-    requires rest { AtRest S.shown R.Ord.cmp R.record_of R.WIDTH sizes body.now supply.now }
-    ensures empty { result ≡ true → extract.now.items ≡ [] }
-    ensures some { result ≡ true → 0 < count_of body.now }
-    ensures ready { result ≡ false → extract.now.items ≡ [] → (count_of body.now ≡ 0) ⊎ ((limit ≡ None) × (most ≤ length out.now.items)) }
-{
-    if !extract.is_empty() || !has_run(sizes, body, supply) {
-        return false;
+    // Takes the least records of heaps and the store into an empty list.
+    fn gather<H: Host, G: Gate>(
+        &mut self,
+        rt: &H,
+        heaps: &mut Heaps<R>,
+        limit: Option<R>,
+        most: u32,
+        out: &mut Out<R>,
+        gate: &G,
+    ) -> Result<(), QueueFault>
+    where
+        H::Dir: Send,
+        requires works { MayWork S.shown R.Ord.cmp R.record_of R.WIDTH self.old }
+        requires few { length self.old.body.runs.external.items ≤ 64 }
+        requires none { out.old.items ≡ [] }
+        requires most { most ≤ out.old.room }
+        ensures kept { StoreKept S.shown self.old self.new }
+        ensures heaps { HeapsStay heaps.old heaps.new }
+        ensures list_room { out.new.room ≡ out.old.room }
+        ensures took { OnOk result (TookAll S.shown R.Ord.cmp R.record_of R.WIDTH limit most (items_of heaps.old) (items_of heaps.new) self.old self.new out.new.items) }
+        ensures failed { IfErr result (FailsAlone S.shown self.new) }
+    {
+        record_laws::<R>();
+        let first = self.has_run();
+        merge(heaps, &mut self.extract, first, limit, most, out);
+        'refilling: while self.wants_refill(limit, most, out) {
+            self.refill(rt, gate)?;
+            let more = self.has_run();
+            merge(heaps, &mut self.extract, more, limit, most, out);
+        }
+        Ok(())
     }
-    limit.is_some() || out.len() < most
+
+    // Whether the extract buffer is to be refilled: it is empty, there is a run, and the list is not full or
+    // a look at what is left is wanted.
+    fn wants_refill(&self, limit: Option<R>, most: u32, out: &Out<R>) -> bool
+        requires { MayWork S.shown R.Ord.cmp R.record_of R.WIDTH self.now }
+        ensures empty { result ≡ true → self.now.extract.items ≡ [] }
+        ensures some { result ≡ true → 0 < count_of self.now.body }
+        ensures ready { result ≡ false → self.now.extract.items ≡ [] → (count_of self.now.body ≡ 0) ⊎ ((limit ≡ None) × (most ≤ length out.now.items)) }
+    {
+        if !self.extract.is_empty() || !self.has_run() {
+            return false;
+        }
+        limit.is_some() || out.len() < most
+    }
 }
 
 // Moves the least records of heaps and an extract buffer to the end of a list, until it has so many, or
@@ -175,9 +118,7 @@ fn merge<R: Record>(
     ensures merged { Merged R.Ord.cmp more limit (items_of heaps.old) (items_of heaps.new) extract.old.items extract.new.items out.old.items out.new.items }
     ensures few { length out.new.items ≤ most }
     ensures ended { HasEnded R.Ord.cmp most more limit (items_of heaps.new) extract.new.items out.new.items }
-    ensures fewer { length (items_of heaps.new) ≤ length (items_of heaps.old) }
-    ensures heaps { length heaps.new.heaps ≡ length heaps.old.heaps }
-    ensures cap { heaps.new.cap ≡ heaps.old.cap }
+    ensures heaps { HeapsStay heaps.old heaps.new }
     ensures room { extract.new.room ≡ extract.old.room }
     ensures list_room { out.new.room ≡ out.old.room }
 {
@@ -212,16 +153,12 @@ fn move_next<R: Record>(
 ) -> bool
     requires room { length out.old.items < out.old.room }
     requires whole { extract.old.items ≡ [] → more ≡ false }
-    ensures merged { result ≡ true → Merged R.Ord.cmp more limit (items_of heaps.old) (items_of heaps.new) extract.old.items extract.new.items out.old.items out.new.items }
+    ensures merged { Merged R.Ord.cmp more limit (items_of heaps.old) (items_of heaps.new) extract.old.items extract.new.items out.old.items out.new.items }
     ensures one { result ≡ true → length out.new.items ≡ length out.old.items + 1 }
-    ensures ended { result ≡ false → Exhausted R.Ord.cmp more limit (items_of heaps.old) extract.old.items }
-    ensures same_heaps { result ≡ false → heaps.new ≡ heaps.old }
-    ensures same_extract { result ≡ false → extract.new ≡ extract.old }
-    ensures same_out { result ≡ false → out.new ≡ out.old }
-    ensures fewer { length (items_of heaps.new) ≤ length (items_of heaps.old) }
-    ensures heaps { length heaps.new.heaps ≡ length heaps.old.heaps }
-    ensures cap { heaps.new.cap ≡ heaps.old.cap }
-    ensures extract_room { extract.new.room ≡ extract.old.room }
+    ensures none { result ≡ false → length out.new.items ≡ length out.old.items }
+    ensures ended { result ≡ false → Exhausted R.Ord.cmp more limit (items_of heaps.new) extract.new.items }
+    ensures heaps { HeapsStay heaps.old heaps.new }
+    ensures room { extract.new.room ≡ extract.old.room }
     ensures list_room { out.new.room ≡ out.old.room }
 {
     record_laws::<R>();
@@ -254,5 +191,16 @@ pub fn keep_below<R: Record>(one: Option<R>, limit: Option<R>) -> Option<R>
         (None, _) => None,
         (Some(one), None) => Some(one),
         (Some(one), Some(limit)) => { if one.is_less(&limit) { Some(one) } else { None } }
+    }
+}
+
+// Empties a list of what was taken before an error.
+pub fn empty_on_error<R: Record>(answer: Result<(), QueueFault>, out: &mut Out<R>)
+    ensures kept { OnOk answer (out.new ≡ out.old) }
+    ensures emptied { OnErr answer (out.new.items ≡ []) }
+    ensures room { out.new.room ≡ out.old.room }
+{
+    if answer.is_err() {
+        out.clear();
     }
 }

@@ -14,6 +14,8 @@ mod bulk;
 mod choice;
 mod fault;
 mod flush;
+mod heaps;
+mod latch;
 mod limit_end;
 mod out;
 mod parts;
@@ -21,16 +23,15 @@ mod queue;
 mod queue_parts;
 mod refill;
 mod settle;
-mod shares;
 mod store;
 
-pub use fault::{OpenFault, QueueFault};
+pub use fault::OpenFault;
 pub use limit_end::LimitEnd;
 pub use out::Out;
 pub use ppq_extract::{
     Bench, Berth, BerthList, BlockBuf, BufList, ExternalArray, Extract, Gate, Host, InternalArray,
     Lanes, Library, OpenGate, OutsideFault, OwnerLists, Rack, Runs, Sizes, Slot, Sources,
-    StoreFault, Supply, free_slot, give_buffer, merge_workers, size_of,
+    StoreFault, StoreFault as QueueFault, Supply, free_slot, give_buffer, merge_workers, size_of,
 };
 pub use ppq_heap::{Heaps, InsertionHeap, Listing, Lists, MinTree, Pair, Record, sort};
 pub use ppq_spill::{PassBody, store_sorted};

@@ -5,6 +5,7 @@ ghost use Rattle.ppq_extract.specs.ppq_budget.Sizes.{fixed_of, batch_of, pool_of
 ghost use Rattle.ppq_queue.specs.State.{AreNewParts};
 
 use crate::berths::make_buffers;
+use crate::store::Store;
 use ppq_extract::{Extract, Lanes, OwnerLists, Runs, Sizes, Slot, Sources};
 use ppq_heap::{Heaps, Memory, MinTree, Record};
 use ppq_spill::PassBody;
@@ -12,20 +13,14 @@ use std::alloc::Global;
 
 // All parts of a queue but its list of slots.
 #[derive(Drop)]
-pub struct Parts<S: Slot, R: Record> {
+pub struct Parts<S: Slot + Send + Sync, R: Record + Send + Sync> {
     // An empty heap for each worker.
     pub heaps: Heaps<R>,
-    // No runs, and the buffers of the lanes.
-    pub body: PassBody<S, R>,
-    // An empty buffer.
-    pub extract: Extract<R>,
-    // For as many runs as there can be.
-    pub sources: Sources<R>,
-    // The buffers of the pool, and no slots yet.
-    pub supply: OwnerLists<S, R>,
+    // No runs and no record, the buffers of lanes and pool, and no slots yet.
+    pub store: Store<S, R>,
 }
 
-impl<S: Slot, R: Record> Parts<S, R> {
+impl<S: Slot + Send + Sync, R: Record + Send + Sync> Parts<S, R> {
     // The parts of a new queue of these sizes, with so many buffers in its pool. `Err` only for want of
     // memory.
     pub fn new(alloc: Global, sizes: &Sizes, buffers: u32) -> Result<Self, Memory>
@@ -39,13 +34,14 @@ impl<S: Slot, R: Record> Parts<S, R> {
         let sources = Sources::new(alloc, sizes)?;
         let mut supply = OwnerLists::new(sizes.block(), sizes.blocks(), buffers);
         make_buffers(alloc, &mut supply, sizes.block(), buffers)?;
-        Ok(Parts {
-            heaps,
+        let store = Store {
+            sizes: *sizes,
             body,
+            supply,
             extract,
             sources,
-            supply,
-        })
+        };
+        Ok(Parts { heaps, store })
     }
 }
 

@@ -1,27 +1,23 @@
 //! The queue.
-ghost use Rattle.std.specs.Prelude.{◌≡◌, ◌≤◌, ◌<◌, ◌+◌, ◌-◌, ◌*◌, ◌↔◌, ◌⊎◌, ◌∷◌, [], ℕ, length, map, All, Some, None, IsNone, Err, IfOk, IfErr, OnOk, OnErr, max, min, true, false};
+ghost use Rattle.std.specs.Prelude.{◌≡◌, ◌≤◌, ◌<◌, ◌+◌, ◌-◌, ◌*◌, ◌↔◌, ◌∷◌, [], ℕ, length, map, All, Some, None, IsNone, Err, IfOk, IfErr, OnOk, OnErr, max, min, true, false};
 ghost use Rattle.ppq_heap.specs.ppq_record.Bag.{IsSameBag, least, front, without_front, size_below};
 ghost use Rattle.ppq_extract.specs.ppq_budget.Sizes.{AreInRange, fixed_of, heap_of, heaps_of, batch_of};
 ghost use Rattle.ppq_extract.specs.ppq_outside.Shown.{AllTell};
 ghost use Rattle.ppq_extract.specs.ppq_array.Kept.{SameSlots, HasFailed, all_writes};
-ghost use Rattle.ppq_extract.specs.ppq_fetch.Taking.{wanted, NoneBelow};
-ghost use Rattle.ppq_queue.specs.Bulk.{IsEnd};
+ghost use Rattle.ppq_extract.specs.ppq_array.declared.store_fault.StoreFault.TheVariants.{Device};
+ghost use Rattle.ppq_queue.specs.Bulk.{IsEnd, TookFront};
 ghost use Rattle.ppq_queue.specs.Handed.{holding_of, IsWhole};
-ghost use Rattle.ppq_queue.specs.Holding.{resident_of, NamesNeed, AreNewSlots, IsRefusal};
-ghost use Rattle.ppq_queue.specs.declared.fault.QueueFault.TheVariants.{Device};
+ghost use Rattle.ppq_queue.specs.Holding.{resident_of, NamesNeed, AreNewSlots, IsRefusal, Keeps, SameRecords};
 
 use crate::berths::{berth_slots, give_back};
-use crate::bulk::{keep_below, take_out};
+use crate::bulk::{empty_on_error, keep_below};
 use crate::choice::goes_first;
-use crate::flush::{flush_all, store_for_session};
+use crate::latch::latch;
 use crate::parts::Parts;
-use crate::refill::make_ready;
-use crate::settle::settle_some;
-use crate::shares::store_heaps;
+use crate::store::Store;
 use crate::{LimitEnd, OpenFault, Out, QueueFault, QueueParts};
-use ppq_extract::{Extract, Gate, Host, OwnerLists, Sizes, Slot, Sources, StoreFault, Supply};
+use ppq_extract::{Gate, Host, Sizes, Slot, Supply};
 use ppq_heap::{Heaps, Record, record_laws};
-use ppq_spill::PassBody;
 use std::alloc::Global;
 use std::marker::Model;
 
@@ -32,18 +28,10 @@ use std::marker::Model;
 /// greatest size that it had, was to get by a push, or counted in a session, and all its slots.
 #[derive(Drop)]
 pub struct Queue<S: Slot + Send + Sync, R: Record + Send + Sync> {
-    // The five numbers from which all sizes follow.
-    sizes: Sizes,
+    // The runs, the extract buffer, and what works on them.
+    store: Store<S, R>,
     // The latest records: a heap for each worker, of which pushes fill the first.
     heaps: Heaps<R>,
-    // The runs, and the buffers that blocks are written from and read into.
-    body: PassBody<S, R>,
-    // The free slots, and the buffers that no run uses.
-    supply: OwnerLists<S, R>,
-    // The least records of the runs, as they were when it was last refilled.
-    extract: Extract<R>,
-    // What refills and merges need.
-    sources: Sources<R>,
     // How many records there are.
     count: u64,
     // The greatest size so far, in records, with those that a limit session popped until its end.
@@ -57,18 +45,16 @@ pub struct Queue<S: Slot + Send + Sync, R: Record + Send + Sync> {
 }
 
 impl<S: Slot + Send + Sync, R: Record + Send + Sync> Model for Queue<S, R> {
-    ghost use Rattle.std.specs.Prelude.{◌≡◌, ◌+◌, ◌≤◌, ◌++◌, [], length, None, vec_capacity};
-    ghost use Rattle.ppq_extract.specs.ppq_budget.Sizes.{pool_of};
-    ghost use Rattle.ppq_heap.specs.Heaps.{items_of, share_at};
+    ghost use Rattle.std.specs.Prelude.{◌≡◌, ◌≤◌, [], None, vec_capacity};
+    ghost use Rattle.ppq_queue.specs.Handed.{viewed};
     ghost use Rattle.ppq_queue.specs.Holding.{Holding};
-    ghost use Rattle.ppq_queue.specs.Resting.{slots_of, runs_bag, lane_buffers};
     ghost use Rattle.ppq_queue.specs.State.{IsQueue, IsSound};
 
     ghost Value = { Holding R };
 
-    ghost view = { λ q. record { bag = items_of q.heaps ++ q.extract.items ++ runs_bag S.shown R.record_of R.WIDTH q.body; size = q.count; sizes = q.sizes; peak = q.peak; slots = slots_of S.shown q.body q.supply; free = length q.supply.kept; failed = q.failed; in_heap = length (items_of q.heaps); in_first = length (share_at q.heaps 0); in_extract = length q.extract.items; runs = length q.body.runs.external.items; buffers = lane_buffers q.sizes + pool_of q.sizes; limited = q.limited } };
+    ghost view = { λ q. viewed S.shown R.record_of R.WIDTH q.store q.heaps q.count q.peak q.failed q.limited };
 
-    ghost invariant = { λ q. IsQueue S.shown q.sizes q.heaps q.extract q.body q.supply q.count q.peak q.failed × (q.failed ≡ None → IsSound S.shown R.Ord.cmp R.record_of R.WIDTH q.sizes q.heaps q.extract q.body q.supply q.sources q.count q.peak q.limited) × (q.slots.items ≡ []) × (q.sizes.blocks ≤ vec_capacity q.slots) };
+    ghost invariant = { λ q. IsQueue S.shown q.store.sizes q.heaps q.store.extract q.store.body q.store.supply q.count q.peak q.failed × (q.failed ≡ None → IsSound S.shown R.Ord.cmp R.record_of R.WIDTH q.store.sizes q.heaps q.store.extract q.store.body q.store.supply q.store.sources q.count q.peak q.limited) × (q.slots.items ≡ []) × (q.store.sizes.blocks ≤ vec_capacity q.slots) };
 }
 
 impl<S: Slot + Send + Sync, R: Record + Send + Sync> Queue<S, R> {
@@ -103,25 +89,15 @@ impl<S: Slot + Send + Sync, R: Record + Send + Sync> Queue<S, R> {
         let Ok(parts) = Parts::new(alloc, &sizes, buffers) else {
             return Err((slots, OpenFault::Memory));
         };
-        let Parts {
-            heaps,
-            body,
-            extract,
-            sources,
-            supply,
-        } = parts;
-        let mut supply = supply;
+        let Parts { heaps, store } = parts;
+        let mut store = store;
         let mut slots = slots;
-        if berth_slots(alloc, &mut slots, &mut supply).is_err() {
+        if berth_slots(alloc, &mut slots, &mut store.supply).is_err() {
             return Err((slots, OpenFault::Memory));
         }
         Ok(Queue {
-            sizes,
+            store,
             heaps,
-            body,
-            supply,
-            extract,
-            sources,
             count: 0,
             peak: 0,
             failed: None,
@@ -173,17 +149,11 @@ impl<S: Slot + Send + Sync, R: Record + Send + Sync> Queue<S, R> {
         H::Dir: Send,
         requires sound { self.old.failed ≡ None }
         requires peak { self.old.size < self.old.peak }
-        ensures bag { OnOk result (AllTell self.old.slots → IsSameBag self.new.bag self.old.bag) }
+        ensures same { OnOk result (SameRecords self.old self.new) }
         ensures room { OnOk result (self.new.in_first < heap_of self.new.sizes) }
-        ensures sound { OnOk result (self.new.failed ≡ None) }
         ensures refused { IfErr result (IsRefusal self.old self.new) }
         ensures size { self.new.size ≡ self.old.size }
-        ensures slots { SameSlots self.old.slots self.new.slots }
-        ensures tells { AllTell self.old.slots → AllTell self.new.slots }
-        ensures writes { all_writes self.old.slots ≤ all_writes self.new.slots }
-        ensures peak { self.new.peak ≡ self.old.peak }
-        ensures sizes { self.new.sizes ≡ self.old.sizes }
-        ensures limited { self.new.limited ≡ self.old.limited }
+        ensures keeps { Keeps self.old self.new }
     {
         self.heaps.known();
         if !self.heaps.is_full() {
@@ -221,75 +191,34 @@ impl<S: Slot + Send + Sync, R: Record + Send + Sync> Queue<S, R> {
         requires sound { self.old.failed ≡ None }
         requires full { self.old.in_first ≡ heap_of self.old.sizes }
         requires peak { heap_of self.old.sizes < self.old.peak }
-        ensures bag { OnOk result (AllTell self.old.slots → IsSameBag self.new.bag self.old.bag) }
+        ensures same { OnOk result (SameRecords self.old self.new) }
         ensures emptied { OnOk result (self.new.in_first ≡ 0) }
-        ensures sound { OnOk result (self.new.failed ≡ None) }
         ensures refused { IfErr result (IsRefusal self.old self.new) }
         ensures size { self.new.size ≡ self.old.size }
-        ensures slots { SameSlots self.old.slots self.new.slots }
-        ensures tells { AllTell self.old.slots → AllTell self.new.slots }
-        ensures writes { all_writes self.old.slots ≤ all_writes self.new.slots }
-        ensures peak { self.new.peak ≡ self.old.peak }
-        ensures sizes { self.new.sizes ≡ self.old.sizes }
-        ensures limited { self.new.limited ≡ self.old.limited }
+        ensures keeps { Keeps self.old self.new }
     {
-        let answer = flush_all(
-            rt,
-            self.sizes,
-            &mut self.heaps,
-            &mut self.extract,
-            &mut self.body,
-            &mut self.supply,
-            &mut self.sources.bench,
-            gate,
-        );
-        match answer {
-            Ok(()) => Ok(()),
-            Err(StoreFault::NoFreeBlock) => Err(QueueFault::NoFreeBlock),
-            Err(StoreFault::Device { number }) => {
-                self.failed = Some(number);
-                Err(QueueFault::Device { number })
-            }
-        }
+        let answer = self.store.flush_all(rt, &mut self.heaps, gate);
+        latch(&mut self.failed, answer);
+        answer
     }
 
     // Makes the extract buffer ready: it is empty only where no run is left.
     fn ready<H: Host, G: Gate>(&mut self, rt: &H, gate: &G) -> Result<(), QueueFault>
     where
         H::Dir: Send,
-        ensures bag { OnOk result (AllTell self.old.slots → IsSameBag self.new.bag self.old.bag) }
+        ensures same { OnOk result (SameRecords self.old self.new) }
         ensures some { OnOk result (self.new.in_extract ≡ 0 → self.new.size ≡ self.new.in_heap) }
-        ensures sound { OnOk result (self.new.failed ≡ None) }
         ensures refused { IfErr result (IsRefusal self.old self.new) }
         ensures latched { (number : ℕ) → self.old.failed ≡ Some number → (result ≡ Err (Device number)) × (self.new ≡ self.old) }
         ensures size { self.new.size ≡ self.old.size }
-        ensures slots { SameSlots self.old.slots self.new.slots }
-        ensures tells { AllTell self.old.slots → AllTell self.new.slots }
-        ensures writes { all_writes self.old.slots ≤ all_writes self.new.slots }
-        ensures peak { self.new.peak ≡ self.old.peak }
-        ensures sizes { self.new.sizes ≡ self.old.sizes }
-        ensures limited { self.new.limited ≡ self.old.limited }
+        ensures keeps { Keeps self.old self.new }
     {
         if let Some(number) = self.failed {
             return Err(QueueFault::Device { number });
         }
-        let answer = make_ready(
-            rt,
-            self.sizes,
-            &mut self.extract,
-            &mut self.body,
-            &mut self.supply,
-            &mut self.sources,
-            gate,
-        );
-        match answer {
-            Ok(()) => Ok(()),
-            Err(StoreFault::NoFreeBlock) => Err(QueueFault::NoFreeBlock),
-            Err(StoreFault::Device { number }) => {
-                self.failed = Some(number);
-                Err(QueueFault::Device { number })
-            }
-        }
+        let answer = self.store.make_ready(rt, gate);
+        latch(&mut self.failed, answer);
+        answer
     }
 
     // The least record of a queue whose extract buffer is ready.
@@ -301,7 +230,7 @@ impl<S: Slot + Send + Sync, R: Record + Send + Sync> Queue<S, R> {
     {
         record_laws::<R>();
         let latest = self.heaps.min();
-        let stored = self.extract.front();
+        let stored = self.store.extract.front();
         if goes_first(latest, stored) {
             return latest;
         }
@@ -319,10 +248,10 @@ impl<S: Slot + Send + Sync, R: Record + Send + Sync> Queue<S, R> {
     {
         record_laws::<R>();
         self.count = self.count.saturating_sub(1);
-        if goes_first(self.heaps.min(), self.extract.front()) {
+        if goes_first(self.heaps.min(), self.store.extract.front()) {
             return self.heaps.pop();
         }
-        self.extract.pop()
+        self.store.extract.pop()
     }
 
     /// The least record, left in the queue; none exactly where the queue is empty. It costs one comparison.
@@ -480,56 +409,26 @@ impl<S: Slot + Send + Sync, R: Record + Send + Sync> Queue<S, R> {
     where
         H::Dir: Send,
         requires most { most ≤ out.old.room }
-        ensures front { OnOk result (AllTell self.old.slots → out.new.items ≡ front R.Ord.cmp self.old.bag (wanted R.Ord.cmp most limit self.old.bag)) }
-        ensures rest { OnOk result (AllTell self.old.slots → IsSameBag self.new.bag (without_front R.Ord.cmp self.old.bag (wanted R.Ord.cmp most limit self.old.bag))) }
-        ensures left { OnOk result (AllTell self.old.slots → (length out.new.items ≡ most) ⊎ NoneBelow R.Ord.cmp limit self.new.bag) }
-        ensures ready { (l : R) → limit ≡ Some l → OnOk result (self.new.in_extract ≡ 0 → self.new.size ≡ self.new.in_heap) }
-        ensures few { length out.new.items ≤ most }
-        ensures count { limit ≡ None → OnOk result (length out.new.items ≡ min most self.old.size) }
-        ensures size { OnOk result (self.new.size ≡ self.old.size - length out.new.items) }
-        ensures same_size { OnErr result (self.new.size ≡ self.old.size) }
+        ensures took { OnOk result (TookFront R.Ord.cmp limit most self.old self.new out.new.items) }
+        ensures size { self.new.size ≡ self.old.size - length out.new.items }
         ensures emptied { OnErr result (out.new.items ≡ []) }
         ensures list_room { out.new.room ≡ out.old.room }
-        ensures sound { OnOk result (self.new.failed ≡ None) }
         ensures refused { IfErr result (IsRefusal self.old self.new) }
         ensures latched { (number : ℕ) → self.old.failed ≡ Some number → (result ≡ Err (Device number)) × (self.new ≡ self.old) }
-        ensures slots { SameSlots self.old.slots self.new.slots }
-        ensures tells { AllTell self.old.slots → AllTell self.new.slots }
-        ensures writes { all_writes self.old.slots ≤ all_writes self.new.slots }
-        ensures peak { self.new.peak ≡ self.old.peak }
-        ensures sizes { self.new.sizes ≡ self.old.sizes }
-        ensures limited { self.new.limited ≡ self.old.limited }
+        ensures keeps { Keeps self.old self.new }
     {
         record_laws::<R>();
         out.clear();
         if let Some(number) = self.failed {
             return Err(QueueFault::Device { number });
         }
-        let answer = take_out(
-            rt,
-            self.sizes,
-            &mut self.heaps,
-            &mut self.extract,
-            &mut self.body,
-            &mut self.supply,
-            &mut self.sources,
-            limit,
-            most,
-            out,
-            gate,
-        );
-        match answer {
-            Ok(()) => {
-                self.count = self.count.saturating_sub(u64::from(out.len()));
-                Ok(())
-            }
-            Err(StoreFault::NoFreeBlock) => Err(QueueFault::NoFreeBlock),
-            Err(StoreFault::Device { number }) => {
-                out.clear();
-                self.failed = Some(number);
-                Err(QueueFault::Device { number })
-            }
-        }
+        let answer = self
+            .store
+            .take_out(rt, &mut self.heaps, limit, most, out, gate);
+        empty_on_error(answer, out);
+        self.count = self.count.saturating_sub(u64::from(out.len()));
+        latch(&mut self.failed, answer);
+        answer
     }
 
     // Whether a queue whose extract buffer is ready has a record below a limit.
@@ -569,22 +468,9 @@ impl<S: Slot + Send + Sync, R: Record + Send + Sync> Queue<S, R> {
         if let Some(number) = self.failed {
             return Err(QueueFault::Device { number });
         }
-        let answer = settle_some(
-            rt,
-            self.sizes,
-            &mut self.body,
-            &mut self.supply,
-            &mut self.sources.bench,
-            gate,
-        );
-        match answer {
-            Ok(()) => Ok(()),
-            Err(StoreFault::NoFreeBlock) => Err(QueueFault::NoFreeBlock),
-            Err(StoreFault::Device { number }) => {
-                self.failed = Some(number);
-                Err(QueueFault::Device { number })
-            }
-        }
+        let answer = self.store.settle_some(rt, gate);
+        latch(&mut self.failed, answer);
+        answer
     }
 
     /// Makes the queue ready for a session: the rest of the extract buffer is stored as a run, and levels of
@@ -619,24 +505,9 @@ impl<S: Slot + Send + Sync, R: Record + Send + Sync> Queue<S, R> {
         if let Some(number) = self.failed {
             return Err(QueueFault::Device { number });
         }
-        let answer = store_for_session(
-            rt,
-            self.sizes,
-            merges,
-            &mut self.extract,
-            &mut self.body,
-            &mut self.supply,
-            &mut self.sources.bench,
-            gate,
-        );
-        match answer {
-            Ok(()) => Ok(()),
-            Err(StoreFault::NoFreeBlock) => Err(QueueFault::NoFreeBlock),
-            Err(StoreFault::Device { number }) => {
-                self.failed = Some(number);
-                Err(QueueFault::Device { number })
-            }
-        }
+        let answer = self.store.store_for_session(rt, merges, gate);
+        latch(&mut self.failed, answer);
+        answer
     }
 
     /// Makes the queue ready for a limit session: it does what `begin_session` does, and then stores each heap
@@ -682,37 +553,17 @@ impl<S: Slot + Send + Sync, R: Record + Send + Sync> Queue<S, R> {
         requires emptied { self.old.in_extract ≡ 0 }
         requires settled { self.old.runs ≤ 64 }
         requires limited { self.old.limited ≡ true }
-        ensures bag { OnOk result (AllTell self.old.slots → IsSameBag self.new.bag self.old.bag) }
+        ensures same { OnOk result (SameRecords self.old self.new) }
         ensures emptied { self.new.in_extract ≡ 0 }
         ensures heaps { OnOk result (self.new.in_heap ≡ 0) }
         ensures settled { OnOk result (self.new.runs ≤ 64) }
-        ensures sound { OnOk result (self.new.failed ≡ None) }
         ensures refused { IfErr result (IsRefusal self.old self.new) }
         ensures size { self.new.size ≡ self.old.size }
-        ensures slots { SameSlots self.old.slots self.new.slots }
-        ensures tells { AllTell self.old.slots → AllTell self.new.slots }
-        ensures writes { all_writes self.old.slots ≤ all_writes self.new.slots }
-        ensures peak { self.new.peak ≡ self.old.peak }
-        ensures sizes { self.new.sizes ≡ self.old.sizes }
-        ensures limited { self.new.limited ≡ true }
+        ensures keeps { Keeps self.old self.new }
     {
-        let answer = store_heaps(
-            rt,
-            self.sizes,
-            &mut self.heaps,
-            &mut self.body,
-            &mut self.supply,
-            &mut self.sources.bench,
-            gate,
-        );
-        match answer {
-            Ok(()) => Ok(()),
-            Err(StoreFault::NoFreeBlock) => Err(QueueFault::NoFreeBlock),
-            Err(StoreFault::Device { number }) => {
-                self.failed = Some(number);
-                Err(QueueFault::Device { number })
-            }
-        }
+        let answer = self.store.store_heaps(rt, &mut self.heaps, gate);
+        latch(&mut self.failed, answer);
+        answer
     }
 
     /// The parts of the queue, for a session. Together they are what the queue was.
@@ -721,18 +572,21 @@ impl<S: Slot + Send + Sync, R: Record + Send + Sync> Queue<S, R> {
         ensures shows { holding_of S.shown R.record_of R.WIDTH result ≡ self }
     {
         let Queue {
-            sizes,
+            store,
             heaps,
-            body,
-            supply,
-            extract,
-            sources,
             count,
             peak,
             failed,
             limited,
             slots,
         } = self;
+        let Store {
+            sizes,
+            body,
+            supply,
+            extract,
+            sources,
+        } = store;
         QueueParts {
             sizes,
             heaps,
@@ -766,13 +620,16 @@ impl<S: Slot + Send + Sync, R: Record + Send + Sync> Queue<S, R> {
             limited,
             slots,
         } = parts;
-        Queue {
+        let store = Store {
             sizes,
-            heaps,
             body,
             supply,
             extract,
             sources,
+        };
+        Queue {
+            store,
+            heaps,
             count,
             peak,
             failed,
@@ -796,15 +653,15 @@ impl<S: Slot + Send + Sync, R: Record + Send + Sync> Queue<S, R> {
         ensures sum { result ≡ resident_of self.now }
         ensures budget { result ≤ self.now.sizes.memory }
     {
-        let Ok(pool) = self.sizes.pool() else {
+        let Ok(pool) = self.store.sizes.pool() else {
             return 0
         };
-        let block = u64::from(self.sizes.block());
-        let lanes = 72 + 3 * u64::from(self.sizes.workers());
+        let block = u64::from(self.store.sizes.block());
+        let lanes = 72 + 3 * u64::from(self.store.sizes.workers());
         let buffers = (lanes + u64::from(pool)) * block;
-        let used = u64::from(self.sizes.blocks()) - u64::from(self.supply.free_slots());
-        let batches = 2 * u64::from(self.sizes.batch());
-        self.heaps.len() + self.extract.len() as u64 + used + batches + buffers
+        let used = u64::from(self.store.sizes.blocks()) - u64::from(self.store.supply.free_slots());
+        let batches = 2 * u64::from(self.store.sizes.batch());
+        self.heaps.len() + self.store.extract.len() as u64 + used + batches + buffers
     }
 
     /// What holds of every queue, as clauses for the proof of whoever calls it. It does nothing.
@@ -834,12 +691,8 @@ impl<S: Slot + Send + Sync, R: Record + Send + Sync> Queue<S, R> {
         ensures tells { AllTell self.slots → AllTell (map S.shown result.items) }
         ensures writes { all_writes self.slots ≤ all_writes (map S.shown result.items) }
     {
-        let Queue {
-            body,
-            supply,
-            slots,
-            ..
-        } = self;
+        let Queue { store, slots, .. } = self;
+        let Store { body, supply, .. } = store;
         give_back(body, supply, slots)
     }
 }

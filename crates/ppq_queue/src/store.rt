@@ -1,14 +1,46 @@
-//! Runs that are stored: the rest of the extract buffer, and the first heap.
-ghost use Rattle.std.specs.Prelude.{◌≡◌, ◌≤◌, ◌<◌, ◌+◌, ℕ, [], length, OnOk, IsErrOf};
+//! The runs of a queue with all that works on them, and the first of their records.
+ghost use Rattle.std.specs.Prelude.{◌≡◌, ◌≤◌, ◌<◌, [], length, OnOk, IfErr};
 ghost use Rattle.ppq_heap.specs.ppq_record.Order.{Ascends};
 ghost use Rattle.ppq_extract.specs.ppq_outside.Shown.{AllTell};
-ghost use Rattle.ppq_extract.specs.ppq_budget.Sizes.{fixed_of};
 ghost use Rattle.ppq_spill.specs.Storing.{in_buffers};
-ghost use Rattle.ppq_queue.specs.Resting.{AtRest, BodyKept, Moved, StoreShort, BodyFailed, slots_of};
+ghost use Rattle.ppq_queue.specs.Resting.{BodyKept, Moved, slots_of};
+ghost use Rattle.ppq_queue.specs.Stores.{RunsMayMove, RunRefused, MayWork, StoreStays, Holds, Refuses};
 
-use ppq_extract::{Host, OwnerLists, Sizes, Slot, StoreFault};
+use crate::QueueFault;
+use ppq_extract::{Extract, Host, OwnerLists, Sizes, Slot, Sources};
 use ppq_heap::Record;
 use ppq_spill::{PassBody, store_buffers, store_sorted};
+
+// All records of a queue that are in no heap, and what is needed to store, merge and read them.
+#[derive(Drop)]
+pub struct Store<S: Slot + Send + Sync, R: Record + Send + Sync> {
+    // The five numbers from which all sizes follow.
+    pub sizes: Sizes,
+    // The runs, and the buffers that blocks are written from and read into.
+    pub body: PassBody<S, R>,
+    // The free slots, and the buffers that no run uses.
+    pub supply: OwnerLists<S, R>,
+    // The least records of the runs, as they were when it was last refilled.
+    pub extract: Extract<R>,
+    // What refills and merges need.
+    pub sources: Sources<R>,
+}
+
+impl<S: Slot + Send + Sync, R: Record + Send + Sync> Store<S, R> {
+    // Merges all runs in buffers into one run in blocks.
+    pub fn merge_runs<H: Host>(&mut self, rt: &H) -> Result<(), QueueFault>
+        requires works { MayWork S.shown R.Ord.cmp R.record_of R.WIDTH self.old }
+        requires few { length self.old.body.runs.external.items ≤ 64 }
+        requires some { 0 < in_buffers self.old.body }
+        ensures stays { StoreStays S.shown self.old self.new }
+        ensures holds { OnOk result (Holds S.shown R.Ord.cmp R.record_of R.WIDTH [] [] self.old self.new) }
+        ensures refused { IfErr result (Refuses S.shown R.Ord.cmp R.record_of R.WIDTH [] [] self.old self.new) }
+    {
+        let answer = store_buffers(rt, &mut self.body, &mut self.supply);
+        let _free = self.supply.free_slots();
+        answer
+    }
+}
 
 // Stores an ascending list of records as one more run.
 pub fn store_run<H: Host, S: Slot + Send + Sync, R: Record + Send + Sync>(
@@ -17,46 +49,18 @@ pub fn store_run<H: Host, S: Slot + Send + Sync, R: Record + Send + Sync>(
     body: &mut PassBody<S, R>,
     supply: &mut OwnerLists<S, R>,
     sorted: &[R],
-) -> Result<(), StoreFault>
+) -> Result<(), QueueFault>
+    requires runs { RunsMayMove S.shown R.Ord.cmp R.record_of R.WIDTH sizes body.old supply.old }
+    requires few { length body.old.runs.external.items ≤ 64 }
     requires some { 0 < length sorted.now }
     requires most { length sorted.now ≤ sizes.memory }
     requires ascends { AllTell (slots_of S.shown body.old supply.old) → Ascends R.Ord.cmp sorted.now }
-    requires rest { AtRest S.shown R.Ord.cmp R.record_of R.WIDTH sizes body.old supply.old }
-    requires few { length body.old.runs.external.items ≤ 64 }
-    requires budget { fixed_of sizes ≤ sizes.memory }
-    requires no_row { supply.old.drawn ≡ [] }
     ensures kept { BodyKept S.shown body.old body.new supply.old supply.new }
+    ensures no_row { supply.new.drawn ≡ [] }
     ensures stored { OnOk result (Moved S.shown R.Ord.cmp R.record_of R.WIDTH sizes sorted.now body.old body.new supply.old supply.new) }
-    ensures none_free { IsErrOf result StoreFault.NoFreeBlock → StoreShort S.shown R.Ord.cmp R.record_of R.WIDTH sizes (length sorted.now) body.old body.new supply.old supply.new }
-    ensures device { (number : ℕ) → IsErrOf result (StoreFault.Device number) → BodyFailed S.shown number body.new supply.new }
-    ensures no_row { supply.new.drawn ≡ [] }
+    ensures refused { IfErr result (RunRefused S.shown R.Ord.cmp R.record_of R.WIDTH sizes (length sorted.now) body.old body.new supply.old supply.new) }
 {
-    let _workers = sizes.workers();
     let answer = store_sorted(rt, body, supply, sorted);
-    let _free = supply.free_slots();
-    answer
-}
-
-// Merges all runs in buffers into one run in blocks.
-pub fn merge_runs<H: Host, S: Slot + Send + Sync, R: Record + Send + Sync>(
-    rt: &H,
-    sizes: Sizes,
-    body: &mut PassBody<S, R>,
-    supply: &mut OwnerLists<S, R>,
-) -> Result<(), StoreFault>
-    requires some { 0 < in_buffers body.old }
-    requires rest { AtRest S.shown R.Ord.cmp R.record_of R.WIDTH sizes body.old supply.old }
-    requires few { length body.old.runs.external.items ≤ 64 }
-    requires budget { fixed_of sizes ≤ sizes.memory }
-    requires no_row { supply.old.drawn ≡ [] }
-    ensures kept { BodyKept S.shown body.old body.new supply.old supply.new }
-    ensures stored { OnOk result (Moved S.shown R.Ord.cmp R.record_of R.WIDTH sizes [] body.old body.new supply.old supply.new) }
-    ensures none_free { IsErrOf result StoreFault.NoFreeBlock → StoreShort S.shown R.Ord.cmp R.record_of R.WIDTH sizes 0 body.old body.new supply.old supply.new }
-    ensures device { (number : ℕ) → IsErrOf result (StoreFault.Device number) → BodyFailed S.shown number body.new supply.new }
-    ensures no_row { supply.new.drawn ≡ [] }
-{
-    let _workers = sizes.workers();
-    let answer = store_buffers(rt, body, supply);
     let _free = supply.free_slots();
     answer
 }

@@ -3,8 +3,15 @@ use Rattle.ppq_heap.specs.Heaps.{items_of}
 use Rattle.ppq_queue.specs.Bulk as spec
 use Rattle.ppq_queue.specs.Bulk.{Merged}
 use Rattle.ppq_queue.proofs.Ready.{popped_fewer}
-use Rattle.ppq_queue.proofs.Merging.{kept_by, first_by, heap_moved, extract_moved, heap_ended, extract_ended}
+use Rattle.ppq_queue.proofs.Merging.{merged-refl, kept_by, first_by, heap_moved, extract_moved, heap_ended, extract_ended}
+use Rattle.ppq_queue.proofs.Stores.{heaps-same}
 use Rattle.ppq_queue.proofs.bulk.move_next.Goals as goal
+
+pub returns-in_default-clause-merged : goal.returns-in_default-clause-merged
+returns-in_default-clause-merged g c = merged-refl c.record_laws.ensures.order c.record_laws.ensures.same c.args.more c.args.limit (items_of c.args.heaps.now) c.args.extract.now.items c.args.out.now.items
+
+pub returns-in_default-clause-heaps : goal.returns-in_default-clause-heaps
+returns-in_default-clause-heaps g c = heaps-same c.args.heaps.now
 
 pub returns-in_default-clause-ended : goal.returns-in_default-clause-ended
 returns-in_default-clause-ended g c none =
@@ -18,7 +25,7 @@ returns-in_default-clause-ended g c none =
     heap_ended laws.order laws.same c.args.more limit limit (items_of c.args.heaps.now) e one c.min-latest.ensures.value first kept c.requires.whole
 
 pub returns-then-goes_first-clause-merged : goal.returns-then-goes_first-clause-merged
-returns-then-goes_first-clause-merged g c moves =
+returns-then-goes_first-clause-merged g c =
     let laws = c.record_laws.ensures in
     let cmp = g.R.Ord.cmp in
     let one = c.min-latest.result in
@@ -33,8 +40,19 @@ returns-then-goes_first-clause-merged g c moves =
     let moved = heap_moved laws.order laws.same c.args.more limit h h' e out one c.pop.result next c.min-latest.ensures.value c.pop.ensures.value c.pop.ensures.taken first kept c.requires.whole in
     subst (λ l. Merged cmp c.args.more limit h h' e e out l) (sym (ap (λ o. o.items) c.push.ensures)) moved
 
-pub returns-then-goes_first-clause-fewer : goal.returns-then-goes_first-clause-fewer
-returns-then-goes_first-clause-fewer g c = popped_fewer (items_of c.args.heaps.now) (items_of c.pop.new.self) c.pop.result (λ none. ap items_of (c.pop.ensures.same none)) c.pop.ensures.taken
+pub returns-then-goes_first-clause-heaps : goal.returns-then-goes_first-clause-heaps
+returns-then-goes_first-clause-heaps g c =
+    let e = c.pop.ensures in
+    record { count = e.count; cap = e.cap; fewer = popped_fewer (items_of c.args.heaps.now) (items_of c.pop.new.self) c.pop.result (λ none. ap items_of (e.same none)) e.taken }
+
+pub returns-clause-heaps : goal.returns-clause-heaps
+returns-clause-heaps g c = heaps-same c.args.heaps.now
+
+pub returns-in_default-keep_below-clause-merged : goal.returns-in_default-keep_below-clause-merged
+returns-in_default-keep_below-clause-merged g c = merged-refl c.record_laws.ensures.order c.record_laws.ensures.same c.args.more c.args.limit (items_of c.args.heaps.now) c.args.extract.now.items c.args.out.now.items
+
+pub returns-in_default-keep_below-clause-heaps : goal.returns-in_default-keep_below-clause-heaps
+returns-in_default-keep_below-clause-heaps g c = heaps-same c.args.heaps.now
 
 pub returns-in_default-keep_below-clause-ended : goal.returns-in_default-keep_below-clause-ended
 returns-in_default-keep_below-clause-ended g c none =
@@ -48,7 +66,7 @@ returns-in_default-keep_below-clause-ended g c none =
     extract_ended laws.order laws.same c.args.more limit limit (items_of c.args.heaps.now) e one c.min-latest.ensures.value first kept c.requires.whole
 
 pub returns-clause-merged : goal.returns-clause-merged
-returns-clause-merged g c moves =
+returns-clause-merged g c =
     let laws = c.record_laws.ensures in
     let cmp = g.R.Ord.cmp in
     let one = c.min-latest.result in

@@ -1,130 +1,73 @@
-use Rattle.std.proofs.Common.{◌≡◌, ◌≤◌, ◌∙◌, length, ap, sym, subst, arith, refl}
-use Rattle.std.specs.Prelude.{count_by}
-use Rattle.ppq_extract.specs.ppq_outside.Shown.{AllTell}
-use Rattle.ppq_extract.specs.ppq_budget.Sizes.{batch_of}
-use Rattle.ppq_extract.specs.ppq_array.declared.store_fault.StoreFault.TheVariants.{NoFreeBlock}
+use Rattle.std.proofs.Common.{ap, sym, ◌∙◌, length}
 use Rattle.ppq_heap.specs.Heaps.{items_of}
-use Rattle.ppq_queue.proofs.Moves.{matched, whole-beside}
-use Rattle.ppq_queue.proofs.Flushing.{short-beside}
-use Rattle.ppq_queue.proofs.Flushed.{queue-kept, fault-kept, sound-moved, moved-bounds}
+use Rattle.ppq_queue.proofs.Moves.{ok-map}
+use Rattle.ppq_queue.proofs.Stores.{heaps-same, holds-beside, refused-beside, err-map}
+use Rattle.ppq_queue.proofs.Flushed.{not_sound}
+use Rattle.ppq_queue.proofs.Calls.{may_work, stands, ended, above-some}
 use Rattle.ppq_queue.proofs.queue.Queue.begin_session.Goals as goal
+
+pub store_for_session-answer-requires-clause-works : goal.store_for_session-answer-requires-clause-works
+store_for_session-answer-requires-clause-works g c κs within =
+    let s = c.self.inside in
+    let none = c.in_default.is in
+    may_work g.S.Slot.shown g.R.Ord.cmp g.R.Record.record_of g.R.Record.WIDTH s.store s.heaps s.count s.peak s.failed s.limited c.self.invariant.0 (c.self.invariant.1 none)
 
 pub invariant_of-self : goal.invariant_of-self
 invariant_of-self g c =
-    let s = c.self.inside in
-    let view = c.self.view_is in
     let shown = g.S.Slot.shown in
     let cmp = g.R.Ord.cmp in
     let record_of = g.R.Record.record_of in
     let width = g.R.Record.WIDTH in
-    let n = s.sizes in
-    let i = c.self.invariant.0 in
-    let m = c.store_for_session-answer in
-    let e = m.ensures in
-    let a = s.body in
-    let b = m.new.body in
-    let st = s.supply in
-    let t = m.new.supply in
-    let src = record s.sources { bench = m.new.bench } in
-    let moved = whole-beside shown cmp record_of width n (items_of s.heaps) s.extract.items m.new.extract.items a b st t c.in-Ok.ensures.emptied.moved in
-    let within : length m.new.extract.items ≤ batch_of n = omega (arith, i.in_extract, e.extract) in (
-      queue-kept shown n s.heaps s.heaps s.extract m.new.extract a b st t s.count s.peak s.failed s.failed i e.kept e.no_row refl refl (omega arith) e.room within (fault-kept shown n a b st t s.failed e.kept i.fault),
-      (λ none.
-          let sound = c.self.invariant.1 none in
-          sound-moved shown n cmp record_of width s.heaps s.heaps s.extract m.new.extract a b st t s.sources src s.count s.peak s.limited sound e.kept moved sound.above e.workers (record { bench = omega (arith, sound.serves.bench, e.places); places = sound.serves.places })),
-      c.self.invariant.2,
-      c.self.invariant.3,
-    )
-
-pub invariant_of-self-in-Err-NoFreeBlock : goal.invariant_of-self-in-Err-NoFreeBlock
-invariant_of-self-in-Err-NoFreeBlock g c =
     let s = c.self.inside in
-    let view = c.self.view_is in
-    let shown = g.S.Slot.shown in
-    let cmp = g.R.Ord.cmp in
-    let record_of = g.R.Record.record_of in
-    let width = g.R.Record.WIDTH in
-    let n = s.sizes in
-    let i = c.self.invariant.0 in
     let m = c.store_for_session-answer in
     let e = m.ensures in
-    let a = s.body in
-    let b = m.new.body in
-    let st = s.supply in
-    let t = m.new.supply in
-    let src = record s.sources { bench = m.new.bench } in
-    let same_fault : c.in-Err-NoFreeBlock.field-0 ≡ NoFreeBlock = rw c.in-Err-NoFreeBlock.is at c.in-Err-NoFreeBlock.field-0-is in
-    let err = matched m.result c.in-Err-NoFreeBlock.field-0 c.in-Err-NoFreeBlock.is same_fault in
-    let some = e.some err in
-    let short = short-beside shown cmp record_of width n a b st t (items_of s.heaps) s.extract.items m.new.extract.items (e.none_free err) in
-    let moved = short.moved in
-    let within : length m.new.extract.items ≤ batch_of n = omega (arith, i.in_extract, e.extract) in (
-      queue-kept shown n s.heaps s.heaps s.extract m.new.extract a b st t s.count s.peak s.failed s.failed i e.kept e.no_row refl refl (omega arith) e.room within (fault-kept shown n a b st t s.failed e.kept i.fault),
-      (λ none.
-          let sound = c.self.invariant.1 none in
-          sound-moved shown n cmp record_of width s.heaps s.heaps s.extract m.new.extract a b st t s.sources src s.count s.peak s.limited sound e.kept moved sound.above e.workers (record { bench = omega (arith, sound.serves.bench, e.places); places = sound.serves.places })),
-      c.self.invariant.2,
-      c.self.invariant.3,
-    )
-
-pub returns-in-Ok-clause-bag : goal.returns-in-Ok-clause-bag
-returns-in-Ok-clause-bag g c tell p =
-    let s = c.self.inside in
-    let view = c.self.view_is in
-    let shown = g.S.Slot.shown in
-    let cmp = g.R.Ord.cmp in
-    let record_of = g.R.Record.record_of in
-    let width = g.R.Record.WIDTH in
-    let n = s.sizes in
-    let i = c.self.invariant.0 in
-    let m = c.store_for_session-answer in
-    let e = m.ensures in
-    let a = s.body in
-    let b = m.new.body in
-    let st = s.supply in
-    let t = m.new.supply in
-    let src = record s.sources { bench = m.new.bench } in
-    let moved = whole-beside shown cmp record_of width n (items_of s.heaps) s.extract.items m.new.extract.items a b st t c.in-Ok.ensures.emptied.moved in
-    moved.bag (subst (λ q. AllTell q.slots) (sym view) tell) p ∙ ap (λ q. count_by p q.bag) view
-
-pub returns-in-Ok-clause-tells : goal.returns-in-Ok-clause-tells
-returns-in-Ok-clause-tells g c tell = c.store_for_session-answer.ensures.kept.tells.0 (subst (λ q. AllTell q.slots) (sym c.self.view_is) tell)
-
-pub returns-in-Err-NoFreeBlock-clause-tells : goal.returns-in-Err-NoFreeBlock-clause-tells
-returns-in-Err-NoFreeBlock-clause-tells g c tell = c.store_for_session-answer.ensures.kept.tells.0 (subst (λ q. AllTell q.slots) (sym c.self.view_is) tell)
-
-pub returns-in-Err-Device-clause-tells : goal.returns-in-Err-Device-clause-tells
-returns-in-Err-Device-clause-tells g c tell = c.store_for_session-answer.ensures.kept.tells.0 (subst (λ q. AllTell q.slots) (sym c.self.view_is) tell)
-
-pub returns-in-Err-NoFreeBlock-clause-refused : goal.returns-in-Err-NoFreeBlock-clause-refused
-returns-in-Err-NoFreeBlock-clause-refused g c =
-    let s = c.self.inside in
-    let view = c.self.view_is in
-    let shown = g.S.Slot.shown in
-    let cmp = g.R.Ord.cmp in
-    let record_of = g.R.Record.record_of in
-    let width = g.R.Record.WIDTH in
-    let n = s.sizes in
-    let i = c.self.invariant.0 in
-    let m = c.store_for_session-answer in
-    let e = m.ensures in
-    let a = s.body in
-    let b = m.new.body in
-    let st = s.supply in
-    let t = m.new.supply in
-    let src = record s.sources { bench = m.new.bench } in
-    let same_fault : c.in-Err-NoFreeBlock.field-0 ≡ NoFreeBlock = rw c.in-Err-NoFreeBlock.is at c.in-Err-NoFreeBlock.field-0-is in
-    let err = matched m.result c.in-Err-NoFreeBlock.field-0 c.in-Err-NoFreeBlock.is same_fault in
-    let some = e.some err in
-    let short = short-beside shown cmp record_of width n a b st t (items_of s.heaps) s.extract.items m.new.extract.items (e.none_free err) in
+    let x = s.store in
+    let y = m.new.self in
+    let h = s.heaps in
+    let h' = s.heaps in
+    let kept = e.stays.kept in
+    let heaps = heaps-same h in
     let none = c.in_default.is in
     let sound = c.self.invariant.1 none in
-    let bounds = moved-bounds shown cmp record_of width n s.heaps s.heaps s.extract m.new.extract a b st t s.count s.peak s.failed i sound.counted e.kept short in
+    let holds = ok-map m.result (λ d. holds-beside shown cmp record_of width (items_of h) x y d.holds) e.emptied in
+    let refused = err-map m.result (refused-beside shown cmp record_of width (items_of h) x y) e.refused in
+    let all = stands shown cmp record_of width x y h h' kept heaps s.peak s.count s.failed c.latch.new.failed s.limited m.result _ c.latch.ensures c.self.invariant.0 sound sound.above holds refused c.self.invariant.3 in
+    (all.0, all.1, c.self.invariant.2, all.2)
+
+pub returns : goal.returns
+returns g c =
+    let shown = g.S.Slot.shown in
+    let cmp = g.R.Ord.cmp in
+    let record_of = g.R.Record.record_of in
+    let width = g.R.Record.WIDTH in
+    let s = c.self.inside in
+    let m = c.store_for_session-answer in
+    let e = m.ensures in
+    let x = s.store in
+    let y = m.new.self in
+    let h = s.heaps in
+    let h' = s.heaps in
+    let kept = e.stays.kept in
+    let heaps = heaps-same h in
+    let none = c.in_default.is in
+    let sound = c.self.invariant.1 none in
+    let holds = ok-map m.result (λ d. holds-beside shown cmp record_of width (items_of h) x y d.holds) e.emptied in
+    let refused = err-map m.result (refused-beside shown cmp record_of width (items_of h) x y) e.refused in
+    let view = c.self.view_is in
+    let done = ended shown cmp record_of width x y h h' kept heaps s.peak s.count s.failed c.latch.new.failed s.limited m.result _ none c.latch.ensures view c.self.invariant.0 sound (above-some shown cmp record_of width x y h h' kept heaps s.peak s.count s.limited m.result sound e.refused) holds refused in
     record {
-      bag = λ tell p. short.moved.bag (subst (λ q. AllTell q.slots) (sym view) tell) p ∙ ap (λ q. count_by p q.bag) view;
-      size = ap (λ q. q.size) view;
-      sound = none;
-      free = bounds.0;
-      room = bounds.1;
-      above = sound.above (omega (arith, sound.counted, some));
+      bag = ok-map m.result (λ d. d.bag) done.same;
+      emptied = ok-map m.result (λ d. ap length d.emptied.no_extract) e.emptied;
+      heaps = ap (λ q. q.in_heap) view;
+      settled = ok-map m.result (λ d. d.emptied.few) e.emptied;
+      sound = ok-map m.result (λ d. d.sound) done.same;
+      refused = done.refused;
+      latched = λ number failed. not_sound number (sym failed ∙ sym (ap (λ q. q.failed) view) ∙ none);
+      size = done.size;
+      slots = done.keeps.slots;
+      tells = done.keeps.tells;
+      writes = done.keeps.writes;
+      peak = done.keeps.peak;
+      sizes = done.keeps.sizes;
+      limited = done.keeps.limited;
     }

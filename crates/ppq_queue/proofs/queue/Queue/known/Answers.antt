@@ -14,14 +14,14 @@ returns-clause-counted g c none tell =
     let shown = g.S.Slot.shown in
     let sound = c.self.invariant.1 (ap (λ q. q.failed) c.self.view_is ∙ none) in
     let told = subst (λ q. AllTell q.slots) (sym c.self.view_is) tell in
-    let runs = runs_bag shown g.R.Record.record_of g.R.Record.WIDTH s.body in
+    let runs = runs_bag shown g.R.Record.record_of g.R.Record.WIDTH s.store.body in
     omega (
       arith,
       ap (λ q. length q.bag) c.self.view_is,
       ap (λ q. q.size) c.self.view_is,
-      length-append (items_of s.heaps ++ s.extract.items) runs,
-      length-append (items_of s.heaps) s.extract.items,
-      bag_length shown g.R.Ord.cmp g.R.Record.record_of g.R.Record.WIDTH s.sizes s.body s.supply sound.rest told,
+      length-append (items_of s.heaps ++ s.store.extract.items) runs,
+      length-append (items_of s.heaps) s.store.extract.items,
+      bag_length shown g.R.Ord.cmp g.R.Record.record_of g.R.Record.WIDTH s.store.sizes s.store.body s.store.supply sound.rest told,
       sound.counted,
     )
 
@@ -31,10 +31,10 @@ returns-clause-written g c none =
     let shown = g.S.Slot.shown in
     let i = c.self.invariant.0 in
     let sound = c.self.invariant.1 (ap (λ q. q.failed) c.self.view_is ∙ none) in
-    let slots = slots_of shown s.body s.supply in
-    let within = records_within shown g.R.Ord.cmp g.R.Record.record_of g.R.Record.WIDTH s.sizes s.body s.supply sound.rest i.range i.budget (length (items_of s.heaps)) (length s.extract.items) i.in_heap i.in_extract in
-    let few = written shown g.R.Ord.cmp g.R.Record.record_of g.R.Record.WIDTH s.sizes s.body s.supply sound.rest in
-    let more : blocks_in s.body.runs.external.items * s.sizes.block ≤ all_writes slots * s.sizes.block = mul-le-mul_right s.sizes.block few in
-    let turned : all_writes slots * s.sizes.block ≡ s.sizes.block * all_writes slots = mul_comm (all_writes slots) s.sizes.block in
-    let size : s.count ≤ s.sizes.memory + s.sizes.block * all_writes slots = omega (arith, within, more, turned, sound.counted) in
+    let slots = slots_of shown s.store.body s.store.supply in
+    let within = records_within shown g.R.Ord.cmp g.R.Record.record_of g.R.Record.WIDTH s.store.sizes s.store.body s.store.supply sound.rest i.range i.budget (length (items_of s.heaps)) (length s.store.extract.items) i.in_heap i.in_extract in
+    let few = written shown g.R.Ord.cmp g.R.Record.record_of g.R.Record.WIDTH s.store.sizes s.store.body s.store.supply sound.rest in
+    let more : blocks_in s.store.body.runs.external.items * s.store.sizes.block ≤ all_writes slots * s.store.sizes.block = mul-le-mul_right s.store.sizes.block few in
+    let turned : all_writes slots * s.store.sizes.block ≡ s.store.sizes.block * all_writes slots = mul_comm (all_writes slots) s.store.sizes.block in
+    let size : s.count ≤ s.store.sizes.memory + s.store.sizes.block * all_writes slots = omega (arith, within, more, turned, sound.counted) in
     subst (λ q. q.size ≤ q.sizes.memory + q.sizes.block * all_writes q.slots) c.self.view_is size

@@ -15,10 +15,10 @@ returns-then-goes_first-clause-answer g c tell =
     let shown = g.S.Slot.shown in
     let sound = c.self.invariant.1 (ap (λ q. q.failed) view ∙ c.requires.sound) in
     let told = subst (λ q. AllTell q.slots) (sym view) tell in
-    let runs = runs_bag shown g.R.Record.record_of g.R.Record.WIDTH s.body in
-    let all = bag_length shown g.R.Ord.cmp g.R.Record.record_of g.R.Record.WIDTH s.sizes s.body s.supply sound.rest told in
-    let ready : length s.extract.items ≡ 0 → length runs ≡ 0 = λ z. omega (arith, c.requires.ready (sym (ap (λ q. q.in_extract) view) ∙ z), ap (λ q. q.size) view, ap (λ q. q.in_heap) view, sound.counted, all) in
-    let two = ready_least laws.order laws.same (items_of s.heaps) s.extract.items runs c.min-latest.result c.front-stored.result c.goes_first.result c.min-latest.ensures.value c.front-stored.ensures c.goes_first.ensures (sound.ascends told) (sound.order told) ready in
+    let runs = runs_bag shown g.R.Record.record_of g.R.Record.WIDTH s.store.body in
+    let all = bag_length shown g.R.Ord.cmp g.R.Record.record_of g.R.Record.WIDTH s.store.sizes s.store.body s.store.supply sound.rest told in
+    let ready : length s.store.extract.items ≡ 0 → length runs ≡ 0 = λ z. omega (arith, c.requires.ready (sym (ap (λ q. q.in_extract) view) ∙ z), ap (λ q. q.size) view, ap (λ q. q.in_heap) view, sound.counted, all) in
+    let two = ready_least laws.order laws.same (items_of s.heaps) s.store.extract.items runs c.min-latest.result c.front-stored.result c.goes_first.result c.min-latest.ensures.value c.front-stored.ensures c.goes_first.ensures (sound.ascends told) (sound.order told) ready in
     sym (ap (λ b. cond b c.min-latest.result c.front-stored.result) c.if-goes_first.true) ∙ two ∙ ap (λ q. least g.R.Ord.cmp q.bag) view
 
 pub returns-clause-answer : goal.returns-clause-answer
@@ -29,8 +29,8 @@ returns-clause-answer g c tell =
     let shown = g.S.Slot.shown in
     let sound = c.self.invariant.1 (ap (λ q. q.failed) view ∙ c.requires.sound) in
     let told = subst (λ q. AllTell q.slots) (sym view) tell in
-    let runs = runs_bag shown g.R.Record.record_of g.R.Record.WIDTH s.body in
-    let all = bag_length shown g.R.Ord.cmp g.R.Record.record_of g.R.Record.WIDTH s.sizes s.body s.supply sound.rest told in
-    let ready : length s.extract.items ≡ 0 → length runs ≡ 0 = λ z. omega (arith, c.requires.ready (sym (ap (λ q. q.in_extract) view) ∙ z), ap (λ q. q.size) view, ap (λ q. q.in_heap) view, sound.counted, all) in
-    let two = ready_least laws.order laws.same (items_of s.heaps) s.extract.items runs c.min-latest.result c.front-stored.result c.goes_first.result c.min-latest.ensures.value c.front-stored.ensures c.goes_first.ensures (sound.ascends told) (sound.order told) ready in
+    let runs = runs_bag shown g.R.Record.record_of g.R.Record.WIDTH s.store.body in
+    let all = bag_length shown g.R.Ord.cmp g.R.Record.record_of g.R.Record.WIDTH s.store.sizes s.store.body s.store.supply sound.rest told in
+    let ready : length s.store.extract.items ≡ 0 → length runs ≡ 0 = λ z. omega (arith, c.requires.ready (sym (ap (λ q. q.in_extract) view) ∙ z), ap (λ q. q.size) view, ap (λ q. q.in_heap) view, sound.counted, all) in
+    let two = ready_least laws.order laws.same (items_of s.heaps) s.store.extract.items runs c.min-latest.result c.front-stored.result c.goes_first.result c.min-latest.ensures.value c.front-stored.ensures c.goes_first.ensures (sound.ascends told) (sound.order told) ready in
     sym (ap (λ b. cond b c.min-latest.result c.front-stored.result) c.if-goes_first.false) ∙ two ∙ ap (λ q. least g.R.Ord.cmp q.bag) view

@@ -1,13 +1,14 @@
-use Rattle.std.proofs.Common.{◌≡◌, ◌≤◌, ◌*◌, ◌-◌, ◌∙◌, length, map, ap, sym, subst, arith, All}
+use Rattle.std.proofs.Common.{◌≡◌, ◌≤◌, ◌*◌, ◌-◌, ◌∙◌, length, map, None, false, ap, sym, subst, arith, All}
 use Rattle.std.specs.Prelude.{vec_capacity}
 use Rattle.std.proofs.lemmas.List.{length-map}
 use Rattle.ppq_queue.specs.Slots.{with_slots}
+use Rattle.ppq_queue.specs.State.{IsQueue, IsSound}
 use Rattle.ppq_queue.proofs.Opened.{queue-opened, sound-opened, slot_sizes, err_holds, ok_holds}
 use Rattle.ppq_queue.proofs.queue.Queue.open.Goals as goal
 
 pub berth_slots-requires-clause-sizes : goal.berth_slots-requires-clause-sizes
 berth_slots-requires-clause-sizes g c =
-    let block : c.in-Ok-new.parts.supply.block ≡ c.args.sizes.block = ap (λ s. s.block) c.in-Ok-new.ensures.supply in
+    let block : c.in-Ok-new.parts.store.supply.block ≡ c.args.sizes.block = ap (λ s. s.block) c.in-Ok-new.ensures.supply in
     subst (λ b. All (λ s. (g.S.Slot.shown s).size ≡ b * g.R.Record.WIDTH) c.args.slots.items) (sym block) (slot_sizes g.S.Slot.shown (c.args.sizes.block * g.R.Record.WIDTH) c.args.slots.items c.requires.fresh)
 
 pub returns-then-is_err-clause-back : goal.returns-then-is_err-clause-back
@@ -21,10 +22,11 @@ invariant_of-result g c =
     let slots = map shown c.args.slots.items in
     let stock = c.berth_slots.new.supply in
     let long = length-map c.args.slots.items shown in
-    let e : stock ≡ with_slots parts.supply slots (parts.supply.slot_room - length slots) = ok_holds c.berth_slots.result c.is_err.result c.is_err.ensures.value c.if-is_err.false c.berth_slots.ensures.stock ∙ ap (λ k. with_slots parts.supply slots (parts.supply.slot_room - k)) (sym long) in
+    let e : stock ≡ with_slots parts.store.supply slots (parts.store.supply.slot_room - length slots) = ok_holds c.berth_slots.result c.is_err.result c.is_err.ensures.value c.if-is_err.false c.berth_slots.ensures.stock ∙ ap (λ k. with_slots parts.store.supply slots (parts.store.supply.slot_room - k)) (sym long) in
+    let same = sym is.same_sizes in
     let room : c.args.sizes.blocks ≤ vec_capacity c.berth_slots.new.slots = omega (arith, c.berth_slots.ensures.capacity, c.requires.count, long) in (
-      queue-opened shown c.args.sizes parts is slots stock e c.requires.count c.workers-workers.ensures.range (omega (arith, c.in-Ok.ensures.budget)),
-      (λ none. sound-opened shown c.args.sizes parts is slots stock e c.requires.count g.R.Ord.cmp g.R.Record.record_of g.R.Record.WIDTH),
+      subst (λ n. IsQueue shown n parts.heaps parts.store.extract parts.store.body stock 0 0 None) same (queue-opened shown c.args.sizes parts is slots stock e c.requires.count c.workers-workers.ensures.range (omega (arith, c.in-Ok.ensures.budget))),
+      (λ none. subst (λ n. IsSound shown g.R.Ord.cmp g.R.Record.record_of g.R.Record.WIDTH n parts.heaps parts.store.extract parts.store.body stock parts.store.sources 0 0 false) same (sound-opened shown c.args.sizes parts is slots stock e c.requires.count g.R.Ord.cmp g.R.Record.record_of g.R.Record.WIDTH)),
       ok_holds c.berth_slots.result c.is_err.result c.is_err.ensures.value c.if-is_err.false c.berth_slots.ensures.emptied,
-      room,
+      subst (λ n. n.blocks ≤ vec_capacity c.berth_slots.new.slots) same room,
     )

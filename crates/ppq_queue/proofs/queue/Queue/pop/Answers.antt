@@ -7,9 +7,9 @@ use Rattle.ppq_queue.proofs.queue.Queue.pop.Goals as goal
 pub returns-clause-answer : goal.returns-clause-answer
 returns-clause-answer g c tell =
     let laws = c.record_laws.ensures in
-    c.take_least.ensures.answer (c.ready.ensures.tells tell) ∙ ap (λ l. first_of (take 1 l)) (ascending-same_bag laws.order laws.same c.ready.new.self.bag c.args.self.now.bag (c.in_ok-ready.ensures.bag tell))
+    c.take_least.ensures.answer (c.ready.ensures.keeps.tells tell) ∙ ap (λ l. first_of (take 1 l)) (ascending-same_bag laws.order laws.same c.ready.new.self.bag c.args.self.now.bag (c.in_ok-ready.ensures.same.bag tell))
 
 pub returns-clause-rest : goal.returns-clause-rest
 returns-clause-rest g c tell p =
     let laws = c.record_laws.ensures in
-    c.take_least.ensures.rest (c.ready.ensures.tells tell) p ∙ ap (λ l. count_by p (drop 1 l)) (ascending-same_bag laws.order laws.same c.ready.new.self.bag c.args.self.now.bag (c.in_ok-ready.ensures.bag tell))
+    c.take_least.ensures.rest (c.ready.ensures.keeps.tells tell) p ∙ ap (λ l. count_by p (drop 1 l)) (ascending-same_bag laws.order laws.same c.ready.new.self.bag c.args.self.now.bag (c.in_ok-ready.ensures.same.bag tell))

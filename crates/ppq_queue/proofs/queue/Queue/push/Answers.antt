@@ -18,9 +18,9 @@ returns-in-Ok-clause-added g c tell p =
       c.put.ensures.added p,
       count_by-cons p c.args.r c.make_room.new.self.bag,
       count_by-cons p c.args.r c.args.self.now.bag,
-      c.in-Ok.ensures.bag told p,
+      c.in-Ok.ensures.same.bag told p,
       ap (λ q. count_by p q.bag) c.raise_peak.ensures,
     )
 
 pub returns-in-Ok-clause-slots : goal.returns-in-Ok-clause-slots
-returns-in-Ok-clause-slots g c = subst (λ q. SameSlots c.args.self.now.slots q.slots) (sym c.put.ensures.rest) (subst (λ q. SameSlots q.slots c.make_room.new.self.slots) c.raise_peak.ensures c.make_room.ensures.slots)
+returns-in-Ok-clause-slots g c = subst (λ q. SameSlots c.args.self.now.slots q.slots) (sym c.put.ensures.rest) (subst (λ q. SameSlots q.slots c.make_room.new.self.slots) c.raise_peak.ensures c.make_room.ensures.keeps.slots)

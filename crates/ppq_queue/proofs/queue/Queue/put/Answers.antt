@@ -20,10 +20,10 @@ invariant_of-self g c =
     let room : length (share_at s.heaps 0) < s.heaps.cap = omega (arith, c.requires.room, ap (λ q. q.in_first) view, ap (λ q. q.sizes.heap * q.sizes.block) view, i.cap) in
     let added = has_room c.try_push.result (length (share_at s.heaps 0)) s.heaps.cap room push.full.0 push.added in
     let long : length new ≡ length old + 1 = omega (arith, IsSameBag-length new (c.args.r ∷ old) added) in
-    let heaps : length c.try_push.new.self.heaps ≡ s.sizes.workers = push.others.count ∙ i.shares in
-    let cap : c.try_push.new.self.cap ≡ s.sizes.heap * s.sizes.block = push.others.cap ∙ i.cap in
-    let within : length new ≤ s.sizes.workers * (s.sizes.heap * s.sizes.block) = subst (λ k. length new ≤ k) (ap₂ (λ a b. a * b) heaps cap) (all_within c.try_push.new.self c.known.ensures) in
-    let most = records_most g.S.Slot.shown g.R.Ord.cmp g.R.Record.record_of g.R.Record.WIDTH s.sizes s.body s.supply sound.rest i.range i.budget (length new) (length s.extract.items) within i.in_extract in (
+    let heaps : length c.try_push.new.self.heaps ≡ s.store.sizes.workers = push.others.count ∙ i.shares in
+    let cap : c.try_push.new.self.cap ≡ s.store.sizes.heap * s.store.sizes.block = push.others.cap ∙ i.cap in
+    let within : length new ≤ s.store.sizes.workers * (s.store.sizes.heap * s.store.sizes.block) = subst (λ k. length new ≤ k) (ap₂ (λ a b. a * b) heaps cap) (all_within c.try_push.new.self c.known.ensures) in
+    let most = records_most g.S.Slot.shown g.R.Ord.cmp g.R.Record.record_of g.R.Record.WIDTH s.store.sizes s.store.body s.store.supply sound.rest i.range i.budget (length new) (length s.store.extract.items) within i.in_extract in (
       record {
         range = i.range;
         budget = i.budget;
@@ -64,15 +64,15 @@ returns-clause-added g c p =
     let new = items_of c.try_push.new.self in
     let room : length (share_at s.heaps 0) < s.heaps.cap = omega (arith, c.requires.room, ap (λ q. q.in_first) view, ap (λ q. q.sizes.heap * q.sizes.block) view, i.cap) in
     let added = has_room c.try_push.result (length (share_at s.heaps 0)) s.heaps.cap room push.full.0 push.added in
-    let runs = runs_bag g.S.Slot.shown g.R.Record.record_of g.R.Record.WIDTH s.body in
+    let runs = runs_bag g.S.Slot.shown g.R.Record.record_of g.R.Record.WIDTH s.store.body in
     omega (
       arith,
       added p,
       count_by-cons p c.args.r old,
-      count_by-append p (new ++ s.extract.items) runs,
-      count_by-append p new s.extract.items,
-      count_by-append p (old ++ s.extract.items) runs,
-      count_by-append p old s.extract.items,
+      count_by-append p (new ++ s.store.extract.items) runs,
+      count_by-append p new s.store.extract.items,
+      count_by-append p (old ++ s.store.extract.items) runs,
+      count_by-append p old s.store.extract.items,
       ap (λ q. count_by p q.bag) view,
       count_by-cons p c.args.r c.args.self.now.bag,
     )

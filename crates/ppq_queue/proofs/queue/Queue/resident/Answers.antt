@@ -9,11 +9,11 @@ pub returns-clause-budget : goal.returns-clause-budget
 returns-clause-budget g c =
     let s = c.self.inside in
     let i = c.self.invariant.0 in
-    let n = s.sizes in
+    let n = s.store.sizes in
     let used : c.from-3.result - c.from-4.result ≤ n.blocks = omega (arith, c.from-3.ensures, c.blocks-2.ensures.same) in
     let batches : c.from-batches.result ≡ batch_of n = c.from-batches.ensures ∙ c.batch.ensures.same in
     let lanes : 72 + 3 * c.from.result + c.from-2.result ≡ lane_buffers n + pool_of n = omega (arith, c.from.ensures, c.workers.ensures.same, c.from-2.ensures, c.in-Ok.ensures.buffers) in
     let block : c.from-block.result ≡ n.block = c.from-block.ensures ∙ c.block.ensures.same in
     let product : (72 + 3 * c.from.result + c.from-2.result) * c.from-block.result ≡ (lane_buffers n + pool_of n) * n.block = ap₂ (λ a b. a * b) lanes block in
-    let within = resident_within n i.range i.budget (length (items_of s.heaps)) (length s.extract.items) (c.from-3.result - c.from-4.result) i.in_heap i.in_extract used in
+    let within = resident_within n i.range i.budget (length (items_of s.heaps)) (length s.store.extract.items) (c.from-3.result - c.from-4.result) i.in_heap i.in_extract used in
     omega (arith, within, c.len.ensures.value, c.len-2.ensures, batches, product, ap (λ q. q.sizes.memory) c.self.view_is)

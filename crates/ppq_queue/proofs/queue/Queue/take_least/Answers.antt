@@ -60,10 +60,10 @@ returns-then-goes_first-clause-answer g c tell =
     let shown = g.S.Slot.shown in
     let sound = c.self.invariant.1 (ap (λ q. q.failed) view ∙ c.requires.sound) in
     let told = subst (λ q. AllTell q.slots) (sym view) tell in
-    let runs = runs_bag shown g.R.Record.record_of g.R.Record.WIDTH s.body in
-    let all = bag_length shown g.R.Ord.cmp g.R.Record.record_of g.R.Record.WIDTH s.sizes s.body s.supply sound.rest told in
-    let ready : length s.extract.items ≡ 0 → length runs ≡ 0 = λ z. omega (arith, c.requires.ready (sym (ap (λ q. q.in_extract) view) ∙ z), ap (λ q. q.size) view, ap (λ q. q.in_heap) view, sound.counted, all) in
-    let two = ready_least laws.order laws.same (items_of s.heaps) s.extract.items runs c.min.result c.front.result c.goes_first.result c.min.ensures.value c.front.ensures c.goes_first.ensures (sound.ascends told) (sound.order told) ready in
+    let runs = runs_bag shown g.R.Record.record_of g.R.Record.WIDTH s.store.body in
+    let all = bag_length shown g.R.Ord.cmp g.R.Record.record_of g.R.Record.WIDTH s.store.sizes s.store.body s.store.supply sound.rest told in
+    let ready : length s.store.extract.items ≡ 0 → length runs ≡ 0 = λ z. omega (arith, c.requires.ready (sym (ap (λ q. q.in_extract) view) ∙ z), ap (λ q. q.size) view, ap (λ q. q.in_heap) view, sound.counted, all) in
+    let two = ready_least laws.order laws.same (items_of s.heaps) s.store.extract.items runs c.min.result c.front.result c.goes_first.result c.min.ensures.value c.front.ensures c.goes_first.ensures (sound.ascends told) (sound.order told) ready in
     c.pop.ensures.value ∙ sym c.min.ensures.value ∙ sym (ap (λ b. cond b c.min.result c.front.result) c.if-goes_first.true) ∙ two ∙ ap (λ q. least g.R.Ord.cmp q.bag) view
 
 pub returns-then-goes_first-clause-none : goal.returns-then-goes_first-clause-none
@@ -85,12 +85,12 @@ returns-then-goes_first-clause-rest g c tell p =
     let shown = g.S.Slot.shown in
     let sound = c.self.invariant.1 (ap (λ q. q.failed) view ∙ c.requires.sound) in
     let told = subst (λ q. AllTell q.slots) (sym view) tell in
-    let runs = runs_bag shown g.R.Record.record_of g.R.Record.WIDTH s.body in
-    let all = bag_length shown g.R.Ord.cmp g.R.Record.record_of g.R.Record.WIDTH s.sizes s.body s.supply sound.rest told in
-    let ready : length s.extract.items ≡ 0 → length runs ≡ 0 = λ z. omega (arith, c.requires.ready (sym (ap (λ q. q.in_extract) view) ∙ z), ap (λ q. q.size) view, ap (λ q. q.in_heap) view, sound.counted, all) in
-    let two = ready_least laws.order laws.same (items_of s.heaps) s.extract.items runs c.min.result c.front.result c.goes_first.result c.min.ensures.value c.front.ensures c.goes_first.ensures (sound.ascends told) (sound.order told) ready in
+    let runs = runs_bag shown g.R.Record.record_of g.R.Record.WIDTH s.store.body in
+    let all = bag_length shown g.R.Ord.cmp g.R.Record.record_of g.R.Record.WIDTH s.store.sizes s.store.body s.store.supply sound.rest told in
+    let ready : length s.store.extract.items ≡ 0 → length runs ≡ 0 = λ z. omega (arith, c.requires.ready (sym (ap (λ q. q.in_extract) view) ∙ z), ap (λ q. q.size) view, ap (λ q. q.in_heap) view, sound.counted, all) in
+    let two = ready_least laws.order laws.same (items_of s.heaps) s.store.extract.items runs c.min.result c.front.result c.goes_first.result c.min.ensures.value c.front.ensures c.goes_first.ensures (sound.ascends told) (sound.order told) ready in
     let answer = c.pop.ensures.value ∙ sym c.min.ensures.value ∙ sym (ap (λ b. cond b c.min.result c.front.result) c.if-goes_first.true) ∙ two in
-    rest_heap laws.order laws.same (items_of s.heaps) (items_of c.pop.new.self) s.extract.items runs c.pop.result (λ none. ap items_of (c.pop.ensures.same none)) c.pop.ensures.taken answer p
+    rest_heap laws.order laws.same (items_of s.heaps) (items_of c.pop.new.self) s.store.extract.items runs c.pop.result (λ none. ap items_of (c.pop.ensures.same none)) c.pop.ensures.taken answer p
     ∙ ap (λ q. count_by p (without_front g.R.Ord.cmp q.bag 1)) view
 
 pub invariant_of-self-2 : goal.invariant_of-self-2
@@ -102,10 +102,10 @@ invariant_of-self-2 g c =
     let rest = c.pop-2.ensures.rest in
     let items = ap (λ e. e.items) rest in
     let room = ap (λ e. e.room) rest in
-    let few : length c.pop-2.new.self.items ≡ length s.extract.items - 1 = ap length items ∙ length-drop 1 s.extract.items in
+    let few : length c.pop-2.new.self.items ≡ length s.store.extract.items - 1 = ap length items ∙ length-drop 1 s.store.extract.items in
     let less : c.saturating_sub-self-inside.result ≡ s.count - 1 = omega (arith, c.saturating_sub-self-inside.ensures) in
-    let empty : length s.extract.items ≡ 0 → length (items_of s.heaps) ≡ 0 = second_empty laws.order laws.same (items_of s.heaps) s.extract.items c.min.result c.front.result c.min.ensures.none.0 c.front.ensures (sym c.goes_first.ensures ∙ c.if-goes_first.false) in
-    let ready : length s.extract.items ≡ 0 → s.count ≡ length (items_of s.heaps) = λ z. omega (arith, c.requires.ready (sym (ap (λ q. q.in_extract) view) ∙ z), ap (λ q. q.size) view, ap (λ q. q.in_heap) view) in (
+    let empty : length s.store.extract.items ≡ 0 → length (items_of s.heaps) ≡ 0 = second_empty laws.order laws.same (items_of s.heaps) s.store.extract.items c.min.result c.front.result c.min.ensures.none.0 c.front.ensures (sym c.goes_first.ensures ∙ c.if-goes_first.false) in
+    let ready : length s.store.extract.items ≡ 0 → s.count ≡ length (items_of s.heaps) = λ z. omega (arith, c.requires.ready (sym (ap (λ q. q.in_extract) view) ∙ z), ap (λ q. q.size) view, ap (λ q. q.in_heap) view) in (
       record {
         range = i.range;
         budget = i.budget;
@@ -127,9 +127,9 @@ invariant_of-self-2 g c =
           let sound = c.self.invariant.1 none in
           record {
             rest = sound.rest;
-            counted = left_over s.count (length (items_of s.heaps)) (length s.extract.items) (length c.pop-2.new.self.items) (count_of s.body) c.saturating_sub-self-inside.result sound.counted few less empty ready;
-            ascends = λ tell. subst (λ l. Ascends g.R.Ord.cmp l) (sym items) (ascends_rest g.R.Ord.cmp s.extract.items (sound.ascends tell));
-            order = λ tell. subst (λ l. NoneAfter g.R.Ord.cmp l (runs_bag g.S.Slot.shown g.R.Record.record_of g.R.Record.WIDTH s.body)) (sym items) (each_rest g.R.Ord.cmp s.extract.items (runs_bag g.S.Slot.shown g.R.Record.record_of g.R.Record.WIDTH s.body) (sound.order tell));
+            counted = left_over s.count (length (items_of s.heaps)) (length s.store.extract.items) (length c.pop-2.new.self.items) (count_of s.store.body) c.saturating_sub-self-inside.result sound.counted few less empty ready;
+            ascends = λ tell. subst (λ l. Ascends g.R.Ord.cmp l) (sym items) (ascends_rest g.R.Ord.cmp s.store.extract.items (sound.ascends tell));
+            order = λ tell. subst (λ l. NoneAfter g.R.Ord.cmp l (runs_bag g.S.Slot.shown g.R.Record.record_of g.R.Record.WIDTH s.store.body)) (sym items) (each_rest g.R.Ord.cmp s.store.extract.items (runs_bag g.S.Slot.shown g.R.Record.record_of g.R.Record.WIDTH s.store.body) (sound.order tell));
             above = λ more. sound.above (omega (arith, more, less));
             workers = sound.workers;
             serves = sound.serves;
@@ -146,10 +146,10 @@ returns-clause-answer g c tell =
     let shown = g.S.Slot.shown in
     let sound = c.self.invariant.1 (ap (λ q. q.failed) view ∙ c.requires.sound) in
     let told = subst (λ q. AllTell q.slots) (sym view) tell in
-    let runs = runs_bag shown g.R.Record.record_of g.R.Record.WIDTH s.body in
-    let all = bag_length shown g.R.Ord.cmp g.R.Record.record_of g.R.Record.WIDTH s.sizes s.body s.supply sound.rest told in
-    let ready : length s.extract.items ≡ 0 → length runs ≡ 0 = λ z. omega (arith, c.requires.ready (sym (ap (λ q. q.in_extract) view) ∙ z), ap (λ q. q.size) view, ap (λ q. q.in_heap) view, sound.counted, all) in
-    let two = ready_least laws.order laws.same (items_of s.heaps) s.extract.items runs c.min.result c.front.result c.goes_first.result c.min.ensures.value c.front.ensures c.goes_first.ensures (sound.ascends told) (sound.order told) ready in
+    let runs = runs_bag shown g.R.Record.record_of g.R.Record.WIDTH s.store.body in
+    let all = bag_length shown g.R.Ord.cmp g.R.Record.record_of g.R.Record.WIDTH s.store.sizes s.store.body s.store.supply sound.rest told in
+    let ready : length s.store.extract.items ≡ 0 → length runs ≡ 0 = λ z. omega (arith, c.requires.ready (sym (ap (λ q. q.in_extract) view) ∙ z), ap (λ q. q.size) view, ap (λ q. q.in_heap) view, sound.counted, all) in
+    let two = ready_least laws.order laws.same (items_of s.heaps) s.store.extract.items runs c.min.result c.front.result c.goes_first.result c.min.ensures.value c.front.ensures c.goes_first.ensures (sound.ascends told) (sound.order told) ready in
     c.pop-2.ensures.first ∙ sym c.front.ensures ∙ sym (ap (λ b. cond b c.min.result c.front.result) c.if-goes_first.false) ∙ two ∙ ap (λ q. least g.R.Ord.cmp q.bag) view
 
 pub returns-clause-rest : goal.returns-clause-rest
@@ -160,11 +160,11 @@ returns-clause-rest g c tell p =
     let shown = g.S.Slot.shown in
     let sound = c.self.invariant.1 (ap (λ q. q.failed) view ∙ c.requires.sound) in
     let told = subst (λ q. AllTell q.slots) (sym view) tell in
-    let runs = runs_bag shown g.R.Record.record_of g.R.Record.WIDTH s.body in
-    let all = bag_length shown g.R.Ord.cmp g.R.Record.record_of g.R.Record.WIDTH s.sizes s.body s.supply sound.rest told in
-    let ready : length s.extract.items ≡ 0 → length runs ≡ 0 = λ z. omega (arith, c.requires.ready (sym (ap (λ q. q.in_extract) view) ∙ z), ap (λ q. q.size) view, ap (λ q. q.in_heap) view, sound.counted, all) in
-    let two = ready_least laws.order laws.same (items_of s.heaps) s.extract.items runs c.min.result c.front.result c.goes_first.result c.min.ensures.value c.front.ensures c.goes_first.ensures (sound.ascends told) (sound.order told) ready in
+    let runs = runs_bag shown g.R.Record.record_of g.R.Record.WIDTH s.store.body in
+    let all = bag_length shown g.R.Ord.cmp g.R.Record.record_of g.R.Record.WIDTH s.store.sizes s.store.body s.store.supply sound.rest told in
+    let ready : length s.store.extract.items ≡ 0 → length runs ≡ 0 = λ z. omega (arith, c.requires.ready (sym (ap (λ q. q.in_extract) view) ∙ z), ap (λ q. q.size) view, ap (λ q. q.in_heap) view, sound.counted, all) in
+    let two = ready_least laws.order laws.same (items_of s.heaps) s.store.extract.items runs c.min.result c.front.result c.goes_first.result c.min.ensures.value c.front.ensures c.goes_first.ensures (sound.ascends told) (sound.order told) ready in
     let answer = c.front.ensures ∙ refl in
     ap (λ e. count_by p (items_of s.heaps ++ e.items ++ runs)) c.pop-2.ensures.rest
-    ∙ rest_extract laws.order laws.same (items_of s.heaps) s.extract.items runs c.front.result c.front.ensures (sym (ap (λ b. cond b c.min.result c.front.result) c.if-goes_first.false) ∙ two) p
+    ∙ rest_extract laws.order laws.same (items_of s.heaps) s.store.extract.items runs c.front.result c.front.ensures (sym (ap (λ b. cond b c.min.result c.front.result) c.if-goes_first.false) ∙ two) p
     ∙ ap (λ q. count_by p (without_front g.R.Ord.cmp q.bag 1)) view

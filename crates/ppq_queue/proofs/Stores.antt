@@ -1,0 +1,276 @@
+-- Calls of a store, one after the other: what stays, and what heaps and store hold together.
+use Rattle.std.proofs.Common.{◌≡◌, ℕ, ◌+◌, ◌*◌, ◌<◌, ◌≤◌, List, [], ◌∷◌, ◌++◌, length, Bool, true, false, cond, refl, sym, ap, ◌∙◌, subst, arith, inl, inr, length-append}
+use Rattle.std.specs.Prelude.{◌==◌, count_by, Result, Ok, Err, OnOk, IfErr, IsErrOf, IsErrAnd}
+use Rattle.std.specs.declared.cmp.Ordering.{Ordering}
+use Rattle.std.proofs.lemmas.List.Sums.{sum_by-cons, sum_by-append}
+use Rattle.ppq_heap.specs.ppq_record.Order.{Ascends}
+use Rattle.ppq_heap.specs.ppq_record.Bag.{IsSameBag}
+use Rattle.ppq_heap.proofs.ppq_record.Order.{count_by-append, IsSameBag-length}
+use Rattle.ppq_heap.specs.Heaps.{Shares, items_of}
+use Rattle.ppq_extract.specs.ppq_outside.Shown.{Shown, AllTell}
+use Rattle.ppq_extract.specs.ppq_array.Supply.{Stock}
+use Rattle.ppq_extract.specs.ppq_array.Kept.{HasFailed, weight_at}
+use Rattle.ppq_extract.specs.ppq_array.External.{External}
+use Rattle.ppq_extract.specs.ppq_array.declared.store_fault.StoreFault.{StoreFault}
+use Rattle.ppq_extract.specs.ppq_array.declared.store_fault.StoreFault.TheVariants.{NoFreeBlock, Device}
+use Rattle.ppq_extract.specs.ppq_fetch.Taking.{NoneAfter}
+use Rattle.ppq_extract.specs.Extracted.{Held, SourcesRest}
+use Rattle.ppq_extract.specs.declared.sources.Sources.{Sources}
+use Rattle.ppq_spill.specs.Leveling.{count_level}
+use Rattle.ppq_spill.specs.declared.body.PassBody.{PassBody}
+use Rattle.ppq_queue.specs.Resting.{AtRest, BodyKept, Moved, Readied, IsShort, runs_bag, count_of, slots_of}
+use Rattle.ppq_queue.specs.Stores.{HeapsStay, ShareChanged, stored, StoreKept, StoreStays, FailsAlone, RunRefused, MayWork, Holds, Readies, Lacks, Refuses, slots_in}
+use Rattle.ppq_queue.specs.declared.store.Store.{Store}
+use Rattle.ppq_queue.proofs.Moves.{kept-refl, kept-trans, none_after-same, short-more}
+
+-- heaps that did not change
+pub heaps-same : {R : Type 0} (h : Shares R) → HeapsStay h h
+heaps-same h = record { count = refl; cap = refl; fewer = omega arith }
+
+pub heaps-more : {R : Type 0} (h h' h'' : Shares R) → HeapsStay h h' → HeapsStay h' h'' → HeapsStay h h''
+heaps-more h h' h'' a b = record { count = b.count ∙ a.count; cap = b.cap ∙ a.cap; fewer = omega (arith, a.fewer, b.fewer) }
+
+-- where one heap changed, all heaps stay
+pub share-heaps : {R : Type 0} (place : ℕ) (h h' : Shares R) → ShareChanged place h h' → HeapsStay h h'
+share-heaps place h h' changed = record { count = changed.only.count; cap = changed.only.cap; fewer = changed.fewer }
+
+module _ {S R : Type 0} where
+  -- no more runs have a level than there are
+  pub level_few : (level : ℕ) (arrays : List (External S R)) → count_level level arrays ≤ length arrays
+  level_few level [] = omega arith
+  level_few level (x ∷ xs) = omega (arith, level_few level xs, sum_by-cons (λ (a : External S R). cond (a.level == level) 1 0) x xs, one (x.level == level))
+    where
+      one : (b : Bool) → ◌≤◌ (cond b 1 0) 1
+      one true = omega arith
+      one false = omega arith
+
+module _ {S R : Type 0} (shown : S → Shown) where
+  pub kept-same : (x : Store S R) → StoreKept shown x x
+  kept-same x =
+      record {
+        body = kept-refl shown x.body x.supply;
+        no_row = λ none. none;
+        sizes = refl;
+        sources = record { workers = refl; bench = refl; places = refl };
+        room = refl;
+        within = λ within. within;
+      }
+
+  pub kept-more : (x y z : Store S R) → StoreKept shown x y → StoreKept shown y z → StoreKept shown x z
+  kept-more x y z h k =
+      record {
+        body = kept-trans shown x.body y.body z.body x.supply y.supply z.supply h.body k.body;
+        no_row = λ none. k.no_row (h.no_row none);
+        sizes = k.sizes ∙ h.sizes;
+        sources = record { workers = k.sources.workers ∙ h.sources.workers; bench = k.sources.bench ∙ h.sources.bench; places = k.sources.places ∙ h.sources.places };
+        room = k.room ∙ h.room;
+        within = λ within. k.within (h.within within);
+      }
+
+  pub stays-same : (x : Store S R) → StoreStays shown x x
+  stays-same x = record { kept = kept-same x; extract = omega arith }
+
+  pub stays-more : (x y z : Store S R) → StoreStays shown x y → StoreStays shown y z → StoreStays shown x z
+  stays-more x y z h k = record { kept = kept-more x y z h.kept k.kept; extract = omega (arith, h.extract, k.extract) }
+
+  -- a step of the runs, maybe with another extract buffer and other sources
+  pub kept-step :
+      (x : Store S R) (b : PassBody S R) (t : Stock) (v : Held R) (src : Sources R)
+      → BodyKept shown x.body b x.supply t → t.drawn ≡ [] → SourcesRest x.sources src → v.room ≡ x.extract.room → (length x.extract.items ≤ x.extract.room → length v.items ≤ v.room)
+      → StoreKept shown x (record x { body = b; supply = t; extract = v; sources = src })
+  kept-step x b t v src kept no_row rest room within = record { body = kept; no_row = λ none. no_row; sizes = refl; sources = rest; room = room; within = within }
+
+  pub same-sources : (x : Store S R) → SourcesRest x.sources x.sources
+  same-sources x = record { workers = refl; bench = refl; places = refl }
+
+  module _ (cmp : R → R → Ordering) (record_of : List ℕ → R) (width : ℕ) where
+    pub holds-same : (h : List R) (x : Store S R) → MayWork shown cmp record_of width x → Holds shown cmp record_of width h h x x
+    holds-same h x works = record { works = works; bag = λ tell p. refl; count = refl }
+
+    pub holds-more : (h h' h'' : List R) (x y z : Store S R) → StoreKept shown x y → Holds shown cmp record_of width h h' x y → Holds shown cmp record_of width h' h'' y z → Holds shown cmp record_of width h h'' x z
+    holds-more h h' h'' x y z kept one two = record { works = two.works; bag = λ tell p. two.bag (kept.body.tells.0 tell) p ∙ one.bag tell p; count = two.count ∙ one.count }
+
+    -- a call that was refused, after one that was not
+    pub refused-more :
+        (h h' h'' : List R) (x y z : Store S R) (fault : StoreFault)
+        → StoreKept shown x y → Holds shown cmp record_of width h h' x y → Refuses shown cmp record_of width h' h'' y z fault → Refuses shown cmp record_of width h h'' x z fault
+    refused-more h h' h'' x y z NoFreeBlock kept one lacks =
+        record { holds = holds-more h h' h'' x y z kept one lacks.holds; some = omega (arith, lacks.some, one.count); short = subst (IsShort z.sizes (length z.supply.kept)) one.count lacks.short }
+    refused-more h h' h'' x y z (Device number) kept one failed = failed
+
+    -- the same beside heaps that are not looked at
+    pub holds-beside : (h : List R) (x y : Store S R) → Holds shown cmp record_of width [] [] x y → Holds shown cmp record_of width h h x y
+    holds-beside h x y one =
+        let runs = runs_bag shown record_of width x.body in
+        let runs' = runs_bag shown record_of width y.body in
+        record {
+          works = one.works;
+          bag = λ tell p.
+              omega (
+                arith,
+                count_by-append p (h ++ y.extract.items) runs',
+                count_by-append p h y.extract.items,
+                count_by-append p (h ++ x.extract.items) runs,
+                count_by-append p h x.extract.items,
+                one.bag tell p,
+                count_by-append p y.extract.items runs',
+                count_by-append p x.extract.items runs,
+              );
+          count = omega (arith, one.count);
+        }
+
+    pub refused-beside : (h : List R) (x y : Store S R) (fault : StoreFault) → Refuses shown cmp record_of width [] [] x y fault → Refuses shown cmp record_of width h h x y fault
+    refused-beside h x y NoFreeBlock lacks =
+        record { holds = holds-beside h x y lacks.holds; some = omega (arith, lacks.some); short = short-more y.sizes (length y.supply.kept) (length {A = R} [] + stored x) (length h + stored x) (omega arith) lacks.short }
+    refused-beside h x y (Device number) failed = failed
+
+    pub refused-alone : (h h' : List R) (x y : Store S R) (fault : StoreFault) → FailsAlone shown y fault → Refuses shown cmp record_of width h h' x y fault
+    refused-alone h h' x y NoFreeBlock failed = absurd failed
+    refused-alone h h' x y (Device number) failed = failed
+
+    -- the order of heaps does not count
+    pub holds-sorted : (h h' : List R) (x y : Store S R) → IsSameBag h' h → Holds shown cmp record_of width h h x y → Holds shown cmp record_of width h h' x y
+    holds-sorted h h' x y same one =
+        let runs' = runs_bag shown record_of width y.body in
+        record {
+          works = one.works;
+          bag = λ tell p.
+              omega (
+                arith,
+                count_by-append p (h' ++ y.extract.items) runs',
+                count_by-append p h' y.extract.items,
+                count_by-append p (h ++ y.extract.items) runs',
+                count_by-append p h y.extract.items,
+                one.bag tell p,
+                same p,
+              );
+          count = omega (arith, one.count, IsSameBag-length h' h same);
+        }
+
+    pub refused-sorted : (h h' : List R) (x y : Store S R) (fault : StoreFault) → IsSameBag h' h → Refuses shown cmp record_of width h h x y fault → Refuses shown cmp record_of width h h' x y fault
+    refused-sorted h h' x y NoFreeBlock same lacks = record { holds = holds-sorted h h' x y same lacks.holds; some = lacks.some; short = lacks.short }
+    refused-sorted h h' x y (Device number) same failed = failed
+
+    module _ (x : Store S R) (b : PassBody S R) (t : Stock) (works : MayWork shown cmp record_of width x) (kept : BodyKept shown x.body b x.supply t) (no_row : t.drawn ≡ []) where
+      -- a store may work on after a step of its runs
+      pub works-step :
+          (v : Held R) (src : Sources R)
+          → SourcesRest x.sources src → AtRest shown cmp record_of width x.sizes b t → v.room ≡ x.extract.room → length v.items ≤ v.room
+          → (AllTell (slots_in shown x) → Ascends cmp v.items) → (AllTell (slots_in shown x) → NoneAfter cmp v.items (runs_bag shown record_of width b))
+          → MayWork shown cmp record_of width (record x { body = b; supply = t; extract = v; sources = src })
+      works-step v src rests rest room within up order =
+          record {
+            runs = record { range = works.runs.range; budget = works.runs.budget; rest = rest; no_row = no_row };
+            workers = rests.workers ∙ works.workers;
+            serves = record { bench = omega (arith, works.serves.bench, rests.bench); places = omega (arith, works.serves.places, rests.places) };
+            room = room ∙ works.room;
+            within = within;
+            ascends = λ tell. up (kept.tells.1 tell);
+            order = λ tell. order (kept.tells.1 tell);
+          }
+
+      -- the runs hold what they held
+      pub holds-runs : (src : Sources R) → SourcesRest x.sources src → Moved shown cmp record_of width x.sizes [] x.body b x.supply t → Holds shown cmp record_of width [] [] x (record x { body = b; supply = t; sources = src })
+      holds-runs src rests moved =
+          let e = x.extract.items in
+          let runs = runs_bag shown record_of width x.body in
+          let runs' = runs_bag shown record_of width b in
+          record {
+            works = works-step x.extract src rests moved.rest refl works.within works.ascends (λ tell. none_after-same cmp e runs runs' (λ p. sym (moved.bag tell p)) (works.order tell));
+            bag = λ tell p. omega (arith, count_by-append p e runs', count_by-append p e runs, moved.bag tell p);
+            count = omega (arith, moved.count);
+          }
+
+      -- a merge or a store found too few free slots, and the runs hold what they held
+      pub lacks-runs :
+          (src : Sources R)
+          → SourcesRest x.sources src → Moved shown cmp record_of width x.sizes [] x.body b x.supply t → 0 < count_of x.body → IsShort x.sizes (length t.kept) (count_of x.body)
+          → Lacks shown cmp record_of width [] [] x (record x { body = b; supply = t; sources = src })
+      lacks-runs src rests moved some short = record { holds = holds-runs src rests moved; some = omega (arith, some); short = short-more x.sizes (length t.kept) (count_of x.body) (length {A = R} [] + stored x) (omega arith) short }
+
+      -- the extract buffer was stored
+      pub holds-rest : (v : Held R) → v.room ≡ x.extract.room → v.items ≡ [] → Moved shown cmp record_of width x.sizes x.extract.items x.body b x.supply t → Holds shown cmp record_of width [] [] x (record x { body = b; supply = t; extract = v })
+      holds-rest v room none moved =
+          let e = x.extract.items in
+          let runs = runs_bag shown record_of width x.body in
+          let runs' = runs_bag shown record_of width b in
+          record {
+            works = works-step v x.sources (same-sources x) moved.rest room (omega (arith, ap length none)) (λ tell. subst (Ascends cmp) (sym none) tt) (λ tell. subst (λ l. NoneAfter cmp l runs') (sym none) tt);
+            bag = λ tell p. omega (arith, count_by-append p v.items runs', ap (count_by p) none, count_by-append p e runs, moved.bag tell p);
+            count = omega (arith, moved.count, ap length none);
+          }
+
+      -- records of heaps were stored, beside an empty extract buffer
+      pub holds-heap : (h sorted h' : List R) → x.extract.items ≡ [] → IsSameBag h (sorted ++ h') → Moved shown cmp record_of width x.sizes sorted x.body b x.supply t → Holds shown cmp record_of width h h' x (record x { body = b; supply = t })
+      holds-heap h sorted h' none same moved =
+          let e = x.extract.items in
+          let runs = runs_bag shown record_of width x.body in
+          let runs' = runs_bag shown record_of width b in
+          record {
+            works = works-step x.extract x.sources (same-sources x) moved.rest refl works.within works.ascends (λ tell. subst (λ l. NoneAfter cmp l runs') (sym none) tt);
+            bag = λ tell p.
+                omega (
+                  arith,
+                  count_by-append p (h' ++ e) runs',
+                  count_by-append p h' e,
+                  count_by-append p (h ++ e) runs,
+                  count_by-append p h e,
+                  moved.bag tell p,
+                  count_by-append p sorted runs,
+                  count_by-append p sorted h',
+                  same p,
+                );
+            count = omega (arith, moved.count, IsSameBag-length h (sorted ++ h') same, length-append sorted h');
+          }
+
+      -- the extract buffer was refilled
+      pub readies-step :
+          (v : Held R) (src : Sources R)
+          → SourcesRest x.sources src → v.room ≡ x.extract.room → length v.items ≤ v.room → Readied shown cmp record_of width x.sizes x.extract.items v.items x.body b x.supply t
+          → Readies shown cmp record_of width x (record x { body = b; supply = t; extract = v; sources = src })
+      readies-step v src rests room within ready =
+          record {
+            holds = record { works = works-step v src rests ready.rest room within ready.ascends ready.order; bag = ready.bag; count = omega (arith, ready.count) };
+            some = ready.some;
+          }
+
+      -- a run of so many records of heaps or the extract buffer was refused
+      pub run-refused :
+          (h : List R) (n : ℕ) (fault : StoreFault)
+          → 0 < n → n ≤ length h + length x.extract.items → RunRefused shown cmp record_of width x.sizes n x.body b x.supply t fault
+          → Refuses shown cmp record_of width h h x (record x { body = b; supply = t }) fault
+      run-refused h n NoFreeBlock some most refused =
+          record { holds = holds-beside h x (record x { body = b; supply = t }) (holds-runs x.sources (same-sources x) refused.moved); some = omega (arith, some, most); short = inr (omega (arith, refused.short, most)) }
+      run-refused h n (Device number) some most failed = failed
+
+-- a slot that failed is one of more
+pub failed-right : (number : ℕ) (xs ys : List Shown) → HasFailed number ys → HasFailed number (xs ++ ys)
+failed-right number xs ys failed = omega (arith, failed, sum_by-append (weight_at (λ s. s.faults) number) xs ys)
+
+module _ {T : Type 0} where
+  -- an error that is handed on
+  pub on_given : (P : StoreFault → Type 0) (r : Result T StoreFault) (e : StoreFault) → IsErrAnd r (λ given. given ≡ e) → P e → IfErr r P
+  on_given P (Ok v) e is p = tt
+  on_given P (Err f) e is p = subst P (sym is) p
+
+  -- what holds on Ok, of an error that is handed on
+  pub not_ok : (P : Type 0) (r : Result T StoreFault) (e : StoreFault) → IsErrAnd r (λ given. given ≡ e) → OnOk r P
+  not_ok P (Ok v) e is = absurd is
+  not_ok P (Err f) e is = tt
+
+  -- what follows from a fault
+  pub err-map : {P Q : StoreFault → Type 0} (r : Result T StoreFault) → ((e : StoreFault) → P e → Q e) → IfErr r P → IfErr r Q
+  err-map (Ok v) f p = tt
+  err-map (Err e) f p = f e p
+
+  -- no refusal for want of a block comes
+  pub alone : {P : Type 0} (Q : StoreFault → Type 0) (r : Result T StoreFault) → IfErr r Q → (Q NoFreeBlock → ⊥) → IsErrOf r NoFreeBlock → P
+  alone Q (Ok v) q never err = cc
+  alone Q (Err NoFreeBlock) q never err = absurd (never q)
+  alone Q (Err (Device number)) q never err = cc
+
+  -- what each fault means
+  pub by_fault : (P : StoreFault → Type 0) (r : Result T StoreFault) → (IsErrOf r NoFreeBlock → P NoFreeBlock) → ((number : ℕ) → IsErrOf r (Device number) → P (Device number)) → IfErr r P
+  by_fault P (Ok v) none device = tt
+  by_fault P (Err NoFreeBlock) none device = none refl
+  by_fault P (Err (Device number)) none device = device number refl

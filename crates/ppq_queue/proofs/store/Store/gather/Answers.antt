@@ -1,0 +1,97 @@
+use Rattle.std.proofs.Common.{◌∙◌, [], length, refl, ap, subst, arith}
+use Rattle.ppq_heap.specs.Heaps.{items_of}
+use Rattle.ppq_queue.specs.Resting.{count_of}
+use Rattle.ppq_queue.specs.Bulk.{Merged}
+use Rattle.ppq_queue.specs.Stores.{FailsAlone, StoreKept}
+use Rattle.ppq_queue.proofs.Moves.{kept-refl}
+use Rattle.ppq_queue.proofs.Stores.{kept-same, kept-more, kept-step, same-sources, heaps-more, not_ok, on_given}
+use Rattle.ppq_queue.proofs.Took.{smaller, took-none, took-merged, took-held, took-all, stands-ended}
+use Rattle.ppq_queue.proofs.store.Store.gather.Goals as goal
+
+pub refilling-init : goal.refilling-init
+refilling-init g c =
+    let shown = g.S.Slot.shown in
+    let cmp = g.R.Ord.cmp in
+    let record_of = g.R.Record.record_of in
+    let width = g.R.Record.WIDTH in
+    let order = c.record_laws.ensures.order in
+    let limit = c.args.limit in
+    let most = c.args.most in
+    let x = c.args.self.now in
+    let works = c.requires.works in
+    let h = items_of c.args.heaps.now in
+    let m = c.merge in
+    let v = m.new.extract in
+    let out = m.new.out.items in
+    let left = items_of m.new.heaps in
+    let more = c.has_run-first.result in
+    let merged = subst (λ l. Merged cmp more limit h left x.extract.items v.items l out) c.requires.none m.ensures.merged in
+    let took = took-merged shown order record_of width limit most h h left x x v [] out more (kept-same shown x) (took-none shown order record_of width limit most h x works) c.has_run-first.ensures.none merged m.ensures.room m.ensures.few in
+    record {
+      kept = kept-step shown x x.body x.supply v x.sources (kept-refl shown x.body x.supply) works.runs.no_row (same-sources shown x) m.ensures.room (λ within. omega (arith, within, m.ensures.merged.fewer, m.ensures.room));
+      heaps = m.ensures.heaps;
+      took = took;
+      stands = stands-ended shown order record_of width limit most left (record x { extract = v }) out more took.works c.has_run-first.ensures.some c.has_run-first.ensures.none m.ensures.ended;
+      few = c.requires.few;
+      list_room = m.ensures.list_room;
+    }
+
+pub refilling-smaller : goal.refilling-smaller
+refilling-smaller g c =
+    let w = c.wants_refill.ensures in
+    let r = c.in_ok-refill.ensures.readied in
+    let empty = w.empty c.refilling-test.true in
+    smaller c.refill.new.self.extract.items (count_of c.refill.new.self.body) (count_of c.refilling.self.body) (omega (arith, r.holds.count, ap length empty)) (w.some c.refilling-test.true) r.some
+
+pub refilling-preserved : goal.refilling-preserved
+refilling-preserved g c =
+    let shown = g.S.Slot.shown in
+    let cmp = g.R.Ord.cmp in
+    let record_of = g.R.Record.record_of in
+    let width = g.R.Record.WIDTH in
+    let order = c.record_laws.ensures.order in
+    let limit = c.args.limit in
+    let most = c.args.most in
+    let i = c.refilling.invariant in
+    let m = c.merge-in-refilling in
+    let x = c.args.self.now in
+    let y = c.refilling.self in
+    let z = c.refill.new.self in
+    let v = m.new.extract in
+    let last = record z { extract = v } in
+    let h = items_of c.args.heaps.now in
+    let here = items_of c.refilling.heaps in
+    let left = items_of m.new.heaps in
+    let out = c.refilling.out.items in
+    let out' = m.new.out.items in
+    let more = c.has_run-more.result in
+    let kept = kept-more shown x y z i.kept c.refill.ensures.kept in
+    let filled = took-held shown order record_of width limit most h here x y z out i.kept i.took c.in_ok-refill.ensures.readied.holds in
+    let took = took-merged shown order record_of width limit most h here left x z v out out' more kept filled c.has_run-more.ensures.none m.ensures.merged m.ensures.room m.ensures.few in
+    let step = kept-step shown z z.body z.supply v z.sources (kept-refl shown z.body z.supply) filled.works.runs.no_row (same-sources shown z) m.ensures.room (λ within. omega (arith, within, m.ensures.merged.fewer, m.ensures.room)) in
+    record {
+      kept = kept-more shown x z last kept step;
+      heaps = heaps-more c.args.heaps.now c.refilling.heaps m.new.heaps i.heaps m.ensures.heaps;
+      took = took;
+      stands = stands-ended shown order record_of width limit most left last out' more took.works c.has_run-more.ensures.some c.has_run-more.ensures.none m.ensures.ended;
+      few = c.in_ok-refill.ensures.few;
+      list_room = m.ensures.list_room ∙ i.list_room;
+    }
+
+pub returns-in_err-refill : goal.returns-in_err-refill
+returns-in_err-refill g c =
+    let i = c.refilling.invariant in
+    let e = c.in_err-refill.field-0.0 in
+    record {
+      kept = kept-more g.S.Slot.shown c.args.self.now c.refilling.self c.refill.new.self i.kept c.refill.ensures.kept;
+      heaps = i.heaps;
+      list_room = i.list_room;
+      took = not_ok _ c.from_residual.result e c.from_residual.ensures.1;
+      failed = on_given (FailsAlone g.S.Slot.shown c.refill.new.self) c.from_residual.result e c.from_residual.ensures.1 c.in_err-refill.ensures.failed;
+    }
+
+pub returns-clause-took : goal.returns-clause-took
+returns-clause-took g c =
+    let l = c.refilling in
+    let i = l.invariant in
+    took-all g.S.Slot.shown c.record_laws.ensures.order g.R.Record.record_of g.R.Record.WIDTH c.args.limit c.args.most (items_of c.args.heaps.now) (items_of l.heaps) c.args.self.now l.self l.out.items i.stands i.took (c.wants_refill.ensures.ready c.refilling-test.false)

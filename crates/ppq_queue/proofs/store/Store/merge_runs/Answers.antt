@@ -1,0 +1,41 @@
+use Rattle.std.proofs.Common.{[], ap, refl, arith, inr}
+use Rattle.ppq_queue.specs.Stores.{Refuses, StoreStays}
+use Rattle.ppq_queue.proofs.Counts.{internal_count}
+use Rattle.ppq_queue.proofs.Moves.{ok-map}
+use Rattle.ppq_queue.proofs.Stored.{kept-stored, may_store, moved-in_blocks, short-merged}
+use Rattle.ppq_queue.proofs.Stores.{by_fault, kept-step, same-sources, holds-runs, lacks-runs}
+use Rattle.ppq_queue.proofs.store.Store.merge_runs.Goals as goal
+
+pub store_buffers-answer-requires-clause-room : goal.store_buffers-answer-requires-clause-room
+store_buffers-answer-requires-clause-room g c lives within =
+    let x = c.args.self.now in
+    let runs = c.requires.works.runs in
+    may_store g.S.Slot.shown g.R.Ord.cmp g.R.Record.record_of g.R.Record.WIDTH x.sizes x.body x.supply 0 runs.rest runs.range runs.budget c.requires.few (omega arith)
+
+pub returns : goal.returns
+returns g c =
+    let shown = g.S.Slot.shown in
+    let cmp = g.R.Ord.cmp in
+    let record_of = g.R.Record.record_of in
+    let width = g.R.Record.WIDTH in
+    let works = c.requires.works in
+    let runs = works.runs in
+    let m = c.store_buffers-answer in
+    let e = m.ensures in
+    let x = c.args.self.now in
+    let a = x.body in
+    let b = m.new.body in
+    let s = x.supply in
+    let t = m.new.supply in
+    let home = e.home in
+    let no_row = c.free_slots-free.ensures.no_row in
+    let kept = kept-stored shown a b s t e.kept e.tells 0 e.writes e.rooms (ap (λ h. h.0) home) (ap (λ h. h.1) home) runs.no_row no_row in
+    let rests = same-sources shown x in
+    let stays : StoreStays shown x (record x { body = b; supply = t }) = record { kept = kept-step shown x b t x.extract x.sources kept no_row rests refl (λ within. within); extract = omega arith } in
+    record {
+      stays = stays;
+      holds = ok-map m.result (λ stored. holds-runs shown cmp record_of width x b t works kept no_row x.sources rests (moved-in_blocks shown cmp record_of width x.sizes a b s t runs.rest kept e.size e.takes_back e.lanes [] (omega (arith, c.requires.some)) c.requires.few runs.no_row no_row stored)) e.stored;
+      refused = by_fault (Refuses shown cmp record_of width [] [] x (record x { body = b; supply = t })) m.result
+          (λ err. (let short = short-merged shown cmp record_of width x.sizes a b s t runs.rest kept e.size e.takes_back e.lanes (e.none_free err) in lacks-runs shown cmp record_of width x b t works kept no_row x.sources rests short.moved (omega (arith, c.requires.some, internal_count a.runs.internal.items)) (inr (omega (arith, short.short)))))
+          e.device;
+    }

@@ -1,0 +1,18 @@
+use Rattle.std.proofs.Common.{[], arith}
+use Rattle.ppq_queue.proofs.Counts.{count_some}
+use Rattle.ppq_queue.proofs.Stores.{stays-same, holds-same}
+use Rattle.ppq_queue.proofs.store.Store.settle_some.Goals as goal
+
+pub returns-then-not-has_run : goal.returns-then-not-has_run
+returns-then-not-has_run g c =
+    let x = c.args.self.now in
+    let runs = x.body.runs in
+    let rest = c.requires.works.runs.rest in
+    record {
+      stays = stays-same g.S.Slot.shown x;
+      settled = record {
+        holds = holds-same g.S.Slot.shown g.R.Ord.cmp g.R.Record.record_of g.R.Record.WIDTH [] x c.requires.works;
+        few = omega (arith, count_some g.S.Slot.shown g.R.Record.WIDTH x.supply.block runs.internal.items runs.external.items rest.internal rest.external, c.has_run.ensures.none c.if-not-has_run.true);
+      };
+      refused = tt;
+    }

@@ -1,0 +1,123 @@
+-- What a store needs for its calls, what stays after them, and what they say.
+use Rattle.std.specs.Prelude.{◌≡◌, ◌⊎◌, ℕ, ◌+◌, ◌<◌, ◌≤◌, List, [], ◌++◌, length, Option, Some, None, Result, Ok, Err}
+use Rattle.std.specs.declared.cmp.Ordering.{Ordering}
+use Rattle.ppq_heap.specs.ppq_record.Order.{Ascends}
+use Rattle.ppq_heap.specs.ppq_record.Bag.{IsSameBag}
+use Rattle.ppq_heap.specs.Heaps.{Shares, ChangesOnly, items_of}
+use Rattle.ppq_extract.specs.ppq_outside.Shown.{Shown, AllTell}
+use Rattle.ppq_extract.specs.ppq_budget.Sizes.{Numbers, AreInRange, fixed_of, batch_of, pool_of}
+use Rattle.ppq_extract.specs.ppq_array.Supply.{Stock}
+use Rattle.ppq_extract.specs.ppq_array.Kept.{HasFailed}
+use Rattle.ppq_extract.specs.ppq_array.declared.store_fault.StoreFault.{StoreFault}
+use Rattle.ppq_extract.specs.ppq_array.declared.store_fault.StoreFault.TheVariants.{NoFreeBlock, Device}
+use Rattle.ppq_extract.specs.ppq_fetch.Taking.{NoneAfter}
+use Rattle.ppq_extract.specs.Extracted.{ServesFor, SourcesRest}
+use Rattle.ppq_spill.specs.declared.body.PassBody.{PassBody}
+use Rattle.ppq_queue.specs.Resting.{AtRest, BodyKept, StoreShort, IsShort, runs_bag, count_of, slots_of}
+use Rattle.ppq_queue.specs.declared.store.Store.{Store}
+
+module _ {R : Type 0} where
+  -- as many heaps, with as much room, and no more records
+  pub record HeapsStay (old new : Shares R) : Type 0 where
+    pub count : length new.heaps ≡ length old.heaps
+    pub cap : new.cap ≡ old.cap
+    pub fewer : length (items_of new) ≤ length (items_of old)
+
+  -- only the heap at a place changed, and no record came
+  pub record ShareChanged (place : ℕ) (old new : Shares R) : Type 0 where
+    pub only : ChangesOnly place old new
+    pub fewer : length (items_of new) ≤ length (items_of old)
+
+module _ {S R : Type 0} where
+  -- the extract buffer is empty, and there is room for one run in blocks more
+  pub record IsEmptied (store : Store S R) : Type 0 where
+    pub no_extract : store.extract.items ≡ []
+    pub few : length store.body.runs.external.items ≤ 64
+
+  -- how many records the extract buffer and the runs have
+  abbrev pub stored : Store S R → ℕ
+  stored store = length store.extract.items + count_of store.body
+
+module _ {S R : Type 0} (shown : S → Shown) where
+  -- all slots of a store
+  abbrev pub slots_in : Store S R → List Shown
+  slots_in store = slots_of shown store.body store.supply
+
+  -- whatever is answered: no slot and no buffer is lost or made, all lists keep their room, and the extract buffer is within its own
+  pub record StoreKept (old new : Store S R) : Type 0 where
+    pub body : BodyKept shown old.body new.body old.supply new.supply
+    pub no_row : old.supply.drawn ≡ [] → new.supply.drawn ≡ []
+    pub sizes : new.sizes ≡ old.sizes
+    pub sources : SourcesRest old.sources new.sources
+    pub room : new.extract.room ≡ old.extract.room
+    pub within : length old.extract.items ≤ old.extract.room → length new.extract.items ≤ new.extract.room
+
+  -- the same, and the extract buffer got no record
+  pub record StoreStays (old new : Store S R) : Type 0 where
+    pub kept : StoreKept old new
+    pub extract : length new.extract.items ≤ length old.extract.items
+
+  -- a call of the slot with this number failed, and no other refusal comes
+  abbrev pub FailsAlone : Store S R → StoreFault → Type 0
+  FailsAlone new NoFreeBlock = ⊥
+  FailsAlone new (Device number) = HasFailed number (slots_in new)
+
+  module _ (cmp : R → R → Ordering) (record_of : List ℕ → R) (width : ℕ) where
+    -- runs may be stored and merged: they rest, and the budget is no less than its fixed part
+    pub record RunsMayMove (sizes : Numbers) (body : PassBody S R) (supply : Stock) : Type 0 where
+      pub range : AreInRange sizes
+      pub budget : fixed_of sizes ≤ sizes.memory
+      pub rest : AtRest shown cmp record_of width sizes body supply
+      pub no_row : supply.drawn ≡ []
+
+    -- what a run of so many records that was refused says
+    abbrev pub RunRefused : (sizes : Numbers) (n : ℕ) (old new : PassBody S R) (before now : Stock) → StoreFault → Type 0
+    RunRefused sizes n old new before now NoFreeBlock = StoreShort shown cmp record_of width sizes n old new before now
+    RunRefused sizes n old new before now (Device number) = HasFailed number (slots_of shown new now)
+
+    -- What each call of a store needs and leaves, unless a slot failed: runs may move, and the sources serve for all of them. The extract buffer
+    -- is within its room; where slots tell it ascends, and no record of a run is before one of its
+    pub record MayWork (store : Store S R) : Type 0 where
+      pub runs : RunsMayMove store.sizes store.body store.supply
+      pub workers : store.sources.bench.workers ≡ store.sizes.workers
+      pub serves : ServesFor (pool_of store.sizes + 65) store.sources
+      pub room : store.extract.room ≡ batch_of store.sizes
+      pub within : length store.extract.items ≤ store.extract.room
+      pub ascends : AllTell (slots_in store) → Ascends cmp store.extract.items
+      pub order : AllTell (slots_in store) → NoneAfter cmp store.extract.items (runs_bag shown record_of width store.body)
+
+    -- the records of heaps, the extract buffer and the runs
+    abbrev pub whole_bag : List R → Store S R → List R
+    whole_bag heap store = heap ++ store.extract.items ++ runs_bag shown record_of width store.body
+
+    -- heaps and store hold together what they held, and the store may work on
+    pub record Holds (heap heap' : List R) (old new : Store S R) : Type 0 where
+      pub works : MayWork new
+      pub bag : AllTell (slots_in old) → IsSameBag (whole_bag heap' new) (whole_bag heap old)
+      pub count : length heap' + stored new ≡ length heap + stored old
+
+    -- the same, and there is room for one run in blocks more: no level has more than 8
+    pub record Settles (heap heap' : List R) (old new : Store S R) : Type 0 where
+      pub holds : Holds heap heap' old new
+      pub few : length new.body.runs.external.items ≤ 64
+
+    -- the extract buffer was stored, and maybe records of the heaps
+    pub record Empties (heap heap' : List R) (old new : Store S R) : Type 0 where
+      pub holds : Holds heap heap' old new
+      pub emptied : IsEmptied new
+
+    -- the extract buffer is empty only if no run is left
+    pub record Readies (old new : Store S R) : Type 0 where
+      pub holds : Holds [] [] old new
+      pub some : new.extract.items ≡ [] → count_of new.body ≡ 0
+
+    -- a merge or a store found too few free slots, of what is held together, which is some
+    pub record Lacks (heap heap' : List R) (old new : Store S R) : Type 0 where
+      pub holds : Holds heap heap' old new
+      pub some : 0 < length heap + stored old
+      pub short : IsShort new.sizes (length new.supply.kept) (length heap + stored old)
+
+    -- what stands after a refusal
+    abbrev pub Refuses : (heap heap' : List R) (old new : Store S R) → StoreFault → Type 0
+    Refuses heap heap' old new NoFreeBlock = Lacks heap heap' old new
+    Refuses heap heap' old new (Device number) = HasFailed number (slots_in new)

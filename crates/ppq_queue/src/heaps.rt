@@ -1,0 +1,73 @@
+//! Heaps that are stored as runs.
+ghost use Rattle.std.specs.Prelude.{◌≡◌, ◌≤◌, ◌<◌, [], length, OnOk, IfErr};
+ghost use Rattle.ppq_heap.specs.Heaps.{items_of, share_at};
+ghost use Rattle.ppq_queue.specs.Stores.{MayWork, StoreStays, HeapsStay, ShareChanged, IsEmptied, Empties, Refuses};
+
+use crate::QueueFault;
+use crate::store::{Store, store_run};
+use ppq_extract::{Gate, Host, Slot};
+use ppq_heap::{Heaps, Record, record_laws};
+
+impl<S: Slot + Send + Sync, R: Record + Send + Sync> Store<S, R> {
+    // Stores each heap that is not empty as a run of its own, the first heap first. After each, levels of
+    // runs are merged.
+    pub fn store_heaps<H: Host, G: Gate>(
+        &mut self,
+        rt: &H,
+        heaps: &mut Heaps<R>,
+        gate: &G,
+    ) -> Result<(), QueueFault>
+    where
+        H::Dir: Send,
+        requires works { MayWork S.shown R.Ord.cmp R.record_of R.WIDTH self.old }
+        requires emptied { IsEmptied self.old }
+        requires heaps { length (items_of heaps.old) ≤ self.old.sizes.memory }
+        ensures stays { StoreStays S.shown self.old self.new }
+        ensures heaps { HeapsStay heaps.old heaps.new }
+        ensures emptied { OnOk result (Empties S.shown R.Ord.cmp R.record_of R.WIDTH (items_of heaps.old) (items_of heaps.new) self.old self.new) }
+        ensures none { OnOk result (items_of heaps.new ≡ []) }
+        ensures refused { IfErr result (Refuses S.shown R.Ord.cmp R.record_of R.WIDTH (items_of heaps.old) (items_of heaps.new) self.old self.new) }
+    {
+        let count = heaps.count();
+        'storing: for place in 0..count {
+            self.store_heap(rt, heaps, place, gate)?;
+        }
+        Ok(())
+    }
+
+    // Sorts the heap at a place and stores it, if it is not empty.
+    pub fn store_heap<H: Host, G: Gate>(
+        &mut self,
+        rt: &H,
+        heaps: &mut Heaps<R>,
+        place: u32,
+        gate: &G,
+    ) -> Result<(), QueueFault>
+    where
+        H::Dir: Send,
+        requires works { MayWork S.shown R.Ord.cmp R.record_of R.WIDTH self.old }
+        requires emptied { IsEmptied self.old }
+        requires place { place < length heaps.old.heaps }
+        requires heaps { length (items_of heaps.old) ≤ self.old.sizes.memory }
+        ensures stays { StoreStays S.shown self.old self.new }
+        ensures changed { ShareChanged place heaps.old heaps.new }
+        ensures emptied { OnOk result (Empties S.shown R.Ord.cmp R.record_of R.WIDTH (items_of heaps.old) (items_of heaps.new) self.old self.new) }
+        ensures share { OnOk result (share_at heaps.new place ≡ []) }
+        ensures refused { IfErr result (Refuses S.shown R.Ord.cmp R.record_of R.WIDTH (items_of heaps.old) (items_of heaps.new) self.old self.new) }
+    {
+        record_laws::<R>();
+        if heaps.share(place).is_empty() {
+            return Ok(());
+        }
+        heaps.sort_share(place);
+        store_run(
+            rt,
+            self.sizes,
+            &mut self.body,
+            &mut self.supply,
+            heaps.share(place),
+        )?;
+        heaps.clear_share(place);
+        self.settle(rt, gate)
+    }
+}
