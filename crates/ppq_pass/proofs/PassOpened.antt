@@ -8,11 +8,11 @@ use Rattle.ppq_pool.specs.ppq_record.Order.{Ascends, is_before}
 use Rattle.ppq_pool.specs.ppq_record.Bag.{IsSameBag, ascending}
 use Rattle.ppq_pool.proofs.ppq_record.Order.{IsSameBag-length, in_order-same_bag}
 use Rattle.ppq_pool.proofs.ppq_record.Fronts.{ranks}
-use Rattle.ppq_queue.specs.ppq_outside.Shown.{Shown}
-use Rattle.ppq_queue.specs.ppq_budget.Sizes.{Numbers, heap_of}
-use Rattle.ppq_queue.specs.ppq_heap.Heap.{Contents}
-use Rattle.ppq_queue.specs.ppq_array.declared.berth.DeviceBlock.{DeviceBlock}
-use Rattle.ppq_queue.specs.ppq_spill.declared.body.PassBody.{PassBody}
+use Rattle.ppq_extract.specs.ppq_outside.Shown.{Shown}
+use Rattle.ppq_extract.specs.ppq_budget.Sizes.{Numbers, heap_of}
+use Rattle.ppq_heap.specs.Heap.{Contents}
+use Rattle.ppq_extract.specs.ppq_array.declared.berth.DeviceBlock.{DeviceBlock}
+use Rattle.ppq_spill.specs.declared.body.PassBody.{PassBody}
 use Rattle.ppq_pass.specs.declared.shared.Shared.{Shared}
 use Rattle.ppq_pass.specs.declared.parts.PassParts.{PassParts}
 use Rattle.ppq_pass.specs.Passed.{PassHolding, PassKey, key_of, holding_of, shown_holding}

@@ -3,23 +3,23 @@ use Rattle.std.specs.Prelude.{◌≡◌, ℕ, ◌+◌, ◌*◌, ◌<◌, ◌≤�
 use Rattle.atomic_table.specs.Seated.{TableId}
 use Rattle.ppq_pool.specs.ppq_table.Sums.{times}
 use Rattle.ppq_pool.specs.ppq_record.Bag.{IsSameBag}
-use Rattle.ppq_queue.specs.ppq_outside.Shown.{Shown, AllTell}
-use Rattle.ppq_queue.specs.ppq_budget.Sizes.{Numbers, numbers, AreInRange, heap_of, pool_of}
-use Rattle.ppq_queue.specs.ppq_heap.Heap.{Contents}
-use Rattle.ppq_queue.specs.ppq_array.declared.berth.DeviceBlock.{DeviceBlock}
-use Rattle.ppq_queue.specs.ppq_array.External.{records_in}
-use Rattle.ppq_queue.specs.ppq_array.Kept.{SameSlots, HasFailed}
-use Rattle.ppq_queue.specs.ppq_array.Owner.{slots_shown}
-use Rattle.ppq_queue.specs.ppq_array.Holdings.{internal_items}
-use Rattle.ppq_queue.specs.ppq_fetch.Fetching.{count_in}
-use Rattle.ppq_queue.specs.ppq_spill.Body.{body_slots, held_by}
-use Rattle.ppq_queue.specs.ppq_spill.Storing.{in_buffers}
-use Rattle.ppq_queue.specs.ppq_spill.declared.body.PassBody.{PassBody}
+use Rattle.ppq_extract.specs.ppq_outside.Shown.{Shown, AllTell}
+use Rattle.ppq_extract.specs.ppq_budget.Sizes.{Numbers, numbers, AreInRange, heap_of, pool_of}
+use Rattle.ppq_heap.specs.Heap.{Contents}
+use Rattle.ppq_extract.specs.ppq_array.declared.berth.DeviceBlock.{DeviceBlock}
+use Rattle.ppq_extract.specs.ppq_array.External.{records_in}
+use Rattle.ppq_extract.specs.ppq_array.Kept.{SameSlots, HasFailed}
+use Rattle.ppq_extract.specs.ppq_array.Owner.{slots_shown}
+use Rattle.ppq_extract.specs.ppq_array.Holdings.{internal_items}
+use Rattle.ppq_extract.specs.ppq_fetch.Fetching.{count_in}
+use Rattle.ppq_spill.specs.Body.{body_slots, held_by}
+use Rattle.ppq_spill.specs.Storing.{in_buffers}
+use Rattle.ppq_spill.specs.declared.body.PassBody.{PassBody}
 use Rattle.ppq_row.specs.Known.{Known as RowKnown}
 use Rattle.ppq_pool.specs.Known.{Known as PoolKnown}
 use Rattle.ppq_pool.specs.Seats.{count_of}
-use Rattle.ppq_queue.specs.declared.fault.QueueFault.{QueueFault}
-use Rattle.ppq_queue.specs.declared.fault.QueueFault.TheVariants.{NoFreeBlock, Device}
+use Rattle.ppq_extract.specs.ppq_array.declared.store_fault.StoreFault.{StoreFault}
+use Rattle.ppq_extract.specs.ppq_array.declared.store_fault.StoreFault.TheVariants.{NoFreeBlock, Device}
 use Rattle.ppq_pass.specs.declared.shared.Shared.{Shared}
 use Rattle.ppq_pass.specs.declared.shared.PoolBuf.{PoolBuf}
 use Rattle.ppq_pass.specs.declared.parts.PassParts.{PassParts}
@@ -101,7 +101,7 @@ module _ {S R : Type 0} where
     pub refused : new.refused ≡ old.refused
 
   -- why a push was refused, and what it left
-  abbrev pub IsRefusedPush : PassHolding S R → PassHolding S R → QueueFault → Type 0
+  abbrev pub IsRefusedPush : PassHolding S R → PassHolding S R → StoreFault → Type 0
   IsRefusedPush old new NoFreeBlock = FoundNone old new
   IsRefusedPush old new (Device number) = MetFault number old new
 

@@ -2,12 +2,12 @@ use Rattle.std.proofs.Common.{◌≡◌, ◌+◌, ◌*◌, ◌<◌, ◌∷◌, �
 use Rattle.std.specs.Prelude.{count_by, flat_map}
 use Rattle.ppq_pool.specs.ppq_record.Bag.{IsSameBag}
 use Rattle.ppq_pool.proofs.ppq_record.Order.{count_by-append, count_by-cons, IsSameBag-length}
-use Rattle.ppq_queue.specs.ppq_budget.Sizes.{heap_of}
-use Rattle.ppq_queue.specs.ppq_array.External.{records_in}
-use Rattle.ppq_queue.specs.ppq_array.Kept.{HasFailed}
-use Rattle.ppq_queue.specs.ppq_array.declared.store_fault.StoreFault.TheVariants.{NoFreeBlock, Device}
-use Rattle.ppq_queue.specs.ppq_array.Holdings.{internal_items}
-use Rattle.ppq_queue.specs.ppq_fetch.Fetching.{count_in}
+use Rattle.ppq_extract.specs.ppq_budget.Sizes.{heap_of}
+use Rattle.ppq_extract.specs.ppq_array.External.{records_in}
+use Rattle.ppq_extract.specs.ppq_array.Kept.{HasFailed}
+use Rattle.ppq_extract.specs.ppq_array.declared.store_fault.StoreFault.TheVariants.{NoFreeBlock, Device}
+use Rattle.ppq_extract.specs.ppq_array.Holdings.{internal_items}
+use Rattle.ppq_extract.specs.ppq_fetch.Fetching.{count_in}
 use Rattle.ppq_pass.specs.Passing.{IsPass}
 use Rattle.ppq_pass.specs.Passed.{PassTells, slots_of, runs_bag}
 use Rattle.ppq_pass.specs.PassState.{IsPassing}
