@@ -6,7 +6,6 @@ use Rattle.ppq_pool.specs.ppq_record.Order.{Ascends}
 use Rattle.ppq_extract.specs.ppq_outside.Shown.{Shown}
 use Rattle.ppq_extract.specs.ppq_budget.Sizes.{Numbers, AreInRange, heap_of, fixed_of, pool_of}
 use Rattle.ppq_heap.specs.Heap.{Contents}
-use Rattle.ppq_extract.specs.ppq_array.Run.{Run}
 use Rattle.ppq_extract.specs.ppq_array.Kept.{HasFailed}
 use Rattle.ppq_extract.specs.ppq_array.Holdings.{internal_buffers, external_slots}
 use Rattle.ppq_extract.specs.ppq_fetch.Fetching.{count_in}

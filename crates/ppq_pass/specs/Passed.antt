@@ -1,5 +1,5 @@
 -- What contracts see of a pass.
-use Rattle.std.specs.Prelude.{◌≡◌, ℕ, ◌+◌, ◌*◌, ◌<◌, ◌≤◌, Bool, true, false, List, [], ◌++◌, length, flat_map, All, Option, Some, None}
+use Rattle.std.specs.Prelude.{◌≡◌, ℕ, ◌+◌, ◌*◌, ◌<◌, ◌≤◌, Bool, true, false, List, [], ◌∷◌, ◌++◌, length, flat_map, All, Option, Some, None}
 use Rattle.atomic_table.specs.Seated.{TableId}
 use Rattle.ppq_pool.specs.ppq_table.Sums.{times}
 use Rattle.ppq_pool.specs.ppq_record.Bag.{IsSameBag}
@@ -104,6 +104,21 @@ module _ {S R : Type 0} where
   abbrev pub IsRefusedPush : PassHolding S R → PassHolding S R → StoreFault → Type 0
   IsRefusedPush old new NoFreeBlock = FoundNone old new
   IsRefusedPush old new (Device number) = MetFault number old new
+
+  -- A push that stored the heap first: the record is in the pass, alone in its heap, and neither a refusal nor a fault was kept
+  pub record PutAfterStore (shown : S → Shown) (r : R) (old new : PassHolding S R) : Type 0 where
+    pub added : PassTells shown old → IsSameBag new.bag (r ∷ old.bag)
+    pub size : new.size ≡ old.size + 1
+    pub accepted : new.accepted ≡ old.accepted + 1
+    pub same : new.refused ≡ old.refused
+    pub sound : new.failed ≡ None
+    pub stored : new.in_heap ≡ 1
+
+  -- Whatever a push answers: slots go on telling, the pass has those that it had and those that it drew, and its key stays
+  pub record PushKeeps (shown : S → Shown) (old new : PassHolding S R) : Type 0 where
+    pub tells : PassTells shown old → PassTells shown new
+    pub kept : KeptSlots old new
+    pub key : new.key ≡ old.key
 
   -- What always holds of a pass: its sizes are in range, and its heap is within them. The slots that it holds are those that it drew. It
   -- holds the buffers whose numbers its seat of the pool holds, and two more. The numbers are of buffers of the pool, each once, and the pool

@@ -27,8 +27,8 @@ pub use pass::Pass;
 pub use pass_supply::PassSupply;
 pub use ppq_extract::{
     Berth, BerthList, BufList, ExternalArray, Extract, Gate, Host, InternalArray, Lanes, Library,
-    OutsideFault, OwnerLists, Runs, Sizes, Slot, Sources, StoreFault, Supply, free_slot,
-    give_buffer,
+    OutsideFault, OwnerLists, Runs, Sizes, Slot, Sources, StoreFault, StoreFault as QueueFault,
+    Supply, free_slot, give_buffer,
 };
 pub use ppq_heap::{Heaps, InsertionHeap, MinTree};
 pub use ppq_pool::{

@@ -5,7 +5,7 @@ ghost use Rattle.ppq_extract.specs.ppq_budget.Sizes.{heap_of, pool_of};
 ghost use Rattle.ppq_extract.specs.ppq_array.Owner.{HasSize};
 ghost use Rattle.ppq_spill.specs.Body.{IsNewBody};
 ghost use Rattle.ppq_pool.specs.Seats.{count_of};
-ghost use Rattle.ppq_pass.specs.Passed.{IsOf, PassTells, KeptSlots, with_one, IsRefusedPush, IsKnown, holding_of, new_holding};
+ghost use Rattle.ppq_pass.specs.Passed.{IsOf, PassTells, KeptSlots, PutAfterStore, PushKeeps, with_one, IsRefusedPush, IsKnown, holding_of, new_holding};
 ghost use Rattle.ppq_pass.specs.PassState.{IsPassed, IsSoundPass};
 ghost use Rattle.ppq_extract.specs.ppq_array.declared.store_fault.StoreFault.TheVariants.{Device};
 
@@ -181,16 +181,9 @@ impl<S: Slot, R: Record> Pass<S, R> {
         requires of { IsOf shared.now self.old }
         requires sound { self.old.failed ≡ None }
         requires full { self.old.in_heap ≡ heap_of self.old.key.sizes }
-        ensures added { OnOk result (PassTells S.shown self.old → IsSameBag self.new.bag (r ∷ self.old.bag)) }
-        ensures size { OnOk result (self.new.size ≡ self.old.size + 1) }
-        ensures accepted { OnOk result (self.new.accepted ≡ self.old.accepted + 1) }
-        ensures same { OnOk result (self.new.refused ≡ self.old.refused) }
-        ensures sound { OnOk result (self.new.failed ≡ None) }
-        ensures stored { OnOk result (self.new.in_heap ≡ 1) }
+        ensures put { OnOk result (PutAfterStore S.shown r self.old self.new) }
         ensures refused { IfErr result (IsRefusedPush self.old self.new) }
-        ensures tells { PassTells S.shown self.old → PassTells S.shown self.new }
-        ensures kept { KeptSlots self.old self.new }
-        ensures key { self.new.key ≡ self.old.key }
+        ensures stays { PushKeeps S.shown self.old self.new }
     {
         record_laws::<R>();
         let Some(parts) = self.parts.take() else {
