@@ -4,21 +4,21 @@ use Rattle.std.specs.Prelude.{vec_capacity}
 use Rattle.std.specs.declared.cmp.Ordering.{Ordering}
 use Rattle.std.proofs.lemmas.List.Elements.{All-nil}
 use Rattle.ppq_pool.specs.ppq_table.Sums.{times}
-use Rattle.ppq_queue.specs.ppq_outside.Shown.{Shown}
+use Rattle.ppq_extract.specs.ppq_outside.Shown.{Shown}
 use Rattle.ppq_pool.specs.ppq_record.Order.{Ascends}
-use Rattle.ppq_queue.specs.ppq_budget.Sizes.{Numbers, AreInRange, heap_of, pool_of}
-use Rattle.ppq_queue.specs.ppq_heap.Heap.{Contents}
-use Rattle.ppq_queue.specs.ppq_array.declared.berth.DeviceBlock.{DeviceBlock}
-use Rattle.ppq_queue.specs.ppq_array.Run.{Run, items_of}
-use Rattle.ppq_queue.specs.ppq_array.External.{External, records_in}
-use Rattle.ppq_queue.specs.ppq_array.Owner.{HasBlock, HasSize, slots_shown}
-use Rattle.ppq_queue.specs.ppq_array.Kept.{SameSlots, all_writes}
-use Rattle.ppq_queue.specs.ppq_array.Holdings.{internal_buffers, external_slots, external_buffers, RunHasBlock, ArrayHasSize}
-use Rattle.ppq_queue.specs.ppq_fetch.Fetching.{count_in}
-use Rattle.ppq_queue.specs.ppq_spill.Body.{IsNewBody, job_slots}
-use Rattle.ppq_queue.specs.ppq_spill.declared.body.PassBody.{PassBody}
-use Rattle.ppq_queue.specs.ppq_spill.Untold.{untold}
-use Rattle.ppq_queue.proofs.ppq_spill.SameSlots.{SameSlots-refl}
+use Rattle.ppq_extract.specs.ppq_budget.Sizes.{Numbers, AreInRange, heap_of, pool_of}
+use Rattle.ppq_heap.specs.Heap.{Contents}
+use Rattle.ppq_extract.specs.ppq_array.declared.berth.DeviceBlock.{DeviceBlock}
+use Rattle.ppq_extract.specs.ppq_array.Run.{Run, items_of}
+use Rattle.ppq_extract.specs.ppq_array.External.{External, records_in}
+use Rattle.ppq_extract.specs.ppq_array.Owner.{HasBlock, HasSize, slots_shown}
+use Rattle.ppq_extract.specs.ppq_array.Kept.{SameSlots, all_writes}
+use Rattle.ppq_extract.specs.ppq_array.Holdings.{internal_buffers, external_slots, external_buffers, RunHasBlock, ArrayHasSize}
+use Rattle.ppq_extract.specs.ppq_fetch.Fetching.{count_in}
+use Rattle.ppq_spill.specs.Body.{IsNewBody, job_slots}
+use Rattle.ppq_spill.specs.declared.body.PassBody.{PassBody}
+use Rattle.ppq_spill.specs.Untold.{untold}
+use Rattle.ppq_spill.proofs.SameSlots.{SameSlots-refl}
 use Rattle.ppq_pool.specs.Seats.{count_of}
 use Rattle.ppq_pass.specs.declared.parts.PassParts.{PassParts}
 use Rattle.ppq_pass.specs.Passing.{IsPass, items_at}

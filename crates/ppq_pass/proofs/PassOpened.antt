@@ -1,22 +1,18 @@
 -- A pass that is about to store its heap, and what it shows before and after.
 use Rattle.std.proofs.Common.{◌≡◌, ℕ, ◌<◌, Bool, true, List, ◌∷◌, length, Option, Some, None, sym, ap, ap₂, ◌∙◌, subst, arith, refl}
-use Rattle.std.specs.Prelude.{count_by, Result, Ok, Err, IsErr, OnOk, IsErrOf}
+use Rattle.std.specs.Prelude.{Result, Ok, Err, IsErr, OnOk, IsErrOf}
 use Rattle.std.specs.declared.cmp.Ordering.{Ordering}
-use Rattle.std.specs.Cmp.{IsTotalOrder}
 use Rattle.atomic_table.specs.Seated.{TableId}
-use Rattle.ppq_pool.specs.ppq_record.Order.{Ascends, is_before}
-use Rattle.ppq_pool.specs.ppq_record.Bag.{IsSameBag, ascending}
-use Rattle.ppq_pool.proofs.ppq_record.Order.{IsSameBag-length, in_order-same_bag}
-use Rattle.ppq_pool.proofs.ppq_record.Fronts.{ranks}
-use Rattle.ppq_queue.specs.ppq_outside.Shown.{Shown}
-use Rattle.ppq_queue.specs.ppq_budget.Sizes.{Numbers, heap_of}
-use Rattle.ppq_queue.specs.ppq_heap.Heap.{Contents}
-use Rattle.ppq_queue.specs.ppq_array.declared.berth.DeviceBlock.{DeviceBlock}
-use Rattle.ppq_queue.specs.ppq_spill.declared.body.PassBody.{PassBody}
+use Rattle.ppq_pool.specs.ppq_record.Bag.{IsSameBag}
+use Rattle.ppq_extract.specs.ppq_outside.Shown.{Shown}
+use Rattle.ppq_extract.specs.ppq_budget.Sizes.{Numbers}
+use Rattle.ppq_heap.specs.Heap.{Contents}
+use Rattle.ppq_extract.specs.ppq_array.declared.berth.DeviceBlock.{DeviceBlock}
+use Rattle.ppq_spill.specs.declared.body.PassBody.{PassBody}
 use Rattle.ppq_pass.specs.declared.shared.Shared.{Shared}
 use Rattle.ppq_pass.specs.declared.parts.PassParts.{PassParts}
 use Rattle.ppq_pass.specs.Passed.{PassHolding, PassKey, key_of, holding_of, shown_holding}
-use Rattle.ppq_pass.specs.PassState.{IsPassed, IsSoundPass, IsPassing, shared_of}
+use Rattle.ppq_pass.specs.PassState.{IsPassing, shared_of}
 use Rattle.ppq_pass.specs.PassStore.{StoreKept}
 
 -- one number is not kept where none is
@@ -46,40 +42,12 @@ module _ {T E : Type 0} where
   has_room (Err e) most x old new room full added = absurd (omega (arith, full refl))
 
 module _ {S R : Type 0} (shown : S → Shown) (cmp : R → R → Ordering) (record_of : List ℕ → R) (width : ℕ) (n : Numbers) (heap : Contents R) (body : PassBody S R) where
-  -- what is known where a full heap was sorted, to be stored
-  pub record AtStore (p : PassParts S R) (begun accepted : ℕ) (refused : Bool) (sorted : List R) : Type 0 where
-    pub is : IsPassed shown width n heap body p refused None
-    pub sound : IsSoundPass shown cmp record_of width n heap body p begun accepted refused
-    pub full : length heap.items ≡ heap_of n
-    pub long : length sorted ≡ heap_of n
-    pub bag : IsSameBag sorted heap.items
-    pub up : Ascends cmp sorted
-
   module _ (begun accepted : ℕ) (refused : Bool) (failed : Option ℕ) (o : Option (PassParts S R)) (p : PassParts S R) (e : o ≡ Some p) where
     pub opened : IsPassing shown cmp record_of width n heap body o begun accepted refused failed → IsPassing shown cmp record_of width n heap body (Some p) begun accepted refused failed
     opened is = subst (λ (o : Option (PassParts S R)). IsPassing shown cmp record_of width n heap body o begun accepted refused failed) e is
 
     pub seen : (v : PassHolding S R) → shown_holding shown record_of width n heap body o begun accepted refused failed ≡ v → holding_of shown record_of width n heap body p begun accepted refused failed ≡ v
     seen v view = subst (λ (o : Option (PassParts S R)). shown_holding shown record_of width n heap body o begun accepted refused failed ≡ v) e view
-
-    pub at_store :
-        IsTotalOrder cmp → IsPassing shown cmp record_of width n heap body o begun accepted refused failed → (v : PassHolding S R) → shown_holding shown record_of width n heap body o begun accepted refused failed ≡ v
-        → v.failed ≡ None → v.in_heap ≡ heap_of v.key.sizes → (sorted given : List R) → sorted ≡ given → given ≡ ascending cmp heap.items → Ascends cmp given
-        → AtStore p begun accepted refused sorted
-    at_store order is v view sound full sorted given same asc up =
-        let view' = seen v view in
-        let none : failed ≡ None = ap (λ v. v.failed) view' ∙ sound in
-        let both = opened is in
-        let all : length heap.items ≡ heap_of n = subst (λ (v : PassHolding S R). v.in_heap ≡ heap_of v.key.sizes) (sym view') full in
-        let bag : IsSameBag sorted heap.items = λ t. ap (count_by t) (same ∙ asc) ∙ in_order-same_bag (is_before cmp) (ranks order) heap.items t in
-        record {
-          is = subst (λ (f : Option ℕ). IsPassed shown width n heap body p refused f) none both.0;
-          sound = both.1 none;
-          full = all;
-          long = IsSameBag-length sorted heap.items bag ∙ all;
-          bag = bag;
-          up = subst (Ascends cmp) (sym same) up;
-        }
 
 module _ {S R : Type 0} (shown : S → Shown) (width : ℕ) (shared : Shared S R) (a b : PassBody S R) (p q : PassParts S R) (records : ℕ) (kept : StoreKept shown width records shared a b p q) (row : p.row_seat.row ≡ shared.row) (pool : p.pool_seat.pool ≡ shared.pool) where
   -- the key stays

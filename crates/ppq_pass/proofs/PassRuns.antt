@@ -1,19 +1,18 @@
 -- How many buffers, blocks and records the runs of a pass have.
 use Rattle.std.proofs.Common.{◌≡◌, ℕ, suc, ◌+◌, ◌*◌, ◌<◌, ◌≤◌, List, [], ◌∷◌, ◌++◌, length, sum_by, All, ap, arith, length-append, length-drop}
-use Rattle.std.specs.Prelude.{flat_map}
 use Rattle.std.proofs.lemmas.List.Sums.{sum_by-cons}
 use Rattle.std.proofs.lemmas.List.Elements.{All-head, All-tail, All-cons}
 use Rattle.std.proofs.lemmas.List.Concat.{flat_map-cons}
 use Rattle.std.proofs.Math.Nat.{suc-mul, add-mul, mul_assoc, mul-le-mul_right, le_of_mul-le-mul_right, lt_of_mul-lt-mul_right}
-use Rattle.ppq_queue.specs.ppq_outside.Shown.{Shown}
-use Rattle.ppq_queue.specs.ppq_block.Block.{Block, all_items}
-use Rattle.ppq_queue.specs.ppq_array.declared.berth.DeviceBlock.{DeviceBlock}
-use Rattle.ppq_queue.specs.ppq_array.Run.{Run, items_of, buffers_of}
-use Rattle.ppq_queue.specs.ppq_array.External.{External, counts, size_of, waiting}
-use Rattle.ppq_queue.specs.ppq_array.Owner.{HasBlock, slots_shown}
-use Rattle.ppq_queue.specs.ppq_array.Holdings.{internal_items, internal_buffers, external_slots, RunHasBlock}
-use Rattle.ppq_queue.specs.ppq_fetch.Fetching.{IsFitting}
-use Rattle.ppq_queue.proofs.ppq_spill.Keeping.{slots_long}
+use Rattle.ppq_extract.specs.ppq_outside.Shown.{Shown}
+use Rattle.ppq_extract.specs.ppq_block.Block.{Block, all_items}
+use Rattle.ppq_extract.specs.ppq_array.declared.berth.DeviceBlock.{DeviceBlock}
+use Rattle.ppq_extract.specs.ppq_array.Run.{Run, items_of, buffers_of}
+use Rattle.ppq_extract.specs.ppq_array.External.{External, counts, size_of, waiting}
+use Rattle.ppq_extract.specs.ppq_array.Owner.{HasBlock, slots_shown}
+use Rattle.ppq_extract.specs.ppq_array.Holdings.{internal_items, internal_buffers, external_slots, RunHasBlock}
+use Rattle.ppq_extract.specs.ppq_fetch.Fetching.{IsFitting}
+use Rattle.ppq_spill.proofs.Keeping.{slots_long}
 use Rattle.ppq_pass.specs.PassState.{IsPassRun, IsPassArray}
 
 module _ {R : Type 0} where

@@ -5,13 +5,13 @@ use mathlib.Core.List.{append_assoc}
 use lib.ListN.{get_elem?}
 use Rattle.std.proofs.lemmas.List.{map-append}
 use Rattle.std.proofs.lemmas.List.Sums.{sum_by-append}
-use Rattle.ppq_queue.specs.ppq_outside.Shown.{Shown}
-use Rattle.ppq_queue.specs.ppq_array.declared.berth.DeviceBlock.{DeviceBlock}
-use Rattle.ppq_queue.specs.ppq_array.Owner.{slots_shown}
-use Rattle.ppq_queue.specs.ppq_array.Kept.{SameSlots, Kept, weight_at}
-use Rattle.ppq_queue.specs.ppq_spill.Body.{held_by}
-use Rattle.ppq_queue.specs.ppq_spill.declared.body.PassBody.{PassBody}
-use Rattle.ppq_queue.proofs.ppq_spill.SameSlots.{SameSlots-refl}
+use Rattle.ppq_extract.specs.ppq_outside.Shown.{Shown}
+use Rattle.ppq_extract.specs.ppq_array.declared.berth.DeviceBlock.{DeviceBlock}
+use Rattle.ppq_extract.specs.ppq_array.Owner.{slots_shown}
+use Rattle.ppq_extract.specs.ppq_array.Kept.{SameSlots, Kept, weight_at}
+use Rattle.ppq_spill.specs.Body.{held_by}
+use Rattle.ppq_spill.specs.declared.body.PassBody.{PassBody}
+use Rattle.ppq_spill.proofs.SameSlots.{SameSlots-refl}
 use Rattle.ppq_row.specs.Known.{Known as RowKnown}
 use Rattle.ppq_row.specs.Seats.{Drew}
 use Rattle.ppq_pool.specs.Known.{Known as PoolKnown}

@@ -4,15 +4,15 @@ use mathlib.Core.Option.{Option, none, some}
 use lib.ListN.{get_elem?}
 use Rattle.std.proofs.lemmas.List.Sums.{sum_by-cons, sum_by-append}
 use Rattle.std.proofs.lemmas.List.Elements.{All-head, All-tail}
-use Rattle.ppq_queue.specs.ppq_outside.Shown.{Shown, AllTell}
-use Rattle.ppq_queue.specs.ppq_array.declared.berth.DeviceBlock.{DeviceBlock}
-use Rattle.ppq_queue.specs.ppq_array.Owner.{slots_shown}
-use Rattle.ppq_queue.specs.ppq_array.Kept.{SameSlots, Kept, weight_at, all_writes}
-use Rattle.ppq_queue.specs.ppq_spill.Body.{body_slots, held_by}
-use Rattle.ppq_queue.specs.ppq_spill.Storing.{StillTell, StillUntold, WritesFew}
-use Rattle.ppq_queue.specs.ppq_spill.declared.body.PassBody.{PassBody}
-use Rattle.ppq_queue.specs.ppq_spill.Untold.{untold, SameUntold}
-use Rattle.ppq_queue.proofs.ppq_spill.Telling.{tell_sum, sum_tell}
+use Rattle.ppq_extract.specs.ppq_outside.Shown.{Shown, AllTell}
+use Rattle.ppq_extract.specs.ppq_array.declared.berth.DeviceBlock.{DeviceBlock}
+use Rattle.ppq_extract.specs.ppq_array.Owner.{slots_shown}
+use Rattle.ppq_extract.specs.ppq_array.Kept.{SameSlots, Kept, weight_at, all_writes}
+use Rattle.ppq_spill.specs.Body.{body_slots, held_by}
+use Rattle.ppq_spill.specs.Storing.{StillTell, StillUntold, WritesFew}
+use Rattle.ppq_spill.specs.declared.body.PassBody.{PassBody}
+use Rattle.ppq_spill.specs.Untold.{untold, SameUntold}
+use Rattle.ppq_spill.proofs.Telling.{tell_sum, sum_tell}
 use Rattle.ppq_pass.specs.declared.parts.PassParts.{PassParts}
 use Rattle.ppq_pass.specs.Passing.{items_at, with_item}
 use Rattle.ppq_pass.specs.Passed.{slots_of}

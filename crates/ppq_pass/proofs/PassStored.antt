@@ -1,5 +1,5 @@
 -- What a store leaves of a pass whose runs were all full heaps: the same, with one run more, or as it was.
-use Rattle.std.proofs.Common.{◌≡◌, ℕ, suc, ◌+◌, ◌-◌, ◌*◌, ◌<◌, ◌≤◌, Bool, true, List, [], ◌∷◌, ◌++◌, length, sum_by, All, None, inl, inr, sym, ap, ◌∙◌, subst, arith, append-nil, length-append}
+use Rattle.std.proofs.Common.{◌≡◌, ℕ, suc, ◌+◌, ◌*◌, ◌<◌, ◌≤◌, Bool, true, List, [], ◌∷◌, ◌++◌, length, sum_by, All, None, inl, inr, sym, ap, ◌∙◌, subst, arith, append-nil, length-append}
 use Rattle.std.specs.Prelude.{flat_map, count_by}
 use Rattle.std.specs.declared.cmp.Ordering.{Ordering}
 use Rattle.std.proofs.lemmas.List.Sums.{sum_by-cons, sum_by-append}
@@ -10,19 +10,19 @@ use Rattle.std.proofs.Math.Nat.{suc-mul, mul_assoc, add-mul, le_of_mul-le-mul_ri
 use Rattle.ppq_pool.specs.ppq_record.Order.{Ascends}
 use Rattle.ppq_pool.specs.ppq_record.Bag.{IsSameBag}
 use Rattle.ppq_pool.proofs.ppq_record.Order.{count_by-append}
-use Rattle.ppq_queue.specs.ppq_outside.Shown.{Shown, AllTell}
-use Rattle.ppq_queue.specs.ppq_budget.Sizes.{Numbers, heap_of}
-use Rattle.ppq_queue.specs.ppq_heap.Heap.{Contents}
-use Rattle.ppq_queue.specs.ppq_array.declared.berth.DeviceBlock.{DeviceBlock}
-use Rattle.ppq_queue.specs.ppq_array.Run.{Run, items_of}
-use Rattle.ppq_queue.specs.ppq_array.External.{External, size_of, waiting, counts, records_in}
-use Rattle.ppq_queue.specs.ppq_array.Owner.{slots_shown}
-use Rattle.ppq_queue.specs.ppq_array.Holdings.{internal_items, RunHasBlock, ArrayHasSize}
-use Rattle.ppq_queue.proofs.ppq_array.Noted.{all_right}
-use Rattle.ppq_queue.specs.ppq_fetch.Fetching.{count_in}
-use Rattle.ppq_queue.specs.ppq_spill.Storing.{in_buffers, IsInBuffers, BlocksStored, IsStored, NoneFree}
-use Rattle.ppq_queue.specs.ppq_spill.declared.body.PassBody.{PassBody}
-use Rattle.ppq_queue.proofs.ppq_spill.Keeping.{slots_long}
+use Rattle.ppq_extract.specs.ppq_outside.Shown.{Shown, AllTell}
+use Rattle.ppq_extract.specs.ppq_budget.Sizes.{Numbers, heap_of}
+use Rattle.ppq_heap.specs.Heap.{Contents}
+use Rattle.ppq_extract.specs.ppq_array.declared.berth.DeviceBlock.{DeviceBlock}
+use Rattle.ppq_extract.specs.ppq_array.Run.{Run, items_of}
+use Rattle.ppq_extract.specs.ppq_array.External.{External, size_of, waiting, counts, records_in}
+use Rattle.ppq_extract.specs.ppq_array.Owner.{slots_shown}
+use Rattle.ppq_extract.specs.ppq_array.Holdings.{internal_items, RunHasBlock, ArrayHasSize}
+use Rattle.ppq_extract.proofs.ppq_array.Noted.{all_right}
+use Rattle.ppq_extract.specs.ppq_fetch.Fetching.{count_in}
+use Rattle.ppq_spill.specs.Storing.{in_buffers, IsInBuffers, BlocksStored, IsStored, NoneFree}
+use Rattle.ppq_spill.specs.declared.body.PassBody.{PassBody}
+use Rattle.ppq_spill.proofs.Keeping.{slots_long}
 use Rattle.ppq_pass.specs.declared.shared.Shared.{Shared}
 use Rattle.ppq_pass.specs.declared.parts.PassParts.{PassParts}
 use Rattle.ppq_pass.specs.Passed.{runs_bag}

@@ -1,5 +1,5 @@
 -- What each call of a pass's supply keeps.
-use Rattle.std.proofs.Common.{◌≡◌, ◌≢◌, ◌⊎◌, inl, inr, ℕ, zero, suc, ◌+◌, ◌-◌, ◌*◌, ◌<◌, ◌≤◌, ◌^◌, List, [], ◌∷◌, ◌++◌, length, map, All, refl, sym, ap, ap₂, ◌∙◌, subst, arith, length-append}
+use Rattle.std.proofs.Common.{◌≡◌, ◌≢◌, ◌⊎◌, inl, inr, ℕ, zero, suc, ◌+◌, ◌-◌, ◌*◌, ◌<◌, ◌≤◌, ◌^◌, List, [], ◌∷◌, ◌++◌, length, All, refl, sym, ap, ap₂, ◌∙◌, subst, arith, length-append}
 use mathlib.Core.Option.{Option, none, some}
 use lib.ListN.{get_elem?}
 use Rattle.std.proofs.lemmas.List.Elements.{All-head, All-tail, All-push}
@@ -8,17 +8,17 @@ use Rattle.std.specs.Prelude.{Vec, vec_capacity}
 use Rattle.std.specs.Global.{Global}
 use Rattle.ppq_pool.specs.ppq_table.Sums.{times}
 use Rattle.ppq_pool.proofs.ppq_table.Numbers.{times-cons, times-append, times-same, times-other, upto, upto-times}
-use Rattle.ppq_queue.specs.ppq_outside.Shown.{Shown}
-use Rattle.ppq_queue.specs.ppq_array.Supply.{Stock, DrawsSlot}
-use Rattle.ppq_queue.specs.ppq_array.Owner.{HasSize, slots_shown}
-use Rattle.ppq_queue.specs.ppq_array.declared.berth.DeviceBlock.{DeviceBlock}
+use Rattle.ppq_extract.specs.ppq_outside.Shown.{Shown}
+use Rattle.ppq_extract.specs.ppq_array.Supply.{Stock, DrawsSlot}
+use Rattle.ppq_extract.specs.ppq_array.Owner.{HasSize, slots_shown}
+use Rattle.ppq_extract.specs.ppq_array.declared.berth.DeviceBlock.{DeviceBlock}
 use Rattle.ppq_row.specs.Known.{Known as RowKnown}
 use Rattle.ppq_row.specs.Seats.{IsSeatOf as IsRowSeat, Drew}
 use Rattle.ppq_pool.specs.Known.{Known as PoolKnown}
 use Rattle.ppq_pool.specs.Hands.{without, with_give}
 use Rattle.ppq_pool.proofs.Lists.{without-here, without-past}
 use Rattle.ppq_pool.specs.Seats.{IsSeatOf as IsPoolSeat, count_of, Takes}
-use Rattle.ppq_queue.proofs.ppq_array.Noted.{all_left}
+use Rattle.ppq_extract.proofs.ppq_array.Noted.{all_left}
 use Rattle.ppq_pass.specs.declared.shared.Shared.{Shared}
 use Rattle.ppq_pass.specs.declared.shared.PoolBuf.{PoolBuf}
 use Rattle.ppq_pass.specs.Passing.{items_at, with_item, pass_stock, IsPass}

@@ -2,21 +2,21 @@
 use Rattle.std.specs.Prelude.{◌≡◌, ℕ, ◌+◌, ◌*◌, ◌/◌, ◌<◌, ◌≤◌, Bool, true, List, [], ◌++◌, length, Option, Some, None, All, vec_capacity}
 use Rattle.std.specs.declared.cmp.Ordering.{Ordering}
 use Rattle.ppq_pool.specs.ppq_record.Order.{Ascends}
-use Rattle.ppq_queue.specs.ppq_outside.Shown.{Shown, AllTell}
-use Rattle.ppq_queue.specs.ppq_budget.Sizes.{Numbers, AreInRange, heap_of, pool_of}
-use Rattle.ppq_queue.specs.ppq_heap.Heap.{Contents}
-use Rattle.ppq_queue.specs.ppq_array.declared.berth.DeviceBlock.{DeviceBlock}
-use Rattle.ppq_queue.specs.ppq_array.Run.{Run, run_of, items_of, buffers_of}
-use Rattle.ppq_queue.specs.ppq_array.External.{External, size_of, records_in}
-use Rattle.ppq_queue.specs.ppq_array.Supply.{Stock}
-use Rattle.ppq_queue.specs.ppq_array.Kept.{SameSlots, HasFailed, all_writes}
-use Rattle.ppq_queue.specs.ppq_array.Owner.{slots_shown}
-use Rattle.ppq_queue.specs.ppq_array.Holdings.{RunHasBlock, ArrayHasSize, CanTakeBack}
-use Rattle.ppq_queue.specs.ppq_fetch.Fetching.{IsFitting, count_in}
-use Rattle.ppq_queue.specs.ppq_spill.Body.{held_by}
-use Rattle.ppq_queue.specs.ppq_spill.Storing.{HasOneSize, in_buffers}
-use Rattle.ppq_queue.specs.ppq_spill.Untold.{SameUntold}
-use Rattle.ppq_queue.specs.ppq_spill.declared.body.PassBody.{PassBody}
+use Rattle.ppq_extract.specs.ppq_outside.Shown.{Shown, AllTell}
+use Rattle.ppq_extract.specs.ppq_budget.Sizes.{Numbers, AreInRange, heap_of, pool_of}
+use Rattle.ppq_heap.specs.Heap.{Contents}
+use Rattle.ppq_extract.specs.ppq_array.declared.berth.DeviceBlock.{DeviceBlock}
+use Rattle.ppq_extract.specs.ppq_array.Run.{Run, run_of, items_of, buffers_of}
+use Rattle.ppq_extract.specs.ppq_array.External.{External, size_of, records_in}
+use Rattle.ppq_extract.specs.ppq_array.Supply.{Stock}
+use Rattle.ppq_extract.specs.ppq_array.Kept.{SameSlots, HasFailed, all_writes}
+use Rattle.ppq_extract.specs.ppq_array.Owner.{slots_shown}
+use Rattle.ppq_extract.specs.ppq_array.Holdings.{RunHasBlock, ArrayHasSize, CanTakeBack}
+use Rattle.ppq_extract.specs.ppq_fetch.Fetching.{IsFitting, count_in}
+use Rattle.ppq_spill.specs.Body.{held_by}
+use Rattle.ppq_spill.specs.Storing.{HasOneSize, in_buffers}
+use Rattle.ppq_spill.specs.Untold.{SameUntold}
+use Rattle.ppq_spill.specs.declared.body.PassBody.{PassBody}
 use Rattle.ppq_pool.specs.Seats.{count_of}
 use Rattle.ppq_pass.specs.declared.shared.Shared.{Shared}
 use Rattle.ppq_pass.specs.declared.parts.PassParts.{PassParts}

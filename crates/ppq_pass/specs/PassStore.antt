@@ -1,11 +1,11 @@
 -- What a store of a pass keeps.
 use Rattle.std.specs.Prelude.{◌≡◌, ℕ, ◌<◌}
-use Rattle.ppq_queue.specs.ppq_outside.Shown.{Shown}
-use Rattle.ppq_queue.specs.ppq_array.Kept.{Kept}
-use Rattle.ppq_queue.specs.ppq_array.Holdings.{CanTakeBack}
-use Rattle.ppq_queue.specs.ppq_spill.Body.{held_by}
-use Rattle.ppq_queue.specs.ppq_spill.Storing.{HasOneSize, LanesRest, RoomsRest, StillTell, StillUntold, WritesFew}
-use Rattle.ppq_queue.specs.ppq_spill.declared.body.PassBody.{PassBody}
+use Rattle.ppq_extract.specs.ppq_outside.Shown.{Shown}
+use Rattle.ppq_extract.specs.ppq_array.Kept.{Kept}
+use Rattle.ppq_extract.specs.ppq_array.Holdings.{CanTakeBack}
+use Rattle.ppq_spill.specs.Body.{held_by}
+use Rattle.ppq_spill.specs.Storing.{HasOneSize, LanesRest, RoomsRest, StillTell, StillUntold, WritesFew}
+use Rattle.ppq_spill.specs.declared.body.PassBody.{PassBody}
 use Rattle.ppq_pass.specs.declared.shared.Shared.{Shared}
 use Rattle.ppq_pass.specs.declared.parts.PassParts.{PassParts}
 use Rattle.ppq_pass.specs.Passing.{IsPass, IsSince, steps_of}

@@ -1,25 +1,25 @@
 -- What contracts see of a pass.
-use Rattle.std.specs.Prelude.{◌≡◌, ℕ, ◌+◌, ◌*◌, ◌<◌, ◌≤◌, Bool, true, false, List, [], ◌++◌, length, flat_map, All, Option, Some, None}
+use Rattle.std.specs.Prelude.{◌≡◌, ℕ, ◌+◌, ◌*◌, ◌<◌, ◌≤◌, Bool, true, false, List, [], ◌∷◌, ◌++◌, length, flat_map, All, Option, Some, None}
 use Rattle.atomic_table.specs.Seated.{TableId}
 use Rattle.ppq_pool.specs.ppq_table.Sums.{times}
 use Rattle.ppq_pool.specs.ppq_record.Bag.{IsSameBag}
-use Rattle.ppq_queue.specs.ppq_outside.Shown.{Shown, AllTell}
-use Rattle.ppq_queue.specs.ppq_budget.Sizes.{Numbers, numbers, AreInRange, heap_of, pool_of}
-use Rattle.ppq_queue.specs.ppq_heap.Heap.{Contents}
-use Rattle.ppq_queue.specs.ppq_array.declared.berth.DeviceBlock.{DeviceBlock}
-use Rattle.ppq_queue.specs.ppq_array.External.{records_in}
-use Rattle.ppq_queue.specs.ppq_array.Kept.{SameSlots, HasFailed}
-use Rattle.ppq_queue.specs.ppq_array.Owner.{slots_shown}
-use Rattle.ppq_queue.specs.ppq_array.Holdings.{internal_items}
-use Rattle.ppq_queue.specs.ppq_fetch.Fetching.{count_in}
-use Rattle.ppq_queue.specs.ppq_spill.Body.{body_slots, held_by}
-use Rattle.ppq_queue.specs.ppq_spill.Storing.{in_buffers}
-use Rattle.ppq_queue.specs.ppq_spill.declared.body.PassBody.{PassBody}
+use Rattle.ppq_extract.specs.ppq_outside.Shown.{Shown, AllTell}
+use Rattle.ppq_extract.specs.ppq_budget.Sizes.{Numbers, numbers, AreInRange, heap_of, pool_of}
+use Rattle.ppq_heap.specs.Heap.{Contents}
+use Rattle.ppq_extract.specs.ppq_array.declared.berth.DeviceBlock.{DeviceBlock}
+use Rattle.ppq_extract.specs.ppq_array.External.{records_in}
+use Rattle.ppq_extract.specs.ppq_array.Kept.{SameSlots, HasFailed}
+use Rattle.ppq_extract.specs.ppq_array.Owner.{slots_shown}
+use Rattle.ppq_extract.specs.ppq_array.Holdings.{internal_items}
+use Rattle.ppq_extract.specs.ppq_fetch.Fetching.{count_in}
+use Rattle.ppq_spill.specs.Body.{body_slots, held_by}
+use Rattle.ppq_spill.specs.Storing.{in_buffers}
+use Rattle.ppq_spill.specs.declared.body.PassBody.{PassBody}
 use Rattle.ppq_row.specs.Known.{Known as RowKnown}
 use Rattle.ppq_pool.specs.Known.{Known as PoolKnown}
 use Rattle.ppq_pool.specs.Seats.{count_of}
-use Rattle.ppq_queue.specs.declared.fault.QueueFault.{QueueFault}
-use Rattle.ppq_queue.specs.declared.fault.QueueFault.TheVariants.{NoFreeBlock, Device}
+use Rattle.ppq_extract.specs.ppq_array.declared.store_fault.StoreFault.{StoreFault}
+use Rattle.ppq_extract.specs.ppq_array.declared.store_fault.StoreFault.TheVariants.{NoFreeBlock, Device}
 use Rattle.ppq_pass.specs.declared.shared.Shared.{Shared}
 use Rattle.ppq_pass.specs.declared.shared.PoolBuf.{PoolBuf}
 use Rattle.ppq_pass.specs.declared.parts.PassParts.{PassParts}
@@ -101,9 +101,24 @@ module _ {S R : Type 0} where
     pub refused : new.refused ≡ old.refused
 
   -- why a push was refused, and what it left
-  abbrev pub IsRefusedPush : PassHolding S R → PassHolding S R → QueueFault → Type 0
+  abbrev pub IsRefusedPush : PassHolding S R → PassHolding S R → StoreFault → Type 0
   IsRefusedPush old new NoFreeBlock = FoundNone old new
   IsRefusedPush old new (Device number) = MetFault number old new
+
+  -- A push that stored the heap first: the record is in the pass, alone in its heap, and neither a refusal nor a fault was kept
+  pub record PutAfterStore (shown : S → Shown) (r : R) (old new : PassHolding S R) : Type 0 where
+    pub added : PassTells shown old → IsSameBag new.bag (r ∷ old.bag)
+    pub size : new.size ≡ old.size + 1
+    pub accepted : new.accepted ≡ old.accepted + 1
+    pub same : new.refused ≡ old.refused
+    pub sound : new.failed ≡ None
+    pub stored : new.in_heap ≡ 1
+
+  -- Whatever a push answers: slots go on telling, the pass has those that it had and those that it drew, and its key stays
+  pub record PushKeeps (shown : S → Shown) (old new : PassHolding S R) : Type 0 where
+    pub tells : PassTells shown old → PassTells shown new
+    pub kept : KeptSlots old new
+    pub key : new.key ≡ old.key
 
   -- What always holds of a pass: its sizes are in range, and its heap is within them. The slots that it holds are those that it drew. It
   -- holds the buffers whose numbers its seat of the pool holds, and two more. The numbers are of buffers of the pool, each once, and the pool

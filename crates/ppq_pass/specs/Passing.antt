@@ -4,10 +4,10 @@ use mathlib.Core.Option.{Option, none, some}
 use lib.ListN.{get_elem?}
 use Rattle.std.specs.Global.{Global}
 use Rattle.ppq_pool.specs.ppq_table.Sums.{times}
-use Rattle.ppq_queue.specs.ppq_outside.Shown.{Shown}
-use Rattle.ppq_queue.specs.ppq_array.Supply.{Stock}
-use Rattle.ppq_queue.specs.ppq_array.Owner.{slots_shown, HasSize}
-use Rattle.ppq_queue.specs.ppq_array.declared.berth.DeviceBlock.{DeviceBlock}
+use Rattle.ppq_extract.specs.ppq_outside.Shown.{Shown}
+use Rattle.ppq_extract.specs.ppq_array.Supply.{Stock}
+use Rattle.ppq_extract.specs.ppq_array.Owner.{slots_shown, HasSize}
+use Rattle.ppq_extract.specs.ppq_array.declared.berth.DeviceBlock.{DeviceBlock}
 use Rattle.ppq_row.specs.Known.{Known as RowKnown}
 use Rattle.ppq_row.specs.Seats.{IsSeatOf as IsRowSeat}
 use Rattle.ppq_pool.specs.Known.{Known as PoolKnown}

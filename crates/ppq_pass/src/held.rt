@@ -1,8 +1,10 @@
 //! What a pass has when its session ends.
 
 use crate::PassParts;
+use ppq_extract::Slot;
+use ppq_heap::InsertionHeap;
 use ppq_pool::Record;
-use ppq_queue::{InsertionHeap, PassBody, Slot};
+use ppq_spill::PassBody;
 
 /// All that a pass has, for the end of its session.
 #[derive(Drop)]

@@ -1,8 +1,8 @@
 //! What a pass's supply belongs to.
 
 use crate::Shared;
+use ppq_extract::{Berth, Slot};
 use ppq_pool::Record;
-use ppq_queue::{Berth, Slot};
 use std::collections::LinkedList;
 
 /// What a pass's supply belongs to: no call of it changes that. Clauses speak of it; no value of it is

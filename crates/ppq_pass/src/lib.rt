@@ -25,15 +25,16 @@ pub use home::PassHome;
 pub use parts::PassParts;
 pub use pass::Pass;
 pub use pass_supply::PassSupply;
+pub use ppq_extract::{
+    Berth, BerthList, BufList, ExternalArray, Extract, Gate, Host, InternalArray, Lanes, Library,
+    OutsideFault, OwnerLists, Runs, Sizes, Slot, Sources, StoreFault, StoreFault as QueueFault,
+    Supply, free_slot, give_buffer,
+};
+pub use ppq_heap::{Heaps, InsertionHeap, MinTree};
 pub use ppq_pool::{
     Memory, Pair, Pool, PoolSeat, Record, interleaving_laws, record_laws, slot_laws,
     steps_are_events as buffer_steps_are_events,
 };
-pub use ppq_queue::{
-    Berth, BerthList, BufList, ExternalArray, Extract, Gate, Heaps, Host, InsertionHeap,
-    InternalArray, Lanes, Library, MinTree, OpenFault, Out, OutsideFault, OwnerLists, PassBody,
-    Queue, QueueFault, QueueParts, Runs, Sizes, Slot, Sources, StoreFault, Supply, free_slot,
-    give_buffer,
-};
 pub use ppq_row::{Row, RowSeat, steps_are_events as slot_steps_are_events};
+pub use ppq_spill::PassBody;
 pub use shared::{PoolBuf, Shared};

@@ -1,8 +1,8 @@
 //! What a pass keeps between its calls.
 
 use crate::PoolBuf;
+use ppq_extract::{Berth, BerthList, Slot};
 use ppq_pool::{PoolSeat, Record};
-use ppq_queue::{Berth, BerthList, Slot};
 use ppq_row::RowSeat;
 
 /// What a pass keeps between its calls: its seats, its stash, and the numbers of the buffers that it

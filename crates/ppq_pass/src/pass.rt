@@ -1,21 +1,21 @@
 //! A pass of a session.
 ghost use Rattle.std.specs.Prelude.{◌≡◌, ◌<◌, ◌≤◌, ◌+◌, ◌*◌, ◌/◌, ◌↔◌, ◌∷◌, [], ℕ, length, All, Some, None, Err, IsOk, IsErr, IfErr, OnOk, OnErr, vec_capacity};
 ghost use Rattle.ppq_pool.specs.ppq_record.Bag.{IsSameBag};
-ghost use Rattle.ppq_queue.specs.ppq_budget.Sizes.{heap_of, pool_of};
-ghost use Rattle.ppq_queue.specs.ppq_array.Owner.{HasSize};
-ghost use Rattle.ppq_queue.specs.ppq_spill.Body.{IsNewBody};
+ghost use Rattle.ppq_extract.specs.ppq_budget.Sizes.{heap_of, pool_of};
+ghost use Rattle.ppq_extract.specs.ppq_array.Owner.{HasSize};
+ghost use Rattle.ppq_spill.specs.Body.{IsNewBody};
 ghost use Rattle.ppq_pool.specs.Seats.{count_of};
-ghost use Rattle.ppq_pass.specs.Passed.{IsOf, PassTells, KeptSlots, with_one, IsRefusedPush, IsKnown, holding_of, new_holding};
+ghost use Rattle.ppq_pass.specs.Passed.{IsOf, PassTells, KeptSlots, PutAfterStore, PushKeeps, with_one, IsRefusedPush, IsKnown, holding_of, new_holding};
 ghost use Rattle.ppq_pass.specs.PassState.{IsPassed, IsSoundPass};
-ghost use Rattle.ppq_queue.specs.declared.fault.QueueFault.TheVariants.{Device};
+ghost use Rattle.ppq_extract.specs.ppq_array.declared.store_fault.StoreFault.TheVariants.{Device};
 
 use crate::store::store_run;
 use crate::{Full, PassHeld, PassParts, PoolBuf, Shared};
+use ppq_extract::{Berth, BerthList, Host, Sizes, Slot, StoreFault};
+use ppq_heap::InsertionHeap;
 use ppq_pool::{PoolSeat, Record, record_laws};
-use ppq_queue::{
-    Berth, BerthList, Host, InsertionHeap, PassBody, QueueFault, Sizes, Slot, StoreFault,
-};
 use ppq_row::RowSeat;
+use ppq_spill::PassBody;
 use std::marker::Model;
 
 /// A pass of a session: what one worker adds records to, beside the others and with no lock.
@@ -142,7 +142,7 @@ impl<S: Slot, R: Record> Pass<S, R> {
         rt: &H,
         shared: &Shared<S, R>,
         r: R,
-    ) -> Result<(), (R, QueueFault)>
+    ) -> Result<(), (R, StoreFault)>
         requires { IsOf shared.now self.old }
         ensures added { OnOk result (PassTells S.shown self.old → IsSameBag self.new.bag (r ∷ self.old.bag)) }
         ensures size { OnOk result (self.new.size ≡ self.old.size + 1) }
@@ -159,7 +159,7 @@ impl<S: Slot, R: Record> Pass<S, R> {
         ensures key { self.new.key ≡ self.old.key }
     {
         if let Some(number) = self.failed {
-            return Err((r, QueueFault::Device { number }));
+            return Err((r, StoreFault::Device { number }));
         }
         match self.try_push(r) {
             Ok(()) => return Ok(()),
@@ -177,20 +177,13 @@ impl<S: Slot, R: Record> Pass<S, R> {
         rt: &H,
         shared: &Shared<S, R>,
         r: R,
-    ) -> Result<(), QueueFault>
+    ) -> Result<(), StoreFault>
         requires of { IsOf shared.now self.old }
         requires sound { self.old.failed ≡ None }
         requires full { self.old.in_heap ≡ heap_of self.old.key.sizes }
-        ensures added { OnOk result (PassTells S.shown self.old → IsSameBag self.new.bag (r ∷ self.old.bag)) }
-        ensures size { OnOk result (self.new.size ≡ self.old.size + 1) }
-        ensures accepted { OnOk result (self.new.accepted ≡ self.old.accepted + 1) }
-        ensures same { OnOk result (self.new.refused ≡ self.old.refused) }
-        ensures sound { OnOk result (self.new.failed ≡ None) }
-        ensures stored { OnOk result (self.new.in_heap ≡ 1) }
+        ensures put { OnOk result (PutAfterStore S.shown r self.old self.new) }
         ensures refused { IfErr result (IsRefusedPush self.old self.new) }
-        ensures tells { PassTells S.shown self.old → PassTells S.shown self.new }
-        ensures kept { KeptSlots self.old self.new }
-        ensures key { self.new.key ≡ self.old.key }
+        ensures stays { PushKeeps S.shown self.old self.new }
     {
         record_laws::<R>();
         let Some(parts) = self.parts.take() else {
@@ -209,11 +202,11 @@ impl<S: Slot, R: Record> Pass<S, R> {
             }
             Err(StoreFault::NoFreeBlock) => {
                 self.refused = true;
-                Err(QueueFault::NoFreeBlock)
+                Err(StoreFault::NoFreeBlock)
             }
             Err(StoreFault::Device { number }) => {
                 self.failed = Some(number);
-                Err(QueueFault::Device { number })
+                Err(StoreFault::Device { number })
             }
         }
     }

@@ -2,12 +2,12 @@
 ghost use Rattle.std.specs.Prelude.{◌≡◌, ◌<◌, ◌≤◌, ◌*◌, ◌^◌, [], length, All, nat_lt, vec_capacity};
 ghost use Rattle.ppq_row.specs.Seats.{IsSeatOf as IsRowSeat};
 ghost use Rattle.ppq_pool.specs.Seats.{IsSeatOf as IsPoolSeat, count_of};
-ghost use Rattle.ppq_queue.specs.ppq_array.Owner.{HasSize};
+ghost use Rattle.ppq_extract.specs.ppq_array.Owner.{HasSize};
 ghost use Rattle.ppq_pass.specs.Passing.{passing, steps_of, IsPass, IsWasDry, IsSince, new_pass};
 
 use crate::{PassHome, PassParts, PoolBuf, Shared};
+use ppq_extract::{Berth, BerthList, BlockBuf, Slot, Supply};
 use ppq_pool::{PoolSeat, Record};
-use ppq_queue::{Berth, BerthList, BlockBuf, Slot, Supply};
 use ppq_row::RowSeat;
 use std::marker::Model;
 use std::snapshot::Snapshot;

@@ -1,13 +1,14 @@
 //! Storing a sorted heap as a run of a pass.
 ghost use Rattle.std.specs.Prelude.{◌<◌, ℕ, length, OnOk, IsErrOf};
-ghost use Rattle.ppq_queue.specs.ppq_spill.Storing.{MayStore, RunsAscend, IsStored, NoneFree, DeviceFailed};
+ghost use Rattle.ppq_spill.specs.Storing.{MayStore, RunsAscend, IsStored, NoneFree, DeviceFailed};
 ghost use Rattle.ppq_pass.specs.Passing.{IsPass};
 ghost use Rattle.ppq_pass.specs.PassState.{stock_of};
 ghost use Rattle.ppq_pass.specs.PassStore.{StoreKept};
 
 use crate::{PassParts, PassSupply, Shared};
+use ppq_extract::{Host, Slot, StoreFault};
 use ppq_pool::Record;
-use ppq_queue::{Host, PassBody, Slot, StoreFault, store_sorted};
+use ppq_spill::{PassBody, store_sorted};
 
 /// Stores an ascending list as one more run of a pass, by a supply that is made for this call.
 pub fn store_run<H: Host, S: Slot, R: Record>(

@@ -1,10 +1,10 @@
 use Rattle.std.proofs.Common.{◌≡◌, length, sym, ap, ◌∙◌, subst}
 use Rattle.std.proofs.lemmas.Bool.{lt-ltb}
-use Rattle.ppq_queue.specs.ppq_array.Supply.{Stock}
-use Rattle.ppq_queue.specs.ppq_array.Kept.{Kept}
-use Rattle.ppq_queue.specs.ppq_array.Holdings.{CanTakeBack}
-use Rattle.ppq_queue.specs.ppq_spill.Body.{held_by}
-use Rattle.ppq_queue.specs.ppq_spill.Storing.{HasOneSize, NoneFree, StillTell, StillUntold, WritesFew}
+use Rattle.ppq_extract.specs.ppq_array.Supply.{Stock}
+use Rattle.ppq_extract.specs.ppq_array.Kept.{Kept}
+use Rattle.ppq_extract.specs.ppq_array.Holdings.{CanTakeBack}
+use Rattle.ppq_spill.specs.Body.{held_by}
+use Rattle.ppq_spill.specs.Storing.{HasOneSize, NoneFree, StillTell, StillUntold, WritesFew}
 use Rattle.ppq_pass.specs.Passing.{IsPass, IsSince, home_of}
 use Rattle.ppq_pass.specs.PassState.{stock_of}
 use Rattle.ppq_pass.proofs.store.store_run.Goals as goal

@@ -10,17 +10,17 @@ returns-in-Ok-store_and_put-clause-added g c tell t =
     let same = c.in-Err.ensures.same in
     omega (
       arith,
-      c.in-Ok-store_and_put.ensures.added (subst (λ v. PassTells g.S.Slot.shown v) (sym same) tell) t,
+      c.in-Ok-store_and_put.ensures.put.added (subst (λ v. PassTells g.S.Slot.shown v) (sym same) tell) t,
       count_by-cons t c.args.r c.try_push.new.self.bag,
       count_by-cons t c.args.r c.args.self.now.bag,
       ap (λ v. count_by t v.bag) same,
     )
 
 pub returns-in-Ok-store_and_put-clause-tells : goal.returns-in-Ok-store_and_put-clause-tells
-returns-in-Ok-store_and_put-clause-tells g c tell = c.store_and_put.ensures.tells (subst (λ v. PassTells g.S.Slot.shown v) (sym c.in-Err.ensures.same) tell)
+returns-in-Ok-store_and_put-clause-tells g c tell = c.store_and_put.ensures.stays.tells (subst (λ v. PassTells g.S.Slot.shown v) (sym c.in-Err.ensures.same) tell)
 
 pub returns-in-Err-store_and_put-clause-tells : goal.returns-in-Err-store_and_put-clause-tells
-returns-in-Err-store_and_put-clause-tells g c tell = c.store_and_put.ensures.tells (subst (λ v. PassTells g.S.Slot.shown v) (sym c.in-Err.ensures.same) tell)
+returns-in-Err-store_and_put-clause-tells g c tell = c.store_and_put.ensures.stays.tells (subst (λ v. PassTells g.S.Slot.shown v) (sym c.in-Err.ensures.same) tell)
 
 pub returns-in-Some-clause-kept : goal.returns-in-Some-clause-kept
 returns-in-Some-clause-kept g c = kept_refl c.args.self.now
