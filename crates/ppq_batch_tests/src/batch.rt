@@ -2,11 +2,12 @@
 //! a heap. A number stands for the pair with that key and value 0.
 ghost use Rattle.std.specs.Prelude.{◌≡◌, ◌<◌, false, All, IsTrue};
 ghost use Rattle.ppq_record.specs.Order.{is_before};
-ghost use Rattle.ppq_batch.specs.Batches.{AreAbove, AreGoing};
+ghost use Rattle.ppq_load.specs.ppq_session.Batches.{AreAbove};
+ghost use Rattle.ppq_load.specs.Limits.{AreGoing};
 
 use crate::queues::{filled, pairs, popped};
-use ppq_batch::{Ask, Limits, Line, Queue, QueueFault};
 use ppq_budget::Sizes;
+use ppq_load::{Ask, Limits, Line, Queue, QueueFault};
 use ppq_outside::{Gate, Host, MemRack, MemSlot, OpenGate};
 use ppq_record::{Pair, Record};
 use ppq_testkit::{CrowdGate, PairGate, pair};

@@ -3,8 +3,8 @@ ghost use Rattle.std.specs.Prelude.{◌≡◌, ℕ, List, Option, Some, length};
 ghost use Rattle.ppq_outside.specs.Told.{bytes_or_none};
 
 use crate::queues::{filled, pairs, popped};
-use ppq_batch::{LoadFault, load_file, load_generated};
 use ppq_budget::Sizes;
+use ppq_load::{LoadFault, load_file, load_generated};
 use ppq_outside::{Host, Library, MemLibrary, MemRack, OpenGate};
 use ppq_record::Pair;
 use std::alloc::Global;

@@ -1,8 +1,8 @@
 //! Queues in memory, filled before a session and emptied after it.
 ghost use Rattle.std.specs.Prelude.{◌≡◌, Some};
 
-use ppq_batch::Queue;
 use ppq_budget::Sizes;
+use ppq_load::Queue;
 use ppq_outside::{Host, MemRack, MemSlot, OpenGate};
 use ppq_record::Pair;
 use ppq_testkit::{opened, pair, pushed};

@@ -13,12 +13,12 @@ use Rattle.ppq_script.specs.declared.command.Command.{Command}
 use Rattle.ppq_script.specs.declared.command.Command.TheVariants.{Push, Pop, Top, Size, Bulk, Gen, BulkPop, BulkPopLimit, Drain, BulkBegin, BulkPush, BulkEnd, LimitBegin, LimitPush, LimitTop, LimitPop, LimitEnd}
 use Rattle.ppq_script.specs.declared.session.Session.TheVariants.{InLimit}
 use Rattle.ppq_script.specs.Sessions.{turn_of}
-use Rattle.ppq_batch.specs.ppq_session.declared.line.Line.{Line}
-use Rattle.ppq_batch.specs.ppq_session.Dealing.{records_in}
-use Rattle.ppq_batch.specs.ppq_front.Fronts.{least_below}
-use Rattle.ppq_batch.specs.declared.ask.Ask.{Ask}
-use Rattle.ppq_batch.specs.declared.ask.Ask.TheVariants as ask
-use Rattle.ppq_batch.specs.Asks.{pops_in, left_by, left_after, answers_to}
+use Rattle.ppq_load.specs.ppq_session.declared.line.Line.{Line}
+use Rattle.ppq_load.specs.ppq_session.Dealing.{records_in}
+use Rattle.ppq_load.specs.ppq_session.Fronts.{least_below}
+use Rattle.ppq_load.specs.ppq_session.declared.ask.Ask.{Ask}
+use Rattle.ppq_load.specs.ppq_session.declared.ask.Ask.TheVariants as ask
+use Rattle.ppq_load.specs.ppq_session.Asks.{pops_in, left_by, left_after, answers_to}
 use Rattle.ppq_engine.specs.Loads.{none_go, all_go, size_after, size_from}
 use Rattle.ppq_engine.specs.Output.{State, limited_count, limited_text, text_of, after, state_from, output_from}
 use Rattle.ppq_engine.specs.Parts.{is_end, pushed_by, pushed_in}

@@ -12,8 +12,8 @@ use Rattle.ppq_script.specs.declared.command.Command.TheVariants.{Push, Pop, Top
 use Rattle.ppq_script.specs.declared.session.Session.TheVariants.{InLimit}
 use Rattle.ppq_script.specs.Sessions.{are_in_place}
 use Rattle.ppq_script.specs.Reading.{Reading, command_list}
-use Rattle.ppq_batch.specs.ppq_session.declared.line.Line.{Line}
-use Rattle.ppq_batch.specs.declared.ask.Ask.{Ask}
+use Rattle.ppq_load.specs.ppq_session.declared.line.Line.{Line}
+use Rattle.ppq_load.specs.ppq_session.declared.ask.Ask.{Ask}
 use Rattle.ppq_engine.specs.Parts.{up_to_end}
 use Rattle.ppq_engine.specs.Limits.{line_by, ask_by, lines_in, asks_in, IsLimitLine, AreLimitLines, IsInLimit, EndsLimit, between, IsBatch}
 use Rattle.ppq_engine.proofs.Asked.{line-is, lines-append}

@@ -12,7 +12,7 @@ use Rattle.ppq_script.specs.ppq_record.Order.{is_before, Le, Rising}
 use Rattle.ppq_script.specs.ppq_record.Bag.{IsSameBag, ascending, front, without_front, first_of, size_below}
 use Rattle.ppq_script.proofs.ppq_record.Order.{count_by-cons, count_by-append, none_pass, each_fails, Each-weaker, Rising-take, Rising-append, Rising-in_order, in_order-same_bag}
 use Rattle.ppq_script.proofs.ppq_record.Fronts.{ranks, ascending_is, ascending-same_bag, front-parts}
-use Rattle.ppq_batch.specs.ppq_front.Fronts.{least_below, without_least_below}
+use Rattle.ppq_load.specs.ppq_session.Fronts.{least_below, without_least_below}
 use Rattle.ppq_engine.specs.Output.{limited_count}
 use Rattle.ppq_engine.proofs.Pairs.{pair_total}
 

@@ -4,11 +4,11 @@ use Rattle.ppq_script.specs.ppq_outside.Shown.{Shown, AllTell}
 use Rattle.ppq_script.specs.ppq_outside.Told.{Reply, TakesAll, Rose}
 use Rattle.std.specs.Prelude.{if◌then◌else◌}
 use Rattle.std.proofs.lemmas.Bool.{le-ltb}
-use Rattle.ppq_batch.specs.ppq_budget.Sizes.{Numbers, fixed_of}
-use Rattle.ppq_batch.specs.ppq_array.Kept.{SameSlots, HasFailed, all_writes}
+use Rattle.ppq_load.specs.ppq_budget.Sizes.{Numbers, fixed_of}
+use Rattle.ppq_load.specs.ppq_array.Kept.{SameSlots, HasFailed, all_writes}
 use Rattle.ppq_script.specs.Reading.{Reading, command_list}
-use Rattle.ppq_batch.specs.ppq_load.Refusal.{HasRoom, HasNoRoom}
-use Rattle.ppq_batch.proofs.ppq_load.Refusals.{room-not_none}
+use Rattle.ppq_load.specs.Refusal.{HasRoom, HasNoRoom}
+use Rattle.ppq_load.proofs.Refusals.{room-not_none}
 use Rattle.ppq_engine.specs.Loads.{most_of, least_of, begins_limit, FitsWritten}
 use Rattle.ppq_engine.specs.Output.{AreFilesOf, given_of, output_of, load_of, crest_of, TakesWithin}
 use Rattle.ppq_engine.specs.Outcome.{EndSays}

@@ -1,8 +1,8 @@
 -- What calls of the queue keep, one after the other.
 use Rattle.std.proofs.Common.{refl, ◌∙◌, arith}
 use Rattle.ppq_script.specs.ppq_record.declared.pair.Pair.{Pair}
-use Rattle.ppq_batch.specs.ppq_queue.Holding.{Holding}
-use Rattle.ppq_batch.specs.ppq_load.Refusal.{Keeps}
+use Rattle.ppq_load.specs.ppq_queue.Holding.{Holding}
+use Rattle.ppq_load.specs.Refusal.{Keeps}
 use Rattle.ppq_engine.proofs.Slots.{SameSlots-refl, SameSlots-trans}
 
 pub Keeps-refl : (q : Holding Pair) → Keeps q q

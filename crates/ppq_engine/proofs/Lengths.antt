@@ -5,7 +5,7 @@ use Rattle.ppq_script.specs.ppq_record.declared.pair.Pair.{Pair}
 use Rattle.ppq_script.specs.ppq_record.Pair.{pair_of}
 use Rattle.ppq_script.specs.ppq_record.Bag.{IsSameBag}
 use Rattle.ppq_script.specs.ppq_record.Given.{records_of}
-use Rattle.ppq_batch.proofs.ppq_block.Blocks.{length-records_from}
+use Rattle.ppq_load.proofs.ppq_block.Blocks.{length-records_from}
 use Rattle.ppq_script.specs.ppq_outside.Told.{bytes_or_none}
 use Rattle.ppq_script.specs.declared.command.Command.{Command}
 use Rattle.ppq_script.specs.declared.command.Command.TheVariants.{Push, Pop, Top, Size, Bulk, Gen, BulkPop, BulkPopLimit, Drain, BulkBegin, BulkPush, BulkEnd, LimitBegin, LimitPush, LimitTop, LimitPop, LimitEnd}

@@ -1,4 +1,4 @@
-pub use Rattle.ppq_batch.proofs.ppq_load as ppq_load
+pub use Rattle.ppq_load.proofs as ppq_load
 pub mod Advancing
 pub mod Asked
 pub mod Batches

@@ -9,20 +9,20 @@ use Rattle.ppq_script.specs.ppq_record.Bag.{IsSameBag}
 use Rattle.ppq_script.specs.ppq_outside.Shown.{Shown, AllTell}
 use Rattle.ppq_script.specs.ppq_outside.Told.{TakesPart, HasOneCause}
 use Rattle.ppq_script.specs.ppq_outside.declared.fault.Failed.{Failed}
-use Rattle.ppq_batch.specs.ppq_array.Kept.{SameSlots}
+use Rattle.ppq_load.specs.ppq_array.Kept.{SameSlots}
 use Rattle.ppq_script.specs.declared.command.Command.{Command}
 use Rattle.ppq_script.specs.declared.command.Command.TheVariants.{LimitBegin, LimitEnd}
 use Rattle.ppq_script.specs.declared.session.Session.TheVariants.{InLimit}
 use Rattle.ppq_script.specs.Sessions.{are_in_place}
 use Rattle.ppq_script.specs.Reading.{Reading, command_list}
-use Rattle.ppq_batch.specs.ppq_queue.Holding.{Holding}
-use Rattle.ppq_batch.specs.ppq_queue.declared.fault.QueueFault.{QueueFault}
-use Rattle.ppq_batch.specs.ppq_queue.declared.fault.QueueFault.TheVariants.{NoFreeBlock, Device}
-use Rattle.ppq_batch.specs.ppq_load.Refusal.{Keeps, IsRefusedBy}
-use Rattle.ppq_batch.proofs.ppq_load.Refusals.{cause-later}
-use Rattle.ppq_batch.specs.declared.ask.Ask.{Ask}
-use Rattle.ppq_batch.specs.Asks.{pops_in, left_after, answers_to}
-use Rattle.ppq_batch.specs.Batches.{LimitsHolding, InLimits, AreGoing, IsOver, begun_in}
+use Rattle.ppq_load.specs.ppq_queue.Holding.{Holding}
+use Rattle.ppq_load.specs.ppq_queue.declared.fault.QueueFault.{QueueFault}
+use Rattle.ppq_load.specs.ppq_queue.declared.fault.QueueFault.TheVariants.{NoFreeBlock, Device}
+use Rattle.ppq_load.specs.Refusal.{Keeps, IsRefusedBy}
+use Rattle.ppq_load.proofs.Refusals.{cause-later}
+use Rattle.ppq_load.specs.ppq_session.declared.ask.Ask.{Ask}
+use Rattle.ppq_load.specs.ppq_session.Asks.{pops_in, left_after, answers_to}
+use Rattle.ppq_load.specs.Limits.{LimitsHolding, InLimits, AreGoing, IsOver, begun_in}
 use Rattle.ppq_engine.specs.Files.{IsBySession}
 use Rattle.ppq_engine.specs.Gathers.{Gathers}
 use Rattle.ppq_engine.specs.Loads.{none_go, all_go, size_after, size_from}

@@ -9,13 +9,13 @@ use Rattle.ppq_script.specs.ppq_outside.Told.{TakesPart}
 use Rattle.ppq_script.proofs.ppq_outside.Takes.{takes_and_part, part_of_more}
 use Rattle.ppq_script.specs.declared.command.Command.{Command}
 use Rattle.ppq_script.specs.Reading.{Reading, command_list}
-use Rattle.ppq_batch.specs.ppq_pass.Passed.{PassHolding}
-use Rattle.ppq_batch.specs.ppq_queue.Holding.{Holding}
-use Rattle.ppq_batch.specs.ppq_session.declared.line.Line.{Line}
-use Rattle.ppq_batch.specs.ppq_session.Dealing.{IsGoing, HasEnded, records_in}
-use Rattle.ppq_batch.specs.declared.ask.Ask.{Ask}
-use Rattle.ppq_batch.specs.Asks.{pops_in, left_after, answers_to}
-use Rattle.ppq_batch.specs.Batches.{LimitsHolding, InLimits, AreGoing, HasStopped}
+use Rattle.ppq_load.specs.ppq_pass.Passed.{PassHolding}
+use Rattle.ppq_load.specs.ppq_queue.Holding.{Holding}
+use Rattle.ppq_load.specs.ppq_session.declared.line.Line.{Line}
+use Rattle.ppq_load.specs.ppq_session.Dealing.{IsGoing, HasEnded, records_in}
+use Rattle.ppq_load.specs.ppq_session.declared.ask.Ask.{Ask}
+use Rattle.ppq_load.specs.ppq_session.Asks.{pops_in, left_after, answers_to}
+use Rattle.ppq_load.specs.Limits.{LimitsHolding, InLimits, AreGoing, HasStopped}
 use Rattle.ppq_engine.specs.Gathers.{Gathers}
 use Rattle.ppq_engine.specs.Output.{limited_text}
 use Rattle.ppq_engine.specs.Parts.{up_to_end, pushed_by, pushed_in}

@@ -3,10 +3,10 @@ use Rattle.std.proofs.Common.{◌≡◌, ℕ, Bool, List, Option, refl, sym, sub
 use Rattle.std.specs.Prelude.{Result, Ok, Err, IfErr, OnOk}
 use Rattle.ppq_script.specs.ppq_outside.Shown.{Shown}
 use Rattle.ppq_script.specs.ppq_outside.Told.{Reply}
-use Rattle.ppq_batch.specs.ppq_budget.Sizes.{Numbers}
-use Rattle.ppq_batch.specs.ppq_load.Loading.{IsByLoad, LoadStopsFor, LoadCountsFrom, LoadEndsIn}
-use Rattle.ppq_batch.specs.ppq_load.declared.fault.LoadFault.{LoadFault}
-use Rattle.ppq_batch.specs.ppq_load.declared.fault.LoadFault.TheVariants.{Queue, Read, Memory, Ended}
+use Rattle.ppq_load.specs.ppq_budget.Sizes.{Numbers}
+use Rattle.ppq_load.specs.Loading.{IsByLoad, LoadStopsFor, LoadCountsFrom, LoadEndsIn}
+use Rattle.ppq_load.specs.declared.fault.LoadFault.{LoadFault}
+use Rattle.ppq_load.specs.declared.fault.LoadFault.TheVariants.{Queue, Read, Memory, Ended}
 use Rattle.ppq_engine.specs.Files.{load_stop, load_result, IsByFile, IsBySession, EndsEarly}
 use Rattle.ppq_engine.specs.Running.{StopsFor, LibraryAfter}
 use Rattle.ppq_engine.specs.declared.stop.Stop.{Stop}

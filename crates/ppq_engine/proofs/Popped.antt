@@ -15,7 +15,7 @@ use Rattle.ppq_script.specs.ppq_record.Order.{is_before, Le, Rising}
 use Rattle.ppq_script.specs.ppq_record.Bag.{IsSameBag, ascending, without_front, least, first_of, size_below}
 use Rattle.ppq_script.proofs.ppq_record.Order.{count_by-cons, none_pass, Rising-in_order, in_order-same_bag}
 use Rattle.ppq_script.proofs.ppq_record.Fronts.{ranks, ascending_is}
-use Rattle.ppq_batch.specs.ppq_budget.Sizes.{Numbers, AreInRange, batch_of}
+use Rattle.ppq_load.specs.ppq_budget.Sizes.{Numbers, AreInRange, batch_of}
 use Rattle.ppq_script.specs.ppq_outside.Told.{TakesPart}
 use Rattle.ppq_script.proofs.ppq_outside.Takes.{takes_two, takes_and_part, takes_nothing, part_of_more}
 use Rattle.ppq_engine.specs.Output.{line_of, lines_text, last_of, limited_count, mark_text}

@@ -11,12 +11,12 @@ use Rattle.ppq_script.specs.declared.command.Command.TheVariants.{Push, Pop, Top
 use Rattle.ppq_script.specs.declared.session.Session.TheVariants.{InBulk}
 use Rattle.ppq_script.specs.Sessions.{are_in_place}
 use Rattle.ppq_script.specs.Reading.{Reading, command_list}
-use Rattle.ppq_batch.specs.ppq_queue.Holding.{Holding}
-use Rattle.ppq_batch.specs.ppq_queue.declared.fault.QueueFault.{QueueFault}
-use Rattle.ppq_batch.specs.ppq_session.declared.line.Line.{Line}
-use Rattle.ppq_batch.specs.ppq_session.Dealing.{records_in}
-use Rattle.ppq_batch.specs.ppq_load.Loading.{LoadHolding, InSession, IsLoaded}
-use Rattle.ppq_batch.proofs.ppq_load.Refusals.{cause-later}
+use Rattle.ppq_load.specs.ppq_queue.Holding.{Holding}
+use Rattle.ppq_load.specs.ppq_queue.declared.fault.QueueFault.{QueueFault}
+use Rattle.ppq_load.specs.ppq_session.declared.line.Line.{Line}
+use Rattle.ppq_load.specs.ppq_session.Dealing.{records_in}
+use Rattle.ppq_load.specs.Loading.{LoadHolding, InSession, IsLoaded}
+use Rattle.ppq_load.proofs.Refusals.{cause-later}
 use Rattle.ppq_engine.specs.Parts.{up_to_end, pushed_in, behind_session}
 use Rattle.ppq_engine.specs.Pushes.{IsPushAt, IsEndAt, GivesFirst}
 use Rattle.ppq_engine.specs.Running.{StopsFor}

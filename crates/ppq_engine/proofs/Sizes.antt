@@ -5,8 +5,8 @@ use Rattle.std.proofs.Math.Bool.{or_assoc}
 use Rattle.std.proofs.lemmas.Bool.{or_parts}
 use Rattle.std.proofs.Math.Nat.{mul-le-mul_left}
 use Rattle.ppq_script.specs.ppq_outside.Shown.{Shown}
-use Rattle.ppq_batch.specs.ppq_budget.Sizes.{Numbers}
-use Rattle.ppq_batch.specs.ppq_array.Kept.{all_writes}
+use Rattle.ppq_load.specs.ppq_budget.Sizes.{Numbers}
+use Rattle.ppq_load.specs.ppq_array.Kept.{all_writes}
 use Rattle.ppq_script.specs.declared.command.Command.{Command}
 use Rattle.ppq_script.specs.declared.command.Command.TheVariants.{Push, Pop, Top, Size, Bulk, Gen, BulkPop, BulkPopLimit, Drain, BulkBegin, BulkPush, BulkEnd, LimitBegin, LimitPush, LimitTop, LimitPop, LimitEnd}
 use Rattle.ppq_script.specs.declared.session.Session.{Session}

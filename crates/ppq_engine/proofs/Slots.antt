@@ -1,7 +1,7 @@
 -- The same slots, told by their numbers.
 use Rattle.std.proofs.Common.{refl, ◌∙◌, arith, List}
 use Rattle.ppq_script.specs.ppq_outside.Shown.{Shown}
-use Rattle.ppq_batch.specs.ppq_array.Kept.{SameSlots}
+use Rattle.ppq_load.specs.ppq_array.Kept.{SameSlots}
 
 pub SameSlots-refl : (slots : List Shown) → SameSlots slots slots
 SameSlots-refl slots = record { length = refl; each_once = λ n. refl; faults = λ n. omega arith; writes = λ n. omega arith; reads = λ n. omega arith }

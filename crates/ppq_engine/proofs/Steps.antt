@@ -7,8 +7,8 @@ use Rattle.ppq_script.specs.ppq_record.Bag.{IsSameBag}
 use Rattle.ppq_script.proofs.ppq_record.Order.{IsSameBag-length}
 use Rattle.ppq_script.specs.ppq_outside.Shown.{Shown}
 use Rattle.ppq_script.proofs.ppq_outside.Takes.{takes_nothing}
-use Rattle.ppq_batch.specs.ppq_budget.Sizes.{Numbers}
-use Rattle.ppq_batch.specs.ppq_array.Kept.{all_writes}
+use Rattle.ppq_load.specs.ppq_budget.Sizes.{Numbers}
+use Rattle.ppq_load.specs.ppq_array.Kept.{all_writes}
 use Rattle.ppq_script.specs.declared.command.Command.{Command}
 use Rattle.ppq_engine.specs.Loads.{none_go, size_from, FitsWritten}
 use Rattle.ppq_engine.specs.Output.{State, outside, state_from, state_of, bag_of, output_of, output_from, load_from, load_of, crest_from, crest_of}

@@ -6,11 +6,11 @@ use Rattle.ppq_script.specs.ppq_record.declared.pair.Pair.{Pair}
 use Rattle.ppq_script.specs.ppq_outside.Shown.{Shown, AllTell}
 use Rattle.ppq_script.specs.ppq_outside.Told.{Reply, TakesAll, TakesPart}
 use Rattle.ppq_script.proofs.ppq_outside.Takes.{part_of_more, all_is_part}
-use Rattle.ppq_batch.specs.ppq_budget.Sizes.{Numbers}
+use Rattle.ppq_load.specs.ppq_budget.Sizes.{Numbers}
 use Rattle.ppq_script.specs.declared.command.Command.{Command}
 use Rattle.ppq_script.specs.Reading.{Reading, command_list, line_list}
-use Rattle.ppq_batch.specs.ppq_load.Refusal.{HasNoRoom, IsRefusedBy}
-use Rattle.ppq_batch.proofs.ppq_load.Refusals.{room-not_none, no_room-later, cause-later}
+use Rattle.ppq_load.specs.Refusal.{HasNoRoom, IsRefusedBy}
+use Rattle.ppq_load.proofs.Refusals.{room-not_none, no_room-later, cause-later}
 use Rattle.ppq_script.specs.declared.command.Command.TheVariants.{Bulk}
 use Rattle.ppq_script.specs.Files.{name_at}
 use Rattle.ppq_engine.specs.Files.{IsByFile, IsBySession, EndsEarly}
@@ -23,8 +23,8 @@ use Rattle.ppq_engine.specs.declared.end.End.{End}
 use Rattle.ppq_engine.specs.declared.end.End.TheVariants as end
 use Rattle.ppq_engine.specs.declared.stop.Stop.{Stop}
 use Rattle.ppq_engine.specs.declared.stop.Stop.TheVariants.{Sink, Queue, Read, Memory, Changed}
-use Rattle.ppq_batch.specs.ppq_queue.declared.fault.QueueFault.{QueueFault}
-use Rattle.ppq_batch.specs.ppq_queue.declared.fault.QueueFault.TheVariants.{NoFreeBlock, Device}
+use Rattle.ppq_load.specs.ppq_queue.declared.fault.QueueFault.{QueueFault}
+use Rattle.ppq_load.specs.ppq_queue.declared.fault.QueueFault.TheVariants.{NoFreeBlock, Device}
 use Rattle.ppq_engine.specs.Gathers.{Gathers}
 use Rattle.ppq_engine.proofs.Parts.{IsPart, take-part_of}
 use Rattle.ppq_engine.proofs.Lines.{FirstHasLength, part-begins}

@@ -1,8 +1,8 @@
 -- When a run ends how.
 use Rattle.std.specs.Prelude.{◌≡◌, ◌⊎◌, ◌<◌, ◌^◌, ℕ, List, Option, Some, None, MatchOption, if◌then◌else◌, nat_lt, ⊤}
 use Rattle.ppq_script.specs.ppq_outside.Shown.{Shown}
-use Rattle.ppq_batch.specs.ppq_budget.Sizes.{Numbers, fixed_of}
-use Rattle.ppq_batch.specs.ppq_array.Kept.{HasFailed}
+use Rattle.ppq_load.specs.ppq_budget.Sizes.{Numbers, fixed_of}
+use Rattle.ppq_load.specs.ppq_array.Kept.{HasFailed}
 use Rattle.ppq_engine.specs.declared.end.End.{End}
 use Rattle.ppq_engine.specs.declared.end.End.TheVariants.{Done, BadLine, Usage, ReadFault, WriteFault, DeviceFault, NoFreeBlock, BudgetTooSmall, Memory, FileChanged, NoDevice, NoScript, ScriptTooLong}
 

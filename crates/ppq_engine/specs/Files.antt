@@ -4,10 +4,10 @@ use Rattle.ppq_script.specs.ppq_outside.Told.{Reply}
 use Rattle.ppq_script.specs.declared.command.Command.TheVariants.{Bulk}
 use Rattle.ppq_script.specs.Files.{name_at}
 use Rattle.ppq_script.specs.Reading.{Reading, command_list}
-use Rattle.ppq_batch.specs.ppq_load.Reading.{IsReadWithin}
-use Rattle.ppq_batch.specs.ppq_load.Loading.{HasEndedEarly}
-use Rattle.ppq_batch.specs.ppq_load.declared.fault.LoadFault.{LoadFault}
-use Rattle.ppq_batch.specs.ppq_load.declared.fault.LoadFault.TheVariants as load
+use Rattle.ppq_load.specs.Reading.{IsReadWithin}
+use Rattle.ppq_load.specs.Loading.{HasEndedEarly}
+use Rattle.ppq_load.specs.declared.fault.LoadFault.{LoadFault}
+use Rattle.ppq_load.specs.declared.fault.LoadFault.TheVariants as load
 use Rattle.ppq_engine.specs.declared.stop.Stop.{Stop}
 use Rattle.ppq_engine.specs.declared.stop.Stop.TheVariants as stop
 

@@ -1,10 +1,10 @@
-pub use Rattle.ppq_batch.specs.ppq_array as ppq_array
-pub use Rattle.ppq_batch.specs as ppq_batch
-pub use Rattle.ppq_batch.specs.ppq_queue as ppq_queue
+pub use Rattle.ppq_load.specs.ppq_array as ppq_array
+pub use Rattle.ppq_load.specs as ppq_load
+pub use Rattle.ppq_load.specs.ppq_queue as ppq_queue
 pub use Rattle.ppq_script.specs as ppq_script
-pub use Rattle.ppq_batch.specs.ppq_session as ppq_session
-pub use Rattle.ppq_batch.specs.ppq_load.Reading as Reading
-pub use Rattle.ppq_batch.specs.ppq_load.Refusal as Refusal
+pub use Rattle.ppq_load.specs.ppq_session as ppq_session
+pub use Rattle.ppq_load.specs.Reading as Reading
+pub use Rattle.ppq_load.specs.Refusal as Refusal
 pub mod Deferred
 pub mod Ends
 pub mod Examples

@@ -11,14 +11,14 @@ use Rattle.ppq_script.specs.declared.command.Command.TheVariants.{Push, Pop, Top
 use Rattle.ppq_script.specs.declared.session.Session.TheVariants.{InLimit}
 use Rattle.ppq_script.specs.Sessions.{are_in_place}
 use Rattle.ppq_script.specs.Reading.{Reading, command_list}
-use Rattle.ppq_batch.specs.ppq_queue.Holding.{Holding}
-use Rattle.ppq_batch.specs.ppq_queue.declared.fault.QueueFault.{QueueFault}
-use Rattle.ppq_batch.specs.ppq_session.declared.line.Line.{Line}
-use Rattle.ppq_batch.specs.ppq_session.Dealing.{records_in}
-use Rattle.ppq_batch.specs.declared.ask.Ask.{Ask}
-use Rattle.ppq_batch.specs.declared.ask.Ask.TheVariants as ask
-use Rattle.ppq_batch.specs.Asks.{answers_to, left_after, pops_in}
-use Rattle.ppq_batch.specs.Batches.{LimitsHolding, InLimits, AreGoing}
+use Rattle.ppq_load.specs.ppq_queue.Holding.{Holding}
+use Rattle.ppq_load.specs.ppq_queue.declared.fault.QueueFault.{QueueFault}
+use Rattle.ppq_load.specs.ppq_session.declared.line.Line.{Line}
+use Rattle.ppq_load.specs.ppq_session.Dealing.{records_in}
+use Rattle.ppq_load.specs.ppq_session.declared.ask.Ask.{Ask}
+use Rattle.ppq_load.specs.ppq_session.declared.ask.Ask.TheVariants as ask
+use Rattle.ppq_load.specs.ppq_session.Asks.{answers_to, left_after, pops_in}
+use Rattle.ppq_load.specs.Limits.{LimitsHolding, InLimits, AreGoing}
 use Rattle.ppq_engine.specs.Gathers.{Gathers}
 use Rattle.ppq_engine.specs.Output.{limited_text}
 use Rattle.ppq_engine.specs.Parts.{up_to_end, pushed_in}

@@ -1,8 +1,8 @@
 -- How many records a script may bring, told by its commands alone, and whether they fit.
 use Rattle.std.specs.Prelude.{⊤, Bool, true, false, ◌||◌, if◌then◌else◌, unwrap_or, ◌≤◌, ◌+◌, ◌-◌, ◌*◌, ◌/◌, ℕ, List, [], ◌∷◌, max}
 use Rattle.ppq_script.specs.ppq_outside.Shown.{Shown}
-use Rattle.ppq_batch.specs.ppq_budget.Sizes.{Numbers}
-use Rattle.ppq_batch.specs.ppq_array.Kept.{all_writes}
+use Rattle.ppq_load.specs.ppq_budget.Sizes.{Numbers}
+use Rattle.ppq_load.specs.ppq_array.Kept.{all_writes}
 use Rattle.ppq_script.specs.declared.command.Command.{Command}
 use Rattle.ppq_script.specs.declared.command.Command.TheVariants.{Push, Pop, Top, Size, Bulk, Gen, BulkPop, BulkPopLimit, Drain, BulkBegin, BulkPush, BulkEnd, LimitBegin, LimitPush, LimitTop, LimitPop, LimitEnd}
 use Rattle.ppq_script.specs.declared.session.Session.{Session}

@@ -3,12 +3,12 @@ use Rattle.std.specs.Prelude.{◌≡◌, ◌⊎◌, ⊤, ℕ, List, take, slice_
 use Rattle.ppq_script.specs.ppq_record.declared.pair.Pair.{Pair}
 use Rattle.ppq_script.specs.ppq_outside.Shown.{Shown, AllTell}
 use Rattle.ppq_script.specs.ppq_outside.Told.{Reply, TakesAll, TakesPart, Rose}
-use Rattle.ppq_batch.specs.ppq_budget.Sizes.{Numbers}
-use Rattle.ppq_batch.specs.ppq_array.Kept.{HasFailed}
+use Rattle.ppq_load.specs.ppq_budget.Sizes.{Numbers}
+use Rattle.ppq_load.specs.ppq_array.Kept.{HasFailed}
 use Rattle.ppq_script.specs.declared.command.Command.{Command}
 use Rattle.ppq_script.specs.declared.command.Command.TheVariants.{Bulk}
 use Rattle.ppq_script.specs.Reading.{Reading, command_list}
-use Rattle.ppq_batch.specs.ppq_load.Refusal.{HasNoRoom}
+use Rattle.ppq_load.specs.Refusal.{HasNoRoom}
 use Rattle.ppq_engine.specs.Loads.{IsLoad, most_of, least_of, begins_limit, FitsWritten}
 use Rattle.ppq_engine.specs.Output.{AreFilesOf, given_of, output_of, load_of, crest_of, TakesWithin}
 use Rattle.ppq_engine.specs.Running.{HasChanged, queue_end}

@@ -5,7 +5,7 @@ use Rattle.ppq_script.specs.ppq_record.Pair.{pair_cmp}
 use Rattle.ppq_script.specs.ppq_record.Bag.{least, front, without_front, first_of, size_below}
 use Rattle.ppq_script.specs.ppq_record.Given.{records_of, generated}
 use Rattle.ppq_script.specs.ppq_outside.Told.{bytes_or_none}
-use Rattle.ppq_batch.specs.ppq_budget.Sizes.{Numbers}
+use Rattle.ppq_load.specs.ppq_budget.Sizes.{Numbers}
 use Rattle.ppq_script.specs.declared.command.Command.{Command}
 use Rattle.ppq_script.specs.declared.command.Command.TheVariants.{Push, Pop, Top, Size, Bulk, Gen, BulkPop, BulkPopLimit, Drain, BulkBegin, BulkPush, BulkEnd, LimitBegin, LimitPush, LimitTop, LimitPop, LimitEnd}
 use Rattle.ppq_script.specs.declared.session.Session.{Session}
@@ -13,7 +13,7 @@ use Rattle.ppq_script.specs.declared.session.Session.TheVariants.{Outside, InBul
 use Rattle.ppq_script.specs.Sessions.{is_outside}
 use Rattle.ppq_script.specs.Reading.{Reading, command_list}
 use Rattle.ppq_script.specs.Files.{name_at}
-use Rattle.ppq_batch.specs.ppq_load.Refusal.{HasRoom}
+use Rattle.ppq_load.specs.Refusal.{HasRoom}
 use Rattle.ppq_engine.specs.Loads.{begins_limit}
 
 -- a record's key and value in decimal

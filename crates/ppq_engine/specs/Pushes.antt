@@ -6,9 +6,9 @@ use Rattle.ppq_script.specs.declared.command.Command.TheVariants.{BulkPush, Bulk
 use Rattle.ppq_script.specs.declared.session.Session.TheVariants.{InBulk}
 use Rattle.ppq_script.specs.Sessions.{are_in_place}
 use Rattle.ppq_script.specs.Reading.{Reading, command_list}
-use Rattle.ppq_batch.specs.ppq_queue.Holding.{Holding}
-use Rattle.ppq_batch.specs.ppq_session.declared.line.Line.{Line}
-use Rattle.ppq_batch.specs.ppq_load.Loading.{LoadHolding, InSession}
+use Rattle.ppq_load.specs.ppq_queue.Holding.{Holding}
+use Rattle.ppq_load.specs.ppq_session.declared.line.Line.{Line}
+use Rattle.ppq_load.specs.Loading.{LoadHolding, InSession}
 
 -- the command at a place of a bulk session pushes this record by this pass, and the session goes on behind it
 pub record IsPushAt (script : Reading) (place : ℕ) (line : Line Pair) : Type 0 where

@@ -4,21 +4,21 @@ use Rattle.ppq_script.specs.ppq_record.declared.pair.Pair.{Pair}
 use Rattle.ppq_script.specs.ppq_record.Bag.{IsSameBag}
 use Rattle.ppq_script.specs.ppq_outside.Shown.{Shown, AllTell}
 use Rattle.ppq_script.specs.ppq_outside.Told.{Reply, TakesAll, TakesPart, Rose}
-use Rattle.ppq_batch.specs.ppq_budget.Sizes.{Numbers}
+use Rattle.ppq_load.specs.ppq_budget.Sizes.{Numbers}
 use Rattle.ppq_script.specs.declared.command.Command.{Command}
 use Rattle.ppq_script.specs.declared.command.Command.TheVariants.{Push, Pop, Top, Size, Bulk, Gen, BulkPop, BulkPopLimit, Drain, BulkBegin, BulkPush, BulkEnd, LimitBegin, LimitPush, LimitTop, LimitPop, LimitEnd}
 use Rattle.ppq_script.specs.Files.{name_at}
 use Rattle.ppq_script.specs.Reading.{Reading, command_list, line_list}
-use Rattle.ppq_batch.specs.ppq_load.Reading.{EndsAt}
-use Rattle.ppq_batch.specs.ppq_load.Refusal.{IsRefusedBy}
+use Rattle.ppq_load.specs.Reading.{EndsAt}
+use Rattle.ppq_load.specs.Refusal.{IsRefusedBy}
 use Rattle.ppq_engine.specs.Loads.{IsLoad, none_go, all_go, size_from, most_of, least_of, begins_limit, FitsWritten}
 use Rattle.ppq_engine.specs.Output.{AreFilesOf, given_of, outside, output_of, output_from, state_of, bag_of, load_of, crest_of}
 use Rattle.ppq_engine.specs.Gathers.{Gathers}
-use Rattle.ppq_batch.specs.ppq_queue.Holding.{Holding}
-use Rattle.ppq_batch.specs.ppq_queue.declared.fault.QueueFault.{QueueFault}
-use Rattle.ppq_batch.specs.ppq_queue.declared.fault.QueueFault.TheVariants.{NoFreeBlock, Device}
-use Rattle.ppq_batch.specs.ppq_queue.declared.fault.OpenFault.{OpenFault}
-use Rattle.ppq_batch.specs.ppq_queue.declared.fault.OpenFault.TheVariants as unopened
+use Rattle.ppq_load.specs.ppq_queue.Holding.{Holding}
+use Rattle.ppq_load.specs.ppq_queue.declared.fault.QueueFault.{QueueFault}
+use Rattle.ppq_load.specs.ppq_queue.declared.fault.QueueFault.TheVariants.{NoFreeBlock, Device}
+use Rattle.ppq_load.specs.ppq_queue.declared.fault.OpenFault.{OpenFault}
+use Rattle.ppq_load.specs.ppq_queue.declared.fault.OpenFault.TheVariants as unopened
 use Rattle.ppq_engine.specs.declared.end.End.{End}
 use Rattle.ppq_engine.specs.declared.end.End.TheVariants as end
 use Rattle.ppq_engine.specs.declared.stop.Stop.{Stop}

@@ -4,14 +4,14 @@ ghost use Rattle.ppq_script.specs.ppq_record.declared.pair.Pair.{Pair};
 ghost use Rattle.ppq_script.specs.ppq_record.Order.{is_before};
 ghost use Rattle.ppq_script.specs.ppq_record.Pair.{pair_cmp};
 ghost use Rattle.ppq_script.specs.ppq_outside.Told.{HasOneCause, TakesPart};
-ghost use Rattle.ppq_batch.specs.Batches.{AreGoing, HasStopped};
+ghost use Rattle.ppq_load.specs.Limits.{AreGoing, HasStopped};
 ghost use Rattle.ppq_engine.specs.Gathers.{answer_text, Gathers};
 ghost use Rattle.ppq_engine.specs.Output.{limited_text};
 ghost use Rattle.ppq_engine.specs.Limits.{line_by, ask_by, answers_text, IsLimitLine, IsInLimit, EndsLimit, IsBatch, RunsBatch};
 
 use crate::Answer;
 use crate::gathered::Gathered;
-use ppq_batch::{Ask, Limits, Line};
+use ppq_load::{Ask, Limits, Line};
 use ppq_script::{Command, Failed, Gate, Host, Memory, Pair, Script, Sink, Slot};
 use std::alloc::Global;
 use std::marker::Model;

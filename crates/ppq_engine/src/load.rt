@@ -4,13 +4,13 @@ ghost use Rattle.ppq_script.specs.ppq_record.Bag.{IsSameBag};
 ghost use Rattle.ppq_script.specs.ppq_record.Given.{records_of, generated};
 ghost use Rattle.ppq_script.specs.ppq_outside.Shown.{AllTell};
 ghost use Rattle.ppq_script.specs.ppq_outside.Told.{Remembers, RepliesOnly, bytes_or_none};
-ghost use Rattle.ppq_batch.specs.ppq_load.Reading.{IsReadWithin};
-ghost use Rattle.ppq_batch.specs.ppq_load.Refusal.{Keeps};
+ghost use Rattle.ppq_load.specs.Reading.{IsReadWithin};
+ghost use Rattle.ppq_load.specs.Refusal.{Keeps};
 ghost use Rattle.ppq_engine.specs.Running.{StopsFor, LibraryAfter};
 ghost use Rattle.ppq_engine.specs.Files.{load_stop, load_result, IsByFile, IsBySession, EndsEarly};
 
 use crate::stop::Stop;
-use ppq_batch::{LoadFault, Queue, load_file, load_generated};
+use ppq_load::{LoadFault, Queue, load_file, load_generated};
 use ppq_script::{Gate, Host, Library, Pair, Slot};
 use std::alloc::Global;
 

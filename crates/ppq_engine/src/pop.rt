@@ -3,19 +3,19 @@ ghost use Rattle.std.specs.Prelude.{◌≡◌, ◌≤◌, ◌<◌, ◌+◌, ◌-
 ghost use Rattle.ppq_script.specs.ppq_record.declared.pair.Pair.{Pair};
 ghost use Rattle.ppq_script.specs.ppq_record.Bag.{IsSameBag, least, front, without_front};
 ghost use Rattle.ppq_script.specs.ppq_record.Pair.{pair_cmp};
-ghost use Rattle.ppq_batch.specs.ppq_budget.Sizes.{batch_of};
+ghost use Rattle.ppq_load.specs.ppq_budget.Sizes.{batch_of};
 ghost use Rattle.ppq_script.specs.ppq_outside.Shown.{AllTell};
 ghost use Rattle.ppq_script.specs.ppq_outside.Told.{HasOneCause, TakesPart};
 ghost use Rattle.ppq_engine.specs.Output.{lines_text, mark_text, limited_count};
 ghost use Rattle.ppq_engine.specs.Gathers.{answer_text, Gathers, IsSummary};
-ghost use Rattle.ppq_batch.specs.ppq_load.Refusal.{Keeps, IsRefusedBy};
+ghost use Rattle.ppq_load.specs.Refusal.{Keeps, IsRefusedBy};
 ghost use Rattle.ppq_engine.specs.Running.{StopsFor, WritesPart, SinkAfter};
 ghost use Rattle.ppq_engine.specs.Popping.{next_of, popped_count, left_mark, IsRound, NotByFile};
 
 use crate::gathered::Gathered;
 use crate::stop::Stop;
 use crate::{Answer, Drained};
-use ppq_batch::{Out, Queue, QueueFault};
+use ppq_load::{Out, Queue, QueueFault};
 use ppq_script::{Failed, Gate, Host, Pair, Record, Sink, Slot};
 
 impl Drained {

@@ -2,9 +2,9 @@
 ghost use Rattle.std.specs.Prelude.{◌≡◌, ◌+◌, ◌∷◌, None, OnOk, IfErr, max};
 ghost use Rattle.ppq_script.specs.ppq_record.Bag.{IsSameBag};
 ghost use Rattle.ppq_script.specs.ppq_outside.Shown.{AllTell};
-ghost use Rattle.ppq_batch.specs.ppq_load.Refusal.{Keeps, IsRefusedBy};
+ghost use Rattle.ppq_load.specs.Refusal.{Keeps, IsRefusedBy};
 
-use ppq_batch::{Queue, QueueFault};
+use ppq_load::{Queue, QueueFault};
 use ppq_script::{Gate, Host, Pair, Slot};
 
 // Adds a record.

@@ -2,11 +2,11 @@
 ghost use Rattle.std.specs.Prelude.{◌≡◌, false, ◌≤◌, ◌<◌, ◌⊎◌, ◌*◌, ◌+◌, List, ℕ, Option, [], Some, None, OnOk, IfErr, IsTrue, length, map};
 ghost use Rattle.ppq_script.specs.ppq_outside.Shown.{AllTell};
 ghost use Rattle.ppq_script.specs.ppq_outside.Told.{TakesAll, TakesPart, Rose, Remembers, RepliesOnly};
-ghost use Rattle.ppq_batch.specs.ppq_budget.Sizes.{fixed_of, batch_of};
-ghost use Rattle.ppq_batch.specs.ppq_array.Kept.{SameSlots, HasFailed};
+ghost use Rattle.ppq_load.specs.ppq_budget.Sizes.{fixed_of, batch_of};
+ghost use Rattle.ppq_load.specs.ppq_array.Kept.{SameSlots, HasFailed};
 ghost use Rattle.ppq_script.specs.Reading.{command_list};
-ghost use Rattle.ppq_batch.specs.ppq_queue.Holding.{AreNewSlots};
-ghost use Rattle.ppq_batch.specs.ppq_load.Refusal.{HasRoom, HasNoRoom};
+ghost use Rattle.ppq_load.specs.ppq_queue.Holding.{AreNewSlots};
+ghost use Rattle.ppq_load.specs.Refusal.{HasRoom, HasNoRoom};
 ghost use Rattle.ppq_engine.specs.Loads.{most_of, least_of, begins_limit, FitsWritten};
 ghost use Rattle.ppq_engine.specs.Output.{output_of, load_of, crest_of, given_of, AreFilesOf, KeepsLengths, TakesWithin};
 ghost use Rattle.ppq_engine.specs.Running.{IsGathered, HasStopped, ChangedIn, HasChanged, SinkAfter, LibraryAfter, queue_end, open_end};
@@ -19,7 +19,7 @@ use crate::gathered::Gathered;
 use crate::step::advance;
 use crate::stop::Stop;
 use crate::{End, Ended};
-use ppq_batch::{OpenFault, Out, Queue, QueueFault, Sizes};
+use ppq_load::{OpenFault, Out, Queue, QueueFault, Sizes};
 use ppq_script::{Failed, Gate, Host, Library, Pair, Script, Sink, Slot};
 use std::alloc::Global;
 

@@ -3,14 +3,14 @@ ghost use Rattle.std.specs.Prelude.{◌≡◌, ◌≤◌, ◌<◌, ◌+◌, ◌^
 ghost use Rattle.ppq_script.specs.ppq_record.declared.pair.Pair.{Pair};
 ghost use Rattle.ppq_script.specs.ppq_record.Bag.{IsSameBag};
 ghost use Rattle.ppq_script.specs.ppq_outside.Shown.{AllTell};
-ghost use Rattle.ppq_batch.specs.ppq_budget.Sizes.{batch_of};
+ghost use Rattle.ppq_load.specs.ppq_budget.Sizes.{batch_of};
 ghost use Rattle.ppq_script.specs.Sessions.{are_in_place};
 ghost use Rattle.ppq_script.specs.Reading.{command_list};
 ghost use Rattle.ppq_script.specs.declared.session.Session.TheVariants.{InBulk};
-ghost use Rattle.ppq_batch.specs.ppq_queue.Holding.{Holding};
-ghost use Rattle.ppq_batch.specs.ppq_session.Dealing.{IsGoing, records_in};
-ghost use Rattle.ppq_batch.specs.ppq_load.Loading.{InSession};
-ghost use Rattle.ppq_batch.specs.ppq_load.Refusal.{Keeps};
+ghost use Rattle.ppq_load.specs.ppq_queue.Holding.{Holding};
+ghost use Rattle.ppq_load.specs.ppq_session.Dealing.{IsGoing, records_in};
+ghost use Rattle.ppq_load.specs.Loading.{InSession};
+ghost use Rattle.ppq_load.specs.Refusal.{Keeps};
 ghost use Rattle.ppq_engine.specs.Files.{IsBySession};
 ghost use Rattle.ppq_engine.specs.Parts.{up_to_end, pushed_in, behind_session};
 ghost use Rattle.ppq_engine.specs.Pushes.{IsPushAt, IsEndAt, GivesFirst};
@@ -18,7 +18,7 @@ ghost use Rattle.ppq_engine.specs.Running.{StopsFor};
 
 use crate::load::stop_of;
 use crate::stop::Stop;
-use ppq_batch::{Line, Load, Queue, QueueFault};
+use ppq_load::{Line, Load, Queue, QueueFault};
 use ppq_script::{Command, Gate, Host, Pair, Script, Slot};
 use std::alloc::Global;
 

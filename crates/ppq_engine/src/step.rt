@@ -2,15 +2,15 @@
 ghost use Rattle.std.specs.Prelude.{◌≡◌, ◌≤◌, ◌<◌, ◌+◌, ◌^◌, ◌||◌, true, drop, List, ℕ, Option, Some, None, OnOk, IfOk, IfErr, length, max, slice_get};
 ghost use Rattle.ppq_script.specs.ppq_record.declared.pair.Pair.{Pair};
 ghost use Rattle.ppq_script.specs.ppq_record.Bag.{IsSameBag};
-ghost use Rattle.ppq_batch.specs.ppq_budget.Sizes.{batch_of};
+ghost use Rattle.ppq_load.specs.ppq_budget.Sizes.{batch_of};
 ghost use Rattle.ppq_script.specs.ppq_outside.Shown.{AllTell};
 ghost use Rattle.ppq_script.specs.ppq_outside.Told.{Remembers, RepliesOnly};
 ghost use Rattle.ppq_script.specs.Files.{NamesFile, HasRecords};
 ghost use Rattle.ppq_script.specs.Reading.{command_list};
 ghost use Rattle.ppq_script.specs.Sessions.{are_in_place};
 ghost use Rattle.ppq_script.specs.declared.session.Session.TheVariants.{Outside};
-ghost use Rattle.ppq_batch.specs.ppq_array.Kept.{SameSlots};
-ghost use Rattle.ppq_batch.specs.ppq_load.Refusal.{Keeps, IsRefusedBy};
+ghost use Rattle.ppq_load.specs.ppq_array.Kept.{SameSlots};
+ghost use Rattle.ppq_load.specs.Refusal.{Keeps, IsRefusedBy};
 ghost use Rattle.ppq_engine.specs.Loads.{none_go, all_go, size_after, size_from, begins_limit};
 ghost use Rattle.ppq_engine.specs.Output.{least_text, outside, text_of, after, output_from, state_from, given_of, AreFilesOf, KeepsLengths};
 ghost use Rattle.ppq_engine.specs.Files.{IsReadInScript};
@@ -27,7 +27,7 @@ use crate::pop::{drain, pop_one, print_limited, print_popped, top_one};
 use crate::push::push_one;
 use crate::session::run_bulk;
 use crate::stop::Stop;
-use ppq_batch::{Out, Queue, QueueFault};
+use ppq_load::{Out, Queue, QueueFault};
 use ppq_script::{Command, Gate, Host, Library, Pair, Script, Sink, Slot};
 use std::alloc::Global;
 

@@ -1,5 +1,5 @@
 //! Why commands did not all run.
-use ppq_batch::QueueFault;
+use ppq_load::QueueFault;
 use ppq_script::Failed;
 
 // Why the commands of a script did not all run.

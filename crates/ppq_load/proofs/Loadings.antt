@@ -18,10 +18,10 @@ use Rattle.ppq_session.specs.ppq_pass.declared.shared.Shared.{Shared}
 use Rattle.ppq_session.specs.ppq_queue.Holding.{Holding}
 use Rattle.ppq_session.specs.ppq_queue.declared.fault.QueueFault.{QueueFault}
 use Rattle.ppq_session.specs.ppq_queue.declared.fault.QueueFault.TheVariants.{NoFreeBlock, Device}
-use Rattle.ppq_session.specs.ppq_begin.Session.{BulkHolding, AreOf, IsFresh, IsTogether, HasNoBlock, EndsIn, IsBeginRefusal, keys_of, shared_by, pass_key, bag_of, accepted_of}
-use Rattle.ppq_session.specs.ppq_begin.declared.fault.BeginFault.{BeginFault}
-use Rattle.ppq_session.specs.ppq_begin.declared.fault.BeginFault.TheVariants as begin
-use Rattle.ppq_session.specs.ppq_begin.declared.fault.SessionEnd.TheVariants.{Stopped}
+use Rattle.ppq_session.specs.BulkSession.{BulkHolding, AreOf, IsFresh, IsTogether, HasNoBlock, EndsIn, IsBeginRefusal, keys_of, shared_by, pass_key, bag_of, accepted_of}
+use Rattle.ppq_session.specs.declared.fault.BeginFault.{BeginFault}
+use Rattle.ppq_session.specs.declared.fault.BeginFault.TheVariants as begin
+use Rattle.ppq_session.specs.declared.fault.SessionEnd.TheVariants.{Stopped}
 use Rattle.ppq_session.specs.Dealing.{IsGoing, HasEnded, Dealt}
 use Rattle.ppq_load.specs.Refusal.{Keeps, HasNoRoom}
 use Rattle.ppq_load.specs.declared.fault.LoadFault.{LoadFault}

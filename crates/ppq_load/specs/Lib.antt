@@ -1,3 +1,10 @@
+pub use Rattle.ppq_session.specs.ppq_array as ppq_array
+pub use Rattle.ppq_session.specs.ppq_budget as ppq_budget
+pub use Rattle.ppq_session.specs.ppq_pass as ppq_pass
+pub use Rattle.ppq_session.specs.ppq_queue as ppq_queue
+pub use Rattle.ppq_session.specs as ppq_session
+pub use Rattle.ppq_session.specs.Limited as Limited
+pub mod Limits
 pub mod Loading
 pub mod Reading
 pub mod Refusal

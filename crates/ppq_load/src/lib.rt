@@ -12,10 +12,12 @@ mod fault;
 mod file;
 mod fill;
 mod generate;
+mod limits;
 mod load;
 
 pub use fault::LoadFault;
 pub use file::load_file;
 pub use generate::load_generated;
+pub use limits::Limits;
 pub use load::Load;
-pub use ppq_session::Line;
+pub use ppq_session::{Ask, Line, OpenFault, Out, Queue, QueueFault, Sizes};

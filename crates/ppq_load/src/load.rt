@@ -33,7 +33,7 @@ pub struct Load<S: Slot + Send + Sync> {
 
 impl<S: Slot + Send + Sync> Model for Load<S> {
     ghost use Rattle.std.specs.Prelude.{◌≡◌};
-    ghost use Rattle.ppq_session.specs.ppq_begin.Session.{AreOf, keys_of, shared_by};
+    ghost use Rattle.ppq_session.specs.BulkSession.{AreOf, keys_of, shared_by};
     ghost use Rattle.ppq_load.specs.Loading.{LoadHolding};
 
     ghost Value = { LoadHolding S };

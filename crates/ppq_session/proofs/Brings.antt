@@ -5,13 +5,13 @@ use Rattle.std.specs.declared.cmp.Ordering.{Ordering}
 use Rattle.std.proofs.lemmas.Grind.{flat_map-append}
 use Rattle.std.proofs.lemmas.List.{map-append}
 use Rattle.std.proofs.lemmas.List.Elements.{All-nil, All-append}
-use Rattle.ppq_begin.specs.ppq_budget.Sizes.{Numbers}
-use Rattle.ppq_begin.specs.ppq_outside.Shown.{Shown}
-use Rattle.ppq_begin.specs.ppq_pass.Passed.{PassHolding}
-use Rattle.ppq_begin.specs.ppq_gather.Passes.{IsBrought, pass_of}
+use Rattle.ppq_pass.specs.ppq_budget.Sizes.{Numbers}
+use Rattle.ppq_pass.specs.ppq_outside.Shown.{Shown}
+use Rattle.ppq_pass.specs.Passed.{PassHolding}
+use Rattle.ppq_session.specs.Passes.{IsBrought, pass_of}
 use Rattle.ppq_session.specs.Bringing.{BroughtAll}
-use Rattle.ppq_begin.specs.ppq_gather.declared.brought.Brought.{Brought}
-use Rattle.ppq_begin.specs.declared.parts.BulkParts.{BulkParts}
+use Rattle.ppq_session.specs.declared.brought.Brought.{Brought}
+use Rattle.ppq_session.specs.declared.parts.BulkParts.{BulkParts}
 
 module _ {S R : Type 0} (shown : S → Shown) (record_of : List ℕ → R) (width : ℕ) (n : Numbers) (cmp : R → R → Ordering) where
   -- of all passes these are to come, and the others came

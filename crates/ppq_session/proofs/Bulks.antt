@@ -3,28 +3,28 @@ use Rattle.std.proofs.Common.{◌≡◌, ℕ, ◌+◌, ◌-◌, ◌*◌, ◌≤�
 use Rattle.std.specs.declared.cmp.Ordering.{Ordering}
 use Rattle.std.proofs.Math.Nat.{add-mul, mul-le-mul_right}
 use Rattle.std.proofs.lemmas.List.{length-map}
-use Rattle.ppq_begin.specs.ppq_record.Order.{Ascends}
-use Rattle.ppq_begin.specs.ppq_record.Bag.{IsSameBag}
-use Rattle.ppq_begin.specs.ppq_outside.Shown.{Shown, AllTell}
-use Rattle.ppq_begin.specs.ppq_budget.Sizes.{pool_of}
-use Rattle.ppq_begin.specs.ppq_array.Owner.{slots_shown}
-use Rattle.ppq_begin.specs.ppq_array.Holdings.{external_slots, internal_buffers, external_buffers}
-use Rattle.ppq_begin.specs.ppq_fetch.Fetching.{blocks_in}
-use Rattle.ppq_begin.specs.ppq_fetch.Taking.{NoneAfter}
-use Rattle.ppq_begin.specs.ppq_spill.Body.{job_slots}
-use Rattle.ppq_begin.proofs.ppq_spill.Keeping.{slots_long}
-use Rattle.ppq_begin.specs.ppq_pool.Seats.{count_of as pool_count}
-use Rattle.ppq_begin.specs.ppq_pass.Passed.{PassKey, PassHolding}
-use Rattle.ppq_begin.specs.ppq_queue.Holding.{Holding}
-use Rattle.ppq_begin.specs.ppq_queue.declared.fault.QueueFault.TheVariants.{NoFreeBlock, Device}
-use Rattle.ppq_begin.specs.ppq_queue.Resting.{count_of, runs_bag, lane_buffers, odd_in}
-use Rattle.ppq_begin.proofs.ppq_queue.Counts.{stored_slots, internal_count, runs_fit, arrays_fit}
-use Rattle.ppq_begin.proofs.ppq_queue.Odd.{arrays_full}
-use Rattle.ppq_begin.specs.Session.{AreOf, IsTogether, EndsIn, keys_of, bag_of, pass_key}
-use Rattle.ppq_begin.specs.State.{IsBulk, bulk_slots, bulk_holding}
-use Rattle.ppq_begin.specs.declared.fault.SessionEnd.{SessionEnd}
-use Rattle.ppq_begin.specs.declared.fault.SessionEnd.TheVariants.{Whole, Stopped}
-use Rattle.ppq_begin.specs.declared.parts.BulkParts.{BulkParts}
+use Rattle.ppq_pass.specs.ppq_record.Order.{Ascends}
+use Rattle.ppq_pass.specs.ppq_record.Bag.{IsSameBag}
+use Rattle.ppq_pass.specs.ppq_outside.Shown.{Shown, AllTell}
+use Rattle.ppq_pass.specs.ppq_budget.Sizes.{pool_of}
+use Rattle.ppq_pass.specs.ppq_array.Owner.{slots_shown}
+use Rattle.ppq_pass.specs.ppq_array.Holdings.{external_slots, internal_buffers, external_buffers}
+use Rattle.ppq_pass.specs.ppq_fetch.Fetching.{blocks_in}
+use Rattle.ppq_pass.specs.ppq_fetch.Taking.{NoneAfter}
+use Rattle.ppq_pass.specs.ppq_spill.Body.{job_slots}
+use Rattle.ppq_pass.proofs.ppq_spill.Keeping.{slots_long}
+use Rattle.ppq_pass.specs.ppq_pool.Seats.{count_of as pool_count}
+use Rattle.ppq_pass.specs.Passed.{PassKey, PassHolding}
+use Rattle.ppq_pass.specs.ppq_queue.Holding.{Holding}
+use Rattle.ppq_pass.specs.ppq_queue.declared.fault.QueueFault.TheVariants.{NoFreeBlock, Device}
+use Rattle.ppq_pass.specs.ppq_queue.Resting.{count_of, runs_bag, lane_buffers, odd_in}
+use Rattle.ppq_pass.proofs.ppq_queue.Counts.{stored_slots, internal_count, runs_fit, arrays_fit}
+use Rattle.ppq_pass.proofs.ppq_queue.Odd.{arrays_full}
+use Rattle.ppq_session.specs.BulkSession.{AreOf, IsTogether, EndsIn, keys_of, bag_of, pass_key}
+use Rattle.ppq_session.specs.State.{IsBulk, bulk_slots, bulk_holding}
+use Rattle.ppq_session.specs.declared.fault.SessionEnd.{SessionEnd}
+use Rattle.ppq_session.specs.declared.fault.SessionEnd.TheVariants.{Whole, Stopped}
+use Rattle.ppq_session.specs.declared.parts.BulkParts.{BulkParts}
 use Rattle.ppq_session.specs.Apart.{IsApart, IsSoundApart, GoesBefore, HasAll, EndsApart, apart_slots, apart_key}
 use Rattle.ppq_session.proofs.Mapped.{sum-mapped, all_mapped}
 

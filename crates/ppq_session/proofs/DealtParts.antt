@@ -9,13 +9,13 @@ use Rattle.std.proofs.lemmas.List.Sums.{sum_by-cons}
 use Rattle.std.proofs.lemmas.List.Elements.{All-cons, All-head, All-tail}
 use Rattle.std.proofs.lemmas.Bool.{cases_lt}
 use Rattle.std.proofs.lemmas.Grind.{div_ceil_times}
-use Rattle.ppq_begin.specs.ppq_record.Bag.{IsSameBag}
-use Rattle.ppq_begin.proofs.ppq_record.Order.{count_by-cons, count_by-append}
-use Rattle.ppq_begin.specs.ppq_outside.Shown.{Shown}
-use Rattle.ppq_begin.specs.ppq_pass.Passed.{PassHolding, PassTells, IsRefusedPush}
-use Rattle.ppq_begin.specs.ppq_queue.declared.fault.QueueFault.{QueueFault}
-use Rattle.ppq_begin.specs.ppq_queue.declared.fault.QueueFault.TheVariants.{NoFreeBlock, Device}
-use Rattle.ppq_begin.specs.Session.{bag_of, accepted_of}
+use Rattle.ppq_pass.specs.ppq_record.Bag.{IsSameBag}
+use Rattle.ppq_pass.proofs.ppq_record.Order.{count_by-cons, count_by-append}
+use Rattle.ppq_pass.specs.ppq_outside.Shown.{Shown}
+use Rattle.ppq_pass.specs.Passed.{PassHolding, PassTells, IsRefusedPush}
+use Rattle.ppq_pass.specs.ppq_queue.declared.fault.QueueFault.{QueueFault}
+use Rattle.ppq_pass.specs.ppq_queue.declared.fault.QueueFault.TheVariants.{NoFreeBlock, Device}
+use Rattle.ppq_session.specs.BulkSession.{bag_of, accepted_of}
 use Rattle.ppq_session.specs.Dealing.{IsGoing, HasEnded, Adds, EachAdds, Dealt, part_for}
 
 -- the part of a worker, as it is cut: within the records

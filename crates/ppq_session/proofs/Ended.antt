@@ -8,19 +8,19 @@ use Rattle.std.proofs.lemmas.List.Elements.{All-head, All-tail}
 use Rattle.std.proofs.lemmas.List.Concat.{flat_map-cons}
 use mathlib.Core.Option.{Option as Maybe, some, none}
 use lib.ListN.{get_elem?}
-use Rattle.ppq_begin.specs.ppq_budget.Sizes.{Numbers}
-use Rattle.ppq_begin.specs.ppq_outside.Shown.{Shown}
-use Rattle.ppq_begin.specs.ppq_array.declared.berth.DeviceBlock.{DeviceBlock}
-use Rattle.ppq_begin.specs.ppq_array.Owner.{slots_shown}
-use Rattle.ppq_begin.specs.ppq_array.Kept.{SameSlots, all_writes, weight_at}
-use Rattle.ppq_begin.proofs.ppq_spill.SameSlots.{SameSlots-refl}
-use Rattle.ppq_begin.specs.ppq_spill.Untold.{untold}
-use Rattle.ppq_begin.specs.ppq_pass.Passing.{items_at, with_item}
-use Rattle.ppq_begin.specs.ppq_pass.Passed.{slots_of as pass_slots}
-use Rattle.ppq_begin.specs.ppq_pass.PassState.{drawn_of}
-use Rattle.ppq_begin.specs.ppq_gather.Passes.{IsBrought}
-use Rattle.ppq_begin.specs.ppq_gather.Gathering.{slots_in}
-use Rattle.ppq_begin.specs.ppq_gather.declared.brought.Brought.{Brought}
+use Rattle.ppq_pass.specs.ppq_budget.Sizes.{Numbers}
+use Rattle.ppq_pass.specs.ppq_outside.Shown.{Shown}
+use Rattle.ppq_pass.specs.ppq_array.declared.berth.DeviceBlock.{DeviceBlock}
+use Rattle.ppq_pass.specs.ppq_array.Owner.{slots_shown}
+use Rattle.ppq_pass.specs.ppq_array.Kept.{SameSlots, all_writes, weight_at}
+use Rattle.ppq_pass.proofs.ppq_spill.SameSlots.{SameSlots-refl}
+use Rattle.ppq_pass.specs.ppq_spill.Untold.{untold}
+use Rattle.ppq_pass.specs.Passing.{items_at, with_item}
+use Rattle.ppq_pass.specs.Passed.{slots_of as pass_slots}
+use Rattle.ppq_pass.specs.PassState.{drawn_of}
+use Rattle.ppq_session.specs.Passes.{IsBrought}
+use Rattle.ppq_session.specs.Gathering.{slots_in}
+use Rattle.ppq_session.specs.declared.brought.Brought.{Brought}
 
 -- the same slots beside the same slots
 pub SameSlots-append : (a b c d : List Shown) → SameSlots a b → SameSlots c d → SameSlots (a ++ c) (b ++ d)

@@ -9,36 +9,36 @@ use Rattle.std.proofs.lemmas.List.Elements.{All-nil, All-head, All-tail, All-con
 use Rattle.std.proofs.lemmas.List.Concat.{flat_map-cons}
 use mathlib.Core.Logic.{dite}
 use native.Mathlib.Decide.{dec_le}
-use Rattle.ppq_begin.specs.ppq_table.Sums.{times, once_below}
-use Rattle.ppq_begin.proofs.ppq_table.Numbers.{times_in, once-in}
-use Rattle.ppq_begin.specs.ppq_pool.Seats.{count_of as pool_count}
-use Rattle.ppq_begin.specs.ppq_outside.Shown.{Shown, AllTell}
-use Rattle.ppq_begin.specs.ppq_budget.Sizes.{heap_of}
-use Rattle.ppq_begin.specs.ppq_heap.Heap.{Contents}
-use Rattle.ppq_begin.specs.ppq_heap.Heaps.{items_in}
-use Rattle.ppq_begin.specs.ppq_array.declared.berth.DeviceBlock.{DeviceBlock}
-use Rattle.ppq_begin.specs.ppq_array.Owner.{slots_shown}
-use Rattle.ppq_begin.specs.ppq_array.Kept.{SameSlots, all_writes}
-use Rattle.ppq_begin.specs.ppq_spill.Body.{held_by, body_slots}
-use Rattle.ppq_begin.specs.ppq_record.Order.{Le, is_before}
-use Rattle.ppq_begin.proofs.ppq_record.Order.{Each-append_right}
-use Rattle.ppq_begin.specs.ppq_fetch.Taking.{NoneAfter}
-use Rattle.ppq_begin.proofs.ppq_spill.Keeping.{slots_long}
-use Rattle.ppq_begin.proofs.ppq_spill.SameSlots.{SameSlots-refl, SameSlots-sums, SameSlots-trans}
-use Rattle.ppq_begin.specs.ppq_spill.Untold.{untold}
-use Rattle.ppq_begin.proofs.ppq_spill.Telling.{tell_sum, sum_tell}
-use Rattle.ppq_begin.specs.ppq_pass.Passing.{items_at}
-use Rattle.ppq_begin.specs.ppq_pass.Passed.{PassHolding, PassTells, slots_of as pass_slots}
-use Rattle.ppq_begin.specs.ppq_queue.Resting.{slots_of}
-use Rattle.ppq_begin.proofs.ppq_queue.Slots.{SameSums-length}
+use Rattle.ppq_pass.specs.ppq_table.Sums.{times, once_below}
+use Rattle.ppq_pass.proofs.ppq_table.Numbers.{times_in, once-in}
+use Rattle.ppq_pass.specs.ppq_pool.Seats.{count_of as pool_count}
+use Rattle.ppq_pass.specs.ppq_outside.Shown.{Shown, AllTell}
+use Rattle.ppq_pass.specs.ppq_budget.Sizes.{heap_of}
+use Rattle.ppq_pass.specs.ppq_heap.Heap.{Contents}
+use Rattle.ppq_pass.specs.ppq_heap.Heaps.{items_in}
+use Rattle.ppq_pass.specs.ppq_array.declared.berth.DeviceBlock.{DeviceBlock}
+use Rattle.ppq_pass.specs.ppq_array.Owner.{slots_shown}
+use Rattle.ppq_pass.specs.ppq_array.Kept.{SameSlots, all_writes}
+use Rattle.ppq_pass.specs.ppq_spill.Body.{held_by, body_slots}
+use Rattle.ppq_pass.specs.ppq_record.Order.{Le, is_before}
+use Rattle.ppq_pass.proofs.ppq_record.Order.{Each-append_right}
+use Rattle.ppq_pass.specs.ppq_fetch.Taking.{NoneAfter}
+use Rattle.ppq_pass.proofs.ppq_spill.Keeping.{slots_long}
+use Rattle.ppq_pass.proofs.ppq_spill.SameSlots.{SameSlots-refl, SameSlots-sums, SameSlots-trans}
+use Rattle.ppq_pass.specs.ppq_spill.Untold.{untold}
+use Rattle.ppq_pass.proofs.ppq_spill.Telling.{tell_sum, sum_tell}
+use Rattle.ppq_pass.specs.Passing.{items_at}
+use Rattle.ppq_pass.specs.Passed.{PassHolding, PassTells, slots_of as pass_slots}
+use Rattle.ppq_pass.specs.ppq_queue.Resting.{slots_of}
+use Rattle.ppq_pass.proofs.ppq_queue.Slots.{SameSums-length}
 use Rattle.ppq_session.specs.Apart.{IsApart, IsSoundApart, GoesBefore, apart_slots}
-use Rattle.ppq_begin.specs.ppq_gather.Passes.{IsBrought, pass_of}
+use Rattle.ppq_session.specs.Passes.{IsBrought, pass_of}
 use Rattle.ppq_session.specs.Bringing.{BroughtAll}
-use Rattle.ppq_begin.specs.ppq_gather.Gathering.{IsGathered, IsGathering, IsSoundSoFar, slots_in, buffers_in, begun_in}
+use Rattle.ppq_session.specs.Gathering.{IsGathered, IsGathering, IsSoundSoFar, slots_in, buffers_in, begun_in}
 use Rattle.ppq_session.specs.Closing.{IsClosed}
-use Rattle.ppq_begin.specs.ppq_gather.declared.brought.Brought.{Brought}
-use Rattle.ppq_begin.specs.ppq_gather.declared.closed.Closed.{Closed}
-use Rattle.ppq_begin.specs.declared.parts.BulkParts.{BulkParts}
+use Rattle.ppq_session.specs.declared.brought.Brought.{Brought}
+use Rattle.ppq_session.specs.declared.closed.Closed.{Closed}
+use Rattle.ppq_session.specs.declared.parts.BulkParts.{BulkParts}
 use Rattle.ppq_session.proofs.Places.{items_at-once}
 use Rattle.ppq_session.proofs.Ended.{SameSlots-append, drawn_in, places_in, drawn-places, drawn-same, drawn-untold}
 

@@ -1,17 +1,17 @@
 -- A session to which all passes came: its row and its pool can be closed.
 use Rattle.std.proofs.Common.{Option, ◌≡◌, ℕ, ◌+◌, ◌*◌, ◌<◌, ◌≤◌, List, length, All, sym, ap, ◌∙◌, subst, arith, length-append}
 use Rattle.std.specs.declared.cmp.Ordering.{Ordering}
-use Rattle.ppq_begin.specs.ppq_table.Sums.{all_shares}
-use Rattle.ppq_begin.specs.ppq_outside.Shown.{Shown}
-use Rattle.ppq_begin.specs.ppq_array.Owner.{HasSize, slots_shown}
-use Rattle.ppq_begin.proofs.ppq_spill.Keeping.{slots_long}
-use Rattle.ppq_begin.specs.ppq_pool.Seats.{count_of}
-use Rattle.ppq_begin.specs.ppq_pass.Passed.{PassHolding}
-use Rattle.ppq_begin.specs.ppq_pass.declared.shared.Shared.{Shared}
-use Rattle.ppq_begin.specs.ppq_spill.Body.{body_slots}
-use Rattle.ppq_begin.specs.ppq_queue.Resting.{slots_of}
+use Rattle.ppq_pass.specs.ppq_table.Sums.{all_shares}
+use Rattle.ppq_pass.specs.ppq_outside.Shown.{Shown}
+use Rattle.ppq_pass.specs.ppq_array.Owner.{HasSize, slots_shown}
+use Rattle.ppq_pass.proofs.ppq_spill.Keeping.{slots_long}
+use Rattle.ppq_pass.specs.ppq_pool.Seats.{count_of}
+use Rattle.ppq_pass.specs.Passed.{PassHolding}
+use Rattle.ppq_pass.specs.declared.shared.Shared.{Shared}
+use Rattle.ppq_pass.specs.ppq_spill.Body.{body_slots}
+use Rattle.ppq_pass.specs.ppq_queue.Resting.{slots_of}
 use Rattle.ppq_session.specs.Apart.{IsApart}
-use Rattle.ppq_begin.specs.declared.parts.BulkParts.{BulkParts}
+use Rattle.ppq_session.specs.declared.parts.BulkParts.{BulkParts}
 use Rattle.ppq_session.specs.Bringing.{BroughtAll}
 
 -- what the ends of row and pool ask

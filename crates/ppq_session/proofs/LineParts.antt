@@ -5,11 +5,11 @@ use Rattle.std.specs.List.{filter}
 use Rattle.std.proofs.lemmas.List.{take_more, map-append}
 use Rattle.std.proofs.lemmas.List.Elements.{filter-append, All-head, All-tail}
 use Rattle.std.proofs.lemmas.Bool.{cases_eq, eq-eqb, eqb-true}
-use Rattle.ppq_begin.specs.ppq_record.Bag.{IsSameBag}
-use Rattle.ppq_begin.proofs.ppq_record.Order.{count_by-cons, count_by-append, IsSameBag-length}
-use Rattle.ppq_begin.specs.ppq_outside.Shown.{Shown}
-use Rattle.ppq_begin.specs.ppq_pass.Passed.{PassHolding}
-use Rattle.ppq_begin.specs.Session.{bag_of}
+use Rattle.ppq_pass.specs.ppq_record.Bag.{IsSameBag}
+use Rattle.ppq_pass.proofs.ppq_record.Order.{count_by-cons, count_by-append, IsSameBag-length}
+use Rattle.ppq_pass.specs.ppq_outside.Shown.{Shown}
+use Rattle.ppq_pass.specs.Passed.{PassHolding}
+use Rattle.ppq_session.specs.BulkSession.{bag_of}
 use Rattle.ppq_session.specs.declared.line.Line.{Line}
 use Rattle.ppq_session.specs.Dealing.{IsGoing, HasEnded, Adds, EachAdds, Dealt, records_in, records_for}
 use Rattle.ppq_session.proofs.DealtParts.{not_both, dealt-cons, dealt-none}

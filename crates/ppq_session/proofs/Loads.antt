@@ -6,24 +6,24 @@ use Rattle.std.proofs.Math.Nat.{add-mul, mul-le-mul_right, mul_comm, suc-mul, ze
 use Rattle.std.proofs.lemmas.List.Sums.{sum_by-cons}
 use Rattle.std.proofs.lemmas.List.Elements.{All-head, All-tail}
 use Rattle.std.proofs.lemmas.List.Concat.{flat_map-cons}
-use Rattle.ppq_begin.specs.ppq_outside.Shown.{Shown}
-use Rattle.ppq_begin.specs.ppq_budget.Sizes.{Numbers, AreInRange, heap_of, heaps_of, pool_of}
-use Rattle.ppq_begin.specs.ppq_array.Owner.{slots_shown}
-use Rattle.ppq_begin.specs.ppq_array.Holdings.{external_slots, internal_buffers, external_buffers}
-use Rattle.ppq_begin.specs.ppq_fetch.Fetching.{blocks_in}
-use Rattle.ppq_begin.specs.ppq_spill.Body.{body_slots, job_slots}
-use Rattle.ppq_begin.proofs.ppq_spill.Keeping.{slots_long}
-use Rattle.ppq_begin.specs.ppq_pass.Passed.{PassHolding, slots_of as pass_slots}
-use Rattle.ppq_begin.specs.ppq_pool.Seats.{count_of as pool_count}
-use Rattle.ppq_begin.specs.ppq_queue.Resting.{slots_of, lane_buffers}
-use Rattle.ppq_begin.proofs.ppq_queue.Bounds.{parts_within, pool_within}
-use Rattle.ppq_begin.proofs.ppq_queue.Counts.{stored_slots, internal_count, runs_fit, arrays_fit}
-use Rattle.ppq_begin.specs.declared.parts.BulkParts.{BulkParts}
-use Rattle.ppq_begin.specs.ppq_gather.Passes.{IsBrought}
-use Rattle.ppq_begin.specs.ppq_gather.Gathering.{slots_in, begun_in, accepted_in}
-use Rattle.ppq_begin.specs.ppq_gather.declared.brought.Brought.{Brought}
-use Rattle.ppq_begin.specs.ppq_gather.declared.closed.Closed.{Closed}
-use Rattle.ppq_begin.proofs.ppq_gather.Gathered.{resting-run, resting-array}
+use Rattle.ppq_pass.specs.ppq_outside.Shown.{Shown}
+use Rattle.ppq_pass.specs.ppq_budget.Sizes.{Numbers, AreInRange, heap_of, heaps_of, pool_of}
+use Rattle.ppq_pass.specs.ppq_array.Owner.{slots_shown}
+use Rattle.ppq_pass.specs.ppq_array.Holdings.{external_slots, internal_buffers, external_buffers}
+use Rattle.ppq_pass.specs.ppq_fetch.Fetching.{blocks_in}
+use Rattle.ppq_pass.specs.ppq_spill.Body.{body_slots, job_slots}
+use Rattle.ppq_pass.proofs.ppq_spill.Keeping.{slots_long}
+use Rattle.ppq_pass.specs.Passed.{PassHolding, slots_of as pass_slots}
+use Rattle.ppq_pass.specs.ppq_pool.Seats.{count_of as pool_count}
+use Rattle.ppq_pass.specs.ppq_queue.Resting.{slots_of, lane_buffers}
+use Rattle.ppq_pass.proofs.ppq_queue.Bounds.{parts_within, pool_within}
+use Rattle.ppq_pass.proofs.ppq_queue.Counts.{stored_slots, internal_count, runs_fit, arrays_fit}
+use Rattle.ppq_session.specs.declared.parts.BulkParts.{BulkParts}
+use Rattle.ppq_session.specs.Passes.{IsBrought}
+use Rattle.ppq_session.specs.Gathering.{slots_in, begun_in, accepted_in}
+use Rattle.ppq_session.specs.declared.brought.Brought.{Brought}
+use Rattle.ppq_session.specs.declared.closed.Closed.{Closed}
+use Rattle.ppq_session.proofs.Gathered.{resting-run, resting-array}
 use Rattle.ppq_session.specs.Apart.{IsApart, IsSoundApart, apart_slots}
 use Rattle.ppq_session.specs.Bringing.{BroughtAll}
 use Rattle.ppq_session.specs.Closing.{IsClosed}

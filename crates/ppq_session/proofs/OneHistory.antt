@@ -3,21 +3,21 @@ use Rattle.std.proofs.Common.{◌≡◌, inl, inr, ℕ, zero, suc, ◌+◌, ◌-
 use mathlib.Core.Logic.{dite}
 use native.Mathlib.Decide.{ℕ_discrete, dec_le}
 use Rattle.atomic_table.specs.Table.{keeps}
-use Rattle.ppq_begin.specs.ppq_core.declared.event.Event.{Event}
-use Rattle.ppq_begin.specs.ppq_core.declared.event.Event.TheVariants.{Take, Give, Draw, Push, Store}
-use Rattle.ppq_begin.specs.ppq_core.declared.place.Place.{Place as CorePlace}
-use Rattle.ppq_begin.specs.ppq_core.declared.place.Place.TheVariants.{Free, Held, Stored}
-use Rattle.ppq_begin.specs.ppq_core.History.{buffer_at, slot_at, draws, IsLegalNext, IsLegal}
-use Rattle.ppq_begin.specs.ppq_core.Laws.{TellsSlots}
-use Rattle.ppq_begin.specs.ppq_core.Parts.{buffer_part, slot_part, place_of_pass, renumbered, EndsRenumbered, PartsInterleave, PartsAreLegal, PassesRenumber}
-use Rattle.ppq_begin.specs.ppq_pool.declared.hand.Hand.{Hand as PoolHand}
-use Rattle.ppq_begin.specs.ppq_pool.Histories.{ShowsHistory}
-use Rattle.ppq_begin.specs.ppq_pool.Shown.{StepsAreEvents as PoolSteps}
-use Rattle.ppq_begin.specs.ppq_row.declared.hand.Hand.{Hand as RowHand}
-use Rattle.ppq_begin.specs.ppq_row.Hands.{less_one, newcomer, with_none, with_place as with_slot}
-use Rattle.ppq_begin.specs.ppq_row.Histories.{holder, draws_of}
-use Rattle.ppq_begin.specs.ppq_row.Rule.{counter}
-use Rattle.ppq_begin.specs.ppq_row.Shown.{shown, counted, StepsAreEvents as RowSteps}
+use Rattle.ppq_pass.specs.ppq_core.declared.event.Event.{Event}
+use Rattle.ppq_pass.specs.ppq_core.declared.event.Event.TheVariants.{Take, Give, Draw, Push, Store}
+use Rattle.ppq_pass.specs.ppq_core.declared.place.Place.{Place as CorePlace}
+use Rattle.ppq_pass.specs.ppq_core.declared.place.Place.TheVariants.{Free, Held, Stored}
+use Rattle.ppq_pass.specs.ppq_core.History.{buffer_at, slot_at, draws, IsLegalNext, IsLegal}
+use Rattle.ppq_pass.specs.ppq_core.Laws.{TellsSlots}
+use Rattle.ppq_pass.specs.ppq_core.Parts.{buffer_part, slot_part, place_of_pass, renumbered, EndsRenumbered, PartsInterleave, PartsAreLegal, PassesRenumber}
+use Rattle.ppq_pass.specs.ppq_pool.declared.hand.Hand.{Hand as PoolHand}
+use Rattle.ppq_pass.specs.ppq_pool.Histories.{ShowsHistory}
+use Rattle.ppq_pass.specs.ppq_pool.Shown.{StepsAreEvents as PoolSteps}
+use Rattle.ppq_pass.specs.ppq_row.declared.hand.Hand.{Hand as RowHand}
+use Rattle.ppq_pass.specs.ppq_row.Hands.{less_one, newcomer, with_none, with_place as with_slot}
+use Rattle.ppq_pass.specs.ppq_row.Histories.{holder, draws_of}
+use Rattle.ppq_pass.specs.ppq_row.Rule.{counter}
+use Rattle.ppq_pass.specs.ppq_row.Shown.{shown, counted, StepsAreEvents as RowSteps}
 use Rattle.ppq_session.specs.OneHistory.{PoolState, RowState, PoolAndRow, Session, draw_part, IsWith, buffers_of, MeetsRules, ShowsTogether, PoolStep, RowStep, Step, StatesShowOne, PoolPlays, RowPlays, PlaysAreSteps, EachStepShowsOne, AllStepsShowOne}
 
 pass_in : CorePlace → ℕ

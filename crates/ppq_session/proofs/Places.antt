@@ -7,9 +7,9 @@ use mathlib.Core.Option.{Option, some, none}
 use mathlib.Core.Logic.{dite}
 use native.Mathlib.Decide.{ℕ_discrete, dec_le}
 use lib.ListN.{get_elem?}
-use Rattle.ppq_begin.specs.ppq_table.Sums.{times, once_below}
-use Rattle.ppq_begin.proofs.ppq_table.Numbers.{upto, upto-add, upto-same, times-append, times-same, times-other, once-in, once-out}
-use Rattle.ppq_begin.specs.ppq_pass.Passing.{items_at, with_item}
+use Rattle.ppq_pass.specs.ppq_table.Sums.{times, once_below}
+use Rattle.ppq_pass.proofs.ppq_table.Numbers.{upto, upto-add, upto-same, times-append, times-same, times-other, once-in, once-out}
+use Rattle.ppq_pass.specs.Passing.{items_at, with_item}
 
 -- a weight of what is at a place, if there is something
 abbrev weigh : {T : Type 0} → (T → ℕ) → Option T → ℕ

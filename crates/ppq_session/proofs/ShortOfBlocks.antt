@@ -6,26 +6,26 @@ use Rattle.std.proofs.Math.Nat.{add-mul, mul_comm, lt_of_mul-lt-mul_right, zero-
 use Rattle.std.proofs.lemmas.List.Sums.{sum_by-cons}
 use Rattle.std.proofs.lemmas.List.Elements.{All-nil, All-head, All-tail, All-cons, All-map}
 use Rattle.std.proofs.lemmas.List.Concat.{flat_map-cons}
-use Rattle.ppq_begin.specs.ppq_outside.Shown.{Shown}
-use Rattle.ppq_begin.specs.ppq_budget.Sizes.{Numbers, AreInRange, heap_of, blocks_for, room_of}
-use Rattle.ppq_begin.specs.ppq_array.External.{External}
-use Rattle.ppq_begin.specs.ppq_array.Owner.{slots_shown}
-use Rattle.ppq_begin.specs.ppq_array.Holdings.{external_slots}
-use Rattle.ppq_begin.specs.ppq_fetch.Fetching.{blocks_in}
-use Rattle.ppq_begin.specs.ppq_spill.Body.{body_slots, job_slots}
-use Rattle.ppq_begin.proofs.ppq_spill.Keeping.{slots_long}
-use Rattle.ppq_begin.specs.ppq_pass.Passed.{PassHolding, slots_of as pass_slots}
-use Rattle.ppq_begin.specs.ppq_pass.PassState.{IsPassArray}
-use Rattle.ppq_begin.specs.ppq_queue.Resting.{odd_of, odd_in, slots_of}
-use Rattle.ppq_begin.proofs.ppq_queue.Counts.{stored_slots, internal_count}
-use Rattle.ppq_begin.proofs.ppq_queue.Odd.{arrays_full}
+use Rattle.ppq_pass.specs.ppq_outside.Shown.{Shown}
+use Rattle.ppq_pass.specs.ppq_budget.Sizes.{Numbers, AreInRange, heap_of, blocks_for, room_of}
+use Rattle.ppq_pass.specs.ppq_array.External.{External}
+use Rattle.ppq_pass.specs.ppq_array.Owner.{slots_shown}
+use Rattle.ppq_pass.specs.ppq_array.Holdings.{external_slots}
+use Rattle.ppq_pass.specs.ppq_fetch.Fetching.{blocks_in}
+use Rattle.ppq_pass.specs.ppq_spill.Body.{body_slots, job_slots}
+use Rattle.ppq_pass.proofs.ppq_spill.Keeping.{slots_long}
+use Rattle.ppq_pass.specs.Passed.{PassHolding, slots_of as pass_slots}
+use Rattle.ppq_pass.specs.PassState.{IsPassArray}
+use Rattle.ppq_pass.specs.ppq_queue.Resting.{odd_of, odd_in, slots_of}
+use Rattle.ppq_pass.proofs.ppq_queue.Counts.{stored_slots, internal_count}
+use Rattle.ppq_pass.proofs.ppq_queue.Odd.{arrays_full}
 use Rattle.ppq_session.specs.Apart.{IsApart, IsSoundApart, apart_slots, in_runs}
-use Rattle.ppq_begin.specs.declared.parts.BulkParts.{BulkParts}
-use Rattle.ppq_begin.specs.ppq_gather.Passes.{IsBrought, pass_of}
-use Rattle.ppq_begin.specs.ppq_gather.Gathering.{slots_in, begun_in, accepted_in}
-use Rattle.ppq_begin.specs.ppq_gather.declared.brought.Brought.{Brought}
-use Rattle.ppq_begin.specs.ppq_gather.declared.closed.Closed.{Closed}
-use Rattle.ppq_begin.proofs.ppq_gather.Gathered.{resting-array, even-array}
+use Rattle.ppq_session.specs.declared.parts.BulkParts.{BulkParts}
+use Rattle.ppq_session.specs.Passes.{IsBrought, pass_of}
+use Rattle.ppq_session.specs.Gathering.{slots_in, begun_in, accepted_in}
+use Rattle.ppq_session.specs.declared.brought.Brought.{Brought}
+use Rattle.ppq_session.specs.declared.closed.Closed.{Closed}
+use Rattle.ppq_session.proofs.Gathered.{resting-array, even-array}
 use Rattle.ppq_session.specs.Bringing.{BroughtAll}
 use Rattle.ppq_session.specs.Closing.{IsClosed}
 

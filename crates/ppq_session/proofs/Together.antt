@@ -9,31 +9,31 @@ use Rattle.std.proofs.lemmas.List.Elements.{All-map}
 use Rattle.std.proofs.lemmas.List.Concat.{flat_map-cons}
 use Rattle.std.proofs.lemmas.List.Folds.{flat_map-map}
 use Rattle.std.proofs.lemmas.List.Sorted.{All-permutation, IsPermutation-reverse, IsPermutation-sym, sum_by-IsPermutation}
-use Rattle.ppq_begin.specs.ppq_record.Bag.{IsSameBag}
-use Rattle.ppq_begin.proofs.ppq_record.Order.{count_by-append}
-use Rattle.ppq_begin.specs.ppq_outside.Shown.{Shown, AllTell}
-use Rattle.ppq_begin.specs.ppq_heap.Heaps.{items_in}
-use Rattle.ppq_begin.specs.ppq_array.declared.berth.DeviceBlock.{DeviceBlock}
-use Rattle.ppq_begin.specs.ppq_array.Owner.{slots_shown}
-use Rattle.ppq_begin.specs.ppq_array.Kept.{SameSlots, all_writes}
-use Rattle.ppq_begin.proofs.ppq_spill.SameSlots.{SameSlots-trans}
-use Rattle.ppq_begin.specs.ppq_pass.Passed.{PassKey, PassHolding, PassTells}
-use Rattle.ppq_begin.specs.ppq_budget.Sizes.{heap_of, room_of}
-use Rattle.ppq_begin.specs.ppq_queue.Holding.{Holding, IsRefusal}
-use Rattle.ppq_begin.specs.ppq_queue.declared.fault.QueueFault.{QueueFault}
-use Rattle.ppq_begin.specs.ppq_queue.declared.fault.QueueFault.TheVariants.{NoFreeBlock, Device}
-use Rattle.ppq_begin.specs.declared.fault.SessionEnd.TheVariants.{Stopped}
-use Rattle.ppq_begin.specs.ppq_queue.Slots.{SameSums}
-use Rattle.ppq_begin.specs.ppq_queue.Resting.{slots_of, runs_bag}
-use Rattle.ppq_begin.proofs.ppq_queue.Slots.{slots-sums, tells-sums}
-use Rattle.ppq_begin.specs.Session.{bag_of, accepted_of}
+use Rattle.ppq_pass.specs.ppq_record.Bag.{IsSameBag}
+use Rattle.ppq_pass.proofs.ppq_record.Order.{count_by-append}
+use Rattle.ppq_pass.specs.ppq_outside.Shown.{Shown, AllTell}
+use Rattle.ppq_pass.specs.ppq_heap.Heaps.{items_in}
+use Rattle.ppq_pass.specs.ppq_array.declared.berth.DeviceBlock.{DeviceBlock}
+use Rattle.ppq_pass.specs.ppq_array.Owner.{slots_shown}
+use Rattle.ppq_pass.specs.ppq_array.Kept.{SameSlots, all_writes}
+use Rattle.ppq_pass.proofs.ppq_spill.SameSlots.{SameSlots-trans}
+use Rattle.ppq_pass.specs.Passed.{PassKey, PassHolding, PassTells}
+use Rattle.ppq_pass.specs.ppq_budget.Sizes.{heap_of, room_of}
+use Rattle.ppq_pass.specs.ppq_queue.Holding.{Holding, IsRefusal}
+use Rattle.ppq_pass.specs.ppq_queue.declared.fault.QueueFault.{QueueFault}
+use Rattle.ppq_pass.specs.ppq_queue.declared.fault.QueueFault.TheVariants.{NoFreeBlock, Device}
+use Rattle.ppq_session.specs.declared.fault.SessionEnd.TheVariants.{Stopped}
+use Rattle.ppq_pass.specs.ppq_queue.Slots.{SameSums}
+use Rattle.ppq_pass.specs.ppq_queue.Resting.{slots_of, runs_bag}
+use Rattle.ppq_pass.proofs.ppq_queue.Slots.{slots-sums, tells-sums}
+use Rattle.ppq_session.specs.BulkSession.{bag_of, accepted_of}
 use Rattle.ppq_session.specs.Apart.{IsApart, IsSoundApart, GoesBefore, HasAll, EndsApart, apart_slots, apart_key}
-use Rattle.ppq_begin.specs.ppq_pass.declared.shared.Shared.{Shared}
-use Rattle.ppq_begin.specs.declared.parts.BulkParts.{BulkParts}
-use Rattle.ppq_begin.specs.ppq_gather.Passes.{pass_of}
-use Rattle.ppq_begin.specs.ppq_gather.Gathering.{IsGathered, gathered_bag, slots_in, accepted_in}
-use Rattle.ppq_begin.specs.ppq_gather.declared.brought.Brought.{Brought}
-use Rattle.ppq_begin.specs.ppq_gather.declared.closed.Closed.{Closed}
+use Rattle.ppq_pass.specs.declared.shared.Shared.{Shared}
+use Rattle.ppq_session.specs.declared.parts.BulkParts.{BulkParts}
+use Rattle.ppq_session.specs.Passes.{pass_of}
+use Rattle.ppq_session.specs.Gathering.{IsGathered, gathered_bag, slots_in, accepted_in}
+use Rattle.ppq_session.specs.declared.brought.Brought.{Brought}
+use Rattle.ppq_session.specs.declared.closed.Closed.{Closed}
 use Rattle.ppq_session.specs.Bringing.{BroughtAll, IsShareOf}
 use Rattle.ppq_session.specs.Closing.{IsClosed}
 use Rattle.ppq_session.proofs.Mapped.{sum-mapped}

@@ -2,29 +2,29 @@
 -- are out.
 use Rattle.std.specs.Prelude.{◌≡◌, ℕ, ◌+◌, ◌-◌, ◌*◌, ◌<◌, ◌≤◌, true, Any, List, [], ◌++◌, length, max, reverse, sum_by, Option, Some, None, All, vec_capacity}
 use Rattle.std.specs.declared.cmp.Ordering.{Ordering}
-use Rattle.ppq_begin.specs.ppq_record.Order.{Ascends}
-use Rattle.ppq_begin.specs.ppq_record.Bag.{IsSameBag}
-use Rattle.ppq_begin.specs.ppq_outside.Shown.{Shown, AllTell}
-use Rattle.ppq_begin.specs.ppq_budget.Sizes.{AreInRange, fixed_of, heap_of, batch_of, pool_of, room_of}
-use Rattle.ppq_begin.specs.ppq_table.Sums.{all_shares}
-use Rattle.ppq_begin.specs.ppq_array.Owner.{slots_shown, HasSize, HasBlock}
-use Rattle.ppq_begin.specs.ppq_array.Kept.{HasFailed, SameSlots, all_writes}
-use Rattle.ppq_begin.specs.ppq_array.Holdings.{external_buffers}
-use Rattle.ppq_begin.specs.ppq_fetch.Fetching.{fronts_in}
-use Rattle.ppq_begin.specs.ppq_fetch.Taking.{NoneAfter}
-use Rattle.ppq_begin.specs.ppq_extract.Extracted.{ServesFor}
-use Rattle.ppq_begin.specs.ppq_pool.Seats.{count_of as pool_count}
-use Rattle.ppq_begin.specs.ppq_spill.Body.{held_by}
-use Rattle.ppq_begin.specs.ppq_pass.Passed.{PassKey, PassHolding, PassTells}
-use Rattle.ppq_begin.specs.ppq_pass.declared.shared.Shared.{Shared}
+use Rattle.ppq_pass.specs.ppq_record.Order.{Ascends}
+use Rattle.ppq_pass.specs.ppq_record.Bag.{IsSameBag}
+use Rattle.ppq_pass.specs.ppq_outside.Shown.{Shown, AllTell}
+use Rattle.ppq_pass.specs.ppq_budget.Sizes.{AreInRange, fixed_of, heap_of, batch_of, pool_of, room_of}
+use Rattle.ppq_pass.specs.ppq_table.Sums.{all_shares}
+use Rattle.ppq_pass.specs.ppq_array.Owner.{slots_shown, HasSize, HasBlock}
+use Rattle.ppq_pass.specs.ppq_array.Kept.{HasFailed, SameSlots, all_writes}
+use Rattle.ppq_pass.specs.ppq_array.Holdings.{external_buffers}
+use Rattle.ppq_pass.specs.ppq_fetch.Fetching.{fronts_in}
+use Rattle.ppq_pass.specs.ppq_fetch.Taking.{NoneAfter}
+use Rattle.ppq_pass.specs.ppq_extract.Extracted.{ServesFor}
+use Rattle.ppq_pass.specs.ppq_pool.Seats.{count_of as pool_count}
+use Rattle.ppq_pass.specs.ppq_spill.Body.{held_by}
+use Rattle.ppq_pass.specs.Passed.{PassKey, PassHolding, PassTells}
+use Rattle.ppq_pass.specs.declared.shared.Shared.{Shared}
 use Rattle.ppq_session.specs.Bringing.{BroughtAll}
-use Rattle.ppq_begin.specs.ppq_queue.Holding.{Holding, IsAbove, HasStopped}
-use Rattle.ppq_begin.specs.ppq_queue.Resting.{IsRestingRun, IsRestingArray, AllRise, runs_bag, count_of, lane_buffers, odd_in, slots_of}
-use Rattle.ppq_begin.specs.ppq_queue.declared.fault.QueueFault.TheVariants.{NoFreeBlock, Device}
-use Rattle.ppq_begin.specs.Session.{HasNoBlock, bag_of, accepted_of}
-use Rattle.ppq_begin.specs.declared.fault.SessionEnd.{SessionEnd}
-use Rattle.ppq_begin.specs.declared.fault.SessionEnd.TheVariants.{Whole, Stopped}
-use Rattle.ppq_begin.specs.declared.parts.BulkParts.{BulkParts}
+use Rattle.ppq_pass.specs.ppq_queue.Holding.{Holding, IsAbove, HasStopped}
+use Rattle.ppq_pass.specs.ppq_queue.Resting.{IsRestingRun, IsRestingArray, AllRise, runs_bag, count_of, lane_buffers, odd_in, slots_of}
+use Rattle.ppq_pass.specs.ppq_queue.declared.fault.QueueFault.TheVariants.{NoFreeBlock, Device}
+use Rattle.ppq_session.specs.BulkSession.{HasNoBlock, bag_of, accepted_of}
+use Rattle.ppq_session.specs.declared.fault.SessionEnd.{SessionEnd}
+use Rattle.ppq_session.specs.declared.fault.SessionEnd.TheVariants.{Whole, Stopped}
+use Rattle.ppq_session.specs.declared.parts.BulkParts.{BulkParts}
 
 -- the parts of a queue while a session is on
 abbrev pub BulkHeld : Type 0 → Type 0 → Type 0

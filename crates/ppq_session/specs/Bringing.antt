@@ -1,13 +1,13 @@
 -- Passes that come back at the end of a session.
 use Rattle.std.specs.Prelude.{◌≡◌, ℕ, ◌+◌, true, List, ◌++◌, length, map, flat_map, All}
 use Rattle.std.specs.declared.cmp.Ordering.{Ordering}
-use Rattle.ppq_begin.specs.ppq_budget.Sizes.{Numbers}
-use Rattle.ppq_begin.specs.ppq_outside.Shown.{Shown}
-use Rattle.ppq_begin.specs.ppq_pass.Passed.{PassHolding}
-use Rattle.ppq_begin.specs.ppq_pass.declared.shared.Shared.{Shared}
-use Rattle.ppq_begin.specs.ppq_gather.Passes.{IsBrought, pass_of}
-use Rattle.ppq_begin.specs.ppq_gather.declared.brought.Brought.{Brought}
-use Rattle.ppq_begin.specs.declared.parts.BulkParts.{BulkParts}
+use Rattle.ppq_pass.specs.ppq_budget.Sizes.{Numbers}
+use Rattle.ppq_pass.specs.ppq_outside.Shown.{Shown}
+use Rattle.ppq_pass.specs.Passed.{PassHolding}
+use Rattle.ppq_pass.specs.declared.shared.Shared.{Shared}
+use Rattle.ppq_session.specs.Passes.{IsBrought, pass_of}
+use Rattle.ppq_session.specs.declared.brought.Brought.{Brought}
+use Rattle.ppq_session.specs.declared.parts.BulkParts.{BulkParts}
 
 -- the pass is of this session, with these sizes, and has one share of each seat
 pub record IsShareOf {S R : Type 0} (shared : Shared S R) (n : Numbers) (pass : PassHolding S R) : Type 0 where

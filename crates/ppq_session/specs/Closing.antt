@@ -1,12 +1,12 @@
 -- A session whose row and pool are closed.
 use Rattle.std.specs.Prelude.{◌≡◌, ℕ, ◌+◌, ◌-◌, true, List, [], ◌++◌, length, drop, Option}
-use Rattle.ppq_begin.specs.ppq_outside.Shown.{Shown}
-use Rattle.ppq_begin.specs.ppq_table.Sums.{times, once_below}
-use Rattle.ppq_begin.specs.ppq_array.Owner.{slots_shown}
-use Rattle.ppq_begin.specs.ppq_array.declared.berth.DeviceBlock.{DeviceBlock}
-use Rattle.ppq_begin.specs.ppq_pool.Seats.{count_of as pool_count}
-use Rattle.ppq_begin.specs.ppq_gather.declared.closed.Closed.{Closed}
-use Rattle.ppq_begin.specs.declared.parts.BulkParts.{BulkParts}
+use Rattle.ppq_pass.specs.ppq_outside.Shown.{Shown}
+use Rattle.ppq_pass.specs.ppq_table.Sums.{times, once_below}
+use Rattle.ppq_pass.specs.ppq_array.Owner.{slots_shown}
+use Rattle.ppq_pass.specs.ppq_array.declared.berth.DeviceBlock.{DeviceBlock}
+use Rattle.ppq_pass.specs.ppq_pool.Seats.{count_of as pool_count}
+use Rattle.ppq_session.specs.declared.closed.Closed.{Closed}
+use Rattle.ppq_session.specs.declared.parts.BulkParts.{BulkParts}
 
 module _ {S R : Type 0} (shown : S → Shown) where
   -- The free slots got those that no pass drew, and the idle buffers those that no pass took; nothing else changed

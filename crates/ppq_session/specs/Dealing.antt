@@ -3,10 +3,10 @@ use Rattle.std.specs.Prelude.{◌≡◌, ◌⊎◌, ◌<◌, ◌≤◌, ◌==◌
 use Rattle.std.specs.Fork.{slice_chunk}
 use Rattle.std.specs.Int.{div_ceil}
 use Rattle.std.specs.List.{Any, filter}
-use Rattle.ppq_begin.specs.ppq_record.Bag.{IsSameBag}
-use Rattle.ppq_begin.specs.ppq_outside.Shown.{Shown}
-use Rattle.ppq_begin.specs.ppq_pass.Passed.{PassHolding, PassTells}
-use Rattle.ppq_begin.specs.Session.{keys_of, bag_of, accepted_of}
+use Rattle.ppq_pass.specs.ppq_record.Bag.{IsSameBag}
+use Rattle.ppq_pass.specs.ppq_outside.Shown.{Shown}
+use Rattle.ppq_pass.specs.Passed.{PassHolding, PassTells}
+use Rattle.ppq_session.specs.BulkSession.{keys_of, bag_of, accepted_of}
 use Rattle.ppq_session.specs.declared.line.Line.{Line}
 
 module _ {R : Type 0} where

@@ -3,23 +3,23 @@ use Rattle.std.specs.Prelude.{◌≡◌, ◌⊎◌, ℕ, zero, suc, ◌+◌, ◌
 use mathlib.Core.Option.{some}
 use lib.ListN.{get_elem?}
 use Rattle.atomic_table.specs.Table.{State, Me, Step as TableStep, rest}
-use Rattle.ppq_begin.specs.ppq_core.declared.event.Event.{Event}
-use Rattle.ppq_begin.specs.ppq_core.declared.event.Event.TheVariants.{Take, Give, Draw, Push, Store}
-use Rattle.ppq_begin.specs.ppq_core.declared.place.Place.{Place as CorePlace}
-use Rattle.ppq_begin.specs.ppq_core.declared.place.Place.TheVariants.{Free, Held, Stored}
-use Rattle.ppq_begin.specs.ppq_core.History.{buffer_at, slot_at, IsLegal}
-use Rattle.ppq_begin.specs.ppq_core.Parts.{buffer_part, renumbered}
-use Rattle.ppq_begin.specs.ppq_table.declared.place.Place.{Place as TablePlace}
-use Rattle.ppq_begin.specs.ppq_table.declared.place.Place.TheVariants.{Item}
-use Rattle.ppq_begin.specs.ppq_table.Sums.{times}
-use Rattle.ppq_begin.specs.ppq_pool.declared.hand.Hand.{Hand as PoolHand}
-use Rattle.ppq_begin.specs.ppq_pool.Hands.{with_claim, with_look, with_place, with_give, less_one, newcomer}
-use Rattle.ppq_begin.specs.ppq_pool.Histories.{ShowsHistory}
-use Rattle.ppq_begin.specs.ppq_pool.Rule.{NoneVoid, PoolRule, claimed_at, settled, reached_at, cleared_at}
-use Rattle.ppq_begin.specs.ppq_row.declared.hand.Hand.{Hand as RowHand}
-use Rattle.ppq_begin.specs.ppq_row.Hands.{with_place as with_slot, with_none, less_one as row_less_one, newcomer as row_newcomer}
-use Rattle.ppq_begin.specs.ppq_row.Rule.{counter, RowRule, draw_tells}
-use Rattle.ppq_begin.specs.ppq_row.Shown.{shown}
+use Rattle.ppq_pass.specs.ppq_core.declared.event.Event.{Event}
+use Rattle.ppq_pass.specs.ppq_core.declared.event.Event.TheVariants.{Take, Give, Draw, Push, Store}
+use Rattle.ppq_pass.specs.ppq_core.declared.place.Place.{Place as CorePlace}
+use Rattle.ppq_pass.specs.ppq_core.declared.place.Place.TheVariants.{Free, Held, Stored}
+use Rattle.ppq_pass.specs.ppq_core.History.{buffer_at, slot_at, IsLegal}
+use Rattle.ppq_pass.specs.ppq_core.Parts.{buffer_part, renumbered}
+use Rattle.ppq_pass.specs.ppq_table.declared.place.Place.{Place as TablePlace}
+use Rattle.ppq_pass.specs.ppq_table.declared.place.Place.TheVariants.{Item}
+use Rattle.ppq_pass.specs.ppq_table.Sums.{times}
+use Rattle.ppq_pass.specs.ppq_pool.declared.hand.Hand.{Hand as PoolHand}
+use Rattle.ppq_pass.specs.ppq_pool.Hands.{with_claim, with_look, with_place, with_give, less_one, newcomer}
+use Rattle.ppq_pass.specs.ppq_pool.Histories.{ShowsHistory}
+use Rattle.ppq_pass.specs.ppq_pool.Rule.{NoneVoid, PoolRule, claimed_at, settled, reached_at, cleared_at}
+use Rattle.ppq_pass.specs.ppq_row.declared.hand.Hand.{Hand as RowHand}
+use Rattle.ppq_pass.specs.ppq_row.Hands.{with_place as with_slot, with_none, less_one as row_less_one, newcomer as row_newcomer}
+use Rattle.ppq_pass.specs.ppq_row.Rule.{counter, RowRule, draw_tells}
+use Rattle.ppq_pass.specs.ppq_row.Shown.{shown}
 
 -- a pool of buffers, between two steps
 abbrev pub PoolState : Type 0 → Type 0

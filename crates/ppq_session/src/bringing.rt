@@ -2,7 +2,8 @@
 ghost use Rattle.std.specs.Prelude.{◌≡◌, ◌≤◌, ◌<◌, ◌+◌, [], ◌∷◌, length, reverse, All, vec_len, vec_capacity};
 ghost use Rattle.ppq_session.specs.Bringing.{BroughtAll, IsShareOf};
 
-use ppq_begin::{Brought, BulkParts, Pass, PassHeld, PassParts, Record, Shared, Slot};
+use crate::{Brought, BulkParts};
+use ppq_pass::{Pass, PassHeld, PassParts, Record, Shared, Slot};
 use std::snapshot::Snapshot;
 
 /// Takes all passes apart, the last first, and joins their seats.

@@ -1,11 +1,12 @@
 //! The end of a session's row and pool.
 ghost use Rattle.std.specs.Prelude.{◌≡◌, ◌≤◌, ◌<◌, ◌+◌, ◌*◌, length, All};
-ghost use Rattle.ppq_begin.specs.ppq_table.Sums.{all_shares};
-ghost use Rattle.ppq_begin.specs.ppq_array.Owner.{HasSize};
-ghost use Rattle.ppq_begin.specs.ppq_pool.Seats.{count_of};
+ghost use Rattle.ppq_pass.specs.ppq_table.Sums.{all_shares};
+ghost use Rattle.ppq_pass.specs.ppq_array.Owner.{HasSize};
+ghost use Rattle.ppq_pass.specs.ppq_pool.Seats.{count_of};
 ghost use Rattle.ppq_session.specs.Closing.{IsClosed};
 
-use ppq_begin::{BulkParts, Closed, Record, Shared, Slot, put_buffers, put_slots};
+use crate::{BulkParts, Closed, put_buffers, put_slots};
+use ppq_pass::{Record, Shared, Slot};
 
 /// Closes the row and the pool of a session whose seats were joined, and gives the supply the slots and
 /// the buffers that are left. `failed` is the number of a slot a call of which failed outside the passes.

@@ -2,10 +2,10 @@
 ghost use Rattle.std.specs.Prelude.{◌≡◌, ◌<◌, ◌*◌, ◌+◌, ◌^◌, ◌↔◌, false, length, All, IsTrue};
 ghost use Rattle.std.specs.List.{Any};
 ghost use Rattle.std.specs.Fork.{slice_chunk};
-ghost use Rattle.ppq_begin.specs.ppq_pass.Passed.{IsOf};
+ghost use Rattle.ppq_pass.specs.Passed.{IsOf};
 ghost use Rattle.ppq_session.specs.Dealing.{IsGoing, HasEnded, Adds, EachAdds, Dealt, part_for};
 
-use ppq_begin::{Gate, Host, Pass, Record, Shared, Slot};
+use ppq_pass::{Gate, Host, Pass, Record, Shared, Slot};
 use std::thread;
 
 /// Deals records to passes of a session, in equal parts, of which the last ones may be smaller: each

@@ -1,17 +1,16 @@
 //! The end of a session.
 ghost use Rattle.std.specs.Prelude.{◌≡◌, ◌≤◌, List, All};
-ghost use Rattle.ppq_begin.specs.ppq_outside.Shown.{AllTell};
-ghost use Rattle.ppq_begin.specs.ppq_array.Kept.{SameSlots, all_writes};
-ghost use Rattle.ppq_begin.specs.ppq_pass.Passed.{PassHolding, PassTells};
-ghost use Rattle.ppq_begin.specs.declared.fault.SessionEnd.TheVariants.{Whole};
-ghost use Rattle.ppq_begin.specs.Session.{AreOf, EndsIn, keys_of, shared_by};
+ghost use Rattle.ppq_pass.specs.ppq_outside.Shown.{AllTell};
+ghost use Rattle.ppq_pass.specs.ppq_array.Kept.{SameSlots, all_writes};
+ghost use Rattle.ppq_pass.specs.Passed.{PassHolding, PassTells};
+ghost use Rattle.ppq_session.specs.declared.fault.SessionEnd.TheVariants.{Whole};
+ghost use Rattle.ppq_session.specs.BulkSession.{AreOf, EndsIn, keys_of, shared_by};
 ghost use Rattle.ppq_session.specs.Apart.{IsJoined, HasEnded, BulkHeld};
 
 use crate::bringing::bring_all;
 use crate::close::close;
-use ppq_begin::{
-    Bulk, BulkParts, Gate, Host, Pass, Queue, Record, SessionEnd, Shared, Slot, gather_all, rejoin,
-};
+use crate::{Bulk, BulkParts, SessionEnd, gather_all, rejoin};
+use ppq_pass::{Gate, Host, Pass, Queue, Record, Shared, Slot};
 
 /// Ends a bulk session: the queue with the records that it had and those that its passes accepted. All
 /// passes of the session come, in any order.

@@ -1,7 +1,7 @@
 //! The law of a session's events.
 ghost use Rattle.ppq_session.specs.OneHistory.{StatesShowOne, PlaysAreSteps, EachStepShowsOne, AllStepsShowOne};
 
-use ppq_begin::{
+use ppq_pass::{
     Record, buffer_steps_are_events, interleaving_laws, slot_laws, slot_steps_are_events,
 };
 

@@ -1,32 +1,82 @@
-//! Bulk sessions: each worker adds records to a pass of its own, beside the others and with no lock, and
-//! the queue has them all when the session ends.
+//! Sessions: workers add records to a queue beside the others and with no lock, and the queue has them all
+//! when the session ends.
 //!
-//! [`bulk_begin`] takes a queue apart. The free slots become a row and the idle buffers a pool, which all
-//! passes share ([`Shared`]); each [`Pass`] gets a heap of the queue, two buffers of its lanes, and a seat
-//! of row and pool. What stays is a [`Bulk`]: the runs that were there, and the batch from which records
-//! are dealt. [`bulk_end`] puts all together again. All memory is taken by `bulk_begin`.
+//! A bulk session is begun by [`bulk_begin`], which takes a queue apart. The free slots become a row and the
+//! idle buffers a pool, which all passes share ([`Shared`]); each [`Pass`] gets a heap of the queue, two
+//! buffers of its lanes, and a seat of row and pool. What stays is a [`Bulk`]: the runs that were there, and
+//! the batch from which records are dealt ([`deal`]) or to which lines are pushed ([`push_lines`]).
+//! [`bulk_end`] puts all together again. All memory is taken by `bulk_begin`.
+//!
+//! In a limit session the owner takes the records below a limit out, the least first, while passes add
+//! records that are not below it. [`limit_begin`] gives a [`Front`], which is the runs that the queue had and an
+//! extract buffer that is refilled with records below the limit alone, and a [`LimitPass`] for each worker.
+//! No pass has a record below the limit, so what the front gives is the least of all records there are
+//! ([`passes_stand_back`]). [`run_both`] pushes lines while it answers [`Ask`]s. [`limit_end`] makes the
+//! queue again, with what the front has left and what the passes accepted.
 //!
 //! Nothing is said of the order in which passes run: the contracts add up what each of them holds. In
 //! whatever order their steps come, row and pool show one legal history of `ppq_core` together
 //! ([`sessions_are_histories`]).
 #![tactic(auto)]
 
+mod answering;
+mod ask;
+mod begin;
+mod begin_limit;
 mod bringing;
+mod bringing_limited;
+mod brought;
+mod bulk;
 mod close;
+mod closed;
 mod dealing;
 mod end;
+mod end_limit;
+mod equip;
+mod fault;
+mod front;
+mod front_laws;
+mod gather;
 mod laws;
+mod limit_pass;
+mod limit_room;
 mod line;
 mod lines;
+mod moving;
+mod outfit;
+mod parts;
+mod pushing;
+mod refill;
+mod rejoining;
+mod running;
+mod share;
+mod slots;
+mod stores;
 
+pub use ask::Ask;
+pub use begin::{bulk_begin, hand_out};
+pub use begin_limit::limit_begin;
 pub use bringing::bring;
+pub use brought::Brought;
+pub use bulk::Bulk;
+pub use closed::Closed;
 pub use dealing::{are_going, deal};
 pub use end::{bulk_end, end_joined};
+pub use end_limit::limit_end;
+pub use fault::{BeginFault, SessionEnd};
+pub use front::Front;
+pub use front_laws::{high_records_stand_back, passes_stand_back};
+pub use gather::gather_all;
 pub use laws::sessions_are_histories;
+pub use limit_pass::LimitPass;
 pub use line::Line;
 pub use lines::push_lines;
-pub use ppq_begin::{
-    BeginFault, BufList, Bulk, BulkParts, Full, Gate, Host, Library, OpenFault, Out, OutsideFault,
-    OwnerLists, Pair, Pass, PoolBuf, Queue, QueueFault, Record, SessionEnd, Shared, Sizes, Slot,
-    Supply, bulk_begin, record_laws,
+pub use parts::BulkParts;
+pub use ppq_pass::{
+    Full, Gate, Host, Library, OpenFault, Out, OutsideFault, Pair, Pass, PoolBuf, Queue,
+    QueueFault, Record, Shared, Sizes, Slot,
 };
+pub use pushing::limited_are_going;
+pub use rejoining::rejoin;
+pub use running::run_both;
+pub use slots::{put_buffers, put_slots};

@@ -1,12 +1,12 @@
 //! Lines pushed to the passes that they name, each pass on a thread of its own.
 ghost use Rattle.std.specs.Prelude.{◌≡◌, ◌<◌, ◌^◌, ◌↔◌, false, length, All, IsTrue, [], ◌∷◌};
 ghost use Rattle.std.specs.List.{Any};
-ghost use Rattle.ppq_begin.specs.ppq_pass.Passed.{IsOf};
+ghost use Rattle.ppq_pass.specs.Passed.{IsOf};
 ghost use Rattle.ppq_session.specs.Dealing.{IsGoing, HasEnded, Adds, EachAdds, Dealt, records_in, records_for};
 
 use crate::dealing::are_going;
 use crate::line::Line;
-use ppq_begin::{Gate, Host, Pass, Record, Shared, Slot};
+use ppq_pass::{Gate, Host, Pass, Record, Shared, Slot};
 use std::thread;
 
 /// Pushes the record of each line to the pass that the line names: each pass pushes those of its lines,

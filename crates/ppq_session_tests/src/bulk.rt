@@ -1,14 +1,14 @@
 //! A bulk session of a queue of pairs.
 ghost use Rattle.std.specs.Prelude.{◌≡◌, ◌<◌, All};
-ghost use Rattle.ppq_limit.specs.ppq_pass.Passed.{IsOf};
-ghost use Rattle.ppq_limit.specs.ppq_begin.Session.{keys_of};
+ghost use Rattle.ppq_session.specs.ppq_pass.Passed.{IsOf};
+ghost use Rattle.ppq_session.specs.BulkSession.{keys_of};
 
 use crate::threads::push_hundreds;
-use ppq_limit::{
+use ppq_outside::{MemSlot, OpenGate};
+use ppq_session::{
     Full, Host, Line, Pair, Pass, Queue, QueueFault, SessionEnd, Shared, are_going, bulk_begin,
     bulk_end, push_lines,
 };
-use ppq_outside::{MemSlot, OpenGate};
 use ppq_testkit::pair;
 use std::alloc::Global;
 use std::process::Abort;

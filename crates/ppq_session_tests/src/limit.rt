@@ -2,8 +2,8 @@
 //! stands for the pair with that key and value 0.
 use crate::limited::{Added, Done, Giving, in_session};
 use crate::records::{add_keys, are_keys, ascend, keys, popped, queue_of};
-use ppq_limit::{BeginFault, Host, Pair, Queue, QueueFault, SessionEnd, Sizes, limit_begin};
 use ppq_outside::{MemSlot, OpenGate};
+use ppq_session::{BeginFault, Host, Pair, Queue, QueueFault, SessionEnd, Sizes, limit_begin};
 use ppq_testkit::pair;
 use std::alloc::Global;
 use std::process::Abort;

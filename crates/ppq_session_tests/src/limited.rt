@@ -1,15 +1,15 @@
 //! A limit session of a queue of pairs.
 ghost use Rattle.std.specs.Prelude.{◌≡◌, ◌++◌, None, All, IfOk};
 ghost use Rattle.ppq_outside.specs.Shown.{AllTell};
-ghost use Rattle.ppq_limit.specs.ppq_pass.Passed.{IsOf};
-ghost use Rattle.ppq_limit.specs.ppq_front.Fronts.{least_below};
-ghost use Rattle.ppq_limit.specs.ppq_front.Sessions.{AreLimited, limited_bag};
+ghost use Rattle.ppq_session.specs.ppq_pass.Passed.{IsOf};
+ghost use Rattle.ppq_session.specs.Fronts.{least_below};
+ghost use Rattle.ppq_session.specs.LimitSession.{AreLimited, limited_bag};
 
-use ppq_limit::{
+use ppq_outside::{MemSlot, OpenGate};
+use ppq_session::{
     Front, Host, LimitPass, Pair, Queue, QueueFault, Record, SessionEnd, Shared, Slot, limit_begin,
     limit_end, passes_stand_back,
 };
-use ppq_outside::{MemSlot, OpenGate};
 use std::alloc::Global;
 use std::process::Abort;
 use std::thread;

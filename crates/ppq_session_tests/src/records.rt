@@ -1,8 +1,8 @@
 //! Records and queues of the tests: pairs, in blocks in memory.
 ghost use Rattle.std.specs.Prelude.{◌≡◌, Some, IfOk};
 
-use ppq_limit::{Host, Pair, Queue, Sizes};
 use ppq_outside::{MemRack, MemSlot, OpenGate};
+use ppq_session::{Host, Pair, Queue, Sizes};
 use ppq_testkit::{opened, pair, pushed};
 use std::alloc::Global;
 use std::process::Abort;

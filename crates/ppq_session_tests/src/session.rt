@@ -3,8 +3,8 @@ ghost use Rattle.std.specs.Prelude.{◌≡◌, ◌<◌, All, IfOk};
 
 use crate::bulk::{Adding, Done, in_session};
 use crate::records::{are_keys, are_twins, ascend, popped, queue_of};
-use ppq_limit::{Host, Line, Out, Pair, Queue, SessionEnd, Sizes};
 use ppq_outside::{MemSlot, OpenGate};
+use ppq_session::{Host, Line, Out, Pair, Queue, SessionEnd, Sizes};
 use ppq_testkit::pair;
 use std::alloc::Global;
 use std::process::Abort;

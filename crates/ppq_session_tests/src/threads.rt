@@ -1,11 +1,11 @@
 //! Two threads of the test's own add equal keys, each to a pass.
 ghost use Rattle.std.specs.Prelude.{◌≡◌, All};
-ghost use Rattle.ppq_limit.specs.ppq_pass.Passed.{IsOf};
-ghost use Rattle.ppq_limit.specs.ppq_begin.Session.{keys_of};
+ghost use Rattle.ppq_session.specs.ppq_pass.Passed.{IsOf};
+ghost use Rattle.ppq_session.specs.BulkSession.{keys_of};
 
 use crate::bulk::Done;
-use ppq_limit::{Host, Pair, Pass, Shared};
 use ppq_outside::MemSlot;
+use ppq_session::{Host, Pair, Pass, Shared};
 use std::process::Abort;
 use std::thread;
 

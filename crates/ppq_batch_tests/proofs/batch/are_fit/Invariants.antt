@@ -1,6 +1,6 @@
 use Rattle.std.proofs.Common.{◌<◌, All, take}
-use Rattle.ppq_batch.specs.ppq_session.declared.line.Line.{Line}
-use Rattle.ppq_batch.specs.Batches.{AreAbove}
+use Rattle.ppq_load.specs.ppq_session.declared.line.Line.{Line}
+use Rattle.ppq_load.specs.ppq_session.Batches.{AreAbove}
 use Rattle.ppq_batch_tests.proofs.batch.are_fit.Given as goal
 
 abbrev pub invariant-loop-i : goal.invariant-loop-i

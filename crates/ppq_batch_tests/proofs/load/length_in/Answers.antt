@@ -1,6 +1,6 @@
 use Rattle.std.proofs.Common.{subst}
 use Rattle.ppq_outside.specs.Told.{OfLength}
-use Rattle.ppq_batch.proofs.ppq_load.Reading.{length-is}
+use Rattle.ppq_load.proofs.Reading.{length-is}
 use Rattle.ppq_batch_tests.proofs.load.length_in.Goals as goal
 
 pub returns : goal.returns

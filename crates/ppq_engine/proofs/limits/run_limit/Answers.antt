@@ -1,8 +1,8 @@
 use Rattle.std.proofs.Common.{◌+◌, true, length, drop, sym, ap, ◌∙◌, subst, arith}
 use Rattle.ppq_script.specs.ppq_record.declared.pair.Pair.{Pair}
-use Rattle.ppq_batch.specs.ppq_budget.Sizes.{Numbers}
+use Rattle.ppq_load.specs.ppq_budget.Sizes.{Numbers}
 use Rattle.ppq_script.specs.Reading.{command_list}
-use Rattle.ppq_batch.specs.Batches.{AreGoing}
+use Rattle.ppq_load.specs.Limits.{AreGoing}
 use Rattle.ppq_engine.specs.Files.{load_stop}
 use Rattle.ppq_engine.specs.Limits.{IsInLimit}
 use Rattle.ppq_engine.specs.Parts.{up_to_end, limit_part}

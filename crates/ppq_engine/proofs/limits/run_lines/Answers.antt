@@ -3,8 +3,8 @@ use Rattle.std.proofs.Math.Facts.{Fits-of_lt}
 use Rattle.ppq_script.specs.ppq_record.declared.pair.Pair.{Pair}
 use Rattle.ppq_script.specs.ppq_record.Pair.{pair_cmp}
 use Rattle.ppq_script.specs.ppq_record.Order.{is_before}
-use Rattle.ppq_batch.specs.ppq_budget.Sizes.{Numbers}
-use Rattle.ppq_batch.specs.ppq_session.declared.line.Line.{Line}
+use Rattle.ppq_load.specs.ppq_budget.Sizes.{Numbers}
+use Rattle.ppq_load.specs.ppq_session.declared.line.Line.{Line}
 use Rattle.ppq_engine.specs.Limits.{between, BatchHolding, BreaksOff}
 use Rattle.ppq_engine.proofs.Asked.{lines-named, lines-above}
 use Rattle.ppq_engine.proofs.Batches.{limit-within, session-next}

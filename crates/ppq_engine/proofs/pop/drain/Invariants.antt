@@ -3,7 +3,7 @@ use Rattle.ppq_script.specs.ppq_record.Pair.{pair_cmp}
 use Rattle.ppq_script.specs.ppq_record.Bag.{IsSameBag, ascending}
 use Rattle.ppq_script.specs.ppq_outside.Shown.{AllTell}
 use Rattle.ppq_engine.specs.Gathers.{IsSummary}
-use Rattle.ppq_batch.specs.ppq_load.Refusal.{Keeps}
+use Rattle.ppq_load.specs.Refusal.{Keeps}
 use Rattle.ppq_engine.proofs.pop.drain.Given as goal
 
 abbrev pub invariant-rounds : goal.invariant-rounds

@@ -1,5 +1,5 @@
 use Rattle.std.proofs.Common.{length, ap, arith}
-use Rattle.ppq_batch.specs.ppq_budget.Sizes.{batch_of}
+use Rattle.ppq_load.specs.ppq_budget.Sizes.{batch_of}
 use Rattle.ppq_engine.proofs.Popped.{some_room, round-all}
 use Rattle.ppq_engine.proofs.pop.pop_all_round.Goals as goal
 

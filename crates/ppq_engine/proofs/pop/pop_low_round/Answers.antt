@@ -1,4 +1,4 @@
-use Rattle.ppq_batch.specs.ppq_budget.Sizes.{batch_of}
+use Rattle.ppq_load.specs.ppq_budget.Sizes.{batch_of}
 use Rattle.ppq_engine.proofs.Popped.{some_room, round-low}
 use Rattle.ppq_engine.proofs.pop.pop_low_round.Goals as goal
 

@@ -5,7 +5,7 @@ use Rattle.ppq_script.specs.ppq_outside.Shown.{AllTell}
 use Rattle.ppq_engine.specs.Output.{lines_text}
 use Rattle.ppq_engine.specs.Gathers.{Gathers}
 use Rattle.ppq_engine.specs.Popping.{popped_count}
-use Rattle.ppq_batch.specs.ppq_load.Refusal.{Keeps}
+use Rattle.ppq_load.specs.Refusal.{Keeps}
 use Rattle.ppq_engine.proofs.pop.print_popped.Given as goal
 
 abbrev pub invariant-rounds : goal.invariant-rounds

@@ -4,7 +4,7 @@ use Rattle.std.proofs.Math.Bool.{false-or}
 use Rattle.std.proofs.lemmas.List.{length-map}
 use Rattle.ppq_script.specs.ppq_outside.Shown.{AllTell}
 use Rattle.ppq_script.proofs.ppq_outside.Replies.{no_replies, replies_then}
-use Rattle.ppq_batch.specs.ppq_budget.Sizes.{Numbers}
+use Rattle.ppq_load.specs.ppq_budget.Sizes.{Numbers}
 use Rattle.ppq_script.specs.ppq_record.Bag.{IsSameBag}
 use Rattle.ppq_script.specs.ppq_record.declared.pair.Pair.{Pair}
 use Rattle.ppq_script.specs.declared.command.Command.{Command}
@@ -12,7 +12,7 @@ use Rattle.ppq_script.specs.declared.session.Session.{Session}
 use Rattle.ppq_script.specs.declared.session.Session.TheVariants.{Outside}
 use Rattle.ppq_script.specs.Reading.{Reading, command_list}
 use Rattle.ppq_script.specs.Sessions.{are_in_place}
-use Rattle.ppq_batch.specs.ppq_load.Refusal.{Keeps}
+use Rattle.ppq_load.specs.Refusal.{Keeps}
 use Rattle.ppq_engine.specs.Files.{IsReadInScript}
 use Rattle.ppq_engine.specs.Gathers.{Gathers}
 use Rattle.ppq_engine.specs.Loads.{FitsWritten, none_go, all_go, size_from, begins_limit}

@@ -4,7 +4,7 @@ use Rattle.ppq_script.specs.ppq_outside.Told.{Remembers, RepliesOnly}
 use Rattle.ppq_script.specs.declared.session.Session.TheVariants.{Outside}
 use Rattle.ppq_script.specs.Reading.{command_list}
 use Rattle.ppq_script.specs.Sessions.{are_in_place}
-use Rattle.ppq_batch.specs.ppq_load.Refusal.{Keeps}
+use Rattle.ppq_load.specs.Refusal.{Keeps}
 use Rattle.ppq_engine.specs.Output.{AreFilesOf, given_of}
 use Rattle.ppq_engine.specs.Running.{HasRun, HasSizes, behind_part}
 use Rattle.ppq_engine.specs.Files.{IsReadInScript}

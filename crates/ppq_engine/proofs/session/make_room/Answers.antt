@@ -1,8 +1,8 @@
 use Rattle.std.proofs.Common.{List, ◌++◌, sym, ap, ◌∙◌, subst, append-nil}
 use Rattle.ppq_script.specs.ppq_record.declared.pair.Pair.{Pair}
-use Rattle.ppq_batch.specs.ppq_session.declared.line.Line.{Line}
-use Rattle.ppq_batch.specs.ppq_session.Dealing.{records_in}
-use Rattle.ppq_batch.specs.ppq_load.Loading.{InSession}
+use Rattle.ppq_load.specs.ppq_session.declared.line.Line.{Line}
+use Rattle.ppq_load.specs.ppq_session.Dealing.{records_in}
+use Rattle.ppq_load.specs.Loading.{InSession}
 use Rattle.ppq_engine.proofs.session.make_room.Goals as goal
 
 pub returns-clause-given : goal.returns-clause-given

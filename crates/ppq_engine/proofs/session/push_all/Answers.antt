@@ -2,10 +2,10 @@ use Rattle.std.proofs.Common.{◌≡◌, ℕ, ◌+◌, ◌<◌, List, ◌++◌, 
 use Rattle.std.proofs.Math.Facts.{Fits-of_lt}
 use Rattle.std.proofs.lemmas.List.Elements.{All-push}
 use Rattle.ppq_script.specs.ppq_record.declared.pair.Pair.{Pair}
-use Rattle.ppq_batch.specs.ppq_session.declared.line.Line.{Line}
-use Rattle.ppq_batch.specs.ppq_session.Dealing.{records_in}
-use Rattle.ppq_batch.specs.ppq_load.Loading.{InSession}
-use Rattle.ppq_batch.specs.ppq_begin.Session.{BulkHolding}
+use Rattle.ppq_load.specs.ppq_session.declared.line.Line.{Line}
+use Rattle.ppq_load.specs.ppq_session.Dealing.{records_in}
+use Rattle.ppq_load.specs.Loading.{InSession}
+use Rattle.ppq_load.specs.ppq_session.BulkSession.{BulkHolding}
 use Rattle.ppq_engine.proofs.Pushes.{IsPushing, place-within, pushing-begin, pushing-given, pushing-line, pushed-all, pushed-some}
 use Rattle.ppq_engine.proofs.session.push_all.Goals as goal
 

@@ -2,7 +2,7 @@ use Rattle.std.proofs.Common.{◌≡◌, ◌-◌, ◌≤◌, ◌<◌, true, All,
 use Rattle.ppq_script.specs.declared.session.Session.TheVariants.{InBulk}
 use Rattle.ppq_script.specs.Sessions.{are_in_place}
 use Rattle.ppq_script.specs.Reading.{command_list}
-use Rattle.ppq_batch.specs.ppq_session.Dealing.{IsGoing}
+use Rattle.ppq_load.specs.ppq_session.Dealing.{IsGoing}
 use Rattle.ppq_engine.proofs.Pushes.{IsPushing}
 use Rattle.ppq_engine.proofs.session.push_all.Given as goal
 

@@ -1,8 +1,8 @@
 use Rattle.std.proofs.Common.{◌+◌, List, All, length, drop, max, sym, subst, arith}
 use Rattle.ppq_script.specs.ppq_record.declared.pair.Pair.{Pair}
 use Rattle.ppq_script.specs.Reading.{command_list}
-use Rattle.ppq_batch.specs.ppq_session.Dealing.{IsGoing}
-use Rattle.ppq_batch.proofs.ppq_load.Refusals.{stop-later}
+use Rattle.ppq_load.specs.ppq_session.Dealing.{IsGoing}
+use Rattle.ppq_load.proofs.Refusals.{stop-later}
 use Rattle.ppq_engine.specs.Parts.{up_to_end, pushed_in}
 use Rattle.ppq_engine.specs.Running.{StopsFor}
 use Rattle.ppq_engine.specs.declared.stop.Stop.{Stop}

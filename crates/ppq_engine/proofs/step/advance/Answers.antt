@@ -10,8 +10,8 @@ use Rattle.ppq_script.specs.declared.command.Command.TheVariants.{BulkBegin, Lim
 use Rattle.ppq_script.specs.declared.session.Session.TheVariants.{Outside, InBulk, InLimit}
 use Rattle.ppq_script.specs.Reading.{Reading, command_list}
 use Rattle.ppq_script.specs.Sessions.{are_in_place}
-use Rattle.ppq_batch.specs.ppq_load.Refusal.{Keeps}
-use Rattle.ppq_batch.specs.Batches.{begun_in}
+use Rattle.ppq_load.specs.Refusal.{Keeps}
+use Rattle.ppq_load.specs.Limits.{begun_in}
 use Rattle.ppq_engine.specs.Files.{IsBySession, IsReadInScript}
 use Rattle.ppq_engine.specs.Gathers.{Gathers}
 use Rattle.ppq_engine.specs.Loads.{IsLoad, none_go, all_go, size_after, size_from, begins_limit}

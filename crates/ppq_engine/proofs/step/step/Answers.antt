@@ -6,10 +6,10 @@ use Rattle.ppq_script.specs.ppq_record.Given.{records_of, generated}
 use Rattle.ppq_script.specs.ppq_outside.Shown.{AllTell}
 use Rattle.ppq_script.specs.ppq_outside.Told.{bytes_or_none}
 use Rattle.ppq_script.proofs.ppq_outside.Replies.{no_replies, replies_wider}
-use Rattle.ppq_batch.specs.ppq_budget.Sizes.{Numbers}
+use Rattle.ppq_load.specs.ppq_budget.Sizes.{Numbers}
 use Rattle.ppq_script.specs.declared.command.Command.{Command}
 use Rattle.ppq_script.specs.Files.{name_at}
-use Rattle.ppq_batch.specs.ppq_load.Reading.{IsReadWithin}
+use Rattle.ppq_load.specs.Reading.{IsReadWithin}
 use Rattle.ppq_engine.specs.Files.{IsByFile, IsBySession, EndsEarly, IsReadInScript}
 use Rattle.ppq_engine.specs.Gathers.{Gathers}
 use Rattle.ppq_engine.specs.Loads.{none_go, size_after}

@@ -2,10 +2,10 @@ use Rattle.std.proofs.Common.{◌≡◌, ◌++◌, ◌∷◌, ◌∙◌, [], Boo
 use Rattle.std.specs.Prelude.{◌||◌}
 use Rattle.std.proofs.lemmas.List.Elements.{All-nil, All-cons}
 use Rattle.std.proofs.lemmas.List.Concat.{flat_map-cons}
-use Rattle.ppq_begin.specs.ppq_pass.Passed.{holding_of}
-use Rattle.ppq_begin.specs.ppq_pass.PassState.{IsPassed, IsSoundPass}
-use Rattle.ppq_begin.specs.ppq_gather.Passes.{IsBrought}
-use Rattle.ppq_begin.specs.ppq_gather.declared.brought.Brought.{Brought}
+use Rattle.ppq_pass.specs.Passed.{holding_of}
+use Rattle.ppq_pass.specs.PassState.{IsPassed, IsSoundPass}
+use Rattle.ppq_session.specs.Passes.{IsBrought}
+use Rattle.ppq_session.specs.declared.brought.Brought.{Brought}
 use Rattle.ppq_session.proofs.bringing.bring.Goals as goal
 
 or_right : (a b : Bool) → b ≡ true → (a || b) ≡ true

@@ -1,10 +1,10 @@
 use Rattle.std.proofs.Common.{◌≡◌, ◌∙◌, ◌++◌, ◌∷◌, [], All, length, reverse, ap, sym, subst, refl, arith, append-nil, append_assoc, length-append}
 use Rattle.std.proofs.lemmas.List.{reverse-append, length-map}
-use Rattle.ppq_begin.proofs.ppq_array.Noted.{all_left}
-use Rattle.ppq_begin.specs.ppq_gather.Passes.{pass_of}
+use Rattle.ppq_pass.proofs.ppq_array.Noted.{all_left}
+use Rattle.ppq_session.specs.Passes.{pass_of}
 use Rattle.ppq_session.specs.Bringing.{BroughtAll, IsShareOf}
 use Rattle.ppq_session.proofs.Brings.{brought-none, brought-then}
-use Rattle.ppq_begin.proofs.ppq_gather.Emptying.{nothing as no_list}
+use Rattle.ppq_session.proofs.Emptying.{nothing as no_list}
 use Rattle.ppq_session.proofs.bringing.bring_all.Goals as goal
 
 pub bringing-init : goal.bringing-init

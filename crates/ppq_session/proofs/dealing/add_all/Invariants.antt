@@ -1,6 +1,6 @@
 use Rattle.std.proofs.Common.{◌≡◌, ◌+◌, ◌++◌, take}
-use Rattle.ppq_begin.specs.ppq_record.Bag.{IsSameBag}
-use Rattle.ppq_begin.specs.ppq_pass.Passed.{PassTells}
+use Rattle.ppq_pass.specs.ppq_record.Bag.{IsSameBag}
+use Rattle.ppq_pass.specs.Passed.{PassTells}
 use Rattle.ppq_session.specs.Dealing.{IsGoing}
 use Rattle.ppq_session.proofs.dealing.add_all.Given as goal
 

@@ -1,7 +1,7 @@
 use Rattle.std.proofs.Common.{length, slice_index_or, subst}
 use denote.Param.Send.{sendable}
 use Rattle.std.specs.Fork.{slice_chunk}
-use Rattle.ppq_begin.proofs.ppq_pass.Sends.{pass_sends}
+use Rattle.ppq_pass.proofs.Sends.{pass_sends}
 use Rattle.ppq_session.specs.Dealing.{Adds, part_for}
 use Rattle.ppq_session.proofs.DealtParts.{dealt-parts}
 use Rattle.ppq_session.proofs.dealing.deal.Goals as goal

@@ -1,7 +1,7 @@
 use Rattle.std.proofs.Common.{◌≤◌, ◌∙◌, None, sym, ap, subst}
-use Rattle.ppq_begin.specs.ppq_outside.Shown.{AllTell}
-use Rattle.ppq_begin.specs.ppq_array.Kept.{SameSlots, all_writes}
-use Rattle.ppq_begin.specs.Session.{AreOf, EndsIn, keys_of}
+use Rattle.ppq_pass.specs.ppq_outside.Shown.{AllTell}
+use Rattle.ppq_pass.specs.ppq_array.Kept.{SameSlots, all_writes}
+use Rattle.ppq_session.specs.BulkSession.{AreOf, EndsIn, keys_of}
 use Rattle.ppq_session.specs.Apart.{IsJoined}
 use Rattle.ppq_session.proofs.Bulks.{slots_same, bulk_apart, bulk_many, bulk_keys, bulk_before, bulk_sound, bulk_ends}
 use Rattle.ppq_session.proofs.Together.{all_shares_of, room_for_all}

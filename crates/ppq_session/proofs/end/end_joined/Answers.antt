@@ -1,10 +1,10 @@
 use Rattle.std.proofs.Common.{◌+◌, ◌++◌, reverse, sym, ap, ◌∙◌, subst, arith}
-use Rattle.ppq_begin.specs.ppq_outside.Shown.{AllTell}
-use Rattle.ppq_begin.specs.ppq_array.Owner.{slots_shown}
-use Rattle.ppq_begin.specs.ppq_array.Kept.{SameSlots, all_writes}
-use Rattle.ppq_begin.proofs.ppq_spill.SameSlots.{SameSlots-trans}
-use Rattle.ppq_begin.specs.ppq_queue.Resting.{slots_of}
-use Rattle.ppq_begin.specs.ppq_gather.Gathering.{slots_in}
+use Rattle.ppq_pass.specs.ppq_outside.Shown.{AllTell}
+use Rattle.ppq_pass.specs.ppq_array.Owner.{slots_shown}
+use Rattle.ppq_pass.specs.ppq_array.Kept.{SameSlots, all_writes}
+use Rattle.ppq_pass.proofs.ppq_spill.SameSlots.{SameSlots-trans}
+use Rattle.ppq_pass.specs.ppq_queue.Resting.{slots_of}
+use Rattle.ppq_session.specs.Gathering.{slots_in}
 use Rattle.ppq_session.specs.Apart.{apart_slots}
 use Rattle.ppq_session.proofs.Joined.{MayClose, may_close}
 use Rattle.ppq_session.proofs.Together.{IsMade, came, first, last_slots, last_writes, last_tells, together, stopped, unlatched_ok, unlatched_err}

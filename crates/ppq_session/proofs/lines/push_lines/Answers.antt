@@ -1,6 +1,6 @@
 use denote.Param.Send.{sendable}
 use Rattle.std.proofs.Common.{slice_index_or, subst}
-use Rattle.ppq_begin.proofs.ppq_pass.Sends.{pass_sends}
+use Rattle.ppq_pass.proofs.Sends.{pass_sends}
 use Rattle.ppq_session.specs.Dealing.{Adds, records_for}
 use Rattle.ppq_session.proofs.LineParts.{dealt-lines}
 use Rattle.ppq_session.proofs.lines.push_lines.Goals as goal

@@ -1,6 +1,6 @@
 use Rattle.std.proofs.Common.{◌≡◌, ◌++◌, length, take, drop, sym, ap, ◌∙◌, subst, arith}
 use Rattle.std.proofs.lemmas.List.{take-append-le, take_all}
-use Rattle.ppq_limit.specs.ppq_begin.Session.{AreOf, keys_of}
+use Rattle.ppq_session.specs.BulkSession.{AreOf, keys_of}
 use Rattle.ppq_session_tests.proofs.bulk.in_session.Goals as goal
 
 -- the passes that were lent are back in their places

@@ -1,5 +1,5 @@
 use Rattle.std.proofs.Common.{◌≡◌}
-use Rattle.ppq_limit.specs.ppq_pass.Passed.{IsOf}
+use Rattle.ppq_session.specs.ppq_pass.Passed.{IsOf}
 use Rattle.ppq_session_tests.proofs.limited.add_all.Given as goal
 
 abbrev pub invariant-adding : goal.invariant-adding

@@ -1,7 +1,7 @@
 use Rattle.std.proofs.Common.{◌≡◌, ◌++◌, All, length, take, drop, sym, ap, ◌∙◌, subst, arith}
 use Rattle.std.proofs.lemmas.List.{take-append-le, take_all}
-use Rattle.ppq_limit.specs.ppq_pass.Passed.{IsOf}
-use Rattle.ppq_limit.specs.ppq_front.Sessions.{front_key, shared_of}
+use Rattle.ppq_session.specs.ppq_pass.Passed.{IsOf}
+use Rattle.ppq_session.specs.LimitSession.{front_key, shared_of}
 use Rattle.ppq_session_tests.proofs.limited.in_session.Goals as goal
 
 pub act-added-requires-clause-of : goal.act-added-requires-clause-of

@@ -1,8 +1,8 @@
 use denote.Param.Send.{sendable}
 use Rattle.std.proofs.Common.{◌≡◌, ◌∙◌, length, ap, sym, arith}
-use Rattle.ppq_limit.proofs.ppq_record.pair.Pair.TheSendSync as pair
+use Rattle.ppq_session.proofs.ppq_record.pair.Pair.TheSendSync as pair
 use Rattle.ppq_outside.proofs.memory_slot.MemSlot.TheSendSync as mem_slot
-use Rattle.ppq_limit.proofs.Sends.{limit_pass_sends}
+use Rattle.ppq_session.proofs.Sends.{limit_pass_sends}
 use Rattle.ppq_session_tests.proofs.limited.push_all.Goals as goal
 
 -- a pass may be sent

@@ -1,5 +1,5 @@
 use Rattle.std.proofs.Common.{◌≡◌}
-use Rattle.ppq_limit.specs.ppq_pass.Passed.{IsOf}
+use Rattle.ppq_session.specs.ppq_pass.Passed.{IsOf}
 use Rattle.ppq_session_tests.proofs.limited.push_half.Given as goal
 
 abbrev pub invariant-pushing : goal.invariant-pushing

@@ -9,10 +9,10 @@ use denote.Param.Send.{IsSend, recorded_send, struct_send, param_send, arg_send,
 use denote.Struct.Struct.{Struct}
 use denote.Struct.Declared as declared
 use denote.Struct.Tuple.{TupleAt, type_at}
-use Rattle.ppq_limit.proofs.ppq_record.pair.Pair.TheSendSync as pair
+use Rattle.ppq_session.proofs.ppq_record.pair.Pair.TheSendSync as pair
 use Rattle.ppq_outside.proofs.memory_slot.MemSlot.TheSendSync as mem_slot
-use Rattle.ppq_limit.proofs.ppq_pass.Sends.{shared_syncs}
-use Rattle.ppq_limit.proofs.Sends.{limit_pass_sends}
+use Rattle.ppq_session.proofs.ppq_pass.Sends.{shared_syncs}
+use Rattle.ppq_session.proofs.Sends.{limit_pass_sends}
 use Rattle.ppq_session_tests.proofs.limited.run.Goals as goal
 
 -- four things that a closure takes along

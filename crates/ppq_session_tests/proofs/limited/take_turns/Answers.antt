@@ -1,5 +1,5 @@
 use Rattle.std.proofs.Common.{◌∙◌}
-use Rattle.ppq_limit.specs.ppq_front.Sessions.{front_key}
+use Rattle.ppq_session.specs.LimitSession.{front_key}
 use Rattle.ppq_session_tests.proofs.limited.take_turns.Goals as goal
 
 -- what was added to the first pass changed no key and no limit

@@ -1,8 +1,8 @@
 use denote.Param.Send.{sendable}
 use Rattle.std.proofs.Common.{◌≡◌, ◌∙◌, ℕ, suc, ◌<◌, List, [], ◌∷◌, length, map, get_or, refl, sym, ap, ap₂, arith}
-use Rattle.ppq_limit.proofs.ppq_record.pair.Pair.TheSendSync as pair
+use Rattle.ppq_session.proofs.ppq_record.pair.Pair.TheSendSync as pair
 use Rattle.ppq_outside.proofs.memory_slot.MemSlot.TheSendSync as mem_slot
-use Rattle.ppq_limit.proofs.ppq_pass.Sends.{pass_sends}
+use Rattle.ppq_session.proofs.ppq_pass.Sends.{pass_sends}
 use Rattle.ppq_session_tests.proofs.threads.push_all.Goals as goal
 
 -- what is the same at each place

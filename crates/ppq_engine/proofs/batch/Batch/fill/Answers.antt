@@ -1,9 +1,9 @@
 use Rattle.std.proofs.Common.{◌≡◌, ◌+◌, ◌<◌, ◌++◌, ℕ, List, length, sym, ap, ◌∙◌, subst, inl, inr, arith, length-append}
 use Rattle.std.proofs.Math.Facts.{Fits-of_lt}
 use Rattle.std.proofs.lemmas.Bool.{cases_lt}
-use Rattle.ppq_batch.specs.ppq_session.declared.line.Line.{Line}
+use Rattle.ppq_load.specs.ppq_session.declared.line.Line.{Line}
 use Rattle.ppq_script.specs.ppq_record.declared.pair.Pair.{Pair}
-use Rattle.ppq_batch.specs.declared.ask.Ask.{Ask}
+use Rattle.ppq_load.specs.ppq_session.declared.ask.Ask.{Ask}
 use Rattle.ppq_engine.specs.Limits.{line_by, ask_by, EndsLimit, IsBatch, BatchHolding}
 use Rattle.ppq_engine.proofs.Batches.{limit-within, end-at, batch-begin, batch-line}
 use Rattle.ppq_engine.proofs.batch.Batch.fill.Goals as goal

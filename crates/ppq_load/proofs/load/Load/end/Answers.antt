@@ -3,7 +3,7 @@ use Rattle.std.specs.Prelude.{Any, Ok, Err, ⊤}
 use Rattle.ppq_session.specs.ppq_record.declared.pair.Pair.{Pair}
 use Rattle.ppq_session.specs.ppq_queue.Holding.{Holding}
 use Rattle.ppq_session.specs.ppq_queue.declared.fault.QueueFault.TheVariants.{NoFreeBlock}
-use Rattle.ppq_session.specs.ppq_begin.Session.{EndsIn}
+use Rattle.ppq_session.specs.BulkSession.{EndsIn}
 use Rattle.ppq_session.specs.Dealing.{IsGoing, HasEnded}
 use Rattle.ppq_load.specs.Loading.{InSession, IsLoaded}
 use Rattle.ppq_load.proofs.Loadings.{end-keeps, loaded-whole, loaded-short, loaded-stopped}

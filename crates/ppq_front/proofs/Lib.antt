@@ -1,9 +1,0 @@
-pub mod Moved
-pub mod Belows
-pub mod Taken
-pub mod LimitPassed
-pub mod Refilling
-pub mod Readied
-pub mod Begun
-pub mod Limiting
-pub mod Beside

@@ -1,0 +1,104 @@
+-- Passes of a session that begin without records.
+use Rattle.std.proofs.Common.{◌≡◌, ◌+◌, List, [], ◌∷◌, ◌++◌, length, map, sum_by, All, refl, sym, ap, ap₂, ◌∙◌, subst, arith}
+use Rattle.std.proofs.lemmas.List.{length-map}
+use Rattle.std.proofs.lemmas.List.Elements.{All-nil, All-cons, All-head, All-tail}
+use Rattle.std.proofs.lemmas.List.Concat.{flat_map-cons}
+use Rattle.std.proofs.lemmas.List.Sums.{sum_by-cons}
+use Rattle.atomic_table.specs.Seated.{TableId}
+use Rattle.ppq_pass.specs.ppq_budget.Sizes.{Numbers}
+use Rattle.ppq_pass.proofs.ppq_array.Noted.{all_left, all_right}
+use Rattle.ppq_pass.specs.ppq_array.declared.berth.DeviceBlock.{DeviceBlock}
+use Rattle.ppq_pass.specs.Passed.{PassKey, PassHolding, IsOf}
+use Rattle.ppq_pass.proofs.ppq_queue.Took.{empty_list}
+use Rattle.ppq_pass.specs.ppq_record.Bag.{IsSameBag}
+use Rattle.ppq_pass.specs.ppq_outside.Shown.{AllTell}
+use Rattle.ppq_pass.specs.ppq_queue.Holding.{Holding}
+use Rattle.ppq_pass.specs.declared.shared.Shared.{Shared}
+use Rattle.ppq_session.specs.declared.fault.BeginFault.{BeginFault}
+use Rattle.ppq_session.specs.declared.fault.BeginFault.TheVariants.{Memory, NoFreeBlock, Device}
+use Rattle.ppq_session.specs.Equipped.{HasBegun}
+use Rattle.ppq_session.specs.Opened.{HoldsNoSlot}
+use Rattle.ppq_session.specs.BulkSession.{BulkHolding, AreOf, bag_of, keys_of, pass_key, shared_by, IsBeginRefusal}
+use Rattle.ppq_session.specs.Fronts.{FrontHolding}
+use Rattle.ppq_session.specs.Limited.{LimitHolding, HoldsNothing}
+use Rattle.ppq_session.specs.LimitSession.{AreLimited, IsFrontOf, front_key, shared_of}
+
+module _ {X : Type 0} (P : X → Type 0) where
+  pub all_front : (xs : List X) (x : X) → All P (xs ++ x ∷ []) → All P xs
+  all_front xs x all = all_left P xs (x ∷ []) all
+
+  pub all_last : (xs : List X) (x : X) → All P (xs ++ x ∷ []) → P x
+  all_last xs x all = All-head P x [] (all_right P xs (x ∷ []) all)
+
+module _ {S R : Type 0} where
+  -- where passes began with no record together, each did
+  none_begun : (passes : List (PassHolding S R)) → sum_by (λ (k : PassKey S R). k.begun) (keys_of passes) ≡ 0 → All (λ (p : PassHolding S R). p.key.begun ≡ 0) passes
+  none_begun [] e = All-nil (λ (p : PassHolding S R). p.key.begun ≡ 0)
+  none_begun (p ∷ ps) e =
+      let sum = sum_by-cons (λ (k : PassKey S R). k.begun) p.key (keys_of ps) in
+      All-cons (λ (p : PassHolding S R). p.key.begun ≡ 0) p ps (omega (arith, e, sum)) (none_begun ps (omega (arith, e, sum)))
+
+  of_key : (passes : List (PassHolding S R)) (P : PassKey S R → Type 0) → All P (keys_of passes) → All (λ (p : PassHolding S R). P p.key) passes
+  of_key [] P all = All-nil (λ (p : PassHolding S R). P p.key)
+  of_key (p ∷ ps) P all = All-cons (λ (p : PassHolding S R). P p.key) p ps (All-head P p.key (keys_of ps) all) (of_key ps P (All-tail P p.key (keys_of ps) all))
+
+  -- passes without records have none together
+  pub bag_none : (passes : List (PassHolding S R)) → All HoldsNothing passes → bag_of passes ≡ []
+  bag_none [] all = refl
+  bag_none (p ∷ ps) all =
+      flat_map-cons (λ (x : PassHolding S R). x.bag) p ps ∙ ap (λ l. l ++ bag_of ps) (All-head HoldsNothing p ps all).bag ∙ bag_none ps (All-tail HoldsNothing p ps all)
+
+  module _ (bulk : BulkHolding S R) (passes : List (PassHolding S R)) (of : AreOf bulk (keys_of passes)) (none : bulk.begun ≡ 0) where
+    -- they have no records and no slots
+    pub all_nothing : All HasBegun passes → All HoldsNoSlot passes → All HoldsNothing passes
+    all_nothing whole slots = λ k d h. record { bag = empty_list _ (whole k d h ∙ none_begun passes (of.begun ∙ none) k d h); slots = slots k d h }
+
+    pub passes_count : length passes ≡ bulk.sizes.workers
+    passes_count = omega (arith, length-map passes (λ (p : PassHolding S R). p.key), of.count)
+
+    module _ (limit : R) (front : FrontHolding S R) (is : IsFrontOf bulk limit front) where
+      pub keys_front : All (λ (p : PassHolding S R). p.key ≡ front_key front) passes
+      keys_front = λ k d h. of_key passes (λ (key : PassKey S R). key ≡ pass_key bulk key.begun) of.each k d h ∙ ap (pass_key bulk) (none_begun passes (of.begun ∙ none) k d h) ∙ same
+        where
+          key : TableId → TableId → List (DeviceBlock S R) → Numbers → PassKey S R
+          key row pool items sizes = record { row = row; pool = pool; items = items; row_shares = 1; pool_shares = 1; sizes = sizes; begun = 0 }
+
+          same : pass_key bulk 0 ≡ front_key front
+          same =
+              ap (λ row. key row bulk.pool bulk.items bulk.sizes) (sym is.row)
+              ∙ ap (λ pool. key front.row pool bulk.items bulk.sizes) (sym is.pool)
+              ∙ ap (λ items. key front.row front.pool items bulk.sizes) (sym is.items)
+              ∙ ap (λ sizes. key front.row front.pool front.items sizes) (sym is.sizes)
+
+      pub are_limited :
+          (list : List (LimitHolding S R)) → length list ≡ length passes → All (λ (p : LimitHolding S R). p.limit ≡ limit) list
+          → ((key : PassKey S R) → All (λ (p : PassHolding S R). p.key ≡ key) passes → All (λ (p : LimitHolding S R). p.pass.key ≡ key) list)
+          → AreLimited front list
+      are_limited list count limits keys =
+          record {
+            count = count ∙ passes_count ∙ ap (λ (n : Numbers). n.workers) (sym is.sizes);
+            keys = keys (front_key front) keys_front;
+            limits = λ k d h. limits k d h ∙ sym is.limit_is;
+          }
+
+module _ {S R : Type 0} where
+  -- what passes share is the row and the pool of the front
+  pub shared_front : (bulk : BulkHolding S R) (limit : R) (front : FrontHolding S R) → IsFrontOf bulk limit front → shared_by bulk ≡ shared_of front
+  shared_front bulk limit front is =
+      let share : TableId → TableId → Shared S R = λ row pool. record { row = row; pool = pool } in
+      ap₂ share (sym is.row) (sym is.pool)
+
+  -- limit passes of the session are of what it shares
+  pub limited_of : (front : FrontHolding S R) (list : List (LimitHolding S R)) (shared : Shared S R) → AreLimited front list → shared ≡ shared_of front → All (λ (p : LimitHolding S R). IsOf shared p.pass) list
+  limited_of front list shared are same =
+      subst (λ (s : Shared S R). All (λ (p : LimitHolding S R). IsOf s p.pass) list) (sym same)
+      (λ k d h. record { row = ap (λ (key : PassKey S R). key.row) (are.keys k d h); pool = ap (λ (key : PassKey S R). key.pool) (are.keys k d h) })
+
+-- a refusal after the heaps were stored is one of the whole call
+pub refused_later :
+    {R : Type 0} (old mid new : Holding R) (fault : BeginFault)
+    → (AllTell old.slots → AllTell mid.slots) → (AllTell old.slots → IsSameBag mid.bag old.bag) → mid.size ≡ old.size → IsBeginRefusal mid new fault → IsBeginRefusal old new fault
+refused_later old mid new Memory tells bag size is = record { bag = λ t p. is.bag (tells t) p ∙ bag t p; sound = is.sound }
+refused_later old mid new NoFreeBlock tells bag size is =
+    record { bag = λ t p. is.bag (tells t) p ∙ bag t p; size = is.size ∙ size; sound = is.sound; free = is.free; room = is.room; above = is.above }
+refused_later old mid new (Device number) tells bag size is = is

@@ -1,0 +1,208 @@
+-- What a session has when it begins.
+use Rattle.std.proofs.Common.{◌≡◌, ℕ, ◌*◌, ◌<◌, ◌≤◌, List, [], ◌∷◌, ◌++◌, length, map, sum_by, All, refl, sym, ap, ap₂, ◌∙◌, subst, arith, append-nil}
+use Rattle.std.specs.Prelude.{Vec, vec_capacity, count_by}
+use Rattle.std.specs.Global.{Global}
+use Rattle.std.specs.declared.cmp.Ordering.{Ordering}
+use Rattle.std.proofs.lemmas.List.{length-map}
+use Rattle.std.proofs.lemmas.List.Elements.{All-map}
+use Rattle.std.proofs.lemmas.List.Sums.{sum_by-cons}
+use Rattle.atomic_table.specs.Seated.{TableId}
+use Rattle.ppq_pass.proofs.ppq_record.Order.{IsSameBag-trans, IsSameBag-append, IsSameBag-append_comm}
+use Rattle.ppq_pass.specs.ppq_outside.Shown.{Shown, AllTell}
+use Rattle.ppq_pass.specs.ppq_budget.Sizes.{pool_of}
+use Rattle.ppq_pass.specs.ppq_block.Block.{Block}
+use Rattle.ppq_pass.specs.ppq_tree.Tree.{Leaves}
+use Rattle.ppq_pass.specs.ppq_heap.Heap.{Contents}
+use Rattle.ppq_pass.specs.ppq_heap.Heaps.{items_of}
+use Rattle.ppq_pass.specs.ppq_array.declared.berth.DeviceBlock.{DeviceBlock}
+use Rattle.ppq_pass.specs.ppq_array.Owner.{slots_shown, HasSize, HasBlock}
+use Rattle.ppq_pass.specs.ppq_array.Holdings.{external_slots}
+use Rattle.ppq_pass.specs.ppq_spill.Body.{job_slots}
+use Rattle.ppq_pass.specs.ppq_row.declared.hand.Hand.{Hand as RowHand}
+use Rattle.ppq_pass.specs.ppq_pool.declared.hand.Hand.{Hand as PoolHand}
+use Rattle.ppq_pass.specs.ppq_pool.Seats.{count_of as pool_count}
+use Rattle.ppq_pass.specs.Passed.{PassKey, PassHolding}
+use Rattle.ppq_pass.specs.declared.shared.PoolBuf.{PoolBuf}
+use Rattle.ppq_pass.specs.declared.shared.Shared.{Shared}
+use Rattle.ppq_pass.specs.ppq_queue.Resting.{AtRest, IsRestingRun, IsRestingArray, slots_of, runs_bag, odd_in}
+use Rattle.ppq_pass.specs.ppq_queue.State.{IsSound}
+use Rattle.ppq_pass.specs.ppq_queue.declared.queue_parts.QueueParts.{QueueParts}
+use Rattle.ppq_session.specs.BulkSession.{BulkHolding, AreOf, keys_of, bag_of, pass_key}
+use Rattle.ppq_session.specs.State.{AreLeft, IsBulk, IsBare, bulk_holding, bulk_slots}
+use Rattle.ppq_session.specs.Opened.{IsOpened, HandedOut}
+use Rattle.ppq_session.specs.Equipped.{Equipped, MayEquip, ArePasses, session_key}
+use Rattle.ppq_session.specs.declared.share.Session.{Session}
+use Rattle.ppq_session.specs.declared.parts.BulkParts.{BulkParts}
+use Rattle.ppq_session.specs.declared.brought.Brought.{Brought}
+use Rattle.ppq_session.proofs.Equipping.{bag_same, begun_same, first_same}
+
+sum_map : {X Y : Type 0} (f : Y → ℕ) (g : X → Y) (xs : List X) → sum_by f (map g xs) ≡ sum_by (λ x. f (g x)) xs
+sum_map f g [] = refl
+sum_map f g (x ∷ xs) = let e : sum_by f (map g (x ∷ xs)) ≡ sum_by (λ x. f (g x)) (x ∷ xs) = omega (arith, sum_map f g xs, sum_by-cons f (g x) (map g xs), sum_by-cons (λ x. f (g x)) x xs) in e
+
+-- the parts of a bulk: those of the queue, with what is left of lanes and seats
+abbrev pub opened_parts : {S R : Type 0} → QueueParts S R → Session S R → Vec (Contents R) Global → Leaves R → List (Block R) → Vec (Brought S R) Global → BulkParts S R
+opened_parts p s heaps tree idle brought =
+    record {
+      sizes = p.sizes;
+      heaps = heaps;
+      tree = tree;
+      body = record p.body { lanes = record p.body.lanes { idle = idle } };
+      supply = p.supply;
+      extract = p.extract;
+      sources = p.sources;
+      count = p.count;
+      peak = p.peak;
+      limited = p.limited;
+      slots = p.slots;
+      row_seat = s.row_seat;
+      pool_seat = s.pool_seat;
+      brought = brought;
+    }
+
+module _ {S R : Type 0} (shown : S → Shown) (cmp : R → R → Ordering) (record_of : List ℕ → R) (width : ℕ) where
+  -- there is enough for a pass for each worker
+  pub may_equip : (p : QueueParts S R) (s : Session S R) → IsOpened shown cmp record_of width p s → MayEquip shown width p.sizes p.sizes.workers p.body.lanes.idle s
+  may_equip p s o =
+      let r = (o.whole.sound o.sound).rest in
+      let range = o.whole.queue.range in
+      let count : pool_count s.pool_seat.pool ≡ o.before.sure_buffers = ap pool_count o.first.pool ∙ o.first.count in
+      record {
+        buffers = omega (arith, r.buffers, r.bounded, r.fronts);
+        blocks = subst (λ b. All (HasBlock b) p.body.lanes.idle) r.block r.idle;
+        row = o.first.row;
+        row_shares = omega (arith, range.workers, o.first.row_shares);
+        undrawn = o.first.undrawn;
+        few_slots = omega (arith, r.slots, ap length o.first.items, length-map s.row_seat.hand.items (λ (b : DeviceBlock S R). shown b.slot));
+        bytes = subst (λ b. All (HasSize shown (b * width)) s.row_seat.hand.items) r.block o.first.bytes;
+        pool = o.first.pool;
+        pool_shares = omega (arith, range.workers, o.first.pool_shares);
+        untaken = o.first.untaken;
+        shape = λ some. o.first.shape (subst (λ t. 0 < pool_count t) o.first.pool some) ∙ r.block;
+        few_buffers = omega (arith, count, r.pool);
+      }
+
+  module _ (p : QueueParts S R) (s s' : Session S R) (idle : List (Block R)) (heaps : Vec (Contents R) Global) (tree : Leaves R) (brought : Vec (Brought S R) Global) (o : IsOpened shown cmp record_of width p s)
+      (e : Equipped p.sizes p.sizes.workers p.body.lanes.idle idle s s') where
+    rest : AtRest shown cmp record_of width p.sizes p.body o.before
+    rest = (o.whole.sound o.sound).rest
+
+    items_same : s'.row_seat.hand.items ≡ s.row_seat.hand.items
+    items_same = ap (λ (h : RowHand (DeviceBlock S R)). h.items) e.row_hand
+
+    slots_same : bulk_slots shown (opened_parts p s' heaps tree idle brought) ≡ slots_of shown p.body o.before
+    slots_same =
+        let x = external_slots shown p.body.runs.external.items in
+        ap₂ (λ (a b : List Shown). a ++ b) (sym (append-nil x) ∙ ap (λ j. x ++ job_slots shown j) (sym rest.no_job)) (ap (slots_shown shown) items_same ∙ o.first.items)
+
+    pool_same : s'.pool_seat.pool ≡ s.shared.pool
+    pool_same = e.pool ∙ o.first.pool
+
+    left : AreLeft shown cmp record_of width (opened_parts p s' heaps tree idle brought)
+    left =
+        let r = rest in
+        let count : pool_count s'.pool_seat.pool ≡ o.before.sure_buffers = ap pool_count pool_same ∙ o.first.count in
+        record {
+          idle = e.blocks;
+          internal = subst (λ b. All (IsRestingRun b) p.body.runs.internal.items) r.block r.internal;
+          external = subst (λ b. All (IsRestingArray shown width b) p.body.runs.external.items) r.block r.external;
+          no_job = r.no_job;
+          batch = r.batch ∙ ap (λ b. p.sizes.workers * b) r.block;
+          buffers = omega (arith, r.buffers, e.buffers);
+          held = omega (arith, r.held, r.pool, e.buffers, count);
+          bounded = r.bounded;
+          fronts = r.fronts;
+          few = subst (λ b. odd_in b p.body.runs.external.items ≤ 65) r.block r.few;
+          slots = ap length slots_same ∙ o.whole.queue.slots;
+          internal_room = r.internal_room;
+          external_room = r.external_room;
+          leaves = r.leaves;
+          rise = λ t. let up = r.rise (subst AllTell slots_same t) in record { internal = up.internal; external = up.external };
+          row_shares = e.row_shares ∙ o.first.row_shares;
+          undrawn = ap (λ (h : RowHand (DeviceBlock S R)). h.places) e.row_hand ∙ o.first.undrawn;
+          bytes = subst (λ b. All (HasSize shown (b * width)) s'.row_seat.hand.items) r.block (subst (All (HasSize shown (o.before.block * width))) (sym items_same) o.first.bytes);
+          pool_shares = e.pool_shares ∙ o.first.pool_shares;
+          untaken = ap (λ (h : PoolHand (PoolBuf R)). h.numbers) e.pool_hand ∙ o.first.untaken;
+          shape = λ some. ap (λ (h : PoolHand (PoolBuf R)). h.shape) e.pool_hand ∙ o.first.shape (subst (λ t. 0 < pool_count t) pool_same some) ∙ r.block;
+        }
+
+    supply_bare : IsBare p.sizes.block p.sizes.blocks (pool_of p.sizes) p.supply
+    supply_bare =
+        let r = rest in
+        record {
+          block = ap (λ t. t.block) o.out ∙ r.block;
+          kept = ap (λ t. t.kept) o.out;
+          drawn = ap (λ t. t.drawn) o.out ∙ o.whole.queue.no_row;
+          slot_room = omega (arith, ap (λ t. t.slot_room) o.out, r.slots);
+          sure = ap (λ t. t.sure_buffers) o.out;
+          buffer_room = omega (arith, ap (λ t. t.buffer_room) o.out, r.pool);
+        }
+
+    pub is_bulk : heaps.items ≡ [] → p.sizes.workers ≤ vec_capacity heaps → length tree.items ≡ p.sizes.workers → brought.items ≡ [] → p.sizes.workers ≤ vec_capacity brought → IsBulk shown cmp record_of width (opened_parts p s' heaps tree idle brought)
+    is_bulk none room leaves empty many =
+        let w = o.whole.queue in
+        let so : IsSound shown cmp record_of width p.sizes p.heaps p.extract p.body o.before p.sources p.count p.peak p.limited = o.whole.sound o.sound in
+        record {
+          range = w.range;
+          budget = w.budget;
+          no_heap = none;
+          heaps_room = room;
+          heaps_leaves = leaves;
+          no_extract = o.extract;
+          extract_room = w.room;
+          left = left;
+          supply = supply_bare;
+          counted = omega (arith, so.counted);
+          least = w.counted;
+          most = w.most;
+          most_count = w.most_count;
+          above = λ some. so.above (omega (arith, so.counted, some));
+          workers = so.workers;
+          serves = so.serves;
+          no_slot = o.whole.no_slot;
+          slots_room = o.whole.slots_room;
+          none_brought = empty;
+          brought_room = many;
+        }
+
+    abbrev held : BulkHolding S R
+    held = bulk_holding shown record_of width (opened_parts p s' heaps tree idle brought)
+
+    same_key : (begun : ℕ) → session_key p.sizes s begun ≡ pass_key held begun
+    same_key begun =
+        let key : TableId → TableId → List (DeviceBlock S R) → PassKey S R = λ row pool items.
+        record { row = row; pool = pool; items = items; row_shares = 1; pool_shares = 1; sizes = p.sizes; begun = begun }
+        in
+        ap (λ row. key row s.pool_seat.pool s.row_seat.hand.items) (sym e.row) ∙ ap (λ pool. key s'.row_seat.row pool s.row_seat.hand.items) (sym e.pool) ∙ ap (λ items. key s'.row_seat.row s'.pool_seat.pool items) (sym items_same)
+
+    are_of : (passes : List (PassHolding S R)) → ArePasses p.sizes p.heaps.heaps s passes → AreOf held (keys_of passes)
+    are_of passes a =
+        let so = o.whole.sound o.sound in
+        record {
+          count = length-map passes (λ (x : PassHolding S R). x.key) ∙ a.count ∙ o.whole.queue.shares;
+          each = All-map (λ (k : PassKey S R). k ≡ pass_key held k.begun) (λ (x : PassHolding S R). x.key) passes (λ k d h. a.keys k d h ∙ same_key _);
+          begun = omega (arith, sum_map (λ (k : PassKey S R). k.begun) (λ (x : PassHolding S R). x.key) passes, begun_same passes a.whole, ap length (bag_same passes p.heaps.heaps a.bags), so.counted, ap length o.extract);
+        }
+
+    pub handed_out : (passes : List (PassHolding S R)) (bulk : BulkHolding S R) → bulk ≡ held → ArePasses p.sizes p.heaps.heaps s passes → HandedOut shown record_of width p s bulk s'.shared passes
+    handed_out passes bulk is a =
+        let runs = runs_bag shown record_of width p.body in
+        let share : TableId → TableId → Shared S R = λ row pool. record { row = row; pool = pool } in
+        subst (λ b. HandedOut shown record_of width p s b s'.shared passes) (sym is) (record {
+          of = are_of passes a;
+          shared_is = e.shared ∙ ap₂ share (sym o.first.row ∙ sym e.row) (sym o.first.pool ∙ sym e.pool);
+          fresh = a.fresh;
+          no_slots = a.slots;
+          whole = a.whole;
+          begun = (let so = o.whole.sound o.sound in omega (arith, so.counted, ap length o.extract));
+          first = first_same passes p.heaps.heaps a.whole a.bags;
+          runs = refl;
+          buffers = left.held;
+          bag = IsSameBag-trans (runs ++ bag_of passes) (bag_of passes ++ runs) (items_of p.heaps ++ runs) (IsSameBag-append_comm runs (bag_of passes)) (IsSameBag-append (bag_of passes) (items_of p.heaps) runs runs (λ t. ap (count_by t) (bag_same passes p.heaps.heaps a.bags)) (λ t. refl));
+          slots = ap (λ l. external_slots shown p.body.runs.external.items ++ slots_shown shown l) items_same;
+          items = items_same;
+          size = refl;
+          peak = refl;
+          limited = refl;
+          sizes = refl;
+        })

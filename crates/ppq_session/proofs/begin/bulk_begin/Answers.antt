@@ -1,0 +1,87 @@
+use Rattle.std.proofs.Common.{◌≡◌, ℕ, ◌≤◌, Err, sym, ap₂, ◌∙◌, subst}
+use Rattle.ppq_pass.specs.ppq_outside.Shown.{AllTell}
+use Rattle.ppq_pass.specs.ppq_array.Kept.{SameSlots, all_writes}
+use Rattle.ppq_pass.specs.ppq_queue.Holding.{Holding, HasStopped, IsRefusal}
+use Rattle.ppq_session.specs.BulkSession.{IsBeginRefusal}
+use Rattle.ppq_session.specs.declared.fault.BeginFault.TheVariants.{Device}
+use Rattle.ppq_session.proofs.Begun.{Begins, ok_with, err_with, begun-passes, begun-bag, begun-tells}
+use Rattle.ppq_session.proofs.begin.bulk_begin.Goals as goal
+
+pub returns-in-Ok-clause-passes : goal.returns-in-Ok-clause-passes
+returns-in-Ok-clause-passes g c = begun-passes c.hand_out.result c.hand_out.ensures.of c.hand_out.ensures.shared
+
+pub returns-in-Ok-clause-bag : goal.returns-in-Ok-clause-bag
+returns-in-Ok-clause-bag g c = begun-bag c.args.q c.begin_session.new.self c.hand_out.result c.in-Ok.ensures.bag c.hand_out.ensures.bag
+
+pub returns-in-Ok-clause-slots : goal.returns-in-Ok-clause-slots
+returns-in-Ok-clause-slots g c = ok_with (λ b. b.slots) (SameSlots c.args.q.slots) c.begin_session.new.self.slots c.hand_out.result c.begin_session.ensures.slots c.hand_out.ensures.slots
+
+pub returns-in-Ok-clause-tells : goal.returns-in-Ok-clause-tells
+returns-in-Ok-clause-tells g c = begun-tells c.args.q c.begin_session.new.self g.S.Slot.shown c.hand_out.result c.begin_session.ensures.tells c.hand_out.ensures.of c.hand_out.ensures.no_slots c.hand_out.ensures.slots c.hand_out.ensures.items
+
+pub returns-in-Ok-clause-writes : goal.returns-in-Ok-clause-writes
+returns-in-Ok-clause-writes g c =
+    ok_with (λ b. b.slots) (λ l. all_writes c.args.q.slots ≤ all_writes l) c.begin_session.new.self.slots c.hand_out.result c.begin_session.ensures.writes c.hand_out.ensures.slots
+
+pub returns-in-Ok-clause-size : goal.returns-in-Ok-clause-size
+returns-in-Ok-clause-size g c = ok_with (λ b. b.size) (λ n. n ≡ c.args.q.size) c.begin_session.new.self.size c.hand_out.result c.begin_session.ensures.size c.hand_out.ensures.size
+
+pub returns-in-Ok-clause-peak : goal.returns-in-Ok-clause-peak
+returns-in-Ok-clause-peak g c = ok_with (λ b. b.peak) (λ n. n ≡ c.args.q.peak) c.begin_session.new.self.peak c.hand_out.result c.begin_session.ensures.peak c.hand_out.ensures.peak
+
+pub returns-in-Ok-clause-begun : goal.returns-in-Ok-clause-begun
+returns-in-Ok-clause-begun g c = ok_with (λ b. b.begun) (λ n. n ≡ c.args.q.in_heap) c.begin_session.new.self.in_heap c.hand_out.result c.in-Ok.ensures.heaps c.hand_out.ensures.begun
+
+pub returns-in-Ok-clause-runs : goal.returns-in-Ok-clause-runs
+returns-in-Ok-clause-runs g c = ok_with (λ b. b.runs) (λ n. n ≤ 64) c.begin_session.new.self.runs c.hand_out.result c.in-Ok.ensures.settled c.hand_out.ensures.runs
+
+pub returns-in-Ok-clause-limited : goal.returns-in-Ok-clause-limited
+returns-in-Ok-clause-limited g c = ok_with (λ b. b.limited) (λ n. n ≡ c.args.q.limited) c.begin_session.new.self.limited c.hand_out.result c.begin_session.ensures.limited c.hand_out.ensures.limited
+
+pub returns-in-Ok-clause-back_limited : goal.returns-in-Ok-clause-back_limited
+returns-in-Ok-clause-back_limited g c = err_with (λ e. e.0.limited ≡ c.args.q.limited) c.begin_session.new.self c.hand_out.result c.begin_session.ensures.limited c.hand_out.ensures.back
+
+pub returns-in-Ok-clause-sizes : goal.returns-in-Ok-clause-sizes
+returns-in-Ok-clause-sizes g c = ok_with (λ b. b.sizes) (λ n. n ≡ c.args.q.sizes) c.begin_session.new.self.sizes c.hand_out.result c.begin_session.ensures.sizes c.hand_out.ensures.sizes
+
+pub returns-in-Ok-clause-refused : goal.returns-in-Ok-clause-refused
+returns-in-Ok-clause-refused g c =
+    err_with (λ e. IsBeginRefusal c.args.q e.0 e.1) c.begin_session.new.self c.hand_out.result (record { bag = c.in-Ok.ensures.bag; sound = c.in-Ok.ensures.sound }) c.hand_out.ensures.back
+
+pub returns-in-Ok-clause-latched : goal.returns-in-Ok-clause-latched
+returns-in-Ok-clause-latched g c = λ number latched. let said = (c.begin_session.ensures.latched number latched).0 in cc
+
+pub returns-in-Ok-clause-back_slots : goal.returns-in-Ok-clause-back_slots
+returns-in-Ok-clause-back_slots g c = err_with (λ e. SameSlots c.args.q.slots e.0.slots) c.begin_session.new.self c.hand_out.result c.begin_session.ensures.slots c.hand_out.ensures.back
+
+pub returns-in-Ok-clause-back_tells : goal.returns-in-Ok-clause-back_tells
+returns-in-Ok-clause-back_tells g c = err_with (λ e. AllTell c.args.q.slots → AllTell e.0.slots) c.begin_session.new.self c.hand_out.result c.begin_session.ensures.tells c.hand_out.ensures.back
+
+pub returns-in-Ok-clause-back_writes : goal.returns-in-Ok-clause-back_writes
+returns-in-Ok-clause-back_writes g c = err_with (λ e. all_writes c.args.q.slots ≤ all_writes e.0.slots) c.begin_session.new.self c.hand_out.result c.begin_session.ensures.writes c.hand_out.ensures.back
+
+pub returns-in-Ok-clause-back_size : goal.returns-in-Ok-clause-back_size
+returns-in-Ok-clause-back_size g c = err_with (λ e. e.0.size ≡ c.args.q.size) c.begin_session.new.self c.hand_out.result c.begin_session.ensures.size c.hand_out.ensures.back
+
+pub returns-in-Ok-clause-back_peak : goal.returns-in-Ok-clause-back_peak
+returns-in-Ok-clause-back_peak g c = err_with (λ e. e.0.peak ≡ c.args.q.peak) c.begin_session.new.self c.hand_out.result c.begin_session.ensures.peak c.hand_out.ensures.back
+
+pub returns-in-Ok-clause-back_sizes : goal.returns-in-Ok-clause-back_sizes
+returns-in-Ok-clause-back_sizes g c = err_with (λ e. e.0.sizes ≡ c.args.q.sizes) c.begin_session.new.self c.hand_out.result c.begin_session.ensures.sizes c.hand_out.ensures.back
+
+pub returns-in-Err-NoFreeBlock-clause-latched : goal.returns-in-Err-NoFreeBlock-clause-latched
+returns-in-Err-NoFreeBlock-clause-latched g c = λ number latched. let said = (c.begin_session.ensures.latched number latched).0 in cc
+
+pub returns-in-Err-Device-clause-refused : goal.returns-in-Err-Device-clause-refused
+returns-in-Err-Device-clause-refused g c =
+    let new = c.begin_session.new.self in
+    let arm = c.in-Err-Device in
+    let stopped : HasStopped arm.number new = subst (IsRefusal c.args.q new) arm.field-0-is arm.ensures.refused in
+    subst (λ (n : ℕ). HasStopped n new) (sym arm.number-is) stopped
+
+pub returns-in-Err-Device-clause-latched : goal.returns-in-Err-Device-clause-latched
+returns-in-Err-Device-clause-latched g c = λ number latched.
+    let said = c.begin_session.ensures.latched number latched in
+    let same : c.in-Err-Device.number ≡ number = cc in
+    let refusal : Holding g.row.R.Denot → ℕ → Begins g.row.S.Denot g.row.R.Denot = λ queue n. Err (queue, Device n) in
+    ap₂ refusal said.1 (c.in-Err-Device.number-is ∙ same)

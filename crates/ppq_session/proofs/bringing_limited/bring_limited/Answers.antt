@@ -1,0 +1,66 @@
+use Rattle.std.proofs.Common.{◌≡◌, ◌+◌, ◌++◌, ◌∷◌, ◌∙◌, [], All, length, reverse, ap, sym, subst, refl, arith, length-append}
+use Rattle.std.proofs.lemmas.List.{length-map}
+use Rattle.std.proofs.lemmas.List.Elements.{All-head}
+use Rattle.ppq_pass.proofs.ppq_array.Noted.{all_left, all_right}
+use Rattle.ppq_session.specs.Limited.{LimitHolding}
+use Rattle.ppq_session.specs.Passes.{pass_of}
+use Rattle.ppq_session.proofs.Emptying.{nothing as no_list}
+use Rattle.ppq_session.specs.Bringing.{BroughtAll, IsShareOf}
+use Rattle.ppq_session.proofs.CameBack.{Came, Limited, passes_of, came-none, came-more}
+use Rattle.ppq_session.proofs.bringing_limited.bring_limited.Goals as goal
+
+pub bringing-init : goal.bringing-init
+bringing-init g c = record {
+  came = came-none g.S.Slot.shown g.R.Record.record_of g.R.Record.WIDTH c.args.parts.now.sizes g.R.Ord.cmp c.args.passes.items c.args.parts.now;
+  of = c.requires.of;
+  room = refl;
+  capacity = refl;
+}
+
+pub bring-requires-clause-of : goal.bring-requires-clause-of
+bring-requires-clause-of g c = λ κs bounds.
+    let P : LimitHolding g.row.S.Denot g.row.R.Denot → Type 0 = λ p. IsShareOf c.args.shared.now c.args.parts.now.sizes p.pass in
+    let i = c.bringing.invariant in
+    let pass = c.in-Some.pass in
+    let all = subst (λ l. All P l) c.in-Some.ensures.items i.of in
+    let here = All-head P pass [] (all_right P c.pop.new.self.items (pass ∷ []) all) in
+    subst (λ n. IsShareOf c.args.shared.now n c.into_pass.result) (sym (ap (λ q. q.sizes) i.came.is.rest)) (subst (IsShareOf c.args.shared.now c.args.parts.now.sizes) (sym c.into_pass.ensures.pass) here)
+
+pub bringing-preserved : goal.bringing-preserved
+bringing-preserved g c =
+    let shown = g.S.Slot.shown in
+    let record_of = g.R.Record.record_of in
+    let width = g.R.Record.WIDTH in
+    let cmp = g.R.Ord.cmp in
+    let P : LimitHolding g.row.S.Denot g.row.R.Denot → Type 0 = λ p. IsShareOf c.args.shared.now c.args.parts.now.sizes p.pass in
+    let i = c.bringing.invariant in
+    let a = c.args.parts.now in
+    let b = c.bringing.parts in
+    let d = c.bring.new.parts in
+    let n = a.sizes in
+    let rest = c.pop.new.self.items in
+    let pass = c.in-Some.pass in
+    let e = c.in-Some.ensures.items in
+    let one = subst (λ m. BroughtAll shown record_of width m cmp (c.into_pass.result ∷ []) b d) (ap (λ q. q.sizes) i.came.is.rest) c.bring.ensures.brought in
+    let there = subst (λ l. Came shown record_of width n cmp c.args.passes.items l a b) e i.came in
+    record {
+      came = came-more shown record_of width n cmp c.args.passes.items rest pass c.into_pass.result a b d there c.into_pass.ensures.pass c.into_pass.ensures.limited one;
+      of = all_left P rest (pass ∷ []) (subst (λ l. All P l) e i.of);
+      room = omega (arith, i.room, ap length e, length-append rest (pass ∷ []), ap length one.items, length-append b.brought.items one.brought, ap length one.passes_are, length-map one.brought (pass_of shown record_of width n));
+      capacity = c.bring.ensures.capacity ∙ i.capacity;
+    }
+
+pub returns : goal.returns
+returns g c =
+    let shown = g.S.Slot.shown in
+    let record_of = g.R.Record.record_of in
+    let width = g.R.Record.WIDTH in
+    let cmp = g.R.Ord.cmp in
+    let a = c.args.parts.now in
+    let i = c.bringing.invariant.came in
+    let none : length c.bringing.passes.items ≡ 0 = omega (arith, c.in_default.ensures.cases) in
+    let all = i.parts ∙ ap (λ l. l ++ i.came) (no_list c.bringing.passes.items none) in
+    record {
+      brought = subst (λ l. BroughtAll shown record_of width a.sizes cmp (reverse (passes_of l)) a c.bringing.parts) (sym all) i.is;
+      limited = subst (All (Limited shown record_of width a.sizes cmp)) (sym all) i.limited;
+    }

@@ -1,0 +1,30 @@
+use Rattle.std.proofs.Common.{◌≡◌, ◌∙◌, ap, sym, subst}
+use Rattle.std.specs.Prelude.{◌↔◌, IsNone, count_by}
+use Rattle.ppq_pass.specs.ppq_record.Bag.{size_below}
+use Rattle.ppq_session.specs.Fronts.{least_below, without_least_below}
+use Rattle.ppq_session.proofs.Belows.{least_below-same, without_below-same, least_below-none}
+use Rattle.ppq_session.proofs.front.Front.pop.Goals as goal
+
+pub returns-clause-answer : goal.returns-clause-answer
+returns-clause-answer g c tell =
+    let laws = c.record_laws.ensures in
+    let old = c.args.self.now in
+    let new = c.ready.new.self in
+    c.take.ensures.answer (c.ready.ensures.tells tell)
+    ∙ ap (λ f. least_below g.R.Ord.cmp f.limit new.bag) c.ready.ensures.rest
+    ∙ least_below-same laws.order laws.same old.limit new.bag old.bag (c.in_ok-ready.ensures.bag tell)
+
+pub returns-clause-none : goal.returns-clause-none
+returns-clause-none g c tell =
+    let laws = c.record_laws.ensures in
+    let old = c.args.self.now in
+    subst (λ one. IsNone one ↔ (size_below g.R.Ord.cmp old.bag old.limit ≡ 0)) (sym (returns-clause-answer g c tell)) (least_below-none laws.order laws.same old.limit old.bag)
+
+pub returns-clause-left : goal.returns-clause-left
+returns-clause-left g c tell p =
+    let laws = c.record_laws.ensures in
+    let old = c.args.self.now in
+    let new = c.ready.new.self in
+    c.take.ensures.left (c.ready.ensures.tells tell) p
+    ∙ ap (λ f. count_by p (without_least_below g.R.Ord.cmp f.limit new.bag)) c.ready.ensures.rest
+    ∙ ap (count_by p) (without_below-same laws.order laws.same old.limit new.bag old.bag (c.in_ok-ready.ensures.bag tell))

@@ -1,0 +1,12 @@
+use Rattle.std.proofs.Common.{◌≡◌, ◌+◌, [], length}
+use Rattle.ppq_pass.specs.ppq_array.Run.{buffers_of}
+use Rattle.ppq_session.proofs.gather.empty_run.Given as goal
+
+abbrev pub invariant-emptying : goal.invariant-emptying
+invariant-emptying g l = record {
+  count : length l.idle + length l.run.spent ≡ length l.fn.idle + length (buffers_of l.fn.run);
+  live : l.run.live ≡ [];
+}
+
+abbrev pub decreases-emptying : goal.decreases-emptying
+decreases-emptying g l = length l.run.spent

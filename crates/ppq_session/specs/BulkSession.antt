@@ -1,0 +1,114 @@
+-- What contracts see of a bulk session.
+use Rattle.std.specs.Prelude.{◌≡◌, ℕ, ◌+◌, ◌*◌, ◌<◌, ◌≤◌, Bool, true, false, Any, List, [], ◌++◌, length, map, max, sum_by, flat_map, None, All}
+use Rattle.atomic_table.specs.Seated.{TableId}
+use Rattle.ppq_pass.specs.ppq_record.Bag.{IsSameBag}
+use Rattle.ppq_pass.specs.ppq_outside.Shown.{Shown, AllTell}
+use Rattle.ppq_pass.specs.ppq_budget.Sizes.{Numbers, heap_of, blocks_for, room_of, pool_of}
+use Rattle.ppq_pass.specs.ppq_array.declared.berth.DeviceBlock.{DeviceBlock}
+use Rattle.ppq_pass.specs.ppq_pool.Seats.{count_of}
+use Rattle.ppq_pass.specs.Passed.{PassKey, PassHolding, PassTells}
+use Rattle.ppq_pass.specs.declared.shared.Shared.{Shared}
+use Rattle.ppq_pass.specs.ppq_queue.Holding.{Holding, IsAbove, FoundNoBlock, HasStopped}
+use Rattle.ppq_pass.specs.ppq_queue.Resting.{lane_buffers}
+use Rattle.ppq_pass.specs.ppq_queue.declared.fault.QueueFault.TheVariants.{NoFreeBlock, Device}
+use Rattle.ppq_session.specs.declared.fault.BeginFault.{BeginFault}
+use Rattle.ppq_session.specs.declared.fault.BeginFault.TheVariants.{Memory, NoFreeBlock as NoBlockAtBegin, Device as DeviceAtBegin}
+use Rattle.ppq_session.specs.declared.fault.SessionEnd.{SessionEnd}
+use Rattle.ppq_session.specs.declared.fault.SessionEnd.TheVariants.{Whole, Stopped}
+
+-- What the owner of a queue keeps while passes fill it: the bag of the records of its runs, as far as its slots tell; how many records
+-- the queue had when the session began, and how many of them are in the heaps, which the passes have; how many runs in blocks there are;
+-- its sizes; the greatest size so far; whether a limit session was begun; all slots of the queue, those of the runs and those that were
+-- put into the row; how many buffers of a block it has; the row with those slots, and the pool; and a batch of records to be dealt
+pub record BulkHolding (S R : Type 0) : Type 0 where
+  pub bag : List R
+  pub size : ℕ
+  pub begun : ℕ
+  pub runs : ℕ
+  pub sizes : Numbers
+  pub peak : ℕ
+  pub limited : Bool
+  pub slots : List Shown
+  pub buffers : ℕ
+  pub row : TableId
+  pub items : List (DeviceBlock S R)
+  pub pool : TableId
+  pub batch : List R
+
+-- With so many buffers at the owner, two at each pass and those of the pool, there are just the buffers of the budget: those that blocks are
+-- written from and merged by, and those of the pool
+abbrev pub HasBuffers : Numbers → ℕ → TableId → Type 0
+HasBuffers sizes owned pool = owned + 2 * sizes.workers + count_of pool ≡ lane_buffers sizes + pool_of sizes
+
+module _ {R : Type 0} where
+  -- The queue as it was, in another order at most
+  pub record IsIntact (old new : Holding R) : Type 0 where
+    pub bag : AllTell old.slots → IsSameBag new.bag old.bag
+    pub sound : new.failed ≡ None
+
+  -- why a session did not begin, and what it left
+  abbrev pub IsBeginRefusal : Holding R → Holding R → BeginFault → Type 0
+  IsBeginRefusal old new Memory = IsIntact old new
+  IsBeginRefusal old new NoBlockAtBegin = FoundNoBlock old new
+  IsBeginRefusal old new (DeviceAtBegin number) = HasStopped number new
+
+  -- No block was free for a merge of levels: the device has fewer blocks than are enough for the peak, which is above what one heap holds,
+  -- unless a limit session was begun
+  pub record HasNoBlock (queue : Holding R) : Type 0 where
+    pub free : queue.free < max (8 + queue.sizes.workers) (blocks_for queue.sizes queue.size)
+    pub room : queue.sizes.blocks < room_of queue.sizes queue.peak
+    pub above : IsAbove queue.sizes queue.peak queue.limited
+
+module _ {S R : Type 0} where
+  -- the keys of passes, which no push changes
+  abbrev pub keys_of : List (PassHolding S R) → List (PassKey S R)
+  keys_of passes = map (λ p. p.key) passes
+
+  -- the records of passes
+  abbrev pub bag_of : List (PassHolding S R) → List R
+  bag_of passes = flat_map (λ p. p.bag) passes
+
+  -- how many records passes accepted
+  abbrev pub accepted_of : List (PassHolding S R) → ℕ
+  accepted_of passes = sum_by (λ p. p.accepted) passes
+
+  -- the key of a pass of the session that began with so many records
+  abbrev pub pass_key : BulkHolding S R → ℕ → PassKey S R
+  pass_key bulk begun =
+      record { row = bulk.row; pool = bulk.pool; items = bulk.items; row_shares = 1; pool_shares = 1; sizes = bulk.sizes; begun = begun }
+
+  -- these are the keys of all passes of the session
+  pub record AreOf (bulk : BulkHolding S R) (keys : List (PassKey S R)) : Type 0 where
+    pub count : length keys ≡ bulk.sizes.workers
+    pub each : All (λ (k : PassKey S R). k ≡ pass_key bulk k.begun) keys
+    pub begun : sum_by (λ k. k.begun) keys ≡ bulk.begun
+
+  -- what all passes of the session share
+  abbrev pub shared_by : BulkHolding S R → Shared S R
+  shared_by bulk = record { row = bulk.row; pool = bulk.pool }
+
+  -- A pass to which nothing was pushed yet. It holds two buffers, and none of the pool
+  pub record IsFresh (pass : PassHolding S R) : Type 0 where
+    pub buffers : pass.buffers ≡ 2
+    pub numbers : pass.numbers ≡ []
+    pub accepted : pass.accepted ≡ 0
+    pub refused : pass.refused ≡ false
+    pub failed : pass.failed ≡ None
+
+  module _ (shown : S → Shown) where
+    -- The queue has all records of the bulk and of its passes, where their slots tell, and counts them; no call of a slot failed
+    pub record IsTogether (bulk : BulkHolding S R) (passes : List (PassHolding S R)) (queue : Holding R) : Type 0 where
+      pub bag : AllTell bulk.slots → All (PassTells shown) passes → IsSameBag queue.bag (bulk.bag ++ bag_of passes)
+      pub size : queue.size ≡ bulk.size + accepted_of passes
+      pub peak : queue.peak ≡ max bulk.peak queue.size
+      pub sound : queue.failed ≡ None
+      pub limited : queue.limited ≡ bulk.limited
+      pub no_fault : All (λ (p : PassHolding S R). p.failed ≡ None) passes
+      -- where a push was refused for want of blocks, the device has fewer than are enough for the peak
+      pub short : Any (λ (p : PassHolding S R). p.refused ≡ true) passes → (bulk.sizes.blocks < room_of bulk.sizes queue.peak) × (heap_of bulk.sizes ≤ queue.size)
+
+  -- how a session ended, and what the queue has then
+  abbrev pub EndsIn : (S → Shown) → BulkHolding S R → List (PassHolding S R) → Holding R → SessionEnd → Type 0
+  EndsIn shown bulk passes queue Whole = IsTogether shown bulk passes queue
+  EndsIn shown bulk passes queue (Stopped NoFreeBlock) = IsTogether shown bulk passes queue × HasNoBlock queue
+  EndsIn shown bulk passes queue (Stopped (Device number)) = HasStopped number queue

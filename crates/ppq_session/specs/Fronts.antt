@@ -1,0 +1,66 @@
+-- What contracts see of a front, and what its calls take of it.
+use Rattle.std.specs.Prelude.{◌≡◌, ◌++◌, ℕ, min, List, Option, Some, None}
+use Rattle.std.specs.declared.cmp.Ordering.{Ordering}
+use Rattle.atomic_table.specs.Seated.{TableId}
+use Rattle.ppq_pass.specs.ppq_record.Bag.{IsSameBag, first_of, front, without_front, size_below}
+use Rattle.ppq_pass.specs.ppq_outside.Shown.{Shown, AllTell}
+use Rattle.ppq_pass.specs.ppq_budget.Sizes.{Numbers}
+use Rattle.ppq_pass.specs.ppq_array.Kept.{HasFailed}
+use Rattle.ppq_pass.specs.ppq_array.declared.berth.DeviceBlock.{DeviceBlock}
+use Rattle.ppq_pass.specs.ppq_fetch.Taking.{NoneBelow}
+use Rattle.ppq_pass.specs.ppq_queue.declared.fault.QueueFault.{QueueFault}
+use Rattle.ppq_pass.specs.ppq_queue.declared.fault.QueueFault.TheVariants.{NoFreeBlock, Device}
+
+-- The bag of its records, as far as its slots tell, and the limit; how many records it counts, and how many it gave; its sizes; the
+-- greatest size of the queue when the session began; all slots, those of its runs, those that it freed and those that were put into the
+-- row; how many buffers of a block it has, idle ones too; how many records its extract buffer has; the row with the slots that were put into it, and the pool; and the number of the slot a
+-- call of which failed first, if any
+pub record FrontHolding (S R : Type 0) : Type 0 where
+  pub bag : List R
+  pub limit : R
+  pub size : ℕ
+  pub popped : ℕ
+  pub sizes : Numbers
+  pub peak : ℕ
+  pub slots : List Shown
+  pub buffers : ℕ
+  pub in_extract : ℕ
+  pub row : TableId
+  pub items : List (DeviceBlock S R)
+  pub pool : TableId
+  pub failed : Option ℕ
+
+module _ {R : Type 0} (cmp : R → R → Ordering) (limit : R) where
+  -- the least record of a bag that is below the limit, and none where none is below it
+  abbrev pub least_below : List R → Option R
+  least_below bag = first_of (front cmp bag (min 1 (size_below cmp bag limit)))
+
+  -- the bag without that record
+  abbrev pub without_least_below : List R → List R
+  without_least_below bag = without_front cmp bag (min 1 (size_below cmp bag limit))
+
+  -- Other records stand back beside a bag: of all together the least record below the limit is that of the bag, without it the others stay,
+  -- and as many are below the limit as are in the bag
+  pub record StandBack (bag others : List R) : Type 0 where
+    pub least : least_below (bag ++ others) ≡ least_below bag
+    pub left : IsSameBag (without_least_below (bag ++ others)) (without_least_below bag ++ others)
+    pub size : size_below cmp (bag ++ others) limit ≡ size_below cmp bag limit
+
+-- records that are not below a limit stand back beside any bag
+abbrev pub HighStandBack : {R : Type 0} → (R → R → Ordering) → Type 0
+HighStandBack {R} cmp = (limit : R) (bag others : List R) → NoneBelow cmp (Some limit) others → StandBack cmp limit bag others
+
+-- how many records an answer has
+abbrev pub number_in : {R : Type 0} → Option R → ℕ
+number_in None = 0
+number_in (Some r) = 1
+
+module _ {S R : Type 0} where
+  -- the extract buffer is empty only if no record below the limit is left, where slots tell
+  abbrev pub IsReady : (R → R → Ordering) → FrontHolding S R → Type 0
+  IsReady cmp front = front.in_extract ≡ 0 → AllTell front.slots → NoneBelow cmp (Some front.limit) front.bag
+
+  -- A call of the slot with this number failed, now or before, and the front keeps that number. No front wants a free block
+  abbrev pub IsFrontRefusal : FrontHolding S R → QueueFault → Type 0
+  IsFrontRefusal front NoFreeBlock = ⊥
+  IsFrontRefusal front (Device number) = HasFailed number front.slots × (front.failed ≡ Some number)

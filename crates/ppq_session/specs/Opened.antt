@@ -1,0 +1,52 @@
+-- A session that begins.
+use Rattle.std.specs.Prelude.{◌≡◌, ℕ, [], List, ◌++◌, length, None, All}
+use Rattle.std.specs.declared.cmp.Ordering.{Ordering}
+use Rattle.ppq_pass.specs.ppq_record.Bag.{IsSameBag}
+use Rattle.ppq_pass.specs.ppq_outside.Shown.{Shown}
+use Rattle.ppq_pass.specs.ppq_heap.Heaps.{items_of, share_at}
+use Rattle.ppq_pass.specs.ppq_array.Supply.{Stock}
+use Rattle.ppq_pass.specs.ppq_array.Owner.{slots_shown}
+use Rattle.ppq_pass.specs.ppq_array.Holdings.{external_slots}
+use Rattle.ppq_pass.specs.Passed.{PassHolding}
+use Rattle.ppq_pass.specs.declared.shared.Shared.{Shared}
+use Rattle.ppq_pass.specs.ppq_queue.Resting.{runs_bag}
+use Rattle.ppq_pass.specs.ppq_queue.Handed.{IsWhole}
+use Rattle.ppq_pass.specs.ppq_queue.declared.queue_parts.QueueParts.{QueueParts}
+use Rattle.ppq_session.specs.BulkSession.{BulkHolding, HasBuffers, AreOf, IsFresh, keys_of, bag_of, shared_by}
+use Rattle.ppq_session.specs.Equipped.{HasBegun, first_begun}
+use Rattle.ppq_session.specs.Shares.{bare, IsFirst}
+use Rattle.ppq_session.specs.declared.share.Session.{Session}
+
+module _ {S R : Type 0} where
+  -- the pass has drawn no slot
+  abbrev pub HoldsNoSlot : PassHolding S R → Type 0
+  HoldsNoSlot pass = pass.slots ≡ []
+
+  module _ (shown : S → Shown) where
+    -- with the free slots and the idle buffers that the session shares, the parts make a sound queue with an empty extract buffer
+    pub record IsOpened (cmp : R → R → Ordering) (record_of : List ℕ → R) (width : ℕ) (q : QueueParts S R) (s : Session S R) : Type 0 where
+      pub before : Stock
+      pub out : q.supply ≡ bare before
+      pub first : IsFirst shown width before s
+      pub whole : IsWhole shown cmp record_of width (record q { supply = before })
+      pub sound : q.failed ≡ None
+      pub extract : q.extract.items ≡ []
+
+    -- the passes have the records of the heaps, and what stays has those of the runs
+    pub record HandedOut (record_of : List ℕ → R) (width : ℕ) (q : QueueParts S R) (s : Session S R) (bulk : BulkHolding S R) (shared : Shared S R) (passes : List (PassHolding S R)) : Type 0 where
+      pub of : AreOf bulk (keys_of passes)
+      pub shared_is : shared ≡ shared_by bulk
+      pub fresh : All IsFresh passes
+      pub no_slots : All HoldsNoSlot passes
+      pub whole : All HasBegun passes
+      pub begun : bulk.begun ≡ length (items_of q.heaps)
+      pub first : first_begun passes ≡ length (share_at q.heaps 0)
+      pub runs : bulk.runs ≡ length q.body.runs.external.items
+      pub bag : IsSameBag (bulk.bag ++ bag_of passes) (items_of q.heaps ++ runs_bag shown record_of width q.body)
+      pub slots : bulk.slots ≡ external_slots shown q.body.runs.external.items ++ slots_shown shown s.row_seat.hand.items
+      pub items : bulk.items ≡ s.row_seat.hand.items
+      pub buffers : HasBuffers bulk.sizes bulk.buffers bulk.pool
+      pub size : bulk.size ≡ q.count
+      pub peak : bulk.peak ≡ q.peak
+      pub limited : bulk.limited ≡ q.limited
+      pub sizes : bulk.sizes ≡ q.sizes

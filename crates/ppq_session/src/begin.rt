@@ -1,0 +1,191 @@
+//! The beginning of a session.
+ghost use Rattle.std.specs.Prelude.{◌≡◌, ◌≤◌, ◌+◌, ◌/◌, ℕ, [], ◌++◌, length, All, Some, None, Err, IfOk, IfErr, vec_capacity};
+ghost use Rattle.ppq_pass.specs.ppq_record.Bag.{IsSameBag};
+ghost use Rattle.ppq_pass.specs.ppq_outside.Shown.{AllTell};
+ghost use Rattle.ppq_pass.specs.ppq_array.Kept.{SameSlots, all_writes};
+ghost use Rattle.ppq_pass.specs.Passed.{PassTells, IsOf};
+ghost use Rattle.ppq_session.specs.BulkSession.{AreOf, HasBuffers, IsFresh, IsBeginRefusal, keys_of, bag_of, shared_by};
+ghost use Rattle.ppq_session.specs.declared.fault.BeginFault.TheVariants.{Memory, Device};
+ghost use Rattle.ppq_session.specs.Equipped.{HasBegun, first_begun};
+ghost use Rattle.ppq_session.specs.Opened.{IsOpened, HandedOut, HoldsNoSlot};
+ghost use Rattle.ppq_session.specs.Outfits.{IsOutfit};
+ghost use Rattle.ppq_pass.specs.ppq_pool.Seats.{count_of};
+ghost use Rattle.ppq_pass.specs.ppq_budget.Sizes.{pool_of};
+ghost use Rattle.ppq_pass.specs.ppq_array.Owner.{slots_shown};
+
+use crate::equip::equip;
+use crate::outfit::Outfit;
+use crate::share::{Session, share};
+use crate::stores::{Stores, make_stores};
+use crate::{BeginFault, Brought, Bulk, BulkParts, Pass, Shared};
+use ppq_pass::{Gate, Host, Queue, QueueFault, QueueParts, Record, Slot};
+use std::alloc::Global;
+
+/// Begins a bulk session. Returns what stays of the queue, what all passes share, and a pass for each
+/// worker.
+///
+/// The rest of the extract buffer is stored as a run first, and levels are merged; where few buffers of the
+/// pool are idle then, runs in buffers are merged into one run in blocks. Each pass begins with
+/// the records of its worker's heap. It allocates what the passes keep, and they do not allocate later.
+///
+/// A session is to be ended with all its passes: what is dropped before takes its blocks and records along.
+///
+/// Each refusal hands the queue back. `Memory` and `NoFreeBlock`: its multiset is as it was. `Device`: the
+/// block with that number failed, now or before.
+pub fn bulk_begin<H: Host, S: Slot + Send + Sync, R: Record + Send + Sync, G: Gate>(
+    rt: &H,
+    alloc: Global,
+    q: Queue<S, R>,
+    gate: &G,
+) -> Result<(Bulk<S, R>, Shared<S, R>, Vec<Pass<S, R>>), (Queue<S, R>, BeginFault)>
+where
+    H::Dir: Send,
+    ensures of { IfOk result (λ r. AreOf r.0 (keys_of r.2.items)) }
+    ensures shared { IfOk result (λ r. r.1 ≡ shared_by r.0) }
+    ensures passes { IfOk result (λ r. All (IsOf r.1) r.2.items) }
+    ensures fresh { IfOk result (λ r. All IsFresh r.2.items) }
+    ensures no_slots { IfOk result (λ r. All HoldsNoSlot r.2.items) }
+    ensures whole { IfOk result (λ r. All HasBegun r.2.items) }
+    ensures begun { IfOk result (λ r. r.0.begun ≡ q.in_heap) }
+    ensures runs { IfOk result (λ r. r.0.runs ≤ 64) }
+    ensures buffers { IfOk result (λ r. HasBuffers r.0.sizes r.0.buffers r.0.pool) }
+    ensures bag { IfOk result (λ r. AllTell q.slots → IsSameBag (r.0.bag ++ bag_of r.2.items) q.bag) }
+    ensures slots { IfOk result (λ r. SameSlots q.slots r.0.slots) }
+    ensures tells { IfOk result (λ r. AllTell q.slots → AllTell r.0.slots × All (PassTells S.shown) r.2.items) }
+    ensures writes { IfOk result (λ r. all_writes q.slots ≤ all_writes r.0.slots) }
+    ensures size { IfOk result (λ r. r.0.size ≡ q.size) }
+    ensures peak { IfOk result (λ r. r.0.peak ≡ q.peak) }
+    ensures limited { IfOk result (λ r. r.0.limited ≡ q.limited) }
+    ensures sizes { IfOk result (λ r. r.0.sizes ≡ q.sizes) }
+    ensures refused { IfErr result (λ e. IsBeginRefusal q e.0 e.1) }
+    ensures latched { (number : ℕ) → q.failed ≡ Some number → result ≡ Err (q, Device number) }
+    ensures back_slots { IfErr result (λ e. SameSlots q.slots e.0.slots) }
+    ensures back_tells { IfErr result (λ e. AllTell q.slots → AllTell e.0.slots) }
+    ensures back_writes { IfErr result (λ e. all_writes q.slots ≤ all_writes e.0.slots) }
+    ensures back_size { IfErr result (λ e. e.0.size ≡ q.size) }
+    ensures back_peak { IfErr result (λ e. e.0.peak ≡ q.peak) }
+    ensures back_limited { IfErr result (λ e. e.0.limited ≡ q.limited) }
+    ensures back_sizes { IfErr result (λ e. e.0.sizes ≡ q.sizes) }
+{
+    let mut q = q;
+    match q.begin_session(rt, true, gate) {
+        Ok(()) => hand_out(alloc, q),
+        Err(QueueFault::NoFreeBlock) => Err((q, BeginFault::NoFreeBlock)),
+        Err(QueueFault::Device { number }) => Err((q, BeginFault::Device { number })),
+    }
+}
+
+/// Begins a session of a queue whose extract buffer is empty, with its runs as they are. The passes have
+/// the queue's heaps in their order. `Err` hands the queue back as it was; it is returned only if an
+/// allocation failed.
+pub fn hand_out<S: Slot + Send + Sync, R: Record + Send + Sync>(
+    alloc: Global,
+    q: Queue<S, R>,
+) -> Result<(Bulk<S, R>, Shared<S, R>, Vec<Pass<S, R>>), (Queue<S, R>, BeginFault)>
+    requires sound { q.failed ≡ None }
+    requires emptied { q.in_extract ≡ 0 }
+    ensures of { IfOk result (λ r. AreOf r.0 (keys_of r.2.items)) }
+    ensures shared { IfOk result (λ r. r.1 ≡ shared_by r.0) }
+    ensures fresh { IfOk result (λ r. All IsFresh r.2.items) }
+    ensures no_slots { IfOk result (λ r. All HoldsNoSlot r.2.items) }
+    ensures whole { IfOk result (λ r. All HasBegun r.2.items) }
+    ensures begun { IfOk result (λ r. r.0.begun ≡ q.in_heap) }
+    ensures first { IfOk result (λ r. first_begun r.2.items ≡ q.in_first) }
+    ensures runs { IfOk result (λ r. r.0.runs ≡ q.runs) }
+    ensures buffers { IfOk result (λ r. HasBuffers r.0.sizes r.0.buffers r.0.pool) }
+    ensures bag { IfOk result (λ r. IsSameBag (r.0.bag ++ bag_of r.2.items) q.bag) }
+    ensures slots { IfOk result (λ r. r.0.slots ≡ q.slots) }
+    ensures items { IfOk result (λ r. AllTell q.slots → AllTell (slots_shown S.shown r.0.items)) }
+    ensures size { IfOk result (λ r. r.0.size ≡ q.size) }
+    ensures peak { IfOk result (λ r. r.0.peak ≡ q.peak) }
+    ensures limited { IfOk result (λ r. r.0.limited ≡ q.limited) }
+    ensures sizes { IfOk result (λ r. r.0.sizes ≡ q.sizes) }
+    ensures back { IfErr result (λ e. e ≡ (q, Memory)) }
+{
+    let mut parts = q.into_parts();
+    let free = parts.supply.free_slots();
+    let idle = parts.supply.idle_buffers();
+    let Ok(stores) = make_stores(alloc, &parts.sizes, free, idle) else {
+        return Err((Queue::from_parts(parts), BeginFault::Memory));
+    };
+    let Stores {
+        slots,
+        buffers,
+        outfits,
+        passes,
+        brought,
+    } = stores;
+    match share(alloc, &mut parts.supply, slots, buffers) {
+        Ok(session) => Ok(deal_out(parts, session, outfits, passes, brought)),
+        Err(_) => Err((Queue::from_parts(parts), BeginFault::Memory)),
+    }
+}
+
+// A pass for each heap, and what stays, of the parts of a queue whose free slots and idle buffers are
+// out.
+fn deal_out<S: Slot + Send + Sync, R: Record + Send + Sync>(
+    parts: QueueParts<S, R>,
+    session: Session<S, R>,
+    outfits: Vec<Outfit<S, R>>,
+    passes: Vec<Pass<S, R>>,
+    brought: Vec<Brought<S, R>>,
+) -> (Bulk<S, R>, Shared<S, R>, Vec<Pass<S, R>>)
+    requires opened { IsOpened S.shown R.Ord.cmp R.record_of R.WIDTH parts session }
+    requires outfits { length outfits.items ≡ parts.sizes.workers }
+    requires each { All (IsOutfit (pool_of parts.sizes / parts.sizes.heap + 1) (parts.sizes.blocks / parts.sizes.heap + 1) (count_of session.pool_seat.pool)) outfits.items }
+    requires no_pass { passes.items ≡ [] }
+    requires passes_room { parts.sizes.workers ≤ vec_capacity passes }
+    requires none_brought { brought.items ≡ [] }
+    requires brought_room { parts.sizes.workers ≤ vec_capacity brought }
+    ensures { HandedOut S.shown R.record_of R.WIDTH parts session result.0 result.1 result.2.items }
+{
+    let QueueParts {
+        sizes,
+        heaps,
+        body,
+        supply,
+        extract,
+        sources,
+        count,
+        peak,
+        failed: _,
+        limited,
+        slots,
+    } = parts;
+    let mut body = body;
+    let mut session = session;
+    let mut passes = passes;
+    let (mut heaps, tree) = heaps.into_parts();
+    // the last heap of the list gets the first pass
+    heaps.reverse();
+    equip(
+        sizes,
+        &mut heaps,
+        outfits,
+        &mut body.lanes.idle,
+        &mut session,
+        &mut passes,
+    );
+    let Session {
+        shared,
+        row_seat,
+        pool_seat,
+    } = session;
+    let bulk = Bulk::of(BulkParts {
+        sizes,
+        heaps,
+        tree,
+        body,
+        supply,
+        extract,
+        sources,
+        count,
+        peak,
+        limited,
+        slots,
+        row_seat,
+        pool_seat,
+        brought,
+    });
+    (bulk, shared, passes)
+}

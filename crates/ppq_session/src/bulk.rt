@@ -1,0 +1,73 @@
+//! What the owner of a queue keeps while a session is on.
+ghost use Rattle.std.specs.Prelude.{◌≡◌, ◌<◌, ◌*◌, length, slice_set};
+ghost use Rattle.ppq_pass.specs.ppq_budget.Sizes.{AreInRange, batch_of};
+ghost use Rattle.ppq_session.specs.State.{bulk_holding, IsBulk};
+
+use crate::BulkParts;
+use ppq_pass::{Record, Slot};
+use std::marker::Model;
+
+/// What the owner of a queue keeps while a bulk session is on: the runs that were there, and a batch of
+/// `p * B` records, to be filled and dealt to the passes.
+///
+/// Contracts see the multiset of its records, how many the queue had when the session began, all that tells
+/// which passes are of this session, and the batch.
+#[derive(Drop)]
+pub struct Bulk<S: Slot + Send + Sync, R: Record + Send + Sync> {
+    parts: BulkParts<S, R>,
+}
+
+impl<S: Slot + Send + Sync, R: Record + Send + Sync> Model for Bulk<S, R> {
+    ghost use Rattle.ppq_session.specs.BulkSession.{BulkHolding};
+    ghost use Rattle.ppq_session.specs.State.{bulk_holding, IsBulk};
+
+    ghost Value = { BulkHolding S R };
+
+    ghost view = { λ b. bulk_holding S.shown R.record_of R.WIDTH b.parts };
+
+    ghost invariant = { λ b. IsBulk S.shown R.Ord.cmp R.record_of R.WIDTH b.parts };
+}
+
+impl<S: Slot + Send + Sync, R: Record + Send + Sync> Bulk<S, R> {
+    // A bulk of these parts.
+    pub(crate) fn of(parts: BulkParts<S, R>) -> Self
+        requires { IsBulk S.shown R.Ord.cmp R.record_of R.WIDTH parts }
+        ensures { result ≡ bulk_holding S.shown R.record_of R.WIDTH parts }
+    {
+        Bulk { parts }
+    }
+
+    /// Its parts.
+    pub fn into_parts(self) -> BulkParts<S, R>
+        ensures whole { IsBulk S.shown R.Ord.cmp R.record_of R.WIDTH result }
+        ensures shows { bulk_holding S.shown R.record_of R.WIDTH result ≡ self }
+    {
+        self.parts
+    }
+
+    /// What holds of every bulk, as a clause for the proof of whoever calls it. It does nothing.
+    #[inline]
+    pub fn known(&self)
+        ensures range { AreInRange self.now.sizes }
+    {
+        let _batch = self.parts.body.lanes.batch.len();
+    }
+
+    /// The batch: `p * B` records. What stands in it at the beginning has no meaning.
+    #[inline]
+    pub fn batch(&self) -> &[R]
+        ensures items { result.now ≡ self.now.batch }
+        ensures length { length result.now ≡ batch_of self.now.sizes }
+    {
+        self.parts.body.lanes.batch.as_slice()
+    }
+
+    /// Writes a record to a place of the batch.
+    #[inline]
+    pub fn put(&mut self, place: u32, r: R)
+        requires { place < batch_of self.old.sizes }
+        ensures { self.new ≡ record self.old { batch = slice_set self.old.batch place r } }
+    {
+        self.parts.body.lanes.batch[place as usize] = r;
+    }
+}

@@ -1,0 +1,194 @@
+//! Passes that are put into the parts of a queue.
+ghost use Rattle.std.specs.Prelude.{◌≡◌, ◌≤◌, ◌<◌, ◌+◌, ◌-◌, ◌*◌, ◌^◌, ◌++◌, [], ◌∷◌, length, reverse, All, List, None, vec_capacity};
+ghost use Rattle.ppq_pass.specs.ppq_record.Bag.{IsSameBag};
+ghost use Rattle.ppq_pass.specs.ppq_outside.Shown.{Shown};
+ghost use Rattle.ppq_pass.specs.ppq_array.Owner.{slots_shown};
+ghost use Rattle.ppq_pass.specs.ppq_array.Holdings.{ArrayHasSize, internal_buffers, external_buffers, external_slots};
+ghost use Rattle.ppq_pass.specs.ppq_array.Run.{buffers_of};
+ghost use Rattle.ppq_pass.specs.ppq_queue.Slots.{SameSums, with_slots};
+ghost use Rattle.ppq_session.specs.Gathering.{IsGathered, gathered_bag, accepted_in};
+
+use crate::Brought;
+use crate::closed::Closed;
+use crate::moving::{free_all, move_all, move_buffers};
+use ppq_pass::{
+    BufList, ExternalArray, InternalArray, OwnerLists, PassBody, Record, Slot, free_slot,
+};
+
+/// Puts all passes that came back into the parts of the queue.
+pub fn gather_all<S: Slot + Send + Sync, R: Record + Send + Sync>(c: &mut Closed<S, R>)
+    requires { (slots : List Shown) × (items : List Shown) × IsGathered S.shown R.Ord.cmp R.record_of R.WIDTH slots items c.old c.old.brought.items }
+    ensures gathered { (slots items : List Shown) → IsGathered S.shown R.Ord.cmp R.record_of R.WIDTH slots items c.old c.old.brought.items → IsGathered S.shown R.Ord.cmp R.record_of R.WIDTH slots items c.new [] }
+    ensures bag { c.new.failed ≡ None → IsSameBag (gathered_bag S.shown R.Ord.cmp R.record_of R.WIDTH c.new []) (gathered_bag S.shown R.Ord.cmp R.record_of R.WIDTH c.old c.old.brought.items) }
+    ensures failed { c.new.failed ≡ None → (c.old.failed ≡ None) × All (λ one. one.failed ≡ None) c.old.brought.items }
+    ensures size { c.new.failed ≡ None → c.new.count ≡ c.old.count + accepted_in S.shown c.old.brought.items }
+    ensures same { (c.new.sizes ≡ c.old.sizes) × (c.new.peak ≡ c.old.peak) }
+    ensures limited { c.new.limited ≡ c.old.limited }
+{
+    'gathering: while let Some(one) = c.brought.pop() {
+        gather(c, one);
+    }
+}
+
+// Puts a pass into the parts of the queue.
+fn gather<S: Slot + Send + Sync, R: Record + Send + Sync>(c: &mut Closed<S, R>, one: Brought<S, R>)
+    requires { (slots : List Shown) × (items : List Shown) × IsGathered S.shown R.Ord.cmp R.record_of R.WIDTH slots items c.old (c.old.brought.items ++ one ∷ []) }
+    ensures gathered { (slots items : List Shown) → IsGathered S.shown R.Ord.cmp R.record_of R.WIDTH slots items c.old (c.old.brought.items ++ one ∷ []) → IsGathered S.shown R.Ord.cmp R.record_of R.WIDTH slots items c.new c.old.brought.items }
+    ensures bag { c.new.failed ≡ None → IsSameBag (gathered_bag S.shown R.Ord.cmp R.record_of R.WIDTH c.new c.old.brought.items) (gathered_bag S.shown R.Ord.cmp R.record_of R.WIDTH c.old (c.old.brought.items ++ one ∷ [])) }
+    ensures failed { c.new.failed ≡ None → (c.old.failed ≡ None) × (one.failed ≡ None) }
+    ensures size { c.new.failed ≡ None → c.new.count ≡ c.old.count + one.accepted }
+    ensures same { (c.new.sizes ≡ c.old.sizes) × (c.new.peak ≡ c.old.peak) × (c.new.brought ≡ c.old.brought) }
+    ensures limited { c.new.limited ≡ c.old.limited }
+{
+    let Brought {
+        heap,
+        body,
+        stash,
+        accepted,
+        failed,
+        ..
+    } = one;
+    c.heaps.push_reserved(heap);
+    free_all(&mut c.supply, stash);
+    c.count = c.count.saturating_add(accepted);
+    c.failed = c.failed.or(failed);
+    match c.failed {
+        None => adopt(&mut c.body, body),
+        Some(_) => dissolve(body, &mut c.body.lanes.idle, &mut c.supply),
+    }
+}
+
+// Moves the runs and the idle buffers of a body to another.
+fn adopt<S: Slot + Send + Sync, R: Record + Send + Sync>(
+    to: &mut PassBody<S, R>,
+    from: PassBody<S, R>,
+)
+    requires internal { length to.old.runs.internal.items + length from.runs.internal.items ≤ vec_capacity to.old.runs.internal }
+    requires external { length to.old.runs.external.items + length from.runs.external.items ≤ vec_capacity to.old.runs.external }
+    requires few { length to.old.lanes.idle + length from.lanes.idle < 2 ^ 32 - 1 }
+    ensures internal { to.new.runs.internal.items ≡ to.old.runs.internal.items ++ reverse from.runs.internal.items }
+    ensures internal_room { vec_capacity to.new.runs.internal ≡ vec_capacity to.old.runs.internal }
+    ensures external { to.new.runs.external.items ≡ to.old.runs.external.items ++ reverse from.runs.external.items }
+    ensures external_room { vec_capacity to.new.runs.external ≡ vec_capacity to.old.runs.external }
+    ensures idle { to.new.lanes.idle ≡ to.old.lanes.idle ++ from.lanes.idle }
+    ensures rest { to.new ≡ record to.old { runs = to.new.runs; lanes = record to.old.lanes { idle = to.new.lanes.idle } } }
+{
+    let PassBody { runs, lanes, .. } = from;
+    move_all(runs.internal, &mut to.runs.internal);
+    move_all(runs.external, &mut to.runs.external);
+    move_buffers(lanes.idle, &mut to.lanes.idle);
+}
+
+// Takes a body without jobs apart: its slots go to a supply, and its buffers to a list.
+fn dissolve<S: Slot + Send + Sync, R: Record + Send + Sync>(
+    body: PassBody<S, R>,
+    idle: &mut BufList<R>,
+    supply: &mut OwnerLists<S, R>,
+)
+    requires room { length (external_slots S.shown body.runs.external.items) ≤ supply.old.slot_room }
+    requires sizes { All (ArrayHasSize S.shown (supply.old.block * R.WIDTH)) body.runs.external.items }
+    requires few { length idle.old + internal_buffers body.runs.internal.items + external_buffers body.runs.external.items + length body.lanes.idle < 2 ^ 32 - 1 }
+    ensures slots { SameSums (supply.old.kept ++ external_slots S.shown body.runs.external.items) supply.new.kept }
+    ensures stock { supply.new ≡ with_slots supply.old supply.new.kept supply.new.slot_room }
+    ensures room { length supply.new.kept + supply.new.slot_room ≡ length supply.old.kept + supply.old.slot_room }
+    ensures idle { length idle.new ≡ length idle.old + internal_buffers body.runs.internal.items + external_buffers body.runs.external.items + length body.lanes.idle }
+{
+    let PassBody { runs, lanes, .. } = body;
+    empty_runs(runs.internal, idle);
+    empty_arrays(runs.external, idle, supply);
+    move_buffers(lanes.idle, idle);
+}
+
+// Takes runs in buffers apart: their buffers go to a list.
+fn empty_runs<R: Record>(runs: Vec<InternalArray<R>>, idle: &mut BufList<R>)
+    requires { length idle.old + internal_buffers runs.items < 2 ^ 32 - 1 }
+    ensures { length idle.new ≡ length idle.old + internal_buffers runs.items }
+{
+    let mut runs = runs;
+    'emptying: while let Some(run) = runs.pop() {
+        empty_run(run, idle);
+    }
+}
+
+// Takes a run in buffers apart: its buffers go to a list.
+fn empty_run<R: Record>(run: InternalArray<R>, idle: &mut BufList<R>)
+    requires { length idle.old + length (buffers_of run) < 2 ^ 32 - 1 }
+    ensures { length idle.new ≡ length idle.old + length (buffers_of run) }
+{
+    let mut run = run;
+    let count = run.len();
+    run.consume(count);
+    'emptying: while let Some(buf) = run.take_spent() {
+        idle.push_back(buf);
+    }
+}
+
+// Takes runs in blocks apart: their slots go to a supply, and their buffers to a list.
+fn empty_arrays<S: Slot + Send + Sync, R: Record + Send + Sync>(
+    arrays: Vec<ExternalArray<S, R>>,
+    idle: &mut BufList<R>,
+    supply: &mut OwnerLists<S, R>,
+)
+    requires room { length (external_slots S.shown arrays.items) ≤ supply.old.slot_room }
+    requires sizes { All (ArrayHasSize S.shown (supply.old.block * R.WIDTH)) arrays.items }
+    requires few { length idle.old + external_buffers arrays.items < 2 ^ 32 - 1 }
+    ensures slots { SameSums (supply.old.kept ++ external_slots S.shown arrays.items) supply.new.kept }
+    ensures stock { supply.new ≡ with_slots supply.old supply.new.kept supply.new.slot_room }
+    ensures room { supply.new.slot_room + length (external_slots S.shown arrays.items) ≡ supply.old.slot_room }
+    ensures idle { length idle.new ≡ length idle.old + external_buffers arrays.items }
+{
+    let mut arrays = arrays;
+    'emptying: while let Some(array) = arrays.pop() {
+        empty_array(array, idle, supply);
+    }
+}
+
+// Takes a run in blocks apart: its slots go to a supply, and its buffers to a list.
+fn empty_array<S: Slot + Send + Sync, R: Record + Send + Sync>(
+    array: ExternalArray<S, R>,
+    idle: &mut BufList<R>,
+    supply: &mut OwnerLists<S, R>,
+)
+    requires room { length array.stored ≤ supply.old.slot_room }
+    requires sizes { ArrayHasSize S.shown (supply.old.block * R.WIDTH) array }
+    requires few { length idle.old + length (buffers_of array.loaded) < 2 ^ 32 - 1 }
+    ensures slots { SameSums (supply.old.kept ++ slots_shown S.shown array.stored) supply.new.kept }
+    ensures stock { supply.new ≡ with_slots supply.old supply.new.kept supply.new.slot_room }
+    ensures room { supply.new.slot_room + length array.stored ≡ supply.old.slot_room }
+    ensures idle { length idle.new ≡ length idle.old + length (buffers_of array.loaded) }
+{
+    let array = empty_loaded(array, idle);
+    free_stored(array, supply);
+}
+
+// Moves the buffers of a run in blocks to a list.
+fn empty_loaded<S: Slot, R: Record>(
+    array: ExternalArray<S, R>,
+    idle: &mut BufList<R>,
+) -> ExternalArray<S, R>
+    requires { length idle.old + length (buffers_of array.loaded) < 2 ^ 32 - 1 }
+    ensures idle { length idle.new ≡ length idle.old + length (buffers_of array.loaded) }
+    ensures stored { result.stored ≡ array.stored }
+{
+    let mut array = array;
+    let count = array.loaded();
+    array.consume(count);
+    'emptying: while let Some(buf) = array.take_spent() {
+        idle.push_back(buf);
+    }
+    array
+}
+
+// Puts the slots of a run in blocks into a supply.
+fn free_stored<S: Slot, R: Record>(array: ExternalArray<S, R>, supply: &mut OwnerLists<S, R>)
+    requires room { length array.stored ≤ supply.old.slot_room }
+    requires sizes { ArrayHasSize S.shown (supply.old.block * R.WIDTH) array }
+    ensures slots { SameSums (supply.old.kept ++ slots_shown S.shown array.stored) supply.new.kept }
+    ensures stock { supply.new ≡ with_slots supply.old supply.new.kept supply.new.slot_room }
+    ensures room { supply.new.slot_room + length array.stored ≡ supply.old.slot_room }
+{
+    let mut array = array;
+    'freeing: while let Some(berth) = array.give_up() {
+        free_slot(supply, berth);
+    }
+}

@@ -1,0 +1,65 @@
+//! A queue of the parts into which all passes were put.
+ghost use Rattle.std.specs.Prelude.{◌≡◌, ◌+◌, ◌*◌, ◌≤◌, [], List, None, max, min};
+ghost use Rattle.ppq_pass.specs.ppq_outside.Shown.{Shown};
+ghost use Rattle.ppq_pass.specs.ppq_queue.Resting.{slots_of};
+ghost use Rattle.ppq_session.specs.Gathering.{IsGathered, gathered_bag};
+
+use crate::closed::Closed;
+use ppq_pass::{Heaps, Queue, QueueParts, Record, Sizes, Slot};
+
+/// The queue of these parts, of a session in which so many records were popped: they count in its peak.
+pub fn rejoin<S: Slot + Send + Sync, R: Record + Send + Sync>(
+    c: Closed<S, R>,
+    popped: u64,
+) -> Queue<S, R>
+    requires { (slots : List Shown) × (items : List Shown) × IsGathered S.shown R.Ord.cmp R.record_of R.WIDTH slots items c [] }
+    ensures bag { result.bag ≡ gathered_bag S.shown R.Ord.cmp R.record_of R.WIDTH c [] }
+    ensures slots { result.slots ≡ slots_of S.shown c.body c.supply }
+    ensures failed { result.failed ≡ c.failed }
+    ensures sizes { result.sizes ≡ c.sizes }
+    ensures size { c.failed ≡ None → result.size ≡ c.count }
+    ensures most { c.failed ≡ None → c.count ≤ c.sizes.memory + c.sizes.block * c.sizes.blocks }
+    ensures peak { result.peak ≡ max c.peak (min (c.count + popped) (c.sizes.memory + c.sizes.block * c.sizes.blocks)) }
+    ensures limited { result.limited ≡ c.limited }
+{
+    let Closed {
+        sizes,
+        heaps,
+        tree,
+        body,
+        supply,
+        extract,
+        sources,
+        count,
+        peak,
+        limited,
+        failed,
+        slots,
+        brought: _,
+    } = c;
+    let most = most_records(&sizes);
+    let load = count.saturating_add(popped).min(most);
+    let count = count.min(most);
+    let heaps = Heaps::from_parts(heaps, tree);
+    heaps.known();
+    Queue::from_parts(QueueParts {
+        sizes,
+        heaps,
+        body,
+        supply,
+        extract,
+        sources,
+        count,
+        peak: peak.max(load),
+        limited,
+        failed,
+        slots,
+    })
+}
+
+// How many records can ever be there: as many as the budget has, and the device.
+fn most_records(sizes: &Sizes) -> u64
+    ensures { result ≡ sizes.now.memory + sizes.now.block * sizes.now.blocks }
+{
+    sizes.memory() + u64::from(sizes.block()) * u64::from(sizes.blocks())
+}
