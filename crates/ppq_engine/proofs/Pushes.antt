@@ -12,7 +12,7 @@ use Rattle.ppq_script.specs.declared.session.Session.TheVariants.{InBulk}
 use Rattle.ppq_script.specs.Sessions.{are_in_place}
 use Rattle.ppq_script.specs.Reading.{Reading, command_list}
 use Rattle.ppq_load.specs.ppq_queue.Holding.{Holding}
-use Rattle.ppq_load.specs.ppq_queue.declared.fault.QueueFault.{QueueFault}
+use Rattle.ppq_load.specs.ppq_array.declared.store_fault.StoreFault.{StoreFault as QueueFault}
 use Rattle.ppq_load.specs.ppq_session.declared.line.Line.{Line}
 use Rattle.ppq_load.specs.ppq_session.Dealing.{records_in}
 use Rattle.ppq_load.specs.Loading.{LoadHolding, InSession, IsLoaded}

@@ -15,8 +15,8 @@ use Rattle.ppq_engine.specs.Loads.{IsLoad, none_go, all_go, size_from, most_of, 
 use Rattle.ppq_engine.specs.Output.{AreFilesOf, given_of, outside, output_of, output_from, state_of, bag_of, load_of, crest_of}
 use Rattle.ppq_engine.specs.Gathers.{Gathers}
 use Rattle.ppq_load.specs.ppq_queue.Holding.{Holding}
-use Rattle.ppq_load.specs.ppq_queue.declared.fault.QueueFault.{QueueFault}
-use Rattle.ppq_load.specs.ppq_queue.declared.fault.QueueFault.TheVariants.{NoFreeBlock, Device}
+use Rattle.ppq_load.specs.ppq_array.declared.store_fault.StoreFault.{StoreFault as QueueFault}
+use Rattle.ppq_load.specs.ppq_array.declared.store_fault.StoreFault.TheVariants.{NoFreeBlock, Device}
 use Rattle.ppq_load.specs.ppq_queue.declared.fault.OpenFault.{OpenFault}
 use Rattle.ppq_load.specs.ppq_queue.declared.fault.OpenFault.TheVariants as unopened
 use Rattle.ppq_engine.specs.declared.end.End.{End}

@@ -19,8 +19,8 @@ use Rattle.ppq_session.specs.ppq_array.Owner.{slots_shown}
 use Rattle.ppq_session.specs.ppq_pass.Passed.{PassKey, PassHolding, PassTells, IsOf}
 use Rattle.ppq_session.specs.ppq_pass.declared.shared.Shared.{Shared}
 use Rattle.ppq_session.specs.ppq_queue.Holding.{Holding}
-use Rattle.ppq_session.specs.ppq_queue.declared.fault.QueueFault.{QueueFault}
-use Rattle.ppq_session.specs.ppq_queue.declared.fault.QueueFault.TheVariants.{NoFreeBlock, Device}
+use Rattle.ppq_session.specs.ppq_array.declared.store_fault.StoreFault.{StoreFault as QueueFault}
+use Rattle.ppq_session.specs.ppq_array.declared.store_fault.StoreFault.TheVariants.{NoFreeBlock, Device}
 use Rattle.ppq_session.specs.BulkSession.{IsBeginRefusal, keys_of, bag_of}
 use Rattle.ppq_session.specs.declared.fault.BeginFault.{BeginFault}
 use Rattle.ppq_session.specs.declared.fault.BeginFault.TheVariants as begin

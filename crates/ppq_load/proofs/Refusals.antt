@@ -5,8 +5,8 @@ use Rattle.std.proofs.lemmas.Nat.{le-div}
 use Rattle.std.proofs.Math.Nat.{div-mul-le_self}
 use Rattle.ppq_session.specs.ppq_outside.Shown.{Shown}
 use Rattle.ppq_session.specs.ppq_budget.Sizes.{Numbers, heap_of, blocks_for, room_of}
-use Rattle.ppq_session.specs.ppq_queue.declared.fault.QueueFault.{QueueFault}
-use Rattle.ppq_session.specs.ppq_queue.declared.fault.QueueFault.TheVariants.{NoFreeBlock, Device}
+use Rattle.ppq_session.specs.ppq_array.declared.store_fault.StoreFault.{StoreFault as QueueFault}
+use Rattle.ppq_session.specs.ppq_array.declared.store_fault.StoreFault.TheVariants.{NoFreeBlock, Device}
 use Rattle.ppq_load.specs.declared.fault.LoadFault.{LoadFault}
 use Rattle.ppq_load.specs.declared.fault.LoadFault.TheVariants.{Queue, Read, Memory, Ended}
 use Rattle.ppq_load.specs.Loading.{LoadStopsFor}

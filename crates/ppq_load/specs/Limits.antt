@@ -7,7 +7,7 @@ use Rattle.ppq_session.specs.ppq_outside.Shown.{Shown, AllTell}
 use Rattle.ppq_session.specs.ppq_array.Kept.{SameSlots, all_writes}
 use Rattle.ppq_session.specs.ppq_pass.Passed.{PassTells}
 use Rattle.ppq_session.specs.ppq_queue.Holding.{Holding}
-use Rattle.ppq_session.specs.ppq_queue.declared.fault.QueueFault.{QueueFault}
+use Rattle.ppq_session.specs.ppq_array.declared.store_fault.StoreFault.{StoreFault as QueueFault}
 use Rattle.ppq_session.specs.Dealing.{IsGoing, HasEnded}
 use Rattle.ppq_load.specs.Refusal.{Keeps, IsRefusedBy}
 use Rattle.ppq_session.specs.Fronts.{FrontHolding}

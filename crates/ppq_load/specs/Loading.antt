@@ -10,11 +10,11 @@ use Rattle.ppq_session.specs.ppq_budget.Sizes.{Numbers}
 use Rattle.ppq_session.specs.ppq_array.Kept.{SameSlots, all_writes}
 use Rattle.ppq_session.specs.ppq_pass.Passed.{PassHolding, PassTells}
 use Rattle.ppq_session.specs.ppq_queue.Holding.{Holding, HasStopped}
-use Rattle.ppq_session.specs.ppq_queue.declared.fault.QueueFault.{QueueFault}
+use Rattle.ppq_session.specs.ppq_array.declared.store_fault.StoreFault.{StoreFault as QueueFault}
 use Rattle.ppq_session.specs.BulkSession.{BulkHolding, IsIntact, IsTogether, bag_of, accepted_of}
 use Rattle.ppq_session.specs.declared.fault.BeginFault.{BeginFault}
 use Rattle.ppq_session.specs.declared.fault.BeginFault.TheVariants as begin
-use Rattle.ppq_session.specs.ppq_queue.declared.fault.QueueFault.TheVariants as queue_fault
+use Rattle.ppq_session.specs.ppq_array.declared.store_fault.StoreFault.TheVariants as queue_fault
 use Rattle.ppq_session.specs.Dealing.{IsGoing, HasEnded}
 use Rattle.ppq_load.specs.Reading.{EndsAt}
 use Rattle.ppq_load.specs.Refusal.{Keeps, IsRefusedBy}

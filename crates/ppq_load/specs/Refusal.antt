@@ -5,8 +5,8 @@ use Rattle.ppq_session.specs.ppq_outside.Shown.{Shown, AllTell}
 use Rattle.ppq_session.specs.ppq_budget.Sizes.{Numbers, heap_of, room_of}
 use Rattle.ppq_session.specs.ppq_array.Kept.{SameSlots, HasFailed, all_writes}
 use Rattle.ppq_session.specs.ppq_queue.Holding.{Holding, IsAbove}
-use Rattle.ppq_session.specs.ppq_queue.declared.fault.QueueFault.{QueueFault}
-use Rattle.ppq_session.specs.ppq_queue.declared.fault.QueueFault.TheVariants.{NoFreeBlock, Device}
+use Rattle.ppq_session.specs.ppq_array.declared.store_fault.StoreFault.{StoreFault as QueueFault}
+use Rattle.ppq_session.specs.ppq_array.declared.store_fault.StoreFault.TheVariants.{NoFreeBlock, Device}
 
 -- what calls of the queue keep, whatever they answer: its sizes, whether a limit session was begun, its slots, that these tell, and their
 -- writes

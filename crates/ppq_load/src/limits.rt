@@ -7,7 +7,7 @@ ghost use Rattle.ppq_session.specs.ppq_record.Bag.{IsSameBag};
 ghost use Rattle.ppq_session.specs.ppq_outside.Shown.{AllTell};
 ghost use Rattle.ppq_session.specs.ppq_pass.Passed.{PassTells};
 ghost use Rattle.ppq_session.specs.ppq_queue.Holding.{Holding};
-ghost use Rattle.ppq_session.specs.ppq_queue.declared.fault.QueueFault.TheVariants.{NoFreeBlock, Device};
+ghost use Rattle.ppq_session.specs.ppq_array.declared.store_fault.StoreFault.TheVariants.{NoFreeBlock, Device};
 ghost use Rattle.ppq_session.specs.Dealing.{EachAdds, records_in, records_for};
 ghost use Rattle.ppq_load.specs.declared.fault.LoadFault.TheVariants.{Queue as ByQueue};
 ghost use Rattle.ppq_load.specs.Loading.{LoadStopsFor, IsByLoad, IsHandedBack};

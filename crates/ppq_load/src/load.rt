@@ -3,7 +3,7 @@ ghost use Rattle.std.specs.Prelude.{◌≡◌, ◌<◌, ◌≤◌, ◌++◌, ◌
 ghost use Rattle.ppq_session.specs.ppq_record.declared.pair.Pair.{Pair};
 ghost use Rattle.ppq_session.specs.ppq_budget.Sizes.{AreInRange, batch_of};
 ghost use Rattle.ppq_session.specs.ppq_queue.Holding.{Holding};
-ghost use Rattle.ppq_session.specs.ppq_queue.declared.fault.QueueFault.TheVariants.{Device};
+ghost use Rattle.ppq_session.specs.ppq_array.declared.store_fault.StoreFault.TheVariants.{Device};
 ghost use Rattle.ppq_session.specs.Dealing.{IsGoing, HasEnded, records_in};
 ghost use Rattle.ppq_load.specs.Refusal.{Keeps};
 ghost use Rattle.ppq_load.specs.Loading.{InSession, IsLoaded, IsByLoad, IsHandedBack, IsLeftBy, LoadStopsFor, with_batch};

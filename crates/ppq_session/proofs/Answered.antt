@@ -12,8 +12,8 @@ use Rattle.ppq_pass.proofs.ppq_record.Order.{IsSameBag-trans}
 use Rattle.ppq_pass.proofs.ppq_record.Fronts.{ascending-same_bag}
 use Rattle.ppq_pass.specs.ppq_outside.Shown.{AllTell}
 use Rattle.ppq_pass.proofs.ppq_spill.SameSlots.{SameSlots-refl, SameSlots-trans}
-use Rattle.ppq_pass.specs.ppq_queue.declared.fault.QueueFault.{QueueFault}
-use Rattle.ppq_pass.specs.ppq_queue.declared.fault.QueueFault.TheVariants.{NoFreeBlock, Device}
+use Rattle.ppq_pass.specs.ppq_array.declared.store_fault.StoreFault.{StoreFault as QueueFault}
+use Rattle.ppq_pass.specs.ppq_array.declared.store_fault.StoreFault.TheVariants.{NoFreeBlock, Device}
 use Rattle.ppq_session.specs.Fronts.{FrontHolding, IsFrontRefusal, least_below}
 use Rattle.ppq_session.specs.declared.ask.Ask.{Ask}
 use Rattle.ppq_session.specs.declared.ask.Ask.TheVariants.{Top, Pop}

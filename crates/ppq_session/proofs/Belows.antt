@@ -8,7 +8,7 @@ use Rattle.ppq_pass.specs.ppq_record.Bag.{IsSameBag, first_of, least, ascending,
 use Rattle.ppq_pass.proofs.ppq_record.Order.{none_pass, Each-append, count_by-cons, in_order-same_bag}
 use Rattle.ppq_pass.proofs.ppq_record.Fronts.{ranks, ascending-same_bag}
 use Rattle.ppq_pass.specs.ppq_fetch.Taking.{NoneAfter, AllBelow, NoneBelow}
-use Rattle.ppq_pass.proofs.ppq_queue.Least.{least_is, least-none, without_least}
+use Rattle.ppq_queue.proofs.Least.{least_is, least-none, without_least}
 use Rattle.ppq_session.specs.Fronts.{least_below, without_least_below}
 
 module _ {R : Type 0} {cmp : R → R → Ordering} (o : IsTotalOrder cmp) (same : (x y : R) → cmp x y ≡ Equal → x ≡ y) (limit : R) where

@@ -15,11 +15,11 @@ use Rattle.ppq_pass.specs.ppq_spill.Body.{job_slots}
 use Rattle.ppq_pass.proofs.ppq_spill.Keeping.{slots_long}
 use Rattle.ppq_pass.specs.ppq_pool.Seats.{count_of as pool_count}
 use Rattle.ppq_pass.specs.Passed.{PassKey, PassHolding}
-use Rattle.ppq_pass.specs.ppq_queue.Holding.{Holding}
-use Rattle.ppq_pass.specs.ppq_queue.declared.fault.QueueFault.TheVariants.{NoFreeBlock, Device}
-use Rattle.ppq_pass.specs.ppq_queue.Resting.{count_of, runs_bag, lane_buffers, odd_in}
-use Rattle.ppq_pass.proofs.ppq_queue.Counts.{stored_slots, internal_count, runs_fit, arrays_fit}
-use Rattle.ppq_pass.proofs.ppq_queue.Odd.{arrays_full}
+use Rattle.ppq_queue.specs.Holding.{Holding}
+use Rattle.ppq_pass.specs.ppq_array.declared.store_fault.StoreFault.TheVariants.{NoFreeBlock, Device}
+use Rattle.ppq_queue.specs.Resting.{count_of, runs_bag, lane_buffers, odd_in}
+use Rattle.ppq_queue.proofs.Counts.{stored_slots, internal_count, runs_fit, arrays_fit}
+use Rattle.ppq_queue.proofs.Odd.{arrays_full}
 use Rattle.ppq_session.specs.BulkSession.{AreOf, IsTogether, EndsIn, keys_of, bag_of, pass_key}
 use Rattle.ppq_session.specs.State.{IsBulk, bulk_slots, bulk_holding}
 use Rattle.ppq_session.specs.declared.fault.SessionEnd.{SessionEnd}

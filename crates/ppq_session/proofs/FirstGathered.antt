@@ -29,8 +29,8 @@ use Rattle.ppq_pass.specs.ppq_spill.Untold.{untold}
 use Rattle.ppq_pass.proofs.ppq_spill.Telling.{tell_sum, sum_tell}
 use Rattle.ppq_pass.specs.Passing.{items_at}
 use Rattle.ppq_pass.specs.Passed.{PassHolding, PassTells, slots_of as pass_slots}
-use Rattle.ppq_pass.specs.ppq_queue.Resting.{slots_of}
-use Rattle.ppq_pass.proofs.ppq_queue.Slots.{SameSums-length}
+use Rattle.ppq_queue.specs.Resting.{slots_of}
+use Rattle.ppq_queue.proofs.Slots.{SameSums-length}
 use Rattle.ppq_session.specs.Apart.{IsApart, IsSoundApart, GoesBefore, apart_slots}
 use Rattle.ppq_session.specs.Passes.{IsBrought, pass_of}
 use Rattle.ppq_session.specs.Bringing.{BroughtAll}

@@ -8,7 +8,7 @@ use Rattle.ppq_pass.specs.ppq_array.Owner.{HasSize, slots_shown}
 use Rattle.ppq_pass.specs.ppq_array.Supply.{Stock}
 use Rattle.ppq_pass.specs.ppq_array.Holdings.{ArrayHasSize, external_slots, internal_buffers, external_buffers}
 use Rattle.ppq_pass.proofs.ppq_spill.Keeping.{slots_long}
-use Rattle.ppq_pass.specs.ppq_queue.Slots.{SameSums, with_slots}
+use Rattle.ppq_queue.specs.Slots.{SameSums, with_slots}
 use Rattle.ppq_session.specs.Passes.{IsBrought}
 use Rattle.ppq_session.specs.Gathering.{IsGathered}
 use Rattle.ppq_session.specs.declared.brought.Brought.{Brought}

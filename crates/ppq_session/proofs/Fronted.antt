@@ -22,9 +22,9 @@ use Rattle.ppq_pass.specs.ppq_pool.Seats.{count_of as pool_count}
 use Rattle.ppq_pass.specs.Passed.{PassKey, PassHolding, PassTells}
 use Rattle.ppq_pass.specs.ppq_block.Block.{Block}
 use Rattle.ppq_session.specs.Emptied.{emptied}
-use Rattle.ppq_pass.specs.ppq_queue.Holding.{Holding}
-use Rattle.ppq_pass.specs.ppq_queue.declared.fault.QueueFault.TheVariants.{NoFreeBlock, Device}
-use Rattle.ppq_pass.specs.ppq_queue.Resting.{IsRestingRun, IsRestingArray, slots_of, runs_bag, odd_in}
+use Rattle.ppq_queue.specs.Holding.{Holding}
+use Rattle.ppq_pass.specs.ppq_array.declared.store_fault.StoreFault.TheVariants.{NoFreeBlock, Device}
+use Rattle.ppq_queue.specs.Resting.{IsRestingRun, IsRestingArray, slots_of, runs_bag, odd_in}
 use Rattle.ppq_session.specs.BulkSession.{accepted_of}
 use Rattle.ppq_session.specs.declared.fault.SessionEnd.{SessionEnd}
 use Rattle.ppq_session.specs.declared.fault.SessionEnd.TheVariants.{Whole, Stopped}

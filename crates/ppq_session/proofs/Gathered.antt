@@ -33,9 +33,9 @@ use Rattle.ppq_pass.specs.ppq_spill.declared.body.PassBody.{PassBody}
 use Rattle.ppq_pass.specs.ppq_spill.Untold.{untold}
 use Rattle.ppq_pass.proofs.ppq_spill.Telling.{tell_sum, sum_tell}
 use Rattle.ppq_pass.specs.Passed.{slots_of as pass_slots}
-use Rattle.ppq_pass.specs.ppq_queue.Slots.{with_slots}
-use Rattle.ppq_pass.proofs.ppq_queue.Counts.{runs_fit, arrays_fit, stored_slots, internal_count}
-use Rattle.ppq_pass.specs.ppq_queue.Resting.{IsRestingRun, IsRestingArray, odd_of, odd_in, slots_of, count_of}
+use Rattle.ppq_queue.specs.Slots.{with_slots}
+use Rattle.ppq_queue.proofs.Counts.{runs_fit, arrays_fit, stored_slots, internal_count}
+use Rattle.ppq_queue.specs.Resting.{IsRestingRun, IsRestingArray, odd_of, odd_in, slots_of, count_of}
 use Rattle.ppq_session.specs.Gathering.{IsGathering, IsSoundSoFar, slots_in, buffers_in, begun_in}
 use Rattle.ppq_session.specs.declared.brought.Brought.{Brought}
 use Rattle.ppq_session.specs.declared.closed.Closed.{Closed}
@@ -46,9 +46,9 @@ use Rattle.ppq_pass.proofs.ppq_record.Order.{count_by-append, Each-append}
 use Rattle.ppq_pass.specs.ppq_array.Holdings.{internal_items}
 use Rattle.ppq_pass.proofs.ppq_array.Noted.{all_left, all_right}
 use Rattle.ppq_pass.specs.ppq_fetch.Taking.{NoneAfter}
-use Rattle.ppq_pass.specs.ppq_queue.Holding.{IsAbove}
-use Rattle.ppq_pass.specs.ppq_queue.Resting.{runs_bag}
-use Rattle.ppq_pass.proofs.ppq_queue.Moves.{none_after-same}
+use Rattle.ppq_queue.specs.Holding.{IsAbove}
+use Rattle.ppq_queue.specs.Resting.{runs_bag}
+use Rattle.ppq_queue.proofs.Moves.{none_after-same}
 
 module _ {X : Type 0} where
   -- a list after another, the last first

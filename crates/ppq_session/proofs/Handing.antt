@@ -9,10 +9,10 @@ use Rattle.ppq_pass.specs.ppq_array.Supply.{Stock}
 use Rattle.ppq_pass.specs.ppq_array.Owner.{slots_shown}
 use Rattle.ppq_pass.specs.ppq_array.Holdings.{external_slots}
 use Rattle.ppq_pass.specs.ppq_spill.Body.{job_slots}
-use Rattle.ppq_pass.specs.ppq_queue.Holding.{Holding}
-use Rattle.ppq_pass.specs.ppq_queue.Resting.{runs_bag}
-use Rattle.ppq_pass.specs.ppq_queue.Handed.{IsWhole, holding_of}
-use Rattle.ppq_pass.specs.ppq_queue.declared.queue_parts.QueueParts.{QueueParts}
+use Rattle.ppq_queue.specs.Holding.{Holding}
+use Rattle.ppq_queue.specs.Resting.{runs_bag}
+use Rattle.ppq_queue.specs.Handed.{IsWhole, holding_of}
+use Rattle.ppq_queue.specs.declared.queue_parts.QueueParts.{QueueParts}
 use Rattle.ppq_session.specs.Shares.{bare, IsFirst}
 use Rattle.ppq_session.specs.Opened.{IsOpened}
 use Rattle.ppq_session.specs.declared.share.Session.{Session}

@@ -9,7 +9,7 @@ use Rattle.ppq_pass.specs.ppq_pool.Seats.{count_of}
 use Rattle.ppq_pass.specs.Passed.{PassHolding}
 use Rattle.ppq_pass.specs.declared.shared.Shared.{Shared}
 use Rattle.ppq_pass.specs.ppq_spill.Body.{body_slots}
-use Rattle.ppq_pass.specs.ppq_queue.Resting.{slots_of}
+use Rattle.ppq_queue.specs.Resting.{slots_of}
 use Rattle.ppq_session.specs.Apart.{IsApart}
 use Rattle.ppq_session.specs.declared.parts.BulkParts.{BulkParts}
 use Rattle.ppq_session.specs.Bringing.{BroughtAll}

@@ -19,10 +19,10 @@ use Rattle.ppq_pass.proofs.ppq_spill.Keeping.{slots_long}
 use Rattle.ppq_pass.proofs.ppq_spill.SameSlots.{SameSlots-sums}
 use Rattle.ppq_pass.proofs.ppq_spill.Telling.{tell_sum, sum_tell}
 use Rattle.ppq_pass.specs.ppq_spill.Untold.{untold}
-use Rattle.ppq_pass.specs.ppq_queue.Resting.{AtRest, IsRestingRun, IsRestingArray, count_of, lane_buffers, odd_in, runs_bag, slots_of}
-use Rattle.ppq_pass.proofs.ppq_queue.Counts.{runs_fit, internal_count, stored_slots, arrays_fit}
-use Rattle.ppq_pass.proofs.ppq_queue.Odd.{arrays_full}
-use Rattle.ppq_pass.proofs.ppq_queue.Slots.{SameSums-length}
+use Rattle.ppq_queue.specs.Resting.{AtRest, IsRestingRun, IsRestingArray, count_of, lane_buffers, odd_in, runs_bag, slots_of}
+use Rattle.ppq_queue.proofs.Counts.{runs_fit, internal_count, stored_slots, arrays_fit}
+use Rattle.ppq_queue.proofs.Odd.{arrays_full}
+use Rattle.ppq_queue.proofs.Slots.{SameSums-length}
 use Rattle.ppq_session.specs.State.{IsBulk, bulk_slots, bulk_holding}
 use Rattle.ppq_session.specs.declared.parts.BulkParts.{BulkParts}
 use Rattle.ppq_session.specs.BulkSession.{BulkHolding}

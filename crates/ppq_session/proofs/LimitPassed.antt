@@ -9,8 +9,8 @@ use Rattle.ppq_pass.proofs.ppq_record.Order.{Each-same_bag, Each-append}
 use Rattle.ppq_pass.specs.ppq_outside.Shown.{Shown, AllTell}
 use Rattle.ppq_pass.specs.ppq_array.Owner.{slots_shown}
 use Rattle.ppq_pass.specs.ppq_fetch.Taking.{NoneBelow}
-use Rattle.ppq_pass.specs.ppq_queue.declared.fault.QueueFault.{QueueFault}
-use Rattle.ppq_pass.specs.ppq_queue.declared.fault.QueueFault.TheVariants.{NoFreeBlock, Device}
+use Rattle.ppq_pass.specs.ppq_array.declared.store_fault.StoreFault.{StoreFault as QueueFault}
+use Rattle.ppq_pass.specs.ppq_array.declared.store_fault.StoreFault.TheVariants.{NoFreeBlock, Device}
 use Rattle.ppq_pass.specs.Passed.{PassKey, PassHolding, PassTells, with_one, IsRefusedPush}
 use Rattle.ppq_session.specs.Fronts.{FrontHolding}
 use Rattle.ppq_session.specs.Limited.{LimitHolding, HoldsNothing, IsLimited}

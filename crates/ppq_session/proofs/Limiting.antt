@@ -9,10 +9,10 @@ use Rattle.ppq_pass.specs.ppq_budget.Sizes.{Numbers}
 use Rattle.ppq_pass.proofs.ppq_array.Noted.{all_left, all_right}
 use Rattle.ppq_pass.specs.ppq_array.declared.berth.DeviceBlock.{DeviceBlock}
 use Rattle.ppq_pass.specs.Passed.{PassKey, PassHolding, IsOf}
-use Rattle.ppq_pass.proofs.ppq_queue.Took.{empty_list}
+use Rattle.ppq_queue.proofs.Took.{empty_list}
 use Rattle.ppq_pass.specs.ppq_record.Bag.{IsSameBag}
 use Rattle.ppq_pass.specs.ppq_outside.Shown.{AllTell}
-use Rattle.ppq_pass.specs.ppq_queue.Holding.{Holding}
+use Rattle.ppq_queue.specs.Holding.{Holding}
 use Rattle.ppq_pass.specs.declared.shared.Shared.{Shared}
 use Rattle.ppq_session.specs.declared.fault.BeginFault.{BeginFault}
 use Rattle.ppq_session.specs.declared.fault.BeginFault.TheVariants.{Memory, NoFreeBlock, Device}

@@ -15,9 +15,9 @@ use Rattle.ppq_pass.specs.ppq_spill.Body.{body_slots, job_slots}
 use Rattle.ppq_pass.proofs.ppq_spill.Keeping.{slots_long}
 use Rattle.ppq_pass.specs.Passed.{PassHolding, slots_of as pass_slots}
 use Rattle.ppq_pass.specs.ppq_pool.Seats.{count_of as pool_count}
-use Rattle.ppq_pass.specs.ppq_queue.Resting.{slots_of, lane_buffers}
-use Rattle.ppq_pass.proofs.ppq_queue.Bounds.{parts_within, pool_within}
-use Rattle.ppq_pass.proofs.ppq_queue.Counts.{stored_slots, internal_count, runs_fit, arrays_fit}
+use Rattle.ppq_queue.specs.Resting.{slots_of, lane_buffers}
+use Rattle.ppq_queue.proofs.Bounds.{parts_within, pool_within}
+use Rattle.ppq_queue.proofs.Counts.{stored_slots, internal_count, runs_fit, arrays_fit}
 use Rattle.ppq_session.specs.declared.parts.BulkParts.{BulkParts}
 use Rattle.ppq_session.specs.Passes.{IsBrought}
 use Rattle.ppq_session.specs.Gathering.{slots_in, begun_in, accepted_in}

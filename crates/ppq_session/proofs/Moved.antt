@@ -15,7 +15,7 @@ use Rattle.ppq_pass.specs.ppq_extract.Extracted.{Held, SourcesRest}
 use Rattle.ppq_pass.specs.ppq_extract.declared.sources.Sources.{Sources}
 use Rattle.ppq_pass.specs.ppq_spill.Body.{body_slots}
 use Rattle.ppq_pass.specs.ppq_spill.declared.body.PassBody.{PassBody}
-use Rattle.ppq_pass.specs.ppq_queue.Resting.{BodyKept, slots_of}
+use Rattle.ppq_queue.specs.Resting.{BodyKept, slots_of}
 use Rattle.ppq_session.specs.declared.parts.BulkParts.{BulkParts}
 use Rattle.ppq_session.specs.FrontState.{lent, with_lent, with_shared, front_slots, IsHome, IsFront, IsTallied}
 

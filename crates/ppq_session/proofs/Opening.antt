@@ -24,9 +24,9 @@ use Rattle.ppq_pass.specs.ppq_pool.Seats.{count_of as pool_count}
 use Rattle.ppq_pass.specs.Passed.{PassKey, PassHolding}
 use Rattle.ppq_pass.specs.declared.shared.PoolBuf.{PoolBuf}
 use Rattle.ppq_pass.specs.declared.shared.Shared.{Shared}
-use Rattle.ppq_pass.specs.ppq_queue.Resting.{AtRest, IsRestingRun, IsRestingArray, slots_of, runs_bag, odd_in}
-use Rattle.ppq_pass.specs.ppq_queue.State.{IsSound}
-use Rattle.ppq_pass.specs.ppq_queue.declared.queue_parts.QueueParts.{QueueParts}
+use Rattle.ppq_queue.specs.Resting.{AtRest, IsRestingRun, IsRestingArray, slots_of, runs_bag, odd_in}
+use Rattle.ppq_queue.specs.State.{IsSound}
+use Rattle.ppq_queue.specs.declared.queue_parts.QueueParts.{QueueParts}
 use Rattle.ppq_session.specs.BulkSession.{BulkHolding, AreOf, keys_of, bag_of, pass_key}
 use Rattle.ppq_session.specs.State.{AreLeft, IsBulk, IsBare, bulk_holding, bulk_slots}
 use Rattle.ppq_session.specs.Opened.{IsOpened, HandedOut}

@@ -17,8 +17,8 @@ use Rattle.ppq_pass.specs.ppq_array.Holdings.{external_slots, internal_items, in
 use Rattle.ppq_pass.proofs.ppq_array.Noted.{all_left, all_right}
 use Rattle.ppq_pass.specs.ppq_spill.Body.{body_slots, job_slots}
 use Rattle.ppq_pass.specs.Passed.{slots_of as pass_slots}
-use Rattle.ppq_pass.specs.ppq_queue.Slots.{with_slots}
-use Rattle.ppq_pass.specs.ppq_queue.Resting.{slots_of, runs_bag}
+use Rattle.ppq_queue.specs.Slots.{with_slots}
+use Rattle.ppq_queue.specs.Resting.{slots_of, runs_bag}
 use Rattle.ppq_session.specs.Passes.{IsBrought, pass_of}
 use Rattle.ppq_session.specs.Gathering.{IsGathered, IsGathering, IsSoundSoFar, gathered_bag}
 use Rattle.ppq_session.specs.declared.brought.Brought.{Brought}

@@ -5,8 +5,8 @@ use Rattle.ppq_pass.specs.ppq_outside.Shown.{Shown, AllTell}
 use Rattle.ppq_pass.specs.ppq_array.Kept.{SameSlots, HasFailed, all_writes}
 use Rattle.ppq_pass.specs.ppq_fetch.Taking.{NoneBelow}
 use Rattle.ppq_pass.specs.ppq_spill.Body.{held_by}
-use Rattle.ppq_pass.specs.ppq_queue.Resting.{BodyKept, runs_bag}
-use Rattle.ppq_pass.proofs.ppq_queue.Took.{empty_list}
+use Rattle.ppq_queue.specs.Resting.{BodyKept, runs_bag}
+use Rattle.ppq_queue.proofs.Took.{empty_list}
 use Rattle.ppq_session.specs.declared.parts.BulkParts.{BulkParts}
 use Rattle.ppq_session.specs.Fronts.{FrontHolding}
 use Rattle.ppq_session.specs.FrontState.{front_slots, front_bag, front_holding, IsTallied}

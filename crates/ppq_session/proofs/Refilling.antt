@@ -27,12 +27,12 @@ use Rattle.ppq_pass.specs.ppq_extract.declared.sources.Sources.{Sources}
 use Rattle.ppq_pass.specs.ppq_spill.Body.{body_slots, job_slots}
 use Rattle.ppq_pass.proofs.ppq_spill.Keeping.{slots_long}
 use Rattle.ppq_pass.specs.ppq_spill.declared.body.PassBody.{PassBody}
-use Rattle.ppq_pass.specs.ppq_queue.Resting.{BodyKept, IsRestingRun, IsRestingArray, AtRest, runs_bag, slots_of}
-use Rattle.ppq_pass.proofs.ppq_queue.Bounds.{pool_small, runs_few, idle_most, records_most}
-use Rattle.ppq_pass.proofs.ppq_queue.Counts.{fronts_few}
-use Rattle.ppq_pass.proofs.ppq_queue.Odd.{odd_most}
-use Rattle.ppq_pass.proofs.ppq_queue.Moves.{none_after-same}
-use Rattle.ppq_pass.proofs.ppq_queue.Refilled.{packed-drop, sources-bag}
+use Rattle.ppq_queue.specs.Resting.{BodyKept, IsRestingRun, IsRestingArray, AtRest, runs_bag, slots_of}
+use Rattle.ppq_queue.proofs.Bounds.{pool_small, runs_few, idle_most, records_most}
+use Rattle.ppq_queue.proofs.Counts.{fronts_few}
+use Rattle.ppq_queue.proofs.Odd.{odd_most}
+use Rattle.ppq_queue.proofs.Moves.{none_after-same}
+use Rattle.ppq_queue.proofs.Refilled.{packed-drop, sources-bag}
 use Rattle.ppq_session.specs.declared.parts.BulkParts.{BulkParts}
 use Rattle.ppq_session.specs.FrontState.{lent, with_lent, with_shared, front_slots, front_bag, IsFront, IsSoundFront}
 use Rattle.ppq_session.proofs.Moved.{lent-length, lent-blocks, told-whole, told-parts, refilled, told-refilled}

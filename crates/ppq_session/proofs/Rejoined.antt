@@ -10,15 +10,15 @@ use Rattle.ppq_pass.specs.ppq_heap.Heaps.{Shares, AreShares, cap_of, items_of, i
 use Rattle.ppq_pass.specs.ppq_array.Owner.{HasBlock}
 use Rattle.ppq_pass.specs.ppq_array.Holdings.{external_slots}
 use Rattle.ppq_pass.specs.ppq_spill.Body.{job_slots}
-use Rattle.ppq_pass.specs.ppq_queue.declared.queue_parts.QueueParts.{QueueParts}
-use Rattle.ppq_pass.specs.ppq_queue.Handed.{IsWhole}
-use Rattle.ppq_pass.specs.ppq_queue.State.{IsQueue, IsSound}
-use Rattle.ppq_pass.specs.ppq_queue.Resting.{AtRest, IsRestingRun, IsRestingArray, count_of, slots_of, odd_in}
-use Rattle.ppq_pass.proofs.ppq_queue.Bounds.{records_most}
-use Rattle.ppq_pass.proofs.ppq_queue.Slots.{SameSums-length}
-use Rattle.ppq_pass.proofs.ppq_queue.Shared.{all_within}
+use Rattle.ppq_queue.specs.declared.queue_parts.QueueParts.{QueueParts}
+use Rattle.ppq_queue.specs.Handed.{IsWhole}
+use Rattle.ppq_queue.specs.State.{IsQueue, IsSound}
+use Rattle.ppq_queue.specs.Resting.{AtRest, IsRestingRun, IsRestingArray, count_of, slots_of, odd_in}
+use Rattle.ppq_queue.proofs.Bounds.{records_most}
+use Rattle.ppq_queue.proofs.Slots.{SameSums-length}
+use Rattle.ppq_queue.proofs.Shared.{all_within}
 use Rattle.ppq_pass.specs.ppq_array.Kept.{HasFailed, weight_at}
-use Rattle.ppq_pass.specs.ppq_queue.Holding.{IsAbove}
+use Rattle.ppq_queue.specs.Holding.{IsAbove}
 use Rattle.ppq_session.specs.Gathering.{IsGathered, IsGathering, IsSoundSoFar}
 use Rattle.ppq_session.specs.declared.closed.Closed.{Closed}
 

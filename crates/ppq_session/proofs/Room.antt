@@ -14,10 +14,10 @@ use Rattle.ppq_pass.specs.ppq_spill.Body.{held_by, body_slots, job_slots}
 use Rattle.ppq_pass.proofs.ppq_spill.Keeping.{slots_long}
 use Rattle.ppq_pass.specs.Passed.{slots_of as pass_slots}
 use Rattle.ppq_pass.specs.PassState.{IsPassed, IsSoundPass}
-use Rattle.ppq_pass.specs.ppq_queue.Resting.{slots_of}
-use Rattle.ppq_pass.proofs.ppq_queue.Counts.{runs_some, stored_slots}
-use Rattle.ppq_pass.proofs.ppq_queue.Slots.{SameSums-length}
-use Rattle.ppq_pass.proofs.ppq_queue.Odd.{runs_most}
+use Rattle.ppq_queue.specs.Resting.{slots_of}
+use Rattle.ppq_queue.proofs.Counts.{runs_some, stored_slots}
+use Rattle.ppq_queue.proofs.Slots.{SameSums-length}
+use Rattle.ppq_queue.proofs.Odd.{runs_most}
 use Rattle.ppq_session.specs.Passes.{IsBrought}
 use Rattle.ppq_session.specs.Gathering.{IsGathering, IsSoundSoFar, slots_in, buffers_in}
 use Rattle.ppq_session.specs.declared.brought.Brought.{Brought}

@@ -6,7 +6,7 @@ use Rattle.ppq_pass.specs.ppq_outside.Shown.{Shown}
 use Rattle.ppq_pass.specs.ppq_array.Supply.{Stock}
 use Rattle.ppq_pass.specs.ppq_array.Owner.{slots_shown}
 use Rattle.ppq_pass.specs.ppq_array.declared.berth.DeviceBlock.{DeviceBlock}
-use Rattle.ppq_pass.specs.ppq_queue.Slots.{with_slots, with_pool}
+use Rattle.ppq_queue.specs.Slots.{with_slots, with_pool}
 
 module _ {S R : Type 0} (shown : S → Shown) where
   -- a list that was empty has all that was kept

@@ -9,8 +9,8 @@ use Rattle.ppq_pass.specs.ppq_record.Bag.{IsSameBag, first_of}
 use Rattle.ppq_pass.specs.ppq_outside.Shown.{Shown, AllTell}
 use Rattle.ppq_pass.specs.ppq_fetch.Taking.{NoneAfter, AllBelow}
 use Rattle.ppq_pass.specs.ppq_extract.Extracted.{Held, held}
-use Rattle.ppq_pass.specs.ppq_queue.Resting.{runs_bag, count_of}
-use Rattle.ppq_pass.proofs.ppq_queue.Ready.{each_rest, ascends_rest}
+use Rattle.ppq_queue.specs.Resting.{runs_bag, count_of}
+use Rattle.ppq_queue.proofs.Ready.{each_rest, ascends_rest}
 use Rattle.ppq_session.specs.declared.parts.BulkParts.{BulkParts}
 use Rattle.ppq_session.specs.Fronts.{IsReady, without_least_below}
 use Rattle.ppq_session.specs.FrontState.{front_slots, front_bag, front_holding, IsHome, IsFront, IsTallied, IsSoundFront}

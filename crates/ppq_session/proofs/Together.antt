@@ -19,13 +19,13 @@ use Rattle.ppq_pass.specs.ppq_array.Kept.{SameSlots, all_writes}
 use Rattle.ppq_pass.proofs.ppq_spill.SameSlots.{SameSlots-trans}
 use Rattle.ppq_pass.specs.Passed.{PassKey, PassHolding, PassTells}
 use Rattle.ppq_pass.specs.ppq_budget.Sizes.{heap_of, room_of}
-use Rattle.ppq_pass.specs.ppq_queue.Holding.{Holding, IsRefusal}
-use Rattle.ppq_pass.specs.ppq_queue.declared.fault.QueueFault.{QueueFault}
-use Rattle.ppq_pass.specs.ppq_queue.declared.fault.QueueFault.TheVariants.{NoFreeBlock, Device}
+use Rattle.ppq_queue.specs.Holding.{Holding, IsRefusal}
+use Rattle.ppq_pass.specs.ppq_array.declared.store_fault.StoreFault.{StoreFault as QueueFault}
+use Rattle.ppq_pass.specs.ppq_array.declared.store_fault.StoreFault.TheVariants.{NoFreeBlock, Device}
 use Rattle.ppq_session.specs.declared.fault.SessionEnd.TheVariants.{Stopped}
-use Rattle.ppq_pass.specs.ppq_queue.Slots.{SameSums}
-use Rattle.ppq_pass.specs.ppq_queue.Resting.{slots_of, runs_bag}
-use Rattle.ppq_pass.proofs.ppq_queue.Slots.{slots-sums, tells-sums}
+use Rattle.ppq_queue.specs.Slots.{SameSums}
+use Rattle.ppq_queue.specs.Resting.{slots_of, runs_bag}
+use Rattle.ppq_queue.proofs.Slots.{slots-sums, tells-sums}
 use Rattle.ppq_session.specs.BulkSession.{bag_of, accepted_of}
 use Rattle.ppq_session.specs.Apart.{IsApart, IsSoundApart, GoesBefore, HasAll, EndsApart, apart_slots, apart_key}
 use Rattle.ppq_pass.specs.declared.shared.Shared.{Shared}

@@ -18,9 +18,9 @@ use Rattle.ppq_pass.specs.ppq_spill.Body.{held_by}
 use Rattle.ppq_pass.specs.Passed.{PassKey, PassHolding, PassTells}
 use Rattle.ppq_pass.specs.declared.shared.Shared.{Shared}
 use Rattle.ppq_session.specs.Bringing.{BroughtAll}
-use Rattle.ppq_pass.specs.ppq_queue.Holding.{Holding, IsAbove, HasStopped}
-use Rattle.ppq_pass.specs.ppq_queue.Resting.{IsRestingRun, IsRestingArray, AllRise, runs_bag, count_of, lane_buffers, odd_in, slots_of}
-use Rattle.ppq_pass.specs.ppq_queue.declared.fault.QueueFault.TheVariants.{NoFreeBlock, Device}
+use Rattle.ppq_queue.specs.Holding.{Holding, IsAbove, HasStopped}
+use Rattle.ppq_queue.specs.Resting.{IsRestingRun, IsRestingArray, AllRise, runs_bag, count_of, lane_buffers, odd_in, slots_of}
+use Rattle.ppq_pass.specs.ppq_array.declared.store_fault.StoreFault.TheVariants.{NoFreeBlock, Device}
 use Rattle.ppq_session.specs.BulkSession.{HasNoBlock, bag_of, accepted_of}
 use Rattle.ppq_session.specs.declared.fault.SessionEnd.{SessionEnd}
 use Rattle.ppq_session.specs.declared.fault.SessionEnd.TheVariants.{Whole, Stopped}

@@ -8,9 +8,9 @@ use Rattle.ppq_pass.specs.ppq_array.declared.berth.DeviceBlock.{DeviceBlock}
 use Rattle.ppq_pass.specs.ppq_pool.Seats.{count_of}
 use Rattle.ppq_pass.specs.Passed.{PassKey, PassHolding, PassTells}
 use Rattle.ppq_pass.specs.declared.shared.Shared.{Shared}
-use Rattle.ppq_pass.specs.ppq_queue.Holding.{Holding, IsAbove, FoundNoBlock, HasStopped}
-use Rattle.ppq_pass.specs.ppq_queue.Resting.{lane_buffers}
-use Rattle.ppq_pass.specs.ppq_queue.declared.fault.QueueFault.TheVariants.{NoFreeBlock, Device}
+use Rattle.ppq_queue.specs.Holding.{Holding, IsAbove, FoundNoBlock, HasStopped}
+use Rattle.ppq_queue.specs.Resting.{lane_buffers}
+use Rattle.ppq_pass.specs.ppq_array.declared.store_fault.StoreFault.TheVariants.{NoFreeBlock, Device}
 use Rattle.ppq_session.specs.declared.fault.BeginFault.{BeginFault}
 use Rattle.ppq_session.specs.declared.fault.BeginFault.TheVariants.{Memory, NoFreeBlock as NoBlockAtBegin, Device as DeviceAtBegin}
 use Rattle.ppq_session.specs.declared.fault.SessionEnd.{SessionEnd}

@@ -1,7 +1,7 @@
 -- Parts whose own idle buffers are all in the lanes.
 use Rattle.std.specs.Prelude.{◌+◌, List}
 use Rattle.ppq_pass.specs.ppq_block.Block.{Block}
-use Rattle.ppq_pass.specs.ppq_queue.Slots.{with_pool}
+use Rattle.ppq_queue.specs.Slots.{with_pool}
 use Rattle.ppq_session.specs.declared.parts.BulkParts.{BulkParts}
 
 -- the parts with these idle buffers in the lanes, and none in the supply

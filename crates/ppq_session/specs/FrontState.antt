@@ -15,7 +15,7 @@ use Rattle.ppq_pass.specs.ppq_extract.Extracted.{ServesFor}
 use Rattle.ppq_pass.specs.ppq_pool.Seats.{count_of as pool_count}
 use Rattle.ppq_pass.specs.ppq_spill.Body.{held_by}
 use Rattle.ppq_pass.specs.ppq_spill.declared.body.PassBody.{PassBody}
-use Rattle.ppq_pass.specs.ppq_queue.Resting.{AtRest, runs_bag, count_of, lane_buffers, slots_of}
+use Rattle.ppq_queue.specs.Resting.{AtRest, runs_bag, count_of, lane_buffers, slots_of}
 use Rattle.ppq_session.specs.declared.parts.BulkParts.{BulkParts}
 use Rattle.ppq_session.specs.Fronts.{FrontHolding}
 

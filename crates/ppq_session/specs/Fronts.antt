@@ -8,8 +8,8 @@ use Rattle.ppq_pass.specs.ppq_budget.Sizes.{Numbers}
 use Rattle.ppq_pass.specs.ppq_array.Kept.{HasFailed}
 use Rattle.ppq_pass.specs.ppq_array.declared.berth.DeviceBlock.{DeviceBlock}
 use Rattle.ppq_pass.specs.ppq_fetch.Taking.{NoneBelow}
-use Rattle.ppq_pass.specs.ppq_queue.declared.fault.QueueFault.{QueueFault}
-use Rattle.ppq_pass.specs.ppq_queue.declared.fault.QueueFault.TheVariants.{NoFreeBlock, Device}
+use Rattle.ppq_pass.specs.ppq_array.declared.store_fault.StoreFault.{StoreFault as QueueFault}
+use Rattle.ppq_pass.specs.ppq_array.declared.store_fault.StoreFault.TheVariants.{NoFreeBlock, Device}
 
 -- The bag of its records, as far as its slots tell, and the limit; how many records it counts, and how many it gave; its sizes; the
 -- greatest size of the queue when the session began; all slots, those of its runs, those that it freed and those that were put into the

@@ -12,11 +12,11 @@ use Rattle.ppq_pass.specs.ppq_extract.Extracted.{ServesFor}
 use Rattle.ppq_pass.specs.ppq_fetch.Fetching.{fronts_in}
 use Rattle.ppq_pass.specs.ppq_spill.Body.{held_by}
 use Rattle.ppq_pass.specs.Passed.{slots_of as pass_slots}
-use Rattle.ppq_pass.specs.ppq_queue.Slots.{SameSums}
-use Rattle.ppq_pass.specs.ppq_queue.Resting.{IsRestingRun, IsRestingArray, AllRise, runs_bag, count_of, lane_buffers, odd_in, slots_of}
+use Rattle.ppq_queue.specs.Slots.{SameSums}
+use Rattle.ppq_queue.specs.Resting.{IsRestingRun, IsRestingArray, AllRise, runs_bag, count_of, lane_buffers, odd_in, slots_of}
 use Rattle.ppq_pass.specs.ppq_record.Order.{Ascends}
 use Rattle.ppq_pass.specs.ppq_fetch.Taking.{NoneAfter}
-use Rattle.ppq_pass.specs.ppq_queue.Holding.{IsAbove}
+use Rattle.ppq_queue.specs.Holding.{IsAbove}
 use Rattle.ppq_session.specs.Passes.{IsBrought, pass_of}
 use Rattle.ppq_session.specs.declared.brought.Brought.{Brought}
 use Rattle.ppq_session.specs.declared.closed.Closed.{Closed}

@@ -8,13 +8,13 @@ pub use Rattle.ppq_pass.specs.ppq_heap as ppq_heap
 pub use Rattle.ppq_pass.specs.ppq_outside as ppq_outside
 pub use Rattle.ppq_pass.specs as ppq_pass
 pub use Rattle.ppq_pass.specs.ppq_pool as ppq_pool
-pub use Rattle.ppq_pass.specs.ppq_queue as ppq_queue
+pub use Rattle.ppq_queue.specs as ppq_queue
 pub use Rattle.ppq_pass.specs.ppq_record as ppq_record
 pub use Rattle.ppq_pass.specs.ppq_row as ppq_row
 pub use Rattle.ppq_pass.specs.ppq_spill as ppq_spill
 pub use Rattle.ppq_pass.specs.ppq_table as ppq_table
 pub use Rattle.ppq_pass.specs.ppq_tree as ppq_tree
-pub use Rattle.ppq_pass.specs.ppq_queue.Holding as Holding
+pub use Rattle.ppq_queue.specs.Holding as Holding
 pub use Rattle.ppq_pass.specs.ppq_array.Kept as Kept
 pub use Rattle.ppq_pass.specs.Passed as Passed
 pub use Rattle.ppq_pass.specs.ppq_outside.Shown as Shown

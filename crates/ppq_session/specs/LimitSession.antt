@@ -6,8 +6,8 @@ use Rattle.ppq_pass.specs.ppq_budget.Sizes.{heap_of, room_of}
 use Rattle.ppq_pass.specs.ppq_array.Kept.{SameSlots, all_writes}
 use Rattle.ppq_pass.specs.Passed.{PassKey, PassTells}
 use Rattle.ppq_pass.specs.declared.shared.Shared.{Shared}
-use Rattle.ppq_pass.specs.ppq_queue.Holding.{Holding, HasStopped}
-use Rattle.ppq_pass.specs.ppq_queue.declared.fault.QueueFault.TheVariants.{NoFreeBlock, Device}
+use Rattle.ppq_queue.specs.Holding.{Holding, HasStopped}
+use Rattle.ppq_pass.specs.ppq_array.declared.store_fault.StoreFault.TheVariants.{NoFreeBlock, Device}
 use Rattle.ppq_session.specs.BulkSession.{BulkHolding, IsFresh, HasNoBlock}
 use Rattle.ppq_session.specs.declared.fault.SessionEnd.{SessionEnd}
 use Rattle.ppq_session.specs.declared.fault.SessionEnd.TheVariants.{Whole, Stopped}

@@ -9,9 +9,9 @@ use Rattle.ppq_pass.specs.ppq_array.Owner.{slots_shown}
 use Rattle.ppq_pass.specs.ppq_array.Holdings.{external_slots}
 use Rattle.ppq_pass.specs.Passed.{PassHolding}
 use Rattle.ppq_pass.specs.declared.shared.Shared.{Shared}
-use Rattle.ppq_pass.specs.ppq_queue.Resting.{runs_bag}
-use Rattle.ppq_pass.specs.ppq_queue.Handed.{IsWhole}
-use Rattle.ppq_pass.specs.ppq_queue.declared.queue_parts.QueueParts.{QueueParts}
+use Rattle.ppq_queue.specs.Resting.{runs_bag}
+use Rattle.ppq_queue.specs.Handed.{IsWhole}
+use Rattle.ppq_queue.specs.declared.queue_parts.QueueParts.{QueueParts}
 use Rattle.ppq_session.specs.BulkSession.{BulkHolding, HasBuffers, AreOf, IsFresh, keys_of, bag_of, shared_by}
 use Rattle.ppq_session.specs.Equipped.{HasBegun, first_begun}
 use Rattle.ppq_session.specs.Shares.{bare, IsFirst}

@@ -10,8 +10,8 @@ use Rattle.ppq_pass.specs.ppq_array.Holdings.{internal_buffers, external_slots, 
 use Rattle.ppq_pass.specs.ppq_fetch.Fetching.{fronts_in}
 use Rattle.ppq_pass.specs.ppq_extract.Extracted.{ServesFor}
 use Rattle.ppq_pass.specs.ppq_pool.Seats.{count_of as pool_count}
-use Rattle.ppq_pass.specs.ppq_queue.Holding.{IsAbove}
-use Rattle.ppq_pass.specs.ppq_queue.Resting.{IsRestingRun, IsRestingArray, AllRise, runs_bag, count_of, lane_buffers, odd_in}
+use Rattle.ppq_queue.specs.Holding.{IsAbove}
+use Rattle.ppq_queue.specs.Resting.{IsRestingRun, IsRestingArray, AllRise, runs_bag, count_of, lane_buffers, odd_in}
 use Rattle.ppq_session.specs.BulkSession.{BulkHolding}
 use Rattle.ppq_session.specs.declared.parts.BulkParts.{BulkParts}
 

@@ -18,7 +18,8 @@ use crate::outfit::Outfit;
 use crate::share::{Session, share};
 use crate::stores::{Stores, make_stores};
 use crate::{BeginFault, Brought, Bulk, BulkParts, Pass, Shared};
-use ppq_pass::{Gate, Host, Queue, QueueFault, QueueParts, Record, Slot};
+use ppq_pass::{Gate, Host, QueueFault, Record, Slot};
+use ppq_queue::{Queue, QueueParts};
 use std::alloc::Global;
 
 /// Begins a bulk session. Returns what stays of the queue, what all passes share, and a pass for each

@@ -10,7 +10,8 @@ ghost use Rattle.ppq_session.specs.Limited.{HoldsNothing};
 ghost use Rattle.ppq_session.specs.LimitSession.{AreLimited, IsNew, shared_of, IsFrontOf};
 
 use crate::{BeginFault, Bulk, Front, LimitPass, hand_out};
-use ppq_pass::{Gate, Host, Pass, Queue, QueueFault, Record, Shared, Slot};
+use ppq_pass::{Gate, Host, Pass, QueueFault, Record, Shared, Slot};
+use ppq_queue::Queue;
 use std::alloc::Global;
 
 /// Begins a limit session. Returns what the owner keeps, what all passes share, and a pass without records

@@ -10,7 +10,8 @@ ghost use Rattle.ppq_session.specs.Apart.{IsJoined, HasEnded, BulkHeld};
 use crate::bringing::bring_all;
 use crate::close::close;
 use crate::{Bulk, BulkParts, SessionEnd, gather_all, rejoin};
-use ppq_pass::{Gate, Host, Pass, Queue, Record, Shared, Slot};
+use ppq_pass::{Gate, Host, Pass, Record, Shared, Slot};
+use ppq_queue::Queue;
 
 /// Ends a bulk session: the queue with the records that it had and those that its passes accepted. All
 /// passes of the session come, in any order.

@@ -9,7 +9,8 @@ ghost use Rattle.ppq_session.specs.LimitSession.{AreLimited, EndsIn, shared_of};
 use crate::bringing_limited::bring_limited;
 use crate::limit_room::with_room;
 use crate::{Front, LimitPass, SessionEnd, end_joined};
-use ppq_pass::{Gate, Host, Queue, Record, Shared, Slot, record_laws};
+use ppq_pass::{Gate, Host, Record, Shared, Slot, record_laws};
+use ppq_queue::Queue;
 
 /// Ends a limit session: the queue with the records that the front has left and those that the passes
 /// accepted. All passes of the session come, in any order.

@@ -5,7 +5,7 @@ ghost use Rattle.ppq_pass.specs.ppq_outside.Shown.{Shown};
 ghost use Rattle.ppq_pass.specs.ppq_array.Owner.{slots_shown};
 ghost use Rattle.ppq_pass.specs.ppq_array.Holdings.{ArrayHasSize, internal_buffers, external_buffers, external_slots};
 ghost use Rattle.ppq_pass.specs.ppq_array.Run.{buffers_of};
-ghost use Rattle.ppq_pass.specs.ppq_queue.Slots.{SameSums, with_slots};
+ghost use Rattle.ppq_queue.specs.Slots.{SameSums, with_slots};
 ghost use Rattle.ppq_session.specs.Gathering.{IsGathered, gathered_bag, accepted_in};
 
 use crate::Brought;

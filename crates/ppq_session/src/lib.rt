@@ -73,9 +73,10 @@ pub use line::Line;
 pub use lines::push_lines;
 pub use parts::BulkParts;
 pub use ppq_pass::{
-    Full, Gate, Host, Library, OpenFault, Out, OutsideFault, Pair, Pass, PoolBuf, Queue,
-    QueueFault, Record, Shared, Sizes, Slot,
+    Full, Gate, Host, Library, OutsideFault, Pair, Pass, PoolBuf, QueueFault, Record, Shared,
+    Sizes, Slot,
 };
+pub use ppq_queue::{OpenFault, Out, Queue};
 pub use pushing::limited_are_going;
 pub use rejoining::rejoin;
 pub use running::run_both;

@@ -4,7 +4,7 @@ ghost use Rattle.ppq_pass.specs.ppq_record.Order.{is_before};
 ghost use Rattle.ppq_pass.specs.ppq_record.Bag.{IsSameBag};
 ghost use Rattle.ppq_pass.specs.ppq_budget.Sizes.{heap_of};
 ghost use Rattle.ppq_pass.specs.Passed.{IsOf, PassTells, with_one, IsRefusedPush};
-ghost use Rattle.ppq_pass.specs.ppq_queue.declared.fault.QueueFault.TheVariants.{Device};
+ghost use Rattle.ppq_pass.specs.ppq_array.declared.store_fault.StoreFault.TheVariants.{Device};
 ghost use Rattle.ppq_session.specs.Limited.{HoldsNothing, IsLimited, limited};
 
 use ppq_pass::{Full, Host, Pass, QueueFault, Record, Shared, Slot};

@@ -1,7 +1,7 @@
 //! Room for the buffers of the pool, whatever a front did.
 ghost use Rattle.std.specs.Prelude.{◌≡◌, ℕ, ◌<◌, ◌≤◌, ◌+◌, ◌-◌, ◌^◌, length, None};
 ghost use Rattle.ppq_pass.specs.ppq_pool.Seats.{count_of};
-ghost use Rattle.ppq_pass.specs.ppq_queue.Slots.{with_pool};
+ghost use Rattle.ppq_queue.specs.Slots.{with_pool};
 ghost use Rattle.ppq_session.specs.FrontState.{IsFront, IsTallied};
 ghost use Rattle.ppq_session.specs.Apart.{IsApart, apart_slots};
 ghost use Rattle.ppq_session.specs.Emptied.{emptied};

@@ -1,7 +1,7 @@
 //! Lists that are moved into others.
 ghost use Rattle.std.specs.Prelude.{◌≡◌, ◌≤◌, ◌<◌, ◌+◌, ◌-◌, ◌*◌, ◌^◌, ◌++◌, length, reverse, All, vec_capacity};
 ghost use Rattle.ppq_pass.specs.ppq_array.Owner.{HasSize, slots_shown};
-ghost use Rattle.ppq_pass.specs.ppq_queue.Slots.{with_slots};
+ghost use Rattle.ppq_queue.specs.Slots.{with_slots};
 
 use ppq_pass::{BerthList, BufList, OwnerLists, Record, Slot, free_slot};
 

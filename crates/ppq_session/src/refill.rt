@@ -4,7 +4,7 @@ ghost use Rattle.ppq_pass.specs.ppq_record.Bag.{IsSameBag};
 ghost use Rattle.ppq_pass.specs.ppq_outside.Shown.{AllTell};
 ghost use Rattle.ppq_pass.specs.ppq_array.Kept.{HasFailed};
 ghost use Rattle.ppq_pass.specs.ppq_fetch.Taking.{NoneBelow};
-ghost use Rattle.ppq_pass.specs.ppq_queue.Resting.{BodyKept, runs_bag};
+ghost use Rattle.ppq_queue.specs.Resting.{BodyKept, runs_bag};
 ghost use Rattle.ppq_session.specs.FrontState.{IsFront, IsSoundFront, front_slots, front_bag};
 
 use crate::BulkParts;

@@ -1,11 +1,12 @@
 //! A queue of the parts into which all passes were put.
 ghost use Rattle.std.specs.Prelude.{◌≡◌, ◌+◌, ◌*◌, ◌≤◌, [], List, None, max, min};
 ghost use Rattle.ppq_pass.specs.ppq_outside.Shown.{Shown};
-ghost use Rattle.ppq_pass.specs.ppq_queue.Resting.{slots_of};
+ghost use Rattle.ppq_queue.specs.Resting.{slots_of};
 ghost use Rattle.ppq_session.specs.Gathering.{IsGathered, gathered_bag};
 
 use crate::closed::Closed;
-use ppq_pass::{Heaps, Queue, QueueParts, Record, Sizes, Slot};
+use ppq_pass::{Heaps, Record, Sizes, Slot};
+use ppq_queue::{Queue, QueueParts};
 
 /// The queue of these parts, of a session in which so many records were popped: they count in its peak.
 pub fn rejoin<S: Slot + Send + Sync, R: Record + Send + Sync>(

@@ -4,7 +4,7 @@ ghost use Rattle.ppq_pass.specs.ppq_table.Sums.{all_shares};
 ghost use Rattle.ppq_pass.specs.ppq_array.Owner.{HasSize, slots_shown};
 ghost use Rattle.ppq_pass.specs.ppq_row.Seats.{IsSeatOf as IsRowSeat};
 ghost use Rattle.ppq_pass.specs.ppq_pool.Seats.{IsSeatOf as IsPoolSeat, count_of};
-ghost use Rattle.ppq_pass.specs.ppq_queue.Slots.{with_slots, with_pool};
+ghost use Rattle.ppq_queue.specs.Slots.{with_slots, with_pool};
 ghost use Rattle.ppq_session.specs.Shares.{bare, IsFirst};
 
 use crate::slots::{put_buffers, put_slots, take_buffers, take_slots};

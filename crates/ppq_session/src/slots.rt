@@ -1,7 +1,7 @@
 //! Slots and buffers that leave a supply and come back to it.
 ghost use Rattle.std.specs.Prelude.{◌≡◌, ◌≤◌, ◌+◌, ◌-◌, ◌*◌, ◌++◌, [], length, reverse, All, vec_capacity};
 ghost use Rattle.ppq_pass.specs.ppq_array.Owner.{HasSize, slots_shown};
-ghost use Rattle.ppq_pass.specs.ppq_queue.Slots.{with_slots, with_pool};
+ghost use Rattle.ppq_queue.specs.Slots.{with_slots, with_pool};
 
 use ppq_pass::{Berth, OwnerLists, PoolBuf, Record, Slot, Supply, free_slot, give_buffer};
 

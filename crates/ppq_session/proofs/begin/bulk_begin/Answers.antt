@@ -1,7 +1,7 @@
 use Rattle.std.proofs.Common.{◌≡◌, ℕ, ◌≤◌, Err, sym, ap₂, ◌∙◌, subst}
 use Rattle.ppq_pass.specs.ppq_outside.Shown.{AllTell}
 use Rattle.ppq_pass.specs.ppq_array.Kept.{SameSlots, all_writes}
-use Rattle.ppq_pass.specs.ppq_queue.Holding.{Holding, HasStopped, IsRefusal}
+use Rattle.ppq_queue.specs.Holding.{Holding, HasStopped, IsRefusal}
 use Rattle.ppq_session.specs.BulkSession.{IsBeginRefusal}
 use Rattle.ppq_session.specs.declared.fault.BeginFault.TheVariants.{Device}
 use Rattle.ppq_session.proofs.Begun.{Begins, ok_with, err_with, begun-passes, begun-bag, begun-tells}

@@ -5,7 +5,7 @@ use Rattle.ppq_pass.specs.ppq_array.declared.berth.DeviceBlock.{DeviceBlock}
 use Rattle.ppq_pass.specs.ppq_array.Owner.{slots_shown}
 use Rattle.ppq_pass.specs.ppq_array.Holdings.{external_slots}
 use Rattle.ppq_pass.specs.ppq_pool.Seats.{count_of}
-use Rattle.ppq_pass.specs.ppq_queue.Holding.{Holding}
+use Rattle.ppq_queue.specs.Holding.{Holding}
 use Rattle.ppq_session.specs.BulkSession.{bag_of}
 use Rattle.ppq_session.specs.Outfits.{IsOutfit}
 use Rattle.ppq_session.specs.declared.fault.BeginFault.TheVariants.{Memory}

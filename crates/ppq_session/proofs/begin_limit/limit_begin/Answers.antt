@@ -2,7 +2,7 @@ use Rattle.std.proofs.Common.{◌≡◌, ℕ, ◌∙◌, ap, ap₂, sym, subst, 
 use Rattle.std.specs.Prelude.{count_by, Err}
 use Rattle.ppq_pass.proofs.ppq_record.Order.{count_by-append}
 use Rattle.ppq_pass.proofs.ppq_spill.SameSlots.{SameSlots-trans}
-use Rattle.ppq_pass.specs.ppq_queue.Holding.{HasStopped, IsRefusal}
+use Rattle.ppq_queue.specs.Holding.{HasStopped, IsRefusal}
 use Rattle.ppq_pass.specs.ppq_outside.Shown.{AllTell}
 use Rattle.ppq_pass.specs.ppq_array.Kept.{SameSlots, all_writes}
 use Rattle.ppq_session.specs.BulkSession.{IsBeginRefusal, bag_of}

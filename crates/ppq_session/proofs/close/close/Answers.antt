@@ -1,7 +1,7 @@
 use Rattle.std.proofs.Common.{◌+◌, ◌-◌, ◌*◌, ◌∙◌, All, length, ap, sym, subst, refl, arith, length-drop}
 use Rattle.std.proofs.lemmas.List.Elements.{All-drop}
 use Rattle.ppq_pass.specs.ppq_array.Owner.{HasSize}
-use Rattle.ppq_pass.specs.ppq_queue.Slots.{with_pool}
+use Rattle.ppq_queue.specs.Slots.{with_pool}
 use Rattle.ppq_session.proofs.close.close.Goals as goal
 
 pub put_slots-requires-clause-room : goal.put_slots-requires-clause-room

@@ -3,7 +3,7 @@ use Rattle.ppq_pass.specs.ppq_outside.Shown.{AllTell}
 use Rattle.ppq_pass.specs.ppq_array.Owner.{slots_shown}
 use Rattle.ppq_pass.specs.ppq_array.Kept.{SameSlots, all_writes}
 use Rattle.ppq_pass.proofs.ppq_spill.SameSlots.{SameSlots-trans}
-use Rattle.ppq_pass.specs.ppq_queue.Resting.{slots_of}
+use Rattle.ppq_queue.specs.Resting.{slots_of}
 use Rattle.ppq_session.specs.Gathering.{slots_in}
 use Rattle.ppq_session.specs.Apart.{apart_slots}
 use Rattle.ppq_session.proofs.Joined.{MayClose, may_close}

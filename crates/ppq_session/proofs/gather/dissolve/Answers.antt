@@ -1,6 +1,6 @@
 use Rattle.std.proofs.Common.{◌++◌, arith, length-append}
 use Rattle.ppq_pass.specs.ppq_array.Holdings.{external_slots}
-use Rattle.ppq_pass.proofs.ppq_queue.Slots.{SameSums-length}
+use Rattle.ppq_queue.proofs.Slots.{SameSums-length}
 use Rattle.ppq_session.proofs.gather.dissolve.Goals as goal
 
 pub returns-clause-room : goal.returns-clause-room

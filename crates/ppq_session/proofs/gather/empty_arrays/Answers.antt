@@ -4,8 +4,8 @@ use Rattle.ppq_pass.specs.ppq_array.External.{External}
 use Rattle.ppq_pass.specs.ppq_array.Owner.{slots_shown}
 use Rattle.ppq_pass.specs.ppq_array.Holdings.{ArrayHasSize, external_buffers, external_slots}
 use Rattle.ppq_pass.proofs.ppq_array.Noted.{all_left}
-use Rattle.ppq_pass.specs.ppq_queue.Slots.{with_slots}
-use Rattle.ppq_pass.proofs.ppq_queue.Slots.{stored-push, stored-push_length, no_stored}
+use Rattle.ppq_queue.specs.Slots.{with_slots}
+use Rattle.ppq_queue.proofs.Slots.{stored-push, stored-push_length, no_stored}
 use Rattle.ppq_session.proofs.Emptying.{more_buffers}
 use Rattle.ppq_session.proofs.gather.empty_arrays.Goals as goal
 

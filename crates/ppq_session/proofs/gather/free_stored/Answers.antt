@@ -4,7 +4,7 @@ use Rattle.std.proofs.lemmas.List.Sums.{sum_by-append, sum_by-cons}
 use Rattle.ppq_pass.specs.ppq_array.Owner.{HasSize, slots_shown}
 use Rattle.ppq_pass.specs.ppq_array.declared.berth.DeviceBlock.{DeviceBlock}
 use Rattle.ppq_pass.proofs.ppq_array.Noted.{all_left}
-use Rattle.ppq_pass.specs.ppq_queue.Slots.{with_slots}
+use Rattle.ppq_queue.specs.Slots.{with_slots}
 use Rattle.ppq_session.proofs.gather.free_stored.Goals as goal
 
 pub freeing-preserved : goal.freeing-preserved

@@ -1,7 +1,7 @@
 use Rattle.std.proofs.Common.{◌≡◌, ℕ, ◌*◌, ◌∙◌, [], ◌∷◌, All, Option, Some, None, ap, sym, subst, refl, arith, length-append}
 use Rattle.ppq_pass.specs.ppq_array.Holdings.{ArrayHasSize}
 use Rattle.ppq_pass.specs.ppq_spill.declared.body.PassBody.{PassBody}
-use Rattle.ppq_pass.specs.ppq_queue.Slots.{with_slots}
+use Rattle.ppq_queue.specs.Slots.{with_slots}
 use Rattle.ppq_session.specs.declared.closed.Closed.{Closed}
 use Rattle.ppq_session.proofs.Gathered.{Adopted}
 use Rattle.ppq_session.proofs.PutIn.{PutIn, gathered-adopted, gathered-dissolved, bag-adopted, or_none, or_some}

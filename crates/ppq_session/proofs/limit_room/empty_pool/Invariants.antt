@@ -1,5 +1,5 @@
 use Rattle.std.proofs.Common.{◌≡◌, ◌+◌, length}
-use Rattle.ppq_pass.specs.ppq_queue.Slots.{with_pool}
+use Rattle.ppq_queue.specs.Slots.{with_pool}
 use Rattle.ppq_session.proofs.limit_room.empty_pool.Given as goal
 
 abbrev pub invariant-emptying : goal.invariant-emptying

@@ -1,7 +1,7 @@
 use Rattle.std.proofs.Common.{◌-◌, ◌*◌, ◌++◌, ◌∷◌, ◌∙◌, [], All, length, ap, ap₂, sym, subst, arith, append_assoc}
 use Rattle.std.proofs.lemmas.List.Elements.{All-tail}
 use Rattle.ppq_pass.specs.ppq_array.Owner.{HasSize, slots_shown}
-use Rattle.ppq_pass.specs.ppq_queue.Slots.{with_slots}
+use Rattle.ppq_queue.specs.Slots.{with_slots}
 use Rattle.ppq_session.proofs.moving.free_all.Goals as goal
 
 pub freeing-preserved : goal.freeing-preserved

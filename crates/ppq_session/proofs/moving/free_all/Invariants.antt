@@ -1,6 +1,6 @@
 use Rattle.std.proofs.Common.{◌≡◌, ◌+◌, ◌*◌, ◌++◌, length, All}
 use Rattle.ppq_pass.specs.ppq_array.Owner.{HasSize, slots_shown}
-use Rattle.ppq_pass.specs.ppq_queue.Slots.{with_slots}
+use Rattle.ppq_queue.specs.Slots.{with_slots}
 use Rattle.ppq_session.proofs.moving.free_all.Given as goal
 
 abbrev pub invariant-freeing : goal.invariant-freeing

@@ -1,9 +1,9 @@
 use Rattle.std.proofs.Common.{◌∙◌, ap, arith, refl, subst, sym}
 use Rattle.ppq_pass.specs.ppq_fetch.Fetching.{MayFetch}
 use Rattle.ppq_pass.specs.ppq_extract.Extracted.{sources_of}
-use Rattle.ppq_pass.specs.ppq_queue.Resting.{BodyKept}
-use Rattle.ppq_pass.proofs.ppq_queue.Moves.{ok-map, ok-map2, ok-map3, any_answer}
-use Rattle.ppq_pass.proofs.ppq_queue.Refilled.{kept-refilled}
+use Rattle.ppq_queue.specs.Resting.{BodyKept}
+use Rattle.ppq_queue.proofs.Moves.{ok-map, ok-map2, ok-map3, any_answer}
+use Rattle.ppq_queue.proofs.Refilled.{kept-refilled}
 use Rattle.ppq_session.proofs.Moved.{front-refilled, failed-kept}
 use Rattle.ppq_session.proofs.Refilling.{may_fetch, runs_served, sound-refilled, bag-refilled, ready-refilled, room_some}
 use Rattle.ppq_session.proofs.refill.refill_front.Goals as goal

@@ -2,7 +2,7 @@ use Rattle.std.proofs.Common.{◌≡◌, ◌≤◌, ◌+◌, ◌*◌, ◌∙◌,
 use Rattle.std.proofs.lemmas.Nat.{mul-le}
 use Rattle.ppq_pass.specs.ppq_heap.Heap.{Contents}
 use Rattle.ppq_pass.specs.ppq_budget.Sizes.{Numbers, AreInRange, heap_of}
-use Rattle.ppq_pass.specs.ppq_queue.Handed.{IsWhole}
+use Rattle.ppq_queue.specs.Handed.{IsWhole}
 use Rattle.ppq_session.proofs.Rejoined.{cap_first, parts_of, count_all, whole-rejoined}
 use Rattle.ppq_session.proofs.rejoining.rejoin.Given as given
 use Rattle.ppq_session.proofs.rejoining.rejoin.Goals.{After-drop-c}

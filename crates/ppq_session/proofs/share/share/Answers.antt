@@ -1,7 +1,7 @@
 use Rattle.std.proofs.Common.{◌≡◌, ℕ, ◌+◌, ◌*◌, All, length, sym, ap, ◌∙◌, subst, arith}
 use Rattle.ppq_pass.specs.ppq_array.Supply.{Stock}
 use Rattle.ppq_pass.specs.ppq_array.Owner.{HasSize, slots_shown}
-use Rattle.ppq_pass.specs.ppq_queue.Slots.{with_pool}
+use Rattle.ppq_queue.specs.Slots.{with_pool}
 use Rattle.ppq_session.proofs.Sharing.{as_many, put_back, undrawn}
 use Rattle.ppq_session.proofs.share.share.Goals as goal
 

@@ -1,5 +1,5 @@
 use Rattle.std.proofs.Common.{◌≡◌, ◌+◌, length, All}
-use Rattle.ppq_pass.specs.ppq_queue.Slots.{with_pool}
+use Rattle.ppq_queue.specs.Slots.{with_pool}
 use Rattle.ppq_session.proofs.slots.put_buffers.Given as goal
 
 abbrev pub invariant-putting : goal.invariant-putting

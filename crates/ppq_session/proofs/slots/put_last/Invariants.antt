@@ -1,6 +1,6 @@
 use Rattle.std.proofs.Common.{◌≡◌, ◌+◌, ◌*◌, ◌++◌, length, reverse, All}
 use Rattle.ppq_pass.specs.ppq_array.Owner.{HasSize, slots_shown}
-use Rattle.ppq_pass.specs.ppq_queue.Slots.{with_slots}
+use Rattle.ppq_queue.specs.Slots.{with_slots}
 use Rattle.ppq_session.proofs.slots.put_last.Given as goal
 
 abbrev pub invariant-putting : goal.invariant-putting

@@ -1,7 +1,7 @@
 use Rattle.std.specs.Prelude.{vec_capacity}
 use Rattle.std.proofs.Common.{◌≡◌, ◌+◌, ◌*◌, ◌++◌, length, All}
 use Rattle.ppq_pass.specs.ppq_array.Owner.{HasSize, slots_shown}
-use Rattle.ppq_pass.specs.ppq_queue.Slots.{with_slots}
+use Rattle.ppq_queue.specs.Slots.{with_slots}
 use Rattle.ppq_session.proofs.slots.take_slots.Given as goal
 
 abbrev pub invariant-taking : goal.invariant-taking

@@ -2,7 +2,7 @@ use Rattle.std.proofs.Common.{List, All, subst, arith}
 use Rattle.std.specs.Prelude.{Any, Ok, Err, ⊤}
 use Rattle.ppq_session.specs.ppq_record.declared.pair.Pair.{Pair}
 use Rattle.ppq_session.specs.ppq_queue.Holding.{Holding}
-use Rattle.ppq_session.specs.ppq_queue.declared.fault.QueueFault.TheVariants.{NoFreeBlock}
+use Rattle.ppq_session.specs.ppq_array.declared.store_fault.StoreFault.TheVariants.{NoFreeBlock}
 use Rattle.ppq_session.specs.BulkSession.{EndsIn}
 use Rattle.ppq_session.specs.Dealing.{IsGoing, HasEnded}
 use Rattle.ppq_load.specs.Loading.{InSession, IsLoaded}

@@ -1,6 +1,6 @@
 use Rattle.std.proofs.Common.{◌∙◌, ap, sym, subst}
 use Rattle.ppq_pass.specs.ppq_outside.Shown.{AllTell}
-use Rattle.ppq_pass.specs.ppq_queue.Resting.{runs_bag}
+use Rattle.ppq_queue.specs.Resting.{runs_bag}
 use Rattle.ppq_session.specs.Fronts.{IsReady, least_below}
 use Rattle.ppq_session.proofs.Belows.{ready_first}
 use Rattle.ppq_session.proofs.front.Front.first.Goals as goal

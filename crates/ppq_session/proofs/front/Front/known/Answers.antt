@@ -2,7 +2,7 @@ use Rattle.std.proofs.Common.{length, subst, arith, length-append}
 use Rattle.std.proofs.lemmas.List.{get_or_append_left}
 use Rattle.ppq_pass.specs.ppq_outside.Shown.{AllTell, Tells}
 use Rattle.ppq_pass.specs.ppq_array.Owner.{slots_shown}
-use Rattle.ppq_pass.specs.ppq_queue.Resting.{slots_of}
+use Rattle.ppq_queue.specs.Resting.{slots_of}
 use Rattle.ppq_session.specs.BulkSession.{HasBuffers}
 use Rattle.ppq_session.proofs.front.Front.known.Goals as goal
 

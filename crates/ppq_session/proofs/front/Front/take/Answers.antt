@@ -1,7 +1,7 @@
 use Rattle.std.proofs.Common.{◌+◌, ◌-◌, ◌∙◌, length, drop, refl, ap, sym, subst, arith, length-drop}
 use Rattle.std.specs.Prelude.{count_by}
 use Rattle.ppq_pass.specs.ppq_outside.Shown.{AllTell}
-use Rattle.ppq_pass.specs.ppq_queue.Resting.{runs_bag}
+use Rattle.ppq_queue.specs.Resting.{runs_bag}
 use Rattle.ppq_session.specs.Fronts.{IsReady, least_below, without_least_below}
 use Rattle.ppq_session.proofs.Belows.{ready_first}
 use Rattle.ppq_session.proofs.Taken.{first_some, first_none, front-taken, tallied-taken, sound-taken, bag-taken}
