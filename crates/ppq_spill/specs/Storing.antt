@@ -176,7 +176,7 @@ module _ {S R : Type 0} where
     pub size : HasOneSize shown width new now
     pub rooms : RoomsRest old new
 
-  -- how it ends; no buffer came back unless all is stored
+  -- how it ends: all is stored, too few slots were to be had, or a write failed
   abbrev pub StoreEnds : {T : Type 0} → (R → R → Ordering) → (List ℕ → R) → ℕ → (S → Shown) → List R → PassBody S R → PassBody S R → Stock → Stock → Result T StoreFault → Type 0
   StoreEnds cmp record_of width shown sorted old new before now (Ok _) = BlocksStored cmp record_of width shown sorted old new before now
   StoreEnds cmp record_of width shown sorted old new before now (Err NoFreeBlock) = NoSlots (length sorted) old new before now
