@@ -1,5 +1,5 @@
 -- A queue after a call of its store, whatever was answered.
-use Rattle.std.proofs.Common.{◌≡◌, ℕ, ◌+◌, ◌-◌, ◌<◌, ◌≤◌, List, [], ◌++◌, length, min, Bool, Option, None, Some, refl, sym, ap, ◌∙◌, subst, arith, inl, inr}
+use Rattle.std.proofs.Common.{◌≡◌, ℕ, ◌+◌, ◌-◌, ◌<◌, ◌≤◌, List, [], length, min, Bool, Option, None, Some, refl, sym, ap, ◌∙◌, subst, arith, inl, inr}
 use Rattle.std.specs.Prelude.{◌⊎◌, Result, Ok, Err, OnOk, OnErr, IfErr, IsErrOf}
 use Rattle.std.specs.declared.cmp.Ordering.{Ordering}
 use Rattle.std.specs.declared.cmp.Ordering.TheVariants.{Equal}
@@ -13,7 +13,7 @@ use Rattle.ppq_heap.specs.Heaps.{Shares, items_of}
 use Rattle.ppq_extract.specs.ppq_array.Kept.{HasFailed}
 use Rattle.ppq_extract.specs.ppq_array.declared.store_fault.StoreFault.{StoreFault}
 use Rattle.ppq_extract.specs.ppq_array.declared.store_fault.StoreFault.TheVariants.{NoFreeBlock, Device}
-use Rattle.ppq_queue.specs.Resting.{IsShort, slots_of, count_of}
+use Rattle.ppq_queue.specs.Resting.{IsShort}
 use Rattle.ppq_queue.specs.State.{IsQueue, IsSound}
 use Rattle.ppq_queue.specs.Stores.{HeapsStay, StoreKept, MayWork, Holds, Lacks, Refuses, stored, slots_in, whole_bag}
 use Rattle.ppq_queue.specs.Bulk.{TookOut, TookAll, TookFront}
@@ -29,15 +29,13 @@ use Rattle.ppq_queue.proofs.Flushed.{fault-kept, queue-kept, short-bounds, devic
 pub record Ended {R T : Type 0} (old new : Holding R) (r : Result T StoreFault) : Type 0 where
   pub same : OnOk r (SameRecords old new)
   pub refused : IfErr r (IsRefusal old new)
-  pub size : new.size ≡ old.size
   pub keeps : Keeps old new
 
 -- what stands after records were taken out into a list
 pub record BulkEnded {R T : Type 0} (cmp : R → R → Ordering) (limit : Option R) (most : ℕ) (old new : Holding R) (out : List R) (r : Result T StoreFault) : Type 0 where
   pub took : OnOk r (TookFront cmp limit most old new out)
   pub refused : IfErr r (IsRefusal old new)
-  pub size : new.size ≡ old.size - length out
-  pub keeps : Keeps old new
+  pub keeps : Keeps (record old { size = old.size - length out }) new
 
 module _ {S R : Type 0} (shown : S → Shown) (cmp : R → R → Ordering) (record_of : List ℕ → R) (width : ℕ) where
   -- the store of a sound queue may work
@@ -113,8 +111,8 @@ module _ {S R : Type 0} (shown : S → Shown) (cmp : R → R → Ordering) (reco
     sound-called count failed limited (Err (Device number)) sound above holds refused none = not_sound number none
 
     -- slots stay, and so does what the queue was made with
-    pub keeps-called : (count count' : ℕ) (failed failed' : Option ℕ) (limited : Bool) → Keeps (viewed shown record_of width x h count peak failed limited) (viewed shown record_of width y h' count' peak failed' limited)
-    keeps-called count count' failed failed' limited = record { slots = kept.body.slots; tells = kept.body.tells.0; writes = kept.body.writes; peak = refl; sizes = kept.sizes; limited = refl }
+    pub keeps-called : (count : ℕ) (failed failed' : Option ℕ) (limited : Bool) → Keeps (viewed shown record_of width x h count peak failed limited) (viewed shown record_of width y h' count peak failed' limited)
+    keeps-called count failed failed' limited = record { size = refl; slots = kept.body.slots; tells = kept.body.tells.0; writes = kept.body.writes; peak = refl; sizes = kept.sizes; limited = refl }
 
     found :
         (count : ℕ) (limited : Bool)
@@ -161,8 +159,7 @@ module _ {S R : Type 0} (shown : S → Shown) (cmp : R → R → Ordering) (reco
         let done : Ended from to r = record {
           same = same-called count limited r holds;
           refused = refused-called count limited r (subst (λ f. IsQueue shown x.sizes h x.extract x.body x.supply count peak f) none is) sound above refused;
-          size = refl;
-          keeps = keeps-called count count None (latched r None) limited;
+          keeps = keeps-called count None (latched r None) limited;
         } in
         let late : failed' ≡ latched r None = now ∙ ap (latched r) none in
         subst (λ q. Ended q (viewed shown record_of width y h' count peak failed' limited) r) (sym (ap (λ f. viewed shown record_of width x h count peak f limited) none) ∙ view)
@@ -261,8 +258,7 @@ module _ {S R : Type 0} (shown : S → Shown) (cmp : R → R → Ordering) (reco
           let done : BulkEnded cmp limit most from (viewed shown record_of width y h' less peak (latched r None) limited) out r = record {
             took = front r took;
             refused = fewer-refused r (latched r None) refused gone;
-            size = fewer;
-            keeps = keeps-called count less None (latched r None) limited;
+            keeps = subst (λ k. Keeps (viewed shown record_of width x h k peak None limited) (viewed shown record_of width y h' less peak (latched r None) limited)) fewer (keeps-called less None (latched r None) limited);
           } in
           let late : failed' ≡ latched r None = now ∙ ap (latched r) none in
           subst (λ q. BulkEnded cmp limit most q (viewed shown record_of width y h' less peak failed' limited) out r) (sym (ap (λ f. viewed shown record_of width x h count peak f limited) none) ∙ view)

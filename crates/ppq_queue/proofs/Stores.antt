@@ -1,12 +1,12 @@
 -- Calls of a store, one after the other: what stays, and what heaps and store hold together.
-use Rattle.std.proofs.Common.{◌≡◌, ℕ, ◌+◌, ◌*◌, ◌<◌, ◌≤◌, List, [], ◌∷◌, ◌++◌, length, Bool, true, false, cond, refl, sym, ap, ◌∙◌, subst, arith, inl, inr, length-append}
+use Rattle.std.proofs.Common.{◌≡◌, ℕ, ◌+◌, ◌<◌, ◌≤◌, List, [], ◌∷◌, ◌++◌, length, Bool, true, false, cond, refl, sym, ap, ◌∙◌, subst, arith, inr, length-append}
 use Rattle.std.specs.Prelude.{◌==◌, count_by, Result, Ok, Err, OnOk, IfErr, IsErrOf, IsErrAnd}
 use Rattle.std.specs.declared.cmp.Ordering.{Ordering}
 use Rattle.std.proofs.lemmas.List.Sums.{sum_by-cons, sum_by-append}
 use Rattle.ppq_heap.specs.ppq_record.Order.{Ascends}
 use Rattle.ppq_heap.specs.ppq_record.Bag.{IsSameBag}
 use Rattle.ppq_heap.proofs.ppq_record.Order.{count_by-append, IsSameBag-length}
-use Rattle.ppq_heap.specs.Heaps.{Shares, items_of}
+use Rattle.ppq_heap.specs.Heaps.{Shares}
 use Rattle.ppq_extract.specs.ppq_outside.Shown.{Shown, AllTell}
 use Rattle.ppq_extract.specs.ppq_array.Supply.{Stock}
 use Rattle.ppq_extract.specs.ppq_array.Kept.{HasFailed, weight_at}
@@ -18,7 +18,7 @@ use Rattle.ppq_extract.specs.Extracted.{Held, SourcesRest}
 use Rattle.ppq_extract.specs.declared.sources.Sources.{Sources}
 use Rattle.ppq_spill.specs.Leveling.{count_level}
 use Rattle.ppq_spill.specs.declared.body.PassBody.{PassBody}
-use Rattle.ppq_queue.specs.Resting.{AtRest, BodyKept, Moved, Readied, IsShort, runs_bag, count_of, slots_of}
+use Rattle.ppq_queue.specs.Resting.{AtRest, BodyKept, Moved, Readied, IsShort, runs_bag, count_of}
 use Rattle.ppq_queue.specs.Stores.{HeapsStay, ShareChanged, stored, StoreKept, StoreStays, FailsAlone, RunRefused, MayWork, Holds, Readies, Lacks, Refuses, slots_in}
 use Rattle.ppq_queue.specs.declared.store.Store.{Store}
 use Rattle.ppq_queue.proofs.Moves.{kept-refl, kept-trans, none_after-same, short-more}

@@ -5,12 +5,19 @@ use Rattle.ppq_heap.specs.ppq_record.Order.{is_before, Ascends}
 use Rattle.ppq_heap.specs.ppq_record.Bag.{IsSameBag, front, without_front, size_below}
 use Rattle.ppq_extract.specs.ppq_outside.Shown.{Shown, AllTell}
 use Rattle.ppq_extract.specs.ppq_fetch.Taking.{wanted, NoneAfter, IsTaken, AllBelow, NoneBelow}
+use Rattle.ppq_extract.specs.Extracted.{Held}
+use Rattle.ppq_queue.specs.Out.{Listed}
 use Rattle.ppq_queue.specs.Holding.{Holding}
 use Rattle.ppq_queue.specs.Resting.{count_of}
 use Rattle.ppq_queue.specs.Stores.{MayWork, stored, slots_in, whole_bag}
 use Rattle.ppq_queue.specs.declared.store.Store.{Store}
 use Rattle.ppq_queue.specs.declared.limit_end.LimitEnd.{LimitEnd}
 use Rattle.ppq_queue.specs.declared.limit_end.LimitEnd.TheVariants.{All, More, Round}
+
+-- the extract buffer and the list have the room that they had
+pub record RoomsStay {R : Type 0} (extract extract' : Held R) (out out' : Listed R) : Type 0 where
+  pub first : extract'.room ≡ extract.room
+  pub list : out'.room ≡ out.room
 
 module _ {R : Type 0} (cmp : R → R → Ordering) where
   -- Why a bulk pop with a limit ended, of so many records wanted and so many that one call returns at most, with what is left: none below the

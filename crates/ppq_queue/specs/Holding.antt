@@ -71,9 +71,10 @@ module _ {R : Type 0} where
     pub size : new.size ≡ old.size
     pub sound : new.failed ≡ None
 
-  -- whatever is answered: the slots stay, those that tell go on telling, and no write is forgotten; so stay peak, sizes, and whether a limit
-  -- session was begun
+  -- whatever is answered: as many records are counted, the slots stay, those that tell go on telling, and no write is forgotten; so stay peak,
+  -- sizes, and whether a limit session was begun
   pub record Keeps (old new : Holding R) : Type 0 where
+    pub size : new.size ≡ old.size
     pub slots : SameSlots old.slots new.slots
     pub tells : AllTell old.slots → AllTell new.slots
     pub writes : all_writes old.slots ≤ all_writes new.slots

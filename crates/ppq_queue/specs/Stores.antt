@@ -1,5 +1,5 @@
 -- What a store needs for its calls, what stays after them, and what they say.
-use Rattle.std.specs.Prelude.{◌≡◌, ◌⊎◌, ℕ, ◌+◌, ◌<◌, ◌≤◌, List, [], ◌++◌, length, Option, Some, None, Result, Ok, Err}
+use Rattle.std.specs.Prelude.{◌≡◌, ℕ, ◌+◌, ◌<◌, ◌≤◌, List, [], ◌++◌, length}
 use Rattle.std.specs.declared.cmp.Ordering.{Ordering}
 use Rattle.ppq_heap.specs.ppq_record.Order.{Ascends}
 use Rattle.ppq_heap.specs.ppq_record.Bag.{IsSameBag}
@@ -42,6 +42,11 @@ module _ {S R : Type 0} (shown : S → Shown) where
   -- all slots of a store
   abbrev pub slots_in : Store S R → List Shown
   slots_in store = slots_of shown store.body store.supply
+
+  -- whatever is answered: no slot and no buffer is lost or made, all lists keep their room, and no slot is drawn from a row
+  pub record RunsKept (old new : PassBody S R) (before now : Stock) : Type 0 where
+    pub body : BodyKept shown old new before now
+    pub no_row : now.drawn ≡ []
 
   -- whatever is answered: no slot and no buffer is lost or made, all lists keep their room, and the extract buffer is within its own
   pub record StoreKept (old new : Store S R) : Type 0 where

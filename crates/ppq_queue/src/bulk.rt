@@ -4,7 +4,7 @@ ghost use Rattle.std.specs.Prelude.{◌≡◌, ◌≤◌, ◌<◌, ◌+◌, ◌�
 ghost use Rattle.ppq_heap.specs.Heaps.{items_of};
 ghost use Rattle.ppq_queue.specs.Resting.{count_of};
 ghost use Rattle.ppq_queue.specs.Stores.{MayWork, StoreKept, HeapsStay, Refuses, FailsAlone};
-ghost use Rattle.ppq_queue.specs.Bulk.{Merged, Exhausted, HasEnded, TookAll};
+ghost use Rattle.ppq_queue.specs.Bulk.{Merged, Exhausted, HasEnded, RoomsStay, TookAll};
 ghost use Rattle.ppq_queue.specs.Bulk as spec;
 
 use crate::choice::goes_first;
@@ -119,8 +119,7 @@ fn merge<R: Record>(
     ensures few { length out.new.items ≤ most }
     ensures ended { HasEnded R.Ord.cmp most more limit (items_of heaps.new) extract.new.items out.new.items }
     ensures heaps { HeapsStay heaps.old heaps.new }
-    ensures room { extract.new.room ≡ extract.old.room }
-    ensures list_room { out.new.room ≡ out.old.room }
+    ensures rooms { RoomsStay extract.old extract.new out.old out.new }
 {
     record_laws::<R>();
     'moving: while goes_on(extract, more, most, out) {
@@ -158,8 +157,7 @@ fn move_next<R: Record>(
     ensures none { result ≡ false → length out.new.items ≡ length out.old.items }
     ensures ended { result ≡ false → Exhausted R.Ord.cmp more limit (items_of heaps.new) extract.new.items }
     ensures heaps { HeapsStay heaps.old heaps.new }
-    ensures room { extract.new.room ≡ extract.old.room }
-    ensures list_room { out.new.room ≡ out.old.room }
+    ensures rooms { RoomsStay extract.old extract.new out.old out.new }
 {
     record_laws::<R>();
     let latest = heaps.min();

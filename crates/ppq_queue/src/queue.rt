@@ -152,7 +152,6 @@ impl<S: Slot + Send + Sync, R: Record + Send + Sync> Queue<S, R> {
         ensures same { OnOk result (SameRecords self.old self.new) }
         ensures room { OnOk result (self.new.in_first < heap_of self.new.sizes) }
         ensures refused { IfErr result (IsRefusal self.old self.new) }
-        ensures size { self.new.size ≡ self.old.size }
         ensures keeps { Keeps self.old self.new }
     {
         self.heaps.known();
@@ -194,7 +193,6 @@ impl<S: Slot + Send + Sync, R: Record + Send + Sync> Queue<S, R> {
         ensures same { OnOk result (SameRecords self.old self.new) }
         ensures emptied { OnOk result (self.new.in_first ≡ 0) }
         ensures refused { IfErr result (IsRefusal self.old self.new) }
-        ensures size { self.new.size ≡ self.old.size }
         ensures keeps { Keeps self.old self.new }
     {
         let answer = self.store.flush_all(rt, &mut self.heaps, gate);
@@ -210,7 +208,6 @@ impl<S: Slot + Send + Sync, R: Record + Send + Sync> Queue<S, R> {
         ensures some { OnOk result (self.new.in_extract ≡ 0 → self.new.size ≡ self.new.in_heap) }
         ensures refused { IfErr result (IsRefusal self.old self.new) }
         ensures latched { (number : ℕ) → self.old.failed ≡ Some number → (result ≡ Err (Device number)) × (self.new ≡ self.old) }
-        ensures size { self.new.size ≡ self.old.size }
         ensures keeps { Keeps self.old self.new }
     {
         if let Some(number) = self.failed {
@@ -410,12 +407,11 @@ impl<S: Slot + Send + Sync, R: Record + Send + Sync> Queue<S, R> {
         H::Dir: Send,
         requires most { most ≤ out.old.room }
         ensures took { OnOk result (TookFront R.Ord.cmp limit most self.old self.new out.new.items) }
-        ensures size { self.new.size ≡ self.old.size - length out.new.items }
         ensures emptied { OnErr result (out.new.items ≡ []) }
         ensures list_room { out.new.room ≡ out.old.room }
         ensures refused { IfErr result (IsRefusal self.old self.new) }
         ensures latched { (number : ℕ) → self.old.failed ≡ Some number → (result ≡ Err (Device number)) × (self.new ≡ self.old) }
-        ensures keeps { Keeps self.old self.new }
+        ensures keeps { Keeps (record self.old { size = self.old.size - length out.new.items }) self.new }
     {
         record_laws::<R>();
         out.clear();
@@ -558,7 +554,6 @@ impl<S: Slot + Send + Sync, R: Record + Send + Sync> Queue<S, R> {
         ensures heaps { OnOk result (self.new.in_heap ≡ 0) }
         ensures settled { OnOk result (self.new.runs ≤ 64) }
         ensures refused { IfErr result (IsRefusal self.old self.new) }
-        ensures size { self.new.size ≡ self.old.size }
         ensures keeps { Keeps self.old self.new }
     {
         let answer = self.store.store_heaps(rt, &mut self.heaps, gate);

@@ -1,10 +1,10 @@
 //! The runs of a queue with all that works on them, and the first of their records.
-ghost use Rattle.std.specs.Prelude.{◌≡◌, ◌≤◌, ◌<◌, [], length, OnOk, IfErr};
+ghost use Rattle.std.specs.Prelude.{◌≤◌, ◌<◌, [], length, OnOk, IfErr};
 ghost use Rattle.ppq_heap.specs.ppq_record.Order.{Ascends};
 ghost use Rattle.ppq_extract.specs.ppq_outside.Shown.{AllTell};
 ghost use Rattle.ppq_spill.specs.Storing.{in_buffers};
-ghost use Rattle.ppq_queue.specs.Resting.{BodyKept, Moved, slots_of};
-ghost use Rattle.ppq_queue.specs.Stores.{RunsMayMove, RunRefused, MayWork, StoreStays, Holds, Refuses};
+ghost use Rattle.ppq_queue.specs.Resting.{Moved, slots_of};
+ghost use Rattle.ppq_queue.specs.Stores.{RunsMayMove, RunsKept, RunRefused, MayWork, StoreStays, Holds, Refuses};
 
 use crate::QueueFault;
 use ppq_extract::{Extract, Host, OwnerLists, Sizes, Slot, Sources};
@@ -55,8 +55,7 @@ pub fn store_run<H: Host, S: Slot + Send + Sync, R: Record + Send + Sync>(
     requires some { 0 < length sorted.now }
     requires most { length sorted.now ≤ sizes.memory }
     requires ascends { AllTell (slots_of S.shown body.old supply.old) → Ascends R.Ord.cmp sorted.now }
-    ensures kept { BodyKept S.shown body.old body.new supply.old supply.new }
-    ensures no_row { supply.new.drawn ≡ [] }
+    ensures kept { RunsKept S.shown body.old body.new supply.old supply.new }
     ensures stored { OnOk result (Moved S.shown R.Ord.cmp R.record_of R.WIDTH sizes sorted.now body.old body.new supply.old supply.new) }
     ensures refused { IfErr result (RunRefused S.shown R.Ord.cmp R.record_of R.WIDTH sizes (length sorted.now) body.old body.new supply.old supply.new) }
 {

@@ -9,8 +9,7 @@ moving-init g c = record {
   merged = merged-refl c.record_laws.ensures.order c.record_laws.ensures.same c.args.more c.args.limit (items_of c.args.heaps.now) c.args.extract.now.items c.args.out.now.items;
   few = c.requires.few;
   heaps = heaps-same c.args.heaps.now;
-  room = refl;
-  list_room = refl;
+  rooms = record { first = refl; list = refl };
 }
 
 pub moving-preserved : goal.moving-preserved
@@ -23,8 +22,7 @@ moving-preserved g c =
       merged = merged-then laws.order laws.same c.args.more c.args.limit (items_of c.args.heaps.now) (items_of c.moving.heaps) (items_of c.move_next.new.heaps) c.args.extract.now.items c.moving.extract.items c.move_next.new.extract.items c.args.out.now.items c.moving.out.items c.move_next.new.out.items i.merged e.merged;
       few = omega (arith, e.one yes, c.goes_on.ensures.some c.moving-test.true);
       heaps = heaps-more c.args.heaps.now c.moving.heaps c.move_next.new.heaps i.heaps e.heaps;
-      room = e.room ∙ i.room;
-      list_room = e.list_room ∙ i.list_room;
+      rooms = record { first = e.rooms.first ∙ i.rooms.first; list = e.rooms.list ∙ i.rooms.list };
     }
 
 pub returns-then-not-move_next : goal.returns-then-not-move_next
@@ -38,6 +36,5 @@ returns-then-not-move_next g c =
       few = omega (arith, e.none no, i.few);
       ended = inr (inr (e.ended no));
       heaps = heaps-more c.args.heaps.now c.moving.heaps c.move_next.new.heaps i.heaps e.heaps;
-      room = e.room ∙ i.room;
-      list_room = e.list_room ∙ i.list_room;
+      rooms = record { first = e.rooms.first ∙ i.rooms.first; list = e.rooms.list ∙ i.rooms.list };
     }

@@ -1,5 +1,4 @@
 use Rattle.std.proofs.Common.{length, ap}
-use Rattle.ppq_queue.specs.Resting.{BodyKept}
 use Rattle.ppq_queue.specs.Stores.{RunRefused}
 use Rattle.ppq_queue.proofs.Moves.{ok-map}
 use Rattle.ppq_queue.proofs.Stored.{kept-stored, may_store, moved-stored, short-stored}
@@ -26,8 +25,7 @@ returns g c =
     let no_row = c.free_slots-free.ensures.no_row in
     let kept = kept-stored shown a b s t e.kept e.tells n e.writes e.rooms (ap (λ h. h.0) home) (ap (λ h. h.1) home) runs.no_row no_row in
     record {
-      kept = kept;
-      no_row = no_row;
+      kept = record { body = kept; no_row = no_row };
       stored = ok-map m.result (moved-stored shown g.R.Ord.cmp g.R.Record.record_of g.R.Record.WIDTH c.args.sizes a b s t runs.rest kept e.size e.takes_back e.lanes c.args.sorted.now c.requires.some c.requires.ascends c.requires.few runs.no_row no_row) e.stored;
       refused = by_fault (RunRefused shown g.R.Ord.cmp g.R.Record.record_of g.R.Record.WIDTH c.args.sizes n a b s t) m.result
           (λ err. short-stored shown g.R.Ord.cmp g.R.Record.record_of g.R.Record.WIDTH c.args.sizes a b s t runs.rest kept e.size e.takes_back e.lanes c.args.sorted.now c.requires.some c.requires.ascends (e.none_free err))

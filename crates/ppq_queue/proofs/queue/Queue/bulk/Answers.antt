@@ -1,7 +1,7 @@
-use Rattle.std.proofs.Common.{◌≡◌, ◌-◌, ◌∙◌, [], length, ap, sym, subst, arith}
+use Rattle.std.proofs.Common.{◌≡◌, ◌-◌, ◌∙◌, length, ap, sym, subst, arith}
 use Rattle.ppq_heap.specs.Heaps.{items_of}
 use Rattle.ppq_queue.specs.Bulk.{TookAll}
-use Rattle.ppq_queue.proofs.Moves.{ok-map, ok-map2}
+use Rattle.ppq_queue.proofs.Moves.{ok-map2}
 use Rattle.ppq_queue.proofs.Flushed.{not_sound}
 use Rattle.ppq_queue.proofs.Calls.{may_work, bulk-stands, bulk-ended}
 use Rattle.ppq_queue.proofs.queue.Queue.bulk.Goals as goal
@@ -59,7 +59,6 @@ returns g c =
     let done = bulk-ended shown cmp record_of width x y h h' kept e.heaps s.peak c.args.limit c.args.most s.count less s.limited out fewer s.failed c.latch.new.failed m.result _ laws.order laws.same none c.latch.ensures view c.self.invariant.0 sound took e.refused e.same_heaps c.empty_on_error.ensures.emptied in
     record {
       took = done.took;
-      size = done.size;
       emptied = c.empty_on_error.ensures.emptied;
       list_room = c.empty_on_error.ensures.room ∙ e.list_room ∙ ap (λ l. l.room) c.clear.ensures;
       refused = done.refused;

@@ -66,6 +66,5 @@ returns g c =
       same = done.same;
       emptied = ok-map m.result (λ d. ap length d) e.first;
       refused = done.refused;
-      size = done.size;
       keeps = done.keeps;
     }

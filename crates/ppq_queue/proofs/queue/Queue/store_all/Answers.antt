@@ -74,6 +74,5 @@ returns g c =
       heaps = ok-map m.result (λ d. ap length d) e.none;
       settled = ok-map m.result (λ d. d.emptied.few) e.emptied;
       refused = done.refused;
-      size = done.size;
       keeps = done.keeps;
     }

@@ -1,8 +1,8 @@
-use Rattle.std.proofs.Common.{◌∙◌, [], length, refl, ap, subst, arith}
+use Rattle.std.proofs.Common.{◌∙◌, [], length, ap, subst, arith}
 use Rattle.ppq_heap.specs.Heaps.{items_of}
 use Rattle.ppq_queue.specs.Resting.{count_of}
 use Rattle.ppq_queue.specs.Bulk.{Merged}
-use Rattle.ppq_queue.specs.Stores.{FailsAlone, StoreKept}
+use Rattle.ppq_queue.specs.Stores.{FailsAlone}
 use Rattle.ppq_queue.proofs.Moves.{kept-refl}
 use Rattle.ppq_queue.proofs.Stores.{kept-same, kept-more, kept-step, same-sources, heaps-more, not_ok, on_given}
 use Rattle.ppq_queue.proofs.Took.{smaller, took-none, took-merged, took-held, took-all, stands-ended}
@@ -26,14 +26,14 @@ refilling-init g c =
     let left = items_of m.new.heaps in
     let more = c.has_run-first.result in
     let merged = subst (λ l. Merged cmp more limit h left x.extract.items v.items l out) c.requires.none m.ensures.merged in
-    let took = took-merged shown order record_of width limit most h h left x x v [] out more (kept-same shown x) (took-none shown order record_of width limit most h x works) c.has_run-first.ensures.none merged m.ensures.room m.ensures.few in
+    let took = took-merged shown order record_of width limit most h h left x x v [] out more (kept-same shown x) (took-none shown order record_of width limit most h x works) c.has_run-first.ensures.none merged m.ensures.rooms.first m.ensures.few in
     record {
-      kept = kept-step shown x x.body x.supply v x.sources (kept-refl shown x.body x.supply) works.runs.no_row (same-sources shown x) m.ensures.room (λ within. omega (arith, within, m.ensures.merged.fewer, m.ensures.room));
+      kept = kept-step shown x x.body x.supply v x.sources (kept-refl shown x.body x.supply) works.runs.no_row (same-sources shown x) m.ensures.rooms.first (λ within. omega (arith, within, m.ensures.merged.fewer, m.ensures.rooms.first));
       heaps = m.ensures.heaps;
       took = took;
       stands = stands-ended shown order record_of width limit most left (record x { extract = v }) out more took.works c.has_run-first.ensures.some c.has_run-first.ensures.none m.ensures.ended;
       few = c.requires.few;
-      list_room = m.ensures.list_room;
+      list_room = m.ensures.rooms.list;
     }
 
 pub refilling-smaller : goal.refilling-smaller
@@ -67,15 +67,15 @@ refilling-preserved g c =
     let more = c.has_run-more.result in
     let kept = kept-more shown x y z i.kept c.refill.ensures.kept in
     let filled = took-held shown order record_of width limit most h here x y z out i.kept i.took c.in_ok-refill.ensures.readied.holds in
-    let took = took-merged shown order record_of width limit most h here left x z v out out' more kept filled c.has_run-more.ensures.none m.ensures.merged m.ensures.room m.ensures.few in
-    let step = kept-step shown z z.body z.supply v z.sources (kept-refl shown z.body z.supply) filled.works.runs.no_row (same-sources shown z) m.ensures.room (λ within. omega (arith, within, m.ensures.merged.fewer, m.ensures.room)) in
+    let took = took-merged shown order record_of width limit most h here left x z v out out' more kept filled c.has_run-more.ensures.none m.ensures.merged m.ensures.rooms.first m.ensures.few in
+    let step = kept-step shown z z.body z.supply v z.sources (kept-refl shown z.body z.supply) filled.works.runs.no_row (same-sources shown z) m.ensures.rooms.first (λ within. omega (arith, within, m.ensures.merged.fewer, m.ensures.rooms.first)) in
     record {
       kept = kept-more shown x z last kept step;
       heaps = heaps-more c.args.heaps.now c.refilling.heaps m.new.heaps i.heaps m.ensures.heaps;
       took = took;
       stands = stands-ended shown order record_of width limit most left last out' more took.works c.has_run-more.ensures.some c.has_run-more.ensures.none m.ensures.ended;
       few = c.in_ok-refill.ensures.few;
-      list_room = m.ensures.list_room ∙ i.list_room;
+      list_room = m.ensures.rooms.list ∙ i.list_room;
     }
 
 pub returns-in_err-refill : goal.returns-in_err-refill

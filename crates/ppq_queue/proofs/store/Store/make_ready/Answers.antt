@@ -1,7 +1,7 @@
 use Rattle.std.proofs.Common.{[]}
-use Rattle.ppq_queue.specs.Stores.{Readies, Refuses}
+use Rattle.ppq_queue.specs.Stores.{Refuses}
 use Rattle.ppq_queue.proofs.Moves.{ok-map}
-use Rattle.ppq_queue.proofs.Stores.{kept-same, kept-more, holds-same, holds-more, refused-alone, err-map, not_ok, on_given}
+use Rattle.ppq_queue.proofs.Stores.{kept-more, holds-more, refused-alone, err-map, not_ok, on_given}
 use Rattle.ppq_queue.proofs.store.Store.make_ready.Goals as goal
 
 pub returns-in_err-settle : goal.returns-in_err-settle

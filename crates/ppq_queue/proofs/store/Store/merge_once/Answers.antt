@@ -3,7 +3,7 @@ use Rattle.ppq_extract.specs.ppq_array.Holdings.{external_buffers}
 use Rattle.ppq_extract.specs.ppq_array.Kept.{HasFailed}
 use Rattle.ppq_extract.specs.ppq_fetch.Fetching.{fronts_in}
 use Rattle.ppq_spill.specs.Leveling.{MayLevel, NoneForLevel}
-use Rattle.ppq_queue.specs.Stores.{Refuses, StoreStays}
+use Rattle.ppq_queue.specs.Stores.{Refuses}
 use Rattle.ppq_queue.proofs.Bounds.{arrays_few}
 use Rattle.ppq_queue.proofs.Counts.{count_some}
 use Rattle.ppq_queue.proofs.Moves.{ok-map, ok-map2}

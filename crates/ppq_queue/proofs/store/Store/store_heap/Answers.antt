@@ -1,4 +1,4 @@
-use Rattle.std.proofs.Common.{◌≡◌, ◌≤◌, ◌<◌, ◌∙◌, ◌++◌, [], length, ap, sym, subst, arith, refl, length-append}
+use Rattle.std.proofs.Common.{◌≡◌, ◌<◌, ◌∙◌, ◌++◌, length, ap, sym, subst, arith, refl, length-append}
 use Rattle.std.proofs.lemmas.Bool.Decides.{nat_tests}
 use Rattle.ppq_heap.proofs.ppq_record.Order.{IsSameBag-length}
 use Rattle.ppq_heap.specs.Heaps.{items_of, share_at}
@@ -60,12 +60,12 @@ returns-in_err-store_run g c =
     let run_long = IsSameBag-length run old (sorted-same c.record_laws.ensures.order old run c.sort_share.ensures.share) in
     let refused = subst (λ l. RunRefused shown cmp record_of width x.sizes (length l) x.body b x.supply t e) c.share-2.ensures.items c.in_err-store_run.ensures.refused in
     record {
-      stays = record { kept = kept-step shown x b t x.extract x.sources made.kept made.no_row (same-sources shown x) refl (λ within. within); extract = omega arith };
+      stays = record { kept = kept-step shown x b t x.extract x.sources made.kept.body made.kept.no_row (same-sources shown x) refl (λ within. within); extract = omega arith };
       changed = record { only = c.sort_share.ensures.others; fewer = omega (arith, long) };
       emptied = not_ok _ c.from_residual.result e c.from_residual.ensures.1;
       share = not_ok _ c.from_residual.result e c.from_residual.ensures.1;
       refused = on_given (Refuses shown cmp record_of width h (items_of sorted) x y) c.from_residual.result e c.from_residual.ensures.1
-          (refused-sorted shown cmp record_of width h (items_of sorted) x y e same (run-refused shown cmp record_of width x b t c.requires.works made.kept made.no_row h (length run) e (omega (arith, some, ap length c.share.ensures.items, run_long)) (omega (arith, long, share_most sorted c.args.place)) refused));
+          (refused-sorted shown cmp record_of width h (items_of sorted) x y e same (run-refused shown cmp record_of width x b t c.requires.works made.kept.body made.kept.no_row h (length run) e (omega (arith, some, ap length c.share.ensures.items, run_long)) (omega (arith, long, share_most sorted c.args.place)) refused));
     }
 
 pub settle-requires-clause-works : goal.settle-requires-clause-works
@@ -80,7 +80,7 @@ settle-requires-clause-works g c κs within =
     let t = c.store_run.new.supply in
     let made = c.store_run.ensures in
     let moved = subst (λ l. Moved shown cmp record_of width x.sizes l x.body b x.supply t) c.share-2.ensures.items c.in_ok-store_run.ensures.stored in
-    (holds-heap shown cmp record_of width x b t c.requires.works made.kept made.no_row (items_of c.args.heaps.now) sorted (items_of c.clear_share.new.self) c.requires.emptied.no_extract (λ p. sym (c.sort_share.ensures.bag p) ∙ c.clear_share.ensures.bag p) moved).works
+    (holds-heap shown cmp record_of width x b t c.requires.works made.kept.body made.kept.no_row (items_of c.args.heaps.now) sorted (items_of c.clear_share.new.self) c.requires.emptied.no_extract (λ p. sym (c.sort_share.ensures.bag p) ∙ c.clear_share.ensures.bag p) moved).works
 
 pub returns : goal.returns
 returns g c =
@@ -99,10 +99,10 @@ returns g c =
     let z = c.settle.new.self in
     let made = c.store_run.ensures in
     let moved = subst (λ l. Moved shown cmp record_of width x.sizes l x.body b x.supply t) c.share-2.ensures.items c.in_ok-store_run.ensures.stored in
-    let kept = kept-step shown x b t x.extract x.sources made.kept made.no_row (same-sources shown x) refl (λ within. within) in
+    let kept = kept-step shown x b t x.extract x.sources made.kept.body made.kept.no_row (same-sources shown x) refl (λ within. within) in
     let stays : StoreStays shown x y = record { kept = kept; extract = omega arith } in
     let none = c.requires.emptied.no_extract in
-    let holds = holds-heap shown cmp record_of width x b t c.requires.works made.kept made.no_row h sorted left none (λ p. sym (c.sort_share.ensures.bag p) ∙ c.clear_share.ensures.bag p) moved in
+    let holds = holds-heap shown cmp record_of width x b t c.requires.works made.kept.body made.kept.no_row h sorted left none (λ p. sym (c.sort_share.ensures.bag p) ∙ c.clear_share.ensures.bag p) moved in
     let two = c.settle.ensures in
     let beside = holds-beside shown cmp record_of width left y z in
     record {

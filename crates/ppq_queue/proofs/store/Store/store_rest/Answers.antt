@@ -31,10 +31,10 @@ returns-in_err-store_run g c =
     let n = length x.extract.items in
     let some : 0 < n = some_list x.extract.items (λ none. absurd (false≢true (sym c.if-is_empty.false ∙ c.is_empty.ensures.1 none))) in
     record {
-      stays = record { kept = kept-step shown x b t x.extract x.sources made.kept made.no_row (same-sources shown x) refl (λ within. within); extract = omega arith };
+      stays = record { kept = kept-step shown x b t x.extract x.sources made.kept.body made.kept.no_row (same-sources shown x) refl (λ within. within); extract = omega arith };
       emptied = not_ok _ c.from_residual.result e c.from_residual.ensures.1;
       refused = on_given (Refuses shown g.R.Ord.cmp g.R.Record.record_of g.R.Record.WIDTH [] [] x (record x { body = b; supply = t })) c.from_residual.result e c.from_residual.ensures.1
-          (run-refused shown g.R.Ord.cmp g.R.Record.record_of g.R.Record.WIDTH x b t c.requires.works made.kept made.no_row [] n e some (omega arith) (subst (λ l. RunRefused shown g.R.Ord.cmp g.R.Record.record_of g.R.Record.WIDTH x.sizes (length l) x.body b x.supply t e) c.rest.ensures c.in_err-store_run.ensures.refused));
+          (run-refused shown g.R.Ord.cmp g.R.Record.record_of g.R.Record.WIDTH x b t c.requires.works made.kept.body made.kept.no_row [] n e some (omega arith) (subst (λ l. RunRefused shown g.R.Ord.cmp g.R.Record.record_of g.R.Record.WIDTH x.sizes (length l) x.body b x.supply t e) c.rest.ensures c.in_err-store_run.ensures.refused));
     }
 
 pub settle-requires-clause-works : goal.settle-requires-clause-works
@@ -46,7 +46,7 @@ settle-requires-clause-works g c κs within =
     let made = c.store_run.ensures in
     let moved = subst (λ l. Moved shown g.R.Ord.cmp g.R.Record.record_of g.R.Record.WIDTH x.sizes l x.body b x.supply t) c.rest.ensures c.in_ok-store_run.ensures.stored in
     let gone = c.clear.ensures in
-    (holds-rest shown g.R.Ord.cmp g.R.Record.record_of g.R.Record.WIDTH x b t c.requires.works made.kept made.no_row c.clear.new.self (ap (λ v. v.room) gone) (ap (λ v. v.items) gone) moved).works
+    (holds-rest shown g.R.Ord.cmp g.R.Record.record_of g.R.Record.WIDTH x b t c.requires.works made.kept.body made.kept.no_row c.clear.new.self (ap (λ v. v.room) gone) (ap (λ v. v.items) gone) moved).works
 
 pub returns : goal.returns
 returns g c =
@@ -64,9 +64,9 @@ returns g c =
     let moved = subst (λ l. Moved shown cmp record_of width x.sizes l x.body b x.supply t) c.rest.ensures c.in_ok-store_run.ensures.stored in
     let room = ap (λ v. v.room) c.clear.ensures in
     let none = ap (λ v. v.items) c.clear.ensures in
-    let kept = kept-step shown x b t v x.sources made.kept made.no_row (same-sources shown x) room (λ within. omega (arith, ap length none)) in
+    let kept = kept-step shown x b t v x.sources made.kept.body made.kept.no_row (same-sources shown x) room (λ within. omega (arith, ap length none)) in
     let stays : StoreStays shown x y = record { kept = kept; extract = omega (arith, ap length none) } in
-    let holds = holds-rest shown cmp record_of width x b t c.requires.works made.kept made.no_row v room none moved in
+    let holds = holds-rest shown cmp record_of width x b t c.requires.works made.kept.body made.kept.no_row v room none moved in
     let two = c.settle.ensures in
     record {
       stays = stays-more shown x y z stays two.stays;
