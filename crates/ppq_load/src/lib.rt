@@ -8,11 +8,14 @@
 //! Contracts say by `InSession` which records were given since the session began.
 #![tactic(auto)]
 
+mod context;
 mod fault;
 mod file;
 mod fill;
 mod generate;
 mod load;
+mod part;
+mod source;
 
 pub use fault::LoadFault;
 pub use file::load_file;
