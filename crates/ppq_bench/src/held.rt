@@ -148,19 +148,33 @@ where
     Ok(removed)
 }
 
-// Holds so many records in a queue by so many workers over a device file, and turns them over once.
+// What is held: so many records from a number of the generator on, by so many workers.
+#[derive(Clone, Copy)]
+pub(crate) struct Task {
+    // The number that is in front of the first record's.
+    pub(crate) seed: u64,
+    // How many records there are.
+    pub(crate) count: u32,
+    // How many workers there are.
+    pub(crate) workers: u32,
+}
+
+// Holds records in a queue over a device file, and turns them over once.
 pub(crate) fn hold<H: Host>(
     rt: &H,
     alloc: Global,
     shape: Shape,
-    seed: u64,
-    count: u32,
-    workers: u32,
+    task: Task,
     device: &str,
 ) -> io::Result<Removed>
 where
     H::Dir: Send,
 {
+    let Task {
+        seed,
+        count,
+        workers,
+    } = task;
     let Some(sizes) = sizes_for(shape, count, workers) else {
         return Err(io::Error::from(ErrorKind::InvalidInput));
     };

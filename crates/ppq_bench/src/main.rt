@@ -16,7 +16,7 @@ mod load;
 mod merges;
 mod slots;
 
-use held::{Removed, Shape, hold};
+use held::{Removed, Shape, Task, hold};
 use load::{Load, out_of_memory};
 use merges::{as_sorted, picoseconds};
 use ppq_queue::Host;
@@ -122,7 +122,12 @@ where
 {
     check_merges(rt, alloc)?;
     for workers in WORKERS {
-        print_removed(rt, hold(rt, alloc, SMALL, SEED, HELD, workers, DEVICE)?)?;
+        let task = Task {
+            seed: SEED,
+            count: HELD,
+            workers,
+        };
+        print_removed(rt, hold(rt, alloc, SMALL, task, DEVICE)?)?;
     }
     Ok(())
 }
@@ -138,7 +143,12 @@ where
     let seed = seed.parse().map_err(|_| bad_argument())?;
     let count = count.parse().map_err(|_| bad_argument())?;
     let workers = workers.parse().map_err(|_| bad_argument())?;
-    print_removed(rt, hold(rt, alloc, LARGE, seed, count, workers, device)?)
+    let task = Task {
+        seed,
+        count,
+        workers,
+    };
+    print_removed(rt, hold(rt, alloc, LARGE, task, device)?)
 }
 
 fn main(rt: HostRuntime) -> io::Result<()> {

@@ -6,7 +6,7 @@ use Rattle.std.proofs.lemmas.Bool.{cases_lt, lt-ltb, le-ltb}
 use Rattle.ppq_words.specs.ppq_record.declared.pair.Pair.{Pair}
 use Rattle.ppq_words.specs.ppq_record.Given.{records_of}
 use Rattle.ppq_words.specs.ppq_outside.Shown.{Shown, AllTell}
-use Rattle.ppq_words.specs.ppq_outside.Told.{Reply, Remembers, TakesAll, bytes_or_none}
+use Rattle.ppq_words.specs.ppq_outside.Told.{Reply, Remembers, bytes_or_none}
 use Rattle.ppq_words.specs.ppq_budget.Sizes.{Numbers, fixed_of}
 use Rattle.ppq_words.specs.ppq_script.declared.command.Command.{Command}
 use Rattle.ppq_words.specs.ppq_script.declared.numbered.Numbered.{Numbered}
@@ -14,9 +14,9 @@ use Rattle.ppq_words.specs.ppq_script.Files.{name_at, is_usable}
 use Rattle.ppq_words.specs.ppq_script.Lines.{names_of, numbered_of, first_bad_by}
 use Rattle.ppq_words.specs.ppq_script.Checking.{with_sizes}
 use Rattle.ppq_words.specs.ppq_script.Reading.{Reading, command_list}
-use Rattle.ppq_engine.specs.Loads.{most_of, least_of, begins_limit, FitsWritten}
+use Rattle.ppq_engine.specs.Loads.{begins_limit}
 use Rattle.ppq_engine.specs.Refusal.{HasRoom, HasNoRoom}
-use Rattle.ppq_engine.specs.Output.{AreFilesOf, KeepsLengths, given_of, output_of, load_of, crest_of, TakesWithin}
+use Rattle.ppq_engine.specs.Output.{AreFilesOf, KeepsLengths, given_of}
 use Rattle.ppq_engine.specs.Running.{HasChanged}
 use Rattle.ppq_engine.specs.Outcome.{TakesBeforeFile, TakesBeforeLoad, FaultBeforeFile}
 use Rattle.ppq_engine.specs.Ends.{budget_refusal, BeganCommands, BeganOrRefused, NoFault}
@@ -28,8 +28,9 @@ use Rattle.ppq_cli.specs.declared.load.LoadFault.{LoadFault}
 use Rattle.ppq_cli.specs.declared.load.LoadFault.TheVariants as load
 use Rattle.ppq_cli.specs.Load.{load_end, script_kinds}
 use Rattle.ppq_cli.specs.RunWords.{Files, refusal_of_bad, refusal_of_file, script_commands, script_given, IsTried, IsGivenUp, MayWrite, IsAnswer, IsTriedOrRefusal, OfFile, IsTooLarge, EndsWell}
+use Rattle.ppq_cli.specs.RunOver.{RunWrites}
 use Rattle.ppq_cli.specs.Device.{IsSurelyRun, AreBlocks}
-use Rattle.ppq_cli.specs.Replies.{IsScript, OfGood, RefusalIsRight, RunIsRight, ForFiles, HasRunPart, HasRunToFile, HasRunToLoad, FaultToFile}
+use Rattle.ppq_cli.specs.Replies.{IsScript, OfGood, RefusalIsRight, RunIsRight, HasRunToFile, HasRunToLoad, FaultToFile}
 
 -- the three ways of a script that was loaded: its budget is too small, it was tried, or memory was wanting
 abbrev Ways : Numbers → End → Type 0
@@ -96,51 +97,33 @@ module _ (told : Option (List ℕ → Option (List ℕ))) (replied : Reply → T
   -- how a script that was loaded was run
   pub loaded_run :
       (tells : Type 0) (script : Reading) (before now : Option (List ℕ)) (blocks : List Shown) (end : End)
-      → IsScript told replied name sizes.workers script → IsTriedOrRefusal (budget_refusal sizes) end
-      → (end ≡ Done → ForFiles tells told script (λ given commands. TakesAll before now (output_of given commands)))
-      → HasRunPart tells told before now script
-      → (end ≡ NoFreeBlock → ForFiles tells told script (λ given commands. TakesWithin given before now sizes commands))
-      → (end ≡ Memory → (now ≡ before) ⊎ HasRunToLoad tells told before now script) → FaultToFile tells told before now script end
-      → (end ≡ NoFreeBlock → ForFiles tells told script (λ given commands. HasNoRoom sizes (begins_limit commands) (load_of given commands)))
-      → (end ≡ NoFreeBlock → HasNoRoom sizes (begins_limit (command_list script)) (most_of (command_list script)))
-      → (end ≡ Done → ForFiles tells told script (λ given commands. FitsWritten (crest_of given commands) sizes blocks))
-      → (end ≡ Done → FitsWritten (least_of (command_list script)) sizes blocks) → RunIsRight tells told replied name sizes before now blocks end
-  loaded_run tells script before now blocks Done is answer done part within memory file above above_any used used_any =
-      (reaches sizes Done tt (ways sizes Done answer), (script, (is, record { took = done refl; crest = used refl; least = used_any refl })))
-  loaded_run tells script before now blocks (BadLine line) is answer done part within memory file above above_any used used_any = tt
-  loaded_run tells script before now blocks Usage is answer done part within memory file above above_any used used_any = tt
-  loaded_run tells script before now blocks ReadFault is answer done part within memory file above above_any used used_any = inr (reaches sizes ReadFault tt (ways sizes ReadFault answer), (script, (is, file)))
-  loaded_run tells script before now blocks WriteFault is answer done part within memory file above above_any used used_any = (reaches sizes WriteFault tt (ways sizes WriteFault answer), (script, (is, part)))
-  loaded_run tells script before now blocks (DeviceFault number) is answer done part within memory file above above_any used used_any = (reaches sizes (DeviceFault number) tt (ways sizes (DeviceFault number) answer), (script, (is, part)))
-  loaded_run tells script before now blocks NoFreeBlock is answer done part within memory file above above_any used used_any =
-      (reaches sizes NoFreeBlock tt (ways sizes NoFreeBlock answer), (script, (is, record { part = part; within = within refl; above = above refl; above_any = above_any refl })))
-  loaded_run tells script before now blocks (BudgetTooSmall need) is answer done part within memory file above above_any used used_any = tt
-  loaded_run tells script before now blocks Memory is answer done part within memory file above above_any used used_any =
-      elim (memory refl) as (λ _. (now ≡ before) ⊎ OfGood told replied name sizes (HasRunToLoad tells told before now)) [ inl same ↦ inl same | inr ran ↦ inr (script, (is, ran)) ]
-  loaded_run tells script before now blocks (FileChanged line said got) is answer done part within memory file above above_any used used_any =
-      inr (reaches sizes (FileChanged line said got) tt (ways sizes (FileChanged line said got) answer), (script, (is, file)))
-  loaded_run tells script before now blocks NoDevice is answer done part within memory file above above_any used used_any = tt
-  loaded_run tells script before now blocks NoScript is answer done part within memory file above above_any used used_any = tt
-  loaded_run tells script before now blocks ScriptTooLong is answer done part within memory file above above_any used used_any = tt
+      → IsScript told replied name sizes.workers script → IsTriedOrRefusal (budget_refusal sizes) end → RunWrites tells told before now sizes script blocks end → RunIsRight tells told replied name sizes before now blocks end
+  loaded_run tells script before now blocks Done is answer w = (reaches sizes Done tt (ways sizes Done answer), (script, (is, w.done refl)))
+  loaded_run tells script before now blocks (BadLine line) is answer w = tt
+  loaded_run tells script before now blocks Usage is answer w = tt
+  loaded_run tells script before now blocks ReadFault is answer w = inr (reaches sizes ReadFault tt (ways sizes ReadFault answer), (script, (is, w.file)))
+  loaded_run tells script before now blocks WriteFault is answer w = (reaches sizes WriteFault tt (ways sizes WriteFault answer), (script, (is, w.part)))
+  loaded_run tells script before now blocks (DeviceFault number) is answer w = (reaches sizes (DeviceFault number) tt (ways sizes (DeviceFault number) answer), (script, (is, w.part)))
+  loaded_run tells script before now blocks NoFreeBlock is answer w = (reaches sizes NoFreeBlock tt (ways sizes NoFreeBlock answer), (script, (is, w.full refl)))
+  loaded_run tells script before now blocks (BudgetTooSmall need) is answer w = tt
+  loaded_run tells script before now blocks Memory is answer w =
+      elim (w.memory refl) as (λ _. (now ≡ before) ⊎ OfGood told replied name sizes (HasRunToLoad tells told before now)) [ inl same ↦ inl same | inr ran ↦ inr (script, (is, ran)) ]
+  loaded_run tells script before now blocks (FileChanged line said got) is answer w = inr (reaches sizes (FileChanged line said got) tt (ways sizes (FileChanged line said got) answer), (script, (is, w.file)))
+  loaded_run tells script before now blocks NoDevice is answer w = tt
+  loaded_run tells script before now blocks NoScript is answer w = tt
+  loaded_run tells script before now blocks ScriptTooLong is answer w = tt
 
 -- the same where the library is asked later, and tells the same
 pub later_run :
     (told later : Option (List ℕ → Option (List ℕ))) (first replied : Reply → Type 0) (name : List ℕ) (sizes : Numbers) (workers : ℕ) (tells : Type 0) (script : Reading) (before now : Option (List ℕ)) (blocks : List Shown) (end : End)
-    → later ≡ told → workers ≡ sizes.workers → Remembers first replied → IsScript told first name workers script → IsTriedOrRefusal (budget_refusal sizes) end
-    → (end ≡ Done → ForFiles tells later script (λ given commands. TakesAll before now (output_of given commands)))
-    → HasRunPart tells later before now script
-    → (end ≡ NoFreeBlock → ForFiles tells later script (λ given commands. TakesWithin given before now sizes commands))
-    → (end ≡ Memory → (now ≡ before) ⊎ HasRunToLoad tells later before now script) → FaultToFile tells later before now script end
-    → (end ≡ NoFreeBlock → ForFiles tells later script (λ given commands. HasNoRoom sizes (begins_limit commands) (load_of given commands)))
-    → (end ≡ NoFreeBlock → HasNoRoom sizes (begins_limit (command_list script)) (most_of (command_list script)))
-    → (end ≡ Done → ForFiles tells later script (λ given commands. FitsWritten (crest_of given commands) sizes blocks))
-    → (end ≡ Done → FitsWritten (least_of (command_list script)) sizes blocks) → RunIsRight tells told replied name sizes before now blocks end
-later_run told later first replied name sizes workers tells script before now blocks end kept same remembers is answer done part within memory file above above_any used used_any =
+    → later ≡ told → workers ≡ sizes.workers → Remembers first replied → IsScript told first name workers script → IsTriedOrRefusal (budget_refusal sizes) end → RunWrites tells later before now sizes script blocks end
+    → RunIsRight tells told replied name sizes before now blocks end
+later_run told later first replied name sizes workers tells script before now blocks end kept same remembers is answer w =
     let P : Option (List ℕ → Option (List ℕ)) → Type 0 = λ t. RunIsRight tells t replied name sizes before now blocks end in
     let Q : Option (List ℕ → Option (List ℕ)) → Type 0 = λ t. IsScript t replied name sizes.workers script in
     let W : ℕ → Type 0 = λ w. IsScript told replied name w script in
     let now_is : IsScript told replied name sizes.workers script = subst W same (script_remembered told first replied name workers script remembers is) in
-    subst P kept (loaded_run later replied name sizes tells script before now blocks end (subst Q (sym kept) now_is) answer done part within memory file above above_any used used_any)
+    subst P kept (loaded_run later replied name sizes tells script before now blocks end (subst Q (sym kept) now_is) answer w)
 
 pub later_refusal :
     (told later : Option (List ℕ → Option (List ℕ))) (first replied : Reply → Type 0) (name : List ℕ) (sizes : Numbers) (workers : ℕ) (script : Reading) (end : End)

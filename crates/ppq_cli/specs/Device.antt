@@ -1,12 +1,12 @@
 -- The blocks of a device.
-use Rattle.std.specs.Prelude.{◌≡◌, ◌≤◌, ◌⊎◌, ⊤, ℕ, List, length, map, All, Vec, Result, Ok, Err}
+use Rattle.std.specs.Prelude.{◌≡◌, ◌≤◌, ◌⊎◌, ◌*◌, ⊤, ℕ, List, length, map, All, Vec, Result, Ok, Err, OnOk, IfErr}
 use Rattle.std.specs.List.{range_with_len}
 use Rattle.std.specs.List.Sorted.{IsPermutation}
 use Rattle.std.specs.declared.alloc.Global.{Global}
 use Rattle.ppq_words.specs.ppq_outside.declared.fault.OutsideFault.{OutsideFault}
 use Rattle.ppq_words.specs.ppq_outside.declared.fault.OutsideFault.TheVariants.{Failed, Memory}
 use Rattle.ppq_words.specs.ppq_outside.Told.{Rose}
-use Rattle.ppq_words.specs.ppq_outside.Shown.{Shown}
+use Rattle.ppq_words.specs.ppq_outside.Shown.{Shown, AllTell}
 use Rattle.ppq_words.specs.ppq_budget.Sizes.{Numbers}
 use Rattle.ppq_engine.specs.ppq_queue.Holding.{IsNewSlot}
 use Rattle.ppq_engine.specs.Ends.{BeganCommands}
@@ -27,6 +27,18 @@ made_in (Err refused) = refused.0.items
 abbrev pub HasReason : ℕ → ℕ → OutsideFault → Type 0
 HasReason before now Failed = Rose before now
 HasReason before now Memory = now ≡ before
+
+-- A count of faults where blocks are made: it did not fall, it stayed where all were made, and else did what the reason says
+pub record RackCounts {S : Type 0} (before now : ℕ) (result : Result (Vec S Global) (Vec S Global × OutsideFault)) : Type 0 where
+  pub later : before ≤ now
+  pub stays : OnOk result (now ≡ before)
+  pub reason : IfErr result (λ refused. HasReason before now refused.1)
+
+-- new blocks for a device of these sizes, no more than it has; where the rack tells, they do
+pub record AreMade {S : Type 0} (shown : S → Shown) (tells : Type 0) (sizes : Numbers) (blocks : List S) : Type 0 where
+  pub most : length blocks ≤ sizes.blocks
+  pub new : AreNew (sizes.block * 16) (map shown blocks)
+  pub tell : tells → AllTell (map shown blocks)
 
 -- why not all blocks were made, as an end
 abbrev pub make_end : OutsideFault → End

@@ -2,6 +2,7 @@ pub mod Device
 pub mod Load
 pub mod Replies
 pub mod Report
+pub mod RunOver
 pub mod RunWords
 pub mod Status
 pub mod Twice

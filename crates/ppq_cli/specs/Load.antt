@@ -1,12 +1,13 @@
 -- Loading a script from a library.
-use Rattle.std.specs.Prelude.{◌≡◌, ℕ, ◌<◌, ◌≤◌, List, length, Option, Some, None, IfSome, ⊤}
-use Rattle.ppq_words.specs.ppq_outside.Told.{bytes_or_none}
+use Rattle.std.specs.Prelude.{◌≡◌, ℕ, ◌<◌, ◌≤◌, List, length, Option, Some, None, IfSome, Result, OnOk, IfErr, IsErrOf, ⊤}
+use Rattle.ppq_words.specs.ppq_outside.Told.{Rose, bytes_or_none}
 use Rattle.ppq_words.specs.ppq_outside.declared.fault.OutsideFault.{OutsideFault}
 use Rattle.ppq_words.specs.ppq_outside.declared.fault.OutsideFault.TheVariants as outside
 use Rattle.ppq_words.specs.ppq_script.Lines.{Kind, lines_of, kinds_of, first_bad_by}
 use Rattle.ppq_words.specs.ppq_script.Files.{is_usable}
 use Rattle.ppq_words.specs.ppq_script.declared.check.CheckFault.{CheckFault}
 use Rattle.ppq_words.specs.ppq_script.declared.check.CheckFault.TheVariants as check
+use Rattle.ppq_engine.specs.Ends.{NoFault}
 use Rattle.ppq_engine.specs.declared.end.End.{End}
 use Rattle.ppq_engine.specs.declared.end.End.TheVariants as end
 use Rattle.ppq_cli.specs.declared.load.LoadFault.{LoadFault}
@@ -57,3 +58,10 @@ load_end NoScript = end.NoScript
 load_end ScriptTooLong = end.ScriptTooLong
 load_end (FileChanged said got) = end.FileChanged 0 said got
 load_end (BadLine line) = end.BadLine line
+
+-- A count of faults in a call that loads: it did not fall, it stayed but for an error that names a fault, and rose where a read failed
+pub record LoadCounts {T : Type 0} (before now : ℕ) (result : Result T LoadFault) : Type 0 where
+  pub later : before ≤ now
+  pub stays : OnOk result (now ≡ before)
+  pub unless : IfErr result (λ fault. NoFault (load_end fault) → now ≡ before)
+  pub read : IsErrOf result ReadFault → Rose before now

@@ -3,7 +3,7 @@ use Rattle.std.specs.Prelude.{◌≡◌, ◌⊎◌, ℕ, ◌+◌, ◌<◌, ◌�
 use Rattle.std.specs.List.{AllZip, concat}
 use Rattle.ppq_words.specs.ppq_record.declared.pair.Pair.{Pair}
 use Rattle.ppq_words.specs.ppq_outside.Shown.{Shown}
-use Rattle.ppq_words.specs.ppq_outside.Told.{Reply, OfLength, OfRead, RepliesOnly, TakesAll, TakesPart}
+use Rattle.ppq_words.specs.ppq_outside.Told.{Reply, OfLength, OfRead, Remembers, RepliesOnly, TakesAll, TakesPart}
 use Rattle.ppq_words.specs.ppq_budget.Sizes.{Numbers, fixed_of}
 use Rattle.ppq_words.specs.ppq_script.declared.command.Command.{Command}
 use Rattle.ppq_words.specs.ppq_script.declared.command.Command.TheVariants.{Bulk}
@@ -46,6 +46,28 @@ IsInLength replied (OfRead name at room given) = (said : ℕ) × (replied (OfLen
 -- since then only lengths were asked, and bytes at places before a length that was said of their file
 abbrev pub ReadsWithin : (Reply → Type 0) → (Reply → Type 0) → Type 0
 ReadsWithin before now = RepliesOnly before now (IsInLength now)
+
+-- What a call leaves of the library: it tells what it told, remembers what it replied, and replied since to nothing but this
+pub record LibraryKeeps {L : Type 0} (files : L → Option (List ℕ → Option (List ℕ))) (replied : L → Reply → Type 0) (kind : Reply → Type 0) (old new : L) : Type 0 where
+  pub told : files new ≡ files old
+  pub remembers : Remembers (replied old) (replied new)
+  pub asks : RepliesOnly (replied old) (replied new) kind
+
+-- A read gave so many bytes of this file behind the first `got`. None came only where the file ends
+pub record GivesMore (before now : Reply → Type 0) (name : List ℕ) (got : ℕ) (old new : List ℕ) (count : ℕ) : Type 0 where
+  pub within : got + count ≤ length new
+  pub given : IsGiven before name (take got old) → IsGiven now name (take (got + count) new)
+  pub ends : count ≡ 0 → EndsAt now name got
+
+-- the library said that this file has so many bytes, which is not too long for a script
+pub record IsScriptLength (replied : Reply → Type 0) (name : List ℕ) (size : ℕ) : Type 0 where
+  pub short : size ≤ 1048576
+  pub said : replied (OfLength name (Some size))
+
+-- the library gave this file as these bytes, and where it tells, they are the file's
+pub record IsLoadedAs (told : Option (List ℕ → Option (List ℕ))) (replied : Reply → Type 0) (name bytes : List ℕ) : Type 0 where
+  pub loaded : IsLoaded told name bytes
+  pub given : IsReplied replied name bytes
 
 -- the length of this file was said, and it is above that of the longest script
 abbrev pub IsTooLong : (Reply → Type 0) → List ℕ → Type 0

@@ -1,9 +1,8 @@
 //! Makes the blocks of a device.
-ghost use Rattle.std.specs.Prelude.{◌≡◌, ◌≤◌, ◌*◌, length, map, IfOk, IfErr, OnOk};
+ghost use Rattle.std.specs.Prelude.{◌≡◌, length, IfOk};
 ghost use Rattle.std.specs.List.{range_with_len};
 ghost use Rattle.ppq_words.specs.ppq_outside.Made.{HasMade};
-ghost use Rattle.ppq_words.specs.ppq_outside.Shown.{AllTell};
-ghost use Rattle.ppq_cli.specs.Device.{AreNew, made_in, HasReason};
+ghost use Rattle.ppq_cli.specs.Device.{AreMade, RackCounts, made_in};
 
 use ppq_words::{Host, OutsideFault, Pair, Rack, Record, Sizes};
 use std::alloc::Global;
@@ -18,14 +17,10 @@ pub fn make_blocks<H: Host, K: Rack>(
     sizes: Sizes,
 ) -> Result<Vec<K::Slot>, (Vec<K::Slot>, OutsideFault)>
     ensures all { IfOk result (λ blocks. length blocks.items ≡ sizes.blocks) }
-    ensures most { length (made_in result) ≤ sizes.blocks }
-    ensures new { AreNew (sizes.block * 16) (map K.Slot.shown (made_in result)) }
+    ensures blocks { AreMade K.Slot.shown (K.tells rack.old) sizes (made_in result) }
     ensures made { HasMade (K.made rack.old) (K.made rack.new) (range_with_len 0 (length (made_in result))) }
-    ensures tells { K.tells rack.old → AllTell (map K.Slot.shown (made_in result)) }
     ensures kept { K.tells rack.old → K.tells rack.new }
-    ensures later { K.faults rack.old ≤ K.faults rack.new }
-    ensures stays { OnOk result (K.faults rack.new ≡ K.faults rack.old) }
-    ensures reason { IfErr result (λ refused. HasReason (K.faults rack.old) (K.faults rack.new) refused.1) }
+    ensures counts { RackCounts (K.faults rack.old) (K.faults rack.new) result }
 {
     let mut blocks = match Vec::with_capacity(alloc, sizes.blocks() as usize) {
         Ok(blocks) => blocks,

@@ -1,12 +1,10 @@
 //! Loads a script from a library.
-ghost use Rattle.std.specs.Prelude.{◌≡◌, ◌≤◌, ◌<◌, ◌+◌, ℕ, Some, length, take, IfOk, OnOk, IfErr, IsErrOf, vec_len};
-ghost use Rattle.ppq_words.specs.ppq_outside.Told.{HasCause, Rose, OfLength, Remembers, RepliesOnly};
-ghost use Rattle.ppq_cli.specs.Load.{IsLoaded, IsNotLoaded, load_end};
-ghost use Rattle.ppq_engine.specs.Reading.{EndsAt, IsReadWithin};
+ghost use Rattle.std.specs.Prelude.{◌≡◌, ◌≤◌, ◌<◌, ℕ, length, IfOk, IfErr, vec_len};
+ghost use Rattle.ppq_words.specs.ppq_outside.Told.{HasCause};
+ghost use Rattle.ppq_cli.specs.Load.{IsNotLoaded, LoadCounts, load_end};
+ghost use Rattle.ppq_engine.specs.Reading.{IsReadWithin};
 ghost use Rattle.ppq_words.specs.ppq_script.Files.{IsLength};
-ghost use Rattle.ppq_cli.specs.Replies.{IsGiven, IsReplied, IsUnloaded, IsScript, ReadsWithin};
-ghost use Rattle.ppq_engine.specs.Ends.{NoFault};
-ghost use Rattle.ppq_cli.specs.declared.load.LoadFault.TheVariants.{ReadFault};
+ghost use Rattle.ppq_cli.specs.Replies.{GivesMore, IsScriptLength, IsLoadedAs, IsUnloaded, IsScript, IsInLength, LibraryKeeps};
 
 use ppq_engine::End;
 use ppq_words::{CheckFault, Host, Library, OutsideFault, Script, check_files, read};
@@ -55,13 +53,8 @@ fn read_more<H: Host, L: Library>(
     got: usize,
 ) -> Result<usize, OutsideFault>
     requires { got < length bytes.old }
-    ensures count { IfOk result (λ count. got + count ≤ length bytes.new) }
-    ensures given { IfOk result (λ count. IsGiven (L.replied library.old) name.now (take got bytes.old)
-        → IsGiven (L.replied library.new) name.now (take (got + count) bytes.new)) }
-    ensures ends { IfOk result (λ count. count ≡ 0 → EndsAt (L.replied library.new) name.now got) }
-    ensures remembers { Remembers (L.replied library.old) (L.replied library.new) }
-    ensures asks { RepliesOnly (L.replied library.old) (L.replied library.new) (IsReadWithin name.now (length bytes.old)) }
-    ensures kept { L.told library.new ≡ L.told library.old }
+    ensures more { IfOk result (GivesMore (L.replied library.old) (L.replied library.new) name.now got bytes.old bytes.new) }
+    ensures library { LibraryKeeps L.told L.replied (IsReadWithin name.now (length bytes.old)) library.old library.new }
     ensures cause { HasCause (L.faults library.old) (L.faults library.new) result }
 {
     let rest = &mut bytes[got..];
@@ -76,17 +69,11 @@ fn length_of_script<H: Host, L: Library>(
     library: &mut L,
     name: &str,
 ) -> Result<usize, LoadFault>
-    ensures short { IfOk result (λ size. size ≤ 1_048_576) }
-    ensures said { IfOk result (λ size. L.replied library.new (OfLength name.now (Some size))) }
+    ensures length { IfOk result (IsScriptLength (L.replied library.new) name.now) }
     ensures not { IfErr result (λ fault. (workers : ℕ) → IsNotLoaded (L.told library.old) name.now workers fault) }
     ensures refused { IfErr result (λ fault. (workers : ℕ) → IsUnloaded (L.told library.old) (L.replied library.new) name.now workers fault) }
-    ensures remembers { Remembers (L.replied library.old) (L.replied library.new) }
-    ensures asks { RepliesOnly (L.replied library.old) (L.replied library.new) IsLength }
-    ensures kept { L.told library.new ≡ L.told library.old }
-    ensures later { L.faults library.old ≤ L.faults library.new }
-    ensures stays { OnOk result (L.faults library.new ≡ L.faults library.old) }
-    ensures unless { IfErr result (λ fault. NoFault (load_end fault) → L.faults library.new ≡ L.faults library.old) }
-    ensures read { IsErrOf result ReadFault → Rose (L.faults library.old) (L.faults library.new) }
+    ensures library { LibraryKeeps L.told L.replied IsLength library.old library.new }
+    ensures counts { LoadCounts (L.faults library.old) (L.faults library.new) result }
 {
     match library.length(rt, alloc, name)? {
         None => Err(LoadFault::NoScript),
@@ -109,17 +96,11 @@ pub fn load<H: Host, L: Library>(
     name: &str,
 ) -> Result<Vec<u8>, LoadFault>
     ensures short { IfOk result (λ bytes. vec_len bytes ≤ 1_048_576) }
-    ensures loaded { IfOk result (λ bytes. IsLoaded (L.told library.old) name.now bytes.items) }
-    ensures replied { IfOk result (λ bytes. IsReplied (L.replied library.new) name.now bytes.items) }
+    ensures loaded { IfOk result (λ bytes. IsLoadedAs (L.told library.old) (L.replied library.new) name.now bytes.items) }
     ensures not { IfErr result (λ fault. (workers : ℕ) → IsNotLoaded (L.told library.old) name.now workers fault) }
     ensures refused { IfErr result (λ fault. (workers : ℕ) → IsUnloaded (L.told library.old) (L.replied library.new) name.now workers fault) }
-    ensures remembers { Remembers (L.replied library.old) (L.replied library.new) }
-    ensures reads { ReadsWithin (L.replied library.old) (L.replied library.new) }
-    ensures kept { L.told library.new ≡ L.told library.old }
-    ensures later { L.faults library.old ≤ L.faults library.new }
-    ensures stays { OnOk result (L.faults library.new ≡ L.faults library.old) }
-    ensures unless { IfErr result (λ fault. NoFault (load_end fault) → L.faults library.new ≡ L.faults library.old) }
-    ensures read { IsErrOf result ReadFault → Rose (L.faults library.old) (L.faults library.new) }
+    ensures library { LibraryKeeps L.told L.replied (IsInLength (L.replied library.new)) library.old library.new }
+    ensures counts { LoadCounts (L.faults library.old) (L.faults library.new) result }
 {
     let size = match length_of_script(rt, alloc, library, name) {
         Ok(size) => size,
@@ -170,13 +151,8 @@ pub fn load_script<H: Host, L: Library>(
     ensures script { IfOk result (IsScript (L.told library.old) (L.replied library.new) name.now workers) }
     ensures not { IfErr result (IsNotLoaded (L.told library.old) name.now workers) }
     ensures refused { IfErr result (IsUnloaded (L.told library.old) (L.replied library.new) name.now workers) }
-    ensures remembers { Remembers (L.replied library.old) (L.replied library.new) }
-    ensures reads { ReadsWithin (L.replied library.old) (L.replied library.new) }
-    ensures kept { L.told library.new ≡ L.told library.old }
-    ensures later { L.faults library.old ≤ L.faults library.new }
-    ensures stays { OnOk result (L.faults library.new ≡ L.faults library.old) }
-    ensures unless { IfErr result (λ fault. NoFault (load_end fault) → L.faults library.new ≡ L.faults library.old) }
-    ensures read { IsErrOf result ReadFault → Rose (L.faults library.old) (L.faults library.new) }
+    ensures library { LibraryKeeps L.told L.replied (IsInLength (L.replied library.new)) library.old library.new }
+    ensures counts { LoadCounts (L.faults library.old) (L.faults library.new) result }
 {
     let bytes = match load(rt, alloc, library, name) {
         Ok(bytes) => bytes,

@@ -4,10 +4,11 @@ use Rattle.std.proofs.lemmas.List.{take-append-le, drop-drop}
 use Rattle.std.proofs.Math.Seq.{take-append-add, take-add}
 use borrow.Rule.Slice.PartMut.{put_mid, post_of}
 use Rattle.ppq_session.specs.ppq_outside.Told.{Reply, OfLength, OfRead, TellsReply, ReadsAt, bytes_or_none, length_of}
+use Rattle.ppq_session.proofs.ppq_outside.Replies.{no_replies, replies_wider, replies_then}
 use Rattle.ppq_load.specs.declared.fill.FileFault.{FileFault}
 use Rattle.ppq_load.specs.declared.fill.FileFault.TheVariants.{Failed, Memory, Ended}
-use Rattle.ppq_load.specs.Reading.{AreBytesAt, EndsAt, IsReadWithin, ReadEndsIn, FaultAfter}
-use Rattle.ppq_load.specs.Loading.{IsByRead, LoadEndsIn, LoadCountsFrom, read_fault_of}
+use Rattle.ppq_load.specs.Reading.{AreBytesAt, EndsAt, IsReadWithin, ReadEndsIn, FaultAfter, ReadsFile}
+use Rattle.ppq_load.specs.Loading.{IsByRead, IsReadRefusal, LoadEndsIn, LoadCountsFrom, read_fault_of}
 
 -- the beginning of a list with a piece written into it
 take-put : (a k n : ℕ) (xs ys : List ℕ) → a ≤ length xs → n ≤ length ys → take (a + n) (put_mid a k xs ys) ≡ take a xs ++ take n ys
@@ -51,9 +52,14 @@ pub untold : {A : Type 0} (told : Option A) → ((files : A) → told ≡ Some f
 untold None never = refl
 untold (Some files) never = absurd (never files refl)
 
+read-by : (fault : FileFault) → IsByRead (read_fault_of fault)
+read-by Failed = tt
+read-by Memory = tt
+read-by (Ended got) = tt
+
 -- a fault of reading a piece, as a fault of a load
 module _ (told : Option (List ℕ → Option (List ℕ))) (replied : Reply → Type 0) (name : List ℕ) (said : ℕ) (long : (files : List ℕ → Option (List ℕ)) → told ≡ Some files → length (bytes_or_none (files name)) ≡ said) where
-  pub read-ended : (end : ℕ) (fault : FileFault) → end ≤ said → ReadEndsIn told replied name end fault → LoadEndsIn told replied name said (read_fault_of fault)
+  read-ended : (end : ℕ) (fault : FileFault) → end ≤ said → ReadEndsIn told replied name end fault → LoadEndsIn told replied name said (read_fault_of fault)
   read-ended end Failed within ends = tt
   read-ended end Memory within ends = tt
   read-ended end (Ended got) within ends = record {
@@ -62,17 +68,36 @@ module _ (told : Option (List ℕ → Option (List ℕ))) (replied : Reply → T
     untold = untold told (λ files is. omega (arith, ends.short files is, long files is, ends.before, within));
   }
 
+  pub read-refused : (end : ℕ) (fault : FileFault) → end ≤ said → ReadEndsIn told replied name end fault → IsReadRefusal told replied name said (read_fault_of fault)
+  read-refused end fault within ends = record { by_file = read-by fault; ended = read-ended end fault within ends }
+
 pub read-counts : (before now : ℕ) (fault : FileFault) → FaultAfter before now fault → LoadCountsFrom before now (read_fault_of fault)
 read-counts before now Failed after = after
 read-counts before now Memory after = after
 read-counts before now (Ended got) after = after
 
-pub read-by : (fault : FileFault) → IsByRead (read_fault_of fault)
-read-by Failed = tt
-read-by Memory = tt
-read-by (Ended got) = tt
-
 -- no byte past an end was asked for, so none past a later one
-pub within-wider : (name : List ℕ) (end later : ℕ) → end ≤ later → (reply : Reply) → IsReadWithin name end reply → IsReadWithin name later reply
+within-wider : (name : List ℕ) (end later : ℕ) → end ≤ later → (reply : Reply) → IsReadWithin name end reply → IsReadWithin name later reply
 within-wider name end later more (OfLength other size) is = absurd is
 within-wider name end later more (OfRead other at room given) is = (is.0, omega (arith, is.1, more))
+
+module _ {L : Type 0} (files : L → Option (List ℕ → Option (List ℕ))) (replied : L → Reply → Type 0) (name : List ℕ) where
+  -- nothing was read
+  pub reads-none : (end : ℕ) (library : L) → ReadsFile files replied name end library library
+  reads-none end library = record { told = refl; remembers = λ reply had. had; asks = no_replies (replied library) (IsReadWithin name end) }
+
+  -- two calls, one after the other
+  pub reads-then : {end : ℕ} {old mid new : L} → ReadsFile files replied name end old mid → ReadsFile files replied name end mid new → ReadsFile files replied name end old new
+  reads-then {end} {old} {mid} {new} first next = record {
+    told = next.told ∙ first.told;
+    remembers = λ reply had. next.remembers reply (first.remembers reply had);
+    asks = replies_then (replied old) (replied mid) (replied new) (IsReadWithin name end) first.asks next.asks;
+  }
+
+  -- and no byte past a later place
+  pub reads-wider : {end later : ℕ} {old new : L} → end ≤ later → ReadsFile files replied name end old new → ReadsFile files replied name later old new
+  reads-wider {end} {later} {old} {new} more reads = record {
+    told = reads.told;
+    remembers = reads.remembers;
+    asks = replies_wider (replied old) (replied new) (IsReadWithin name end) (IsReadWithin name later) (within-wider name end later more) reads.asks;
+  }

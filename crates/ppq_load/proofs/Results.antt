@@ -100,6 +100,10 @@ pub on_ok-map : {T E : Type 0} (result : Result T E) (P Q : Type 0) → (P → Q
 on_ok-map (Ok value) P Q f holds = f holds
 on_ok-map (Err fault) P Q f holds = tt
 
+pub if_err-map : {T E : Type 0} (result : Result T E) (P Q : E → Type 0) → ((fault : E) → P fault → Q fault) → IfErr result P → IfErr result Q
+if_err-map (Ok value) P Q f holds = tt
+if_err-map (Err fault) P Q f holds = f fault holds
+
 -- a session that did not begin read nothing
 pub unread-ends : (told : Option (List ℕ → Option (List ℕ))) (replied : Reply → Type 0) (name : List ℕ) (said : ℕ) (fault : LoadFault) → IsByLoad fault → LoadEndsIn told replied name said fault
 unread-ends told replied name said (Queue fault) by = tt

@@ -1,5 +1,5 @@
 -- Sessions in which a queue gets many records, by a pass for each worker.
-use Rattle.std.specs.Prelude.{◌≡◌, ◌<◌, ◌≤◌, ◌+◌, ◌*◌, Bool, ℕ, zero, suc, List, [], ◌++◌, length, drop, max, All, Any, Option, Some, None, Result, Ok, Err, OnOk, IfErr, ⊤}
+use Rattle.std.specs.Prelude.{◌≡◌, ◌<◌, ◌≤◌, ◌↔◌, ◌+◌, ◌*◌, Bool, false, IsTrue, ℕ, zero, suc, List, [], ◌++◌, length, drop, max, All, Any, Option, Some, None, Result, Ok, Err, OnOk, IfErr, ⊤}
 use Rattle.ppq_session.specs.ppq_record.declared.pair.Pair.{Pair}
 use Rattle.ppq_session.specs.ppq_record.Pair.{pair_of}
 use Rattle.ppq_session.specs.ppq_record.Bag.{IsSameBag}
@@ -78,6 +78,20 @@ pub record HasGiven {S : Type 0} (shown : S → Shown) (queue : Holding Pair) (t
   pub are : AreRecordsAt told name 0 count records
   pub session : InSession shown queue records load
 
+-- So many records of a file, behind the first `from`: they fill a piece of so many bytes, have room in the batch, and lie within the bytes
+-- that the library said, which are few enough for a load
+pub record IsPart (said from count bytes most : ℕ) : Type 0 where
+  pub length : bytes ≡ count * 16
+  pub batch : count ≤ most
+  pub within : (from + count) * 16 ≤ said
+  pub fits : said ≤ 68719476736
+
+-- Records were dealt to the passes of a session, whose sizes stay: it is said whether each pass goes on, and where not, one ended
+pub record HasDealt {S : Type 0} (old new : LoadHolding S) (is_all : Bool) : Type 0 where
+  pub all : IsTrue is_all ↔ All IsGoing new.passes
+  pub stopped : is_all ≡ false → Any HasEnded new.passes
+  pub sizes : new.bulk.sizes ≡ old.bulk.sizes
+
 -- why a session did not begin, as a fault of a load
 abbrev pub begin_fault_of : BeginFault → LoadFault
 begin_fault_of begin.Memory = Memory
@@ -153,3 +167,8 @@ LoadEndsIn told replied name said (Queue fault) = ⊤
 LoadEndsIn told replied name said Read = ⊤
 LoadEndsIn told replied name said Memory = ⊤
 LoadEndsIn told replied name said (Ended got) = HasEndedEarly told replied name said got
+
+-- it was the reading of the file, and it says where the file ended early
+pub record IsReadRefusal (told : Option (List ℕ → Option (List ℕ))) (replied : Reply → Type 0) (name : List ℕ) (said : ℕ) (fault : LoadFault) : Type 0 where
+  pub by_file : IsByRead fault
+  pub ended : LoadEndsIn told replied name said fault

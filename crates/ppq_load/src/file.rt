@@ -1,5 +1,5 @@
 //! Sessions of the records of a file.
-ghost use Rattle.std.specs.Prelude.{◌≡◌, ◌≤◌, ◌<◌, ◌+◌, ◌*◌, ◌/◌, ◌++◌, [], List, ℕ, Option, Some, None, All, Any, IsTrue, false, ◌↔◌, OnOk, IfOk, IfErr, length, take, max};
+ghost use Rattle.std.specs.Prelude.{◌≡◌, ◌≤◌, ◌<◌, ◌+◌, ◌*◌, ◌/◌, ◌++◌, [], List, ℕ, Option, Some, None, All, OnOk, IfOk, IfErr, length, take, max};
 ghost use Rattle.ppq_session.specs.ppq_record.declared.pair.Pair.{Pair};
 ghost use Rattle.ppq_session.specs.ppq_record.Pair.{pair_of};
 ghost use Rattle.ppq_session.specs.ppq_record.Bag.{IsSameBag};
@@ -8,14 +8,17 @@ ghost use Rattle.ppq_session.specs.ppq_outside.Shown.{AllTell};
 ghost use Rattle.ppq_session.specs.ppq_outside.Told.{Remembers, RepliesOnly, bytes_or_none};
 ghost use Rattle.ppq_session.specs.ppq_budget.Sizes.{batch_of};
 ghost use Rattle.ppq_session.specs.ppq_queue.Holding.{Holding};
-ghost use Rattle.ppq_session.specs.Dealing.{IsGoing, HasEnded};
-ghost use Rattle.ppq_load.specs.Reading.{IsReadWithin};
+ghost use Rattle.ppq_session.specs.Dealing.{IsGoing};
+ghost use Rattle.ppq_load.specs.Reading.{IsReadWithin, ReadsFile, CountsBy, HasLength};
 ghost use Rattle.ppq_load.specs.Refusal.{Keeps};
-ghost use Rattle.ppq_load.specs.Loading.{InSession, HasGiven, IsByRead, LoadStopsFor, LoadCountsFrom, LoadEndsIn, first_of, with_batch};
+ghost use Rattle.ppq_load.specs.Loading.{InSession, HasGiven, HasDealt, IsPart, IsReadRefusal, LoadStopsFor, LoadCountsFrom, LoadEndsIn, first_of, with_batch};
 
+use crate::context::Context;
 use crate::fault::{LoadFault, loaded};
 use crate::fill::fill;
 use crate::load::Load;
+use crate::part::Part;
+use crate::source::Source;
 use ppq_session::{Gate, Host, Library, Pair, Queue, QueueFault, Record, Slot};
 use std::alloc::Global;
 
@@ -56,7 +59,9 @@ where
     queue.known();
     match Load::begin(rt, alloc, queue, gate) {
         Ok(mut load) => {
-            let read = deal_file(rt, alloc, library, name, said, room, &mut load, gate);
+            let context = Context { rt, alloc };
+            let source = Source { name, said };
+            let read = deal_file(&context, library, source, room, &mut load, gate);
             let (queue, ended) = load.end(rt, gate);
             (queue, first_fault(read, ended))
         }
@@ -74,11 +79,9 @@ fn first_fault(read: Result<(), LoadFault>, ended: Result<(), QueueFault>) -> Re
 
 // Reads a file piece by piece and deals its records to the passes of a session, until one stops.
 fn deal_file<H: Host, S: Slot + Send + Sync, L: Library, G: Gate>(
-    rt: &H,
-    alloc: Global,
+    context: &Context<H>,
     library: &mut L,
-    name: &str,
-    said: u64,
+    source: Source,
     room: &mut [u8],
     load: &mut Load<S>,
     gate: &G,
@@ -87,28 +90,28 @@ where
     H::Dir: Send,
     requires going { All IsGoing load.old.passes }
     requires room { 16 ≤ length room.old }
-    requires fits { said ≤ 68719476736 }
-    requires long { (files : List ℕ → Option (List ℕ)) → L.told library.old ≡ Some files → length (bytes_or_none (files name.now)) ≡ said }
-    ensures given { OnOk result ((queue : Holding Pair) → InSession S.shown queue [] load.old → HasGiven S.shown queue (L.told library.old) name.now (said / 16) load.new) }
+    requires fits { source.said ≤ 68719476736 }
+    requires long { HasLength (L.told library.old) source.name.now source.said }
+    ensures given { OnOk result ((queue : Holding Pair) → InSession S.shown queue [] load.old → HasGiven S.shown queue (L.told library.old) source.entry.name.now (source.entry.said / 16) load.new) }
     ensures session { (queue : Holding Pair) → InSession S.shown queue [] load.old → (records : List Pair) × InSession S.shown queue records load.new }
-    ensures by_file { IfErr result IsByRead }
-    ensures ended { IfErr result (LoadEndsIn (L.told library.old) (L.replied library.new) name.now said) }
-    ensures remembers { Remembers (L.replied library.old) (L.replied library.new) }
-    ensures asks { RepliesOnly (L.replied library.old) (L.replied library.new) (IsReadWithin name.now said) }
-    ensures told { L.told library.new ≡ L.told library.old }
-    ensures later { L.faults library.old ≤ L.faults library.new }
-    ensures stays { OnOk result (L.faults library.new ≡ L.faults library.old) }
-    ensures cause { IfErr result (LoadCountsFrom (L.faults library.old) (L.faults library.new)) }
+    ensures refused { IfErr result (IsReadRefusal (L.told library.old) (L.replied library.new) source.entry.name.now source.entry.said) }
+    ensures reads { ReadsFile L.told L.replied source.entry.name.now source.entry.said library.old library.new }
+    ensures counts { CountsBy LoadCountsFrom (L.faults library.old) (L.faults library.new) result }
 {
+    let Source { name, said } = source;
     let records = said / 16;
     let most = u64::from(load.batch_len()).min(room.len() as u64 / 16);
     let mut from = 0;
     'pieces: while from < records {
         let count = most.min(records - from) as u32;
         let piece = &mut room[..count as usize * 16];
-        if !deal_piece(
-            rt, alloc, library, name, said, from, piece, count, load, gate,
-        )? {
+        let part = Part {
+            name,
+            said,
+            from,
+            count,
+        };
+        if !deal_piece(context, library, part, piece, load, gate)? {
             return Ok(());
         }
         from += u64::from(count);
@@ -116,47 +119,33 @@ where
     Ok(())
 }
 
-// Reads so many records of a file, from record `from` on, into `piece`, which has room for just these, and
-// deals them to the passes of a session. Whether all were added.
+// Reads some records of a file into `piece`, which has room for just these, and deals them to the passes of
+// a session. Whether all were added.
 fn deal_piece<H: Host, S: Slot + Send + Sync, L: Library, G: Gate>(
-    rt: &H,
-    alloc: Global,
+    context: &Context<H>,
     library: &mut L,
-    name: &str,
-    said: u64,
-    from: u64,
+    part: Part,
     piece: &mut [u8],
-    count: u32,
     load: &mut Load<S>,
     gate: &G,
 ) -> Result<bool, LoadFault>
 where
     H::Dir: Send,
     requires going { All IsGoing load.old.passes }
-    requires length { length piece.old ≡ count * 16 }
-    requires batch { count ≤ batch_of load.old.bulk.sizes }
-    requires within { (from + count) * 16 ≤ said }
-    requires fits { said ≤ 68719476736 }
-    requires long { (files : List ℕ → Option (List ℕ)) → L.told library.old ≡ Some files → length (bytes_or_none (files name.now)) ≡ said }
-    ensures given { IfOk result (λ all. (queue : Holding Pair) → HasGiven S.shown queue (L.told library.old) name.now from load.old → HasGiven S.shown queue (L.told library.old) name.now (from + count) load.new) }
-    ensures all { IfOk result (λ all. IsTrue all ↔ All IsGoing load.new.passes) }
-    ensures stopped { IfOk result (λ all. all ≡ false → Any HasEnded load.new.passes) }
+    requires part { IsPart part.said part.from part.count (length piece.old) (batch_of load.old.bulk.sizes) }
+    requires long { HasLength (L.told library.old) part.name.now part.said }
+    ensures given { IfOk result (λ all. (queue : Holding Pair) → HasGiven S.shown queue (L.told library.old) part.entry.name.now part.entry.from load.old → HasGiven S.shown queue (L.told library.old) part.entry.name.now (part.entry.from + part.entry.count) load.new) }
+    ensures dealt { IfOk result (HasDealt load.old load.new) }
     ensures same { IfErr result (λ fault. load.new ≡ load.old) }
-    ensures sizes { load.new.bulk.sizes ≡ load.old.bulk.sizes }
-    ensures by_file { IfErr result IsByRead }
-    ensures ended { IfErr result (LoadEndsIn (L.told library.old) (L.replied library.new) name.now said) }
-    ensures remembers { Remembers (L.replied library.old) (L.replied library.new) }
-    ensures asks { RepliesOnly (L.replied library.old) (L.replied library.new) (IsReadWithin name.now said) }
-    ensures told { L.told library.new ≡ L.told library.old }
-    ensures later { L.faults library.old ≤ L.faults library.new }
-    ensures stays { OnOk result (L.faults library.new ≡ L.faults library.old) }
-    ensures cause { IfErr result (LoadCountsFrom (L.faults library.old) (L.faults library.new)) }
+    ensures refused { IfErr result (IsReadRefusal (L.told library.old) (L.replied library.new) part.entry.name.now part.entry.said) }
+    ensures reads { ReadsFile L.told L.replied part.entry.name.now part.entry.said library.old library.new }
+    ensures counts { CountsBy LoadCountsFrom (L.faults library.old) (L.faults library.new) result }
 {
-    if let Err(fault) = fill(rt, alloc, library, name, from * 16, piece) {
+    if let Err(fault) = fill(context, library, part.name, part.from * 16, piece) {
         return Err(LoadFault::from(fault));
     }
-    fill_records(load, piece, count);
-    Ok(load.deal(rt, count, gate))
+    fill_records(load, piece, part.count);
+    Ok(load.deal(context.rt, part.count, gate))
 }
 
 // Fills the first places of the batch with the records of these bytes.

@@ -1,10 +1,10 @@
 //! Reads pieces of a file.
 ghost use Rattle.std.specs.Prelude.{◌≡◌, ◌≤◌, ◌<◌, ◌+◌, ◌^◌, List, ℕ, Option, Some, length, take, drop, IfOk, OnOk, IfErr};
-ghost use Rattle.ppq_session.specs.ppq_outside.Told.{HasCause, Remembers, RepliesOnly, bytes_or_none};
-ghost use Rattle.ppq_load.specs.Reading.{AreBytesAt, EndsAt, ReadEndsIn, FaultAfter, IsReadWithin};
+ghost use Rattle.ppq_session.specs.ppq_outside.Told.{HasCause, bytes_or_none};
+ghost use Rattle.ppq_load.specs.Reading.{HasReadMore, ReadEndsIn, FaultAfter, ReadsFile, CountsBy};
 
+use crate::context::Context;
 use ppq_session::{Host, Library, OutsideFault};
-use std::alloc::Global;
 
 // Why a piece of a file was not read.
 #[derive(Clone, Copy, Debug, PartialEq, Eq)]
@@ -34,34 +34,27 @@ impl From<OutsideFault> for FileFault {
 // Reads further bytes of a piece that begins at place `at` of a file and of which `got` bytes are
 // there, and says how many came.
 fn read_more<H: Host, L: Library>(
-    rt: &H,
-    alloc: Global,
+    context: &Context<H>,
     library: &mut L,
     name: &str,
     at: u64,
     piece: &mut [u8],
     got: usize,
 ) -> Result<usize, OutsideFault>
-    requires more { got < length piece.old }
+    requires room { got < length piece.old }
     requires fits { at + length piece.old ≤ 2 ^ 63 }
-    ensures count { IfOk result (λ count. got + count ≤ length piece.new) }
-    ensures bytes { IfOk result (λ count. (files : List ℕ → Option (List ℕ)) → L.told library.old ≡ Some files → AreBytesAt (bytes_or_none (files name.now)) at got piece.old → AreBytesAt (bytes_or_none (files name.now)) at (got + count) piece.new) }
-    ensures ends { IfOk result (λ count. count ≡ 0 → EndsAt (L.replied library.new) name.now (at + got)) }
-    ensures short { IfOk result (λ count. count ≡ 0 → (files : List ℕ → Option (List ℕ)) → L.told library.old ≡ Some files → length (bytes_or_none (files name.now)) ≤ at + got) }
-    ensures remembers { Remembers (L.replied library.old) (L.replied library.new) }
-    ensures asks { RepliesOnly (L.replied library.old) (L.replied library.new) (IsReadWithin name.now (at + length piece.old)) }
-    ensures kept { L.told library.new ≡ L.told library.old }
+    ensures more { IfOk result (HasReadMore (L.told library.old) (L.replied library.new) name.now at got piece.old piece.new) }
+    ensures reads { ReadsFile L.told L.replied name.now (at + length piece.old) library.old library.new }
     ensures cause { HasCause (L.faults library.old) (L.faults library.new) result }
 {
     let rest = &mut piece[got..];
-    let count = library.read_at(rt, alloc, name, at + got as u64, rest)?;
+    let count = library.read_at(context.rt, context.alloc, name, at + got as u64, rest)?;
     Ok(count)
 }
 
 // Fills a piece with the bytes of a file from place `at` on. No byte behind the piece is read.
 pub fn fill<H: Host, L: Library>(
-    rt: &H,
-    alloc: Global,
+    context: &Context<H>,
     library: &mut L,
     name: &str,
     at: u64,
@@ -70,16 +63,12 @@ pub fn fill<H: Host, L: Library>(
     requires { at + length piece.old ≤ 2 ^ 63 }
     ensures bytes { OnOk result ((files : List ℕ → Option (List ℕ)) → L.told library.old ≡ Some files → piece.new ≡ take (length piece.new) (drop at (bytes_or_none (files name.now)))) }
     ensures ended { IfErr result (ReadEndsIn (L.told library.old) (L.replied library.new) name.now (at + length piece.old)) }
-    ensures remembers { Remembers (L.replied library.old) (L.replied library.new) }
-    ensures asks { RepliesOnly (L.replied library.old) (L.replied library.new) (IsReadWithin name.now (at + length piece.old)) }
-    ensures kept { L.told library.new ≡ L.told library.old }
-    ensures later { L.faults library.old ≤ L.faults library.new }
-    ensures stays { OnOk result (L.faults library.new ≡ L.faults library.old) }
-    ensures cause { IfErr result (FaultAfter (L.faults library.old) (L.faults library.new)) }
+    ensures reads { ReadsFile L.told L.replied name.now (at + length piece.old) library.old library.new }
+    ensures counts { CountsBy FaultAfter (L.faults library.old) (L.faults library.new) result }
 {
     let mut got = 0;
     'reading: while got < piece.len() {
-        match read_more(rt, alloc, library, name, at, piece, got) {
+        match read_more(context, library, name, at, piece, got) {
             Ok(0) => {
                 return Err(FileFault::Ended {
                     got: at + got as u64,

@@ -8,12 +8,15 @@
 //! Contracts say by `InSession` which records were given since the session began.
 #![tactic(auto)]
 
+mod context;
 mod fault;
 mod file;
 mod fill;
 mod generate;
 mod limits;
 mod load;
+mod part;
+mod source;
 
 pub use fault::LoadFault;
 pub use file::load_file;

@@ -14,7 +14,7 @@ returns-in-Ok-check_files-clause-script g c =
     let P : List ℕ → Type 0 = λ b. IsReadFrom b c.args.workers old in
     let short : length bytes ≤ 1048576 = omega (arith, c.in-Ok.ensures.short, c.in-Ok.bytes.ok.0) in
     checked_script (g.L.Library.told c.args.library.now) (g.L.Library.told c.load.new.library) (g.L.Library.replied c.load.new.library) (g.L.Library.replied c.check_files.new.library) c.args.name.now bytes c.args.workers old c.check_files.new.script
-    c.check_files.result c.in-Ok-check_files.field-0 c.in-Ok-check_files.is c.load.ensures.kept short c.in-Ok.ensures.loaded c.in-Ok.ensures.replied (subst P c.deref.ensures.value read) c.check_files.ensures.remembers
+    c.check_files.result c.in-Ok-check_files.field-0 c.in-Ok-check_files.is c.load.ensures.library.told short c.in-Ok.ensures.loaded.loaded c.in-Ok.ensures.loaded.given (subst P c.deref.ensures.value read) c.check_files.ensures.remembers
     c.check_files.ensures.answer c.in-Ok-check_files.ensures.lengths c.in-Ok-check_files.ensures.asked (c.check_files.ensures.checked ∙ ap is_ok c.in-Ok-check_files.is) c.in-Ok-check_files.ensures.good c.check_files.ensures.same
 
 pub returns-clause-refused : goal.returns-clause-refused
@@ -28,7 +28,7 @@ returns-clause-refused g c =
     let replied = g.L.Library.replied c.check_files.new.library in
     let Q : LoadFault → Type 0 = λ f. IsUnloaded told replied c.args.name.now c.args.workers f in
     let is : c.from.result ≡ check_fault_load fault = search rules in
-    subst Q (sym is) (checked_refused told (g.L.Library.replied c.load.new.library) replied c.args.name.now bytes c.args.workers old fault c.in-Ok.ensures.replied (subst P c.deref.ensures.value read) c.check_files.ensures.remembers c.in-Err-check_files.ensures.refused)
+    subst Q (sym is) (checked_refused told (g.L.Library.replied c.load.new.library) replied c.args.name.now bytes c.args.workers old fault c.in-Ok.ensures.loaded.given (subst P c.deref.ensures.value read) c.check_files.ensures.remembers c.in-Err-check_files.ensures.refused)
 
 pub returns-in-Err-clause-refused : goal.returns-in-Err-clause-refused
 returns-in-Err-clause-refused g c = c.in-Err.ensures.refused c.args.workers

@@ -1,6 +1,17 @@
-use Rattle.std.proofs.Common.{arith}
+use Rattle.std.proofs.Common.{rules, List, ℕ, length, take, ap, subst, arith}
+use Rattle.ppq_words.specs.ppq_outside.Told.{OfRead}
 use Rattle.ppq_cli.proofs.Given.{given_more}
 use Rattle.ppq_cli.proofs.load.read_more.Goals as goal
 
-pub returns-clause-given : goal.returns-clause-given
-returns-clause-given g c = given_more (g.L.Library.replied c.args.library.now) (g.L.Library.replied c.read_at.new.self) c.args.name.now c.args.bytes.now c.read_at.new.into c.args.got c.in_ok-count.count _ (omega arith) c.in_ok-count.ensures.bound c.read_at.ensures.remembers c.in_ok-count.ensures.replied
+pub returns-clause-more : goal.returns-clause-more
+returns-clause-more g c =
+    let replied = g.L.Library.replied c.read_at.new.self in
+    let name = c.args.name.now in
+    let into = c.read_at.new.into in
+    let read = c.in_ok-count in
+    let P : List ℕ → Type 0 = λ t. replied (OfRead name c.args.got (length into) t) in
+    record {
+      within = search rules;
+      given = given_more (g.L.Library.replied c.args.library.now) replied name c.args.bytes.now into c.args.got read.count _ (omega arith) read.ensures.bound c.read_at.ensures.remembers read.ensures.replied;
+      ends = λ none. (length into, (omega arith, subst P (ap (λ n. take n into) none) read.ensures.replied));
+    }

@@ -20,33 +20,33 @@ pub returns-in-Err-load_script-clause-made : goal.returns-in-Err-load_script-cla
 returns-in-Err-load_script-clause-made g c = made_nothing (λ s. (g.K.Slot.Slot.shown s).number) _ (g.K.Rack.made c.args.rack.now) c.without_blocks-in-Err-load_script.ensures.none
 
 pub returns-in-Ok-load_script-clause-done : goal.returns-in-Ok-load_script-clause-done
-returns-in-Ok-load_script-clause-done g c = λ is t. of_named c.args.words.now _ c.in-Some.arguments _ _ _ _ _ (WritesAll g.O.Sink.told c.args.out.now c.run_over.new.out) c.in-Some.is c.in-Ok.ensures.reading c.load_script.ensures.kept c.workers.ensures.same c.in-Ok-load_script.ensures.script (c.run_over.ensures.done is t)
+returns-in-Ok-load_script-clause-done g c = λ is t. of_named c.args.words.now _ c.in-Some.arguments _ _ _ _ _ (WritesAll g.O.Sink.told c.args.out.now c.run_over.new.out) c.in-Some.is c.in-Ok.ensures.reading c.load_script.ensures.library.told c.workers.ensures.same c.in-Ok-load_script.ensures.script ((c.run_over.ensures.written.done is).took t)
 
 pub returns-in-Ok-load_script-clause-part : goal.returns-in-Ok-load_script-clause-part
-returns-in-Ok-load_script-clause-part g c = λ t. of_named c.args.words.now _ c.in-Some.arguments _ _ _ _ _ (WritesPart g.O.Sink.told c.args.out.now c.run_over.new.out) c.in-Some.is c.in-Ok.ensures.reading c.load_script.ensures.kept c.workers.ensures.same c.in-Ok-load_script.ensures.script (c.run_over.ensures.part t)
+returns-in-Ok-load_script-clause-part g c = λ t. of_named c.args.words.now _ c.in-Some.arguments _ _ _ _ _ (WritesPart g.O.Sink.told c.args.out.now c.run_over.new.out) c.in-Some.is c.in-Ok.ensures.reading c.load_script.ensures.library.told c.workers.ensures.same c.in-Ok-load_script.ensures.script (c.run_over.ensures.written.part t)
 
 pub returns-in-Ok-load_script-clause-room : goal.returns-in-Ok-load_script-clause-room
-returns-in-Ok-load_script-clause-room g c = λ is t. of_named c.args.words.now _ c.in-Some.arguments _ _ _ _ _ (WritesRoom g.O.Sink.told c.args.out.now c.run_over.new.out) c.in-Some.is c.in-Ok.ensures.reading c.load_script.ensures.kept c.workers.ensures.same c.in-Ok-load_script.ensures.script (c.run_over.ensures.room is t)
+returns-in-Ok-load_script-clause-room g c = λ is t. of_named c.args.words.now _ c.in-Some.arguments _ _ _ _ _ (WritesRoom g.O.Sink.told c.args.out.now c.run_over.new.out) c.in-Some.is c.in-Ok.ensures.reading c.load_script.ensures.library.told c.workers.ensures.same c.in-Ok-load_script.ensures.script ((c.run_over.ensures.written.full is).within t)
 
 pub returns-in-Ok-load_script-clause-above : goal.returns-in-Ok-load_script-clause-above
-returns-in-Ok-load_script-clause-above g c = λ is t. of_named c.args.words.now _ c.in-Some.arguments _ _ _ _ _ (IsTooLarge load_of) c.in-Some.is c.in-Ok.ensures.reading c.load_script.ensures.kept c.workers.ensures.same c.in-Ok-load_script.ensures.script (c.run_over.ensures.above is t)
+returns-in-Ok-load_script-clause-above g c = λ is t. of_named c.args.words.now _ c.in-Some.arguments _ _ _ _ _ (IsTooLarge load_of) c.in-Some.is c.in-Ok.ensures.reading c.load_script.ensures.library.told c.workers.ensures.same c.in-Ok-load_script.ensures.script ((c.run_over.ensures.written.full is).above t)
 
 pub returns-in-Ok-load_script-clause-above_any : goal.returns-in-Ok-load_script-clause-above_any
-returns-in-Ok-load_script-clause-above_any g c = λ is. of_named c.args.words.now _ c.in-Some.arguments _ _ _ _ _ (IsTooLarge most_by) c.in-Some.is c.in-Ok.ensures.reading c.load_script.ensures.kept c.workers.ensures.same c.in-Ok-load_script.ensures.script (λ files are. c.run_over.ensures.above_any is)
+returns-in-Ok-load_script-clause-above_any g c = λ is. of_named c.args.words.now _ c.in-Some.arguments _ _ _ _ _ (IsTooLarge most_by) c.in-Some.is c.in-Ok.ensures.reading c.load_script.ensures.library.told c.workers.ensures.same c.in-Ok-load_script.ensures.script (λ files are. (c.run_over.ensures.written.full is).above_any)
 
 pub returns-in-Ok-load_script-clause-used : goal.returns-in-Ok-load_script-clause-used
-returns-in-Ok-load_script-clause-used g c = λ is t. of_named c.args.words.now _ c.in-Some.arguments _ _ _ _ _ (UsesDevice crest_of g.K.Slot.Slot.shown c.run_over.result) c.in-Some.is c.in-Ok.ensures.reading c.load_script.ensures.kept c.workers.ensures.same c.in-Ok-load_script.ensures.script (c.run_over.ensures.used is t)
+returns-in-Ok-load_script-clause-used g c = λ is t. of_named c.args.words.now _ c.in-Some.arguments _ _ _ _ _ (UsesDevice crest_of g.K.Slot.Slot.shown c.run_over.result) c.in-Some.is c.in-Ok.ensures.reading c.load_script.ensures.library.told c.workers.ensures.same c.in-Ok-load_script.ensures.script ((c.run_over.ensures.written.done is).crest t)
 
 pub returns-in-Ok-load_script-clause-used_any : goal.returns-in-Ok-load_script-clause-used_any
-returns-in-Ok-load_script-clause-used_any g c = λ is. of_named c.args.words.now _ c.in-Some.arguments _ _ _ _ _ (UsesDevice least_by g.K.Slot.Slot.shown c.run_over.result) c.in-Some.is c.in-Ok.ensures.reading c.load_script.ensures.kept c.workers.ensures.same c.in-Ok-load_script.ensures.script (λ files are. c.run_over.ensures.used_any is)
+returns-in-Ok-load_script-clause-used_any g c = λ is. of_named c.args.words.now _ c.in-Some.arguments _ _ _ _ _ (UsesDevice least_by g.K.Slot.Slot.shown c.run_over.result) c.in-Some.is c.in-Ok.ensures.reading c.load_script.ensures.library.told c.workers.ensures.same c.in-Ok-load_script.ensures.script (λ files are. (c.run_over.ensures.written.done is).least)
 
 pub returns-in-Ok-load_script-clause-answer : goal.returns-in-Ok-load_script-clause-answer
 returns-in-Ok-load_script-clause-answer g c =
-    named_answer c.args.words.now _ c.in-Some.arguments _ c.run_over.result.end c.in-Some.is c.in-Ok.ensures.reading (loaded_answer _ _ _ _ _ c.in-Some.arguments.sizes c.run_over.result.end c.workers.ensures.same c.in-Ok-load_script.ensures.script c.run_over.ensures.answer)
+    named_answer c.args.words.now _ c.in-Some.arguments _ c.run_over.result.end c.in-Some.is c.in-Ok.ensures.reading (loaded_answer _ _ _ _ _ c.in-Some.arguments.sizes c.run_over.result.end c.workers.ensures.same c.in-Ok-load_script.ensures.script c.run_over.ensures.ends.answer)
 
 pub run_over-requires-clause-lengths : goal.run_over-requires-clause-lengths
 run_over-requires-clause-lengths g c = λ lifetimes outlives files is.
-    keeps (g.L.Library.told c.args.library.now) (g.L.Library.replied c.load_script.new.library) c.in-Some.arguments.script.now c.workers.result c.in-Ok-load_script.script c.in-Ok-load_script.ensures.script files (sym c.load_script.ensures.kept ∙ is)
+    keeps (g.L.Library.told c.args.library.now) (g.L.Library.replied c.load_script.new.library) c.in-Some.arguments.script.now c.workers.result c.in-Ok-load_script.script c.in-Ok-load_script.ensures.script files (sym c.load_script.ensures.library.told ∙ is)
 
 pub returns-in-Ok-load_script-clause-refused : goal.returns-in-Ok-load_script-clause-refused
 returns-in-Ok-load_script-clause-refused g c =
@@ -56,7 +56,7 @@ returns-in-Ok-load_script-clause-refused g c =
     let workers : c.workers.result ≡ arguments.sizes.workers = c.workers.ensures.same in
     of_words c.args.words.now _ arguments (λ r. RefusalIsRight told replied r.script r.sizes c.run_over.result.end) c.in-Some.is c.in-Ok.ensures.reading
     (later_refusal told (g.L.Library.told c.load_script.new.library) (g.L.Library.replied c.load_script.new.library) replied arguments.script.now arguments.sizes c.workers.result c.in-Ok-load_script.script c.run_over.result.end
-    c.load_script.ensures.kept workers c.run_over.ensures.remembers c.in-Ok-load_script.ensures.script c.run_over.ensures.answer c.run_over.ensures.changed)
+    c.load_script.ensures.library.told workers c.run_over.ensures.library.remembers c.in-Ok-load_script.ensures.script c.run_over.ensures.ends.answer c.run_over.ensures.ends.changed)
 
 pub returns-in-Ok-load_script-clause-ran : goal.returns-in-Ok-load_script-clause-ran
 returns-in-Ok-load_script-clause-ran g c =
@@ -71,12 +71,12 @@ returns-in-Ok-load_script-clause-ran g c =
     let workers : c.workers.result ≡ arguments.sizes.workers = c.workers.ensures.same in
     of_words c.args.words.now _ arguments (λ r. RunIsRight tells told replied r.script r.sizes before now blocks end) c.in-Some.is c.in-Ok.ensures.reading
     (later_run told (g.L.Library.told c.load_script.new.library) (g.L.Library.replied c.load_script.new.library) replied arguments.script.now arguments.sizes c.workers.result tells c.in-Ok-load_script.script before now blocks end
-    c.load_script.ensures.kept workers c.run_over.ensures.remembers c.in-Ok-load_script.ensures.script c.run_over.ensures.answer
-    c.run_over.ensures.done c.run_over.ensures.part c.run_over.ensures.room c.run_over.ensures.memory c.run_over.ensures.file c.run_over.ensures.above c.run_over.ensures.above_any c.run_over.ensures.used c.run_over.ensures.used_any)
+    c.load_script.ensures.library.told workers c.run_over.ensures.library.remembers c.in-Ok-load_script.ensures.script c.run_over.ensures.ends.answer
+    c.run_over.ensures.written)
 
 pub returns-in-Ok-load_script-clause-blocks : goal.returns-in-Ok-load_script-clause-blocks
 returns-in-Ok-load_script-clause-blocks g c =
-    of_words c.args.words.now _ c.in-Some.arguments (λ r. AreBlocks r.sizes c.run_over.result.end (map g.K.Slot.Slot.shown c.run_over.result.blocks.items)) c.in-Some.is c.in-Ok.ensures.reading c.run_over.ensures.blocks
+    of_words c.args.words.now _ c.in-Some.arguments (λ r. AreBlocks r.sizes c.run_over.result.end (map g.K.Slot.Slot.shown c.run_over.result.blocks.items)) c.in-Some.is c.in-Ok.ensures.reading c.run_over.ensures.blocks.are
 
 pub returns-in-Ok-load_script-clause-complete : goal.returns-in-Ok-load_script-clause-complete
 returns-in-Ok-load_script-clause-complete g c = λ t fault.
@@ -86,9 +86,9 @@ returns-in-Ok-load_script-clause-complete g c = λ t fault.
     let name = arguments.script.now in
     let sizes = arguments.sizes in
     of_words c.args.words.now _ arguments (λ r. IfSome told (λ files. IfSome (files r.script) (λ bytes. EndsWell load_of r.sizes files bytes end))) c.in-Some.is c.in-Ok.ensures.reading
-    (named_completed told name sizes load_of end (loaded_answer told _ _ _ _ sizes end c.workers.ensures.same c.in-Ok-load_script.ensures.script c.run_over.ensures.answer)
-    (λ line said got is. sym c.load_script.ensures.kept ∙ (c.run_over.ensures.changed line said got is).untold)
-    (λ is. of_commands told (g.L.Library.told c.load_script.new.library) _ name _ _ sizes (IsTooLarge load_of) c.load_script.ensures.kept c.workers.ensures.same c.in-Ok-load_script.ensures.script (c.run_over.ensures.above is t)) fault)
+    (named_completed told name sizes load_of end (loaded_answer told _ _ _ _ sizes end c.workers.ensures.same c.in-Ok-load_script.ensures.script c.run_over.ensures.ends.answer)
+    (λ line said got is. sym c.load_script.ensures.library.told ∙ (c.run_over.ensures.ends.changed line said got is).untold)
+    (λ is. of_commands told (g.L.Library.told c.load_script.new.library) _ name _ _ sizes (IsTooLarge load_of) c.load_script.ensures.library.told c.workers.ensures.same c.in-Ok-load_script.ensures.script ((c.run_over.ensures.written.full is).above t)) fault)
 
 pub returns-in-Ok-load_script-clause-complete_any : goal.returns-in-Ok-load_script-clause-complete_any
 returns-in-Ok-load_script-clause-complete_any g c = λ fault.
@@ -98,13 +98,13 @@ returns-in-Ok-load_script-clause-complete_any g c = λ fault.
     let name = arguments.script.now in
     let sizes = arguments.sizes in
     of_words c.args.words.now _ arguments (λ r. IfSome told (λ files. IfSome (files r.script) (λ bytes. EndsWell most_by r.sizes files bytes end))) c.in-Some.is c.in-Ok.ensures.reading
-    (named_completed told name sizes most_by end (loaded_answer told _ _ _ _ sizes end c.workers.ensures.same c.in-Ok-load_script.ensures.script c.run_over.ensures.answer)
-    (λ line said got is. sym c.load_script.ensures.kept ∙ (c.run_over.ensures.changed line said got is).untold)
-    (λ is. of_commands told (g.L.Library.told c.load_script.new.library) _ name _ _ sizes (IsTooLarge most_by) c.load_script.ensures.kept c.workers.ensures.same c.in-Ok-load_script.ensures.script (λ files are. c.run_over.ensures.above_any is)) fault)
+    (named_completed told name sizes most_by end (loaded_answer told _ _ _ _ sizes end c.workers.ensures.same c.in-Ok-load_script.ensures.script c.run_over.ensures.ends.answer)
+    (λ line said got is. sym c.load_script.ensures.library.told ∙ (c.run_over.ensures.ends.changed line said got is).untold)
+    (λ is. of_commands told (g.L.Library.told c.load_script.new.library) _ name _ _ sizes (IsTooLarge most_by) c.load_script.ensures.library.told c.workers.ensures.same c.in-Ok-load_script.ensures.script (λ files are. (c.run_over.ensures.written.full is).above_any)) fault)
 
 pub returns-in-Ok-load_script-clause-reads : goal.returns-in-Ok-load_script-clause-reads
 returns-in-Ok-load_script-clause-reads g c =
     let before = g.L.Library.replied c.args.library.now in
     let mid = g.L.Library.replied c.load_script.new.library in
     let now = g.L.Library.replied c.run_over.new.library in
-    reads_then before mid now c.run_over.ensures.remembers c.load_script.ensures.reads (reads_script (g.L.Library.told c.args.library.now) mid now c.in-Some.arguments.script.now c.workers.result c.in-Ok-load_script.script c.run_over.ensures.remembers c.in-Ok-load_script.ensures.script c.run_over.ensures.asks)
+    reads_then before mid now c.run_over.ensures.library.remembers c.load_script.ensures.library.asks (reads_script (g.L.Library.told c.args.library.now) mid now c.in-Some.arguments.script.now c.workers.result c.in-Ok-load_script.script c.run_over.ensures.library.remembers c.in-Ok-load_script.ensures.script c.run_over.ensures.library.asks)

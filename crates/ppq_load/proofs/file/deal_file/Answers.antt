@@ -1,10 +1,9 @@
 use Rattle.std.proofs.Common.{◌≡◌, ◌∙◌, ◌+◌, ◌*◌, ◌/◌, drop, ap, refl, sym, subst, arith, length-append, length-drop}
-use Rattle.ppq_session.proofs.ppq_outside.Replies.{no_replies, replies_then}
 use Rattle.ppq_session.specs.ppq_budget.Sizes.{batch_of}
 use Rattle.ppq_load.specs.Loading.{InSession, HasGiven}
-use Rattle.ppq_load.specs.Reading.{IsReadWithin}
 use Rattle.ppq_load.proofs.FileRecords.{given-none, given-stopped}
 use Rattle.ppq_load.proofs.Loadings.{batch-some}
+use Rattle.ppq_load.proofs.Reading.{reads-none, reads-then}
 use Rattle.ppq_load.proofs.file.deal_file.Goals as goal
 
 pub returns-in_err-deal_piece-clause-session : goal.returns-in_err-deal_piece-clause-session
@@ -13,15 +12,14 @@ returns-in_err-deal_piece-clause-session g c =
     let had = c.pieces.invariant.given queue s in
     (had.records, subst (λ l. InSession g.S.Slot.shown queue had.records l) (sym c.in_err-deal_piece.ensures.same) had.session)
 
-pub returns-in_err-deal_piece-clause-asks : goal.returns-in_err-deal_piece-clause-asks
-returns-in_err-deal_piece-clause-asks g c =
-    replies_then (g.L.Library.replied c.args.library.now) (g.L.Library.replied c.pieces.library) (g.L.Library.replied c.deal_piece.new.library) (IsReadWithin c.args.name.now c.args.said) c.pieces.invariant.asks c.deal_piece.ensures.asks
+pub returns-in_err-deal_piece-clause-reads : goal.returns-in_err-deal_piece-clause-reads
+returns-in_err-deal_piece-clause-reads g c = reads-then g.L.Library.told g.L.Library.replied c.args.source.name.now c.pieces.invariant.reads c.deal_piece.ensures.reads
 
 pub pieces-preserved : goal.pieces-preserved
 pieces-preserved g c =
     let shown = g.S.Slot.shown in
     let i = c.pieces.invariant in
-    let name = c.args.name.now in
+    let name = c.args.source.name.now in
     let n = c.min-count.result in
     let old = c.pieces.load in
     let new = c.deal_piece.new.load in
@@ -29,23 +27,21 @@ pieces-preserved g c =
     record {
       given =
           λ queue s.
-          subst (λ k. HasGiven shown queue (g.L.Library.told c.args.library.now) name (c.pieces.from + k) new) (sym c.from-in-pieces.ensures) (subst (λ told. HasGiven shown queue told name (c.pieces.from + n) new) i.told (e.given queue (subst (λ told. HasGiven shown queue told name c.pieces.from old) (sym i.told) (i.given queue s))));
-      going = e.all.0 c.if-not-branch.false;
-      room = omega (arith, i.room, ap (λ sizes. batch_of sizes) c.deal_piece.ensures.sizes);
+          subst (λ k. HasGiven shown queue (g.L.Library.told c.args.library.now) name (c.pieces.from + k) new) (sym c.from-in-pieces.ensures) (subst (λ told. HasGiven shown queue told name (c.pieces.from + n) new) i.reads.told (e.given queue (subst (λ told. HasGiven shown queue told name c.pieces.from old) (sym i.reads.told) (i.given queue s))));
+      going = e.dealt.all.0 c.if-not-branch.false;
+      room = omega (arith, i.room, ap (λ sizes. batch_of sizes) e.dealt.sizes);
       some = i.some;
       small = i.small;
       piece = omega (arith, i.piece, c.deal_piece.auto.piece, length-append c.deal_piece.new.piece (drop (n * 16) c.pieces.room), length-drop (n * 16) c.pieces.room);
       within = omega arith;
       records = i.records;
-      told = c.deal_piece.ensures.told ∙ i.told;
-      remembers = λ reply had. c.deal_piece.ensures.remembers reply (i.remembers reply had);
-      asks = replies_then (g.L.Library.replied c.args.library.now) (g.L.Library.replied c.pieces.library) (g.L.Library.replied c.deal_piece.new.library) (IsReadWithin name c.args.said) i.asks c.deal_piece.ensures.asks;
-      stays = e.stays ∙ i.stays;
+      reads = reads-then g.L.Library.told g.L.Library.replied name i.reads c.deal_piece.ensures.reads;
+      stays = e.counts.stays ∙ i.stays;
     }
 
 pub pieces-init : goal.pieces-init
 pieces-init g c = record {
-  given = λ queue s. given-none (g.L.Library.told c.args.library.now) c.args.name.now g.S.Slot.shown queue c.args.load.now s;
+  given = λ queue s. given-none (g.L.Library.told c.args.library.now) c.args.source.name.now g.S.Slot.shown queue c.args.load.now s;
   going = c.requires.going;
   room = omega arith;
   some = omega (arith, batch-some c.args.load.now.bulk.sizes c.batch_len.ensures.range);
@@ -53,9 +49,7 @@ pieces-init g c = record {
   piece = omega arith;
   within = omega arith;
   records = refl;
-  told = refl;
-  remembers = λ reply had. had;
-  asks = no_replies (g.L.Library.replied c.args.library.now) (IsReadWithin c.args.name.now c.args.said);
+  reads = reads-none g.L.Library.told g.L.Library.replied c.args.source.name.now c.args.source.said c.args.library.now;
   stays = refl;
 }
 
@@ -63,15 +57,15 @@ pub returns-then-not-branch-clause-given : goal.returns-then-not-branch-clause-g
 returns-then-not-branch-clause-given g c =
     let shown = g.S.Slot.shown in
     let i = c.pieces.invariant in
-    let name = c.args.name.now in
+    let name = c.args.source.name.now in
     let told = g.L.Library.told c.args.library.now in
     let n = c.min-count.result in
     let old = c.pieces.load in
     let new = c.deal_piece.new.load in
     let e = c.in_ok-deal_piece.ensures in
     λ queue s.
-    given-stopped told name shown queue (c.pieces.from + n) (c.args.said / 16) new (omega (arith, i.records)) (e.stopped c.if-not-branch.true)
-    (subst (λ t. HasGiven shown queue t name (c.pieces.from + n) new) i.told (e.given queue (subst (λ t. HasGiven shown queue t name c.pieces.from old) (sym i.told) (i.given queue s))))
+    given-stopped told name shown queue (c.pieces.from + n) (c.args.source.said / 16) new (omega (arith, i.records)) (e.dealt.stopped c.if-not-branch.true)
+    (subst (λ t. HasGiven shown queue t name (c.pieces.from + n) new) i.reads.told (e.given queue (subst (λ t. HasGiven shown queue t name c.pieces.from old) (sym i.reads.told) (i.given queue s))))
 
 pub returns-then-not-branch-clause-session : goal.returns-then-not-branch-clause-session
 returns-then-not-branch-clause-session g c =
@@ -79,18 +73,17 @@ returns-then-not-branch-clause-session g c =
     let i = c.pieces.invariant in
     let e = c.in_ok-deal_piece.ensures in
     λ queue s.
-    let had = e.given queue (subst (λ t. HasGiven shown queue t c.args.name.now c.pieces.from c.pieces.load) (sym i.told) (i.given queue s)) in
+    let had = e.given queue (subst (λ t. HasGiven shown queue t c.args.source.name.now c.pieces.from c.pieces.load) (sym i.reads.told) (i.given queue s)) in
     (had.records, had.session)
 
-pub returns-then-not-branch-clause-asks : goal.returns-then-not-branch-clause-asks
-returns-then-not-branch-clause-asks g c =
-    replies_then (g.L.Library.replied c.args.library.now) (g.L.Library.replied c.pieces.library) (g.L.Library.replied c.deal_piece.new.library) (IsReadWithin c.args.name.now c.args.said) c.pieces.invariant.asks c.deal_piece.ensures.asks
+pub returns-then-not-branch-clause-reads : goal.returns-then-not-branch-clause-reads
+returns-then-not-branch-clause-reads g c = reads-then g.L.Library.told g.L.Library.replied c.args.source.name.now c.pieces.invariant.reads c.deal_piece.ensures.reads
 
 pub returns-clause-given : goal.returns-clause-given
 returns-clause-given g c =
     let i = c.pieces.invariant in
-    let end : c.pieces.from ≡ c.args.said / 16 = omega (arith, i.records, i.within) in
-    λ queue s. subst (λ k. HasGiven g.S.Slot.shown queue (g.L.Library.told c.args.library.now) c.args.name.now k c.pieces.load) end (i.given queue s)
+    let end : c.pieces.from ≡ c.args.source.said / 16 = omega (arith, i.records, i.within) in
+    λ queue s. subst (λ k. HasGiven g.S.Slot.shown queue (g.L.Library.told c.args.library.now) c.args.source.name.now k c.pieces.load) end (i.given queue s)
 
 pub returns-clause-session : goal.returns-clause-session
 returns-clause-session g c =

@@ -1,26 +1,23 @@
 use Rattle.std.proofs.Common.{◌≡◌, ◌≤◌, ◌<◌, ◌-◌, ◌*◌, ◌/◌, ◌^◌, [], length, All}
 use Rattle.ppq_session.specs.ppq_record.declared.pair.Pair.{Pair}
-use Rattle.ppq_session.specs.ppq_outside.Told.{Remembers, RepliesOnly}
 use Rattle.ppq_session.specs.ppq_budget.Sizes.{batch_of}
 use Rattle.ppq_session.specs.ppq_queue.Holding.{Holding}
 use Rattle.ppq_session.specs.Dealing.{IsGoing}
 use Rattle.ppq_load.specs.Loading.{InSession, HasGiven}
-use Rattle.ppq_load.specs.Reading.{IsReadWithin}
+use Rattle.ppq_load.specs.Reading.{ReadsFile}
 use Rattle.ppq_load.proofs.file.deal_file.Given as goal
 
 abbrev pub invariant-pieces : goal.invariant-pieces
 invariant-pieces g l = record {
-  given : (queue : Holding Pair) → InSession g.S.Slot.shown queue [] l.fn.load → HasGiven g.S.Slot.shown queue (g.L.Library.told l.fn.library) l.fn.name l.from l.load;
+  given : (queue : Holding Pair) → InSession g.S.Slot.shown queue [] l.fn.load → HasGiven g.S.Slot.shown queue (g.L.Library.told l.fn.library) l.fn.source.name.now l.from l.load;
   going : All IsGoing l.load.passes;
   room : l.most ≤ batch_of l.load.bulk.sizes;
   some : 0 < l.most;
   small : l.most < 2 ^ 32;
   piece : l.most * 16 ≤ length l.room;
   within : l.from ≤ l.records;
-  records : l.records ≡ l.fn.said / 16;
-  told : g.L.Library.told l.library ≡ g.L.Library.told l.fn.library;
-  remembers : Remembers (g.L.Library.replied l.fn.library) (g.L.Library.replied l.library);
-  asks : RepliesOnly (g.L.Library.replied l.fn.library) (g.L.Library.replied l.library) (IsReadWithin l.fn.name l.fn.said);
+  records : l.records ≡ l.fn.source.said / 16;
+  reads : ReadsFile g.L.Library.told g.L.Library.replied l.fn.source.name.now l.fn.source.said l.fn.library l.library;
   stays : g.L.Library.faults l.library ≡ g.L.Library.faults l.fn.library;
 }
 

@@ -7,82 +7,74 @@ use Rattle.ppq_session.specs.ppq_outside.Shown.{AllTell}
 use Rattle.ppq_session.specs.ppq_outside.Told.{bytes_or_none}
 use Rattle.ppq_session.proofs.ppq_outside.Replies.{no_replies}
 use Rattle.ppq_session.specs.ppq_queue.Holding.{Holding}
-use Rattle.ppq_load.specs.Loading.{InSession, HasGiven, LoadStopsFor, LoadEndsIn, LoadCountsFrom}
+use Rattle.ppq_load.specs.Loading.{InSession, HasGiven, IsByRead, IsReadRefusal, LoadStopsFor, LoadEndsIn, LoadCountsFrom}
 use Rattle.ppq_load.specs.Reading.{IsReadWithin}
 use Rattle.ppq_load.proofs.Refusals.{stop-later}
-use Rattle.ppq_load.proofs.Results.{first-bag, first-size, first-sound, first-peak, first-refused, first-err, first-ok, on_ok, on_ok-map, unread-ends, unread-counts}
+use Rattle.ppq_load.proofs.Results.{first-bag, first-size, first-sound, first-peak, first-refused, first-err, first-ok, on_ok, on_ok-map, if_err-map, unread-ends, unread-counts}
+use Rattle.ppq_load.proofs.file.load_file.Given as over
+use Rattle.ppq_load.proofs.file.load_file.Goals.{After-deal_file-read}
 use Rattle.ppq_load.proofs.file.load_file.Goals as goal
+
+-- the session was given the records of the file, where its reading was not refused
+given : (g : over.Over) (c : After-deal_file-read g) → OnOk c.deal_file-read.result (HasGiven g.S.Slot.shown c.args.queue (g.L.Library.told c.args.library.now) c.args.name.now (c.args.said / 16) c.deal_file-read.new.load)
+given g c =
+    let told = g.L.Library.told c.args.library.now in
+    let load = c.deal_file-read.new.load in
+    on_ok-map c.deal_file-read.result ((queue : Holding Pair) → InSession g.S.Slot.shown queue [] c.in-Ok.load → HasGiven g.S.Slot.shown queue told c.args.name.now (c.args.said / 16) load)
+    (HasGiven g.S.Slot.shown c.args.queue told c.args.name.now (c.args.said / 16) load) (λ all. all c.args.queue c.in-Ok.ensures.session) c.deal_file-read.ensures.given
+
+-- a refusal of the reading says that it was the file
+by_file : (g : over.Over) (c : After-deal_file-read g) → IfErr c.deal_file-read.result IsByRead
+by_file g c =
+    let read = c.deal_file-read in
+    if_err-map read.result (IsReadRefusal (g.L.Library.told c.args.library.now) (g.L.Library.replied read.new.library) c.args.name.now c.args.said) IsByRead (λ fault refused. refused.by_file) read.ensures.refused
 
 pub returns-in-Ok-clause-bag : goal.returns-in-Ok-clause-bag
 returns-in-Ok-clause-bag g c =
     let q = c.args.queue in
     let told = g.L.Library.told c.args.library.now in
     let new = c.end-queue.result.0 in
-    let load = c.deal_file-read.new.load in
-    let given =
-    on_ok-map c.deal_file-read.result ((queue : Holding Pair) → InSession g.S.Slot.shown queue [] c.in-Ok.load → HasGiven g.S.Slot.shown queue told c.args.name.now (c.args.said / 16) load)
-    (HasGiven g.S.Slot.shown q told c.args.name.now (c.args.said / 16) load) (λ all. all q c.in-Ok.ensures.session) c.deal_file-read.ensures.given
-    in
     subst (λ r. OnOk r (AllTell q.slots → (files : List ℕ → Option (List ℕ)) → told ≡ Some files → IsSameBag new.bag (records_of (bytes_or_none (files c.args.name.now)) ++ q.bag))) (sym c.first_fault.ensures)
-    (first-bag g.S.Slot.shown told c.args.name.now c.args.said load q new c.end-queue.result.1 (c.end-queue.ensures.loaded q) c.deal_file-read.result c.requires.long given)
+    (first-bag g.S.Slot.shown told c.args.name.now c.args.said c.deal_file-read.new.load q new c.end-queue.result.1 (c.end-queue.ensures.loaded q) c.deal_file-read.result c.requires.long (given g (goal.at.returns-in-Ok-clause-bag g c).After-deal_file-read))
 
 pub returns-in-Ok-clause-size : goal.returns-in-Ok-clause-size
 returns-in-Ok-clause-size g c =
     let q = c.args.queue in
     let told = g.L.Library.told c.args.library.now in
     let new = c.end-queue.result.0 in
-    let load = c.deal_file-read.new.load in
-    let given =
-    on_ok-map c.deal_file-read.result ((queue : Holding Pair) → InSession g.S.Slot.shown queue [] c.in-Ok.load → HasGiven g.S.Slot.shown queue told c.args.name.now (c.args.said / 16) load)
-    (HasGiven g.S.Slot.shown q told c.args.name.now (c.args.said / 16) load) (λ all. all q c.in-Ok.ensures.session) c.deal_file-read.ensures.given
-    in
     subst (λ r. OnOk r (new.size ≡ q.size + c.args.said / 16)) (sym c.first_fault.ensures)
-    (first-size g.S.Slot.shown told c.args.name.now c.args.said load q new c.end-queue.result.1 (c.end-queue.ensures.loaded q) c.deal_file-read.result given)
+    (first-size g.S.Slot.shown told c.args.name.now c.args.said c.deal_file-read.new.load q new c.end-queue.result.1 (c.end-queue.ensures.loaded q) c.deal_file-read.result (given g (goal.at.returns-in-Ok-clause-size g c).After-deal_file-read))
 
 pub returns-in-Ok-clause-sound : goal.returns-in-Ok-clause-sound
 returns-in-Ok-clause-sound g c =
     let q = c.args.queue in
     let told = g.L.Library.told c.args.library.now in
     let new = c.end-queue.result.0 in
-    let load = c.deal_file-read.new.load in
-    let given =
-    on_ok-map c.deal_file-read.result ((queue : Holding Pair) → InSession g.S.Slot.shown queue [] c.in-Ok.load → HasGiven g.S.Slot.shown queue told c.args.name.now (c.args.said / 16) load)
-    (HasGiven g.S.Slot.shown q told c.args.name.now (c.args.said / 16) load) (λ all. all q c.in-Ok.ensures.session) c.deal_file-read.ensures.given
-    in
     subst (λ r. OnOk r (new.failed ≡ None)) (sym c.first_fault.ensures)
-    (first-sound g.S.Slot.shown told c.args.name.now c.args.said load q new c.end-queue.result.1 (c.end-queue.ensures.loaded q) c.deal_file-read.result given)
+    (first-sound g.S.Slot.shown told c.args.name.now c.args.said c.deal_file-read.new.load q new c.end-queue.result.1 (c.end-queue.ensures.loaded q) c.deal_file-read.result (given g (goal.at.returns-in-Ok-clause-sound g c).After-deal_file-read))
 
 pub returns-in-Ok-clause-peak : goal.returns-in-Ok-clause-peak
 returns-in-Ok-clause-peak g c =
     let q = c.args.queue in
     let told = g.L.Library.told c.args.library.now in
     let new = c.end-queue.result.0 in
-    let load = c.deal_file-read.new.load in
-    let given =
-    on_ok-map c.deal_file-read.result ((queue : Holding Pair) → InSession g.S.Slot.shown queue [] c.in-Ok.load → HasGiven g.S.Slot.shown queue told c.args.name.now (c.args.said / 16) load)
-    (HasGiven g.S.Slot.shown q told c.args.name.now (c.args.said / 16) load) (λ all. all q c.in-Ok.ensures.session) c.deal_file-read.ensures.given
-    in
     subst (λ r. OnOk r (new.peak ≡ max q.peak (q.size + c.args.said / 16))) (sym c.first_fault.ensures)
-    (first-peak g.S.Slot.shown told c.args.name.now c.args.said load q new c.end-queue.result.1 (c.end-queue.ensures.loaded q) c.deal_file-read.result given)
+    (first-peak g.S.Slot.shown told c.args.name.now c.args.said c.deal_file-read.new.load q new c.end-queue.result.1 (c.end-queue.ensures.loaded q) c.deal_file-read.result (given g (goal.at.returns-in-Ok-clause-peak g c).After-deal_file-read))
 
 pub returns-in-Ok-clause-refused : goal.returns-in-Ok-clause-refused
 returns-in-Ok-clause-refused g c =
     let q = c.args.queue in
     let told = g.L.Library.told c.args.library.now in
     let new = c.end-queue.result.0 in
-    let load = c.deal_file-read.new.load in
-    let given =
-    on_ok-map c.deal_file-read.result ((queue : Holding Pair) → InSession g.S.Slot.shown queue [] c.in-Ok.load → HasGiven g.S.Slot.shown queue told c.args.name.now (c.args.said / 16) load)
-    (HasGiven g.S.Slot.shown q told c.args.name.now (c.args.said / 16) load) (λ all. all q c.in-Ok.ensures.session) c.deal_file-read.ensures.given
-    in
     subst (λ r. IfErr r (LoadStopsFor (max q.peak (q.size + c.args.said / 16)) q.sizes q.limited new.slots)) (sym c.first_fault.ensures)
-    (first-refused g.S.Slot.shown told c.args.name.now c.args.said load q new c.end-queue.result.1 (c.end-queue.ensures.loaded q) c.deal_file-read.result given c.deal_file-read.ensures.by_file)
+    (first-refused g.S.Slot.shown told c.args.name.now c.args.said c.deal_file-read.new.load q new c.end-queue.result.1 (c.end-queue.ensures.loaded q) c.deal_file-read.result (given g (goal.at.returns-in-Ok-clause-refused g c).After-deal_file-read) (by_file g (goal.at.returns-in-Ok-clause-refused g c).After-deal_file-read))
 
 pub returns-in-Ok-clause-ended : goal.returns-in-Ok-clause-ended
 returns-in-Ok-clause-ended g c =
     let read = c.deal_file-read in
     let P = LoadEndsIn (g.L.Library.told c.args.library.now) (g.L.Library.replied read.new.library) c.args.name.now c.args.said in
-    subst (λ r. IfErr r P) (sym c.first_fault.ensures) (first-err read.result c.end-queue.result.1 P (λ fault. on_ok read.result ⊤ tt) read.ensures.ended)
+    subst (λ r. IfErr r P) (sym c.first_fault.ensures) (first-err read.result c.end-queue.result.1 P (λ fault. on_ok read.result ⊤ tt)
+    (if_err-map read.result (IsReadRefusal (g.L.Library.told c.args.library.now) (g.L.Library.replied read.new.library) c.args.name.now c.args.said) P (λ fault refused. refused.ended) read.ensures.refused))
 
 pub returns-in-Ok-clause-kept : goal.returns-in-Ok-clause-kept
 returns-in-Ok-clause-kept g c =
@@ -93,13 +85,13 @@ pub returns-in-Ok-clause-stays : goal.returns-in-Ok-clause-stays
 returns-in-Ok-clause-stays g c =
     let read = c.deal_file-read in
     let P = g.L.Library.faults read.new.library ≡ g.L.Library.faults c.args.library.now in
-    subst (λ r. OnOk r P) (sym c.first_fault.ensures) (first-ok read.result c.end-queue.result.1 P read.ensures.stays)
+    subst (λ r. OnOk r P) (sym c.first_fault.ensures) (first-ok read.result c.end-queue.result.1 P read.ensures.counts.stays)
 
 pub returns-in-Ok-clause-cause : goal.returns-in-Ok-clause-cause
 returns-in-Ok-clause-cause g c =
     let read = c.deal_file-read in
     let P = LoadCountsFrom (g.L.Library.faults c.args.library.now) (g.L.Library.faults read.new.library) in
-    subst (λ r. IfErr r P) (sym c.first_fault.ensures) (first-err read.result c.end-queue.result.1 P (λ fault. read.ensures.stays) read.ensures.cause)
+    subst (λ r. IfErr r P) (sym c.first_fault.ensures) (first-err read.result c.end-queue.result.1 P (λ fault. read.ensures.counts.stays) read.ensures.counts.cause)
 
 pub returns-in-Err-clause-refused : goal.returns-in-Err-clause-refused
 returns-in-Err-clause-refused g c =

@@ -1,0 +1,153 @@
+-- What `run_over` says where no command was run, and how its end follows from the device's and the script's.
+use Rattle.std.proofs.Common.{◌≡◌, inl, inr, ℕ, ◌<◌, ◌≤◌, List, [], map, length, Option, Some, None, refl, sym, ap, subst, arith, append-nil}
+use Rattle.std.specs.Prelude.{◌⊎◌, ⊤, Bool, true, false, if◌then◌else◌, nat_lt, MatchOption}
+use Rattle.std.specs.List.{range_with_len}
+use Rattle.std.specs.List.Sorted.{IsPermutation}
+use Rattle.std.proofs.lemmas.Bool.{lt-ltb, le-ltb}
+use Rattle.std.proofs.lemmas.List.Sorted.{IsPermutation-refl}
+use Rattle.ppq_words.specs.ppq_outside.declared.fault.OutsideFault.{OutsideFault}
+use Rattle.ppq_words.specs.ppq_outside.declared.fault.OutsideFault.TheVariants as outside
+use Rattle.ppq_words.specs.ppq_outside.Shown.{Shown}
+use Rattle.ppq_words.specs.ppq_outside.Told.{Reply, TakesPart}
+use Rattle.ppq_words.specs.ppq_budget.Sizes.{Numbers, fixed_of}
+use Rattle.ppq_words.specs.ppq_script.Reading.{Reading}
+use Rattle.ppq_words.proofs.ppq_outside.Replies.{no_replies}
+use Rattle.ppq_engine.specs.Ends.{BeganCommands, BeganOrRefused, budget_refusal}
+use Rattle.ppq_engine.specs.declared.end.End.{End}
+use Rattle.ppq_engine.specs.declared.end.End.TheVariants.{Done, BadLine, Usage, ReadFault, WriteFault, DeviceFault, NoFreeBlock, BudgetTooSmall, Memory, FileChanged, NoDevice, NoScript, ScriptTooLong}
+use Rattle.ppq_cli.specs.Device.{AreBlocks, HasReason, IsSurelyRun, make_end}
+use Rattle.ppq_cli.specs.Replies.{LibraryKeeps}
+use Rattle.ppq_cli.specs.RunOver.{RunWrites, RunEnds, RunCounts, RunFaults}
+use Rattle.ppq_cli.specs.RunWords.{IsTriedOrRefusal}
+
+-- the ends before a command was run
+abbrev pub IsEarly : End → Type 0
+IsEarly Done = ⊥
+IsEarly (BadLine line) = ⊥
+IsEarly Usage = ⊥
+IsEarly ReadFault = ⊥
+IsEarly WriteFault = ⊥
+IsEarly (DeviceFault number) = ⊥
+IsEarly NoFreeBlock = ⊥
+IsEarly (BudgetTooSmall need) = ⊤
+IsEarly Memory = ⊤
+IsEarly (FileChanged line said got) = ⊥
+IsEarly NoDevice = ⊤
+IsEarly NoScript = ⊥
+IsEarly ScriptTooLong = ⊥
+
+pub early_making : (fault : OutsideFault) → IsEarly (make_end fault)
+early_making outside.Failed = tt
+early_making outside.Memory = tt
+
+-- nothing is a part of each text
+takes_none : (told : Option (List ℕ)) (text : List ℕ) → TakesPart told told text
+takes_none None text = refl
+takes_none (Some had) text = (0, omega arith, ap (λ (t : List ℕ). Some t) (sym (append-nil had)))
+
+-- nothing was written
+pub wrote_nothing :
+    (tells : Type 0) (told : Option (List ℕ → Option (List ℕ))) (took : Option (List ℕ)) (sizes : Numbers) (script : Reading) (blocks : List Shown) (end : End) → IsEarly end → RunWrites tells told took took sizes script blocks end
+wrote_nothing tells told took sizes script blocks (BudgetTooSmall need) early = record { done = λ is. cc; full = λ is. cc; part = λ t files are. takes_none took _; memory = λ is. inl refl; file = tt; nothing = inr refl }
+wrote_nothing tells told took sizes script blocks Memory early = record { done = λ is. cc; full = λ is. cc; part = λ t files are. takes_none took _; memory = λ is. inl refl; file = tt; nothing = inr refl }
+wrote_nothing tells told took sizes script blocks NoDevice early = record { done = λ is. cc; full = λ is. cc; part = λ t files are. takes_none took _; memory = λ is. inl refl; file = tt; nothing = inr refl }
+wrote_nothing tells told took sizes script blocks Done early = absurd early
+wrote_nothing tells told took sizes script blocks (BadLine line) early = absurd early
+wrote_nothing tells told took sizes script blocks Usage early = absurd early
+wrote_nothing tells told took sizes script blocks ReadFault early = absurd early
+wrote_nothing tells told took sizes script blocks WriteFault early = absurd early
+wrote_nothing tells told took sizes script blocks (DeviceFault number) early = absurd early
+wrote_nothing tells told took sizes script blocks NoFreeBlock early = absurd early
+wrote_nothing tells told took sizes script blocks (FileChanged line said got) early = absurd early
+wrote_nothing tells told took sizes script blocks NoScript early = absurd early
+wrote_nothing tells told took sizes script blocks ScriptTooLong early = absurd early
+
+-- nothing was asked of the library
+pub asked_nothing : {L : Type 0} (files : L → Option (List ℕ → Option (List ℕ))) (replied : L → Reply → Type 0) (kind : Reply → Type 0) (library : L) → LibraryKeeps files replied kind library library
+asked_nothing files replied kind library = record { told = refl; remembers = λ reply had. had; asks = no_replies (replied library) kind }
+
+-- the budget is too small
+module _ (sizes : Numbers) (small : sizes.memory < fixed_of sizes) where
+  pub small_ends : (told : Option (List ℕ → Option (List ℕ))) (replied : Reply → Type 0) (script : Reading) (blocks : List Shown) → RunEnds told replied sizes script blocks (BudgetTooSmall (fixed_of sizes))
+  small_ends told replied script blocks = record {
+    answer =
+        let P : Bool → Type 0 = λ b. MatchOption (if b then Some (BudgetTooSmall (fixed_of sizes)) else None) (BeganCommands (BudgetTooSmall (fixed_of sizes)) ⊎ (BudgetTooSmall (fixed_of sizes) ≡ NoDevice)) (λ e. BudgetTooSmall (fixed_of sizes) ≡ e) in
+        inl (subst P (sym (lt-ltb sizes.memory (fixed_of sizes) small)) refl);
+    failed = λ number is. cc;
+    changed = λ line said got is. cc;
+  }
+
+-- the device was not made
+module _ (sizes : Numbers) (enough : fixed_of sizes ≤ sizes.memory) where
+  no_device : IsTriedOrRefusal (budget_refusal sizes) NoDevice
+  no_device =
+      let P : Bool → Type 0 = λ b. MatchOption (if b then Some (BudgetTooSmall (fixed_of sizes)) else None) (BeganCommands NoDevice ⊎ (NoDevice ≡ NoDevice)) (λ e. NoDevice ≡ e) in
+      inl (subst P (sym (le-ltb sizes.memory (fixed_of sizes) enough)) (inr refl))
+
+  pub unmade_ends : (told : Option (List ℕ → Option (List ℕ))) (replied : Reply → Type 0) (script : Reading) (blocks : List Shown) (fault : OutsideFault) → RunEnds told replied sizes script blocks (make_end fault)
+  unmade_ends told replied script blocks outside.Failed = record { answer = no_device; failed = λ number is. cc; changed = λ line said got is. cc }
+  unmade_ends told replied script blocks outside.Memory = record { answer = inr refl; failed = λ number is. cc; changed = λ line said got is. cc }
+
+-- a script that was begun, or whose budget is too small, was tried or refused
+tried : (refusal : Option End) (end : End) → BeganOrRefused refusal end → IsTriedOrRefusal refusal end
+tried None end (inl run) = inl (inl run)
+tried (Some e) end (inl is) = inl is
+tried refusal end (inr memory) = inr memory
+
+pub begun_ends : (sizes : Numbers) (end : End) → BeganOrRefused (budget_refusal sizes) end → IsTriedOrRefusal (budget_refusal sizes) end
+begun_ends sizes end answer = tried (budget_refusal sizes) end answer
+
+device_made : (refusal : Bool) (need : ℕ) → MatchOption (if refusal then Some (BudgetTooSmall need) else None) (BeganCommands NoDevice) (λ e. NoDevice ≡ e) ⊎ (NoDevice ≡ Memory) → ⊥
+device_made true need (inl is) = cc
+device_made false need (inl run) = run
+device_made true need (inr is) = cc
+device_made false need (inr is) = cc
+
+-- a count that stays, with an end that does not name its fault
+same_count : (fault end : End) (count : ℕ) → (end ≡ fault → ⊥) → RunCounts fault count count end
+same_count fault end count never = record { later = omega arith; stays = λ quiet. refl; rose = λ is. absurd (never is) }
+
+pub small_faults : (library rack sink need : ℕ) → RunFaults library library rack rack sink sink (BudgetTooSmall need)
+small_faults library rack sink need = record {
+  library = same_count ReadFault (BudgetTooSmall need) library (λ is. cc);
+  rack = same_count NoDevice (BudgetTooSmall need) rack (λ is. cc);
+  sink = same_count WriteFault (BudgetTooSmall need) sink (λ is. cc);
+}
+
+pub unmade_faults : (library rack rack_now sink : ℕ) (fault : OutsideFault) → rack ≤ rack_now → HasReason rack rack_now fault → RunFaults library library rack rack_now sink sink (make_end fault)
+unmade_faults library rack rack_now sink outside.Failed later reason = record {
+  library = same_count ReadFault NoDevice library (λ is. cc);
+  rack = record { later = later; stays = λ quiet. absurd quiet; rose = λ is. reason };
+  sink = same_count WriteFault NoDevice sink (λ is. cc);
+}
+unmade_faults library rack rack_now sink outside.Memory later reason = record {
+  library = same_count ReadFault Memory library (λ is. cc);
+  rack = record { later = later; stays = λ quiet. reason; rose = λ is. cc };
+  sink = same_count WriteFault Memory sink (λ is. cc);
+}
+
+-- the device was made, so its count stays
+pub made_count : (sizes : Numbers) (before now : ℕ) (end : End) → now ≡ before → BeganOrRefused (budget_refusal sizes) end → RunCounts NoDevice before now end
+made_count sizes before now end same answer = record {
+  later = omega (arith, same);
+  stays = λ quiet. same;
+  rose = λ is. absurd (device_made (nat_lt sizes.memory (fixed_of sizes)) (fixed_of sizes) (let P : End → Type 0 = λ e. BeganOrRefused (budget_refusal sizes) e in subst P is answer));
+}
+
+early_not_run : (fault : OutsideFault) → IsSurelyRun (make_end fault) → ⊥
+early_not_run outside.Failed run = run
+early_not_run outside.Memory run = run
+
+early_not_begun : (fault : OutsideFault) → BeganCommands (make_end fault) → ⊥
+early_not_begun outside.Failed run = run
+early_not_begun outside.Memory run = run
+
+-- the blocks that were made before one that could not be
+pub unmade_blocks : (sizes : Numbers) (slots : List Shown) (fault : OutsideFault) → IsPermutation (map (λ s. s.number) slots) (range_with_len 0 (length slots)) → length slots ≤ sizes.blocks → AreBlocks sizes (make_end fault) slots
+unmade_blocks sizes slots fault numbers most = record { numbers = numbers; most = most; all = λ run. absurd (early_not_run fault run); all_or_none = λ run. absurd (early_not_begun fault run) }
+
+-- no block was made
+pub no_device_blocks : (sizes : Numbers) (slots : List Shown) (need : ℕ) → slots ≡ [] → AreBlocks sizes (BudgetTooSmall need) slots
+no_device_blocks sizes slots need none =
+    let P : List Shown → Type 0 = λ s. AreBlocks sizes (BudgetTooSmall need) s in
+    subst P (sym none) (record { numbers = IsPermutation-refl []; most = omega arith; all = λ run. absurd run; all_or_none = λ run. absurd run })
