@@ -14,7 +14,7 @@ ghost use Rattle.ppq_session.specs.FrontState.{IsFront, IsTallied, IsSoundFront,
 
 use crate::BulkParts;
 use crate::refill::refill_front;
-use ppq_pass::{Gate, Host, QueueFault, Record, Slot, StoreFault, record_laws};
+use ppq_pass::{Gate, Host, QueueFault, Record, Slot, record_laws};
 use std::marker::Model;
 
 /// What the owner of a queue keeps while a limit session is on: all records that the queue had, in runs,
@@ -138,8 +138,8 @@ impl<S: Slot + Send + Sync, R: Record + Send + Sync> Front<S, R> {
         let answer = refill_front(rt, &mut self.parts, self.limit, gate);
         match answer {
             Ok(()) => Ok(()),
-            Err(StoreFault::NoFreeBlock) => Err(QueueFault::NoFreeBlock),
-            Err(StoreFault::Device { number }) => {
+            Err(QueueFault::NoFreeBlock) => Err(QueueFault::NoFreeBlock),
+            Err(QueueFault::Device { number }) => {
                 self.failed = Some(number);
                 Err(QueueFault::Device { number })
             }
