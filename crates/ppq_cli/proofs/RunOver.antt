@@ -1,6 +1,6 @@
 -- What `run_over` says where no command was run, and how its end follows from the device's and the script's.
 use Rattle.std.proofs.Common.{◌≡◌, inl, inr, ℕ, ◌<◌, ◌≤◌, List, [], map, length, Option, Some, None, refl, sym, ap, subst, arith, append-nil}
-use Rattle.std.specs.Prelude.{◌⊎◌, ⊤, Bool, true, false, if◌then◌else◌, nat_lt, MatchOption}
+use Rattle.std.specs.Prelude.{◌⊎◌, Bool, true, false, if◌then◌else◌, nat_lt, MatchOption}
 use Rattle.std.specs.List.{range_with_len}
 use Rattle.std.specs.List.Sorted.{IsPermutation}
 use Rattle.std.proofs.lemmas.Bool.{lt-ltb, le-ltb}
@@ -14,53 +14,28 @@ use Rattle.ppq_words.specs.ppq_script.Reading.{Reading}
 use Rattle.ppq_words.proofs.ppq_outside.Replies.{no_replies}
 use Rattle.ppq_engine.specs.Ends.{BeganCommands, BeganOrRefused, budget_refusal}
 use Rattle.ppq_engine.specs.declared.end.End.{End}
-use Rattle.ppq_engine.specs.declared.end.End.TheVariants.{Done, BadLine, Usage, ReadFault, WriteFault, DeviceFault, NoFreeBlock, BudgetTooSmall, Memory, FileChanged, NoDevice, NoScript, ScriptTooLong}
+use Rattle.ppq_engine.specs.declared.end.End.TheVariants.{Done, ReadFault, WriteFault, NoFreeBlock, BudgetTooSmall, Memory, NoDevice}
 use Rattle.ppq_cli.specs.Device.{AreBlocks, HasReason, IsSurelyRun, make_end}
-use Rattle.ppq_cli.specs.Replies.{LibraryKeeps}
+use Rattle.ppq_cli.specs.Replies.{LibraryKeeps, FaultToFile}
 use Rattle.ppq_cli.specs.RunOver.{RunWrites, RunEnds, RunCounts, RunFaults}
 use Rattle.ppq_cli.specs.RunWords.{IsTriedOrRefusal}
-
--- the ends before a command was run
-abbrev pub IsEarly : End → Type 0
-IsEarly Done = ⊥
-IsEarly (BadLine line) = ⊥
-IsEarly Usage = ⊥
-IsEarly ReadFault = ⊥
-IsEarly WriteFault = ⊥
-IsEarly (DeviceFault number) = ⊥
-IsEarly NoFreeBlock = ⊥
-IsEarly (BudgetTooSmall need) = ⊤
-IsEarly Memory = ⊤
-IsEarly (FileChanged line said got) = ⊥
-IsEarly NoDevice = ⊤
-IsEarly NoScript = ⊥
-IsEarly ScriptTooLong = ⊥
-
-pub early_making : (fault : OutsideFault) → IsEarly (make_end fault)
-early_making outside.Failed = tt
-early_making outside.Memory = tt
 
 -- nothing is a part of each text
 takes_none : (told : Option (List ℕ)) (text : List ℕ) → TakesPart told told text
 takes_none None text = refl
 takes_none (Some had) text = (0, omega arith, ap (λ (t : List ℕ). Some t) (sym (append-nil had)))
 
--- nothing was written
+-- nothing was written, and the end is that of no run
 pub wrote_nothing :
-    (tells : Type 0) (told : Option (List ℕ → Option (List ℕ))) (took : Option (List ℕ)) (sizes : Numbers) (script : Reading) (blocks : List Shown) (end : End) → IsEarly end → RunWrites tells told took took sizes script blocks end
-wrote_nothing tells told took sizes script blocks (BudgetTooSmall need) early = record { done = λ is. cc; full = λ is. cc; part = λ t files are. takes_none took _; memory = λ is. inl refl; file = tt; nothing = inr refl }
-wrote_nothing tells told took sizes script blocks Memory early = record { done = λ is. cc; full = λ is. cc; part = λ t files are. takes_none took _; memory = λ is. inl refl; file = tt; nothing = inr refl }
-wrote_nothing tells told took sizes script blocks NoDevice early = record { done = λ is. cc; full = λ is. cc; part = λ t files are. takes_none took _; memory = λ is. inl refl; file = tt; nothing = inr refl }
-wrote_nothing tells told took sizes script blocks Done early = absurd early
-wrote_nothing tells told took sizes script blocks (BadLine line) early = absurd early
-wrote_nothing tells told took sizes script blocks Usage early = absurd early
-wrote_nothing tells told took sizes script blocks ReadFault early = absurd early
-wrote_nothing tells told took sizes script blocks WriteFault early = absurd early
-wrote_nothing tells told took sizes script blocks (DeviceFault number) early = absurd early
-wrote_nothing tells told took sizes script blocks NoFreeBlock early = absurd early
-wrote_nothing tells told took sizes script blocks (FileChanged line said got) early = absurd early
-wrote_nothing tells told took sizes script blocks NoScript early = absurd early
-wrote_nothing tells told took sizes script blocks ScriptTooLong early = absurd early
+    (tells : Type 0) (told : Option (List ℕ → Option (List ℕ))) (took : Option (List ℕ)) (sizes : Numbers) (script : Reading) (blocks : List Shown) (end : End)
+    → (end ≡ Done → ⊥) → (end ≡ NoFreeBlock → ⊥) → FaultToFile tells told took took script end → RunWrites tells told took took sizes script blocks end
+wrote_nothing tells told took sizes script blocks end done full file =
+    record { done = λ is. absurd (done is); full = λ is. absurd (full is); part = λ t files are. takes_none took _; memory = λ is. inl refl; file = file; nothing = inr refl }
+
+-- as where the device could not be made
+pub unmade_wrote : (tells : Type 0) (told : Option (List ℕ → Option (List ℕ))) (took : Option (List ℕ)) (sizes : Numbers) (script : Reading) (blocks : List Shown) (fault : OutsideFault) → RunWrites tells told took took sizes script blocks (make_end fault)
+unmade_wrote tells told took sizes script blocks outside.Failed = wrote_nothing tells told took sizes script blocks NoDevice (λ is. cc) (λ is. cc) tt
+unmade_wrote tells told took sizes script blocks outside.Memory = wrote_nothing tells told took sizes script blocks Memory (λ is. cc) (λ is. cc) tt
 
 -- nothing was asked of the library
 pub asked_nothing : {L : Type 0} (files : L → Option (List ℕ → Option (List ℕ))) (replied : L → Reply → Type 0) (kind : Reply → Type 0) (library : L) → LibraryKeeps files replied kind library library

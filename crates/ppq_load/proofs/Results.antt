@@ -10,34 +10,30 @@ use Rattle.ppq_session.specs.ppq_queue.Holding.{Holding}
 use Rattle.ppq_session.specs.ppq_array.declared.store_fault.StoreFault.{StoreFault as QueueFault}
 use Rattle.ppq_load.specs.declared.fault.LoadFault.{LoadFault}
 use Rattle.ppq_load.specs.declared.fault.LoadFault.TheVariants.{Queue, Read, Memory, Ended}
+use Rattle.ppq_load.specs.Reading.{HasLength}
 use Rattle.ppq_load.specs.Loading.{LoadHolding, InSession, IsLoaded, HasGiven, LoadStopsFor, LoadEndsIn, LoadCountsFrom, IsByLoad, IsByRead, loaded_of, first_of}
 use Rattle.ppq_load.proofs.FileRecords.{file-all}
 
--- a session ended
-module _ {T : Type 0} (queue new : Holding Pair) (records : List Pair) (n : ℕ) (long : length records ≡ n) where
-  pub loaded-bag : (ended : Result T QueueFault) → IsLoaded queue records new ended → OnOk (loaded_of ended) (AllTell queue.slots → IsSameBag new.bag (records ++ queue.bag))
-  loaded-bag (Ok value) loaded = loaded.bag
-  loaded-bag (Err fault) loaded = tt
+-- What a load says of the queue. Ok: it has all of `bag`, so many records more, no failed block, and its peak. Else: why it was refused
+pub record LoadSays {B : Type 0} (bag : Type 0) (queue new : Holding Pair) (n : ℕ) (result : Result B LoadFault) : Type 0 where
+  pub all : OnOk result bag
+  pub size : OnOk result (new.size ≡ queue.size + n)
+  pub sound : OnOk result (new.failed ≡ None)
+  pub peak : OnOk result (new.peak ≡ max queue.peak (queue.size + n))
+  pub refused : IfErr result (LoadStopsFor (max queue.peak (queue.size + n)) queue.sizes queue.limited new.slots)
 
-  pub loaded-size : (ended : Result T QueueFault) → IsLoaded queue records new ended → OnOk (loaded_of ended) (new.size ≡ queue.size + n)
-  loaded-size (Ok value) loaded = loaded.size ∙ ap (λ k. queue.size + k) long
-  loaded-size (Err fault) loaded = tt
+-- a session ended to which these records were given
+pub loaded-says :
+    {B : Type 0} (queue new : Holding Pair) (records : List Pair) (n : ℕ) (bag : Type 0) → length records ≡ n → ((AllTell queue.slots → IsSameBag new.bag (records ++ queue.bag)) → bag)
+    → (ended : Result B QueueFault) → IsLoaded queue records new ended → LoadSays bag queue new n (loaded_of ended)
+loaded-says queue new records n bag long so (Ok value) loaded =
+    record { all = so loaded.bag; size = loaded.size ∙ ap (λ k. queue.size + k) long; sound = loaded.sound; peak = loaded.peak ∙ ap (λ k. max queue.peak (queue.size + k)) long; refused = tt }
+loaded-says queue new records n bag long so (Err fault) loaded =
+    record { all = tt; size = tt; sound = tt; peak = tt; refused = subst (λ k. LoadStopsFor (max queue.peak (queue.size + k)) queue.sizes queue.limited new.slots (Queue fault)) long loaded.refused }
 
-  pub loaded-sound : (ended : Result T QueueFault) → IsLoaded queue records new ended → OnOk (loaded_of ended) (new.failed ≡ None)
-  loaded-sound (Ok value) loaded = loaded.sound
-  loaded-sound (Err fault) loaded = tt
-
-  pub loaded-peak : (ended : Result T QueueFault) → IsLoaded queue records new ended → OnOk (loaded_of ended) (new.peak ≡ max queue.peak (queue.size + n))
-  loaded-peak (Ok value) loaded = loaded.peak ∙ ap (λ k. max queue.peak (queue.size + k)) long
-  loaded-peak (Err fault) loaded = tt
-
-  pub loaded-refused : (ended : Result T QueueFault) → IsLoaded queue records new ended → IfErr (loaded_of ended) (LoadStopsFor (max queue.peak (queue.size + n)) queue.sizes queue.limited new.slots)
-  loaded-refused (Ok value) loaded = tt
-  loaded-refused (Err fault) loaded = subst (λ k. LoadStopsFor (max queue.peak (queue.size + k)) queue.sizes queue.limited new.slots (Queue fault)) long loaded.refused
-
-  pub loaded-by : (ended : Result T QueueFault) → IfErr (loaded_of ended) IsByLoad
-  loaded-by (Ok value) = tt
-  loaded-by (Err fault) = tt
+pub loaded-by : {B : Type 0} (ended : Result B QueueFault) → IfErr (loaded_of ended) IsByLoad
+loaded-by (Ok value) = tt
+loaded-by (Err fault) = tt
 
 -- a fault of reading says nothing of the queue
 read-stops : (peak : ℕ) (queue : Holding Pair) (slots : List Shown) (fault : LoadFault) → IsByRead fault → LoadStopsFor peak queue.sizes queue.limited slots fault
@@ -58,39 +54,17 @@ first-ok (Ok value) (Ok other) P holds = holds
 first-ok (Ok value) (Err fault) P holds = tt
 first-ok (Err fault) ended P holds = tt
 
--- the same for the session of a file
-module _ {S B : Type 0} (shown : S → Shown) (told : Option (List ℕ → Option (List ℕ))) (name : List ℕ) (said : ℕ) (load : LoadHolding S) (queue new : Holding Pair) (ended : Result B QueueFault)
-    (end : (records : List Pair) → InSession shown queue records load → IsLoaded queue records new ended) where
-  abbrev pub Given : Type 0
-  Given = HasGiven shown queue told name (said / 16) load
-
-  first-end : {A : Type 0} (P : Type 0) (read : Result A LoadFault) → OnOk read Given → (Given → OnOk (loaded_of ended) P) → OnOk (first_of read ended) P
-  first-end P (Ok value) given says = says given
-  first-end P (Err fault) given says = tt
-
-  pub first-bag :
-      {A : Type 0} (read : Result A LoadFault) → ((files : List ℕ → Option (List ℕ)) → told ≡ Some files → length (bytes_or_none (files name)) ≡ said) → OnOk read Given
-      → OnOk (first_of read ended) (AllTell queue.slots → (files : List ℕ → Option (List ℕ)) → told ≡ Some files → IsSameBag new.bag (records_of (bytes_or_none (files name)) ++ queue.bag))
-  first-bag read long given =
-      first-end (AllTell queue.slots → (files : List ℕ → Option (List ℕ)) → told ≡ Some files → IsSameBag new.bag (records_of (bytes_or_none (files name)) ++ queue.bag)) read given
-      (λ had. bag had ended (end had.records had.session))
-    where
-      bag : (had : Given) (how : Result B QueueFault) → IsLoaded queue had.records new how → OnOk (loaded_of how) (AllTell queue.slots → (files : List ℕ → Option (List ℕ)) → told ≡ Some files → IsSameBag new.bag (records_of (bytes_or_none (files name)) ++ queue.bag))
-      bag had (Ok value) loaded = λ tells files is. file-all told name files said new.bag queue.bag had.records is (long files is) had.are (loaded.bag tells)
-      bag had (Err fault) loaded = tt
-
-  pub first-size : {A : Type 0} (read : Result A LoadFault) → OnOk read Given → OnOk (first_of read ended) (new.size ≡ queue.size + said / 16)
-  first-size read given = first-end (new.size ≡ queue.size + said / 16) read given (λ had. loaded-size queue new had.records (said / 16) had.are.length ended (end had.records had.session))
-
-  pub first-sound : {A : Type 0} (read : Result A LoadFault) → OnOk read Given → OnOk (first_of read ended) (new.failed ≡ None)
-  first-sound read given = first-end (new.failed ≡ None) read given (λ had. loaded-sound queue new had.records (said / 16) had.are.length ended (end had.records had.session))
-
-  pub first-peak : {A : Type 0} (read : Result A LoadFault) → OnOk read Given → OnOk (first_of read ended) (new.peak ≡ max queue.peak (queue.size + said / 16))
-  first-peak read given = first-end (new.peak ≡ max queue.peak (queue.size + said / 16)) read given (λ had. loaded-peak queue new had.records (said / 16) had.are.length ended (end had.records had.session))
-
-  pub first-refused : {A : Type 0} (read : Result A LoadFault) → OnOk read Given → IfErr read IsByRead → IfErr (first_of read ended) (LoadStopsFor (max queue.peak (queue.size + said / 16)) queue.sizes queue.limited new.slots)
-  first-refused (Ok value) given by = loaded-refused queue new given.records (said / 16) given.are.length ended (end given.records given.session)
-  first-refused (Err fault) given by = read-stops (max queue.peak (queue.size + said / 16)) queue new.slots fault by
+-- the session of a file ended, to which all its records were given unless reading it was refused
+pub first-says :
+    {S A B : Type 0} (shown : S → Shown) (told : Option (List ℕ → Option (List ℕ))) (name : List ℕ) (said : ℕ) (load : LoadHolding S) (queue new : Holding Pair) (ended : Result B QueueFault)
+    → ((records : List Pair) → InSession shown queue records load → IsLoaded queue records new ended) → HasLength told name said
+    → (read : Result A LoadFault) → OnOk read (HasGiven shown queue told name (said / 16) load) → IfErr read IsByRead
+    → LoadSays (AllTell queue.slots → (files : List ℕ → Option (List ℕ)) → told ≡ Some files → IsSameBag new.bag (records_of (bytes_or_none (files name)) ++ queue.bag)) queue new (said / 16) (first_of read ended)
+first-says shown told name said load queue new ended end long (Ok value) given by =
+    loaded-says queue new given.records (said / 16) (AllTell queue.slots → (files : List ℕ → Option (List ℕ)) → told ≡ Some files → IsSameBag new.bag (records_of (bytes_or_none (files name)) ++ queue.bag)) given.are.length
+    (λ bag tells files is. file-all told name files said new.bag queue.bag given.records is (long files is) given.are (bag tells)) ended (end given.records given.session)
+first-says shown told name said load queue new ended end long (Err fault) given by =
+    record { all = tt; size = tt; sound = tt; peak = tt; refused = read-stops (max queue.peak (queue.size + said / 16)) queue new.slots fault by }
 
 pub on_ok : {T E : Type 0} (result : Result T E) (P : Type 0) → P → OnOk result P
 on_ok (Ok value) P holds = holds

@@ -6,7 +6,7 @@ use Rattle.ppq_cli.specs.RunOver.{RunWrites, RunEnds, RunFaults}
 use Rattle.ppq_cli.specs.Device.{AreBlocks}
 use Rattle.ppq_cli.proofs.Blocks.{returned, in_order, made_just, made_nothing}
 use Rattle.ppq_cli.proofs.Ends.{ran_to_load, fault_to_file, may_write}
-use Rattle.ppq_cli.proofs.RunOver.{early_making, wrote_nothing, asked_nothing, small_ends, unmade_ends, begun_ends, small_faults, unmade_faults, made_count, no_device_blocks, unmade_blocks}
+use Rattle.ppq_cli.proofs.RunOver.{wrote_nothing, unmade_wrote, asked_nothing, small_ends, unmade_ends, begun_ends, small_faults, unmade_faults, made_count, no_device_blocks, unmade_blocks}
 use Rattle.ppq_cli.proofs.run.run_over.Goals as goal
 
 -- the budget is too small
@@ -14,7 +14,7 @@ use Rattle.ppq_cli.proofs.run.run_over.Goals as goal
 pub returns-then-memory-need-clause-written : goal.returns-then-memory-need-clause-written
 returns-then-memory-need-clause-written g c =
     subst (λ (e : End). RunWrites (g.K.Rack.tells c.args.rack.now) (g.L.Library.told c.args.library.now) (g.O.Sink.told c.args.out.now) (g.O.Sink.told c.args.out.now) c.args.sizes c.args.script.now (map g.K.Slot.Slot.shown c.without_blocks.result.blocks.items) e)
-    (sym c.without_blocks.ensures.end) (wrote_nothing _ _ _ c.args.sizes c.args.script.now _ _ tt)
+    (sym c.without_blocks.ensures.end) (wrote_nothing _ _ _ c.args.sizes c.args.script.now _ _ (λ is. cc) (λ is. cc) tt)
 
 pub returns-then-memory-need-clause-blocks : goal.returns-then-memory-need-clause-blocks
 returns-then-memory-need-clause-blocks g c =
@@ -96,7 +96,7 @@ returns-in-Ok-clause-faults g c =
 pub returns-in-Err-clause-written : goal.returns-in-Err-clause-written
 returns-in-Err-clause-written g c =
     subst (λ (e : End). RunWrites (g.K.Rack.tells c.args.rack.now) (g.L.Library.told c.args.library.now) (g.O.Sink.told c.args.out.now) (g.O.Sink.told c.args.out.now) c.args.sizes c.args.script.now (map g.K.Slot.Slot.shown c.in-Err.blocks.items) e)
-    (sym c.end_of_making.ensures) (wrote_nothing _ _ _ c.args.sizes c.args.script.now _ _ (early_making c.in-Err.fault))
+    (sym c.end_of_making.ensures) (unmade_wrote _ _ _ c.args.sizes c.args.script.now _ c.in-Err.fault)
 
 pub returns-in-Err-clause-blocks : goal.returns-in-Err-clause-blocks
 returns-in-Err-clause-blocks g c =

@@ -1,4 +1,4 @@
-use Rattle.std.proofs.Common.{◌≡◌, ℕ, ◌+◌, ◌/◌, ◌++◌, List, Option, Some, max, None, [], sym, subst, arith}
+use Rattle.std.proofs.Common.{◌≡◌, ℕ, ◌+◌, ◌/◌, ◌++◌, List, Option, Some, max, [], sym, subst, arith}
 use Rattle.std.specs.Prelude.{OnOk, IfErr, ⊤}
 use Rattle.ppq_session.specs.ppq_record.declared.pair.Pair.{Pair}
 use Rattle.ppq_session.specs.ppq_record.Bag.{IsSameBag}
@@ -7,67 +7,45 @@ use Rattle.ppq_session.specs.ppq_outside.Shown.{AllTell}
 use Rattle.ppq_session.specs.ppq_outside.Told.{bytes_or_none}
 use Rattle.ppq_session.proofs.ppq_outside.Replies.{no_replies}
 use Rattle.ppq_session.specs.ppq_queue.Holding.{Holding}
-use Rattle.ppq_load.specs.Loading.{InSession, HasGiven, IsByRead, IsReadRefusal, LoadStopsFor, LoadEndsIn, LoadCountsFrom}
+use Rattle.ppq_load.specs.Loading.{InSession, HasGiven, IsByRead, IsReadRefusal, LoadEndsIn, LoadCountsFrom}
 use Rattle.ppq_load.specs.Reading.{IsReadWithin}
 use Rattle.ppq_load.proofs.Refusals.{stop-later}
-use Rattle.ppq_load.proofs.Results.{first-bag, first-size, first-sound, first-peak, first-refused, first-err, first-ok, on_ok, on_ok-map, if_err-map, unread-ends, unread-counts}
+use Rattle.ppq_load.proofs.Results.{LoadSays, first-says, first-err, first-ok, on_ok, on_ok-map, if_err-map, unread-ends, unread-counts}
 use Rattle.ppq_load.proofs.file.load_file.Given as over
-use Rattle.ppq_load.proofs.file.load_file.Goals.{After-deal_file-read}
+use Rattle.ppq_load.proofs.file.load_file.Goals.{After-first_fault}
 use Rattle.ppq_load.proofs.file.load_file.Goals as goal
 
--- the session was given the records of the file, where its reading was not refused
-given : (g : over.Over) (c : After-deal_file-read g) → OnOk c.deal_file-read.result (HasGiven g.S.Slot.shown c.args.queue (g.L.Library.told c.args.library.now) c.args.name.now (c.args.said / 16) c.deal_file-read.new.load)
-given g c =
+-- what the load says, once its session ended
+says :
+    (g : over.Over) (c : After-first_fault g)
+    → LoadSays (AllTell c.args.queue.slots → (files : List ℕ → Option (List ℕ)) → g.L.Library.told c.args.library.now ≡ Some files → IsSameBag c.end-queue.result.0.bag (records_of (bytes_or_none (files c.args.name.now)) ++ c.args.queue.bag)) c.args.queue c.end-queue.result.0 (c.args.said / 16) c.first_fault.result
+says g c =
+    let q = c.args.queue in
     let told = g.L.Library.told c.args.library.now in
-    let load = c.deal_file-read.new.load in
-    on_ok-map c.deal_file-read.result ((queue : Holding Pair) → InSession g.S.Slot.shown queue [] c.in-Ok.load → HasGiven g.S.Slot.shown queue told c.args.name.now (c.args.said / 16) load)
-    (HasGiven g.S.Slot.shown c.args.queue told c.args.name.now (c.args.said / 16) load) (λ all. all c.args.queue c.in-Ok.ensures.session) c.deal_file-read.ensures.given
-
--- a refusal of the reading says that it was the file
-by_file : (g : over.Over) (c : After-deal_file-read g) → IfErr c.deal_file-read.result IsByRead
-by_file g c =
+    let new = c.end-queue.result.0 in
     let read = c.deal_file-read in
-    if_err-map read.result (IsReadRefusal (g.L.Library.told c.args.library.now) (g.L.Library.replied read.new.library) c.args.name.now c.args.said) IsByRead (λ fault refused. refused.by_file) read.ensures.refused
+    let given =
+    on_ok-map read.result ((queue : Holding Pair) → InSession g.S.Slot.shown queue [] c.in-Ok.load → HasGiven g.S.Slot.shown queue told c.args.name.now (c.args.said / 16) read.new.load)
+    (HasGiven g.S.Slot.shown q told c.args.name.now (c.args.said / 16) read.new.load) (λ all. all q c.in-Ok.ensures.session) read.ensures.given
+    in
+    let by_file = if_err-map read.result (IsReadRefusal told (g.L.Library.replied read.new.library) c.args.name.now c.args.said) IsByRead (λ fault refused. refused.by_file) read.ensures.refused in
+    subst (λ r. LoadSays (AllTell q.slots → (files : List ℕ → Option (List ℕ)) → told ≡ Some files → IsSameBag new.bag (records_of (bytes_or_none (files c.args.name.now)) ++ q.bag)) q new (c.args.said / 16) r) (sym c.first_fault.ensures)
+    (first-says g.S.Slot.shown told c.args.name.now c.args.said read.new.load q new c.end-queue.result.1 (c.end-queue.ensures.loaded q) c.requires.long read.result given by_file)
 
 pub returns-in-Ok-clause-bag : goal.returns-in-Ok-clause-bag
-returns-in-Ok-clause-bag g c =
-    let q = c.args.queue in
-    let told = g.L.Library.told c.args.library.now in
-    let new = c.end-queue.result.0 in
-    subst (λ r. OnOk r (AllTell q.slots → (files : List ℕ → Option (List ℕ)) → told ≡ Some files → IsSameBag new.bag (records_of (bytes_or_none (files c.args.name.now)) ++ q.bag))) (sym c.first_fault.ensures)
-    (first-bag g.S.Slot.shown told c.args.name.now c.args.said c.deal_file-read.new.load q new c.end-queue.result.1 (c.end-queue.ensures.loaded q) c.deal_file-read.result c.requires.long (given g (goal.at.returns-in-Ok-clause-bag g c).After-deal_file-read))
+returns-in-Ok-clause-bag g c = (says g (goal.at.returns-in-Ok-clause-bag g c).After-first_fault).all
 
 pub returns-in-Ok-clause-size : goal.returns-in-Ok-clause-size
-returns-in-Ok-clause-size g c =
-    let q = c.args.queue in
-    let told = g.L.Library.told c.args.library.now in
-    let new = c.end-queue.result.0 in
-    subst (λ r. OnOk r (new.size ≡ q.size + c.args.said / 16)) (sym c.first_fault.ensures)
-    (first-size g.S.Slot.shown told c.args.name.now c.args.said c.deal_file-read.new.load q new c.end-queue.result.1 (c.end-queue.ensures.loaded q) c.deal_file-read.result (given g (goal.at.returns-in-Ok-clause-size g c).After-deal_file-read))
+returns-in-Ok-clause-size g c = (says g (goal.at.returns-in-Ok-clause-size g c).After-first_fault).size
 
 pub returns-in-Ok-clause-sound : goal.returns-in-Ok-clause-sound
-returns-in-Ok-clause-sound g c =
-    let q = c.args.queue in
-    let told = g.L.Library.told c.args.library.now in
-    let new = c.end-queue.result.0 in
-    subst (λ r. OnOk r (new.failed ≡ None)) (sym c.first_fault.ensures)
-    (first-sound g.S.Slot.shown told c.args.name.now c.args.said c.deal_file-read.new.load q new c.end-queue.result.1 (c.end-queue.ensures.loaded q) c.deal_file-read.result (given g (goal.at.returns-in-Ok-clause-sound g c).After-deal_file-read))
+returns-in-Ok-clause-sound g c = (says g (goal.at.returns-in-Ok-clause-sound g c).After-first_fault).sound
 
 pub returns-in-Ok-clause-peak : goal.returns-in-Ok-clause-peak
-returns-in-Ok-clause-peak g c =
-    let q = c.args.queue in
-    let told = g.L.Library.told c.args.library.now in
-    let new = c.end-queue.result.0 in
-    subst (λ r. OnOk r (new.peak ≡ max q.peak (q.size + c.args.said / 16))) (sym c.first_fault.ensures)
-    (first-peak g.S.Slot.shown told c.args.name.now c.args.said c.deal_file-read.new.load q new c.end-queue.result.1 (c.end-queue.ensures.loaded q) c.deal_file-read.result (given g (goal.at.returns-in-Ok-clause-peak g c).After-deal_file-read))
+returns-in-Ok-clause-peak g c = (says g (goal.at.returns-in-Ok-clause-peak g c).After-first_fault).peak
 
 pub returns-in-Ok-clause-refused : goal.returns-in-Ok-clause-refused
-returns-in-Ok-clause-refused g c =
-    let q = c.args.queue in
-    let told = g.L.Library.told c.args.library.now in
-    let new = c.end-queue.result.0 in
-    subst (λ r. IfErr r (LoadStopsFor (max q.peak (q.size + c.args.said / 16)) q.sizes q.limited new.slots)) (sym c.first_fault.ensures)
-    (first-refused g.S.Slot.shown told c.args.name.now c.args.said c.deal_file-read.new.load q new c.end-queue.result.1 (c.end-queue.ensures.loaded q) c.deal_file-read.result (given g (goal.at.returns-in-Ok-clause-refused g c).After-deal_file-read) (by_file g (goal.at.returns-in-Ok-clause-refused g c).After-deal_file-read))
+returns-in-Ok-clause-refused g c = (says g (goal.at.returns-in-Ok-clause-refused g c).After-first_fault).refused
 
 pub returns-in-Ok-clause-ended : goal.returns-in-Ok-clause-ended
 returns-in-Ok-clause-ended g c =
