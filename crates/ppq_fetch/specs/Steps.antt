@@ -1,5 +1,5 @@
 -- What a turn does to its runs: records leave their fronts, or a block is loaded.
-use Rattle.std.specs.Prelude.{◌≡◌, ℕ, ◌+◌, ◌*◌, ◌<◌, ◌≤◌, List, [], ◌∷◌, ◌++◌, length, drop, map, All}
+use Rattle.std.specs.Prelude.{◌≡◌, ℕ, ◌+◌, ◌-◌, ◌*◌, ◌<◌, ◌≤◌, ◌^◌, List, [], ◌∷◌, ◌++◌, length, drop, map, All}
 use Rattle.std.specs.declared.cmp.Ordering.{Ordering}
 use Rattle.std.specs.List.{AllByRecursion as Each, AllZip}
 use Rattle.ppq_array.specs.ppq_record.Order.{Ascends}
@@ -13,10 +13,11 @@ use Rattle.ppq_array.specs.External.{External, external, records_in}
 use Rattle.ppq_array.specs.Supply.{Stock, GetsSlot}
 use Rattle.ppq_array.specs.Owner.{HasBlock}
 use Rattle.ppq_array.specs.Holdings.{internal_buffers, external_buffers, RunHasBlock}
-use Rattle.ppq_merge.specs.ppq_split.Cut.{AreWithin}
+use Rattle.ppq_merge.specs.ppq_split.Cut.{AreWithin, total}
+use Rattle.ppq_merge.specs.Bench.{Cuts}
 use Rattle.ppq_merge.specs.Parts.{before}
 use Rattle.ppq_fetch.specs.Parts.{firsts, rests}
-use Rattle.ppq_fetch.specs.Fetching.{one_if_some, fronts_in, IsFitting, loaded_lists}
+use Rattle.ppq_fetch.specs.Fetching.{one_if_some, count_in, fronts_in, IsFitting, loaded_lists}
 
 -- Buffers went to the supply
 pub record BuffersGiven (old new : Stock) : Type 0 where
@@ -24,6 +25,19 @@ pub record BuffersGiven (old new : Stock) : Type 0 where
   pub sure : old.sure_buffers ≤ new.sure_buffers
 
 module _ {R : Type 0} where
+  -- the lists that a merge writes over have the lengths that they had, and the bench its workers
+  pub record SameRoom (xs ys : List R) (ps qs : List ℕ) (before now : Cuts) : Type 0 where
+    pub out : length ys ≡ length xs
+    pub places : length qs ≡ length ps
+    pub bench : length now.places ≡ length before.places
+    pub workers : now.workers ≡ before.workers
+
+  -- there is an idle buffer; all are of one block size, and not too many
+  pub record HasIdle (block : ℕ) (idle : List (Block R)) : Type 0 where
+    pub some : 0 < length idle
+    pub blocks : All (HasBlock block) idle
+    pub few : length idle < 2 ^ 32 - 1
+
   -- A run in buffers lost its first records, and its spent buffers went to the supply
   pub record RunConsumed (place : ℕ) (old new : Run R) (before now : Stock) : Type 0 where
     pub items : items_of new ≡ drop place (items_of old)
@@ -44,6 +58,14 @@ module _ {R : Type 0} where
     pub given : BuffersGiven before now
 
 module _ {S R : Type 0} where
+  -- the places say which records may be merged, as many as there are to be, and the numbers fit
+  pub record MayMergeParts (internal : List (Run R)) (external : List (External S R)) (places : List ℕ) (bench : Cuts) (wanted : ℕ) : Type 0 where
+    pub few_runs : length internal + length external < 2 ^ 32
+    pub few_records : count_in internal external < 2 ^ 64
+    pub within : AreWithin places (loaded_lists internal external)
+    pub count : wanted ≤ total places
+    pub bench_room : length internal + length external ≤ length bench.places
+
   -- A run in blocks lost its first loaded records, and its spent buffers are idle
   pub record ArrayConsumed (place : ℕ) (old new : External S R) (before now : List (Block R)) : Type 0 where
     pub rest : new ≡ external old.level new.loaded old.lifted old.stored

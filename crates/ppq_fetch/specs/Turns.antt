@@ -1,12 +1,14 @@
 -- One turn of a refill: which block is next, and what is to be done.
-use Rattle.std.specs.Prelude.{◌≡◌, ◌≢◌, ◌⊎◌, ℕ, ◌+◌, ◌<◌, ◌≤◌, ⊤, ◌==◌, if◌then◌else◌, cond, List, [], length, Option, Some, None, slice_get}
+use Rattle.std.specs.Prelude.{◌≡◌, ◌≢◌, ◌⊎◌, ℕ, ◌+◌, ◌<◌, ◌≤◌, ⊤, ◌==◌, if◌then◌else◌, cond, List, [], length, take, Option, Some, None, slice_get}
 use Rattle.std.specs.declared.cmp.Ordering.{Ordering}
 use Rattle.std.specs.List.{AllByRecursion as Each}
 use Rattle.ppq_array.specs.ppq_record.Order.{Le, is_before}
 use Rattle.ppq_array.specs.Run.{items_of}
 use Rattle.ppq_array.specs.External.{External, next_of}
 use Rattle.ppq_array.specs.Holdings.{external_buffers}
-use Rattle.ppq_fetch.specs.Fetching.{fronts_in}
+use Rattle.ppq_array.specs.ppq_outside.Shown.{Shown}
+use Rattle.ppq_fetch.specs.Taking.{NoneBelow}
+use Rattle.ppq_fetch.specs.Fetching.{State, Fetched, FetchFailed, MayFetch, AreSources, SourcesTell, RunsRise, source_items, count_in, blocks_in, fronts_in}
 use Rattle.ppq_fetch.specs.declared.edge.Edge.{Edge}
 use Rattle.ppq_fetch.specs.declared.turn.NextBlock.{NextBlock}
 use Rattle.ppq_fetch.specs.declared.turn.Step.{Step}
@@ -57,18 +59,27 @@ IsTurn {S} {R} arrays next edge safe room ahead (Load at) = (b : NextBlock R) ×
 IsTurn {S} {R} arrays next edge safe room ahead Odd = (safe ≡ 0) × ((b : NextBlock R) × (a : External S R) × (next ≡ Some b) × (edge ≡ Edge.AtMost b.minimum) × (slice_get arrays b.place ≡ Some a) × (0 < length (items_of a.loaded)))
 IsTurn {S} {R} arrays next edge safe room ahead End = (safe ≡ 0) × ((u : R) → edge ≢ Edge.AtMost u)
 
--- a turn gave so many records; it found no more; a read failed
-abbrev pub IfTook : Step → (ℕ → Type 0) → Type 0
-IfTook (Took n) P = P n
-IfTook Ended P = ⊤
-IfTook (Failed number) P = ⊤
+module _ {S R : Type 0} (cmp : R → R → Ordering) (record_of : List ℕ → R) (width ahead : ℕ) (shown : S → Shown) where
+  -- a turn took so many records, or loaded a block and took none
+  pub record TookTurn (below : Option R) (old new : State S R) (out out' : List R) (n : ℕ) : Type 0 where
+    pub within : n ≤ length out
+    pub fetched : Fetched cmp record_of width shown below old new (take n out')
+    pub may : MayFetch shown width ahead new
+    pub less : blocks_in new.external + length out < blocks_in old.external + length out + n
 
-abbrev pub IfEnded : Step → Type 0 → Type 0
-IfEnded (Took n) P = ⊤
-IfEnded Ended P = P
-IfEnded (Failed number) P = ⊤
+  -- a turn found no more, and changed nothing
+  pub record EndedTurn (below : Option R) (old new : State S R) : Type 0 where
+    pub same : new ≡ old
+    pub none : SourcesTell shown old → RunsRise record_of width shown cmp old → NoneBelow cmp below (source_items record_of width shown old)
+    pub all : below ≡ None → count_in old.internal old.external ≡ 0
 
-abbrev pub IfFailed : Step → (ℕ → Type 0) → Type 0
-IfFailed (Took n) P = ⊤
-IfFailed Ended P = ⊤
-IfFailed (Failed number) P = P number
+  -- a read failed
+  pub record FailedTurn (old new : State S R) (number : ℕ) : Type 0 where
+    pub failed : FetchFailed shown number old new
+    pub sources : AreSources shown width ahead new
+
+  -- how a turn ends
+  abbrev pub TurnEnds : Option R → State S R → State S R → List R → List R → Step → Type 0
+  TurnEnds below old new out out' (Took n) = TookTurn below old new out out' n
+  TurnEnds below old new out out' Ended = EndedTurn below old new
+  TurnEnds below old new out out' (Failed number) = FailedTurn old new number

@@ -1,9 +1,10 @@
 //! Taking the least records of runs.
-ghost use Rattle.std.specs.Prelude.{◌≡◌, ◌+◌, ◌<◌, ◌≤◌, ℕ, min, length, take, Option, None, IfOk, OnOk, IsErrOf};
+ghost use Rattle.std.specs.Prelude.{◌≡◌, ◌+◌, ◌<◌, ◌≤◌, ℕ, min, length, take, None, IfOk, OnOk, IsErrOf};
 ghost use Rattle.ppq_array.specs.ppq_record.Bag.{front};
-ghost use Rattle.ppq_fetch.specs.Taking.{wanted, NoneBelow};
-ghost use Rattle.ppq_fetch.specs.Turns.{IfTook, IfEnded, IfFailed};
-ghost use Rattle.ppq_fetch.specs.Fetching.{state, source_items, AreSources, MayFetch, Fetched, FetchFailed, SourcesTell, RunsRise, count_in, blocks_in};
+ghost use Rattle.ppq_fetch.specs.Taking.{wanted};
+ghost use Rattle.ppq_fetch.specs.Turns.{TurnEnds};
+ghost use Rattle.ppq_fetch.specs.Steps.{SameRoom};
+ghost use Rattle.ppq_fetch.specs.Fetching.{state, source_items, AreSources, MayFetch, Fetched, FetchFailed, SourcesTell, RunsRise, count_in};
 
 use crate::edge::{Edge, choose_edge};
 use crate::load::load_block;
@@ -107,21 +108,10 @@ fn take_turn<H: Host, S: Slot + Sync, R: Record + Send + Sync, P: Supply<S, R>, 
     requires may { MayFetch S.shown R.WIDTH ahead (state internal.old external.old idle.old (P.stock supply.old)) }
     requires places { length places.old ≡ length internal.old + length external.old }
     requires bench { length places.old ≤ length bench.old.places }
-    requires room { 0 < length out.old }
-    ensures within { IfTook result (λ n. n ≤ length out.old) }
-    ensures fetched { IfTook result (λ n. Fetched R.Ord.cmp R.record_of R.WIDTH S.shown below (state internal.old external.old idle.old (P.stock supply.old)) (state internal.new external.new idle.new (P.stock supply.new)) (take n out.new)) }
-    ensures may { IfTook result (λ n. MayFetch S.shown R.WIDTH ahead (state internal.new external.new idle.new (P.stock supply.new))) }
-    ensures less { IfTook result (λ n. blocks_in external.new + length out.old < blocks_in external.old + length out.old + n) }
-    ensures same { IfEnded result (state internal.new external.new idle.new (P.stock supply.new) ≡ state internal.old external.old idle.old (P.stock supply.old)) }
-    ensures none { IfEnded result (SourcesTell S.shown (state internal.old external.old idle.old (P.stock supply.old)) → RunsRise R.record_of R.WIDTH S.shown R.Ord.cmp (state internal.old external.old idle.old (P.stock supply.old)) → NoneBelow R.Ord.cmp below (source_items R.record_of R.WIDTH S.shown (state internal.old external.old idle.old (P.stock supply.old)))) }
-    ensures all { IfEnded result (below ≡ None → count_in internal.old external.old ≡ 0) }
-    ensures failed { IfFailed result (λ number. FetchFailed S.shown number (state internal.old external.old idle.old (P.stock supply.old)) (state internal.new external.new idle.new (P.stock supply.new))) }
-    ensures sources { IfFailed result (λ number. AreSources S.shown R.WIDTH ahead (state internal.new external.new idle.new (P.stock supply.new))) }
+    requires some { 0 < length out.old }
+    ensures outcome { TurnEnds R.Ord.cmp R.record_of R.WIDTH ahead S.shown below (state internal.old external.old idle.old (P.stock supply.old)) (state internal.new external.new idle.new (P.stock supply.new)) out.old out.new result }
+    ensures room { SameRoom out.old out.new places.old places.new bench.old bench.new }
     ensures home { P.home supply.new ≡ P.home supply.old }
-    ensures out { length out.new ≡ length out.old }
-    ensures places { length places.new ≡ length places.old }
-    ensures bench { length bench.new.places ≡ length bench.old.places }
-    ensures workers { bench.new.workers ≡ bench.old.workers }
 {
     record_laws::<R>();
     let next = next_block(&*external);

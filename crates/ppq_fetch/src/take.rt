@@ -8,11 +8,11 @@ ghost use Rattle.ppq_array.specs.Run.{run_of, items_of, buffers_of};
 ghost use Rattle.ppq_array.specs.External.{external};
 ghost use Rattle.ppq_array.specs.Owner.{HasBlock};
 ghost use Rattle.ppq_array.specs.Holdings.{internal_buffers, external_buffers, RunHasBlock};
-ghost use Rattle.ppq_merge.specs.ppq_split.Cut.{AreWithin, total};
+ghost use Rattle.ppq_merge.specs.ppq_split.Cut.{AreWithin};
 ghost use Rattle.ppq_merge.specs.Parts.{before, places_for};
 ghost use Rattle.ppq_fetch.specs.Parts.{firsts};
-ghost use Rattle.ppq_fetch.specs.Steps.{BuffersGiven, RunConsumed, RunsConsumed, ArrayConsumed, ArraysConsumed, TakesSafe};
-ghost use Rattle.ppq_fetch.specs.Fetching.{loaded_lists, count_in};
+ghost use Rattle.ppq_fetch.specs.Steps.{SameRoom, MayMergeParts, BuffersGiven, RunConsumed, RunsConsumed, ArrayConsumed, ArraysConsumed, TakesSafe};
+ghost use Rattle.ppq_fetch.specs.Fetching.{loaded_lists};
 
 use crate::loaded::{Loaded, SafeParts};
 use ppq_array::{
@@ -34,19 +34,12 @@ pub(crate) fn take_safe<H: Host, S: Slot + Sync, R: Record + Send + Sync, P: Sup
     out: &mut [R],
     gate: &G,
 )
-    requires few_runs { length internal.old + length external.old < 2 ^ 32 }
-    requires few_records { count_in internal.old external.old < 2 ^ 64 }
-    requires within { AreWithin places.old (loaded_lists internal.old external.old) }
-    requires count { length out.old ≤ total places.old }
-    requires bench { length internal.old + length external.old ≤ length bench.old.places }
+    requires may { MayMergeParts internal.old external.old places.old bench.old (length out.old) }
     requires room { internal_buffers internal.old ≤ (P.stock supply.old).buffer_room }
     requires blocks { All (RunHasBlock (P.stock supply.old).block) internal.old }
     requires few_buffers { external_buffers external.old + length idle.old < 2 ^ 32 - 1 }
     ensures taken { TakesSafe R.Ord.cmp places.old internal.old internal.new external.old external.new idle.old idle.new (P.stock supply.old) (P.stock supply.new) out.new }
-    ensures length { length out.new ≡ length out.old }
-    ensures places { length places.new ≡ length places.old }
-    ensures bench { length bench.new.places ≡ length bench.old.places }
-    ensures workers { bench.new.workers ≡ bench.old.workers }
+    ensures room { SameRoom out.old out.new places.old places.new bench.old bench.new }
     ensures home { P.home supply.new ≡ P.home supply.old }
 {
     merge_parts(rt, &*internal, &*external, places, bench, out, gate);
@@ -66,15 +59,8 @@ pub(crate) fn merge_parts<H: Threads + Sync, S: Slot + Sync, R: Record + Send + 
     out: &mut [R],
     gate: &G,
 )
-    requires few_runs { length internal.now + length external.now < 2 ^ 32 }
-    requires few_records { count_in internal.now external.now < 2 ^ 64 }
-    requires within { AreWithin places.old (loaded_lists internal.now external.now) }
-    requires count { length out.old ≤ total places.old }
-    requires bench { length internal.now + length external.now ≤ length bench.old.places }
-    ensures length { length out.new ≡ length out.old }
-    ensures places { length places.new ≡ length places.old }
-    ensures bench { length bench.new.places ≡ length bench.old.places }
-    ensures workers { bench.new.workers ≡ bench.old.workers }
+    requires may { MayMergeParts internal.now external.now places.old bench.old (length out.old) }
+    ensures room { SameRoom out.old out.new places.old places.new bench.old bench.new }
     ensures within { AreWithin places.new (firsts places.old (loaded_lists internal.now external.now)) }
     ensures bag { IsSameBag out.new (before places.new (firsts places.old (loaded_lists internal.now external.now))) }
     ensures front { Each (Ascends R.Ord.cmp) (firsts places.old (loaded_lists internal.now external.now)) → out.new ≡ front R.Ord.cmp (all_of (firsts places.old (loaded_lists internal.now external.now))) (length out.old) }

@@ -36,18 +36,18 @@ loop-to-preserved g c =
     let n = c.in-Took.count in
     let tail = drop (length l.out - l.to) (drop l.to l.out) in
     let none : length tail ≡ 0 = omega (arith, length-drop (length l.out - l.to) (drop l.to l.out), length-drop l.to l.out) in
-    let sums : length (done ++ (k.out ++ tail)) ≡ length l.out = omega (arith, none, c.take_turn-step.ensures.out, length-drop l.to l.out, length-append done (k.out ++ tail), length-append k.out tail, length-take l.to l.out, i.within) in
-    let few : n ≤ length k.out = omega (arith, c.in-Took.ensures.within, c.take_turn-step.ensures.out) in
+    let sums : length (done ++ (k.out ++ tail)) ≡ length l.out = omega (arith, none, c.take_turn-step.ensures.room.out, length-drop l.to l.out, length-append done (k.out ++ tail), length-append k.out tail, length-take l.to l.out, i.within) in
+    let few : n ≤ length k.out = omega (arith, c.in-Took.ensures.outcome.within, c.take_turn-step.ensures.room.out) in
     let whole : take (l.to + n) (done ++ (k.out ++ tail)) ≡ done ++ take n k.out = take_more done (k.out ++ tail) l.to n long ∙ ap (λ xs. done ++ xs) (take_left k.out tail n few) in
-    let more = Fetched-more g.R.Ord.cmp o g.R.Record.record_of g.R.Record.WIDTH g.S.Slot.shown c.args.below old now next done (take n k.out) i.fetched c.in-Took.ensures.fetched in
+    let more = Fetched-more g.R.Ord.cmp o g.R.Record.record_of g.R.Record.WIDTH g.S.Slot.shown c.args.below old now next done (take n k.out) i.fetched c.in-Took.ensures.outcome.fetched in
     record {
-      within = omega (arith, c.in-Took.ensures.within, sums, length-drop l.to l.out, i.within);
+      within = omega (arith, c.in-Took.ensures.outcome.within, sums, length-drop l.to l.out, i.within);
       out = sums ∙ i.out;
       fetched = subst (λ xs. Fetched g.R.Ord.cmp g.R.Record.record_of g.R.Record.WIDTH g.S.Slot.shown c.args.below old next xs) (sym whole) more;
-      may = c.in-Took.ensures.may;
-      places = c.take_turn-step.ensures.places ∙ i.places;
-      bench = c.take_turn-step.ensures.bench ∙ i.bench;
-      workers = c.take_turn-step.ensures.workers ∙ i.workers;
+      may = c.in-Took.ensures.outcome.may;
+      places = c.take_turn-step.ensures.room.places ∙ i.places;
+      bench = c.take_turn-step.ensures.room.bench ∙ i.bench;
+      workers = c.take_turn-step.ensures.room.workers ∙ i.workers;
       home = c.take_turn-step.ensures.home ∙ i.home;
     }
 
@@ -62,7 +62,7 @@ returns-in-Ended-clause-front g c =
     let done = take l.to l.out in
     let long : l.to ≡ length done = omega (arith, length-take l.to l.out, i.within) in
     λ tell rise. take_first done (k.out ++ drop (length l.out - l.to) (drop l.to l.out)) l.to long
-    ∙ Fetched-front g.R.Ord.cmp o g.R.Record.record_of g.R.Record.WIDTH g.S.Slot.shown c.args.below (no_tie c.record_laws.ensures.order c.record_laws.ensures.same) old now done (length c.args.out.now) i.fetched (omega (arith, long, i.within, i.out)) (inr c.in-Ended.ensures.none) tell rise
+    ∙ Fetched-front g.R.Ord.cmp o g.R.Record.record_of g.R.Record.WIDTH g.S.Slot.shown c.args.below (no_tie c.record_laws.ensures.order c.record_laws.ensures.same) old now done (length c.args.out.now) i.fetched (omega (arith, long, i.within, i.out)) (inr c.in-Ended.ensures.outcome.none) tell rise
 
 pub returns-in-Failed-clause-device : goal.returns-in-Failed-clause-device
 returns-in-Failed-clause-device g c number is =
@@ -73,7 +73,7 @@ returns-in-Failed-clause-device g c number is =
     let next = state k.internal k.external k.idle (g.P.Supply.stock k.supply) in
     let e : c.in-Failed.number ≡ number = cc in
     Failed-more g.R.Ord.cmp (ranks c.record_laws.ensures.order) g.R.Record.record_of g.R.Record.WIDTH g.S.Slot.shown c.args.below number old now next (take l.to l.out) l.invariant.fetched
-    (subst (λ n. FetchFailed g.S.Slot.shown n now next) e c.in-Failed.ensures.failed)
+    (subst (λ n. FetchFailed g.S.Slot.shown n now next) e c.in-Failed.ensures.outcome.failed)
 
 pub returns-clause-front : goal.returns-clause-front
 returns-clause-front g c =

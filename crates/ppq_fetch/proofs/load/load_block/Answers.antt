@@ -13,7 +13,7 @@ run_job-requires-after_bounds g c κs within =
     let buf = c.unwrap-buf.result in
     let size = All-head (HasSize g.S.Slot.shown (n * w)) b c.lift-slot.new.self.stored (subst (All (HasSize g.S.Slot.shown (n * w))) c.lift-slot.ensures.block c.requires.sizes) in
     let e : c.args.idle.now ≡ buf ∷ c.pop_front.new.self = subst (λ o. IfSome o (λ x. c.args.idle.now ≡ x ∷ c.pop_front.new.self)) c.unwrap-buf.ensures c.pop_front.ensures.first in
-    let has = All-head (HasBlock n) buf c.pop_front.new.self (subst (All (HasBlock n)) e c.requires.blocks) in
+    let has = All-head (HasBlock n) buf c.pop_front.new.self (subst (All (HasBlock n)) e c.requires.idle.blocks) in
     let same : (g.S.Slot.shown b.slot).size ≡ buf.block * w = size ∙ ap (λ k. k * w) (sym has) in
     let fits : c.lift-slot.result.1 * w ≤ (g.S.Slot.shown b.slot).size = subst (λ k. k * w ≤ (g.S.Slot.shown b.slot).size) (sym c.lift-slot.ensures.count) c.lift-slot.ensures.labelled.fits in
     record { size = sym same; kind = count_fits c.lift-slot.result.1 buf.block w (g.S.Slot.shown b.slot).size c.record_laws.ensures.width.0 fits same }

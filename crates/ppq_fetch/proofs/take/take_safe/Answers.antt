@@ -15,14 +15,14 @@ use Rattle.ppq_fetch.proofs.take.take_safe.Goals as goal
 pub split_at-requires : goal.split_at-requires
 split_at-requires g c =
     let it = λ (a : External g.row.S.Denot g.row.R.Denot). items_of a.loaded in
-    omega (arith, c.merge_parts.ensures.places, within_length c.args.places.now (loaded_lists c.args.internal.now c.args.external.now) c.requires.within, long_lists items_of it c.args.internal.now c.args.external.now)
+    omega (arith, c.merge_parts.ensures.room.places, within_length c.args.places.now (loaded_lists c.args.internal.now c.args.external.now) c.requires.may.within, long_lists items_of it c.args.internal.now c.args.external.now)
 
 pub consume_internal-requires-clause-within : goal.consume_internal-requires-clause-within
 consume_internal-requires-clause-within g c =
     let it = λ (a : External g.row.S.Denot g.row.R.Denot). items_of a.loaded in
     let qs = map (items_of {R = g.row.R.Denot}) c.args.internal.now in
     let rs = map it c.args.external.now in
-    let w = within_whole c.merge_parts.new.places c.args.places.now (qs ++ rs) c.merge_parts.ensures.within c.requires.within in
+    let w = within_whole c.merge_parts.new.places c.args.places.now (qs ++ rs) c.merge_parts.ensures.within c.requires.may.within in
     let n = length-map c.args.internal.now (items_of {R = g.row.R.Denot}) in
     subst (λ ps. AreWithin ps qs) (ap (λ k. take k c.merge_parts.new.places) n ∙ sym c.split_at.ensures.front) (within_take c.merge_parts.new.places qs rs w).0
 
@@ -31,7 +31,7 @@ consume_external-requires-clause-within g c =
     let it = λ (a : External g.row.S.Denot g.row.R.Denot). items_of a.loaded in
     let qs = map (items_of {R = g.row.R.Denot}) c.args.internal.now in
     let rs = map it c.args.external.now in
-    let w = within_whole c.merge_parts.new.places c.args.places.now (qs ++ rs) c.merge_parts.ensures.within c.requires.within in
+    let w = within_whole c.merge_parts.new.places c.args.places.now (qs ++ rs) c.merge_parts.ensures.within c.requires.may.within in
     let n = length-map c.args.internal.now (items_of {R = g.row.R.Denot}) in
     subst (λ ps. AreWithin ps rs) (ap (λ k. drop k c.merge_parts.new.places) n ∙ sym c.split_at.ensures.back) (within_take c.merge_parts.new.places qs rs w).1
 
@@ -50,8 +50,11 @@ returns-clause-taken g c =
       more = c.split_at.result.1.now;
       within = subst (λ xs. AreWithin xs fs) whole c.merge_parts.ensures.within;
       bag = subst (λ xs. IsSameBag c.merge_parts.new.out (before xs fs)) whole c.merge_parts.ensures.bag;
-      least = λ up. c.merge_parts.ensures.front up ∙ ap (λ k. front g.R.Ord.cmp (all_of fs) k) (sym c.merge_parts.ensures.length);
+      least = λ up. c.merge_parts.ensures.front up ∙ ap (λ k. front g.R.Ord.cmp (all_of fs) k) (sym c.merge_parts.ensures.room.out);
       internal_long = omega (arith, c.split_at.ensures.front_len);
       runs = c.consume_internal.ensures.consumed;
       arrays = c.consume_external.ensures.consumed;
     }
+
+pub returns-clause-room : goal.returns-clause-room
+returns-clause-room g c = c.merge_parts.ensures.room
