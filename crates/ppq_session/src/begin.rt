@@ -13,11 +13,13 @@ ghost use Rattle.ppq_pass.specs.ppq_pool.Seats.{count_of};
 ghost use Rattle.ppq_pass.specs.ppq_budget.Sizes.{pool_of};
 ghost use Rattle.ppq_pass.specs.ppq_array.Owner.{slots_shown};
 
+use crate::brought::Brought;
 use crate::equip::equip;
 use crate::outfit::Outfit;
+use crate::parts::BulkParts;
 use crate::share::{Session, share};
 use crate::stores::{Stores, make_stores};
-use crate::{BeginFault, Brought, Bulk, BulkParts, Pass, Shared};
+use crate::{BeginFault, Bulk, Pass, Shared};
 use ppq_pass::{Gate, Host, QueueFault, Record, Slot};
 use ppq_queue::{Queue, QueueParts};
 use std::alloc::Global;

@@ -9,7 +9,10 @@ ghost use Rattle.ppq_session.specs.Apart.{IsJoined, HasEnded, BulkHeld};
 
 use crate::bringing::bring_all;
 use crate::close::close;
-use crate::{Bulk, BulkParts, SessionEnd, gather_all, rejoin};
+use crate::gather::gather_all;
+use crate::parts::BulkParts;
+use crate::rejoining::rejoin;
+use crate::{Bulk, SessionEnd};
 use ppq_pass::{Gate, Host, Pass, Record, Shared, Slot};
 use ppq_queue::Queue;
 
