@@ -29,7 +29,7 @@ use Rattle.ppq_queue.specs.State.{IsSound}
 use Rattle.ppq_queue.specs.declared.queue_parts.QueueParts.{QueueParts}
 use Rattle.ppq_session.specs.BulkSession.{BulkHolding, AreOf, keys_of, bag_of, pass_key}
 use Rattle.ppq_session.specs.State.{AreLeft, IsBulk, IsBare, bulk_holding, bulk_slots}
-use Rattle.ppq_session.specs.Opened.{IsOpened, HandedOut}
+use Rattle.ppq_session.specs.Opened.{IsOpened, DealtOut}
 use Rattle.ppq_session.specs.Equipped.{Equipped, MayEquip, ArePasses, session_key}
 use Rattle.ppq_session.specs.declared.share.Session.{Session}
 use Rattle.ppq_session.specs.declared.parts.BulkParts.{BulkParts}
@@ -184,11 +184,11 @@ module _ {S R : Type 0} (shown : S → Shown) (cmp : R → R → Ordering) (reco
           begun = omega (arith, sum_map (λ (k : PassKey S R). k.begun) (λ (x : PassHolding S R). x.key) passes, begun_same passes a.whole, ap length (bag_same passes p.heaps.heaps a.bags), so.counted, ap length o.extract);
         }
 
-    pub handed_out : (passes : List (PassHolding S R)) (bulk : BulkHolding S R) → bulk ≡ held → ArePasses p.sizes p.heaps.heaps s passes → HandedOut shown record_of width p s bulk s'.shared passes
+    pub handed_out : (passes : List (PassHolding S R)) (bulk : BulkHolding S R) → bulk ≡ held → ArePasses p.sizes p.heaps.heaps s passes → DealtOut shown record_of width p s bulk s'.shared passes
     handed_out passes bulk is a =
         let runs = runs_bag shown record_of width p.body in
         let share : TableId → TableId → Shared S R = λ row pool. record { row = row; pool = pool } in
-        subst (λ b. HandedOut shown record_of width p s b s'.shared passes) (sym is) (record {
+        subst (λ b. DealtOut shown record_of width p s b s'.shared passes) (sym is) (record {
           of = are_of passes a;
           shared_is = e.shared ∙ ap₂ share (sym o.first.row ∙ sym e.row) (sym o.first.pool ∙ sym e.pool);
           fresh = a.fresh;
