@@ -1,8 +1,7 @@
 -- What the clauses of a session's beginning are put together from.
-use Rattle.std.proofs.Common.{◌≡◌, List, [], ◌∷◌, ◌++◌, map, All, sym, ap, ◌∙◌, subst}
+use Rattle.std.proofs.Common.{◌≡◌, List, ◌++◌, All, sym, ap, ◌∙◌, subst}
 use Rattle.std.specs.Prelude.{slice_index_or, Vec, Result, Ok, Err, IfOk, IfErr}
 use Rattle.std.specs.Global.{Global}
-use Rattle.std.proofs.lemmas.List.Elements.{All-nil, All-cons, All-head, All-tail}
 use Rattle.ppq_pass.specs.ppq_record.Bag.{IsSameBag}
 use Rattle.ppq_pass.proofs.ppq_record.Order.{IsSameBag-trans}
 use Rattle.ppq_pass.specs.ppq_outside.Shown.{Shown, AllTell}
@@ -14,14 +13,11 @@ use Rattle.ppq_session.specs.BulkSession.{BulkHolding, AreOf, keys_of, bag_of, s
 use Rattle.ppq_session.specs.declared.fault.BeginFault.{BeginFault}
 use Rattle.ppq_session.specs.declared.fault.BeginFault.TheVariants.{Memory}
 use Rattle.ppq_session.specs.Opened.{HandedOut, HoldsNoSlot}
-
-all_of_map : {X Y : Type 0} (P : Y → Type 0) (f : X → Y) (xs : List X) → All P (map f xs) → All (λ x. P (f x)) xs
-all_of_map P f [] a = All-nil (λ x. P (f x))
-all_of_map P f (x ∷ xs) a = All-cons (λ x. P (f x)) x xs (All-head P (f x) (map f xs) a) (all_of_map P f xs (All-tail P (f x) (map f xs) a))
+use Rattle.ppq_session.proofs.Mapped.{all_mapped}
 
 module _ {S R : Type 0} (bulk : BulkHolding S R) (passes : List (PassHolding S R)) (of : AreOf bulk (keys_of passes)) where
   keys : All (λ (p : PassHolding S R). p.key ≡ pass_key bulk p.key.begun) passes
-  keys = all_of_map (λ (k : PassKey S R). k ≡ pass_key bulk k.begun) (λ (p : PassHolding S R). p.key) passes of.each
+  keys = all_mapped (λ (p : PassHolding S R). p.key) (λ (k : PassKey S R). k ≡ pass_key bulk k.begun) passes of.each
 
   all_of : All (IsOf (shared_by bulk)) passes
   all_of = λ k d h. record { row = ap (λ (key : PassKey S R). key.row) (keys k d h); pool = ap (λ (key : PassKey S R). key.pool) (keys k d h) }

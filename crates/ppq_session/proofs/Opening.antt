@@ -31,7 +31,7 @@ use Rattle.ppq_session.specs.BulkSession.{BulkHolding, AreOf, keys_of, bag_of, p
 use Rattle.ppq_session.specs.State.{AreLeft, IsBulk, IsBare, bulk_holding, bulk_slots}
 use Rattle.ppq_session.specs.Opened.{IsOpened, DealtOut}
 use Rattle.ppq_session.specs.Equipped.{Equipped, MayEquip, ArePasses, session_key}
-use Rattle.ppq_session.specs.declared.share.Session.{Session}
+use Rattle.ppq_session.specs.declared.share.FirstSeats.{FirstSeats}
 use Rattle.ppq_session.specs.declared.parts.BulkParts.{BulkParts}
 use Rattle.ppq_session.specs.declared.brought.Brought.{Brought}
 use Rattle.ppq_session.proofs.Equipping.{bag_same, begun_same, first_same}
@@ -41,7 +41,7 @@ sum_map f g [] = refl
 sum_map f g (x ∷ xs) = let e : sum_by f (map g (x ∷ xs)) ≡ sum_by (λ x. f (g x)) (x ∷ xs) = omega (arith, sum_map f g xs, sum_by-cons f (g x) (map g xs), sum_by-cons (λ x. f (g x)) x xs) in e
 
 -- the parts of a bulk: those of the queue, with what is left of lanes and seats
-abbrev pub opened_parts : {S R : Type 0} → QueueParts S R → Session S R → Vec (Contents R) Global → Leaves R → List (Block R) → Vec (Brought S R) Global → BulkParts S R
+abbrev pub opened_parts : {S R : Type 0} → QueueParts S R → FirstSeats S R → Vec (Contents R) Global → Leaves R → List (Block R) → Vec (Brought S R) Global → BulkParts S R
 opened_parts p s heaps tree idle brought =
     record {
       sizes = p.sizes;
@@ -62,7 +62,7 @@ opened_parts p s heaps tree idle brought =
 
 module _ {S R : Type 0} (shown : S → Shown) (cmp : R → R → Ordering) (record_of : List ℕ → R) (width : ℕ) where
   -- there is enough for a pass for each worker
-  pub may_equip : (p : QueueParts S R) (s : Session S R) → IsOpened shown cmp record_of width p s → MayEquip shown width p.sizes p.sizes.workers p.body.lanes.idle s
+  pub may_equip : (p : QueueParts S R) (s : FirstSeats S R) → IsOpened shown cmp record_of width p s → MayEquip shown width p.sizes p.sizes.workers p.body.lanes.idle s
   may_equip p s o =
       let r = (o.whole.sound o.sound).rest in
       let range = o.whole.queue.range in
@@ -82,7 +82,7 @@ module _ {S R : Type 0} (shown : S → Shown) (cmp : R → R → Ordering) (reco
         few_buffers = omega (arith, count, r.pool);
       }
 
-  module _ (p : QueueParts S R) (s s' : Session S R) (idle : List (Block R)) (heaps : Vec (Contents R) Global) (tree : Leaves R) (brought : Vec (Brought S R) Global) (o : IsOpened shown cmp record_of width p s)
+  module _ (p : QueueParts S R) (s s' : FirstSeats S R) (idle : List (Block R)) (heaps : Vec (Contents R) Global) (tree : Leaves R) (brought : Vec (Brought S R) Global) (o : IsOpened shown cmp record_of width p s)
       (e : Equipped p.sizes p.sizes.workers p.body.lanes.idle idle s s') where
     rest : AtRest shown cmp record_of width p.sizes p.body o.before
     rest = (o.whole.sound o.sound).rest

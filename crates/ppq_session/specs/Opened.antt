@@ -16,7 +16,7 @@ use Rattle.ppq_queue.specs.declared.queue_parts.QueueParts.{QueueParts}
 use Rattle.ppq_session.specs.BulkSession.{BulkHolding, HasBuffers, AreOf, IsFresh, keys_of, bag_of, shared_by}
 use Rattle.ppq_session.specs.Equipped.{HasBegun, first_begun}
 use Rattle.ppq_session.specs.Shares.{bare, IsFirst}
-use Rattle.ppq_session.specs.declared.share.Session.{Session}
+use Rattle.ppq_session.specs.declared.share.FirstSeats.{FirstSeats}
 
 module _ {S R : Type 0} where
   -- the pass has drawn no slot
@@ -25,7 +25,7 @@ module _ {S R : Type 0} where
 
   module _ (shown : S → Shown) where
     -- with the free slots and the idle buffers that the session shares, the parts make a sound queue with an empty extract buffer
-    pub record IsOpened (cmp : R → R → Ordering) (record_of : List ℕ → R) (width : ℕ) (q : QueueParts S R) (s : Session S R) : Type 0 where
+    pub record IsOpened (cmp : R → R → Ordering) (record_of : List ℕ → R) (width : ℕ) (q : QueueParts S R) (s : FirstSeats S R) : Type 0 where
       pub before : Stock
       pub out : q.supply ≡ bare before
       pub first : IsFirst shown width before s
@@ -34,7 +34,7 @@ module _ {S R : Type 0} where
       pub extract : q.extract.items ≡ []
 
     -- the passes have the records of the heaps, and what stays has those of the runs
-    pub record DealtOut (record_of : List ℕ → R) (width : ℕ) (q : QueueParts S R) (s : Session S R) (bulk : BulkHolding S R) (shared : Shared S R) (passes : List (PassHolding S R)) : Type 0 where
+    pub record DealtOut (record_of : List ℕ → R) (width : ℕ) (q : QueueParts S R) (s : FirstSeats S R) (bulk : BulkHolding S R) (shared : Shared S R) (passes : List (PassHolding S R)) : Type 0 where
       pub of : AreOf bulk (keys_of passes)
       pub shared_is : shared ≡ shared_by bulk
       pub fresh : All IsFresh passes

@@ -16,7 +16,7 @@ use crate::brought::Brought;
 use crate::equip::equip;
 use crate::outfit::Outfit;
 use crate::parts::BulkParts;
-use crate::share::{Session, share};
+use crate::share::{FirstSeats, share};
 use crate::stores::{Stores, make_stores};
 use crate::{BeginFault, Bulk, Pass, Shared};
 use ppq_pass::{Gate, Host, QueueFault, Record, Slot};
@@ -112,7 +112,7 @@ pub fn hand_out<S: Slot + Send + Sync, R: Record + Send + Sync>(
 // out.
 fn deal_out<S: Slot + Send + Sync, R: Record + Send + Sync>(
     parts: QueueParts<S, R>,
-    session: Session<S, R>,
+    session: FirstSeats<S, R>,
     outfits: Vec<Outfit<S, R>>,
     passes: Vec<Pass<S, R>>,
     brought: Vec<Brought<S, R>>,
@@ -153,7 +153,7 @@ fn deal_out<S: Slot + Send + Sync, R: Record + Send + Sync>(
         &mut session,
         &mut passes,
     );
-    let Session {
+    let FirstSeats {
         shared,
         row_seat,
         pool_seat,

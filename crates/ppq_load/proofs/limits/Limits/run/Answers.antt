@@ -11,7 +11,7 @@ use Rattle.ppq_session.specs.LimitSession.{AreLimited, shared_of}
 use Rattle.ppq_session.specs.Asks.{answers_to, left_after, pops_in}
 use Rattle.ppq_session.specs.Batches.{passes_of}
 use Rattle.ppq_load.specs.Limits.{AreGoing, InLimits}
-use Rattle.ppq_session.proofs.Limited.{all_of_map}
+use Rattle.ppq_session.proofs.Mapped.{all_mapped}
 use Rattle.ppq_load.proofs.LimitSessions.{limited-keep, limited-of, shared-keep, session-run, session-answers}
 use Rattle.ppq_load.proofs.limits.Limits.run.Goals as goal
 
@@ -19,7 +19,7 @@ pub run_both-requires-clause-going : goal.run_both-requires-clause-going
 run_both-requires-clause-going g c κs within =
     let passes = c.self.inside.passes.items in
     let going = subst (λ l. All IsGoing (passes_of l.passes)) (sym c.self.view_is) c.requires.going.passes in
-    subst (All (λ (p : LimitHolding g.row.S.Denot Pair). IsGoing p.pass)) (sym c.as_mut_slice.ensures.value) (all_of_map IsGoing (λ (p : LimitHolding g.row.S.Denot Pair). p.pass) passes going)
+    subst (All (λ (p : LimitHolding g.row.S.Denot Pair). IsGoing p.pass)) (sym c.as_mut_slice.ensures.value) (all_mapped (λ (p : LimitHolding g.row.S.Denot Pair). p.pass) IsGoing passes going)
 
 -- the passes are all of the session still
 pub invariant_of-self : goal.invariant_of-self
