@@ -41,7 +41,8 @@ use Rattle.ppq_session.specs.Answering.{KeepsFront, HasAnswered}
 use Rattle.ppq_session.specs.Batches.{passes_of}
 use Rattle.ppq_load.specs.Limits.{AreGoing, InLimits, IsOver, begun_in}
 use Rattle.ppq_session.proofs.Answered.{left_after-same, answers_to-same}
-use Rattle.ppq_session.proofs.Limited.{all_of_map, bag_of-limited, accepted_of-limited}
+use Rattle.ppq_session.proofs.Limited.{bag_of-limited, accepted_of-limited}
+use Rattle.ppq_session.proofs.Mapped.{all_mapped}
 
 -- why a session did not begin
 pub begin-stops : (old new : Holding Pair) (fault : BeginFault) → IsBeginRefusal old new fault → new.sizes ≡ old.sizes → new.peak ≡ old.peak → new.limited ≡ true → LoadStopsFor old.peak old.sizes true new.slots (begin_fault_of fault)
@@ -100,9 +101,9 @@ module _ {S : Type 0} where
       record {
         count = sym (length-map news limit_of) ∙ (ap length limits ∙ (length-map olds limit_of ∙ (of.count ∙ sym (ap (λ n. n.workers) keeps.sizes))));
         keys =
-            all_of_map (λ (q : PassHolding S Pair). Keyed q.key) pass_of news
-            (all_of_map Keyed key_of (passes_of news) (subst (All Keyed) (sym keys) (All-map Keyed key_of (passes_of olds) (All-map (λ (q : PassHolding S Pair). Keyed q.key) pass_of olds had))));
-        limits = all_of_map Limits limit_of news (subst (All Limits) (sym limits) (All-map Limits limit_of olds were));
+            all_mapped pass_of (λ (q : PassHolding S Pair). Keyed q.key) news
+            (all_mapped key_of Keyed (passes_of news) (subst (All Keyed) (sym keys) (All-map Keyed key_of (passes_of olds) (All-map (λ (q : PassHolding S Pair). Keyed q.key) pass_of olds had))));
+        limits = all_mapped limit_of Limits news (subst (All Limits) (sym limits) (All-map Limits limit_of olds were));
       }
 
   -- they share what the session shares
@@ -124,7 +125,7 @@ module _ {S : Type 0} where
   pub all-records :
       (shown : S → Shown) (front : FrontHolding S Pair) (passes : List (LimitHolding S Pair)) (new : Holding Pair) → IsTogether shown front passes new → AllTell front.slots → All (PassTells shown) (passes_of passes)
       → IsSameBag new.bag (front.bag ++ limited_bag passes)
-  all-records shown front passes new end t u = end.bag t (all_of_map (PassTells shown) (λ (p : LimitHolding S Pair). p.pass) passes u)
+  all-records shown front passes new end t u = end.bag t (all_mapped (λ (p : LimitHolding S Pair). p.pass) (PassTells shown) passes u)
 
   module _ (shown : S → Shown) where
     -- a pass without records tells where the slots in the row tell
@@ -207,7 +208,7 @@ module _ {S : Type 0} where
           sizes = sizes ∙ s.sizes;
           limited = limited;
           slots = SameSlots-trans queue.slots front.slots new.slots s.slots slots;
-          tells = λ t. tells (s.tells t).0 (all_of_map (PassTells shown) (λ (p : LimitHolding S Pair). p.pass) passes (s.tells t).1);
+          tells = λ t. tells (s.tells t).0 (all_mapped (λ (p : LimitHolding S Pair). p.pass) (PassTells shown) passes (s.tells t).1);
           writes = omega (arith, s.writes, writes);
         }
 
@@ -224,7 +225,7 @@ module _ {S : Type 0} where
                 bag = λ t p.
                     let had = s.rest end.no_fault.0 t p in
                     let got = s.bag going t p in
-                    let has = end.bag (s.tells t).0 (all_of_map (PassTells shown) (λ (p : LimitHolding S Pair). p.pass) passes (s.tells t).1) p in
+                    let has = end.bag (s.tells t).0 (all_mapped (λ (p : LimitHolding S Pair). p.pass) (PassTells shown) passes (s.tells t).1) p in
                     omega (arith, had, got, has, count_by-append p front.bag (limited_bag passes), count_by-append p given left);
                 low = omega (arith, end.size, s.total, s.popped_is, all);
                 least = omega (arith, end.size, all);

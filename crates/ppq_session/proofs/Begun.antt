@@ -1,8 +1,7 @@
 -- What the clauses of a session's beginning are put together from.
-use Rattle.std.proofs.Common.{◌≡◌, List, [], ◌∷◌, ◌++◌, map, All, sym, ap, ◌∙◌, subst}
+use Rattle.std.proofs.Common.{◌≡◌, List, ◌++◌, All, sym, ap, ◌∙◌, subst}
 use Rattle.std.specs.Prelude.{slice_index_or, Vec, Result, Ok, Err, IfOk, IfErr}
 use Rattle.std.specs.Global.{Global}
-use Rattle.std.proofs.lemmas.List.Elements.{All-nil, All-cons, All-head, All-tail}
 use Rattle.ppq_pass.specs.ppq_record.Bag.{IsSameBag}
 use Rattle.ppq_pass.proofs.ppq_record.Order.{IsSameBag-trans}
 use Rattle.ppq_pass.specs.ppq_outside.Shown.{Shown, AllTell}
@@ -13,15 +12,12 @@ use Rattle.ppq_queue.specs.Holding.{Holding}
 use Rattle.ppq_session.specs.BulkSession.{BulkHolding, AreOf, keys_of, bag_of, shared_by, pass_key}
 use Rattle.ppq_session.specs.declared.fault.BeginFault.{BeginFault}
 use Rattle.ppq_session.specs.declared.fault.BeginFault.TheVariants.{Memory}
-use Rattle.ppq_session.specs.Opened.{HoldsNoSlot}
-
-all_of_map : {X Y : Type 0} (P : Y → Type 0) (f : X → Y) (xs : List X) → All P (map f xs) → All (λ x. P (f x)) xs
-all_of_map P f [] a = All-nil (λ x. P (f x))
-all_of_map P f (x ∷ xs) a = All-cons (λ x. P (f x)) x xs (All-head P (f x) (map f xs) a) (all_of_map P f xs (All-tail P (f x) (map f xs) a))
+use Rattle.ppq_session.specs.Opened.{HandedOut, HoldsNoSlot}
+use Rattle.ppq_session.proofs.Mapped.{all_mapped}
 
 module _ {S R : Type 0} (bulk : BulkHolding S R) (passes : List (PassHolding S R)) (of : AreOf bulk (keys_of passes)) where
   keys : All (λ (p : PassHolding S R). p.key ≡ pass_key bulk p.key.begun) passes
-  keys = all_of_map (λ (k : PassKey S R). k ≡ pass_key bulk k.begun) (λ (p : PassHolding S R). p.key) passes of.each
+  keys = all_mapped (λ (p : PassHolding S R). p.key) (λ (k : PassKey S R). k ≡ pass_key bulk k.begun) passes of.each
 
   all_of : All (IsOf (shared_by bulk)) passes
   all_of = λ k d h. record { row = ap (λ (key : PassKey S R). key.row) (keys k d h); pool = ap (λ (key : PassKey S R). key.pool) (keys k d h) }
@@ -41,28 +37,26 @@ abbrev pub Begins : Type 0 → Type 0 → Type 0
 Begins S R = Result (BulkHolding S R × Shared S R × Vec (PassHolding S R) Global) (Holding R × BeginFault)
 
 module _ {S R : Type 0} where
-  -- what holds of a part of the queue holds of the bulk's, which is the same
-  pub ok_with : {X : Type 0} (f : BulkHolding S R → X) (P : X → Type 0) (there : X) (r : Begins S R) → P there → IfOk r (λ x. f x.0 ≡ there) → IfOk r (λ x. P (f x.0))
-  ok_with f P there (Ok x) p e = subst P (sym e) p
-  ok_with f P there (Err x) p e = e
-
   -- what holds of the queue holds of what is handed back for want of memory
   pub err_with : (P : Holding R × BeginFault → Type 0) (queue : Holding R) (r : Begins S R) → P (queue, Memory) → IfErr r (λ e. e ≡ (queue, Memory)) → IfErr r P
   err_with P queue (Ok x) p e = e
   err_with P queue (Err x) p e = subst P (sym e) p
 
-  pub begun-passes : (r : Begins S R) → IfOk r (λ x. AreOf x.0 (keys_of x.2.items)) → IfOk r (λ x. x.1 ≡ shared_by x.0) → IfOk r (λ x. All (IsOf x.1) x.2.items)
-  begun-passes (Ok x) of is = subst (λ (s : Shared S R). All (IsOf s) x.2.items) (sym is) (all_of x.0 x.2.items of)
-  begun-passes (Err x) of is = of
+  module _ (shown : S → Shown) (old new : Holding R) where
+    -- a queue that was handed out, as what a beginning returned
+    abbrev pub IsHanded : BulkHolding S R × Shared S R × Vec (PassHolding S R) Global → Type 0
+    IsHanded x = HandedOut shown new x.0 x.1 x.2.items
 
-  module _ (old new : Holding R) where
-    pub begun-bag :
-        (r : Begins S R) → (AllTell old.slots → IsSameBag new.bag old.bag) → IfOk r (λ x. IsSameBag (x.0.bag ++ bag_of x.2.items) new.bag) → IfOk r (λ x. AllTell old.slots → IsSameBag (x.0.bag ++ bag_of x.2.items) old.bag)
-    begun-bag (Ok x) same bag = λ tell. IsSameBag-trans (x.0.bag ++ bag_of x.2.items) new.bag old.bag bag (same tell)
-    begun-bag (Err x) same bag = bag
+    -- what follows for what was handed out
+    pub begun-with : (Q : BulkHolding S R × Shared S R × Vec (PassHolding S R) Global → Type 0) (r : Begins S R) → ((x : BulkHolding S R × Shared S R × Vec (PassHolding S R) Global) → IsHanded x → Q x) → IfOk r IsHanded → IfOk r Q
+    begun-with Q (Ok x) f h = f x h
+    begun-with Q (Err x) f h = h
 
-    pub begun-tells :
-        (shown : S → Shown) (r : Begins S R) → (AllTell old.slots → AllTell new.slots) → IfOk r (λ x. AreOf x.0 (keys_of x.2.items)) → IfOk r (λ x. All HoldsNoSlot x.2.items)
-        → IfOk r (λ x. x.0.slots ≡ new.slots) → IfOk r (λ x. AllTell new.slots → AllTell (slots_shown shown x.0.items)) → IfOk r (λ x. AllTell old.slots → AllTell x.0.slots × All (PassTells shown) x.2.items)
-    begun-tells shown (Ok x) tells of none slots items = λ tell. let all = tells tell in (subst AllTell (sym slots) all, all_tell x.0 x.2.items of shown none (items all))
-    begun-tells shown (Err x) tells of none slots items = of
+    pub begun-passes : (x : BulkHolding S R × Shared S R × Vec (PassHolding S R) Global) → IsHanded x → All (IsOf x.1) x.2.items
+    begun-passes x h = subst (λ (s : Shared S R). All (IsOf s) x.2.items) (sym h.shared_is) (all_of x.0 x.2.items h.of)
+
+    pub begun-bag : (x : BulkHolding S R × Shared S R × Vec (PassHolding S R) Global) → IsHanded x → (AllTell old.slots → IsSameBag new.bag old.bag) → AllTell old.slots → IsSameBag (x.0.bag ++ bag_of x.2.items) old.bag
+    begun-bag x h same tell = IsSameBag-trans (x.0.bag ++ bag_of x.2.items) new.bag old.bag h.bag (same tell)
+
+    pub begun-tells : (x : BulkHolding S R × Shared S R × Vec (PassHolding S R) Global) → IsHanded x → (AllTell old.slots → AllTell new.slots) → AllTell old.slots → AllTell x.0.slots × All (PassTells shown) x.2.items
+    begun-tells x h tells tell = let all = tells tell in (subst AllTell (sym h.slots) all, all_tell x.0 x.2.items h.of shown h.no_slots (h.items all))

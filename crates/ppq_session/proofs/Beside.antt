@@ -1,16 +1,16 @@
 -- Records that are not below a limit, beside a bag: they change nothing of what is below it.
-use Rattle.std.proofs.Common.{◌≡◌, ℕ, zero, suc, ◌<◌, true, false, List, [], ◌∷◌, ◌++◌, min, Some, refl, sym, ap, ◌∙◌, inl, inr, arith, Ordering}
+use Rattle.std.proofs.Common.{◌≡◌, ℕ, zero, suc, ◌<◌, false, List, [], ◌∷◌, ◌++◌, min, Some, refl, sym, ap, ◌∙◌, inl, inr, arith, Ordering}
 use Rattle.std.specs.Prelude.{count_by}
 use Rattle.std.specs.declared.cmp.Ordering.TheVariants.{Equal}
 use Rattle.std.specs.List.{AllByRecursion as Each}
 use Rattle.std.specs.Cmp.{IsTotalOrder}
 use Rattle.std.proofs.lemmas.Bool.{cases_Bool}
 use Rattle.ppq_pass.specs.ppq_record.Order.{is_before, Le, Ascends}
-use Rattle.ppq_pass.specs.ppq_record.Bag.{IsSameBag, first_of, front, without_front, ascending, size_below}
+use Rattle.ppq_pass.specs.ppq_record.Bag.{IsSameBag, first_of, front, ascending, size_below}
 use Rattle.ppq_pass.proofs.ppq_record.Order.{front_is, in_order-same_bag, Rising-in_order, Each-weaker, Each-append, Le-trans, none_pass, count_by-append, count_by-cons}
 use Rattle.ppq_pass.proofs.ppq_record.Fronts.{ranks, no_tie, front-parts}
 use Rattle.ppq_pass.specs.ppq_fetch.Taking.{NoneBelow}
-use Rattle.ppq_session.specs.Fronts.{least_below, without_least_below, StandBack}
+use Rattle.ppq_session.specs.Fronts.{without_least_below, StandBack}
 
 module _ {R : Type 0} {cmp : R → R → Ordering} (o : IsTotalOrder cmp) (same : (x y : R) → cmp x y ≡ Equal → x ≡ y) (limit : R) where
   -- as many are below the limit

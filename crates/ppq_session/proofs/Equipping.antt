@@ -22,7 +22,7 @@ use Rattle.ppq_pass.specs.Passed.{PassKey, PassHolding}
 use Rattle.ppq_pass.specs.declared.shared.PoolBuf.{PoolBuf}
 use Rattle.ppq_session.specs.BulkSession.{bag_of}
 use Rattle.ppq_session.specs.Equipped.{Equipped, MayEquip, IsNewPass, HasBegun, bags_of, bags_in, first_begun, session_key}
-use Rattle.ppq_session.specs.declared.share.Session.{Session}
+use Rattle.ppq_session.specs.declared.share.FirstSeats.{FirstSeats}
 
 module _ {X : Type 0} (P : X → Type 0) where
   pub all_front : (xs : List X) (x : X) → All P (xs ++ x ∷ []) → All P xs
@@ -77,7 +77,7 @@ module _ {S R : Type 0} where
   first_same (p ∷ ps) [] whole e = absurd (omega (arith, ap length e))
   first_same (p ∷ ps) (h ∷ hs) whole e = sym (All-head HasBegun p ps whole) ∙ ap length (ap (λ (l : List (List R)). get_or l 0 []) e)
 
-  module _ (sizes : Numbers) (idle idle' : List (Block R)) (s s' : Session S R) where
+  module _ (sizes : Numbers) (idle idle' : List (Block R)) (s s' : FirstSeats S R) where
     pub items_stay : (n : ℕ) → Equipped sizes n idle idle' s s' → s'.row_seat.hand.items ≡ s.row_seat.hand.items
     items_stay n e = ap (λ (h : RowHand (DeviceBlock S R)). h.items) e.row_hand
 
@@ -111,7 +111,7 @@ module _ {S R : Type 0} where
             few_buffers = subst (λ t. count_of t ≤ pool_of sizes) (sym e.pool) m.few_buffers;
           }
 
-  pub one_more : (sizes : Numbers) (idle idle' idle'' : List (Block R)) (s s' s'' : Session S R) (n : ℕ) → Equipped sizes n idle idle' s s' → Equipped sizes 1 idle' idle'' s' s'' → Equipped sizes (n + 1) idle idle'' s s''
+  pub one_more : (sizes : Numbers) (idle idle' idle'' : List (Block R)) (s s' s'' : FirstSeats S R) (n : ℕ) → Equipped sizes n idle idle' s s' → Equipped sizes 1 idle' idle'' s' s'' → Equipped sizes (n + 1) idle idle'' s s''
   one_more sizes idle idle' idle'' s s' s'' n e f =
       record {
         buffers = omega (arith, e.buffers, f.buffers);

@@ -34,11 +34,12 @@ use Rattle.ppq_queue.proofs.Slots.{SameSums-length}
 use Rattle.ppq_session.specs.Apart.{IsApart, IsSoundApart, GoesBefore, apart_slots}
 use Rattle.ppq_session.specs.Passes.{IsBrought, pass_of}
 use Rattle.ppq_session.specs.Bringing.{BroughtAll}
-use Rattle.ppq_session.specs.Gathering.{IsGathered, IsGathering, IsSoundSoFar, slots_in, buffers_in, begun_in}
+use Rattle.ppq_session.specs.Gathering.{IsGathered, IsGathering, IsSoundSoFar, slots_in, buffers_in}
 use Rattle.ppq_session.specs.Closing.{IsClosed}
 use Rattle.ppq_session.specs.declared.brought.Brought.{Brought}
 use Rattle.ppq_session.specs.declared.closed.Closed.{Closed}
 use Rattle.ppq_session.specs.declared.parts.BulkParts.{BulkParts}
+use Rattle.ppq_session.proofs.Mapped.{sum-mapped, all_mapped}
 use Rattle.ppq_session.proofs.Places.{items_at-once}
 use Rattle.ppq_session.proofs.Ended.{SameSlots-append, drawn_in, places_in, drawn-places, drawn-same, drawn-untold}
 
@@ -289,10 +290,6 @@ module _ {S R : Type 0} (shown : S → Shown) (cmp : R → R → Ordering) (reco
         most_peak = is.most;
       }
 
-  begun_are : (xs : List (Brought S R)) → begun_in shown xs ≡ sum_by (λ (p : PassHolding S R). p.key.begun) (map (pass_of shown record_of width q.sizes) xs)
-  begun_are [] = refl
-  begun_are (x ∷ xs) = omega (arith, begun_are xs, sum_by-cons (λ (one : Brought S R). one.begun) x xs, sum_by-cons (λ (p : PassHolding S R). p.key.begun) (pass_of shown record_of width q.sizes x) (map (pass_of shown record_of width q.sizes) xs))
-
   -- where all tells now, all did
   was_told : AllTell now → AllTell (apart_slots shown q)
   was_told tell =
@@ -309,12 +306,6 @@ module _ {S R : Type 0} (shown : S → Shown) (cmp : R → R → Ordering) (reco
       ))
 
   module _ (popped : ℕ) (so : failed ≡ None → IsSoundApart shown cmp record_of width q (sum_by (λ (p : PassHolding S R). p.key.begun) passes) popped) (before : failed ≡ None → All (GoesBefore shown cmp q) passes) where
-    all_mapped : (P : PassHolding S R → Type 0) (xs : List (Brought S R)) → All P (map (pass_of shown record_of width q.sizes) xs) → All (λ (x : Brought S R). P (pass_of shown record_of width q.sizes x)) xs
-    all_mapped P [] all = All-nil (λ (x : Brought S R). P (pass_of shown record_of width q.sizes x))
-    all_mapped P (x ∷ xs) all =
-        All-cons (λ (x : Brought S R). P (pass_of shown record_of width q.sizes x)) x xs (All-head P (pass_of shown record_of width q.sizes x) (map (pass_of shown record_of width q.sizes) xs) all)
-        (all_mapped P xs (All-tail P (pass_of shown record_of width q.sizes x) (map (pass_of shown record_of width q.sizes) xs) all))
-
     none_after-right : (xs ys zs : List R) → NoneAfter cmp xs (ys ++ zs) → NoneAfter cmp xs zs
     none_after-right [] ys zs h = tt
     none_after-right (x ∷ xs) ys zs h = (Each-append_right (Le (is_before cmp) x) ys zs h.0, none_after-right xs ys zs h.1)
@@ -337,12 +328,12 @@ module _ {S R : Type 0} (shown : S → Shown) (cmp : R → R → Ordering) (reco
           tree = l.leaves;
           rise = λ tell. l.rise (was_told tell);
           small = omega (arith, is.most_count, room, rest_count, is.range.workers, is.range.memory);
-          counted = omega (arith, l.counted, begun_are rest, ap (sum_by (λ (p : PassHolding S R). p.key.begun)) br.passes_are, ap (λ l. length (items_in l)) is.no_heap);
+          counted = omega (arith, l.counted, sum-mapped (pass_of shown record_of width q.sizes) (λ (p : PassHolding S R). p.key.begun) rest, ap (sum_by (λ (p : PassHolding S R). p.key.begun)) br.passes_are, ap (λ l. length (items_in l)) is.no_heap);
           above = λ some. inl (l.above some);
           ascends = λ tell. l.ascends (was_told tell);
           order = λ tell. l.order (was_told tell);
           order_rest = λ tell k d h fine.
-              let mine = all_mapped (GoesBefore shown cmp q) rest (subst (All (GoesBefore shown cmp q)) (sym br.passes_are) (before none)) k d h (was_told tell) fine in
+              let mine = all_mapped (pass_of shown record_of width q.sizes) (GoesBefore shown cmp q) rest (subst (All (GoesBefore shown cmp q)) (sym br.passes_are) (before none)) k d h (was_told tell) fine in
               none_after-right q.extract.items _ _ mine;
         }
 

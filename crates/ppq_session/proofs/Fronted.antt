@@ -1,5 +1,5 @@
 -- A front as parts that are apart.
-use Rattle.std.proofs.Common.{◌≡◌, ℕ, suc, ◌+◌, ◌-◌, ◌*◌, ◌<◌, ◌≤◌, true, false, List, [], ◌∷◌, ◌++◌, length, reverse, sum_by, All, Option, Some, None, refl, sym, ap, ◌∙◌, subst, arith, length-append}
+use Rattle.std.proofs.Common.{◌≡◌, ℕ, ◌+◌, ◌-◌, ◌*◌, ◌<◌, ◌≤◌, true, false, List, [], ◌∷◌, ◌++◌, length, reverse, sum_by, All, Option, Some, None, refl, sym, ap, ◌∙◌, subst, arith, length-append}
 use Rattle.std.specs.Prelude.{vec_capacity}
 use Rattle.std.specs.declared.cmp.Ordering.{Ordering}
 use Rattle.std.specs.Cmp.{IsTotalOrder}
@@ -38,7 +38,7 @@ use Rattle.ppq_pass.specs.declared.shared.Shared.{Shared}
 use Rattle.ppq_session.specs.Bringing.{BroughtAll, IsShareOf}
 use Rattle.ppq_session.proofs.Mapped.{sum-mapped, all_mapped, any_mapped}
 use Rattle.ppq_session.proofs.Together.{all_shares_of, room_for_all}
-use Rattle.ppq_session.specs.Apart.{IsJoined, HasEnded, IsApart, IsSoundApart, GoesBefore, HasAll, EndsApart, apart_slots, apart_key}
+use Rattle.ppq_session.specs.Apart.{IsJoined, SessionEnded, IsApart, IsSoundApart, GoesBefore, HasAll, EndsApart, apart_slots, apart_key}
 use Rattle.ppq_session.proofs.CameBack.{passes_of}
 
 module _ {S R : Type 0} (shown : S → Shown) (width : ℕ) (q : BulkParts S R) where
@@ -318,7 +318,7 @@ module _ {S R : Type 0} (shown : S → Shown) (cmp : R → R → Ordering) (reco
       pub sizes : queue.sizes ≡ front.sizes
       pub limited : queue.limited ≡ true
 
-    pub front_ended : (queue : Holding R) (end : SessionEnd) → HasEnded shown record_of width q2 popped failed (passes_of passes) queue end → IsEnded queue end
+    pub front_ended : (queue : Holding R) (end : SessionEnd) → SessionEnded shown record_of width q2 popped failed (passes_of passes) queue end → IsEnded queue end
     front_ended queue end h =
         let slots_are : front_slots shown q ≡ front.slots = ap (λ (f : FrontHolding S R). f.slots) t.shows in
         record {

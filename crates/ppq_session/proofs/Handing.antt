@@ -15,7 +15,7 @@ use Rattle.ppq_queue.specs.Handed.{IsWhole, holding_of}
 use Rattle.ppq_queue.specs.declared.queue_parts.QueueParts.{QueueParts}
 use Rattle.ppq_session.specs.Shares.{bare, IsFirst}
 use Rattle.ppq_session.specs.Opened.{IsOpened}
-use Rattle.ppq_session.specs.declared.share.Session.{Session}
+use Rattle.ppq_session.specs.declared.share.FirstSeats.{FirstSeats}
 
 no_items : {X : Type 0} (xs : List X) → length xs ≡ 0 → xs ≡ []
 no_items [] e = refl
@@ -30,7 +30,7 @@ module _ {S R : Type 0} (shown : S → Shown) (cmp : R → R → Ordering) (reco
   no_extract e = no_items p.extract.items (ap (λ h. h.in_extract) shows ∙ e)
 
   -- the free slots and the idle buffers are out
-  pub opens : IsWhole shown cmp record_of width p → q.failed ≡ None → q.in_extract ≡ 0 → (supply : Stock) (s : Session S R) → supply ≡ bare p.supply → IsFirst shown width p.supply s → IsOpened shown cmp record_of width (record p { supply = supply }) s
+  pub opens : IsWhole shown cmp record_of width p → q.failed ≡ None → q.in_extract ≡ 0 → (supply : Stock) (s : FirstSeats S R) → supply ≡ bare p.supply → IsFirst shown width p.supply s → IsOpened shown cmp record_of width (record p { supply = supply }) s
   opens whole sound empty supply s out first =
       record {
         before = p.supply;
@@ -48,7 +48,7 @@ module _ {S R : Type 0} (shown : S → Shown) (cmp : R → R → Ordering) (reco
       let e : heaps ++ runs ≡ q.bag = ap (λ l. l ++ runs) (sym (append-nil heaps) ∙ ap (λ l. heaps ++ l) (sym (no_extract empty))) ∙ ap (λ h. h.bag) shows in
       subst (IsSameBag bag) e h
 
-  pub slots_are : IsWhole shown cmp record_of width p → q.failed ≡ None → (s : Session S R) → IsFirst shown width p.supply s → external_slots shown p.body.runs.external.items ++ slots_shown shown s.row_seat.hand.items ≡ q.slots
+  pub slots_are : IsWhole shown cmp record_of width p → q.failed ≡ None → (s : FirstSeats S R) → IsFirst shown width p.supply s → external_slots shown p.body.runs.external.items ++ slots_shown shown s.row_seat.hand.items ≡ q.slots
   slots_are whole sound s first =
       let x = external_slots shown p.body.runs.external.items in
       let r = (whole.sound (ap (λ h. h.failed) shows ∙ sound)).rest in

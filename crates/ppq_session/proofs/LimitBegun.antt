@@ -6,22 +6,17 @@ use Rattle.std.proofs.lemmas.List.Sums.{sum_by-append}
 use Rattle.ppq_pass.specs.ppq_record.Order.{Ascends}
 use Rattle.ppq_pass.specs.ppq_outside.Shown.{Shown, Tells, AllTell}
 use Rattle.ppq_pass.specs.ppq_fetch.Taking.{NoneAfter, AllBelow}
-use Rattle.std.proofs.Math.Nat.{add-mul, mul-le-mul_right}
-use Rattle.ppq_pass.specs.ppq_budget.Sizes.{pool_of}
 use Rattle.ppq_pass.specs.ppq_pool.Seats.{count_of as pool_count}
 use Rattle.ppq_pass.specs.ppq_array.declared.berth.DeviceBlock.{DeviceBlock}
 use Rattle.ppq_pass.specs.ppq_array.Owner.{slots_shown, HasBlock}
-use Rattle.ppq_pass.specs.ppq_array.Holdings.{internal_buffers, external_buffers, external_slots}
-use Rattle.ppq_pass.specs.ppq_fetch.Fetching.{blocks_in}
+use Rattle.ppq_pass.specs.ppq_array.Holdings.{external_slots}
 use Rattle.ppq_pass.proofs.ppq_array.Noted.{all_left, all_right}
 use Rattle.ppq_pass.specs.ppq_spill.Body.{body_slots, job_slots}
 use Rattle.ppq_pass.proofs.ppq_spill.Keeping.{slots_long}
 use Rattle.ppq_pass.proofs.ppq_spill.SameSlots.{SameSlots-sums}
 use Rattle.ppq_pass.proofs.ppq_spill.Telling.{tell_sum, sum_tell}
 use Rattle.ppq_pass.specs.ppq_spill.Untold.{untold}
-use Rattle.ppq_queue.specs.Resting.{AtRest, IsRestingRun, IsRestingArray, count_of, lane_buffers, odd_in, runs_bag, slots_of}
-use Rattle.ppq_queue.proofs.Counts.{runs_fit, internal_count, stored_slots, arrays_fit}
-use Rattle.ppq_queue.proofs.Odd.{arrays_full}
+use Rattle.ppq_queue.specs.Resting.{AtRest, IsRestingRun, IsRestingArray, count_of, odd_in, runs_bag, slots_of}
 use Rattle.ppq_queue.proofs.Slots.{SameSums-length}
 use Rattle.ppq_session.specs.State.{IsBulk, bulk_slots, bulk_holding}
 use Rattle.ppq_session.specs.declared.parts.BulkParts.{BulkParts}
@@ -30,6 +25,7 @@ use Rattle.ppq_session.specs.Fronts.{FrontHolding}
 use Rattle.ppq_session.specs.LimitSession.{IsFrontOf}
 use Rattle.ppq_session.specs.FrontState.{with_lent, with_shared, front_slots, front_holding, IsHome, IsFront, IsTallied, IsSoundFront}
 use Rattle.ppq_session.proofs.Moved.{lent-length, lent-blocks, told-parts}
+use Rattle.ppq_session.proofs.Opening.{bare_slots}
 
 module _ {S R : Type 0} (shown : S → Shown) (cmp : R → R → Ordering) (record_of : List ℕ → R) (width : ℕ) (q : BulkParts S R) (is : IsBulk shown cmp record_of width q) where
   abbrev items : List (DeviceBlock S R)
@@ -42,28 +38,28 @@ module _ {S R : Type 0} (shown : S → Shown) (cmp : R → R → Ordering) (reco
   arrays = external_slots shown q.body.runs.external.items
 
   items_long : length arrays + length items ≡ q.sizes.blocks
-  items_long = omega (arith, is.left.slots, length-append arrays (slots_shown shown items), slots_long shown items)
+  items_long = omega (arith, ap length (bare_slots shown q is.supply.kept is.apart.no_job), is.apart.slots, length-append arrays (slots_shown shown items), slots_long shown items)
 
   home_first : q.limited ≡ true → IsHome shown width q
   home_first limited =
       record {
-        range = is.range;
-        budget = is.budget;
-        no_heap = is.no_heap;
-        heaps_room = is.heaps_room;
-        heaps_leaves = is.heaps_leaves;
-        row_shares = is.left.row_shares;
-        undrawn = is.left.undrawn;
-        bytes = is.left.bytes;
-        pool_shares = is.left.pool_shares;
-        untaken = is.left.untaken;
-        shape = is.left.shape;
-        pooled = omega (arith, is.left.held, is.left.buffers);
-        no_slot = is.no_slot;
-        slots_room = is.slots_room;
-        none_brought = is.none_brought;
-        brought_room = is.brought_room;
-        most = is.most;
+        range = is.apart.range;
+        budget = is.apart.budget;
+        no_heap = is.apart.no_heap;
+        heaps_room = is.apart.heaps_room;
+        heaps_leaves = is.apart.heaps_leaves;
+        row_shares = is.apart.row_shares;
+        undrawn = is.apart.undrawn;
+        bytes = is.apart.bytes;
+        pool_shares = is.apart.pool_shares;
+        untaken = is.apart.untaken;
+        shape = is.apart.shape;
+        pooled = omega (arith, is.apart.fits, is.supply.buffer_room);
+        no_slot = is.apart.no_slot;
+        slots_room = is.apart.slots_room;
+        none_brought = is.apart.none_brought;
+        brought_room = is.apart.brought_room;
+        most = is.apart.most;
         limited = limited;
       }
 
@@ -71,11 +67,11 @@ module _ {S R : Type 0} (shown : S → Shown) (cmp : R → R → Ordering) (reco
   front_first limited =
       record {
         home = home_first limited;
-        room = is.extract_room;
-        in_extract = omega (arith, ap length is.no_extract);
-        no_job = is.left.no_job;
-        held = omega (arith, is.left.held, is.supply.buffer_room, ap length is.left.no_job);
-        pool = omega (arith, is.supply.sure, is.supply.buffer_room);
+        room = is.apart.extract_room;
+        in_extract = is.apart.in_extract;
+        no_job = is.apart.no_job;
+        held = is.apart.held;
+        pool = is.apart.pool;
         slots =
             omega (
               arith,
@@ -83,51 +79,19 @@ module _ {S R : Type 0} (shown : S → Shown) (cmp : R → R → Ordering) (reco
               length-append (slots_shown shown items) (slots_of shown q.body q.supply),
               length-append (body_slots shown q.body) q.supply.kept,
               length-append arrays (job_slots shown q.body.lanes.jobs.items),
-              ap (λ l. length (job_slots shown l)) is.left.no_job,
+              ap (λ l. length (job_slots shown l)) is.apart.no_job,
               ap length is.supply.kept,
               slots_long shown items,
             );
-        slot_room = omega (arith, ap length is.supply.kept, is.supply.slot_room);
-        block = is.supply.block;
-        no_row = is.supply.drawn;
-        workers = is.workers;
-        serves = is.serves;
+        slot_room = is.apart.slot_room;
+        block = is.apart.block;
+        no_row = is.apart.no_row;
+        workers = is.apart.workers;
+        serves = is.apart.serves;
       }
 
-  -- the blocks that are not in the row are those of the runs
-  stored_are : q.sizes.blocks - length items ≡ blocks_in q.body.runs.external.items
-  stored_are = omega (arith, items_long, stored_slots shown q.body.runs.external.items)
-
-  packed_first : count_of q.body ≡ q.count → (q.sizes.blocks - length items) * q.sizes.block ≤ q.count + 0 + 65 * q.sizes.block
-  packed_first all =
-      let block = q.sizes.block in
-      let runs = q.body.runs.external.items in
-      let odd : odd_in block runs * block ≤ 65 * block = mul-le-mul_right block is.left.few in
-      omega (arith, all, ap (λ k. k * block) stored_are, arrays_full block shown width runs is.left.external, odd)
-
-  fits_first : count_of q.body ≡ q.count → q.count + 0 + (length items + pooled + 2 * q.sizes.workers) * q.sizes.block ≤ (q.sizes.blocks + lane_buffers q.sizes + pool_of q.sizes) * q.sizes.block
-  fits_first all =
-      let block = q.sizes.block in
-      let internal = internal_buffers q.body.runs.internal.items in
-      let external = external_buffers q.body.runs.external.items in
-      let stored = blocks_in q.body.runs.external.items in
-      let out = length items + pooled + 2 * q.sizes.workers in
-      let few : internal + external + stored + out ≤ q.sizes.blocks + lane_buffers q.sizes + pool_of q.sizes = omega (arith, is.left.held, items_long, stored_slots shown q.body.runs.external.items) in
-      let most : (internal + external + stored + out) * block ≤ (q.sizes.blocks + lane_buffers q.sizes + pool_of q.sizes) * block = mul-le-mul_right block few in
-      omega (
-        arith,
-        all,
-        most,
-        add-mul (internal + external + stored) out block,
-        add-mul (internal + external) stored block,
-        add-mul internal external block,
-        runs_fit block q.body.runs.internal.items is.left.internal,
-        internal_count q.body.runs.internal.items,
-        arrays_fit shown width block q.body.runs.external.items is.left.external,
-      )
-
   pub tallied_first : count_of q.body ≡ q.count → IsTallied shown q 0 None
-  tallied_first all = record { counted = omega (arith, is.least); most = omega (arith, is.most_count); packed = packed_first all; fits = fits_first all; fault = λ number e. absurd (cc) }
+  tallied_first all = record { counted = omega (arith, is.least); most = omega (arith, is.apart.most_count); packed = omega (arith, all, ap length is.no_extract, is.sound.packed); fits = omega (arith, all, ap length is.no_extract, is.sound.fit); fault = λ number e. absurd (cc) }
 
   told_bulk : AllTell (front_slots shown q) → AllTell (bulk_slots shown q)
   told_bulk tell =
@@ -138,7 +102,7 @@ module _ {S R : Type 0} (shown : S → Shown) (cmp : R → R → Ordering) (reco
 
   rest_first : AtRest shown cmp record_of width q.sizes (with_lent q.sizes q.body) (with_shared shown items pooled q.supply)
   rest_first =
-      let left = is.left in
+      let left = is.sound in
       let same = sym is.supply.block in
       let long = lent-length q.sizes q.body.lanes.idle in
       record {
@@ -146,20 +110,20 @@ module _ {S R : Type 0} (shown : S → Shown) (cmp : R → R → Ordering) (reco
         idle = lent-blocks q.sizes q.supply.block q.body.lanes.idle is.supply.block (subst (λ k. All (HasBlock k) q.body.lanes.idle) same left.idle);
         internal = subst (λ k. All (IsRestingRun k) q.body.runs.internal.items) same left.internal;
         external = subst (λ k. All (IsRestingArray shown width k) q.body.runs.external.items) same left.external;
-        takes_back = record { slots = omega (arith, items_long, is.supply.slot_room); buffers = omega (arith, left.held, left.buffers, is.supply.buffer_room) };
-        no_job = left.no_job;
+        takes_back = record { slots = omega (arith, items_long, is.supply.slot_room); buffers = omega (arith, is.apart.fits) };
+        no_job = is.apart.no_job;
         batch = left.batch ∙ ap (λ k. q.sizes.workers * k) same;
         buffers = omega (arith, left.buffers, long);
-        held = omega (arith, left.held, left.buffers, is.supply.buffer_room, long);
+        held = omega (arith, is.apart.held, is.apart.fits, ap length is.apart.no_job, long);
         bounded = left.bounded;
         fronts = left.fronts;
         few = subst (λ k. odd_in k q.body.runs.external.items ≤ 65) same left.few;
-        pool = omega (arith, is.supply.sure, is.supply.buffer_room, left.held, left.buffers);
+        pool = omega (arith, is.apart.pool, is.apart.fits);
         slots = omega (arith, length-append (slots_shown shown items) q.supply.kept, slots_long shown items, ap length is.supply.kept, is.supply.slot_room, items_long);
         internal_room = left.internal_room;
         external_room = left.external_room;
         leaves = left.leaves;
-        rise = λ tell. (let rise = left.rise (told_bulk (told-parts shown q.sizes items pooled q.body q.supply tell)) in record { internal = rise.internal; external = rise.external });
+        rise = λ tell. (let rise = left.rise (subst AllTell (sym (bare_slots shown q is.supply.kept is.apart.no_job)) (told_bulk (told-parts shown q.sizes items pooled q.body q.supply tell))) in record { internal = rise.internal; external = rise.external });
       }
 
   module _ (limit : R) (all : count_of q.body ≡ q.count) (few : length q.body.runs.external.items ≤ 64) where
@@ -183,7 +147,7 @@ module _ {S R : Type 0} (shown : S → Shown) (cmp : R → R → Ordering) (reco
         sum_by-append f (slots_shown shown items) (slots_of shown q.body q.supply),
         sum_by-append f (body_slots shown q.body) q.supply.kept,
         sum_by-append f arrays (job_slots shown q.body.lanes.jobs.items),
-        ap (λ l. sum_by f (job_slots shown l)) is.left.no_job,
+        ap (λ l. sum_by f (job_slots shown l)) is.apart.no_job,
         ap (sum_by f) is.supply.kept,
       )
 

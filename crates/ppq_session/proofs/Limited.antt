@@ -1,9 +1,7 @@
 -- Limit passes as passes: what lists of them say of their passes, and their limits.
 use Rattle.std.proofs.Common.{◌≡◌, ℕ, zero, suc, ◌<◌, List, [], ◌∷◌, ◌++◌, All, map, length, get_or, refl, sym, ap, ap₂, ◌∙◌, subst, arith}
-use Rattle.std.specs.List.{Any}
 use Rattle.std.proofs.lemmas.List.{length-map}
 use Rattle.std.proofs.lemmas.List.Sums.{sum_by-cons}
-use Rattle.std.proofs.lemmas.List.Elements.{All-nil, All-cons, All-head, All-tail}
 use Rattle.ppq_pass.specs.ppq_outside.Shown.{Shown}
 use Rattle.ppq_pass.specs.Passed.{PassHolding}
 use Rattle.ppq_session.specs.BulkSession.{bag_of, accepted_of}
@@ -13,19 +11,6 @@ use Rattle.ppq_session.proofs.LineParts.{dealt-lines}
 use Rattle.ppq_session.specs.Limited.{LimitHolding}
 use Rattle.ppq_session.specs.LimitSession.{limited_bag, limited_accepted}
 use Rattle.ppq_session.specs.Batches.{passes_of}
-
--- what holds of each result of a map holds of each item
-pub all_of_map : {X Y : Type 0} (P : Y → Type 0) (f : X → Y) (xs : List X) → All P (map f xs) → All (λ x. P (f x)) xs
-all_of_map P f [] a = All-nil (λ x. P (f x))
-all_of_map P f (x ∷ xs) a = All-cons (λ x. P (f x)) x xs (All-head P (f x) (map f xs) a) (all_of_map P f xs (All-tail P (f x) (map f xs) a))
-
--- and of some
-pub any_map : {X Y : Type 0} (P : Y → Type 0) (f : X → Y) (xs : List X) → Any (λ x. P (f x)) xs → Any P (map f xs)
-any_map P f [] (k, x, l, e, h) = absurd (omega arith)
-any_map P f (x ∷ xs) (zero, y, l, e, h) = (zero, f y, omega arith, ap f e, h)
-any_map P f (x ∷ xs) (suc k, y, l, e, h) =
-    let rest = any_map P f xs (k, y, omega arith, e, h) in
-    (suc rest.0, rest.1, omega (arith, rest.2), rest.3, rest.4)
 
 -- an item of a map
 get_or-map : {X Y : Type 0} (f : X → Y) (xs : List X) (i : ℕ) (d : X) (e : Y) → i < length xs → get_or (map f xs) i e ≡ f (get_or xs i d)

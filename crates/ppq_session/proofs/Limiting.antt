@@ -1,34 +1,21 @@
 -- Passes of a session that begin without records.
-use Rattle.std.proofs.Common.{◌≡◌, ◌+◌, List, [], ◌∷◌, ◌++◌, length, map, sum_by, All, refl, sym, ap, ap₂, ◌∙◌, subst, arith}
+use Rattle.std.proofs.Common.{◌≡◌, ◌+◌, List, [], ◌∷◌, ◌++◌, length, sum_by, All, refl, sym, ap, ap₂, ◌∙◌, subst, arith}
 use Rattle.std.proofs.lemmas.List.{length-map}
 use Rattle.std.proofs.lemmas.List.Elements.{All-nil, All-cons, All-head, All-tail}
 use Rattle.std.proofs.lemmas.List.Concat.{flat_map-cons}
 use Rattle.std.proofs.lemmas.List.Sums.{sum_by-cons}
 use Rattle.atomic_table.specs.Seated.{TableId}
 use Rattle.ppq_pass.specs.ppq_budget.Sizes.{Numbers}
-use Rattle.ppq_pass.proofs.ppq_array.Noted.{all_left, all_right}
 use Rattle.ppq_pass.specs.ppq_array.declared.berth.DeviceBlock.{DeviceBlock}
 use Rattle.ppq_pass.specs.Passed.{PassKey, PassHolding, IsOf}
 use Rattle.ppq_queue.proofs.Took.{empty_list}
-use Rattle.ppq_pass.specs.ppq_record.Bag.{IsSameBag}
-use Rattle.ppq_pass.specs.ppq_outside.Shown.{AllTell}
-use Rattle.ppq_queue.specs.Holding.{Holding}
 use Rattle.ppq_pass.specs.declared.shared.Shared.{Shared}
-use Rattle.ppq_session.specs.declared.fault.BeginFault.{BeginFault}
-use Rattle.ppq_session.specs.declared.fault.BeginFault.TheVariants.{Memory, NoFreeBlock, Device}
 use Rattle.ppq_session.specs.Equipped.{HasBegun}
 use Rattle.ppq_session.specs.Opened.{HoldsNoSlot}
-use Rattle.ppq_session.specs.BulkSession.{BulkHolding, AreOf, bag_of, keys_of, pass_key, shared_by, IsBeginRefusal}
+use Rattle.ppq_session.specs.BulkSession.{BulkHolding, AreOf, bag_of, keys_of, pass_key, shared_by}
 use Rattle.ppq_session.specs.Fronts.{FrontHolding}
 use Rattle.ppq_session.specs.Limited.{LimitHolding, HoldsNothing}
 use Rattle.ppq_session.specs.LimitSession.{AreLimited, IsFrontOf, front_key, shared_of}
-
-module _ {X : Type 0} (P : X → Type 0) where
-  pub all_front : (xs : List X) (x : X) → All P (xs ++ x ∷ []) → All P xs
-  all_front xs x all = all_left P xs (x ∷ []) all
-
-  pub all_last : (xs : List X) (x : X) → All P (xs ++ x ∷ []) → P x
-  all_last xs x all = All-head P x [] (all_right P xs (x ∷ []) all)
 
 module _ {S R : Type 0} where
   -- where passes began with no record together, each did
@@ -93,12 +80,3 @@ module _ {S R : Type 0} where
   limited_of front list shared are same =
       subst (λ (s : Shared S R). All (λ (p : LimitHolding S R). IsOf s p.pass) list) (sym same)
       (λ k d h. record { row = ap (λ (key : PassKey S R). key.row) (are.keys k d h); pool = ap (λ (key : PassKey S R). key.pool) (are.keys k d h) })
-
--- a refusal after the heaps were stored is one of the whole call
-pub refused_later :
-    {R : Type 0} (old mid new : Holding R) (fault : BeginFault)
-    → (AllTell old.slots → AllTell mid.slots) → (AllTell old.slots → IsSameBag mid.bag old.bag) → mid.size ≡ old.size → IsBeginRefusal mid new fault → IsBeginRefusal old new fault
-refused_later old mid new Memory tells bag size is = record { bag = λ t p. is.bag (tells t) p ∙ bag t p; sound = is.sound }
-refused_later old mid new NoFreeBlock tells bag size is =
-    record { bag = λ t p. is.bag (tells t) p ∙ bag t p; size = is.size ∙ size; sound = is.sound; free = is.free; room = is.room; above = is.above }
-refused_later old mid new (Device number) tells bag size is = is

@@ -18,7 +18,7 @@ use Rattle.ppq_pass.specs.ppq_row.Hands.{less_one, newcomer, with_none, with_pla
 use Rattle.ppq_pass.specs.ppq_row.Histories.{holder, draws_of}
 use Rattle.ppq_pass.specs.ppq_row.Rule.{counter}
 use Rattle.ppq_pass.specs.ppq_row.Shown.{shown, counted, StepsAreEvents as RowSteps}
-use Rattle.ppq_session.specs.OneHistory.{PoolState, RowState, PoolAndRow, Session, draw_part, IsWith, buffers_of, MeetsRules, ShowsTogether, PoolStep, RowStep, Step, StatesShowOne, PoolPlays, RowPlays, PlaysAreSteps, EachStepShowsOne, AllStepsShowOne}
+use Rattle.ppq_session.specs.OneHistory.{PoolState, RowState, PoolAndRow, Seating, draw_part, IsWith, buffers_of, MeetsRules, ShowsTogether, PoolStep, RowStep, Step, StatesShowOne, PoolPlays, RowPlays, PlaysAreSteps, EachStepShowsOne, AllStepsShowOne}
 
 pass_in : CorePlace → ℕ
 pass_in Free = 0
@@ -112,15 +112,15 @@ module _ {B S R : Type 0} (tells : TellsSlots R) (together : PartsInterleave R) 
   at_part n d k i h l = let both = apart n d k h l in (together n d k (buffer_part h) (slot_part h) h both.0 both.1 record { buffers = refl; slots = refl }).1.buffers i
 
   -- the row's draws, each by the pass of its seat
-  row_draws : (x : Session B S) (s : PoolAndRow B S) → MeetsRules x s
+  row_draws : (x : Seating B S) (s : PoolAndRow B S) → MeetsRules x s
       → IsLegal 0 (length x.slots) x.passes (renumbered {R = R} x.row_pass (shown x.slots s.row)) × EndsRenumbered (length s.row.views) x.row_pass (shown {R = R} x.slots s.row)
   row_draws x s r = renumber 0 (length x.slots) (length s.row.views) x.passes x.row_pass (shown x.slots s.row) (λ p _. x.row_below p) (at_rows.legal x.slots s.row r.1).legal
 
-  drawn_so_far : (x : Session B S) (s : PoolAndRow B S) (h : List (Event R)) → MeetsRules x s → draw_part h ≡ renumbered x.row_pass (shown x.slots s.row) → draws h ≡ min (counter s.row) (length x.slots)
+  drawn_so_far : (x : Seating B S) (s : PoolAndRow B S) (h : List (Event R)) → MeetsRules x s → draw_part h ≡ renumbered x.row_pass (shown x.slots s.row) → draws h ≡ min (counter s.row) (length x.slots)
   drawn_so_far x s h r e = draws_of_draw_part h ∙ ap draws e ∙ (row_draws x s r).1.drawn ∙ (at_rows.legal x.slots s.row r.1).drawn
 
   -- where each buffer and each slot is follows from the two parts
-  whole : (x : Session B S) (s : PoolAndRow B S) (h g : List (Event R)) → MeetsRules x s → IsLegal (buffers_of s.pool) (length x.slots) x.passes h
+  whole : (x : Seating B S) (s : PoolAndRow B S) (h g : List (Event R)) → MeetsRules x s → IsLegal (buffers_of s.pool) (length x.slots) x.passes h
       → ShowsHistory (buffers_of s.pool) s.pool.words s.pool.views g → buffer_part h ≡ buffer_part (renumbered x.pool_pass g) → draw_part h ≡ renumbered x.row_pass (shown x.slots s.row) → ShowsTogether x s h
   whole x s h g r legal gs eg ed = record {
     legal = legal;
@@ -170,7 +170,7 @@ module _ {B S R : Type 0} (tells : TellsSlots R) (together : PartsInterleave R) 
           record { buffers = buffers_behind d k (no_buffers x.row_pass s.row.views m); slots = slots_behind d k (all_slots x.row_pass s.row.views m) }).0
 
   -- the pool came to these words and views, and the whole with it
-  pool_on : (x : Session B S) (s t : PoolAndRow B S) (h k g : List (Event R)) (ws : List ℕ) (vs : List (PoolHand B)) → MeetsRules x s → MeetsRules x t → t.row ≡ s.row → (t.pool.words ≡ ws) × (t.pool.views ≡ vs) → length ws ≡ length s.pool.words
+  pool_on : (x : Seating B S) (s t : PoolAndRow B S) (h k g : List (Event R)) (ws : List ℕ) (vs : List (PoolHand B)) → MeetsRules x s → MeetsRules x t → t.row ≡ s.row → (t.pool.words ≡ ws) × (t.pool.views ≡ vs) → length ws ≡ length s.pool.words
       → ShowsTogether x s h → ShowsHistory (buffers_of s.pool) ws vs g → IsLegal (buffers_of s.pool) (length x.slots) x.passes k → buffer_part k ≡ buffer_part (renumbered x.pool_pass g) → draw_part k ≡ draw_part h → ShowsTogether x t k
   pool_on x s t h k g ws vs r q row b long o gs legal eg ed = whole x t k g q
       (subst (λ (n : ℕ). IsLegal n (length x.slots) x.passes k) (sym same) legal)
@@ -181,7 +181,7 @@ module _ {B S R : Type 0} (tells : TellsSlots R) (together : PartsInterleave R) 
       same : buffers_of t.pool ≡ buffers_of s.pool
       same = ap (λ (n : ℕ). n - 1) (sym q.0.wide ∙ ap length b.0 ∙ long ∙ r.0.wide)
 
-  at_pool_on : (x : Session B S) (s t : PoolAndRow B S) (h k : List (Event R)) → MeetsRules x s → MeetsRules x t → t.row ≡ s.row → ShowsTogether x s h → PoolStep x s.pool t.pool h k → ShowsTogether x t k
+  at_pool_on : (x : Seating B S) (s t : PoolAndRow B S) (h k : List (Event R)) → MeetsRules x s → MeetsRules x t → t.row ≡ s.row → ShowsTogether x s h → PoolStep x s.pool t.pool h k → ShowsTogether x t k
   at_pool_on x s t h k r q row o (PoolStep.takes id i v at word b e) = let near : i < buffers_of s.pool = let a = at.1 in omega arith in let g = o.of_pool in
       subst (ShowsTogether x t) (sym e) (pool_on x s t h (Take (x.pool_pass id) i ∷ h) (Take id i ∷ g.0) _ _ r q row b (length-set s.pool.words (i + 1) 1) o
       (at_pools.claims x.shape_of x.shape s.pool id v i g.0 (r.0, at.0, at.1) word g.1) ((x.pool_below id, near, o.free_buffer i near word), o.legal) (ap (λ l. Take (x.pool_pass id) i ∷ l) g.2) refl)
@@ -196,7 +196,7 @@ module _ {B S R : Type 0} (tells : TellsSlots R) (together : PartsInterleave R) 
       subst (ShowsTogether x t) (sym e) (pool_on x s t h h g.0 _ _ r q row b refl o (at_pools.splits s.pool id v g.0 at g.1) o.legal g.2 refl)
 
   -- the row came to where it shows these draws, and the whole with it
-  row_on : (x : Session B S) (s t : PoolAndRow B S) (h k : List (Event R)) → MeetsRules x t → t.pool ≡ s.pool → ShowsTogether x s h → IsLegal (buffers_of s.pool) (length x.slots) x.passes k → buffer_part k ≡ buffer_part h → draw_part k ≡ renumbered x.row_pass (shown x.slots t.row) → ShowsTogether x t k
+  row_on : (x : Seating B S) (s t : PoolAndRow B S) (h k : List (Event R)) → MeetsRules x t → t.pool ≡ s.pool → ShowsTogether x s h → IsLegal (buffers_of s.pool) (length x.slots) x.passes k → buffer_part k ≡ buffer_part h → draw_part k ≡ renumbered x.row_pass (shown x.slots t.row) → ShowsTogether x t k
   row_on x s t h k q pool o legal eg ed = let g = o.of_pool in whole x t k g.0 q
       (subst (λ (w : PoolState B). IsLegal (buffers_of w) (length x.slots) x.passes k) (sym pool) legal)
       (subst (λ (w : PoolState B). ShowsHistory (buffers_of w) w.words w.views g.0) (sym pool) g.1)
@@ -204,10 +204,10 @@ module _ {B S R : Type 0} (tells : TellsSlots R) (together : PartsInterleave R) 
       ed
 
   -- what a row shows hangs on its words and views alone
-  shown-by : (x : Session B S) (w u : RowState S) → (u.words ≡ w.words) × (u.views ≡ w.views) → shown {R = R} x.slots u ≡ shown x.slots w
+  shown-by : (x : Seating B S) (w u : RowState S) → (u.words ≡ w.words) × (u.views ≡ w.views) → shown {R = R} x.slots u ≡ shown x.slots w
   shown-by x w u e = ap (λ (ws : List ℕ). draws_of {R = R} (min (slice_index ws 0) (length x.slots)) u.views) e.0 ∙ ap (λ (vs : List (RowHand S)). draws_of {R = R} (min (counter w) (length x.slots)) vs) e.1
 
-  at_row_on : (x : Session B S) (s t : PoolAndRow B S) (h k : List (Event R)) → MeetsRules x s → MeetsRules x t → t.pool ≡ s.pool → ShowsTogether x s h → RowStep x s.row t.row h k → ShowsTogether x t k
+  at_row_on : (x : Seating B S) (s t : PoolAndRow B S) (h k : List (Event R)) → MeetsRules x s → MeetsRules x t → t.pool ≡ s.pool → ShowsTogether x s h → RowStep x s.row t.row h k → ShowsTogether x t k
   at_row_on x s t h k r q pool o (RowStep.draws id v at more b e) = let c : ℕ = counter s.row in
       subst (ShowsTogether x t) (sym e) (row_on x s t h (Draw (x.row_pass id) c ∷ h) q pool o
       ((x.row_below id, more, (let here : c ≡ min c (length x.slots) = omega arith in here) ∙ sym (drawn_so_far x s h r o.of_row)), o.legal)
@@ -221,7 +221,7 @@ module _ {B S R : Type 0} (tells : TellsSlots R) (together : PartsInterleave R) 
       (o.of_row ∙ ap (renumbered x.row_pass) (sym (shown-by x record { words = s.row.words; homes = s.row.homes; views = slice_set s.row.views id (less_one v) ++ newcomer v ∷ [] } t.row b ∙ at_rows.splits x.slots s.row id v r.1 at))))
 
   -- who holds a slot may store it
-  may_store : (x : Session B S) (s : PoolAndRow B S) (h : List (Event R)) (p i : ℕ) → MeetsRules x s → ShowsTogether x s h → slot_at i h ≡ Held p → IsLegalNext (buffers_of s.pool) (length x.slots) x.passes (Store p i) h
+  may_store : (x : Seating B S) (s : PoolAndRow B S) (h : List (Event R)) (p i : ℕ) → MeetsRules x s → ShowsTogether x s h → slot_at i h ≡ Held p → IsLegalNext (buffers_of s.pool) (length x.slots) x.passes (Store p i) h
   may_store x s h p i r o held = let f = o.drawn_slot i drawn small in let same : p ≡ x.row_pass f.0 = same_pass (x.row_pass f.0) p (slot_at i h) held f.4 in
       (subst (λ (j : ℕ). j < x.passes) (sym same) (x.row_below f.0), small, held)
     where
@@ -235,7 +235,7 @@ module _ {B S R : Type 0} (tells : TellsSlots R) (together : PartsInterleave R) 
       small = omega (arith, below, drawn_so_far x s h r o.of_row)
 
   -- an event of a pass alone
-  own_on : (x : Session B S) (s t : PoolAndRow B S) (h k : List (Event R)) → MeetsRules x s → t ≡ s → ShowsTogether x s h → IsLegal (buffers_of s.pool) (length x.slots) x.passes k → buffer_part k ≡ buffer_part h → draw_part k ≡ draw_part h → ShowsTogether x t k
+  own_on : (x : Seating B S) (s t : PoolAndRow B S) (h k : List (Event R)) → MeetsRules x s → t ≡ s → ShowsTogether x s h → IsLegal (buffers_of s.pool) (length x.slots) x.passes k → buffer_part k ≡ buffer_part h → draw_part k ≡ draw_part h → ShowsTogether x t k
   own_on x s t h k r same o legal eg ed = subst (λ (u : PoolAndRow B S). ShowsTogether x u k) (sym same) (row_on x s s h k r refl o legal eg (ed ∙ o.of_row))
 
   pub goes_on : EachStepShowsOne B S R
@@ -249,7 +249,7 @@ module _ {B S R : Type 0} (tells : TellsSlots R) (together : PartsInterleave R) 
   go_on x (suc n) s t h k r steps o = go_on x n steps.0 t steps.1 k steps.3 steps.4 (goes_on x s steps.0 h steps.1 r steps.3 steps.2 o)
 
 -- a play is a step of its kind
-module _ {B S R : Type 0} (x : Session B S) where
+module _ {B S R : Type 0} (x : Seating B S) where
   pool_plays : (s t : PoolState B) (h : List (Event R)) → PoolPlays x s t h
   pool_plays s t h = record {
     claims = λ id i m n at b told. dite (ℕ_discrete (slice_index s.words (i + 1)) 0)

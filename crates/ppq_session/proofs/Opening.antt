@@ -1,5 +1,6 @@
 -- What a session has when it begins.
-use Rattle.std.proofs.Common.{◌≡◌, ℕ, ◌*◌, ◌<◌, ◌≤◌, List, [], ◌∷◌, ◌++◌, length, map, sum_by, All, refl, sym, ap, ap₂, ◌∙◌, subst, arith, append-nil}
+use Rattle.std.proofs.Common.{◌≡◌, ℕ, ◌*◌, ◌<◌, ◌≤◌, List, [], ◌∷◌, ◌++◌, length, map, sum_by, All, refl, sym, ap, ap₂, ◌∙◌, subst, arith, append-nil, ◌+◌, ◌-◌, length-append}
+use Rattle.std.proofs.Math.Nat.{add-mul, mul-le-mul_right}
 use Rattle.std.specs.Prelude.{Vec, vec_capacity, count_by}
 use Rattle.std.specs.Global.{Global}
 use Rattle.std.specs.declared.cmp.Ordering.{Ordering}
@@ -16,7 +17,13 @@ use Rattle.ppq_pass.specs.ppq_heap.Heap.{Contents}
 use Rattle.ppq_pass.specs.ppq_heap.Heaps.{items_of}
 use Rattle.ppq_pass.specs.ppq_array.declared.berth.DeviceBlock.{DeviceBlock}
 use Rattle.ppq_pass.specs.ppq_array.Owner.{slots_shown, HasSize, HasBlock}
-use Rattle.ppq_pass.specs.ppq_array.Holdings.{external_slots}
+use Rattle.ppq_pass.specs.ppq_array.Holdings.{internal_buffers, external_slots, external_buffers}
+use Rattle.ppq_pass.specs.ppq_fetch.Fetching.{blocks_in}
+use Rattle.ppq_pass.specs.ppq_fetch.Taking.{NoneAfter}
+use Rattle.ppq_pass.specs.ppq_record.Order.{Ascends}
+use Rattle.ppq_pass.proofs.ppq_spill.Keeping.{slots_long}
+use Rattle.ppq_queue.proofs.Counts.{stored_slots, internal_count, runs_fit, arrays_fit}
+use Rattle.ppq_queue.proofs.Odd.{arrays_full}
 use Rattle.ppq_pass.specs.ppq_spill.Body.{job_slots}
 use Rattle.ppq_pass.specs.ppq_row.declared.hand.Hand.{Hand as RowHand}
 use Rattle.ppq_pass.specs.ppq_pool.declared.hand.Hand.{Hand as PoolHand}
@@ -24,14 +31,15 @@ use Rattle.ppq_pass.specs.ppq_pool.Seats.{count_of as pool_count}
 use Rattle.ppq_pass.specs.Passed.{PassKey, PassHolding}
 use Rattle.ppq_pass.specs.declared.shared.PoolBuf.{PoolBuf}
 use Rattle.ppq_pass.specs.declared.shared.Shared.{Shared}
-use Rattle.ppq_queue.specs.Resting.{AtRest, IsRestingRun, IsRestingArray, slots_of, runs_bag, odd_in}
+use Rattle.ppq_queue.specs.Resting.{AtRest, IsRestingRun, IsRestingArray, slots_of, runs_bag, lane_buffers, odd_in}
 use Rattle.ppq_queue.specs.State.{IsSound}
 use Rattle.ppq_queue.specs.declared.queue_parts.QueueParts.{QueueParts}
 use Rattle.ppq_session.specs.BulkSession.{BulkHolding, AreOf, keys_of, bag_of, pass_key}
-use Rattle.ppq_session.specs.State.{AreLeft, IsBulk, IsBare, bulk_holding, bulk_slots}
-use Rattle.ppq_session.specs.Opened.{IsOpened, HandedOut}
+use Rattle.ppq_session.specs.Apart.{apart_slots, in_runs}
+use Rattle.ppq_session.specs.State.{IsBulk, IsBare, bulk_holding, bulk_slots}
+use Rattle.ppq_session.specs.Opened.{IsOpened, DealtOut}
 use Rattle.ppq_session.specs.Equipped.{Equipped, MayEquip, ArePasses, session_key}
-use Rattle.ppq_session.specs.declared.share.Session.{Session}
+use Rattle.ppq_session.specs.declared.share.FirstSeats.{FirstSeats}
 use Rattle.ppq_session.specs.declared.parts.BulkParts.{BulkParts}
 use Rattle.ppq_session.specs.declared.brought.Brought.{Brought}
 use Rattle.ppq_session.proofs.Equipping.{bag_same, begun_same, first_same}
@@ -41,7 +49,7 @@ sum_map f g [] = refl
 sum_map f g (x ∷ xs) = let e : sum_by f (map g (x ∷ xs)) ≡ sum_by (λ x. f (g x)) (x ∷ xs) = omega (arith, sum_map f g xs, sum_by-cons f (g x) (map g xs), sum_by-cons (λ x. f (g x)) x xs) in e
 
 -- the parts of a bulk: those of the queue, with what is left of lanes and seats
-abbrev pub opened_parts : {S R : Type 0} → QueueParts S R → Session S R → Vec (Contents R) Global → Leaves R → List (Block R) → Vec (Brought S R) Global → BulkParts S R
+abbrev pub opened_parts : {S R : Type 0} → QueueParts S R → FirstSeats S R → Vec (Contents R) Global → Leaves R → List (Block R) → Vec (Brought S R) Global → BulkParts S R
 opened_parts p s heaps tree idle brought =
     record {
       sizes = p.sizes;
@@ -60,9 +68,55 @@ opened_parts p s heaps tree idle brought =
       brought = brought;
     }
 
+-- no record of an empty list is after another
+pub none_first : {R : Type 0} (cmp : R → R → Ordering) (xs ys : List R) → xs ≡ [] → NoneAfter cmp xs ys
+none_first cmp [] ys e = tt
+none_first cmp (x ∷ xs) ys e = absurd (cc)
+
+-- where no slot is free and no job is there, all slots are those of the runs and those in the row
+pub bare_slots : {S R : Type 0} (shown : S → Shown) (q : BulkParts S R) → q.supply.kept ≡ [] → q.body.lanes.jobs.items ≡ [] → apart_slots shown q ≡ bulk_slots shown q
+bare_slots shown q kept no_job =
+    let ext = external_slots shown q.body.runs.external.items in
+    let row = slots_shown shown q.row_seat.hand.items in
+    ap (λ k. (ext ++ job_slots shown q.body.lanes.jobs.items) ++ k ++ row) kept
+    ∙ ap (λ l. l ++ row) (append-nil (ext ++ job_slots shown q.body.lanes.jobs.items) ∙ ap (λ j. ext ++ job_slots shown j) no_job ∙ append-nil ext)
+
+module _ {S R : Type 0} (shown : S → Shown) (width : ℕ) (q : BulkParts S R) (external : All (IsRestingArray shown width q.sizes.block) q.body.runs.external.items) (slots : length (bulk_slots shown q) ≡ q.sizes.blocks) (none : q.extract.items ≡ []) where
+  -- the blocks that are not in the row are those of the runs
+  stored_are : blocks_in q.body.runs.external.items + length q.row_seat.hand.items ≡ q.sizes.blocks
+  stored_are =
+      let arrays = q.body.runs.external.items in
+      omega (arith, slots, length-append (external_slots shown arrays) (slots_shown shown q.row_seat.hand.items), stored_slots shown arrays, slots_long shown q.row_seat.hand.items)
+
+  -- so they are packed with the records of the runs
+  pub packed_runs : odd_in q.sizes.block q.body.runs.external.items ≤ 65 → (q.sizes.blocks - length q.row_seat.hand.items) * q.sizes.block ≤ in_runs q + 0 + 65 * q.sizes.block
+  packed_runs few =
+      let block = q.sizes.block in
+      let arrays = q.body.runs.external.items in
+      let out : q.sizes.blocks - length q.row_seat.hand.items ≡ blocks_in arrays = omega (arith, stored_are) in
+      let odd : odd_in block arrays * block ≤ 65 * block = mul-le-mul_right block few in
+      omega (arith, ap (λ m. m * block) out, arrays_full block shown width arrays external, odd, ap length none)
+
+  -- and all records fit into them and the buffers that are not out
+  pub fit_runs :
+      All (IsRestingRun q.sizes.block) q.body.runs.internal.items
+      → internal_buffers q.body.runs.internal.items + external_buffers q.body.runs.external.items + length q.body.lanes.idle + 2 * q.sizes.workers + pool_count q.pool_seat.pool ≡ lane_buffers q.sizes + pool_of q.sizes
+      → in_runs q + 0 + (length q.row_seat.hand.items + pool_count q.pool_seat.pool + 2 * q.sizes.workers) * q.sizes.block ≤ (q.sizes.blocks + lane_buffers q.sizes + pool_of q.sizes) * q.sizes.block
+  fit_runs internal held =
+      let block = q.sizes.block in
+      let runs = q.body.runs.internal.items in
+      let arrays = q.body.runs.external.items in
+      let out = length q.row_seat.hand.items + pool_count q.pool_seat.pool + 2 * q.sizes.workers in
+      let i = internal_buffers runs in
+      let e = external_buffers arrays in
+      let k = blocks_in arrays in
+      let few : i + e + k + out ≤ q.sizes.blocks + lane_buffers q.sizes + pool_of q.sizes = omega (arith, stored_are, held) in
+      let most : (i + e + k + out) * block ≤ (q.sizes.blocks + lane_buffers q.sizes + pool_of q.sizes) * block = mul-le-mul_right block few in
+      omega (arith, ap length none, most, add-mul (i + e + k) out block, add-mul (i + e) k block, add-mul i e block, runs_fit block runs internal, internal_count runs, arrays_fit shown width block arrays external)
+
 module _ {S R : Type 0} (shown : S → Shown) (cmp : R → R → Ordering) (record_of : List ℕ → R) (width : ℕ) where
   -- there is enough for a pass for each worker
-  pub may_equip : (p : QueueParts S R) (s : Session S R) → IsOpened shown cmp record_of width p s → MayEquip shown width p.sizes p.sizes.workers p.body.lanes.idle s
+  pub may_equip : (p : QueueParts S R) (s : FirstSeats S R) → IsOpened shown cmp record_of width p s → MayEquip shown width p.sizes p.sizes.workers p.body.lanes.idle s
   may_equip p s o =
       let r = (o.whole.sound o.sound).rest in
       let range = o.whole.queue.range in
@@ -82,7 +136,7 @@ module _ {S R : Type 0} (shown : S → Shown) (cmp : R → R → Ordering) (reco
         few_buffers = omega (arith, count, r.pool);
       }
 
-  module _ (p : QueueParts S R) (s s' : Session S R) (idle : List (Block R)) (heaps : Vec (Contents R) Global) (tree : Leaves R) (brought : Vec (Brought S R) Global) (o : IsOpened shown cmp record_of width p s)
+  module _ (p : QueueParts S R) (s s' : FirstSeats S R) (idle : List (Block R)) (heaps : Vec (Contents R) Global) (tree : Leaves R) (brought : Vec (Brought S R) Global) (o : IsOpened shown cmp record_of width p s)
       (e : Equipped p.sizes p.sizes.workers p.body.lanes.idle idle s s') where
     rest : AtRest shown cmp record_of width p.sizes p.body o.before
     rest = (o.whole.sound o.sound).rest
@@ -98,33 +152,24 @@ module _ {S R : Type 0} (shown : S → Shown) (cmp : R → R → Ordering) (reco
     pool_same : s'.pool_seat.pool ≡ s.shared.pool
     pool_same = e.pool ∙ o.first.pool
 
-    left : AreLeft shown cmp record_of width (opened_parts p s' heaps tree idle brought)
-    left =
-        let r = rest in
-        let count : pool_count s'.pool_seat.pool ≡ o.before.sure_buffers = ap pool_count pool_same ∙ o.first.count in
-        record {
-          idle = e.blocks;
-          internal = subst (λ b. All (IsRestingRun b) p.body.runs.internal.items) r.block r.internal;
-          external = subst (λ b. All (IsRestingArray shown width b) p.body.runs.external.items) r.block r.external;
-          no_job = r.no_job;
-          batch = r.batch ∙ ap (λ b. p.sizes.workers * b) r.block;
-          buffers = omega (arith, r.buffers, e.buffers);
-          held = omega (arith, r.held, r.pool, e.buffers, count);
-          bounded = r.bounded;
-          fronts = r.fronts;
-          few = subst (λ b. odd_in b p.body.runs.external.items ≤ 65) r.block r.few;
-          slots = ap length slots_same ∙ o.whole.queue.slots;
-          internal_room = r.internal_room;
-          external_room = r.external_room;
-          leaves = r.leaves;
-          rise = λ t. let up = r.rise (subst AllTell slots_same t) in record { internal = up.internal; external = up.external };
-          row_shares = e.row_shares ∙ o.first.row_shares;
-          undrawn = ap (λ (h : RowHand (DeviceBlock S R)). h.places) e.row_hand ∙ o.first.undrawn;
-          bytes = subst (λ b. All (HasSize shown (b * width)) s'.row_seat.hand.items) r.block (subst (All (HasSize shown (o.before.block * width))) (sym items_same) o.first.bytes);
-          pool_shares = e.pool_shares ∙ o.first.pool_shares;
-          untaken = ap (λ (h : PoolHand (PoolBuf R)). h.numbers) e.pool_hand ∙ o.first.untaken;
-          shape = λ some. ap (λ (h : PoolHand (PoolBuf R)). h.shape) e.pool_hand ∙ o.first.shape (subst (λ t. 0 < pool_count t) pool_same some) ∙ r.block;
-        }
+    count_same : pool_count s'.pool_seat.pool ≡ o.before.sure_buffers
+    count_same = ap pool_count pool_same ∙ o.first.count
+
+    -- the buffers that stay, those of the passes and those of the pool are all
+    held_all : internal_buffers p.body.runs.internal.items + external_buffers p.body.runs.external.items + length idle + 2 * p.sizes.workers + pool_count s'.pool_seat.pool ≡ lane_buffers p.sizes + pool_of p.sizes
+    held_all = omega (arith, rest.held, rest.pool, e.buffers, count_same)
+
+    internal_rest : All (IsRestingRun p.sizes.block) p.body.runs.internal.items
+    internal_rest = subst (λ b. All (IsRestingRun b) p.body.runs.internal.items) rest.block rest.internal
+
+    external_rest : All (IsRestingArray shown width p.sizes.block) p.body.runs.external.items
+    external_rest = subst (λ b. All (IsRestingArray shown width b) p.body.runs.external.items) rest.block rest.external
+
+    few_odd : odd_in p.sizes.block p.body.runs.external.items ≤ 65
+    few_odd = subst (λ b. odd_in b p.body.runs.external.items ≤ 65) rest.block rest.few
+
+    all_slots : length (bulk_slots shown (opened_parts p s' heaps tree idle brought)) ≡ p.sizes.blocks
+    all_slots = ap length slots_same ∙ o.whole.queue.slots
 
     supply_bare : IsBare p.sizes.block p.sizes.blocks (pool_of p.sizes) p.supply
     supply_bare =
@@ -142,27 +187,66 @@ module _ {S R : Type 0} (shown : S → Shown) (cmp : R → R → Ordering) (reco
     is_bulk none room leaves empty many =
         let w = o.whole.queue in
         let so : IsSound shown cmp record_of width p.sizes p.heaps p.extract p.body o.before p.sources p.count p.peak p.limited = o.whole.sound o.sound in
+        let q = opened_parts p s' heaps tree idle brought in
+        let bare = supply_bare in
+        let same = bare_slots shown q bare.kept rest.no_job in
         record {
-          range = w.range;
-          budget = w.budget;
-          no_heap = none;
-          heaps_room = room;
-          heaps_leaves = leaves;
+          apart = record {
+            range = w.range;
+            budget = w.budget;
+            no_heap = none;
+            heaps_room = room;
+            heaps_leaves = leaves;
+            extract_room = w.room;
+            in_extract = omega (arith, ap length o.extract);
+            no_job = rest.no_job;
+            held = omega (arith, held_all, bare.buffer_room, ap length rest.no_job);
+            pool = omega (arith, bare.sure, bare.buffer_room);
+            fits = omega (arith, held_all, rest.buffers, e.buffers, bare.buffer_room);
+            slots = ap length same ∙ all_slots;
+            slot_room = omega (arith, ap length bare.kept, bare.slot_room);
+            block = bare.block;
+            no_row = bare.drawn;
+            row_shares = e.row_shares ∙ o.first.row_shares;
+            undrawn = ap (λ (h : RowHand (DeviceBlock S R)). h.places) e.row_hand ∙ o.first.undrawn;
+            bytes = subst (λ b. All (HasSize shown (b * width)) s'.row_seat.hand.items) rest.block (subst (All (HasSize shown (o.before.block * width))) (sym items_same) o.first.bytes);
+            pool_shares = e.pool_shares ∙ o.first.pool_shares;
+            untaken = ap (λ (h : PoolHand (PoolBuf R)). h.numbers) e.pool_hand ∙ o.first.untaken;
+            shape = λ some. ap (λ (h : PoolHand (PoolBuf R)). h.shape) e.pool_hand ∙ o.first.shape (subst (λ t. 0 < pool_count t) pool_same some) ∙ rest.block;
+            workers = so.workers;
+            serves = so.serves;
+            no_slot = o.whole.no_slot;
+            slots_room = o.whole.slots_room;
+            none_brought = empty;
+            brought_room = many;
+            most = w.most;
+            most_count = w.most_count;
+            fault = λ number e. absurd (cc);
+          };
+          sound = record {
+            idle = e.blocks;
+            internal = internal_rest;
+            external = external_rest;
+            batch = rest.batch ∙ ap (λ b. p.sizes.workers * b) rest.block;
+            buffers = omega (arith, rest.buffers, e.buffers);
+            bounded = rest.bounded;
+            fronts = rest.fronts;
+            few = few_odd;
+            internal_room = rest.internal_room;
+            external_room = rest.external_room;
+            leaves = rest.leaves;
+            rise = λ t. let up = rest.rise (subst AllTell (same ∙ slots_same) t) in record { internal = up.internal; external = up.external };
+            counted = omega (arith, so.counted, ap length o.extract);
+            above = λ some. so.above (omega (arith, so.counted, some, ap length o.extract));
+            ascends = λ tell. subst (Ascends cmp) (sym o.extract) tt;
+            order = λ tell. none_first cmp p.extract.items (runs_bag shown record_of width p.body) o.extract;
+            packed = packed_runs shown width q external_rest all_slots o.extract few_odd;
+            fit = fit_runs shown width q external_rest all_slots o.extract internal_rest held_all;
+          };
           no_extract = o.extract;
-          extract_room = w.room;
-          left = left;
-          supply = supply_bare;
+          supply = bare;
           counted = omega (arith, so.counted);
           least = w.counted;
-          most = w.most;
-          most_count = w.most_count;
-          above = λ some. so.above (omega (arith, so.counted, some));
-          workers = so.workers;
-          serves = so.serves;
-          no_slot = o.whole.no_slot;
-          slots_room = o.whole.slots_room;
-          none_brought = empty;
-          brought_room = many;
         }
 
     abbrev held : BulkHolding S R
@@ -184,11 +268,11 @@ module _ {S R : Type 0} (shown : S → Shown) (cmp : R → R → Ordering) (reco
           begun = omega (arith, sum_map (λ (k : PassKey S R). k.begun) (λ (x : PassHolding S R). x.key) passes, begun_same passes a.whole, ap length (bag_same passes p.heaps.heaps a.bags), so.counted, ap length o.extract);
         }
 
-    pub handed_out : (passes : List (PassHolding S R)) (bulk : BulkHolding S R) → bulk ≡ held → ArePasses p.sizes p.heaps.heaps s passes → HandedOut shown record_of width p s bulk s'.shared passes
+    pub handed_out : (passes : List (PassHolding S R)) (bulk : BulkHolding S R) → bulk ≡ held → ArePasses p.sizes p.heaps.heaps s passes → DealtOut shown record_of width p s bulk s'.shared passes
     handed_out passes bulk is a =
         let runs = runs_bag shown record_of width p.body in
         let share : TableId → TableId → Shared S R = λ row pool. record { row = row; pool = pool } in
-        subst (λ b. HandedOut shown record_of width p s b s'.shared passes) (sym is) (record {
+        subst (λ b. DealtOut shown record_of width p s b s'.shared passes) (sym is) (record {
           of = are_of passes a;
           shared_is = e.shared ∙ ap₂ share (sym o.first.row ∙ sym e.row) (sym o.first.pool ∙ sym e.pool);
           fresh = a.fresh;
@@ -197,7 +281,7 @@ module _ {S R : Type 0} (shown : S → Shown) (cmp : R → R → Ordering) (reco
           begun = (let so = o.whole.sound o.sound in omega (arith, so.counted, ap length o.extract));
           first = first_same passes p.heaps.heaps a.whole a.bags;
           runs = refl;
-          buffers = left.held;
+          buffers = held_all;
           bag = IsSameBag-trans (runs ++ bag_of passes) (bag_of passes ++ runs) (items_of p.heaps ++ runs) (IsSameBag-append_comm runs (bag_of passes)) (IsSameBag-append (bag_of passes) (items_of p.heaps) runs runs (λ t. ap (count_by t) (bag_same passes p.heaps.heaps a.bags)) (λ t. refl));
           slots = ap (λ l. external_slots shown p.body.runs.external.items ++ slots_shown shown l) items_same;
           items = items_same;

@@ -1,16 +1,16 @@
 -- What a front shows after its extract buffer was refilled.
-use Rattle.std.proofs.Common.{◌≡◌, ℕ, ◌+◌, ◌≤◌, List, [], ◌++◌, length, Option, Some, None, sym, ap, ◌∙◌, subst, arith}
+use Rattle.std.proofs.Common.{◌≡◌, ℕ, ◌+◌, List, [], ◌++◌, length, Option, Some, sym, ap, ◌∙◌, subst, arith}
 use Rattle.std.specs.declared.cmp.Ordering.{Ordering}
 use Rattle.ppq_pass.specs.ppq_outside.Shown.{Shown, AllTell}
-use Rattle.ppq_pass.specs.ppq_array.Kept.{SameSlots, HasFailed, all_writes}
+use Rattle.ppq_pass.specs.ppq_array.Kept.{SameSlots}
 use Rattle.ppq_pass.specs.ppq_fetch.Taking.{NoneBelow}
 use Rattle.ppq_pass.specs.ppq_spill.Body.{held_by}
 use Rattle.ppq_queue.specs.Resting.{BodyKept, runs_bag}
 use Rattle.ppq_queue.proofs.Took.{empty_list}
 use Rattle.ppq_session.specs.declared.parts.BulkParts.{BulkParts}
 use Rattle.ppq_session.specs.Fronts.{FrontHolding}
-use Rattle.ppq_session.specs.FrontState.{front_slots, front_bag, front_holding, IsTallied}
-use Rattle.ppq_session.proofs.Moved.{refilled, slots-refilled, tells-refilled, told-refilled, writes-refilled, tallied-refilled}
+use Rattle.ppq_session.specs.FrontState.{front_slots, front_bag, front_holding}
+use Rattle.ppq_session.proofs.Moved.{refilled, slots-refilled, tells-refilled, told-refilled}
 
 module _ {S R : Type 0} (shown : S → Shown) (record_of : List ℕ → R) (width : ℕ) (q q' : BulkParts S R) (rest : q' ≡ record q { extract = q'.extract; body = q'.body; supply = q'.supply; sources = q'.sources }) (kept : BodyKept shown q.body q'.body q.supply q'.supply) where
   pub slots-ready : SameSlots (front_slots shown q) (front_slots shown q')
@@ -29,14 +29,6 @@ module _ {S R : Type 0} (shown : S → Shown) (record_of : List ℕ → R) (widt
   is-ready cmp limit none empty tell =
       let gone = empty_list q'.extract.items empty in
       subst (λ l. NoneBelow cmp (Some limit) (l ++ runs_bag shown record_of width q'.body)) (sym gone) (none gone (told-ready tell))
-
-  pub writes-ready : all_writes (front_slots shown q) ≤ all_writes (front_slots shown q')
-  writes-ready = subst (λ p. all_writes (front_slots shown q) ≤ all_writes (front_slots shown p)) (sym rest) (writes-refilled shown width q q'.extract q'.body q'.supply q'.sources kept)
-
-  pub tallied-ready : (popped : ℕ) (failed failed' : Option ℕ) → IsTallied shown q popped failed → ((number : ℕ) → failed' ≡ Some number → HasFailed number (front_slots shown q')) → IsTallied shown q' popped failed'
-  tallied-ready popped failed failed' is fault =
-      subst (λ p. IsTallied shown p popped failed') (sym rest)
-      (tallied-refilled shown width q q'.extract q'.body q'.supply q'.sources popped failed failed' is (λ number e. subst (λ p. HasFailed number (front_slots shown p)) rest (fault number e)))
 
   -- only the records' order, the slots and the extract buffer changed
   pub shows-ready :

@@ -1,5 +1,5 @@
 -- A front whose extract buffer is refilled: its runs rest, with all that is out, and nothing below the limit is passed over.
-use Rattle.std.proofs.Common.{◌≡◌, ℕ, ◌+◌, ◌-◌, ◌*◌, ◌<◌, ◌≤◌, Bool, true, false, cond, List, [], ◌∷◌, ◌++◌, length, min, take, drop, Some, All, sym, ap, ◌∙◌, subst, arith, length-append, length-take}
+use Rattle.std.proofs.Common.{◌≡◌, ℕ, ◌+◌, ◌-◌, ◌*◌, ◌<◌, ◌≤◌, Bool, true, false, cond, List, [], ◌∷◌, ◌++◌, length, min, Some, All, sym, ap, ◌∙◌, subst, arith, length-append, length-take}
 use Rattle.std.specs.Prelude.{count_by}
 use Rattle.std.specs.declared.cmp.Ordering.{Ordering}
 use Rattle.std.specs.Cmp.{IsTotalOrder}
@@ -12,7 +12,6 @@ use Rattle.ppq_pass.proofs.ppq_record.Fronts.{ranks}
 use Rattle.ppq_pass.specs.ppq_outside.Shown.{Shown, Tells, AllTell}
 use Rattle.ppq_pass.specs.ppq_budget.Sizes.{Numbers, AreInRange, pool_of}
 use Rattle.ppq_pass.specs.ppq_pool.Seats.{count_of as pool_count}
-use Rattle.ppq_pass.specs.ppq_block.Block.{Block}
 use Rattle.ppq_pass.specs.ppq_array.declared.berth.DeviceBlock.{DeviceBlock}
 use Rattle.ppq_pass.specs.ppq_array.Run.{Run, items_of}
 use Rattle.ppq_pass.specs.ppq_array.External.{External, records_in, IsPacked}

@@ -1,5 +1,5 @@
 -- What a refused push says of the device: all its blocks were drawn, and so they are fewer than are enough for the peak.
-use Rattle.std.proofs.Common.{◌-◌, map, sum_by, Option, ◌≡◌, ℕ, ◌+◌, ◌*◌, ◌<◌, ◌≤◌, true, List, [], ◌∷◌, ◌++◌, length, All, None, refl, ap, ◌∙◌, subst, arith, length-append}
+use Rattle.std.proofs.Common.{◌-◌, sum_by, Option, ◌≡◌, ℕ, ◌+◌, ◌*◌, ◌<◌, ◌≤◌, true, List, [], ◌∷◌, ◌++◌, length, All, None, refl, ap, ◌∙◌, subst, arith, length-append}
 use Rattle.std.specs.declared.cmp.Ordering.{Ordering}
 use Rattle.std.proofs.lemmas.Nat.{mul-le}
 use Rattle.std.proofs.Math.Nat.{add-mul, mul_comm, lt_of_mul-lt-mul_right, zero-mul}
@@ -26,6 +26,7 @@ use Rattle.ppq_session.specs.Gathering.{slots_in, begun_in, accepted_in}
 use Rattle.ppq_session.specs.declared.brought.Brought.{Brought}
 use Rattle.ppq_session.specs.declared.closed.Closed.{Closed}
 use Rattle.ppq_session.proofs.Gathered.{resting-array, even-array}
+use Rattle.ppq_session.proofs.Mapped.{sum-mapped}
 use Rattle.ppq_session.specs.Bringing.{BroughtAll}
 use Rattle.ppq_session.specs.Closing.{IsClosed}
 
@@ -102,12 +103,8 @@ module _ {S R : Type 0} (shown : S → Shown) (cmp : R → R → Ordering) (reco
   abbrev size : ℕ
   size = q.count + popped + accepted_in shown rest
 
-  begun_are : (xs : List (Brought S R)) → begun_in shown xs ≡ sum_by (λ (p : PassHolding S R). p.key.begun) (map (pass_of shown record_of width q.sizes) xs)
-  begun_are [] = refl
-  begun_are (x ∷ xs) = omega (arith, begun_are xs, sum_by-cons (λ (one : Brought S R). one.begun) x xs, sum_by-cons (λ (p : PassHolding S R). p.key.begun) (pass_of shown record_of width q.sizes x) (map (pass_of shown record_of width q.sizes) xs))
-
   pub counted : q.count ≡ begun_in shown rest + in_runs q
-  counted = omega (arith, so.counted, begun_are rest, ap (sum_by (λ (p : PassHolding S R). p.key.begun)) br.passes_are)
+  counted = omega (arith, so.counted, sum-mapped (pass_of shown record_of width q.sizes) (λ (p : PassHolding S R). p.key.begun) rest, ap (sum_by (λ (p : PassHolding S R). p.key.begun)) br.passes_are)
 
   -- where the row is drawn to its end, each slot of it is with a pass
   all_drawn : cl.left ≡ [] → length (slots_in shown rest) ≡ length q.row_seat.hand.items

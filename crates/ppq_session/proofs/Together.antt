@@ -1,12 +1,10 @@
 -- All passes of a session were put into the parts of its queue: what the queue has then.
-use Rattle.std.proofs.Common.{◌≡◌, ℕ, ◌*◌, ◌+◌, ◌<◌, ◌≤◌, Bool, true, List, [], ◌∷◌, ◌++◌, length, map, max, min, reverse, sum_by, All, None, refl, sym, ap, ◌∙◌, subst, arith, append-nil}
+use Rattle.std.proofs.Common.{◌≡◌, ℕ, ◌*◌, ◌+◌, ◌<◌, ◌≤◌, true, List, [], ◌++◌, length, max, min, reverse, sum_by, All, None, refl, sym, ap, ◌∙◌, subst, arith, append-nil}
 use Rattle.std.specs.Prelude.{vec_capacity, flat_map, count_by, Option, Some, Result, Ok, Err}
 use Rattle.std.specs.List.{Any}
 use Rattle.std.specs.declared.cmp.Ordering.{Ordering}
 use Rattle.std.proofs.lemmas.List.{length-map, length-reverse}
-use Rattle.std.proofs.lemmas.List.Sums.{sum_by-cons}
 use Rattle.std.proofs.lemmas.List.Elements.{All-map}
-use Rattle.std.proofs.lemmas.List.Concat.{flat_map-cons}
 use Rattle.std.proofs.lemmas.List.Folds.{flat_map-map}
 use Rattle.std.proofs.lemmas.List.Sorted.{All-permutation, IsPermutation-reverse, IsPermutation-sym, sum_by-IsPermutation}
 use Rattle.ppq_pass.specs.ppq_record.Bag.{IsSameBag}
@@ -36,6 +34,7 @@ use Rattle.ppq_session.specs.declared.brought.Brought.{Brought}
 use Rattle.ppq_session.specs.declared.closed.Closed.{Closed}
 use Rattle.ppq_session.specs.Bringing.{BroughtAll, IsShareOf}
 use Rattle.ppq_session.specs.Closing.{IsClosed}
+use Rattle.ppq_session.proofs.Gathered.{count-flat}
 use Rattle.ppq_session.proofs.Mapped.{sum-mapped}
 use Rattle.ppq_session.proofs.FirstGathered.{gathered-first, closed, closed_is, same_now, writes_now, told_now}
 use Rattle.ppq_session.proofs.ShortOfBlocks.{short}
@@ -55,12 +54,8 @@ module _ {X : Type 0} where
   sum-turned f xs = sum_by-IsPermutation f xs (reverse xs) (IsPermutation-reverse xs)
 
 module _ {X R : Type 0} (f : X → List R) where
-  count-flat : (p : R → Bool) (xs : List X) → count_by p (flat_map f xs) ≡ sum_by (λ x. count_by p (f x)) xs
-  count-flat p [] = refl
-  count-flat p (x ∷ xs) = omega (arith, ap (count_by p) (flat_map-cons f x xs), count_by-append p (f x) (flat_map f xs), count-flat p xs, sum_by-cons (λ y. count_by p (f y)) x xs)
-
   flat-turned : (xs : List X) → IsSameBag (flat_map f (reverse xs)) (flat_map f xs)
-  flat-turned xs p = count-flat p (reverse xs) ∙ sum-turned (λ x. count_by p (f x)) xs ∙ sym (count-flat p xs)
+  flat-turned xs p = count-flat f p (reverse xs) ∙ sum-turned (λ x. count_by p (f x)) xs ∙ sym (count-flat f p xs)
 
 -- what a queue shows that was made of the parts into which all passes were put
 pub record IsMade {S R : Type 0} (shown : S → Shown) (cmp : R → R → Ordering) (record_of : List ℕ → R) (width : ℕ) (popped : ℕ) (d : Closed S R) (queue : Holding R) : Type 0 where

@@ -126,7 +126,7 @@ module _ {S R : Type 0} where
     EndsApart record_of width q popped failed passes queue (Stopped (Device number)) = HasStopped number queue
 
     -- All of it, of a queue and of a session
-    pub record HasEnded (record_of : List ℕ → R) (width : ℕ) (q : BulkParts S R) (popped : ℕ) (failed : Option ℕ) (passes : List (PassHolding S R)) (queue : Holding R) (end : SessionEnd) : Type 0 where
+    pub record SessionEnded (record_of : List ℕ → R) (width : ℕ) (q : BulkParts S R) (popped : ℕ) (failed : Option ℕ) (passes : List (PassHolding S R)) (queue : Holding R) (end : SessionEnd) : Type 0 where
       pub end_is : EndsApart record_of width q popped failed passes queue end
       pub settled : end ≡ Whole → queue.runs ≤ 64
       pub slots : SameSlots (apart_slots q) queue.slots

@@ -8,7 +8,7 @@ use Rattle.ppq_pass.specs.ppq_array.Owner.{HasBlock, HasSize}
 use Rattle.ppq_pass.specs.ppq_pool.Seats.{count_of}
 use Rattle.ppq_pass.specs.Passed.{PassHolding, PassKey}
 use Rattle.ppq_session.specs.BulkSession.{IsFresh}
-use Rattle.ppq_session.specs.declared.share.Session.{Session}
+use Rattle.ppq_session.specs.declared.share.FirstSeats.{FirstSeats}
 
 -- the records of each heap
 abbrev pub bags_in : {R : Type 0} → List (Contents R) → List (List R)
@@ -16,7 +16,7 @@ bags_in heaps = map (λ heap. heap.items) heaps
 
 module _ {S R : Type 0} where
   -- the key of a pass of a session that begins with so many records
-  abbrev pub session_key : Numbers → Session S R → ℕ → PassKey S R
+  abbrev pub session_key : Numbers → FirstSeats S R → ℕ → PassKey S R
   session_key sizes s begun =
       record {
         row = s.row_seat.row;
@@ -29,7 +29,7 @@ module _ {S R : Type 0} where
       }
 
   -- there are enough idle buffers and shares for so many passes, and all that they share is of one size
-  pub record MayEquip (shown : S → Shown) (width : ℕ) (sizes : Numbers) (n : ℕ) (idle : List (Block R)) (s : Session S R) : Type 0 where
+  pub record MayEquip (shown : S → Shown) (width : ℕ) (sizes : Numbers) (n : ℕ) (idle : List (Block R)) (s : FirstSeats S R) : Type 0 where
     pub buffers : 2 * n ≤ length idle
     pub blocks : All (HasBlock sizes.block) idle
     pub row : s.row_seat.row ≡ s.shared.row
@@ -44,7 +44,7 @@ module _ {S R : Type 0} where
     pub few_buffers : count_of s.pool_seat.pool ≤ pool_of sizes
 
   -- so many passes got two buffers each, and a share of each seat, which knows what it knew
-  pub record Equipped (sizes : Numbers) (n : ℕ) (idle idle' : List (Block R)) (s s' : Session S R) : Type 0 where
+  pub record Equipped (sizes : Numbers) (n : ℕ) (idle idle' : List (Block R)) (s s' : FirstSeats S R) : Type 0 where
     pub buffers : length idle' + 2 * n ≡ length idle
     pub blocks : All (HasBlock sizes.block) idle'
     pub shared : s'.shared ≡ s.shared
@@ -56,7 +56,7 @@ module _ {S R : Type 0} where
     pub pool_shares : s'.pool_seat.hand.shares + n ≡ s.pool_seat.hand.shares
 
   -- a pass of the session with these records
-  pub record IsNewPass (sizes : Numbers) (items : List R) (s : Session S R) (pass : PassHolding S R) : Type 0 where
+  pub record IsNewPass (sizes : Numbers) (items : List R) (s : FirstSeats S R) (pass : PassHolding S R) : Type 0 where
     pub key : pass.key ≡ session_key sizes s (length items)
     pub bag : pass.bag ≡ items
     pub slots : pass.slots ≡ []
@@ -76,7 +76,7 @@ module _ {S R : Type 0} where
   first_begun (pass ∷ passes) = pass.key.begun
 
   -- a pass for each heap, in their order, with its records
-  pub record ArePasses (sizes : Numbers) (heaps : List (Contents R)) (s : Session S R) (passes : List (PassHolding S R)) : Type 0 where
+  pub record ArePasses (sizes : Numbers) (heaps : List (Contents R)) (s : FirstSeats S R) (passes : List (PassHolding S R)) : Type 0 where
     pub count : length passes ≡ length heaps
     pub keys : All (λ (p : PassHolding S R). p.key ≡ session_key sizes s p.key.begun) passes
     pub bags : bags_of passes ≡ bags_in heaps

@@ -1,5 +1,5 @@
 -- What contracts see of a limit session.
-use Rattle.std.specs.Prelude.{◌≡◌, ℕ, ◌+◌, ◌<◌, ◌≤◌, true, Any, List, ◌++◌, length, map, max, sum_by, flat_map, None, All}
+use Rattle.std.specs.Prelude.{◌≡◌, ℕ, ◌+◌, ◌<◌, ◌≤◌, true, Any, List, ◌++◌, length, max, sum_by, flat_map, None, All}
 use Rattle.ppq_pass.specs.ppq_record.Bag.{IsSameBag}
 use Rattle.ppq_pass.specs.ppq_outside.Shown.{Shown, AllTell}
 use Rattle.ppq_pass.specs.ppq_budget.Sizes.{heap_of, room_of}

@@ -2,20 +2,21 @@
 use Rattle.std.specs.Prelude.{◌≡◌, ℕ, [], List, ◌++◌, length, None, All}
 use Rattle.std.specs.declared.cmp.Ordering.{Ordering}
 use Rattle.ppq_pass.specs.ppq_record.Bag.{IsSameBag}
-use Rattle.ppq_pass.specs.ppq_outside.Shown.{Shown}
+use Rattle.ppq_pass.specs.ppq_outside.Shown.{Shown, AllTell}
 use Rattle.ppq_pass.specs.ppq_heap.Heaps.{items_of, share_at}
 use Rattle.ppq_pass.specs.ppq_array.Supply.{Stock}
 use Rattle.ppq_pass.specs.ppq_array.Owner.{slots_shown}
 use Rattle.ppq_pass.specs.ppq_array.Holdings.{external_slots}
 use Rattle.ppq_pass.specs.Passed.{PassHolding}
 use Rattle.ppq_pass.specs.declared.shared.Shared.{Shared}
+use Rattle.ppq_queue.specs.Holding.{Holding}
 use Rattle.ppq_queue.specs.Resting.{runs_bag}
 use Rattle.ppq_queue.specs.Handed.{IsWhole}
 use Rattle.ppq_queue.specs.declared.queue_parts.QueueParts.{QueueParts}
 use Rattle.ppq_session.specs.BulkSession.{BulkHolding, HasBuffers, AreOf, IsFresh, keys_of, bag_of, shared_by}
 use Rattle.ppq_session.specs.Equipped.{HasBegun, first_begun}
 use Rattle.ppq_session.specs.Shares.{bare, IsFirst}
-use Rattle.ppq_session.specs.declared.share.Session.{Session}
+use Rattle.ppq_session.specs.declared.share.FirstSeats.{FirstSeats}
 
 module _ {S R : Type 0} where
   -- the pass has drawn no slot
@@ -24,7 +25,7 @@ module _ {S R : Type 0} where
 
   module _ (shown : S → Shown) where
     -- with the free slots and the idle buffers that the session shares, the parts make a sound queue with an empty extract buffer
-    pub record IsOpened (cmp : R → R → Ordering) (record_of : List ℕ → R) (width : ℕ) (q : QueueParts S R) (s : Session S R) : Type 0 where
+    pub record IsOpened (cmp : R → R → Ordering) (record_of : List ℕ → R) (width : ℕ) (q : QueueParts S R) (s : FirstSeats S R) : Type 0 where
       pub before : Stock
       pub out : q.supply ≡ bare before
       pub first : IsFirst shown width before s
@@ -33,7 +34,7 @@ module _ {S R : Type 0} where
       pub extract : q.extract.items ≡ []
 
     -- the passes have the records of the heaps, and what stays has those of the runs
-    pub record HandedOut (record_of : List ℕ → R) (width : ℕ) (q : QueueParts S R) (s : Session S R) (bulk : BulkHolding S R) (shared : Shared S R) (passes : List (PassHolding S R)) : Type 0 where
+    pub record DealtOut (record_of : List ℕ → R) (width : ℕ) (q : QueueParts S R) (s : FirstSeats S R) (bulk : BulkHolding S R) (shared : Shared S R) (passes : List (PassHolding S R)) : Type 0 where
       pub of : AreOf bulk (keys_of passes)
       pub shared_is : shared ≡ shared_by bulk
       pub fresh : All IsFresh passes
@@ -47,6 +48,25 @@ module _ {S R : Type 0} where
       pub items : bulk.items ≡ s.row_seat.hand.items
       pub buffers : HasBuffers bulk.sizes bulk.buffers bulk.pool
       pub size : bulk.size ≡ q.count
+      pub peak : bulk.peak ≡ q.peak
+      pub limited : bulk.limited ≡ q.limited
+      pub sizes : bulk.sizes ≡ q.sizes
+
+    -- A queue whose extract buffer is empty was handed out: the passes have the records of its heaps, in their order, and the bulk has the rest
+    pub record HandedOut (q : Holding R) (bulk : BulkHolding S R) (shared : Shared S R) (passes : List (PassHolding S R)) : Type 0 where
+      pub of : AreOf bulk (keys_of passes)
+      pub shared_is : shared ≡ shared_by bulk
+      pub fresh : All IsFresh passes
+      pub no_slots : All HoldsNoSlot passes
+      pub whole : All HasBegun passes
+      pub begun : bulk.begun ≡ q.in_heap
+      pub first : first_begun passes ≡ q.in_first
+      pub runs : bulk.runs ≡ q.runs
+      pub buffers : HasBuffers bulk.sizes bulk.buffers bulk.pool
+      pub bag : IsSameBag (bulk.bag ++ bag_of passes) q.bag
+      pub slots : bulk.slots ≡ q.slots
+      pub items : AllTell q.slots → AllTell (slots_shown shown bulk.items)
+      pub size : bulk.size ≡ q.size
       pub peak : bulk.peak ≡ q.peak
       pub limited : bulk.limited ≡ q.limited
       pub sizes : bulk.sizes ≡ q.sizes

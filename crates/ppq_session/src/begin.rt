@@ -6,18 +6,19 @@ ghost use Rattle.ppq_pass.specs.ppq_array.Kept.{SameSlots, all_writes};
 ghost use Rattle.ppq_pass.specs.Passed.{PassTells, IsOf};
 ghost use Rattle.ppq_session.specs.BulkSession.{AreOf, HasBuffers, IsFresh, IsBeginRefusal, keys_of, bag_of, shared_by};
 ghost use Rattle.ppq_session.specs.declared.fault.BeginFault.TheVariants.{Memory, Device};
-ghost use Rattle.ppq_session.specs.Equipped.{HasBegun, first_begun};
-ghost use Rattle.ppq_session.specs.Opened.{IsOpened, HandedOut, HoldsNoSlot};
+ghost use Rattle.ppq_session.specs.Equipped.{HasBegun};
+ghost use Rattle.ppq_session.specs.Opened.{IsOpened, DealtOut, HandedOut, HoldsNoSlot};
 ghost use Rattle.ppq_session.specs.Outfits.{IsOutfit};
 ghost use Rattle.ppq_pass.specs.ppq_pool.Seats.{count_of};
 ghost use Rattle.ppq_pass.specs.ppq_budget.Sizes.{pool_of};
-ghost use Rattle.ppq_pass.specs.ppq_array.Owner.{slots_shown};
 
+use crate::brought::Brought;
 use crate::equip::equip;
 use crate::outfit::Outfit;
-use crate::share::{Session, share};
+use crate::parts::BulkParts;
+use crate::share::{FirstSeats, share};
 use crate::stores::{Stores, make_stores};
-use crate::{BeginFault, Brought, Bulk, BulkParts, Pass, Shared};
+use crate::{BeginFault, Bulk, Pass, Shared};
 use ppq_pass::{Gate, Host, QueueFault, Record, Slot};
 use ppq_queue::{Queue, QueueParts};
 use std::alloc::Global;
@@ -85,22 +86,7 @@ pub fn hand_out<S: Slot + Send + Sync, R: Record + Send + Sync>(
 ) -> Result<(Bulk<S, R>, Shared<S, R>, Vec<Pass<S, R>>), (Queue<S, R>, BeginFault)>
     requires sound { q.failed ≡ None }
     requires emptied { q.in_extract ≡ 0 }
-    ensures of { IfOk result (λ r. AreOf r.0 (keys_of r.2.items)) }
-    ensures shared { IfOk result (λ r. r.1 ≡ shared_by r.0) }
-    ensures fresh { IfOk result (λ r. All IsFresh r.2.items) }
-    ensures no_slots { IfOk result (λ r. All HoldsNoSlot r.2.items) }
-    ensures whole { IfOk result (λ r. All HasBegun r.2.items) }
-    ensures begun { IfOk result (λ r. r.0.begun ≡ q.in_heap) }
-    ensures first { IfOk result (λ r. first_begun r.2.items ≡ q.in_first) }
-    ensures runs { IfOk result (λ r. r.0.runs ≡ q.runs) }
-    ensures buffers { IfOk result (λ r. HasBuffers r.0.sizes r.0.buffers r.0.pool) }
-    ensures bag { IfOk result (λ r. IsSameBag (r.0.bag ++ bag_of r.2.items) q.bag) }
-    ensures slots { IfOk result (λ r. r.0.slots ≡ q.slots) }
-    ensures items { IfOk result (λ r. AllTell q.slots → AllTell (slots_shown S.shown r.0.items)) }
-    ensures size { IfOk result (λ r. r.0.size ≡ q.size) }
-    ensures peak { IfOk result (λ r. r.0.peak ≡ q.peak) }
-    ensures limited { IfOk result (λ r. r.0.limited ≡ q.limited) }
-    ensures sizes { IfOk result (λ r. r.0.sizes ≡ q.sizes) }
+    ensures handed { IfOk result (λ r. HandedOut S.shown q r.0 r.1 r.2.items) }
     ensures back { IfErr result (λ e. e ≡ (q, Memory)) }
 {
     let mut parts = q.into_parts();
@@ -126,7 +112,7 @@ pub fn hand_out<S: Slot + Send + Sync, R: Record + Send + Sync>(
 // out.
 fn deal_out<S: Slot + Send + Sync, R: Record + Send + Sync>(
     parts: QueueParts<S, R>,
-    session: Session<S, R>,
+    session: FirstSeats<S, R>,
     outfits: Vec<Outfit<S, R>>,
     passes: Vec<Pass<S, R>>,
     brought: Vec<Brought<S, R>>,
@@ -138,7 +124,7 @@ fn deal_out<S: Slot + Send + Sync, R: Record + Send + Sync>(
     requires passes_room { parts.sizes.workers ≤ vec_capacity passes }
     requires none_brought { brought.items ≡ [] }
     requires brought_room { parts.sizes.workers ≤ vec_capacity brought }
-    ensures { HandedOut S.shown R.record_of R.WIDTH parts session result.0 result.1 result.2.items }
+    ensures { DealtOut S.shown R.record_of R.WIDTH parts session result.0 result.1 result.2.items }
 {
     let QueueParts {
         sizes,
@@ -167,7 +153,7 @@ fn deal_out<S: Slot + Send + Sync, R: Record + Send + Sync>(
         &mut session,
         &mut passes,
     );
-    let Session {
+    let FirstSeats {
         shared,
         row_seat,
         pool_seat,

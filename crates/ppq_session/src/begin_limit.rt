@@ -9,7 +9,8 @@ ghost use Rattle.ppq_session.specs.declared.fault.BeginFault.TheVariants.{Device
 ghost use Rattle.ppq_session.specs.Limited.{HoldsNothing};
 ghost use Rattle.ppq_session.specs.LimitSession.{AreLimited, IsNew, shared_of, IsFrontOf};
 
-use crate::{BeginFault, Bulk, Front, LimitPass, hand_out};
+use crate::begin::hand_out;
+use crate::{BeginFault, Bulk, Front, LimitPass};
 use ppq_pass::{Gate, Host, Pass, QueueFault, Record, Shared, Slot};
 use ppq_queue::Queue;
 use std::alloc::Global;

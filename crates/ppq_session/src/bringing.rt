@@ -2,7 +2,8 @@
 ghost use Rattle.std.specs.Prelude.{◌≡◌, ◌≤◌, ◌<◌, ◌+◌, [], ◌∷◌, length, reverse, All, vec_len, vec_capacity};
 ghost use Rattle.ppq_session.specs.Bringing.{BroughtAll, IsShareOf};
 
-use crate::{Brought, BulkParts};
+use crate::brought::Brought;
+use crate::parts::BulkParts;
 use ppq_pass::{Pass, PassHeld, PassParts, Record, Shared, Slot};
 use std::snapshot::Snapshot;
 

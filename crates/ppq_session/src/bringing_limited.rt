@@ -3,7 +3,9 @@ ghost use Rattle.std.specs.Prelude.{◌≡◌, ◌≤◌, ◌+◌, length, map, 
 ghost use Rattle.ppq_session.specs.Limited.{IsLimited};
 ghost use Rattle.ppq_session.specs.Bringing.{BroughtAll, IsShareOf};
 
-use crate::{BulkParts, LimitPass, bring};
+use crate::LimitPass;
+use crate::bringing::bring;
+use crate::parts::BulkParts;
 use ppq_pass::{Record, Shared, Slot};
 
 /// Takes all passes apart, the last first, and joins their seats.

@@ -3,7 +3,7 @@ ghost use Rattle.std.specs.Prelude.{◌≡◌, ◌<◌, ◌*◌, length, slice_s
 ghost use Rattle.ppq_pass.specs.ppq_budget.Sizes.{AreInRange, batch_of};
 ghost use Rattle.ppq_session.specs.State.{bulk_holding, IsBulk};
 
-use crate::BulkParts;
+use crate::parts::BulkParts;
 use ppq_pass::{Record, Slot};
 use std::marker::Model;
 
@@ -37,8 +37,8 @@ impl<S: Slot + Send + Sync, R: Record + Send + Sync> Bulk<S, R> {
         Bulk { parts }
     }
 
-    /// Its parts.
-    pub fn into_parts(self) -> BulkParts<S, R>
+    // Its parts.
+    pub(crate) fn into_parts(self) -> BulkParts<S, R>
         ensures whole { IsBulk S.shown R.Ord.cmp R.record_of R.WIDTH result }
         ensures shows { bulk_holding S.shown R.record_of R.WIDTH result ≡ self }
     {

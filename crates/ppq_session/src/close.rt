@@ -5,7 +5,9 @@ ghost use Rattle.ppq_pass.specs.ppq_array.Owner.{HasSize};
 ghost use Rattle.ppq_pass.specs.ppq_pool.Seats.{count_of};
 ghost use Rattle.ppq_session.specs.Closing.{IsClosed};
 
-use crate::{BulkParts, Closed, put_buffers, put_slots};
+use crate::closed::Closed;
+use crate::parts::BulkParts;
+use crate::slots::{put_buffers, put_slots};
 use ppq_pass::{Record, Shared, Slot};
 
 /// Closes the row and the pool of a session whose seats were joined, and gives the supply the slots and

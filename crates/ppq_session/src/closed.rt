@@ -1,6 +1,6 @@
 //! The parts of a queue after its session's row and pool were closed.
 
-use crate::Brought;
+use crate::brought::Brought;
 use ppq_pass::{
     Extract, InsertionHeap, MinTree, OwnerLists, PassBody, Record, Sizes, Slot, Sources,
 };

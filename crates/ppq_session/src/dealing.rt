@@ -41,15 +41,17 @@ where
         &|worker, pass|
             requires { (worker < 2 ^ 32) × (part < 2 ^ 32) × IsOf shared.now pass.now × IsGoing pass.now }
             ensures { Adds S.shown (slice_chunk records.entry.now part worker) pass.entry.now pass.exit.now }
-        { add_part(rt, gate, shared, records, part, worker, pass) },
+        {
+            gate.enter(worker as u32);
+            add_part(rt, shared, records, part, worker, pass)
+        },
     );
     are_going(passes)
 }
 
 // Adds a worker's part of some records to its pass.
-fn add_part<H: Host, S: Slot + Send + Sync, R: Record + Send + Sync, G: Gate>(
+fn add_part<H: Host, S: Slot + Send + Sync, R: Record + Send + Sync>(
     rt: &H,
-    gate: &G,
     shared: &Shared<S, R>,
     records: &[R],
     part: usize,
@@ -62,7 +64,6 @@ fn add_part<H: Host, S: Slot + Send + Sync, R: Record + Send + Sync, G: Gate>(
     requires going { IsGoing pass.old }
     ensures { Adds S.shown (slice_chunk records.now part worker) pass.old pass.new }
 {
-    gate.enter(worker as u32);
     let from = records.len().min(worker * part);
     let count = part.min(records.len() - from);
     add_all(rt, shared, &records[from..from + count], pass);

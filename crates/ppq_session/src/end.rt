@@ -5,11 +5,14 @@ ghost use Rattle.ppq_pass.specs.ppq_array.Kept.{SameSlots, all_writes};
 ghost use Rattle.ppq_pass.specs.Passed.{PassHolding, PassTells};
 ghost use Rattle.ppq_session.specs.declared.fault.SessionEnd.TheVariants.{Whole};
 ghost use Rattle.ppq_session.specs.BulkSession.{AreOf, EndsIn, keys_of, shared_by};
-ghost use Rattle.ppq_session.specs.Apart.{IsJoined, HasEnded, BulkHeld};
+ghost use Rattle.ppq_session.specs.Apart.{IsJoined, SessionEnded, BulkHeld};
 
 use crate::bringing::bring_all;
 use crate::close::close;
-use crate::{Bulk, BulkParts, SessionEnd, gather_all, rejoin};
+use crate::gather::gather_all;
+use crate::parts::BulkParts;
+use crate::rejoining::rejoin;
+use crate::{Bulk, SessionEnd};
 use ppq_pass::{Gate, Host, Pass, Record, Shared, Slot};
 use ppq_queue::Queue;
 
@@ -62,7 +65,7 @@ pub fn end_joined<H: Host, S: Slot + Send + Sync, R: Record + Send + Sync, G: Ga
 where
     H::Dir: Send,
     requires { (q : BulkHeld S R) × (passes : List (PassHolding S R)) × IsJoined S.shown R.Ord.cmp R.record_of R.WIDTH shared q popped failed passes parts }
-    ensures { (q : BulkHeld S R) (passes : List (PassHolding S R)) → IsJoined S.shown R.Ord.cmp R.record_of R.WIDTH shared q popped failed passes parts → HasEnded S.shown R.record_of R.WIDTH q popped failed passes result.0 result.1 }
+    ensures { (q : BulkHeld S R) (passes : List (PassHolding S R)) → IsJoined S.shown R.Ord.cmp R.record_of R.WIDTH shared q popped failed passes parts → SessionEnded S.shown R.record_of R.WIDTH q popped failed passes result.0 result.1 }
 {
     let mut closed = close(parts, failed, shared);
     gather_all(&mut closed);

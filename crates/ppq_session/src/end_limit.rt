@@ -7,8 +7,9 @@ ghost use Rattle.ppq_session.specs.declared.fault.SessionEnd.TheVariants.{Whole}
 ghost use Rattle.ppq_session.specs.LimitSession.{AreLimited, EndsIn, shared_of};
 
 use crate::bringing_limited::bring_limited;
+use crate::end::end_joined;
 use crate::limit_room::with_room;
-use crate::{Front, LimitPass, SessionEnd, end_joined};
+use crate::{Front, LimitPass, SessionEnd};
 use ppq_pass::{Gate, Host, Record, Shared, Slot, record_laws};
 use ppq_queue::Queue;
 

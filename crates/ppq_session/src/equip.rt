@@ -7,7 +7,7 @@ ghost use Rattle.ppq_session.specs.Equipped.{MayEquip, Equipped, IsNewPass, AreP
 ghost use Rattle.ppq_session.specs.Outfits.{IsOutfit};
 
 use crate::outfit::Outfit;
-use crate::share::Session;
+use crate::share::FirstSeats;
 use ppq_pass::{BufList, InsertionHeap, Pass, Record, Sizes, Slot};
 
 // Moves a buffer from the front of a list to the end of another.
@@ -29,7 +29,7 @@ fn new_pass<S: Slot, R: Record>(
     heap: InsertionHeap<R>,
     outfit: Outfit<S, R>,
     idle: &mut BufList<R>,
-    session: &mut Session<S, R>,
+    session: &mut FirstSeats<S, R>,
 ) -> Pass<S, R>
     requires heap { heap.cap ≡ heap_of sizes }
     requires outfit { IsOutfit (pool_of sizes / sizes.heap + 1) (sizes.blocks / sizes.heap + 1) (count_of session.old.pool_seat.pool) outfit }
@@ -53,7 +53,7 @@ pub fn equip<S: Slot, R: Record>(
     heaps: &mut Vec<InsertionHeap<R>>,
     outfits: Vec<Outfit<S, R>>,
     idle: &mut BufList<R>,
-    session: &mut Session<S, R>,
+    session: &mut FirstSeats<S, R>,
     passes: &mut Vec<Pass<S, R>>,
 )
     requires none { passes.old.items ≡ [] }

@@ -12,7 +12,7 @@ ghost use Rattle.ppq_session.specs.State.{IsBulk};
 ghost use Rattle.ppq_session.specs.Fronts.{least_below, without_least_below, number_in, IsReady, IsFrontRefusal};
 ghost use Rattle.ppq_session.specs.FrontState.{IsFront, IsTallied, IsSoundFront, front_holding};
 
-use crate::BulkParts;
+use crate::parts::BulkParts;
 use crate::refill::refill_front;
 use ppq_pass::{Gate, Host, QueueFault, Record, Slot, record_laws};
 use std::marker::Model;
@@ -177,9 +177,9 @@ impl<S: Slot + Send + Sync, R: Record + Send + Sync> Front<S, R> {
         }
     }
 
-    /// All that it has, for the end of the session: its parts, how many records it gave, and the number of
-    /// the slot a call of which failed first.
-    pub fn into_parts(self) -> (BulkParts<S, R>, u64, Option<u32>)
+    // All that it has, for the end of the session: its parts, how many records it gave, and the number of
+    // the slot a call of which failed first.
+    pub(crate) fn into_parts(self) -> (BulkParts<S, R>, u64, Option<u32>)
         ensures front { IsFront S.shown R.WIDTH result.0 }
         ensures tallied { IsTallied S.shown result.0 result.1 result.2 }
         ensures sound { result.2 ≡ None → IsSoundFront S.shown R.Ord.cmp R.record_of R.WIDTH result.0 self.limit }

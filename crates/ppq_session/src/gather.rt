@@ -8,7 +8,7 @@ ghost use Rattle.ppq_pass.specs.ppq_array.Run.{buffers_of};
 ghost use Rattle.ppq_queue.specs.Slots.{SameSums, with_slots};
 ghost use Rattle.ppq_session.specs.Gathering.{IsGathered, gathered_bag, accepted_in};
 
-use crate::Brought;
+use crate::brought::Brought;
 use crate::closed::Closed;
 use crate::moving::{free_all, move_all, move_buffers};
 use ppq_pass::{

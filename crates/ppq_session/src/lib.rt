@@ -54,30 +54,23 @@ mod slots;
 mod stores;
 
 pub use ask::Ask;
-pub use begin::{bulk_begin, hand_out};
+pub use begin::bulk_begin;
 pub use begin_limit::limit_begin;
-pub use bringing::bring;
-pub use brought::Brought;
 pub use bulk::Bulk;
-pub use closed::Closed;
 pub use dealing::{are_going, deal};
-pub use end::{bulk_end, end_joined};
+pub use end::bulk_end;
 pub use end_limit::limit_end;
 pub use fault::{BeginFault, SessionEnd};
 pub use front::Front;
 pub use front_laws::{high_records_stand_back, passes_stand_back};
-pub use gather::gather_all;
 pub use laws::sessions_are_histories;
 pub use limit_pass::LimitPass;
 pub use line::Line;
 pub use lines::push_lines;
-pub use parts::BulkParts;
 pub use ppq_pass::{
     Full, Gate, Host, Library, OutsideFault, Pair, Pass, PoolBuf, QueueFault, Record, Shared,
     Sizes, Slot,
 };
 pub use ppq_queue::{OpenFault, Out, Queue};
 pub use pushing::limited_are_going;
-pub use rejoining::rejoin;
 pub use running::run_both;
-pub use slots::{put_buffers, put_slots};

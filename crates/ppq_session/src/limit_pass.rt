@@ -127,8 +127,8 @@ impl<S: Slot, R: Record> LimitPass<S, R> {
         let _accepted = self.pass.accepted();
     }
 
-    /// The pass alone, for the end of the session.
-    pub fn into_pass(self) -> Pass<S, R>
+    // The pass alone, for the end of the session.
+    pub(crate) fn into_pass(self) -> Pass<S, R>
         ensures pass { result ≡ self.pass }
         ensures limited { IsLimited S.shown R.Ord.cmp self.limit result }
     {

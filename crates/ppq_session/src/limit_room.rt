@@ -6,7 +6,7 @@ ghost use Rattle.ppq_session.specs.FrontState.{IsFront, IsTallied};
 ghost use Rattle.ppq_session.specs.Apart.{IsApart, apart_slots};
 ghost use Rattle.ppq_session.specs.Emptied.{emptied};
 
-use crate::BulkParts;
+use crate::parts::BulkParts;
 use ppq_pass::{BufList, OwnerLists, Record, Slot, Supply};
 
 /// The parts of a front, with room for the buffers that come back from the pool. There is room unless the

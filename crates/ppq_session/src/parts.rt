@@ -1,6 +1,6 @@
 //! The parts of a queue while its heaps, free slots and idle buffers are out.
 
-use crate::Brought;
+use crate::brought::Brought;
 use ppq_pass::{
     Berth, Extract, InsertionHeap, MinTree, OwnerLists, PassBody, PoolBuf, PoolSeat, Record,
     RowSeat, Sizes, Slot, Sources,

@@ -1,9 +1,9 @@
 //! Lines pushed to the passes of a limit session, each pass on a thread of its own.
-ghost use Rattle.std.specs.Prelude.{◌≡◌, ◌<◌, ◌^◌, ◌↔◌, false, length, map, All, Any, IsTrue, [], ◌∷◌};
+ghost use Rattle.std.specs.Prelude.{◌≡◌, ◌<◌, ◌^◌, ◌↔◌, false, All, Any, IsTrue, [], ◌∷◌};
 ghost use Rattle.ppq_pass.specs.ppq_record.Order.{is_before};
 ghost use Rattle.ppq_pass.specs.Passed.{IsOf};
-ghost use Rattle.ppq_session.specs.Dealing.{IsGoing, HasEnded, Adds, EachAdds, Dealt, records_in, records_for};
-ghost use Rattle.ppq_session.specs.Batches.{AreAbove, passes_of};
+ghost use Rattle.ppq_session.specs.Dealing.{IsGoing, HasEnded, Adds, records_for};
+ghost use Rattle.ppq_session.specs.Batches.{AreAbove, MayPush, Pushed};
 
 use crate::{LimitPass, Line};
 use ppq_pass::{Gate, Host, Record, Shared, Slot};
@@ -21,15 +21,8 @@ pub fn push_limited<H: Host, S: Slot + Send + Sync, R: Record + Send + Sync, G: 
 )
 where
     H::Dir: Send,
-    requires some { 0 < length passes.old }
-    requires workers { length passes.old < 2 ^ 32 }
-    requires named { All (λ line. line.pass < length passes.old) lines.now }
-    requires above { All (λ p. AreAbove R.Ord.cmp p.limit lines.now) passes.old }
-    requires of { All (λ p. IsOf shared.now p.pass) passes.old }
-    requires going { All (λ p. IsGoing p.pass) passes.old }
-    ensures dealt { Dealt S.shown (records_in lines.now) (passes_of passes.old) (passes_of passes.new) }
-    ensures each { EachAdds S.shown (λ pass. records_for pass lines.now) (passes_of passes.old) (passes_of passes.new) }
-    ensures limits { map (λ p. p.limit) passes.new ≡ map (λ p. p.limit) passes.old }
+    requires { MayPush R.Ord.cmp shared.now lines.now passes.old }
+    ensures { Pushed S.shown lines.now passes.old passes.new }
 {
     let count = passes.len();
     thread::for_each_mut(

@@ -7,7 +7,7 @@ ghost use Rattle.ppq_pass.specs.ppq_fetch.Taking.{NoneBelow};
 ghost use Rattle.ppq_queue.specs.Resting.{BodyKept, runs_bag};
 ghost use Rattle.ppq_session.specs.FrontState.{IsFront, IsSoundFront, front_slots, front_bag};
 
-use crate::BulkParts;
+use crate::parts::BulkParts;
 use ppq_pass::{Gate, Host, Record, Slot, StoreFault, record_laws};
 
 /// Takes the least records of the runs that are below a limit into the empty extract buffer, as many as

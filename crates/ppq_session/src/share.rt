@@ -15,7 +15,7 @@ use std::alloc::Global;
 
 /// What passes share, with seats that have all shares.
 #[derive(Drop)]
-pub struct Session<S: Slot, R: Record> {
+pub struct FirstSeats<S: Slot, R: Record> {
     /// The free slots and the idle buffers.
     pub shared: Shared<S, R>,
     /// The right to the row of the free slots.
@@ -31,7 +31,7 @@ pub fn share<S: Slot, R: Record>(
     supply: &mut OwnerLists<S, R>,
     slots: Vec<Berth<S, R>>,
     buffers: Vec<PoolBuf<R>>,
-) -> Result<Session<S, R>, Memory>
+) -> Result<FirstSeats<S, R>, Memory>
     requires no_slot { slots.items ≡ [] }
     requires slots_room { length supply.old.kept ≤ vec_capacity slots }
     requires few_slots { length supply.old.kept < 2 ^ 32 }
@@ -44,7 +44,7 @@ pub fn share<S: Slot, R: Record>(
 {
     let (row, row_seat) = make_row(alloc, supply, slots)?;
     match make_pool(alloc, supply, buffers) {
-        Ok((pool, pool_seat)) => Ok(Session {
+        Ok((pool, pool_seat)) => Ok(FirstSeats {
             shared: Shared { row, pool },
             row_seat,
             pool_seat,

@@ -3,8 +3,9 @@ ghost use Rattle.std.specs.Prelude.{◌≤◌, IfOk};
 ghost use Rattle.ppq_pass.specs.ppq_budget.Sizes.{fixed_of};
 ghost use Rattle.ppq_session.specs.Outfits.{AreStores};
 
+use crate::Pass;
+use crate::brought::Brought;
 use crate::outfit::{Outfit, outfits};
-use crate::{Brought, Pass};
 use ppq_pass::{Berth, Memory, PoolBuf, Record, Sizes, Slot};
 use std::alloc::Global;
 

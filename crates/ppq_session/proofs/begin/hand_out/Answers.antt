@@ -47,60 +47,32 @@ returns-in-Err-clause-back g c =
     let shows = shows_again g.S.Slot.shown g.R.Ord.cmp g.R.Record.record_of g.R.Record.WIDTH c.into_parts-parts.result c.args.q c.into_parts-parts.ensures.shows c.share.new.supply c.in-Err.ensures.back in
     ap (λ (q : Holding g.row.R.Denot). (q, Memory)) (c.from_parts-in-Err.ensures ∙ shows)
 
-pub returns-in-Ok-share-clause-of : goal.returns-in-Ok-share-clause-of
-returns-in-Ok-share-clause-of g c = c.deal_out.ensures.of
-
-pub returns-in-Ok-share-clause-shared : goal.returns-in-Ok-share-clause-shared
-returns-in-Ok-share-clause-shared g c = c.deal_out.ensures.shared_is
-
-pub returns-in-Ok-share-clause-fresh : goal.returns-in-Ok-share-clause-fresh
-returns-in-Ok-share-clause-fresh g c = c.deal_out.ensures.fresh
-
-pub returns-in-Ok-share-clause-no_slots : goal.returns-in-Ok-share-clause-no_slots
-returns-in-Ok-share-clause-no_slots g c = c.deal_out.ensures.no_slots
-
-pub returns-in-Ok-share-clause-whole : goal.returns-in-Ok-share-clause-whole
-returns-in-Ok-share-clause-whole g c = c.deal_out.ensures.whole
-
-pub returns-in-Ok-share-clause-begun : goal.returns-in-Ok-share-clause-begun
-returns-in-Ok-share-clause-begun g c = c.deal_out.ensures.begun ∙ ap (λ (q : Holding g.row.R.Denot). q.in_heap) c.into_parts-parts.ensures.shows
-
-pub returns-in-Ok-share-clause-first : goal.returns-in-Ok-share-clause-first
-returns-in-Ok-share-clause-first g c = c.deal_out.ensures.first ∙ ap (λ (q : Holding g.row.R.Denot). q.in_first) c.into_parts-parts.ensures.shows
-
-pub returns-in-Ok-share-clause-runs : goal.returns-in-Ok-share-clause-runs
-returns-in-Ok-share-clause-runs g c = c.deal_out.ensures.runs ∙ ap (λ (q : Holding g.row.R.Denot). q.runs) c.into_parts-parts.ensures.shows
-
-pub returns-in-Ok-share-clause-buffers : goal.returns-in-Ok-share-clause-buffers
-returns-in-Ok-share-clause-buffers g c = c.deal_out.ensures.buffers
-
-pub returns-in-Ok-share-clause-bag : goal.returns-in-Ok-share-clause-bag
-returns-in-Ok-share-clause-bag g c =
-    let r = c.deal_out.result in
-    bag_is g.S.Slot.shown g.R.Ord.cmp g.R.Record.record_of g.R.Record.WIDTH c.into_parts-parts.result c.args.q c.into_parts-parts.ensures.shows c.requires.emptied (r.0.bag ++ bag_of r.2.items) c.deal_out.ensures.bag
-
-pub returns-in-Ok-share-clause-slots : goal.returns-in-Ok-share-clause-slots
-returns-in-Ok-share-clause-slots g c =
+pub returns-in-Ok-share-clause-handed : goal.returns-in-Ok-share-clause-handed
+returns-in-Ok-share-clause-handed g c =
+    let shown = g.S.Slot.shown in
     let is = c.into_parts-parts.ensures in
-    c.deal_out.ensures.slots
-    ∙ slots_are g.S.Slot.shown g.R.Ord.cmp g.R.Record.record_of g.R.Record.WIDTH c.into_parts-parts.result c.args.q is.shows is.whole c.requires.sound c.in-Ok-share.session c.in-Ok-share.ensures.session
-
-pub returns-in-Ok-share-clause-items : goal.returns-in-Ok-share-clause-items
-returns-in-Ok-share-clause-items g c = λ tell.
-    let is = c.into_parts-parts.ensures in
+    let shows = is.shows in
     let s = c.in-Ok-share.session in
-    let slots = slots_are g.S.Slot.shown g.R.Ord.cmp g.R.Record.record_of g.R.Record.WIDTH c.into_parts-parts.result c.args.q is.shows is.whole c.requires.sound s c.in-Ok-share.ensures.session in
-    let right = tell_right (external_slots g.S.Slot.shown c.into_parts-parts.result.body.runs.external.items) (slots_shown g.S.Slot.shown s.row_seat.hand.items) (subst AllTell (sym slots) tell) in
-    subst (λ (l : List (DeviceBlock g.row.S.Denot g.row.R.Denot)). AllTell (slots_shown g.S.Slot.shown l)) (sym c.deal_out.ensures.items) right
-
-pub returns-in-Ok-share-clause-size : goal.returns-in-Ok-share-clause-size
-returns-in-Ok-share-clause-size g c = c.deal_out.ensures.size ∙ ap (λ (q : Holding g.row.R.Denot). q.size) c.into_parts-parts.ensures.shows
-
-pub returns-in-Ok-share-clause-peak : goal.returns-in-Ok-share-clause-peak
-returns-in-Ok-share-clause-peak g c = c.deal_out.ensures.peak ∙ ap (λ (q : Holding g.row.R.Denot). q.peak) c.into_parts-parts.ensures.shows
-
-pub returns-in-Ok-share-clause-limited : goal.returns-in-Ok-share-clause-limited
-returns-in-Ok-share-clause-limited g c = c.deal_out.ensures.limited ∙ ap (λ (q : Holding g.row.R.Denot). q.limited) c.into_parts-parts.ensures.shows
-
-pub returns-in-Ok-share-clause-sizes : goal.returns-in-Ok-share-clause-sizes
-returns-in-Ok-share-clause-sizes g c = c.deal_out.ensures.sizes ∙ ap (λ (q : Holding g.row.R.Denot). q.sizes) c.into_parts-parts.ensures.shows
+    let r = c.deal_out.result in
+    let dealt = c.deal_out.ensures in
+    let slots = slots_are shown g.R.Ord.cmp g.R.Record.record_of g.R.Record.WIDTH c.into_parts-parts.result c.args.q shows is.whole c.requires.sound s c.in-Ok-share.ensures.session in
+    record {
+      of = dealt.of;
+      shared_is = dealt.shared_is;
+      fresh = dealt.fresh;
+      no_slots = dealt.no_slots;
+      whole = dealt.whole;
+      begun = dealt.begun ∙ ap (λ (q : Holding g.row.R.Denot). q.in_heap) shows;
+      first = dealt.first ∙ ap (λ (q : Holding g.row.R.Denot). q.in_first) shows;
+      runs = dealt.runs ∙ ap (λ (q : Holding g.row.R.Denot). q.runs) shows;
+      buffers = dealt.buffers;
+      bag = bag_is shown g.R.Ord.cmp g.R.Record.record_of g.R.Record.WIDTH c.into_parts-parts.result c.args.q shows c.requires.emptied (r.0.bag ++ bag_of r.2.items) dealt.bag;
+      slots = dealt.slots ∙ slots;
+      items = λ tell.
+          let right = tell_right (external_slots shown c.into_parts-parts.result.body.runs.external.items) (slots_shown shown s.row_seat.hand.items) (subst AllTell (sym slots) tell) in
+          subst (λ (l : List (DeviceBlock g.row.S.Denot g.row.R.Denot)). AllTell (slots_shown shown l)) (sym dealt.items) right;
+      size = dealt.size ∙ ap (λ (q : Holding g.row.R.Denot). q.size) shows;
+      peak = dealt.peak ∙ ap (λ (q : Holding g.row.R.Denot). q.peak) shows;
+      limited = dealt.limited ∙ ap (λ (q : Holding g.row.R.Denot). q.limited) shows;
+      sizes = dealt.sizes ∙ ap (λ (q : Holding g.row.R.Denot). q.sizes) shows;
+    }

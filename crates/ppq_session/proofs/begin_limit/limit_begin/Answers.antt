@@ -13,27 +13,27 @@ use Rattle.ppq_session.proofs.begin_limit.limit_begin.Goals as goal
 pub limit_passes-passes-requires-clause-nothing : goal.limit_passes-passes-requires-clause-nothing
 limit_passes-passes-requires-clause-nothing g c κs bounds =
     let b = c.in-Ok-hand_out in
-    all_nothing b.bulk b.passes.items b.ensures.of (b.ensures.begun ∙ c.in-Ok.ensures.heaps) b.ensures.whole b.ensures.no_slots
+    all_nothing b.bulk b.passes.items b.ensures.handed.of (b.ensures.handed.begun ∙ c.in-Ok.ensures.heaps) b.ensures.handed.whole b.ensures.handed.no_slots
 
 pub limit_passes-passes-requires-clause-room : goal.limit_passes-passes-requires-clause-room
 limit_passes-passes-requires-clause-room g c κs bounds =
     let b = c.in-Ok-hand_out in
-    omega (arith, passes_count b.bulk b.passes.items b.ensures.of (b.ensures.begun ∙ c.in-Ok.ensures.heaps), c.known.ensures.range.workers, c.in-Ok-with_capacity.ensures.capacity)
+    omega (arith, passes_count b.bulk b.passes.items b.ensures.handed.of (b.ensures.handed.begun ∙ c.in-Ok.ensures.heaps), c.known.ensures.range.workers, c.in-Ok-with_capacity.ensures.capacity)
 
 pub front_of-requires-clause-none : goal.front_of-requires-clause-none
-front_of-requires-clause-none g c κs bounds = c.in-Ok-hand_out.ensures.begun ∙ c.in-Ok.ensures.heaps
+front_of-requires-clause-none g c κs bounds = c.in-Ok-hand_out.ensures.handed.begun ∙ c.in-Ok.ensures.heaps
 
 pub front_of-requires-clause-limited : goal.front_of-requires-clause-limited
-front_of-requires-clause-limited g c κs bounds = c.in-Ok-hand_out.ensures.limited ∙ c.store_heaps.ensures.limited
+front_of-requires-clause-limited g c κs bounds = c.in-Ok-hand_out.ensures.handed.limited ∙ c.store_heaps.ensures.limited
 
 pub returns-in-Ok-hand_out-clause-of : goal.returns-in-Ok-hand_out-clause-of
 returns-in-Ok-hand_out-clause-of g c =
     let b = c.in-Ok-hand_out in
     let made = c.limit_passes-passes.ensures in
-    are_limited b.bulk b.passes.items b.ensures.of (b.ensures.begun ∙ c.in-Ok.ensures.heaps) c.args.l c.front_of.result c.front_of.ensures c.limit_passes-passes.result.items made.count made.limits made.keys
+    are_limited b.bulk b.passes.items b.ensures.handed.of (b.ensures.handed.begun ∙ c.in-Ok.ensures.heaps) c.args.l c.front_of.result c.front_of.ensures c.limit_passes-passes.result.items made.count made.limits made.keys
 
 pub returns-in-Ok-hand_out-clause-shared : goal.returns-in-Ok-hand_out-clause-shared
-returns-in-Ok-hand_out-clause-shared g c = c.in-Ok-hand_out.ensures.shared ∙ shared_front c.in-Ok-hand_out.bulk c.args.l c.front_of.result c.front_of.ensures
+returns-in-Ok-hand_out-clause-shared g c = c.in-Ok-hand_out.ensures.handed.shared_is ∙ shared_front c.in-Ok-hand_out.bulk c.args.l c.front_of.result c.front_of.ensures
 
 pub returns-in-Ok-hand_out-clause-passes : goal.returns-in-Ok-hand_out-clause-passes
 returns-in-Ok-hand_out-clause-passes g c =
@@ -42,11 +42,11 @@ returns-in-Ok-hand_out-clause-passes g c =
 pub returns-in-Ok-hand_out-clause-bag : goal.returns-in-Ok-hand_out-clause-bag
 returns-in-Ok-hand_out-clause-bag g c tell p =
     let b = c.in-Ok-hand_out in
-    let none = bag_none b.passes.items (all_nothing b.bulk b.passes.items b.ensures.of (b.ensures.begun ∙ c.in-Ok.ensures.heaps) b.ensures.whole b.ensures.no_slots) in
+    let none = bag_none b.passes.items (all_nothing b.bulk b.passes.items b.ensures.handed.of (b.ensures.handed.begun ∙ c.in-Ok.ensures.heaps) b.ensures.handed.whole b.ensures.handed.no_slots) in
     omega (
       arith,
       ap (count_by p) c.front_of.ensures.bag,
-      b.ensures.bag p,
+      b.ensures.handed.bag p,
       c.in-Ok.ensures.bag tell p,
       count_by-append p b.bulk.bag (bag_of b.passes.items),
       ap (count_by p) none,
@@ -56,16 +56,16 @@ pub returns-in-Ok-hand_out-clause-slots : goal.returns-in-Ok-hand_out-clause-slo
 returns-in-Ok-hand_out-clause-slots g c =
     let b = c.in-Ok-hand_out in
     let old = c.args.q.slots in
-    SameSlots-trans old b.bulk.slots c.front_of.result.slots (subst (λ s. SameSlots old s) (sym b.ensures.slots) c.store_heaps.ensures.slots) c.front_of.ensures.slots
+    SameSlots-trans old b.bulk.slots c.front_of.result.slots (subst (λ s. SameSlots old s) (sym b.ensures.handed.slots) c.store_heaps.ensures.slots) c.front_of.ensures.slots
 
 pub returns-in-Ok-hand_out-clause-tells : goal.returns-in-Ok-hand_out-clause-tells
-returns-in-Ok-hand_out-clause-tells g c tell = c.front_of.ensures.tells (subst AllTell (sym c.in-Ok-hand_out.ensures.slots) (c.store_heaps.ensures.tells tell))
+returns-in-Ok-hand_out-clause-tells g c tell = c.front_of.ensures.tells (subst AllTell (sym c.in-Ok-hand_out.ensures.handed.slots) (c.store_heaps.ensures.tells tell))
 
 pub returns-in-Ok-hand_out-clause-writes : goal.returns-in-Ok-hand_out-clause-writes
-returns-in-Ok-hand_out-clause-writes g c = omega (arith, c.front_of.ensures.writes, ap all_writes c.in-Ok-hand_out.ensures.slots, c.store_heaps.ensures.writes)
+returns-in-Ok-hand_out-clause-writes g c = omega (arith, c.front_of.ensures.writes, ap all_writes c.in-Ok-hand_out.ensures.handed.slots, c.store_heaps.ensures.writes)
 
 pub returns-in-Ok-hand_out-clause-sizes : goal.returns-in-Ok-hand_out-clause-sizes
-returns-in-Ok-hand_out-clause-sizes g c = c.front_of.ensures.sizes ∙ c.in-Ok-hand_out.ensures.sizes ∙ c.store_heaps.ensures.sizes
+returns-in-Ok-hand_out-clause-sizes g c = c.front_of.ensures.sizes ∙ c.in-Ok-hand_out.ensures.handed.sizes ∙ c.store_heaps.ensures.sizes
 
 pub returns-in-Ok-hand_out-clause-latched : goal.returns-in-Ok-hand_out-clause-latched
 returns-in-Ok-hand_out-clause-latched g c = λ number latched. let said = (c.store_heaps.ensures.latched number latched).0 in cc
@@ -94,7 +94,7 @@ returns-in-Err-Device-clause-refused g c =
     subst (λ (n : ℕ). HasStopped n new) (sym arm.number-is) stopped
 
 pub front_of-requires-clause-runs : goal.front_of-requires-clause-runs
-front_of-requires-clause-runs g c κs bounds = omega (arith, c.in-Ok-hand_out.ensures.runs, c.in-Ok.ensures.settled)
+front_of-requires-clause-runs g c κs bounds = omega (arith, c.in-Ok-hand_out.ensures.handed.runs, c.in-Ok.ensures.settled)
 
 pub returns-in-Err-clause-refused : goal.returns-in-Err-clause-refused
 returns-in-Err-clause-refused g c = subst (λ e. IsBeginRefusal c.args.q e.0 e.1) (sym c.in-Err.ensures.back) (record { bag = c.in-Ok.ensures.bag; sound = c.in-Ok.ensures.sound })
@@ -104,3 +104,12 @@ returns-in-Err-clause-back_slots g c = subst (λ e. SameSlots c.args.q.slots e.0
 
 pub returns-in-Err-clause-back_tells : goal.returns-in-Err-clause-back_tells
 returns-in-Err-clause-back_tells g c tell = subst (λ e. AllTell e.0.slots) (sym c.in-Err.ensures.back) (c.store_heaps.ensures.tells tell)
+
+pub limit_passes-passes-requires-clause-fresh : goal.limit_passes-passes-requires-clause-fresh
+limit_passes-passes-requires-clause-fresh g c κs bounds = c.in-Ok-hand_out.ensures.handed.fresh
+
+pub returns-in-Ok-hand_out-clause-size : goal.returns-in-Ok-hand_out-clause-size
+returns-in-Ok-hand_out-clause-size g c = c.front_of.ensures.size ∙ c.in-Ok-hand_out.ensures.handed.size ∙ c.store_heaps.ensures.size
+
+pub returns-in-Ok-hand_out-clause-peak : goal.returns-in-Ok-hand_out-clause-peak
+returns-in-Ok-hand_out-clause-peak g c = c.front_of.ensures.peak ∙ c.in-Ok-hand_out.ensures.handed.peak ∙ c.store_heaps.ensures.peak

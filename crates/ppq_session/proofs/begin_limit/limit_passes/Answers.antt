@@ -4,7 +4,7 @@ use Rattle.ppq_pass.specs.Passed.{PassHolding}
 use Rattle.ppq_session.specs.BulkSession.{IsFresh}
 use Rattle.ppq_session.specs.Limited.{LimitHolding, HoldsNothing}
 use Rattle.ppq_session.specs.LimitSession.{IsNew}
-use Rattle.ppq_session.proofs.Limiting.{all_front, all_last}
+use Rattle.ppq_session.proofs.Equipping.{all_front, all_last}
 use Rattle.ppq_session.proofs.begin_limit.limit_passes.Goals as goal
 
 pub limiting-preserved : goal.limiting-preserved

@@ -3,7 +3,7 @@ use Rattle.ppq_pass.specs.ppq_outside.Shown.{AllTell}
 use Rattle.ppq_pass.specs.ppq_array.Kept.{SameSlots, all_writes}
 use Rattle.ppq_session.specs.BulkSession.{AreOf, EndsIn, keys_of}
 use Rattle.ppq_session.specs.Apart.{IsJoined}
-use Rattle.ppq_session.proofs.Bulks.{slots_same, bulk_apart, bulk_many, bulk_keys, bulk_before, bulk_sound, bulk_ends}
+use Rattle.ppq_session.proofs.Bulks.{slots_same, bulk_many, bulk_keys, bulk_before, bulk_sound, bulk_ends}
 use Rattle.ppq_session.proofs.Together.{all_shares_of, room_for_all}
 use Rattle.ppq_session.proofs.end.bulk_end.Given as given
 use Rattle.ppq_session.proofs.end.bulk_end.Goals.{After-bring_all}
@@ -26,7 +26,7 @@ bring_all-requires-clause-of g c = λ κs bounds.
     let shows = c.into_parts-parts.ensures.shows in
     let ps = c.args.passes.items in
     let of = subst (λ b. AreOf b (keys_of ps)) (sym shows) c.requires.of in
-    all_shares_of shown cmp record_of width q None (bulk_apart shown cmp record_of width q is) ps (bulk_many shown cmp record_of width q is ps of) (bulk_keys shown cmp record_of width q is ps of) c.args.shared
+    all_shares_of shown cmp record_of width q None is.apart ps (bulk_many shown cmp record_of width q is ps of) (bulk_keys shown cmp record_of width q is ps of) c.args.shared
     (ap (λ b. b.row) shows ∙ sym (ap (λ s. s.row) c.requires.shared)) (ap (λ b. b.pool) shows ∙ sym (ap (λ s. s.pool) c.requires.shared))
 
 pub bring_all-requires-clause-room : goal.bring_all-requires-clause-room
@@ -40,7 +40,7 @@ bring_all-requires-clause-room g c = λ κs bounds.
     let shows = c.into_parts-parts.ensures.shows in
     let ps = c.args.passes.items in
     let of = subst (λ b. AreOf b (keys_of ps)) (sym shows) c.requires.of in
-    room_for_all shown cmp record_of width q None (bulk_apart shown cmp record_of width q is) ps (bulk_many shown cmp record_of width q is ps of) (bulk_keys shown cmp record_of width q is ps of)
+    room_for_all shown cmp record_of width q None is.apart ps (bulk_many shown cmp record_of width q is ps of) (bulk_keys shown cmp record_of width q is ps of)
 
 joined : (g : given.Over) (c : After-bring_all g) → IsJoined g.S.Slot.shown g.R.Ord.cmp g.R.Record.record_of g.R.Record.WIDTH c.args.shared c.into_parts-parts.result 0 None c.args.passes.items c.bring_all.new.parts
 joined g c =
@@ -54,7 +54,7 @@ joined g c =
     let ps = c.args.passes.items in
     let of = subst (λ b. AreOf b (keys_of ps)) (sym shows) c.requires.of in
     record {
-      apart = bulk_apart shown cmp record_of width q is;
+      apart = is.apart;
       sound = λ none. bulk_sound shown cmp record_of width q is ps of;
       count = bulk_many shown cmp record_of width q is ps of;
       of = bulk_keys shown cmp record_of width q is ps of;

@@ -10,27 +10,23 @@ use Rattle.ppq_session.proofs.pushing.push_limited.Goals as goal
 pub for_each_mut-requires-send-T : goal.for_each_mut-requires-send-T
 for_each_mut-requires-send-T g c κs h = let b = c.type_bounds in search (sendable, limit_pass_sends)
 
-pub returns-clause-each : goal.returns-clause-each
-returns-clause-each g c =
+pub returns : goal.returns
+returns g c =
     let shown = g.S.Slot.shown in
     let lines = c.args.lines.now in
     let olds = c.args.passes.now in
     let news = c.for_each_mut.new.s in
-    limited-each shown (λ pass. records_for pass lines) olds news c.for_each_mut.auto.s
+    let same : length news ≡ length olds = c.for_each_mut.auto.s in
+    let each = limited-each shown (λ pass. records_for pass lines) olds news same
     (λ i d h.
     let at = (c.for_each_mut.ensures i d h).1 in
     let mine = records_for i lines in
-    subst (λ (n : LimitHolding g.row.S.Denot g.row.R.Denot). Adds shown mine (slice_index_or olds i d).pass n.pass) at.left (subst (λ (o : LimitHolding g.row.S.Denot g.row.R.Denot). Adds shown mine o.pass at.after_call.now.pass) at.argument_is at.call.0))
-
-pub returns-clause-dealt : goal.returns-clause-dealt
-returns-clause-dealt g c = limited-lines g.S.Slot.shown c.args.lines.now c.args.passes.now c.for_each_mut.new.s c.requires.named (returns-clause-each g c)
-
-pub returns-clause-limits : goal.returns-clause-limits
-returns-clause-limits g c =
-    let olds = c.args.passes.now in
-    let news = c.for_each_mut.new.s in
-    let same : length news ≡ length olds = c.for_each_mut.auto.s in
-    limits-same olds news same
-    (λ i d h.
-    let at = (c.for_each_mut.ensures i d h).1 in
-    subst (λ (n : LimitHolding g.row.S.Denot g.row.R.Denot). n.limit ≡ (slice_index_or olds i d).limit) at.left (subst (λ (o : LimitHolding g.row.S.Denot g.row.R.Denot). at.after_call.now.limit ≡ o.limit) at.argument_is at.call.1))
+    subst (λ (n : LimitHolding g.row.S.Denot g.row.R.Denot). Adds shown mine (slice_index_or olds i d).pass n.pass) at.left (subst (λ (o : LimitHolding g.row.S.Denot g.row.R.Denot). Adds shown mine o.pass at.after_call.now.pass) at.argument_is at.call.0)) in
+    record {
+      dealt = limited-lines shown lines olds news c.requires.named each;
+      each = each;
+      limits = limits-same olds news same
+          (λ i d h.
+          let at = (c.for_each_mut.ensures i d h).1 in
+          subst (λ (n : LimitHolding g.row.S.Denot g.row.R.Denot). n.limit ≡ (slice_index_or olds i d).limit) at.left (subst (λ (o : LimitHolding g.row.S.Denot g.row.R.Denot). at.after_call.now.limit ≡ o.limit) at.argument_is at.call.1));
+    }

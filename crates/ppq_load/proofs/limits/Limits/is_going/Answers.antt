@@ -5,7 +5,7 @@ use Rattle.ppq_session.specs.ppq_record.declared.pair.Pair.{Pair}
 use Rattle.ppq_session.specs.Dealing.{IsGoing, HasEnded}
 use Rattle.ppq_session.specs.Limited.{LimitHolding}
 use Rattle.ppq_load.specs.Limits.{AreGoing, HasStopped}
-use Rattle.ppq_session.proofs.Limited.{any_map}
+use Rattle.ppq_session.proofs.Mapped.{any_mapped}
 use Rattle.ppq_load.proofs.limits.Limits.is_going.Goals as goal
 
 pub returns-in-None-clause-all : goal.returns-in-None-clause-all
@@ -20,4 +20,4 @@ returns-in-None-clause-stopped g c =
     let passes = c.self.inside.passes.items in
     λ f.
     let ended = subst (Any (λ (p : LimitHolding g.row.S.Denot Pair). HasEnded p.pass)) c.as_slice.ensures.value (c.limited_are_going.ensures.ended f) in
-    subst (λ l. HasStopped l) c.self.view_is (inl (any_map HasEnded (λ (p : LimitHolding g.row.S.Denot Pair). p.pass) passes ended))
+    subst (λ l. HasStopped l) c.self.view_is (inl (any_mapped (λ (p : LimitHolding g.row.S.Denot Pair). p.pass) HasEnded passes ended))

@@ -1,4 +1,4 @@
-use Rattle.std.proofs.Common.{◌≡◌, ◌+◌, ◌++◌, ◌∙◌, ℕ, List, All, map, take, drop, length, sym, subst}
+use Rattle.std.proofs.Common.{◌≡◌, ◌+◌, ◌++◌, ◌∙◌, ℕ, List, All, map, take, drop, length, sym, subst, ◌<◌, ap, arith}
 use Rattle.ppq_session.specs.ppq_record.declared.pair.Pair.{Pair}
 use Rattle.ppq_session.specs.ppq_record.Pair.{pair_cmp}
 use Rattle.ppq_session.specs.ppq_outside.Shown.{AllTell}
@@ -9,17 +9,31 @@ use Rattle.ppq_load.proofs.Loadings.{kept_back}
 use Rattle.ppq_session.specs.Limited.{LimitHolding}
 use Rattle.ppq_session.specs.LimitSession.{AreLimited, shared_of}
 use Rattle.ppq_session.specs.Asks.{answers_to, left_after, pops_in}
-use Rattle.ppq_session.specs.Batches.{passes_of}
+use Rattle.ppq_session.specs.Batches.{AreAbove, MayPush, passes_of}
 use Rattle.ppq_load.specs.Limits.{AreGoing, InLimits}
-use Rattle.ppq_session.proofs.Limited.{all_of_map}
+use Rattle.ppq_session.proofs.Mapped.{all_mapped}
 use Rattle.ppq_load.proofs.LimitSessions.{limited-keep, limited-of, shared-keep, session-run, session-answers}
 use Rattle.ppq_load.proofs.limits.Limits.run.Goals as goal
 
-pub run_both-requires-clause-going : goal.run_both-requires-clause-going
-run_both-requires-clause-going g c κs within =
-    let passes = c.self.inside.passes.items in
-    let going = subst (λ l. All IsGoing (passes_of l.passes)) (sym c.self.view_is) c.requires.going.passes in
-    subst (All (λ (p : LimitHolding g.row.S.Denot Pair). IsGoing p.pass)) (sym c.as_mut_slice.ensures.value) (all_of_map IsGoing (λ (p : LimitHolding g.row.S.Denot Pair). p.pass) passes going)
+pub run_both-requires-clause-may : goal.run_both-requires-clause-may
+run_both-requires-clause-may g c κs within =
+    let inside = c.self.inside in
+    let passes = inside.passes.items in
+    let lines = c.args.lines.now in
+    let of = c.self.invariant.0 in
+    let view = c.self.view_is in
+    let many : length passes ≡ c.args.self.now.front.sizes.workers = of.count ∙ ap (λ l. l.front.sizes.workers) view in
+    let going = subst (λ l. All IsGoing (passes_of l.passes)) (sym view) c.requires.going.passes in
+    let may : MayPush pair_cmp inside.shared lines passes = record {
+      some = omega (arith, c.known.ensures.range.some_worker, of.count);
+      workers = omega (arith, c.known.ensures.range.workers, of.count);
+      named = subst (λ n. All (λ line. line.pass < n) lines) (sym many) c.requires.named;
+      above = λ k d h. subst (λ l. AreAbove pair_cmp l lines) (sym (of.limits k d h ∙ ap (λ l. l.front.limit) view)) c.requires.above;
+      of = c.self.invariant.2;
+      going = all_mapped (λ (p : LimitHolding g.row.S.Denot Pair). p.pass) IsGoing passes going;
+    }
+    in
+    subst (MayPush pair_cmp inside.shared lines) (sym c.as_mut_slice.ensures.value) may
 
 -- the passes are all of the session still
 pub invariant_of-self : goal.invariant_of-self
@@ -33,8 +47,8 @@ invariant_of-self g c =
     let value = c.as_mut_slice.ensures.value in
     let back = kept_back inside.passes.len news (drop (length news) olds) (c.run_both.auto.passes ∙ c.as_mut_slice.ensures.len) in
     let kept = c.run_both.ensures.answered.kept in
-    let dealt = subst (λ ps. Dealt g.S.Slot.shown (records_in c.args.lines.now) (passes_of ps) (passes_of news)) value c.run_both.ensures.dealt in
-    let limits = subst (λ (ps : List (LimitHolding g.row.S.Denot Pair)). map (λ (p : LimitHolding g.row.S.Denot Pair). p.limit) news ≡ map (λ (p : LimitHolding g.row.S.Denot Pair). p.limit) ps) value c.run_both.ensures.limits in
+    let dealt = subst (λ ps. Dealt g.S.Slot.shown (records_in c.args.lines.now) (passes_of ps) (passes_of news)) value c.run_both.ensures.pushed.dealt in
+    let limits = subst (λ (ps : List (LimitHolding g.row.S.Denot Pair)). map (λ (p : LimitHolding g.row.S.Denot Pair). p.limit) news ≡ map (λ (p : LimitHolding g.row.S.Denot Pair). p.limit) ps) value c.run_both.ensures.pushed.limits in
     let of = limited-keep popped old new olds news kept dealt.keys limits c.self.invariant.0 in
     let shared = shared-keep popped old new inside.shared kept c.self.invariant.1 in
     subst (λ (ps : List (LimitHolding g.row.S.Denot Pair)). AreLimited new ps × (inside.shared ≡ shared_of new) × All (λ (p : LimitHolding g.row.S.Denot Pair). IsOf inside.shared p.pass) ps) (sym back)
@@ -52,7 +66,7 @@ returns-clause-session g c =
     let after = take inside.passes.len (news ++ drop (length news) olds) in
     let back = kept_back inside.passes.len news (drop (length news) olds) (c.run_both.auto.passes ∙ c.as_mut_slice.ensures.len) in
     let going = subst (λ l. AreGoing l) (sym c.self.view_is) c.requires.going in
-    let dealt = subst (λ ps. Dealt shown more (passes_of ps) (passes_of news)) c.as_mut_slice.ensures.value c.run_both.ensures.dealt in
+    let dealt = subst (λ ps. Dealt shown more (passes_of ps) (passes_of news)) c.as_mut_slice.ensures.value c.run_both.ensures.pushed.dealt in
     subst
     (λ l. (queue : Holding Pair) (limit : Pair) (given left : List Pair) (popped : ℕ) → InLimits shown queue limit given left popped l
     → InLimits shown queue limit (given ++ more) (left_after pair_cmp limit left asks) (popped + pops_in asks) (record { front = new; passes = after }))
@@ -80,6 +94,6 @@ returns-clause-each g c =
     let news = c.run_both.new.passes in
     let records = λ (pass : ℕ). records_for pass c.args.lines.now in
     let back = kept_back inside.passes.len news (drop (length news) olds) (c.run_both.auto.passes ∙ c.as_mut_slice.ensures.len) in
-    let each = subst (λ ps. EachAdds shown records (passes_of ps) (passes_of news)) c.as_mut_slice.ensures.value c.run_both.ensures.each in
+    let each = subst (λ ps. EachAdds shown records (passes_of ps) (passes_of news)) c.as_mut_slice.ensures.value c.run_both.ensures.pushed.each in
     subst (λ l. EachAdds shown records (passes_of l.passes) (passes_of (take inside.passes.len (news ++ drop (length news) olds)))) c.self.view_is
     (subst (λ ps. EachAdds shown records (passes_of olds) (passes_of ps)) (sym back) each)

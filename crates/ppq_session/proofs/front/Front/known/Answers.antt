@@ -1,4 +1,4 @@
-use Rattle.std.proofs.Common.{length, subst, arith, length-append}
+use Rattle.std.proofs.Common.{subst, arith, length-append}
 use Rattle.std.proofs.lemmas.List.{get_or_append_left}
 use Rattle.ppq_pass.specs.ppq_outside.Shown.{AllTell, Tells}
 use Rattle.ppq_pass.specs.ppq_array.Owner.{slots_shown}

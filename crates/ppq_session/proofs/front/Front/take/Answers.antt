@@ -1,4 +1,4 @@
-use Rattle.std.proofs.Common.{◌+◌, ◌-◌, ◌∙◌, length, drop, refl, ap, sym, subst, arith, length-drop}
+use Rattle.std.proofs.Common.{◌+◌, ◌-◌, ◌∙◌, length, refl, ap, sym, subst, arith, length-drop}
 use Rattle.std.specs.Prelude.{count_by}
 use Rattle.ppq_pass.specs.ppq_outside.Shown.{AllTell}
 use Rattle.ppq_queue.specs.Resting.{runs_bag}
