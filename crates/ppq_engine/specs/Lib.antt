@@ -5,6 +5,7 @@ pub use Rattle.ppq_script.specs as ppq_script
 pub use Rattle.ppq_batch.specs.ppq_session as ppq_session
 pub use Rattle.ppq_batch.specs.ppq_load.Reading as Reading
 pub use Rattle.ppq_batch.specs.ppq_load.Refusal as Refusal
+pub mod Calls
 pub mod Deferred
 pub mod Ends
 pub mod Examples
