@@ -9,7 +9,7 @@ use Rattle.ppq_script.specs.ppq_outside.Shown.{Shown, AllTell}
 use Rattle.ppq_script.specs.ppq_outside.Told.{TakesPart}
 use Rattle.ppq_load.specs.ppq_budget.Sizes.{Numbers}
 use Rattle.ppq_script.specs.declared.command.Command.{Command}
-use Rattle.ppq_script.specs.declared.command.Command.TheVariants.{Push, Pop, Top, Size, Bulk, Gen, BulkPop, BulkPopLimit, Drain, BulkBegin, BulkPush, BulkEnd, LimitBegin, LimitPush, LimitTop, LimitPop, LimitEnd}
+use Rattle.ppq_script.specs.declared.command.Command.TheVariants.{Push, Pop, Top, Size, Bulk, Gen, BulkPop, BulkPopLimit, Drain, BulkBegin, LimitBegin}
 use Rattle.ppq_load.specs.ppq_queue.Holding.{Holding}
 use Rattle.ppq_load.specs.ppq_array.declared.store_fault.StoreFault.{StoreFault as QueueFault}
 use Rattle.ppq_load.specs.Refusal.{Keeps, IsRefusedBy}
@@ -20,7 +20,7 @@ use Rattle.ppq_engine.specs.Output.{State, outside, text_of, after, output_from,
 use Rattle.ppq_engine.specs.Parts.{pushed_in, IsAlone}
 use Rattle.ppq_engine.specs.Running.{LendsQueue, WritesPart, StopsFor, PartStops, behind_part}
 use Rattle.ppq_engine.specs.declared.stop.Stop.{Stop}
-use Rattle.ppq_engine.specs.declared.stop.Stop.TheVariants.{Sink, Queue, Read, Memory, Changed}
+use Rattle.ppq_engine.specs.declared.stop.Stop.TheVariants.{Sink, Queue, Memory}
 use Rattle.ppq_engine.proofs.Lines.{alone-begins, bulk-begins_none, bulk-size, bulk-quiet, bulk-bag}
 use Rattle.ppq_engine.proofs.Parts.{bulk_lines}
 use Rattle.ppq_engine.proofs.Popped.{gathers-nothing}
@@ -80,9 +80,7 @@ module _ (first : List Shown) (before now : Option (List ℕ)) (had has : List �
     cut = λ tells given. let g = wrote tells in record { text = g.part; rest = g.rest; all = sym (lone-text given (outside bag) c part e) ∙ g.all; gathers = g.gathers };
     cause = lone-refused fault why;
   }
-  lone-stops Read wrote why = wrote
-  lone-stops Memory wrote why = wrote
-  lone-stops (Changed line said got) wrote why = wrote
+  lone-stops _ wrote why = wrote
 
 -- a bulk session
 module _ (part body : List Command) (lines : List (ℕ × Pair)) (begin : part ≡ BulkBegin ∷ body) (are : body ≡ bulk_lines lines) where
@@ -115,7 +113,6 @@ module _ (part body : List Command) (lines : List (ℕ × Pair)) (begin : part �
   pub session-stops :
       (first : List Shown) (told : Option (List ℕ)) (had : List ℕ) (bag : List Pair) (size peak : ℕ) (sizes : Numbers) (limited : Bool) (slots : List Shown) (stop : Stop)
       → IsBySession stop → StopsFor (max peak (size + length (pushed_in body))) sizes limited slots stop → PartStops first told told had bag size peak part sizes (limited || begins_limit part) slots had stop
-  session-stops first told had bag size peak sizes limited slots Sink by why = absurd by
   session-stops first told had bag size peak sizes limited slots (Queue fault) by why =
       let last = length part - 1 in
       let next : last + 1 ≡ length part = omega (arith, ap (λ (cs : List Command). length cs) whole) in
@@ -137,9 +134,8 @@ module _ (part body : List Command) (lines : List (ℕ × Pair)) (begin : part �
             };
         cause = subst Q (session-size none_go size ∙ ap (size_from none_go size) (sym all)) (subst P (none-flag limited part session-begins) why);
       }
-  session-stops first told had bag size peak sizes limited slots Read by why = absurd by
   session-stops first told had bag size peak sizes limited slots Memory by why = λ tells. gathers-nothing told had
-  session-stops first told had bag size peak sizes limited slots (Changed line said got) by why = absurd by
+  session-stops first told had bag size peak sizes limited slots _ by why = absurd by
 
 -- a limit session
 pub limited-stops :
@@ -161,11 +157,4 @@ lends (Gen seed count) alone no_file no_seed = absurd (no_seed seed count refl)
 lends (BulkPop count) alone no_file no_seed = tt
 lends (BulkPopLimit limit count) alone no_file no_seed = tt
 lends (Drain count) alone no_file no_seed = tt
-lends BulkBegin alone no_file no_seed = absurd alone
-lends (BulkPush pass item) alone no_file no_seed = absurd alone
-lends BulkEnd alone no_file no_seed = absurd alone
-lends (LimitBegin limit) alone no_file no_seed = absurd alone
-lends (LimitPush pass item) alone no_file no_seed = absurd alone
-lends LimitTop alone no_file no_seed = absurd alone
-lends LimitPop alone no_file no_seed = absurd alone
-lends LimitEnd alone no_file no_seed = absurd alone
+lends _ alone no_file no_seed = absurd alone

@@ -10,7 +10,7 @@ use Rattle.ppq_script.specs.ppq_record.Order.{is_before}
 use Rattle.ppq_script.specs.ppq_record.Bag.{IsSameBag, without_front}
 use Rattle.ppq_script.proofs.ppq_record.Order.{count_by-cons, count_by-append, Each-append}
 use Rattle.ppq_script.specs.declared.command.Command.{Command}
-use Rattle.ppq_script.specs.declared.command.Command.TheVariants.{Push, Pop, Top, Size, Bulk, Gen, BulkPop, BulkPopLimit, Drain, BulkBegin, BulkPush, BulkEnd, LimitBegin, LimitPush, LimitTop, LimitPop, LimitEnd}
+use Rattle.ppq_script.specs.declared.command.Command.TheVariants.{Pop, LimitPush, LimitTop, LimitPop}
 use Rattle.ppq_script.specs.declared.session.Session.TheVariants.{InLimit}
 use Rattle.ppq_script.specs.Sessions.{turn_of}
 use Rattle.ppq_load.specs.ppq_session.declared.line.Line.{Line}
@@ -58,19 +58,6 @@ pub record IsLine (workers : ℕ) (limit : Pair) (c : Command) : Type 0 where
   pub all_gone : (n : ℕ) → size_after all_go n c ≤ (n - pops_in (ask_by c)) + length (pushed_by c)
 
 pub line-is : (workers : ℕ) (limit : Pair) (c : Command) → IsLimitLine workers limit c → IsLine workers limit c
-line-is workers limit (Push item) line = absurd line
-line-is workers limit Pop line = absurd line
-line-is workers limit Top line = absurd line
-line-is workers limit Size line = absurd line
-line-is workers limit (Bulk file size) line = absurd line
-line-is workers limit (Gen seed count) line = absurd line
-line-is workers limit (BulkPop count) line = absurd line
-line-is workers limit (BulkPopLimit below count) line = absurd line
-line-is workers limit (Drain count) line = absurd line
-line-is workers limit BulkBegin line = absurd line
-line-is workers limit (BulkPush pass item) line = absurd line
-line-is workers limit BulkEnd line = absurd line
-line-is workers limit (LimitBegin below) line = absurd line
 line-is workers limit (LimitPush pass item) line = record {
   on = refl;
   records = refl;
@@ -98,7 +85,7 @@ line-is workers limit LimitPop line = record {
   none_gone = λ n. omega arith;
   all_gone = λ n. omega arith;
 }
-line-is workers limit LimitEnd line = absurd line
+line-is workers limit _ line = absurd line
 
 -- the same of lines
 module _ (workers : ℕ) (limit : Pair) where
@@ -143,19 +130,6 @@ module _ (workers : ℕ) (limit : Pair) where
       same : IsSameBag next ((added ++ pushed_by c) ++ left_after pair_cmp limit left (ask_by c))
 
     step : (added left bag : List Pair) (popped : ℕ) (c : Command) → IsLimitLine workers limit c → NoneBelow limit added → IsSameBag bag (added ++ left) → IsStep added left bag popped c
-    step added left bag popped (Push item) line none same = absurd line
-    step added left bag popped Pop line none same = absurd line
-    step added left bag popped Top line none same = absurd line
-    step added left bag popped Size line none same = absurd line
-    step added left bag popped (Bulk file size) line none same = absurd line
-    step added left bag popped (Gen seed count) line none same = absurd line
-    step added left bag popped (BulkPop count) line none same = absurd line
-    step added left bag popped (BulkPopLimit below count) line none same = absurd line
-    step added left bag popped (Drain count) line none same = absurd line
-    step added left bag popped BulkBegin line none same = absurd line
-    step added left bag popped (BulkPush pass item) line none same = absurd line
-    step added left bag popped BulkEnd line none same = absurd line
-    step added left bag popped (LimitBegin below) line none same = absurd line
     step added left bag popped (LimitPush pass item) line none same = record {
       next = item ∷ bag;
       count = popped;
@@ -179,7 +153,7 @@ module _ (workers : ℕ) (limit : Pair) where
       state = refl;
       same = λ p. left-beside limit bag added left none same p ∙ ap (λ (xs : List Pair). count_by p (xs ++ left_by pair_cmp limit left ask.Pop)) (sym (append-nil added));
     }
-    step added left bag popped LimitEnd line none same = absurd line
+    step added left bag popped _ line none same = absurd line
 
     more_none : (added : List Pair) (c : Command) → IsLimitLine workers limit c → NoneBelow limit added → NoneBelow limit (added ++ pushed_by c)
     more_none added c line none = Each-append (λ (x : Pair). is_before pair_cmp x limit ≡ false) added (pushed_by c) none (line-is workers limit c line).none

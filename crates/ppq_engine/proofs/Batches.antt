@@ -8,7 +8,7 @@ use Rattle.ppq_script.specs.ppq_record.declared.pair.Pair.{Pair}
 use Rattle.ppq_script.specs.ppq_record.Pair.{pair_cmp}
 use Rattle.ppq_script.specs.ppq_record.Order.{is_before}
 use Rattle.ppq_script.specs.declared.command.Command.{Command}
-use Rattle.ppq_script.specs.declared.command.Command.TheVariants.{Push, Pop, Top, Size, Bulk, Gen, BulkPop, BulkPopLimit, Drain, BulkBegin, BulkPush, BulkEnd, LimitBegin, LimitPush, LimitTop, LimitPop, LimitEnd}
+use Rattle.ppq_script.specs.declared.command.Command.TheVariants.{LimitPush, LimitTop, LimitPop, LimitEnd}
 use Rattle.ppq_script.specs.declared.session.Session.TheVariants.{InLimit}
 use Rattle.ppq_script.specs.Sessions.{are_in_place}
 use Rattle.ppq_script.specs.Reading.{Reading, command_list}
@@ -24,19 +24,6 @@ abbrev pub StandsIn : ℕ → Pair → Command → List Command → Type 0
 StandsIn workers limit c cs = (IsLimitLine workers limit c × (are_in_place workers (InLimit limit) cs ≡ true)) ⊎ (c ≡ LimitEnd)
 
 pub stands-in : (workers : ℕ) (limit : Pair) (c : Command) (cs : List Command) → are_in_place workers (InLimit limit) (c ∷ cs) ≡ true → StandsIn workers limit c cs
-stands-in workers limit (Push item) cs e = absurd (cc)
-stands-in workers limit Pop cs e = absurd (cc)
-stands-in workers limit Top cs e = absurd (cc)
-stands-in workers limit Size cs e = absurd (cc)
-stands-in workers limit (Bulk file size) cs e = absurd (cc)
-stands-in workers limit (Gen seed count) cs e = absurd (cc)
-stands-in workers limit (BulkPop count) cs e = absurd (cc)
-stands-in workers limit (BulkPopLimit below count) cs e = absurd (cc)
-stands-in workers limit (Drain count) cs e = absurd (cc)
-stands-in workers limit BulkBegin cs e = absurd (cc)
-stands-in workers limit (BulkPush pass item) cs e = absurd (cc)
-stands-in workers limit BulkEnd cs e = absurd (cc)
-stands-in workers limit (LimitBegin below) cs e = absurd (cc)
 stands-in workers limit (LimitPush pass item) cs e =
     let low = is_before pair_cmp item limit in
     let all = and_parts (not low && nat_lt pass workers) (are_in_place workers (InLimit limit) cs) e in
@@ -45,6 +32,7 @@ stands-in workers limit (LimitPush pass item) cs e =
 stands-in workers limit LimitTop cs e = inl (tt, e)
 stands-in workers limit LimitPop cs e = inl (tt, e)
 stands-in workers limit LimitEnd cs e = inr refl
+stands-in workers limit _ cs e = absurd (cc)
 
 some_in : (workers : ℕ) (limit : Pair) (cs : List Command) → are_in_place workers (InLimit limit) cs ≡ true → 0 < length cs
 some_in workers limit [] e = cc

@@ -215,8 +215,6 @@ module _ (given : ℕ → List Pair) (workers : ℕ) where
   step : (state : State) (other : Deferred) (command : Command) → AreAlike state other → may_stand workers state.session command ≡ true → AreAlike (after given state command) (after_deferred given other command)
   step state other (Push item) is h = adds state other is h (item ∷ [])
   step state other Pop is h = drops state other is h 1
-  step state other Top is h = is
-  step state other Size is h = is
   step state other (Bulk file size) is h = adds state other is h (given file)
   step state other (Gen seed count) is h = adds state other is h (generated seed count)
   step state other (BulkPop count) is h = drops state other is h count
@@ -228,7 +226,6 @@ module _ (given : ℕ → List Pair) (workers : ℕ) where
   step state other BulkEnd is h = ends state other is
   step state other (LimitBegin limit) is h = begins state other is h (InLimit limit) tt
   step state other (LimitPush pass item) is h = defers state other is item (stays-limit state.session other.pushed item (both (is_at_limit state.session item) _ h).0 is.waits)
-  step state other LimitTop is h = is
   step state other LimitPop is h = record {
     session = is.session;
     popped = ap₂ (λ (m n : ℕ). m + n) is.popped (ap (λ (s : Session). length (least_in s other.bag)) is.session ∙ popped-is state.bag other.pushed other.bag is.bag state.session h is.waits);
@@ -238,27 +235,20 @@ module _ (given : ℕ → List Pair) (workers : ℕ) where
     waits = is.waits;
   }
   step state other LimitEnd is h = ends state other is
+  step state other _ is h = is
 
   text : (state : State) (other : Deferred) (command : Command) → AreAlike state other → may_stand workers state.session command ≡ true → text_deferred other command ≡ text_of state command
-  text state other (Push item) is h = refl
   text state other Pop is h = prints state other is h (λ xs. least_text (first_of (take 1 xs)))
   text state other Top is h = prints state other is h (λ xs. least_text (first_of (take 1 xs)))
   text state other Size is h = ap size_text (sym (IsSameBag-length state.bag other.bag (bag-is state other is h)))
-  text state other (Bulk file size) is h = refl
-  text state other (Gen seed count) is h = refl
   text state other (BulkPop count) is h = prints state other is h (λ xs. lines_text (take count xs))
   text state other (BulkPopLimit limit count) is h =
       let same = bag-is state other is h in
       ap₂ (λ (a b : List ℕ). a ++ b) (ap lines_text (sym (front-below limit state.bag [] other.bag tt same count))) (mark-below limit state.bag [] other.bag tt same count)
   text state other (Drain count) is h = prints state other is h (λ xs. summary_text (take count xs))
-  text state other BulkBegin is h = refl
-  text state other (BulkPush pass item) is h = refl
-  text state other BulkEnd is h = refl
-  text state other (LimitBegin limit) is h = refl
-  text state other (LimitPush pass item) is h = refl
   text state other LimitTop is h = ap (λ (s : Session). limited_text (first_of (least_in s other.bag))) is.session ∙ ap limited_text (least-is state.bag other.pushed other.bag is.bag state.session h is.waits)
   text state other LimitPop is h = ap (λ (s : Session). limited_text (first_of (least_in s other.bag))) is.session ∙ ap limited_text (least-is state.bag other.pushed other.bag is.bag state.session h is.waits)
-  text state other LimitEnd is h = refl
+  text state other _ is h = refl
 
   counts : (state : State) (other : Deferred) → AreAlike state other → counted_deferred given other ≡ counted_in given state
   counts state other is = omega (arith, IsSameBag-length state.bag (other.pushed ++ other.bag) is.bag, length-append other.pushed other.bag, is.popped)
@@ -268,22 +258,7 @@ module _ (given : ℕ → List Pair) (workers : ℕ) where
 
   turns : (state : State) (command : Command) → unwrap_or (turn_of command) state.session ≡ (after given state command).session
   turns state (Push item) = refl
-  turns state Pop = refl
-  turns state Top = refl
-  turns state Size = refl
-  turns state (Bulk file size) = refl
-  turns state (Gen seed count) = refl
-  turns state (BulkPop count) = refl
-  turns state (BulkPopLimit limit count) = refl
-  turns state (Drain count) = refl
-  turns state BulkBegin = refl
-  turns state (BulkPush pass item) = refl
-  turns state BulkEnd = refl
-  turns state (LimitBegin limit) = refl
-  turns state (LimitPush pass item) = refl
-  turns state LimitTop = refl
-  turns state LimitPop = refl
-  turns state LimitEnd = refl
+  turns state _ = refl
 
   -- both definitions agree from here on
   record AgreesFrom (state : State) (other : Deferred) (commands : List Command) : Type 0 where

@@ -42,18 +42,8 @@ module _ (told : Option (List ℕ → Option (List ℕ))) (replied : Reply → T
   says-later : (slots later : List Shown) (end : End) → SameSlots slots later → all_writes slots ≤ all_writes later → Says slots end → Says later end
   says-later slots later Done same more says =
       (λ tells files is. record { took = (says.0 tells files is).took; crest = fits-more (crest_of (given_of files script) (command_list script)) sizes slots later (says.0 tells files is).crest more }, fits-more (least_of (command_list script)) sizes slots later says.1 more, says.2)
-  says-later slots later (BadLine line) same more says = says
-  says-later slots later Usage same more says = says
-  says-later slots later ReadFault same more says = says
-  says-later slots later WriteFault same more says = says
   says-later slots later (DeviceFault number) same more says = omega (arith, says, same.faults number)
-  says-later slots later NoFreeBlock same more says = says
-  says-later slots later (BudgetTooSmall need) same more says = says
-  says-later slots later Memory same more says = says
-  says-later slots later (FileChanged line said got) same more says = says
-  says-later slots later NoDevice same more says = says
-  says-later slots later NoScript same more says = says
-  says-later slots later ScriptTooLong same more says = says
+  says-later slots later _ same more says = says
 
   module _ (slots later : List Shown) (end : End) (same : SameSlots slots later) (more : all_writes slots ≤ all_writes later) (says : Says slots end) where
     says-is : (wanted : End) → end ≡ wanted → Says later wanted
@@ -79,19 +69,14 @@ module _ (told : Option (List ℕ → Option (List ℕ))) (replied : Reply → T
 
   -- of an open queue an end has one of the causes that come after the beginning
   began : (slots : List Shown) (end : End) → Says slots end → BeganOrRefused None end
-  began slots Done says = inl tt
   began slots (BadLine line) says = absurd says
   began slots Usage says = absurd says
-  began slots ReadFault says = inl tt
-  began slots WriteFault says = inl tt
-  began slots (DeviceFault number) says = inl tt
-  began slots NoFreeBlock says = inl tt
   began slots (BudgetTooSmall need) says = absurd says
   began slots Memory says = inr refl
-  began slots (FileChanged line said got) says = inl tt
   began slots NoDevice says = absurd says
   began slots NoScript says = absurd says
   began slots ScriptTooLong says = absurd says
+  began slots _ says = inl tt
 
   pub says-began : (slots : List Shown) (end : End) → Says slots end → fixed_of sizes ≤ sizes.memory → BeganOrRefused (budget_refusal sizes) end
   says-began slots end says enough =
@@ -104,18 +89,13 @@ module _ (told : Option (List ℕ → Option (List ℕ))) (replied : Reply → T
       (slots : List Shown) (end : End) → Says slots end → IsQuiet sink sink_now → IsQuiet library library_now → NoneFailed slots
       → (end ≡ NoFreeBlock → ⊥) → IsCompleted told end
   says-completed slots Done says s l none room = tt
-  says-completed slots (BadLine line) says s l none room = says
-  says-completed slots Usage says s l none room = says
   says-completed slots ReadFault says s l none room = not_quiet library library_now says l
   says-completed slots WriteFault says s l none room = not_quiet sink sink_now says s
   says-completed slots (DeviceFault number) says s l none room = none number says
   says-completed slots NoFreeBlock says s l none room = room refl
-  says-completed slots (BudgetTooSmall need) says s l none room = says
   says-completed slots Memory says s l none room = tt
   says-completed slots (FileChanged line said got) says s l none room = says.0.untold
-  says-completed slots NoDevice says s l none room = says
-  says-completed slots NoScript says s l none room = says
-  says-completed slots ScriptTooLong says s l none room = says
+  says-completed slots _ says s l none room = says
 
   module _ (slots later : List Shown) (end : End) (same : SameSlots slots later) (more : all_writes slots ≤ all_writes later) (says : Says slots end) where
     pub end-complete :

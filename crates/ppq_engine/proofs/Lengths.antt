@@ -8,7 +8,7 @@ use Rattle.ppq_script.specs.ppq_record.Given.{records_of}
 use Rattle.ppq_load.proofs.ppq_block.Blocks.{length-records_from}
 use Rattle.ppq_script.specs.ppq_outside.Told.{bytes_or_none}
 use Rattle.ppq_script.specs.declared.command.Command.{Command}
-use Rattle.ppq_script.specs.declared.command.Command.TheVariants.{Push, Pop, Top, Size, Bulk, Gen, BulkPop, BulkPopLimit, Drain, BulkBegin, BulkPush, BulkEnd, LimitBegin, LimitPush, LimitTop, LimitPop, LimitEnd}
+use Rattle.ppq_script.specs.declared.command.Command.TheVariants.{Bulk}
 use Rattle.ppq_script.specs.declared.numbered.Numbered.{Numbered}
 use Rattle.ppq_script.specs.Files.{file_in, name_at}
 use Rattle.ppq_script.specs.Checking.{with_size, with_sizes}
@@ -43,26 +43,11 @@ file-bag told script i file size command name bag next here is named loaded file
 
 -- a command that was given the length of its file has it
 sized : (files : List ℕ → Option (List ℕ)) (names : List (List ℕ)) (command : Command) (file size : ℕ) → with_size files names (file_in command) command ≡ Bulk file size → length (bytes_or_none (files (name_at names file))) ≡ size
-sized files names (Push item) file size e = cc
-sized files names Pop file size e = cc
-sized files names Top file size e = cc
-sized files names Size file size e = cc
 sized files names (Bulk f s) file size e =
     let same : f ≡ file = cc in
     let long : length (bytes_or_none (files (name_at names f))) ≡ size = cc in
     ap (λ (n : ℕ). length (bytes_or_none (files (name_at names n)))) (sym same) ∙ long
-sized files names (Gen seed count) file size e = cc
-sized files names (BulkPop count) file size e = cc
-sized files names (BulkPopLimit limit count) file size e = cc
-sized files names (Drain count) file size e = cc
-sized files names BulkBegin file size e = cc
-sized files names (BulkPush pass item) file size e = cc
-sized files names BulkEnd file size e = cc
-sized files names (LimitBegin limit) file size e = cc
-sized files names (LimitPush pass item) file size e = cc
-sized files names LimitTop file size e = cc
-sized files names LimitPop file size e = cc
-sized files names LimitEnd file size e = cc
+sized files names _ file size e = cc
 
 sized_at :
     (files : List ℕ → Option (List ℕ)) (names : List (List ℕ)) (items : List Numbered) (i file size : ℕ) → slice_get (map (λ n. n.command) (with_sizes files names items)) i ≡ Some (Bulk file size)

@@ -7,6 +7,7 @@ pub mod Deferred
 pub mod Ending
 pub mod Kept
 pub mod Lengths
+pub mod Libraries
 pub mod LimitParts
 pub mod Limited
 pub mod Lines
@@ -21,3 +22,4 @@ pub mod Sizes
 pub mod Slots
 pub mod Steps
 pub mod Stops
+pub mod Turns

@@ -18,21 +18,23 @@ use Rattle.ppq_script.specs.Reading.{Reading, command_list}
 use Rattle.ppq_load.specs.ppq_queue.Holding.{Holding}
 use Rattle.ppq_load.specs.ppq_array.declared.store_fault.StoreFault.{StoreFault as QueueFault}
 use Rattle.ppq_load.specs.ppq_array.declared.store_fault.StoreFault.TheVariants.{NoFreeBlock, Device}
-use Rattle.ppq_load.specs.Refusal.{Keeps, IsRefusedBy}
+use Rattle.ppq_load.specs.Refusal.{IsRefusedBy}
 use Rattle.ppq_load.proofs.Refusals.{cause-later}
 use Rattle.ppq_load.specs.ppq_session.declared.ask.Ask.{Ask}
 use Rattle.ppq_load.specs.ppq_session.Asks.{pops_in, left_after, answers_to}
-use Rattle.ppq_load.specs.Limits.{LimitsHolding, InLimits, AreGoing, IsOver, begun_in}
+use Rattle.ppq_load.specs.Limits.{LimitsHolding, InLimits, AreGoing, IsOver}
+use Rattle.ppq_engine.specs.Calls.{RunsPart}
 use Rattle.ppq_engine.specs.Files.{IsBySession}
 use Rattle.ppq_engine.specs.Gathers.{Gathers}
 use Rattle.ppq_engine.specs.Loads.{none_go, all_go, size_after, size_from}
-use Rattle.ppq_engine.specs.Output.{State, outside, state_from, output_from}
+use Rattle.ppq_engine.specs.Output.{State, outside, state_from, output_from, given_of}
 use Rattle.ppq_engine.specs.Parts.{up_to_end, pushed_in, limit_part}
 use Rattle.ppq_engine.specs.Popping.{IsByLimit}
 use Rattle.ppq_engine.specs.Running.{GathersPart, CutAt, RefusedAt, PartStops, StopsFor, SinkAfter}
 use Rattle.ppq_engine.specs.Limits.{ask_by, asks_in, answers_text, answers_of, AreLimitLines, IsInLimit, HasBegun, RunsLines, BreaksOff, behind_limit}
 use Rattle.ppq_engine.specs.declared.stop.Stop.{Stop}
-use Rattle.ppq_engine.specs.declared.stop.Stop.TheVariants.{Sink, Queue, Read, Memory, Changed}
+use Rattle.ppq_engine.specs.declared.stop.Stop.TheVariants.{Sink, Queue, Memory}
+use Rattle.ppq_engine.proofs.Advancing.{Keeps-begun}
 use Rattle.ppq_engine.proofs.Asked.{inside, lines-high, lines-low, lines-output, lines-bag}
 use Rattle.ppq_engine.proofs.Batches.{stands-in, lines-up_to}
 use Rattle.ppq_engine.proofs.Popped.{gathers-nothing}
@@ -184,39 +186,28 @@ module _ {S : Type 0} (shown : S → Shown) (script : Reading) (place : ℕ) (qu
         ok : (A : Type 0) → (SessionWhole new → A) → OnOk s A
         ok A f = let P : Result ℕ Stop → Type 0 = λ x. OnOk x A in subst P (sym e) (ended-ok A f ran ended run)
 
-        pub ended-text : OnOk s (AllTell queue.slots → (given : ℕ → List Pair) → Gathers before now had (output_from given (outside queue.bag) part) has)
-        ended-text =
-            ok (AllTell queue.slots → (given : ℕ → List Pair) → Gathers before now had (output_from given (outside queue.bag) part) has)
-            (λ w tells given.
-            let P : List ℕ → Type 0 = λ t. Gathers before now had t has in
-            subst P (sym (ap (output_from given (outside queue.bag)) w.is ∙ whole-output script.workers limit w.lines w.are given queue.bag)) (w.gathers tells))
-
-        pub ended-bag : OnOk s (AllTell queue.slots → (given : ℕ → List Pair) → IsSameBag new.bag (state_from given (outside queue.bag) part).bag)
-        ended-bag =
-            ok (AllTell queue.slots → (given : ℕ → List Pair) → IsSameBag new.bag (state_from given (outside queue.bag) part).bag)
-            (λ w tells given p.
-            (w.over tt).bag tells p ∙ sym (whole-bag script.workers limit w.lines w.are given queue.bag p) ∙ ap (λ (cs : List Command). count_by p (state_from given (outside queue.bag) cs).bag) (sym w.is))
-
-        pub ended-low : OnOk s (size_from all_go queue.size part ≤ new.size)
-        ended-low =
-            ok (size_from all_go queue.size part ≤ new.size)
-            (λ w. omega (arith, ap (size_from all_go queue.size) w.is, whole-low script.workers limit w.lines w.are queue.size, (w.over tt).low, (w.over tt).least))
-
-        pub ended-high : OnOk s (new.size ≤ size_from none_go queue.size part)
-        ended-high =
-            ok (new.size ≤ size_from none_go queue.size part)
-            (λ w. omega (arith, ap (size_from none_go queue.size) w.is, whole-high script.workers limit w.lines w.are queue.size, (w.over tt).high))
-
-        pub ended-sound : OnOk s (new.failed ≡ None)
-        ended-sound = ok (new.failed ≡ None) (λ w. (w.over tt).sound)
-
-        pub ended-peak : OnOk s (new.peak ≤ max queue.peak (size_from none_go queue.size part))
-        ended-peak =
-            ok (new.peak ≤ max queue.peak (size_from none_go queue.size part))
-            (λ w. omega (arith, ap (size_from none_go queue.size) w.is, whole-high script.workers limit w.lines w.are queue.size, (w.over tt).peak))
-
-        pub ended-kept : OnOk s (Keeps (begun_in queue) new)
-        ended-kept = ok (Keeps (begun_in queue) new) (λ w. (w.over tt).kept)
+        -- what stands of it, whatever files a library has
+        pub ended-runs : OnOk s ((told : Option (List ℕ → Option (List ℕ))) → RunsPart told script queue new before now had has part)
+        ended-runs =
+            ok ((told : Option (List ℕ → Option (List ℕ))) → RunsPart told script queue new before now had has part)
+            (λ w told.
+            let over = w.over tt in
+            let most : size_from none_go queue.size part ≡ queue.size + length (pushed_in w.lines) = ap (size_from none_go queue.size) w.is ∙ whole-high script.workers limit w.lines w.are queue.size in
+            record {
+              text =
+                  λ tells given.
+                  let P : List ℕ → Type 0 = λ t. Gathers before now had t has in
+                  subst P (sym (ap (output_from given (outside queue.bag)) w.is ∙ whole-output script.workers limit w.lines w.are given queue.bag)) (w.gathers tells);
+              bag =
+                  λ tells files are p.
+                  let given = given_of files script in
+                  over.bag tells p ∙ sym (whole-bag script.workers limit w.lines w.are given queue.bag p) ∙ ap (λ (cs : List Command). count_by p (state_from given (outside queue.bag) cs).bag) (sym w.is);
+              low = omega (arith, ap (size_from all_go queue.size) w.is, whole-low script.workers limit w.lines w.are queue.size, over.low, over.least);
+              high = omega (arith, most, over.high);
+              sound = over.sound;
+              peak = omega (arith, most, over.peak);
+              kept = Keeps-begun queue new part (up_to_end (drop (place + 1) (command_list script))) limit refl over.kept;
+            })
 
     -- the queue refused: up to the last line that was run all is gathered, or what was answered before a call of a slot failed
     refused-part :
@@ -303,24 +294,18 @@ begin-stopped told had queue slots limit body (Queue fault) some cause by = reco
   cut = λ tells given. record { text = []; rest = output_from given (outside queue.bag) (LimitBegin limit ∷ body); all = refl; gathers = gathers-nothing told had };
   cause = cause-later queue.sizes true true queue.peak (max queue.peak queue.size) some (λ same. same) (omega arith) slots fault cause;
 }
-begin-stopped told had queue slots limit body Read some cause by = λ tells. gathers-nothing told had
-begin-stopped told had queue slots limit body Memory some cause by = λ tells. gathers-nothing told had
-begin-stopped told had queue slots limit body (Changed line said got) some cause by = λ tells. gathers-nothing told had
+begin-stopped told had queue slots limit body _ some cause by = λ tells. gathers-nothing told had
 
 -- it was neither the sink nor a file
 pub session-by_limit : (stop : Stop) → IsBySession stop → IsByLimit stop
-session-by_limit Sink by = absurd by
 session-by_limit (Queue fault) by = tt
-session-by_limit Read by = absurd by
 session-by_limit Memory by = tt
-session-by_limit (Changed line said got) by = absurd by
+session-by_limit _ by = absurd by
 
 pub session-cause : (faults : ℕ) (stop : Stop) → IsBySession stop → SinkAfter faults faults stop
-session-cause faults Sink by = absurd by
 session-cause faults (Queue fault) by = refl
-session-cause faults Read by = absurd by
 session-cause faults Memory by = refl
-session-cause faults (Changed line said got) by = absurd by
+session-cause faults _ by = absurd by
 
 -- the place behind, and what stopped
 ended_next : (G : Type 0) (next : ℕ) (ran : Result ℕ Failed) (ended : Result ⊤ QueueFault) → IfOk ran (λ n. G → n ≡ next) → OnOk ended G → IfOk (behind_limit ran ended) (λ n. n ≡ next)

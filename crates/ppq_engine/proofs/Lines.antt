@@ -58,15 +58,6 @@ limit-outside limit (ToTop ∷ ls) = limit-outside limit ls
 limit-outside limit (ToPop ∷ ls) = limit-outside limit ls
 
 alone-outside : (c : Command) → IsAlone c → session_from Outside (c ∷ []) ≡ Outside
-alone-outside (Push item) alone = refl
-alone-outside Pop alone = refl
-alone-outside Top alone = refl
-alone-outside Size alone = refl
-alone-outside (Bulk file size) alone = refl
-alone-outside (Gen seed count) alone = refl
-alone-outside (BulkPop count) alone = refl
-alone-outside (BulkPopLimit limit count) alone = refl
-alone-outside (Drain count) alone = refl
 alone-outside BulkBegin alone = absurd alone
 alone-outside (BulkPush pass item) alone = absurd alone
 alone-outside BulkEnd alone = absurd alone
@@ -75,6 +66,7 @@ alone-outside (LimitPush pass item) alone = absurd alone
 alone-outside LimitTop alone = absurd alone
 alone-outside LimitPop alone = absurd alone
 alone-outside LimitEnd alone = absurd alone
+alone-outside _ alone = refl
 
 shape-outside : (shape : Shape) → session_from Outside (commands_in shape) ≡ Outside
 shape-outside (Lone c alone) = alone-outside c alone
@@ -132,15 +124,6 @@ part-begins n part is =
 
 -- one command begins none, and neither does a bulk session
 pub alone-begins : (c : Command) (part : List Command) → IsAlone c → part ≡ c ∷ [] → begins_limit part ≡ false
-alone-begins (Push item) part alone e = ap begins_limit e
-alone-begins Pop part alone e = ap begins_limit e
-alone-begins Top part alone e = ap begins_limit e
-alone-begins Size part alone e = ap begins_limit e
-alone-begins (Bulk file size) part alone e = ap begins_limit e
-alone-begins (Gen seed count) part alone e = ap begins_limit e
-alone-begins (BulkPop count) part alone e = ap begins_limit e
-alone-begins (BulkPopLimit limit count) part alone e = ap begins_limit e
-alone-begins (Drain count) part alone e = ap begins_limit e
 alone-begins BulkBegin part alone e = absurd alone
 alone-begins (BulkPush pass item) part alone e = absurd alone
 alone-begins BulkEnd part alone e = absurd alone
@@ -149,6 +132,7 @@ alone-begins (LimitPush pass item) part alone e = absurd alone
 alone-begins LimitTop part alone e = absurd alone
 alone-begins LimitPop part alone e = absurd alone
 alone-begins LimitEnd part alone e = absurd alone
+alone-begins _ part alone e = ap begins_limit e
 
 pub bulk-begins_none : (part : List Command) (lines : List (ℕ × Pair)) → part ≡ BulkBegin ∷ bulk_lines lines → begins_limit part ≡ false
 bulk-begins_none part lines e = ap begins_limit e ∙ all-begins lines
@@ -186,15 +170,6 @@ module _ (given : ℕ → List Pair) where
   limit-closed limit bag popped (ToPop ∷ ls) = let n = limited_count bag limit 1 in limit-closed limit (without_front pair_cmp bag n) (popped + n) ls
 
   alone-closed : (bag : List Pair) (c : Command) → IsAlone c → after given (outside bag) c ≡ outside (after given (outside bag) c).bag
-  alone-closed bag (Push item) alone = refl
-  alone-closed bag Pop alone = refl
-  alone-closed bag Top alone = refl
-  alone-closed bag Size alone = refl
-  alone-closed bag (Bulk file size) alone = refl
-  alone-closed bag (Gen seed count) alone = refl
-  alone-closed bag (BulkPop count) alone = refl
-  alone-closed bag (BulkPopLimit limit count) alone = refl
-  alone-closed bag (Drain count) alone = refl
   alone-closed bag BulkBegin alone = absurd alone
   alone-closed bag (BulkPush pass item) alone = absurd alone
   alone-closed bag BulkEnd alone = absurd alone
@@ -203,6 +178,7 @@ module _ (given : ℕ → List Pair) where
   alone-closed bag LimitTop alone = absurd alone
   alone-closed bag LimitPop alone = absurd alone
   alone-closed bag LimitEnd alone = absurd alone
+  alone-closed bag _ alone = refl
 
   shape-closed : (bag : List Pair) (shape : Shape) → state_from given (outside bag) (commands_in shape) ≡ outside (state_from given (outside bag) (commands_in shape)).bag
   shape-closed bag (Lone c alone) = alone-closed bag c alone
@@ -242,14 +218,7 @@ module _ (given : ℕ → List Pair) where
   alone-grows bag (BulkPop count) alone long = omega arith
   alone-grows bag (BulkPopLimit limit count) alone long = omega arith
   alone-grows bag (Drain count) alone long = omega arith
-  alone-grows bag BulkBegin alone long = absurd alone
-  alone-grows bag (BulkPush pass item) alone long = absurd alone
-  alone-grows bag BulkEnd alone long = absurd alone
-  alone-grows bag (LimitBegin limit) alone long = absurd alone
-  alone-grows bag (LimitPush pass item) alone long = absurd alone
-  alone-grows bag LimitTop alone long = absurd alone
-  alone-grows bag LimitPop alone long = absurd alone
-  alone-grows bag LimitEnd alone long = absurd alone
+  alone-grows bag _ alone long = absurd alone
 
   bulk-grows : (bag : List Pair) (lines : List (ℕ × Pair)) (m : ℕ) → size_from none_go (length bag) (take m (bulk_lines lines)) ≤ max (length bag) (load_from given (in_bulk bag) (take m (bulk_lines lines)))
   bulk-grows bag lines zero = omega arith

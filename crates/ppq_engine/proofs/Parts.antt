@@ -77,41 +77,14 @@ pub record Reads (L : Type 0) (spelled : List L → List Command) (workers : ℕ
 
 pub bulk-reads : (workers : ℕ) (cs : List Command) → are_in_place workers InBulk cs ≡ true → Reads (ℕ × Pair) bulk_lines workers cs
 bulk-reads workers [] e = cc
-bulk-reads workers (Push item ∷ cs) e = cc
-bulk-reads workers (Pop ∷ cs) e = cc
-bulk-reads workers (Top ∷ cs) e = cc
-bulk-reads workers (Size ∷ cs) e = cc
-bulk-reads workers (Bulk file size ∷ cs) e = cc
-bulk-reads workers (Gen seed count ∷ cs) e = cc
-bulk-reads workers (BulkPop count ∷ cs) e = cc
-bulk-reads workers (BulkPopLimit limit count ∷ cs) e = cc
-bulk-reads workers (Drain count ∷ cs) e = cc
-bulk-reads workers (BulkBegin ∷ cs) e = cc
 bulk-reads workers (BulkPush pass item ∷ cs) e =
     let r = bulk-reads workers cs (behind-push workers pass item cs e).1 in
     record { lines = (pass, item) ∷ r.lines; are = ap (λ (xs : List Command). BulkPush pass item ∷ xs) r.are; behind = r.behind }
 bulk-reads workers (BulkEnd ∷ cs) e = record { lines = []; are = refl; behind = e }
-bulk-reads workers (LimitBegin limit ∷ cs) e = cc
-bulk-reads workers (LimitPush pass item ∷ cs) e = cc
-bulk-reads workers (LimitTop ∷ cs) e = cc
-bulk-reads workers (LimitPop ∷ cs) e = cc
-bulk-reads workers (LimitEnd ∷ cs) e = cc
+bulk-reads workers (_ ∷ cs) e = cc
 
 limit-reads : (workers : ℕ) (limit : Pair) (cs : List Command) → are_in_place workers (InLimit limit) cs ≡ true → Reads LimitLine limit_lines workers cs
 limit-reads workers limit [] e = cc
-limit-reads workers limit (Push item ∷ cs) e = cc
-limit-reads workers limit (Pop ∷ cs) e = cc
-limit-reads workers limit (Top ∷ cs) e = cc
-limit-reads workers limit (Size ∷ cs) e = cc
-limit-reads workers limit (Bulk file size ∷ cs) e = cc
-limit-reads workers limit (Gen seed count ∷ cs) e = cc
-limit-reads workers limit (BulkPop count ∷ cs) e = cc
-limit-reads workers limit (BulkPopLimit below count ∷ cs) e = cc
-limit-reads workers limit (Drain count ∷ cs) e = cc
-limit-reads workers limit (BulkBegin ∷ cs) e = cc
-limit-reads workers limit (BulkPush pass item ∷ cs) e = cc
-limit-reads workers limit (BulkEnd ∷ cs) e = cc
-limit-reads workers limit (LimitBegin other ∷ cs) e = cc
 limit-reads workers limit (LimitPush pass item ∷ cs) e =
     let r = limit-reads workers limit cs (behind-limit_push workers limit pass item cs e).1.1 in
     record { lines = ToPush pass item ∷ r.lines; are = ap (λ (xs : List Command). LimitPush pass item ∷ xs) r.are; behind = r.behind }
@@ -122,6 +95,7 @@ limit-reads workers limit (LimitPop ∷ cs) e =
     let r = limit-reads workers limit cs e in
     record { lines = ToPop ∷ r.lines; are = ap (λ (xs : List Command). LimitPop ∷ xs) r.are; behind = r.behind }
 limit-reads workers limit (LimitEnd ∷ cs) e = record { lines = []; are = refl; behind = e }
+limit-reads workers limit (_ ∷ cs) e = cc
 
 -- commands from outside of a session on begin with a part, and none is open behind it
 record Begins (workers : ℕ) (cs : List Command) : Type 0 where
@@ -141,27 +115,13 @@ begins workers (Drain count) cs e = record { is = (Lone (Drain count) tt, refl);
 begins workers BulkBegin cs e =
     let r = bulk-reads workers cs e in
     record { is = (OfBulk r.lines, ap (λ (xs : List Command). BulkBegin ∷ xs) r.are); behind = r.behind }
-begins workers (BulkPush pass item) cs e = cc
-begins workers BulkEnd cs e = cc
 begins workers (LimitBegin limit) cs e =
     let r = limit-reads workers limit cs e in
     record { is = (OfLimit limit r.lines, ap (λ (xs : List Command). LimitBegin limit ∷ xs) r.are); behind = r.behind }
-begins workers (LimitPush pass item) cs e = cc
-begins workers LimitTop cs e = cc
-begins workers LimitPop cs e = cc
-begins workers LimitEnd cs e = cc
+begins workers _ cs e = cc
 
 -- a command that may stand outside of a session and begins none is a part alone
 alone-part : (workers : ℕ) (c : Command) (cs : List Command) → are_in_place workers Outside (c ∷ cs) ≡ true → (c ≡ BulkBegin → ⊥) → ((limit : Pair) → c ≡ LimitBegin limit → ⊥) → IsAlone c × (first_part (c ∷ cs) ≡ c ∷ [])
-alone-part workers (Push item) cs e no_bulk no_limit = (tt, refl)
-alone-part workers Pop cs e no_bulk no_limit = (tt, refl)
-alone-part workers Top cs e no_bulk no_limit = (tt, refl)
-alone-part workers Size cs e no_bulk no_limit = (tt, refl)
-alone-part workers (Bulk file size) cs e no_bulk no_limit = (tt, refl)
-alone-part workers (Gen seed count) cs e no_bulk no_limit = (tt, refl)
-alone-part workers (BulkPop count) cs e no_bulk no_limit = (tt, refl)
-alone-part workers (BulkPopLimit limit count) cs e no_bulk no_limit = (tt, refl)
-alone-part workers (Drain count) cs e no_bulk no_limit = (tt, refl)
 alone-part workers BulkBegin cs e no_bulk no_limit = absurd (no_bulk refl)
 alone-part workers (BulkPush pass item) cs e no_bulk no_limit = cc
 alone-part workers BulkEnd cs e no_bulk no_limit = cc
@@ -170,6 +130,7 @@ alone-part workers (LimitPush pass item) cs e no_bulk no_limit = cc
 alone-part workers LimitTop cs e no_bulk no_limit = cc
 alone-part workers LimitPop cs e no_bulk no_limit = cc
 alone-part workers LimitEnd cs e no_bulk no_limit = cc
+alone-part workers _ cs e no_bulk no_limit = (tt, refl)
 
 -- such commands are the first of those from which they are taken
 cut-is : (b : Bool) (xs ys cs : List Command) → xs ≡ take (length xs) cs → ys ≡ take (length ys) cs → (if b then xs else ys) ≡ take (length (if b then xs else ys)) cs

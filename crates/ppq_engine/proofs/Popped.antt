@@ -1,6 +1,6 @@
 -- Records that were popped round by round: the first of the bag's ascending list.
 use Rattle.std.proofs.Common.{◌≡◌, ℕ, zero, length, min, suc, ◌+◌, ◌-◌, ◌%◌, ◌^◌, ◌<◌, ◌≤◌, Bool, true, false, cond, List, [], ◌∷◌, ◌++◌, take, drop, Option, Some, None, refl, sym, ap, ◌∙◌, subst, arith, inl, inr, append-nil, length-append, take-add, append_assoc}
-use Rattle.std.specs.Prelude.{count_by, sum_by, nat_le, codes, if◌then◌else◌}
+use Rattle.std.specs.Prelude.{count_by, sum_by, nat_le, codes, if◌then◌else◌, Result, IsErrAnd}
 use Rattle.std.specs.List.{AllByRecursion as Each}
 use Rattle.std.specs.Cmp.{IsStrictWeakOrder}
 use Rattle.std.proofs.lemmas.Bool.{cases_Bool, cases_lt, le-leb, leb-true}
@@ -16,17 +16,20 @@ use Rattle.ppq_script.specs.ppq_record.Bag.{IsSameBag, ascending, without_front,
 use Rattle.ppq_script.proofs.ppq_record.Order.{count_by-cons, none_pass, Rising-in_order, in_order-same_bag}
 use Rattle.ppq_script.proofs.ppq_record.Fronts.{ranks, ascending_is}
 use Rattle.ppq_load.specs.ppq_budget.Sizes.{Numbers, AreInRange, batch_of}
+use Rattle.ppq_script.specs.ppq_outside.Shown.{Shown, AllTell}
 use Rattle.ppq_script.specs.ppq_outside.Told.{TakesPart}
 use Rattle.ppq_script.proofs.ppq_outside.Takes.{takes_two, takes_and_part, takes_nothing, part_of_more}
 use Rattle.ppq_engine.specs.Output.{line_of, lines_text, last_of, limited_count, mark_text}
 use Rattle.ppq_engine.specs.Gathers.{Gathers, IsSummary}
+use Rattle.ppq_engine.specs.Calls.{Prints}
 use Rattle.ppq_engine.specs.Running.{GathersPart, WritesPart}
 use Rattle.ppq_engine.specs.Files.{IsByFile}
 use Rattle.ppq_engine.specs.Popping.{passing, next_of, popped_count, left_mark, IsRound, NotByFile}
 use Rattle.ppq_engine.specs.declared.answer.Drained.{Drained}
 use Rattle.ppq_engine.specs.declared.stop.Stop.{Stop}
-use Rattle.ppq_engine.specs.declared.stop.Stop.TheVariants.{Sink, Queue, Read, Memory, Changed}
+use Rattle.ppq_engine.specs.declared.stop.Stop.TheVariants.{Sink, Queue}
 use Rattle.ppq_engine.proofs.Pairs.{pair_total}
+use Rattle.ppq_engine.proofs.Results.{if-err, not-ok}
 
 -- what is left of an ascending list ascends
 Rising-drop : {X : Type 0} (lt : X → X → Bool) (k : ℕ) (xs : List X) → Rising lt xs → Rising lt (drop k xs)
@@ -412,9 +415,7 @@ writes-more before now had text more has (Queue fault) by part = record {
   all = ap (λ (t : List ℕ). t ++ more) part.all ∙ append_assoc part.part part.rest more;
   gathers = part.gathers;
 }
-writes-more before now had text more has Read by part = absurd by
-writes-more before now had text more has Memory by part = absurd by
-writes-more before now had text more has (Changed line said got) by part = absurd by
+writes-more before now had text more has _ by part = absurd by
 
 -- nothing was written yet
 pub nothing-part : (told : Option (List ℕ)) (had text : List ℕ) → GathersPart told told had text had
@@ -423,6 +424,13 @@ nothing-part told had text = record { part = []; rest = text; all = refl; gather
 pub file-part : (told : Option (List ℕ)) (had text : List ℕ) (stop : Stop) → IsByFile stop → WritesPart told told had text had stop
 file-part told had text Sink by = absurd by
 file-part told had text (Queue fault) by = nothing-part told had text
-file-part told had text Read by = gathers-nothing told had
-file-part told had text Memory by = gathers-nothing told had
-file-part told had text (Changed line said got) by = gathers-nothing told had
+file-part told had text _ by = gathers-nothing told had
+
+-- a command stopped, and printed so much
+pub prints-stop :
+    {T : Type 0} (first : List Shown) (before now : Option (List ℕ)) (had text has : List ℕ) (r : Result T Stop) (stop : Stop)
+    → IsErrAnd r (λ x. x ≡ stop) → (AllTell first → WritesPart before now had text has stop) → Prints first before now had text has r
+prints-stop first before now had text has r stop is wrote = record {
+  text = not-ok r (λ x. x ≡ stop) (AllTell first → Gathers before now had text has) is;
+  part = if-err r stop (λ s. AllTell first → WritesPart before now had text has s) is wrote;
+}

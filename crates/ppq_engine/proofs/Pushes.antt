@@ -1,5 +1,5 @@
 -- Lines of a session that are given to its passes batch by batch.
-use Rattle.std.proofs.Common.{◌≡◌, ℕ, suc, ◌+◌, ◌<◌, ◌≤◌, true, List, [], ◌∷◌, ◌++◌, length, drop, Some, None, max, refl, sym, ap, ◌∙◌, subst, arith, append_assoc, append-nil, length-append, length-drop}
+use Rattle.std.proofs.Common.{◌≡◌, ℕ, suc, ◌+◌, ◌<◌, ◌≤◌, true, List, [], ◌∷◌, ◌++◌, length, drop, Some, max, refl, sym, ap, ◌∙◌, subst, arith, append_assoc, append-nil, length-append, length-drop}
 use Rattle.std.specs.Prelude.{slice_get, Result, Ok, Err, OnOk, IfErr, ⊤}
 use Rattle.std.proofs.lemmas.Bool.{ltb-true}
 use Rattle.std.proofs.lemmas.List.{map-append, length-map}
@@ -7,7 +7,7 @@ use Rattle.ppq_script.specs.ppq_record.declared.pair.Pair.{Pair}
 use Rattle.ppq_script.specs.ppq_record.Bag.{IsSameBag}
 use Rattle.ppq_script.specs.ppq_outside.Shown.{Shown, AllTell}
 use Rattle.ppq_script.specs.declared.command.Command.{Command}
-use Rattle.ppq_script.specs.declared.command.Command.TheVariants.{Push, Pop, Top, Size, Bulk, Gen, BulkPop, BulkPopLimit, Drain, BulkBegin, BulkPush, BulkEnd, LimitBegin, LimitPush, LimitTop, LimitPop, LimitEnd}
+use Rattle.ppq_script.specs.declared.command.Command.TheVariants.{BulkPush, BulkEnd}
 use Rattle.ppq_script.specs.declared.session.Session.TheVariants.{InBulk}
 use Rattle.ppq_script.specs.Sessions.{are_in_place}
 use Rattle.ppq_script.specs.Reading.{Reading, command_list}
@@ -17,6 +17,7 @@ use Rattle.ppq_load.specs.ppq_session.declared.line.Line.{Line}
 use Rattle.ppq_load.specs.ppq_session.Dealing.{records_in}
 use Rattle.ppq_load.specs.Loading.{LoadHolding, InSession, IsLoaded}
 use Rattle.ppq_load.proofs.Refusals.{cause-later}
+use Rattle.ppq_engine.specs.Calls.{Adds}
 use Rattle.ppq_engine.specs.Parts.{up_to_end, pushed_in, behind_session}
 use Rattle.ppq_engine.specs.Pushes.{IsPushAt, IsEndAt, GivesFirst}
 use Rattle.ppq_engine.specs.Running.{StopsFor}
@@ -36,23 +37,9 @@ module _ (script : Reading) (place : ℕ) (command : Command) (h : place < lengt
       record { here = all; named = ltb-true pass script.workers stands.0; inside = stands.1 }
 
 only_end : (workers : ℕ) (command : Command) (rest : List Command) → are_in_place workers InBulk (command ∷ rest) ≡ true → ((pass : ℕ) (item : Pair) → command ≡ BulkPush pass item → ⊥) → command ≡ BulkEnd
-only_end workers (Push item) rest e no_push = cc
-only_end workers Pop rest e no_push = cc
-only_end workers Top rest e no_push = cc
-only_end workers Size rest e no_push = cc
-only_end workers (Bulk file size) rest e no_push = cc
-only_end workers (Gen seed count) rest e no_push = cc
-only_end workers (BulkPop count) rest e no_push = cc
-only_end workers (BulkPopLimit limit count) rest e no_push = cc
-only_end workers (Drain count) rest e no_push = cc
-only_end workers BulkBegin rest e no_push = cc
 only_end workers (BulkPush pass item) rest e no_push = absurd (no_push pass item refl)
 only_end workers BulkEnd rest e no_push = refl
-only_end workers (LimitBegin limit) rest e no_push = cc
-only_end workers (LimitPush pass item) rest e no_push = cc
-only_end workers LimitTop rest e no_push = cc
-only_end workers LimitPop rest e no_push = cc
-only_end workers LimitEnd rest e no_push = cc
+only_end workers _ rest e no_push = cc
 
 pub end-here :
     (script : Reading) (place : ℕ) (command : Command) → place < length (command_list script) → slice_get (command_list script) place ≡ Some command → are_in_place script.workers InBulk (drop place (command_list script)) ≡ true
@@ -142,17 +129,11 @@ module _ (queue new : Holding Pair) (total : List Pair) (next : ℕ) (s : Result
     ended-bag (Ok v) e going loaded = let P : Result ℕ Stop → Type 0 = λ x. OnOk x (AllTell queue.slots → IsSameBag new.bag (total ++ queue.bag)) in subst P (sym e) (loaded going).bag
     ended-bag (Err f) e going loaded = let P : Result ℕ Stop → Type 0 = λ x. OnOk x (AllTell queue.slots → IsSameBag new.bag (total ++ queue.bag)) in subst P (sym e) tt
 
-    pub ended-size : (r : Result ⊤ QueueFault) → s ≡ behind_session r next → OnOk r G → (G → IsLoaded queue total new r) → OnOk s (new.size ≡ queue.size + length total)
-    ended-size (Ok v) e going loaded = let P : Result ℕ Stop → Type 0 = λ x. OnOk x (new.size ≡ queue.size + length total) in subst P (sym e) (loaded going).size
-    ended-size (Err f) e going loaded = let P : Result ℕ Stop → Type 0 = λ x. OnOk x (new.size ≡ queue.size + length total) in subst P (sym e) tt
-
-    pub ended-sound : (r : Result ⊤ QueueFault) → s ≡ behind_session r next → OnOk r G → (G → IsLoaded queue total new r) → OnOk s (new.failed ≡ None)
-    ended-sound (Ok v) e going loaded = let P : Result ℕ Stop → Type 0 = λ x. OnOk x (new.failed ≡ None) in subst P (sym e) (loaded going).sound
-    ended-sound (Err f) e going loaded = let P : Result ℕ Stop → Type 0 = λ x. OnOk x (new.failed ≡ None) in subst P (sym e) tt
-
-    pub ended-peak : (r : Result ⊤ QueueFault) → s ≡ behind_session r next → OnOk r G → (G → IsLoaded queue total new r) → OnOk s (new.peak ≤ max queue.peak (queue.size + length total))
-    ended-peak (Ok v) e going loaded = let P : Result ℕ Stop → Type 0 = λ x. OnOk x (new.peak ≤ max queue.peak (queue.size + length total)) in subst P (sym e) (omega (arith, (loaded going).peak))
-    ended-peak (Err f) e going loaded = let P : Result ℕ Stop → Type 0 = λ x. OnOk x (new.peak ≤ max queue.peak (queue.size + length total)) in subst P (sym e) tt
+    pub ended-adds : (r : Result ⊤ QueueFault) → s ≡ behind_session r next → OnOk r G → (G → IsLoaded queue total new r) → OnOk s (Adds queue new (length total))
+    ended-adds (Ok v) e going loaded =
+        let P : Result ℕ Stop → Type 0 = λ x. OnOk x (Adds queue new (length total)) in
+        subst P (sym e) (record { size = (loaded going).size; sound = (loaded going).sound; peak = omega (arith, (loaded going).peak) })
+    ended-adds (Err f) e going loaded = let P : Result ℕ Stop → Type 0 = λ x. OnOk x (Adds queue new (length total)) in subst P (sym e) tt
 
   pub ended-refused : (given : List Pair) (r : Result ⊤ QueueFault) → s ≡ behind_session r next → length given ≤ length total → 0 < queue.sizes.block → IsLoaded queue given new r → IfErr s (StopsFor (max queue.peak (queue.size + length total)) queue.sizes queue.limited new.slots)
   ended-refused given (Ok v) e fewer block loaded = let P : Result ℕ Stop → Type 0 = λ x. IfErr x (StopsFor (max queue.peak (queue.size + length total)) queue.sizes queue.limited new.slots) in subst P (sym e) tt

@@ -6,6 +6,11 @@ pub if-err : {T E : Type 0} (r : Result T E) (e : E) (P : E → Type 0) → IsEr
 if-err (Ok v) e P is p = tt
 if-err (Err x) e P is p = subst P (sym is) p
 
+-- an error is no value
+pub not-ok : {T E : Type 0} (r : Result T E) (P : E → Type 0) (A : Type 0) → IsErrAnd r P → OnOk r A
+not-ok (Ok v) P A is = absurd is
+not-ok (Err x) P A is = tt
+
 pub if-err-map : {T E : Type 0} (r : Result T E) (P Q : E → Type 0) → ((x : E) → P x → Q x) → IfErr r P → IfErr r Q
 if-err-map (Ok v) P Q f p = tt
 if-err-map (Err x) P Q f p = f x p
@@ -39,3 +44,12 @@ at-err {T} {E} r f P e h = let Q : Result T E → Type 0 = λ x. IfErr x P in su
 
 pub at-if-ok : {T E : Type 0} (r : Result T E) (v : T) (P : T → Type 0) → r ≡ Ok v → IfOk r P → P v
 at-if-ok {T} {E} r v P e h = let Q : Result T E → Type 0 = λ x. IfOk x P in subst Q e h
+
+-- two things that hold of an error, or of a value
+pub if-err-both : {T E : Type 0} (r : Result T E) (P Q : E → Type 0) → IfErr r P → IfErr r Q → IfErr r (λ e. P e × Q e)
+if-err-both (Ok v) P Q p q = tt
+if-err-both (Err e) P Q p q = (p, q)
+
+pub on-ok-both : {T E : Type 0} (r : Result T E) (A B : Type 0) → OnOk r A → OnOk r B → OnOk r (A × B)
+on-ok-both (Ok v) A B a b = (a, b)
+on-ok-both (Err e) A B a b = tt

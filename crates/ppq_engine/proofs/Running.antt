@@ -50,26 +50,18 @@ limited-same one other same = ap₂ (λ (n : ℕ) (q : List Pair). limited_text 
 
 -- they print the same, and stay the same
 text-same : (one other : State) (command : Command) → IsSameState one other → text_of one command ≡ text_of other command
-text-same one other (Push item) same = refl
 text-same one other Pop same = ap (λ (q : List Pair). least_text (first_of (take 1 q))) (same_order one.bag other.bag same.bag)
 text-same one other Top same = ap (λ (q : List Pair). least_text (first_of (take 1 q))) (same_order one.bag other.bag same.bag)
 text-same one other Size same = ap size_text (IsSameBag-length one.bag other.bag same.bag)
-text-same one other (Bulk file size) same = refl
-text-same one other (Gen seed count) same = refl
 text-same one other (BulkPop count) same = ap (λ (q : List Pair). lines_text (take count q)) (same_order one.bag other.bag same.bag)
 text-same one other (BulkPopLimit limit count) same =
     ap₂ (λ (t u : List ℕ). t ++ u)
     (ap₂ (λ (n : ℕ) (q : List Pair). lines_text (take n q)) (same_count one.bag other.bag limit count same.bag) (same_order one.bag other.bag same.bag))
     (ap (λ (n : ℕ). if nat_le n count then codes "all\n" else codes "more\n") (same.bag (λ x. is_before pair_cmp x limit)))
 text-same one other (Drain count) same = ap (λ (q : List Pair). summary_text (take count q)) (same_order one.bag other.bag same.bag)
-text-same one other BulkBegin same = refl
-text-same one other (BulkPush pass item) same = refl
-text-same one other BulkEnd same = refl
-text-same one other (LimitBegin limit) same = refl
-text-same one other (LimitPush pass item) same = refl
 text-same one other LimitTop same = limited-same one other same
 text-same one other LimitPop same = limited-same one other same
-text-same one other LimitEnd same = refl
+text-same one other _ same = refl
 
 dropped_same : (one other : List Pair) (n m : ℕ) → n ≡ m → IsSameBag one other → IsSameBag (drop n (ascending pair_cmp one)) (drop m (ascending pair_cmp other))
 dropped_same one other n m e same p = ap₂ (λ (k : ℕ) (q : List Pair). count_by p (drop k q)) e (same_order one other same)
@@ -81,8 +73,6 @@ module _ (given : ℕ → List Pair) where
   after-same : (one other : State) (command : Command) → IsSameState one other → IsSameState (after given one command) (after given other command)
   after-same one other (Push item) same = with-bag one other (item ∷ one.bag) (item ∷ other.bag) same (IsSameBag-cons item one.bag other.bag same.bag)
   after-same one other Pop same = with-bag one other (drop 1 (ascending pair_cmp one.bag)) (drop 1 (ascending pair_cmp other.bag)) same (dropped_same one.bag other.bag 1 1 refl same.bag)
-  after-same one other Top same = same
-  after-same one other Size same = same
   after-same one other (Bulk file size) same = with-bag one other (given file ++ one.bag) (given file ++ other.bag) same (IsSameBag-append (given file) (given file) one.bag other.bag (λ p. refl) same.bag)
   after-same one other (Gen seed count) same =
       with-bag one other (generated seed count ++ one.bag) (generated seed count ++ other.bag) same (IsSameBag-append (generated seed count) (generated seed count) one.bag other.bag (λ p. refl) same.bag)
@@ -97,12 +87,12 @@ module _ (given : ℕ → List Pair) where
   after-same one other BulkEnd same = outside-same one.bag other.bag same.bag
   after-same one other (LimitBegin limit) same = record { bag = same.bag; session = refl; popped = refl }
   after-same one other (LimitPush pass item) same = with-bag one other (item ∷ one.bag) (item ∷ other.bag) same (IsSameBag-cons item one.bag other.bag same.bag)
-  after-same one other LimitTop same = same
   after-same one other LimitPop same =
       let n = popped_in one.session one.bag in
       let m = popped_in other.session other.bag in
       record { bag = dropped_same one.bag other.bag n m (popped-same one other same) same.bag; session = same.session; popped = omega (arith, same.popped, popped-same one other same) }
   after-same one other LimitEnd same = outside-same one.bag other.bag same.bag
+  after-same one other _ same = same
 
   -- the same of several commands
   pub output_from-same : (one other : State) (cs : List Command) → IsSameState one other → output_from given one cs ≡ output_from given other cs

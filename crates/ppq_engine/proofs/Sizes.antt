@@ -8,7 +8,7 @@ use Rattle.ppq_script.specs.ppq_outside.Shown.{Shown}
 use Rattle.ppq_load.specs.ppq_budget.Sizes.{Numbers}
 use Rattle.ppq_load.specs.ppq_array.Kept.{all_writes}
 use Rattle.ppq_script.specs.declared.command.Command.{Command}
-use Rattle.ppq_script.specs.declared.command.Command.TheVariants.{Push, Pop, Top, Size, Bulk, Gen, BulkPop, BulkPopLimit, Drain, BulkBegin, BulkPush, BulkEnd, LimitBegin, LimitPush, LimitTop, LimitPop, LimitEnd}
+use Rattle.ppq_script.specs.declared.command.Command.TheVariants.{Push, Pop, Top, Size, Bulk, Gen, BulkPop, Drain, BulkBegin, BulkPush, BulkEnd, LimitBegin, LimitPush, LimitTop, LimitEnd}
 use Rattle.ppq_script.specs.declared.session.Session.{Session}
 use Rattle.ppq_script.specs.declared.session.Session.TheVariants.{Outside}
 use Rattle.ppq_script.specs.Sessions.{turn_of}
@@ -58,44 +58,27 @@ module _ (leaves : ℕ → ℕ → ℕ) where
 none_go-mono : (m n : ℕ) (c : Command) → m ≤ n → size_after none_go m c ≤ size_after none_go n c
 none_go-mono m n (Push item) h = omega arith
 none_go-mono m n Pop h = omega arith
-none_go-mono m n Top h = h
-none_go-mono m n Size h = h
 none_go-mono m n (Bulk file bytes) h = omega arith
 none_go-mono m n (Gen seed count) h = omega arith
 none_go-mono m n (BulkPop count) h = omega arith
-none_go-mono m n (BulkPopLimit limit count) h = h
 none_go-mono m n (Drain count) h = omega arith
-none_go-mono m n BulkBegin h = h
 none_go-mono m n (BulkPush pass item) h = omega arith
-none_go-mono m n BulkEnd h = h
-none_go-mono m n (LimitBegin limit) h = h
 none_go-mono m n (LimitPush pass item) h = omega arith
-none_go-mono m n LimitTop h = h
-none_go-mono m n LimitPop h = h
-none_go-mono m n LimitEnd h = h
+none_go-mono m n _ h = h
 
 none_go-mono_from : (m n : ℕ) (cs : List Command) → m ≤ n → size_from none_go m cs ≤ size_from none_go n cs
 none_go-mono_from m n [] h = h
 none_go-mono_from m n (c ∷ cs) h = none_go-mono_from (size_after none_go m c) (size_after none_go n c) cs (none_go-mono m n c h)
 
 all_go-mono : (m n : ℕ) (c : Command) → m ≤ n → size_after all_go m c ≤ size_after all_go n c
-all_go-mono m n (Push item) h = omega arith
-all_go-mono m n Pop h = omega arith
 all_go-mono m n Top h = h
 all_go-mono m n Size h = h
-all_go-mono m n (Bulk file bytes) h = omega arith
-all_go-mono m n (Gen seed count) h = omega arith
-all_go-mono m n (BulkPop count) h = omega arith
-all_go-mono m n (BulkPopLimit limit count) h = omega arith
-all_go-mono m n (Drain count) h = omega arith
 all_go-mono m n BulkBegin h = h
-all_go-mono m n (BulkPush pass item) h = omega arith
 all_go-mono m n BulkEnd h = h
 all_go-mono m n (LimitBegin limit) h = h
-all_go-mono m n (LimitPush pass item) h = omega arith
 all_go-mono m n LimitTop h = h
-all_go-mono m n LimitPop h = omega arith
 all_go-mono m n LimitEnd h = h
+all_go-mono m n _ h = omega arith
 
 all_go-mono_from : (m n : ℕ) (cs : List Command) → m ≤ n → size_from all_go m cs ≤ size_from all_go n cs
 all_go-mono_from m n [] h = h

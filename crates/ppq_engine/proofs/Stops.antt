@@ -282,52 +282,38 @@ module _ (told : Option (List ℕ → Option (List ℕ))) (script : Reading) (fi
 pub not_of_file : (command : Command) (stop : Stop) → NotByFile stop → IsOfFile command stop
 not_of_file command Sink by = tt
 not_of_file command (Queue fault) by = tt
-not_of_file command Read by = absurd by
-not_of_file command Memory by = absurd by
-not_of_file command (Changed line said got) by = absurd by
+not_of_file command _ by = absurd by
 
 pub not_changed : (told : Option (List ℕ → Option (List ℕ))) (replied : Reply → Type 0) (script : Reading) (stop : Stop) → NotByFile stop → ChangedIn told replied script stop
 not_changed told replied script Sink by = tt
 not_changed told replied script (Queue fault) by = tt
-not_changed told replied script Read by = absurd by
-not_changed told replied script Memory by = absurd by
-not_changed told replied script (Changed line said got) by = absurd by
+not_changed told replied script _ by = absurd by
 
 pub library_unasked : (count : ℕ) (stop : Stop) → NotByFile stop → LibraryAfter count count stop
 library_unasked count Sink by = refl
 library_unasked count (Queue fault) by = refl
-library_unasked count Read by = absurd by
-library_unasked count Memory by = absurd by
-library_unasked count (Changed line said got) by = absurd by
+library_unasked count _ by = absurd by
 
 -- a stop by a session says nothing of files, and leaves sink and library alone
 pub session_of_file : (command : Command) (stop : Stop) → IsLoad command → IsBySession stop → IsOfFile command stop
-session_of_file command Sink loads by = absurd by
 session_of_file command (Queue fault) loads by = tt
-session_of_file command Read loads by = absurd by
 session_of_file command Memory loads by = loads
-session_of_file command (Changed line said got) loads by = absurd by
+session_of_file command _ loads by = absurd by
 
 pub session_not_changed : (told : Option (List ℕ → Option (List ℕ))) (replied : Reply → Type 0) (script : Reading) (stop : Stop) → IsBySession stop → ChangedIn told replied script stop
-session_not_changed told replied script Sink by = absurd by
 session_not_changed told replied script (Queue fault) by = tt
-session_not_changed told replied script Read by = absurd by
 session_not_changed told replied script Memory by = tt
-session_not_changed told replied script (Changed line said got) by = absurd by
+session_not_changed told replied script _ by = absurd by
 
 pub session_unasked : (count : ℕ) (stop : Stop) → IsBySession stop → LibraryAfter count count stop
-session_unasked count Sink by = absurd by
 session_unasked count (Queue fault) by = refl
-session_unasked count Read by = absurd by
 session_unasked count Memory by = refl
-session_unasked count (Changed line said got) by = absurd by
+session_unasked count _ by = absurd by
 
 pub session_by_file : (stop : Stop) → IsBySession stop → IsByFile stop
-session_by_file Sink by = absurd by
 session_by_file (Queue fault) by = tt
-session_by_file Read by = absurd by
 session_by_file Memory by = tt
-session_by_file (Changed line said got) by = absurd by
+session_by_file _ by = absurd by
 
 -- a stop by a limit session says nothing of files, and asks no library
 pub limit_of_file : (command : Command) (stop : Stop) → IsLoad command → IsByLimit stop → IsOfFile command stop
@@ -338,41 +324,28 @@ limit_of_file command Memory loads by = loads
 limit_of_file command (Changed line said got) loads by = absurd by
 
 pub limit_not_changed : (told : Option (List ℕ → Option (List ℕ))) (replied : Reply → Type 0) (script : Reading) (stop : Stop) → IsByLimit stop → ChangedIn told replied script stop
-limit_not_changed told replied script Sink by = tt
-limit_not_changed told replied script (Queue fault) by = tt
 limit_not_changed told replied script Read by = absurd by
-limit_not_changed told replied script Memory by = tt
 limit_not_changed told replied script (Changed line said got) by = absurd by
+limit_not_changed told replied script _ by = tt
 
 pub limit_unasked : (count : ℕ) (stop : Stop) → IsByLimit stop → LibraryAfter count count stop
-limit_unasked count Sink by = refl
-limit_unasked count (Queue fault) by = refl
 limit_unasked count Read by = absurd by
-limit_unasked count Memory by = refl
 limit_unasked count (Changed line said got) by = absurd by
+limit_unasked count _ by = refl
 
 -- a stop by reading a file comes of the command that reads it, and leaves the sink alone
 pub file_of_file : (file size : ℕ) (stop : Stop) → IsOfFile (Bulk file size) stop
-file_of_file file size Sink = tt
-file_of_file file size (Queue fault) = tt
 file_of_file file size Read = (file, (size, refl))
-file_of_file file size Memory = tt
 file_of_file file size (Changed line said got) = (file, (size, refl))
+file_of_file file size _ = tt
 
 pub file_unput : (count : ℕ) (stop : Stop) → IsByFile stop → SinkAfter count count stop
 file_unput count Sink by = absurd by
-file_unput count (Queue fault) by = refl
-file_unput count Read by = refl
-file_unput count Memory by = refl
-file_unput count (Changed line said got) by = refl
+file_unput count _ by = refl
 
 pub file_changed :
     (told : Option (List ℕ → Option (List ℕ))) (replied : Reply → Type 0) (script : Reading) (at file said line : ℕ) (stop : Stop) → slice_get (command_list script) at ≡ Some (Bulk file said) → slice_get (line_list script) at ≡ Some line
     → EndsEarly told replied (name_at script.names file) line said stop → ChangedIn told replied script stop
-file_changed told replied script at file said line Sink here there ends = tt
-file_changed told replied script at file said line (Queue fault) here there ends = tt
-file_changed told replied script at file said line Read here there ends = tt
-file_changed told replied script at file said line Memory here there ends = tt
 file_changed told replied script at file said line (Changed one size got) here there ends =
     let early = ends.1.1 in
     record {
@@ -384,11 +357,9 @@ file_changed told replied script at file said line (Changed one size got) here t
       read = early.read;
       untold = early.untold;
     }
+file_changed told replied script at file said line _ here there ends = tt
 
 -- a greater load is refused for the same reason
 pub stops-more : (sizes : Numbers) (limited : Bool) (slots : List Shown) (load more : ℕ) (stop : Stop) → 0 < sizes.block → load ≤ more → StopsFor load sizes limited slots stop → StopsFor more sizes limited slots stop
-stops-more sizes limited slots load more Sink some h stops = tt
 stops-more sizes limited slots load more (Queue fault) some h stops = cause-later sizes limited limited load more some (λ same. same) h slots fault stops
-stops-more sizes limited slots load more Read some h stops = tt
-stops-more sizes limited slots load more Memory some h stops = tt
-stops-more sizes limited slots load more (Changed line said got) some h stops = tt
+stops-more sizes limited slots load more _ some h stops = tt

@@ -5,6 +5,7 @@ pub use Rattle.ppq_script.specs as ppq_script
 pub use Rattle.ppq_load.specs.ppq_session as ppq_session
 pub use Rattle.ppq_load.specs.Reading as Reading
 pub use Rattle.ppq_load.specs.Refusal as Refusal
+pub mod Calls
 pub mod Deferred
 pub mod Ends
 pub mod Examples

@@ -90,3 +90,8 @@ limit_part limit script place = LimitBegin limit ∷ up_to_end (drop (place + 1)
 abbrev pub behind_session : Result ⊤ QueueFault → ℕ → Result ℕ Stop
 behind_session (Ok value) next = Ok next
 behind_session (Err fault) next = Err (Queue fault)
+
+-- how a command ended, as the place behind it or as a stop
+abbrev pub behind_step : Result ⊤ Stop → ℕ → Result ℕ Stop
+behind_step (Ok value) next = Ok next
+behind_step (Err stop) next = Err stop

@@ -1,11 +1,11 @@
 //! A batch of lines of a limit session.
-ghost use Rattle.std.specs.Prelude.{◌≡◌, ◌≤◌, ◌<◌, ◌+◌, ◌^◌, ◌++◌, ℕ, false, length, All, None, Some, IsTrue, IfOk, OnOk, OnErr, slice_get};
+ghost use Rattle.std.specs.Prelude.{◌≡◌, ◌≤◌, ◌<◌, ◌+◌, ◌^◌, ◌++◌, ℕ, false, length, All, None, Some, IsTrue, IfOk, slice_get};
 ghost use Rattle.ppq_script.specs.ppq_record.declared.pair.Pair.{Pair};
 ghost use Rattle.ppq_script.specs.ppq_record.Order.{is_before};
 ghost use Rattle.ppq_script.specs.ppq_record.Pair.{pair_cmp};
-ghost use Rattle.ppq_script.specs.ppq_outside.Told.{HasOneCause, TakesPart};
 ghost use Rattle.ppq_load.specs.Limits.{AreGoing, HasStopped};
-ghost use Rattle.ppq_engine.specs.Gathers.{answer_text, Gathers};
+ghost use Rattle.ppq_engine.specs.Calls.{GathersAll};
+ghost use Rattle.ppq_engine.specs.Gathers.{answer_text};
 ghost use Rattle.ppq_engine.specs.Output.{limited_text};
 ghost use Rattle.ppq_engine.specs.Limits.{line_by, ask_by, answers_text, IsLimitLine, IsInLimit, EndsLimit, IsBatch, RunsBatch};
 
@@ -131,9 +131,7 @@ impl Batch {
         gathered: &mut Gathered,
         out: &mut O,
     ) -> Result<(), Failed>
-        ensures ok { OnOk result (Gathers (O.told out.old) (O.told out.new) gathered.old (answers_text self.now.answers) gathered.new) }
-        ensures part { OnErr result (TakesPart (O.told out.old) (O.told out.new) (gathered.old ++ answers_text self.now.answers)) }
-        ensures cause { HasOneCause (O.faults out.old) (O.faults out.new) result }
+        ensures { GathersAll (O.told out.old) (O.told out.new) (O.faults out.old) (O.faults out.new) gathered.old (answers_text self.now.answers) gathered.new result }
     {
         for i in 0..self.answers.len() {
             gathered.print(rt, answer_of(answer_at(&self.answers, i)), out)?;

@@ -9,7 +9,6 @@ mod laws;
 mod limits;
 mod load;
 mod pop;
-mod push;
 mod run;
 mod session;
 mod step;

@@ -1,23 +1,16 @@
 //! Runs a limit session of a script.
-ghost use Rattle.std.specs.Prelude.{◌≡◌, ◌≤◌, ◌<◌, ◌+◌, ◌^◌, true, false, List, ℕ, None, IsTrue, IfOk, OnOk, OnErr, IfErr, length, drop, max};
-ghost use Rattle.ppq_script.specs.ppq_record.declared.pair.Pair.{Pair};
-ghost use Rattle.ppq_script.specs.ppq_record.Bag.{IsSameBag};
-ghost use Rattle.ppq_script.specs.ppq_outside.Shown.{AllTell};
+ghost use Rattle.std.specs.Prelude.{◌≡◌, ◌<◌, ◌+◌, ◌^◌, true, false, List, ℕ, Option, IsTrue, IfOk, OnOk, OnErr, IfErr, length, drop};
 ghost use Rattle.ppq_script.specs.ppq_outside.Told.{HasOneCause};
 ghost use Rattle.ppq_load.specs.ppq_budget.Sizes.{batch_of};
-ghost use Rattle.ppq_script.specs.Sessions.{are_in_place};
 ghost use Rattle.ppq_script.specs.Reading.{command_list};
 ghost use Rattle.ppq_script.specs.declared.session.Session.TheVariants.{InLimit};
 ghost use Rattle.ppq_load.specs.ppq_array.Kept.{SameSlots};
-ghost use Rattle.ppq_load.specs.Refusal.{Keeps};
-ghost use Rattle.ppq_load.specs.Limits.{AreGoing, begun_in};
-ghost use Rattle.ppq_engine.specs.Gathers.{Gathers};
+ghost use Rattle.ppq_load.specs.Limits.{AreGoing};
+ghost use Rattle.ppq_engine.specs.Calls.{IsOpenAt, RunsPart, SinkCounts};
 ghost use Rattle.ppq_engine.specs.Limits.{IsInLimit, EndsLimit, RunsLines, BreaksOff, behind_limit};
-ghost use Rattle.ppq_engine.specs.Loads.{none_go, all_go, size_from};
-ghost use Rattle.ppq_engine.specs.Output.{outside, output_from, state_from};
 ghost use Rattle.ppq_engine.specs.Parts.{up_to_end, limit_part};
 ghost use Rattle.ppq_engine.specs.Popping.{IsByLimit};
-ghost use Rattle.ppq_engine.specs.Running.{PartStops, SinkAfter};
+ghost use Rattle.ppq_engine.specs.Running.{PartStops};
 
 use crate::batch::Batch;
 use crate::gathered::Gathered;
@@ -105,25 +98,15 @@ pub fn run_limit<H: Host, S: Slot + Send + Sync, O: Sink, G: Gate>(
 ) -> (Queue<S, Pair>, Result<usize, Stop>)
 where
     H::Dir: Send,
-    requires inside { are_in_place script.now.workers (InLimit limit) (drop (place + 1) (command_list script.now)) ≡ true }
+    requires open { IsOpenAt script.now place (InLimit limit) }
     requires workers { script.now.workers ≡ queue.sizes.workers }
     requires most { most ≡ batch_of queue.sizes }
-    requires place { place < length script.now.commands }
-    requires fits { length script.now.commands < 2 ^ 64 }
     ensures next { IfOk result.1 (λ next. next ≡ (place + 1) + length (up_to_end (drop (place + 1) (command_list script.now)))) }
-    ensures text { OnOk result.1 (AllTell queue.slots → (given : ℕ → List Pair) → Gathers (O.told out.old) (O.told out.new) gathered.old (output_from given (outside queue.bag) (limit_part limit script.now place)) gathered.new) }
-    ensures bag { OnOk result.1 (AllTell queue.slots → (given : ℕ → List Pair) → IsSameBag result.0.bag (state_from given (outside queue.bag) (limit_part limit script.now place)).bag) }
-    ensures low { OnOk result.1 (size_from all_go queue.size (limit_part limit script.now place) ≤ result.0.size) }
-    ensures high { OnOk result.1 (result.0.size ≤ size_from none_go queue.size (limit_part limit script.now place)) }
-    ensures sound { OnOk result.1 (result.0.failed ≡ None) }
-    ensures peak { OnOk result.1 (result.0.peak ≤ max queue.peak (size_from none_go queue.size (limit_part limit script.now place))) }
+    ensures runs { OnOk result.1 ((told : Option (List ℕ → Option (List ℕ))) → RunsPart told script.now queue result.0 (O.told out.old) (O.told out.new) gathered.old gathered.new (limit_part limit script.now place)) }
     ensures stopped { IfErr result.1 (PartStops queue.slots (O.told out.old) (O.told out.new) gathered.old queue.bag queue.size queue.peak (limit_part limit script.now place) queue.sizes true result.0.slots gathered.new) }
     ensures by_limit { IfErr result.1 IsByLimit }
-    ensures kept { OnOk result.1 (Keeps (begun_in queue) result.0) }
     ensures slots { SameSlots queue.slots result.0.slots }
-    ensures later { O.faults out.old ≤ O.faults out.new }
-    ensures stays { OnOk result.1 (O.faults out.new ≡ O.faults out.old) }
-    ensures cause { IfErr result.1 (SinkAfter (O.faults out.old) (O.faults out.new)) }
+    ensures sink { SinkCounts (O.faults out.old) (O.faults out.new) result.1 }
 {
     queue.known();
     let Ok(mut batch) = Batch::new(alloc, most) else {

@@ -1,20 +1,18 @@
 //! Removes many records from a queue, and prints them or what they add up to.
-ghost use Rattle.std.specs.Prelude.{◌≡◌, ◌≤◌, ◌<◌, ◌+◌, ◌-◌, ◌^◌, ◌∷◌, ◌++◌, [], List, None, Some, OnOk, OnErr, IfOk, IfErr, length, slice_get};
+ghost use Rattle.std.specs.Prelude.{◌≡◌, ◌<◌, ◌+◌, ◌-◌, ◌^◌, ◌∷◌, ◌++◌, [], List, None, Some, OnOk, IfOk, length, slice_get};
 ghost use Rattle.ppq_script.specs.ppq_record.declared.pair.Pair.{Pair};
-ghost use Rattle.ppq_script.specs.ppq_record.Bag.{IsSameBag, least, front, without_front};
+ghost use Rattle.ppq_script.specs.ppq_record.Bag.{front, without_front};
 ghost use Rattle.ppq_script.specs.ppq_record.Pair.{pair_cmp};
 ghost use Rattle.ppq_load.specs.ppq_budget.Sizes.{batch_of};
 ghost use Rattle.ppq_script.specs.ppq_outside.Shown.{AllTell};
-ghost use Rattle.ppq_script.specs.ppq_outside.Told.{HasOneCause, TakesPart};
 ghost use Rattle.ppq_engine.specs.Output.{lines_text, mark_text, limited_count};
-ghost use Rattle.ppq_engine.specs.Gathers.{answer_text, Gathers, IsSummary};
-ghost use Rattle.ppq_load.specs.Refusal.{Keeps, IsRefusedBy};
-ghost use Rattle.ppq_engine.specs.Running.{StopsFor, WritesPart, SinkAfter};
-ghost use Rattle.ppq_engine.specs.Popping.{next_of, popped_count, left_mark, IsRound, NotByFile};
+ghost use Rattle.ppq_engine.specs.Gathers.{answer_text, IsSummary};
+ghost use Rattle.ppq_engine.specs.Calls.{IsReady, IsCalled, IsLent, Leaves, PopsRound, GathersAll, Prints, SinkCounts};
+ghost use Rattle.ppq_engine.specs.Popping.{next_of, popped_count, left_mark};
 
+use crate::{Answer, Drained};
 use crate::gathered::Gathered;
 use crate::stop::Stop;
-use crate::{Answer, Drained};
 use ppq_load::{Out, Queue, QueueFault};
 use ppq_script::{Failed, Gate, Host, Pair, Record, Sink, Slot};
 
@@ -68,104 +66,8 @@ fn add_all(before: Drained, items: &[Pair]) -> Drained
     drained
 }
 
-// The least record, left in the queue.
-pub fn top_one<H: Host, S: Slot + Send + Sync, G: Gate>(
-    rt: &H,
-    queue: &mut Queue<S, Pair>,
-    gate: &G,
-) -> Result<Option<Pair>, QueueFault>
-where
-    H::Dir: Send,
-    ensures answer { IfOk result (λ item. AllTell queue.old.slots → item ≡ least pair_cmp queue.old.bag) }
-    ensures bag { OnOk result (AllTell queue.old.slots → IsSameBag queue.new.bag queue.old.bag) }
-    ensures size { queue.new.size ≡ queue.old.size }
-    ensures sound { OnOk result (queue.new.failed ≡ None) }
-    ensures peak { queue.new.peak ≡ queue.old.peak }
-    ensures refused { IfErr result (IsRefusedBy queue.new.peak queue.new.sizes queue.new.limited queue.new.slots) }
-    ensures kept { Keeps queue.old queue.new }
-{
-    Ok(queue.top(rt, gate)?)
-}
-
-// The least record, removed.
-#[inline]
-pub fn pop_one<H: Host, S: Slot + Send + Sync, G: Gate>(
-    rt: &H,
-    queue: &mut Queue<S, Pair>,
-    gate: &G,
-) -> Result<Option<Pair>, QueueFault>
-where
-    H::Dir: Send,
-    ensures answer { IfOk result (λ item. AllTell queue.old.slots → item ≡ least pair_cmp queue.old.bag) }
-    ensures rest { OnOk result (AllTell queue.old.slots → IsSameBag queue.new.bag (without_front pair_cmp queue.old.bag 1)) }
-    ensures size { OnOk result (queue.new.size ≡ queue.old.size - 1) }
-    ensures high { queue.new.size ≤ queue.old.size }
-    ensures sound { OnOk result (queue.new.failed ≡ None) }
-    ensures peak { queue.new.peak ≡ queue.old.peak }
-    ensures refused { IfErr result (IsRefusedBy queue.new.peak queue.new.sizes queue.new.limited queue.new.slots) }
-    ensures kept { Keeps queue.old queue.new }
-{
-    Ok(queue.pop(rt, gate)?)
-}
-
-// Removes a round of the least records, as many as the list has room for, and at most so many. They
-// are in the list.
-fn pop_all_round<H: Host, S: Slot + Send + Sync, G: Gate>(
-    rt: &H,
-    queue: &mut Queue<S, Pair>,
-    count: u64,
-    list: &mut Out<Pair>,
-    gate: &G,
-) -> Result<(), QueueFault>
-where
-    H::Dir: Send,
-    requires list { list.old.room ≡ batch_of queue.old.sizes }
-    requires some { 0 < count }
-    ensures round { OnOk result (AllTell queue.old.slots → IsRound None count queue.old.bag queue.new.bag list.new.items) }
-    ensures few { length list.new.items ≤ count }
-    ensures end { OnOk result (list.new.items ≡ [] → queue.old.size ≡ 0) }
-    ensures size { OnOk result (queue.new.size ≡ queue.old.size - length list.new.items) }
-    ensures high { queue.new.size ≤ queue.old.size }
-    ensures sound { OnOk result (queue.new.failed ≡ None) }
-    ensures peak { queue.new.peak ≡ queue.old.peak }
-    ensures refused { IfErr result (IsRefusedBy queue.new.peak queue.new.sizes queue.new.limited queue.new.slots) }
-    ensures kept { Keeps queue.old queue.new }
-    ensures list { list.new.room ≡ list.old.room }
-{
-    queue.known();
-    let _taken = queue.bulk_pop(rt, count, list, gate)?;
-    Ok(())
-}
-
-// The same of the records below the limit.
-fn pop_low_round<H: Host, S: Slot + Send + Sync, G: Gate>(
-    rt: &H,
-    queue: &mut Queue<S, Pair>,
-    limit: Pair,
-    count: u64,
-    list: &mut Out<Pair>,
-    gate: &G,
-) -> Result<(), QueueFault>
-where
-    H::Dir: Send,
-    requires list { list.old.room ≡ batch_of queue.old.sizes }
-    requires some { 0 < count }
-    ensures round { OnOk result (AllTell queue.old.slots → IsRound (Some limit) count queue.old.bag queue.new.bag list.new.items) }
-    ensures few { length list.new.items ≤ count }
-    ensures size { OnOk result (queue.new.size ≡ queue.old.size - length list.new.items) }
-    ensures high { queue.new.size ≤ queue.old.size }
-    ensures sound { OnOk result (queue.new.failed ≡ None) }
-    ensures peak { queue.new.peak ≡ queue.old.peak }
-    ensures refused { IfErr result (IsRefusedBy queue.new.peak queue.new.sizes queue.new.limited queue.new.slots) }
-    ensures kept { Keeps queue.old queue.new }
-    ensures list { list.new.room ≡ list.old.room }
-{
-    queue.known();
-    let _end = queue.bulk_pop_limit(rt, limit, count, list, gate)?;
-    Ok(())
-}
-
-// The same of the records below the limit, if there is one.
+// Removes a round of the least records, as many as the list has room for, and at most so many, and only
+// those below the limit where there is one. They are in the list.
 fn pop_round<H: Host, S: Slot + Send + Sync, G: Gate>(
     rt: &H,
     queue: &mut Queue<S, Pair>,
@@ -178,20 +80,20 @@ where
     H::Dir: Send,
     requires list { list.old.room ≡ batch_of queue.old.sizes }
     requires some { 0 < count }
-    ensures round { OnOk result (AllTell queue.old.slots → IsRound below count queue.old.bag queue.new.bag list.new.items) }
-    ensures few { length list.new.items ≤ count }
-    ensures end { OnOk result (below ≡ None → list.new.items ≡ [] → queue.old.size ≡ 0) }
-    ensures size { OnOk result (queue.new.size ≡ queue.old.size - length list.new.items) }
-    ensures high { queue.new.size ≤ queue.old.size }
-    ensures sound { OnOk result (queue.new.failed ≡ None) }
-    ensures peak { queue.new.peak ≡ queue.old.peak }
-    ensures refused { IfErr result (IsRefusedBy queue.new.peak queue.new.sizes queue.new.limited queue.new.slots) }
-    ensures kept { Keeps queue.old queue.new }
-    ensures list { list.new.room ≡ list.old.room }
+    ensures popped { OnOk result (PopsRound below count queue.old queue.new list.new.items) }
+    ensures called { IsCalled queue.old queue.new queue.old.peak result }
+    ensures room { list.new.room ≡ list.old.room }
 {
+    queue.known();
     match below {
-        None => pop_all_round(rt, queue, count, list, gate),
-        Some(limit) => pop_low_round(rt, queue, limit, count, list, gate),
+        None => {
+            let _taken = queue.bulk_pop(rt, count, list, gate)?;
+            Ok(())
+        }
+        Some(limit) => {
+            let _end = queue.bulk_pop_limit(rt, limit, count, list, gate)?;
+            Ok(())
+        }
     }
 }
 
@@ -202,9 +104,7 @@ fn print_all<H: Host, O: Sink>(
     gathered: &mut Gathered,
     out: &mut O,
 ) -> Result<(), Failed>
-    ensures text { OnOk result (Gathers (O.told out.old) (O.told out.new) gathered.old (lines_text items.now) gathered.new) }
-    ensures part { OnErr result (TakesPart (O.told out.old) (O.told out.new) (gathered.old ++ lines_text items.now)) }
-    ensures cause { HasOneCause (O.faults out.old) (O.faults out.new) result }
+    ensures { GathersAll (O.told out.old) (O.told out.new) (O.faults out.old) (O.faults out.new) gathered.old (lines_text items.now) gathered.new result }
 {
     for i in 0..items.len() {
         let item = record_at(items, i);
@@ -223,16 +123,11 @@ pub fn drain<H: Host, S: Slot + Send + Sync, G: Gate>(
 ) -> Result<Drained, QueueFault>
 where
     H::Dir: Send,
-    requires sound { queue.old.failed ≡ None }
-    requires list { list.old.room ≡ batch_of queue.old.sizes }
+    requires ready { IsReady queue.old list.old.room }
     ensures summary { IfOk result (λ drained. AllTell queue.old.slots → IsSummary (front pair_cmp queue.old.bag count) drained) }
-    ensures bag { OnOk result (AllTell queue.old.slots → IsSameBag queue.new.bag (without_front pair_cmp queue.old.bag count)) }
-    ensures size { OnOk result (queue.new.size ≡ queue.old.size - count) }
-    ensures sound { OnOk result (queue.new.failed ≡ None) }
-    ensures peak { queue.new.peak ≡ queue.old.peak }
-    ensures refused { IfErr result (IsRefusedBy queue.new.peak queue.new.sizes queue.new.limited queue.new.slots) }
-    ensures kept { Keeps queue.old queue.new }
-    ensures list { list.new.room ≡ list.old.room }
+    ensures left { OnOk result (Leaves queue.old queue.new (without_front pair_cmp queue.old.bag count) (queue.old.size - count) (queue.old.size - count)) }
+    ensures called { IsCalled queue.old queue.new queue.old.peak result }
+    ensures room { list.new.room ≡ list.old.room }
 {
     let mut drained = Drained::nothing();
     let mut done = 0;
@@ -261,23 +156,13 @@ pub fn print_popped<H: Host, S: Slot + Send + Sync, O: Sink, G: Gate>(
 ) -> Result<(), Stop>
 where
     H::Dir: Send,
-    requires sound { queue.old.failed ≡ None }
-    requires list { list.old.room ≡ batch_of queue.old.sizes }
-    ensures text { OnOk result (AllTell queue.old.slots → Gathers (O.told out.old) (O.told out.new) gathered.old (lines_text (front pair_cmp queue.old.bag (popped_count below queue.old.bag count))) gathered.new) }
-    ensures bag { OnOk result (AllTell queue.old.slots → IsSameBag queue.new.bag (without_front pair_cmp queue.old.bag (popped_count below queue.old.bag count))) }
-    ensures part { IfErr result (λ stop. AllTell queue.old.slots → WritesPart (O.told out.old) (O.told out.new) gathered.old (lines_text (front pair_cmp queue.old.bag (popped_count below queue.old.bag count))) gathered.new stop) }
+    requires ready { IsReady queue.old list.old.room }
+    ensures prints { Prints queue.old.slots (O.told out.old) (O.told out.new) gathered.old (lines_text (front pair_cmp queue.old.bag (popped_count below queue.old.bag count))) gathered.new result }
+    ensures sink { SinkCounts (O.faults out.old) (O.faults out.new) result }
+    ensures left { OnOk result (Leaves queue.old queue.new (without_front pair_cmp queue.old.bag (popped_count below queue.old.bag count)) (queue.old.size - count) queue.old.size) }
     ensures all { OnOk result (below ≡ None → queue.new.size ≡ queue.old.size - count) }
-    ensures low { OnOk result (queue.old.size - count ≤ queue.new.size) }
-    ensures high { queue.new.size ≤ queue.old.size }
-    ensures sound { OnOk result (queue.new.failed ≡ None) }
-    ensures peak { queue.new.peak ≡ queue.old.peak }
-    ensures refused { IfErr result (StopsFor queue.new.peak queue.new.sizes queue.new.limited queue.new.slots) }
-    ensures no_file { IfErr result NotByFile }
-    ensures kept { Keeps queue.old queue.new }
-    ensures later { O.faults out.old ≤ O.faults out.new }
-    ensures stays { OnOk result (O.faults out.new ≡ O.faults out.old) }
-    ensures cause { IfErr result (SinkAfter (O.faults out.old) (O.faults out.new)) }
-    ensures list { list.new.room ≡ list.old.room }
+    ensures lent { IsLent queue.old queue.new queue.old.peak result }
+    ensures room { list.new.room ≡ list.old.room }
 {
     let mut done = 0;
     'rounds: while done < count {
@@ -301,14 +186,10 @@ fn mark_of<H: Host, S: Slot + Send + Sync, G: Gate>(
 where
     H::Dir: Send,
     ensures text { IfOk result (λ answer. AllTell queue.old.slots → answer_text answer ≡ left_mark (next_of (Some limit) queue.old.bag)) }
-    ensures bag { OnOk result (AllTell queue.old.slots → IsSameBag queue.new.bag queue.old.bag) }
-    ensures size { queue.new.size ≡ queue.old.size }
-    ensures sound { OnOk result (queue.new.failed ≡ None) }
-    ensures peak { queue.new.peak ≡ queue.old.peak }
-    ensures refused { IfErr result (IsRefusedBy queue.new.peak queue.new.sizes queue.new.limited queue.new.slots) }
-    ensures kept { Keeps queue.old queue.new }
+    ensures left { OnOk result (Leaves queue.old queue.new queue.old.bag queue.old.size queue.old.size) }
+    ensures called { IsCalled queue.old queue.new queue.old.peak result }
 {
-    match top_one(rt, queue, gate)? {
+    match queue.top(rt, gate)? {
         None => Ok(Answer::All),
         Some(item) => {
             if item.is_less(&limit) {
@@ -334,22 +215,12 @@ pub fn print_limited<H: Host, S: Slot + Send + Sync, O: Sink, G: Gate>(
 ) -> Result<(), Stop>
 where
     H::Dir: Send,
-    requires sound { queue.old.failed ≡ None }
-    requires list { list.old.room ≡ batch_of queue.old.sizes }
-    ensures text { OnOk result (AllTell queue.old.slots → Gathers (O.told out.old) (O.told out.new) gathered.old (lines_text (front pair_cmp queue.old.bag (limited_count queue.old.bag limit count)) ++ mark_text queue.old.bag limit count) gathered.new) }
-    ensures bag { OnOk result (AllTell queue.old.slots → IsSameBag queue.new.bag (without_front pair_cmp queue.old.bag (limited_count queue.old.bag limit count))) }
-    ensures part { IfErr result (λ stop. AllTell queue.old.slots → WritesPart (O.told out.old) (O.told out.new) gathered.old (lines_text (front pair_cmp queue.old.bag (limited_count queue.old.bag limit count)) ++ mark_text queue.old.bag limit count) gathered.new stop) }
-    ensures low { OnOk result (queue.old.size - count ≤ queue.new.size) }
-    ensures high { queue.new.size ≤ queue.old.size }
-    ensures sound { OnOk result (queue.new.failed ≡ None) }
-    ensures peak { queue.new.peak ≡ queue.old.peak }
-    ensures refused { IfErr result (StopsFor queue.new.peak queue.new.sizes queue.new.limited queue.new.slots) }
-    ensures no_file { IfErr result NotByFile }
-    ensures kept { Keeps queue.old queue.new }
-    ensures later { O.faults out.old ≤ O.faults out.new }
-    ensures stays { OnOk result (O.faults out.new ≡ O.faults out.old) }
-    ensures cause { IfErr result (SinkAfter (O.faults out.old) (O.faults out.new)) }
-    ensures list { list.new.room ≡ list.old.room }
+    requires ready { IsReady queue.old list.old.room }
+    ensures prints { Prints queue.old.slots (O.told out.old) (O.told out.new) gathered.old (lines_text (front pair_cmp queue.old.bag (limited_count queue.old.bag limit count)) ++ mark_text queue.old.bag limit count) gathered.new result }
+    ensures sink { SinkCounts (O.faults out.old) (O.faults out.new) result }
+    ensures left { OnOk result (Leaves queue.old queue.new (without_front pair_cmp queue.old.bag (limited_count queue.old.bag limit count)) (queue.old.size - count) queue.old.size) }
+    ensures lent { IsLent queue.old queue.new queue.old.peak result }
+    ensures room { list.new.room ≡ list.old.room }
 {
     print_popped(rt, queue, Some(limit), count, list, gathered, out, gate)?;
     let mark = mark_of(rt, queue, limit, gate)?;

@@ -1,5 +1,5 @@
 //! Runs the commands of a script.
-ghost use Rattle.std.specs.Prelude.{◌≡◌, false, ◌≤◌, ◌<◌, ◌⊎◌, ◌*◌, ◌+◌, List, ℕ, Option, [], Some, None, OnOk, IfErr, IsTrue, length, map};
+ghost use Rattle.std.specs.Prelude.{◌≡◌, ◌≤◌, ◌<◌, ◌⊎◌, List, ℕ, Option, [], Some, OnOk, IfErr, IsTrue, length, map};
 ghost use Rattle.ppq_script.specs.ppq_outside.Shown.{AllTell};
 ghost use Rattle.ppq_script.specs.ppq_outside.Told.{TakesAll, TakesPart, Rose, Remembers, RepliesOnly};
 ghost use Rattle.ppq_load.specs.ppq_budget.Sizes.{fixed_of, batch_of};
@@ -7,18 +7,19 @@ ghost use Rattle.ppq_load.specs.ppq_array.Kept.{SameSlots, HasFailed};
 ghost use Rattle.ppq_script.specs.Reading.{command_list};
 ghost use Rattle.ppq_load.specs.ppq_queue.Holding.{AreNewSlots};
 ghost use Rattle.ppq_load.specs.Refusal.{HasRoom, HasNoRoom};
+ghost use Rattle.ppq_engine.specs.Calls.{IsUnused, RunsAll, StopsRun, EndsRun, SinkCounts, LibraryCounts, LibraryStays};
 ghost use Rattle.ppq_engine.specs.Loads.{most_of, least_of, begins_limit, FitsWritten};
 ghost use Rattle.ppq_engine.specs.Output.{output_of, load_of, crest_of, given_of, AreFilesOf, KeepsLengths, TakesWithin};
-ghost use Rattle.ppq_engine.specs.Running.{IsGathered, HasStopped, ChangedIn, HasChanged, SinkAfter, LibraryAfter, queue_end, open_end};
+ghost use Rattle.ppq_engine.specs.Running.{HasChanged, queue_end, open_end};
 ghost use Rattle.ppq_engine.specs.Files.{IsReadInScript};
-ghost use Rattle.ppq_engine.specs.Outcome.{EndSays, TakesBeforeLoad, FaultBeforeFile, PutsRest, PutsStopped};
+ghost use Rattle.ppq_engine.specs.Outcome.{TakesBeforeLoad, FaultBeforeFile, PutsRest, PutsStopped};
 ghost use Rattle.ppq_engine.specs.Ends.{budget_refusal, BeganOrRefused, IsCompleted, IsQuiet, NoFault, NoneFailed};
 ghost use Rattle.ppq_engine.specs.declared.end.End.TheVariants.{Done, ReadFault, WriteFault, DeviceFault, NoFreeBlock, BudgetTooSmall, Memory, FileChanged};
 
+use crate::{End, Ended};
 use crate::gathered::Gathered;
 use crate::step::advance;
 use crate::stop::Stop;
-use crate::{End, Ended};
 use ppq_load::{OpenFault, Out, Queue, QueueFault, Sizes};
 use ppq_script::{Failed, Gate, Host, Library, Pair, Script, Sink, Slot};
 use std::alloc::Global;
@@ -40,32 +41,17 @@ fn run_commands<H: Host, S: Slot + Send + Sync, L: Library, O: Sink, G: Gate>(
 where
     H::Dir: Send,
     requires checked { IsTrue script.now.checked }
-    requires workers { script.now.workers ≡ queue.sizes.workers }
+    requires unused { IsUnused script.now queue }
     requires lengths { (files : List ℕ → Option (List ℕ)) → L.told library.old ≡ Some files → KeepsLengths files script.now }
-    requires room { 16 ≤ length room.old }
-    requires bag { queue.bag ≡ [] }
-    requires size { queue.size ≡ 0 }
-    requires peak { queue.peak ≡ 0 }
-    requires sound { queue.failed ≡ None }
-    requires unlimited { queue.limited ≡ false }
     requires block { 0 < queue.sizes.block }
+    requires room { 16 ≤ length room.old }
     requires list { list.old.room ≡ batch_of queue.sizes }
     requires gathered { gathered.old ≡ [] }
-    ensures all { OnOk result.1 (AllTell queue.slots → (files : List ℕ → Option (List ℕ)) → AreFilesOf (L.told library.old) script.now files → IsGathered (O.told out.old) (O.told out.new) gathered.new (output_of (given_of files script.now) (command_list script.now))) }
-    ensures crest { OnOk result.1 (AllTell queue.slots → (files : List ℕ → Option (List ℕ)) → AreFilesOf (L.told library.old) script.now files → FitsWritten (crest_of (given_of files script.now) (command_list script.now)) queue.sizes result.0.slots) }
-    ensures least { OnOk result.1 (FitsWritten (least_of (command_list script.now)) queue.sizes result.0.slots) }
-    ensures stopped { IfErr result.1 (HasStopped (L.told library.old) script.now queue.slots (O.told out.old) (O.told out.new) gathered.new queue.sizes result.0.slots) }
-    ensures changed { IfErr result.1 (ChangedIn (L.told library.old) (L.replied library.new) script.now) }
+    ensures runs { OnOk result.1 (RunsAll (L.told library.old) script.now queue result.0 (O.told out.old) (O.told out.new) gathered.new) }
+    ensures stopped { IfErr result.1 (StopsRun (L.told library.old) (L.replied library.new) script.now queue result.0 (O.told out.old) (O.told out.new) gathered.new) }
     ensures slots { SameSlots queue.slots result.0.slots }
-    ensures remembers { Remembers (L.replied library.old) (L.replied library.new) }
-    ensures asks { RepliesOnly (L.replied library.old) (L.replied library.new) (IsReadInScript script.now) }
-    ensures told { L.told library.new ≡ L.told library.old }
-    ensures library_later { L.faults library.old ≤ L.faults library.new }
-    ensures library_stays { OnOk result.1 (L.faults library.new ≡ L.faults library.old) }
-    ensures library_cause { IfErr result.1 (LibraryAfter (L.faults library.old) (L.faults library.new)) }
-    ensures later { O.faults out.old ≤ O.faults out.new }
-    ensures stays { OnOk result.1 (O.faults out.new ≡ O.faults out.old) }
-    ensures cause { IfErr result.1 (SinkAfter (O.faults out.old) (O.faults out.new)) }
+    ensures library { LibraryCounts (L.told library.old) (L.told library.new) (L.replied library.old) (L.replied library.new) (IsReadInScript script.now) (L.faults library.old) (L.faults library.new) result.1 }
+    ensures sink { SinkCounts (O.faults out.old) (O.faults out.new) result.1 }
 {
     script.checked();
     let mut queue = queue;
@@ -149,25 +135,15 @@ fn run_on<H: Host, S: Slot + Send + Sync, L: Library, O: Sink, G: Gate>(
 where
     H::Dir: Send,
     requires checked { IsTrue script.now.checked }
-    requires workers { script.now.workers ≡ queue.sizes.workers }
+    requires unused { IsUnused script.now queue }
     requires lengths { (files : List ℕ → Option (List ℕ)) → L.told library.old ≡ Some files → KeepsLengths files script.now }
-    requires room { 16 ≤ length room.old }
-    requires bag { queue.bag ≡ [] }
-    requires size { queue.size ≡ 0 }
-    requires peak { queue.peak ≡ 0 }
-    requires sound { queue.failed ≡ None }
-    requires unlimited { queue.limited ≡ false }
     requires block { 0 < queue.sizes.block }
+    requires room { 16 ≤ length room.old }
     requires list { list.old.room ≡ batch_of queue.sizes }
     requires gathered { gathered.old ≡ [] }
-    ensures part { AllTell queue.slots → (files : List ℕ → Option (List ℕ)) → AreFilesOf (L.told library.old) script.now files → TakesPart (O.told out.old) (O.told out.new) (output_of (given_of files script.now) (command_list script.now)) }
-    ensures says { EndSays (L.told library.old) (L.replied library.new) script.now queue.slots result.0.slots queue.sizes (O.told out.old) (O.told out.new) (O.faults out.old) (O.faults out.new) (L.faults library.old) (L.faults library.new) result.1 }
-    ensures file { FaultBeforeFile (L.told library.old) script.now queue.slots (O.told out.old) (O.told out.new) result.1 }
+    ensures ends { EndsRun (L.told library.old) (L.replied library.new) script.now queue result.0 (O.told out.old) (O.told out.new) (O.faults out.old) (O.faults out.new) (L.faults library.old) (L.faults library.new) result.1 }
     ensures slots { SameSlots queue.slots result.0.slots }
-    ensures remembers { Remembers (L.replied library.old) (L.replied library.new) }
-    ensures asks { RepliesOnly (L.replied library.old) (L.replied library.new) (IsReadInScript script.now) }
-    ensures told { L.told library.new ≡ L.told library.old }
-    ensures library_later { L.faults library.old ≤ L.faults library.new }
+    ensures library { LibraryStays (L.told library.old) (L.told library.new) (L.replied library.old) (L.replied library.new) (IsReadInScript script.now) (L.faults library.old) (L.faults library.new) }
     ensures later { O.faults out.old ≤ O.faults out.new }
 {
     let (queue, result) = run_commands(
@@ -196,22 +172,12 @@ fn run_opened<H: Host, S: Slot + Send + Sync, L: Library, O: Sink, G: Gate>(
 where
     H::Dir: Send,
     requires checked { IsTrue script.now.checked }
-    requires workers { script.now.workers ≡ queue.sizes.workers }
+    requires unused { IsUnused script.now queue }
     requires lengths { (files : List ℕ → Option (List ℕ)) → L.told library.old ≡ Some files → KeepsLengths files script.now }
-    requires bag { queue.bag ≡ [] }
-    requires size { queue.size ≡ 0 }
-    requires peak { queue.peak ≡ 0 }
-    requires sound { queue.failed ≡ None }
-    requires unlimited { queue.limited ≡ false }
     requires sizes { queue.sizes ≡ sizes }
-    ensures part { AllTell queue.slots → (files : List ℕ → Option (List ℕ)) → AreFilesOf (L.told library.old) script.now files → TakesPart (O.told out.old) (O.told out.new) (output_of (given_of files script.now) (command_list script.now)) }
-    ensures says { EndSays (L.told library.old) (L.replied library.new) script.now queue.slots result.0.slots queue.sizes (O.told out.old) (O.told out.new) (O.faults out.old) (O.faults out.new) (L.faults library.old) (L.faults library.new) result.1 }
-    ensures file { FaultBeforeFile (L.told library.old) script.now queue.slots (O.told out.old) (O.told out.new) result.1 }
+    ensures ends { EndsRun (L.told library.old) (L.replied library.new) script.now queue result.0 (O.told out.old) (O.told out.new) (O.faults out.old) (O.faults out.new) (L.faults library.old) (L.faults library.new) result.1 }
     ensures slots { SameSlots queue.slots result.0.slots }
-    ensures remembers { Remembers (L.replied library.old) (L.replied library.new) }
-    ensures asks { RepliesOnly (L.replied library.old) (L.replied library.new) (IsReadInScript script.now) }
-    ensures told { L.told library.new ≡ L.told library.old }
-    ensures library_later { L.faults library.old ≤ L.faults library.new }
+    ensures library { LibraryStays (L.told library.old) (L.told library.new) (L.replied library.old) (L.replied library.new) (IsReadInScript script.now) (L.faults library.old) (L.faults library.new) }
     ensures later { O.faults out.old ≤ O.faults out.new }
 {
     let Ok(mut gathered) = Gathered::new(alloc) else {

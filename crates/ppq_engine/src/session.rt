@@ -11,9 +11,10 @@ ghost use Rattle.ppq_load.specs.ppq_queue.Holding.{Holding};
 ghost use Rattle.ppq_load.specs.ppq_session.Dealing.{IsGoing, records_in};
 ghost use Rattle.ppq_load.specs.Loading.{InSession};
 ghost use Rattle.ppq_load.specs.Refusal.{Keeps};
+ghost use Rattle.ppq_engine.specs.Calls.{IsOpenAt, Adds};
 ghost use Rattle.ppq_engine.specs.Files.{IsBySession};
 ghost use Rattle.ppq_engine.specs.Parts.{up_to_end, pushed_in, behind_session};
-ghost use Rattle.ppq_engine.specs.Pushes.{IsPushAt, IsEndAt, GivesFirst};
+ghost use Rattle.ppq_engine.specs.Pushes.{IsPushAt, IsEndAt, GivesFirst, IsBatchOf, IsNewBatch};
 ghost use Rattle.ppq_engine.specs.Running.{StopsFor};
 
 use crate::load::stop_of;
@@ -46,9 +47,7 @@ fn make_room<H: Host, S: Slot + Send + Sync, G: Gate>(
 ) -> bool
 where
     H::Dir: Send,
-    requires some { 0 < most }
-    requires few { vec_len lines.old ≤ most }
-    requires bound { most < 2 ^ 32 }
+    requires batch { IsBatchOf most (vec_len lines.old) }
     requires named { All (λ line. line.pass < load.old.bulk.sizes.workers) lines.old.items }
     requires going { All IsGoing load.old.passes }
     ensures all { IsTrue result → All IsGoing load.new.passes }
@@ -57,7 +56,6 @@ where
     ensures capacity { vec_capacity lines.new ≡ vec_capacity lines.old }
     ensures named { All (λ line. line.pass < load.old.bulk.sizes.workers) lines.new.items }
     ensures given { GivesFirst S.shown (records_in lines.old.items) (records_in lines.new.items) load.old load.new }
-    ensures bulk { load.new.bulk ≡ load.old.bulk }
 {
     if lines.len() < most {
         return true;
@@ -83,10 +81,7 @@ where
     requires inside { are_in_place script.now.workers InBulk (drop from (command_list script.now)) ≡ true }
     requires workers { load.old.bulk.sizes.workers ≡ script.now.workers }
     requires fits { length script.now.commands < 2 ^ 64 }
-    requires some { 0 < most }
-    requires bound { most < 2 ^ 32 }
-    requires no_line { lines.old.items ≡ [] }
-    requires capacity { most ≤ vec_capacity lines.old }
+    requires batch { IsNewBatch most (vec_capacity lines.old) lines.old.items }
     requires going { All IsGoing load.old.passes }
     ensures next { All IsGoing load.new.passes → result ≡ from + length (up_to_end (drop from (command_list script.now))) }
     ensures all { All IsGoing load.new.passes → (queue : Holding Pair) → InSession S.shown queue [] load.old → InSession S.shown queue (pushed_in (up_to_end (drop from (command_list script.now)))) load.new }
@@ -127,16 +122,12 @@ pub fn run_bulk<H: Host, S: Slot + Send + Sync, G: Gate>(
 ) -> (Queue<S, Pair>, Result<usize, Stop>)
 where
     H::Dir: Send,
-    requires inside { are_in_place script.now.workers InBulk (drop (place + 1) (command_list script.now)) ≡ true }
+    requires open { IsOpenAt script.now place InBulk }
     requires workers { script.now.workers ≡ queue.sizes.workers }
     requires most { most ≡ batch_of queue.sizes }
-    requires place { place < length script.now.commands }
-    requires fits { length script.now.commands < 2 ^ 64 }
     ensures next { IfOk result.1 (λ next. next ≡ (place + 1) + length (up_to_end (drop (place + 1) (command_list script.now)))) }
     ensures bag { OnOk result.1 (AllTell queue.slots → IsSameBag result.0.bag (pushed_in (up_to_end (drop (place + 1) (command_list script.now))) ++ queue.bag)) }
-    ensures size { OnOk result.1 (result.0.size ≡ queue.size + length (pushed_in (up_to_end (drop (place + 1) (command_list script.now))))) }
-    ensures sound { OnOk result.1 (result.0.failed ≡ None) }
-    ensures peak { OnOk result.1 (result.0.peak ≤ max queue.peak (queue.size + length (pushed_in (up_to_end (drop (place + 1) (command_list script.now)))))) }
+    ensures adds { OnOk result.1 (Adds queue result.0 (length (pushed_in (up_to_end (drop (place + 1) (command_list script.now)))))) }
     ensures refused { IfErr result.1 (StopsFor (max queue.peak (queue.size + length (pushed_in (up_to_end (drop (place + 1) (command_list script.now)))))) queue.sizes queue.limited result.0.slots) }
     ensures by_session { IfErr result.1 IsBySession }
     ensures kept { Keeps queue result.0 }

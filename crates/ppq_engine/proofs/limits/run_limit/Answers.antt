@@ -9,7 +9,7 @@ use Rattle.ppq_engine.specs.Parts.{up_to_end, limit_part}
 use Rattle.ppq_engine.specs.Popping.{IsByLimit}
 use Rattle.ppq_engine.specs.Running.{PartStops, SinkAfter}
 use Rattle.ppq_engine.specs.declared.stop.Stop.{Stop}
-use Rattle.ppq_engine.proofs.LimitParts.{SessionRan, ended-next, ended-text, ended-bag, ended-low, ended-high, ended-sound, ended-peak, ended-stopped, ended-by_limit, ended-kept, ended-slots, ended-stays, ended-cause, begin-stopped, session-by_limit, session-cause}
+use Rattle.ppq_engine.proofs.LimitParts.{SessionRan, ended-next, ended-runs, ended-stopped, ended-by_limit, ended-slots, ended-stays, ended-cause, begin-stopped, session-by_limit, session-cause}
 use Rattle.ppq_engine.proofs.Loads.{stop-refused, stop-by_session}
 use Rattle.ppq_engine.proofs.Popped.{gathers-nothing}
 use Rattle.ppq_engine.proofs.Slots.{SameSlots-refl}
@@ -24,7 +24,7 @@ returns-in_default-clause-slots g c = SameSlots-refl c.args.queue.slots
 pub run_lines-ran-requires-clause-inside : goal.run_lines-ran-requires-clause-inside
 run_lines-ran-requires-clause-inside g c κs within =
     let P : Pair → Type 0 = λ l. IsInLimit c.args.script.now l (c.args.place + 1) in
-    subst P (sym c.in-Ok-begin.ensures.session.limit_is) c.requires.inside
+    subst P (sym c.in-Ok-begin.ensures.session.limit_is) c.requires.open.inside
 
 pub run_lines-ran-requires-clause-workers : goal.run_lines-ran-requires-clause-workers
 run_lines-ran-requires-clause-workers g c κs within = c.requires.workers ∙ ap (λ (n : Numbers). n.workers) (sym c.in-Ok-begin.ensures.session.sizes)
@@ -54,7 +54,7 @@ returns-in-Ok-begin g c =
     let later = g.O.Sink.faults c.run_lines-ran.new.out in
     let run : SessionRan shown script place queue before now had has mid c.args.limit old new ran ended = record {
       begun = c.in-Ok-begin.ensures.session;
-      open_at = c.requires.inside;
+      open_at = c.requires.open.inside;
       lines = c.run_lines-ran.ensures.ran;
       broken = c.run_lines-ran.ensures.broken;
       going = c.end-queue.ensures.all;
@@ -63,19 +63,11 @@ returns-in-Ok-begin g c =
     } in
     record {
       next = ended-next ran ended s e (AreGoing mid) ((place + 1) + length (up_to_end (drop (place + 1) (command_list script)))) c.run_lines-ran.ensures.next c.end-queue.ensures.all;
-      text = ended-text shown script place queue before now had has mid c.args.limit old new ran ended s e run;
-      bag = ended-bag shown script place queue before now had has mid c.args.limit old new ran ended s e run;
-      low = ended-low shown script place queue before now had has mid c.args.limit old new ran ended s e run;
-      high = ended-high shown script place queue before now had has mid c.args.limit old new ran ended s e run;
-      sound = ended-sound shown script place queue before now had has mid c.args.limit old new ran ended s e run;
-      peak = ended-peak shown script place queue before now had has mid c.args.limit old new ran ended s e run;
+      runs = ended-runs shown script place queue before now had has mid c.args.limit old new ran ended s e run;
       stopped = ended-stopped shown script place queue before now had has mid c.args.limit old new ran ended s e run;
       by_limit = ended-by_limit ran ended s e;
-      kept = ended-kept shown script place queue before now had has mid c.args.limit old new ran ended s e run;
       slots = ended-slots shown script place queue before now had has mid c.args.limit old new ran ended s e run;
-      later = c.run_lines-ran.ensures.cause.later;
-      stays = ended-stays ran ended s e faults later c.run_lines-ran.ensures.cause;
-      cause = ended-cause ran ended s e faults later c.run_lines-ran.ensures.cause;
+      sink = record { later = c.run_lines-ran.ensures.cause.later; stays = ended-stays ran ended s e faults later c.run_lines-ran.ensures.cause; cause = ended-cause ran ended s e faults later c.run_lines-ran.ensures.cause };
     }
 
 pub returns-clause-stopped : goal.returns-clause-stopped
@@ -97,8 +89,8 @@ returns-clause-by_limit g c =
 pub returns-clause-slots : goal.returns-clause-slots
 returns-clause-slots g c = c.in-Err.ensures.kept.slots
 
-pub returns-clause-cause : goal.returns-clause-cause
-returns-clause-cause g c =
+pub returns-clause-sink : goal.returns-clause-sink
+returns-clause-sink g c =
     let faults = g.O.Sink.faults c.args.out.now in
     let P : Stop → Type 0 = λ s. SinkAfter faults faults s in
-    subst P (sym c.stop_of.ensures) (session-cause faults (load_stop 0 0 c.in-Err.fault) (stop-by_session 0 0 c.in-Err.fault c.in-Err.ensures.by_load))
+    record { later = omega arith; stays = tt; cause = subst P (sym c.stop_of.ensures) (session-cause faults (load_stop 0 0 c.in-Err.fault) (stop-by_session 0 0 c.in-Err.fault c.in-Err.ensures.by_load)) }

@@ -68,7 +68,7 @@ pub returns-then-not-all-clause-ran : goal.returns-then-not-all-clause-ran
 returns-then-not-all-clause-ran g c =
     let told = g.O.Sink.told in
     runs-stopped g.S.Slot.shown c.args.script.now c.args.from (told c.args.out.now) c.args.gathered.now c.args.session.now c.batches.place c.fill-place.result (told c.batches.out) (told c.print.new.out) c.batches.gathered c.print.new.gathered c.batches.session c.run-all.new.session
-    c.fill-place.new.self.lines c.fill-place.new.self.asks c.run-all.new.self.answers c.batches.invariant.on c.fill-place.ensures.batch c.run-all.ensures.ran c.in_ok-print.ensures.ok (c.run-all.ensures.stopped c.if-not-all.true)
+    c.fill-place.new.self.lines c.fill-place.new.self.asks c.run-all.new.self.answers c.batches.invariant.on c.fill-place.ensures.batch c.run-all.ensures.ran c.in_ok-print.ensures.text (c.run-all.ensures.stopped c.if-not-all.true)
 
 pub batches-smaller : goal.batches-smaller
 batches-smaller g c =
@@ -81,7 +81,7 @@ batches-preserved g c =
     record {
       on =
           going-more g.S.Slot.shown c.args.script.now c.args.from (told c.args.out.now) c.args.gathered.now c.args.session.now c.batches.place c.fill-place.result (told c.batches.out) (told c.print.new.out) c.batches.gathered c.print.new.gathered c.batches.session c.run-all.new.session
-          c.fill-place.new.self.lines c.fill-place.new.self.asks c.run-all.new.self.answers c.batches.invariant.on c.fill-place.ensures.batch c.run-all.ensures.ran c.in_ok-print.ensures.ok (c.run-all.ensures.all c.if-not-all.false);
+          c.fill-place.new.self.lines c.fill-place.new.self.asks c.run-all.new.self.answers c.batches.invariant.on c.fill-place.ensures.batch c.run-all.ensures.ran c.in_ok-print.ensures.text (c.run-all.ensures.all c.if-not-all.false);
       most = ap (λ (b : BatchHolding). b.most) c.run-all.ensures.batch ∙ c.fill-place.ensures.most ∙ c.batches.invariant.most;
       stays = c.in_ok-print.ensures.cause.ok ∙ c.batches.invariant.stays;
     }

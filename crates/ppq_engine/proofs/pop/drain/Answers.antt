@@ -1,4 +1,4 @@
-use Rattle.std.proofs.Common.{◌≡◌, ◌+◌, ◌-◌, ◌++◌, ◌∙◌, ℕ, List, length, ap, None, refl, sym, subst, take, drop, arith}
+use Rattle.std.proofs.Common.{rules, ◌≡◌, ◌+◌, ◌-◌, ◌++◌, ◌∙◌, ℕ, List, length, ap, None, refl, sym, subst, take, drop, arith}
 use Rattle.ppq_script.specs.ppq_record.declared.pair.Pair.{Pair}
 use Rattle.ppq_script.specs.ppq_record.Pair.{pair_cmp}
 use Rattle.ppq_script.specs.ppq_record.Bag.{IsSameBag, ascending}
@@ -14,30 +14,45 @@ rounds-init g c = record {
   count = c.nothing-drained.ensures.count;
   within = omega arith;
   size = omega arith;
-  sound = c.requires.sound;
-  peak = refl;
+  sound = c.requires.ready.sound;
+  peak = omega arith;
   kept = Keeps-refl c.args.queue.now;
   list = refl;
 }
 
-pub returns-in_err-pop_round-clause-kept : goal.returns-in_err-pop_round-clause-kept
-returns-in_err-pop_round-clause-kept g c = Keeps-trans c.args.queue.now c.rounds.queue c.pop_round.new.queue c.rounds.invariant.kept c.pop_round.ensures.kept
+pub returns-in_err-pop_round-clause-called : goal.returns-in_err-pop_round-clause-called
+returns-in_err-pop_round-clause-called g c = record {
+  kept = Keeps-trans c.args.queue.now c.rounds.queue c.pop_round.new.queue c.rounds.invariant.kept c.pop_round.ensures.called.kept;
+  peak = omega (arith, c.rounds.invariant.peak, c.pop_round.ensures.called.peak);
+  refused = search rules;
+}
 
 pub returns-then-is_empty-clause-summary : goal.returns-then-is_empty-clause-summary
 returns-then-is_empty-clause-summary g c = λ tells.
     let here = c.rounds.invariant.kept.tells tells in
-    let all = round-ends None c.rounds.queue.bag c.pop_round.new.queue.bag c.args.queue.now.bag c.pop_round.new.list.items c.rounds.done c.args.count (c.args.count - c.rounds.done) (c.if-is_empty.ensures.0 refl) (c.rounds.invariant.left tells) (c.in_ok-pop_round.ensures.round here) c.rounds.invariant.within in
+    let all = round-ends None c.rounds.queue.bag c.pop_round.new.queue.bag c.args.queue.now.bag c.pop_round.new.list.items c.rounds.done c.args.count (c.args.count - c.rounds.done) (c.if-is_empty.ensures.0 refl) (c.rounds.invariant.left tells) (c.in_ok-pop_round.ensures.popped.round here) c.rounds.invariant.within in
     let P : List Pair → Type 0 = λ items. IsSummary items c.rounds.drained in
     subst P (sym all.0) (c.rounds.invariant.summary tells)
 
-pub returns-then-is_empty-clause-bag : goal.returns-then-is_empty-clause-bag
-returns-then-is_empty-clause-bag g c = λ tells.
-    let here = c.rounds.invariant.kept.tells tells in
-    let all = round-ends None c.rounds.queue.bag c.pop_round.new.queue.bag c.args.queue.now.bag c.pop_round.new.list.items c.rounds.done c.args.count (c.args.count - c.rounds.done) (c.if-is_empty.ensures.0 refl) (c.rounds.invariant.left tells) (c.in_ok-pop_round.ensures.round here) c.rounds.invariant.within in
-    all.1
+pub returns-then-is_empty-clause-left : goal.returns-then-is_empty-clause-left
+returns-then-is_empty-clause-left g c =
+    let popped = c.in_ok-pop_round.ensures.popped in
+    let none = c.if-is_empty.ensures.0 refl in
+    record {
+      bag =
+          λ tells.
+          (round-ends None c.rounds.queue.bag c.pop_round.new.queue.bag c.args.queue.now.bag c.pop_round.new.list.items c.rounds.done c.args.count (c.args.count - c.rounds.done) none (c.rounds.invariant.left tells) (popped.round (c.rounds.invariant.kept.tells tells)) c.rounds.invariant.within).1;
+      low = omega (arith, c.rounds.invariant.size, c.rounds.invariant.within, popped.size, popped.end refl none);
+      high = omega (arith, c.rounds.invariant.size, c.rounds.invariant.within, popped.size, popped.end refl none);
+      sound = popped.sound;
+    }
 
-pub returns-then-is_empty-clause-kept : goal.returns-then-is_empty-clause-kept
-returns-then-is_empty-clause-kept g c = Keeps-trans c.args.queue.now c.rounds.queue c.pop_round.new.queue c.rounds.invariant.kept c.pop_round.ensures.kept
+pub returns-then-is_empty-clause-called : goal.returns-then-is_empty-clause-called
+returns-then-is_empty-clause-called g c = record {
+  kept = Keeps-trans c.args.queue.now c.rounds.queue c.pop_round.new.queue c.rounds.invariant.kept c.pop_round.ensures.called.kept;
+  peak = omega (arith, c.rounds.invariant.peak, c.pop_round.ensures.called.peak);
+  refused = tt;
+}
 
 pub rounds-preserved : goal.rounds-preserved
 rounds-preserved g c =
@@ -48,27 +63,29 @@ rounds-preserved g c =
     let items = c.pop_round.new.list.items in
     let done = c.rounds.done in
     let left = c.args.count - done in
+    let v = c.rounds.invariant in
+    let popped = c.in_ok-pop_round.ensures.popped in
     let sum : done + length items ≡ done + c.from-done.result = omega (arith, c.from-done.ensures, c.len.ensures.value) in
     record {
       left =
           λ tells.
           let P : ℕ → Type 0 = λ n. IsSameBag next (drop n asc) in
-          subst P sum (round-left bag next old items done left None (c.rounds.invariant.left tells) (c.in_ok-pop_round.ensures.round (c.rounds.invariant.kept.tells tells)));
+          subst P sum (round-left bag next old items done left None (v.left tells) (popped.round (v.kept.tells tells)));
       summary =
           λ tells.
           let P : ℕ → Type 0 = λ n. IsSummary (take n asc) c.add_all-drained.result in
           let Q : List Pair → Type 0 = λ xs. IsSummary xs c.add_all-drained.result in
           let R : List Pair → Type 0 = λ xs. IsSummary (take done asc ++ xs) c.add_all-drained.result in
           subst P sum
-          (subst Q (sym (round-taken bag next old items done left None (c.rounds.invariant.left tells) (c.in_ok-pop_round.ensures.round (c.rounds.invariant.kept.tells tells))))
-          (subst R c.as_slice.ensures (c.add_all-drained.ensures.summary (take done asc) (c.rounds.invariant.summary tells))));
-      count = omega (arith, sum, c.add_all-drained.ensures.count, c.rounds.invariant.count, ap length c.as_slice.ensures);
-      within = omega (arith, sum, c.pop_round.ensures.few, c.rounds.invariant.within);
-      size = omega (arith, sum, c.in_ok-pop_round.ensures.size, c.rounds.invariant.size);
-      sound = c.in_ok-pop_round.ensures.sound;
-      peak = c.pop_round.ensures.peak ∙ c.rounds.invariant.peak;
-      kept = Keeps-trans c.args.queue.now c.rounds.queue c.pop_round.new.queue c.rounds.invariant.kept c.pop_round.ensures.kept;
-      list = c.pop_round.ensures.list ∙ c.rounds.invariant.list;
+          (subst Q (sym (round-taken bag next old items done left None (v.left tells) (popped.round (v.kept.tells tells))))
+          (subst R c.as_slice.ensures (c.add_all-drained.ensures.summary (take done asc) (v.summary tells))));
+      count = omega (arith, sum, c.add_all-drained.ensures.count, v.count, ap length c.as_slice.ensures);
+      within = omega (arith, sum, popped.few, v.within);
+      size = omega (arith, sum, popped.size, v.size);
+      sound = popped.sound;
+      peak = omega (arith, c.pop_round.ensures.called.peak, v.peak);
+      kept = Keeps-trans c.args.queue.now c.rounds.queue c.pop_round.new.queue v.kept c.pop_round.ensures.called.kept;
+      list = c.pop_round.ensures.room ∙ v.list;
     }
 
 pub returns-clause-summary : goal.returns-clause-summary
@@ -76,3 +93,13 @@ returns-clause-summary g c = λ tells.
     let P : ℕ → Type 0 = λ n. IsSummary (take n (ascending pair_cmp c.args.queue.now.bag)) c.rounds.drained in
     let all : c.rounds.done ≡ c.args.count = omega (arith, c.rounds.invariant.within) in
     subst P all (c.rounds.invariant.summary tells)
+
+pub returns-clause-left : goal.returns-clause-left
+returns-clause-left g c =
+    let all : c.rounds.done ≡ c.args.count = omega (arith, c.rounds.invariant.within) in
+    record {
+      bag = λ tells. let P : ℕ → Type 0 = λ n. IsSameBag c.rounds.queue.bag (drop n (ascending pair_cmp c.args.queue.now.bag)) in subst P all (c.rounds.invariant.left tells);
+      low = omega (arith, c.rounds.invariant.size, all);
+      high = omega (arith, c.rounds.invariant.size, all);
+      sound = c.rounds.invariant.sound;
+    }

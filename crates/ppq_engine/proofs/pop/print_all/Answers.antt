@@ -1,4 +1,4 @@
-use Rattle.std.proofs.Common.{◌++◌, ◌∙◌, ℕ, List, ap, sym, subst, take, arith}
+use Rattle.std.proofs.Common.{rules, ◌++◌, ◌∙◌, ℕ, List, ap, sym, subst, take, arith}
 use Rattle.ppq_script.specs.ppq_outside.Told.{TakesPart}
 use Rattle.ppq_engine.specs.Output.{line_of, lines_text}
 use Rattle.ppq_engine.specs.Gathers.{Gathers}
@@ -7,11 +7,15 @@ use Rattle.ppq_engine.proofs.Results.{on-err}
 use Rattle.ppq_engine.proofs.Running.{take-next}
 use Rattle.ppq_engine.proofs.pop.print_all.Goals as goal
 
-pub returns-in_err-print-clause-part : goal.returns-in_err-print-clause-part
-returns-in_err-print-clause-part g c =
+pub returns-in_err-print : goal.returns-in_err-print
+returns-in_err-print g c =
     let told = g.O.Sink.told in
-    on-err c.from_residual.result (TakesPart (told c.args.out.now) (told c.print.new.out) (c.args.gathered.now ++ lines_text c.args.items.now))
-    (lines-put (told c.args.out.now) (told c.loop-i.out) (told c.print.new.out) c.args.gathered.now c.loop-i.gathered c.args.items.now c.loop-i.i (omega arith) c.loop-i.invariant.text c.in_err-print.ensures.part)
+    record {
+      text = search rules;
+      part = on-err c.from_residual.result (TakesPart (told c.args.out.now) (told c.print.new.out) (c.args.gathered.now ++ lines_text c.args.items.now))
+          (lines-put (told c.args.out.now) (told c.loop-i.out) (told c.print.new.out) c.args.gathered.now c.loop-i.gathered c.args.items.now c.loop-i.i (omega arith) c.loop-i.invariant.text c.in_err-print.ensures.part);
+      cause = search rules;
+    }
 
 pub loop-i-preserved : goal.loop-i-preserved
 loop-i-preserved g c =

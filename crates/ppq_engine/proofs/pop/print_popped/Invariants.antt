@@ -16,7 +16,7 @@ invariant-rounds g l = record {
   within : l.done ≤ l.count;
   size : l.queue.size ≡ l.fn.queue.size - l.done;
   sound : l.queue.failed ≡ None;
-  peak : l.queue.peak ≡ l.fn.queue.peak;
+  peak : l.queue.peak ≤ l.fn.queue.peak;
   kept : Keeps l.fn.queue l.queue;
   list : l.list.room ≡ l.fn.list.room;
   stays : g.O.Sink.faults l.out ≡ g.O.Sink.faults l.fn.out;

@@ -1,10 +1,10 @@
 use Rattle.std.proofs.Common.{◌≡◌, ◌≤◌, ◌-◌, ℕ, List, Option, None, true, take, drop, length}
 use Rattle.ppq_script.specs.ppq_outside.Shown.{AllTell}
-use Rattle.ppq_script.specs.ppq_outside.Told.{Remembers, RepliesOnly}
 use Rattle.ppq_script.specs.declared.session.Session.TheVariants.{Outside}
 use Rattle.ppq_script.specs.Reading.{command_list}
 use Rattle.ppq_script.specs.Sessions.{are_in_place}
 use Rattle.ppq_load.specs.Refusal.{Keeps}
+use Rattle.ppq_engine.specs.Calls.{LibraryStays}
 use Rattle.ppq_engine.specs.Output.{AreFilesOf, given_of}
 use Rattle.ppq_engine.specs.Running.{HasRun, HasSizes, behind_part}
 use Rattle.ppq_engine.specs.Files.{IsReadInScript}
@@ -23,11 +23,7 @@ invariant-commands g l = record {
   sound : l.queue.failed ≡ None;
   kept : Keeps (behind_part l.fn.queue (take l.place (command_list l.script))) l.queue;
   list : l.list.room ≡ l.fn.list.room;
-  told : g.L.Library.told l.library ≡ g.L.Library.told l.fn.library;
-  remembers : Remembers (g.L.Library.replied l.fn.library) (g.L.Library.replied l.library);
-  asks : RepliesOnly (g.L.Library.replied l.fn.library) (g.L.Library.replied l.library) (IsReadInScript l.script);
-  library_later : g.L.Library.faults l.fn.library ≤ g.L.Library.faults l.library;
-  later : g.O.Sink.faults l.fn.out ≤ g.O.Sink.faults l.out;
+  library : LibraryStays (g.L.Library.told l.fn.library) (g.L.Library.told l.library) (g.L.Library.replied l.fn.library) (g.L.Library.replied l.library) (IsReadInScript l.script) (g.L.Library.faults l.fn.library) (g.L.Library.faults l.library);
   library_stays : g.L.Library.faults l.library ≡ g.L.Library.faults l.fn.library;
   stays : g.O.Sink.faults l.out ≡ g.O.Sink.faults l.fn.out;
 }

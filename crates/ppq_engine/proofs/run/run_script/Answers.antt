@@ -12,7 +12,7 @@ use Rattle.ppq_engine.proofs.run.run_script.Goals as goal
 says :
     (g : given.Over) (c : goal.After-close g)
     → EndSays (g.L.Library.told c.args.library.now) (g.L.Library.replied c.run_opened-queue.new.library) c.args.script.now (map g.S.Slot.shown c.args.slots.items) c.run_opened-queue.result.0.slots c.args.sizes (g.O.Sink.told c.args.out.now) (g.O.Sink.told c.run_opened-queue.new.out) (g.O.Sink.faults c.args.out.now) (g.O.Sink.faults c.run_opened-queue.new.out) (g.L.Library.faults c.args.library.now) (g.L.Library.faults c.run_opened-queue.new.library) c.run_opened-queue.result.1
-says g c = says-first (g.L.Library.told c.args.library.now) (g.L.Library.replied c.run_opened-queue.new.library) c.args.script.now (map g.S.Slot.shown c.args.slots.items) c.args.sizes (g.O.Sink.told c.args.out.now) (g.O.Sink.told c.run_opened-queue.new.out) (g.O.Sink.faults c.args.out.now) (g.O.Sink.faults c.run_opened-queue.new.out) (g.L.Library.faults c.args.library.now) (g.L.Library.faults c.run_opened-queue.new.library) c.in-Ok.queue.slots c.in-Ok.queue.sizes c.run_opened-queue.result.0.slots c.run_opened-queue.result.1 c.in-Ok.ensures.slots c.in-Ok.ensures.sizes c.run_opened-queue.ensures.says
+says g c = says-first (g.L.Library.told c.args.library.now) (g.L.Library.replied c.run_opened-queue.new.library) c.args.script.now (map g.S.Slot.shown c.args.slots.items) c.args.sizes (g.O.Sink.told c.args.out.now) (g.O.Sink.told c.run_opened-queue.new.out) (g.O.Sink.faults c.args.out.now) (g.O.Sink.faults c.run_opened-queue.new.out) (g.L.Library.faults c.args.library.now) (g.L.Library.faults c.run_opened-queue.new.library) c.in-Ok.queue.slots c.in-Ok.queue.sizes c.run_opened-queue.result.0.slots c.run_opened-queue.result.1 c.in-Ok.ensures.slots c.in-Ok.ensures.sizes c.run_opened-queue.ensures.ends.says
 
 pub returns-clause-answer : goal.returns-clause-answer
 returns-clause-answer g c = says-began (g.L.Library.told c.args.library.now) (g.L.Library.replied c.run_opened-queue.new.library) c.args.script.now (map g.S.Slot.shown c.args.slots.items) c.args.sizes (g.O.Sink.told c.args.out.now) (g.O.Sink.told c.run_opened-queue.new.out) (g.O.Sink.faults c.args.out.now) (g.O.Sink.faults c.run_opened-queue.new.out) (g.L.Library.faults c.args.library.now) (g.L.Library.faults c.run_opened-queue.new.library) c.run_opened-queue.result.0.slots c.run_opened-queue.result.1 (says g c) c.in-Ok.ensures.budget
@@ -45,12 +45,12 @@ pub returns-clause-part : goal.returns-clause-part
 returns-clause-part g c =
     let P : List Shown → Type 0 =
     λ f. AllTell f → (files : List ℕ → Option (List ℕ)) → AreFilesOf (g.L.Library.told c.args.library.now) c.args.script.now files → TakesPart (g.O.Sink.told c.args.out.now) (g.O.Sink.told c.run_opened-queue.new.out) (output_of (given_of files c.args.script.now) (command_list c.args.script.now)) in
-    subst P c.in-Ok.ensures.slots c.run_opened-queue.ensures.part
+    subst P c.in-Ok.ensures.slots c.run_opened-queue.ensures.ends.part
 
 pub returns-clause-file : goal.returns-clause-file
 returns-clause-file g c =
     let P : List Shown → Type 0 = λ f. FaultBeforeFile (g.L.Library.told c.args.library.now) c.args.script.now f (g.O.Sink.told c.args.out.now) (g.O.Sink.told c.run_opened-queue.new.out) c.run_opened-queue.result.1 in
-    subst P c.in-Ok.ensures.slots c.run_opened-queue.ensures.file
+    subst P c.in-Ok.ensures.slots c.run_opened-queue.ensures.ends.file
 
 pub returns-clause-blocks : goal.returns-clause-blocks
 returns-clause-blocks g c = same_blocks (map g.S.Slot.shown c.args.slots.items) c.in-Ok.queue.slots c.run_opened-queue.result.0.slots (map g.S.Slot.shown c.close.result.items) c.in-Ok.ensures.slots c.run_opened-queue.ensures.slots c.close.ensures.slots

@@ -31,7 +31,7 @@ lines-preserved g c =
       inside = at.inside;
       pushing = subst P (sym c.push_reserved.ensures.items) more;
       going = c.make_room.ensures.all c.if-not-make_room.false;
-      bulk = c.make_room.ensures.bulk ∙ c.lines.invariant.bulk;
+      bulk = c.make_room.ensures.given.bulk ∙ c.lines.invariant.bulk;
       few = omega (arith, c.make_room.ensures.room, c.push_reserved.ensures.len);
       capacity = omega (arith, c.lines.invariant.capacity, c.make_room.ensures.capacity, c.push_reserved.ensures.capacity);
       named = subst Q (sym c.push_reserved.ensures.items) (All-push (λ (l : Line Pair). l.pass < script.workers) c.make_room.new.lines.items line (subst W workers c.make_room.ensures.named) at.named);
@@ -44,12 +44,12 @@ lines-init g c =
     let P : List (Line Pair) → Type 0 = λ ls. All (λ (l : Line Pair). l.pass < script.workers) ls in
     record {
       inside = c.requires.inside;
-      pushing = pushing-begin g.S.Slot.shown script c.args.from c.args.load.now lines.items c.requires.no_line;
+      pushing = pushing-begin g.S.Slot.shown script c.args.from c.args.load.now lines.items c.requires.batch.no_line;
       going = c.requires.going;
       bulk = refl;
-      few = omega (arith, lines.ok.0, ap (λ (ls : List (Line Pair)). length ls) c.requires.no_line, c.requires.some);
-      capacity = c.requires.capacity;
-      named = subst P (sym c.requires.no_line) (λ k d h. absurd (omega (arith, h)));
+      few = omega (arith, lines.ok.0, ap (λ (ls : List (Line Pair)). length ls) c.requires.batch.no_line, c.requires.batch.some);
+      capacity = c.requires.batch.capacity;
+      named = subst P (sym c.requires.batch.no_line) (λ k d h. absurd (omega (arith, h)));
     }
 
 pub returns-then-not-make_room-clause-some : goal.returns-then-not-make_room-clause-some

@@ -7,7 +7,7 @@ use Rattle.ppq_engine.specs.Parts.{up_to_end, pushed_in}
 use Rattle.ppq_engine.specs.Running.{StopsFor}
 use Rattle.ppq_engine.specs.declared.stop.Stop.{Stop}
 use Rattle.ppq_engine.proofs.Loads.{stop-refused}
-use Rattle.ppq_engine.proofs.Pushes.{ended-bag, ended-size, ended-sound, ended-peak, ended-refused}
+use Rattle.ppq_engine.proofs.Pushes.{ended-bag, ended-adds, ended-refused}
 use Rattle.ppq_engine.proofs.session.run_bulk.Given as given
 use Rattle.ppq_engine.proofs.session.run_bulk.Goals as goal
 
@@ -18,14 +18,8 @@ total g c = pushed_in (up_to_end (drop (c.args.place + 1) (command_list c.args.s
 pub returns-in-Ok-begin-clause-bag : goal.returns-in-Ok-begin-clause-bag
 returns-in-Ok-begin-clause-bag g c = ended-bag c.args.queue c.end-queue.result.0 (total g c) c.push_all-next.result c.behind.result (All IsGoing c.push_all-next.new.load.passes) c.end-queue.result.1 c.behind.ensures c.end-queue.ensures.all (λ going. c.end-queue.ensures.loaded c.args.queue (total g c) (c.push_all-next.ensures.all going c.args.queue c.in-Ok-begin.ensures.session))
 
-pub returns-in-Ok-begin-clause-size : goal.returns-in-Ok-begin-clause-size
-returns-in-Ok-begin-clause-size g c = ended-size c.args.queue c.end-queue.result.0 (total g c) c.push_all-next.result c.behind.result (All IsGoing c.push_all-next.new.load.passes) c.end-queue.result.1 c.behind.ensures c.end-queue.ensures.all (λ going. c.end-queue.ensures.loaded c.args.queue (total g c) (c.push_all-next.ensures.all going c.args.queue c.in-Ok-begin.ensures.session))
-
-pub returns-in-Ok-begin-clause-sound : goal.returns-in-Ok-begin-clause-sound
-returns-in-Ok-begin-clause-sound g c = ended-sound c.args.queue c.end-queue.result.0 (total g c) c.push_all-next.result c.behind.result (All IsGoing c.push_all-next.new.load.passes) c.end-queue.result.1 c.behind.ensures c.end-queue.ensures.all (λ going. c.end-queue.ensures.loaded c.args.queue (total g c) (c.push_all-next.ensures.all going c.args.queue c.in-Ok-begin.ensures.session))
-
-pub returns-in-Ok-begin-clause-peak : goal.returns-in-Ok-begin-clause-peak
-returns-in-Ok-begin-clause-peak g c = ended-peak c.args.queue c.end-queue.result.0 (total g c) c.push_all-next.result c.behind.result (All IsGoing c.push_all-next.new.load.passes) c.end-queue.result.1 c.behind.ensures c.end-queue.ensures.all (λ going. c.end-queue.ensures.loaded c.args.queue (total g c) (c.push_all-next.ensures.all going c.args.queue c.in-Ok-begin.ensures.session))
+pub returns-in-Ok-begin-clause-adds : goal.returns-in-Ok-begin-clause-adds
+returns-in-Ok-begin-clause-adds g c = ended-adds c.args.queue c.end-queue.result.0 (total g c) c.push_all-next.result c.behind.result (All IsGoing c.push_all-next.new.load.passes) c.end-queue.result.1 c.behind.ensures c.end-queue.ensures.all (λ going. c.end-queue.ensures.loaded c.args.queue (total g c) (c.push_all-next.ensures.all going c.args.queue c.in-Ok-begin.ensures.session))
 
 pub returns-in-Ok-begin-clause-refused : goal.returns-in-Ok-begin-clause-refused
 returns-in-Ok-begin-clause-refused g c =

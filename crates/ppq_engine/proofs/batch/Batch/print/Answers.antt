@@ -1,4 +1,4 @@
-use Rattle.std.proofs.Common.{◌≡◌, ◌+◌, ◌<◌, ◌++◌, ◌∷◌, [], ◌∙◌, ℕ, List, Option, Some, length, ap, sym, subst, take, drop, arith, append-nil, take-append-drop}
+use Rattle.std.proofs.Common.{rules, ◌≡◌, ◌+◌, ◌<◌, ◌++◌, ◌∷◌, [], ◌∙◌, ℕ, List, Option, Some, length, ap, sym, subst, take, drop, arith, append-nil, take-append-drop}
 use Rattle.std.specs.Prelude.{slice_get}
 use Rattle.std.proofs.lemmas.List.Concat.{flat_map-append}
 use Rattle.ppq_script.specs.ppq_record.declared.pair.Pair.{Pair}
@@ -20,15 +20,19 @@ text-more answers i answer h here =
 text-around : (answers : List (Option Pair)) (i : ℕ) → answers_text (take i answers) ++ answers_text (drop i answers) ≡ answers_text answers
 text-around answers i = sym (flat_map-append limited_text (take i answers) (drop i answers)) ∙ ap answers_text (take-append-drop i answers)
 
-pub returns-in_err-print-clause-part : goal.returns-in_err-print-clause-part
-returns-in_err-print-clause-part g c =
+pub returns-in_err-print : goal.returns-in_err-print
+returns-in_err-print g c =
     let told = g.O.Sink.told in
     let answers = c.args.self.now.answers in
     let i = c.loop-i.i in
     let P : List ℕ → Type 0 = λ t. TakesPart (told c.args.out.now) (told c.print.new.out) (c.args.gathered.now ++ t) in
-    on-err c.from_residual.result (TakesPart (told c.args.out.now) (told c.print.new.out) (c.args.gathered.now ++ answers_text answers))
-    (subst P (text-around answers i)
-    (takes-part (told c.args.out.now) (told c.loop-i.out) (told c.print.new.out) c.args.gathered.now c.loop-i.gathered (answers_text (take i answers)) (answers_text (drop i answers)) c.loop-i.invariant.text c.in_err-print.ensures.part))
+    record {
+      text = search rules;
+      part = on-err c.from_residual.result (TakesPart (told c.args.out.now) (told c.print.new.out) (c.args.gathered.now ++ answers_text answers))
+          (subst P (text-around answers i)
+          (takes-part (told c.args.out.now) (told c.loop-i.out) (told c.print.new.out) c.args.gathered.now c.loop-i.gathered (answers_text (take i answers)) (answers_text (drop i answers)) c.loop-i.invariant.text c.in_err-print.ensures.part));
+      cause = search rules;
+    }
 
 pub loop-i-preserved : goal.loop-i-preserved
 loop-i-preserved g c =

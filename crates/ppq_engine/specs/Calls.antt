@@ -1,0 +1,174 @@
+-- What one call of the engine did to the queue, the sink and the library.
+use Rattle.std.specs.Prelude.{◌≡◌, ◌≤◌, ◌<◌, ◌+◌, ◌-◌, ◌^◌, ◌++◌, ◌||◌, ℕ, Bool, true, false, length, drop, List, [], max, slice_get, Option, Some, None, Result, OnOk, OnErr, IfErr}
+use Rattle.ppq_script.specs.ppq_record.declared.pair.Pair.{Pair}
+use Rattle.ppq_script.specs.ppq_record.Bag.{IsSameBag}
+use Rattle.ppq_script.specs.ppq_outside.Shown.{Shown, AllTell}
+use Rattle.ppq_script.specs.ppq_outside.Told.{Reply, Remembers, RepliesOnly, TakesPart, HasOneCause}
+use Rattle.ppq_load.specs.ppq_budget.Sizes.{Numbers, batch_of}
+use Rattle.ppq_script.specs.declared.command.Command.{Command}
+use Rattle.ppq_script.specs.declared.session.Session.{Session}
+use Rattle.ppq_script.specs.declared.session.Session.TheVariants.{Outside}
+use Rattle.ppq_script.specs.Files.{NamesFile, HasRecords}
+use Rattle.ppq_script.specs.Reading.{Reading, command_list}
+use Rattle.ppq_script.specs.Sessions.{are_in_place}
+use Rattle.ppq_load.specs.ppq_queue.Holding.{Holding}
+use Rattle.ppq_load.specs.ppq_array.declared.store_fault.StoreFault.{StoreFault as QueueFault}
+use Rattle.ppq_load.specs.Refusal.{Keeps, IsRefusedBy}
+use Rattle.ppq_engine.specs.Files.{IsByFile, EndsEarly}
+use Rattle.ppq_engine.specs.Gathers.{Gathers}
+use Rattle.ppq_engine.specs.Loads.{none_go, all_go, size_after, size_from, least_of, begins_limit, FitsWritten}
+use Rattle.ppq_engine.specs.Output.{AreFilesOf, given_of, outside, after, output_from, state_from, output_of, crest_of}
+use Rattle.ppq_engine.specs.Outcome.{EndSays, FaultBeforeFile}
+use Rattle.ppq_engine.specs.Popping.{NotByFile, IsRound}
+use Rattle.ppq_engine.specs.Running.{IsGathered, HasStopped, WritesPart, StopsFor, PartStops, behind_part, IsOfFile, ChangedIn, SinkAfter, LibraryAfter}
+use Rattle.ppq_engine.specs.declared.end.End.{End}
+use Rattle.ppq_engine.specs.declared.stop.Stop.{Stop}
+
+-- no call of a slot of the queue failed, and the list has room for a round of its records
+pub record IsReady (queue : Holding Pair) (room : ℕ) : Type 0 where
+  pub sound : queue.failed ≡ None
+  pub list : room ≡ batch_of queue.sizes
+
+-- a call of the queue, whatever it answers: what it keeps, that the peak is no more than this, and why it was refused
+pub record IsCalled {T : Type 0} (old new : Holding Pair) (most : ℕ) (result : Result T QueueFault) : Type 0 where
+  pub kept : Keeps old new
+  pub peak : new.peak ≤ most
+  pub refused : IfErr result (IsRefusedBy new.peak new.sizes new.limited new.slots)
+
+-- the same of a command that calls the queue; no file stopped it
+pub record IsLent {T : Type 0} (old new : Holding Pair) (most : ℕ) (result : Result T Stop) : Type 0 where
+  pub kept : Keeps old new
+  pub peak : new.peak ≤ most
+  pub refused : IfErr result (StopsFor new.peak new.sizes new.limited new.slots)
+  pub no_file : IfErr result NotByFile
+
+-- what a queue has after a call that ran to its end: this bag if its slots tell, at least and at most so many records, and no failed slot
+pub record Leaves (old new : Holding Pair) (left : List Pair) (least most : ℕ) : Type 0 where
+  pub bag : AllTell old.slots → IsSameBag new.bag left
+  pub low : least ≤ new.size
+  pub high : new.size ≤ most
+  pub sound : new.failed ≡ None
+
+-- a round of records was popped
+pub record PopsRound (below : Option Pair) (count : ℕ) (old new : Holding Pair) (items : List Pair) : Type 0 where
+  pub round : AllTell old.slots → IsRound below count old.bag new.bag items
+  pub few : length items ≤ count
+  pub end : below ≡ None → items ≡ [] → old.size ≡ 0
+  pub size : new.size ≡ old.size - length items
+  pub sound : new.failed ≡ None
+
+-- so many records were added: the size, no failed slot, and the peak
+pub record Adds (old new : Holding Pair) (count : ℕ) : Type 0 where
+  pub size : new.size ≡ old.size + count
+  pub sound : new.failed ≡ None
+  pub peak : new.peak ≤ max old.peak (old.size + count)
+
+-- a text was gathered behind what was gathered before; or the sink failed, and took a part of both
+pub record GathersAll {T E : Type 0} (before now : Option (List ℕ)) (sink sink_now : ℕ) (had whole has : List ℕ) (result : Result T E) : Type 0 where
+  pub text : OnOk result (Gathers before now had whole has)
+  pub part : OnErr result (TakesPart before now (had ++ whole))
+  pub cause : HasOneCause sink sink_now result
+
+-- a command printed this text, or a part of it if it stopped, as far as the slots tell
+pub record Prints {T : Type 0} (first : List Shown) (before now : Option (List ℕ)) (had whole has : List ℕ) (result : Result T Stop) : Type 0 where
+  pub text : OnOk result (AllTell first → Gathers before now had whole has)
+  pub part : IfErr result (λ stop. AllTell first → WritesPart before now had whole has stop)
+
+-- the sink's count of faults rose if the sink stopped the command, and else stayed
+pub record SinkCounts {T : Type 0} (before now : ℕ) (result : Result T Stop) : Type 0 where
+  pub later : before ≤ now
+  pub stays : OnOk result (now ≡ before)
+  pub cause : IfErr result (SinkAfter before now)
+
+-- the library has the files that it had; it gave replies of this kind alone, and its count of faults did not fall
+pub record LibraryStays (files files_now : Option (List ℕ → Option (List ℕ))) (replied replied_now kind : Reply → Type 0) (before now : ℕ) : Type 0 where
+  pub told : files_now ≡ files
+  pub remembers : Remembers replied replied_now
+  pub asks : RepliesOnly replied replied_now kind
+  pub later : before ≤ now
+
+-- the same, and the count rose if the library stopped the command, and else stayed
+pub record LibraryCounts {T : Type 0} (files files_now : Option (List ℕ → Option (List ℕ))) (replied replied_now kind : Reply → Type 0) (before now : ℕ) (result : Result T Stop) : Type 0 where
+  pub told : files_now ≡ files
+  pub remembers : Remembers replied replied_now
+  pub asks : RepliesOnly replied replied_now kind
+  pub later : before ≤ now
+  pub stays : OnOk result (now ≡ before)
+  pub cause : IfErr result (LibraryAfter before now)
+
+-- why the records of a file were not added: the queue refused, or a read; never the sink; if the file had changed, where it ended
+pub record FileStops (peak : ℕ) (sizes : Numbers) (limited : Bool) (slots : List Shown) (told : Option (List ℕ → Option (List ℕ))) (replied : Reply → Type 0) (name : List ℕ) (line said : ℕ) (stop : Stop) : Type 0 where
+  pub refused : StopsFor peak sizes limited slots stop
+  pub by_file : IsByFile stop
+  pub changed : EndsEarly told replied name line said stop
+
+-- a command that stands at this place of a script, where no session is open
+pub record IsTurn (script : Reading) (i : ℕ) (command : Command) : Type 0 where
+  pub place : i < length script.commands
+  pub here : slice_get (command_list script) i ≡ Some command
+  pub fits : length script.commands < 2 ^ 64
+  pub in_place : are_in_place script.workers Outside (drop i (command_list script)) ≡ true
+  pub file : NamesFile (length script.names) command
+  pub records : HasRecords command
+
+-- behind this place of a script a session is open
+pub record IsOpenAt (script : Reading) (at : ℕ) (session : Session) : Type 0 where
+  pub inside : are_in_place script.workers session (drop (at + 1) (command_list script)) ≡ true
+  pub place : at < length script.commands
+  pub fits : length script.commands < 2 ^ 64
+
+-- what one command did to the queue where it ran to its end
+pub record RunsStep (told : Option (List ℕ → Option (List ℕ))) (script : Reading) (old new : Holding Pair) (command : Command) : Type 0 where
+  pub bag : AllTell old.slots → (files : List ℕ → Option (List ℕ)) → AreFilesOf told script files → IsSameBag new.bag (after (given_of files script) (outside old.bag) command).bag
+  pub low : size_after all_go old.size command ≤ new.size
+  pub high : new.size ≤ size_after none_go old.size command
+  pub sound : new.failed ≡ None
+  pub peak : new.peak ≤ max old.peak (size_after none_go old.size command)
+
+-- why it did not: the queue refused, or a file or an allocation that this command needs; if a file had changed, which
+pub record StopsStep (told : Option (List ℕ → Option (List ℕ))) (replied : Reply → Type 0) (script : Reading) (old new : Holding Pair) (command : Command) (stop : Stop) : Type 0 where
+  pub refused : StopsFor (max old.peak (size_after none_go old.size command)) old.sizes old.limited new.slots stop
+  pub of_file : IsOfFile command stop
+  pub changed : ChangedIn told replied script stop
+
+-- what commands that run together printed and did to the queue where they ran to their end
+pub record RunsPart (told : Option (List ℕ → Option (List ℕ))) (script : Reading) (old new : Holding Pair) (before now : Option (List ℕ)) (had has : List ℕ) (part : List Command) : Type 0 where
+  pub text : AllTell old.slots → (given : ℕ → List Pair) → Gathers before now had (output_from given (outside old.bag) part) has
+  pub bag : AllTell old.slots → (files : List ℕ → Option (List ℕ)) → AreFilesOf told script files → IsSameBag new.bag (state_from (given_of files script) (outside old.bag) part).bag
+  pub low : size_from all_go old.size part ≤ new.size
+  pub high : new.size ≤ size_from none_go old.size part
+  pub sound : new.failed ≡ None
+  pub peak : new.peak ≤ max old.peak (size_from none_go old.size part)
+  pub kept : Keeps (behind_part old part) new
+
+-- why they did not, and what they printed before
+pub record StopsPart (told : Option (List ℕ → Option (List ℕ))) (replied : Reply → Type 0) (script : Reading) (old new : Holding Pair) (before now : Option (List ℕ)) (had has : List ℕ) (command : Command) (part : List Command) (stop : Stop) : Type 0 where
+  pub wrote : PartStops old.slots before now had old.bag old.size old.peak part old.sizes (old.limited || begins_limit part) new.slots has stop
+  pub of_file : IsOfFile command stop
+  pub changed : ChangedIn told replied script stop
+
+-- a queue that nothing was done with, for the workers of a script
+pub record IsUnused (script : Reading) (queue : Holding Pair) : Type 0 where
+  pub workers : script.workers ≡ queue.sizes.workers
+  pub bag : queue.bag ≡ []
+  pub size : queue.size ≡ 0
+  pub peak : queue.peak ≡ 0
+  pub sound : queue.failed ≡ None
+  pub unlimited : queue.limited ≡ false
+
+-- all commands of a script were run
+pub record RunsAll (told : Option (List ℕ → Option (List ℕ))) (script : Reading) (old new : Holding Pair) (before now : Option (List ℕ)) (has : List ℕ) : Type 0 where
+  pub all : AllTell old.slots → (files : List ℕ → Option (List ℕ)) → AreFilesOf told script files → IsGathered before now has (output_of (given_of files script) (command_list script))
+  pub crest : AllTell old.slots → (files : List ℕ → Option (List ℕ)) → AreFilesOf told script files → FitsWritten (crest_of (given_of files script) (command_list script)) old.sizes new.slots
+  pub least : FitsWritten (least_of (command_list script)) old.sizes new.slots
+
+-- why they were not
+pub record StopsRun (told : Option (List ℕ → Option (List ℕ))) (replied : Reply → Type 0) (script : Reading) (old new : Holding Pair) (before now : Option (List ℕ)) (has : List ℕ) (stop : Stop) : Type 0 where
+  pub why : HasStopped told script old.slots before now has old.sizes new.slots stop
+  pub changed : ChangedIn told replied script stop
+
+-- how a run on a queue ended: what was put is a part of the script's output; what the end says; and what was put if a file ended the run
+pub record EndsRun (told : Option (List ℕ → Option (List ℕ))) (replied : Reply → Type 0) (script : Reading) (old new : Holding Pair) (before now : Option (List ℕ)) (sink sink_now library library_now : ℕ) (end : End) : Type 0 where
+  pub part : AllTell old.slots → (files : List ℕ → Option (List ℕ)) → AreFilesOf told script files → TakesPart before now (output_of (given_of files script) (command_list script))
+  pub says : EndSays told replied script old.slots new.slots old.sizes before now sink sink_now library library_now end
+  pub file : FaultBeforeFile told script old.slots before now end
