@@ -284,31 +284,16 @@ not_of_file command Sink by = tt
 not_of_file command (Queue fault) by = tt
 not_of_file command _ by = absurd by
 
-pub not_changed : (told : Option (List ℕ → Option (List ℕ))) (replied : Reply → Type 0) (script : Reading) (stop : Stop) → NotByFile stop → ChangedIn told replied script stop
-not_changed told replied script Sink by = tt
-not_changed told replied script (Queue fault) by = tt
-not_changed told replied script _ by = absurd by
+pub not-by_limit : (stop : Stop) → NotByFile stop → IsByLimit stop
+not-by_limit Sink by = tt
+not-by_limit (Queue fault) by = tt
+not-by_limit _ by = absurd by
 
-pub library_unasked : (count : ℕ) (stop : Stop) → NotByFile stop → LibraryAfter count count stop
-library_unasked count Sink by = refl
-library_unasked count (Queue fault) by = refl
-library_unasked count _ by = absurd by
-
--- a stop by a session says nothing of files, and leaves sink and library alone
+-- a stop by a session says nothing of files, and leaves the sink alone
 pub session_of_file : (command : Command) (stop : Stop) → IsLoad command → IsBySession stop → IsOfFile command stop
 session_of_file command (Queue fault) loads by = tt
 session_of_file command Memory loads by = loads
 session_of_file command _ loads by = absurd by
-
-pub session_not_changed : (told : Option (List ℕ → Option (List ℕ))) (replied : Reply → Type 0) (script : Reading) (stop : Stop) → IsBySession stop → ChangedIn told replied script stop
-session_not_changed told replied script (Queue fault) by = tt
-session_not_changed told replied script Memory by = tt
-session_not_changed told replied script _ by = absurd by
-
-pub session_unasked : (count : ℕ) (stop : Stop) → IsBySession stop → LibraryAfter count count stop
-session_unasked count (Queue fault) by = refl
-session_unasked count Memory by = refl
-session_unasked count _ by = absurd by
 
 pub session_by_file : (stop : Stop) → IsBySession stop → IsByFile stop
 session_by_file (Queue fault) by = tt

@@ -5,6 +5,7 @@ use Rattle.ppq_script.specs.ppq_record.declared.pair.Pair.{Pair}
 use Rattle.ppq_script.specs.ppq_record.Bag.{IsSameBag}
 use Rattle.ppq_script.specs.ppq_outside.Shown.{Shown, AllTell}
 use Rattle.ppq_script.specs.ppq_outside.Told.{Reply}
+use Rattle.ppq_script.proofs.ppq_outside.Replies.{no_replies}
 use Rattle.ppq_script.specs.declared.command.Command.{Command}
 use Rattle.ppq_script.specs.Reading.{Reading}
 use Rattle.ppq_load.specs.ppq_queue.Holding.{Holding}
@@ -15,13 +16,14 @@ use Rattle.ppq_engine.specs.Gathers.{Gathers}
 use Rattle.ppq_engine.specs.Loads.{none_go, all_go, size_after}
 use Rattle.ppq_engine.specs.Output.{outside, text_of, after, given_of, AreFilesOf}
 use Rattle.ppq_engine.specs.Parts.{IsAlone, behind_step}
+use Rattle.ppq_engine.specs.Popping.{IsByLimit}
 use Rattle.ppq_engine.specs.Running.{WritesPart, SinkAfter, LibraryAfter}
 use Rattle.ppq_engine.specs.declared.stop.Stop.{Stop}
 use Rattle.ppq_engine.proofs.Advancing.{Keeps-none, lone-text, lone-bag, lone-size, lone-stops}
 use Rattle.ppq_engine.proofs.Lines.{alone-begins}
 use Rattle.ppq_engine.proofs.Popped.{file-part, gathers-nothing}
 use Rattle.ppq_engine.proofs.Results.{on-ok, on-ok-both, if-err-map, if-err-both, if-ok-map}
-use Rattle.ppq_engine.proofs.Stops.{file_unput}
+use Rattle.ppq_engine.proofs.Stops.{file_unput, limit_unasked}
 
 -- how a command ended, as the place behind it or as a stop
 module _ (next : ℕ) (r : Result ⊤ Stop) (s : Result ℕ Stop) (same : s ≡ behind_step r next) where
@@ -114,3 +116,14 @@ adds-prints first told had text r none by =
 
 pub adds-sink : (count : ℕ) (r : Result ⊤ Stop) → IfErr r IsByFile → SinkCounts count count r
 adds-sink count r by = record { later = omega arith; stays = on-ok r (count ≡ count) refl; cause = if-err-map r IsByFile (SinkAfter count count) (file_unput count) by }
+
+-- a command that asks the library for nothing
+pub library-unasked : {T : Type 0} (told : Option (List ℕ → Option (List ℕ))) (replied kind : Reply → Type 0) (count : ℕ) (r : Result T Stop) → IfErr r IsByLimit → LibraryCounts told told replied replied kind count count r
+library-unasked told replied kind count r by = record {
+  told = refl;
+  remembers = λ reply had. had;
+  asks = no_replies replied kind;
+  later = omega arith;
+  stays = on-ok r (count ≡ count) refl;
+  cause = if-err-map r IsByLimit (LibraryAfter count count) (limit_unasked count) by;
+}

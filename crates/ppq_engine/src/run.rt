@@ -118,47 +118,9 @@ fn put_stopped<H: Host, O: Sink>(rt: &H, stop: Stop, gathered: &mut Gathered, ou
     }
 }
 
-// Runs the commands on an empty queue, and puts all that was gathered, also where they stop, unless
-// it is the sink that stops them.
-fn run_on<H: Host, S: Slot + Send + Sync, L: Library, O: Sink, G: Gate>(
-    rt: &H,
-    alloc: Global,
-    script: &Script,
-    library: &mut L,
-    room: &mut [u8],
-    queue: Queue<S, Pair>,
-    list: &mut Out<Pair>,
-    gathered: &mut Gathered,
-    out: &mut O,
-    gate: &G,
-) -> (Queue<S, Pair>, End)
-where
-    H::Dir: Send,
-    requires checked { IsTrue script.now.checked }
-    requires unused { IsUnused script.now queue }
-    requires lengths { (files : List ℕ → Option (List ℕ)) → L.told library.old ≡ Some files → KeepsLengths files script.now }
-    requires block { 0 < queue.sizes.block }
-    requires room { 16 ≤ length room.old }
-    requires list { list.old.room ≡ batch_of queue.sizes }
-    requires gathered { gathered.old ≡ [] }
-    ensures ends { EndsRun (L.told library.old) (L.replied library.new) script.now queue result.0 (O.told out.old) (O.told out.new) (O.faults out.old) (O.faults out.new) (L.faults library.old) (L.faults library.new) result.1 }
-    ensures slots { SameSlots queue.slots result.0.slots }
-    ensures library { LibraryStays (L.told library.old) (L.told library.new) (L.replied library.old) (L.replied library.new) (IsReadInScript script.now) (L.faults library.old) (L.faults library.new) }
-    ensures later { O.faults out.old ≤ O.faults out.new }
-{
-    let (queue, result) = run_commands(
-        rt, alloc, script, library, room, queue, list, gathered, out, gate,
-    );
-    match result {
-        Ok(()) => match gathered.put(rt, out) {
-            Ok(()) => (queue, End::Done),
-            Err(Failed) => (queue, End::WriteFault),
-        },
-        Err(stop) => (queue, put_stopped(rt, stop, gathered, out)),
-    }
-}
-
-// Takes the memory for output, for rounds of popped records and for pieces of files, and runs the commands on an empty queue.
+// Takes the memory for output, for rounds of popped records and for pieces of files, runs the commands on
+// an empty queue, and puts all that was gathered, also where they stop, unless it is the sink that stops
+// them.
 fn run_opened<H: Host, S: Slot + Send + Sync, L: Library, O: Sink, G: Gate>(
     rt: &H,
     alloc: Global,
@@ -190,7 +152,7 @@ where
     let Ok(mut room) = vec![in alloc; 0u8; bytes] else {
         return (queue, End::Memory);
     };
-    run_on(
+    let (queue, result) = run_commands(
         rt,
         alloc,
         script,
@@ -201,7 +163,14 @@ where
         &mut gathered,
         out,
         gate,
-    )
+    );
+    match result {
+        Ok(()) => match gathered.put(rt, out) {
+            Ok(()) => (queue, End::Done),
+            Err(Failed) => (queue, End::WriteFault),
+        },
+        Err(stop) => (queue, put_stopped(rt, stop, &mut gathered, out)),
+    }
 }
 
 /// Runs a checked script on a queue of these sizes over these blocks, which all come back. Its output

@@ -6,7 +6,7 @@ use Rattle.ppq_script.specs.ppq_record.Bag.{IsSameBag}
 use Rattle.ppq_script.specs.ppq_record.Given.{records_of, generated}
 use Rattle.ppq_script.specs.ppq_outside.Shown.{AllTell}
 use Rattle.ppq_script.specs.ppq_outside.Told.{bytes_or_none}
-use Rattle.ppq_script.proofs.ppq_outside.Replies.{no_replies, replies_wider}
+use Rattle.ppq_script.proofs.ppq_outside.Replies.{replies_wider}
 use Rattle.ppq_load.specs.ppq_budget.Sizes.{Numbers}
 use Rattle.ppq_script.specs.declared.command.Command.{Command}
 use Rattle.ppq_script.specs.declared.command.Command.TheVariants.{Bulk, Gen, BulkBegin, LimitBegin}
@@ -21,15 +21,16 @@ use Rattle.ppq_engine.specs.Loads.{IsLoad, none_go, all_go, size_after}
 use Rattle.ppq_engine.specs.Output.{outside, text_of, after, given_of, AreFilesOf}
 use Rattle.ppq_engine.specs.Parts.{up_to_end, pushed_in, part_at, limit_part, IsAlone}
 use Rattle.ppq_engine.specs.Popping.{IsByLimit, NotByFile}
-use Rattle.ppq_engine.specs.Running.{PartStops, IsOfFile, LibraryAfter, SinkAfter, StopsFor}
+use Rattle.ppq_engine.specs.Running.{PartStops, IsOfFile, SinkAfter, StopsFor}
 use Rattle.ppq_engine.specs.declared.stop.Stop.{Stop}
 use Rattle.ppq_engine.proofs.Advancing.{Keeps-none, lends, session-begins, session-size, session-bag, session-quiet, session-stops, limited-stops}
 use Rattle.ppq_engine.proofs.Lengths.{file-bag}
+use Rattle.ppq_engine.proofs.LimitParts.{session-by_limit}
 use Rattle.ppq_engine.proofs.Parts.{bulk-reads, bulk-part, limit-part_is, lone-part}
 use Rattle.ppq_engine.proofs.Popped.{gathers-nothing}
 use Rattle.ppq_engine.proofs.Results.{if-err-map, if-err-both, if-ok-map, on-ok, on-ok-map, on-ok-both}
-use Rattle.ppq_engine.proofs.Stops.{not_of_file, not_changed, library_unasked, file_of_file, file_changed, session_of_file, session_not_changed, session_unasked, session_by_file, file_unput, limit_of_file, limit_not_changed, limit_unasked, stops-more}
-use Rattle.ppq_engine.proofs.Turns.{adds-runs, adds-prints, adds-sink, step-sink, step-library, turn-next, turn-runs, turn-stopped}
+use Rattle.ppq_engine.proofs.Stops.{not_of_file, not-by_limit, file_of_file, file_changed, session_of_file, session_by_file, file_unput, limit_of_file, limit_not_changed, stops-more}
+use Rattle.ppq_engine.proofs.Turns.{library-unasked, adds-runs, adds-prints, adds-sink, step-sink, step-library, turn-next, turn-runs, turn-stopped}
 use Rattle.ppq_engine.proofs.step.advance.Goals as goal
 
 -- what stands at the place
@@ -109,17 +110,10 @@ returns-in-BulkBegin g c =
           (λ stop why. record {
             wrote = session-stops part body lines s.1 reads.are queue.slots told had queue.bag queue.size queue.peak queue.sizes queue.limited new.slots stop why.0 why.1;
             of_file = session_of_file c.args.command stop (subst IsLoad (sym c.in-BulkBegin.is) tt) why.0;
-            changed = session_not_changed files_told replied script stop why.0;
+            changed = limit_not_changed files_told replied script stop (session-by_limit stop why.0);
           }) (if-err-both r IsBySession Why b.by_session b.refused);
       slots = b.kept.slots;
-      library = record {
-        told = refl {a = files_told};
-        remembers = λ reply had. had;
-        asks = no_replies replied (IsReadInScript script);
-        later = omega arith;
-        stays = on-ok r (faults ≡ faults) refl;
-        cause = if-err-map r IsBySession (LibraryAfter faults faults) (session_unasked faults) b.by_session;
-      };
+      library = library-unasked files_told replied (IsReadInScript script) faults r (if-err-map r IsBySession IsByLimit session-by_limit b.by_session);
       sink = record { later = omega arith; stays = on-ok r (put ≡ put) refl; cause = if-err-map r IsBySession (SinkAfter put put) (λ stop by. file_unput put stop (session_by_file stop by)) b.by_session };
       room = refl {a = c.args.list.now.room};
     }
@@ -157,14 +151,7 @@ returns-in-LimitBegin g c =
             changed = limit_not_changed files_told replied script stop why.0;
           }) (if-err-both r IsByLimit At b.by_limit b.stopped);
       slots = b.slots;
-      library = record {
-        told = refl {a = files_told};
-        remembers = λ reply had. had;
-        asks = no_replies replied (IsReadInScript script);
-        later = omega arith;
-        stays = on-ok r (faults ≡ faults) refl;
-        cause = if-err-map r IsByLimit (LibraryAfter faults faults) (limit_unasked faults) b.by_limit;
-      };
+      library = library-unasked files_told replied (IsReadInScript script) faults r b.by_limit;
       sink = b.sink;
       room = refl {a = c.args.list.now.room};
     }
@@ -271,21 +258,14 @@ returns-in-Gen g c =
     record {
       refused = subst P (sym c.in-Gen.is) why.0;
       of_file = subst Q (sym c.in-Gen.is) (session_of_file (Gen seed more) stop tt why.1);
-      changed = session_not_changed told replied script stop why.1;
+      changed = limit_not_changed told replied script stop (session-by_limit stop why.1);
     }) (if-err-both r Why IsBySession f.refused f.by_session) in
     record {
       next = turn-next (i + 1) r s c.behind-in-Gen.ensures script queue new put put had had k part one.0 one.1 i refl;
       runs = turn-runs (i + 1) r s c.behind-in-Gen.ensures script queue new put put had had k part one.0 one.1 told prints f.kept ran;
       stopped = turn-stopped (i + 1) r s c.behind-in-Gen.ensures script queue new put put had had k part one.0 one.1 told prints replied stops;
       slots = f.kept.slots;
-      library = step-library (i + 1) r s c.behind-in-Gen.ensures (record {
-        told = refl {a = told};
-        remembers = λ reply had. had;
-        asks = no_replies replied (IsReadInScript script);
-        later = omega arith;
-        stays = on-ok r (faults ≡ faults) refl;
-        cause = if-err-map r IsBySession (LibraryAfter faults faults) (session_unasked faults) f.by_session;
-      });
+      library = step-library (i + 1) r s c.behind-in-Gen.ensures (library-unasked told replied (IsReadInScript script) faults r (if-err-map r IsBySession IsByLimit session-by_limit f.by_session));
       sink = step-sink (i + 1) r s c.behind-in-Gen.ensures count count (adds-sink count r by_file);
       room = refl {a = c.args.list.now.room};
     }
@@ -328,21 +308,14 @@ returns-in_default g c =
     (λ stop why. record {
       refused = stops-more old.sizes old.limited new.slots new.peak higher stop c.requires.block a.lent.peak (subst (Why stop old.sizes) a.lent.kept.limited (subst (λ (n : Numbers). Why stop n new.limited) a.lent.kept.sizes why.0));
       of_file = not_of_file k stop why.1;
-      changed = not_changed told replied script stop why.1;
+      changed = limit_not_changed told replied script stop (not-by_limit stop why.1);
     }) (if-err-both r (StopsFor new.peak new.sizes new.limited new.slots) NotByFile a.lent.refused a.lent.no_file) in
     record {
       next = turn-next (i + 1) r s c.behind-in_default.ensures script old new before now had has k part one.0 one.1 i refl;
       runs = turn-runs (i + 1) r s c.behind-in_default.ensures script old new before now had has k part one.0 one.1 told a.prints a.lent.kept ran;
       stopped = turn-stopped (i + 1) r s c.behind-in_default.ensures script old new before now had has k part one.0 one.1 told a.prints replied stops;
       slots = a.lent.kept.slots;
-      library = step-library (i + 1) r s c.behind-in_default.ensures (record {
-        told = refl;
-        remembers = λ reply had. had;
-        asks = no_replies replied (IsReadInScript script);
-        later = omega arith;
-        stays = on-ok r (faults ≡ faults) refl;
-        cause = if-err-map r NotByFile (LibraryAfter faults faults) (library_unasked faults) a.lent.no_file;
-      });
+      library = step-library (i + 1) r s c.behind-in_default.ensures (library-unasked told replied (IsReadInScript script) faults r (if-err-map r NotByFile IsByLimit not-by_limit a.lent.no_file));
       sink = step-sink (i + 1) r s c.behind-in_default.ensures (count c.args.out.now) (count c.lend-done.new.out) a.sink;
       room = a.room;
     }

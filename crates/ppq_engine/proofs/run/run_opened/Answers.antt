@@ -1,13 +1,15 @@
-use Rattle.std.proofs.Common.{◌≡◌, arith}
+use Rattle.std.proofs.Common.{◌≡◌, ◌<◌, sym, subst, arith}
 use Rattle.std.specs.Prelude.{OnOk}
+use Rattle.ppq_load.specs.ppq_budget.Sizes.{Numbers}
 use Rattle.ppq_script.specs.Reading.{command_list}
 use Rattle.ppq_engine.specs.Calls.{RunsAll, StopsRun}
 use Rattle.ppq_engine.specs.Output.{output_of, given_of}
 use Rattle.ppq_engine.specs.Running.{SinkAfter, LibraryAfter}
+use Rattle.ppq_engine.proofs.Libraries.{library-stays}
 use Rattle.ppq_engine.proofs.Results.{at-ok, at-err}
 use Rattle.ppq_engine.proofs.Running.{gathered-all, gathered-part}
 use Rattle.ppq_engine.proofs.Stops.{part-stopped, says-stopped, before-stopped}
-use Rattle.ppq_engine.proofs.run.run_on.Goals as goal
+use Rattle.ppq_engine.proofs.run.run_opened.Goals as goal
 
 pub returns-in-Ok-put-clause-ends : goal.returns-in-Ok-put-clause-ends
 returns-in-Ok-put-clause-ends g c =
@@ -16,7 +18,7 @@ returns-in-Ok-put-clause-ends g c =
     let faults = g.L.Library.faults in
     let script = c.args.script.now in
     let run = c.run_commands-queue in
-    let ok : (A : Type 0) → OnOk run.result.1 A → A = λ A h. at-ok run.result.1 c.in-Ok.field-0 A c.in-Ok.is h in
+    let ok : (A : Type 0) → OnOk run.result.1 A → A = λ A h. at-ok run.result.1 c.in-Ok-result.field-0 A c.in-Ok-result.is h in
     let runs = ok (RunsAll (g.L.Library.told c.args.library.now) script c.args.queue run.result.0 (told c.args.out.now) (told run.new.out) run.new.gathered) run.ensures.runs in
     record {
       part = λ tells files are. gathered-part (told c.args.out.now) (told run.new.out) (told c.put.new.out) run.new.gathered (output_of (given_of files script) (command_list script)) (runs.all tells files are) c.put.ensures.part;
@@ -34,13 +36,13 @@ returns-in-Ok-put-clause-ends g c =
       file = tt;
     }
 
-pub returns-in-Err-put-clause-ends : goal.returns-in-Err-put-clause-ends
-returns-in-Err-put-clause-ends g c =
+pub returns-in-Ok-result-clause-ends : goal.returns-in-Ok-result-clause-ends
+returns-in-Ok-result-clause-ends g c =
     let told = g.O.Sink.told in
     let put = g.O.Sink.faults in
     let script = c.args.script.now in
     let run = c.run_commands-queue in
-    let ok : (A : Type 0) → OnOk run.result.1 A → A = λ A h. at-ok run.result.1 c.in-Ok.field-0 A c.in-Ok.is h in
+    let ok : (A : Type 0) → OnOk run.result.1 A → A = λ A h. at-ok run.result.1 c.in-Ok-result.field-0 A c.in-Ok-result.is h in
     let runs = ok (RunsAll (g.L.Library.told c.args.library.now) script c.args.queue run.result.0 (told c.args.out.now) (told run.new.out) run.new.gathered) run.ensures.runs in
     record {
       part = λ tells files are. gathered-part (told c.args.out.now) (told run.new.out) (told c.put.new.out) run.new.gathered (output_of (given_of files script) (command_list script)) (runs.all tells files are) c.put.ensures.part;
@@ -48,8 +50,8 @@ returns-in-Err-put-clause-ends g c =
       file = tt;
     }
 
-pub returns-in-Err-clause-ends : goal.returns-in-Err-clause-ends
-returns-in-Err-clause-ends g c =
+pub returns-clause-ends : goal.returns-clause-ends
+returns-clause-ends g c =
     let told = g.O.Sink.told in
     let faults = g.O.Sink.faults in
     let library = g.L.Library.faults in
@@ -71,7 +73,10 @@ returns-in-Err-clause-ends g c =
       part = part-stopped files script queue.slots before stop mid now sink_mid sink_now run.new.gathered queue.sizes slots over why.why puts;
       says =
           says-stopped files script queue.slots before stop (g.L.Library.replied run.new.library) slots queue.sizes mid now (faults c.args.out.now) sink_mid sink_now (library c.args.library.now) (library run.new.library) run.new.gathered over
-          c.requires.block why.why why.changed (at-err run.result.1 stop (SinkAfter (faults c.args.out.now) sink_mid) c.in-Err.is run.ensures.sink.cause)
+          (let P : Numbers → Type 0 = λ n. 0 < n.block in subst P (sym c.requires.sizes) (omega (arith, c.batch.ensures.range.two_records))) why.why why.changed (at-err run.result.1 stop (SinkAfter (faults c.args.out.now) sink_mid) c.in-Err.is run.ensures.sink.cause)
           (at-err run.result.1 stop (LibraryAfter (library c.args.library.now) (library run.new.library)) c.in-Err.is run.ensures.library.cause) puts;
       file = before-stopped files script queue.slots before stop mid now sink_mid sink_now run.new.gathered queue.sizes slots over why.why puts;
     }
+
+pub returns-in-Ok-result-clause-library : goal.returns-in-Ok-result-clause-library
+returns-in-Ok-result-clause-library g c = library-stays c.run_commands-queue.ensures.library
