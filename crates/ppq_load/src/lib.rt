@@ -23,4 +23,6 @@ pub use file::load_file;
 pub use generate::load_generated;
 pub use limits::Limits;
 pub use load::Load;
-pub use ppq_session::{Ask, Line, OpenFault, Out, Queue, QueueFault, Sizes};
+pub use ppq_session::{
+    Ask, Line, OpenFault, Out, Queue, Sizes, StoreFault, StoreFault as QueueFault,
+};

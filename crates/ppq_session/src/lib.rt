@@ -68,8 +68,8 @@ pub use limit_pass::LimitPass;
 pub use line::Line;
 pub use lines::push_lines;
 pub use ppq_pass::{
-    Full, Gate, Host, Library, OutsideFault, Pair, Pass, PoolBuf, QueueFault, Record, Shared,
-    Sizes, Slot,
+    Full, Gate, Host, Library, OutsideFault, Pair, Pass, PoolBuf, Record, Shared, Sizes, Slot,
+    StoreFault, StoreFault as QueueFault,
 };
 pub use ppq_queue::{OpenFault, Out, Queue};
 pub use pushing::limited_are_going;
