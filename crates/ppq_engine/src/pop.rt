@@ -10,9 +10,9 @@ ghost use Rattle.ppq_engine.specs.Gathers.{answer_text, IsSummary};
 ghost use Rattle.ppq_engine.specs.Calls.{IsReady, IsCalled, IsLent, Leaves, PopsRound, GathersAll, Prints, SinkCounts};
 ghost use Rattle.ppq_engine.specs.Popping.{next_of, popped_count, left_mark};
 
-use crate::{Answer, Drained};
 use crate::gathered::Gathered;
 use crate::stop::Stop;
+use crate::{Answer, Drained};
 use ppq_load::{Out, Queue, QueueFault};
 use ppq_script::{Failed, Gate, Host, Pair, Record, Sink, Slot};
 

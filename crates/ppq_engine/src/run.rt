@@ -16,10 +16,10 @@ ghost use Rattle.ppq_engine.specs.Outcome.{TakesBeforeLoad, FaultBeforeFile, Put
 ghost use Rattle.ppq_engine.specs.Ends.{budget_refusal, BeganOrRefused, IsCompleted, IsQuiet, NoFault, NoneFailed};
 ghost use Rattle.ppq_engine.specs.declared.end.End.TheVariants.{Done, ReadFault, WriteFault, DeviceFault, NoFreeBlock, BudgetTooSmall, Memory, FileChanged};
 
-use crate::{End, Ended};
 use crate::gathered::Gathered;
 use crate::step::advance;
 use crate::stop::Stop;
+use crate::{End, Ended};
 use ppq_load::{OpenFault, Out, Queue, QueueFault, Sizes};
 use ppq_script::{Failed, Gate, Host, Library, Pair, Script, Sink, Slot};
 use std::alloc::Global;
