@@ -5,3 +5,5 @@
 mod bulk;
 #[cfg(test)]
 mod queue;
+#[cfg(test)]
+mod workers;

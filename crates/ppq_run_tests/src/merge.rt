@@ -4,7 +4,7 @@ ghost use Rattle.std.specs.Prelude.{◌<◌, max};
 use ppq_merge::{Bench, merge_workers, size_of};
 use ppq_outside::{Gate, OpenGate};
 use ppq_record::{Listing, Lists, Pair, sort};
-use ppq_testkit::{PairGate, pair};
+use ppq_testkit::{PairGate, SoloGate, pair};
 use std::alloc::Global;
 use std::process::Abort;
 use std::thread::Threads;
@@ -34,6 +34,24 @@ struct Merged {
     cuts: Vec<u64>,
 }
 
+// Merges the smallest `count` records of runs that are shown with a bench.
+fn merge_shown<H: Threads + Sync + Abort, Q: Listing<Pair>, G: Gate>(
+    rt: &H,
+    alloc: Global,
+    bench: &mut Bench<Pair>,
+    runs: &Q,
+    count: u64,
+    gate: &G,
+) -> Vec<Pair> {
+    let nine = Pair { key: 9, value: 9 };
+    let mut out = vec![in alloc; nine; count as usize].expect(rt, "memory");
+    let count = out.len() as u64;
+    let size = size_of(runs).expect(rt, "a size");
+    assert!(rt; count <= size && runs.runs() <= bench.runs());
+    merge_workers(rt, bench, runs, count, out.as_mut_slice(), gate);
+    out
+}
+
 // Merges the smallest `count` records of some runs with a bench.
 fn merge_with<H: Threads + Sync + Abort, G: Gate>(
     rt: &H,
@@ -43,15 +61,9 @@ fn merge_with<H: Threads + Sync + Abort, G: Gate>(
     count: u64,
     gate: &G,
 ) -> Vec<Pair> {
-    let nine = Pair { key: 9, value: 9 };
-    let mut out = vec![in alloc; nine; count as usize].expect(rt, "memory");
     assert!(rt; lists.len() < 4294967296);
     let runs = Lists::new(lists);
-    let count = out.len() as u64;
-    let size = size_of(&runs).expect(rt, "a size");
-    assert!(rt; count <= size && runs.runs() <= bench.runs());
-    merge_workers(rt, bench, &runs, count, out.as_mut_slice(), gate);
-    out
+    merge_shown(rt, alloc, bench, &runs, count, gate)
 }
 
 // Merges the smallest `count` records of some runs by so many workers.
@@ -101,6 +113,62 @@ fn two_workers_are_on_their_way_at_once(rt: HostRuntime) {
         let half = merge_by(&rt, alloc, &many, workers, 4000, &gate);
         assert!(rt; gate.is_passed() && gate.entered() == u64::from(workers));
         is_front(&rt, alloc, &many, &half);
+    }
+}
+
+// Runs that tell a gate of each record that is read of them.
+#[derive(Drop)]
+struct Watched<'a> {
+    runs: &'a Lists<'a, Pair>,
+    gate: &'a SoloGate,
+}
+
+impl<'a> Listing<Pair> for Watched<'a> {
+    ghost lists = { λ s. ⟦<Lists<'a, Pair> as Listing<Pair>>⟧.lists s.runs.now };
+
+    fn runs(&self) -> u32 {
+        self.runs.runs()
+    }
+
+    fn len(&self, run: u32) -> u64 {
+        self.runs.len(run)
+    }
+
+    fn at(&self, run: u32, i: u64) -> Pair {
+        self.gate.note();
+        self.runs.at(run, i)
+    }
+}
+
+// Merges 8,000 records by so many workers, of which all but one are held until it has read its share.
+fn merge_held<H: Threads + Sync + Abort>(
+    rt: &H,
+    alloc: Global,
+    lists: &[Vec<Pair>],
+    workers: u32,
+    gate: &SoloGate,
+) {
+    assert!(rt; lists.len() < 4294967296);
+    let lists = Lists::new(lists);
+    let runs = Watched { runs: &lists, gate };
+    let made = Bench::new(alloc, workers.max(1), 4);
+    let mut bench = made.expect(rt, "memory");
+    merge_shown(rt, alloc, &mut bench, &runs, 8000, gate);
+}
+
+#[test]
+fn each_worker_merges_its_share_and_each_record_is_read_once(rt: HostRuntime) {
+    let alloc = rt.alloc();
+    let lists = generated(&rt, alloc, &mut 5, 4, 2000);
+    for workers in [2, 3, 5] {
+        for worker in 0..workers {
+            let gate = SoloGate::new(worker, 8000 / u64::from(workers));
+            merge_held(&rt, alloc, &lists, workers, &gate);
+            assert!(rt;
+                gate.is_passed() && gate.read() == 8000,
+                "{worker} of {workers}"
+            );
+        }
     }
 }
 

@@ -3,7 +3,7 @@ use ppq_edge::{DirLibrary, FileRack, FileSlot, StdSink};
 use ppq_outside::{Failed, Host, Library, OutsideFault, Rack, Sink, Slot};
 use std::alloc::Global;
 use std::fs::{self, File, Permissions};
-use std::os::unix::fs::PermissionsExt;
+use std::os::unix::fs::{FileExt, PermissionsExt};
 use std::process::Abort;
 
 // Makes a file of these bytes, or writes over one.
@@ -91,6 +91,31 @@ fn a_full_disk_is_a_fault_of_the_block(rt: HostRuntime) {
     let mut block = block_of(&rt, rt.alloc(), &mut rack, "/dev/full", 0);
     takes(&rt, &mut block, [1, 2, 3, 4], false);
     counts(&rt, &block, 0, 0, 1);
+}
+
+// How many of these bytes the machine takes of one write at a place of a file; none where it refuses it.
+fn machine_takes<H: Host + Abort>(rt: &H, path: &str, bytes: &[u8], at: u64) -> usize {
+    let opened = File::options().write(true).open(rt, path);
+    let file = opened.expect(rt, "a file");
+    file.write_at(bytes, at).unwrap_or(0)
+}
+
+#[test]
+fn a_write_of_which_the_machine_takes_a_part_is_a_fault(rt: HostRuntime) {
+    let path = "ppq_edge_test.far";
+    let bytes = [7; 8192];
+    let mut rack = FileRack::new();
+    let first = rack.block(&rt, rt.alloc(), path, 0, 8192);
+    let _first = first.expect(&rt, "a block");
+    // The last byte of a file on ext4 is that at 2^44 - 4,097, in the middle of this block: of a write from
+    // its beginning on half is taken. Where files may be longer, the write is whole.
+    let made = rack.block(&rt, rt.alloc(), path, 2_147_483_647, 8192);
+    let mut far = made.expect(&rt, "a block");
+    let is_whole = machine_takes(&rt, path, &bytes, 17_592_186_036_224) == 8192;
+    assert!(rt; far.size() == 8192);
+    assert_eq!(rt; far.write(&rt, &bytes).is_ok(), is_whole);
+    counts(&rt, &far, u64::from(is_whole), 0, u64::from(!is_whole));
+    remove_file(&rt, path);
 }
 
 // A file that nobody may open.

@@ -8,6 +8,7 @@ mod pair_gate;
 mod queues;
 mod quiet_slot;
 mod records;
+mod solo_gate;
 
 pub use blocks::blocks_of;
 pub use crowd_gate::CrowdGate;
@@ -15,3 +16,4 @@ pub use pair_gate::PairGate;
 pub use queues::{opened, pushed};
 pub use quiet_slot::{QuietSlot, quiet_berth};
 pub use records::pair;
+pub use solo_gate::SoloGate;
