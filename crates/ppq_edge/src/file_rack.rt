@@ -5,14 +5,17 @@ ghost use Rattle.ppq_outside.specs.Told.{Rose};
 use crate::FileSlot;
 use ppq_outside::{Host, OutsideFault, Rack};
 use std::alloc::Global;
-use std::fs::{File, Files};
-use std::io;
+use std::fs::{File, Files, TryLockError};
+use std::io::{self, ErrorKind};
 use std::sync::Arc;
 
 /// A device in a file; its name is a path from the working folder.
 ///
 /// The file is created, or cut to length 0, when block 0 is made. So block 0 is to be made first; making
 /// any other block before it fails. It keeps no account of the blocks that it made.
+///
+/// A plain file is locked as long as a block of it lives: a second device in it is refused, of this process or
+/// of another, and what the first one keeps there stays. A file system without locks goes without.
 #[derive(Drop)]
 pub struct FileRack {
     // the device file, once block 0 was made
@@ -43,14 +46,31 @@ impl FileRack {
     }
 }
 
-// Opens the file to read and to write. It creates a file that is not there, and cuts one that is.
-fn create_device<F: Files<File = File>>(files: &F, device: &str) -> io::Result<File> {
+// Opens the file to read and to write. It creates one that is not there.
+fn open_device<F: Files<File = File>>(files: &F, device: &str) -> io::Result<File> {
     File::options()
         .read(true)
         .write(true)
         .create(true)
-        .truncate(true)
         .open(files, device)
+}
+
+// Takes a plain file for this device alone, where it can be locked, and cuts it to length 0. One that another
+// device has is left as it is.
+fn claim(file: &File) -> io::Result<()> {
+    if matches!(file.try_lock(), Err(TryLockError::WouldBlock)) {
+        return Err(io::Error::from(ErrorKind::WouldBlock));
+    }
+    file.set_len(0)
+}
+
+// The file of a device. What is no plain file, as /dev/full, is not locked, and has no length.
+fn create_device<F: Files<File = File>>(files: &F, device: &str) -> io::Result<File> {
+    let file = open_device(files, device)?;
+    if file.metadata()?.is_file() {
+        claim(&file)?;
+    }
+    Ok(file)
 }
 
 impl Rack for FileRack {

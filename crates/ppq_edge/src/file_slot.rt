@@ -93,20 +93,22 @@ impl Slot for FileSlot {
     }
 
     fn write<H: Host>(&mut self, _rt: &H, bytes: &[u8]) -> Result<(), Failed> {
-        let written = self.file.write_all_at(bytes, self.offset());
-        if written.is_err() {
-            return Err(self.fault());
+        match self.file.write_all_at(bytes, self.offset()) {
+            Ok(()) => {
+                self.writes = self.writes.saturating_add(1);
+                Ok(())
+            }
+            Err(_) => Err(self.fault()),
         }
-        self.writes = self.writes.saturating_add(1);
-        Ok(())
     }
 
     fn read<H: Host>(&mut self, _rt: &H, into: &mut [u8]) -> Result<(), Failed> {
-        let got = self.file.read_exact_at(into, self.offset());
-        if got.is_err() {
-            return Err(self.fault());
+        match self.file.read_exact_at(into, self.offset()) {
+            Ok(()) => {
+                self.reads = self.reads.saturating_add(1);
+                Ok(())
+            }
+            Err(_) => Err(self.fault()),
         }
-        self.reads = self.reads.saturating_add(1);
-        Ok(())
     }
 }

@@ -86,6 +86,19 @@ fn a_device_file_keeps_its_blocks_and_counts_its_faults(rt: HostRuntime) {
 }
 
 #[test]
+fn a_file_that_another_device_has_is_refused_and_keeps_its_bytes(rt: HostRuntime) {
+    let path = "ppq_edge_test.locked";
+    let mut rack = FileRack::new();
+    let mut block = block_of(&rt, rt.alloc(), &mut rack, path, 0);
+    takes(&rt, &mut block, [1, 2, 3, 4], true);
+    let mut other = FileRack::new();
+    let made = other.block(&rt, rt.alloc(), path, 0, 4);
+    assert!(rt; matches!(made, Err(OutsideFault::Failed)) & (other.faults() == 1));
+    gives(&rt, &mut block, Ok([1, 2, 3, 4]));
+    remove_file(&rt, path);
+}
+
+#[test]
 fn a_full_disk_is_a_fault_of_the_block(rt: HostRuntime) {
     let mut rack = FileRack::new();
     let mut block = block_of(&rt, rt.alloc(), &mut rack, "/dev/full", 0);
