@@ -1,25 +1,32 @@
 -- The words of the contract of `run_words`, in the order of its clauses. `run_over`, `run_and_report` and `run_twice` use them too.
-use Rattle.std.specs.Prelude.{◌≡◌, ◌⊎◌, ℕ, List, length, Option, Some, None, if◌then◌else◌, IfSome, nat_lt, MatchOption, map, String}
+use Rattle.std.specs.Prelude.{◌≡◌, ◌⊎◌, ℕ, ◌<◌, ◌≤◌, List, [], length, false, Option, Some, None, if◌then◌else◌, IfSome, nat_lt, MatchOption, map, String}
 use Rattle.std.specs.declared.alloc.Global.{Global}
 use Rattle.ppq_words.specs.ppq_record.declared.pair.Pair.{Pair}
 use Rattle.ppq_words.specs.ppq_record.Given.{records_of}
+use Rattle.ppq_words.specs.ppq_outside.Made.{HasMadeJust}
 use Rattle.ppq_words.specs.ppq_outside.Shown.{Shown}
-use Rattle.ppq_words.specs.ppq_outside.Told.{Reply, TakesAll, TakesPart, bytes_or_none}
+use Rattle.ppq_words.specs.ppq_outside.Told.{Reply, Remembers, TakesAll, TakesPart, bytes_or_none}
+use Rattle.ppq_words.specs.ppq_outside.declared.library.Library.{Ghosts as LibraryShows}
+use Rattle.ppq_words.specs.ppq_outside.declared.rack.Rack.{Ghosts as RackShows}
+use Rattle.ppq_words.specs.ppq_outside.declared.sink.Sink.{Ghosts as SinkShows}
 use Rattle.ppq_words.specs.ppq_budget.Sizes.{Numbers}
 use Rattle.ppq_words.specs.ppq_script.declared.command.Command.{Command}
 use Rattle.ppq_words.specs.ppq_script.Lines.{numbered_of, names_of, first_bad_by}
 use Rattle.ppq_words.specs.ppq_script.Files.{name_at, is_usable}
 use Rattle.ppq_words.specs.ppq_script.Checking.{with_sizes}
 use Rattle.ppq_words.specs.Reading.{Reading, reading_of, texts_of}
+use Rattle.ppq_words.specs.Strays.{may_run}
 use Rattle.ppq_engine.specs.declared.end.End.{End}
-use Rattle.ppq_engine.specs.declared.end.End.TheVariants.{Done, BadLine, Usage, ReadFault, Memory, NoDevice, NoScript, ScriptTooLong}
+use Rattle.ppq_engine.specs.declared.end.End.TheVariants.{Done, BadLine, Usage, ReadFault, WriteFault, DeviceFault, NoFreeBlock, Memory, NoDevice, NoScript, ScriptTooLong}
 use Rattle.ppq_engine.specs.declared.end.Ended.{Ended}
-use Rattle.ppq_engine.specs.Output.{output_of, TakesWithin}
+use Rattle.ppq_engine.specs.ppq_array.Kept.{HasFailed}
+use Rattle.ppq_engine.specs.Output.{output_of, load_of, crest_of, TakesWithin}
 use Rattle.ppq_engine.specs.Loads.{most_of, least_of, begins_limit, FitsWritten}
 use Rattle.ppq_engine.specs.Refusal.{HasRoom, HasNoRoom}
-use Rattle.ppq_engine.specs.Ends.{BeganCommands, budget_refusal}
+use Rattle.ppq_engine.specs.Ends.{BeganCommands, NoFault, budget_refusal}
+use Rattle.ppq_cli.specs.Device.{AreBlocks}
 use Rattle.ppq_cli.specs.Load.{script_kinds}
-use Rattle.ppq_cli.specs.Replies.{RefusalIsRight, RunIsRight}
+use Rattle.ppq_cli.specs.Replies.{RefusalIsRight, RunIsRight, ReadsWithin}
 
 -- The script that the words name.
 
@@ -119,11 +126,6 @@ IsAnswer refusal end = MatchOption refusal (IsTried end) (λ e. end ≡ e) ⊎ I
 abbrev pub IsTriedOrRefusal : Option End → End → Type 0
 IsTriedOrRefusal refusal end = MatchOption refusal (IsTried end) (λ e. end ≡ e) ⊎ (end ≡ Memory)
 
--- an outcome that is right: by what the library replied, and by its files where it tells
-pub record IsOutcome {L : Type 0} (told : L → Option Files) (library : L) (replied : L → Reply → Type 0) (later : L) (words : List (String Global)) (end : End) : Type 0 where
-  pub refused : OfWords words (λ r. RefusalIsRight (told library) (replied later) r.script r.sizes end)
-  pub answer : IfSome (told library) (λ files. IsAnswer (refusal_of (reading words) files) end)
-
 -- the device has too few blocks for the load, which is above one heap, unless a limit session begins
 abbrev pub IsTooLarge : ((ℕ → List Pair) → List Command → ℕ) → Numbers → (ℕ → List Pair) → List Command → Type 0
 IsTooLarge load sizes given commands = HasNoRoom sizes (begins_limit commands) (load given commands)
@@ -141,3 +143,42 @@ EndsWell load sizes files bytes end = refusal_of_file files (Some bytes) sizes �
 -- the same of the script that the words name, where the library tells and has it
 abbrev pub Completes : {L : Type 0} → ((ℕ → List Pair) → List Command → ℕ) → (L → Option Files) → L → List (String Global) → End → Type 0
 Completes load told library words end = OfWords words (λ r. IfSome (told library) (λ files. IfSome (files r.script) (λ bytes. EndsWell load r.sizes files bytes end)))
+
+-- The clauses of `run_words` as one, under their names, for an outcome with its blocks: by what library, rack, sink and blocks show, before
+-- the call and after it.
+pub record RunsWords
+    {L K O S : Type 0} (library : LibraryShows L) (rack : RackShows K S) (sink : SinkShows O) (shown : S → Shown) (words : List (String Global))
+    (old_library new_library : L) (old_rack new_rack : K) (old_out new_out : O) (ended : Ended S) : Type 0 where
+  pub done : ended.end ≡ Done → rack.tells old_rack → OfScript library.told old_library words (WritesAll sink.told old_out new_out)
+  pub part : rack.tells old_rack → OfScript library.told old_library words (WritesPart sink.told old_out new_out)
+  pub room : ended.end ≡ NoFreeBlock → rack.tells old_rack → OfScript library.told old_library words (WritesRoom sink.told old_out new_out)
+  pub nothing : MayWrite ended.end ⊎ (sink.told new_out ≡ sink.told old_out)
+  pub ran : IfRan words rack.tells old_rack library.told old_library library.replied new_library sink.told old_out new_out shown ended
+  pub used : ended.end ≡ Done → rack.tells old_rack → OfScript library.told old_library words (UsesDevice crest_of shown ended)
+  pub used_any : ended.end ≡ Done → OfScript library.told old_library words (UsesDevice least_by shown ended)
+  pub made : HasMadeJust (rack.made old_rack) (rack.made new_rack) (map (λ slot. (shown slot).number) ended.blocks.items)
+  pub blocks : OfWords words (λ r. AreBlocks r.sizes ended.end (map shown ended.blocks.items))
+  pub none : reading words ≡ None → ended.blocks.items ≡ []
+  pub rack_tells : rack.tells old_rack → rack.tells new_rack
+  pub files : library.told new_library ≡ library.told old_library
+  pub remembers : Remembers (library.replied old_library) (library.replied new_library)
+  pub reads : ReadsWithin (library.replied old_library) (library.replied new_library)
+  pub usage : ended.end ≡ Usage → reading words ≡ None
+  pub no_reading : reading words ≡ None → (ended.end ≡ Usage) ⊎ (ended.end ≡ Memory)
+  pub early : reading words ≡ None → may_run (texts_of words) ≡ false → ended.end ≡ Usage
+  pub answer : IfSome (library.told old_library) (λ files. IsAnswer (refusal_of (reading words) files) ended.end)
+  pub refused : OfWords words (λ r. RefusalIsRight (library.told old_library) (library.replied new_library) r.script r.sizes ended.end)
+  pub read : ended.end ≡ ReadFault → library.faults old_library < library.faults new_library
+  pub write : ended.end ≡ WriteFault → sink.faults old_out < sink.faults new_out
+  pub device : ended.end ≡ NoDevice → rack.faults old_rack < rack.faults new_rack
+  pub failed : (number : ℕ) → ended.end ≡ DeviceFault number → HasFailed number (map shown ended.blocks.items)
+  pub above : ended.end ≡ NoFreeBlock → rack.tells old_rack → OfScript library.told old_library words (IsTooLarge load_of)
+  pub above_any : ended.end ≡ NoFreeBlock → OfScript library.told old_library words (IsTooLarge most_by)
+  pub library_later : library.faults old_library ≤ library.faults new_library
+  pub library_stays : NoFault ended.end → library.faults new_library ≡ library.faults old_library
+  pub rack_later : rack.faults old_rack ≤ rack.faults new_rack
+  pub rack_stays : NoFault ended.end → rack.faults new_rack ≡ rack.faults old_rack
+  pub sink_later : sink.faults old_out ≤ sink.faults new_out
+  pub sink_stays : NoFault ended.end → sink.faults new_out ≡ sink.faults old_out
+  pub complete : rack.tells old_rack → NoFault ended.end → Completes load_of library.told old_library words ended.end
+  pub complete_any : NoFault ended.end → Completes most_by library.told old_library words ended.end

@@ -7,12 +7,14 @@
 mod arguments;
 mod device;
 mod load;
+mod place;
 mod program;
 mod reports;
 mod run;
 mod statuses;
 mod top_call;
 mod twice;
+mod whole;
 
 pub use arguments::words_of;
 pub use ppq_edge::{DirLibrary, FileRack, StdSink};

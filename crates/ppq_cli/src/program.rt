@@ -1,13 +1,14 @@
 //! The program over any outside.
-ghost use Rattle.std.specs.Prelude.{◌≡◌, ◌≤◌, ◌<◌, ◌⊎◌, ◌^◌, None};
-ghost use Rattle.ppq_cli.specs.Replies.{ReadsWithin};
+ghost use Rattle.std.specs.Prelude.{◌≡◌, ◌≤◌, ◌<◌, ◌^◌, IsTrue};
 ghost use Rattle.ppq_cli.specs.Report.{report_of, TakesLine};
-ghost use Rattle.ppq_cli.specs.Status.{status_of, IsReported};
-ghost use Rattle.ppq_cli.specs.RunWords.{reading, OfScript, WritesAll, WritesPart, IsOutcome};
+ghost use Rattle.ppq_cli.specs.Status.{status_of, writes_nothing, IsReported};
+ghost use Rattle.ppq_engine.specs.Output.{load_of};
+ghost use Rattle.ppq_cli.specs.RunWords.{OfScript, WritesAll, WritesPart, IsTooLarge, RunsWords};
 
+use crate::place::Place;
 use crate::reports::report;
 use crate::statuses::status;
-use crate::top_call::run_words;
+use crate::whole::run_whole;
 use ppq_engine::End;
 use ppq_words::{Gate, Host, Library, Rack, Sink};
 use std::alloc::Global;
@@ -24,10 +25,12 @@ pub fn report_end<H: Host, E: Sink>(rt: &H, end: &End, errors: &mut E) -> u8
     status(end)
 }
 
-/// Does what the arguments say, reports the outcome, and returns its status. Status 0 says that the
-/// sink took the script's whole output, and that no call of library, rack and sink failed; every other
-/// status, that the sink took a prefix of that output. The line that the sink for reports took is that
-/// of the same outcome.
+/// Does what the arguments say, reports the outcome, and returns its status.
+///
+/// All that `run_words` promises holds of an outcome, with its blocks, whose number is the status; the
+/// line that the sink for reports took is that of the same outcome. So status 0 says that the sink took
+/// the script's whole output, and that no call of library, rack and sink failed; every other status,
+/// that the sink took a prefix of that output, and 1, 2, 7, 10, 11 and 12, that it took nothing.
 pub fn run_and_report<H: Host, L: Library, K: Rack, O: Sink, E: Sink, G: Gate>(
     rt: &H,
     alloc: Global,
@@ -45,24 +48,17 @@ where
     requires rack { K.faults rack.old < 2 ^ 63 }
     requires sink { O.faults out.old < 2 ^ 63 }
 
-    // What is written: the output to the sink; files are only read.
+    // All that `run_words` promises, of the outcome whose number is the status and whose line the sink for reports took.
+    ensures outcome { IsReported E.Sink errors.old errors.new result (RunsWords L.Library K.Rack O.Sink K.Slot.shown words.now library.old library.new rack.old rack.new out.old out.new) }
+
+    // What a reader asks first, by the status: it follows from the outcome.
     ensures done { result ≡ 0 → K.tells rack.old → OfScript L.told library.old words.now (WritesAll O.told out.old out.new) }
     ensures part { K.tells rack.old → OfScript L.told library.old words.now (WritesPart O.told out.old out.new) }
-    ensures files { L.told library.new ≡ L.told library.old }
-    ensures reads { ReadsWithin (L.replied library.old) (L.replied library.new) }
-
-    // When each status comes: the line that was taken is of the same outcome, and with status 0 no count of faults rises.
-    ensures usage { result ≡ 2 → reading words.now ≡ None }
-    ensures no_reading { reading words.now ≡ None → (result ≡ 2) ⊎ (result ≡ 8) }
-    ensures line { IsReported E.told E.faults errors.old errors.new result (IsOutcome L.told library.old L.replied library.new words.now) }
-    ensures library_later { L.faults library.old ≤ L.faults library.new }
-    ensures library_stays { result ≡ 0 → L.faults library.new ≡ L.faults library.old }
-    ensures rack_later { K.faults rack.old ≤ K.faults rack.new }
-    ensures rack_stays { result ≡ 0 → K.faults rack.new ≡ K.faults rack.old }
-    ensures sink_later { O.faults out.old ≤ O.faults out.new }
-    ensures sink_stays { result ≡ 0 → O.faults out.new ≡ O.faults out.old }
+    ensures nothing { IsTrue (writes_nothing result) → O.told out.new ≡ O.told out.old }
+    ensures above { result ≡ 6 → K.tells rack.old → OfScript L.told library.old words.now (IsTooLarge load_of) }
     ensures errors_later { E.faults errors.old ≤ E.faults errors.new }
 {
-    let ended = run_words(rt, alloc, words, library, rack, gate, out);
+    let place = Place { rt, alloc, gate };
+    let ended = run_whole(&place, words, library, rack, out);
     report_end(rt, &ended.end, errors)
 }

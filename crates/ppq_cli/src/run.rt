@@ -7,8 +7,9 @@ ghost use Rattle.ppq_cli.specs.RunOver.{RunWrites, RunBlocks, RunEnds, RunFaults
 ghost use Rattle.ppq_cli.specs.Device.{make_end};
 
 use crate::device::make_blocks;
+use crate::place::Place;
 use ppq_engine::{End, Ended, run_script};
-use ppq_words::{Gate, Host, Library, OutsideFault, Rack, Script, Sink, Sizes, Slot};
+use ppq_words::{Gate, Host, Library, OutsideFault, Rack, RunArguments, Script, Sink, Slot};
 use std::alloc::Global;
 
 /// An end before a block was made.
@@ -35,37 +36,44 @@ fn end_of_making(fault: OutsideFault) -> End
 /// Makes the device and runs a checked script over it, unless the budget is below its fixed part. All
 /// blocks that were made come back.
 pub fn run_over<H: Host, L: Library, K: Rack, O: Sink, G: Gate>(
-    rt: &H,
-    alloc: Global,
+    place: &Place<H, G>,
     script: &Script,
-    device: &str,
-    sizes: Sizes,
+    arguments: &RunArguments,
     library: &mut L,
     rack: &mut K,
-    gate: &G,
     out: &mut O,
 ) -> Ended<K::Slot>
 where
     H::Dir: Send,
     K::Slot: Send + Sync,
     requires checked { IsTrue script.now.checked }
-    requires workers { script.now.workers ≡ sizes.workers }
+    requires workers { script.now.workers ≡ arguments.now.sizes.workers }
     requires lengths { (files : List ℕ → Option (List ℕ)) → L.told library.old ≡ Some files → KeepsLengths files script.now }
 
     // What is written and when each end comes, by the files that the library tells, or any where the script reads none. All blocks
     // that were made come back, files are only read, and a count of faults rises only with an end that names a fault.
-    ensures written { RunWrites (K.tells rack.old) (L.told library.old) (O.told out.old) (O.told out.new) sizes script.now (map K.Slot.shown result.blocks.items) result.end }
-    ensures blocks { RunBlocks K.Slot.shown (K.tells rack.old) (K.tells rack.new) (K.made rack.old) (K.made rack.new) sizes result }
+    ensures written { RunWrites (K.tells rack.old) (L.told library.old) (O.told out.old) (O.told out.new) arguments.now.sizes script.now (map K.Slot.shown result.blocks.items) result.end }
+    ensures blocks { RunBlocks K.Slot.shown (K.tells rack.old) (K.tells rack.new) (K.made rack.old) (K.made rack.new) arguments.now.sizes result }
     ensures library { LibraryKeeps L.told L.replied (IsReadInScript script.now) library.old library.new }
-    ensures ends { RunEnds (L.told library.old) (L.replied library.new) sizes script.now (map K.Slot.shown result.blocks.items) result.end }
+    ensures ends { RunEnds (L.told library.old) (L.replied library.new) arguments.now.sizes script.now (map K.Slot.shown result.blocks.items) result.end }
     ensures faults { RunFaults (L.faults library.old) (L.faults library.new) (K.faults rack.old) (K.faults rack.new) (O.faults out.old) (O.faults out.new) result.end }
 {
+    let sizes = arguments.sizes;
     let need = sizes.fixed();
     if sizes.memory() < need {
-        return without_blocks(alloc, End::BudgetTooSmall { need });
+        return without_blocks(place.alloc, End::BudgetTooSmall { need });
     }
-    match make_blocks(rt, alloc, rack, device, sizes) {
-        Ok(slots) => run_script(rt, alloc, script, sizes, slots, library, out, gate),
+    match make_blocks(place.rt, place.alloc, rack, arguments.device, sizes) {
+        Ok(slots) => run_script(
+            place.rt,
+            place.alloc,
+            script,
+            sizes,
+            slots,
+            library,
+            out,
+            place.gate,
+        ),
         Err((blocks, fault)) => Ended {
             end: end_of_making(fault),
             blocks,

@@ -15,6 +15,7 @@ ghost use Rattle.ppq_cli.specs.RunWords.{reading, OfWords, OfScript, WritesAll, 
 ghost use Rattle.ppq_cli.specs.RunWords.{most_by, least_by, refusal_of, IsAnswer, IsTooLarge, Completes};
 
 use crate::load::{end_of, load_script};
+use crate::place::Place;
 use crate::run::{run_over, without_blocks};
 use ppq_engine::{End, Ended};
 use ppq_words::{Gate, Host, Library, Memory, Rack, Sink, read_words};
@@ -115,19 +116,15 @@ where
     let Some(arguments) = found else {
         return without_blocks(alloc, End::Usage);
     };
-    let sizes = arguments.sizes;
-    match load_script(rt, alloc, library, arguments.script, sizes.workers()) {
-        Ok(script) => run_over(
-            rt,
-            alloc,
-            &script,
-            arguments.device,
-            sizes,
-            library,
-            rack,
-            gate,
-            out,
-        ),
+    let place = Place { rt, alloc, gate };
+    match load_script(
+        rt,
+        alloc,
+        library,
+        arguments.script,
+        arguments.sizes.workers(),
+    ) {
+        Ok(script) => run_over(&place, &script, &arguments, library, rack, out),
         Err(fault) => without_blocks(alloc, end_of(fault)),
     }
 }

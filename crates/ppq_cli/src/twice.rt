@@ -1,10 +1,11 @@
 //! Two runs of one script.
 ghost use Rattle.std.specs.Prelude.{◌≡◌, ◌<◌, ◌^◌, IfSome};
 ghost use Rattle.ppq_cli.specs.RunWords.{reading};
-ghost use Rattle.ppq_cli.specs.Twice.{WriteTheSame, NameOneScript};
+ghost use Rattle.ppq_cli.specs.Twice.{EndInTurn, RunsTo, WriteTheSame, NameOneScript};
 ghost use Rattle.ppq_engine.specs.declared.end.End.TheVariants.{Done};
 
-use crate::top_call::run_words;
+use crate::place::Place;
+use crate::whole::run_whole;
 use ppq_engine::End;
 use ppq_words::{Gate, Host, Library, Rack, Sink};
 use std::alloc::Global;
@@ -46,22 +47,25 @@ where
     requires sink { O.faults out.old < 2 ^ 63 }
     requires other_rack { OtherK.faults other_rack.old < 2 ^ 63 }
     requires other_sink { OtherO.faults other_out.old < 2 ^ 63 }
+    ensures ends { EndInTurn
+        (λ left. RunsTo L.Library K.Rack O.Sink K.Slot.shown words.now library.old left rack.old rack.new out.old out.new)
+        (λ left. RunsTo L.Library OtherK.Rack OtherO.Sink OtherK.Slot.shown other_words.now left library.new other_rack.old other_rack.new other_out.old other_out.new)
+        (λ left. (library.new ≡ left) × ((other_rack.new ≡ other_rack.old) × (other_out.new ≡ other_out.old)))
+        result }
     ensures same { result ≡ Done → K.tells rack.old → OtherK.tells other_rack.old
         → NameOneScript (reading words.now) (reading other_words.now) → IfSome (L.told library.old) (λ _.
         WriteTheSame (O.told out.old) (O.told out.new) (OtherO.told other_out.old) (OtherO.told other_out.new)) }
 {
-    let first = run_words(rt, alloc, words, library, rack, gate, out);
+    let place = Place { rt, alloc, gate };
+    let first = run_whole(&place, words, library, rack, out);
     match first.end {
         End::Done => {
-            let second = run_words(
+            let other_place = Place {
                 rt,
                 alloc,
-                other_words,
-                library,
-                other_rack,
-                other_gate,
-                other_out,
-            );
+                gate: other_gate,
+            };
+            let second = run_whole(&other_place, other_words, library, other_rack, other_out);
             second.end
         }
         end => end,

@@ -13,8 +13,8 @@ use Rattle.ppq_cli.proofs.run.run_over.Goals as goal
 
 pub returns-then-memory-need-clause-written : goal.returns-then-memory-need-clause-written
 returns-then-memory-need-clause-written g c =
-    subst (λ (e : End). RunWrites (g.K.Rack.tells c.args.rack.now) (g.L.Library.told c.args.library.now) (g.O.Sink.told c.args.out.now) (g.O.Sink.told c.args.out.now) c.args.sizes c.args.script.now (map g.K.Slot.Slot.shown c.without_blocks.result.blocks.items) e)
-    (sym c.without_blocks.ensures.end) (wrote_nothing _ _ _ c.args.sizes c.args.script.now _ _ (λ is. cc) (λ is. cc) tt)
+    subst (λ (e : End). RunWrites (g.K.Rack.tells c.args.rack.now) (g.L.Library.told c.args.library.now) (g.O.Sink.told c.args.out.now) (g.O.Sink.told c.args.out.now) c.args.arguments.now.sizes c.args.script.now (map g.K.Slot.Slot.shown c.without_blocks.result.blocks.items) e)
+    (sym c.without_blocks.ensures.end) (wrote_nothing _ _ _ c.args.arguments.now.sizes c.args.script.now _ _ (λ is. cc) (λ is. cc) tt)
 
 pub returns-then-memory-need-clause-blocks : goal.returns-then-memory-need-clause-blocks
 returns-then-memory-need-clause-blocks g c =
@@ -22,7 +22,7 @@ returns-then-memory-need-clause-blocks g c =
     let r = c.without_blocks in
     record {
       made = made_nothing (λ s. (shown s).number) r.result.blocks.items (g.K.Rack.made c.args.rack.now) r.ensures.none;
-      are = subst (λ (e : End). AreBlocks c.args.sizes e (map shown r.result.blocks.items)) (sym r.ensures.end) (no_device_blocks c.args.sizes (map shown r.result.blocks.items) _ (ap (map shown) r.ensures.none));
+      are = subst (λ (e : End). AreBlocks c.args.arguments.now.sizes e (map shown r.result.blocks.items)) (sym r.ensures.end) (no_device_blocks c.args.arguments.now.sizes (map shown r.result.blocks.items) _ (ap (map shown) r.ensures.none));
       tells = λ t. t;
     }
 
@@ -32,8 +32,8 @@ returns-then-memory-need-clause-library g c = asked_nothing g.L.Library.told g.L
 pub returns-then-memory-need-clause-ends : goal.returns-then-memory-need-clause-ends
 returns-then-memory-need-clause-ends g c =
     let r = c.without_blocks in
-    let Ends : End → Type 0 = λ e. RunEnds (g.L.Library.told c.args.library.now) (g.L.Library.replied c.args.library.now) c.args.sizes c.args.script.now (map g.K.Slot.Slot.shown r.result.blocks.items) e in
-    subst Ends (sym (r.ensures.end ∙ ap BudgetTooSmall c.fixed-need.ensures)) (small_ends c.args.sizes (omega arith) _ _ c.args.script.now _)
+    let Ends : End → Type 0 = λ e. RunEnds (g.L.Library.told c.args.library.now) (g.L.Library.replied c.args.library.now) c.args.arguments.now.sizes c.args.script.now (map g.K.Slot.Slot.shown r.result.blocks.items) e in
+    subst Ends (sym (r.ensures.end ∙ ap BudgetTooSmall c.fixed-need.ensures)) (small_ends c.args.arguments.now.sizes (omega arith) _ _ c.args.script.now _)
 
 pub returns-then-memory-need-clause-faults : goal.returns-then-memory-need-clause-faults
 returns-then-memory-need-clause-faults g c =
@@ -59,7 +59,7 @@ returns-in-Ok-clause-written g c =
       part = λ t. r.ensures.part (tell t);
       memory = λ is. ran_to_load tells told c.args.script.now slots before now tell (r.ensures.memory is);
       file = fault_to_file tells told c.args.script.now slots before now r.result.end tell r.ensures.file;
-      nothing = may_write _ c.args.sizes r.result.end r.ensures.answer r.ensures.nothing;
+      nothing = may_write _ c.args.arguments.now.sizes r.result.end r.ensures.answer r.ensures.nothing;
     }
 
 pub returns-in-Ok-clause-blocks : goal.returns-in-Ok-clause-blocks
@@ -69,7 +69,7 @@ returns-in-Ok-clause-blocks g c =
     let back = c.run_script.result.blocks.items in
     let same = c.run_script.ensures.blocks in
     let numbers = returned (map shown slots) (map shown back) same c.in-Ok.ensures.blocks.new.numbers in
-    let all : length (map shown back) ≡ c.args.sizes.blocks = same.length ∙ length-map slots shown ∙ c.in-Ok.ensures.all in
+    let all : length (map shown back) ≡ c.args.arguments.now.sizes.blocks = same.length ∙ length-map slots shown ∙ c.in-Ok.ensures.all in
     record {
       made = made_just shown back (g.K.Rack.made c.args.rack.now) (g.K.Rack.made c.make_blocks.new.rack) (length slots) numbers (same.length ∙ length-map slots shown) c.in-Ok.ensures.made;
       are = record { numbers = numbers; most = omega (arith, all); all = λ run. all; all_or_none = λ run. inl all };
@@ -80,14 +80,14 @@ pub returns-in-Ok-clause-library : goal.returns-in-Ok-clause-library
 returns-in-Ok-clause-library g c = let e = c.run_script.ensures in record { told = e.files; remembers = e.remembers; asks = e.asks }
 
 pub returns-in-Ok-clause-ends : goal.returns-in-Ok-clause-ends
-returns-in-Ok-clause-ends g c = let e = c.run_script.ensures in record { answer = begun_ends c.args.sizes c.run_script.result.end e.answer; failed = e.failed; changed = e.changed }
+returns-in-Ok-clause-ends g c = let e = c.run_script.ensures in record { answer = begun_ends c.args.arguments.now.sizes c.run_script.result.end e.answer; failed = e.failed; changed = e.changed }
 
 pub returns-in-Ok-clause-faults : goal.returns-in-Ok-clause-faults
 returns-in-Ok-clause-faults g c =
     let e = c.run_script.ensures in
     record {
       library = record { later = e.library_later; stays = e.library_stays; rose = e.read };
-      rack = made_count c.args.sizes _ _ c.run_script.result.end c.in-Ok.ensures.counts.stays e.answer;
+      rack = made_count c.args.arguments.now.sizes _ _ c.run_script.result.end c.in-Ok.ensures.counts.stays e.answer;
       sink = record { later = e.later; stays = e.stays; rose = e.write };
     }
 
@@ -95,8 +95,8 @@ returns-in-Ok-clause-faults g c =
 
 pub returns-in-Err-clause-written : goal.returns-in-Err-clause-written
 returns-in-Err-clause-written g c =
-    subst (λ (e : End). RunWrites (g.K.Rack.tells c.args.rack.now) (g.L.Library.told c.args.library.now) (g.O.Sink.told c.args.out.now) (g.O.Sink.told c.args.out.now) c.args.sizes c.args.script.now (map g.K.Slot.Slot.shown c.in-Err.blocks.items) e)
-    (sym c.end_of_making.ensures) (unmade_wrote _ _ _ c.args.sizes c.args.script.now _ c.in-Err.fault)
+    subst (λ (e : End). RunWrites (g.K.Rack.tells c.args.rack.now) (g.L.Library.told c.args.library.now) (g.O.Sink.told c.args.out.now) (g.O.Sink.told c.args.out.now) c.args.arguments.now.sizes c.args.script.now (map g.K.Slot.Slot.shown c.in-Err.blocks.items) e)
+    (sym c.end_of_making.ensures) (unmade_wrote _ _ _ c.args.arguments.now.sizes c.args.script.now _ c.in-Err.fault)
 
 pub returns-in-Err-clause-blocks : goal.returns-in-Err-clause-blocks
 returns-in-Err-clause-blocks g c =
@@ -106,7 +106,7 @@ returns-in-Err-clause-blocks g c =
     let numbers = in_order (map shown back) made.new.numbers in
     record {
       made = made_just shown back (g.K.Rack.made c.args.rack.now) (g.K.Rack.made c.make_blocks.new.rack) (length back) numbers (length-map back shown) c.in-Err.ensures.made;
-      are = subst (λ (e : End). AreBlocks c.args.sizes e (map shown back)) (sym c.end_of_making.ensures) (unmade_blocks c.args.sizes (map shown back) c.in-Err.fault numbers (omega (arith, made.most, length-map back shown)));
+      are = subst (λ (e : End). AreBlocks c.args.arguments.now.sizes e (map shown back)) (sym c.end_of_making.ensures) (unmade_blocks c.args.arguments.now.sizes (map shown back) c.in-Err.fault numbers (omega (arith, made.most, length-map back shown)));
       tells = c.make_blocks.ensures.kept;
     }
 
@@ -115,8 +115,8 @@ returns-in-Err-clause-library g c = asked_nothing g.L.Library.told g.L.Library.r
 
 pub returns-in-Err-clause-ends : goal.returns-in-Err-clause-ends
 returns-in-Err-clause-ends g c =
-    let Ends : End → Type 0 = λ e. RunEnds (g.L.Library.told c.args.library.now) (g.L.Library.replied c.args.library.now) c.args.sizes c.args.script.now (map g.K.Slot.Slot.shown c.in-Err.blocks.items) e in
-    subst Ends (sym c.end_of_making.ensures) (unmade_ends c.args.sizes (omega arith) _ _ c.args.script.now _ c.in-Err.fault)
+    let Ends : End → Type 0 = λ e. RunEnds (g.L.Library.told c.args.library.now) (g.L.Library.replied c.args.library.now) c.args.arguments.now.sizes c.args.script.now (map g.K.Slot.Slot.shown c.in-Err.blocks.items) e in
+    subst Ends (sym c.end_of_making.ensures) (unmade_ends c.args.arguments.now.sizes (omega arith) _ _ c.args.script.now _ c.in-Err.fault)
 
 pub returns-in-Err-clause-faults : goal.returns-in-Err-clause-faults
 returns-in-Err-clause-faults g c =

@@ -1,0 +1,40 @@
+use Rattle.ppq_cli.proofs.whole.run_whole.Goals as goal
+
+pub returns : goal.returns
+returns g c =
+    let e = c.run_words.ensures in
+    record {
+      done = e.done;
+      part = e.part;
+      room = e.room;
+      nothing = e.nothing;
+      ran = e.ran;
+      used = e.used;
+      used_any = e.used_any;
+      made = e.made;
+      blocks = e.blocks;
+      none = e.none;
+      rack_tells = e.rack_tells;
+      files = e.files;
+      remembers = e.remembers;
+      reads = e.reads;
+      usage = e.usage;
+      no_reading = e.no_reading;
+      early = e.early;
+      answer = e.answer;
+      refused = e.refused;
+      read = e.read;
+      write = e.write;
+      device = e.device;
+      failed = e.failed;
+      above = e.above;
+      above_any = e.above_any;
+      library_later = e.library_later;
+      library_stays = e.library_stays;
+      rack_later = e.rack_later;
+      rack_stays = e.rack_stays;
+      sink_later = e.sink_later;
+      sink_stays = e.sink_stays;
+      complete = e.complete;
+      complete_any = e.complete_any;
+    }
