@@ -9,7 +9,6 @@ use Rattle.ppq_script.specs.ppq_record.Bag.{IsSameBag}
 use Rattle.ppq_script.specs.ppq_outside.Shown.{Shown, AllTell}
 use Rattle.ppq_script.specs.ppq_outside.Told.{TakesPart, HasOneCause}
 use Rattle.ppq_script.specs.ppq_outside.declared.fault.Failed.{Failed}
-use Rattle.ppq_load.specs.ppq_array.Kept.{SameSlots}
 use Rattle.ppq_script.specs.declared.command.Command.{Command}
 use Rattle.ppq_script.specs.declared.command.Command.TheVariants.{LimitBegin, LimitEnd}
 use Rattle.ppq_script.specs.declared.session.Session.TheVariants.{InLimit}
@@ -18,7 +17,7 @@ use Rattle.ppq_script.specs.Reading.{Reading, command_list}
 use Rattle.ppq_load.specs.ppq_queue.Holding.{Holding}
 use Rattle.ppq_load.specs.ppq_array.declared.store_fault.StoreFault.{StoreFault as QueueFault}
 use Rattle.ppq_load.specs.ppq_array.declared.store_fault.StoreFault.TheVariants.{NoFreeBlock, Device}
-use Rattle.ppq_load.specs.Refusal.{IsRefusedBy}
+use Rattle.ppq_load.specs.Refusal.{Keeps, IsRefusedBy}
 use Rattle.ppq_load.proofs.Refusals.{cause-later}
 use Rattle.ppq_load.specs.ppq_session.declared.ask.Ask.{Ask}
 use Rattle.ppq_load.specs.ppq_session.Asks.{pops_in, left_after, answers_to}
@@ -266,22 +265,20 @@ module _ {S : Type 0} (shown : S → Shown) (script : Reading) (place : ℕ) (qu
           let R : List ℕ → Type 0 = λ t. TakesPart before now (had ++ t) in
           subst R (sym out) (subst Q run.begun.limit_is (run.broken.text queue (subst P (sym run.begun.limit_is) run.begun) tells))
 
-      slots : (ran : Result ℕ Failed) (ended : Result ⊤ QueueFault) → SessionRan old new ran ended → SameSlots queue.slots new.slots
-      slots (Ok next) ended run =
+      -- what its end keeps
+      pub ended-kept : (ran : Result ℕ Failed) (ended : Result ⊤ QueueFault) → SessionRan old new ran ended → Keeps (record queue { limited = true }) new
+      ended-kept (Ok next) ended run =
           let ran = lines-ran limit old run.begun run.lines in
-          (run.over (pushed_in ran.lines) (left_after pair_cmp limit queue.bag (asks_in ran.lines)) (pops_in (asks_in ran.lines)) ran.session).kept.slots
-      slots (Err failed) ended run =
+          (run.over (pushed_in ran.lines) (left_after pair_cmp limit queue.bag (asks_in ran.lines)) (pops_in (asks_in ran.lines)) ran.session).kept
+      ended-kept (Err failed) ended run =
           let P : Pair → Type 0 = λ l. InLimits shown queue l [] queue.bag 0 old in
           let some = run.broken.session queue (subst P (sym run.begun.limit_is) run.begun) in
           let Q : Pair → Type 0 = λ l. InLimits shown queue l some.0 some.1 some.2.0 mid in
-          (run.over some.0 some.1 some.2.0 (subst Q run.begun.limit_is some.2.1)).kept.slots
+          (run.over some.0 some.1 some.2.0 (subst Q run.begun.limit_is some.2.1)).kept
 
       module _ (ran : Result ℕ Failed) (ended : Result ⊤ QueueFault) (s : Result ℕ Stop) (e : s ≡ behind_limit ran ended) (run : SessionRan old new ran ended) where
         pub ended-stopped : IfErr s Stops
         ended-stopped = let P : Result ℕ Stop → Type 0 = λ x. IfErr x Stops in subst P (sym e) (stopped ran ended run)
-
-        pub ended-slots : SameSlots queue.slots new.slots
-        ended-slots = slots ran ended run
 
 -- a session did not begin
 pub begin-stopped :

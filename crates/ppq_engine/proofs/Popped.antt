@@ -24,7 +24,7 @@ use Rattle.ppq_engine.specs.Gathers.{Gathers, IsSummary}
 use Rattle.ppq_engine.specs.Calls.{Prints}
 use Rattle.ppq_engine.specs.Running.{GathersPart, WritesPart}
 use Rattle.ppq_engine.specs.Files.{IsByFile}
-use Rattle.ppq_engine.specs.Popping.{passing, next_of, popped_count, left_mark, IsRound, NotByFile}
+use Rattle.ppq_engine.specs.Popping.{passing, next_of, popped_count, left_at_most, left_mark, IsRound, NotByFile}
 use Rattle.ppq_engine.specs.declared.answer.Drained.{Drained}
 use Rattle.ppq_engine.specs.declared.stop.Stop.{Stop}
 use Rattle.ppq_engine.specs.declared.stop.Stop.TheVariants.{Sink, Queue}
@@ -191,6 +191,11 @@ more_below bag old i limit x same is =
 pub popped-le : (below : Option Pair) (bag : List Pair) (count : ℕ) → popped_count below bag count ≤ count
 popped-le None bag count = omega arith
 popped-le (Some limit) bag count = omega arith
+
+-- how many are left
+pub left-most : (below : Option Pair) (size count left : ℕ) → left ≤ size → (below ≡ None → left ≤ size - count) → left ≤ left_at_most below size count
+left-most None size count left few all = all refl
+left-most (Some limit) size count left few all = few
 
 -- where none passes, all were popped
 none_left : (bag old : List Pair) (i : ℕ) → IsSameBag bag (drop i (ascending pair_cmp old)) → least pair_cmp bag ≡ None → drop i (ascending pair_cmp old) ≡ []
@@ -364,6 +369,17 @@ gathers-more before mid now had between has text more first second = record {
 
 pub gathers-nothing : (told : Option (List ℕ)) (had : List ℕ) → Gathers told told had [] had
 gathers-nothing told had = record { put = []; took = takes_nothing told; kept = append-nil had }
+
+-- the same that is gathered
+pub gathers-kept : {before now : Option (List ℕ)} {had text has kept : List ℕ} → kept ≡ has → Gathers before now had text has → Gathers before now had text kept
+gathers-kept {before} {now} {had} {text} same first = let P : List ℕ → Type 0 = λ h. Gathers before now had text h in subst P (sym same) first
+
+-- the same text behind the same
+pub gathers-as : {before now : Option (List ℕ)} {had was text shown has : List ℕ} → was ≡ had → shown ≡ text → Gathers before now was shown has → Gathers before now had text has
+gathers-as {before} {now} {had} {was} {text} {shown} {has} same is first =
+    let P : List ℕ → Type 0 = λ h. Gathers before now h shown has in
+    let Q : List ℕ → Type 0 = λ t. Gathers before now had t has in
+    subst Q is (subst P same first)
 
 -- what was gathered and then a part of it is a part of a longer text
 pub takes-part : (before mid now : Option (List ℕ)) (had between text more : List ℕ) → Gathers before mid had text between → TakesPart mid now between → TakesPart before now (had ++ (text ++ more))

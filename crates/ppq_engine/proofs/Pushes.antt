@@ -1,27 +1,21 @@
 -- Lines of a session that are given to its passes batch by batch.
-use Rattle.std.proofs.Common.{◌≡◌, ℕ, suc, ◌+◌, ◌<◌, ◌≤◌, true, List, [], ◌∷◌, ◌++◌, length, drop, Some, max, refl, sym, ap, ◌∙◌, subst, arith, append_assoc, append-nil, length-append, length-drop}
-use Rattle.std.specs.Prelude.{slice_get, Result, Ok, Err, OnOk, IfErr, ⊤}
+use Rattle.std.proofs.Common.{◌≡◌, ℕ, suc, ◌+◌, ◌<◌, ◌≤◌, true, List, [], ◌∷◌, ◌++◌, length, drop, Some, refl, sym, ap, ◌∙◌, subst, arith, append_assoc, append-nil, length-append, length-drop}
+use Rattle.std.specs.Prelude.{slice_get}
 use Rattle.std.proofs.lemmas.Bool.{ltb-true}
 use Rattle.std.proofs.lemmas.List.{map-append, length-map}
 use Rattle.ppq_script.specs.ppq_record.declared.pair.Pair.{Pair}
-use Rattle.ppq_script.specs.ppq_record.Bag.{IsSameBag}
-use Rattle.ppq_script.specs.ppq_outside.Shown.{Shown, AllTell}
+use Rattle.ppq_script.specs.ppq_outside.Shown.{Shown}
 use Rattle.ppq_script.specs.declared.command.Command.{Command}
 use Rattle.ppq_script.specs.declared.command.Command.TheVariants.{BulkPush, BulkEnd}
 use Rattle.ppq_script.specs.declared.session.Session.TheVariants.{InBulk}
 use Rattle.ppq_script.specs.Sessions.{are_in_place}
 use Rattle.ppq_script.specs.Reading.{Reading, command_list}
 use Rattle.ppq_load.specs.ppq_queue.Holding.{Holding}
-use Rattle.ppq_load.specs.ppq_array.declared.store_fault.StoreFault.{StoreFault as QueueFault}
 use Rattle.ppq_load.specs.ppq_session.declared.line.Line.{Line}
 use Rattle.ppq_load.specs.ppq_session.Dealing.{records_in}
-use Rattle.ppq_load.specs.Loading.{LoadHolding, InSession, IsLoaded}
-use Rattle.ppq_load.proofs.Refusals.{cause-later}
-use Rattle.ppq_engine.specs.Calls.{Adds}
-use Rattle.ppq_engine.specs.Parts.{up_to_end, pushed_in, behind_session}
+use Rattle.ppq_load.specs.Loading.{LoadHolding, InSession}
+use Rattle.ppq_engine.specs.Parts.{up_to_end, pushed_in}
 use Rattle.ppq_engine.specs.Pushes.{IsPushAt, IsEndAt, GivesFirst}
-use Rattle.ppq_engine.specs.Running.{StopsFor}
-use Rattle.ppq_engine.specs.declared.stop.Stop.{Stop}
 use Rattle.ppq_engine.proofs.Parts.{behind-push, drop-here}
 
 -- the command at a place of a session
@@ -121,22 +115,3 @@ module _ {S : Type 0} (shown : S → Shown) (script : Reading) (from : ℕ) (old
     pub pushed-some : (queue : Holding Pair) → InSession shown queue [] old → (given : List Pair) × (InSession shown queue given mid × (length given ≤ length (pushed_in (up_to_end (drop from (command_list script))))))
     pushed-some queue s =
         (p.given, (p.session queue s, omega (arith, ap (λ (xs : List Pair). length xs) p.all, length-append (p.given ++ records_in lines) (pushed_in (up_to_end (drop place (command_list script)))), length-append p.given (records_in lines))))
-
--- the session ended: where no pass has stopped, all records were given
-module _ (queue new : Holding Pair) (total : List Pair) (next : ℕ) (s : Result ℕ Stop) where
-  module _ (G : Type 0) where
-    pub ended-bag : (r : Result ⊤ QueueFault) → s ≡ behind_session r next → OnOk r G → (G → IsLoaded queue total new r) → OnOk s (AllTell queue.slots → IsSameBag new.bag (total ++ queue.bag))
-    ended-bag (Ok v) e going loaded = let P : Result ℕ Stop → Type 0 = λ x. OnOk x (AllTell queue.slots → IsSameBag new.bag (total ++ queue.bag)) in subst P (sym e) (loaded going).bag
-    ended-bag (Err f) e going loaded = let P : Result ℕ Stop → Type 0 = λ x. OnOk x (AllTell queue.slots → IsSameBag new.bag (total ++ queue.bag)) in subst P (sym e) tt
-
-    pub ended-adds : (r : Result ⊤ QueueFault) → s ≡ behind_session r next → OnOk r G → (G → IsLoaded queue total new r) → OnOk s (Adds queue new (length total))
-    ended-adds (Ok v) e going loaded =
-        let P : Result ℕ Stop → Type 0 = λ x. OnOk x (Adds queue new (length total)) in
-        subst P (sym e) (record { size = (loaded going).size; sound = (loaded going).sound; peak = omega (arith, (loaded going).peak) })
-    ended-adds (Err f) e going loaded = let P : Result ℕ Stop → Type 0 = λ x. OnOk x (Adds queue new (length total)) in subst P (sym e) tt
-
-  pub ended-refused : (given : List Pair) (r : Result ⊤ QueueFault) → s ≡ behind_session r next → length given ≤ length total → 0 < queue.sizes.block → IsLoaded queue given new r → IfErr s (StopsFor (max queue.peak (queue.size + length total)) queue.sizes queue.limited new.slots)
-  ended-refused given (Ok v) e fewer block loaded = let P : Result ℕ Stop → Type 0 = λ x. IfErr x (StopsFor (max queue.peak (queue.size + length total)) queue.sizes queue.limited new.slots) in subst P (sym e) tt
-  ended-refused given (Err f) e fewer block loaded =
-      let P : Result ℕ Stop → Type 0 = λ x. IfErr x (StopsFor (max queue.peak (queue.size + length total)) queue.sizes queue.limited new.slots) in
-      subst P (sym e) (cause-later queue.sizes queue.limited queue.limited (max queue.peak (queue.size + length given)) (max queue.peak (queue.size + length total)) block (λ same. same) (omega (arith, fewer)) new.slots f loaded.refused)

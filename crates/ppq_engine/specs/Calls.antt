@@ -1,10 +1,12 @@
 -- What one call of the engine did to the queue, the sink and the library.
-use Rattle.std.specs.Prelude.{◌≡◌, ◌≤◌, ◌<◌, ◌+◌, ◌-◌, ◌^◌, ◌++◌, ◌||◌, ℕ, Bool, true, false, length, drop, List, [], max, slice_get, Option, Some, None, Result, OnOk, OnErr, IfErr}
+use Rattle.std.specs.Prelude.{◌≡◌, ◌≤◌, ◌<◌, ◌+◌, ◌-◌, ◌^◌, ◌++◌, ◌||◌, ℕ, Bool, true, false, length, drop, List, [], max, slice_get, Option, Some, None, Result, OnOk, OnErr, IfOk, IfErr, IsTrue, ⊤}
 use Rattle.ppq_script.specs.ppq_record.declared.pair.Pair.{Pair}
 use Rattle.ppq_script.specs.ppq_record.Bag.{IsSameBag}
 use Rattle.ppq_script.specs.ppq_outside.Shown.{Shown, AllTell}
+use Rattle.ppq_script.specs.ppq_outside.declared.slot.Slot.{Ghosts}
 use Rattle.ppq_script.specs.ppq_outside.Told.{Reply, Remembers, RepliesOnly, TakesPart, HasOneCause}
-use Rattle.ppq_load.specs.ppq_budget.Sizes.{Numbers, batch_of}
+use Rattle.ppq_load.specs.ppq_budget.Sizes.{Numbers}
+use Rattle.ppq_load.specs.ppq_array.Kept.{SameSlots}
 use Rattle.ppq_script.specs.declared.command.Command.{Command}
 use Rattle.ppq_script.specs.declared.session.Session.{Session}
 use Rattle.ppq_script.specs.declared.session.Session.TheVariants.{Outside}
@@ -14,28 +16,26 @@ use Rattle.ppq_script.specs.Sessions.{are_in_place}
 use Rattle.ppq_load.specs.ppq_queue.Holding.{Holding}
 use Rattle.ppq_load.specs.ppq_array.declared.store_fault.StoreFault.{StoreFault as QueueFault}
 use Rattle.ppq_load.specs.Refusal.{Keeps, IsRefusedBy}
-use Rattle.ppq_engine.specs.Files.{IsByFile, EndsEarly}
+use Rattle.ppq_engine.specs.Files.{IsBySession, IsReadInScript}
 use Rattle.ppq_engine.specs.Gathers.{Gathers}
 use Rattle.ppq_engine.specs.Loads.{none_go, all_go, size_after, size_from, least_of, begins_limit, FitsWritten}
-use Rattle.ppq_engine.specs.Output.{AreFilesOf, given_of, outside, after, output_from, state_from, output_of, crest_of}
+use Rattle.ppq_engine.specs.Output.{AreFilesOf, TellsLengths, given_of, outside, text_of, after, output_from, state_from, output_of, crest_of}
 use Rattle.ppq_engine.specs.Outcome.{EndSays, FaultBeforeFile}
+use Rattle.ppq_engine.specs.Parts.{part_at}
 use Rattle.ppq_engine.specs.Popping.{NotByFile, IsRound}
 use Rattle.ppq_engine.specs.Running.{IsGathered, HasStopped, WritesPart, StopsFor, PartStops, behind_part, IsOfFile, ChangedIn, SinkAfter, LibraryAfter}
 use Rattle.ppq_engine.specs.declared.end.End.{End}
+use Rattle.ppq_engine.specs.declared.machine.Machine.{Machine}
 use Rattle.ppq_engine.specs.declared.stop.Stop.{Stop}
 
--- no call of a slot of the queue failed, and the list has room for a round of its records
-pub record IsReady (queue : Holding Pair) (room : ℕ) : Type 0 where
-  pub sound : queue.failed ≡ None
-  pub list : room ≡ batch_of queue.sizes
+-- a call that the machine makes of its queue, whatever it answers: what the queue keeps, that nothing was printed, that the peak is no more than this, and why it was refused
+pub record IsCalled {S T : Type 0} {slot : Ghosts S} (old new : Machine S slot) (most : ℕ) (result : Result T QueueFault) : Type 0 where
+  pub kept : Keeps old.queue new.queue
+  pub gathered : new.desk.gathered ≡ old.desk.gathered
+  pub peak : new.queue.peak ≤ most
+  pub refused : IfErr result (IsRefusedBy new.queue.peak new.queue.sizes new.queue.limited new.queue.slots)
 
--- a call of the queue, whatever it answers: what it keeps, that the peak is no more than this, and why it was refused
-pub record IsCalled {T : Type 0} (old new : Holding Pair) (most : ℕ) (result : Result T QueueFault) : Type 0 where
-  pub kept : Keeps old new
-  pub peak : new.peak ≤ most
-  pub refused : IfErr result (IsRefusedBy new.peak new.sizes new.limited new.slots)
-
--- the same of a command that calls the queue; no file stopped it
+-- a command that calls the queue: what it keeps, that the peak is no more than this, and why it stopped; no file stopped it
 pub record IsLent {T : Type 0} (old new : Holding Pair) (most : ℕ) (result : Result T Stop) : Type 0 where
   pub kept : Keeps old new
   pub peak : new.peak ≤ most
@@ -80,36 +80,33 @@ pub record SinkCounts {T : Type 0} (before now : ℕ) (result : Result T Stop) :
   pub stays : OnOk result (now ≡ before)
   pub cause : IfErr result (SinkAfter before now)
 
--- the library has the files that it had; it gave replies of this kind alone, and its count of faults did not fall
-pub record LibraryStays (files files_now : Option (List ℕ → Option (List ℕ))) (replied replied_now kind : Reply → Type 0) (before now : ℕ) : Type 0 where
+-- the library has the files that it had; it was asked for files of the script alone, and its count of faults did not fall
+pub record LibraryStays (files files_now : Option (List ℕ → Option (List ℕ))) (replied replied_now : Reply → Type 0) (script : Reading) (before now : ℕ) : Type 0 where
   pub told : files_now ≡ files
   pub remembers : Remembers replied replied_now
-  pub asks : RepliesOnly replied replied_now kind
+  pub asks : RepliesOnly replied replied_now (IsReadInScript script)
   pub later : before ≤ now
 
--- the same, and the count rose if the library stopped the command, and else stayed
-pub record LibraryCounts {T : Type 0} (files files_now : Option (List ℕ → Option (List ℕ))) (replied replied_now kind : Reply → Type 0) (before now : ℕ) (result : Result T Stop) : Type 0 where
+-- the same; and the count rose if the library stopped the command, and else stayed; if a file had changed, which
+pub record LibraryCounts {T : Type 0} (files files_now : Option (List ℕ → Option (List ℕ))) (replied replied_now : Reply → Type 0) (script : Reading) (before now : ℕ) (result : Result T Stop) : Type 0 where
   pub told : files_now ≡ files
   pub remembers : Remembers replied replied_now
-  pub asks : RepliesOnly replied replied_now kind
+  pub asks : RepliesOnly replied replied_now (IsReadInScript script)
   pub later : before ≤ now
   pub stays : OnOk result (now ≡ before)
   pub cause : IfErr result (LibraryAfter before now)
+  pub changed : IfErr result (ChangedIn files replied_now script)
 
--- why the records of a file were not added: the queue refused, or a read; never the sink; if the file had changed, where it ended
-pub record FileStops (peak : ℕ) (sizes : Numbers) (limited : Bool) (slots : List Shown) (told : Option (List ℕ → Option (List ℕ))) (replied : Reply → Type 0) (name : List ℕ) (line said : ℕ) (stop : Stop) : Type 0 where
-  pub refused : StopsFor peak sizes limited slots stop
-  pub by_file : IsByFile stop
-  pub changed : EndsEarly told replied name line said stop
-
--- a command that stands at this place of a script, where no session is open
-pub record IsTurn (script : Reading) (i : ℕ) (command : Command) : Type 0 where
-  pub place : i < length script.commands
-  pub here : slice_get (command_list script) i ≡ Some command
+-- a command that stands at this place of a script, where no session is open, and a queue that may run it: of the script's workers, and no call of a slot of it failed
+pub record IsTurn (script : Reading) (queue : Holding Pair) (place : ℕ) (command : Command) : Type 0 where
+  pub place_is : place < length script.commands
+  pub here : slice_get (command_list script) place ≡ Some command
   pub fits : length script.commands < 2 ^ 64
-  pub in_place : are_in_place script.workers Outside (drop i (command_list script)) ≡ true
+  pub in_place : are_in_place script.workers Outside (drop place (command_list script)) ≡ true
   pub file : NamesFile (length script.names) command
   pub records : HasRecords command
+  pub workers : script.workers ≡ queue.sizes.workers
+  pub sound : queue.failed ≡ None
 
 -- behind this place of a script a session is open
 pub record IsOpenAt (script : Reading) (at : ℕ) (session : Session) : Type 0 where
@@ -125,11 +122,10 @@ pub record RunsStep (told : Option (List ℕ → Option (List ℕ))) (script : R
   pub sound : new.failed ≡ None
   pub peak : new.peak ≤ max old.peak (size_after none_go old.size command)
 
--- why it did not: the queue refused, or a file or an allocation that this command needs; if a file had changed, which
-pub record StopsStep (told : Option (List ℕ → Option (List ℕ))) (replied : Reply → Type 0) (script : Reading) (old new : Holding Pair) (command : Command) (stop : Stop) : Type 0 where
+-- why it did not: the queue refused, or a file or an allocation that this command needs
+pub record StopsStep (old new : Holding Pair) (command : Command) (stop : Stop) : Type 0 where
   pub refused : StopsFor (max old.peak (size_after none_go old.size command)) old.sizes old.limited new.slots stop
   pub of_file : IsOfFile command stop
-  pub changed : ChangedIn told replied script stop
 
 -- what commands that run together printed and did to the queue where they ran to their end
 pub record RunsPart (told : Option (List ℕ → Option (List ℕ))) (script : Reading) (old new : Holding Pair) (before now : Option (List ℕ)) (had has : List ℕ) (part : List Command) : Type 0 where
@@ -142,13 +138,36 @@ pub record RunsPart (told : Option (List ℕ → Option (List ℕ))) (script : R
   pub kept : Keeps (behind_part old part) new
 
 -- why they did not, and what they printed before
-pub record StopsPart (told : Option (List ℕ → Option (List ℕ))) (replied : Reply → Type 0) (script : Reading) (old new : Holding Pair) (before now : Option (List ℕ)) (had has : List ℕ) (command : Command) (part : List Command) (stop : Stop) : Type 0 where
+pub record StopsPart (old new : Holding Pair) (before now : Option (List ℕ)) (had has : List ℕ) (command : Command) (part : List Command) (stop : Stop) : Type 0 where
   pub wrote : PartStops old.slots before now had old.bag old.size old.peak part old.sizes (old.limited || begins_limit part) new.slots has stop
   pub of_file : IsOfFile command stop
-  pub changed : ChangedIn told replied script stop
 
--- a queue that nothing was done with, for the workers of a script
-pub record IsUnused (script : Reading) (queue : Holding Pair) : Type 0 where
+-- a command that lends the queue, whatever it answers: what it printed, what it left, and why it stopped
+pub record Lends {S : Type 0} {slot : Ghosts S} (before now : Option (List ℕ)) (sink sink_now : ℕ) (old new : Machine S slot) (command : Command) (result : Result ⊤ Stop) : Type 0 where
+  pub prints : Prints old.queue.slots before now old.desk.gathered (text_of (outside old.queue.bag) command) new.desk.gathered result
+  pub counts : SinkCounts sink sink_now result
+  pub left :
+      OnOk result
+      ((given : ℕ → List Pair) → Leaves old.queue new.queue (after given (outside old.queue.bag) command).bag (size_after all_go old.queue.size command) (size_after none_go old.queue.size command))
+  pub lent : IsLent old.queue new.queue (max old.queue.peak (size_after none_go old.queue.size command)) result
+
+-- the commands that run together from this place of a script on, of which this is the first, whatever is answered: what they did and the place
+-- behind them, or why they stopped
+pub record Goes (files : Option (List ℕ → Option (List ℕ))) (script : Reading) (place : ℕ) (command : Command) (before now : Option (List ℕ)) (old new : Holding Pair) (had has : List ℕ) (result : Result ℕ Stop) : Type 0 where
+  pub next : IfOk result (λ next. next ≡ place + length (part_at script place))
+  pub runs : OnOk result (RunsPart files script old new before now had has (part_at script place))
+  pub stopped : IfErr result (StopsPart old new before now had has command (part_at script place))
+  pub slots : SameSlots old.slots new.slots
+
+-- the same of commands that need no file and print nothing
+pub record GoesAlone (script : Reading) (place : ℕ) (command : Command) (old new : Holding Pair) (had has : List ℕ) (result : Result ℕ Stop) : Type 0 where
+  pub goes : (files : Option (List ℕ → Option (List ℕ))) (put : Option (List ℕ)) → Goes files script place command put put old new had has result
+  pub by_session : IfErr result IsBySession
+
+-- a checked script of whose files the library tells the lengths that it keeps, and a queue for its workers that nothing was done with
+pub record MayRun (files : Option (List ℕ → Option (List ℕ))) (script : Reading) (queue : Holding Pair) : Type 0 where
+  pub checked : IsTrue script.checked
+  pub lengths : TellsLengths files script
   pub workers : script.workers ≡ queue.sizes.workers
   pub bag : queue.bag ≡ []
   pub size : queue.size ≡ 0
@@ -161,11 +180,6 @@ pub record RunsAll (told : Option (List ℕ → Option (List ℕ))) (script : Re
   pub all : AllTell old.slots → (files : List ℕ → Option (List ℕ)) → AreFilesOf told script files → IsGathered before now has (output_of (given_of files script) (command_list script))
   pub crest : AllTell old.slots → (files : List ℕ → Option (List ℕ)) → AreFilesOf told script files → FitsWritten (crest_of (given_of files script) (command_list script)) old.sizes new.slots
   pub least : FitsWritten (least_of (command_list script)) old.sizes new.slots
-
--- why they were not
-pub record StopsRun (told : Option (List ℕ → Option (List ℕ))) (replied : Reply → Type 0) (script : Reading) (old new : Holding Pair) (before now : Option (List ℕ)) (has : List ℕ) (stop : Stop) : Type 0 where
-  pub why : HasStopped told script old.slots before now has old.sizes new.slots stop
-  pub changed : ChangedIn told replied script stop
 
 -- how a run on a queue ended: what was put is a part of the script's output; what the end says; and what was put if a file ended the run
 pub record EndsRun (told : Option (List ℕ → Option (List ℕ))) (replied : Reply → Type 0) (script : Reading) (old new : Holding Pair) (before now : Option (List ℕ)) (sink sink_now library library_now : ℕ) (end : End) : Type 0 where

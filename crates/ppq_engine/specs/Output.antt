@@ -115,6 +115,10 @@ given_of files script file = records_of (bytes_or_none (files (name_at script.na
 abbrev pub KeepsLengths : (List ℕ → Option (List ℕ)) → Reading → Type 0
 KeepsLengths files script = (i file size : ℕ) → slice_get (command_list script) i ≡ Some (Bulk file size) → length (bytes_or_none (files (name_at script.names file))) ≡ size
 
+-- so they are where the library tells its files
+abbrev pub TellsLengths : Option (List ℕ → Option (List ℕ)) → Reading → Type 0
+TellsLengths told script = (files : List ℕ → Option (List ℕ)) → told ≡ Some files → KeepsLengths files script
+
 -- no command reads a file
 abbrev pub ReadsNoFile : Reading → Type 0
 ReadsNoFile script = (i file size : ℕ) → slice_get (command_list script) i ≡ Some (Bulk file size) → ⊥

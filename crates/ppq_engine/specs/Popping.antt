@@ -1,5 +1,5 @@
 -- Records that are popped one after the other, all or those below a limit.
-use Rattle.std.specs.Prelude.{◌≡◌, ◌≤◌, ℕ, List, [], length, take, drop, Option, Some, None, if◌then◌else◌, codes, ⊤}
+use Rattle.std.specs.Prelude.{◌≡◌, ◌≤◌, ◌-◌, ℕ, List, [], length, take, drop, Option, Some, None, if◌then◌else◌, codes, ⊤}
 use Rattle.ppq_script.specs.ppq_record.declared.pair.Pair.{Pair}
 use Rattle.ppq_script.specs.ppq_record.Pair.{pair_cmp}
 use Rattle.ppq_script.specs.ppq_record.Order.{is_before}
@@ -27,6 +27,11 @@ left_mark (Some item) = codes "more\n"
 abbrev pub popped_count : Option Pair → List Pair → ℕ → ℕ
 popped_count None bag count = count
 popped_count (Some limit) bag count = limited_count bag limit count
+
+-- how many of so many records are left at the most, where up to `count` are popped
+abbrev pub left_at_most : Option Pair → ℕ → ℕ → ℕ
+left_at_most None size count = size - count
+left_at_most (Some limit) size count = size
 
 -- of a bag the least records were popped, as many as these, so many at the most, and none that is not below the limit; where there are
 -- none of these, none passes

@@ -1,5 +1,5 @@
 -- Lines of a bulk session, and how they are given to its passes.
-use Rattle.std.specs.Prelude.{◌≡◌, ◌<◌, ◌≤◌, ◌+◌, ◌^◌, ℕ, true, List, [], ◌∷◌, ◌++◌, drop}
+use Rattle.std.specs.Prelude.{◌≡◌, ◌<◌, ◌+◌, ℕ, true, List, ◌∷◌, ◌++◌, drop}
 use Rattle.ppq_script.specs.ppq_record.declared.pair.Pair.{Pair}
 use Rattle.ppq_script.specs.ppq_outside.Shown.{Shown}
 use Rattle.ppq_script.specs.declared.command.Command.TheVariants.{BulkPush, BulkEnd}
@@ -19,19 +19,6 @@ pub record IsPushAt (script : Reading) (place : ℕ) (line : Line Pair) : Type 0
 -- the command there ends it
 abbrev pub IsEndAt : Reading → ℕ → Type 0
 IsEndAt script place = drop place (command_list script) ≡ BulkEnd ∷ drop (place + 1) (command_list script)
-
--- a batch has so many lines, and may have so many
-pub record IsBatchOf (most lines : ℕ) : Type 0 where
-  pub some : 0 < most
-  pub few : lines ≤ most
-  pub bound : most < 2 ^ 32
-
--- a batch has no line yet, and memory for as many as it may have
-pub record IsNewBatch (most memory : ℕ) (lines : List (Line Pair)) : Type 0 where
-  pub some : 0 < most
-  pub bound : most < 2 ^ 32
-  pub no_line : lines ≡ []
-  pub capacity : most ≤ memory
 
 -- of the records that were to be given to the passes of a session the first were given, and these are left
 pub record GivesFirst {S : Type 0} (shown : S → Shown) (were left : List Pair) (old new : LoadHolding S) : Type 0 where

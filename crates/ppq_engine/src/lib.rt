@@ -3,16 +3,20 @@
 
 mod answer;
 mod batch;
+mod collected;
+mod desk;
 mod end;
 mod gathered;
 mod laws;
 mod limits;
 mod load;
+mod machine;
 mod pop;
 mod run;
 mod session;
 mod step;
 mod stop;
+mod world;
 
 pub use answer::{Answer, Drained};
 pub use end::{End, Ended};

@@ -1,19 +1,16 @@
 //! Adds many records to a queue by a session: generated ones, or those of a file.
-ghost use Rattle.std.specs.Prelude.{◌≡◌, ◌≤◌, ◌+◌, ◌/◌, ◌++◌, List, ℕ, Option, Some, OnOk, IfErr, length, max};
-ghost use Rattle.ppq_script.specs.ppq_record.Bag.{IsSameBag};
-ghost use Rattle.ppq_script.specs.ppq_record.Given.{records_of, generated};
-ghost use Rattle.ppq_script.specs.ppq_outside.Shown.{AllTell};
-ghost use Rattle.ppq_script.specs.ppq_outside.Told.{bytes_or_none};
-ghost use Rattle.ppq_load.specs.Reading.{IsReadWithin};
-ghost use Rattle.ppq_load.specs.Refusal.{Keeps};
-ghost use Rattle.ppq_engine.specs.Running.{StopsFor};
-ghost use Rattle.ppq_engine.specs.Files.{load_stop, load_result, IsBySession};
-ghost use Rattle.ppq_engine.specs.Calls.{Adds, FileStops, LibraryCounts};
+ghost use Rattle.std.specs.Prelude.{◌≡◌, List, ℕ, Option, IfErr};
+ghost use Rattle.ppq_script.specs.declared.command.Command.TheVariants.{Bulk, Gen};
+ghost use Rattle.ppq_engine.specs.Calls.{IsTurn, Goes, GoesAlone, LibraryCounts};
+ghost use Rattle.ppq_engine.specs.Files.{load_stop, load_result, IsByFile};
+ghost use Rattle.ppq_engine.specs.Output.{TellsLengths};
+ghost use Rattle.ppq_engine.specs.Parts.{behind_step};
 
+use crate::machine::Machine;
 use crate::stop::Stop;
-use ppq_load::{LoadFault, Queue, load_file, load_generated};
-use ppq_script::{Gate, Host, Library, Pair, Slot};
-use std::alloc::Global;
+use crate::world::World;
+use ppq_load::{LoadFault, load_file, load_generated};
+use ppq_script::{Gate, Host, Library, Slot};
 
 // A fault of a load, for the command on this line, whose file has so many bytes.
 pub fn stop_of(fault: LoadFault, line: u32, said: u64) -> Stop
@@ -37,51 +34,71 @@ fn stopped(loaded: Result<(), LoadFault>, line: u32, said: u64) -> Result<(), St
     }
 }
 
-// Adds so many generated records.
-pub fn push_generated<H: Host, S: Slot + Send + Sync, G: Gate>(
-    rt: &H,
-    alloc: Global,
-    queue: Queue<S, Pair>,
-    seed: u64,
-    count: u64,
-    gate: &G,
-) -> (Queue<S, Pair>, Result<(), Stop>)
-where
-    H::Dir: Send,
-    ensures bag { OnOk result.1 (AllTell queue.slots → IsSameBag result.0.bag (generated seed count ++ queue.bag)) }
-    ensures adds { OnOk result.1 (Adds queue result.0 count) }
-    ensures refused { IfErr result.1 (StopsFor (max queue.peak (queue.size + count)) queue.sizes queue.limited result.0.slots) }
-    ensures by_session { IfErr result.1 IsBySession }
-    ensures kept { Keeps queue result.0 }
+// The place behind a command that was run, or why it stopped.
+pub fn behind(given: Result<(), Stop>, next: usize) -> Result<usize, Stop>
+    ensures { result ≡ behind_step given next }
 {
-    let (queue, loaded) = load_generated(rt, alloc, queue, seed, count, gate);
-    (queue, stopped(loaded, 0, 0))
+    match given {
+        Ok(()) => Ok(next),
+        Err(stop) => Err(stop),
+    }
 }
 
-// Adds the records of a file of `said` bytes, for the command on this line. They are read by pieces
-// of as many records as `room` has place for.
-pub fn push_file<H: Host, S: Slot + Send + Sync, L: Library, G: Gate>(
-    rt: &H,
-    alloc: Global,
-    library: &mut L,
-    name: &str,
-    line: u32,
-    said: u64,
-    room: &mut [u8],
-    queue: Queue<S, Pair>,
-    gate: &G,
-) -> (Queue<S, Pair>, Result<(), Stop>)
-where
-    H::Dir: Send,
-    requires room { 16 ≤ length room.old }
-    requires fits { said ≤ 68719476736 }
-    requires long { (files : List ℕ → Option (List ℕ)) → L.told library.old ≡ Some files → length (bytes_or_none (files name.now)) ≡ said }
-    ensures bag { OnOk result.1 (AllTell queue.slots → (files : List ℕ → Option (List ℕ)) → L.told library.old ≡ Some files → IsSameBag result.0.bag (records_of (bytes_or_none (files name.now)) ++ queue.bag)) }
-    ensures adds { OnOk result.1 (Adds queue result.0 (said / 16)) }
-    ensures stopped { IfErr result.1 (FileStops (max queue.peak (queue.size + said / 16)) queue.sizes queue.limited result.0.slots (L.told library.old) (L.replied library.new) name.now line said) }
-    ensures kept { Keeps queue result.0 }
-    ensures library { LibraryCounts (L.told library.old) (L.told library.new) (L.replied library.old) (L.replied library.new) (IsReadWithin name.now said) (L.faults library.old) (L.faults library.new) result.1 }
-{
-    let (queue, loaded) = load_file(rt, alloc, library, name, said, room, queue, gate);
-    (queue, stopped(loaded, line, said))
+impl<S: Slot + Send + Sync> Machine<S> {
+    // Adds so many generated records, for the command at this place of the script. It gives the machine
+    // back, and the place behind the command.
+    pub fn push_generated<H: Host, G: Gate>(
+        self,
+        world: &World<'_, H, G>,
+        place: usize,
+        seed: u64,
+        count: u64,
+    ) -> (Machine<S>, Result<usize, Stop>)
+    where
+        H::Dir: Send,
+        requires { IsTurn world.now.script.now self.queue place (Gen seed count) }
+        ensures { GoesAlone world.now.script.now place (Gen seed count) self.queue result.0.queue self.desk.gathered result.0.desk.gathered result.1 }
+    {
+        let Machine { queue, desk } = self;
+        let (queue, loaded) = load_generated(world.rt, world.alloc, queue, seed, count, world.gate);
+        let done = stopped(loaded, 0, 0);
+        (Machine { queue, desk }, behind(done, place + 1))
+    }
+
+    // Adds the records of a file of `said` bytes, for the command at this place of the script. They are
+    // read by pieces of as many records as the desk has room for. It gives the machine back, and the place
+    // behind the command.
+    pub fn push_file<H: Host, L: Library, G: Gate>(
+        self,
+        world: &World<'_, H, G>,
+        place: usize,
+        file: u32,
+        said: u64,
+        library: &mut L,
+    ) -> (Machine<S>, Result<usize, Stop>)
+    where
+        H::Dir: Send,
+        requires turn { IsTurn world.now.script.now self.queue place (Bulk file said) }
+        requires lengths { TellsLengths (L.told library.old) world.now.script.now }
+        ensures goes { (put : Option (List ℕ)) → Goes (L.told library.old) world.now.script.now place (Bulk file said) put put self.queue result.0.queue self.desk.gathered result.0.desk.gathered result.1 }
+        ensures by_file { IfErr result.1 IsByFile }
+        ensures library { LibraryCounts (L.told library.old) (L.told library.new) (L.replied library.old) (L.replied library.new) world.now.script.now (L.faults library.old) (L.faults library.new) result.1 }
+    {
+        let name = world.script.name(file);
+        let line = world.script.line(place);
+        let Machine { queue, desk } = self;
+        let mut desk = desk;
+        let (queue, loaded) = load_file(
+            world.rt,
+            world.alloc,
+            library,
+            name,
+            said,
+            &mut desk.room,
+            queue,
+            world.gate,
+        );
+        let done = stopped(loaded, line, said);
+        (Machine { queue, desk }, behind(done, place + 1))
+    }
 }

@@ -3,17 +3,19 @@ ghost use Rattle.std.specs.Prelude.{◌≡◌, ◌<◌, ◌+◌, ◌-◌, ◌^�
 ghost use Rattle.ppq_script.specs.ppq_record.declared.pair.Pair.{Pair};
 ghost use Rattle.ppq_script.specs.ppq_record.Bag.{front, without_front};
 ghost use Rattle.ppq_script.specs.ppq_record.Pair.{pair_cmp};
-ghost use Rattle.ppq_load.specs.ppq_budget.Sizes.{batch_of};
 ghost use Rattle.ppq_script.specs.ppq_outside.Shown.{AllTell};
-ghost use Rattle.ppq_engine.specs.Output.{lines_text, mark_text, limited_count};
+ghost use Rattle.ppq_script.specs.declared.command.Command.TheVariants.{BulkPopLimit};
+ghost use Rattle.ppq_engine.specs.Output.{lines_text};
 ghost use Rattle.ppq_engine.specs.Gathers.{answer_text, IsSummary};
-ghost use Rattle.ppq_engine.specs.Calls.{IsReady, IsCalled, IsLent, Leaves, PopsRound, GathersAll, Prints, SinkCounts};
-ghost use Rattle.ppq_engine.specs.Popping.{next_of, popped_count, left_mark};
+ghost use Rattle.ppq_engine.specs.Calls.{IsCalled, IsLent, Leaves, Lends, PopsRound, GathersAll, Prints, SinkCounts};
+ghost use Rattle.ppq_engine.specs.Popping.{next_of, popped_count, left_at_most, left_mark};
 
 use crate::gathered::Gathered;
+use crate::machine::Machine;
 use crate::stop::Stop;
+use crate::world::World;
 use crate::{Answer, Drained};
-use ppq_load::{Out, Queue, QueueFault};
+use ppq_load::QueueFault;
 use ppq_script::{Failed, Gate, Host, Pair, Record, Sink, Slot};
 
 impl Drained {
@@ -66,37 +68,6 @@ fn add_all(before: Drained, items: &[Pair]) -> Drained
     drained
 }
 
-// Removes a round of the least records, as many as the list has room for, and at most so many, and only
-// those below the limit where there is one. They are in the list.
-fn pop_round<H: Host, S: Slot + Send + Sync, G: Gate>(
-    rt: &H,
-    queue: &mut Queue<S, Pair>,
-    below: Option<Pair>,
-    count: u64,
-    list: &mut Out<Pair>,
-    gate: &G,
-) -> Result<(), QueueFault>
-where
-    H::Dir: Send,
-    requires list { list.old.room ≡ batch_of queue.old.sizes }
-    requires some { 0 < count }
-    ensures popped { OnOk result (PopsRound below count queue.old queue.new list.new.items) }
-    ensures called { IsCalled queue.old queue.new queue.old.peak result }
-    ensures room { list.new.room ≡ list.old.room }
-{
-    queue.known();
-    match below {
-        None => {
-            let _taken = queue.bulk_pop(rt, count, list, gate)?;
-            Ok(())
-        }
-        Some(limit) => {
-            let _end = queue.bulk_pop_limit(rt, limit, count, list, gate)?;
-            Ok(())
-        }
-    }
-}
-
 // Prints the lines of these records.
 fn print_all<H: Host, O: Sink>(
     rt: &H,
@@ -113,117 +84,135 @@ fn print_all<H: Host, O: Sink>(
     Ok(())
 }
 
-// Removes up to so many least records, and says what they add up to.
-pub fn drain<H: Host, S: Slot + Send + Sync, G: Gate>(
-    rt: &H,
-    queue: &mut Queue<S, Pair>,
-    count: u64,
-    list: &mut Out<Pair>,
-    gate: &G,
-) -> Result<Drained, QueueFault>
-where
-    H::Dir: Send,
-    requires ready { IsReady queue.old list.old.room }
-    ensures summary { IfOk result (λ drained. AllTell queue.old.slots → IsSummary (front pair_cmp queue.old.bag count) drained) }
-    ensures left { OnOk result (Leaves queue.old queue.new (without_front pair_cmp queue.old.bag count) (queue.old.size - count) (queue.old.size - count)) }
-    ensures called { IsCalled queue.old queue.new queue.old.peak result }
-    ensures room { list.new.room ≡ list.old.room }
-{
-    let mut drained = Drained::nothing();
-    let mut done = 0;
-    'rounds: while done < count {
-        pop_round(rt, queue, None, count - done, list, gate)?;
-        if list.is_empty() {
-            return Ok(drained);
-        }
-        drained = add_all(drained, list.as_slice());
-        done += u64::from(list.len());
-    }
-    Ok(drained)
-}
-
-// Removes up to so many least records, only those below the limit where there is one, and prints
-// their lines.
-pub fn print_popped<H: Host, S: Slot + Send + Sync, O: Sink, G: Gate>(
-    rt: &H,
-    queue: &mut Queue<S, Pair>,
-    below: Option<Pair>,
-    count: u64,
-    list: &mut Out<Pair>,
-    gathered: &mut Gathered,
-    out: &mut O,
-    gate: &G,
-) -> Result<(), Stop>
-where
-    H::Dir: Send,
-    requires ready { IsReady queue.old list.old.room }
-    ensures prints { Prints queue.old.slots (O.told out.old) (O.told out.new) gathered.old (lines_text (front pair_cmp queue.old.bag (popped_count below queue.old.bag count))) gathered.new result }
-    ensures sink { SinkCounts (O.faults out.old) (O.faults out.new) result }
-    ensures left { OnOk result (Leaves queue.old queue.new (without_front pair_cmp queue.old.bag (popped_count below queue.old.bag count)) (queue.old.size - count) queue.old.size) }
-    ensures all { OnOk result (below ≡ None → queue.new.size ≡ queue.old.size - count) }
-    ensures lent { IsLent queue.old queue.new queue.old.peak result }
-    ensures room { list.new.room ≡ list.old.room }
-{
-    let mut done = 0;
-    'rounds: while done < count {
-        pop_round(rt, queue, below, count - done, list, gate)?;
-        if list.is_empty() {
-            return Ok(());
-        }
-        print_all(rt, list.as_slice(), gathered, out)?;
-        done += u64::from(list.len());
-    }
-    Ok(())
-}
-
-// Whether a record below the limit is left.
-fn mark_of<H: Host, S: Slot + Send + Sync, G: Gate>(
-    rt: &H,
-    queue: &mut Queue<S, Pair>,
-    limit: Pair,
-    gate: &G,
-) -> Result<Answer, QueueFault>
-where
-    H::Dir: Send,
-    ensures text { IfOk result (λ answer. AllTell queue.old.slots → answer_text answer ≡ left_mark (next_of (Some limit) queue.old.bag)) }
-    ensures left { OnOk result (Leaves queue.old queue.new queue.old.bag queue.old.size queue.old.size) }
-    ensures called { IsCalled queue.old queue.new queue.old.peak result }
-{
-    match queue.top(rt, gate)? {
-        None => Ok(Answer::All),
-        Some(item) => {
-            if item.is_less(&limit) {
-                Ok(Answer::More)
-            } else {
-                Ok(Answer::All)
+impl<S: Slot + Send + Sync> Machine<S> {
+    // Removes a round of the least records, as many as the list has room for, and at most so many, and only
+    // those below the limit where there is one. They are in the list.
+    fn pop_round<H: Host, G: Gate>(
+        &mut self,
+        world: &World<'_, H, G>,
+        below: Option<Pair>,
+        count: u64,
+    ) -> Result<(), QueueFault>
+    where
+        H::Dir: Send,
+        requires { 0 < count }
+        ensures popped { OnOk result (PopsRound below count self.old.queue self.new.queue self.new.desk.list.items) }
+        ensures called { IsCalled self.old self.new self.old.queue.peak result }
+    {
+        self.queue.known();
+        match below {
+            None => {
+                let _taken = self
+                    .queue
+                    .bulk_pop(world.rt, count, &mut self.desk.list, world.gate)?;
+                Ok(())
+            }
+            Some(limit) => {
+                let _end = self
+                    .queue
+                    .bulk_pop_limit(world.rt, limit, count, &mut self.desk.list, world.gate)?;
+                Ok(())
             }
         }
     }
-}
 
-// Removes up to so many least records that are below the limit, and prints their lines, and then
-// whether none below it is left.
-pub fn print_limited<H: Host, S: Slot + Send + Sync, O: Sink, G: Gate>(
-    rt: &H,
-    queue: &mut Queue<S, Pair>,
-    limit: Pair,
-    count: u64,
-    list: &mut Out<Pair>,
-    gathered: &mut Gathered,
-    out: &mut O,
-    gate: &G,
-) -> Result<(), Stop>
-where
-    H::Dir: Send,
-    requires ready { IsReady queue.old list.old.room }
-    ensures prints { Prints queue.old.slots (O.told out.old) (O.told out.new) gathered.old (lines_text (front pair_cmp queue.old.bag (limited_count queue.old.bag limit count)) ++ mark_text queue.old.bag limit count) gathered.new result }
-    ensures sink { SinkCounts (O.faults out.old) (O.faults out.new) result }
-    ensures left { OnOk result (Leaves queue.old queue.new (without_front pair_cmp queue.old.bag (limited_count queue.old.bag limit count)) (queue.old.size - count) queue.old.size) }
-    ensures lent { IsLent queue.old queue.new queue.old.peak result }
-    ensures room { list.new.room ≡ list.old.room }
-{
-    print_popped(rt, queue, Some(limit), count, list, gathered, out, gate)?;
-    let mark = mark_of(rt, queue, limit, gate)?;
-    gathered.print(rt, mark, out)?;
-    Ok(())
+    // Removes up to so many least records, and says what they add up to.
+    pub fn drain<H: Host, G: Gate>(
+        &mut self,
+        world: &World<'_, H, G>,
+        count: u64,
+    ) -> Result<Drained, QueueFault>
+    where
+        H::Dir: Send,
+        requires { self.old.queue.failed ≡ None }
+        ensures summary { IfOk result (λ drained. AllTell self.old.queue.slots → IsSummary (front pair_cmp self.old.queue.bag count) drained) }
+        ensures left { OnOk result (Leaves self.old.queue self.new.queue (without_front pair_cmp self.old.queue.bag count) (self.old.queue.size - count) (self.old.queue.size - count)) }
+        ensures called { IsCalled self.old self.new self.old.queue.peak result }
+    {
+        let mut drained = Drained::nothing();
+        let mut done = 0;
+        'rounds: while done < count {
+            self.pop_round(world, None, count - done)?;
+            if self.desk.list.is_empty() {
+                return Ok(drained);
+            }
+            drained = add_all(drained, self.desk.list.as_slice());
+            done += u64::from(self.desk.list.len());
+        }
+        Ok(drained)
+    }
+
+    // Removes up to so many least records, only those below the limit where there is one, and prints
+    // their lines.
+    pub fn print_popped<H: Host, O: Sink, G: Gate>(
+        &mut self,
+        world: &World<'_, H, G>,
+        below: Option<Pair>,
+        count: u64,
+        out: &mut O,
+    ) -> Result<(), Stop>
+    where
+        H::Dir: Send,
+        requires { self.old.queue.failed ≡ None }
+        ensures prints { Prints self.old.queue.slots (O.told out.old) (O.told out.new) self.old.desk.gathered (lines_text (front pair_cmp self.old.queue.bag (popped_count below self.old.queue.bag count))) self.new.desk.gathered result }
+        ensures sink { SinkCounts (O.faults out.old) (O.faults out.new) result }
+        ensures left { OnOk result (Leaves self.old.queue self.new.queue (without_front pair_cmp self.old.queue.bag (popped_count below self.old.queue.bag count)) (self.old.queue.size - count) (left_at_most below self.old.queue.size count)) }
+        ensures lent { IsLent self.old.queue self.new.queue self.old.queue.peak result }
+    {
+        let mut done = 0;
+        'rounds: while done < count {
+            self.pop_round(world, below, count - done)?;
+            if self.desk.list.is_empty() {
+                return Ok(());
+            }
+            let desk = &mut self.desk;
+            print_all(world.rt, desk.list.as_slice(), &mut desk.gathered, out)?;
+            done += u64::from(self.desk.list.len());
+        }
+        Ok(())
+    }
+
+    // Whether a record below the limit is left.
+    fn mark_of<H: Host, G: Gate>(
+        &mut self,
+        world: &World<'_, H, G>,
+        limit: Pair,
+    ) -> Result<Answer, QueueFault>
+    where
+        H::Dir: Send,
+        ensures text { IfOk result (λ answer. AllTell self.old.queue.slots → answer_text answer ≡ left_mark (next_of (Some limit) self.old.queue.bag)) }
+        ensures left { OnOk result (Leaves self.old.queue self.new.queue self.old.queue.bag self.old.queue.size self.old.queue.size) }
+        ensures called { IsCalled self.old self.new self.old.queue.peak result }
+    {
+        match self.queue.top(world.rt, world.gate)? {
+            None => Ok(Answer::All),
+            Some(item) => {
+                if item.is_less(&limit) {
+                    Ok(Answer::More)
+                } else {
+                    Ok(Answer::All)
+                }
+            }
+        }
+    }
+
+    // Removes up to so many least records that are below the limit, and prints their lines, and then
+    // whether none below it is left.
+    pub fn print_limited<H: Host, O: Sink, G: Gate>(
+        &mut self,
+        world: &World<'_, H, G>,
+        limit: Pair,
+        count: u64,
+        out: &mut O,
+    ) -> Result<(), Stop>
+    where
+        H::Dir: Send,
+        requires { self.old.queue.failed ≡ None }
+        ensures { Lends (O.told out.old) (O.told out.new) (O.faults out.old) (O.faults out.new) self.old self.new (BulkPopLimit limit count) result }
+    {
+        self.print_popped(world, Some(limit), count, out)?;
+        let mark = self.mark_of(world, limit)?;
+        self.desk.gathered.print(world.rt, mark, out)?;
+        Ok(())
+    }
 }

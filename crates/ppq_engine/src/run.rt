@@ -2,73 +2,66 @@
 ghost use Rattle.std.specs.Prelude.{◌≡◌, ◌≤◌, ◌<◌, ◌⊎◌, List, ℕ, Option, [], Some, OnOk, IfErr, IsTrue, length, map};
 ghost use Rattle.ppq_script.specs.ppq_outside.Shown.{AllTell};
 ghost use Rattle.ppq_script.specs.ppq_outside.Told.{TakesAll, TakesPart, Rose, Remembers, RepliesOnly};
-ghost use Rattle.ppq_load.specs.ppq_budget.Sizes.{fixed_of, batch_of};
+ghost use Rattle.ppq_load.specs.ppq_budget.Sizes.{fixed_of};
 ghost use Rattle.ppq_load.specs.ppq_array.Kept.{SameSlots, HasFailed};
 ghost use Rattle.ppq_script.specs.Reading.{command_list};
 ghost use Rattle.ppq_load.specs.ppq_queue.Holding.{AreNewSlots};
 ghost use Rattle.ppq_load.specs.Refusal.{HasRoom, HasNoRoom};
-ghost use Rattle.ppq_engine.specs.Calls.{IsUnused, RunsAll, StopsRun, EndsRun, SinkCounts, LibraryCounts, LibraryStays};
+ghost use Rattle.ppq_engine.specs.Calls.{MayRun, RunsAll, EndsRun, SinkCounts, LibraryCounts, LibraryStays};
 ghost use Rattle.ppq_engine.specs.Loads.{most_of, least_of, begins_limit, FitsWritten};
 ghost use Rattle.ppq_engine.specs.Output.{output_of, load_of, crest_of, given_of, AreFilesOf, KeepsLengths, TakesWithin};
-ghost use Rattle.ppq_engine.specs.Running.{HasChanged, queue_end, open_end};
+ghost use Rattle.ppq_engine.specs.Running.{HasStopped, HasChanged, queue_end, open_end};
 ghost use Rattle.ppq_engine.specs.Files.{IsReadInScript};
 ghost use Rattle.ppq_engine.specs.Outcome.{TakesBeforeLoad, FaultBeforeFile, PutsRest, PutsStopped};
 ghost use Rattle.ppq_engine.specs.Ends.{budget_refusal, BeganOrRefused, IsCompleted, IsQuiet, NoFault, NoneFailed};
 ghost use Rattle.ppq_engine.specs.declared.end.End.TheVariants.{Done, ReadFault, WriteFault, DeviceFault, NoFreeBlock, BudgetTooSmall, Memory, FileChanged};
 
+use crate::desk::Desk;
 use crate::gathered::Gathered;
-use crate::step::advance;
+use crate::machine::Machine;
 use crate::stop::Stop;
+use crate::world::World;
 use crate::{End, Ended};
-use ppq_load::{OpenFault, Out, Queue, QueueFault, Sizes};
+use ppq_load::{OpenFault, Queue, QueueFault, Sizes};
 use ppq_script::{Failed, Gate, Host, Library, Pair, Script, Sink, Slot};
 use std::alloc::Global;
 
-// Runs the commands in order up to the first that does not run to its end, and gathers what they
-// print. It gives the queue back.
-fn run_commands<H: Host, S: Slot + Send + Sync, L: Library, O: Sink, G: Gate>(
-    rt: &H,
-    alloc: Global,
-    script: &Script,
-    library: &mut L,
-    room: &mut [u8],
-    queue: Queue<S, Pair>,
-    list: &mut Out<Pair>,
-    gathered: &mut Gathered,
-    out: &mut O,
-    gate: &G,
-) -> (Queue<S, Pair>, Result<(), Stop>)
-where
-    H::Dir: Send,
-    requires checked { IsTrue script.now.checked }
-    requires unused { IsUnused script.now queue }
-    requires lengths { (files : List ℕ → Option (List ℕ)) → L.told library.old ≡ Some files → KeepsLengths files script.now }
-    requires block { 0 < queue.sizes.block }
-    requires room { 16 ≤ length room.old }
-    requires list { list.old.room ≡ batch_of queue.sizes }
-    requires gathered { gathered.old ≡ [] }
-    ensures runs { OnOk result.1 (RunsAll (L.told library.old) script.now queue result.0 (O.told out.old) (O.told out.new) gathered.new) }
-    ensures stopped { IfErr result.1 (StopsRun (L.told library.old) (L.replied library.new) script.now queue result.0 (O.told out.old) (O.told out.new) gathered.new) }
-    ensures slots { SameSlots queue.slots result.0.slots }
-    ensures library { LibraryCounts (L.told library.old) (L.told library.new) (L.replied library.old) (L.replied library.new) (IsReadInScript script.now) (L.faults library.old) (L.faults library.new) result.1 }
-    ensures sink { SinkCounts (O.faults out.old) (O.faults out.new) result.1 }
-{
-    script.checked();
-    let mut queue = queue;
-    let mut place = 0;
-    'commands: while place < script.len() {
-        let command = script.at(place);
-        let (back, result) = advance(
-            rt, alloc, script, place, command, library, room, queue, list, gathered, out, gate,
-        );
-        queue = back;
-        match result {
-            Ok(next) => place = next,
-            Err(stop) => return (queue, Err(stop)),
+impl<S: Slot + Send + Sync> Machine<S> {
+    // Runs the commands of the script in order up to the first that does not run to its end, and gathers
+    // what they print. It gives the machine back.
+    fn run<H: Host, L: Library, O: Sink, G: Gate>(
+        self,
+        world: &World<'_, H, G>,
+        library: &mut L,
+        out: &mut O,
+    ) -> (Machine<S>, Result<(), Stop>)
+    where
+        H::Dir: Send,
+        requires may { MayRun (L.told library.old) world.now.script.now self.queue }
+        requires block { 0 < self.queue.sizes.block }
+        requires gathered { self.desk.gathered ≡ [] }
+        ensures runs { OnOk result.1 (RunsAll (L.told library.old) world.now.script.now self.queue result.0.queue (O.told out.old) (O.told out.new) result.0.desk.gathered) }
+        ensures stopped { IfErr result.1 (HasStopped (L.told library.old) world.now.script.now self.queue.slots (O.told out.old) (O.told out.new) result.0.desk.gathered self.queue.sizes result.0.queue.slots) }
+        ensures slots { SameSlots self.queue.slots result.0.queue.slots }
+        ensures library { LibraryCounts (L.told library.old) (L.told library.new) (L.replied library.old) (L.replied library.new) world.now.script.now (L.faults library.old) (L.faults library.new) result.1 }
+        ensures sink { SinkCounts (O.faults out.old) (O.faults out.new) result.1 }
+    {
+        let script = world.script;
+        script.checked();
+        let mut machine = self;
+        let mut place = 0;
+        'commands: while place < script.len() {
+            let command = script.at(place);
+            let (back, result) = machine.advance(world, place, command, library, out);
+            machine = back;
+            match result {
+                Ok(next) => place = next,
+                Err(stop) => return (machine, Err(stop)),
+            }
+            machine.queue.known();
         }
-        queue.known();
+        (machine, Ok(()))
     }
-    (queue, Ok(()))
 }
 
 // A fault of the queue as an end.
@@ -122,54 +115,35 @@ fn put_stopped<H: Host, O: Sink>(rt: &H, stop: Stop, gathered: &mut Gathered, ou
 // an empty queue, and puts all that was gathered, also where they stop, unless it is the sink that stops
 // them.
 fn run_opened<H: Host, S: Slot + Send + Sync, L: Library, O: Sink, G: Gate>(
-    rt: &H,
-    alloc: Global,
-    script: &Script,
+    world: &World<'_, H, G>,
     sizes: Sizes,
-    library: &mut L,
     queue: Queue<S, Pair>,
+    library: &mut L,
     out: &mut O,
-    gate: &G,
 ) -> (Queue<S, Pair>, End)
 where
     H::Dir: Send,
-    requires checked { IsTrue script.now.checked }
-    requires unused { IsUnused script.now queue }
-    requires lengths { (files : List ℕ → Option (List ℕ)) → L.told library.old ≡ Some files → KeepsLengths files script.now }
+    requires may { MayRun (L.told library.old) world.now.script.now queue }
     requires sizes { queue.sizes ≡ sizes }
-    ensures ends { EndsRun (L.told library.old) (L.replied library.new) script.now queue result.0 (O.told out.old) (O.told out.new) (O.faults out.old) (O.faults out.new) (L.faults library.old) (L.faults library.new) result.1 }
+    ensures ends { EndsRun (L.told library.old) (L.replied library.new) world.now.script.now queue result.0 (O.told out.old) (O.told out.new) (O.faults out.old) (O.faults out.new) (L.faults library.old) (L.faults library.new) result.1 }
     ensures slots { SameSlots queue.slots result.0.slots }
-    ensures library { LibraryStays (L.told library.old) (L.told library.new) (L.replied library.old) (L.replied library.new) (IsReadInScript script.now) (L.faults library.old) (L.faults library.new) }
+    ensures library { LibraryStays (L.told library.old) (L.told library.new) (L.replied library.old) (L.replied library.new) world.now.script.now (L.faults library.old) (L.faults library.new) }
     ensures later { O.faults out.old ≤ O.faults out.new }
 {
-    let Ok(mut gathered) = Gathered::new(alloc) else {
+    queue.known();
+    let Ok(desk) = Desk::new(world.alloc, &sizes) else {
         return (queue, End::Memory);
     };
-    let Ok(mut list) = Out::new(alloc, &sizes) else {
-        return (queue, End::Memory);
-    };
-    let bytes = sizes.batch() as usize * 16;
-    let Ok(mut room) = vec![in alloc; 0u8; bytes] else {
-        return (queue, End::Memory);
-    };
-    let (queue, result) = run_commands(
-        rt,
-        alloc,
-        script,
-        library,
-        &mut room,
-        queue,
-        &mut list,
-        &mut gathered,
-        out,
-        gate,
-    );
+    let machine = Machine { queue, desk };
+    let (machine, result) = machine.run(world, library, out);
+    let Machine { queue, desk } = machine;
+    let mut gathered = desk.gathered;
     match result {
-        Ok(()) => match gathered.put(rt, out) {
+        Ok(()) => match gathered.put(world.rt, out) {
             Ok(()) => (queue, End::Done),
             Err(Failed) => (queue, End::WriteFault),
         },
-        Err(stop) => (queue, put_stopped(rt, stop, &mut gathered, out)),
+        Err(stop) => (queue, put_stopped(world.rt, stop, &mut gathered, out)),
     }
 }
 
@@ -255,7 +229,13 @@ where
             };
         }
     };
-    let (queue, end) = run_opened(rt, alloc, script, sizes, library, queue, out, gate);
+    let world = World {
+        rt,
+        alloc,
+        script,
+        gate,
+    };
+    let (queue, end) = run_opened(&world, sizes, queue, library, out);
     Ended {
         end,
         blocks: queue.close(),

@@ -1,27 +1,24 @@
 //! Runs a bulk session of a script.
-ghost use Rattle.std.specs.Prelude.{◌≡◌, ◌≤◌, ◌<◌, ◌+◌, ◌^◌, ◌++◌, true, [], List, All, None, IsTrue, IfOk, OnOk, IfErr, IfSome, length, drop, max, vec_len, vec_capacity};
+ghost use Rattle.std.specs.Prelude.{◌≡◌, ◌≤◌, ◌<◌, ◌+◌, true, [], List, All, None, IsTrue, IfSome, length, drop, vec_len};
 ghost use Rattle.ppq_script.specs.ppq_record.declared.pair.Pair.{Pair};
-ghost use Rattle.ppq_script.specs.ppq_record.Bag.{IsSameBag};
-ghost use Rattle.ppq_script.specs.ppq_outside.Shown.{AllTell};
-ghost use Rattle.ppq_load.specs.ppq_budget.Sizes.{batch_of};
 ghost use Rattle.ppq_script.specs.Sessions.{are_in_place};
 ghost use Rattle.ppq_script.specs.Reading.{command_list};
+ghost use Rattle.ppq_script.specs.declared.command.Command.TheVariants.{BulkBegin};
 ghost use Rattle.ppq_script.specs.declared.session.Session.TheVariants.{InBulk};
 ghost use Rattle.ppq_load.specs.ppq_queue.Holding.{Holding};
 ghost use Rattle.ppq_load.specs.ppq_session.Dealing.{IsGoing, records_in};
 ghost use Rattle.ppq_load.specs.Loading.{InSession};
-ghost use Rattle.ppq_load.specs.Refusal.{Keeps};
-ghost use Rattle.ppq_engine.specs.Calls.{IsOpenAt, Adds};
-ghost use Rattle.ppq_engine.specs.Files.{IsBySession};
+ghost use Rattle.ppq_engine.specs.Calls.{IsOpenAt, IsTurn, GoesAlone};
 ghost use Rattle.ppq_engine.specs.Parts.{up_to_end, pushed_in, behind_session};
-ghost use Rattle.ppq_engine.specs.Pushes.{IsPushAt, IsEndAt, GivesFirst, IsBatchOf, IsNewBatch};
-ghost use Rattle.ppq_engine.specs.Running.{StopsFor};
+ghost use Rattle.ppq_engine.specs.Pushes.{IsPushAt, IsEndAt, GivesFirst};
 
+use crate::collected::Collected;
 use crate::load::stop_of;
+use crate::machine::Machine;
 use crate::stop::Stop;
-use ppq_load::{Line, Load, Queue, QueueFault};
+use crate::world::World;
+use ppq_load::{Line, Load, QueueFault};
 use ppq_script::{Command, Gate, Host, Pair, Script, Slot};
-use std::alloc::Global;
 
 // The push of a session at this place, or none where the session ends there.
 fn push_at(script: &Script, place: usize) -> Option<Line<Pair>>
@@ -36,66 +33,60 @@ fn push_at(script: &Script, place: usize) -> Option<Line<Pair>>
     }
 }
 
-// Gives the collected lines to the passes where there are as many as `most`, so that there is room for one
+// Gives the collected lines to the passes where there are as many as may be, so that there is room for one
 // more. Whether no pass stopped.
 fn make_room<H: Host, S: Slot + Send + Sync, G: Gate>(
-    rt: &H,
+    world: &World<'_, H, G>,
     load: &mut Load<S>,
-    lines: &mut Vec<Line<Pair>>,
-    most: usize,
-    gate: &G,
+    lines: &mut Collected,
 ) -> bool
 where
     H::Dir: Send,
-    requires batch { IsBatchOf most (vec_len lines.old) }
-    requires named { All (λ line. line.pass < load.old.bulk.sizes.workers) lines.old.items }
+    requires named { All (λ line. line.pass < load.old.bulk.sizes.workers) lines.old.items.items }
     requires going { All IsGoing load.old.passes }
     ensures all { IsTrue result → All IsGoing load.new.passes }
     ensures stopped { All IsGoing load.new.passes → IsTrue result }
-    ensures room { vec_len lines.new < most }
-    ensures capacity { vec_capacity lines.new ≡ vec_capacity lines.old }
-    ensures named { All (λ line. line.pass < load.old.bulk.sizes.workers) lines.new.items }
-    ensures given { GivesFirst S.shown (records_in lines.old.items) (records_in lines.new.items) load.old load.new }
+    ensures room { vec_len lines.new.items < lines.new.most }
+    ensures named { All (λ line. line.pass < load.old.bulk.sizes.workers) lines.new.items.items }
+    ensures given { GivesFirst S.shown (records_in lines.old.items.items) (records_in lines.new.items.items) load.old load.new }
 {
-    if lines.len() < most {
+    if lines.items.len() < lines.most {
         return true;
     }
-    let all = load.push(rt, lines.as_slice(), gate);
-    lines.clear();
+    let all = load.push(world.rt, lines.items.as_slice(), world.gate);
+    lines.items.clear();
     all
 }
 
-// Gives the lines of a session from this place on to the passes, in batches of at most `most`, until one
-// stops. It gives the place behind the end of the session, which has no meaning where a pass stopped.
+// Gives the lines of the session that begins at this place to the passes, in batches, until one stops. It
+// gives the place behind the end of the session, which has no meaning where a pass stopped.
 fn push_all<H: Host, S: Slot + Send + Sync, G: Gate>(
-    rt: &H,
-    script: &Script,
-    from: usize,
+    world: &World<'_, H, G>,
+    at: usize,
     load: &mut Load<S>,
-    lines: &mut Vec<Line<Pair>>,
-    most: usize,
-    gate: &G,
+    lines: &mut Collected,
 ) -> usize
 where
     H::Dir: Send,
-    requires inside { are_in_place script.now.workers InBulk (drop from (command_list script.now)) ≡ true }
-    requires workers { load.old.bulk.sizes.workers ≡ script.now.workers }
-    requires fits { length script.now.commands < 2 ^ 64 }
-    requires batch { IsNewBatch most (vec_capacity lines.old) lines.old.items }
+    requires open { IsOpenAt world.now.script.now at InBulk }
+    requires workers { load.old.bulk.sizes.workers ≡ world.now.script.now.workers }
+    requires no_line { lines.old.items.items ≡ [] }
     requires going { All IsGoing load.old.passes }
-    ensures next { All IsGoing load.new.passes → result ≡ from + length (up_to_end (drop from (command_list script.now))) }
-    ensures all { All IsGoing load.new.passes → (queue : Holding Pair) → InSession S.shown queue [] load.old → InSession S.shown queue (pushed_in (up_to_end (drop from (command_list script.now)))) load.new }
-    ensures some { (queue : Holding Pair) → InSession S.shown queue [] load.old → (given : List Pair) × (InSession S.shown queue given load.new × (length given ≤ length (pushed_in (up_to_end (drop from (command_list script.now)))))) }
+    ensures next { All IsGoing load.new.passes → result ≡ (at + 1) + length (up_to_end (drop (at + 1) (command_list world.now.script.now))) }
+    ensures all { All IsGoing load.new.passes → (queue : Holding Pair) → InSession S.shown queue [] load.old → InSession S.shown queue (pushed_in (up_to_end (drop (at + 1) (command_list world.now.script.now)))) load.new }
+    ensures some { (queue : Holding Pair) → InSession S.shown queue [] load.old → (given : List Pair) × (InSession S.shown queue given load.new × (length given ≤ length (pushed_in (up_to_end (drop (at + 1) (command_list world.now.script.now)))))) }
 {
-    let mut place = from;
+    let script = world.script;
+    let first = at + 1;
+    let mut place = first;
     'lines: while let Some(line) = push_at(script, place) {
-        if !make_room(rt, load, lines, most, gate) {
+        if !make_room(world, load, lines) {
             return place;
         }
-        lines.push_reserved(line);
+        lines.items.push_reserved(line);
         place += 1;
     }
-    load.push(rt, lines.as_slice(), gate);
+    load.push(world.rt, lines.items.as_slice(), world.gate);
     place + 1
 }
 
@@ -109,47 +100,32 @@ fn behind(ended: Result<(), QueueFault>, next: usize) -> Result<usize, Stop>
     }
 }
 
-// Runs the bulk session that begins at this place: its lines go to the passes in batches of at most `most`,
-// and the queue has their records at the end. It gives the queue back, and the place behind the session.
-pub fn run_bulk<H: Host, S: Slot + Send + Sync, G: Gate>(
-    rt: &H,
-    alloc: Global,
-    script: &Script,
-    place: usize,
-    most: u32,
-    queue: Queue<S, Pair>,
-    gate: &G,
-) -> (Queue<S, Pair>, Result<usize, Stop>)
-where
-    H::Dir: Send,
-    requires open { IsOpenAt script.now place InBulk }
-    requires workers { script.now.workers ≡ queue.sizes.workers }
-    requires most { most ≡ batch_of queue.sizes }
-    ensures next { IfOk result.1 (λ next. next ≡ (place + 1) + length (up_to_end (drop (place + 1) (command_list script.now)))) }
-    ensures bag { OnOk result.1 (AllTell queue.slots → IsSameBag result.0.bag (pushed_in (up_to_end (drop (place + 1) (command_list script.now))) ++ queue.bag)) }
-    ensures adds { OnOk result.1 (Adds queue result.0 (length (pushed_in (up_to_end (drop (place + 1) (command_list script.now)))))) }
-    ensures refused { IfErr result.1 (StopsFor (max queue.peak (queue.size + length (pushed_in (up_to_end (drop (place + 1) (command_list script.now)))))) queue.sizes queue.limited result.0.slots) }
-    ensures by_session { IfErr result.1 IsBySession }
-    ensures kept { Keeps queue result.0 }
-{
-    queue.known();
-    let Ok(mut lines) = Vec::with_capacity(alloc, most as usize) else {
-        return (queue, Err(Stop::Memory));
-    };
-    match Load::begin(rt, alloc, queue, gate) {
-        Ok(mut load) => {
-            let next = push_all(
-                rt,
-                script,
-                place + 1,
-                &mut load,
-                &mut lines,
-                most as usize,
-                gate,
-            );
-            let (queue, ended) = load.end(rt, gate);
-            (queue, behind(ended, next))
+impl<S: Slot + Send + Sync> Machine<S> {
+    // Runs the bulk session that begins at this place: its lines go to the passes in batches of at most as
+    // many as a round has records, and the queue has their records at the end. It gives the machine back,
+    // and the place behind the session.
+    pub fn run_bulk<H: Host, G: Gate>(
+        self,
+        world: &World<'_, H, G>,
+        place: usize,
+    ) -> (Machine<S>, Result<usize, Stop>)
+    where
+        H::Dir: Send,
+        requires { IsTurn world.now.script.now self.queue place BulkBegin }
+        ensures { GoesAlone world.now.script.now place BulkBegin self.queue result.0.queue self.desk.gathered result.0.desk.gathered result.1 }
+    {
+        let Machine { queue, desk } = self;
+        queue.known();
+        let Ok(mut lines) = Collected::new(world.alloc, desk.list.room()) else {
+            return (Machine { queue, desk }, Err(Stop::Memory));
+        };
+        match Load::begin(world.rt, world.alloc, queue, world.gate) {
+            Ok(mut load) => {
+                let next = push_all(world, place, &mut load, &mut lines);
+                let (queue, ended) = load.end(world.rt, world.gate);
+                (Machine { queue, desk }, behind(ended, next))
+            }
+            Err((queue, fault)) => (Machine { queue, desk }, Err(stop_of(fault, 0, 0))),
         }
-        Err((queue, fault)) => (queue, Err(stop_of(fault, 0, 0))),
     }
 }

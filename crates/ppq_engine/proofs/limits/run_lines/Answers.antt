@@ -1,4 +1,4 @@
-use Rattle.std.proofs.Common.{◌≡◌, ◌<◌, ℕ, false, List, All, refl, sym, ap, ◌∙◌, subst, arith}
+use Rattle.std.proofs.Common.{◌≡◌, ◌+◌, ◌<◌, ℕ, false, List, All, refl, sym, ap, ◌∙◌, subst, arith}
 use Rattle.std.proofs.Math.Facts.{Fits-of_lt}
 use Rattle.ppq_script.specs.ppq_record.declared.pair.Pair.{Pair}
 use Rattle.ppq_script.specs.ppq_record.Pair.{pair_cmp}
@@ -14,20 +14,20 @@ use Rattle.ppq_engine.proofs.limits.run_lines.Goals as goal
 
 pub batches-init : goal.batches-init
 batches-init g c = record {
-  on = going-begin g.S.Slot.shown c.args.script.now c.args.from (g.O.Sink.told c.args.out.now) c.args.gathered.now c.args.session.now c.requires.inside c.requires.going;
+  on = going-begin g.S.Slot.shown c.args.world.now.script.now (c.args.at + 1) (g.O.Sink.told c.args.out.now) c.args.gathered.now c.args.session.now c.requires.open.inside c.requires.going;
   most = refl;
   stays = refl;
 }
 
 pub goes_on-requires : goal.goes_on-requires
-goes_on-requires g c = limit-within c.args.script.now c.args.session.now.front.limit c.batches.place c.batches.invariant.on.inside
+goes_on-requires g c = limit-within c.args.world.now.script.now c.args.session.now.front.limit c.batches.place c.batches.invariant.on.inside
 
 pub fill-place-requires-clause-inside : goal.fill-place-requires-clause-inside
 fill-place-requires-clause-inside g c = (c.args.session.now.front.limit, c.batches.invariant.on.inside)
 
 pub run-all-requires-clause-named : goal.run-all-requires-clause-named
 run-all-requires-clause-named g c κs within =
-    let script = c.args.script.now in
+    let script = c.args.world.now.script.now in
     let limit = c.args.session.now.front.limit in
     let on = c.batches.invariant.on in
     let b = c.fill-place.ensures.batch in
@@ -38,7 +38,7 @@ run-all-requires-clause-named g c κs within =
 
 pub run-all-requires-clause-above : goal.run-all-requires-clause-above
 run-all-requires-clause-above g c κs within =
-    let script = c.args.script.now in
+    let script = c.args.world.now.script.now in
     let limit = c.args.session.now.front.limit in
     let on = c.batches.invariant.on in
     let b = c.fill-place.ensures.batch in
@@ -53,10 +53,10 @@ pub returns-in_err-print-clause-broken : goal.returns-in_err-print-clause-broken
 returns-in_err-print-clause-broken g c =
     let shown = g.S.Slot.shown in
     let told = g.O.Sink.told in
-    let script = c.args.script.now in
+    let script = c.args.world.now.script.now in
     let old = c.args.session.now in
     let new = c.run-all.new.session in
-    let from = c.args.from in
+    let from = (c.args.at + 1) in
     on-err c.from_residual.result (BreaksOff shown script from (told c.args.out.now) (told c.print.new.out) c.args.gathered.now old new)
     (breaks-off shown script from (told c.args.out.now) c.args.gathered.now old c.batches.place c.fill-place.result (told c.batches.out) (told c.print.new.out) c.batches.gathered c.print.new.gathered c.batches.session new
     c.fill-place.new.self.lines c.fill-place.new.self.asks c.run-all.new.self.answers c.batches.invariant.on c.fill-place.ensures.batch c.run-all.ensures.ran c.in_err-print.ensures.part)
@@ -67,34 +67,34 @@ returns-then-not-all-clause-next g c = λ going. absurd (going-not_stopped c.run
 pub returns-then-not-all-clause-ran : goal.returns-then-not-all-clause-ran
 returns-then-not-all-clause-ran g c =
     let told = g.O.Sink.told in
-    runs-stopped g.S.Slot.shown c.args.script.now c.args.from (told c.args.out.now) c.args.gathered.now c.args.session.now c.batches.place c.fill-place.result (told c.batches.out) (told c.print.new.out) c.batches.gathered c.print.new.gathered c.batches.session c.run-all.new.session
+    runs-stopped g.S.Slot.shown c.args.world.now.script.now (c.args.at + 1) (told c.args.out.now) c.args.gathered.now c.args.session.now c.batches.place c.fill-place.result (told c.batches.out) (told c.print.new.out) c.batches.gathered c.print.new.gathered c.batches.session c.run-all.new.session
     c.fill-place.new.self.lines c.fill-place.new.self.asks c.run-all.new.self.answers c.batches.invariant.on c.fill-place.ensures.batch c.run-all.ensures.ran c.in_ok-print.ensures.text (c.run-all.ensures.stopped c.if-not-all.true)
 
 pub batches-smaller : goal.batches-smaller
 batches-smaller g c =
     let on = c.batches.invariant.on in
-    omega (arith, limit-within c.args.script.now c.args.session.now.front.limit c.batches.place on.inside, c.fill-place.ensures.moves (omega (arith, c.requires.some, c.batches.invariant.most)) (c.goes_on.ensures.on c.batches-test.true))
+    omega (arith, limit-within c.args.world.now.script.now c.args.session.now.front.limit c.batches.place on.inside, c.fill-place.ensures.moves (omega (arith, c.requires.some, c.batches.invariant.most)) (c.goes_on.ensures.on c.batches-test.true))
 
 pub batches-preserved : goal.batches-preserved
 batches-preserved g c =
     let told = g.O.Sink.told in
     record {
       on =
-          going-more g.S.Slot.shown c.args.script.now c.args.from (told c.args.out.now) c.args.gathered.now c.args.session.now c.batches.place c.fill-place.result (told c.batches.out) (told c.print.new.out) c.batches.gathered c.print.new.gathered c.batches.session c.run-all.new.session
+          going-more g.S.Slot.shown c.args.world.now.script.now (c.args.at + 1) (told c.args.out.now) c.args.gathered.now c.args.session.now c.batches.place c.fill-place.result (told c.batches.out) (told c.print.new.out) c.batches.gathered c.print.new.gathered c.batches.session c.run-all.new.session
           c.fill-place.new.self.lines c.fill-place.new.self.asks c.run-all.new.self.answers c.batches.invariant.on c.fill-place.ensures.batch c.run-all.ensures.ran c.in_ok-print.ensures.text (c.run-all.ensures.all c.if-not-all.false);
       most = ap (λ (b : BatchHolding). b.most) c.run-all.ensures.batch ∙ c.fill-place.ensures.most ∙ c.batches.invariant.most;
       stays = c.in_ok-print.ensures.cause.ok ∙ c.batches.invariant.stays;
     }
 
 pub overflow_add-result : goal.overflow_add-result
-overflow_add-result g c = Fits-of_lt (omega (arith, limit-within c.args.script.now c.args.session.now.front.limit c.batches.place c.batches.invariant.on.inside, c.requires.fits))
+overflow_add-result g c = Fits-of_lt (omega (arith, limit-within c.args.world.now.script.now c.args.session.now.front.limit c.batches.place c.batches.invariant.on.inside, c.requires.open.fits))
 
 pub returns-clause-next : goal.returns-clause-next
 returns-clause-next g c = λ going.
     let on = c.batches.invariant.on in
-    session-next c.args.script.now c.args.session.now.front.limit c.args.from c.batches.place on.forward on.lines on.inside (c.goes_on.ensures.end c.batches-test.false)
+    session-next c.args.world.now.script.now c.args.session.now.front.limit (c.args.at + 1) c.batches.place on.forward on.lines on.inside (c.goes_on.ensures.end c.batches-test.false)
 
 pub returns-clause-ran : goal.returns-clause-ran
 returns-clause-ran g c =
     let told = g.O.Sink.told in
-    runs-all g.S.Slot.shown c.args.script.now c.args.from (told c.args.out.now) c.args.gathered.now c.args.session.now c.batches.place (told c.batches.out) c.batches.gathered c.batches.session c.batches.invariant.on (c.goes_on.ensures.end c.batches-test.false)
+    runs-all g.S.Slot.shown c.args.world.now.script.now (c.args.at + 1) (told c.args.out.now) c.args.gathered.now c.args.session.now c.batches.place (told c.batches.out) c.batches.gathered c.batches.session c.batches.invariant.on (c.goes_on.ensures.end c.batches-test.false)

@@ -1,10 +1,9 @@
-use Rattle.std.proofs.Common.{◌≡◌, ◌<◌, sym, subst, arith}
+use Rattle.std.proofs.Common.{◌≡◌, arith}
 use Rattle.std.specs.Prelude.{OnOk}
-use Rattle.ppq_load.specs.ppq_budget.Sizes.{Numbers}
 use Rattle.ppq_script.specs.Reading.{command_list}
-use Rattle.ppq_engine.specs.Calls.{RunsAll, StopsRun}
+use Rattle.ppq_engine.specs.Calls.{RunsAll}
 use Rattle.ppq_engine.specs.Output.{output_of, given_of}
-use Rattle.ppq_engine.specs.Running.{SinkAfter, LibraryAfter}
+use Rattle.ppq_engine.specs.Running.{HasStopped, ChangedIn, SinkAfter, LibraryAfter}
 use Rattle.ppq_engine.proofs.Libraries.{library-stays}
 use Rattle.ppq_engine.proofs.Results.{at-ok, at-err}
 use Rattle.ppq_engine.proofs.Running.{gathered-all, gathered-part}
@@ -16,15 +15,15 @@ returns-in-Ok-put-clause-ends g c =
     let told = g.O.Sink.told in
     let put = g.O.Sink.faults in
     let faults = g.L.Library.faults in
-    let script = c.args.script.now in
-    let run = c.run_commands-queue in
+    let script = c.args.world.now.script.now in
+    let run = c.run-machine in
     let ok : (A : Type 0) → OnOk run.result.1 A → A = λ A h. at-ok run.result.1 c.in-Ok-result.field-0 A c.in-Ok-result.is h in
-    let runs = ok (RunsAll (g.L.Library.told c.args.library.now) script c.args.queue run.result.0 (told c.args.out.now) (told run.new.out) run.new.gathered) run.ensures.runs in
+    let runs = ok (RunsAll (g.L.Library.told c.args.library.now) script c.args.queue run.result.0.queue (told c.args.out.now) (told run.new.out) run.result.0.desk.gathered) run.ensures.runs in
     record {
-      part = λ tells files are. gathered-part (told c.args.out.now) (told run.new.out) (told c.put.new.out) run.new.gathered (output_of (given_of files script) (command_list script)) (runs.all tells files are) c.put.ensures.part;
+      part = λ tells files are. gathered-part (told c.args.out.now) (told run.new.out) (told c.put.new.out) run.result.0.desk.gathered (output_of (given_of files script) (command_list script)) (runs.all tells files are) c.put.ensures.part;
       says = (
         λ tells files are. record {
-          took = gathered-all (told c.args.out.now) (told run.new.out) (told c.put.new.out) run.new.gathered (output_of (given_of files script) (command_list script)) (runs.all tells files are) c.in-Ok-put.ensures.all;
+          took = gathered-all (told c.args.out.now) (told run.new.out) (told c.put.new.out) run.result.0.desk.gathered (output_of (given_of files script) (command_list script)) (runs.all tells files are) c.in-Ok-put.ensures.all;
           crest = runs.crest tells files are;
         },
         runs.least,
@@ -40,12 +39,12 @@ pub returns-in-Ok-result-clause-ends : goal.returns-in-Ok-result-clause-ends
 returns-in-Ok-result-clause-ends g c =
     let told = g.O.Sink.told in
     let put = g.O.Sink.faults in
-    let script = c.args.script.now in
-    let run = c.run_commands-queue in
+    let script = c.args.world.now.script.now in
+    let run = c.run-machine in
     let ok : (A : Type 0) → OnOk run.result.1 A → A = λ A h. at-ok run.result.1 c.in-Ok-result.field-0 A c.in-Ok-result.is h in
-    let runs = ok (RunsAll (g.L.Library.told c.args.library.now) script c.args.queue run.result.0 (told c.args.out.now) (told run.new.out) run.new.gathered) run.ensures.runs in
+    let runs = ok (RunsAll (g.L.Library.told c.args.library.now) script c.args.queue run.result.0.queue (told c.args.out.now) (told run.new.out) run.result.0.desk.gathered) run.ensures.runs in
     record {
-      part = λ tells files are. gathered-part (told c.args.out.now) (told run.new.out) (told c.put.new.out) run.new.gathered (output_of (given_of files script) (command_list script)) (runs.all tells files are) c.put.ensures.part;
+      part = λ tells files are. gathered-part (told c.args.out.now) (told run.new.out) (told c.put.new.out) run.result.0.desk.gathered (output_of (given_of files script) (command_list script)) (runs.all tells files are) c.put.ensures.part;
       says = omega (arith, ok (put run.new.out ≡ put c.args.out.now) run.ensures.sink.stays, c.in-Err-put.ensures.cause.failed);
       file = tt;
     }
@@ -56,27 +55,28 @@ returns-clause-ends g c =
     let faults = g.O.Sink.faults in
     let library = g.L.Library.faults in
     let files = g.L.Library.told c.args.library.now in
-    let script = c.args.script.now in
+    let script = c.args.world.now.script.now in
     let queue = c.args.queue in
     let stop = c.in-Err.stop in
-    let run = c.run_commands-queue in
+    let run = c.run-machine in
     let before = told c.args.out.now in
     let mid = told run.new.out in
     let now = told c.put_stopped.new.out in
     let sink_mid = faults run.new.out in
     let sink_now = faults c.put_stopped.new.out in
-    let slots = run.result.0.slots in
+    let slots = run.result.0.queue.slots in
     let over = c.put_stopped.result in
     let puts = c.put_stopped.ensures.puts in
-    let why = at-err run.result.1 stop (StopsRun files (g.L.Library.replied run.new.library) script queue run.result.0 before mid run.new.gathered) c.in-Err.is run.ensures.stopped in
+    let replied = g.L.Library.replied run.new.library in
+    let why = at-err run.result.1 stop (HasStopped files script queue.slots before mid run.result.0.desk.gathered queue.sizes slots) c.in-Err.is run.ensures.stopped in
     record {
-      part = part-stopped files script queue.slots before stop mid now sink_mid sink_now run.new.gathered queue.sizes slots over why.why puts;
+      part = part-stopped files script queue.slots before stop mid now sink_mid sink_now run.result.0.desk.gathered queue.sizes slots over why puts;
       says =
-          says-stopped files script queue.slots before stop (g.L.Library.replied run.new.library) slots queue.sizes mid now (faults c.args.out.now) sink_mid sink_now (library c.args.library.now) (library run.new.library) run.new.gathered over
-          (let P : Numbers → Type 0 = λ n. 0 < n.block in subst P (sym c.requires.sizes) (omega (arith, c.batch.ensures.range.two_records))) why.why why.changed (at-err run.result.1 stop (SinkAfter (faults c.args.out.now) sink_mid) c.in-Err.is run.ensures.sink.cause)
+          says-stopped files script queue.slots before stop replied slots queue.sizes mid now (faults c.args.out.now) sink_mid sink_now (library c.args.library.now) (library run.new.library) run.result.0.desk.gathered over
+          (omega (arith, c.known.ensures.range.two_records)) why (at-err run.result.1 stop (ChangedIn files replied script) c.in-Err.is run.ensures.library.changed) (at-err run.result.1 stop (SinkAfter (faults c.args.out.now) sink_mid) c.in-Err.is run.ensures.sink.cause)
           (at-err run.result.1 stop (LibraryAfter (library c.args.library.now) (library run.new.library)) c.in-Err.is run.ensures.library.cause) puts;
-      file = before-stopped files script queue.slots before stop mid now sink_mid sink_now run.new.gathered queue.sizes slots over why.why puts;
+      file = before-stopped files script queue.slots before stop mid now sink_mid sink_now run.result.0.desk.gathered queue.sizes slots over why puts;
     }
 
 pub returns-in-Ok-result-clause-library : goal.returns-in-Ok-result-clause-library
-returns-in-Ok-result-clause-library g c = library-stays c.run_commands-queue.ensures.library
+returns-in-Ok-result-clause-library g c = library-stays c.run-machine.ensures.library

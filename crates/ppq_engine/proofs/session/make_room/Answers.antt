@@ -5,8 +5,8 @@ use Rattle.ppq_load.specs.ppq_session.Dealing.{records_in}
 use Rattle.ppq_load.specs.Loading.{InSession}
 use Rattle.ppq_engine.proofs.session.make_room.Goals as goal
 
-pub returns-then-len-most-clause-given : goal.returns-then-len-most-clause-given
-returns-then-len-most-clause-given g c = record {
+pub returns-then-len-lines-clause-given : goal.returns-then-len-lines-clause-given
+returns-then-len-lines-clause-given g c = record {
   given = [];
   all = refl;
   session = λ queue records s. let P : List Pair → Type 0 = λ rs. InSession g.S.Slot.shown queue rs c.args.load.now in subst P (sym (append-nil records)) s;
@@ -15,7 +15,7 @@ returns-then-len-most-clause-given g c = record {
 
 pub returns-clause-given : goal.returns-clause-given
 returns-clause-given g c =
-    let lines = c.args.lines.now.items in
+    let lines = c.args.lines.now.items.items in
     record {
       given = records_in lines;
       all = sym (append-nil (records_in lines)) ∙ ap (λ (ls : List (Line Pair)). records_in lines ++ records_in ls) (sym c.clear.ensures.items);

@@ -5,24 +5,25 @@ use Rattle.ppq_script.specs.ppq_record.Bag.{IsSameBag, ascending}
 use Rattle.ppq_engine.specs.Gathers.{IsSummary}
 use Rattle.ppq_engine.proofs.Popped.{left-begin, round-left, round-taken, round-ends}
 use Rattle.ppq_engine.proofs.Kept.{Keeps-refl, Keeps-trans}
-use Rattle.ppq_engine.proofs.pop.drain.Goals as goal
+use Rattle.ppq_engine.proofs.machine.Machine.drain.Goals as goal
 
 pub rounds-init : goal.rounds-init
 rounds-init g c = record {
-  left = λ tells. left-begin c.args.queue.now.bag;
+  left = λ tells. left-begin c.args.self.now.queue.bag;
   summary = λ tells. c.nothing-drained.ensures;
   count = c.nothing-drained.ensures.count;
   within = omega arith;
   size = omega arith;
-  sound = c.requires.ready.sound;
+  sound = c.requires;
   peak = omega arith;
-  kept = Keeps-refl c.args.queue.now;
-  list = refl;
+  kept = Keeps-refl c.args.self.now.queue;
+  gathered = refl;
 }
 
 pub returns-in_err-pop_round-clause-called : goal.returns-in_err-pop_round-clause-called
 returns-in_err-pop_round-clause-called g c = record {
-  kept = Keeps-trans c.args.queue.now c.rounds.queue c.pop_round.new.queue c.rounds.invariant.kept c.pop_round.ensures.called.kept;
+  kept = Keeps-trans c.args.self.now.queue c.rounds.self.queue c.pop_round.new.self.queue c.rounds.invariant.kept c.pop_round.ensures.called.kept;
+  gathered = c.pop_round.ensures.called.gathered ∙ c.rounds.invariant.gathered;
   peak = omega (arith, c.rounds.invariant.peak, c.pop_round.ensures.called.peak);
   refused = search rules;
 }
@@ -30,7 +31,7 @@ returns-in_err-pop_round-clause-called g c = record {
 pub returns-then-is_empty-clause-summary : goal.returns-then-is_empty-clause-summary
 returns-then-is_empty-clause-summary g c = λ tells.
     let here = c.rounds.invariant.kept.tells tells in
-    let all = round-ends None c.rounds.queue.bag c.pop_round.new.queue.bag c.args.queue.now.bag c.pop_round.new.list.items c.rounds.done c.args.count (c.args.count - c.rounds.done) (c.if-is_empty.ensures.0 refl) (c.rounds.invariant.left tells) (c.in_ok-pop_round.ensures.popped.round here) c.rounds.invariant.within in
+    let all = round-ends None c.rounds.self.queue.bag c.pop_round.new.self.queue.bag c.args.self.now.queue.bag c.pop_round.new.self.desk.list.items c.rounds.done c.args.count (c.args.count - c.rounds.done) (c.if-is_empty.ensures.0 refl) (c.rounds.invariant.left tells) (c.in_ok-pop_round.ensures.popped.round here) c.rounds.invariant.within in
     let P : List Pair → Type 0 = λ items. IsSummary items c.rounds.drained in
     subst P (sym all.0) (c.rounds.invariant.summary tells)
 
@@ -41,7 +42,7 @@ returns-then-is_empty-clause-left g c =
     record {
       bag =
           λ tells.
-          (round-ends None c.rounds.queue.bag c.pop_round.new.queue.bag c.args.queue.now.bag c.pop_round.new.list.items c.rounds.done c.args.count (c.args.count - c.rounds.done) none (c.rounds.invariant.left tells) (popped.round (c.rounds.invariant.kept.tells tells)) c.rounds.invariant.within).1;
+          (round-ends None c.rounds.self.queue.bag c.pop_round.new.self.queue.bag c.args.self.now.queue.bag c.pop_round.new.self.desk.list.items c.rounds.done c.args.count (c.args.count - c.rounds.done) none (c.rounds.invariant.left tells) (popped.round (c.rounds.invariant.kept.tells tells)) c.rounds.invariant.within).1;
       low = omega (arith, c.rounds.invariant.size, c.rounds.invariant.within, popped.size, popped.end refl none);
       high = omega (arith, c.rounds.invariant.size, c.rounds.invariant.within, popped.size, popped.end refl none);
       sound = popped.sound;
@@ -49,18 +50,19 @@ returns-then-is_empty-clause-left g c =
 
 pub returns-then-is_empty-clause-called : goal.returns-then-is_empty-clause-called
 returns-then-is_empty-clause-called g c = record {
-  kept = Keeps-trans c.args.queue.now c.rounds.queue c.pop_round.new.queue c.rounds.invariant.kept c.pop_round.ensures.called.kept;
+  kept = Keeps-trans c.args.self.now.queue c.rounds.self.queue c.pop_round.new.self.queue c.rounds.invariant.kept c.pop_round.ensures.called.kept;
+  gathered = c.pop_round.ensures.called.gathered ∙ c.rounds.invariant.gathered;
   peak = omega (arith, c.rounds.invariant.peak, c.pop_round.ensures.called.peak);
   refused = tt;
 }
 
 pub rounds-preserved : goal.rounds-preserved
 rounds-preserved g c =
-    let old = c.args.queue.now.bag in
+    let old = c.args.self.now.queue.bag in
     let asc = ascending pair_cmp old in
-    let bag = c.rounds.queue.bag in
-    let next = c.pop_round.new.queue.bag in
-    let items = c.pop_round.new.list.items in
+    let bag = c.rounds.self.queue.bag in
+    let next = c.pop_round.new.self.queue.bag in
+    let items = c.pop_round.new.self.desk.list.items in
     let done = c.rounds.done in
     let left = c.args.count - done in
     let v = c.rounds.invariant in
@@ -84,13 +86,13 @@ rounds-preserved g c =
       size = omega (arith, sum, popped.size, v.size);
       sound = popped.sound;
       peak = omega (arith, c.pop_round.ensures.called.peak, v.peak);
-      kept = Keeps-trans c.args.queue.now c.rounds.queue c.pop_round.new.queue v.kept c.pop_round.ensures.called.kept;
-      list = c.pop_round.ensures.room ∙ v.list;
+      kept = Keeps-trans c.args.self.now.queue c.rounds.self.queue c.pop_round.new.self.queue v.kept c.pop_round.ensures.called.kept;
+      gathered = c.pop_round.ensures.called.gathered ∙ v.gathered;
     }
 
 pub returns-clause-summary : goal.returns-clause-summary
 returns-clause-summary g c = λ tells.
-    let P : ℕ → Type 0 = λ n. IsSummary (take n (ascending pair_cmp c.args.queue.now.bag)) c.rounds.drained in
+    let P : ℕ → Type 0 = λ n. IsSummary (take n (ascending pair_cmp c.args.self.now.queue.bag)) c.rounds.drained in
     let all : c.rounds.done ≡ c.args.count = omega (arith, c.rounds.invariant.within) in
     subst P all (c.rounds.invariant.summary tells)
 
@@ -98,7 +100,7 @@ pub returns-clause-left : goal.returns-clause-left
 returns-clause-left g c =
     let all : c.rounds.done ≡ c.args.count = omega (arith, c.rounds.invariant.within) in
     record {
-      bag = λ tells. let P : ℕ → Type 0 = λ n. IsSameBag c.rounds.queue.bag (drop n (ascending pair_cmp c.args.queue.now.bag)) in subst P all (c.rounds.invariant.left tells);
+      bag = λ tells. let P : ℕ → Type 0 = λ n. IsSameBag c.rounds.self.queue.bag (drop n (ascending pair_cmp c.args.self.now.queue.bag)) in subst P all (c.rounds.invariant.left tells);
       low = omega (arith, c.rounds.invariant.size, all);
       high = omega (arith, c.rounds.invariant.size, all);
       sound = c.rounds.invariant.sound;

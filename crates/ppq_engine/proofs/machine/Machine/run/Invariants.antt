@@ -7,23 +7,21 @@ use Rattle.ppq_load.specs.Refusal.{Keeps}
 use Rattle.ppq_engine.specs.Calls.{LibraryStays}
 use Rattle.ppq_engine.specs.Output.{AreFilesOf, given_of}
 use Rattle.ppq_engine.specs.Running.{HasRun, HasSizes, behind_part}
-use Rattle.ppq_engine.specs.Files.{IsReadInScript}
 use Rattle.ppq_engine.proofs.Lines.{session_from}
-use Rattle.ppq_engine.proofs.run.run_commands.Given as goal
+use Rattle.ppq_engine.proofs.machine.Machine.run.Given as goal
 
 abbrev pub invariant-commands : goal.invariant-commands
 invariant-commands g l = record {
   run :
-      AllTell l.fn.queue.slots → (files : List ℕ → Option (List ℕ)) → AreFilesOf (g.L.Library.told l.fn.library) l.script files
-      → HasRun (given_of files l.script) (g.O.Sink.told l.fn.out) (g.O.Sink.told l.out) l.gathered l.queue.bag l.queue.size l.queue.peak l.fn.queue.sizes l.queue.slots (take l.place (command_list l.script));
-  has : HasSizes l.queue.size l.queue.peak l.fn.queue.sizes l.queue.slots (take l.place (command_list l.script));
+      AllTell l.fn.self.queue.slots → (files : List ℕ → Option (List ℕ)) → AreFilesOf (g.L.Library.told l.fn.library) l.script files
+      → HasRun (given_of files l.script) (g.O.Sink.told l.fn.out) (g.O.Sink.told l.out) l.machine.desk.gathered l.machine.queue.bag l.machine.queue.size l.machine.queue.peak l.fn.self.queue.sizes l.machine.queue.slots (take l.place (command_list l.script));
+  has : HasSizes l.machine.queue.size l.machine.queue.peak l.fn.self.queue.sizes l.machine.queue.slots (take l.place (command_list l.script));
   closed : session_from Outside (take l.place (command_list l.script)) ≡ Outside;
   within : l.place ≤ length l.script.commands;
   in_place : are_in_place l.script.workers Outside (drop l.place (command_list l.script)) ≡ true;
-  sound : l.queue.failed ≡ None;
-  kept : Keeps (behind_part l.fn.queue (take l.place (command_list l.script))) l.queue;
-  list : l.list.room ≡ l.fn.list.room;
-  library : LibraryStays (g.L.Library.told l.fn.library) (g.L.Library.told l.library) (g.L.Library.replied l.fn.library) (g.L.Library.replied l.library) (IsReadInScript l.script) (g.L.Library.faults l.fn.library) (g.L.Library.faults l.library);
+  sound : l.machine.queue.failed ≡ None;
+  kept : Keeps (behind_part l.fn.self.queue (take l.place (command_list l.script))) l.machine.queue;
+  library : LibraryStays (g.L.Library.told l.fn.library) (g.L.Library.told l.library) (g.L.Library.replied l.fn.library) (g.L.Library.replied l.library) l.script (g.L.Library.faults l.fn.library) (g.L.Library.faults l.library);
   library_stays : g.L.Library.faults l.library ≡ g.L.Library.faults l.fn.library;
   stays : g.O.Sink.faults l.out ≡ g.O.Sink.faults l.fn.out;
 }

@@ -6,19 +6,18 @@ use Rattle.ppq_engine.specs.Output.{lines_text}
 use Rattle.ppq_engine.specs.Gathers.{Gathers}
 use Rattle.ppq_engine.specs.Popping.{popped_count}
 use Rattle.ppq_load.specs.Refusal.{Keeps}
-use Rattle.ppq_engine.proofs.pop.print_popped.Given as goal
+use Rattle.ppq_engine.proofs.machine.Machine.print_popped.Given as goal
 
 abbrev pub invariant-rounds : goal.invariant-rounds
 invariant-rounds g l = record {
-  left : AllTell l.fn.queue.slots → IsSameBag l.queue.bag (drop l.done (ascending pair_cmp l.fn.queue.bag));
-  passed : AllTell l.fn.queue.slots → l.done ≤ popped_count l.below l.fn.queue.bag l.count;
-  text : AllTell l.fn.queue.slots → Gathers (g.O.Sink.told l.fn.out) (g.O.Sink.told l.out) l.fn.gathered (lines_text (take l.done (ascending pair_cmp l.fn.queue.bag))) l.gathered;
+  left : AllTell l.fn.self.queue.slots → IsSameBag l.self.queue.bag (drop l.done (ascending pair_cmp l.fn.self.queue.bag));
+  passed : AllTell l.fn.self.queue.slots → l.done ≤ popped_count l.below l.fn.self.queue.bag l.count;
+  text : AllTell l.fn.self.queue.slots → Gathers (g.O.Sink.told l.fn.out) (g.O.Sink.told l.out) l.fn.self.desk.gathered (lines_text (take l.done (ascending pair_cmp l.fn.self.queue.bag))) l.self.desk.gathered;
   within : l.done ≤ l.count;
-  size : l.queue.size ≡ l.fn.queue.size - l.done;
-  sound : l.queue.failed ≡ None;
-  peak : l.queue.peak ≤ l.fn.queue.peak;
-  kept : Keeps l.fn.queue l.queue;
-  list : l.list.room ≡ l.fn.list.room;
+  size : l.self.queue.size ≡ l.fn.self.queue.size - l.done;
+  sound : l.self.queue.failed ≡ None;
+  peak : l.self.queue.peak ≤ l.fn.self.queue.peak;
+  kept : Keeps l.fn.self.queue l.self.queue;
   stays : g.O.Sink.faults l.out ≡ g.O.Sink.faults l.fn.out;
 }
 

@@ -4,19 +4,19 @@ use Rattle.ppq_script.specs.ppq_record.Bag.{IsSameBag, ascending}
 use Rattle.ppq_script.specs.ppq_outside.Shown.{AllTell}
 use Rattle.ppq_engine.specs.Gathers.{IsSummary}
 use Rattle.ppq_load.specs.Refusal.{Keeps}
-use Rattle.ppq_engine.proofs.pop.drain.Given as goal
+use Rattle.ppq_engine.proofs.machine.Machine.drain.Given as goal
 
 abbrev pub invariant-rounds : goal.invariant-rounds
 invariant-rounds g l = record {
-  left : AllTell l.fn.queue.slots → IsSameBag l.queue.bag (drop l.done (ascending pair_cmp l.fn.queue.bag));
-  summary : AllTell l.fn.queue.slots → IsSummary (take l.done (ascending pair_cmp l.fn.queue.bag)) l.drained;
+  left : AllTell l.fn.self.queue.slots → IsSameBag l.self.queue.bag (drop l.done (ascending pair_cmp l.fn.self.queue.bag));
+  summary : AllTell l.fn.self.queue.slots → IsSummary (take l.done (ascending pair_cmp l.fn.self.queue.bag)) l.drained;
   count : l.drained.count ≡ l.done;
   within : l.done ≤ l.count;
-  size : l.queue.size ≡ l.fn.queue.size - l.done;
-  sound : l.queue.failed ≡ None;
-  peak : l.queue.peak ≤ l.fn.queue.peak;
-  kept : Keeps l.fn.queue l.queue;
-  list : l.list.room ≡ l.fn.list.room;
+  size : l.self.queue.size ≡ l.fn.self.queue.size - l.done;
+  sound : l.self.queue.failed ≡ None;
+  peak : l.self.queue.peak ≤ l.fn.self.queue.peak;
+  kept : Keeps l.fn.self.queue l.self.queue;
+  gathered : l.self.desk.gathered ≡ l.fn.self.desk.gathered;
 }
 
 abbrev pub decreases-rounds : goal.decreases-rounds

@@ -1,0 +1,38 @@
+//! What commands work with beside the queue.
+ghost use Rattle.std.specs.Prelude.{◌≡◌, ◌≤◌, [], length, IfOk};
+ghost use Rattle.ppq_load.specs.ppq_budget.Sizes.{batch_of};
+
+use crate::gathered::Gathered;
+use ppq_load::{Out, Sizes};
+use ppq_script::{Memory, Pair};
+use std::alloc::Global;
+
+// What commands work with beside the queue. The memory for all of it is taken once.
+#[derive(Drop)]
+pub struct Desk {
+    // The records of a round of a pop.
+    pub list: Out<Pair>,
+    // What was printed and not yet put.
+    pub gathered: Gathered,
+    // A piece of a file.
+    pub room: Vec<u8>,
+}
+
+impl Desk {
+    // An empty desk, for a queue of these sizes.
+    pub fn new(alloc: Global, sizes: &Sizes) -> Result<Desk, Memory>
+        ensures gathered { IfOk result (λ desk. desk.gathered ≡ []) }
+        ensures list { IfOk result (λ desk. desk.list.room ≡ batch_of sizes.now) }
+        ensures room { IfOk result (λ desk. 16 ≤ length desk.room.items) }
+    {
+        let gathered = Gathered::new(alloc)?;
+        let list = Out::new(alloc, sizes)?;
+        let bytes = sizes.batch() as usize * 16;
+        let room = vec![in alloc; 0u8; bytes]?;
+        Ok(Desk {
+            list,
+            gathered,
+            room,
+        })
+    }
+}
