@@ -91,7 +91,7 @@ impl<S: Slot + Send + Sync> Machine<S> {
     ) -> (Machine<S>, Result<usize, Stop>)
     where
         H::Dir: Send,
-        requires { IsTurn world.now.script.now self.queue place (LimitBegin limit) }
+        requires turn { IsTurn world.now.script.now self.queue place (LimitBegin limit) }
         ensures goes { (files : Option (List ℕ → Option (List ℕ))) → Goes files world.now.script.now place (LimitBegin limit) (O.told out.old) (O.told out.new) self.queue result.0.queue self.desk.gathered result.0.desk.gathered result.1 }
         ensures by_limit { IfErr result.1 IsByLimit }
         ensures sink { SinkCounts (O.faults out.old) (O.faults out.new) result.1 }

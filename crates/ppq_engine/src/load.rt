@@ -56,7 +56,7 @@ impl<S: Slot + Send + Sync> Machine<S> {
     ) -> (Machine<S>, Result<usize, Stop>)
     where
         H::Dir: Send,
-        requires { IsTurn world.now.script.now self.queue place (Gen seed count) }
+        requires turn { IsTurn world.now.script.now self.queue place (Gen seed count) }
         ensures { GoesAlone world.now.script.now place (Gen seed count) self.queue result.0.queue self.desk.gathered result.0.desk.gathered result.1 }
     {
         let Machine { queue, desk } = self;

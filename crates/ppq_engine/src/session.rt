@@ -111,7 +111,7 @@ impl<S: Slot + Send + Sync> Machine<S> {
     ) -> (Machine<S>, Result<usize, Stop>)
     where
         H::Dir: Send,
-        requires { IsTurn world.now.script.now self.queue place BulkBegin }
+        requires turn { IsTurn world.now.script.now self.queue place BulkBegin }
         ensures { GoesAlone world.now.script.now place BulkBegin self.queue result.0.queue self.desk.gathered result.0.desk.gathered result.1 }
     {
         let Machine { queue, desk } = self;

@@ -18,17 +18,17 @@ use Rattle.ppq_engine.proofs.Turns.{library-unasked, adds-sink, step-sink, step-
 use Rattle.ppq_engine.proofs.machine.Machine.advance.Given as given
 use Rattle.ppq_engine.proofs.machine.Machine.advance.Goals as goal
 
-pub run_bulk-requires : goal.run_bulk-requires
-run_bulk-requires g c = subst (IsTurn c.args.world.now.script.now c.args.self.queue c.args.place) c.in-BulkBegin.is c.requires.turn
+pub run_bulk-requires-clause-turn : goal.run_bulk-requires-clause-turn
+run_bulk-requires-clause-turn g c κs within = subst (IsTurn c.args.world.now.script.now c.args.self.queue c.args.place) c.in-BulkBegin.is c.requires.turn
 
-pub run_limit-requires : goal.run_limit-requires
-run_limit-requires g c = subst (IsTurn c.args.world.now.script.now c.args.self.queue c.args.place) c.in-LimitBegin.is c.requires.turn
+pub run_limit-requires-clause-turn : goal.run_limit-requires-clause-turn
+run_limit-requires-clause-turn g c κs within = subst (IsTurn c.args.world.now.script.now c.args.self.queue c.args.place) c.in-LimitBegin.is c.requires.turn
 
 pub push_file-requires-clause-turn : goal.push_file-requires-clause-turn
 push_file-requires-clause-turn g c κs within = subst (IsTurn c.args.world.now.script.now c.args.self.queue c.args.place) c.in-Bulk.is c.requires.turn
 
-pub push_generated-requires : goal.push_generated-requires
-push_generated-requires g c = subst (IsTurn c.args.world.now.script.now c.args.self.queue c.args.place) c.in-Gen.is c.requires.turn
+pub push_generated-requires-clause-turn : goal.push_generated-requires-clause-turn
+push_generated-requires-clause-turn g c κs within = subst (IsTurn c.args.world.now.script.now c.args.self.queue c.args.place) c.in-Gen.is c.requires.turn
 
 pub returns-in-BulkBegin : goal.returns-in-BulkBegin
 returns-in-BulkBegin g c =

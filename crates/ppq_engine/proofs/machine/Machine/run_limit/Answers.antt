@@ -25,7 +25,7 @@ returns-in_default g c =
     let faults = g.O.Sink.faults c.args.out.now in
     let had = c.args.self.desk.gathered in
     record {
-      goes = limit-goes c.args.world.now.script.now c.args.place c.args.limit queue queue c.requires told told had had _ tt tt tt (λ tells. gathers-nothing told had) (SameSlots-refl queue.slots);
+      goes = limit-goes c.args.world.now.script.now c.args.place c.args.limit queue queue c.requires.turn told told had had _ tt tt tt (λ tells. gathers-nothing told had) (SameSlots-refl queue.slots);
       by_limit = tt;
       sink = record { later = omega arith; stays = tt; cause = refl };
     }
@@ -34,10 +34,10 @@ pub run_lines-ran-requires-clause-open : goal.run_lines-ran-requires-clause-open
 run_lines-ran-requires-clause-open g c κs within =
     let script = c.args.world.now.script.now in
     let P : Pair → Type 0 = λ l. IsOpenAt script c.args.place (InLimit l) in
-    subst P (sym c.in-Ok-begin.ensures.session.limit_is) (turn-limit script c.args.self.queue c.args.place (LimitBegin c.args.limit) c.requires c.args.limit refl).0
+    subst P (sym c.in-Ok-begin.ensures.session.limit_is) (turn-limit script c.args.self.queue c.args.place (LimitBegin c.args.limit) c.requires.turn c.args.limit refl).0
 
 pub run_lines-ran-requires-clause-workers : goal.run_lines-ran-requires-clause-workers
-run_lines-ran-requires-clause-workers g c κs within = c.requires.workers ∙ ap (λ (n : Numbers). n.workers) (sym c.in-Ok-begin.ensures.session.sizes)
+run_lines-ran-requires-clause-workers g c κs within = c.requires.turn.workers ∙ ap (λ (n : Numbers). n.workers) (sym c.in-Ok-begin.ensures.session.sizes)
 
 pub run_lines-ran-requires-clause-going : goal.run_lines-ran-requires-clause-going
 run_lines-ran-requires-clause-going g c κs within = c.in-Ok-begin.ensures.going
@@ -59,7 +59,7 @@ invariant_of-result-in-Ok-begin g c =
     let ended = c.end-queue.result.1 in
     let run : SessionRan g.S.Slot.shown script place queue before now had has mid limit old new ran ended = record {
       begun = c.in-Ok-begin.ensures.session;
-      open_at = (turn-limit script queue place (LimitBegin limit) c.requires limit refl).0.inside;
+      open_at = (turn-limit script queue place (LimitBegin limit) c.requires.turn limit refl).0.inside;
       lines = c.run_lines-ran.ensures.ran;
       broken = c.run_lines-ran.ensures.broken;
       going = c.end-queue.ensures.all;
@@ -91,7 +91,7 @@ returns-in-Ok-begin g c =
     let cause = c.run_lines-ran.ensures.cause in
     let run : SessionRan shown script place queue before now had has mid limit old new ran ended = record {
       begun = c.in-Ok-begin.ensures.session;
-      open_at = (turn-limit script queue place (LimitBegin limit) c.requires limit refl).0.inside;
+      open_at = (turn-limit script queue place (LimitBegin limit) c.requires.turn limit refl).0.inside;
       lines = c.run_lines-ran.ensures.ran;
       broken = c.run_lines-ran.ensures.broken;
       going = c.end-queue.ensures.all;
@@ -100,7 +100,7 @@ returns-in-Ok-begin g c =
     } in
     record {
       goes =
-          limit-goes script place limit queue new c.requires before now had has s (ended-next ran ended s e (AreGoing mid) ((place + 1) + length (up_to_end (drop (place + 1) (command_list script)))) c.run_lines-ran.ensures.next c.end-queue.ensures.all)
+          limit-goes script place limit queue new c.requires.turn before now had has s (ended-next ran ended s e (AreGoing mid) ((place + 1) + length (up_to_end (drop (place + 1) (command_list script)))) c.run_lines-ran.ensures.next c.end-queue.ensures.all)
           (ended-runs shown script place queue before now had has mid limit old new ran ended s e run) (ended-by_limit ran ended s e) (ended-stopped shown script place queue before now had has mid limit old new ran ended s e run)
           (ended-kept shown script place queue before now had has mid limit old new ran ended run).slots;
       by_limit = ended-by_limit ran ended s e;
@@ -124,7 +124,7 @@ returns g c =
     let by_limit = subst IsByLimit same (session-by_limit stop by) in
     let stopped = subst P same (begin-stopped told had queue new.slots c.args.limit body stop (omega (arith, c.known.ensures.range.two_records)) (stop-refused queue.peak queue.sizes true new.slots 0 0 c.in-Err.fault c.in-Err.ensures.refused) by) in
     record {
-      goes = limit-goes script c.args.place c.args.limit queue new c.requires told told had had _ tt tt by_limit stopped c.in-Err.ensures.kept.slots;
+      goes = limit-goes script c.args.place c.args.limit queue new c.requires.turn told told had had _ tt tt by_limit stopped c.in-Err.ensures.kept.slots;
       by_limit = by_limit;
       sink = record { later = omega arith; stays = tt; cause = subst Q same (session-cause faults stop by) };
     }
