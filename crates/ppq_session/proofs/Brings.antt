@@ -1,10 +1,10 @@
 -- Passes that come back, one after the other.
-use Rattle.std.proofs.Common.{◌≡◌, ℕ, List, [], ◌++◌, reverse, refl, sym, ap, ap₂, ◌∙◌, arith, append-nil, append_assoc, length-append}
+use Rattle.std.proofs.Common.{◌≡◌, ℕ, List, [], ◌++◌, reverse, All, map, ◌∷◌, refl, sym, ap, ap₂, ◌∙◌, subst, arith, append-nil, append_assoc, length-append}
 use Rattle.std.specs.Prelude.{flat_map, true}
 use Rattle.std.specs.declared.cmp.Ordering.{Ordering}
 use Rattle.std.proofs.lemmas.Grind.{flat_map-append}
-use Rattle.std.proofs.lemmas.List.{map-append}
-use Rattle.std.proofs.lemmas.List.Elements.{All-nil, All-append}
+use Rattle.std.proofs.lemmas.List.{map-append, reverse-append}
+use Rattle.std.proofs.lemmas.List.Elements.{All-nil, All-cons, All-append}
 use Rattle.ppq_pass.specs.ppq_budget.Sizes.{Numbers}
 use Rattle.ppq_pass.specs.ppq_outside.Shown.{Shown}
 use Rattle.ppq_pass.specs.Passed.{PassHolding}
@@ -14,12 +14,6 @@ use Rattle.ppq_session.specs.declared.brought.Brought.{Brought}
 use Rattle.ppq_session.specs.declared.parts.BulkParts.{BulkParts}
 
 module _ {S R : Type 0} (shown : S → Shown) (record_of : List ℕ → R) (width : ℕ) (n : Numbers) (cmp : R → R → Ordering) where
-  -- of all passes these are to come, and the others came
-  pub record Came (all left : List (PassHolding S R)) (old new : BulkParts S R) : Type 0 where
-    pub came : List (PassHolding S R)
-    pub all_are : reverse all ≡ came ++ reverse left
-    pub is : BroughtAll shown record_of width n cmp came old new
-
   abbrev noted_in : BulkParts S R → Brought S R → Type 0
   noted_in q one = one.kept.value.row_seat.hand.noted ≡ true → q.row_seat.hand.noted ≡ true
 
@@ -73,3 +67,27 @@ module _ {S R : Type 0} (shown : S → Shown) (record_of : List ℕ → R) (widt
         numbers = two.numbers ∙ ap (λ l. l ++ numbers_in two.brought) one.numbers ∙ append_assoc a.pool_seat.hand.numbers (numbers_in one.brought) (numbers_in two.brought) ∙ ap (λ l. a.pool_seat.hand.numbers ++ l) (sym (flat_map-append (λ (x : Brought S R). x.kept.value.pool_seat.hand.numbers) one.brought two.brought));
         rest = two.rest ∙ ap (with_seats c) one.rest;
       }
+
+  module _ {X : Type 0} (pass_in : X → PassHolding S R) (Kept : X → Type 0) where
+    -- of all passes these are to come, and the others came
+    pub record Came (all left : List X) (old new : BulkParts S R) : Type 0 where
+      pub came : List X
+      pub parts : all ≡ left ++ came
+      pub is : BroughtAll shown record_of width n cmp (reverse (map pass_in came)) old new
+      pub kept : All Kept came
+
+    pub came-none : (all : List X) (q : BulkParts S R) → Came all all q q
+    came-none all q = record { came = []; parts = sym (append-nil all); is = brought-none q; kept = All-nil Kept }
+
+    pub came-more :
+        (all left : List X) (p : X) (pass : PassHolding S R) (a b d : BulkParts S R) → Came all (left ++ p ∷ []) a b → pass ≡ pass_in p → Kept p
+        → BroughtAll shown record_of width n cmp (pass ∷ []) b d → Came all left a d
+    came-more all left p pass a b d i same kept one =
+        record {
+          came = p ∷ i.came;
+          parts = i.parts ∙ append_assoc left (p ∷ []) i.came;
+          is =
+              subst (λ l. BroughtAll shown record_of width n cmp l a d) (sym (reverse-append (pass_in p ∷ []) (map pass_in i.came)))
+              (brought-then (reverse (map pass_in i.came)) (pass_in p ∷ []) a b d i.is (subst (λ x. BroughtAll shown record_of width n cmp (x ∷ []) b d) same one));
+          kept = All-cons Kept p i.came kept i.kept;
+        }

@@ -1,4 +1,4 @@
--- Records that passes are given: one record more, a refusal, and the parts of all passes together.
+-- Records that passes are given in parts: those of all passes together.
 use Rattle.std.proofs.Common.{◌≡◌, ◌⊎◌, inl, inr, ℕ, zero, suc, ◌+◌, ◌*◌, ◌-◌, ◌<◌, ◌≤◌, true, false, Bool, List, [], ◌∷◌, ◌++◌, length, take, drop, get_or, min, Option, Some, None, refl, sym, ap, ap₂, ◌∙◌, subst, arith, length-append, length-drop, take-append-drop}
 use Rattle.std.specs.Prelude.{count_by}
 use Rattle.std.specs.List.{Any}
@@ -12,11 +12,10 @@ use Rattle.std.proofs.lemmas.Grind.{div_ceil_times}
 use Rattle.ppq_pass.specs.ppq_record.Bag.{IsSameBag}
 use Rattle.ppq_pass.proofs.ppq_record.Order.{count_by-cons, count_by-append}
 use Rattle.ppq_pass.specs.ppq_outside.Shown.{Shown}
-use Rattle.ppq_pass.specs.Passed.{PassHolding, PassTells, IsRefusedPush}
-use Rattle.ppq_pass.specs.ppq_array.declared.store_fault.StoreFault.{StoreFault as QueueFault}
-use Rattle.ppq_pass.specs.ppq_array.declared.store_fault.StoreFault.TheVariants.{NoFreeBlock, Device}
+use Rattle.ppq_pass.specs.Passed.{PassHolding, PassTells}
 use Rattle.ppq_session.specs.BulkSession.{bag_of, accepted_of}
 use Rattle.ppq_session.specs.Dealing.{IsGoing, HasEnded, Adds, EachAdds, Dealt, part_for}
+use Rattle.ppq_session.proofs.Adding.{going_or_ended}
 
 -- the part of a worker, as it is cut: within the records
 pub part_is : {X : Type 0} (xs : List X) (place part : ℕ) → take (min part (length xs - min (length xs) place)) (drop (min (length xs) place) xs) ≡ take part (drop place xs)
@@ -39,54 +38,8 @@ part_is xs place part =
           | inr long ↦ ap (λ n. take n ys) (omega arith)
         ]
 
-module _ {R : Type 0} where
-  -- one more of the records is in the bag
-  pub bag-more :
-      (records : List R) (i : ℕ) (r : R) (old mid new : List R) → i < length records → r ≡ get_or records i r → IsSameBag mid (take i records ++ old) → IsSameBag new (r ∷ mid)
-      → IsSameBag new (take (i + 1) records ++ old)
-  bag-more records i r old mid new l is so_far more p =
-      let longer : count_by p (take (i + 1) records) ≡ count_by p (take i records ++ r ∷ []) = ap (count_by p) (take_more records i r l ∙ ap (λ x. take i records ++ x ∷ []) (sym is)) in
-      omega (arith, more p, so_far p, longer, count_by-cons p r mid, count_by-cons p r [], count_by-append p (take i records) (r ∷ []), count_by-append p (take i records) old, count_by-append p (take (i + 1) records) old)
-
 module _ {S R : Type 0} where
-  -- a pass goes on, or one of its pushes was refused
-  pub going_or_ended : (pass : PassHolding S R) → IsGoing pass ⊎ HasEnded pass
-  going_or_ended pass = by (pass.refused) (pass.failed) refl refl
-    where
-      by : (refused : Bool) (failed : Option ℕ) → pass.refused ≡ refused → pass.failed ≡ failed → IsGoing pass ⊎ HasEnded pass
-      by true failed r f = inr (inl r)
-      by false None r f = inl (record { unrefused = r; sound = f })
-      by false (Some number) r f = inr (inr (number, f))
-
-  pub not_both : (pass : PassHolding S R) → IsGoing pass → HasEnded pass → ⊥
-  not_both pass going (inl refused) = let r = going.unrefused in absurd (cc)
-  not_both pass going (inr failed) = let f = going.sound in let n = failed.1 in absurd (cc)
-
-  -- what a refused push leaves
-  pub refused-ended : (old new : PassHolding S R) (fault : QueueFault) → IsRefusedPush old new fault → HasEnded new
-  refused-ended old new NoFreeBlock h = inl (ap (λ p. p.refused) h.rest)
-  refused-ended old new (Device number) h = inr (number, h.kept)
-
-  pub refused-accepted : (old new : PassHolding S R) (fault : QueueFault) → IsRefusedPush old new fault → new.accepted ≡ old.accepted
-  refused-accepted old new NoFreeBlock h = ap (λ p. p.accepted) h.rest
-  refused-accepted old new (Device number) h = h.accepted
-
   module _ (shown : S → Shown) where
-    -- a pass stopped at one of the records
-    pub adds-refused :
-        (records : List R) (i : ℕ) (first mid new : PassHolding S R) (fault : QueueFault) → i < length records → new.key ≡ first.key → (PassTells shown first → PassTells shown new)
-        → mid.accepted ≡ first.accepted + i → IsRefusedPush mid new fault → Adds shown records first new
-    adds-refused records i first mid new fault l key tells so_far refused =
-        let ended = refused-ended mid new fault refused in
-        let same = refused-accepted mid new fault refused in
-        record {
-          key = key;
-          tells = tells;
-          bag = λ going. absurd (not_both new going ended);
-          accepted = λ going. absurd (not_both new going ended);
-          fewer = λ _. omega (arith, same, so_far, l);
-        }
-
     adds-most : (records : List R) (old new : PassHolding S R) → Adds shown records old new → new.accepted ≤ old.accepted + length records
     adds-most records old new adds =
         elim (going_or_ended new) as (λ _. new.accepted ≤ old.accepted + length records) [

@@ -39,7 +39,7 @@ use Rattle.ppq_session.specs.Bringing.{BroughtAll, IsShareOf}
 use Rattle.ppq_session.proofs.Mapped.{sum-mapped, all_mapped, any_mapped}
 use Rattle.ppq_session.proofs.Together.{all_shares_of, room_for_all}
 use Rattle.ppq_session.specs.Apart.{IsJoined, SessionEnded, IsApart, IsSoundApart, GoesBefore, HasAll, EndsApart, apart_slots, apart_key}
-use Rattle.ppq_session.proofs.CameBack.{passes_of}
+use Rattle.ppq_session.specs.Batches.{passes_of}
 
 module _ {S R : Type 0} (shown : S → Shown) (width : ℕ) (q : BulkParts S R) where
   abbrev row : List Shown

@@ -6,13 +6,13 @@ pub use Rattle.ppq_queue.proofs as ppq_queue
 pub use Rattle.ppq_pass.proofs.ppq_record as ppq_record
 pub use Rattle.ppq_pass.proofs.ppq_spill as ppq_spill
 pub use Rattle.ppq_pass.proofs.ppq_table as ppq_table
+pub mod Adding
 pub mod Answered
 pub mod Begun
 pub mod Belows
 pub mod Beside
 pub mod Brings
 pub mod Bulks
-pub mod CameBack
 pub mod DealtParts
 pub mod Emptying
 pub mod Ended

@@ -1,18 +1,21 @@
--- Lines that are pushed to the passes that they name: what one pass adds, line by line, and the records of all passes together.
-use Rattle.std.proofs.Common.{◌≡◌, inl, inr, ℕ, zero, suc, ◌+◌, ◌<◌, ◌≤◌, true, false, Bool, cond, List, [], ◌∷◌, ◌++◌, All, length, take, drop, get_or, refl, sym, ap, ap₂, ◌∙◌, subst, arith, length-append, take-append-drop}
+-- Lines that are pushed to the passes that they name: the records for one pass, line by line, and those of all passes together.
+use Rattle.std.proofs.Common.{◌≡◌, inl, inr, ℕ, zero, suc, ◌+◌, ◌<◌, ◌≤◌, true, false, Bool, cond, List, [], ◌∷◌, ◌++◌, All, length, take, drop, get_or, Some, refl, sym, ap, ap₂, ◌∙◌, subst, arith, length-append, take-append-drop, Ordering}
 use Rattle.std.specs.Prelude.{count_by, ◌==◌}
-use Rattle.std.specs.List.{filter}
+use Rattle.std.specs.List.{filter, AllByRecursion as Each}
 use Rattle.std.proofs.lemmas.List.{take_more, map-append}
-use Rattle.std.proofs.lemmas.List.Elements.{filter-append, All-head, All-tail}
+use Rattle.std.proofs.lemmas.List.Elements.{filter-append, All-head, All-tail, recursion_from_All}
 use Rattle.std.proofs.lemmas.Bool.{cases_eq, eq-eqb, eqb-true}
+use Rattle.ppq_pass.specs.ppq_record.Order.{is_before}
 use Rattle.ppq_pass.specs.ppq_record.Bag.{IsSameBag}
+use Rattle.ppq_pass.specs.ppq_fetch.Taking.{NoneBelow}
+use Rattle.ppq_session.specs.Batches.{AreAbove}
 use Rattle.ppq_pass.proofs.ppq_record.Order.{count_by-cons, count_by-append, IsSameBag-length}
 use Rattle.ppq_pass.specs.ppq_outside.Shown.{Shown}
 use Rattle.ppq_pass.specs.Passed.{PassHolding}
 use Rattle.ppq_session.specs.BulkSession.{bag_of}
 use Rattle.ppq_session.specs.declared.line.Line.{Line}
 use Rattle.ppq_session.specs.Dealing.{IsGoing, HasEnded, Adds, EachAdds, Dealt, records_in, records_for}
-use Rattle.ppq_session.proofs.DealtParts.{not_both, dealt-cons, dealt-none}
+use Rattle.ppq_session.proofs.DealtParts.{dealt-cons, dealt-none}
 
 module _ {R : Type 0} where
   -- of lines in two parts
@@ -21,26 +24,39 @@ module _ {R : Type 0} where
       ap records_in (filter-append (λ line. line.pass == number) lines more) ∙ map-append (λ line. line.record) (filter (λ line. line.pass == number) lines) (filter (λ line. line.pass == number) more)
 
   -- one line more
-  records_for-more : (number : ℕ) (lines : List (Line R)) (i : ℕ) (line : Line R) → i < length lines → line ≡ get_or lines i line → records_for number (take (i + 1) lines) ≡ records_for number (take i lines) ++ records_for number (line ∷ [])
+  pub records_for-more : (number : ℕ) (lines : List (Line R)) (i : ℕ) (line : Line R) → i < length lines → line ≡ get_or lines i line → records_for number (take (i + 1) lines) ≡ records_for number (take i lines) ++ records_for number (line ∷ [])
   records_for-more number lines i line l is =
       ap (records_for number) (take_more lines i line l ∙ ap (λ x. take i lines ++ x ∷ []) (sym is)) ∙ records_for-append number (take i lines) (line ∷ [])
 
-  -- the first lines have no more records for a pass than all
-  records_for-fewer : (number : ℕ) (lines : List (Line R)) (n : ℕ) → length (records_for number (take n lines)) ≤ length (records_for number lines)
-  records_for-fewer number lines n =
-      let parts = ap (records_for number) (sym (take-append-drop n lines)) ∙ records_for-append number (take n lines) (drop n lines) in
-      omega (arith, ap length parts, length-append (records_for number (take n lines)) (records_for number (drop n lines)))
+  -- the first lines, and the rest
+  pub records_for-parts : (number : ℕ) (lines : List (Line R)) (n : ℕ) → records_for number lines ≡ records_for number (take n lines) ++ records_for number (drop n lines)
+  records_for-parts number lines n = ap (records_for number) (sym (take-append-drop n lines)) ∙ records_for-append number (take n lines) (drop n lines)
 
   -- a line that names the pass, and one that does not
-  records_for-named : (number : ℕ) (line : Line R) (lines : List (Line R)) → line.pass ≡ number → records_for number (line ∷ lines) ≡ line.record ∷ records_for number lines
+  pub records_for-named : (number : ℕ) (line : Line R) (lines : List (Line R)) → line.pass ≡ number → records_for number (line ∷ lines) ≡ line.record ∷ records_for number lines
   records_for-named number line lines e = ap (λ b. records_in (cond b (line ∷ filter (λ l. l.pass == number) lines) (filter (λ l. l.pass == number) lines))) (eq-eqb line.pass number e)
 
-  records_for-other : (number : ℕ) (line : Line R) (lines : List (Line R)) → (line.pass ≡ number → ⊥) → records_for number (line ∷ lines) ≡ records_for number lines
+  pub records_for-other : (number : ℕ) (line : Line R) (lines : List (Line R)) → (line.pass ≡ number → ⊥) → records_for number (line ∷ lines) ≡ records_for number lines
   records_for-other number line lines apart = by (line.pass == number) refl
     where
       by : (b : Bool) → (line.pass == number) ≡ b → records_for number (line ∷ lines) ≡ records_for number lines
       by true e = absurd (apart (eqb-true line.pass number e))
       by false e = ap (λ x. records_in (cond x (line ∷ filter (λ l. l.pass == number) lines) (filter (λ l. l.pass == number) lines))) e
+
+  -- where no record of the lines is below a limit, none for the pass is
+  above-for : (cmp : R → R → Ordering) (limit : R) (number : ℕ) (lines : List (Line R)) → Each (λ line. is_before cmp line.record limit ≡ false) lines → NoneBelow cmp (Some limit) (records_for number lines)
+  above-for cmp limit number [] e = tt
+  above-for cmp limit number (line ∷ lines) e = by (above-for cmp limit number lines e.1) (line.pass == number)
+    where
+      rest : List (Line R)
+      rest = filter (λ l. l.pass == number) lines
+
+      by : NoneBelow cmp (Some limit) (records_in rest) → (b : Bool) → NoneBelow cmp (Some limit) (records_in (cond b (line ∷ rest) rest))
+      by later true = (e.0, later)
+      by later false = later
+
+  pub none_below-for : (cmp : R → R → Ordering) (limit : R) (number : ℕ) (lines : List (Line R)) → AreAbove cmp limit lines → NoneBelow cmp (Some limit) (records_for number lines)
+  none_below-for cmp limit number lines above = above-for cmp limit number lines (recursion_from_All (λ line. is_before cmp line.record limit ≡ false) lines above)
 
   -- the records for so many passes, from one on
   abbrev records_from : ℕ → ℕ → List (Line R) → List R
@@ -84,49 +100,6 @@ module _ {R : Type 0} where
       omega (arith, first, rest, count_by-cons p line.record (records_from 0 count lines), count_by-cons p line.record (records_in lines))
 
 module _ {S R : Type 0} (shown : S → Shown) where
-  -- no record
-  pub adds-none : (pass : PassHolding S R) → IsGoing pass → Adds shown [] pass pass
-  adds-none pass going = record {
-    key = refl;
-    tells = λ t. t;
-    bag = λ _ t p. refl;
-    accepted = λ _. omega arith;
-    fewer = λ ended. absurd (not_both pass going ended);
-  }
-
-  -- some records, and then others
-  adds-then : (xs ys : List R) (old mid new : PassHolding S R) → Adds shown xs old mid → IsGoing mid → Adds shown ys mid new → Adds shown (xs ++ ys) old new
-  adds-then xs ys old mid new first going then =
-      let long = length-append xs ys in
-      let so_far = first.accepted going in
-      record {
-        key = then.key ∙ first.key;
-        tells = λ t. then.tells (first.tells t);
-        bag = λ goes t p.
-            let a = first.bag going t p in
-            let b = then.bag goes (first.tells t) p in
-            omega (arith, a, b, count_by-append p xs old.bag, count_by-append p ys mid.bag, count_by-append p xs ys, count_by-append p (xs ++ ys) old.bag);
-        accepted = λ goes. omega (arith, so_far, then.accepted goes, long);
-        fewer = λ ended. omega (arith, so_far, then.fewer ended, long);
-      }
-
-  -- the lines so far, and one more
-  pub adds-line :
-      (number : ℕ) (lines : List (Line R)) (i : ℕ) (line : Line R) (old mid new : PassHolding S R) → i < length lines → line ≡ get_or lines i line → Adds shown (records_for number (take i lines)) old mid
-      → IsGoing mid → Adds shown (records_for number (line ∷ [])) mid new → Adds shown (records_for number (take (i + 1) lines)) old new
-  adds-line number lines i line old mid new l is first going one =
-      subst (λ rs. Adds shown rs old new) (sym (records_for-more number lines i line l is)) (adds-then (records_for number (take i lines)) (records_for number (line ∷ [])) old mid new first going one)
-
-  -- a pass that stopped at one of the lines was given all of them
-  pub adds-ended : (number : ℕ) (lines : List (Line R)) (n : ℕ) (old new : PassHolding S R) → Adds shown (records_for number (take n lines)) old new → HasEnded new → Adds shown (records_for number lines) old new
-  adds-ended number lines n old new adds ended = record {
-    key = adds.key;
-    tells = adds.tells;
-    bag = λ going. absurd (not_both new going ended);
-    accepted = λ going. absurd (not_both new going ended);
-    fewer = λ _. omega (arith, adds.fewer ended, records_for-fewer number lines n);
-  }
-
   -- the same records in another order
   dealt-same_bag : (xs ys : List R) (olds news : List (PassHolding S R)) → IsSameBag xs ys → Dealt shown xs olds news → Dealt shown ys olds news
   dealt-same_bag xs ys olds news same dealt =

@@ -1,6 +1,7 @@
 -- What holds of a mapped list, said of the list that it was made of.
-use Rattle.std.proofs.Common.{◌≡◌, ℕ, zero, suc, ◌<◌, List, [], ◌∷◌, length, map, sum_by, All, refl, sym, subst, arith}
+use Rattle.std.proofs.Common.{◌≡◌, ℕ, zero, suc, ◌<◌, List, [], ◌∷◌, length, map, get_or, drop, sum_by, All, Option, Some, None, refl, sym, ap, ap₂, subst, arith}
 use Rattle.std.specs.List.{Any, slice_index_or}
+use Rattle.std.proofs.lemmas.List.{length-map}
 use Rattle.std.proofs.lemmas.List.Sums.{sum_by-cons}
 use Rattle.std.proofs.lemmas.List.Elements.{All-nil, All-cons, All-head, All-tail}
 
@@ -23,3 +24,37 @@ module _ {X Y : Type 0} (f : X → Y) where
       by_place next (suc k) y h e q =
           let more = next (k, y, omega (arith, h), e, q) in
           (suc more.0, more.1, omega (arith, more.2), more.3, more.4)
+
+-- an item of a map
+pub get_or-map : {X Y : Type 0} (f : X → Y) (xs : List X) (i : ℕ) (d : X) (e : Y) → i < length xs → get_or (map f xs) i e ≡ f (get_or xs i d)
+get_or-map f [] i d e h = absurd (omega arith)
+get_or-map f (x ∷ xs) zero d e h = refl
+get_or-map f (x ∷ xs) (suc i) d e h = get_or-map f xs i d e (omega arith)
+
+module _ {X Y : Type 0} (f : X → Y) where
+  -- what holds of an item of two lists at each place
+  pub each-mapped :
+      (Q : ℕ → Y → Y → Type 0) (xs ys : List X) → length ys ≡ length xs → ((i : ℕ) (d : X) → i < length xs → Q i (f (get_or xs i d)) (f (get_or ys i d)))
+      → (i : ℕ) (d : Y) → i < length (map f xs) → Q i (get_or (map f xs) i d) (get_or (map f ys) i d)
+  each-mapped Q [] ys e each i d h = absurd (omega arith)
+  each-mapped Q (x ∷ xs) ys e each i d h =
+      let within : i < length (x ∷ xs) = omega (arith, h, length-map (x ∷ xs) f) in
+      subst (λ n. Q i (get_or (map f (x ∷ xs)) i d) n) (sym (get_or-map f ys i x d (omega (arith, within, e)))) (subst (λ o. Q i o (f (get_or ys i x))) (sym (get_or-map f (x ∷ xs) i x d within)) (each i x within))
+
+  -- nothing changed of each item
+  pub same-mapped : (xs ys : List X) → length ys ≡ length xs → ((i : ℕ) (d : X) → i < length xs → f (get_or ys i d) ≡ f (get_or xs i d)) → map f ys ≡ map f xs
+  same-mapped [] [] e each = refl
+  same-mapped [] (y ∷ ys) e each = absurd (omega arith)
+  same-mapped (x ∷ xs) [] e each = absurd (omega arith)
+  same-mapped (x ∷ xs) (y ∷ ys) e each = ap₂ (λ (z : Y) (zs : List Y). z ∷ zs) (each 0 x (omega arith)) (same-mapped xs ys (omega arith) (λ i d h. each (suc i) d (omega arith)))
+
+-- what two lists have in options
+pub unsome : {X : Type 0} (xs ys : List X) → map (λ (x : X). Some x) xs ≡ map (λ (x : X). Some x) ys → xs ≡ ys
+unsome [] [] e = refl
+unsome [] (y ∷ ys) e = absurd (omega (arith, ap length e))
+unsome (x ∷ xs) [] e = absurd (omega (arith, ap length e))
+unsome {X} (x ∷ xs) (y ∷ ys) e = ap₂ (λ (z : X) (zs : List X). z ∷ zs) (ap (λ (l : List (Option X)). value_of (get_or l 0 None)) e) (unsome xs ys (ap (drop 1) e))
+  where
+    value_of : Option X → X
+    value_of None = x
+    value_of (Some z) = z

@@ -37,5 +37,6 @@ pub mod OneHistory
 pub mod Opened
 pub mod Outfits
 pub mod Passes
+pub mod SessionPass
 pub mod Shares
 pub mod State

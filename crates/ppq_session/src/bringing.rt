@@ -1,32 +1,35 @@
 //! Passes that come back.
-ghost use Rattle.std.specs.Prelude.{◌≡◌, ◌≤◌, ◌<◌, ◌+◌, [], ◌∷◌, length, reverse, All, vec_len, vec_capacity};
+ghost use Rattle.std.specs.Prelude.{◌≡◌, ◌≤◌, ◌<◌, ◌+◌, [], ◌∷◌, length, map, reverse, All, vec_len, vec_capacity};
 ghost use Rattle.ppq_session.specs.Bringing.{BroughtAll, IsShareOf};
+ghost use Rattle.ppq_session.specs.SessionPass.{KeepsLimit};
 
 use crate::brought::Brought;
 use crate::parts::BulkParts;
+use crate::session_pass::SessionPass;
 use ppq_pass::{Pass, PassHeld, PassParts, Record, Shared, Slot};
 use std::snapshot::Snapshot;
 
 /// Takes all passes apart, the last first, and joins their seats.
-pub fn bring_all<S: Slot + Send + Sync, R: Record + Send + Sync>(
+pub fn bring_all<S: Slot + Send + Sync, R: Record + Send + Sync, P: SessionPass<S, R>>(
     parts: &mut BulkParts<S, R>,
     shared: &Shared<S, R>,
-    passes: Vec<Pass<S, R>>,
+    passes: Vec<P>,
 )
     requires row { parts.old.row_seat.row ≡ shared.now.row }
     requires pool { parts.old.pool_seat.pool ≡ shared.now.pool }
-    requires of { All (IsShareOf shared.now parts.old.sizes) passes.items }
+    requires of { All (λ p. IsShareOf shared.now parts.old.sizes (P.pass p)) passes.items }
     requires room { length parts.old.brought.items + length passes.items ≤ vec_capacity parts.old.brought }
-    ensures brought { BroughtAll S.shown R.record_of R.WIDTH parts.old.sizes R.Ord.cmp (reverse passes.items) parts.old parts.new }
+    ensures brought { BroughtAll S.shown R.record_of R.WIDTH parts.old.sizes R.Ord.cmp (reverse (map P.pass passes.items)) parts.old parts.new }
+    ensures limits { All (λ p. KeepsLimit S.shown R.Ord.cmp (P.limit p) (P.pass p)) passes.items }
 {
     let mut passes = passes;
     'bringing: while let Some(pass) = passes.pop() {
-        bring(parts, shared, pass);
+        bring(parts, shared, pass.into_inner());
     }
 }
 
-/// Takes a pass apart, and joins its seats.
-pub fn bring<S: Slot + Send + Sync, R: Record + Send + Sync>(
+// Takes a pass apart, and joins its seats.
+fn bring<S: Slot + Send + Sync, R: Record + Send + Sync>(
     parts: &mut BulkParts<S, R>,
     shared: &Shared<S, R>,
     pass: Pass<S, R>,

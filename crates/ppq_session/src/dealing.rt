@@ -5,6 +5,8 @@ ghost use Rattle.std.specs.Fork.{slice_chunk};
 ghost use Rattle.ppq_pass.specs.Passed.{IsOf};
 ghost use Rattle.ppq_session.specs.Dealing.{IsGoing, HasEnded, Adds, EachAdds, Dealt, part_for};
 
+use crate::going::are_going;
+use crate::lines::push_one;
 use ppq_pass::{Gate, Host, Pass, Record, Shared, Slot};
 use std::thread;
 
@@ -81,33 +83,8 @@ fn add_all<H: Host, S: Slot + Send + Sync, R: Record + Send + Sync>(
     ensures { Adds S.shown records.now pass.old pass.new }
 {
     for i in 0..records.len() {
-        match pass.push(rt, shared, records[i]) {
-            Ok(()) => {}
-            Err(_) => return,
+        if !push_one(rt, shared, records[i], pass) {
+            return;
         }
     }
-}
-
-/// Whether no push of any pass was refused.
-pub fn are_going<S: Slot + Send + Sync, R: Record + Send + Sync>(passes: &[Pass<S, R>]) -> bool
-    ensures all { IsTrue result ↔ All IsGoing passes.now }
-    ensures ended { result ≡ false → Any HasEnded passes.now }
-{
-    for i in 0..passes.len() {
-        if !is_going(&passes[i]) {
-            return false;
-        }
-    }
-    true
-}
-
-// Whether no push of a pass was refused.
-fn is_going<S: Slot + Send + Sync, R: Record + Send + Sync>(pass: &Pass<S, R>) -> bool
-    ensures all { IsTrue result ↔ IsGoing pass.now }
-    ensures ended { result ≡ false → HasEnded pass.now }
-{
-    if pass.refused() {
-        return false;
-    }
-    pass.failed().is_none()
 }

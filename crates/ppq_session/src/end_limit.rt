@@ -6,7 +6,7 @@ ghost use Rattle.ppq_pass.specs.Passed.{PassTells};
 ghost use Rattle.ppq_session.specs.declared.fault.SessionEnd.TheVariants.{Whole};
 ghost use Rattle.ppq_session.specs.LimitSession.{AreLimited, EndsIn, shared_of};
 
-use crate::bringing_limited::bring_limited;
+use crate::bringing::bring_all;
 use crate::end::end_joined;
 use crate::limit_room::with_room;
 use crate::{Front, LimitPass, SessionEnd};
@@ -45,6 +45,6 @@ where
     record_laws::<R>();
     let (parts, popped, failed) = front.into_parts();
     let mut parts = with_room(parts, failed);
-    bring_limited(&mut parts, &shared, passes);
+    bring_all(&mut parts, &shared, passes);
     end_joined(rt, parts, popped, failed, shared, gate)
 }

@@ -6,7 +6,12 @@ ghost use Rattle.ppq_pass.specs.ppq_budget.Sizes.{heap_of};
 ghost use Rattle.ppq_pass.specs.Passed.{IsOf, PassTells, with_one, IsRefusedPush};
 ghost use Rattle.ppq_pass.specs.ppq_array.declared.store_fault.StoreFault.TheVariants.{Device};
 ghost use Rattle.ppq_session.specs.Limited.{HoldsNothing, IsLimited, limited};
+ghost use Rattle.ppq_session.specs.Dealing.{IsGoing, Adds, records_for};
+ghost use Rattle.ppq_session.specs.Batches.{AreAbove};
 
+use crate::line::Line;
+use crate::lines::push_named;
+use crate::session_pass::SessionPass;
 use ppq_pass::{Full, Host, Pass, QueueFault, Record, Shared, Slot};
 use std::marker::Model;
 
@@ -95,6 +100,23 @@ impl<S: Slot, R: Record> LimitPass<S, R> {
         self.pass.push(rt, shared, r)
     }
 
+    // Pushes the records of the lines with this number, in their order, up to the first that is refused.
+    pub(crate) fn push_named<H: Host>(
+        &mut self,
+        rt: &H,
+        shared: &Shared<S, R>,
+        lines: &[Line<R>],
+        number: u32,
+    )
+        requires above { AreAbove R.Ord.cmp self.old.limit lines.now }
+        requires of { IsOf shared.now self.old.pass }
+        requires going { IsGoing self.old.pass }
+        ensures added { Adds S.shown (records_for number lines.now) self.old.pass self.new.pass }
+        ensures limit { self.new.limit ≡ self.old.limit }
+    {
+        push_named(rt, shared, lines, number, &mut self.pass);
+    }
+
     /// How many of its pushes returned `Ok`.
     #[inline]
     pub fn accepted(&self) -> u64
@@ -126,12 +148,20 @@ impl<S: Slot, R: Record> LimitPass<S, R> {
     {
         let _accepted = self.pass.accepted();
     }
+}
 
-    // The pass alone, for the end of the session.
-    pub(crate) fn into_pass(self) -> Pass<S, R>
-        ensures pass { result ≡ self.pass }
-        ensures limited { IsLimited S.shown R.Ord.cmp self.limit result }
-    {
+impl<S: Slot, R: Record> SessionPass<S, R> for LimitPass<S, R> {
+    ghost use Rattle.std.specs.Prelude.{Some};
+
+    ghost pass = { λ p. p.pass };
+
+    ghost limit = { λ p. Some p.limit };
+
+    fn is_going(&self) -> bool {
+        self.pass.is_going()
+    }
+
+    fn into_inner(self) -> Pass<S, R> {
         self.pass
     }
 }

@@ -1,11 +1,14 @@
 //! Lines pushed to the passes that they name, each pass on a thread of its own.
-ghost use Rattle.std.specs.Prelude.{◌≡◌, ◌<◌, ◌^◌, ◌↔◌, false, length, All, IsTrue, [], ◌∷◌};
+ghost use Rattle.std.specs.Prelude.{◌≡◌, ◌<◌, ◌^◌, ◌↔◌, false, length, map, All, IsTrue, [], ◌∷◌};
 ghost use Rattle.std.specs.List.{Any};
 ghost use Rattle.ppq_pass.specs.Passed.{IsOf};
 ghost use Rattle.ppq_session.specs.Dealing.{IsGoing, HasEnded, Adds, EachAdds, Dealt, records_in, records_for};
+ghost use Rattle.ppq_session.specs.SessionPass.{Takes, SaysIfGoing};
+ghost use Rattle.ppq_session.specs.Batches.{AreAbove, MayPush, Pushed};
 
-use crate::dealing::are_going;
+use crate::going::are_going;
 use crate::line::Line;
+use crate::LimitPass;
 use ppq_pass::{Gate, Host, Pass, Record, Shared, Slot};
 use std::thread;
 
@@ -42,31 +45,44 @@ where
         &|worker, pass|
             requires { (worker < 2 ^ 32) × IsOf shared.now pass.now × IsGoing pass.now }
             ensures { Adds S.shown (records_for worker lines.entry.now) pass.entry.now pass.exit.now }
-        { push_part(rt, gate, shared, lines, worker, pass) },
+        {
+            gate.enter(worker as u32);
+            push_named(rt, shared, lines, worker as u32, pass);
+        },
     );
     are_going(passes)
 }
 
-// Pushes the records of the lines that name a worker's pass to it.
-fn push_part<H: Host, S: Slot + Send + Sync, R: Record + Send + Sync, G: Gate>(
+// The same of the passes of a limit session.
+pub fn push_limited<H: Host, S: Slot + Send + Sync, R: Record + Send + Sync, G: Gate>(
     rt: &H,
     gate: &G,
     shared: &Shared<S, R>,
     lines: &[Line<R>],
-    worker: usize,
-    pass: &mut Pass<S, R>,
+    passes: &mut [LimitPass<S, R>],
 )
-    requires worker { worker < 2 ^ 32 }
-    requires of { IsOf shared.now pass.old }
-    requires going { IsGoing pass.old }
-    ensures { Adds S.shown (records_for worker lines.now) pass.old pass.new }
+where
+    H::Dir: Send,
+    requires { MayPush R.Ord.cmp shared.now lines.now passes.old }
+    ensures { Pushed S.shown lines.now passes.old passes.new }
 {
-    gate.enter(worker as u32);
-    push_named(rt, shared, lines, worker as u32, pass);
+    let count = passes.len();
+    thread::for_each_mut(
+        rt,
+        passes,
+        count,
+        &|worker, pass|
+            requires { (worker < 2 ^ 32) × AreAbove R.Ord.cmp pass.now.limit lines.now × IsOf shared.now pass.now.pass × IsGoing pass.now.pass }
+            ensures { Adds S.shown (records_for worker lines.entry.now) pass.entry.now.pass pass.exit.now.pass × (pass.exit.now.limit ≡ pass.entry.now.limit) }
+        {
+            gate.enter(worker as u32);
+            pass.push_named(rt, shared, lines, worker as u32);
+        },
+    );
 }
 
 // Pushes the records of the lines that name a pass to it, up to the first that is refused.
-fn push_named<H: Host, S: Slot + Send + Sync, R: Record + Send + Sync>(
+pub fn push_named<H: Host, S: Slot, R: Record>(
     rt: &H,
     shared: &Shared<S, R>,
     lines: &[Line<R>],
@@ -75,7 +91,7 @@ fn push_named<H: Host, S: Slot + Send + Sync, R: Record + Send + Sync>(
 )
     requires of { IsOf shared.now pass.old }
     requires going { IsGoing pass.old }
-    ensures { Adds S.shown (records_for number lines.now) pass.old pass.new }
+    ensures { Takes S.shown R.Ord.cmp (records_for number lines.now) pass.old pass.new }
 {
     for i in 0..lines.len() {
         if !push_line(rt, shared, lines[i], number, pass) {
@@ -85,7 +101,7 @@ fn push_named<H: Host, S: Slot + Send + Sync, R: Record + Send + Sync>(
 }
 
 // Pushes a line's record to a pass, if the line names it. Whether it was not refused.
-fn push_line<H: Host, S: Slot + Send + Sync, R: Record + Send + Sync>(
+fn push_line<H: Host, S: Slot, R: Record>(
     rt: &H,
     shared: &Shared<S, R>,
     line: Line<R>,
@@ -94,14 +110,28 @@ fn push_line<H: Host, S: Slot + Send + Sync, R: Record + Send + Sync>(
 ) -> bool
     requires of { IsOf shared.now pass.old }
     requires going { IsGoing pass.old }
-    ensures added { Adds S.shown (records_for number (line ∷ [])) pass.old pass.new }
-    ensures going { IsTrue result → IsGoing pass.new }
-    ensures ended { result ≡ false → HasEnded pass.new }
+    ensures takes { Takes S.shown R.Ord.cmp (records_for number (line ∷ [])) pass.old pass.new }
+    ensures says { SaysIfGoing result pass.new }
 {
     if line.pass != number {
         return true;
     }
-    match pass.push(rt, shared, line.record) {
+    push_one(rt, shared, line.record, pass)
+}
+
+// Pushes a record to a pass. Whether it was not refused.
+pub fn push_one<H: Host, S: Slot, R: Record>(
+    rt: &H,
+    shared: &Shared<S, R>,
+    r: R,
+    pass: &mut Pass<S, R>,
+) -> bool
+    requires of { IsOf shared.now pass.old }
+    requires going { IsGoing pass.old }
+    ensures takes { Takes S.shown R.Ord.cmp (r ∷ []) pass.old pass.new }
+    ensures says { SaysIfGoing result pass.new }
+{
+    match pass.push(rt, shared, r) {
         Ok(()) => true,
         Err(_) => false,
     }

@@ -5,7 +5,7 @@ ghost use Rattle.ppq_session.specs.Answering.{HasAnswered};
 ghost use Rattle.ppq_session.specs.Batches.{MayPush, Pushed};
 
 use crate::answering::answer_all;
-use crate::pushing::push_limited;
+use crate::lines::push_limited;
 use crate::{Ask, Front, LimitPass, Line};
 use ppq_pass::{Gate, Host, Pair, Shared, Slot};
 use std::thread::join_mut;

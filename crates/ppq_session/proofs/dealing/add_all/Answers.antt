@@ -1,50 +1,32 @@
-use Rattle.std.proofs.Common.{◌≡◌, ◌++◌, length, take, refl, ap, ◌∙◌, arith}
-use Rattle.std.specs.Prelude.{count_by}
-use Rattle.std.proofs.lemmas.List.{take_all}
-use Rattle.ppq_session.proofs.DealtParts.{not_both, bag-more, adds-refused}
+use Rattle.std.proofs.Common.{◌+◌, ◌++◌, ◌∷◌, [], ◌∙◌, take, drop, sym, ap, refl, subst, arith, take-append-drop}
+use Rattle.std.proofs.lemmas.List.{take_all, take_more}
+use Rattle.ppq_session.specs.Dealing.{Adds}
+use Rattle.ppq_session.proofs.Adding.{takes-none, takes-then, takes-ended}
 use Rattle.ppq_session.proofs.dealing.add_all.Goals as goal
 
 pub loop-i-init : goal.loop-i-init
-loop-i-init g c = record {
-  key = refl;
-  going = c.requires.going;
-  tells = λ t. t;
-  bag = λ t p. refl;
-  accepted = omega arith;
-}
-
-pub push-requires-after_bounds : goal.push-requires-after_bounds
-push-requires-after_bounds g c κs within = record {
-  row = ap (λ k. k.row) c.loop-i.invariant.key ∙ c.requires.of.row;
-  pool = ap (λ k. k.pool) c.loop-i.invariant.key ∙ c.requires.of.pool;
-}
+loop-i-init g c = record { going = c.requires.going; takes = takes-none g.S.Slot.shown g.R.Ord.cmp c.args.pass.now c.requires.going }
 
 pub loop-i-preserved : goal.loop-i-preserved
 loop-i-preserved g c =
     let i = c.loop-i.invariant in
-    let ok = c.in-Ok.ensures in
+    let records = c.args.records.now in
+    let more = take_more records c.loop-i.i c.index-records-i.result (omega arith) ∙ ap (λ x. take c.loop-i.i records ++ x ∷ []) (sym c.index-records-i.is) in
     record {
-      key = c.push.ensures.key ∙ i.key;
-      going = record { unrefused = ok.same ∙ i.going.unrefused; sound = ok.sound };
-      tells = λ t. c.push.ensures.tells (i.tells t);
-      bag = λ t. bag-more c.args.records.now c.loop-i.i c.index-records-i.result c.args.pass.now.bag c.loop-i.pass.bag c.push.new.self.bag (omega arith) c.index-records-i.is (i.bag t) (ok.added (i.tells t));
-      accepted = omega (arith, ok.accepted, i.accepted);
+      going = c.if-not-push_one.ensures.says.going.0 refl;
+      takes = takes-then g.S.Slot.shown g.R.Ord.cmp _ _ _ more c.args.pass.now c.loop-i.pass c.push_one.new.pass i.takes i.going c.push_one.ensures.takes;
     }
 
-pub returns-in-Err : goal.returns-in-Err
-returns-in-Err g c =
+pub returns-then-not-push_one : goal.returns-then-not-push_one
+returns-then-not-push_one g c =
     let i = c.loop-i.invariant in
-    adds-refused g.S.Slot.shown c.args.records.now c.loop-i.i c.args.pass.now c.loop-i.pass c.push.new.self c.in-Err.field-0.1 (omega arith) (c.push.ensures.key ∙ i.key) (λ t. c.push.ensures.tells (i.tells t)) i.accepted c.in-Err.ensures.refused
+    let shown = g.S.Slot.shown in
+    let cmp = g.R.Ord.cmp in
+    let records = c.args.records.now in
+    let new = c.push_one.new.pass in
+    let more = take_more records c.loop-i.i c.index-records-i.result (omega arith) ∙ ap (λ x. take c.loop-i.i records ++ x ∷ []) (sym c.index-records-i.is) in
+    let so_far = takes-then shown cmp _ _ _ more c.args.pass.now c.loop-i.pass new i.takes i.going c.push_one.ensures.takes in
+    (takes-ended shown cmp _ _ _ (sym (take-append-drop (c.loop-i.i + 1) records)) c.args.pass.now new so_far (c.if-not-push_one.ensures.says.ended refl)).adds
 
 pub returns : goal.returns
-returns g c =
-    let i = c.loop-i.invariant in
-    let all : take c.loop-i.i c.args.records.now ≡ c.args.records.now = take_all c.loop-i.i c.args.records.now (omega arith) in
-    let end : c.loop-i.i ≡ length c.args.records.now = omega arith in
-    record {
-      key = i.key;
-      tells = i.tells;
-      bag = λ going t p. i.bag t p ∙ ap (λ xs. count_by p (xs ++ c.args.pass.now.bag)) all;
-      accepted = λ going. omega (arith, i.accepted, end);
-      fewer = λ ended. absurd (not_both c.loop-i.pass i.going ended);
-    }
+returns g c = subst (λ rs. Adds g.S.Slot.shown rs c.args.pass.now c.loop-i.pass) (take_all c.loop-i.i c.args.records.now (omega arith)) c.loop-i.invariant.takes.adds

@@ -1,8 +1,10 @@
-use Rattle.std.proofs.Common.{◌≤◌, ◌∙◌, None, sym, ap, subst}
+use Rattle.std.proofs.Common.{◌≤◌, ◌∙◌, None, reverse, sym, ap, subst}
+use Rattle.std.proofs.lemmas.List.{map-id}
 use Rattle.ppq_pass.specs.ppq_outside.Shown.{AllTell}
 use Rattle.ppq_pass.specs.ppq_array.Kept.{SameSlots, all_writes}
 use Rattle.ppq_session.specs.BulkSession.{AreOf, EndsIn, keys_of}
 use Rattle.ppq_session.specs.Apart.{IsJoined}
+use Rattle.ppq_session.specs.Bringing.{BroughtAll}
 use Rattle.ppq_session.proofs.Bulks.{slots_same, bulk_many, bulk_keys, bulk_before, bulk_sound, bulk_ends}
 use Rattle.ppq_session.proofs.Together.{all_shares_of, room_for_all}
 use Rattle.ppq_session.proofs.end.bulk_end.Given as given
@@ -61,7 +63,7 @@ joined g c =
       before = λ none. bulk_before shown cmp record_of width q is ps of;
       row = ap (λ b. b.row) shows ∙ sym (ap (λ s. s.row) c.requires.shared);
       pool = ap (λ b. b.pool) shows ∙ sym (ap (λ s. s.pool) c.requires.shared);
-      came = c.bring_all.ensures.brought;
+      came = subst (λ l. BroughtAll shown record_of width q.sizes cmp (reverse l) q c.bring_all.new.parts) (map-id ps) c.bring_all.ensures.brought;
     }
 
 pub end_joined-requires-after_bounds : goal.end_joined-requires-after_bounds
