@@ -13,7 +13,7 @@ use Rattle.ppq_session.proofs.ppq_block.Blocks.{length-records_from, records_fro
 use Rattle.ppq_session.specs.ppq_queue.Holding.{Holding}
 use Rattle.ppq_session.specs.Dealing.{HasEnded}
 use Rattle.ppq_load.specs.Loading.{LoadHolding, InSession, AreRecordsAt, HasGiven, told_bytes}
-use Rattle.ppq_load.proofs.Loadings.{session-rest}
+use Rattle.ppq_session.proofs.Sessions.{session-rest}
 
 -- records of bytes in two parts
 records-add : (a b : ℕ) (bytes : List ℕ) → records_from pair_of 16 (a + b) bytes ≡ records_from pair_of 16 a bytes ++ records_from pair_of 16 b (drop (a * 16) bytes)

@@ -8,7 +8,7 @@ use Rattle.ppq_session.specs.ppq_outside.Shown.{Shown}
 use Rattle.ppq_session.specs.ppq_queue.Holding.{Holding}
 use Rattle.ppq_session.specs.Dealing.{HasEnded}
 use Rattle.ppq_load.specs.Loading.{LoadHolding, InSession, seed_after, with_batch}
-use Rattle.ppq_load.proofs.Loadings.{session-batch, session-rest}
+use Rattle.ppq_session.proofs.Sessions.{session-batch, session-rest}
 
 seed_after-suc : (seed n : ℕ) → seed_after seed (suc n) ≡ next_seed (seed_after seed n)
 seed_after-suc seed zero = refl

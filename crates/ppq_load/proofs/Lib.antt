@@ -1,7 +1,6 @@
 pub use Rattle.ppq_session.proofs.ppq_block as ppq_block
 pub mod FileRecords
 pub mod Generated
-pub mod LimitSessions
 pub mod Loadings
 pub mod Reading
 pub mod Refusals

@@ -1,41 +1,18 @@
--- A session in which records are loaded: it begins, records are given to its passes, and it ends.
-use Rattle.std.proofs.Common.{◌≡◌, inl, inr, ℕ, ◌+◌, ◌^◌, ◌<◌, ◌≤◌, true, List, [], ◌∷◌, ◌++◌, All, map, take, length, max, refl, sym, ap, ap₂, ◌∙◌, subst, arith, length-append}
-use Rattle.std.specs.Prelude.{Any, Result, Ok, Err}
-use Rattle.std.proofs.lemmas.List.{length-map}
+-- Why a session of pairs did not begin, as a fault of a load; and how many records a batch has room for.
+use Rattle.std.proofs.Common.{◌≡◌, Bool, ℕ, ◌^◌, ◌<◌, ap, ap₂, ◌∙◌, subst, arith}
+use Rattle.std.specs.Prelude.{Result, Ok, Err}
 use Rattle.std.proofs.Math.Nat.{mul-le-mul_left, mul-le-mul_right}
-use Rattle.std.proofs.Math.Seq.{take-append_seam}
-use Rattle.std.proofs.lemmas.List.Sums.{sum_by-cons}
-use Rattle.std.proofs.lemmas.List.Elements.{All-nil, All-cons, All-head, All-tail}
 use Rattle.ppq_session.specs.ppq_record.declared.pair.Pair.{Pair}
-use Rattle.ppq_session.specs.ppq_record.Bag.{IsSameBag}
-use Rattle.ppq_session.proofs.ppq_record.Order.{count_by-append}
-use Rattle.ppq_session.specs.ppq_outside.Shown.{Shown, AllTell}
 use Rattle.ppq_session.specs.ppq_budget.Sizes.{Numbers, AreInRange, batch_of}
-use Rattle.ppq_session.proofs.ppq_spill.SameSlots.{SameSlots-trans}
-use Rattle.ppq_session.specs.ppq_array.Kept.{SameSlots, all_writes}
-use Rattle.ppq_session.specs.ppq_pass.Passed.{PassKey, PassHolding, PassTells, IsOf}
-use Rattle.ppq_session.specs.ppq_pass.declared.shared.Shared.{Shared}
 use Rattle.ppq_session.specs.ppq_queue.Holding.{Holding}
-use Rattle.ppq_session.specs.ppq_array.declared.store_fault.StoreFault.{StoreFault as QueueFault}
-use Rattle.ppq_session.specs.ppq_array.declared.store_fault.StoreFault.TheVariants.{NoFreeBlock, Device}
-use Rattle.ppq_session.specs.BulkSession.{BulkHolding, AreOf, IsFresh, IsTogether, HasNoBlock, EndsIn, IsBeginRefusal, keys_of, shared_by, pass_key, bag_of, accepted_of}
+use Rattle.ppq_session.specs.ppq_array.declared.store_fault.StoreFault.TheVariants.{Device}
+use Rattle.ppq_session.specs.BulkSession.{IsBeginRefusal}
 use Rattle.ppq_session.specs.declared.fault.BeginFault.{BeginFault}
 use Rattle.ppq_session.specs.declared.fault.BeginFault.TheVariants as begin
-use Rattle.ppq_session.specs.declared.fault.SessionEnd.TheVariants.{Stopped}
-use Rattle.ppq_session.specs.Dealing.{IsGoing, HasEnded, Dealt}
-use Rattle.ppq_load.specs.Refusal.{Keeps, HasNoRoom}
+use Rattle.ppq_load.specs.Refusal.{HasNoRoom}
 use Rattle.ppq_load.specs.declared.fault.LoadFault.{LoadFault}
 use Rattle.ppq_load.specs.declared.fault.LoadFault.TheVariants.{Queue}
-use Rattle.ppq_load.specs.Loading.{LoadHolding, InSession, IsLoaded, IsByLoad, IsHandedBack, LoadStopsFor, begin_fault_of, with_batch}
-use Rattle.ppq_load.proofs.Refusals.{room-more, no_room-later}
-
-all_of_map : {X Y : Type 0} (P : Y → Type 0) (f : X → Y) (xs : List X) → All P (map f xs) → All (λ x. P (f x)) xs
-all_of_map P f [] a = All-nil (λ x. P (f x))
-all_of_map P f (x ∷ xs) a = All-cons (λ x. P (f x)) x xs (All-head P (f x) (map f xs) a) (all_of_map P f xs (All-tail P (f x) (map f xs) a))
-
--- a list that was written through a slice of the whole
-pub kept_back : {X : Type 0} (len : ℕ) (new rest : List X) → length new ≡ len → take len (new ++ rest) ≡ new
-kept_back len new rest e = ap (λ n. take n (new ++ rest)) (sym e) ∙ take-append_seam new rest
+use Rattle.ppq_load.specs.Loading.{IsByLoad, IsHandedBack, LoadStopsFor, begin_fault_of}
 
 -- a batch has room for a record, and its places fit in a word
 pub batch-some : (sizes : Numbers) → AreInRange sizes → 0 < batch_of sizes
@@ -45,11 +22,11 @@ pub batch-small : (sizes : Numbers) → AreInRange sizes → batch_of sizes < 2 
 batch-small sizes range = omega (arith, mul-le-mul_right sizes.block range.workers, mul-le-mul_left 64 range.block)
 
 -- why a session did not begin
-pub begin-refused : (old new : Holding Pair) (fault : BeginFault) → IsBeginRefusal old new fault → new.sizes ≡ old.sizes → new.peak ≡ old.peak → new.limited ≡ old.limited → LoadStopsFor old.peak old.sizes old.limited new.slots (begin_fault_of fault)
-begin-refused old new begin.Memory refused sizes peak limited = tt
-begin-refused old new begin.NoFreeBlock refused sizes peak limited =
+pub begin-refused : (old new : Holding Pair) (is_limited : Bool) (fault : BeginFault) → IsBeginRefusal old new fault → new.sizes ≡ old.sizes → new.peak ≡ old.peak → new.limited ≡ is_limited → LoadStopsFor old.peak old.sizes is_limited new.slots (begin_fault_of fault)
+begin-refused old new is_limited begin.Memory refused sizes peak limited = tt
+begin-refused old new is_limited begin.NoFreeBlock refused sizes peak limited =
     subst (λ l. HasNoRoom old.sizes l old.peak) limited (subst (λ n. HasNoRoom n new.limited old.peak) sizes (subst (λ load. HasNoRoom new.sizes new.limited load) peak (refused.above, refused.room)))
-begin-refused old new (begin.Device number) refused sizes peak limited = refused.fault
+begin-refused old new is_limited (begin.Device number) refused sizes peak limited = refused.fault
 
 pub begin-back : (old new : Holding Pair) (fault : BeginFault) → IsBeginRefusal old new fault → IsHandedBack old new (begin_fault_of fault)
 begin-back old new begin.Memory refused = refused
@@ -70,179 +47,3 @@ pub begin-by : (fault : BeginFault) → IsByLoad (begin_fault_of fault)
 begin-by begin.Memory = tt
 begin-by begin.NoFreeBlock = tt
 begin-by (begin.Device number) = tt
-
-module _ {S : Type 0} where
-  pub fresh-going : (passes : List (PassHolding S Pair)) → All IsFresh passes → All IsGoing passes
-  fresh-going passes fresh k d l = let f = fresh k d l in record { unrefused = f.refused; sound = f.failed }
-
-  fresh-accepted : (passes : List (PassHolding S Pair)) → All IsFresh passes → accepted_of passes ≡ 0
-  fresh-accepted [] fresh = refl
-  fresh-accepted (p ∷ ps) fresh =
-      let first = All-head IsFresh p ps fresh in
-      omega (arith, sum_by-cons (λ (q : PassHolding S Pair). q.accepted) p ps, fresh-accepted ps (All-tail IsFresh p ps fresh), first.accepted)
-
-  none-ended : (passes : List (PassHolding S Pair)) → All IsGoing passes → Any HasEnded passes → ⊥
-  none-ended passes going (k, pass, l, e, inl refused) = let r = (going k pass l).unrefused in absurd (cc)
-  none-ended passes going (k, pass, l, e, inr failed) = let f = (going k pass l).sound in let n = failed.1 in absurd (cc)
-
-  module _ (bulk : BulkHolding S Pair) (passes : List (PassHolding S Pair)) (of : AreOf bulk (keys_of passes)) where
-    -- the passes of a session have what it shares
-    pub of-shared : (shared : Shared S Pair) → shared ≡ shared_by bulk → All (IsOf shared) passes
-    of-shared shared is =
-        let keys : All (λ (p : PassHolding S Pair). p.key ≡ pass_key bulk p.key.begun) passes = all_of_map (λ (k : PassKey S Pair). k ≡ pass_key bulk k.begun) (λ (p : PassHolding S Pair). p.key) passes of.each in
-        λ k d l. record {
-          row = ap (λ (key : PassKey S Pair). key.row) (keys k d l) ∙ sym (ap (λ (s : Shared S Pair). s.row) is);
-          pool = ap (λ (key : PassKey S Pair). key.pool) (keys k d l) ∙ sym (ap (λ (s : Shared S Pair). s.pool) is);
-        }
-
-    -- they are as many as workers
-    pub of-count : length passes ≡ bulk.sizes.workers
-    of-count = sym (length-map passes (λ (p : PassHolding S Pair). p.key)) ∙ of.count
-
-  -- passes with the same keys are of the same session
-  pub of-keys : (bulk : BulkHolding S Pair) (olds news : List (PassHolding S Pair)) → AreOf bulk (keys_of olds) → keys_of news ≡ keys_of olds → AreOf bulk (keys_of news)
-  of-keys bulk olds news of same = subst (λ keys. AreOf bulk keys) (sym same) of
-
-  -- what the batch holds is no matter of the session
-  pub of-batch : (bulk : BulkHolding S Pair) (batch : List Pair) (passes : List (PassHolding S Pair)) → AreOf bulk (keys_of passes) → AreOf (record bulk { batch = batch }) (keys_of passes)
-  of-batch bulk batch passes of = record { count = of.count; each = of.each; begun = of.begun }
-
-  -- of an open session only the batch is another, and then once more
-  pub batch-then : (old mid new : LoadHolding S) (batch : List Pair) → mid ≡ with_batch old mid.bulk.batch → new ≡ with_batch mid batch → new ≡ with_batch old new.bulk.batch
-  batch-then old mid new batch had is =
-      let at : batch ≡ new.bulk.batch = sym (ap (λ (load : LoadHolding S). load.bulk.batch) is) in
-      is ∙ ap (λ (load : LoadHolding S). with_batch load batch) had ∙ ap (with_batch old) at
-
-  module _ (shown : S → Shown) (queue : Holding Pair) where
-    -- the session has begun
-    pub session-begin :
-        (bulk : BulkHolding S Pair) (passes : List (PassHolding S Pair)) → All IsFresh passes
-        → (AllTell queue.slots → IsSameBag (bulk.bag ++ bag_of passes) queue.bag) → SameSlots queue.slots bulk.slots → (AllTell queue.slots → AllTell bulk.slots × All (PassTells shown) passes)
-        → all_writes queue.slots ≤ all_writes bulk.slots → bulk.size ≡ queue.size → bulk.peak ≡ queue.peak → bulk.sizes ≡ queue.sizes → bulk.limited ≡ queue.limited → InSession shown queue [] (record { bulk = bulk; passes = passes })
-    session-begin bulk passes fresh bag slots tells writes size peak sizes limited = record {
-      sizes = sizes;
-      limited = limited;
-      peak = peak;
-      size = size;
-      slots = slots;
-      tells = tells;
-      writes = writes;
-      bag = λ going t. bag t;
-      accepted = λ going. fresh-accepted passes fresh;
-      most = omega (arith, fresh-accepted passes fresh);
-      fewer = λ ended. absurd (none-ended passes (fresh-going passes fresh) ended);
-    }
-
-    pub session-batch : (records : List Pair) (load : LoadHolding S) (batch : List Pair) → InSession shown queue records load → InSession shown queue records (with_batch load batch)
-    session-batch records load batch s = record {
-      sizes = s.sizes;
-      limited = s.limited;
-      peak = s.peak;
-      size = s.size;
-      slots = s.slots;
-      tells = s.tells;
-      writes = s.writes;
-      bag = s.bag;
-      accepted = s.accepted;
-      most = s.most;
-      fewer = s.fewer;
-    }
-
-    -- more records were given to passes that all went on
-    pub session-deal :
-        (records more : List Pair) (bulk : BulkHolding S Pair) (olds news : List (PassHolding S Pair)) → InSession shown queue records (record { bulk = bulk; passes = olds }) → All IsGoing olds → Dealt shown more olds news
-        → InSession shown queue (records ++ more) (record { bulk = bulk; passes = news })
-    session-deal records more bulk olds news s going dealt =
-        let long = length-append records more in
-        let so_far = s.accepted going in
-        record {
-          sizes = s.sizes;
-          limited = s.limited;
-          peak = s.peak;
-          size = s.size;
-          slots = s.slots;
-          tells = λ t. ((s.tells t).0, dealt.tells (s.tells t).1);
-          writes = s.writes;
-          bag = λ on t p.
-              let before = s.bag going t p in
-              let now = dealt.bag on (s.tells t).1 p in
-              omega (arith, before, now, count_by-append p bulk.bag (bag_of olds), count_by-append p bulk.bag (bag_of news), count_by-append p more (bag_of olds), count_by-append p records queue.bag, count_by-append p records more, count_by-append p (records ++ more) queue.bag);
-          accepted = λ on. omega (arith, so_far, dealt.accepted on, long);
-          most = omega (arith, so_far, dealt.most, long);
-          fewer = λ ended. omega (arith, so_far, dealt.fewer ended, long);
-        }
-
-    -- records that were not given, since a pass had stopped
-    pub session-rest : (records rest : List Pair) (load : LoadHolding S) → InSession shown queue records load → Any HasEnded load.passes → InSession shown queue (records ++ rest) load
-    session-rest records rest load s ended =
-        let long = length-append records rest in
-        let less = s.fewer ended in
-        record {
-          sizes = s.sizes;
-          limited = s.limited;
-          peak = s.peak;
-          size = s.size;
-          slots = s.slots;
-          tells = s.tells;
-          writes = s.writes;
-          bag = λ going. absurd (none-ended load.passes going ended);
-          accepted = λ going. absurd (none-ended load.passes going ended);
-          most = omega (arith, less, long);
-          fewer = λ _. omega (arith, less, long);
-        }
-
-    module _ (records : List Pair) (bulk : BulkHolding S Pair) (passes : List (PassHolding S Pair)) (s : InSession shown queue records (record { bulk = bulk; passes = passes })) (new : Holding Pair) where
-      -- what the end keeps, keeps the session
-      pub end-keeps : SameSlots bulk.slots new.slots → (AllTell bulk.slots → All (PassTells shown) passes → AllTell new.slots) → all_writes bulk.slots ≤ all_writes new.slots → new.sizes ≡ bulk.sizes → new.limited ≡ bulk.limited → Keeps queue new
-      end-keeps slots tells writes sizes limited = record {
-        sizes = sizes ∙ s.sizes;
-        limited = limited ∙ s.limited;
-        slots = SameSlots-trans queue.slots bulk.slots new.slots s.slots slots;
-        tells = λ t. tells (s.tells t).0 (s.tells t).1;
-        writes = omega (arith, s.writes, writes);
-      }
-
-      module _ (end : IsTogether shown bulk passes new) where
-        pub end-bag : All IsGoing passes → AllTell queue.slots → IsSameBag new.bag (records ++ queue.bag)
-        end-bag going t p = end.bag (s.tells t).0 (s.tells t).1 p ∙ s.bag going t p
-
-        pub end-size : All IsGoing passes → new.size ≡ queue.size + length records
-        end-size going = omega (arith, end.size, s.size, s.accepted going)
-
-        pub end-peak : All IsGoing passes → new.peak ≡ max queue.peak (queue.size + length records)
-        end-peak going = omega (arith, end.peak, end-size going, s.peak)
-
-        peak-most : new.peak ≤ max queue.peak (queue.size + length records)
-        peak-most = omega (arith, end.peak, end.size, s.size, s.peak, s.most)
-
-        -- a pass stopped where no call of a slot failed: it was refused
-        any-refused : Any HasEnded passes → Any (λ (p : PassHolding S Pair). p.refused ≡ true) passes
-        any-refused (k, pass, l, e, inl refused) = (k, pass, l, e, refused)
-        any-refused (k, pass, l, e, inr failed) = let f = end.no_fault k pass l in let n = failed.1 in absurd (cc)
-
-        -- a pass was refused: there is no room for the records
-        short-much : 0 < bulk.sizes.block → Any HasEnded passes → HasNoRoom queue.sizes queue.limited (max queue.peak (queue.size + length records))
-        short-much some ended =
-            let short = end.short (any-refused ended) in
-            let less = s.fewer ended in
-            let most = max queue.peak (queue.size + length records) in
-            subst (λ n. HasNoRoom n queue.limited most) s.sizes ((λ _. omega (arith, short.1, end.size, s.size, less)), omega (arith, short.0, room-more bulk.sizes new.peak most some peak-most))
-
-        pub loaded-whole : {T : Type 0} (value : T) → Keeps queue new → All IsGoing passes → IsLoaded queue records new (Ok value)
-        loaded-whole value kept going = record { kept = kept; bag = end-bag going; size = end-size going; sound = end.sound; peak = end-peak going; refused = tt }
-
-        pub loaded-short : {T : Type 0} → Keeps queue new → 0 < bulk.sizes.block → Any HasEnded passes → IsLoaded {T = T} queue records new (Err NoFreeBlock)
-        loaded-short kept some ended = record { kept = kept; bag = tt; size = tt; sound = tt; peak = tt; refused = short-much some ended }
-
-        -- a merge of levels found no block
-        unmerged-much : 0 < bulk.sizes.block → new.sizes ≡ bulk.sizes → HasNoBlock new → HasNoRoom queue.sizes queue.limited (max queue.peak (queue.size + length records))
-        unmerged-much some same short =
-            let most = max queue.peak (queue.size + length records) in
-            let limited : new.limited ≡ queue.limited = end.limited ∙ s.limited in
-            let here : HasNoRoom bulk.sizes queue.limited new.peak = subst (λ l. HasNoRoom bulk.sizes l new.peak) limited (subst (λ n. HasNoRoom n new.limited new.peak) same (short.above, short.room)) in
-            subst (λ n. HasNoRoom n queue.limited most) s.sizes (no_room-later bulk.sizes queue.limited queue.limited new.peak most some (λ same. same) peak-most here)
-
-      pub loaded-stopped :
-          {T : Type 0} (fault : QueueFault) → Keeps queue new → 0 < bulk.sizes.block → new.sizes ≡ bulk.sizes → EndsIn shown bulk passes new (Stopped fault) → IsLoaded {T = T} queue records new (Err fault)
-      loaded-stopped NoFreeBlock kept some same end = record { kept = kept; bag = tt; size = tt; sound = tt; peak = tt; refused = unmerged-much end.0 some same end.1 }
-      loaded-stopped (Device number) kept some same end = record { kept = kept; bag = tt; size = tt; sound = tt; peak = tt; refused = end.fault }

@@ -1,64 +1,8 @@
--- Limit sessions of a queue, whose lines come in batches.
-use Rattle.std.specs.Prelude.{◌≡◌, ◌⊎◌, ◌<◌, ◌≤◌, ◌+◌, ℕ, true, List, ◌++◌, length, max, All, Some, None, Result, OnOk, IfErr}
-use Rattle.std.specs.List.{Any}
+-- Limit sessions of a queue of pairs, whose lines come in batches.
 use Rattle.ppq_session.specs.ppq_record.declared.pair.Pair.{Pair}
-use Rattle.ppq_session.specs.ppq_record.Bag.{IsSameBag}
-use Rattle.ppq_session.specs.ppq_outside.Shown.{Shown, AllTell}
-use Rattle.ppq_session.specs.ppq_array.Kept.{SameSlots, all_writes}
-use Rattle.ppq_session.specs.ppq_pass.Passed.{PassTells}
-use Rattle.ppq_session.specs.ppq_queue.Holding.{Holding}
-use Rattle.ppq_session.specs.ppq_array.declared.store_fault.StoreFault.{StoreFault as QueueFault}
-use Rattle.ppq_session.specs.Dealing.{IsGoing, HasEnded}
-use Rattle.ppq_load.specs.Refusal.{Keeps, IsRefusedBy}
-use Rattle.ppq_session.specs.Fronts.{FrontHolding}
-use Rattle.ppq_session.specs.Limited.{LimitHolding}
-use Rattle.ppq_session.specs.LimitSession.{limited_bag, limited_accepted}
-use Rattle.ppq_session.specs.Batches.{passes_of}
+use Rattle.ppq_session.specs.LimitSessions.{LimitSessionHolding}
+pub use Rattle.ppq_session.specs.LimitSessions.{AreGoing, HasStopped, InLimits, IsOver, begun_in}
 
--- What contracts see of an open limit session: what its owner keeps, and the passes, in the order of their workers
-pub record LimitsHolding (S : Type 0) : Type 0 where
-  pub front : FrontHolding S Pair
-  pub passes : List (LimitHolding S Pair)
-
--- a queue in which a limit session was begun
-abbrev pub begun_in : Holding Pair → Holding Pair
-begun_in queue = record queue { limited = true }
-
--- no push of any pass was refused, and no call of a slot of the front failed
-pub record AreGoing {S : Type 0} (session : LimitsHolding S) : Type 0 where
-  pub passes : All IsGoing (passes_of session.passes)
-  pub front : session.front.failed ≡ None
-
--- a push of a pass was refused, or a call of a slot of the front failed
-abbrev pub HasStopped : {S : Type 0} → LimitsHolding S → Type 0
-HasStopped session = Any HasEnded (passes_of session.passes) ⊎ ((number : ℕ) × (session.front.failed ≡ Some number))
-
--- A limit session of a queue, which is shown as it was when the session began. These records were given to its passes, and so many were
--- asked to be popped at the most; unless a call of a slot of the front failed, these are left of what the queue had. As long as no pass has
--- stopped, they have all that they were given
-pub record InLimits {S : Type 0} (shown : S → Shown) (queue : Holding Pair) (limit : Pair) (given left : List Pair) (popped : ℕ) (session : LimitsHolding S) : Type 0 where
-  pub sizes : session.front.sizes ≡ queue.sizes
-  pub limit_is : session.front.limit ≡ limit
-  pub peak : session.front.peak ≡ queue.peak
-  pub total : session.front.size + session.front.popped ≡ queue.size
-  pub popped_is : session.front.popped ≤ popped
-  pub slots : SameSlots queue.slots session.front.slots
-  pub tells : AllTell queue.slots → AllTell session.front.slots × All (PassTells shown) (passes_of session.passes)
-  pub writes : all_writes queue.slots ≤ all_writes session.front.slots
-  pub rest : session.front.failed ≡ None → AllTell queue.slots → IsSameBag session.front.bag left
-  pub bag : All IsGoing (passes_of session.passes) → AllTell queue.slots → IsSameBag (limited_bag session.passes) given
-  pub accepted : All IsGoing (passes_of session.passes) → limited_accepted session.passes ≡ length given
-  pub most : limited_accepted session.passes ≤ length given
-  pub fewer : Any HasEnded (passes_of session.passes) → limited_accepted session.passes < length given
-
--- A limit session of a queue ended. Where the result is Ok, the queue has what was left and all that was given; else there is no room for
--- what was given, or a block failed
-pub record IsOver {T : Type 0} (queue : Holding Pair) (given left : List Pair) (popped : ℕ) (new : Holding Pair) (result : Result T QueueFault) : Type 0 where
-  pub kept : Keeps (begun_in queue) new
-  pub bag : OnOk result (AllTell queue.slots → IsSameBag new.bag (given ++ left))
-  pub low : OnOk result (queue.size + length given ≤ new.size + popped)
-  pub least : OnOk result (length given ≤ new.size)
-  pub high : OnOk result (new.size ≤ queue.size + length given)
-  pub sound : OnOk result (new.failed ≡ None)
-  pub peak : OnOk result (new.peak ≡ max queue.peak (queue.size + length given))
-  pub refused : IfErr result (IsRefusedBy (max queue.peak (queue.size + length given)) queue.sizes true new.slots)
+-- What contracts see of an open limit session of pairs: what its owner keeps, and the passes, in the order of their workers
+abbrev pub LimitsHolding : Type 0 → Type 0
+LimitsHolding S = LimitSessionHolding S Pair

@@ -16,6 +16,8 @@ use Rattle.ppq_session.specs.declared.fault.BeginFault.{BeginFault}
 use Rattle.ppq_session.specs.declared.fault.BeginFault.TheVariants as begin
 use Rattle.ppq_session.specs.ppq_array.declared.store_fault.StoreFault.TheVariants as queue_fault
 use Rattle.ppq_session.specs.Dealing.{IsGoing, HasEnded}
+use Rattle.ppq_session.specs.Sessions.{SessionHolding}
+pub use Rattle.ppq_session.specs.Sessions.{InSession, IsLoaded, IsLeftBy, with_batch}
 use Rattle.ppq_load.specs.Reading.{EndsAt}
 use Rattle.ppq_load.specs.Refusal.{Keeps, IsRefusedBy}
 use Rattle.ppq_load.specs.declared.fault.LoadFault.{LoadFault}
@@ -23,39 +25,9 @@ use Rattle.ppq_load.specs.declared.fault.LoadFault.TheVariants.{Queue, Read, Mem
 use Rattle.ppq_load.specs.declared.fill.FileFault.{FileFault}
 use Rattle.ppq_load.specs.declared.fill.FileFault.TheVariants as file
 
--- What contracts see of an open session: what its owner keeps, and the passes, in the order of their workers
-pub record LoadHolding (S : Type 0) : Type 0 where
-  pub bulk : BulkHolding S Pair
-  pub passes : List (PassHolding S Pair)
-
--- the same with this batch
-abbrev pub with_batch : {S : Type 0} → LoadHolding S → List Pair → LoadHolding S
-with_batch load batch = record load { bulk = record load.bulk { batch = batch } }
-
--- A session of a queue, which is shown as it was when the session began. These records were given to its passes: as long as none has
--- stopped, they have all of them
-pub record InSession {S : Type 0} (shown : S → Shown) (queue : Holding Pair) (records : List Pair) (load : LoadHolding S) : Type 0 where
-  pub sizes : load.bulk.sizes ≡ queue.sizes
-  pub limited : load.bulk.limited ≡ queue.limited
-  pub peak : load.bulk.peak ≡ queue.peak
-  pub size : load.bulk.size ≡ queue.size
-  pub slots : SameSlots queue.slots load.bulk.slots
-  pub tells : AllTell queue.slots → AllTell load.bulk.slots × All (PassTells shown) load.passes
-  pub writes : all_writes queue.slots ≤ all_writes load.bulk.slots
-  pub bag : All IsGoing load.passes → AllTell queue.slots → IsSameBag (load.bulk.bag ++ bag_of load.passes) (records ++ queue.bag)
-  pub accepted : All IsGoing load.passes → accepted_of load.passes ≡ length records
-  pub most : accepted_of load.passes ≤ length records
-  pub fewer : Any HasEnded load.passes → accepted_of load.passes < length records
-
--- A session of a queue ended, to whose passes these records were given. Where the result is Ok, the queue has them all; else there is no
--- room for them, or a block failed
-pub record IsLoaded {T : Type 0} (queue : Holding Pair) (records : List Pair) (new : Holding Pair) (result : Result T QueueFault) : Type 0 where
-  pub kept : Keeps queue new
-  pub bag : OnOk result (AllTell queue.slots → IsSameBag new.bag (records ++ queue.bag))
-  pub size : OnOk result (new.size ≡ queue.size + length records)
-  pub sound : OnOk result (new.failed ≡ None)
-  pub peak : OnOk result (new.peak ≡ max queue.peak (queue.size + length records))
-  pub refused : IfErr result (IsRefusedBy (max queue.peak (queue.size + length records)) queue.sizes queue.limited new.slots)
+-- What contracts see of an open session of pairs: what its owner keeps, and the passes, in the order of their workers
+abbrev pub LoadHolding : Type 0 → Type 0
+LoadHolding S = SessionHolding S Pair
 
 -- the number of the generator after so many steps
 abbrev pub seed_after : ℕ → ℕ → ℕ
@@ -142,11 +114,6 @@ IsHandedBack old new (Queue (queue_fault.Device number)) = HasStopped number new
 IsHandedBack old new Read = ⊥
 IsHandedBack old new Memory = IsIntact old new
 IsHandedBack old new (Ended got) = ⊥
-
--- a session ended with a fault: the queue has all records of the session, or a block failed
-abbrev pub IsLeftBy : {S : Type 0} → (S → Shown) → LoadHolding S → Holding Pair → QueueFault → Type 0
-IsLeftBy shown load new queue_fault.NoFreeBlock = IsTogether shown load.bulk load.passes new
-IsLeftBy shown load new (queue_fault.Device number) = HasStopped number new
 
 -- the library's count rose where a read failed, and else stayed
 abbrev pub LoadCountsFrom : ℕ → ℕ → LoadFault → Type 0

@@ -18,10 +18,7 @@ ghost use Rattle.ppq_session.specs.Batches.{passes_of};
 ghost use Rattle.ppq_load.specs.Limits.{AreGoing, HasStopped, InLimits, IsOver, begun_in};
 
 use crate::LoadFault;
-use ppq_session::{
-    Ask, Front, Gate, Host, LimitPass, Line, Pair, Queue, QueueFault, SessionEnd, Shared, Slot,
-    limit_begin, limit_end, limited_are_going, run_both,
-};
+use ppq_session::{Ask, Gate, Host, LimitSession, Line, Pair, Queue, QueueFault, Slot};
 use std::alloc::Global;
 use std::marker::Model;
 
@@ -30,22 +27,15 @@ use std::marker::Model;
 /// Contracts see the front and the passes, in the order of their workers.
 #[derive(Drop)]
 pub struct Limits<S: Slot + Send + Sync> {
-    front: Front<S, Pair>,
-    shared: Shared<S, Pair>,
-    passes: Vec<LimitPass<S, Pair>>,
+    session: LimitSession<S, Pair>,
 }
 
 impl<S: Slot + Send + Sync> Model for Limits<S> {
-    ghost use Rattle.std.specs.Prelude.{◌≡◌, All};
-    ghost use Rattle.ppq_session.specs.ppq_pass.Passed.{IsOf};
-    ghost use Rattle.ppq_session.specs.LimitSession.{AreLimited, shared_of};
     ghost use Rattle.ppq_load.specs.Limits.{LimitsHolding};
 
     ghost Value = { LimitsHolding S };
 
-    ghost view = { λ s. record { front = s.front; passes = s.passes.items } };
-
-    ghost invariant = { λ s. AreLimited s.front s.passes.items × (s.shared ≡ shared_of s.front) × All (λ p. IsOf s.shared p.pass) s.passes.items };
+    ghost view = { λ s. s.session };
 }
 
 impl<S: Slot + Send + Sync> Limits<S> {
@@ -72,15 +62,8 @@ impl<S: Slot + Send + Sync> Limits<S> {
         ensures kept { IfErr result (λ back. Keeps (begun_in queue) back.0) }
         ensures latched { (number : ℕ) → queue.failed ≡ Some number → result ≡ Err (begun_in queue, ByQueue (Device number)) }
     {
-        match limit_begin(rt, alloc, queue, limit, gate) {
-            Ok((front, shared, passes)) => {
-                front.known();
-                Ok(Limits {
-                    front,
-                    shared,
-                    passes,
-                })
-            }
+        match LimitSession::begin(rt, alloc, queue, limit, gate) {
+            Ok(session) => Ok(Limits { session }),
             Err((queue, fault)) => Err((queue, LoadFault::from(fault))),
         }
     }
@@ -119,34 +102,7 @@ impl<S: Slot + Send + Sync> Limits<S> {
         ensures sizes { self.new.front.sizes ≡ self.old.front.sizes }
         ensures limit { self.new.front.limit ≡ self.old.front.limit }
     {
-        let Limits {
-            front,
-            shared,
-            passes,
-        } = self;
-        front.known();
-        run_both(
-            rt,
-            front,
-            shared,
-            passes.as_mut_slice(),
-            lines,
-            asks,
-            answers,
-            gate,
-        );
-        self.is_going()
-    }
-
-    // Whether no push of any pass was refused, and no call of a slot of the front failed.
-    fn is_going(&self) -> bool
-        ensures all { IsTrue result → AreGoing self.now }
-        ensures stopped { result ≡ false → HasStopped self.now }
-    {
-        match self.front.failed() {
-            None => limited_are_going(self.passes.as_slice()),
-            Some(_) => false,
-        }
+        self.session.run(rt, lines, asks, answers, gate)
     }
 
     /// Ends the session: the queue with the records that are left of what it had and those that its passes
@@ -163,13 +119,6 @@ impl<S: Slot + Send + Sync> Limits<S> {
         ensures all_records { result.1 ≡ Err NoFreeBlock → AllTell self.front.slots → All (PassTells S.shown) (passes_of self.passes) → IsSameBag result.0.bag (self.front.bag ++ limited_bag self.passes) }
         ensures counted { result.1 ≡ Err NoFreeBlock → result.0.size ≡ self.front.size + limited_accepted self.passes }
     {
-        self.front.known();
-        let all = limited_are_going(self.passes.as_slice());
-        let (queue, end) = limit_end(rt, self.front, self.shared, self.passes, gate);
-        match end {
-            SessionEnd::Stopped(fault) => (queue, Err(fault)),
-            SessionEnd::Whole if all => (queue, Ok(())),
-            SessionEnd::Whole => (queue, Err(QueueFault::NoFreeBlock)),
-        }
+        self.session.end(rt, gate)
     }
 }

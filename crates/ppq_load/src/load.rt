@@ -10,10 +10,7 @@ ghost use Rattle.ppq_load.specs.Loading.{InSession, IsLoaded, IsByLoad, IsHanded
 ghost use Rattle.ppq_load.specs.declared.fault.LoadFault.TheVariants as load_fault;
 
 use crate::fault::LoadFault;
-use ppq_session::{
-    Bulk, Gate, Host, Line, Pair, Pass, Queue, QueueFault, SessionEnd, Shared, Slot, are_going,
-    bulk_begin, bulk_end, deal, push_lines,
-};
+use ppq_session::{Gate, Host, Line, Pair, Queue, QueueFault, Session, Slot};
 use std::alloc::Global;
 use std::marker::Model;
 
@@ -23,24 +20,15 @@ use std::marker::Model;
 /// records were given to them.
 #[derive(Drop)]
 pub struct Load<S: Slot + Send + Sync> {
-    // What is left of the queue, with the batch from which records are dealt.
-    bulk: Bulk<S, Pair>,
-    // What all passes share.
-    shared: Shared<S, Pair>,
-    // A pass for each worker.
-    passes: Vec<Pass<S, Pair>>,
+    session: Session<S, Pair>,
 }
 
 impl<S: Slot + Send + Sync> Model for Load<S> {
-    ghost use Rattle.std.specs.Prelude.{◌≡◌};
-    ghost use Rattle.ppq_session.specs.BulkSession.{AreOf, keys_of, shared_by};
     ghost use Rattle.ppq_load.specs.Loading.{LoadHolding};
 
     ghost Value = { LoadHolding S };
 
-    ghost view = { λ l. record { bulk = l.bulk; passes = l.passes.items } };
-
-    ghost invariant = { λ l. AreOf l.bulk (keys_of l.passes.items) × (l.shared ≡ shared_by l.bulk) };
+    ghost view = { λ l. l.session };
 }
 
 impl<S: Slot + Send + Sync> Load<S> {
@@ -64,12 +52,8 @@ impl<S: Slot + Send + Sync> Load<S> {
         ensures kept { IfErr result (λ back. Keeps queue back.0) }
         ensures latched { (number : ℕ) → queue.failed ≡ Some number → result ≡ Err (queue, load_fault.Queue (Device number)) }
     {
-        match bulk_begin(rt, alloc, queue, gate) {
-            Ok((bulk, shared, passes)) => Ok(Load {
-                bulk,
-                shared,
-                passes,
-            }),
+        match Session::begin(rt, alloc, queue, gate) {
+            Ok(session) => Ok(Load { session }),
             Err((queue, fault)) => Err((queue, LoadFault::from(fault))),
         }
     }
@@ -81,8 +65,7 @@ impl<S: Slot + Send + Sync> Load<S> {
         ensures range { AreInRange self.now.bulk.sizes }
         ensures batch { length self.now.bulk.batch ≡ batch_of self.now.bulk.sizes }
     {
-        self.bulk.known();
-        self.bulk.batch().len() as u32
+        self.session.batch_len()
     }
 
     /// Writes a record to a place of the batch.
@@ -91,7 +74,7 @@ impl<S: Slot + Send + Sync> Load<S> {
         requires { place < batch_of self.old.bulk.sizes }
         ensures { self.new ≡ with_batch self.old (slice_set self.old.bulk.batch place item) }
     {
-        self.bulk.put(place, item);
+        self.session.put(place, item);
     }
 
     /// Deals the first `count` records of the batch to the passes, in equal parts. Whether all were added.
@@ -105,9 +88,7 @@ impl<S: Slot + Send + Sync> Load<S> {
         ensures session { (queue : Holding Pair) → (records : List Pair) → InSession S.shown queue records self.old → InSession S.shown queue (records ++ take count self.old.bulk.batch) self.new }
         ensures bulk { self.new.bulk ≡ self.old.bulk }
     {
-        self.bulk.known();
-        let records = &self.bulk.batch()[..count as usize];
-        deal(rt, gate, &self.shared, records, self.passes.as_mut_slice())
+        self.session.deal(rt, count, gate)
     }
 
     /// Adds the records of lines: each worker takes those with its number, in their order. Whether all were
@@ -122,8 +103,7 @@ impl<S: Slot + Send + Sync> Load<S> {
         ensures session { (queue : Holding Pair) → (records : List Pair) → InSession S.shown queue records self.old → InSession S.shown queue (records ++ records_in lines.now) self.new }
         ensures bulk { self.new.bulk ≡ self.old.bulk }
     {
-        self.bulk.known();
-        push_lines(rt, gate, &self.shared, lines, self.passes.as_mut_slice())
+        self.session.push(rt, lines, gate)
     }
 
     /// Ends the session: the queue with the records that it had and those that its passes accepted. It takes
@@ -139,18 +119,6 @@ impl<S: Slot + Send + Sync> Load<S> {
         ensures loaded { (queue : Holding Pair) → (records : List Pair) → InSession S.shown queue records self → IsLoaded queue records result.0 result.1 }
         ensures left { IfErr result.1 (IsLeftBy S.shown self result.0) }
     {
-        let Load {
-            bulk,
-            shared,
-            passes,
-        } = self;
-        bulk.known();
-        let all = are_going(passes.as_slice());
-        let (queue, end) = bulk_end(rt, bulk, shared, passes, gate);
-        match end {
-            SessionEnd::Stopped(fault) => (queue, Err(fault)),
-            SessionEnd::Whole if all => (queue, Ok(())),
-            SessionEnd::Whole => (queue, Err(QueueFault::NoFreeBlock)),
-        }
+        self.session.end(rt, gate)
     }
 }

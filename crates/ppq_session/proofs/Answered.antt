@@ -1,15 +1,12 @@
 -- Asks that a front answers in turn: of equal bags the answers are the same, and one ask more.
-use Rattle.std.proofs.Common.{◌≡◌, ℕ, zero, suc, ◌+◌, ◌<◌, ◌≤◌, List, [], ◌∷◌, ◌++◌, length, take, get_or, min, Option, None, refl, sym, ap, ap₂, ◌∙◌, subst, arith, length-append, length-take}
+use Rattle.std.proofs.Common.{◌≡◌, ℕ, zero, suc, ◌+◌, ◌<◌, ◌≤◌, List, [], ◌∷◌, ◌++◌, length, take, get_or, min, Option, None, refl, sym, ap, ap₂, ◌∙◌, subst, arith, length-append, length-take, Ordering}
+use Rattle.std.specs.declared.cmp.Ordering.TheVariants.{Equal}
 use Rattle.std.specs.Cmp.{IsTotalOrder}
 use Rattle.std.specs.Prelude.{count_by, drop}
-use Rattle.std.proofs.lemmas.Cmp.{then_total, on_total, nat_cmp_total}
 use Rattle.std.proofs.lemmas.List.{take_more, take_all}
-use Rattle.ppq_pass.specs.ppq_record.declared.pair.Pair.{Pair}
-use Rattle.ppq_pass.specs.ppq_record.Order.{is_before}
-use Rattle.ppq_pass.specs.ppq_record.Pair.{pair_cmp, pair_same}
 use Rattle.ppq_pass.specs.ppq_record.Bag.{IsSameBag, ascending, first_of}
 use Rattle.ppq_pass.proofs.ppq_record.Order.{IsSameBag-trans}
-use Rattle.ppq_pass.proofs.ppq_record.Fronts.{ascending-same_bag}
+use Rattle.ppq_session.proofs.Belows.{least_below-same, without_below-same}
 use Rattle.ppq_pass.specs.ppq_outside.Shown.{AllTell}
 use Rattle.ppq_pass.proofs.ppq_spill.SameSlots.{SameSlots-refl, SameSlots-trans}
 use Rattle.ppq_pass.specs.ppq_array.declared.store_fault.StoreFault.{StoreFault as QueueFault}
@@ -20,48 +17,40 @@ use Rattle.ppq_session.specs.declared.ask.Ask.TheVariants.{Top, Pop}
 use Rattle.ppq_session.specs.Asks.{pops_by, pops_in, left_by, left_after, answers_to}
 use Rattle.ppq_session.specs.Answering.{KeepsFront, HasAnswered}
 
-pub pair_total : IsTotalOrder pair_cmp
-pair_total = then_total (on_total (λ p. p.key) nat_cmp_total) (on_total (λ p. p.value) nat_cmp_total)
-
-same_order : (one other : List Pair) → IsSameBag one other → ascending pair_cmp one ≡ ascending pair_cmp other
-same_order one other same = ascending-same_bag pair_total pair_same one other same
-
-module _ (limit : Pair) where
-  -- of equal bags the answer is the same, and what it leaves is equal
-  least_below-same : (one other : List Pair) → IsSameBag one other → least_below pair_cmp limit one ≡ least_below pair_cmp limit other
-  least_below-same one other same = ap₂ (λ (n : ℕ) (q : List Pair). first_of (take (min 1 n) q)) (same (λ x. is_before pair_cmp x limit)) (same_order one other same)
-
-  left_by-same : (one other : List Pair) (ask : Ask) → IsSameBag one other → IsSameBag (left_by pair_cmp limit one ask) (left_by pair_cmp limit other ask)
+module _ {R : Type 0} {cmp : R → R → Ordering} (o : IsTotalOrder cmp) (equal : (x y : R) → cmp x y ≡ Equal → x ≡ y) (limit : R) where
+  -- of equal bags what an ask leaves is equal
+  left_by-same : (one other : List R) (ask : Ask) → IsSameBag one other → IsSameBag (left_by cmp limit one ask) (left_by cmp limit other ask)
   left_by-same one other Top same = same
-  left_by-same one other Pop same = λ p. ap₂ (λ (n : ℕ) (q : List Pair). count_by p (drop (min 1 n) q)) (same (λ x. is_before pair_cmp x limit)) (same_order one other same)
+  left_by-same one other Pop same = λ p. ap (count_by p) (without_below-same o equal limit one other same)
 
-  pub left_after-same : (one other : List Pair) (asks : List Ask) → IsSameBag one other → IsSameBag (left_after pair_cmp limit one asks) (left_after pair_cmp limit other asks)
+  pub left_after-same : (one other : List R) (asks : List Ask) → IsSameBag one other → IsSameBag (left_after cmp limit one asks) (left_after cmp limit other asks)
   left_after-same one other [] same = same
-  left_after-same one other (ask ∷ asks) same = left_after-same (left_by pair_cmp limit one ask) (left_by pair_cmp limit other ask) asks (left_by-same one other ask same)
+  left_after-same one other (ask ∷ asks) same = left_after-same (left_by cmp limit one ask) (left_by cmp limit other ask) asks (left_by-same one other ask same)
 
-  pub answers_to-same : (one other : List Pair) (asks : List Ask) → IsSameBag one other → answers_to pair_cmp limit one asks ≡ answers_to pair_cmp limit other asks
+  pub answers_to-same : (one other : List R) (asks : List Ask) → IsSameBag one other → answers_to cmp limit one asks ≡ answers_to cmp limit other asks
   answers_to-same one other [] same = refl
   answers_to-same one other (ask ∷ asks) same =
-      ap₂ (λ (a : Option Pair) (xs : List (Option Pair)). a ∷ xs) (least_below-same one other same) (answers_to-same (left_by pair_cmp limit one ask) (left_by pair_cmp limit other ask) asks (left_by-same one other ask same))
+      ap₂ (λ (a : Option R) (xs : List (Option R)). a ∷ xs) (least_below-same o equal limit one other same) (answers_to-same (left_by cmp limit one ask) (left_by cmp limit other ask) asks (left_by-same one other ask same))
 
+module _ {R : Type 0} (cmp : R → R → Ordering) (limit : R) where
   -- one ask more
-  left_after-more : (bag : List Pair) (asks : List Ask) (ask : Ask) → left_after pair_cmp limit bag (asks ++ ask ∷ []) ≡ left_by pair_cmp limit (left_after pair_cmp limit bag asks) ask
+  left_after-more : (bag : List R) (asks : List Ask) (ask : Ask) → left_after cmp limit bag (asks ++ ask ∷ []) ≡ left_by cmp limit (left_after cmp limit bag asks) ask
   left_after-more bag [] ask = refl
-  left_after-more bag (a ∷ asks) ask = left_after-more (left_by pair_cmp limit bag a) asks ask
+  left_after-more bag (a ∷ asks) ask = left_after-more (left_by cmp limit bag a) asks ask
 
-  answers_to-more : (bag : List Pair) (asks : List Ask) (ask : Ask) → answers_to pair_cmp limit bag (asks ++ ask ∷ []) ≡ answers_to pair_cmp limit bag asks ++ least_below pair_cmp limit (left_after pair_cmp limit bag asks) ∷ []
+  answers_to-more : (bag : List R) (asks : List Ask) (ask : Ask) → answers_to cmp limit bag (asks ++ ask ∷ []) ≡ answers_to cmp limit bag asks ++ least_below cmp limit (left_after cmp limit bag asks) ∷ []
   answers_to-more bag [] ask = refl
-  answers_to-more bag (a ∷ asks) ask = ap (λ (xs : List (Option Pair)). least_below pair_cmp limit bag ∷ xs) (answers_to-more (left_by pair_cmp limit bag a) asks ask)
+  answers_to-more bag (a ∷ asks) ask = ap (λ (xs : List (Option R)). least_below cmp limit bag ∷ xs) (answers_to-more (left_by cmp limit bag a) asks ask)
 
   -- as many answers as asks; the first answers are those of the first asks
-  answers_to-length : (bag : List Pair) (asks : List Ask) → length (answers_to pair_cmp limit bag asks) ≡ length asks
+  answers_to-length : (bag : List R) (asks : List Ask) → length (answers_to cmp limit bag asks) ≡ length asks
   answers_to-length bag [] = refl
-  answers_to-length bag (ask ∷ asks) = ap suc (answers_to-length (left_by pair_cmp limit bag ask) asks)
+  answers_to-length bag (ask ∷ asks) = ap suc (answers_to-length (left_by cmp limit bag ask) asks)
 
-  answers_to-take : (n : ℕ) (bag : List Pair) (asks : List Ask) → answers_to pair_cmp limit bag (take n asks) ≡ take n (answers_to pair_cmp limit bag asks)
+  answers_to-take : (n : ℕ) (bag : List R) (asks : List Ask) → answers_to cmp limit bag (take n asks) ≡ take n (answers_to cmp limit bag asks)
   answers_to-take zero bag asks = refl
   answers_to-take (suc n) bag [] = refl
-  answers_to-take (suc n) bag (ask ∷ asks) = ap (λ (xs : List (Option Pair)). least_below pair_cmp limit bag ∷ xs) (answers_to-take n (left_by pair_cmp limit bag ask) asks)
+  answers_to-take (suc n) bag (ask ∷ asks) = ap (λ (xs : List (Option R)). least_below cmp limit bag ∷ xs) (answers_to-take n (left_by cmp limit bag ask) asks)
 
 pops_in-more : (asks : List Ask) (ask : Ask) → pops_in (asks ++ ask ∷ []) ≡ pops_in asks + pops_by ask
 pops_in-more [] ask = omega arith
@@ -72,8 +61,8 @@ pops_in-take zero asks = omega arith
 pops_in-take (suc n) [] = omega arith
 pops_in-take (suc n) (ask ∷ asks) = omega (arith, pops_in-take n asks)
 
-module _ {S : Type 0} where
-  KeepsFront-refl : (front : FrontHolding S Pair) → KeepsFront 0 front front
+module _ {S R : Type 0} where
+  KeepsFront-refl : (front : FrontHolding S R) → KeepsFront 0 front front
   KeepsFront-refl front = record {
     limit = refl;
     sizes = refl;
@@ -88,7 +77,7 @@ module _ {S : Type 0} where
     writes = omega arith;
   }
 
-  KeepsFront-trans : (n m : ℕ) (old mid new : FrontHolding S Pair) → KeepsFront n old mid → KeepsFront m mid new → KeepsFront (n + m) old new
+  KeepsFront-trans : (n m : ℕ) (old mid new : FrontHolding S R) → KeepsFront n old mid → KeepsFront m mid new → KeepsFront (n + m) old new
   KeepsFront-trans n m old mid new one two = record {
     limit = two.limit ∙ one.limit;
     sizes = two.sizes ∙ one.sizes;
@@ -103,7 +92,7 @@ module _ {S : Type 0} where
     writes = omega (arith, one.writes, two.writes);
   }
 
-  KeepsFront-more : (n m : ℕ) (old new : FrontHolding S Pair) → n ≤ m → KeepsFront n old new → KeepsFront m old new
+  KeepsFront-more : (n m : ℕ) (old new : FrontHolding S R) → n ≤ m → KeepsFront n old new → KeepsFront m old new
   KeepsFront-more n m old new h keeps = record {
     limit = keeps.limit;
     sizes = keeps.sizes;
@@ -119,57 +108,57 @@ module _ {S : Type 0} where
   }
 
 -- A front answered these asks, all of them, and met no fault
-pub record SoFar {S : Type 0} (asks : List Ask) (answers : List (Option Pair)) (old new : FrontHolding S Pair) : Type 0 where
+pub record SoFar {S R : Type 0} (cmp : R → R → Ordering) (asks : List Ask) (answers : List (Option R)) (old new : FrontHolding S R) : Type 0 where
   pub kept : KeepsFront (pops_in asks) old new
   pub sound : new.failed ≡ None
   pub long : length answers ≡ length asks
-  pub are : AllTell old.slots → answers ≡ answers_to pair_cmp old.limit old.bag asks
-  pub left : AllTell old.slots → IsSameBag new.bag (left_after pair_cmp old.limit old.bag asks)
+  pub are : AllTell old.slots → answers ≡ answers_to cmp old.limit old.bag asks
+  pub left : AllTell old.slots → IsSameBag new.bag (left_after cmp old.limit old.bag asks)
 
-module _ {S : Type 0} where
+module _ {S R : Type 0} {cmp : R → R → Ordering} where
   -- no ask yet
-  pub answered-none : (answers : List (Option Pair)) (front : FrontHolding S Pair) → answers ≡ [] → front.failed ≡ None → SoFar [] answers front front
+  pub answered-none : (answers : List (Option R)) (front : FrontHolding S R) → answers ≡ [] → front.failed ≡ None → SoFar cmp [] answers front front
   answered-none answers front none sound = record { kept = KeepsFront-refl front; sound = sound; long = ap length none; are = λ t. none; left = λ t p. refl }
 
   -- one ask more
   pub answered-more :
-      (asks : List Ask) (i : ℕ) (ask : Ask) (answers all : List (Option Pair)) (answer : Option Pair) (old mid new : FrontHolding S Pair) → all ≡ answers ++ answer ∷ [] → i < length asks → ask ≡ get_or asks i Top
-      → SoFar (take i asks) answers old mid → KeepsFront (pops_by ask) mid new → new.failed ≡ None → (AllTell mid.slots → answer ≡ least_below pair_cmp mid.limit mid.bag)
-      → (AllTell mid.slots → IsSameBag new.bag (left_by pair_cmp mid.limit mid.bag ask)) → SoFar (take (i + 1) asks) all old new
-  answered-more asks i ask answers all answer old mid new pushed l is so_far keeps sound gives leaves =
+      IsTotalOrder cmp → ((x y : R) → cmp x y ≡ Equal → x ≡ y) → (asks : List Ask) (i : ℕ) (ask : Ask) (answers all : List (Option R)) (answer : Option R) (old mid new : FrontHolding S R) → all ≡ answers ++ answer ∷ [] → i < length asks → ask ≡ get_or asks i Top
+      → SoFar cmp (take i asks) answers old mid → KeepsFront (pops_by ask) mid new → new.failed ≡ None → (AllTell mid.slots → answer ≡ least_below cmp mid.limit mid.bag)
+      → (AllTell mid.slots → IsSameBag new.bag (left_by cmp mid.limit mid.bag ask)) → SoFar cmp (take (i + 1) asks) all old new
+  answered-more o equal asks i ask answers all answer old mid new pushed l is so_far keeps sound gives leaves =
       let limit = old.limit in
       let before = take i asks in
-      let was = left_after pair_cmp limit old.bag before in
+      let was = left_after cmp limit old.bag before in
       let more : take (i + 1) asks ≡ before ++ ask ∷ [] = take_more asks i Top l ∙ ap (λ a. before ++ a ∷ []) (sym is) in
       record {
         kept = subst (λ n. KeepsFront n old new) (sym (ap pops_in more ∙ pops_in-more before ask)) (KeepsFront-trans (pops_in before) (pops_by ask) old mid new so_far.kept keeps);
         sound = sound;
         long = omega (arith, so_far.long, ap length pushed, ap length more, length-append before (ask ∷ []), length-append answers (answer ∷ []));
         are = λ t.
-            let last : answer ≡ least_below pair_cmp limit was = gives (so_far.kept.tells t) ∙ (ap (λ l. least_below pair_cmp l mid.bag) so_far.kept.limit ∙ least_below-same limit mid.bag was (so_far.left t)) in
-            pushed ∙ (ap₂ (λ (xs : List (Option Pair)) (a : Option Pair). xs ++ a ∷ []) (so_far.are t) last ∙ (sym (answers_to-more limit old.bag before ask) ∙ ap (answers_to pair_cmp limit old.bag) (sym more)));
+            let last : answer ≡ least_below cmp limit was = gives (so_far.kept.tells t) ∙ (ap (λ l. least_below cmp l mid.bag) so_far.kept.limit ∙ least_below-same o equal limit mid.bag was (so_far.left t)) in
+            pushed ∙ (ap₂ (λ (xs : List (Option R)) (a : Option R). xs ++ a ∷ []) (so_far.are t) last ∙ (sym (answers_to-more cmp limit old.bag before ask) ∙ ap (answers_to cmp limit old.bag) (sym more)));
         left = λ t.
-            let now = subst (λ l. IsSameBag new.bag (left_by pair_cmp l mid.bag ask)) so_far.kept.limit (leaves (so_far.kept.tells t)) in
-            subst (λ bag. IsSameBag new.bag bag) (sym (ap (left_after pair_cmp limit old.bag) more ∙ left_after-more limit old.bag before ask))
-            (IsSameBag-trans new.bag (left_by pair_cmp limit mid.bag ask) (left_by pair_cmp limit was ask) now (left_by-same limit mid.bag was ask (so_far.left t)));
+            let now = subst (λ l. IsSameBag new.bag (left_by cmp l mid.bag ask)) so_far.kept.limit (leaves (so_far.kept.tells t)) in
+            subst (λ bag. IsSameBag new.bag bag) (sym (ap (left_after cmp limit old.bag) more ∙ left_after-more cmp limit old.bag before ask))
+            (IsSameBag-trans new.bag (left_by cmp limit mid.bag ask) (left_by cmp limit was ask) now (left_by-same o equal limit mid.bag was ask (so_far.left t)));
       }
 
   -- all asks were answered
-  pub answered-all : (asks : List Ask) (n : ℕ) (answers : List (Option Pair)) (old new : FrontHolding S Pair) → length asks ≤ n → SoFar (take n asks) answers old new → HasAnswered asks answers old new
+  pub answered-all : (asks : List Ask) (n : ℕ) (answers : List (Option R)) (old new : FrontHolding S R) → length asks ≤ n → SoFar cmp (take n asks) answers old new → HasAnswered cmp asks answers old new
   answered-all asks n answers old new h so_far =
-      let all : SoFar asks answers old new = subst (λ xs. SoFar xs answers old new) (take_all n asks h) so_far in
+      let all : SoFar cmp asks answers old new = subst (λ xs. SoFar cmp xs answers old new) (take_all n asks h) so_far in
       record {
         kept = all.kept;
         fewer = omega (arith, all.long);
         all = λ f. all.long;
-        are = λ t. all.are t ∙ sym (take_all (length answers) (answers_to pair_cmp old.limit old.bag asks) (omega (arith, all.long, answers_to-length old.limit old.bag asks)));
+        are = λ t. all.are t ∙ sym (take_all (length answers) (answers_to cmp old.limit old.bag asks) (omega (arith, all.long, answers_to-length cmp old.limit old.bag asks)));
         left = λ f t. all.left t;
       }
 
   -- the next ask met a fault
   pub answered-stopped :
-      (asks : List Ask) (i : ℕ) (ask : Ask) (answers : List (Option Pair)) (old mid new : FrontHolding S Pair) (fault : QueueFault) → i < length asks → ask ≡ get_or asks i Top → SoFar (take i asks) answers old mid
-      → KeepsFront (pops_by ask) mid new → IsFrontRefusal new fault → HasAnswered asks answers old new
+      (asks : List Ask) (i : ℕ) (ask : Ask) (answers : List (Option R)) (old mid new : FrontHolding S R) (fault : QueueFault) → i < length asks → ask ≡ get_or asks i Top → SoFar cmp (take i asks) answers old mid
+      → KeepsFront (pops_by ask) mid new → IsFrontRefusal new fault → HasAnswered cmp asks answers old new
   answered-stopped asks i ask answers old mid new NoFreeBlock l is so_far keeps refused = absurd refused
   answered-stopped asks i ask answers old mid new (Device number) l is so_far keeps refused =
       let failed = refused.1 in
@@ -181,6 +170,6 @@ module _ {S : Type 0} where
         kept = KeepsFront-more (pops_in before + pops_by ask) (pops_in asks) old new most (KeepsFront-trans (pops_in before) (pops_by ask) old mid new so_far.kept keeps);
         fewer = omega (arith, long);
         all = λ none. absurd (cc);
-        are = λ t. so_far.are t ∙ (answers_to-take old.limit i old.bag asks ∙ ap (λ n. take n (answers_to pair_cmp old.limit old.bag asks)) (sym long));
+        are = λ t. so_far.are t ∙ (answers_to-take cmp old.limit i old.bag asks ∙ ap (λ n. take n (answers_to cmp old.limit old.bag asks)) (sym long));
         left = λ none. absurd (cc);
       }

@@ -36,7 +36,7 @@ use Rattle.ppq_pass.specs.Passed.{slots_of as pass_slots}
 use Rattle.ppq_queue.specs.Slots.{with_slots}
 use Rattle.ppq_queue.proofs.Counts.{runs_fit, arrays_fit, stored_slots, internal_count}
 use Rattle.ppq_queue.specs.Resting.{IsRestingRun, IsRestingArray, odd_of, odd_in, slots_of, count_of}
-use Rattle.ppq_session.specs.Gathering.{IsGathering, IsSoundSoFar, slots_in, buffers_in, begun_in}
+use Rattle.ppq_session.specs.Gathering.{IsGathering, IsSoundSoFar, slots_in, buffers_in, begun_in, Adopted}
 use Rattle.ppq_session.specs.declared.brought.Brought.{Brought}
 use Rattle.ppq_session.specs.declared.closed.Closed.{Closed}
 use Rattle.std.specs.Prelude.{Bool, None, flat_map, count_by}
@@ -187,17 +187,6 @@ module _ {S R : Type 0} (shown : S → Shown) (width : ℕ) (slots items : List 
       by_fault number (inr e) =
           let f = weight_at (λ s. s.faults) number in
           omega (arith, (passed.fault number e).0, a.sums f, sum_by-append f (slots_of shown c.body c.supply) (slots_in shown (rest ++ one ∷ [])), slots-push f)
-
--- what a body has that took over another's runs and idle buffers
-pub record Adopted {S R : Type 0} (old from new : PassBody S R) : Type 0 where
-  pub internal : new.runs.internal.items ≡ old.runs.internal.items ++ reverse from.runs.internal.items
-  pub external : new.runs.external.items ≡ old.runs.external.items ++ reverse from.runs.external.items
-  pub idle : new.lanes.idle ≡ old.lanes.idle ++ from.lanes.idle
-  pub jobs : new.lanes.jobs ≡ old.lanes.jobs
-  pub batch : new.lanes.batch ≡ old.lanes.batch
-  pub tree : new.tree ≡ old.tree
-  pub internal_room : vec_capacity new.runs.internal ≡ vec_capacity old.runs.internal
-  pub external_room : vec_capacity new.runs.external ≡ vec_capacity old.runs.external
 
 module _ {S R : Type 0} (shown : S → Shown) (old from new : PassBody S R) (is : Adopted old from new) (no_job : from.lanes.jobs.items ≡ []) where
   -- its slots, with those of a stash that were freed

@@ -13,17 +13,7 @@ use Rattle.ppq_queue.specs.Resting.{slots_of}
 use Rattle.ppq_session.specs.Apart.{IsApart}
 use Rattle.ppq_session.specs.declared.parts.BulkParts.{BulkParts}
 use Rattle.ppq_session.specs.Bringing.{BroughtAll}
-
--- what the ends of row and pool ask
-pub record MayClose {S R : Type 0} (shown : S → Shown) (width : ℕ) (p : BulkParts S R) (shared : Shared S R) : Type 0 where
-  pub row : p.row_seat.row ≡ shared.row
-  pub row_shares : p.row_seat.hand.shares ≡ all_shares
-  pub few_slots : length p.row_seat.hand.items ≤ p.supply.slot_room
-  pub bytes : All (HasSize shown (p.supply.block * width)) p.row_seat.hand.items
-  pub pool : p.pool_seat.pool ≡ shared.pool
-  pub pool_shares : p.pool_seat.hand.shares ≡ all_shares
-  pub few_buffers : count_of p.pool_seat.pool ≤ p.supply.buffer_room
-  pub shape : 0 < count_of p.pool_seat.pool → p.pool_seat.hand.shape ≡ p.supply.block
+use Rattle.ppq_session.specs.Closing.{MayClose}
 
 module _ {S R : Type 0} (shown : S → Shown) (cmp : R → R → Ordering) (record_of : List ℕ → R) (width : ℕ) (q : BulkParts S R) (failed : Option ℕ) (is : IsApart shown width q failed) (q1 : BulkParts S R) (passes : List (PassHolding S R)) (br : BroughtAll shown record_of width q.sizes cmp passes q q1) where
   same_supply : q1.supply ≡ q.supply

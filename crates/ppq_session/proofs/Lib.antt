@@ -26,6 +26,7 @@ pub mod Handing
 pub mod Joined
 pub mod LimitBegun
 pub mod LimitPassed
+pub mod LimitSessions
 pub mod Limited
 pub mod Limiting
 pub mod LineParts
@@ -40,7 +41,9 @@ pub mod Readied
 pub mod Refilling
 pub mod Rejoined
 pub mod Room
+pub mod Refusals
 pub mod Sends
+pub mod Sessions
 pub mod Sharing
 pub mod ShortOfBlocks
 pub mod Taken

@@ -20,10 +20,10 @@ use Rattle.ppq_pass.specs.Passed.{slots_of as pass_slots}
 use Rattle.ppq_queue.specs.Slots.{with_slots}
 use Rattle.ppq_queue.specs.Resting.{slots_of, runs_bag}
 use Rattle.ppq_session.specs.Passes.{IsBrought, pass_of}
-use Rattle.ppq_session.specs.Gathering.{IsGathered, IsGathering, IsSoundSoFar, gathered_bag}
+use Rattle.ppq_session.specs.Gathering.{IsGathered, IsGathering, IsSoundSoFar, gathered_bag, Adopted}
 use Rattle.ppq_session.specs.declared.brought.Brought.{Brought}
 use Rattle.ppq_session.specs.declared.closed.Closed.{Closed}
-use Rattle.ppq_session.proofs.Gathered.{Adopted, adopted-slots, adopted-buffers, gathering-more, sound-more', count-flat, count-joined}
+use Rattle.ppq_session.proofs.Gathered.{adopted-slots, adopted-buffers, gathering-more, sound-more', count-flat, count-joined}
 
 -- what a queue's parts are after a pass was put in, besides its runs
 pub record PutIn {S R : Type 0} (c new : Closed S R) (one : Brought S R) : Type 0 where

@@ -20,12 +20,13 @@ use Rattle.ppq_pass.specs.ppq_budget.Sizes.{heap_of, room_of}
 use Rattle.ppq_queue.specs.Holding.{Holding, IsRefusal}
 use Rattle.ppq_pass.specs.ppq_array.declared.store_fault.StoreFault.{StoreFault as QueueFault}
 use Rattle.ppq_pass.specs.ppq_array.declared.store_fault.StoreFault.TheVariants.{NoFreeBlock, Device}
-use Rattle.ppq_session.specs.declared.fault.SessionEnd.TheVariants.{Stopped}
+use Rattle.ppq_session.specs.declared.fault.SessionEnd.{SessionEnd}
+use Rattle.ppq_session.specs.declared.fault.SessionEnd.TheVariants.{Whole, Stopped}
 use Rattle.ppq_queue.specs.Slots.{SameSums}
 use Rattle.ppq_queue.specs.Resting.{slots_of, runs_bag}
 use Rattle.ppq_queue.proofs.Slots.{slots-sums, tells-sums}
 use Rattle.ppq_session.specs.BulkSession.{bag_of, accepted_of}
-use Rattle.ppq_session.specs.Apart.{IsApart, IsSoundApart, GoesBefore, HasAll, EndsApart, apart_slots, apart_key}
+use Rattle.ppq_session.specs.Apart.{IsApart, IsSoundApart, GoesBefore, HasAll, EndsApart, SessionEnded, apart_slots, apart_key}
 use Rattle.ppq_pass.specs.declared.shared.Shared.{Shared}
 use Rattle.ppq_session.specs.declared.parts.BulkParts.{BulkParts}
 use Rattle.ppq_session.specs.Passes.{pass_of}
@@ -64,6 +65,18 @@ pub record IsMade {S R : Type 0} (shown : S → Shown) (cmp : R → R → Orderi
   pub failed : queue.failed ≡ d.failed
   pub size : d.failed ≡ None → queue.size ≡ d.count
   pub peak : queue.peak ≡ max d.peak (min (d.count + popped) (d.sizes.memory + d.sizes.block * d.sizes.blocks))
+  pub sizes : queue.sizes ≡ d.sizes
+  pub limited : queue.limited ≡ d.limited
+
+-- what a settling keeps, whatever it answers
+pub record IsStill {R : Type 0} (old new : Holding R) : Type 0 where
+  pub size : new.size ≡ old.size
+  pub peak : new.peak ≡ old.peak
+  pub slots : SameSlots old.slots new.slots
+  pub tells : AllTell old.slots → AllTell new.slots
+  pub writes : all_writes old.slots ≤ all_writes new.slots
+  pub sizes : new.sizes ≡ old.sizes
+  pub limited : new.limited ≡ old.limited
 
 -- A settling tells a fault that was met before, if there is one. So where it answers Ok, or another fault, there is none
 module _ {A : Type 0} (failed : Option ℕ) (r : Result A QueueFault) (latched : (number : ℕ) → failed ≡ Some number → r ≡ Err (Device number)) where
@@ -176,9 +189,9 @@ module _ {S R : Type 0} (shown : S → Shown) (cmp : R → R → Ordering) (reco
             tells-sums now (slots_of shown d.body d.supply) last_sums (told_now shown cmp record_of width q failed is q1 (reverse ps) br c cl count keys tell (turned (PassTells shown) ps each))
 
         -- what putting all passes in did
-        module _ (whole : d.failed ≡ None → (c.failed ≡ None) × All (λ (x : Brought S R). x.failed ≡ None) c.brought.items) (bag : d.failed ≡ None → IsSameBag (gathered_bag shown cmp record_of width d []) (gathered_bag shown cmp record_of width c c.brought.items)) (more : d.failed ≡ None → d.count ≡ c.count + accepted_in shown c.brought.items) (alike : (d.sizes ≡ c.sizes) × (d.peak ≡ c.peak)) (queue end : Holding R) (made : IsMade shown cmp record_of width popped d queue) (still : end.size ≡ queue.size) (top : end.peak ≡ queue.peak) where
+        module _ (whole : d.failed ≡ None → (c.failed ≡ None) × All (λ (x : Brought S R). x.failed ≡ None) c.brought.items) (bag : d.failed ≡ None → IsSameBag (gathered_bag shown cmp record_of width d []) (gathered_bag shown cmp record_of width c c.brought.items)) (more : d.failed ≡ None → d.count ≡ c.count + accepted_in shown c.brought.items) (alike : (d.sizes ≡ c.sizes) × (d.peak ≡ c.peak)) (no_limit : d.limited ≡ c.limited) (queue end : Holding R) (made : IsMade shown cmp record_of width popped d queue) (still : IsStill queue end) where
           -- where no fault was met the queue has all, also after a settling that lost nothing
-          pub together : queue.failed ≡ None → (AllTell queue.slots → IsSameBag end.bag queue.bag) → end.failed ≡ None → HasAll shown record_of width q popped failed ps end
+          together : queue.failed ≡ None → (AllTell queue.slots → IsSameBag end.bag queue.bag) → end.failed ≡ None → HasAll shown record_of width q popped failed ps end
           together fine moved sound =
               let pass = pass_of shown record_of width q.sizes in
               let Whole : PassHolding S R → Type 0 = λ p. p.failed ≡ None in
@@ -187,11 +200,11 @@ module _ {S R : Type 0} (shown : S → Shown) (cmp : R → R → Ordering) (reco
               let here = subst (All (λ (x : Brought S R). x.failed ≡ None)) brought_is (whole none).1 in
               let apart = sound_turned begun_whole in
               let counted : d.count ≡ q.count + accepted_in shown br.brought = omega (arith, more none, ap (λ k. k.count) first_is, ap (accepted_in shown) brought_is) in
-              let total : end.size ≡ q.count + accepted_in shown br.brought = omega (arith, still, made.size none, counted) in
+              let total : end.size ≡ q.count + accepted_in shown br.brought = omega (arith, still.size, made.size none, counted) in
               let within = load_within shown cmp record_of width q failed is q1 (reverse ps) br c cl popped apart same.length here came in
               let sizes : d.sizes ≡ q.sizes = alike.0 ∙ ap (λ k. k.sizes) first_is in
               let limit : d.sizes.memory + d.sizes.block * d.sizes.blocks ≡ q.sizes.memory + q.sizes.block * q.sizes.blocks = ap (λ n. n.memory + n.block * n.blocks) sizes in
-              let high : end.peak ≡ max q.peak (q.count + popped + accepted_of ps) = omega (arith, top, made.peak, alike.1, ap (λ k. k.peak) first_is, counted, within, limit, accepted_here) in
+              let high : end.peak ≡ max q.peak (q.count + popped + accepted_of ps) = omega (arith, still.peak, made.peak, alike.1, ap (λ k. k.peak) first_is, counted, within, limit, accepted_here) in
               record {
                 bag = λ tell each p. omega (arith, moved (subst AllTell (sym made.slots) (last_tells tell each)) p, ap (count_by p) made.bag, bag none p, bag_first p);
                 size = omega (arith, total, accepted_here);
@@ -207,6 +220,25 @@ module _ {S R : Type 0} (shown : S → Shown) (cmp : R → R → Ordering) (reco
               }
 
           -- what stands where the settling was refused
-          pub stopped : (fault : QueueFault) → IsRefusal queue end fault → (fault ≡ NoFreeBlock → queue.failed ≡ None) → EndsApart shown record_of width q popped failed ps end (Stopped fault)
+          stopped : (fault : QueueFault) → IsRefusal queue end fault → (fault ≡ NoFreeBlock → queue.failed ≡ None) → EndsApart shown record_of width q popped failed ps end (Stopped fault)
           stopped NoFreeBlock refused fine = (together (fine refl) refused.bag refused.sound, record { free = refused.free; room = refused.room; above = refused.above })
           stopped (Device number) refused fine = refused
+
+          ended : (how : SessionEnd) → EndsApart shown record_of width q popped failed ps end how → (how ≡ Whole → end.runs ≤ 64) → SessionEnded shown record_of width q popped failed ps end how
+          ended how ends settled =
+              record {
+                end_is = ends;
+                settled = settled;
+                slots = SameSlots-trans (apart_slots shown q) (slots_of shown d.body d.supply) end.slots last_slots (subst (λ s. SameSlots s end.slots) made.slots still.slots);
+                tells = λ tell each. still.tells (subst AllTell (sym made.slots) (last_tells tell each));
+                writes = omega (arith, last_writes, still.writes, ap all_writes made.slots);
+                sizes = still.sizes ∙ made.sizes ∙ alike.0 ∙ ap (λ k. k.sizes) cl.rest ∙ ap (λ k. k.sizes) br.rest;
+                limited = still.limited ∙ made.limited ∙ no_limit ∙ ap (λ k. k.limited) cl.rest ∙ ap (λ k. k.limited) br.rest;
+              }
+
+          -- the settling went well, or was refused
+          pub ended_whole : queue.failed ≡ None → (AllTell queue.slots → IsSameBag end.bag queue.bag) → end.failed ≡ None → end.runs ≤ 64 → SessionEnded shown record_of width q popped failed ps end Whole
+          ended_whole fine moved sound settled = ended Whole (together fine moved sound) (λ whole. settled)
+
+          pub ended_stopped : (fault : QueueFault) → IsRefusal queue end fault → (fault ≡ NoFreeBlock → queue.failed ≡ None) → SessionEnded shown record_of width q popped failed ps end (Stopped fault)
+          ended_stopped fault refused fine = ended (Stopped fault) (stopped fault refused fine) (λ whole. cc)

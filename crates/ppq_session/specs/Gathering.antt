@@ -1,5 +1,5 @@
 -- Passes that are put into the parts of a queue.
-use Rattle.std.specs.Prelude.{◌≡◌, ◌⊎◌, ℕ, ◌+◌, ◌*◌, ◌<◌, ◌≤◌, List, [], ◌++◌, length, sum_by, flat_map, Some, None, All, vec_capacity}
+use Rattle.std.specs.Prelude.{◌≡◌, ◌⊎◌, ℕ, ◌+◌, ◌*◌, ◌<◌, ◌≤◌, List, [], ◌++◌, length, reverse, sum_by, flat_map, Some, None, All, vec_capacity}
 use Rattle.std.specs.declared.cmp.Ordering.{Ordering}
 use Rattle.ppq_pass.specs.ppq_outside.Shown.{Shown, AllTell}
 use Rattle.ppq_pass.specs.ppq_budget.Sizes.{AreInRange, fixed_of, heap_of, batch_of, pool_of}
@@ -7,12 +7,14 @@ use Rattle.ppq_pass.specs.ppq_heap.Heap.{Contents}
 use Rattle.ppq_pass.specs.ppq_heap.Heaps.{items_in}
 use Rattle.ppq_pass.specs.ppq_array.Owner.{HasBlock, slots_shown}
 use Rattle.ppq_pass.specs.ppq_array.Kept.{HasFailed}
+use Rattle.ppq_pass.specs.ppq_array.Supply.{Stock}
 use Rattle.ppq_pass.specs.ppq_array.Holdings.{external_buffers}
 use Rattle.ppq_pass.specs.ppq_extract.Extracted.{ServesFor}
 use Rattle.ppq_pass.specs.ppq_fetch.Fetching.{fronts_in}
 use Rattle.ppq_pass.specs.ppq_spill.Body.{held_by}
+use Rattle.ppq_pass.specs.ppq_spill.declared.body.PassBody.{PassBody}
 use Rattle.ppq_pass.specs.Passed.{slots_of as pass_slots}
-use Rattle.ppq_queue.specs.Slots.{SameSums}
+use Rattle.ppq_queue.specs.Slots.{SameSums, with_slots}
 use Rattle.ppq_queue.specs.Resting.{IsRestingRun, IsRestingArray, AllRise, runs_bag, count_of, lane_buffers, odd_in, slots_of}
 use Rattle.ppq_pass.specs.ppq_record.Order.{Ascends}
 use Rattle.ppq_pass.specs.ppq_fetch.Taking.{NoneAfter}
@@ -20,6 +22,23 @@ use Rattle.ppq_queue.specs.Holding.{IsAbove}
 use Rattle.ppq_session.specs.Passes.{IsBrought, pass_of}
 use Rattle.ppq_session.specs.declared.brought.Brought.{Brought}
 use Rattle.ppq_session.specs.declared.closed.Closed.{Closed}
+
+-- a supply got these slots back, in any order
+pub record GetsBack (slots : List Shown) (old new : Stock) : Type 0 where
+  pub slots_are : SameSums (old.kept ++ slots) new.kept
+  pub stock : new ≡ with_slots old new.kept new.slot_room
+  pub room : new.slot_room + length slots ≡ old.slot_room
+
+-- what a body has that took over another's runs and idle buffers
+pub record Adopted {S R : Type 0} (old from new : PassBody S R) : Type 0 where
+  pub internal : new.runs.internal.items ≡ old.runs.internal.items ++ reverse from.runs.internal.items
+  pub external : new.runs.external.items ≡ old.runs.external.items ++ reverse from.runs.external.items
+  pub idle : new.lanes.idle ≡ old.lanes.idle ++ from.lanes.idle
+  pub jobs : new.lanes.jobs ≡ old.lanes.jobs
+  pub batch : new.lanes.batch ≡ old.lanes.batch
+  pub tree : new.tree ≡ old.tree
+  pub internal_room : vec_capacity new.runs.internal ≡ vec_capacity old.runs.internal
+  pub external_room : vec_capacity new.runs.external ≡ vec_capacity old.runs.external
 
 module _ {S R : Type 0} (shown : S → Shown) where
   -- the slots of passes that are still to be put in

@@ -32,11 +32,14 @@ pub mod FrontState
 pub mod Fronts
 pub mod Gathering
 pub mod LimitSession
+pub mod LimitSessions
 pub mod Limited
 pub mod OneHistory
 pub mod Opened
 pub mod Outfits
 pub mod Passes
+pub mod Refusal
 pub mod SessionPass
+pub mod Sessions
 pub mod Shares
 pub mod State

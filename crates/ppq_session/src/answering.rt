@@ -1,6 +1,5 @@
 //! Asks answered in turn.
 ghost use Rattle.std.specs.Prelude.{◌≡◌, ◌≤◌, [], None, IfOk, IfErr, OnOk, length, vec_capacity};
-ghost use Rattle.ppq_pass.specs.ppq_record.Pair.{pair_cmp};
 ghost use Rattle.ppq_pass.specs.ppq_record.Bag.{IsSameBag};
 ghost use Rattle.ppq_pass.specs.ppq_outside.Shown.{AllTell};
 ghost use Rattle.ppq_session.specs.Fronts.{IsFrontRefusal, least_below};
@@ -8,19 +7,19 @@ ghost use Rattle.ppq_session.specs.Asks.{left_by, pops_by};
 ghost use Rattle.ppq_session.specs.Answering.{HasAnswered, KeepsFront};
 
 use crate::{Ask, Front};
-use ppq_pass::{Gate, Host, Pair, QueueFault, Slot};
+use ppq_pass::{Gate, Host, QueueFault, Record, Slot, record_laws};
 
 // The answer to an ask.
-fn answer_one<H: Host, S: Slot + Send + Sync, G: Gate>(
+fn answer_one<H: Host, S: Slot + Send + Sync, R: Record + Send + Sync, G: Gate>(
     rt: &H,
-    front: &mut Front<S, Pair>,
+    front: &mut Front<S, R>,
     ask: Ask,
     gate: &G,
-) -> Result<Option<Pair>, QueueFault>
+) -> Result<Option<R>, QueueFault>
 where
     H::Dir: Send,
-    ensures answer { IfOk result (λ answer. AllTell front.old.slots → answer ≡ least_below pair_cmp front.old.limit front.old.bag) }
-    ensures left { OnOk result (AllTell front.old.slots → IsSameBag front.new.bag (left_by pair_cmp front.old.limit front.old.bag ask)) }
+    ensures answer { IfOk result (λ answer. AllTell front.old.slots → answer ≡ least_below R.Ord.cmp front.old.limit front.old.bag) }
+    ensures left { OnOk result (AllTell front.old.slots → IsSameBag front.new.bag (left_by R.Ord.cmp front.old.limit front.old.bag ask)) }
     ensures sound { OnOk result (front.new.failed ≡ None) }
     ensures refused { IfErr result (IsFrontRefusal front.new) }
     ensures kept { KeepsFront (pops_by ask) front.old front.new }
@@ -32,11 +31,11 @@ where
 }
 
 // Answers asks in their order, up to the first that meets a fault.
-pub fn answer_all<H: Host, S: Slot + Send + Sync, G: Gate>(
+pub fn answer_all<H: Host, S: Slot + Send + Sync, R: Record + Send + Sync, G: Gate>(
     rt: &H,
-    front: &mut Front<S, Pair>,
+    front: &mut Front<S, R>,
     asks: &[Ask],
-    answers: &mut Vec<Option<Pair>>,
+    answers: &mut Vec<Option<R>>,
     gate: &G,
 )
 where
@@ -44,9 +43,10 @@ where
     requires sound { front.old.failed ≡ None }
     requires no_answer { answers.old.items ≡ [] }
     requires room { length asks.now ≤ vec_capacity answers.old }
-    ensures answered { HasAnswered asks.now answers.new.items front.old front.new }
+    ensures answered { HasAnswered R.Ord.cmp asks.now answers.new.items front.old front.new }
     ensures room { vec_capacity answers.new ≡ vec_capacity answers.old }
 {
+    record_laws::<R>();
     for i in 0..asks.len() {
         match answer_one(rt, front, asks[i], gate) {
             Ok(answer) => answers.push_reserved(answer),

@@ -1,9 +1,5 @@
 //! The end of a session's row and pool.
-ghost use Rattle.std.specs.Prelude.{◌≡◌, ◌≤◌, ◌<◌, ◌+◌, ◌*◌, length, All};
-ghost use Rattle.ppq_pass.specs.ppq_table.Sums.{all_shares};
-ghost use Rattle.ppq_pass.specs.ppq_array.Owner.{HasSize};
-ghost use Rattle.ppq_pass.specs.ppq_pool.Seats.{count_of};
-ghost use Rattle.ppq_session.specs.Closing.{IsClosed};
+ghost use Rattle.ppq_session.specs.Closing.{MayClose, IsClosed};
 
 use crate::closed::Closed;
 use crate::parts::BulkParts;
@@ -17,14 +13,7 @@ pub fn close<S: Slot + Send + Sync, R: Record + Send + Sync>(
     failed: Option<u32>,
     shared: Shared<S, R>,
 ) -> Closed<S, R>
-    requires row { parts.row_seat.row ≡ shared.row }
-    requires row_shares { parts.row_seat.hand.shares ≡ all_shares }
-    requires few_slots { length parts.row_seat.hand.items ≤ parts.supply.slot_room }
-    requires bytes { All (HasSize S.shown (parts.supply.block * R.WIDTH)) parts.row_seat.hand.items }
-    requires pool { parts.pool_seat.pool ≡ shared.pool }
-    requires pool_shares { parts.pool_seat.hand.shares ≡ all_shares }
-    requires few_buffers { count_of parts.pool_seat.pool ≤ parts.supply.buffer_room }
-    requires shape { 0 < count_of parts.pool_seat.pool → parts.pool_seat.hand.shape ≡ parts.supply.block }
+    requires { MayClose S.shown R.WIDTH parts shared }
     ensures { IsClosed S.shown parts failed result }
 {
     let BulkParts {

@@ -5,8 +5,7 @@ ghost use Rattle.ppq_pass.specs.ppq_outside.Shown.{Shown};
 ghost use Rattle.ppq_pass.specs.ppq_array.Owner.{slots_shown};
 ghost use Rattle.ppq_pass.specs.ppq_array.Holdings.{ArrayHasSize, internal_buffers, external_buffers, external_slots};
 ghost use Rattle.ppq_pass.specs.ppq_array.Run.{buffers_of};
-ghost use Rattle.ppq_queue.specs.Slots.{SameSums, with_slots};
-ghost use Rattle.ppq_session.specs.Gathering.{IsGathered, gathered_bag, accepted_in};
+ghost use Rattle.ppq_session.specs.Gathering.{Adopted, GetsBack, IsGathered, gathered_bag, accepted_in};
 
 use crate::brought::Brought;
 use crate::closed::Closed;
@@ -66,12 +65,7 @@ fn adopt<S: Slot + Send + Sync, R: Record + Send + Sync>(
     requires internal { length to.old.runs.internal.items + length from.runs.internal.items ≤ vec_capacity to.old.runs.internal }
     requires external { length to.old.runs.external.items + length from.runs.external.items ≤ vec_capacity to.old.runs.external }
     requires few { length to.old.lanes.idle + length from.lanes.idle < 2 ^ 32 - 1 }
-    ensures internal { to.new.runs.internal.items ≡ to.old.runs.internal.items ++ reverse from.runs.internal.items }
-    ensures internal_room { vec_capacity to.new.runs.internal ≡ vec_capacity to.old.runs.internal }
-    ensures external { to.new.runs.external.items ≡ to.old.runs.external.items ++ reverse from.runs.external.items }
-    ensures external_room { vec_capacity to.new.runs.external ≡ vec_capacity to.old.runs.external }
-    ensures idle { to.new.lanes.idle ≡ to.old.lanes.idle ++ from.lanes.idle }
-    ensures rest { to.new ≡ record to.old { runs = to.new.runs; lanes = record to.old.lanes { idle = to.new.lanes.idle } } }
+    ensures { Adopted to.old from to.new }
 {
     let PassBody { runs, lanes, .. } = from;
     move_all(runs.internal, &mut to.runs.internal);
@@ -88,9 +82,7 @@ fn dissolve<S: Slot + Send + Sync, R: Record + Send + Sync>(
     requires room { length (external_slots S.shown body.runs.external.items) ≤ supply.old.slot_room }
     requires sizes { All (ArrayHasSize S.shown (supply.old.block * R.WIDTH)) body.runs.external.items }
     requires few { length idle.old + internal_buffers body.runs.internal.items + external_buffers body.runs.external.items + length body.lanes.idle < 2 ^ 32 - 1 }
-    ensures slots { SameSums (supply.old.kept ++ external_slots S.shown body.runs.external.items) supply.new.kept }
-    ensures stock { supply.new ≡ with_slots supply.old supply.new.kept supply.new.slot_room }
-    ensures room { length supply.new.kept + supply.new.slot_room ≡ length supply.old.kept + supply.old.slot_room }
+    ensures back { GetsBack (external_slots S.shown body.runs.external.items) supply.old supply.new }
     ensures idle { length idle.new ≡ length idle.old + internal_buffers body.runs.internal.items + external_buffers body.runs.external.items + length body.lanes.idle }
 {
     let PassBody { runs, lanes, .. } = body;
@@ -132,9 +124,7 @@ fn empty_arrays<S: Slot + Send + Sync, R: Record + Send + Sync>(
     requires room { length (external_slots S.shown arrays.items) ≤ supply.old.slot_room }
     requires sizes { All (ArrayHasSize S.shown (supply.old.block * R.WIDTH)) arrays.items }
     requires few { length idle.old + external_buffers arrays.items < 2 ^ 32 - 1 }
-    ensures slots { SameSums (supply.old.kept ++ external_slots S.shown arrays.items) supply.new.kept }
-    ensures stock { supply.new ≡ with_slots supply.old supply.new.kept supply.new.slot_room }
-    ensures room { supply.new.slot_room + length (external_slots S.shown arrays.items) ≡ supply.old.slot_room }
+    ensures back { GetsBack (external_slots S.shown arrays.items) supply.old supply.new }
     ensures idle { length idle.new ≡ length idle.old + external_buffers arrays.items }
 {
     let mut arrays = arrays;
@@ -152,9 +142,7 @@ fn empty_array<S: Slot + Send + Sync, R: Record + Send + Sync>(
     requires room { length array.stored ≤ supply.old.slot_room }
     requires sizes { ArrayHasSize S.shown (supply.old.block * R.WIDTH) array }
     requires few { length idle.old + length (buffers_of array.loaded) < 2 ^ 32 - 1 }
-    ensures slots { SameSums (supply.old.kept ++ slots_shown S.shown array.stored) supply.new.kept }
-    ensures stock { supply.new ≡ with_slots supply.old supply.new.kept supply.new.slot_room }
-    ensures room { supply.new.slot_room + length array.stored ≡ supply.old.slot_room }
+    ensures back { GetsBack (slots_shown S.shown array.stored) supply.old supply.new }
     ensures idle { length idle.new ≡ length idle.old + length (buffers_of array.loaded) }
 {
     let array = empty_loaded(array, idle);
@@ -183,9 +171,7 @@ fn empty_loaded<S: Slot, R: Record>(
 fn free_stored<S: Slot, R: Record>(array: ExternalArray<S, R>, supply: &mut OwnerLists<S, R>)
     requires room { length array.stored ≤ supply.old.slot_room }
     requires sizes { ArrayHasSize S.shown (supply.old.block * R.WIDTH) array }
-    ensures slots { SameSums (supply.old.kept ++ slots_shown S.shown array.stored) supply.new.kept }
-    ensures stock { supply.new ≡ with_slots supply.old supply.new.kept supply.new.slot_room }
-    ensures room { supply.new.slot_room + length array.stored ≡ supply.old.slot_room }
+    ensures { GetsBack (slots_shown S.shown array.stored) supply.old supply.new }
 {
     let mut array = array;
     'freeing: while let Some(berth) = array.give_up() {

@@ -40,6 +40,7 @@ mod going;
 mod laws;
 mod limit_pass;
 mod limit_room;
+mod limit_session;
 mod line;
 mod lines;
 mod moving;
@@ -48,6 +49,7 @@ mod parts;
 mod refill;
 mod rejoining;
 mod running;
+mod session;
 mod session_pass;
 mod share;
 mod slots;
@@ -66,6 +68,7 @@ pub use front_laws::{high_records_stand_back, passes_stand_back};
 pub use going::{are_going, limited_are_going};
 pub use laws::sessions_are_histories;
 pub use limit_pass::LimitPass;
+pub use limit_session::LimitSession;
 pub use line::Line;
 pub use lines::push_lines;
 pub use ppq_pass::{
@@ -74,3 +77,4 @@ pub use ppq_pass::{
 };
 pub use ppq_queue::{OpenFault, Out, Queue};
 pub use running::run_both;
+pub use session::Session;

@@ -28,7 +28,7 @@ where
     requires no_answer { answers.old.items ≡ [] }
     requires room { length asks.now ≤ vec_capacity answers.old }
     ensures pushed { Pushed S.shown lines.now passes.old passes.new }
-    ensures answered { HasAnswered asks.now answers.new.items front.old front.new }
+    ensures answered { HasAnswered pair_cmp asks.now answers.new.items front.old front.new }
     ensures room { vec_capacity answers.new ≡ vec_capacity answers.old }
 {
     let mut push = ||
@@ -37,7 +37,7 @@ where
     { push_limited(rt, gate, shared, lines, passes) };
     let mut answer = ||
         requires { (front.now.failed ≡ None) × (answers.now.items ≡ []) × (length asks.now ≤ vec_capacity answers.now) }
-        ensures { HasAnswered asks.entry.now answers.exit.now.items front.entry.now front.exit.now × (vec_capacity answers.exit.now ≡ vec_capacity answers.entry.now) }
+        ensures { HasAnswered pair_cmp asks.entry.now answers.exit.now.items front.entry.now front.exit.now × (vec_capacity answers.exit.now ≡ vec_capacity answers.entry.now) }
     { answer_all(rt, front, asks, answers, gate) };
     join_mut(rt, &mut push, &mut answer);
 }

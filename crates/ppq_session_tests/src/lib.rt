@@ -4,6 +4,8 @@
 #[cfg(test)]
 mod bulk;
 #[cfg(test)]
+mod generic;
+#[cfg(test)]
 mod laws;
 #[cfg(test)]
 mod limit;
@@ -13,5 +15,7 @@ mod limited;
 mod records;
 #[cfg(test)]
 mod session;
+#[cfg(test)]
+mod short;
 #[cfg(test)]
 mod threads;

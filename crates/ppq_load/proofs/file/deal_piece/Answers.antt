@@ -2,7 +2,7 @@ use Rattle.std.proofs.Common.{◌≡◌, ◌+◌, ◌*◌, length, take, sym, su
 use Rattle.ppq_load.specs.declared.fault.LoadFault.{LoadFault}
 use Rattle.ppq_load.specs.Loading.{InSession, IsReadRefusal, LoadCountsFrom}
 use Rattle.ppq_load.proofs.FileRecords.{given-more, piece-are}
-use Rattle.ppq_load.proofs.Loadings.{session-batch}
+use Rattle.ppq_session.proofs.Sessions.{session-batch}
 use Rattle.ppq_load.proofs.Reading.{read-refused, read-counts, reads-wider}
 use Rattle.ppq_load.proofs.file.deal_piece.Goals as goal
 

@@ -2,7 +2,7 @@ use Rattle.std.proofs.Common.{◌≡◌, ◌∙◌, ◌+◌, ◌-◌, ◌*◌, t
 use Rattle.ppq_session.specs.ppq_record.Pair.{pair_of}
 use Rattle.ppq_session.specs.ppq_budget.Sizes.{batch_of}
 use Rattle.ppq_load.proofs.FileRecords.{batch-record}
-use Rattle.ppq_load.proofs.Loadings.{batch-then}
+use Rattle.ppq_session.proofs.Sessions.{batch-then}
 use Rattle.ppq_load.proofs.file.fill_records.Goals as goal
 
 pub loop-place-preserved : goal.loop-place-preserved

@@ -2,7 +2,7 @@ use Rattle.std.proofs.Common.{◌≡◌, ◌∙◌, ◌+◌, ℕ, take, length, 
 use Rattle.ppq_session.specs.ppq_record.declared.pair.Pair.{Pair}
 use Rattle.ppq_session.specs.ppq_budget.Sizes.{batch_of}
 use Rattle.ppq_load.proofs.Generated.{batch-more, seed_after-more}
-use Rattle.ppq_load.proofs.Loadings.{batch-then}
+use Rattle.ppq_session.proofs.Sessions.{batch-then}
 use Rattle.ppq_load.proofs.generate.fill_generated.Goals as goal
 
 pub loop-place-preserved : goal.loop-place-preserved

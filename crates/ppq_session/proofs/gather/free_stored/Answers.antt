@@ -4,6 +4,7 @@ use Rattle.std.proofs.lemmas.List.Sums.{sum_by-append, sum_by-cons}
 use Rattle.ppq_pass.specs.ppq_array.Owner.{HasSize, slots_shown}
 use Rattle.ppq_pass.specs.ppq_array.declared.berth.DeviceBlock.{DeviceBlock}
 use Rattle.ppq_pass.proofs.ppq_array.Noted.{all_left}
+use Rattle.ppq_pass.proofs.ppq_spill.Keeping.{slots_long}
 use Rattle.ppq_queue.specs.Slots.{with_slots}
 use Rattle.ppq_session.proofs.gather.free_stored.Goals as goal
 
@@ -35,7 +36,13 @@ freeing-preserved g c =
       sizes = all_left fits rest (berth ∷ []) (subst (λ l. All fits l) e i.sizes);
     }
 
-pub returns-clause-slots : goal.returns-clause-slots
-returns-clause-slots g c f =
+pub returns : goal.returns
+returns g c =
     let shown = g.S.Slot.shown in
-    omega (arith, c.freeing.invariant.sums f, sum_by-append f c.args.supply.now.kept (slots_shown shown c.args.array.stored), ap (λ (l : List (DeviceBlock g.row.S.Denot g.row.R.Denot)). sum_by f (slots_shown shown l)) (c.in_default.ensures.none.0 refl))
+    let i = c.freeing.invariant in
+    let none = c.in_default.ensures.none.0 refl in
+    record {
+      slots_are = λ f. omega (arith, i.sums f, sum_by-append f c.args.supply.now.kept (slots_shown shown c.args.array.stored), ap (λ (l : List (DeviceBlock g.row.S.Denot g.row.R.Denot)). sum_by f (slots_shown shown l)) none);
+      stock = i.stock;
+      room = omega (arith, i.room, ap length none, slots_long shown c.args.array.stored);
+    }

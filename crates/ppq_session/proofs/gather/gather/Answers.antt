@@ -1,9 +1,9 @@
-use Rattle.std.proofs.Common.{◌≡◌, ℕ, ◌*◌, ◌∙◌, [], ◌∷◌, All, Option, Some, None, ap, sym, subst, refl, arith, length-append}
-use Rattle.ppq_pass.specs.ppq_array.Holdings.{ArrayHasSize}
+use Rattle.std.proofs.Common.{◌≡◌, ℕ, ◌+◌, ◌*◌, ◌∙◌, ◌++◌, [], ◌∷◌, length, All, Option, Some, None, ap, sym, subst, refl, arith, length-append}
+use Rattle.ppq_pass.specs.ppq_array.Holdings.{ArrayHasSize, external_slots}
 use Rattle.ppq_pass.specs.ppq_spill.declared.body.PassBody.{PassBody}
 use Rattle.ppq_queue.specs.Slots.{with_slots}
+use Rattle.ppq_queue.proofs.Slots.{SameSums-length}
 use Rattle.ppq_session.specs.declared.closed.Closed.{Closed}
-use Rattle.ppq_session.proofs.Gathered.{Adopted}
 use Rattle.ppq_session.proofs.PutIn.{PutIn, gathered-adopted, gathered-dissolved, bag-adopted, or_none, or_some}
 use Rattle.ppq_session.proofs.Fits.{slots-fit, stash-sizes, runs-sizes, buffers-fit, freed-kept, freed-room, freed-stock, freed-sums, internal-fits, external-fits, count-fits}
 use Rattle.ppq_session.proofs.gather.gather.Given as given
@@ -74,11 +74,6 @@ put_whole g c =
       same = refl;
     }
 
-adopted : (g : given.Over) (c : goal.After-drop-one g) → Adopted c.args.c.now.body c.args.one.body c.adopt.new.to
-adopted g c =
-    let e = c.adopt.ensures in
-    record { internal = e.internal; external = e.external; idle = e.idle; jobs = ap (λ b. b.lanes.jobs) e.rest; batch = ap (λ b. b.lanes.batch) e.rest; tree = ap (λ b. b.tree) e.rest; internal_room = e.internal_room; external_room = e.external_room }
-
 pub returns-in-None-clause-gathered : goal.returns-in-None-clause-gathered
 returns-in-None-clause-gathered g c slots items is =
     let q = c.args.c.now in
@@ -86,12 +81,12 @@ returns-in-None-clause-gathered g c slots items is =
     let none = or_none q.failed one.failed (sym c.or-c.ensures ∙ c.in-None.is) in
     let stash = freed-kept g.S.Slot.shown g.R.Ord.cmp g.R.Record.record_of g.R.Record.WIDTH slots items q one q.brought.items is c.free_all.new.supply c.free_all.ensures.stock in
     let count = count-fits g.S.Slot.shown g.R.Ord.cmp g.R.Record.record_of g.R.Record.WIDTH slots items q one q.brought.items is none.0 none.1 in
-    gathered-adopted g.S.Slot.shown g.R.Ord.cmp g.R.Record.record_of g.R.Record.WIDTH slots items q (whole g c) one q.brought.items is (put_whole g c) (adopted g c) stash (omega (arith, c.saturating_add-c.ensures, count)) none.0 none.1 c.in-None.is
+    gathered-adopted g.S.Slot.shown g.R.Ord.cmp g.R.Record.record_of g.R.Record.WIDTH slots items q (whole g c) one q.brought.items is (put_whole g c) c.adopt.ensures stash (omega (arith, c.saturating_add-c.ensures, count)) none.0 none.1 c.in-None.is
 
 pub returns-in-None-clause-bag : goal.returns-in-None-clause-bag
 returns-in-None-clause-bag g c still =
     let q = c.args.c.now in
-    bag-adopted g.S.Slot.shown g.R.Ord.cmp g.R.Record.record_of g.R.Record.WIDTH q (whole g c) c.args.one q.brought.items (put_whole g c) (adopted g c)
+    bag-adopted g.S.Slot.shown g.R.Ord.cmp g.R.Record.record_of g.R.Record.WIDTH q (whole g c) c.args.one q.brought.items (put_whole g c) c.adopt.ensures
 
 pub returns-in-None-clause-failed : goal.returns-in-None-clause-failed
 returns-in-None-clause-failed g c still = or_none c.args.c.now.failed c.args.one.failed (sym c.or-c.ensures ∙ c.in-None.is)
@@ -111,18 +106,20 @@ returns-clause-gathered g c slots items is =
     let s = c.dissolve.new.supply in
     let freed = c.free_all.new.supply in
     let free = c.free_all.ensures.stock in
+    let ends = external_slots shown one.body.runs.external.items in
     let body : PassBody g.row.S.Denot g.row.R.Denot = record q.body { lanes = record q.body.lanes { idle = c.dissolve.new.idle } } in
     let new : Closed g.row.S.Denot g.row.R.Denot = record q { heaps = c.push_reserved.new.self; body = body; supply = s; count = c.saturating_add-c.result; failed = c.or-c.result } in
+    let still : length s.kept + s.slot_room ≡ length freed.kept + freed.slot_room = omega (arith, d.back.room, SameSums-length (freed.kept ++ ends) s.kept d.back.slots_are, length-append freed.kept ends) in
     let put : PutIn q new one =
     record {
       heaps = c.push_reserved.ensures.items;
       heaps_room = c.push_reserved.ensures.capacity;
-      stock = d.stock ∙ ap (λ x. with_slots x s.kept s.slot_room) free;
-      room = d.room ∙ freed-room shown g.R.Ord.cmp g.R.Record.record_of g.R.Record.WIDTH slots items q one q.brought.items is freed free;
+      stock = d.back.stock ∙ ap (λ x. with_slots x s.kept s.slot_room) free;
+      room = still ∙ freed-room shown g.R.Ord.cmp g.R.Record.record_of g.R.Record.WIDTH slots items q one q.brought.items is freed free;
       same = refl;
     }
     in
-    let sums = freed-sums shown g.R.Ord.cmp g.R.Record.record_of g.R.Record.WIDTH slots items q one q.brought.items is freed free s.kept d.slots in
+    let sums = freed-sums shown g.R.Ord.cmp g.R.Record.record_of g.R.Record.WIDTH slots items q one q.brought.items is freed free s.kept d.back.slots_are in
     gathered-dissolved shown g.R.Ord.cmp g.R.Record.record_of g.R.Record.WIDTH slots items q new one q.brought.items is put sums refl d.idle (λ number some. or_some q.failed one.failed number (sym c.or-c.ensures ∙ some)) (λ none. (let odd : ◌≡◌ {A = Option ℕ} None (Some c.in-Some.field-0) = sym none ∙ c.in-Some.is in cc))
 
 pub returns-clause-bag : goal.returns-clause-bag

@@ -1,28 +1,25 @@
 use Rattle.std.proofs.Common.{sym, subst}
 use Rattle.ppq_load.specs.declared.fault.LoadFault.{LoadFault}
 use Rattle.ppq_load.specs.Loading.{IsByLoad, IsHandedBack, LoadStopsFor}
-use Rattle.ppq_load.proofs.Loadings.{session-begin, fresh-going, begin-refused, begin-back, begin-latched, begin-by}
+use Rattle.ppq_load.proofs.Loadings.{begin-refused, begin-back, begin-latched, begin-by}
 use Rattle.ppq_load.proofs.load.Load.begin.Goals as goal
-
-pub returns-in-Ok-clause-session : goal.returns-in-Ok-clause-session
-returns-in-Ok-clause-session g c = let e = c.in-Ok.ensures in session-begin g.S.Slot.shown c.args.queue _ _ e.fresh e.bag e.slots e.tells e.writes e.size e.peak e.sizes e.limited
-
-pub returns-in-Ok-clause-going : goal.returns-in-Ok-clause-going
-returns-in-Ok-clause-going g c = fresh-going _ c.in-Ok.ensures.fresh
 
 pub returns-in-Err-clause-refused : goal.returns-in-Err-clause-refused
 returns-in-Err-clause-refused g c =
-    let e = c.in-Err.ensures in
-    subst (λ (fault : LoadFault). LoadStopsFor c.args.queue.peak c.args.queue.sizes c.args.queue.limited c.in-Err.queue.slots fault) (sym c.from.ensures) (begin-refused c.args.queue c.in-Err.queue c.in-Err.fault e.refused e.back_sizes e.back_peak e.back_limited)
+    let e = c.in-Err.ensures.refused in
+    subst (λ (fault : LoadFault). LoadStopsFor c.args.queue.peak c.args.queue.sizes c.args.queue.limited c.in-Err.queue.slots fault) (sym c.from.ensures) (begin-refused c.args.queue c.in-Err.queue c.args.queue.limited c.in-Err.fault e.why e.kept.sizes e.peak e.kept.limited)
 
 pub returns-in-Err-clause-by_load : goal.returns-in-Err-clause-by_load
 returns-in-Err-clause-by_load g c = subst (λ (fault : LoadFault). IsByLoad fault) (sym c.from.ensures) (begin-by c.in-Err.fault)
 
 pub returns-in-Err-clause-intact : goal.returns-in-Err-clause-intact
-returns-in-Err-clause-intact g c = subst (λ (fault : LoadFault). IsHandedBack c.args.queue c.in-Err.queue fault) (sym c.from.ensures) (begin-back c.args.queue c.in-Err.queue c.in-Err.fault c.in-Err.ensures.refused)
+returns-in-Err-clause-intact g c = subst (λ (fault : LoadFault). IsHandedBack c.args.queue c.in-Err.queue fault) (sym c.from.ensures) (begin-back c.args.queue c.in-Err.queue c.in-Err.fault c.in-Err.ensures.refused.why)
 
 pub returns-in-Ok-clause-latched : goal.returns-in-Ok-clause-latched
 returns-in-Ok-clause-latched g c = λ number latched. let said = c.in-Ok.ensures.latched number latched in absurd (cc)
 
 pub returns-in-Err-clause-latched : goal.returns-in-Err-clause-latched
 returns-in-Err-clause-latched g c = λ number latched. begin-latched c.args.queue c.in-Err.queue c.in-Err.fault c.from.result number c.from.ensures (c.in-Err.ensures.latched number latched)
+
+pub returns-in-Err-clause-kept : goal.returns-in-Err-clause-kept
+returns-in-Err-clause-kept g c = c.in-Err.ensures.refused.kept

@@ -1,13 +1,12 @@
 use Rattle.std.proofs.Common.{List, All, subst, arith}
 use Rattle.std.specs.Prelude.{Any, Ok, Err, ⊤}
-use Rattle.ppq_session.specs.ppq_record.declared.pair.Pair.{Pair}
-use Rattle.ppq_session.specs.ppq_queue.Holding.{Holding}
-use Rattle.ppq_session.specs.ppq_array.declared.store_fault.StoreFault.TheVariants.{NoFreeBlock}
+use Rattle.ppq_queue.specs.Holding.{Holding}
+use Rattle.ppq_pass.specs.ppq_array.declared.store_fault.StoreFault.TheVariants.{NoFreeBlock}
 use Rattle.ppq_session.specs.BulkSession.{EndsIn}
 use Rattle.ppq_session.specs.Dealing.{IsGoing, HasEnded}
-use Rattle.ppq_load.specs.Loading.{InSession, IsLoaded}
-use Rattle.ppq_load.proofs.Loadings.{end-keeps, loaded-whole, loaded-short, loaded-stopped}
-use Rattle.ppq_load.proofs.load.Load.end.Goals as goal
+use Rattle.ppq_session.specs.Sessions.{InSession, IsLoaded}
+use Rattle.ppq_session.proofs.Sessions.{end-keeps, loaded-whole, loaded-short, loaded-stopped}
+use Rattle.ppq_session.proofs.session.Session.end.Goals as goal
 
 pub returns-in-Stopped-clause-loaded : goal.returns-in-Stopped-clause-loaded
 returns-in-Stopped-clause-loaded g c =
@@ -17,7 +16,7 @@ returns-in-Stopped-clause-loaded g c =
     let e = c.bulk_end-queue.ensures in
     let new = c.bulk_end-queue.result.0 in
     let end = subst (λ how. EndsIn shown bulk passes new how) c.in-Stopped.is e.end in
-    subst (λ old. (queue : Holding Pair) → (records : List Pair) → InSession shown queue records old → IsLoaded {T = ⊤} queue records new (Err c.in-Stopped.fault)) c.self.view_is
+    subst (λ old. (queue : Holding g.row.R.Denot) → (records : List g.row.R.Denot) → InSession shown queue records old → IsLoaded {T = ⊤} queue records new (Err c.in-Stopped.fault)) c.self.view_is
     (λ queue records s. loaded-stopped shown queue records bulk passes s new c.in-Stopped.fault (end-keeps shown queue records bulk passes s new e.slots e.tells e.writes e.sizes e.limited) (omega (arith, c.known.ensures.range.two_records)) e.sizes end)
 
 pub returns-in-Whole-clause-all : goal.returns-in-Whole-clause-all
@@ -34,7 +33,7 @@ returns-in-Whole-clause-loaded g c =
     let new = c.bulk_end-queue.result.0 in
     let end = subst (λ how. EndsIn shown bulk passes new how) c.in-Whole.is e.end in
     let going = subst (λ ps. All IsGoing ps) c.as_slice.ensures.value (c.are_going-all.ensures.all.0 c.if-all.true) in
-    subst (λ old. (queue : Holding Pair) → (records : List Pair) → InSession shown queue records old → IsLoaded queue records new (Ok tt)) c.self.view_is
+    subst (λ old. (queue : Holding g.row.R.Denot) → (records : List g.row.R.Denot) → InSession shown queue records old → IsLoaded queue records new (Ok tt)) c.self.view_is
     (λ queue records s. loaded-whole shown queue records bulk passes s new end tt (end-keeps shown queue records bulk passes s new e.slots e.tells e.writes e.sizes e.limited) going)
 
 pub returns-in-Whole-2-clause-loaded : goal.returns-in-Whole-2-clause-loaded
@@ -46,5 +45,5 @@ returns-in-Whole-2-clause-loaded g c =
     let new = c.bulk_end-queue.result.0 in
     let end = subst (λ how. EndsIn shown bulk passes new how) c.in-Whole-2.is e.end in
     let ended = subst (λ ps. Any HasEnded ps) c.as_slice.ensures.value (c.are_going-all.ensures.ended c.if-all.false) in
-    subst (λ old. (queue : Holding Pair) → (records : List Pair) → InSession shown queue records old → IsLoaded {T = ⊤} queue records new (Err NoFreeBlock)) c.self.view_is
+    subst (λ old. (queue : Holding g.row.R.Denot) → (records : List g.row.R.Denot) → InSession shown queue records old → IsLoaded {T = ⊤} queue records new (Err NoFreeBlock)) c.self.view_is
     (λ queue records s. loaded-short shown queue records bulk passes s new end (end-keeps shown queue records bulk passes s new e.slots e.tells e.writes e.sizes e.limited) (omega (arith, c.known.ensures.range.two_records)) ended)

@@ -2,19 +2,18 @@ use Rattle.std.proofs.Common.{◌≡◌, ◌+◌, ◌++◌, List, All, subst, ar
 use Rattle.std.specs.List.{Any}
 use Rattle.std.proofs.lemmas.List.Elements.{All-map}
 use Rattle.std.specs.Prelude.{Ok, Err, ⊤, ℕ}
-use Rattle.ppq_session.specs.ppq_record.declared.pair.Pair.{Pair}
-use Rattle.ppq_session.specs.ppq_record.Bag.{IsSameBag}
-use Rattle.ppq_session.specs.ppq_outside.Shown.{AllTell}
-use Rattle.ppq_session.specs.ppq_pass.Passed.{PassTells}
-use Rattle.ppq_session.specs.ppq_queue.Holding.{Holding}
-use Rattle.ppq_session.specs.ppq_array.declared.store_fault.StoreFault.TheVariants.{NoFreeBlock}
+use Rattle.ppq_pass.specs.ppq_record.Bag.{IsSameBag}
+use Rattle.ppq_pass.specs.ppq_outside.Shown.{AllTell}
+use Rattle.ppq_pass.specs.Passed.{PassTells}
+use Rattle.ppq_queue.specs.Holding.{Holding}
+use Rattle.ppq_pass.specs.ppq_array.declared.store_fault.StoreFault.TheVariants.{NoFreeBlock}
 use Rattle.ppq_session.specs.Dealing.{IsGoing, HasEnded}
 use Rattle.ppq_session.specs.Limited.{LimitHolding}
 use Rattle.ppq_session.specs.LimitSession.{EndsIn, limited_bag, limited_accepted}
 use Rattle.ppq_session.specs.Batches.{passes_of}
-use Rattle.ppq_load.specs.Limits.{InLimits, IsOver, AreGoing}
-use Rattle.ppq_load.proofs.LimitSessions.{end-keeps, over-whole, over-short, over-stopped, unfilled, all-records}
-use Rattle.ppq_load.proofs.limits.Limits.end.Goals as goal
+use Rattle.ppq_session.specs.LimitSessions.{InLimits, IsOver, AreGoing}
+use Rattle.ppq_session.proofs.LimitSessions.{end-keeps, over-whole, over-short, over-stopped, unfilled, all-records}
+use Rattle.ppq_session.proofs.limit_session.LimitSession.end.Goals as goal
 
 pub returns-in-Stopped-clause-over : goal.returns-in-Stopped-clause-over
 returns-in-Stopped-clause-over g c =
@@ -24,7 +23,7 @@ returns-in-Stopped-clause-over g c =
     let e = c.limit_end-queue.ensures in
     let new = c.limit_end-queue.result.0 in
     let end = subst (λ how. EndsIn shown front passes new how) c.in-Stopped.is e.end in
-    subst (λ old. (queue : Holding Pair) (limit : Pair) (given left : List Pair) (popped : ℕ) → InLimits shown queue limit given left popped old → IsOver {T = ⊤} queue given left popped new (Err c.in-Stopped.fault)) c.self.view_is
+    subst (λ old. (queue : Holding g.row.R.Denot) (limit : g.row.R.Denot) (given left : List g.row.R.Denot) (popped : ℕ) → InLimits shown queue limit given left popped old → IsOver {T = ⊤} queue given left popped new (Err c.in-Stopped.fault)) c.self.view_is
     (λ queue limit given left popped s.
     over-stopped shown queue limit given left popped front passes s new c.in-Stopped.fault (end-keeps shown queue limit given left popped front passes s new e.slots e.tells e.writes e.sizes e.limited) (omega (arith, c.known.ensures.range.two_records)) e.sizes end)
 
@@ -35,8 +34,8 @@ returns-in-Whole-clause-all g c =
     let passes = c.self.inside.passes.items in
     let new = c.limit_end-queue.result.0 in
     let end = subst (λ how. EndsIn shown front passes new how) c.in-Whole.is c.limit_end-queue.ensures.end in
-    let going = subst (All (λ (p : LimitHolding g.row.S.Denot Pair). IsGoing p.pass)) c.as_slice.ensures.value (c.limited_are_going-all.ensures.all.0 c.if-all.true) in
-    subst (λ old. AreGoing old) c.self.view_is (record { passes = All-map IsGoing (λ (p : LimitHolding g.row.S.Denot Pair). p.pass) passes going; front = end.no_fault.0 })
+    let going = subst (All (λ (p : LimitHolding g.row.S.Denot g.row.R.Denot). IsGoing p.pass)) c.as_slice.ensures.value (c.limited_are_going-all.ensures.all.0 c.if-all.true) in
+    subst (λ old. AreGoing old) c.self.view_is (record { passes = All-map IsGoing (λ (p : LimitHolding g.row.S.Denot g.row.R.Denot). p.pass) passes going; front = end.no_fault.0 })
 
 pub returns-in-Whole-clause-over : goal.returns-in-Whole-clause-over
 returns-in-Whole-clause-over g c =
@@ -46,11 +45,11 @@ returns-in-Whole-clause-over g c =
     let e = c.limit_end-queue.ensures in
     let new = c.limit_end-queue.result.0 in
     let end = subst (λ how. EndsIn shown front passes new how) c.in-Whole.is e.end in
-    let going = subst (All (λ (p : LimitHolding g.row.S.Denot Pair). IsGoing p.pass)) c.as_slice.ensures.value (c.limited_are_going-all.ensures.all.0 c.if-all.true) in
-    subst (λ old. (queue : Holding Pair) (limit : Pair) (given left : List Pair) (popped : ℕ) → InLimits shown queue limit given left popped old → IsOver queue given left popped new (Ok tt)) c.self.view_is
+    let going = subst (All (λ (p : LimitHolding g.row.S.Denot g.row.R.Denot). IsGoing p.pass)) c.as_slice.ensures.value (c.limited_are_going-all.ensures.all.0 c.if-all.true) in
+    subst (λ old. (queue : Holding g.row.R.Denot) (limit : g.row.R.Denot) (given left : List g.row.R.Denot) (popped : ℕ) → InLimits shown queue limit given left popped old → IsOver queue given left popped new (Ok tt)) c.self.view_is
     (λ queue limit given left popped s.
     over-whole shown queue limit given left popped front passes s new end tt (end-keeps shown queue limit given left popped front passes s new e.slots e.tells e.writes e.sizes e.limited)
-    (All-map IsGoing (λ (p : LimitHolding g.row.S.Denot Pair). p.pass) passes going))
+    (All-map IsGoing (λ (p : LimitHolding g.row.S.Denot g.row.R.Denot). p.pass) passes going))
 
 pub returns-in-Whole-2-clause-over : goal.returns-in-Whole-2-clause-over
 returns-in-Whole-2-clause-over g c =
@@ -60,8 +59,8 @@ returns-in-Whole-2-clause-over g c =
     let e = c.limit_end-queue.ensures in
     let new = c.limit_end-queue.result.0 in
     let end = subst (λ how. EndsIn shown front passes new how) c.in-Whole-2.is e.end in
-    let ended = subst (Any (λ (p : LimitHolding g.row.S.Denot Pair). HasEnded p.pass)) c.as_slice.ensures.value (c.limited_are_going-all.ensures.ended c.if-all.false) in
-    subst (λ old. (queue : Holding Pair) (limit : Pair) (given left : List Pair) (popped : ℕ) → InLimits shown queue limit given left popped old → IsOver {T = ⊤} queue given left popped new (Err NoFreeBlock)) c.self.view_is
+    let ended = subst (Any (λ (p : LimitHolding g.row.S.Denot g.row.R.Denot). HasEnded p.pass)) c.as_slice.ensures.value (c.limited_are_going-all.ensures.ended c.if-all.false) in
+    subst (λ old. (queue : Holding g.row.R.Denot) (limit : g.row.R.Denot) (given left : List g.row.R.Denot) (popped : ℕ) → InLimits shown queue limit given left popped old → IsOver {T = ⊤} queue given left popped new (Err NoFreeBlock)) c.self.view_is
     (λ queue limit given left popped s.
     over-short shown queue limit given left popped front passes s new end (end-keeps shown queue limit given left popped front passes s new e.slots e.tells e.writes e.sizes e.limited) (omega (arith, c.known.ensures.range.two_records)) ended)
 

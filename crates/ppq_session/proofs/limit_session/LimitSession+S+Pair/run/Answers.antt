@@ -1,19 +1,19 @@
+use Rattle.ppq_pass.specs.ppq_record.declared.pair.Pair.{Pair}
+use Rattle.ppq_pass.specs.ppq_record.Pair.{pair_cmp}
 use Rattle.std.proofs.Common.{◌≡◌, ◌+◌, ◌++◌, ◌∙◌, ℕ, List, All, map, take, drop, length, sym, subst, ◌<◌, ap, arith}
-use Rattle.ppq_session.specs.ppq_record.declared.pair.Pair.{Pair}
-use Rattle.ppq_session.specs.ppq_record.Pair.{pair_cmp}
-use Rattle.ppq_session.specs.ppq_outside.Shown.{AllTell}
-use Rattle.ppq_session.specs.ppq_pass.Passed.{IsOf}
-use Rattle.ppq_session.specs.ppq_queue.Holding.{Holding}
+use Rattle.ppq_pass.specs.ppq_outside.Shown.{AllTell}
+use Rattle.ppq_pass.specs.Passed.{IsOf}
+use Rattle.ppq_queue.specs.Holding.{Holding}
 use Rattle.ppq_session.specs.Dealing.{IsGoing, EachAdds, Dealt, records_in, records_for}
-use Rattle.ppq_load.proofs.Loadings.{kept_back}
+use Rattle.ppq_session.proofs.Sessions.{kept_back}
 use Rattle.ppq_session.specs.Limited.{LimitHolding}
 use Rattle.ppq_session.specs.LimitSession.{AreLimited, shared_of}
 use Rattle.ppq_session.specs.Asks.{answers_to, left_after, pops_in}
 use Rattle.ppq_session.specs.Batches.{AreAbove, MayPush, passes_of}
-use Rattle.ppq_load.specs.Limits.{AreGoing, InLimits}
+use Rattle.ppq_session.specs.LimitSessions.{AreGoing, InLimits}
 use Rattle.ppq_session.proofs.Mapped.{all_mapped}
-use Rattle.ppq_load.proofs.LimitSessions.{limited-keep, limited-of, shared-keep, session-run, session-answers}
-use Rattle.ppq_load.proofs.limits.Limits.run.Goals as goal
+use Rattle.ppq_session.proofs.LimitSessions.{limited-keep, limited-of, shared-keep, session-run, session-answers}
+use Rattle.ppq_session.proofs.limit_session.LimitSession+S+Pair.run.Goals as goal
 
 pub run_both-requires-clause-may : goal.run_both-requires-clause-may
 run_both-requires-clause-may g c κs within =
@@ -73,7 +73,7 @@ returns-clause-session g c =
     c.self.view_is
     (λ queue limit given left popped s.
     subst (λ ps. InLimits shown queue limit (given ++ more) (left_after pair_cmp limit left asks) (popped + pops_in asks) (record { front = new; passes = ps })) (sym back)
-    (session-run shown queue limit given left popped more asks c.run_both.new.answers.items inside.front new olds news going dealt c.run_both.ensures.answered s))
+    (session-run shown queue limit given left popped c.record_laws.ensures.order c.record_laws.ensures.same more asks c.run_both.new.answers.items inside.front new olds news going dealt c.run_both.ensures.answered s))
 
 pub returns-clause-answers : goal.returns-clause-answers
 returns-clause-answers g c =
@@ -84,7 +84,7 @@ returns-clause-answers g c =
     let going = subst (λ l. AreGoing l) (sym c.self.view_is) c.requires.going in
     subst (λ l. (queue : Holding Pair) (limit : Pair) (given left : List Pair) (popped : ℕ) → InLimits shown queue limit given left popped l → AllTell queue.slots → answers ≡ take (length answers) (answers_to pair_cmp limit left asks))
     c.self.view_is
-    (λ queue limit given left popped s t. session-answers shown queue limit given left popped asks answers inside.front c.run_both.new.front inside.passes.items going c.run_both.ensures.answered s t)
+    (λ queue limit given left popped s t. session-answers shown queue limit given left popped c.record_laws.ensures.order c.record_laws.ensures.same asks answers inside.front c.run_both.new.front inside.passes.items going c.run_both.ensures.answered s t)
 
 pub returns-clause-each : goal.returns-clause-each
 returns-clause-each g c =

@@ -1,12 +1,11 @@
 use Rattle.std.proofs.Common.{◌≡◌, ◌∙◌, ◌++◌, ◌↔◌, List, All, IsTrue, false, length, take, drop, sym, subst}
 use Rattle.std.specs.Prelude.{Any}
-use Rattle.ppq_session.specs.ppq_record.declared.pair.Pair.{Pair}
-use Rattle.ppq_session.specs.ppq_pass.Passed.{IsOf}
-use Rattle.ppq_session.specs.ppq_queue.Holding.{Holding}
+use Rattle.ppq_pass.specs.Passed.{IsOf}
+use Rattle.ppq_queue.specs.Holding.{Holding}
 use Rattle.ppq_session.specs.Dealing.{IsGoing, HasEnded, Dealt, records_in}
-use Rattle.ppq_load.specs.Loading.{InSession}
-use Rattle.ppq_load.proofs.Loadings.{kept_back, of-shared, session-deal}
-use Rattle.ppq_load.proofs.load.Load.push.Goals as goal
+use Rattle.ppq_session.specs.Sessions.{InSession}
+use Rattle.ppq_session.proofs.Sessions.{kept_back, of-shared, session-deal}
+use Rattle.ppq_session.proofs.session.Session.push.Goals as goal
 
 pub push_lines-requires-clause-of : goal.push_lines-requires-clause-of
 push_lines-requires-clause-of g c κs within =
@@ -33,7 +32,7 @@ returns-clause-session g c =
     let back = kept_back inside.passes.len news (drop (length news) inside.passes.items) (c.push_lines.auto.passes ∙ c.as_mut_slice.ensures.len) in
     let going = subst (λ l. All IsGoing l.passes) (sym c.self.view_is) c.requires.going in
     let dealt = subst (λ olds. Dealt shown more olds news) c.as_mut_slice.ensures.value c.push_lines.ensures.dealt in
-    subst (λ old. (queue : Holding Pair) → (records : List Pair) → InSession shown queue records old → InSession shown queue (records ++ more) (record { bulk = inside.bulk; passes = after })) c.self.view_is
+    subst (λ old. (queue : Holding g.row.R.Denot) → (records : List g.row.R.Denot) → InSession shown queue records old → InSession shown queue (records ++ more) (record { bulk = inside.bulk; passes = after })) c.self.view_is
     (λ queue records s.
     subst (λ ps. InSession shown queue (records ++ more) (record { bulk = inside.bulk; passes = ps })) (sym back)
     (session-deal shown queue records more inside.bulk inside.passes.items news s going dealt))

@@ -1,0 +1,34 @@
+use Rattle.std.proofs.Common.{◌≡◌, ap}
+use Rattle.std.specs.Prelude.{Err}
+use Rattle.ppq_queue.specs.Holding.{Holding}
+use Rattle.ppq_session.specs.declared.fault.BeginFault.{BeginFault}
+use Rattle.ppq_session.specs.declared.fault.BeginFault.TheVariants.{Device}
+use Rattle.ppq_session.specs.LimitSessions.{begun_in}
+use Rattle.ppq_session.proofs.LimitSessions.{going-begin, session-begin}
+use Rattle.ppq_session.proofs.limit_session.LimitSession.begin.Goals as goal
+
+pub returns-in-Ok-clause-session : goal.returns-in-Ok-clause-session
+returns-in-Ok-clause-session g c =
+    let e = c.in-Ok.ensures in
+    session-begin g.S.Slot.shown c.args.queue c.args.limit c.in-Ok.front c.in-Ok.passes.items e.of e.new e.limit e.bag e.slots e.tells e.writes e.size e.unpopped e.sound e.peak e.sizes c.known.ensures.items
+
+pub returns-in-Ok-clause-going : goal.returns-in-Ok-clause-going
+returns-in-Ok-clause-going g c = let e = c.in-Ok.ensures in going-begin c.in-Ok.front c.in-Ok.passes.items e.new e.sound
+
+pub returns-in-Err-clause-refused : goal.returns-in-Err-clause-refused
+returns-in-Err-clause-refused g c =
+    let e = c.in-Err.ensures in
+    record {
+      why = e.refused;
+      kept = record { sizes = e.back_sizes; limited = e.back_limited; slots = e.back_slots; tells = e.back_tells; writes = e.back_writes };
+      peak = e.back_peak;
+    }
+
+pub returns-in-Ok-clause-latched : goal.returns-in-Ok-clause-latched
+returns-in-Ok-clause-latched g c = λ number latched. let said = c.in-Ok.ensures.latched number latched in absurd (cc)
+
+pub returns-in-Err-clause-latched : goal.returns-in-Err-clause-latched
+returns-in-Err-clause-latched g c = λ number latched.
+    let said = c.in-Err.ensures.latched number latched in
+    let both : ◌≡◌ {A = Holding g.row.R.Denot × BeginFault} (c.in-Err.queue, c.in-Err.fault) ((begun_in c.args.queue), Device number) = cc in
+    ap (λ (back : Holding g.row.R.Denot × BeginFault). Err back) both

@@ -1,0 +1,58 @@
+-- An open bulk session, and what stays of a queue whose session did not begin or ended.
+use Rattle.std.specs.Prelude.{◌≡◌, ◌<◌, ◌≤◌, ◌+◌, List, ◌++◌, length, max, All, Any, Result, OnOk, IfErr, None}
+use Rattle.ppq_pass.specs.ppq_record.Bag.{IsSameBag}
+use Rattle.ppq_pass.specs.ppq_outside.Shown.{Shown, AllTell}
+use Rattle.ppq_pass.specs.ppq_array.Kept.{SameSlots, all_writes}
+use Rattle.ppq_pass.specs.Passed.{PassHolding, PassTells}
+use Rattle.ppq_queue.specs.Holding.{Holding, HasStopped}
+use Rattle.ppq_pass.specs.ppq_array.declared.store_fault.StoreFault.{StoreFault as QueueFault}
+use Rattle.ppq_pass.specs.ppq_array.declared.store_fault.StoreFault.TheVariants.{NoFreeBlock, Device}
+use Rattle.ppq_session.specs.BulkSession.{BulkHolding, IsBeginRefusal, IsTogether, bag_of, accepted_of}
+use Rattle.ppq_session.specs.Dealing.{IsGoing, HasEnded}
+use Rattle.ppq_session.specs.Refusal.{Keeps, IsRefusedBy}
+use Rattle.ppq_session.specs.declared.fault.BeginFault.{BeginFault}
+
+-- What contracts see of an open session: what its owner keeps, and the passes, in the order of their workers
+pub record SessionHolding (S R : Type 0) : Type 0 where
+  pub bulk : BulkHolding S R
+  pub passes : List (PassHolding S R)
+
+-- the same with this batch
+abbrev pub with_batch : {S R : Type 0} → SessionHolding S R → List R → SessionHolding S R
+with_batch session batch = record session { bulk = record session.bulk { batch = batch } }
+
+-- A session of a queue, which is shown as it was when the session began. These records were given to its passes: as long as none has
+-- stopped, they have all of them
+pub record InSession {S R : Type 0} (shown : S → Shown) (queue : Holding R) (records : List R) (session : SessionHolding S R) : Type 0 where
+  pub sizes : session.bulk.sizes ≡ queue.sizes
+  pub limited : session.bulk.limited ≡ queue.limited
+  pub peak : session.bulk.peak ≡ queue.peak
+  pub size : session.bulk.size ≡ queue.size
+  pub slots : SameSlots queue.slots session.bulk.slots
+  pub tells : AllTell queue.slots → AllTell session.bulk.slots × All (PassTells shown) session.passes
+  pub writes : all_writes queue.slots ≤ all_writes session.bulk.slots
+  pub bag : All IsGoing session.passes → AllTell queue.slots → IsSameBag (session.bulk.bag ++ bag_of session.passes) (records ++ queue.bag)
+  pub accepted : All IsGoing session.passes → accepted_of session.passes ≡ length records
+  pub most : accepted_of session.passes ≤ length records
+  pub fewer : Any HasEnded session.passes → accepted_of session.passes < length records
+
+-- A session of a queue ended, to whose passes these records were given. Where the result is Ok, the queue has them all; else there is no
+-- room for them, or a block failed
+pub record IsLoaded {T R : Type 0} (queue : Holding R) (records : List R) (new : Holding R) (result : Result T QueueFault) : Type 0 where
+  pub kept : Keeps queue new
+  pub bag : OnOk result (AllTell queue.slots → IsSameBag new.bag (records ++ queue.bag))
+  pub size : OnOk result (new.size ≡ queue.size + length records)
+  pub sound : OnOk result (new.failed ≡ None)
+  pub peak : OnOk result (new.peak ≡ max queue.peak (queue.size + length records))
+  pub refused : IfErr result (IsRefusedBy (max queue.peak (queue.size + length records)) queue.sizes queue.limited new.slots)
+
+-- A session of a queue did not begin, and left this one. It keeps what a queue keeps in which a limit session was begun, if it was one
+pub record IsUnbegun {R : Type 0} (old begun new : Holding R) (fault : BeginFault) : Type 0 where
+  pub why : IsBeginRefusal old new fault
+  pub kept : Keeps begun new
+  pub peak : new.peak ≡ old.peak
+
+-- a session ended with a fault: the queue has all records of the session, or a block failed
+abbrev pub IsLeftBy : {S R : Type 0} → (S → Shown) → SessionHolding S R → Holding R → QueueFault → Type 0
+IsLeftBy shown session new NoFreeBlock = IsTogether shown session.bulk session.passes new
+IsLeftBy shown session new (Device number) = HasStopped number new

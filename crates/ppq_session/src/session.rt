@@ -1,0 +1,153 @@
+//! An open bulk session, as one value.
+ghost use Rattle.std.specs.Prelude.{◌≡◌, ◌<◌, ◌≤◌, ◌++◌, ◌↔◌, [], ℕ, List, All, Any, Some, Err, IsTrue, false, IfOk, IfErr, OnOk, length, take, slice_set};
+ghost use Rattle.ppq_pass.specs.ppq_budget.Sizes.{AreInRange, batch_of};
+ghost use Rattle.ppq_queue.specs.Holding.{Holding};
+ghost use Rattle.ppq_session.specs.declared.fault.BeginFault.TheVariants.{Device};
+ghost use Rattle.ppq_session.specs.Dealing.{IsGoing, HasEnded, records_in};
+ghost use Rattle.ppq_session.specs.Sessions.{InSession, IsLoaded, IsLeftBy, IsUnbegun, with_batch};
+
+use crate::begin::bulk_begin;
+use crate::dealing::deal;
+use crate::end::bulk_end;
+use crate::going::are_going;
+use crate::lines::push_lines;
+use crate::{BeginFault, Bulk, Line, Pass, SessionEnd, Shared};
+use ppq_pass::{Gate, Host, QueueFault, Record, Slot};
+use ppq_queue::Queue;
+use std::alloc::Global;
+use std::marker::Model;
+
+/// An open session of a queue: what is left of the queue, and a pass for each worker.
+///
+/// Contracts see what is left and the passes, in the order of their workers. `InSession` says which
+/// records were given to them.
+#[derive(Drop)]
+pub struct Session<S: Slot + Send + Sync, R: Record + Send + Sync> {
+    // What is left of the queue, with the batch from which records are dealt.
+    bulk: Bulk<S, R>,
+    // What all passes share.
+    shared: Shared<S, R>,
+    // A pass for each worker.
+    passes: Vec<Pass<S, R>>,
+}
+
+impl<S: Slot + Send + Sync, R: Record + Send + Sync> Model for Session<S, R> {
+    ghost use Rattle.std.specs.Prelude.{◌≡◌};
+    ghost use Rattle.ppq_session.specs.BulkSession.{AreOf, keys_of, shared_by};
+    ghost use Rattle.ppq_session.specs.Sessions.{SessionHolding};
+
+    ghost Value = { SessionHolding S R };
+
+    ghost view = { λ s. record { bulk = s.bulk; passes = s.passes.items } };
+
+    ghost invariant = { λ s. AreOf s.bulk (keys_of s.passes.items) × (s.shared ≡ shared_by s.bulk) };
+}
+
+impl<S: Slot + Send + Sync, R: Record + Send + Sync> Session<S, R> {
+    /// Begins a session of a queue, with a pass for each worker. All memory that it needs is taken now.
+    ///
+    /// Each refusal hands the queue back, with the records that it had unless a block failed. A queue of
+    /// which a block failed before comes back as it was.
+    pub fn begin<H: Host, G: Gate>(
+        rt: &H,
+        alloc: Global,
+        queue: Queue<S, R>,
+        gate: &G,
+    ) -> Result<Session<S, R>, (Queue<S, R>, BeginFault)>
+    where
+        H::Dir: Send,
+        ensures session { IfOk result (λ session. InSession S.shown queue [] session) }
+        ensures going { IfOk result (λ session. All IsGoing session.passes) }
+        ensures refused { IfErr result (λ back. IsUnbegun queue queue back.0 back.1) }
+        ensures latched { (number : ℕ) → queue.failed ≡ Some number → result ≡ Err (queue, Device number) }
+    {
+        match bulk_begin(rt, alloc, queue, gate) {
+            Ok((bulk, shared, passes)) => Ok(Session {
+                bulk,
+                shared,
+                passes,
+            }),
+            Err((queue, fault)) => Err((queue, fault)),
+        }
+    }
+
+    /// How many records a batch has room for: `p * B`.
+    #[inline]
+    pub fn batch_len(&self) -> u32
+        ensures same { result ≡ batch_of self.now.bulk.sizes }
+        ensures range { AreInRange self.now.bulk.sizes }
+        ensures batch { length self.now.bulk.batch ≡ batch_of self.now.bulk.sizes }
+    {
+        self.bulk.known();
+        self.bulk.batch().len() as u32
+    }
+
+    /// Writes a record to a place of the batch.
+    #[inline]
+    pub fn put(&mut self, place: u32, item: R)
+        requires { place < batch_of self.old.bulk.sizes }
+        ensures { self.new ≡ with_batch self.old (slice_set self.old.bulk.batch place item) }
+    {
+        self.bulk.put(place, item);
+    }
+
+    /// Deals the first `count` records of the batch to the passes, in equal parts. Whether all were added.
+    pub fn deal<H: Host, G: Gate>(&mut self, rt: &H, count: u32, gate: &G) -> bool
+    where
+        H::Dir: Send,
+        requires within { count ≤ batch_of self.old.bulk.sizes }
+        requires going { All IsGoing self.old.passes }
+        ensures all { IsTrue result ↔ All IsGoing self.new.passes }
+        ensures ended { result ≡ false → Any HasEnded self.new.passes }
+        ensures session { (queue : Holding R) → (records : List R) → InSession S.shown queue records self.old → InSession S.shown queue (records ++ take count self.old.bulk.batch) self.new }
+        ensures bulk { self.new.bulk ≡ self.old.bulk }
+    {
+        self.bulk.known();
+        let records = &self.bulk.batch()[..count as usize];
+        deal(rt, gate, &self.shared, records, self.passes.as_mut_slice())
+    }
+
+    /// Adds the records of lines: each worker takes those with its number, in their order. Whether all were
+    /// added.
+    pub fn push<H: Host, G: Gate>(&mut self, rt: &H, lines: &[Line<R>], gate: &G) -> bool
+    where
+        H::Dir: Send,
+        requires named { All (λ line. line.pass < self.old.bulk.sizes.workers) lines.now }
+        requires going { All IsGoing self.old.passes }
+        ensures all { IsTrue result ↔ All IsGoing self.new.passes }
+        ensures ended { result ≡ false → Any HasEnded self.new.passes }
+        ensures session { (queue : Holding R) → (records : List R) → InSession S.shown queue records self.old → InSession S.shown queue (records ++ records_in lines.now) self.new }
+        ensures bulk { self.new.bulk ≡ self.old.bulk }
+    {
+        self.bulk.known();
+        push_lines(rt, gate, &self.shared, lines, self.passes.as_mut_slice())
+    }
+
+    /// Ends the session: the queue with the records that it had and those that its passes accepted. It takes
+    /// no memory.
+    ///
+    /// `Ok`: the queue has all records that were given. `NoFreeBlock`: a pass or a merge of levels found no
+    /// blocks, and the queue has all records that were accepted. `Device`: the block with that number failed,
+    /// and records may be lost.
+    pub fn end<H: Host, G: Gate>(self, rt: &H, gate: &G) -> (Queue<S, R>, Result<(), QueueFault>)
+    where
+        H::Dir: Send,
+        ensures all { OnOk result.1 (All IsGoing self.passes) }
+        ensures loaded { (queue : Holding R) → (records : List R) → InSession S.shown queue records self → IsLoaded queue records result.0 result.1 }
+        ensures left { IfErr result.1 (IsLeftBy S.shown self result.0) }
+    {
+        let Session {
+            bulk,
+            shared,
+            passes,
+        } = self;
+        bulk.known();
+        let all = are_going(passes.as_slice());
+        let (queue, end) = bulk_end(rt, bulk, shared, passes, gate);
+        match end {
+            SessionEnd::Stopped(fault) => (queue, Err(fault)),
+            SessionEnd::Whole if all => (queue, Ok(())),
+            SessionEnd::Whole => (queue, Err(QueueFault::NoFreeBlock)),
+        }
+    }
+}
