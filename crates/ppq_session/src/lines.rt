@@ -6,9 +6,9 @@ ghost use Rattle.ppq_session.specs.Dealing.{IsGoing, HasEnded, Adds, EachAdds, D
 ghost use Rattle.ppq_session.specs.SessionPass.{Takes, SaysIfGoing};
 ghost use Rattle.ppq_session.specs.Batches.{AreAbove, MayPush, Pushed};
 
+use crate::LimitPass;
 use crate::going::are_going;
 use crate::line::Line;
-use crate::LimitPass;
 use ppq_pass::{Gate, Host, Pass, Record, Shared, Slot};
 use std::thread;
 

@@ -55,7 +55,9 @@ where
     let third = next(rt, &mut queue);
     let _slots = queue.close();
     assert!(rt; all & end.is_ok());
-    assert!(rt; (first == Some(Short { value: 4 })) & (second == Some(Short { value: 9 })) & third.is_none());
+    assert!(rt;
+        (first == Some(Short { value: 4 })) & (second == Some(Short { value: 9 })) & third.is_none()
+    );
 }
 
 // A limit session of a queue without records leaves it without records.
