@@ -10,7 +10,7 @@ use Rattle.ppq_script.specs.ppq_record.Order.{is_before}
 use Rattle.ppq_script.specs.ppq_record.Bag.{IsSameBag, without_front}
 use Rattle.ppq_script.proofs.ppq_record.Order.{count_by-cons, count_by-append, Each-append}
 use Rattle.ppq_script.specs.declared.command.Command.{Command}
-use Rattle.ppq_script.specs.declared.command.Command.TheVariants.{Pop, LimitPush, LimitTop, LimitPop}
+use Rattle.ppq_script.specs.declared.command.Command.TheVariants.{LimitPush, LimitTop, LimitPop}
 use Rattle.ppq_script.specs.declared.session.Session.TheVariants.{InLimit}
 use Rattle.ppq_script.specs.Sessions.{turn_of}
 use Rattle.ppq_load.specs.ppq_session.declared.line.Line.{Line}

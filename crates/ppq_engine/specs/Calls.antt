@@ -1,11 +1,10 @@
 -- What one call of the engine did to the queue, the sink and the library.
-use Rattle.std.specs.Prelude.{◌≡◌, ◌≤◌, ◌<◌, ◌+◌, ◌-◌, ◌^◌, ◌++◌, ◌||◌, ℕ, Bool, true, false, length, drop, List, [], max, slice_get, Option, Some, None, Result, OnOk, OnErr, IfOk, IfErr, IsTrue, ⊤}
+use Rattle.std.specs.Prelude.{◌≡◌, ◌≤◌, ◌<◌, ◌+◌, ◌-◌, ◌^◌, ◌++◌, ◌||◌, ℕ, true, false, length, drop, List, [], max, slice_get, Option, Some, None, Result, OnOk, OnErr, IfOk, IfErr, IsTrue, ⊤}
 use Rattle.ppq_script.specs.ppq_record.declared.pair.Pair.{Pair}
 use Rattle.ppq_script.specs.ppq_record.Bag.{IsSameBag}
 use Rattle.ppq_script.specs.ppq_outside.Shown.{Shown, AllTell}
 use Rattle.ppq_script.specs.ppq_outside.declared.slot.Slot.{Ghosts}
 use Rattle.ppq_script.specs.ppq_outside.Told.{Reply, Remembers, RepliesOnly, TakesPart, HasOneCause}
-use Rattle.ppq_load.specs.ppq_budget.Sizes.{Numbers}
 use Rattle.ppq_load.specs.ppq_array.Kept.{SameSlots}
 use Rattle.ppq_script.specs.declared.command.Command.{Command}
 use Rattle.ppq_script.specs.declared.session.Session.{Session}
@@ -23,7 +22,7 @@ use Rattle.ppq_engine.specs.Output.{AreFilesOf, TellsLengths, given_of, outside,
 use Rattle.ppq_engine.specs.Outcome.{EndSays, FaultBeforeFile}
 use Rattle.ppq_engine.specs.Parts.{part_at}
 use Rattle.ppq_engine.specs.Popping.{NotByFile, IsRound}
-use Rattle.ppq_engine.specs.Running.{IsGathered, HasStopped, WritesPart, StopsFor, PartStops, behind_part, IsOfFile, ChangedIn, SinkAfter, LibraryAfter}
+use Rattle.ppq_engine.specs.Running.{IsGathered, WritesPart, StopsFor, PartStops, behind_part, IsOfFile, ChangedIn, SinkAfter, LibraryAfter}
 use Rattle.ppq_engine.specs.declared.end.End.{End}
 use Rattle.ppq_engine.specs.declared.machine.Machine.{Machine}
 use Rattle.ppq_engine.specs.declared.stop.Stop.{Stop}

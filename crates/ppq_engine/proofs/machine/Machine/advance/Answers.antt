@@ -1,4 +1,4 @@
-use Rattle.std.proofs.Common.{◌≡◌, ◌+◌, ◌<◌, ℕ, Bool, List, [], max, sym, refl, subst, arith}
+use Rattle.std.proofs.Common.{◌+◌, ℕ, Bool, List, [], max, sym, refl, subst, arith}
 use Rattle.std.specs.Prelude.{IfErr, OnOk}
 use Rattle.ppq_script.specs.ppq_record.declared.pair.Pair.{Pair}
 use Rattle.ppq_script.specs.declared.command.Command.{Command}
@@ -15,7 +15,6 @@ use Rattle.ppq_engine.proofs.LimitParts.{session-by_limit}
 use Rattle.ppq_engine.proofs.Results.{if-err-map, if-err-both, on-ok-map}
 use Rattle.ppq_engine.proofs.Stops.{not_of_file, not-by_limit, session_by_file, stops-more}
 use Rattle.ppq_engine.proofs.Turns.{library-unasked, adds-sink, step-sink, step-library, turn-alone, turn-goes}
-use Rattle.ppq_engine.proofs.machine.Machine.advance.Given as given
 use Rattle.ppq_engine.proofs.machine.Machine.advance.Goals as goal
 
 pub run_bulk-requires-clause-turn : goal.run_bulk-requires-clause-turn

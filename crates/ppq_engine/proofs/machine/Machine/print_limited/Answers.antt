@@ -1,10 +1,9 @@
-use Rattle.std.proofs.Common.{◌≡◌, ◌++◌, ◌∙◌, ℕ, List, max, refl, subst, arith}
+use Rattle.std.proofs.Common.{◌≡◌, ◌++◌, ◌∙◌, max, refl, arith}
 use Rattle.ppq_script.specs.ppq_record.Pair.{pair_cmp}
 use Rattle.ppq_script.specs.ppq_record.Bag.{front}
 use Rattle.ppq_script.specs.declared.command.Command.TheVariants.{BulkPopLimit}
 use Rattle.ppq_engine.specs.Loads.{none_go, size_after}
 use Rattle.ppq_engine.specs.Output.{lines_text, mark_text, limited_count}
-use Rattle.ppq_engine.specs.Gathers.{Gathers}
 use Rattle.ppq_engine.specs.declared.stop.Stop.TheVariants.{Sink, Queue}
 use Rattle.ppq_engine.proofs.Popped.{mark-is, gathers-as, gathers-kept, gathers-more, takes-part, writes-more, prints-stop}
 use Rattle.ppq_engine.proofs.Kept.{Keeps-refl, Keeps-trans, lent-stop, sink-stop}

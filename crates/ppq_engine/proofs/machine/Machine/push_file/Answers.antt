@@ -4,7 +4,6 @@ use Rattle.ppq_script.specs.ppq_record.Given.{records_of}
 use Rattle.ppq_script.specs.ppq_outside.Shown.{AllTell}
 use Rattle.ppq_script.specs.ppq_outside.Told.{bytes_or_none}
 use Rattle.ppq_script.proofs.ppq_outside.Replies.{replies_wider}
-use Rattle.ppq_script.specs.declared.command.Command.{Command}
 use Rattle.ppq_script.specs.declared.command.Command.TheVariants.{Bulk}
 use Rattle.ppq_load.specs.Reading.{IsReadWithin}
 use Rattle.ppq_engine.specs.Calls.{Adds, RunsStep, StopsStep}

@@ -1,8 +1,7 @@
-use Rattle.std.proofs.Common.{◌≡◌, ◌+◌, ◌++◌, ℕ, List, [], Option, max, refl}
+use Rattle.std.proofs.Common.{◌+◌, ◌++◌, [], max, refl}
 use Rattle.ppq_script.specs.ppq_record.Bag.{IsSameBag}
 use Rattle.ppq_script.specs.ppq_record.Given.{generated}
 use Rattle.ppq_script.specs.ppq_outside.Shown.{AllTell}
-use Rattle.ppq_script.specs.declared.command.Command.{Command}
 use Rattle.ppq_script.specs.declared.command.Command.TheVariants.{Gen}
 use Rattle.ppq_engine.specs.Calls.{Adds, RunsStep, StopsStep}
 use Rattle.ppq_engine.specs.Files.{IsByFile, IsBySession}

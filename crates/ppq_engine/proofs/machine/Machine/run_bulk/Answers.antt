@@ -1,5 +1,4 @@
-use Rattle.std.proofs.Common.{◌+◌, List, All, length, drop, max, refl, sym, ap, ◌∙◌, subst, arith}
-use Rattle.ppq_script.specs.ppq_record.declared.pair.Pair.{Pair}
+use Rattle.std.proofs.Common.{◌+◌, All, length, drop, max, refl, sym, ap, ◌∙◌, subst, arith}
 use Rattle.ppq_script.specs.declared.command.Command.TheVariants.{BulkBegin}
 use Rattle.ppq_script.specs.Reading.{command_list}
 use Rattle.ppq_load.specs.ppq_budget.Sizes.{batch_of}
