@@ -1,7 +1,7 @@
 //! Sessions as one value, of records that are no pairs.
 ghost use Rattle.std.specs.Prelude.{◌≡◌};
 
-use crate::short::Short;
+use crate::Short;
 use ppq_outside::{MemSlot, OpenGate};
 use ppq_session::{Host, LimitSession, Line, Queue, Session, Sizes};
 use std::alloc::Global;

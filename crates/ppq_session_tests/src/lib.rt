@@ -15,7 +15,8 @@ mod limited;
 mod records;
 #[cfg(test)]
 mod session;
-#[cfg(test)]
 mod short;
 #[cfg(test)]
 mod threads;
+
+pub use short::Short;
