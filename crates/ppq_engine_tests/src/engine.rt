@@ -241,12 +241,17 @@ where
     is_as(rt, ran, script, end, wants);
 }
 
+// Appends a line so many times.
+fn repeat<H: Host + Abort>(rt: &H, text: &mut String, line: &str, count: usize) {
+    for _ in 0..count {
+        text.push_str(line).expect(rt, "no memory");
+    }
+}
+
 // The lines of so many records `7 7`.
 fn lines_of_sevens<H: Host + Abort>(rt: &H, alloc: Global, count: usize) -> String {
     let mut lines = String::new(alloc);
-    for _ in 0..count {
-        lines.push_str("7 7\n").expect(rt, "no memory");
-    }
+    repeat(rt, &mut lines, "7 7\n", count);
     lines
 }
 
@@ -314,5 +319,33 @@ fn two_workers_add_records_at_once(rt: HostRuntime) {
         let ran = outcome_of(&rt, rt.alloc(), text, small(), File::of(4), NEVER, &gate);
         assert!(rt; gate.is_passed());
         is_as(&rt, ran, script, End::Done, "");
+    }
+}
+
+// A script of a first line, one that stands there twenty times, and a last one.
+fn twenty<H: Host + Abort>(rt: &H, alloc: Global, first: &str, line: &str, last: &str) -> String {
+    let mut text = first.to_string(alloc).expect(rt, "no memory");
+    repeat(rt, &mut text, line, 20);
+    text.push_str(last).expect(rt, "no memory");
+    text
+}
+
+#[test]
+fn twenty_records_go_to_the_passes_in_three_batches(rt: HostRuntime) {
+    let table = [
+        ("bulk f\n", "", ""),
+        ("gen 1 20\n", "", ""),
+        ("bulk_begin\n", "bulk_push 1 5 0\n", "bulk_end\n"),
+        ("limit_begin 4 0\n", "limit_push 0 5 0\n", "limit_end\n"),
+    ];
+    for (first, line, last) in table {
+        let script = twenty(&rt, rt.alloc(), first, line, last);
+        let gate = PairGate::new();
+        let sizes = Sizes::new(2, 4, 8, 2_000, 200);
+        let text = script.as_bytes();
+        let ran = outcome_of(&rt, rt.alloc(), text, sizes, File::of(20), NEVER, &gate);
+        is_as(&rt, ran, script.as_str(), End::Done, "");
+        // a batch is a block of 4 records for each of 2 workers, and each worker enters once a batch
+        assert_eq!(rt; gate.entered(), 2 * 3, "{script}");
     }
 }
