@@ -21,6 +21,10 @@ writes_at number slots = sum_by (weight_at (λ s. s.writes) number) slots
 abbrev pub reads_at : ℕ → List Shown → ℕ
 reads_at number slots = sum_by (weight_at (λ s. s.reads) number) slots
 
+-- all failed calls of these slots
+abbrev pub all_faults : List Shown → ℕ
+all_faults slots = sum_by (λ s. s.faults) slots
+
 -- all writes of these slots
 abbrev pub all_writes : List Shown → ℕ
 all_writes slots = sum_by (λ s. s.writes) slots
@@ -33,6 +37,14 @@ all_reads slots = sum_by (λ s. s.reads) slots
 pub record MoreWrites (most : ℕ) (before now : List Shown) : Type 0 where
   pub writes : all_writes now ≤ all_writes before + most
   pub reads : all_reads now ≤ all_reads before
+
+-- the same slots as they are, in any order: they add up to the same, whatever is added
+abbrev pub SameSums : List Shown → List Shown → Type 0
+SameSums before now = (f : Shown → ℕ) → sum_by f before ≡ sum_by f now
+
+-- no call of these slots failed since
+abbrev pub AreQuiet : List Shown → List Shown → Type 0
+AreQuiet before now = all_faults now ≡ all_faults before
 
 -- the same slots, each once, told by their numbers, in any order; and no count of a slot fell
 pub record SameSlots (before now : List Shown) : Type 0 where

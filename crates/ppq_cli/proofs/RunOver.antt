@@ -109,6 +109,11 @@ made_count sizes before now end same answer = record {
   rose = λ is. absurd (device_made (nat_lt sizes.memory (fixed_of sizes)) (fixed_of sizes) (let P : End → Type 0 = λ e. BeganOrRefused (budget_refusal sizes) e in subst P is answer));
 }
 
+-- it was no run to the end
+pub unmade_not_done : (fault : OutsideFault) → make_end fault ≡ Done → ⊥
+unmade_not_done outside.Failed is = cc
+unmade_not_done outside.Memory is = cc
+
 early_not_run : (fault : OutsideFault) → IsSurelyRun (make_end fault) → ⊥
 early_not_run outside.Failed run = run
 early_not_run outside.Memory run = run

@@ -1,5 +1,5 @@
 -- What `run_over` says: of a script that was loaded and is run over a device of these sizes.
-use Rattle.std.specs.Prelude.{◌≡◌, ◌⊎◌, ℕ, ◌≤◌, List, map, Option}
+use Rattle.std.specs.Prelude.{◌≡◌, ◌⊎◌, ℕ, ◌≤◌, List, map, Option, All}
 use Rattle.ppq_words.specs.ppq_outside.Shown.{Shown}
 use Rattle.ppq_words.specs.ppq_outside.Told.{Reply, Rose}
 use Rattle.ppq_words.specs.ppq_outside.Made.{HasMadeJust}
@@ -24,10 +24,11 @@ pub record RunWrites (tells : Type 0) (told : Option (List ℕ → Option (List 
   pub file : FaultToFile tells told before now script end
   pub nothing : MayWrite end ⊎ (now ≡ before)
 
--- all blocks that the rack made come back, each once, and it goes on telling
+-- all blocks that the rack made come back, each once, and it goes on telling; where the script was run to its end, no call of a block failed
 pub record RunBlocks {S : Type 0} (shown : S → Shown) (tell tell_now : Type 0) (had has : List ℕ → Type 0) (sizes : Numbers) (ended : Ended S) : Type 0 where
   pub made : HasMadeJust had has (map (λ slot. (shown slot).number) ended.blocks.items)
   pub are : AreBlocks sizes ended.end (map shown ended.blocks.items)
+  pub unfailed : ended.end ≡ Done → All (λ (s : Shown). s.faults ≡ 0) (map shown ended.blocks.items)
   pub tells : tell → tell_now
 
 -- when each end comes

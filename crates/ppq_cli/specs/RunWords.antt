@@ -1,5 +1,5 @@
 -- The words of the contract of `run_words`, in the order of its clauses. `run_over`, `run_and_report` and `run_twice` use them too.
-use Rattle.std.specs.Prelude.{◌≡◌, ◌⊎◌, ℕ, ◌<◌, ◌≤◌, List, [], length, false, Option, Some, None, if◌then◌else◌, IfSome, nat_lt, MatchOption, map, String}
+use Rattle.std.specs.Prelude.{◌≡◌, ◌⊎◌, ℕ, ◌<◌, ◌≤◌, List, [], length, false, Option, Some, None, if◌then◌else◌, IfSome, nat_lt, MatchOption, map, String, All}
 use Rattle.std.specs.declared.alloc.Global.{Global}
 use Rattle.ppq_words.specs.ppq_record.declared.pair.Pair.{Pair}
 use Rattle.ppq_words.specs.ppq_record.Given.{records_of}
@@ -158,6 +158,7 @@ pub record RunsWords
   pub used_any : ended.end ≡ Done → OfScript library.told old_library words (UsesDevice least_by shown ended)
   pub made : HasMadeJust (rack.made old_rack) (rack.made new_rack) (map (λ slot. (shown slot).number) ended.blocks.items)
   pub blocks : OfWords words (λ r. AreBlocks r.sizes ended.end (map shown ended.blocks.items))
+  pub unfailed : ended.end ≡ Done → All (λ (s : Shown). s.faults ≡ 0) (map shown ended.blocks.items)
   pub none : reading words ≡ None → ended.blocks.items ≡ []
   pub rack_tells : rack.tells old_rack → rack.tells new_rack
   pub files : library.told new_library ≡ library.told old_library

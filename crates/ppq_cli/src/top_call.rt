@@ -1,5 +1,5 @@
 //! The top call.
-ghost use Rattle.std.specs.Prelude.{◌≡◌, ◌≤◌, ◌<◌, ◌⊎◌, ◌^◌, ℕ, [], None, false, IfSome, map};
+ghost use Rattle.std.specs.Prelude.{◌≡◌, ◌≤◌, ◌<◌, ◌⊎◌, ◌^◌, ℕ, [], None, false, IfSome, map, All};
 ghost use Rattle.ppq_engine.specs.ppq_array.Kept.{HasFailed};
 ghost use Rattle.ppq_words.specs.ppq_outside.Told.{Remembers};
 ghost use Rattle.ppq_words.specs.ppq_outside.Made.{HasMadeJust};
@@ -27,14 +27,15 @@ use std::alloc::Global;
 /// After `Done` the sink took exactly the script's output, which is that of one multiset ordered by
 /// whole records, whatever the sizes; after every other outcome it took a prefix of it. All blocks that
 /// the rack made come back, each once, and after `Done` what the budget cannot hold was written to
-/// them; files are only read, and never past a length that the library said. Each outcome comes only
-/// for its cause, and `Usage`, `NoScript`, `ScriptTooLong`, `BadLine` and `BudgetTooSmall` if and only
-/// if they are due, in this order, unless an allocation or a read failed. No count of faults falls, and
-/// none rises unless the outcome names a fault, so the same outside can be handed in again. A script
-/// that is not refused ends `Done` or `Memory`, unless the outcome names a fault, if there is room for
-/// its load: on the device, or in one heap where the script begins no limit session. This is said of an
-/// outside that is visible to proofs; of any other library, the outcomes, and the output of a script
-/// that reads no file, are those of the bytes that its reads returned as the script.
+/// them, and no call of a block failed; files are only read, and never past a length that the library
+/// said. Each outcome comes only for its cause, and `Usage`, `NoScript`, `ScriptTooLong`, `BadLine` and
+/// `BudgetTooSmall` if and only if they are due, in this order, unless an allocation or a read failed.
+/// No count of faults falls, and none rises unless the outcome names a fault, so the same outside can
+/// be handed in again. A script that is not refused ends `Done` or `Memory`, unless the outcome names a
+/// fault, if there is room for its load: on the device, or in one heap where the script begins no limit
+/// session. This is said of an outside that is visible to proofs; of any other library, the outcomes,
+/// and the output of a script that reads no file, are those of the bytes that its reads returned as the
+/// script.
 ///
 /// What the outcomes say, besides `Done`:
 ///
@@ -80,6 +81,7 @@ where
     ensures used_any { result.end ≡ Done → OfScript L.told library.old words.now (UsesDevice least_by K.Slot.shown result) }
     ensures made { HasMadeJust (K.made rack.old) (K.made rack.new) (map (λ slot. (K.Slot.shown slot).number) result.blocks.items) }
     ensures blocks { OfWords words.now (λ r. AreBlocks r.sizes result.end (map K.Slot.shown result.blocks.items)) }
+    ensures unfailed { result.end ≡ Done → All (λ s. s.faults ≡ 0) (map K.Slot.shown result.blocks.items) }
     ensures none { reading words.now ≡ None → result.blocks.items ≡ [] }
     ensures rack_tells { K.tells rack.old → K.tells rack.new }
     ensures files { L.told library.new ≡ L.told library.old }

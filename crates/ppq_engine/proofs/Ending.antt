@@ -1,11 +1,12 @@
 -- What follows from what the end of a run says, for each end.
-use Rattle.std.proofs.Common.{◌≡◌, ℕ, ◌≤◌, List, Bool, Option, Some, None, ap, refl, sym, subst, arith, inl, inr}
+use Rattle.std.proofs.Common.{◌≡◌, ℕ, ◌≤◌, List, Bool, Option, Some, None, All, ap, refl, sym, ◌∙◌, subst, arith, inl, inr}
 use Rattle.ppq_script.specs.ppq_outside.Shown.{Shown, AllTell}
 use Rattle.ppq_script.specs.ppq_outside.Told.{Reply, TakesAll, Rose}
 use Rattle.std.specs.Prelude.{if◌then◌else◌}
 use Rattle.std.proofs.lemmas.Bool.{le-ltb}
 use Rattle.ppq_load.specs.ppq_budget.Sizes.{Numbers, fixed_of}
-use Rattle.ppq_load.specs.ppq_array.Kept.{SameSlots, HasFailed, all_writes}
+use Rattle.ppq_load.specs.ppq_array.Kept.{SameSlots, SameSums, HasFailed, weight_at, all_writes}
+use Rattle.ppq_load.specs.ppq_queue.Holding.{IsNewSlot}
 use Rattle.ppq_script.specs.Reading.{Reading, command_list}
 use Rattle.ppq_load.specs.Refusal.{HasRoom, HasNoRoom}
 use Rattle.ppq_load.proofs.Refusals.{room-not_none}
@@ -16,15 +17,15 @@ use Rattle.ppq_engine.specs.Ends.{budget_refusal, BeganOrRefused, IsQuiet, NoneF
 use Rattle.ppq_engine.specs.declared.end.End.{End}
 use Rattle.ppq_engine.specs.declared.end.End.TheVariants.{Done, BadLine, Usage, ReadFault, WriteFault, DeviceFault, NoFreeBlock, BudgetTooSmall, Memory, FileChanged, NoDevice, NoScript, ScriptTooLong}
 use Rattle.ppq_engine.proofs.Sizes.{fits-more}
-use Rattle.ppq_engine.proofs.Slots.{SameSlots-trans}
+use Rattle.ppq_engine.proofs.Slots.{SameSlots-trans, SameSums-slots, new-unfailed, none-failed}
 
 -- a count that rose is not quiet
 not_quiet : (before now : ℕ) → Rose before now → IsQuiet before now → ⊥
 not_quiet before now rose quiet = omega (arith, rose, quiet.0, quiet.1)
 
 -- the blocks that come back are those that were handed in
-pub same_blocks : (first held slots later : List Shown) → held ≡ first → SameSlots held slots → SameSlots slots later → SameSlots first later
-same_blocks first held slots later is same kept = let P : List Shown → Type 0 = λ f. SameSlots f later in subst P is (SameSlots-trans held slots later same kept)
+pub same_blocks : (first held slots later : List Shown) → held ≡ first → SameSlots held slots → SameSums slots later → SameSlots first later
+same_blocks first held slots later is same sums = let P : List Shown → Type 0 = λ f. SameSlots f later in subst P is (SameSlots-trans held slots later same (SameSums-slots slots later sums))
 
 module _ (told : Option (List ℕ → Option (List ℕ))) (replied : Reply → Type 0) (script : Reading) (first : List Shown) (sizes : Numbers) (before now : Option (List ℕ)) (sink sink_now library library_now : ℕ) where
   -- what an end says of these slots
@@ -38,16 +39,21 @@ module _ (told : Option (List ℕ → Option (List ℕ))) (replied : Reply → T
       let Q : Numbers → Type 0 = λ o. EndSays told replied script first slots o before now sink sink_now library library_now end in
       subst Q is_own (subst P is_first says)
 
-  -- the same slots later, with as many writes or more
-  says-later : (slots later : List Shown) (end : End) → SameSlots slots later → all_writes slots ≤ all_writes later → Says slots end → Says later end
-  says-later slots later Done same more says =
-      (λ tells files is. record { took = (says.0 tells files is).took; crest = fits-more (crest_of (given_of files script) (command_list script)) sizes slots later (says.0 tells files is).crest more }, fits-more (least_of (command_list script)) sizes slots later says.1 more, says.2)
-  says-later slots later (DeviceFault number) same more says = omega (arith, says, same.faults number)
-  says-later slots later _ same more says = says
+  -- the same slots as they come back
+  says-later : (slots later : List Shown) (end : End) → SameSums slots later → Says slots end → Says later end
+  says-later slots later Done sums says =
+      let more : all_writes slots ≤ all_writes later = omega (arith, sums (λ s. s.writes)) in (
+        λ tells files is. record { took = (says.0 tells files is).took; crest = fits-more (crest_of (given_of files script) (command_list script)) sizes slots later (says.0 tells files is).crest more },
+        fits-more (least_of (command_list script)) sizes slots later says.1 more,
+        says.2,
+        sym (sums (λ s. s.faults)) ∙ says.3,
+      )
+  says-later slots later (DeviceFault number) sums says = omega (arith, says, sums (weight_at (λ s. s.faults) number))
+  says-later slots later _ sums says = says
 
-  module _ (slots later : List Shown) (end : End) (same : SameSlots slots later) (more : all_writes slots ≤ all_writes later) (says : Says slots end) where
+  module _ (slots later : List Shown) (end : End) (sums : SameSums slots later) (says : Says slots end) where
     says-is : (wanted : End) → end ≡ wanted → Says later wanted
-    says-is wanted is = subst (λ e. Says later e) is (says-later slots later end same more says)
+    says-is wanted is = subst (λ e. Says later e) is (says-later slots later end sums says)
 
     pub end-done : end ≡ Done → AllTell first → (files : List ℕ → Option (List ℕ)) → AreFilesOf told script files → TakesAll before now (output_of (given_of files script) (command_list script))
     end-done is tells files are = ((says-is Done is).0 tells files are).took
@@ -57,6 +63,10 @@ module _ (told : Option (List ℕ → Option (List ℕ))) (replied : Reply → T
 
     pub end-used_any : end ≡ Done → FitsWritten (least_of (command_list script)) sizes later
     end-used_any is = (says-is Done is).1
+
+    -- no call of a block failed
+    pub end-unfailed : (bytes : ℕ) → All (IsNewSlot bytes) first → end ≡ Done → All (λ (s : Shown). s.faults ≡ 0) later
+    end-unfailed bytes fresh is = none-failed later ((says-is Done is).3 ∙ new-unfailed bytes first fresh)
 
     pub end-within : end ≡ NoFreeBlock → AllTell first → (files : List ℕ → Option (List ℕ)) → AreFilesOf told script files → TakesWithin (given_of files script) before now sizes (command_list script)
     end-within is tells files are = ((says-is NoFreeBlock is).0 tells files are).within
@@ -97,15 +107,15 @@ module _ (told : Option (List ℕ → Option (List ℕ))) (replied : Reply → T
   says-completed slots (FileChanged line said got) says s l none room = says.0.untold
   says-completed slots _ says s l none room = says
 
-  module _ (slots later : List Shown) (end : End) (same : SameSlots slots later) (more : all_writes slots ≤ all_writes later) (says : Says slots end) where
+  module _ (slots later : List Shown) (end : End) (sums : SameSums slots later) (says : Says slots end) where
     pub end-complete :
         AllTell first → (files : List ℕ → Option (List ℕ)) → AreFilesOf told script files → HasRoom sizes (begins_limit (command_list script)) (load_of (given_of files script) (command_list script))
         → IsQuiet sink sink_now → IsQuiet library library_now → NoneFailed later → IsCompleted told end
     end-complete tells files are room s l none =
-        says-completed later end (says-later slots later end same more says) s l none
-        (λ is. room-not_none sizes (begins_limit (command_list script)) (load_of (given_of files script) (command_list script)) room (end-above slots later end same more says is tells files are))
+        says-completed later end (says-later slots later end sums says) s l none
+        (λ is. room-not_none sizes (begins_limit (command_list script)) (load_of (given_of files script) (command_list script)) room (end-above slots later end sums says is tells files are))
 
     pub end-complete_any : HasRoom sizes (begins_limit (command_list script)) (most_of (command_list script)) → IsQuiet sink sink_now → IsQuiet library library_now → NoneFailed later → IsCompleted told end
     end-complete_any room s l none =
-        says-completed later end (says-later slots later end same more says) s l none
-        (λ is. room-not_none sizes (begins_limit (command_list script)) (most_of (command_list script)) room (says-is slots later end same more says NoFreeBlock is).1)
+        says-completed later end (says-later slots later end sums says) s l none
+        (λ is. room-not_none sizes (begins_limit (command_list script)) (most_of (command_list script)) room (says-is slots later end sums says NoFreeBlock is).1)

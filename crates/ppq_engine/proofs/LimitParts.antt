@@ -204,6 +204,7 @@ module _ {S : Type 0} (shown : S → Shown) (script : Reading) (place : ℕ) (qu
               low = omega (arith, ap (size_from all_go queue.size) w.is, whole-low script.workers limit w.lines w.are queue.size, over.low, over.least);
               high = omega (arith, most, over.high);
               sound = over.sound;
+              quiet = over.quiet;
               peak = omega (arith, most, over.peak);
               kept = Keeps-begun queue new part (up_to_end (drop (place + 1) (command_list script))) limit refl over.kept;
             })

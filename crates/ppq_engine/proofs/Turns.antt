@@ -96,6 +96,7 @@ module _ (next : ℕ) (r : Result ⊤ Stop) (s : Result ℕ Stop) (same : s ≡ 
             low = omega (arith, ran.low, least);
             high = omega (arith, ran.high, most);
             sound = ran.sound;
+            quiet = ran.quiet;
             peak = omega (arith, ran.peak, most);
             kept = Keeps-none old new part (alone-begins c part one.0 one.1) kept;
           }) (on-ok-both r (RunsStep told script old new c) Text runs prints.text)
@@ -164,6 +165,7 @@ module _ (script : Reading) (place : ℕ) (old new : Holding Pair) (turn : IsTur
             low = omega (arith, loaded.size, least);
             high = omega (arith, loaded.size, most);
             sound = loaded.sound;
+            quiet = loaded.quiet;
             peak = omega (arith, loaded.peak, most);
             kept = Keeps-none old new whole (session-begins whole body lines here.1 reads.are) loaded.kept;
           };
@@ -230,7 +232,7 @@ module _ (script : Reading) (place : ℕ) (limit : Pair) (old new : Holding Pair
 module _ {told : Option (List ℕ → Option (List ℕ))} {script : Reading} {old new : Holding Pair} {more : ℕ} (k : Command) (size : (leaves : ℕ → ℕ → ℕ) → size_after leaves old.size k ≡ old.size + more) where
   pub adds-runs :
       (AllTell old.slots → (files : List ℕ → Option (List ℕ)) → AreFilesOf told script files → IsSameBag new.bag (after (given_of files script) (outside old.bag) k).bag) → Adds old new more → RunsStep told script old new k
-  adds-runs bag adds = record { bag = bag; low = omega (arith, adds.size, size all_go); high = omega (arith, adds.size, size none_go); sound = adds.sound; peak = omega (arith, adds.peak, size none_go) }
+  adds-runs bag adds = record { bag = bag; low = omega (arith, adds.size, size all_go); high = omega (arith, adds.size, size none_go); sound = adds.sound; quiet = adds.quiet; peak = omega (arith, adds.peak, size none_go) }
 
 pub adds-prints : (first : List Shown) (told : Option (List ℕ)) (had text : List ℕ) (r : Result ⊤ Stop) → text ≡ [] → IfErr r IsByFile → Prints first told told had text had r
 adds-prints first told had text r none by =

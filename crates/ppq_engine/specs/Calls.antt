@@ -5,7 +5,7 @@ use Rattle.ppq_script.specs.ppq_record.Bag.{IsSameBag}
 use Rattle.ppq_script.specs.ppq_outside.Shown.{Shown, AllTell}
 use Rattle.ppq_script.specs.ppq_outside.declared.slot.Slot.{Ghosts}
 use Rattle.ppq_script.specs.ppq_outside.Told.{Reply, Remembers, RepliesOnly, TakesPart, HasOneCause}
-use Rattle.ppq_load.specs.ppq_array.Kept.{SameSlots}
+use Rattle.ppq_load.specs.ppq_array.Kept.{SameSlots, AreQuiet}
 use Rattle.ppq_script.specs.declared.command.Command.{Command}
 use Rattle.ppq_script.specs.declared.session.Session.{Session}
 use Rattle.ppq_script.specs.declared.session.Session.TheVariants.{Outside}
@@ -47,6 +47,7 @@ pub record Leaves (old new : Holding Pair) (left : List Pair) (least most : ℕ)
   pub low : least ≤ new.size
   pub high : new.size ≤ most
   pub sound : new.failed ≡ None
+  pub quiet : AreQuiet old.slots new.slots
 
 -- a round of records was popped
 pub record PopsRound (below : Option Pair) (count : ℕ) (old new : Holding Pair) (items : List Pair) : Type 0 where
@@ -55,11 +56,13 @@ pub record PopsRound (below : Option Pair) (count : ℕ) (old new : Holding Pair
   pub end : below ≡ None → items ≡ [] → old.size ≡ 0
   pub size : new.size ≡ old.size - length items
   pub sound : new.failed ≡ None
+  pub quiet : AreQuiet old.slots new.slots
 
 -- so many records were added: the size, no failed slot, and the peak
 pub record Adds (old new : Holding Pair) (count : ℕ) : Type 0 where
   pub size : new.size ≡ old.size + count
   pub sound : new.failed ≡ None
+  pub quiet : AreQuiet old.slots new.slots
   pub peak : new.peak ≤ max old.peak (old.size + count)
 
 -- a text was gathered behind what was gathered before; or the sink failed, and took a part of both
@@ -119,6 +122,7 @@ pub record RunsStep (told : Option (List ℕ → Option (List ℕ))) (script : R
   pub low : size_after all_go old.size command ≤ new.size
   pub high : new.size ≤ size_after none_go old.size command
   pub sound : new.failed ≡ None
+  pub quiet : AreQuiet old.slots new.slots
   pub peak : new.peak ≤ max old.peak (size_after none_go old.size command)
 
 -- why it did not: the queue refused, or a file or an allocation that this command needs
@@ -133,6 +137,7 @@ pub record RunsPart (told : Option (List ℕ → Option (List ℕ))) (script : R
   pub low : size_from all_go old.size part ≤ new.size
   pub high : new.size ≤ size_from none_go old.size part
   pub sound : new.failed ≡ None
+  pub quiet : AreQuiet old.slots new.slots
   pub peak : new.peak ≤ max old.peak (size_from none_go old.size part)
   pub kept : Keeps (behind_part old part) new
 
@@ -179,6 +184,7 @@ pub record RunsAll (told : Option (List ℕ → Option (List ℕ))) (script : Re
   pub all : AllTell old.slots → (files : List ℕ → Option (List ℕ)) → AreFilesOf told script files → IsGathered before now has (output_of (given_of files script) (command_list script))
   pub crest : AllTell old.slots → (files : List ℕ → Option (List ℕ)) → AreFilesOf told script files → FitsWritten (crest_of (given_of files script) (command_list script)) old.sizes new.slots
   pub least : FitsWritten (least_of (command_list script)) old.sizes new.slots
+  pub quiet : AreQuiet old.slots new.slots
 
 -- how a run on a queue ended: what was put is a part of the script's output; what the end says; and what was put if a file ended the run
 pub record EndsRun (told : Option (List ℕ → Option (List ℕ))) (replied : Reply → Type 0) (script : Reading) (old new : Holding Pair) (before now : Option (List ℕ)) (sink sink_now library library_now : ℕ) (end : End) : Type 0 where

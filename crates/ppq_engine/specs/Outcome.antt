@@ -4,7 +4,7 @@ use Rattle.ppq_script.specs.ppq_record.declared.pair.Pair.{Pair}
 use Rattle.ppq_script.specs.ppq_outside.Shown.{Shown, AllTell}
 use Rattle.ppq_script.specs.ppq_outside.Told.{Reply, TakesAll, TakesPart, Rose}
 use Rattle.ppq_load.specs.ppq_budget.Sizes.{Numbers}
-use Rattle.ppq_load.specs.ppq_array.Kept.{HasFailed}
+use Rattle.ppq_load.specs.ppq_array.Kept.{HasFailed, AreQuiet}
 use Rattle.ppq_script.specs.declared.command.Command.{Command}
 use Rattle.ppq_script.specs.declared.command.Command.TheVariants.{Bulk}
 use Rattle.ppq_script.specs.Reading.{Reading, command_list}
@@ -75,6 +75,7 @@ EndSays told replied script first slots sizes before now sink sink_now library l
     (AllTell first → (files : List ℕ → Option (List ℕ)) → AreFilesOf told script files → IsWhole (given_of files script) script before now sizes slots)
     × FitsWritten (least_of (command_list script)) sizes slots
     × CountsStay sink sink_now library library_now
+    × AreQuiet first slots
 EndSays told replied script first slots sizes before now sink sink_now library library_now (BadLine line) = ⊥
 EndSays told replied script first slots sizes before now sink sink_now library library_now Usage = ⊥
 EndSays told replied script first slots sizes before now sink sink_now library library_now ReadFault = Rose library library_now

@@ -1,5 +1,5 @@
 //! Runs the commands of a script.
-ghost use Rattle.std.specs.Prelude.{◌≡◌, ◌≤◌, ◌<◌, ◌⊎◌, List, ℕ, Option, [], Some, OnOk, IfErr, IsTrue, length, map};
+ghost use Rattle.std.specs.Prelude.{◌≡◌, ◌≤◌, ◌<◌, ◌⊎◌, List, ℕ, Option, [], Some, All, OnOk, IfErr, IsTrue, length, map};
 ghost use Rattle.ppq_script.specs.ppq_outside.Shown.{AllTell};
 ghost use Rattle.ppq_script.specs.ppq_outside.Told.{TakesAll, TakesPart, Rose, Remembers, RepliesOnly};
 ghost use Rattle.ppq_load.specs.ppq_budget.Sizes.{fixed_of};
@@ -151,13 +151,13 @@ where
 /// goes to the sink, gathered into pieces of tens of kilobytes. Its files are read by pieces of as many
 /// records as each worker has a block, into memory that is allocated before the first command.
 ///
-/// `Done`: the sink took the script's output. `WriteFault`: the sink failed; it took a prefix of
-/// it. `ReadFault`: the library failed. `DeviceFault`: the block with that number failed.
-/// `NoFreeBlock`: a run of records found no free block, which comes only where the device has fewer
-/// blocks than the script's load wants, and that load is above the capacity of one heap or the script
-/// begins a limit session; at least what all commands up to such a load print was taken. `FileChanged`:
-/// the file of the command on that line ended at `got`, before the length `said` that the script keeps,
-/// which no library does that tells.
+/// `Done`: the sink took the script's output, and no call of a block failed. `WriteFault`: the sink
+/// failed; it took a prefix of it. `ReadFault`: the library failed. `DeviceFault`: the block with that
+/// number failed. `NoFreeBlock`: a run of records found no free block, which comes only where the
+/// device has fewer blocks than the script's load wants, and that load is above the capacity of one
+/// heap or the script begins a limit session; at least what all commands up to such a load print was
+/// taken. `FileChanged`: the file of the command on that line ended at `got`, before the length `said`
+/// that the script keeps, which no library does that tells.
 /// `BudgetTooSmall` comes if and only if the budget is below its fixed part, unless an allocation failed;
 /// nothing was written then. On `Memory` nothing was written, or what the commands before a `bulk`, `gen`,
 /// `bulk_begin` or `limit_begin` print: such a command allocates for its session. No other end comes.
@@ -206,9 +206,10 @@ where
     ensures complete { fixed_of sizes ≤ sizes.memory → AllTell (map S.shown slots.items) → (files : List ℕ → Option (List ℕ)) → AreFilesOf (L.told library.old) script.now files → HasRoom sizes (begins_limit (command_list script.now)) (load_of (given_of files script.now) (command_list script.now)) → IsQuiet (O.faults out.old) (O.faults out.new) → IsQuiet (L.faults library.old) (L.faults library.new) → NoneFailed (map S.shown result.blocks.items) → IsCompleted (L.told library.old) result.end }
     ensures complete_any { fixed_of sizes ≤ sizes.memory → HasRoom sizes (begins_limit (command_list script.now)) (most_of (command_list script.now)) → IsQuiet (O.faults out.old) (O.faults out.new) → IsQuiet (L.faults library.old) (L.faults library.new) → NoneFailed (map S.shown result.blocks.items) → IsCompleted (L.told library.old) result.end }
 
-    // All blocks come back, each once, and no count of a block falls. The device was used: each record above the
-    // budget, when the bag was greatest outside sessions, was written.
+    // All blocks come back, each once, and no count of a block falls; after `Done` no call of a block failed. The
+    // device was used: each record above the budget, when the bag was greatest outside sessions, was written.
     ensures blocks { SameSlots (map S.shown slots.items) (map S.shown result.blocks.items) }
+    ensures unfailed { result.end ≡ Done → All (λ s. s.faults ≡ 0) (map S.shown result.blocks.items) }
     ensures used { result.end ≡ Done → AllTell (map S.shown slots.items) → (files : List ℕ → Option (List ℕ)) → AreFilesOf (L.told library.old) script.now files → FitsWritten (crest_of (given_of files script.now) (command_list script.now)) sizes (map S.shown result.blocks.items) }
     ensures used_any { result.end ≡ Done → FitsWritten (least_of (command_list script.now)) sizes (map S.shown result.blocks.items) }
 

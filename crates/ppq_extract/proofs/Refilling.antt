@@ -47,6 +47,7 @@ module _ {S R : Type 0} (cmp : R → R → Ordering) (record_of : List ℕ → R
       let same = thin_in mi ni me ne li le shown idle stock in
       record {
         kept = thin_kept mi ni me ne li le shown idle stock old.stock _ p.kept;
+        quiet = same (λ s. s.faults) ∙ f.quiet;
         counted = omega (arith, f.counted, thin_count mi ni me ne li le);
         internal = omega (arith, p.internal, length_lost IsEmptyRun mi ni li);
         external = omega (arith, length_all_zip WentOn old.external me p.went_on, length_lost IsEmptyArray me ne le);

@@ -4,7 +4,7 @@ use Rattle.std.specs.declared.cmp.Ordering.{Ordering}
 use Rattle.ppq_fetch.specs.ppq_outside.Shown.{Shown, AllTell}
 use Rattle.ppq_fetch.specs.ppq_array.Run.{Run, items_of}
 use Rattle.ppq_fetch.specs.ppq_array.External.{External, size_of}
-use Rattle.ppq_fetch.specs.ppq_array.Kept.{Kept}
+use Rattle.ppq_fetch.specs.ppq_array.Kept.{Kept, AreQuiet}
 use Rattle.ppq_fetch.specs.ppq_array.Holdings.{external_buffers}
 use Rattle.ppq_fetch.specs.ppq_array.declared.runs.Runs.{Runs}
 use Rattle.ppq_fetch.specs.ppq_array.Supply.{Stock}
@@ -44,10 +44,11 @@ module _ {S R : Type 0} where
     pub went_on : WentOn before now
 
   module _ (cmp : R → R → Ordering) (record_of : List ℕ → R) (width : ℕ) (shown : S → Shown) where
-    -- From old to new, out was taken of the sources, and the runs that had no record left are gone; the order of the others is free. Where
+    -- From old to new, out was taken of the sources, no call of a slot failed, and the runs that had no record left are gone; the order of the others is free. Where
     -- slots tell and runs ascend, these are the records that are least, all below the limit
     pub record Refilled (below : Option R) (old new : State S R) (out : List R) : Type 0 where
       pub kept : Kept old.stock new.stock (held_in shown old) (held_in shown new)
+      pub quiet : AreQuiet (slots_in shown old) (slots_in shown new)
       pub all_tell : AllTell (slots_in shown old) ↔ AllTell (slots_in shown new)
       pub counted : length out + count_in new.internal new.external ≡ count_in old.internal old.external
       pub internal : length new.internal ≤ length old.internal

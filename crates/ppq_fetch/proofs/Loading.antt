@@ -85,6 +85,7 @@ module _ {S R : Type 0} (record_of : List ℕ → R) (width : ℕ) (shown : S �
         items = items ∙ ap (λ (z : Run R). items_of z ++ buf'.items) ml;
         same = λ tells. same (subst (FirstTells record_of width shown) (sym lif) tells) ∙ ap₂ (λ (z : Run R) w. items_of z ++ blocks_items record_of width shown w) ml wait;
         read = slot_read answer block slot r.bytes s t r.read (omega (arith, once)) freed;
+        quiet = IfOk-at_ok (λ _. slot.faults ≡ (shown block.slot).faults) e r.read.cause.ok;
       }
 
   pub block_lost :

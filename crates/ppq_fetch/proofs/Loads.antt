@@ -20,12 +20,12 @@ use Rattle.ppq_array.specs.Run.{Run, items_of, buffers_of}
 use Rattle.ppq_array.specs.External.{External, counts, waiting, size_of, records_in, blocks_items}
 use Rattle.ppq_array.specs.Supply.{Stock}
 use Rattle.ppq_array.specs.Owner.{HasBlock, HasSize, slots_shown}
-use Rattle.ppq_array.specs.Kept.{weight_at}
+use Rattle.ppq_array.specs.Kept.{AreQuiet, weight_at}
 use Rattle.ppq_array.specs.Holdings.{external_slots, external_buffers, RunHasBlock, ArrayHasSize}
 use Rattle.ppq_array.proofs.Noted.{all_left, all_right}
 use Rattle.ppq_fetch.specs.Turns.{HasBuffer}
 use Rattle.ppq_fetch.specs.Steps.{SlotRead, BlockLoaded, BlockLost}
-use Rattle.ppq_fetch.specs.Fetching.{State, state, AreSources, MayFetch, PartsKept, Fetched, FetchFailed, SourcesTell, WentOn, IsFitting, fronts_in, one_if_some, loaded_lists, blocks_in, waiting_items, source_items}
+use Rattle.ppq_fetch.specs.Fetching.{State, state, AreSources, MayFetch, PartsKept, Fetched, FetchFailed, SourcesTell, WentOn, IsFitting, fronts_in, one_if_some, loaded_lists, blocks_in, slots_in, waiting_items, source_items}
 use Rattle.ppq_fetch.proofs.Loading.{count_fits}
 use Rattle.ppq_fetch.proofs.Taken.{taken_none, taken_same}
 use Rattle.ppq_fetch.proofs.Telling.{untold_of, untold, tell_sum, sum_tell}
@@ -164,18 +164,24 @@ module _ {S R : Type 0} (record_of : List ℕ → R) (width : ℕ) (shown : S �
             ap (sum_by f) drawn,
           )
 
-      untold_set : sum_by untold (external_slots shown (slice_set arrays i b) ++ stock'.kept) ≡ sum_by untold (external_slots shown arrays ++ stock.kept)
-      untold_set =
+      -- what is added up of the slots of the runs and those that are kept
+      both_set : (f : Shown → ℕ) → sum_by f (slots_in shown after) + f (shown block.slot) ≡ sum_by f (slots_in shown before) + f read.slot
+      both_set f =
           omega (
             arith,
-            slots_set untold,
-            ap untold_of read.told,
-            sum_by-append untold (external_slots shown (slice_set arrays i b)) stock'.kept,
-            sum_by-append untold (external_slots shown arrays) stock.kept,
-            ap (sum_by untold) kept,
-            sum_by-append untold stock.kept (read.slot ∷ []),
-            sum_by-cons untold read.slot [],
+            slots_set f,
+            sum_by-append f (external_slots shown (slice_set arrays i b)) stock'.kept,
+            sum_by-append f (external_slots shown arrays) stock.kept,
+            ap (sum_by f) kept,
+            sum_by-append f stock.kept (read.slot ∷ []),
+            sum_by-cons f read.slot [],
           )
+
+      untold_set : sum_by untold (slots_in shown after) ≡ sum_by untold (slots_in shown before)
+      untold_set = omega (arith, both_set untold, ap untold_of read.told)
+
+      quiet_set : read.slot.faults ≡ (shown block.slot).faults → AreQuiet (slots_in shown before) (slots_in shown after)
+      quiet_set e = omega (arith, both_set (λ s. s.faults), e)
 
       pub parts_set : length (external_slots shown arrays) ≤ stock.slot_room → PartsKept shown before after
       parts_set room =
@@ -218,27 +224,8 @@ module _ {S R : Type 0} (record_of : List ℕ → R) (width : ℕ) (shown : S �
               room_when_scant = ap (λ (s : Stock). s.room_when_scant) read.freed;
             };
             transfers = record {
-              writes = omega (
-                arith,
-                slots_set (λ s. s.writes),
-                read.writes,
-                sum_by-append (λ s. s.writes) (external_slots shown (slice_set arrays i b)) stock'.kept,
-                sum_by-append (λ s. s.writes) (external_slots shown arrays) stock.kept,
-                ap (sum_by (λ s. s.writes)) kept,
-                sum_by-append (λ s. s.writes) stock.kept (read.slot ∷ []),
-                sum_by-cons (λ s. s.writes) read.slot [],
-              );
-              reads = omega (
-                arith,
-                blocks_set,
-                slots_set (λ s. s.reads),
-                read.reads,
-                sum_by-append (λ s. s.reads) (external_slots shown (slice_set arrays i b)) stock'.kept,
-                sum_by-append (λ s. s.reads) (external_slots shown arrays) stock.kept,
-                ap (sum_by (λ s. s.reads)) kept,
-                sum_by-append (λ s. s.reads) stock.kept (read.slot ∷ []),
-                sum_by-cons (λ s. s.reads) read.slot [],
-              );
+              writes = omega (arith, both_set (λ s. s.writes), read.writes);
+              reads = omega (arith, blocks_set, both_set (λ s. s.reads), read.reads);
             };
             all_tell = (
               λ tell. sum_tell (external_slots shown (slice_set arrays i b) ++ stock'.kept) (untold_set ∙ tell_sum (external_slots shown arrays ++ stock.kept) tell),
@@ -330,6 +317,7 @@ module _ {S R : Type 0} (record_of : List ℕ → R) (width : ℕ) (shown : S �
           let bag : (t : SourcesTell shown before) → IsSameBag (source_items record_of width shown before) (source_items record_of width shown after) = λ t p. omega (arith, source_count p before, source_count p after, set_sum (λ (a : External S R). count_by p (records_in record_of width shown a)), ap (count_by p) (same t)) in
           record {
             parts = parts_set x.block x.stored lv x.read fewer m.sources.takes_back.slots;
+            quiet = quiet_set x.block x.stored lv x.read fewer x.quiet;
             counted = omega (arith, sized none, set_sum (λ (a : External S R). size_of a));
             tell = λ t. tells_from (slice_set arrays i b) (each_set (λ (a : External S R). AllTell (slots_shown shown a.stored)) arrays i b (All-tail Tells (shown x.block.slot) (slots_shown shown b.stored) (told t)) (tells_to arrays t));
             rise = λ t r. record {

@@ -67,6 +67,7 @@ module _ {S R : Type 0} (cmp : R → R → Ordering) (o : IsStrictWeakOrder (is_
   pub Fetched-none : (a : State S R) → Fetched cmp record_of width shown below a a []
   Fetched-none a = record {
     parts = parts_same shown a;
+    quiet = refl;
     counted = omega arith;
     tell = λ t. t;
     rise = λ t r. r;
@@ -77,6 +78,7 @@ module _ {S R : Type 0} (cmp : R → R → Ordering) (o : IsStrictWeakOrder (is_
   pub Fetched-more : (a b c : State S R) (out more : List R) → Fetched cmp record_of width shown below a b out → Fetched cmp record_of width shown below b c more → Fetched cmp record_of width shown below a c (out ++ more)
   Fetched-more a b c out more x y = record {
     parts = parts_trans shown a b c x.parts y.parts;
+    quiet = y.quiet ∙ x.quiet;
     counted = omega (arith, x.counted, y.counted, length-append out more);
     tell = λ t. y.tell (x.tell t);
     rise = λ t r. y.rise (x.tell t) (x.rise t r);

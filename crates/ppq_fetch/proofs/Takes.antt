@@ -23,7 +23,7 @@ use Rattle.ppq_fetch.specs.Edges.{is_within, IsSafeEdge}
 use Rattle.ppq_fetch.specs.Parts.{firsts, rests, passed}
 use Rattle.ppq_fetch.specs.Taking.{IsTaken}
 use Rattle.ppq_fetch.specs.Steps.{TakesSafe, SameBlocks, BuffersGiven}
-use Rattle.ppq_fetch.specs.Fetching.{State, state, MayFetch, PartsKept, Fetched, SourcesTell, RunsRise, WentOn, IsFitting, loaded_lists, count_in, blocks_in, waiting_items, source_items}
+use Rattle.ppq_fetch.specs.Fetching.{State, state, MayFetch, PartsKept, Fetched, SourcesTell, RunsRise, WentOn, IsFitting, loaded_lists, count_in, blocks_in, slots_in, waiting_items, source_items}
 use Rattle.ppq_fetch.specs.declared.edge.Edge.{Edge}
 use Rattle.ppq_fetch.proofs.Counts.{loaded_long}
 use Rattle.ppq_fetch.proofs.Consuming.{given_block}
@@ -114,6 +114,9 @@ module _ {S R : Type 0} where
       room : stock'.slot_room ≡ stock.slot_room
       room = ap (λ (s : Stock). s.slot_room) given.stock
 
+      both : slots_in shown new ≡ slots_in shown old
+      both = ap₂ (λ xs ys. xs ++ ys) slots kept
+
       parts : PartsKept shown old new
       parts = record {
         kept = record {
@@ -126,8 +129,8 @@ module _ {S R : Type 0} where
         buffers = omega (arith, t.arrays.buffers);
         went_on = zip_weaker SameBlocks WentOn went arrays arrays' t.arrays.rest;
         stock = record { more = []; kept = kept ∙ sym (append-nil stock.kept); counted = omega (arith, blocks); drawn = drawn; sure = given.sure; dry = ap (λ (s : Stock). s.dry) given.stock; scant = ap (λ (s : Stock). s.scant) given.stock; room_when_scant = ap (λ (s : Stock). s.room_when_scant) given.stock };
-        transfers = let e : external_slots shown arrays' ++ stock'.kept ≡ external_slots shown arrays ++ stock.kept = ap₂ (λ xs ys. xs ++ ys) slots kept in record { writes = ap (sum_by (λ s. s.writes)) e; reads = omega (arith, ap (sum_by (λ s. s.reads)) e) };
-        all_tell = let e : external_slots shown arrays' ++ stock'.kept ≡ external_slots shown arrays ++ stock.kept = ap₂ (λ xs ys. xs ++ ys) slots kept in (λ tell. subst AllTell (sym e) tell, λ tell. subst AllTell e tell);
+        transfers = record { writes = ap (sum_by (λ s. s.writes)) both; reads = omega (arith, ap (sum_by (λ s. s.reads)) both) };
+        all_tell = (λ tell. subst AllTell (sym both) tell, λ tell. subst AllTell both tell);
       }
 
       waiting_same : sum_by (λ (a : External S R). counts (waiting a)) arrays' ≡ sum_by (λ (a : External S R). counts (waiting a)) arrays
@@ -198,6 +201,7 @@ module _ {S R : Type 0} where
           let left : all_of (rests (t.places ++ t.more) qs) ++ waiting_items record_of width shown arrays ≡ source_items record_of width shown new = ap₂ (λ xs ys. all_of xs ++ ys) (sym lists) (sym waits) in
           record {
             parts = parts;
+            quiet = ap (sum_by (λ s. s.faults)) both;
             counted = counted;
             tell = λ tell. subst AllTell (sym slots) tell;
             rise = λ tell rise. record {

@@ -10,7 +10,7 @@ use Rattle.ppq_array.specs.Run.{Run, items_of, buffers_of}
 use Rattle.ppq_array.specs.External.{External, size_of, records_in, waiting, blocks_items}
 use Rattle.ppq_array.specs.Supply.{Stock}
 use Rattle.ppq_array.specs.Owner.{HasBlock}
-use Rattle.ppq_array.specs.Kept.{Held, Kept, HasFailed, all_writes, all_reads}
+use Rattle.ppq_array.specs.Kept.{Held, Kept, HasFailed, AreQuiet, all_writes, all_reads}
 use Rattle.ppq_array.specs.Holdings.{external_slots, external_buffers, internal_buffers, RunHasBlock, ArrayHasSize, CanTakeBack}
 use Rattle.ppq_fetch.specs.Taking.{IsTaken, AllBelow}
 
@@ -138,9 +138,11 @@ module _ {S R : Type 0} where
       pub transfers : MoreReads (blocks_in old.external - blocks_in new.external) (slots_in old) (slots_in new)
 
   module _ (cmp : R → R → Ordering) (record_of : List ℕ → R) (width : ℕ) (shown : S → Shown) where
-    -- From old to new, out was taken of the sources; where slots tell and runs ascend, the records that are least, all below the limit
+    -- From old to new, out was taken of the sources, and no call of a slot failed; where slots tell and runs ascend, the records that are
+    -- least, all below the limit
     pub record Fetched (below : Option R) (old new : State S R) (out : List R) : Type 0 where
       pub parts : PartsKept shown old new
+      pub quiet : AreQuiet (slots_in shown old) (slots_in shown new)
       pub counted : length out + count_in new.internal new.external ≡ count_in old.internal old.external
       pub tell : SourcesTell shown old → SourcesTell shown new
       pub rise : SourcesTell shown old → RunsRise record_of width shown cmp old → RunsRise record_of width shown cmp new

@@ -130,6 +130,7 @@ module _ {S R : Type 0} where
       pub items : items_of new.loaded ≡ items_of old.loaded ++ filled.items
       pub same : Tells (shown block.slot) → records_in record_of width shown new ≡ records_in record_of width shown old
       pub read : SlotRead block before now
+      pub quiet : read.slot.faults ≡ (shown block.slot).faults
 
     -- The read failed: the block is lost to its run, and the buffer is idle again, after the others
     pub record BlockLost (number : ℕ) (old new : External S R) (idle idle' : List (Block R)) (before now : Stock) : Type 0 where

@@ -1,5 +1,5 @@
 -- One turn of a refill: which block is next, and what is to be done.
-use Rattle.std.specs.Prelude.{◌≡◌, ◌≢◌, ◌⊎◌, ℕ, ◌+◌, ◌<◌, ◌≤◌, ⊤, ◌==◌, if◌then◌else◌, cond, List, [], length, take, Option, Some, None, slice_get}
+use Rattle.std.specs.Prelude.{◌≡◌, ◌≢◌, ◌⊎◌, ℕ, ◌+◌, ◌<◌, ◌≤◌, ⊤, ◌==◌, if◌then◌else◌, cond, min, List, [], length, take, Option, Some, None, slice_get}
 use Rattle.std.specs.declared.cmp.Ordering.{Ordering}
 use Rattle.std.specs.List.{AllByRecursion as Each}
 use Rattle.ppq_array.specs.ppq_record.Order.{Le, is_before}
@@ -54,7 +54,7 @@ HasBuffer arrays ahead a = (items_of a.loaded ≡ []) ⊎ (external_buffers arra
 
 -- what a turn does: it takes safe records, as many as are wanted or all that are; or it loads the next block; or nothing is left within reach
 abbrev pub IsTurn : {S R : Type 0} → List (External S R) → Option (NextBlock R) → Edge R → ℕ → ℕ → ℕ → Turn → Type 0
-IsTurn arrays next edge safe room ahead (Take n) = (0 < n) × (n ≤ safe) × (n ≤ room)
+IsTurn arrays next edge safe room ahead (Take n) = (0 < n) × (n ≡ min safe room)
 IsTurn {S} {R} arrays next edge safe room ahead (Load at) = (b : NextBlock R) × (a : External S R) × (next ≡ Some b) × (b.place ≡ at) × (slice_get arrays at ≡ Some a) × HasBuffer arrays ahead a
 IsTurn {S} {R} arrays next edge safe room ahead Odd = (safe ≡ 0) × ((b : NextBlock R) × (a : External S R) × (next ≡ Some b) × (edge ≡ Edge.AtMost b.minimum) × (slice_get arrays b.place ≡ Some a) × (0 < length (items_of a.loaded)))
 IsTurn {S} {R} arrays next edge safe room ahead End = (safe ≡ 0) × ((u : R) → edge ≢ Edge.AtMost u)

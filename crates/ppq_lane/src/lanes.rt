@@ -1,5 +1,5 @@
 //! The buffers and jobs of whoever writes and reads blocks.
-ghost use Rattle.std.specs.Prelude.{◌≡◌, ◌≤◌, ◌-◌, ◌^◌, ◌<◌, [], length, replicate, All, IfOk, vec_capacity};
+ghost use Rattle.std.specs.Prelude.{◌≡◌, ◌-◌, ◌^◌, ◌<◌, [], length, replicate, All, IfOk, vec_capacity};
 ghost use Rattle.ppq_block.specs.Block.{holding};
 
 use crate::Job;
@@ -19,7 +19,7 @@ pub struct Lanes<S: Slot, R: Record> {
 }
 
 impl<S: Slot, R: Record> Lanes<S, R> {
-    /// So many idle empty buffers for `block` records each, an empty list with room for so many jobs, and
+    /// So many idle empty buffers for `block` records each, an empty list with room for just so many jobs, and
     /// a batch of so many records whose bytes are zeros. `Err` is returned only if an allocation failed.
     pub fn new(
         alloc: Global,
@@ -32,7 +32,7 @@ impl<S: Slot, R: Record> Lanes<S, R> {
         ensures idle { IfOk result (λ l. length l.idle ≡ buffers) }
         ensures empty { IfOk result (λ l. All (λ b. b ≡ holding block []) l.idle) }
         ensures no_job { IfOk result (λ l. l.jobs.items ≡ []) }
-        ensures room { IfOk result (λ l. jobs ≤ vec_capacity l.jobs) }
+        ensures room { IfOk result (λ l. vec_capacity l.jobs ≡ jobs) }
         ensures batch { IfOk result (λ l. l.batch.items ≡ replicate batch (R.record_of (replicate R.WIDTH 0))) }
     {
         let idle = idle_buffers(alloc, block, buffers)?;

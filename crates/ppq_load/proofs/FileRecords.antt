@@ -16,7 +16,7 @@ use Rattle.ppq_load.specs.Loading.{LoadHolding, InSession, AreRecordsAt, HasGive
 use Rattle.ppq_session.proofs.Sessions.{session-rest}
 
 -- records of bytes in two parts
-records-add : (a b : ℕ) (bytes : List ℕ) → records_from pair_of 16 (a + b) bytes ≡ records_from pair_of 16 a bytes ++ records_from pair_of 16 b (drop (a * 16) bytes)
+pub records-add : (a b : ℕ) (bytes : List ℕ) → records_from pair_of 16 (a + b) bytes ≡ records_from pair_of 16 a bytes ++ records_from pair_of 16 b (drop (a * 16) bytes)
 records-add zero b bytes =
     let sum : 0 + b ≡ b = omega arith in
     let start : 0 ≡ 0 * 16 = omega arith in

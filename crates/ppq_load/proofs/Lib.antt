@@ -2,6 +2,7 @@ pub use Rattle.ppq_session.proofs.ppq_block as ppq_block
 pub mod FileRecords
 pub mod Generated
 pub mod Loadings
+pub mod Parts
 pub mod Reading
 pub mod Refusals
 pub mod Results

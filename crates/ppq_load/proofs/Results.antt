@@ -1,11 +1,12 @@
 -- What a load says, by what its session and its reading said.
 use Rattle.std.proofs.Common.{◌≡◌, ℕ, ◌+◌, ◌/◌, List, ◌++◌, length, max, Option, Some, None, refl, ap, ◌∙◌, subst}
-use Rattle.std.specs.Prelude.{Result, Ok, Err, OnOk, IfErr}
+use Rattle.std.specs.Prelude.{Result, Ok, Err, OnOk, OnErr, IfErr}
 use Rattle.ppq_session.specs.ppq_record.declared.pair.Pair.{Pair}
 use Rattle.ppq_session.specs.ppq_record.Bag.{IsSameBag}
 use Rattle.ppq_session.specs.ppq_record.Given.{records_of}
 use Rattle.ppq_session.specs.ppq_outside.Shown.{Shown, AllTell}
 use Rattle.ppq_session.specs.ppq_outside.Told.{Reply, bytes_or_none}
+use Rattle.ppq_session.specs.ppq_array.Kept.{AreQuiet}
 use Rattle.ppq_session.specs.ppq_queue.Holding.{Holding}
 use Rattle.ppq_session.specs.ppq_array.declared.store_fault.StoreFault.{StoreFault as QueueFault}
 use Rattle.ppq_load.specs.declared.fault.LoadFault.{LoadFault}
@@ -14,11 +15,13 @@ use Rattle.ppq_load.specs.Reading.{HasLength}
 use Rattle.ppq_load.specs.Loading.{LoadHolding, InSession, IsLoaded, HasGiven, LoadStopsFor, LoadEndsIn, LoadCountsFrom, IsByLoad, IsByRead, loaded_of, first_of}
 use Rattle.ppq_load.proofs.FileRecords.{file-all}
 
--- What a load says of the queue. Ok: it has all of `bag`, so many records more, no failed block, and its peak. Else: why it was refused
+-- What a load says of the queue. Ok: it has all of `bag`, so many records more, no failed block, and its peak, and no call of a slot failed.
+-- Else: why it was refused
 pub record LoadSays {B : Type 0} (bag : Type 0) (queue new : Holding Pair) (n : ℕ) (result : Result B LoadFault) : Type 0 where
   pub all : OnOk result bag
   pub size : OnOk result (new.size ≡ queue.size + n)
   pub sound : OnOk result (new.failed ≡ None)
+  pub quiet : OnOk result (AreQuiet queue.slots new.slots)
   pub peak : OnOk result (new.peak ≡ max queue.peak (queue.size + n))
   pub refused : IfErr result (LoadStopsFor (max queue.peak (queue.size + n)) queue.sizes queue.limited new.slots)
 
@@ -27,9 +30,9 @@ pub loaded-says :
     {B : Type 0} (queue new : Holding Pair) (records : List Pair) (n : ℕ) (bag : Type 0) → length records ≡ n → ((AllTell queue.slots → IsSameBag new.bag (records ++ queue.bag)) → bag)
     → (ended : Result B QueueFault) → IsLoaded queue records new ended → LoadSays bag queue new n (loaded_of ended)
 loaded-says queue new records n bag long so (Ok value) loaded =
-    record { all = so loaded.bag; size = loaded.size ∙ ap (λ k. queue.size + k) long; sound = loaded.sound; peak = loaded.peak ∙ ap (λ k. max queue.peak (queue.size + k)) long; refused = tt }
+    record { all = so loaded.bag; size = loaded.size ∙ ap (λ k. queue.size + k) long; sound = loaded.sound; quiet = loaded.quiet; peak = loaded.peak ∙ ap (λ k. max queue.peak (queue.size + k)) long; refused = tt }
 loaded-says queue new records n bag long so (Err fault) loaded =
-    record { all = tt; size = tt; sound = tt; peak = tt; refused = subst (λ k. LoadStopsFor (max queue.peak (queue.size + k)) queue.sizes queue.limited new.slots (Queue fault)) long loaded.refused }
+    record { all = tt; size = tt; sound = tt; quiet = tt; peak = tt; refused = subst (λ k. LoadStopsFor (max queue.peak (queue.size + k)) queue.sizes queue.limited new.slots (Queue fault)) long loaded.refused }
 
 pub loaded-by : {B : Type 0} (ended : Result B QueueFault) → IfErr (loaded_of ended) IsByLoad
 loaded-by (Ok value) = tt
@@ -64,11 +67,15 @@ first-says shown told name said load queue new ended end long (Ok value) given b
     loaded-says queue new given.records (said / 16) (AllTell queue.slots → (files : List ℕ → Option (List ℕ)) → told ≡ Some files → IsSameBag new.bag (records_of (bytes_or_none (files name)) ++ queue.bag)) given.are.length
     (λ bag tells files is. file-all told name files said new.bag queue.bag given.records is (long files is) given.are (bag tells)) ended (end given.records given.session)
 first-says shown told name said load queue new ended end long (Err fault) given by =
-    record { all = tt; size = tt; sound = tt; peak = tt; refused = read-stops (max queue.peak (queue.size + said / 16)) queue new.slots fault by }
+    record { all = tt; size = tt; sound = tt; quiet = tt; peak = tt; refused = read-stops (max queue.peak (queue.size + said / 16)) queue new.slots fault by }
 
 pub on_ok : {T E : Type 0} (result : Result T E) (P : Type 0) → P → OnOk result P
 on_ok (Ok value) P holds = holds
 on_ok (Err fault) P holds = tt
+
+pub on_err : {T E : Type 0} (result : Result T E) (P : Type 0) → P → OnErr result P
+on_err (Ok value) P holds = tt
+on_err (Err fault) P holds = holds
 
 pub on_ok-map : {T E : Type 0} (result : Result T E) (P Q : Type 0) → (P → Q) → OnOk result P → OnOk result Q
 on_ok-map (Ok value) P Q f holds = f holds

@@ -50,6 +50,12 @@ pub record HasGiven {S : Type 0} (shown : S → Shown) (queue : Holding Pair) (t
   pub are : AreRecordsAt told name 0 count records
   pub session : InSession shown queue records load
 
+-- some of the first records of a file were given to the passes of a session, and no more than so many
+pub record HasGivenSome {S : Type 0} (shown : S → Shown) (queue : Holding Pair) (told : Option (List ℕ → Option (List ℕ))) (name : List ℕ) (most : ℕ) (load : LoadHolding S) : Type 0 where
+  pub count : ℕ
+  pub few : count ≤ most
+  pub given : HasGiven shown queue told name count load
+
 -- So many records of a file, behind the first `from`: they fill a piece of so many bytes, have room in the batch, and lie within the bytes
 -- that the library said, which are few enough for a load
 pub record IsPart (said from count bytes most : ℕ) : Type 0 where

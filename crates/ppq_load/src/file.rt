@@ -1,5 +1,5 @@
 //! Sessions of the records of a file.
-ghost use Rattle.std.specs.Prelude.{◌≡◌, ◌≤◌, ◌<◌, ◌+◌, ◌*◌, ◌/◌, ◌++◌, [], List, ℕ, Option, Some, None, All, OnOk, IfOk, IfErr, length, take, max};
+ghost use Rattle.std.specs.Prelude.{◌≡◌, ◌≤◌, ◌<◌, ◌+◌, ◌*◌, ◌/◌, ◌++◌, [], List, ℕ, Option, Some, None, All, OnOk, OnErr, IfOk, IfErr, length, take, max};
 ghost use Rattle.ppq_session.specs.ppq_record.declared.pair.Pair.{Pair};
 ghost use Rattle.ppq_session.specs.ppq_record.Pair.{pair_of};
 ghost use Rattle.ppq_session.specs.ppq_record.Bag.{IsSameBag};
@@ -8,10 +8,11 @@ ghost use Rattle.ppq_session.specs.ppq_outside.Shown.{AllTell};
 ghost use Rattle.ppq_session.specs.ppq_outside.Told.{Remembers, RepliesOnly, bytes_or_none};
 ghost use Rattle.ppq_session.specs.ppq_budget.Sizes.{batch_of};
 ghost use Rattle.ppq_session.specs.ppq_queue.Holding.{Holding};
-ghost use Rattle.ppq_session.specs.Dealing.{IsGoing};
+ghost use Rattle.ppq_session.specs.ppq_array.Kept.{AreQuiet};
+ghost use Rattle.ppq_session.specs.Dealing.{IsGoing, AddsPart};
 ghost use Rattle.ppq_load.specs.Reading.{IsReadWithin, ReadsFile, CountsBy, HasLength};
 ghost use Rattle.ppq_load.specs.Refusal.{Keeps};
-ghost use Rattle.ppq_load.specs.Loading.{InSession, HasGiven, HasDealt, IsPart, IsReadRefusal, LoadStopsFor, LoadCountsFrom, LoadEndsIn, first_of, with_batch};
+ghost use Rattle.ppq_load.specs.Loading.{InSession, HasGiven, HasGivenSome, HasDealt, IsPart, IsReadRefusal, LoadStopsFor, LoadCountsFrom, LoadEndsIn, first_of, with_batch};
 
 use crate::context::Context;
 use crate::fault::{LoadFault, loaded};
@@ -25,8 +26,9 @@ use std::alloc::Global;
 /// Adds the records of a file of `said` bytes in a session. They are read by pieces of as many records as
 /// `room` has place for, and no more than a batch has, and each piece is dealt to the passes.
 ///
-/// A refusal hands the queue back, with the session ended: `Memory`, `Read` and `Ended` as reading says,
-/// or `Memory` before the session began; `Queue` where there is no room for the records or a block failed.
+/// A refusal hands the queue back, with the session ended, and with a part of the records unless a block
+/// failed: `Memory`, `Read` and `Ended` as reading says, or `Memory` before the session began; `Queue` where
+/// there is no room for the records or a block failed.
 pub fn load_file<H: Host, S: Slot + Send + Sync, L: Library, G: Gate>(
     rt: &H,
     alloc: Global,
@@ -45,6 +47,8 @@ where
     ensures bag { OnOk result.1 (AllTell queue.slots → (files : List ℕ → Option (List ℕ)) → L.told library.old ≡ Some files → IsSameBag result.0.bag (records_of (bytes_or_none (files name.now)) ++ queue.bag)) }
     ensures size { OnOk result.1 (result.0.size ≡ queue.size + said / 16) }
     ensures sound { OnOk result.1 (result.0.failed ≡ None) }
+    ensures quiet { OnOk result.1 (AreQuiet queue.slots result.0.slots) }
+    ensures part { OnErr result.1 (result.0.failed ≡ None → AllTell queue.slots → (files : List ℕ → Option (List ℕ)) → L.told library.old ≡ Some files → AddsPart (records_of (bytes_or_none (files name.now))) queue.bag result.0.bag) }
     ensures peak { OnOk result.1 (result.0.peak ≡ max queue.peak (queue.size + said / 16)) }
     ensures refused { IfErr result.1 (LoadStopsFor (max queue.peak (queue.size + said / 16)) queue.sizes queue.limited result.0.slots) }
     ensures ended { IfErr result.1 (LoadEndsIn (L.told library.old) (L.replied library.new) name.now said) }
@@ -93,7 +97,7 @@ where
     requires fits { source.said ≤ 68719476736 }
     requires long { HasLength (L.told library.old) source.name.now source.said }
     ensures given { OnOk result ((queue : Holding Pair) → InSession S.shown queue [] load.old → HasGiven S.shown queue (L.told library.old) source.entry.name.now (source.entry.said / 16) load.new) }
-    ensures session { (queue : Holding Pair) → InSession S.shown queue [] load.old → (records : List Pair) × InSession S.shown queue records load.new }
+    ensures some { (queue : Holding Pair) → InSession S.shown queue [] load.old → HasGivenSome S.shown queue (L.told library.old) source.entry.name.now (source.entry.said / 16) load.new }
     ensures refused { IfErr result (IsReadRefusal (L.told library.old) (L.replied library.new) source.entry.name.now source.entry.said) }
     ensures reads { ReadsFile L.told L.replied source.entry.name.now source.entry.said library.old library.new }
     ensures counts { CountsBy LoadCountsFrom (L.faults library.old) (L.faults library.new) result }

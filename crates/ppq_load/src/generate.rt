@@ -1,12 +1,13 @@
 //! Sessions of generated records.
-ghost use Rattle.std.specs.Prelude.{◌≡◌, ◌≤◌, ◌+◌, ◌<◌, ◌^◌, [], All, ◌++◌, OnOk, IfErr, max, take, None};
+ghost use Rattle.std.specs.Prelude.{◌≡◌, ◌≤◌, ◌+◌, ◌<◌, ◌^◌, [], All, ◌++◌, OnOk, OnErr, IfErr, max, take, None};
 ghost use Rattle.ppq_session.specs.ppq_record.declared.pair.Pair.{Pair};
 ghost use Rattle.ppq_session.specs.ppq_record.Bag.{IsSameBag};
 ghost use Rattle.ppq_session.specs.ppq_record.Given.{next_seed, generated, generated_from};
 ghost use Rattle.ppq_session.specs.ppq_outside.Shown.{AllTell};
 ghost use Rattle.ppq_session.specs.ppq_budget.Sizes.{batch_of};
 ghost use Rattle.ppq_session.specs.ppq_queue.Holding.{Holding};
-ghost use Rattle.ppq_session.specs.Dealing.{IsGoing};
+ghost use Rattle.ppq_session.specs.ppq_array.Kept.{AreQuiet};
+ghost use Rattle.ppq_session.specs.Dealing.{IsGoing, AddsPart};
 ghost use Rattle.ppq_load.specs.Refusal.{Keeps};
 ghost use Rattle.ppq_load.specs.Loading.{InSession, IsByLoad, LoadStopsFor, seed_after, with_batch};
 
@@ -17,8 +18,8 @@ use std::alloc::Global;
 
 /// Adds so many generated records in a session: they are dealt to the passes batch by batch.
 ///
-/// A refusal hands the queue back: `Memory` before the session began, `Queue` where there is no room for
-/// the records or a block failed.
+/// A refusal hands the queue back, with a part of the records unless a block failed: `Memory` before the
+/// session began, `Queue` where there is no room for the records or a block failed.
 pub fn load_generated<H: Host, S: Slot + Send + Sync, G: Gate>(
     rt: &H,
     alloc: Global,
@@ -32,6 +33,8 @@ where
     ensures bag { OnOk result.1 (AllTell queue.slots → IsSameBag result.0.bag (generated seed count ++ queue.bag)) }
     ensures size { OnOk result.1 (result.0.size ≡ queue.size + count) }
     ensures sound { OnOk result.1 (result.0.failed ≡ None) }
+    ensures quiet { OnOk result.1 (AreQuiet queue.slots result.0.slots) }
+    ensures part { OnErr result.1 (result.0.failed ≡ None → AllTell queue.slots → AddsPart (generated seed count) queue.bag result.0.bag) }
     ensures peak { OnOk result.1 (result.0.peak ≡ max queue.peak (queue.size + count)) }
     ensures refused { IfErr result.1 (LoadStopsFor (max queue.peak (queue.size + count)) queue.sizes queue.limited result.0.slots) }
     ensures by_load { IfErr result.1 IsByLoad }

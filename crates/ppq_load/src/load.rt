@@ -4,7 +4,7 @@ ghost use Rattle.ppq_session.specs.ppq_record.declared.pair.Pair.{Pair};
 ghost use Rattle.ppq_session.specs.ppq_budget.Sizes.{AreInRange, batch_of};
 ghost use Rattle.ppq_session.specs.ppq_queue.Holding.{Holding};
 ghost use Rattle.ppq_session.specs.ppq_array.declared.store_fault.StoreFault.TheVariants.{Device};
-ghost use Rattle.ppq_session.specs.Dealing.{IsGoing, HasEnded, records_in};
+ghost use Rattle.ppq_session.specs.Dealing.{IsGoing, HasEnded, EachAdds, records_in, records_for, part_for};
 ghost use Rattle.ppq_load.specs.Refusal.{Keeps};
 ghost use Rattle.ppq_load.specs.Loading.{InSession, IsLoaded, IsByLoad, IsHandedBack, IsLeftBy, LoadStopsFor, with_batch};
 ghost use Rattle.ppq_load.specs.declared.fault.LoadFault.TheVariants as load_fault;
@@ -86,6 +86,7 @@ impl<S: Slot + Send + Sync> Load<S> {
         ensures all { IsTrue result ↔ All IsGoing self.new.passes }
         ensures ended { result ≡ false → Any HasEnded self.new.passes }
         ensures session { (queue : Holding Pair) → (records : List Pair) → InSession S.shown queue records self.old → InSession S.shown queue (records ++ take count self.old.bulk.batch) self.new }
+        ensures each { EachAdds S.shown (part_for (length self.old.passes) (take count self.old.bulk.batch)) self.old.passes self.new.passes }
         ensures bulk { self.new.bulk ≡ self.old.bulk }
     {
         self.session.deal(rt, count, gate)
@@ -101,6 +102,7 @@ impl<S: Slot + Send + Sync> Load<S> {
         ensures all { IsTrue result ↔ All IsGoing self.new.passes }
         ensures ended { result ≡ false → Any HasEnded self.new.passes }
         ensures session { (queue : Holding Pair) → (records : List Pair) → InSession S.shown queue records self.old → InSession S.shown queue (records ++ records_in lines.now) self.new }
+        ensures each { EachAdds S.shown (λ pass. records_for pass lines.now) self.old.passes self.new.passes }
         ensures bulk { self.new.bulk ≡ self.old.bulk }
     {
         self.session.push(rt, lines, gate)

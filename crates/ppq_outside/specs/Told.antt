@@ -1,5 +1,5 @@
 -- What slots, libraries and sinks tell, and how their counts rise.
-use Rattle.std.specs.Prelude.{◌≡◌, ◌⊎◌, ℕ, ◌+◌, ◌-◌, ◌^◌, ◌≤◌, List, [], ◌++◌, length, take, drop, min, Option, Some, None, Result, OnErr, IsErrOf, IsSome, OnOk, ⊤}
+use Rattle.std.specs.Prelude.{◌≡◌, ◌⊎◌, ℕ, ◌+◌, ◌-◌, ◌^◌, ◌≤◌, List, [], ◌++◌, length, take, drop, min, Option, Some, None, Result, Ok, Err, OnErr, IsErrOf, IsSome, OnOk, ⊤}
 use Rattle.ppq_outside.specs.declared.fault.OutsideFault.{OutsideFault}
 use Rattle.ppq_outside.specs.declared.fault.OutsideFault.TheVariants.{Failed, Memory}
 
@@ -44,10 +44,10 @@ pub data Reply : Type 0 where
 abbrev pub Remembers : (Reply → Type 0) → (Reply → Type 0) → Type 0
 Remembers before now = (reply : Reply) → before reply → now reply
 
--- a reply on the length of this name
-abbrev pub IsOfLength : List ℕ → Reply → Type 0
-IsOfLength asked (OfLength name size) = name ≡ asked
-IsOfLength asked (OfRead name at room given) = ⊥
+-- the reply on the length of this name that a call gave, where it gave one
+abbrev pub IsLengthGiven : {E : Type 0} → List ℕ → Result (Option ℕ) E → Reply → Type 0
+IsLengthGiven asked (Ok size) reply = reply ≡ OfLength asked size
+IsLengthGiven asked (Err fault) reply = ⊥
 
 -- a reply to a read of this name from this offset on, into room for so many bytes
 abbrev pub IsOfRead : List ℕ → ℕ → ℕ → Reply → Type 0

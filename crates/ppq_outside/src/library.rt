@@ -1,6 +1,6 @@
 //! Named files that are read.
 ghost use Rattle.std.specs.Prelude.{◌≡◌, ◌≤◌, List, ℕ, Option, length, take, IfOk};
-ghost use Rattle.ppq_outside.specs.Told.{HasCause, TellsReply, Reply, OfLength, OfRead, Remembers, RepliesOnly, IsOfLength, IsOfRead};
+ghost use Rattle.ppq_outside.specs.Told.{HasCause, TellsReply, Reply, OfLength, OfRead, Remembers, RepliesOnly, IsLengthGiven, IsOfRead};
 
 use crate::{Host, OutsideFault};
 use std::alloc::Global;
@@ -35,7 +35,7 @@ pub trait Library {
     ) -> Result<Option<u64>, OutsideFault>
         ensures replied { IfOk result (λ size. replied self.new (OfLength name.now size)) }
         ensures remembers { Remembers (replied self.old) (replied self.new) }
-        ensures asks { RepliesOnly (replied self.old) (replied self.new) (IsOfLength name.now) }
+        ensures asks { RepliesOnly (replied self.old) (replied self.new) (IsLengthGiven name.now result) }
         ensures kept { told self.new ≡ told self.old }
         ensures cause { HasCause (faults self.old) (faults self.new) result };
 

@@ -12,7 +12,7 @@ use Rattle.ppq_extract.specs.ppq_array.declared.berth.DeviceBlock.{DeviceBlock}
 use Rattle.ppq_extract.specs.ppq_array.Run.{Run, items_of}
 use Rattle.ppq_extract.specs.ppq_array.External.{External, records_in}
 use Rattle.ppq_extract.specs.ppq_array.Owner.{HasBlock, HasSize, slots_shown}
-use Rattle.ppq_extract.specs.ppq_array.Kept.{SameSlots, all_writes}
+use Rattle.ppq_extract.specs.ppq_array.Kept.{SameSlots, all_faults, all_writes}
 use Rattle.ppq_extract.specs.ppq_array.Holdings.{internal_buffers, external_slots, external_buffers, RunHasBlock, ArrayHasSize}
 use Rattle.ppq_extract.specs.ppq_fetch.Fetching.{count_in}
 use Rattle.ppq_spill.specs.Body.{IsNewBody, job_slots}
@@ -26,10 +26,10 @@ use Rattle.ppq_pass.specs.Passed.{slots_of}
 use Rattle.ppq_pass.specs.PassState.{IsPassed, IsSoundPass, IsPassRun, IsPassArray, shared_of, drawn_of}
 
 module _ {S R : Type 0} (shown : S → Shown) (cmp : R → R → Ordering) (record_of : List ℕ → R) (width : ℕ) (n : Numbers) (heap : Contents R) (body : PassBody S R) (p : PassParts S R)
-    (range : AreInRange n) (new : IsNewBody n.block (pool_of n / n.heap + 1) (n.blocks / n.heap + 1) body) (block : p.block ≡ n.block) (stash : p.stash ≡ []) (dry : p.dry ≡ 0) (undrawn : p.row_seat.hand.places ≡ []) (slots : length p.row_seat.hand.items ≤ n.blocks)
+    (range : AreInRange n) (new : IsNewBody n.block (pool_of n / n.heap + 1) (n.blocks / n.heap + 1) body) (block : p.block ≡ n.block) (stash : p.stash ≡ []) (dry : p.dry ≡ 0) (scant : p.scant ≡ 0) (undrawn : p.row_seat.hand.places ≡ []) (slots : length p.row_seat.hand.items ≤ n.blocks)
     (bytes : All (HasSize shown (n.block * width)) p.row_seat.hand.items) (untaken : p.pool_seat.hand.numbers ≡ []) (shape : 0 < count_of p.pool_seat.pool → p.pool_seat.hand.shape ≡ n.block) (numbers : p.numbers.items ≡ []) (room : count_of p.pool_seat.pool ≤ vec_capacity p.numbers)
   where
-    new_supply : IsPass shown width (shared_of p) p.row_seat p.pool_seat p.stash p.numbers p.block p.dry
+    new_supply : IsPass shown width (shared_of p) p.row_seat p.pool_seat p.stash p.numbers p.block p.dry p.scant
     new_supply =
         record {
           row = refl;
@@ -46,6 +46,7 @@ module _ {S R : Type 0} (shown : S → Shown) (cmp : R → R → Ordering) (reco
           each_once = λ i. (let none : times i p.numbers.items ≡ 0 = ap (times i) numbers in omega (arith, none));
           room = room;
           ended = λ some. absurd (omega (arith, some, dry));
+          looked = let none : p.scant * count_of p.pool_seat.pool ≡ 0 * count_of p.pool_seat.pool = ap (λ k. k * count_of p.pool_seat.pool) scant in omega (arith, none);
         }
 
     no_drawn : drawn_of shown p ≡ []
@@ -95,6 +96,7 @@ module _ {S R : Type 0} (shown : S → Shown) (cmp : R → R → Ordering) (reco
         let none : count_in body.runs.internal.items body.runs.external.items ≡ 0 = ap₂ (λ (xs : List (Run R)) (ys : List (External S R)). count_in xs ys) new.no_internal new.no_external in
         let empty : length p.stash * n.block ≡ 0 * n.block = ap (λ (xs : List (DeviceBlock S R)). length xs * n.block) stash in
         record {
+          quiet = ap all_faults (no_slots ∙ sym no_drawn);
           internal = subst (All (IsPassRun n.block (heap_of n))) (sym new.no_internal) (All-nil (IsPassRun n.block (heap_of n)));
           external = subst (All (IsPassArray shown width n.block (heap_of n))) (sym new.no_external) (All-nil (IsPassArray shown width n.block (heap_of n)));
           ascend = subst (All (λ (run : Run R). Ascends cmp (items_of run))) (sym new.no_internal) (All-nil (λ (run : Run R). Ascends cmp (items_of run)));

@@ -1,5 +1,5 @@
 -- A store of a pass: that it may be made, and what always holds after it.
-use Rattle.std.proofs.Common.{◌≡◌, ℕ, ◌+◌, ◌-◌, ◌*◌, ◌/◌, ◌<◌, ◌≤◌, ◌^◌, Bool, true, List, length, Option, Some, sym, ap, ap₂, ◌∙◌, subst, arith}
+use Rattle.std.proofs.Common.{◌≡◌, ℕ, ◌+◌, ◌-◌, ◌*◌, ◌/◌, ◌<◌, ◌≤◌, ◌^◌, Bool, true, List, length, Option, Some, sym, ap, ◌∙◌, subst, arith}
 use Rattle.std.specs.declared.cmp.Ordering.{Ordering}
 use Rattle.std.proofs.Math.Nat.{mul-le-mul_right, div-mul-le_self, le-div_iff_mul-le}
 use Rattle.ppq_pool.specs.ppq_record.Order.{Ascends}
@@ -16,9 +16,10 @@ use Rattle.ppq_pass.specs.declared.shared.Shared.{Shared}
 use Rattle.ppq_pass.specs.declared.parts.PassParts.{PassParts}
 use Rattle.ppq_pass.specs.Passing.{IsPass}
 use Rattle.ppq_pass.specs.Passed.{slots_of}
-use Rattle.ppq_pass.specs.PassState.{IsPassed, IsSoundPass, shared_of, stock_of}
+use Rattle.ppq_pass.specs.PassState.{IsPassed, IsSoundPass, stock_of}
 use Rattle.ppq_pass.specs.PassStore.{StoreKept}
 use Rattle.ppq_pass.proofs.Passes.{few_numbers}
+use Rattle.ppq_pass.proofs.PassOpened.{of_shared}
 use Rattle.ppq_pass.proofs.PassRuns.{runs_buffers, records_fit, arrays_blocks, arrays_size, runs_count}
 use Rattle.ppq_pass.proofs.PassSlots.{same_slots, same_untold, more_writes}
 
@@ -38,14 +39,14 @@ heap_small n range =
       omega (arith, most, range.block),
     )
 
-module _ {S R : Type 0} (shown : S → Shown) (cmp : R → R → Ordering) (record_of : List ℕ → R) (width : ℕ) (n : Numbers) (heap : Contents R) (a : PassBody S R) (p : PassParts S R) (refused : Bool) (failed : Option ℕ) (is : IsPassed shown width n heap a p refused failed) where
+module _ {S R : Type 0} {shown : S → Shown} {width : ℕ} {n : Numbers} {heap : Contents R} {a : PassBody S R} {p : PassParts S R} {refused : Bool} {failed : Option ℕ} (is : IsPassed shown width n heap a p refused failed) where
   buffers_few : internal_buffers a.runs.internal.items ≤ pool_of n
   buffers_few = omega (arith, is.takes_back.buffers, few_numbers p.numbers.items (count_of p.pool_seat.pool) is.supply.below is.supply.each_once, is.few_buffers)
 
   places_few : length (external_slots shown a.runs.external.items) ≤ n.blocks
   places_few = omega (arith, is.takes_back.slots, is.supply.once (length p.row_seat.hand.items) is.supply.drawn, is.few_slots)
 
-  module _ (begun accepted : ℕ) (sound : IsSoundPass shown cmp record_of width n heap a p begun accepted refused) where
+  module _ {cmp : R → R → Ordering} {record_of : List ℕ → R} {begun accepted : ℕ} (sound : IsSoundPass shown cmp record_of width n heap a p begun accepted refused) where
     block_some : 0 < n.block
     block_some = omega (arith, is.range.two_records)
 
@@ -97,13 +98,7 @@ module _ {S R : Type 0} (shown : S → Shown) (cmp : R → R → Ordering) (reco
           is.range.block,
         )
 
-  module _ (shared : Shared S R) (b : PassBody S R) (q : PassParts S R) (records : ℕ) (row : p.row_seat.row ≡ shared.row) (pool : p.pool_seat.pool ≡ shared.pool) (kept : StoreKept shown width records shared a b p q) where
-    same_shared : shared_of q ≡ shared
-    same_shared = ap₂ shared_with kept.supply.row kept.supply.pool
-      where
-        shared_with : Rattle.atomic_table.specs.Seated.TableId → Rattle.atomic_table.specs.Seated.TableId → Shared S R
-        shared_with r p = record { row = r; pool = p }
-
+  module _ {shared : Shared S R} {b : PassBody S R} {q : PassParts S R} {records : ℕ} (row : p.row_seat.row ≡ shared.row) (pool : p.pool_seat.pool ≡ shared.pool) (kept : StoreKept shown width records shared a b p q) where
     -- what always holds, holds after a store
     pub passed_stored :
         (heap' : Contents R) (refused' : Bool) (failed' : Option ℕ) → heap'.cap ≡ heap.cap → length heap'.items ≤ heap_of n → (refused' ≡ true → 0 < q.dry)
@@ -112,15 +107,15 @@ module _ {S R : Type 0} (shown : S → Shown) (cmp : R → R → Ordering) (reco
     passed_stored heap' refused' failed' cap most ended fault =
         record {
           range = is.range;
-          supply = subst (λ (h : Shared S R). IsPass shown width h q.row_seat q.pool_seat q.stash q.numbers q.block q.dry) (sym same_shared) kept.supply;
+          supply = subst (λ (h : Shared S R). IsPass shown width h q.row_seat q.pool_seat q.stash q.numbers q.block q.dry q.scant) (sym (of_shared q shared kept.supply.row kept.supply.pool)) kept.supply;
           block = kept.kept.block ∙ is.block;
           cap = cap ∙ is.cap;
           in_heap = most;
           few_buffers = omega (arith, ap count_of (kept.supply.pool ∙ sym pool), is.few_buffers);
           few_slots = omega (arith, ap length kept.items, is.few_slots);
-          slots = same_slots shown a b p q kept.kept kept.items is.slots;
-          untold = same_untold shown a b p q kept.kept kept.items kept.untold is.untold;
-          writes = more_writes shown a b p q kept.kept kept.items records kept.writes is.writes;
+          slots = same_slots kept is.slots;
+          untold = same_untold kept is.untold;
+          writes = more_writes kept is.writes;
           buffers = omega (arith, kept.kept.buffers, is.buffers);
           size = kept.size;
           takes_back = kept.takes_back;

@@ -49,7 +49,7 @@ module _ {S R : Type 0} (shown : S → Shown) (cmp : R → R → Ordering) (reco
     pub seen : (v : PassHolding S R) → shown_holding shown record_of width n heap body o begun accepted refused failed ≡ v → holding_of shown record_of width n heap body p begun accepted refused failed ≡ v
     seen v view = subst (λ (o : Option (PassParts S R)). shown_holding shown record_of width n heap body o begun accepted refused failed ≡ v) e view
 
-module _ {S R : Type 0} (shown : S → Shown) (width : ℕ) (shared : Shared S R) (a b : PassBody S R) (p q : PassParts S R) (records : ℕ) (kept : StoreKept shown width records shared a b p q) (row : p.row_seat.row ≡ shared.row) (pool : p.pool_seat.pool ≡ shared.pool) where
+module _ {S R : Type 0} {shown : S → Shown} {width records : ℕ} {shared : Shared S R} {a b : PassBody S R} {p q : PassParts S R} (kept : StoreKept shown width records shared a b p q) (row : p.row_seat.row ≡ shared.row) (pool : p.pool_seat.pool ≡ shared.pool) where
   -- the key stays
   pub key_stored : (n : Numbers) (begun : ℕ) → key_of n begun q.row_seat q.pool_seat ≡ key_of n begun p.row_seat p.pool_seat
   key_stored n begun =

@@ -34,7 +34,7 @@ module _ {S R : Type 0} (shown : S → Shown) (cmp : R → R → Ordering) (reco
   pub accepted_few : (o : Option (PassParts S R)) (failed : Option ℕ) → Holds o failed → length heap.items < heap_of n → accepted < 2 ^ 63
   accepted_few (Some p) failed is room =
       let sound = is.1 (not_failed p failed is.0 room) in
-      omega (arith, sound.counted, size_few shown cmp record_of width n heap body p refused failed is.0 begun accepted sound)
+      omega (arith, sound.counted, size_few is.0 sound)
   accepted_few None failed is room = absurd is
 
   pub within_heap : (o : Option (PassParts S R)) (failed : Option ℕ) → Holds o failed → (length heap.items ≤ heap_of n) × (heap.cap ≡ heap_of n)
@@ -73,6 +73,7 @@ module _ {S R : Type 0} (shown : S → Shown) (cmp : R → R → Ordering) (reco
         (λ none.
             let sound = is.1 none in
             record {
+              quiet = sound.quiet;
               internal = sound.internal;
               external = sound.external;
               ascend = sound.ascend;
@@ -114,6 +115,7 @@ module _ {S R : Type 0} (shown : S → Shown) (cmp : R → R → Ordering) (reco
         numbers = subst (All (λ i. i < count_of p.pool_seat.pool)) is.0.supply.numbers_are is.0.supply.below;
         each_once = λ i. subst (λ (l : List ℕ). times i l ≤ 1) is.0.supply.numbers_are (is.0.supply.each_once i);
         pool = is.0.few_buffers;
+        quiet = λ none. (is.1 none).quiet;
         counted = λ none. (is.1 none).counted;
         noted = λ r. is.0.supply.ended (is.0.ended r);
         full = λ r none. (is.1 none).whole r;

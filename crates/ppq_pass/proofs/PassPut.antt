@@ -1,12 +1,9 @@
 -- A push that stores a full heap first: what is known then, and what each answer of the store leaves.
-use Rattle.std.proofs.Common.{◌≡◌, ℕ, ◌+◌, ◌*◌, ◌^◌, ◌<◌, Bool, true, List, [], ◌∷◌, ◌++◌, length, Option, Some, None, refl, sym, ap, ◌∙◌, subst, arith}
+use Rattle.std.proofs.Common.{◌≡◌, ℕ, ◌+◌, ◌*◌, ◌^◌, ◌<◌, Bool, true, List, [], ◌∷◌, ◌++◌, length, Option, Some, refl, sym, ap, ◌∙◌, subst, arith}
 use Rattle.std.specs.Prelude.{count_by, flat_map}
 use Rattle.std.specs.declared.cmp.Ordering.{Ordering}
-use Rattle.std.specs.Cmp.{IsTotalOrder}
-use Rattle.ppq_pool.specs.ppq_record.Order.{Ascends, is_before}
-use Rattle.ppq_pool.specs.ppq_record.Bag.{IsSameBag, ascending}
-use Rattle.ppq_pool.proofs.ppq_record.Order.{IsSameBag-length, in_order-same_bag, count_by-append, count_by-cons}
-use Rattle.ppq_pool.proofs.ppq_record.Fronts.{ranks}
+use Rattle.ppq_pool.specs.ppq_record.Bag.{IsSameBag}
+use Rattle.ppq_pool.proofs.ppq_record.Order.{IsSameBag-length, count_by-append, count_by-cons}
 use Rattle.ppq_extract.specs.ppq_outside.Shown.{Shown}
 use Rattle.ppq_extract.specs.ppq_budget.Sizes.{Numbers, heap_of}
 use Rattle.ppq_extract.specs.ppq_array.External.{records_in}
@@ -19,51 +16,15 @@ use Rattle.ppq_spill.specs.declared.body.PassBody.{PassBody}
 use Rattle.ppq_pass.specs.declared.shared.Shared.{Shared}
 use Rattle.ppq_pass.specs.declared.parts.PassParts.{PassParts}
 use Rattle.ppq_pass.specs.Passing.{IsPass}
-use Rattle.ppq_pass.specs.Passed.{PassHolding, PassTells, IsOf, PutAfterStore, PushKeeps, FoundNone, MetFault, holding_of, shown_holding, slots_of, runs_bag}
-use Rattle.ppq_pass.specs.PassState.{IsPassed, IsSoundPass, IsPassing, stock_of}
+use Rattle.ppq_pass.specs.Passed.{PassHolding, PassTells, PutAfterStore, PushKeeps, FoundNone, MetFault, holding_of, slots_of, runs_bag}
+use Rattle.ppq_pass.specs.PassState.{IsPassing, stock_of}
 use Rattle.ppq_pass.specs.PassStore.{StoreKept}
 use Rattle.ppq_pass.proofs.PassKeeps.{heap_small, may_store, runs_ascend, size_few, passed_stored}
-use Rattle.ppq_pass.proofs.PassOpened.{not_both, same_number, opened, seen, key_stored, refused_holding, of_shared}
+use Rattle.ppq_pass.proofs.PassOpened.{not_both, same_number, key_stored, refused_holding, of_shared}
+use Rattle.ppq_pass.proofs.PassReady.{AtStore}
 use Rattle.ppq_pass.proofs.PassSince.{kept_stored}
 use Rattle.ppq_pass.proofs.PassSlots.{still_tell}
 use Rattle.ppq_pass.proofs.PassStored.{sound_stored, size_stored, bag_stored, sound_refused, few_stash, int, ext}
-
--- what is known of a pass that shows as `v` where its full heap was sorted, to be stored
-pub record AtStore {S R : Type 0} (shown : S → Shown) (cmp : R → R → Ordering) (record_of : List ℕ → R) (width : ℕ) (n : Numbers) (heap : Contents R) (body : PassBody S R) (p : PassParts S R) (begun accepted : ℕ) (refused : Bool) (failed : Option ℕ) (v : PassHolding S R) (shared : Shared S R) (sorted : List R) : Type 0 where
-  pub is : IsPassed shown width n heap body p refused None
-  pub sound : IsSoundPass shown cmp record_of width n heap body p begun accepted refused
-  pub view : holding_of shown record_of width n heap body p begun accepted refused failed ≡ v
-  pub none : failed ≡ None
-  pub row : p.row_seat.row ≡ shared.row
-  pub pool : p.pool_seat.pool ≡ shared.pool
-  pub full : length heap.items ≡ heap_of n
-  pub long : length sorted ≡ heap_of n
-  pub bag : IsSameBag sorted heap.items
-  pub up : Ascends cmp sorted
-
-pub at_store :
-    {S R : Type 0} (shown : S → Shown) (cmp : R → R → Ordering) (record_of : List ℕ → R) (width : ℕ) (n : Numbers) (heap : Contents R) (body : PassBody S R) (begun accepted : ℕ) (refused : Bool) (failed : Option ℕ) (o : Option (PassParts S R)) (p : PassParts S R) → o ≡ Some p
-    → IsTotalOrder cmp → IsPassing shown cmp record_of width n heap body o begun accepted refused failed → (v : PassHolding S R) → shown_holding shown record_of width n heap body o begun accepted refused failed ≡ v
-    → (shared : Shared S R) → IsOf shared v → v.failed ≡ None → v.in_heap ≡ heap_of v.key.sizes → (sorted given : List R) → sorted ≡ given → given ≡ ascending cmp heap.items → Ascends cmp given
-    → AtStore shown cmp record_of width n heap body p begun accepted refused failed v shared sorted
-at_store {S = S} {R = R} shown cmp record_of width n heap body begun accepted refused failed o p e order is v view shared of sound full sorted given same asc up =
-    let view' = seen shown cmp record_of width n heap body begun accepted refused failed o p e v view in
-    let none : failed ≡ None = ap (λ v. v.failed) view' ∙ sound in
-    let both = opened shown cmp record_of width n heap body begun accepted refused failed o p e is in
-    let all : length heap.items ≡ heap_of n = subst (λ (v : PassHolding S R). v.in_heap ≡ heap_of v.key.sizes) (sym view') full in
-    let bag : IsSameBag sorted heap.items = λ t. ap (count_by t) (same ∙ asc) ∙ in_order-same_bag (is_before cmp) (ranks order) heap.items t in
-    record {
-      is = subst (λ (f : Option ℕ). IsPassed shown width n heap body p refused f) none both.0;
-      sound = both.1 none;
-      view = view';
-      none = none;
-      row = ap (λ v. v.key.row) view' ∙ of.row;
-      pool = ap (λ v. v.key.pool) view' ∙ of.pool;
-      full = all;
-      long = IsSameBag-length sorted heap.items bag ∙ all;
-      bag = bag;
-      up = subst (Ascends cmp) (sym same) up;
-    }
 
 module _ {S R : Type 0} {shown : S → Shown} {cmp : R → R → Ordering} {record_of : List ℕ → R} {width : ℕ} {n : Numbers} {heap : Contents R} {body : PassBody S R} {p : PassParts S R} {begun accepted : ℕ} {refused : Bool} {failed : Option ℕ} {v : PassHolding S R} {shared : Shared S R} {sorted : List R}
     (at : AtStore shown cmp record_of width n heap body p begun accepted refused failed v shared sorted)
@@ -72,30 +33,30 @@ module _ {S R : Type 0} {shown : S → Shown} {cmp : R → R → Ordering} {reco
     pub some : 0 < length sorted
     some = omega (arith, at.long, (heap_small n at.is.range).0)
 
-    pub of_session : IsPass shown width shared p.row_seat p.pool_seat p.stash p.numbers p.block p.dry
-    of_session = subst (λ h. IsPass shown width h p.row_seat p.pool_seat p.stash p.numbers p.block p.dry) (of_shared p shared at.row at.pool) at.is.supply
+    pub of_session : IsPass shown width shared p.row_seat p.pool_seat p.stash p.numbers p.block p.dry p.scant
+    of_session = subst (λ h. IsPass shown width h p.row_seat p.pool_seat p.stash p.numbers p.block p.dry p.scant) (of_shared p shared at.row at.pool) at.is.supply
 
     pub has_store_room : MayStore shown width (length sorted) body (stock_of shown p)
-    has_store_room = may_store shown cmp record_of width n heap body p refused None at.is begun accepted at.sound (length sorted) at.long
+    has_store_room = may_store at.is at.sound (length sorted) at.long
 
     pub all_ascend : RunsAscend cmp shown sorted body (stock_of shown p)
-    all_ascend = runs_ascend shown cmp record_of width n heap body p refused None at.is begun accepted at.sound sorted at.up
+    all_ascend = runs_ascend at.is at.sound sorted at.up
 
     -- one record more can be counted
     pub may_count : accepted < 2 ^ 63
-    may_count = omega (arith, at.sound.counted, size_few shown cmp record_of width n heap body p refused None at.is begun accepted at.sound)
+    may_count = omega (arith, at.sound.counted, size_few at.is at.sound)
 
     module _ {b : PassBody S R} {q : PassParts S R} (kept : StoreKept shown width (length sorted) shared body b p q) where
       same_key : (heap' : Contents R) (accepted' : ℕ) (refused' : Bool) (failed' : Option ℕ) → (holding_of shown record_of width n heap' b q begun accepted' refused' failed').key ≡ v.key
-      same_key heap' accepted' refused' failed' = key_stored shown width shared body b p q (length sorted) kept at.row at.pool n begun ∙ ap (λ v. v.key) at.view
+      same_key heap' accepted' refused' failed' = key_stored kept at.row at.pool n begun ∙ ap (λ v. v.key) at.view
 
       -- whatever the store answered
       pub push_keeps : (heap' : Contents R) (accepted' : ℕ) (refused' : Bool) (failed' : Option ℕ) → PushKeeps shown v (holding_of shown record_of width n heap' b q begun accepted' refused' failed')
       push_keeps heap' accepted' refused' failed' =
           let new = holding_of shown record_of width n heap' b q begun accepted' refused' failed' in
           record {
-            tells = λ tell. (still_tell shown body b p q kept.kept kept.items kept.tells).0 (subst (λ v. PassTells shown v) (sym at.view) tell);
-            kept = kept_stored shown body b p q kept.kept kept.items kept.since v new (sym (ap (λ v. v.drawn) at.view)) (sym (ap (λ v. v.slots) at.view)) (sym (ap (λ v. v.steps) at.view)) refl refl refl;
+            tells = λ tell. (still_tell kept).0 (subst (λ v. PassTells shown v) (sym at.view) tell);
+            kept = kept_stored kept v new (sym (ap (λ v. v.drawn) at.view)) (sym (ap (λ v. v.slots) at.view)) (sym (ap (λ v. v.steps) at.view)) refl refl refl;
             key = same_key heap' accepted' refused' failed';
           }
 
@@ -106,8 +67,8 @@ module _ {S R : Type 0} {shown : S → Shown} {cmp : R → R → Ordering} {reco
 
         pub put_holds : IsPassing shown cmp record_of width n heap' b (Some q) begun (accepted + 1) refused failed
         put_holds = (
-          passed_stored shown cmp record_of width n heap body p refused None at.is shared b q (length sorted) at.row at.pool kept heap' refused failed cap (omega (arith, one, (heap_small n at.is.range).0)) (λ r. kept.dry (at.is.ended r)) (λ k h. absurd (not_both failed k at.none h)),
-          (λ _. sound_stored shown cmp record_of width n shared heap body b p q refused begun accepted at.is at.sound at.full sorted at.long at.up kept put heap' one),
+          passed_stored at.is at.row at.pool kept heap' refused failed cap (omega (arith, one, (heap_small n at.is.range).0)) (λ r. kept.dry (at.is.ended r)) (λ k h. absurd (not_both failed k at.none h)),
+          (λ _. sound_stored at kept put heap' one),
         )
 
         pub put_after : PutAfterStore shown r v (holding_of shown record_of width n heap' b q begun (accepted + 1) refused failed)
@@ -118,7 +79,7 @@ module _ {S R : Type 0} {shown : S → Shown} {cmp : R → R → Ordering} {reco
                 arith,
                 bag t,
                 count_by-cons t r [],
-                bag_stored shown cmp record_of width n shared heap body b p q refused begun accepted at.is at.sound at.full sorted at.long at.up kept put (subst (λ v. PassTells shown v) (sym at.view) tell) t,
+                bag_stored at kept put (subst (λ v. PassTells shown v) (sym at.view) tell) t,
                 count_by-append t heap'.items (runs_bag shown record_of width b),
                 count_by-append t sorted runs,
                 at.bag t,
@@ -126,7 +87,7 @@ module _ {S R : Type 0} {shown : S → Shown} {cmp : R → R → Ordering} {reco
                 ap (λ v. count_by t v.bag) at.view,
                 count_by-cons t r v.bag,
               );
-              size = omega (arith, one, size_stored shown cmp record_of width n shared heap body b p q refused begun accepted at.is at.sound at.full sorted at.long at.up kept put, at.full, ap (λ v. v.size) at.view);
+              size = omega (arith, one, size_stored at kept put, at.full, ap (λ v. v.size) at.view);
               accepted = ap (λ v. v.accepted + 1) at.view;
               same = ap (λ v. v.refused) at.view;
               sound = at.none;
@@ -145,15 +106,15 @@ module _ {S R : Type 0} {shown : S → Shown} {cmp : R → R → Ordering} {reco
 
           pub none_holds : IsPassing shown cmp record_of width n heap' b (Some q) begun accepted true failed
           none_holds = (
-            passed_stored shown cmp record_of width n heap body p refused None at.is shared b q (length sorted) at.row at.pool kept heap' true failed cap (omega (arith, all)) (λ _. dry) (λ k h. absurd (not_both failed k at.none h)),
-            (λ _. sound_refused shown cmp record_of width n shared heap body b p q refused begun accepted at.is at.sound at.full sorted at.long at.up kept none heap' all),
+            passed_stored at.is at.row at.pool kept heap' true failed cap (omega (arith, all)) (λ _. dry) (λ k h. absurd (not_both failed k at.none h)),
+            (λ _. sound_refused at kept none heap' all),
           )
 
           pub found_none : FoundNone v (holding_of shown record_of width n heap' b q begun accepted true failed)
           found_none =
               let new = holding_of shown record_of width n heap' b q begun accepted true failed in
-              let same_int = int shown cmp record_of width n shared heap body b p q refused begun accepted at.is at.sound at.full sorted at.long at.up kept none in
-              let same_ext = ext shown cmp record_of width n shared heap body b p q refused begun accepted at.is at.sound at.full sorted at.long at.up kept none in
+              let same_int = int at kept none in
+              let same_ext = ext at kept none in
               let noted = kept.supply.ended dry in
               let runs = runs_bag shown record_of width in
               let stored = flat_map (records_in record_of width shown) in
@@ -169,7 +130,7 @@ module _ {S R : Type 0} {shown : S → Shown} {cmp : R → R → Ordering} {reco
                   ap (λ v. count_by t v.bag) at.view,
                 );
                 noted = noted;
-                few = subst (λ v. length q.stash * v.key.sizes.block < heap_of v.key.sizes + v.in_buffers) at.view (few_stash shown cmp record_of width n shared heap body b p q refused begun accepted at.is at.sound at.full sorted at.long at.up kept none);
+                few = subst (λ v. length q.stash * v.key.sizes.block < heap_of v.key.sizes + v.in_buffers) at.view (few_stash at kept none);
                 rest = refused_holding v new (same_key heap' accepted true failed)
                     (omega (arith, all, at.full, ap (λ l. count_in l b.runs.external.items) same_int, ap (λ l. count_in body.runs.internal.items l) same_ext, ap (λ v. v.size) at.view))
                     (omega (arith, all, at.full, ap (λ v. v.in_heap) at.view))
@@ -182,7 +143,7 @@ module _ {S R : Type 0} {shown : S → Shown} {cmp : R → R → Ordering} {reco
         module _ (number : ℕ) (fault : HasFailed number (slots_of shown b q)) where
           pub fault_holds : IsPassing shown cmp record_of width n heap' b (Some q) begun accepted refused (Some number)
           fault_holds = (
-            passed_stored shown cmp record_of width n heap body p refused None at.is shared b q (length sorted) at.row at.pool kept heap' refused (Some number) cap (omega (arith, all)) (λ r. kept.dry (at.is.ended r)) (λ k h. (subst (λ j. HasFailed j (slots_of shown b q)) (same_number number k h) fault, all)),
+            passed_stored at.is at.row at.pool kept heap' refused (Some number) cap (omega (arith, all)) (λ r. kept.dry (at.is.ended r)) (λ k h. (subst (λ j. HasFailed j (slots_of shown b q)) (same_number number k h) fault, all)),
             (λ h. absurd (not_both (Some number) number h refl)),
           )
 

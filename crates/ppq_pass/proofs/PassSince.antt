@@ -8,20 +8,22 @@ use Rattle.std.proofs.lemmas.List.Sums.{sum_by-append}
 use Rattle.ppq_extract.specs.ppq_outside.Shown.{Shown}
 use Rattle.ppq_extract.specs.ppq_array.declared.berth.DeviceBlock.{DeviceBlock}
 use Rattle.ppq_extract.specs.ppq_array.Owner.{slots_shown}
-use Rattle.ppq_extract.specs.ppq_array.Kept.{SameSlots, Kept, weight_at}
-use Rattle.ppq_spill.specs.Body.{held_by}
+use Rattle.ppq_extract.specs.ppq_array.Kept.{SameSlots, weight_at}
 use Rattle.ppq_spill.specs.declared.body.PassBody.{PassBody}
 use Rattle.ppq_spill.proofs.SameSlots.{SameSlots-refl}
 use Rattle.ppq_row.specs.Known.{Known as RowKnown}
-use Rattle.ppq_row.specs.Seats.{Drew}
+use Rattle.ppq_row.specs.Seats.{Drew, NoneLeft}
 use Rattle.ppq_pool.specs.Known.{Known as PoolKnown}
-use Rattle.ppq_pool.specs.Hands.{with_give}
-use Rattle.ppq_pool.specs.Seats.{Takes}
+use Rattle.ppq_pool.specs.Hands.{with_give, looks_below}
+use Rattle.ppq_pool.specs.Seats.{Takes, FoundHeld}
 use Rattle.ppq_pass.specs.declared.shared.PoolBuf.{PoolBuf}
+use Rattle.ppq_pass.specs.declared.shared.Shared.{Shared}
 use Rattle.ppq_pass.specs.declared.parts.PassParts.{PassParts}
 use Rattle.ppq_pass.specs.Passing.{items_at, with_item, steps_of, IsSince}
 use Rattle.ppq_pass.specs.Passed.{PassHolding, KeptSlots, slots_of, with_one}
-use Rattle.ppq_pass.specs.PassState.{drawn_of, stock_of}
+use Rattle.ppq_pass.specs.PassState.{drawn_of}
+use Rattle.ppq_pass.specs.PassStore.{StoreKept}
+use Rattle.ppq_pass.proofs.Passes.{none_left}
 
 module _ {T : Type 0} where
   -- the items at places, and at those behind them
@@ -34,7 +36,7 @@ module _ {T : Type 0} where
       put (some y) xs ys = refl
 
 module _ {S R : Type 0} where
-  module _ (places : List ℕ) (steps : ℕ) (row : RowKnown (DeviceBlock S R)) (pool : PoolKnown (PoolBuf R)) (is : IsSince places steps row pool) where
+  module _ {places : List ℕ} {steps : ℕ} {row : RowKnown (DeviceBlock S R)} {pool : PoolKnown (PoolBuf R)} (is : IsSince places steps row pool) where
     -- a draw
     pub since_drew : (row' : RowKnown (DeviceBlock S R)) (i : ℕ) (x : DeviceBlock S R) → Drew row.hand i x row'.hand → IsSince places steps row' pool
     since_drew row' i x drew =
@@ -46,12 +48,20 @@ module _ {S R : Type 0} where
           steps = omega (arith, is.steps, ap length now, length-append row.hand.places (i ∷ []), nones);
         }
 
+    -- a draw that found the end
+    pub since_dry : (row' : RowKnown (DeviceBlock S R)) → NoneLeft row.hand row'.hand → IsSince places steps row' pool
+    since_dry row' found = let left = none_left row.hand row'.hand found in record { more = is.more; places = left.1 ∙ is.places; steps = omega (arith, is.steps, ap length left.1, left.2) }
+
     -- a take
     pub since_took : (pool' : PoolKnown (PoolBuf R)) (i : ℕ) → Takes pool.hand i pool'.hand → IsSince places steps row pool'
     since_took pool' i took =
         let looks = took.trail.0 in
         let long = ap length took.trail.2 in
         record { more = is.more; places = is.places; steps = omega (arith, is.steps, long, length-append looks pool.hand.trail) }
+
+    -- a take that found each buffer held
+    pub since_scant : (pool' : PoolKnown (PoolBuf R)) (n : ℕ) → FoundHeld n pool.hand pool'.hand → IsSince places steps row pool'
+    since_scant pool' n found = record { more = is.more; places = is.places; steps = omega (arith, is.steps, ap length found.looked, length-append (looks_below n) pool.hand.trail) }
 
     -- a buffer that was given back
     pub since_gave : (pool' : PoolKnown (PoolBuf R)) (i : ℕ) (buf : PoolBuf R) → pool'.hand ≡ with_give i buf pool.hand → IsSince places steps row pool'
@@ -73,56 +83,56 @@ module _ {S R : Type 0} where
   pub kept_refl : (pass : PassHolding S R) → KeptSlots pass pass
   kept_refl pass = kept_same pass pass refl refl refl
 
-  module _ (shown : S → Shown) (a b : PassBody S R) (p q : PassParts S R) (kept : Kept (stock_of shown p) (stock_of shown q) (held_by shown a) (held_by shown b)) (items : q.row_seat.hand.items ≡ p.row_seat.hand.items)
-      (since : IsSince p.row_seat.hand.places (steps_of p.row_seat p.pool_seat) q.row_seat q.pool_seat)
-    where
-      abbrev drew : List Shown
-      drew = slots_shown shown (items_at p.row_seat.hand.items since.more)
+-- after a store
+module _ {S R : Type 0} {shown : S → Shown} {width records : ℕ} {shared : Shared S R} {a b : PassBody S R} {p q : PassParts S R}
+    (kept : StoreKept shown width records shared a b p q)
+  where
+    abbrev drew : List Shown
+    drew = slots_shown shown (items_at p.row_seat.hand.items kept.since.more)
 
-      all_drawn : drawn_of shown q ≡ drawn_of shown p ++ drew
-      all_drawn =
-          ap₂ (λ (xs : List (DeviceBlock S R)) (ps : List ℕ). slots_shown shown (items_at xs ps)) items since.places
-          ∙ ap (slots_shown shown) (items_at-append p.row_seat.hand.items p.row_seat.hand.places since.more)
-          ∙ map-append (λ (b : DeviceBlock S R). shown b.slot) (items_at p.row_seat.hand.items p.row_seat.hand.places) (items_at p.row_seat.hand.items since.more)
+    all_drawn : drawn_of shown q ≡ drawn_of shown p ++ drew
+    all_drawn =
+        ap₂ (λ (xs : List (DeviceBlock S R)) (ps : List ℕ). slots_shown shown (items_at xs ps)) kept.items kept.since.places
+        ∙ ap (slots_shown shown) (items_at-append p.row_seat.hand.items p.row_seat.hand.places kept.since.more)
+        ∙ map-append (λ (b : DeviceBlock S R). shown b.slot) (items_at p.row_seat.hand.items p.row_seat.hand.places) (items_at p.row_seat.hand.items kept.since.more)
 
-      held : SameSlots (slots_of shown a p ++ drew) (slots_of shown b q)
-      held =
-          let was = slots_of shown a p in
-          let now = slots_of shown b q in
-          let split : (f : Shown → ℕ) → sum_by f (was ++ drawn_of shown q) + sum_by f now ≡ sum_by f (was ++ drew) + sum_by f (now ++ drawn_of shown p) =
-          λ f.
-          omega (
+    held : SameSlots (slots_of shown a p ++ drew) (slots_of shown b q)
+    held =
+        let was = slots_of shown a p in
+        let now = slots_of shown b q in
+        let split : (f : Shown → ℕ) → sum_by f (was ++ drawn_of shown q) + sum_by f now ≡ sum_by f (was ++ drew) + sum_by f (now ++ drawn_of shown p) =
+        λ f.
+        omega (
+          arith,
+          ap (sum_by f) all_drawn,
+          sum_by-append f (drawn_of shown p) drew,
+          sum_by-append f was (drawn_of shown q),
+          sum_by-append f was drew,
+          sum_by-append f now (drawn_of shown p),
+        ) in
+        record {
+          length = omega (
             arith,
-            ap (sum_by f) all_drawn,
-            sum_by-append f (drawn_of shown p) drew,
-            sum_by-append f was (drawn_of shown q),
-            sum_by-append f was drew,
-            sum_by-append f now (drawn_of shown p),
-          ) in
-          record {
-            length = omega (
-              arith,
-              kept.slots.length,
-              ap length all_drawn,
-              length-append (drawn_of shown p) drew,
-              length-append was (drawn_of shown q),
-              length-append was drew,
-              length-append now (drawn_of shown p),
-            );
-            each_once = λ n. omega (arith, kept.slots.each_once n, split (weight_at (λ s. 1) n));
-            faults = λ n. omega (arith, kept.slots.faults n, split (weight_at (λ s. s.faults) n));
-            writes = λ n. omega (arith, kept.slots.writes n, split (weight_at (λ s. s.writes) n));
-            reads = λ n. omega (arith, kept.slots.reads n, split (weight_at (λ s. s.reads) n));
-          }
+            kept.kept.slots.length,
+            ap length all_drawn,
+            length-append (drawn_of shown p) drew,
+            length-append was (drawn_of shown q),
+            length-append was drew,
+            length-append now (drawn_of shown p),
+          );
+          each_once = λ n. omega (arith, kept.kept.slots.each_once n, split (weight_at (λ s. 1) n));
+          faults = λ n. omega (arith, kept.kept.slots.faults n, split (weight_at (λ s. s.faults) n));
+          writes = λ n. omega (arith, kept.kept.slots.writes n, split (weight_at (λ s. s.writes) n));
+          reads = λ n. omega (arith, kept.kept.slots.reads n, split (weight_at (λ s. s.reads) n));
+        }
 
-      -- after a store
-      pub kept_stored :
-          (old new : PassHolding S R) → old.drawn ≡ drawn_of shown p → old.slots ≡ slots_of shown a p → old.steps ≡ steps_of p.row_seat p.pool_seat
-          → new.drawn ≡ drawn_of shown q → new.slots ≡ slots_of shown b q → new.steps ≡ steps_of q.row_seat q.pool_seat → KeptSlots old new
-      kept_stored old new drawn slots steps drawn' slots' steps' =
-          record {
-            more = drew;
-            drawn = drawn' ∙ all_drawn ∙ ap (λ l. l ++ drew) (sym drawn);
-            slots = subst (λ (l : List Shown). SameSlots l new.slots) (ap (λ l. l ++ drew) (sym slots)) (subst (λ (l : List Shown). SameSlots (slots_of shown a p ++ drew) l) (sym slots') held);
-            steps = omega (arith, since.steps, steps, steps');
-          }
+    pub kept_stored :
+        (old new : PassHolding S R) → old.drawn ≡ drawn_of shown p → old.slots ≡ slots_of shown a p → old.steps ≡ steps_of p.row_seat p.pool_seat
+        → new.drawn ≡ drawn_of shown q → new.slots ≡ slots_of shown b q → new.steps ≡ steps_of q.row_seat q.pool_seat → KeptSlots old new
+    kept_stored old new drawn slots steps drawn' slots' steps' =
+        record {
+          more = drew;
+          drawn = drawn' ∙ all_drawn ∙ ap (λ l. l ++ drew) (sym drawn);
+          slots = subst (λ (l : List Shown). SameSlots l new.slots) (ap (λ l. l ++ drew) (sym slots)) (subst (λ (l : List Shown). SameSlots (slots_of shown a p ++ drew) l) (sym slots') held);
+          steps = omega (arith, kept.since.steps, steps, steps');
+        }

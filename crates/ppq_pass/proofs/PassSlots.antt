@@ -7,16 +7,17 @@ use Rattle.std.proofs.lemmas.List.Elements.{All-head, All-tail}
 use Rattle.ppq_extract.specs.ppq_outside.Shown.{Shown, AllTell}
 use Rattle.ppq_extract.specs.ppq_array.declared.berth.DeviceBlock.{DeviceBlock}
 use Rattle.ppq_extract.specs.ppq_array.Owner.{slots_shown}
-use Rattle.ppq_extract.specs.ppq_array.Kept.{SameSlots, Kept, weight_at, all_writes}
-use Rattle.ppq_spill.specs.Body.{body_slots, held_by}
-use Rattle.ppq_spill.specs.Storing.{StillTell, StillUntold, WritesFew}
+use Rattle.ppq_extract.specs.ppq_array.Kept.{SameSlots, AreQuiet, weight_at, all_writes}
+use Rattle.ppq_spill.specs.Body.{body_slots}
 use Rattle.ppq_spill.specs.declared.body.PassBody.{PassBody}
 use Rattle.ppq_spill.specs.Untold.{untold, SameUntold}
 use Rattle.ppq_spill.proofs.Telling.{tell_sum, sum_tell}
+use Rattle.ppq_pass.specs.declared.shared.Shared.{Shared}
 use Rattle.ppq_pass.specs.declared.parts.PassParts.{PassParts}
 use Rattle.ppq_pass.specs.Passing.{items_at, with_item}
 use Rattle.ppq_pass.specs.Passed.{slots_of}
-use Rattle.ppq_pass.specs.PassState.{drawn_of, all_slots, stock_of}
+use Rattle.ppq_pass.specs.PassState.{drawn_of, all_slots}
+use Rattle.ppq_pass.specs.PassStore.{StoreKept}
 
 module _ {T : Type 0} where
   -- places that are all there give an item each
@@ -65,7 +66,10 @@ module _ {S R : Type 0} (shown : S → Shown) where
         sum_by-append f (body_slots shown body) (slots_shown shown parts.stash),
       )
 
-  module _ (a b : PassBody S R) (p q : PassParts S R) (kept : Kept (stock_of shown p) (stock_of shown q) (held_by shown a) (held_by shown b)) (items : q.row_seat.hand.items ≡ p.row_seat.hand.items) where
+-- after a store
+module _ {S R : Type 0} {shown : S → Shown} {width records : ℕ} {shared : Shared S R} {a b : PassBody S R} {p q : PassParts S R}
+    (kept : StoreKept shown width records shared a b p q)
+  where
     -- the slots are those that were drawn
     pub same_slots : SameSlots (drawn_of shown p) (slots_of shown a p) → SameSlots (drawn_of shown q) (slots_of shown b q)
     same_slots was =
@@ -76,40 +80,50 @@ module _ {S R : Type 0} (shown : S → Shown) where
         let split : (f : Shown → ℕ) → (sum_by f (before ++ s ++ drawn_of shown q) ≡ sum_by f (before ++ s) + sum_by f (drawn_of shown q)) × (sum_by f (after ++ t ++ drawn_of shown p) ≡ sum_by f (after ++ t) + sum_by f (drawn_of shown p)) =
         λ f. (sum_by-append f (before ++ s) (drawn_of shown q), sum_by-append f (after ++ t) (drawn_of shown p)) in
         record {
-          length = omega (arith, kept.slots.length, was.length, length-append (before ++ s) (drawn_of shown q), length-append (after ++ t) (drawn_of shown p));
-          each_once = λ n. let f = weight_at (λ s. 1) n in omega (arith, kept.slots.each_once n, was.each_once n, (split f).0, (split f).1);
-          faults = λ n. let f = weight_at (λ s. s.faults) n in omega (arith, kept.slots.faults n, was.faults n, (split f).0, (split f).1);
-          writes = λ n. let f = weight_at (λ s. s.writes) n in omega (arith, kept.slots.writes n, was.writes n, (split f).0, (split f).1);
-          reads = λ n. let f = weight_at (λ s. s.reads) n in omega (arith, kept.slots.reads n, was.reads n, (split f).0, (split f).1);
+          length = omega (arith, kept.kept.slots.length, was.length, length-append (before ++ s) (drawn_of shown q), length-append (after ++ t) (drawn_of shown p));
+          each_once = λ n. let f = weight_at (λ s. 1) n in omega (arith, kept.kept.slots.each_once n, was.each_once n, (split f).0, (split f).1);
+          faults = λ n. let f = weight_at (λ s. s.faults) n in omega (arith, kept.kept.slots.faults n, was.faults n, (split f).0, (split f).1);
+          writes = λ n. let f = weight_at (λ s. s.writes) n in omega (arith, kept.kept.slots.writes n, was.writes n, (split f).0, (split f).1);
+          reads = λ n. let f = weight_at (λ s. s.reads) n in omega (arith, kept.kept.slots.reads n, was.reads n, (split f).0, (split f).1);
         }
 
+    -- no call of them failed since they were drawn
+    pub same_quiet :
+        AreQuiet (body_slots shown a ++ slots_shown shown p.stash ++ drawn_of shown q) (body_slots shown b ++ slots_shown shown q.stash ++ drawn_of shown p) → AreQuiet (drawn_of shown p) (slots_of shown a p)
+        → AreQuiet (drawn_of shown q) (slots_of shown b q)
+    same_quiet still was =
+        let f : Shown → ℕ = λ s. s.faults in
+        let e : sum_by f (slots_of shown b q) ≡ sum_by f (drawn_of shown q) =
+        omega (arith, still, was, sum_by-append f (slots_of shown a p) (drawn_of shown q), sum_by-append f (slots_of shown b q) (drawn_of shown p)) in
+        e
+
     -- as many of them do not tell
-    pub same_untold : StillUntold shown a b (stock_of shown p) (stock_of shown q) → SameUntold (drawn_of shown p) (slots_of shown a p) → SameUntold (drawn_of shown q) (slots_of shown b q)
-    same_untold still was =
+    pub same_untold : SameUntold (drawn_of shown p) (slots_of shown a p) → SameUntold (drawn_of shown q) (slots_of shown b q)
+    same_untold was =
         let e : sum_by untold (drawn_of shown q) ≡ sum_by untold (slots_of shown b q) =
-        omega (arith, still, was, sum_by-append untold (slots_of shown a p) (drawn_of shown q), sum_by-append untold (slots_of shown b q) (drawn_of shown p)) in
+        omega (arith, kept.untold, was, sum_by-append untold (slots_of shown a p) (drawn_of shown q), sum_by-append untold (slots_of shown b q) (drawn_of shown p)) in
         e
 
     -- and were written no less than before
-    pub more_writes : (n : ℕ) → WritesFew shown n a b (stock_of shown p) (stock_of shown q) → all_writes (drawn_of shown p) ≤ all_writes (slots_of shown a p) → all_writes (drawn_of shown q) ≤ all_writes (slots_of shown b q)
-    more_writes n few was =
+    pub more_writes : all_writes (drawn_of shown p) ≤ all_writes (slots_of shown a p) → all_writes (drawn_of shown q) ≤ all_writes (slots_of shown b q)
+    more_writes was =
         let f : Shown → ℕ = λ s. s.writes in
-        omega (arith, few.stay, was, sum_by-append f (slots_of shown a p) (drawn_of shown q), sum_by-append f (slots_of shown b q) (drawn_of shown p))
+        omega (arith, kept.writes.stay, was, sum_by-append f (slots_of shown a p) (drawn_of shown q), sum_by-append f (slots_of shown b q) (drawn_of shown p))
 
     same_items : sum_by untold (slots_shown shown q.row_seat.hand.items) ≡ sum_by untold (slots_shown shown p.row_seat.hand.items)
-    same_items = ap (λ xs. sum_by untold (slots_shown shown xs)) items
+    same_items = ap (λ xs. sum_by untold (slots_shown shown xs)) kept.items
 
     -- what a store asks to tell does, where all slots of the pass tell, before or after it
     pub tell_before : AllTell (all_slots shown a p) → AllTell (body_slots shown a ++ slots_shown shown p.stash ++ drawn_of shown q)
     tell_before tell =
         let all = tell_sum (all_slots shown a p) tell in
-        let row : sum_by untold (slots_shown shown q.row_seat.hand.items) ≡ 0 = omega (arith, all, sum_all untold a p, same_items) in
+        let row : sum_by untold (slots_shown shown q.row_seat.hand.items) ≡ 0 = omega (arith, all, sum_all shown untold a p, same_items) in
         sum_tell (body_slots shown a ++ slots_shown shown p.stash ++ drawn_of shown q)
         (omega (
           arith,
           all,
-          sum_all untold a p,
-          drawn_tell q.row_seat.hand.items q.row_seat.hand.places row,
+          sum_all shown untold a p,
+          drawn_tell shown q.row_seat.hand.items q.row_seat.hand.places row,
           sum_by-append untold (slots_of shown a p) (drawn_of shown q),
           sum_by-append untold (body_slots shown a) (slots_shown shown p.stash),
         ))
@@ -117,27 +131,23 @@ module _ {S R : Type 0} (shown : S → Shown) where
     tell_after : AllTell (all_slots shown b q) → AllTell (body_slots shown b ++ slots_shown shown q.stash ++ drawn_of shown p)
     tell_after tell =
         let all = tell_sum (all_slots shown b q) tell in
-        let row : sum_by untold (slots_shown shown p.row_seat.hand.items) ≡ 0 = omega (arith, all, sum_all untold b q, same_items) in
+        let row : sum_by untold (slots_shown shown p.row_seat.hand.items) ≡ 0 = omega (arith, all, sum_all shown untold b q, same_items) in
         sum_tell (body_slots shown b ++ slots_shown shown q.stash ++ drawn_of shown p)
         (omega (
           arith,
           all,
-          sum_all untold b q,
-          drawn_tell p.row_seat.hand.items p.row_seat.hand.places row,
+          sum_all shown untold b q,
+          drawn_tell shown p.row_seat.hand.items p.row_seat.hand.places row,
           sum_by-append untold (slots_of shown b q) (drawn_of shown p),
           sum_by-append untold (body_slots shown b) (slots_shown shown q.stash),
         ))
 
-    pub still_tell : StillTell shown a b (stock_of shown p) (stock_of shown q) → AllTell (all_slots shown a p) ↔ AllTell (all_slots shown b q)
-    still_tell tells = (
+    pub still_tell : AllTell (all_slots shown a p) ↔ AllTell (all_slots shown b q)
+    still_tell = (
       (λ tell.
-          let after = tell_sum (body_slots shown b ++ slots_shown shown q.stash ++ drawn_of shown p) (tells.0 (tell_before tell)) in
-          sum_tell (all_slots shown b q) (omega (arith, after, tell_sum (all_slots shown a p) tell, sum_all untold a p, sum_all untold b q, same_items, sum_by-append untold (slots_of shown b q) (drawn_of shown p), sum_by-append untold (body_slots shown b) (slots_shown shown q.stash)))),
+          let after = tell_sum (body_slots shown b ++ slots_shown shown q.stash ++ drawn_of shown p) (kept.tells.0 (tell_before tell)) in
+          sum_tell (all_slots shown b q) (omega (arith, after, tell_sum (all_slots shown a p) tell, sum_all shown untold a p, sum_all shown untold b q, same_items, sum_by-append untold (slots_of shown b q) (drawn_of shown p), sum_by-append untold (body_slots shown b) (slots_shown shown q.stash)))),
       (λ tell.
-          let before = tell_sum (body_slots shown a ++ slots_shown shown p.stash ++ drawn_of shown q) (tells.1 (tell_after tell)) in
-          sum_tell (all_slots shown a p) (omega (arith, before, tell_sum (all_slots shown b q) tell, sum_all untold a p, sum_all untold b q, same_items, sum_by-append untold (slots_of shown a p) (drawn_of shown q), sum_by-append untold (body_slots shown a) (slots_shown shown p.stash)))),
+          let before = tell_sum (body_slots shown a ++ slots_shown shown p.stash ++ drawn_of shown q) (kept.tells.1 (tell_after tell)) in
+          sum_tell (all_slots shown a p) (omega (arith, before, tell_sum (all_slots shown b q) tell, sum_all shown untold a p, sum_all shown untold b q, same_items, sum_by-append untold (slots_of shown a p) (drawn_of shown q), sum_by-append untold (body_slots shown a) (slots_shown shown p.stash)))),
     )
-
--- where the slots of a pass tell, they told when they were drawn
-pub told_drawn : {S R : Type 0} (shown : S → Shown) (body : PassBody S R) (parts : PassParts S R) → SameUntold (drawn_of shown parts) (slots_of shown body parts) → AllTell (slots_of shown body parts) → AllTell (drawn_of shown parts)
-told_drawn shown body parts same tell = sum_tell (drawn_of shown parts) (same ∙ tell_sum (slots_of shown body parts) tell)

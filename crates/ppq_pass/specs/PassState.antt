@@ -9,7 +9,7 @@ use Rattle.ppq_extract.specs.ppq_array.declared.berth.DeviceBlock.{DeviceBlock}
 use Rattle.ppq_extract.specs.ppq_array.Run.{Run, run_of, items_of, buffers_of}
 use Rattle.ppq_extract.specs.ppq_array.External.{External, size_of, records_in}
 use Rattle.ppq_extract.specs.ppq_array.Supply.{Stock}
-use Rattle.ppq_extract.specs.ppq_array.Kept.{SameSlots, HasFailed, all_writes}
+use Rattle.ppq_extract.specs.ppq_array.Kept.{SameSlots, HasFailed, AreQuiet, all_writes}
 use Rattle.ppq_extract.specs.ppq_array.Owner.{slots_shown}
 use Rattle.ppq_extract.specs.ppq_array.Holdings.{RunHasBlock, ArrayHasSize, CanTakeBack}
 use Rattle.ppq_extract.specs.ppq_fetch.Fetching.{IsFitting, count_in}
@@ -65,7 +65,7 @@ module _ {S R : Type 0} where
     -- Its lists have room for one run more than they can ever have
     pub record IsPassed (width : ℕ) (n : Numbers) (heap : Contents R) (body : PassBody S R) (parts : PassParts S R) (refused : Bool) (failed : Option ℕ) : Type 0 where
       pub range : AreInRange n
-      pub supply : IsPass shown width (shared_of parts) parts.row_seat parts.pool_seat parts.stash parts.numbers parts.block parts.dry
+      pub supply : IsPass shown width (shared_of parts) parts.row_seat parts.pool_seat parts.stash parts.numbers parts.block parts.dry parts.scant
       pub block : parts.block ≡ n.block
       pub cap : heap.cap ≡ heap_of n
       pub in_heap : length heap.items ≤ heap_of n
@@ -86,10 +86,11 @@ module _ {S R : Type 0} where
       pub ended : refused ≡ true → 0 < parts.dry
       pub fault : (number : ℕ) → failed ≡ Some number → HasFailed number (slots_of shown body parts) × (length heap.items ≡ heap_of n)
 
-    -- What holds while no call of a slot has failed. Each run was a full heap or more, and ascends: those in blocks where slots tell. All
-    -- records are counted. Where there are runs, the heap has a record. The stash has no more slots than the records in memory fill, and
-    -- after a refusal there are as many records as a heap holds
+    -- What holds unless a fault was met. No call of a slot that the pass holds failed since the pass drew it. Each run was a full heap or
+    -- more, and ascends: those in blocks where slots tell. All records are counted. Where there are runs, the heap has a record. The stash
+    -- has no more slots than the records in memory fill, and after a refusal there are as many records as a heap holds
     pub record IsSoundPass (cmp : R → R → Ordering) (record_of : List ℕ → R) (width : ℕ) (n : Numbers) (heap : Contents R) (body : PassBody S R) (parts : PassParts S R) (begun accepted : ℕ) (refused : Bool) : Type 0 where
+      pub quiet : AreQuiet (drawn_of parts) (slots_of shown body parts)
       pub internal : All (IsPassRun n.block (heap_of n)) body.runs.internal.items
       pub external : All (IsPassArray width n.block (heap_of n)) body.runs.external.items
       pub ascend : All (λ (run : Run R). Ascends cmp (items_of run)) body.runs.internal.items

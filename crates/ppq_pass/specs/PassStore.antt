@@ -15,7 +15,7 @@ use Rattle.ppq_pass.specs.PassState.{stock_of}
 -- telling; buffers, lists and lanes are as a store leaves them; where a draw had answered None, that is counted still; and the places that
 -- it drew stand behind those that it had
 pub record StoreKept {S R : Type 0} (shown : S → Shown) (width records : ℕ) (shared : Shared S R) (old new : PassBody S R) (before now : PassParts S R) : Type 0 where
-  pub supply : IsPass shown width shared now.row_seat now.pool_seat now.stash now.numbers now.block now.dry
+  pub supply : IsPass shown width shared now.row_seat now.pool_seat now.stash now.numbers now.block now.dry now.scant
   pub items : now.row_seat.hand.items ≡ before.row_seat.hand.items
   pub row_shares : now.row_seat.hand.shares ≡ before.row_seat.hand.shares
   pub pool_shares : now.pool_seat.hand.shares ≡ before.pool_seat.hand.shares

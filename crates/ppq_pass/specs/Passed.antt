@@ -8,7 +8,7 @@ use Rattle.ppq_extract.specs.ppq_budget.Sizes.{Numbers, numbers, AreInRange, hea
 use Rattle.ppq_heap.specs.Heap.{Contents}
 use Rattle.ppq_extract.specs.ppq_array.declared.berth.DeviceBlock.{DeviceBlock}
 use Rattle.ppq_extract.specs.ppq_array.External.{records_in}
-use Rattle.ppq_extract.specs.ppq_array.Kept.{SameSlots, HasFailed}
+use Rattle.ppq_extract.specs.ppq_array.Kept.{SameSlots, HasFailed, AreQuiet}
 use Rattle.ppq_extract.specs.ppq_array.Owner.{slots_shown}
 use Rattle.ppq_extract.specs.ppq_array.Holdings.{internal_items}
 use Rattle.ppq_extract.specs.ppq_fetch.Fetching.{count_in}
@@ -122,9 +122,9 @@ module _ {S R : Type 0} where
 
   -- What always holds of a pass: its sizes are in range, and its heap is within them. The slots that it holds are those that it drew. It
   -- holds the buffers whose numbers its seat of the pool holds, and two more. The numbers are of buffers of the pool, each once, and the pool
-  -- has no more than the budget. Unless a fault was met, its records are those that it had in the beginning and those that it accepted; after
-  -- a refusal it knows the end of the row, and has as many records as a heap holds. A call of the slot that is kept as failed did fail, and
-  -- the heap is full then
+  -- has no more than the budget. Unless a fault was met, no call of a slot failed since the pass drew it, and its records are those that it
+  -- had in the beginning and those that it accepted; after a refusal it knows the end of the row, and has as many records as a heap holds. A
+  -- call of the slot that is kept as failed did fail, and the heap is full then
   pub record IsKnown (pass : PassHolding S R) : Type 0 where
     pub range : AreInRange pass.key.sizes
     pub in_heap : pass.in_heap ≤ heap_of pass.key.sizes
@@ -133,6 +133,7 @@ module _ {S R : Type 0} where
     pub numbers : All (λ i. i < count_of pass.key.pool) pass.numbers
     pub each_once : (i : ℕ) → times i pass.numbers ≤ 1
     pub pool : count_of pass.key.pool ≤ pool_of pass.key.sizes
+    pub quiet : pass.failed ≡ None → AreQuiet pass.drawn pass.slots
     pub counted : pass.failed ≡ None → pass.size ≡ pass.key.begun + pass.accepted
     pub noted : pass.refused ≡ true → pass.noted ≡ true
     pub full : pass.refused ≡ true → pass.failed ≡ None → heap_of pass.key.sizes ≤ pass.size

@@ -12,6 +12,8 @@ use Rattle.ppq_row.specs.Known.{Known as RowKnown}
 use Rattle.ppq_row.specs.Seats.{IsSeatOf as IsRowSeat}
 use Rattle.ppq_pool.specs.Known.{Known as PoolKnown}
 use Rattle.ppq_pool.specs.Seats.{IsSeatOf as IsPoolSeat, count_of}
+use Rattle.ppq_pool.specs.declared.hand.Move.{Move}
+use Rattle.ppq_pool.specs.declared.hand.Move.TheVariants.{Took, Gave, Saw}
 use Rattle.ppq_pass.specs.declared.shared.Shared.{Shared}
 use Rattle.ppq_pass.specs.declared.shared.PoolBuf.{PoolBuf}
 use Rattle.ppq_pass.specs.declared.home.PassHome.{PassHome}
@@ -67,6 +69,13 @@ abbrev pub items_at : {T : Type 0} → List T → List ℕ → List T
 items_at items [] = []
 items_at items (p ∷ ps) = with_item (get_elem? items p) (items_at items ps)
 
+-- how many looks at an item that was held are on a trail
+abbrev pub looks_in : List Move → ℕ
+looks_in [] = 0
+looks_in (Took i ∷ trail) = looks_in trail
+looks_in (Gave i ∷ trail) = looks_in trail
+looks_in (Saw i ∷ trail) = looks_in trail + 1
+
 module _ {S R : Type 0} (shown : S → Shown) where
   -- a stash, what two seats know, and the numbers of the buffers that are out, as a supply
   abbrev pub pass_stock : RowKnown (DeviceBlock S R) → List (DeviceBlock S R) → List ℕ → ℕ → ℕ → ℕ → ℕ → Stock
@@ -97,7 +106,7 @@ module _ {S R : Type 0} (shown : S → Shown) where
 
   -- The seats are of the session's row and pool; all slots and buffers are of one block size. No place of the row was drawn twice, and the
   -- stash has no more slots than were drawn. The numbers are those that the seat of the pool holds, each once, and there is room for all
-  pub record IsPass (width : ℕ) (home : Shared S R) (row_seat : RowKnown (DeviceBlock S R)) (pool_seat : PoolKnown (PoolBuf R)) (stash : List (DeviceBlock S R)) (numbers : Vec ℕ Global) (block dry : ℕ) : Type 0 where
+  pub record IsPass (width : ℕ) (home : Shared S R) (row_seat : RowKnown (DeviceBlock S R)) (pool_seat : PoolKnown (PoolBuf R)) (stash : List (DeviceBlock S R)) (numbers : Vec ℕ Global) (block dry scant : ℕ) : Type 0 where
     pub row : IsRowSeat home.row row_seat
     pub items : All (HasSize shown (block * width)) row_seat.hand.items
     pub few : length row_seat.hand.items < 2 ^ 32
@@ -113,6 +122,8 @@ module _ {S R : Type 0} (shown : S → Shown) where
     pub room : count_of home.pool ≤ vec_capacity numbers
     -- a draw that answered None noted the end of the row
     pub ended : 0 < dry → row_seat.hand.noted ≡ true
+    -- each take that answered None looked at all buffers, and found each held
+    pub looked : scant * count_of home.pool ≤ looks_in pool_seat.hand.trail
 
 -- a pass that has drawn and taken nothing yet
 abbrev pub new_pass : {S R : Type 0} → Shared S R → RowKnown (DeviceBlock S R) → PoolKnown (PoolBuf R) → ℕ → Passing S R

@@ -21,7 +21,7 @@ pub struct PassParts<S: Slot, R: Record> {
     pub block: u32,
     /// How many draws answered None.
     pub dry: u64,
-    /// How many takes of a buffer answered None.
+    /// How many takes of a buffer answered None. Each looked at all buffers of the pool.
     pub scant: u64,
     /// How many buffers were out when a take last answered None.
     pub room_when_scant: u64,

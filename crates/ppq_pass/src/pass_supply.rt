@@ -57,7 +57,7 @@ impl<'a, S: Slot, R: Record> Model for PassSupply<'a, S, R> {
 
     ghost view = { λ p. passing S.shown p.shared.now p.row_seat p.pool_seat p.stash p.numbers.items p.block p.dry p.scant p.room_when_scant p.was_dry p.had_row.value.hand.places (steps_of p.had_row.value p.had_pool.value) };
 
-    ghost invariant = { λ p. IsPass S.shown R.WIDTH p.shared.now p.row_seat p.pool_seat p.stash p.numbers p.block p.dry × IsWasDry p.was_dry p.dry × IsSince p.had_row.value.hand.places (steps_of p.had_row.value p.had_pool.value) p.row_seat p.pool_seat };
+    ghost invariant = { λ p. IsPass S.shown R.WIDTH p.shared.now p.row_seat p.pool_seat p.stash p.numbers p.block p.dry p.scant × IsWasDry p.was_dry p.dry × IsSince p.had_row.value.hand.places (steps_of p.had_row.value p.had_pool.value) p.row_seat p.pool_seat };
 }
 
 impl<'a, S: Slot, R: Record> PassSupply<'a, S, R> {
@@ -103,7 +103,7 @@ impl<'a, S: Slot, R: Record> PassSupply<'a, S, R> {
 
     /// The supply of a pass, of what it kept since it was last taken apart.
     pub fn from_parts(shared: &'a Shared<S, R>, parts: PassParts<S, R>) -> Self
-        requires { IsPass S.shown R.WIDTH shared.now parts.row_seat parts.pool_seat parts.stash parts.numbers parts.block parts.dry }
+        requires { IsPass S.shown R.WIDTH shared.now parts.row_seat parts.pool_seat parts.stash parts.numbers parts.block parts.dry parts.scant }
         ensures { result ≡ passing S.shown shared.now parts.row_seat parts.pool_seat parts.stash parts.numbers.items parts.block parts.dry parts.scant parts.room_when_scant (nat_lt 0 parts.dry) parts.row_seat.hand.places (steps_of parts.row_seat parts.pool_seat) }
     {
         let PassParts {
@@ -138,7 +138,7 @@ impl<'a, S: Slot, R: Record> PassSupply<'a, S, R> {
     /// What the pass keeps. `from_parts` makes the same supply of it, over the same row and pool. The
     /// row's seat has the places that it had and those that were drawn since, in this order.
     pub fn into_parts(self) -> PassParts<S, R>
-        ensures of { IsPass S.shown R.WIDTH self.entry.home result.row_seat result.pool_seat result.stash result.numbers result.block result.dry }
+        ensures of { IsPass S.shown R.WIDTH self.entry.home result.row_seat result.pool_seat result.stash result.numbers result.block result.dry result.scant }
         ensures same { passing S.shown self.entry.home result.row_seat result.pool_seat result.stash result.numbers.items result.block result.dry result.scant result.room_when_scant self.entry.was_dry self.entry.had_places self.entry.had_steps ≡ self.entry }
         ensures was_dry { IsWasDry self.entry.was_dry result.dry }
         ensures since { IsSince self.entry.had_places self.entry.had_steps result.row_seat result.pool_seat }

@@ -19,7 +19,7 @@ pub fn store_run<H: Host, S: Slot, R: Record>(
     sorted: &[R],
 ) -> (PassParts<S, R>, Result<(), StoreFault>)
     requires some { 0 < length sorted.now }
-    requires of { IsPass S.shown R.WIDTH shared.now parts.row_seat parts.pool_seat parts.stash parts.numbers parts.block parts.dry }
+    requires of { IsPass S.shown R.WIDTH shared.now parts.row_seat parts.pool_seat parts.stash parts.numbers parts.block parts.dry parts.scant }
     requires room { MayStore S.shown R.WIDTH (length sorted.now) body.old (stock_of S.shown parts) }
     requires ascend { RunsAscend R.Ord.cmp S.shown sorted.now body.old (stock_of S.shown parts) }
     ensures kept { StoreKept S.shown R.WIDTH (length sorted.now) shared.now body.old body.new parts result.0 }

@@ -1,6 +1,6 @@
 -- The bounds of a queue whose runs are at rest: buffers, records, blocks.
-use Rattle.std.proofs.Common.{◌≡◌, ℕ, ◌+◌, ◌-◌, ◌*◌, ◌/◌, ◌<◌, ◌≤◌, List, ◌++◌, length, max, sum_by, sym, ap, arith, inl, inr, length-append}
-use Rattle.std.specs.Prelude.{flat_map, vec_capacity}
+use Rattle.std.proofs.Common.{◌≡◌, ℕ, ◌+◌, ◌-◌, ◌*◌, ◌/◌, ◌<◌, ◌≤◌, List, [], ◌++◌, length, max, sum_by, sym, ap, arith, inl, inr, length-append}
+use Rattle.std.specs.Prelude.{flat_map, vec_capacity, ◌⊎◌}
 use Rattle.std.proofs.lemmas.List.Sums.{sum_by-append}
 use Rattle.std.proofs.Math.Nat.{add-mul, mul_comm, mul_assoc, mul-le-mul_right, div-mul-le_self, lt_of_mul-lt-mul_right}
 use Rattle.std.specs.declared.cmp.Ordering.{Ordering}
@@ -71,6 +71,15 @@ module _ {S R : Type 0} (shown : S → Shown) (cmp : R → R → Ordering) (reco
 
   pub idle_some : Rests → 2 * n.workers + 8 ≤ length body.lanes.idle
   idle_some rest = omega (arith, rest.buffers, rest.bounded, rest.fronts)
+
+  -- a buffer of the pool that is out is in a run
+  pub pool_idle : Rests → body.runs.internal.items ≡ [] → stock.sure_buffers ≡ pool_of n
+  pool_idle rest none = omega (arith, rest.held, rest.buffers, rest.pool, ap internal_buffers none)
+
+  -- all of the pool is idle where no run is in buffers
+  pub half_idle : Rests → (body.runs.internal.items ≡ []) ⊎ (pool_of n ≤ 2 * stock.sure_buffers) → pool_of n ≤ 2 * stock.sure_buffers
+  half_idle rest (inl none) = omega (arith, pool_idle rest none)
+  half_idle rest (inr enough) = enough
 
   -- the records in buffers are within the pool
   pub in_buffers_few : Rests → length (internal_items body.runs.internal.items) ≤ pool_of n * n.block

@@ -18,7 +18,7 @@ use Rattle.ppq_queue.specs.State.{IsQueue, IsSound}
 use Rattle.ppq_queue.specs.Stores.{HeapsStay, StoreKept, MayWork, Holds, Lacks, Refuses, stored, slots_in, whole_bag}
 use Rattle.ppq_queue.specs.Bulk.{TookOut, TookAll, TookFront}
 use Rattle.ppq_queue.specs.Handed.{viewed}
-use Rattle.ppq_queue.specs.Holding.{Holding, IsAbove, IsRefusal, FoundNoBlock, Keeps, SameRecords, latched}
+use Rattle.ppq_queue.specs.Holding.{Holding, IsAbove, IsRefusal, FoundNoBlock, Keeps, Stays, SameRecords, latched}
 use Rattle.ppq_queue.specs.declared.store.Store.{Store}
 use Rattle.ppq_queue.proofs.Stores.{refused-beside}
 use Rattle.ppq_queue.proofs.Took.{empty_list}
@@ -29,13 +29,15 @@ use Rattle.ppq_queue.proofs.Flushed.{fault-kept, queue-kept, short-bounds, devic
 pub record Ended {R T : Type 0} (old new : Holding R) (r : Result T StoreFault) : Type 0 where
   pub same : OnOk r (SameRecords old new)
   pub refused : IfErr r (IsRefusal old new)
-  pub keeps : Keeps old new
+  pub stays : Stays old new
 
 -- what stands after records were taken out into a list
 pub record BulkEnded {R T : Type 0} (cmp : R → R → Ordering) (limit : Option R) (most : ℕ) (old new : Holding R) (out : List R) (r : Result T StoreFault) : Type 0 where
   pub took : OnOk r (TookFront cmp limit most old new out)
   pub refused : IfErr r (IsRefusal old new)
-  pub keeps : Keeps (record old { size = old.size - length out }) new
+  pub size : new.size ≡ old.size - length out
+  pub peak : new.peak ≡ old.peak
+  pub keeps : Keeps old new
 
 module _ {S R : Type 0} (shown : S → Shown) (cmp : R → R → Ordering) (record_of : List ℕ → R) (width : ℕ) where
   -- the store of a sound queue may work
@@ -111,8 +113,8 @@ module _ {S R : Type 0} (shown : S → Shown) (cmp : R → R → Ordering) (reco
     sound-called count failed limited (Err (Device number)) sound above holds refused none = not_sound number none
 
     -- slots stay, and so does what the queue was made with
-    pub keeps-called : (count : ℕ) (failed failed' : Option ℕ) (limited : Bool) → Keeps (viewed shown record_of width x h count peak failed limited) (viewed shown record_of width y h' count peak failed' limited)
-    keeps-called count failed failed' limited = record { size = refl; slots = kept.body.slots; tells = kept.body.tells.0; writes = kept.body.writes; peak = refl; sizes = kept.sizes; limited = refl }
+    keeps-called : (count less : ℕ) (failed failed' : Option ℕ) (limited : Bool) → Keeps (viewed shown record_of width x h count peak failed limited) (viewed shown record_of width y h' less peak failed' limited)
+    keeps-called count less failed failed' limited = record { sizes = kept.sizes; limited = refl; slots = kept.body.slots; tells = kept.body.tells.0; writes = kept.body.writes }
 
     found :
         (count : ℕ) (limited : Bool)
@@ -128,6 +130,7 @@ module _ {S R : Type 0} (shown : S → Shown) (cmp : R → R → Ordering) (reco
           bag = lacks.holds.bag;
           size = refl;
           sound = refl;
+          quiet = lacks.holds.quiet;
           free = bounds.0;
           room = bounds.1;
           above = subst (λ n. IsAbove n peak limited) (sym kept.sizes) above;
@@ -143,7 +146,7 @@ module _ {S R : Type 0} (shown : S → Shown) (cmp : R → R → Ordering) (reco
     refused-called count limited (Err (Device number)) is sound above p = record { fault = p; kept = refl }
 
     same-called : {T : Type 0} (count : ℕ) (limited : Bool) (r : Result T StoreFault) → OnOk r (Holds shown cmp record_of width (items_of h) (items_of h') x y) → OnOk r (SameRecords (viewed shown record_of width x h count peak None limited) (viewed shown record_of width y h' count peak (latched r None) limited))
-    same-called count limited (Ok v) holds = record { bag = holds.bag; size = refl; sound = refl }
+    same-called count limited (Ok v) holds = record { quiet = holds.quiet; bag = holds.bag; size = refl; sound = refl }
     same-called count limited (Err e) holds = tt
 
     -- all that stands after a call of a queue that was sound
@@ -159,7 +162,7 @@ module _ {S R : Type 0} (shown : S → Shown) (cmp : R → R → Ordering) (reco
         let done : Ended from to r = record {
           same = same-called count limited r holds;
           refused = refused-called count limited r (subst (λ f. IsQueue shown x.sizes h x.extract x.body x.supply count peak f) none is) sound above refused;
-          keeps = keeps-called count None (latched r None) limited;
+          stays = record { keeps = keeps-called count count None (latched r None) limited; size = refl; peak = refl };
         } in
         let late : failed' ≡ latched r None = now ∙ ap (latched r) none in
         subst (λ q. Ended q (viewed shown record_of width y h' count peak failed' limited) r) (sym (ap (λ f. viewed shown record_of width x h count peak f limited) none) ∙ view)
@@ -238,6 +241,7 @@ module _ {S R : Type 0} (shown : S → Shown) (cmp : R → R → Ordering) (reco
             few = took.few;
             count = λ unset. counted (all.all unset);
             sound = refl;
+            quiet = took.quiet;
           }
         where
           counted : (length out ≡ most) ⊎ (length (items_of h') + stored y ≡ 0) → length out ≡ min most count
@@ -258,7 +262,9 @@ module _ {S R : Type 0} (shown : S → Shown) (cmp : R → R → Ordering) (reco
           let done : BulkEnded cmp limit most from (viewed shown record_of width y h' less peak (latched r None) limited) out r = record {
             took = front r took;
             refused = fewer-refused r (latched r None) refused gone;
-            keeps = subst (λ k. Keeps (viewed shown record_of width x h k peak None limited) (viewed shown record_of width y h' less peak (latched r None) limited)) fewer (keeps-called less None (latched r None) limited);
+            size = fewer;
+            peak = refl;
+            keeps = keeps-called count less None (latched r None) limited;
           } in
           let late : failed' ≡ latched r None = now ∙ ap (latched r) none in
           subst (λ q. BulkEnded cmp limit most q (viewed shown record_of width y h' less peak failed' limited) out r) (sym (ap (λ f. viewed shown record_of width x h count peak f limited) none) ∙ view)

@@ -1,18 +1,19 @@
 -- A queue whose runs moved, and what a refusal says of it.
-use Rattle.std.proofs.Common.{◌≡◌, ℕ, ◌+◌, ◌<◌, ◌≤◌, List, [], length, max, Option, None, Some, ◌∙◌, subst, arith}
+use Rattle.std.proofs.Common.{◌≡◌, ℕ, ◌+◌, ◌<◌, ◌≤◌, List, [], length, max, true, Option, None, Some, ap, sym, ◌∙◌, subst, arith}
 use Rattle.std.specs.declared.cmp.Ordering.{Ordering}
-use Rattle.ppq_extract.specs.ppq_outside.Shown.{Shown}
+use Rattle.ppq_extract.specs.ppq_outside.Shown.{Shown, AllTell}
 use Rattle.ppq_extract.specs.ppq_budget.Sizes.{Numbers, AreInRange, batch_of, blocks_for, room_of}
 use Rattle.ppq_heap.specs.Heaps.{Shares, items_of}
 use Rattle.ppq_extract.specs.ppq_array.Supply.{Stock}
-use Rattle.ppq_extract.specs.ppq_array.Kept.{HasFailed}
+use Rattle.ppq_extract.specs.ppq_array.Kept.{HasFailed, SameSlots, all_writes}
 use Rattle.ppq_extract.specs.Extracted.{Held}
 use Rattle.ppq_spill.specs.declared.body.PassBody.{PassBody}
 use Rattle.ppq_queue.specs.Resting.{BodyKept, AtRest, IsShort, slots_of, count_of}
 use Rattle.ppq_queue.specs.State.{IsQueue}
-use Rattle.ppq_queue.specs.Holding.{Holding, IsRefusal}
+use Rattle.ppq_queue.specs.Holding.{Holding, IsRefusal, Keeps, Stays, SameRecords}
 use Rattle.ppq_extract.specs.ppq_array.declared.store_fault.StoreFault.{StoreFault}
 use Rattle.ppq_extract.specs.ppq_array.declared.store_fault.StoreFault.TheVariants.{NoFreeBlock, Device}
+use Rattle.ppq_spill.proofs.SameSlots.{SameSlots-refl, SameSlots-trans}
 use Rattle.ppq_queue.proofs.Bounds.{room_short, free_short}
 
 module _ {S R : Type 0} (shown : S → Shown) (n : Numbers) where
@@ -62,7 +63,50 @@ device-fault slots number k fault e =
 pub not_sound : {P : Type 0} (number : ℕ) → ◌≡◌ {A = Option ℕ} (Some number) None → P
 not_sound number e = absurd (cc)
 
--- a refusal after the peak was raised is one of the whole call
+-- a refusal after a limit session was noted is one of the whole call
+pub refusal-limited : {R : Type 0} (old new : Holding R) (fault : StoreFault) → IsRefusal (record old { limited = true }) new fault → IsRefusal old new fault
+refusal-limited old new NoFreeBlock is = record { bag = is.bag; size = is.size; sound = is.sound; quiet = is.quiet; free = is.free; room = is.room; above = is.above }
+refusal-limited old new (Device number) is = is
+
+pub same-limited : {R : Type 0} (old new : Holding R) → SameRecords (record old { limited = true }) new → SameRecords old new
+same-limited old new is = record { quiet = is.quiet; bag = is.bag; size = is.size; sound = is.sound }
+
+-- so is one after the peak was raised
 pub refusal-raised : {R : Type 0} (old new : Holding R) (peak : ℕ) (fault : StoreFault) → IsRefusal (record old { peak = peak }) new fault → IsRefusal old new fault
-refusal-raised old new peak NoFreeBlock is = record { bag = is.bag; size = is.size; sound = is.sound; free = is.free; room = is.room; above = is.above }
+refusal-raised old new peak NoFreeBlock is = record { bag = is.bag; size = is.size; sound = is.sound; quiet = is.quiet; free = is.free; room = is.room; above = is.above }
 refusal-raised old new peak (Device number) is = is
+
+module _ {R : Type 0} where
+  -- what stays where only records came or went
+  pub keeps-slots : (old new : Holding R) → new.sizes ≡ old.sizes → new.limited ≡ old.limited → new.slots ≡ old.slots → Keeps old new
+  keeps-slots old new sizes limited same =
+      record {
+        sizes = sizes;
+        limited = limited;
+        slots = subst (SameSlots old.slots) (sym same) (SameSlots-refl old.slots);
+        tells = subst AllTell (sym same);
+        writes = omega (arith, ap all_writes same);
+      }
+
+  pub keeps-more : (a b c : Holding R) → Keeps a b → Keeps b c → Keeps a c
+  keeps-more a b c h k =
+      record {
+        sizes = k.sizes ∙ h.sizes;
+        limited = k.limited ∙ h.limited;
+        slots = SameSlots-trans a.slots b.slots c.slots h.slots k.slots;
+        tells = λ tell. k.tells (h.tells tell);
+        writes = omega (arith, h.writes, k.writes);
+      }
+
+  pub stays-more : (a b c : Holding R) → Stays a b → Stays b c → Stays a c
+  stays-more a b c h k = record { keeps = keeps-more a b c h.keeps k.keeps; size = k.size ∙ h.size; peak = k.peak ∙ h.peak }
+
+  -- two calls that left the records as they were
+  pub same-more : (a b c : Holding R) → (AllTell a.slots → AllTell b.slots) → SameRecords a b → SameRecords b c → SameRecords a c
+  same-more a b c tells h k = record { quiet = k.quiet ∙ h.quiet; bag = λ tell p. k.bag (tells tell) p ∙ h.bag tell p; size = k.size ∙ h.size; sound = k.sound }
+
+  -- a refusal after such a call
+  pub refusal-more : (a b c : Holding R) (fault : StoreFault) → (AllTell a.slots → AllTell b.slots) → SameRecords a b → IsRefusal b c fault → IsRefusal a c fault
+  refusal-more a b c NoFreeBlock tells h is =
+      record { bag = λ tell p. is.bag (tells tell) p ∙ h.bag tell p; size = is.size ∙ h.size; sound = is.sound; quiet = is.quiet ∙ h.quiet; free = is.free; room = is.room; above = is.above }
+  refusal-more a b c (Device number) tells h is = is

@@ -1,5 +1,5 @@
 -- What merging 8 runs of a level leaves: runs at rest, with the same records.
-use Rattle.std.proofs.Common.{◌≡◌, ℕ, ◌+◌, ◌*◌, ◌<◌, ◌≤◌, ◌==◌, Bool, cond, ltb, List, [], ◌∷◌, ◌++◌, length, sum_by, All, refl, sym, ap, ◌∙◌, subst, arith, inl, inr, append-nil, length-append, lit<}
+use Rattle.std.proofs.Common.{◌≡◌, ℕ, zero, suc, ◌+◌, ◌*◌, ◌<◌, ◌≤◌, ◌==◌, Bool, cond, ltb, List, [], ◌∷◌, ◌++◌, length, sum_by, All, refl, sym, ap, ◌∙◌, subst, arith, inl, inr, length-append, lit<}
 use Rattle.std.specs.Prelude.{◌⊎◌, flat_map, vec_capacity, count_by}
 use Rattle.std.specs.List.Sorted.{IsPermutation}
 use Rattle.std.specs.declared.cmp.Ordering.{Ordering}
@@ -16,24 +16,22 @@ use Rattle.ppq_extract.specs.ppq_outside.Shown.{Shown, AllTell}
 use Rattle.ppq_extract.specs.ppq_budget.Sizes.{Numbers, AreInRange, fixed_of}
 use Rattle.ppq_extract.specs.ppq_array.Run.{Run, items_of, buffers_of}
 use Rattle.ppq_extract.specs.ppq_array.External.{External, size_of, records_in, IsPacked}
+use Rattle.ppq_extract.specs.ppq_array.Owner.{slots_shown}
 use Rattle.ppq_extract.specs.ppq_array.Supply.{Stock}
 use Rattle.ppq_extract.specs.ppq_array.Kept.{Kept, SameSlots, all_writes}
 use Rattle.ppq_extract.specs.ppq_array.Holdings.{internal_items, internal_buffers, external_buffers, external_slots, ArrayHasSize}
 use Rattle.ppq_extract.proofs.ppq_array.Noted.{all_left, all_right}
 use Rattle.ppq_extract.specs.ppq_fetch.Fetching.{IsFitting, fronts_in, one_if_some}
-use Rattle.ppq_spill.specs.Body.{job_slots}
 use Rattle.ppq_spill.specs.Leveling.{MayLevel, AreOneSize, LanesStay, LevelCalls, LevelTells, LevelMerged, NoneForLevel, HasLevel, count_level, records_count, held_in}
+use Rattle.ppq_extract.specs.ppq_array.declared.berth.DeviceBlock.{DeviceBlock}
+use Rattle.ppq_extract.specs.ppq_lane.declared.lanes.Lanes.{Lanes}
 use Rattle.ppq_spill.specs.declared.body.PassBody.{PassBody}
-use Rattle.ppq_queue.specs.Resting.{BodyKept, IsRestingRun, IsRestingArray, AtRest, Moved, LevelShort, slots_of, lane_buffers, odd_of, odd_in}
+use Rattle.ppq_queue.specs.Resting.{BodyKept, IsRestingRun, IsRestingArray, AtRest, Moved, LevelShort, slots_of, lane_buffers, odd_of, odd_in, crowd_below, crowd_of}
 use Rattle.ppq_queue.proofs.Bounds.{pool_small, idle_most, idle_some, blocks_few, records_most}
 use Rattle.ppq_queue.proofs.Odd.{odd_made}
-use Rattle.ppq_queue.proofs.Stored.{no_row_more}
+use Rattle.ppq_queue.proofs.Slots.{no_row_more, kept-sums, sum-stored, slots-no_job, quiet-arrays, quiet-same}
 
 module _ {S R : Type 0} (shown : S → Shown) where
-  -- without jobs, the slots are those of runs and the free ones
-  pub slots-no_job : (a : PassBody S R) (s : Stock) → a.lanes.jobs.items ≡ [] → slots_of shown a s ≡ external_slots shown a.runs.external.items ++ s.kept
-  slots-no_job a s e = ap (λ l. external_slots shown a.runs.external.items ++ job_slots shown l ++ s.kept) e ∙ ap (λ (l : List Shown). l ++ s.kept) (append-nil (external_slots shown a.runs.external.items))
-
   -- the body with other runs in blocks and other lanes
   abbrev pub with_level : PassBody S R → PassBody S R → Type 0
   with_level a b = (b.runs.internal ≡ a.runs.internal) × (b.tree ≡ a.tree)
@@ -51,8 +49,8 @@ module _ {S R : Type 0} (shown : S → Shown) where
       let eb = external_slots shown b.runs.external.items in
       let before : slots_of shown a s ++ t.drawn ≡ slots_of shown a s = no_row_more (slots_of shown a s) t.drawn no_row' in
       let after : slots_of shown b t ++ s.drawn ≡ slots_of shown b t = no_row_more (slots_of shown b t) s.drawn no_row in
-      let short : ea ++ s.kept ++ t.drawn ≡ slots_of shown a s = no_row_more (ea ++ s.kept) t.drawn no_row' ∙ sym (slots-no_job a s none) in
-      let short' : eb ++ t.kept ++ s.drawn ≡ slots_of shown b t = no_row_more (eb ++ t.kept) s.drawn no_row ∙ sym (slots-no_job b t lanes.no_job) in
+      let short : ea ++ s.kept ++ t.drawn ≡ slots_of shown a s = no_row_more (ea ++ s.kept) t.drawn no_row' ∙ sym (slots-no_job shown a s none) in
+      let short' : eb ++ t.kept ++ s.drawn ≡ slots_of shown b t = no_row_more (eb ++ t.kept) s.drawn no_row ∙ sym (slots-no_job shown b t lanes.no_job) in
       record {
         slots = subst (λ (x : List Shown). SameSlots x (slots_of shown b t)) before (subst (λ (y : List Shown). SameSlots (slots_of shown a s ++ t.drawn) y) after ks.slots);
         tells = (
@@ -149,8 +147,8 @@ module _ {S R : Type 0} (shown : S → Shown) where
           }
 
       -- a refusal only changed the order of the runs
-      pub short-leveled : (level : ℕ) → NoneForLevel shown level n.workers a.runs.external.items b.runs.external.items a.lanes b.lanes s t → LevelShort shown cmp record_of width n a b s t
-      short-leveled level none =
+      pub short-leveled : (level : ℕ) → s.drawn ≡ [] → t.drawn ≡ [] → NoneForLevel shown level n.workers a.runs.external.items b.runs.external.items a.lanes b.lanes s t → LevelShort shown cmp record_of width n a b s t
+      short-leveled level no_row no_row' none =
           let moved : IsPermutation a.runs.external.items b.runs.external.items = subst (IsPermutation a.runs.external.items) (sym none.arrays) none.of.parted in
           let buffers = sum_by-IsPermutation (λ (x : External S R). length (buffers_of x.loaded)) a.runs.external.items b.runs.external.items moved in
           let fronts = sum_by-IsPermutation (λ (x : External S R). one_if_some (items_of x.loaded)) a.runs.external.items b.runs.external.items moved in
@@ -163,6 +161,9 @@ module _ {S R : Type 0} (shown : S → Shown) where
                   (omega (arith, rest.fronts, fronts))
                   (omega (arith, rest.few, sum_by-IsPermutation (odd_of s.block) a.runs.external.items b.runs.external.items moved))
                   (λ tell. All-permutation (λ (x : External S R). Ascends cmp (records_in record_of width shown x)) a.runs.external.items b.runs.external.items moved (rest.rise (kept.tells.1 tell)).external);
+              quiet = quiet-same shown a b s t rest.no_job lanes.no_job
+                  (λ f. sum-stored shown f a.runs.external.items ∙ sym (sum_by-IsPermutation (λ (x : External S R). sum_by f (slots_shown shown x.stored)) a.runs.external.items b.runs.external.items moved) ∙ sym (sum-stored shown f b.runs.external.items))
+                  (kept-sums s.kept t.kept s.drawn t.drawn no_row no_row' none.untouched);
               bag = λ tell p.
                   omega (
                     arith,
@@ -221,8 +222,8 @@ module _ {S R : Type 0} (shown : S → Shown) where
         pub fewer-leveled : length b.runs.external.items < length a.runs.external.items
         fewer-leveled = omega (arith, length_permutation a.runs.external.items (m.others ++ m.inputs) m.of.parted, length-append m.others m.inputs, m.of.eight, ap length m.arrays, length-append m.others (m.made ∷ []))
 
-        pub moved-leveled : t.drawn ≡ [] → external_buffers b.runs.external.items ≤ fronts_in b.runs.external.items + n.workers → Moved shown cmp record_of width n [] a b s t
-        moved-leveled no_row bounded =
+        pub moved-leveled : s.drawn ≡ [] → t.drawn ≡ [] → external_buffers b.runs.external.items ≤ fronts_in b.runs.external.items + n.workers → Moved shown cmp record_of width n [] a b s t
+        moved-leveled no_row no_row' bounded =
             record {
               rest = rest-with
                   (subst (All (IsRestingArray shown width t.block)) (sym m.arrays) (All-push (IsRestingArray shown width t.block) m.others m.made (same_arrays m.others others_rest) made_rest))
@@ -230,6 +231,7 @@ module _ {S R : Type 0} (shown : S → Shown) where
                   (omega (arith, rest.fronts, parts (λ (x : External S R). one_if_some (items_of x.loaded)), news (λ (x : External S R). one_if_some (items_of x.loaded)), ap (λ r. one_if_some (items_of r)) m.loaded))
                   (omega (arith, rest.few, odd-leveled))
                   up;
+              quiet = quiet-arrays shown a b s t rest.no_job lanes.no_job no_row no_row' m.quiet;
               bag = λ tell p.
                   omega (
                     arith,
@@ -247,7 +249,7 @@ module _ {S R : Type 0} (shown : S → Shown) where
             }
           where
             told : AllTell (slots_of shown a s) → AllTell (external_slots shown a.runs.external.items ++ s.kept ++ t.drawn)
-            told tell = subst AllTell (sym (no_row_more (external_slots shown a.runs.external.items ++ s.kept) t.drawn no_row)) (subst AllTell (slots-no_job a s rest.no_job) tell)
+            told tell = subst AllTell (sym (no_row_more (external_slots shown a.runs.external.items ++ s.kept) t.drawn no_row')) (subst AllTell (slots-no_job shown a s rest.no_job) tell)
 
             made_bag : AllTell (slots_of shown a s) → IsSameBag (records_in record_of width shown m.made) (flat_map (records_in record_of width shown) m.inputs)
             made_bag tell = m.records (told tell)
@@ -286,6 +288,12 @@ module _ {S R : Type 0} where
         sum_by-cons f m.made [],
         not_equal m.made.level j (omega (arith, m.level_is)),
       )
+
+above_eight : (a b : ℕ) → 8 < a → a ≤ b → 8 < b
+above_eight a b h k = omega arith
+
+lower_or : (j k : ℕ) → j < k + 1 → (j < k) ⊎ (j ≡ k)
+lower_or j k h = grind arith
 
 -- runs below a level and at it
 one_level : (k top : ℕ) → ◌≡◌ {A = ℕ} (cond (ltb k (top + 1)) 1 0) (cond (ltb k top) 1 0 + cond (k == top) 1 0)
@@ -351,12 +359,26 @@ module _ {S R : Type 0} where
         few 7 (lit< tt),
       )
 
+  -- no level has more runs than the one that has most
+  level_below : (level top : ℕ) (xs : List (External S R)) → level < top → count_level level xs ≤ crowd_below top xs
+  unfolding crowd_below
+  level_below level zero xs h = absurd (omega arith)
+  level_below level (suc top) xs h =
+      elim (lower_or level top (omega arith)) as (λ _. count_level level xs ≤ crowd_below (suc top) xs) [
+        | inl low ↦ omega (arith, level_below level top xs low)
+        | inr e ↦ omega (arith, ap (λ k. count_level k xs) e)
+      ]
+
+  -- a merge of a level that was refused left the level as crowded as it was
+  pub still_crowded : (shown : S → Shown) (level workers : ℕ) (old new : List (External S R)) (old_lanes new_lanes : Lanes (DeviceBlock S R) R) (s t : Stock) → level ≤ 7 → 8 < count_level level old → NoneForLevel shown level workers old new old_lanes new_lanes s t → 8 < crowd_of new
+  unfolding crowd_of
+  still_crowded shown level workers old new old_lanes new_lanes s t few more none =
+      let same = sum_by-IsPermutation (λ (x : External S R). cond (x.level == level) 1 0) old new (subst (IsPermutation old) (sym none.arrays) none.of.parted) in
+      above_eight (count_level level new) (crowd_of new) (omega (arith, more, same)) (level_below level 8 new (omega arith))
+
   -- one level more was looked at
   pub levels_more :
       (level : ℕ) (old new : List (External S R)) → ((j : ℕ) → j < level → count_level j old ≤ 8) → ((j : ℕ) → j < level → count_level j new ≡ count_level j old) → count_level level new ≤ 8
       → (j : ℕ) → j < level + 1 → count_level j new ≤ 8
   levels_more level old new few same here j h =
       elim (lower_or j level h) as (λ _. count_level j new ≤ 8) [ inl low ↦ omega (arith, few j low, same j low) | inr e ↦ subst (λ k. count_level k new ≤ 8) (sym e) here ]
-    where
-      lower_or : (j k : ℕ) → j < k + 1 → (j < k) ⊎ (j ≡ k)
-      lower_or j k h = grind arith

@@ -40,19 +40,19 @@ module _ {S R : Type 0} (shown : S → Shown) (n : Numbers) (parts : Parts S R) 
   -- its slots are those that came, in their order
   pub slots-opened : slots_of shown parts.store.body stock ≡ slots
   slots-opened =
-      ap (λ l. external_slots shown l ++ job_slots shown parts.store.body.lanes.jobs.items ++ stock.kept) is.no_external ∙ ap (λ l. job_slots shown l ++ stock.kept) is.no_job ∙ kept_is
+      ap (λ l. external_slots shown l ++ job_slots shown parts.store.body.lanes.jobs.items ++ stock.kept) is.body.no_external ∙ ap (λ l. job_slots shown l ++ stock.kept) is.body.no_job ∙ kept_is
 
   pub bag-opened : (record_of : List ℕ → R) (width : ℕ) → runs_bag shown record_of width parts.store.body ≡ []
-  bag-opened record_of width = ap (λ l. internal_items l ++ flat_map (records_in record_of width shown) parts.store.body.runs.external.items) is.no_internal ∙ ap (λ l. flat_map (records_in record_of width shown) l) is.no_external
+  bag-opened record_of width = ap (λ l. internal_items l ++ flat_map (records_in record_of width shown) parts.store.body.runs.external.items) is.body.no_internal ∙ ap (λ l. flat_map (records_in record_of width shown) l) is.body.no_external
 
   internal_none : internal_buffers parts.store.body.runs.internal.items ≡ 0
-  internal_none = ap internal_buffers is.no_internal
+  internal_none = ap internal_buffers is.body.no_internal
 
   external_none : external_buffers parts.store.body.runs.external.items ≡ 0
-  external_none = ap external_buffers is.no_external
+  external_none = ap external_buffers is.body.no_external
 
   count_none : count_of parts.store.body ≡ 0
-  count_none = ap (λ l. count_in l parts.store.body.runs.external.items) is.no_internal ∙ ap (λ l. count_in [] l) is.no_external
+  count_none = ap (λ l. count_in l parts.store.body.runs.external.items) is.body.no_internal ∙ ap (λ l. count_in [] l) is.body.no_external
 
   module _ (cmp : R → R → Ordering) (record_of : List ℕ → R) (width : ℕ) where
     rest-opened : AtRest shown cmp record_of width n parts.store.body stock
@@ -61,23 +61,23 @@ module _ {S R : Type 0} (shown : S → Shown) (n : Numbers) (parts : Parts S R) 
         let Q : External S R → Type 0 = λ x. Ascends cmp (records_in record_of width shown x) in
         record {
           block = block_is;
-          idle = All-weaker (λ (b : Block R). b ≡ holding n.block []) (HasBlock stock.block) (λ b h. ap (λ (x : Block R). x.block) h ∙ sym block_is) parts.store.body.lanes.idle is.blocks;
-          internal = subst (All (IsRestingRun stock.block)) (sym is.no_internal) (All-nil (IsRestingRun stock.block));
-          external = subst (All (IsRestingArray shown width stock.block)) (sym is.no_external) (All-nil (IsRestingArray shown width stock.block));
-          takes_back = record { slots = omega (arith, ap (λ l. length (external_slots shown l)) is.no_external); buffers = omega (arith, internal_none) };
-          no_job = is.no_job;
-          batch = is.batch ∙ ap (λ k. n.workers * k) (sym block_is);
-          buffers = omega (arith, is.idle);
-          held = omega (arith, is.idle, internal_none, external_none, none_out);
+          idle = All-weaker (λ (b : Block R). b ≡ holding n.block []) (HasBlock stock.block) (λ b h. ap (λ (x : Block R). x.block) h ∙ sym block_is) parts.store.body.lanes.idle is.body.blocks;
+          internal = subst (All (IsRestingRun stock.block)) (sym is.body.no_internal) (All-nil (IsRestingRun stock.block));
+          external = subst (All (IsRestingArray shown width stock.block)) (sym is.body.no_external) (All-nil (IsRestingArray shown width stock.block));
+          takes_back = record { slots = omega (arith, ap (λ l. length (external_slots shown l)) is.body.no_external); buffers = omega (arith, internal_none) };
+          no_job = is.body.no_job;
+          batch = is.body.batch ∙ ap (λ k. n.workers * k) (sym block_is);
+          buffers = omega (arith, is.body.idle, external_none);
+          held = omega (arith, is.body.idle, internal_none, external_none, none_out);
           bounded = omega (arith, external_none);
-          fronts = omega (arith, ap fronts_in is.no_external);
-          few = omega (arith, ap (odd_in stock.block) is.no_external);
+          fronts = omega (arith, ap fronts_in is.body.no_external);
+          few = omega (arith, ap (odd_in stock.block) is.body.no_external);
           pool = omega (arith, sure_is, none_out);
           slots = omega (arith, ap length kept_is, room_is, count);
-          internal_room = is.internal_room;
-          external_room = is.external_room;
-          leaves = omega (arith, is.leaves);
-          rise = λ tell. record { internal = subst (All P) (sym is.no_internal) (All-nil P); external = subst (All Q) (sym is.no_external) (All-nil Q) };
+          internal_room = is.body.internal_room;
+          external_room = is.body.external_room;
+          leaves = omega (arith, is.body.leaves);
+          rise = λ tell. record { internal = subst (All P) (sym is.body.no_internal) (All-nil P); external = subst (All Q) (sym is.body.no_external) (All-nil Q) };
         }
 
     pub sound-opened : IsSound shown cmp record_of width n parts.heaps parts.store.extract parts.store.body stock parts.store.sources 0 0 false
@@ -104,7 +104,7 @@ module _ {S R : Type 0} (shown : S → Shown) (n : Numbers) (parts : Parts S R) 
         in_heap = omega (arith, ap length is.no_record);
         room = ap (λ x. x.room) is.extract;
         in_extract = omega (arith, ap length none);
-        held = omega (arith, is.idle, internal_none, external_none, none_out, ap length is.no_job);
+        held = omega (arith, is.body.idle, internal_none, external_none, none_out, ap length is.body.no_job);
         pool = omega (arith, sure_is, none_out);
         slots = ap length slots-opened ∙ count;
         no_row = ap (λ s. s.drawn) e ∙ ap (λ s. s.drawn) is.supply;

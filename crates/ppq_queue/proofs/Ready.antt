@@ -1,6 +1,6 @@
 -- A heap beside an extract buffer that is ready: which of both has the least record, and what is left without it.
 use Rattle.std.proofs.Common.{◌≡◌, ℕ, zero, suc, inl, inr, ◌+◌, ◌-◌, ◌<◌, ◌≤◌, Bool, true, false, cond, List, [], ◌∷◌, ◌++◌, length, drop, Option, Some, None, refl, sym, ap, ◌∙◌, subst, arith, append_assoc, Ordering}
-use Rattle.std.specs.Prelude.{count_by, ◌⊎◌, IfSome, IsNone, Result, Ok, Err, IsErr, OnOk}
+use Rattle.std.specs.Prelude.{count_by, ◌⊎◌, ◌↔◌, IfSome, IsNone, Result, Ok, Err, IsErr, OnOk}
 use Rattle.std.specs.declared.cmp.Ordering.TheVariants.{Equal}
 use Rattle.std.specs.Cmp.{IsTotalOrder}
 use Rattle.ppq_heap.specs.ppq_record.Order.{is_before, Le, Ascends}
@@ -96,6 +96,17 @@ module _ {R : Type 0} {cmp : R → R → Ordering} (o : IsTotalOrder cmp) (same 
   pub second_empty : (heap extract : List R) (one other : Option R) → (IsNone one → heap ≡ []) → other ≡ first_of extract → goes_first cmp one other ≡ false → length extract ≡ 0 → length heap ≡ 0
   second_empty heap [] one other none e f z = second_none heap one none (subst (λ (r : Option R). goes_first cmp one r ≡ false) e f)
   second_empty heap (x ∷ xs) one other none e f z = absurd (omega arith)
+
+  -- where the buffer goes first, it has no record only if none is there
+  pub stored_none :
+      (heap extract : List R) (one other answer : Option R) (size runs : ℕ)
+      → (IsNone one → heap ≡ []) → other ≡ first_of extract → answer ≡ first_of extract → goes_first cmp one other ≡ false → size ≡ length heap + length extract + runs → (length extract ≡ 0 → size ≡ length heap)
+      → IsNone answer ↔ (size ≡ 0)
+  stored_none heap [] one other answer size runs none e a f total ready =
+      let empty = second_empty heap [] one other none e f refl in
+      ((λ n. omega (arith, empty, ready refl)), (λ z. subst (λ (r : Option R). IsNone r) (sym a) refl))
+  stored_none heap (x ∷ xs) one other answer size runs none e a f total ready =
+      ((λ n. absurd (let odd : IsNone (Some x) = subst (λ (r : Option R). IsNone r) a n in cc)), (λ z. absurd (omega (arith, total, z))))
 
   -- the first record of a buffer that is ready is the least of it and the runs
   stored_least : (extract runs : List R) → Ascends cmp extract → NoneAfter cmp extract runs → (length extract ≡ 0 → length runs ≡ 0) → first_of extract ≡ least cmp (extract ++ runs)

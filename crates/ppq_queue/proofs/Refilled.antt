@@ -26,7 +26,7 @@ use Rattle.ppq_queue.specs.Resting.{BodyKept, IsRestingRun, IsRestingArray, AtRe
 use Rattle.ppq_queue.proofs.Bounds.{pool_small, runs_few, idle_most, records_most}
 use Rattle.ppq_queue.proofs.Counts.{fronts_few}
 use Rattle.ppq_queue.proofs.Odd.{odd_most}
-use Rattle.ppq_queue.proofs.Leveled.{slots-no_job}
+use Rattle.ppq_queue.proofs.Slots.{slots-no_job, quiet-free}
 use Rattle.ppq_queue.proofs.Moves.{none_after-same}
 
 module _ {S R : Type 0} where
@@ -212,6 +212,7 @@ module _ {S R : Type 0} (shown : S → Shown) where
       pub readied-refilled : (room : ℕ) → 0 < room → length out ≡ min room (count_in a.runs.internal.items a.runs.external.items) → Readied shown cmp record_of width n [] out a b s t
       readied-refilled room some all = record {
         rest = rest_now;
+        quiet = quiet-free shown a b s t rest.no_job none' r.quiet;
         bag = λ tell p.
             let taken = r.taken (told tell) (rises tell) in
             omega (

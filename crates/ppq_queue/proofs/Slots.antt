@@ -4,13 +4,19 @@ use Rattle.std.specs.Prelude.{Option, Some, None, IsSome, is_some}
 use Rattle.std.proofs.lemmas.List.Elements.{All-nil, All-cons, All-head, All-tail}
 use Rattle.std.proofs.lemmas.List.{map-append, reverse-append, length-reverse, drop_all, take_all}
 use Rattle.std.proofs.lemmas.List.Sums.{sum_by-cons, sum_by-append}
+use Rattle.std.proofs.lemmas.List.Concat.{flat_map-cons}
 use Rattle.ppq_extract.specs.ppq_outside.Shown.{Shown, Tells, AllTell}
 use Rattle.ppq_extract.specs.ppq_array.External.{External}
-use Rattle.ppq_extract.specs.ppq_array.Kept.{SameSlots}
+use Rattle.ppq_extract.specs.ppq_array.Kept.{SameSlots, AreQuiet, all_faults}
+use Rattle.ppq_extract.specs.ppq_array.Supply.{Stock}
 use Rattle.ppq_extract.specs.ppq_array.Owner.{slots_shown}
 use Rattle.ppq_extract.specs.ppq_array.Holdings.{external_slots}
 use Rattle.ppq_spill.proofs.SameSlots.{SameSlots-sums}
 use Rattle.ppq_spill.proofs.Keeping.{slots_more, slots_long}
+use Rattle.ppq_spill.specs.Body.{job_slots}
+use Rattle.ppq_spill.specs.Leveling.{arrays_before, arrays_after}
+use Rattle.ppq_spill.specs.declared.body.PassBody.{PassBody}
+use Rattle.ppq_queue.specs.Resting.{slots_of}
 use Rattle.ppq_queue.specs.Slots.{SameSums}
 
 -- the last of a list is the first of it in reverse
@@ -111,3 +117,44 @@ tells-sums a b h tell = sum_tell b (omega (arith, h silent, tell_sum a tell))
 
 pub slots-sums : (a b : List Shown) → SameSums a b → SameSlots a b
 slots-sums a b h = SameSlots-sums a b h (sym (SameSums-length a b h))
+
+-- an owner draws from no row
+pub no_row_more : (xs ys : List Shown) → ys ≡ [] → xs ++ ys ≡ xs
+no_row_more xs ys e = ap (λ (l : List Shown). xs ++ l) e ∙ append-nil xs
+
+-- the slots that are kept, where none was drawn from a row
+pub kept-sums : (kept kept' drawn drawn' : List Shown) → drawn ≡ [] → drawn' ≡ [] → SameSums (kept ++ drawn') (kept' ++ drawn) → SameSums kept kept'
+kept-sums kept kept' drawn drawn' e e' h f = sym (ap (sum_by f) (no_row_more kept drawn' e')) ∙ h f ∙ ap (sum_by f) (no_row_more kept' drawn e)
+
+module _ {S R : Type 0} (shown : S → Shown) where
+  -- the slots of runs, run by run
+  pub sum-stored : (f : Shown → ℕ) (arrays : List (External S R)) → sum_by f (external_slots shown arrays) ≡ sum_by (λ (a : External S R). sum_by f (slots_shown shown a.stored)) arrays
+  sum-stored f [] = refl
+  sum-stored f (x ∷ xs) =
+      omega (
+        arith,
+        ap (sum_by f) (flat_map-cons (λ (a : External S R). slots_shown shown a.stored) x xs),
+        sum_by-append f (slots_shown shown x.stored) (external_slots shown xs),
+        sum-stored f xs,
+        sum_by-cons (λ (a : External S R). sum_by f (slots_shown shown a.stored)) x xs,
+      )
+
+  -- without jobs, the slots are those of runs and the free ones
+  pub slots-no_job : (a : PassBody S R) (s : Stock) → a.lanes.jobs.items ≡ [] → slots_of shown a s ≡ external_slots shown a.runs.external.items ++ s.kept
+  slots-no_job a s e = ap (λ l. external_slots shown a.runs.external.items ++ job_slots shown l ++ s.kept) e ∙ ap (λ (l : List Shown). l ++ s.kept) (append-nil (external_slots shown a.runs.external.items))
+
+  module _ (a b : PassBody S R) (s t : Stock) (none : a.lanes.jobs.items ≡ []) (none' : b.lanes.jobs.items ≡ []) where
+    -- no call of a slot of runs failed, nor of one that is free
+    pub quiet-free : AreQuiet (external_slots shown a.runs.external.items ++ s.kept) (external_slots shown b.runs.external.items ++ t.kept) → AreQuiet (slots_of shown a s) (slots_of shown b t)
+    quiet-free quiet = ap all_faults (slots-no_job b t none') ∙ quiet ∙ sym (ap all_faults (slots-no_job a s none))
+
+    -- the same, where no slot was drawn from a row
+    pub quiet-arrays : s.drawn ≡ [] → t.drawn ≡ [] → AreQuiet (arrays_before shown a.runs.external.items s t) (arrays_after shown b.runs.external.items s t) → AreQuiet (slots_of shown a s) (slots_of shown b t)
+    quiet-arrays no_row no_row' quiet =
+        quiet-free (sym (ap all_faults (no_row_more (external_slots shown b.runs.external.items ++ t.kept) s.drawn no_row)) ∙ quiet ∙ ap all_faults (no_row_more (external_slots shown a.runs.external.items ++ s.kept) t.drawn no_row'))
+
+    -- no slot was called
+    pub quiet-same : SameSums (external_slots shown a.runs.external.items) (external_slots shown b.runs.external.items) → SameSums s.kept t.kept → AreQuiet (slots_of shown a s) (slots_of shown b t)
+    quiet-same runs kept =
+        let f : Shown → ℕ = λ x. x.faults in
+        quiet-free (omega (arith, sum_by-append f (external_slots shown a.runs.external.items) s.kept, sum_by-append f (external_slots shown b.runs.external.items) t.kept, runs f, kept f))

@@ -13,8 +13,8 @@ use Rattle.ppq_extract.specs.ppq_budget.Sizes.{Numbers, AreInRange, fixed_of}
 use Rattle.ppq_extract.specs.ppq_array.Run.{Run, items_of, buffers_of}
 use Rattle.ppq_extract.specs.ppq_array.External.{External, size_of, records_in, IsPacked}
 use Rattle.ppq_extract.specs.ppq_array.Supply.{Stock}
-use Rattle.ppq_extract.specs.ppq_array.Kept.{Kept, SameSlots, all_writes}
-use Rattle.ppq_extract.specs.ppq_array.Holdings.{internal_items, internal_buffers, external_buffers, RunHasBlock, ArrayHasSize, CanTakeBack}
+use Rattle.ppq_extract.specs.ppq_array.Kept.{Kept, SameSlots, SameSums, AreQuiet, all_writes, all_faults}
+use Rattle.ppq_extract.specs.ppq_array.Holdings.{internal_items, internal_buffers, external_buffers, external_slots, RunHasBlock, ArrayHasSize, CanTakeBack}
 use Rattle.ppq_extract.proofs.ppq_array.Noted.{all_right}
 use Rattle.ppq_extract.specs.ppq_fetch.Fetching.{IsFitting, fronts_in, one_if_some, count_in}
 use Rattle.ppq_spill.specs.Body.{held_by}
@@ -24,10 +24,7 @@ use Rattle.ppq_queue.specs.Resting.{BodyKept, IsRestingRun, IsRestingArray, AtRe
 use Rattle.ppq_queue.proofs.Bounds.{pool_within, pool_small, runs_few, idle_most, idle_some, in_buffers_few}
 use Rattle.ppq_queue.proofs.Counts.{internal_count}
 use Rattle.ppq_queue.proofs.Odd.{odd_most}
-
--- an owner draws from no row
-pub no_row_more : (xs ys : List Shown) → ys ≡ [] → xs ++ ys ≡ xs
-no_row_more xs ys e = ap (λ (l : List Shown). xs ++ l) e ∙ append-nil xs
+use Rattle.ppq_queue.proofs.Slots.{no_row_more, kept-sums, quiet-same}
 
 module _ {S R : Type 0} (shown : S → Shown) where
   -- what a store keeps, whatever it answers
@@ -124,10 +121,15 @@ module _ {S R : Type 0} (shown : S → Shown) where
                 };
           }
 
-      pub moved-same : b.runs.internal.items ≡ a.runs.internal.items → b.runs.external.items ≡ a.runs.external.items → Moved shown cmp record_of width n [] a b s t
-      moved-same int ext =
+      -- of the same runs in blocks, and of slots that were not called, no call failed
+      quiet-kept : b.runs.external.items ≡ a.runs.external.items → SameSums s.kept t.kept → AreQuiet (slots_of shown a s) (slots_of shown b t)
+      quiet-kept ext = quiet-same shown a b s t rest.no_job lanes.no_job (λ f. ap (λ l. sum_by f (external_slots shown l)) (sym ext))
+
+      pub moved-same : b.runs.internal.items ≡ a.runs.internal.items → b.runs.external.items ≡ a.runs.external.items → SameSums s.kept t.kept → Moved shown cmp record_of width n [] a b s t
+      moved-same int ext untouched =
           record {
             rest = rest-same int ext;
+            quiet = quiet-kept ext untouched;
             bag = λ tell p. omega (arith, ap (λ l. count_by p (internal_items l ++ flat_map (records_in record_of width shown) b.runs.external.items)) int, ap (λ l. count_by p (internal_items a.runs.internal.items ++ flat_map (records_in record_of width shown) l)) ext);
             count = omega (arith, ap (λ l. count_in l b.runs.external.items) int, ap (λ l. count_in a.runs.internal.items l) ext);
           }
@@ -142,6 +144,7 @@ module _ {S R : Type 0} (shown : S → Shown) where
             let one : List (External S R) = array ∷ [] in
             let bytes = ArrayHasSize {R = R} shown (t.block * width) in
             let before : slots_of shown a s ++ t.drawn ≡ slots_of shown a s = no_row_more (slots_of shown a s) t.drawn no_row' in
+            let after : slots_of shown b t ++ s.drawn ≡ slots_of shown b t = no_row_more (slots_of shown b t) s.drawn no_row in
             let blocks : bytes array = All-head bytes array [] (all_right bytes a.runs.external.items one (subst (All bytes) ext size.external)) in
             let none : buffers_of array.loaded ≡ [] = ap buffers_of put.loaded in
             let empty : items_of array.loaded ≡ [] = ap items_of put.loaded in
@@ -191,6 +194,7 @@ module _ {S R : Type 0} (shown : S → Shown) where
                       external = subst (All (λ (x : External S R). Ascends cmp (records_in record_of width shown x))) (sym ext) (All-push (λ (x : External S R). Ascends cmp (records_in record_of width shown x)) a.runs.external.items array rise.external (put.ascends (subst AllTell (sym before) told)));
                     };
               };
+              quiet = sym (ap all_faults after) ∙ put.quiet ∙ ap all_faults before;
               bag = λ tell p.
                   omega (
                     arith,
@@ -251,6 +255,7 @@ module _ {S R : Type 0} (shown : S → Shown) where
                       external = subst (All (λ (x : External S R). Ascends cmp (records_in record_of width shown x))) (sym ext) rise.external;
                     };
               };
+              quiet = quiet-kept ext (λ f. ap (sum_by f) (sym put.slots.kept));
               bag = λ tell p.
                   omega (
                     arith,
@@ -277,17 +282,17 @@ module _ {S R : Type 0} (shown : S → Shown) where
         moved-stored few no_row no_row' (inl put) = moved-in_buffers put
         moved-stored few no_row no_row' (inr put) = moved-in_blocks sorted (omega (arith, some)) few no_row no_row' put.blocks
 
-        pub short-stored : NoneFree (length sorted) a b s t → StoreShort shown cmp record_of width n (length sorted) a b s t
-        short-stored none =
+        pub short-stored : s.drawn ≡ [] → t.drawn ≡ [] → NoneFree (length sorted) a b s t → StoreShort shown cmp record_of width n (length sorted) a b s t
+        short-stored no_row no_row' none =
             record {
-              moved = moved-same none.slots.internal none.slots.external;
+              moved = moved-same none.slots.internal none.slots.external (kept-sums s.kept t.kept s.drawn t.drawn no_row no_row' none.slots.untouched);
               short = (let size : length t.kept * s.block ≡ length t.kept * n.block = ap (λ k. length t.kept * k) rest.block in omega (arith, none.slots.still_few, size, internal_count a.runs.internal.items));
             }
 
       -- a merge of all runs in buffers found too few slots
-      pub short-merged : NoSlots 0 a b s t → StoreShort shown cmp record_of width n 0 a b s t
-      short-merged none =
+      pub short-merged : s.drawn ≡ [] → t.drawn ≡ [] → NoSlots 0 a b s t → StoreShort shown cmp record_of width n 0 a b s t
+      short-merged no_row no_row' none =
           record {
-            moved = moved-same none.internal none.external;
+            moved = moved-same none.internal none.external (kept-sums s.kept t.kept s.drawn t.drawn no_row no_row' none.untouched);
             short = (let size : length t.kept * s.block ≡ length t.kept * n.block = ap (λ k. length t.kept * k) rest.block in omega (arith, none.still_few, size, internal_count a.runs.internal.items));
           }

@@ -19,7 +19,7 @@ use Rattle.ppq_extract.specs.declared.sources.Sources.{Sources}
 use Rattle.ppq_spill.specs.Leveling.{count_level}
 use Rattle.ppq_spill.specs.declared.body.PassBody.{PassBody}
 use Rattle.ppq_queue.specs.Resting.{AtRest, BodyKept, Moved, Readied, IsShort, runs_bag, count_of}
-use Rattle.ppq_queue.specs.Stores.{HeapsStay, ShareChanged, stored, StoreKept, StoreStays, FailsAlone, RunRefused, MayWork, Holds, Readies, Lacks, Refuses, slots_in}
+use Rattle.ppq_queue.specs.Stores.{HeapsStay, ShareChanged, stored, StoreKept, StoreStays, LevelsStay, FailsAlone, RunRefused, MayWork, Holds, Readies, Lacks, Refuses, slots_in}
 use Rattle.ppq_queue.specs.declared.store.Store.{Store}
 use Rattle.ppq_queue.proofs.Moves.{kept-refl, kept-trans, none_after-same, short-more}
 
@@ -73,6 +73,12 @@ module _ {S R : Type 0} (shown : S → Shown) where
   pub stays-more : (x y z : Store S R) → StoreStays shown x y → StoreStays shown y z → StoreStays shown x z
   stays-more x y z h k = record { kept = kept-more x y z h.kept k.kept; extract = omega (arith, h.extract, k.extract) }
 
+  pub levels-same : (x : Store S R) → LevelsStay shown x x
+  levels-same x = record { stays = stays-same x; internal = refl }
+
+  pub levels-more : (x y z : Store S R) → LevelsStay shown x y → LevelsStay shown y z → LevelsStay shown x z
+  levels-more x y z h k = record { stays = stays-more x y z h.stays k.stays; internal = k.internal ∙ h.internal }
+
   -- a step of the runs, maybe with another extract buffer and other sources
   pub kept-step :
       (x : Store S R) (b : PassBody S R) (t : Stock) (v : Held R) (src : Sources R)
@@ -85,10 +91,10 @@ module _ {S R : Type 0} (shown : S → Shown) where
 
   module _ (cmp : R → R → Ordering) (record_of : List ℕ → R) (width : ℕ) where
     pub holds-same : (h : List R) (x : Store S R) → MayWork shown cmp record_of width x → Holds shown cmp record_of width h h x x
-    holds-same h x works = record { works = works; bag = λ tell p. refl; count = refl }
+    holds-same h x works = record { works = works; quiet = refl; bag = λ tell p. refl; count = refl }
 
     pub holds-more : (h h' h'' : List R) (x y z : Store S R) → StoreKept shown x y → Holds shown cmp record_of width h h' x y → Holds shown cmp record_of width h' h'' y z → Holds shown cmp record_of width h h'' x z
-    holds-more h h' h'' x y z kept one two = record { works = two.works; bag = λ tell p. two.bag (kept.body.tells.0 tell) p ∙ one.bag tell p; count = two.count ∙ one.count }
+    holds-more h h' h'' x y z kept one two = record { works = two.works; quiet = two.quiet ∙ one.quiet; bag = λ tell p. two.bag (kept.body.tells.0 tell) p ∙ one.bag tell p; count = two.count ∙ one.count }
 
     -- a call that was refused, after one that was not
     pub refused-more :
@@ -105,6 +111,7 @@ module _ {S R : Type 0} (shown : S → Shown) where
         let runs' = runs_bag shown record_of width y.body in
         record {
           works = one.works;
+          quiet = one.quiet;
           bag = λ tell p.
               omega (
                 arith,
@@ -134,6 +141,7 @@ module _ {S R : Type 0} (shown : S → Shown) where
         let runs' = runs_bag shown record_of width y.body in
         record {
           works = one.works;
+          quiet = one.quiet;
           bag = λ tell p.
               omega (
                 arith,
@@ -177,6 +185,7 @@ module _ {S R : Type 0} (shown : S → Shown) where
           let runs' = runs_bag shown record_of width b in
           record {
             works = works-step x.extract src rests moved.rest refl works.within works.ascends (λ tell. none_after-same cmp e runs runs' (λ p. sym (moved.bag tell p)) (works.order tell));
+            quiet = moved.quiet;
             bag = λ tell p. omega (arith, count_by-append p e runs', count_by-append p e runs, moved.bag tell p);
             count = omega (arith, moved.count);
           }
@@ -196,6 +205,7 @@ module _ {S R : Type 0} (shown : S → Shown) where
           let runs' = runs_bag shown record_of width b in
           record {
             works = works-step v x.sources (same-sources x) moved.rest room (omega (arith, ap length none)) (λ tell. subst (Ascends cmp) (sym none) tt) (λ tell. subst (λ l. NoneAfter cmp l runs') (sym none) tt);
+            quiet = moved.quiet;
             bag = λ tell p. omega (arith, count_by-append p v.items runs', ap (count_by p) none, count_by-append p e runs, moved.bag tell p);
             count = omega (arith, moved.count, ap length none);
           }
@@ -208,6 +218,7 @@ module _ {S R : Type 0} (shown : S → Shown) where
           let runs' = runs_bag shown record_of width b in
           record {
             works = works-step x.extract x.sources (same-sources x) moved.rest refl works.within works.ascends (λ tell. subst (λ l. NoneAfter cmp l runs') (sym none) tt);
+            quiet = moved.quiet;
             bag = λ tell p.
                 omega (
                   arith,
@@ -230,7 +241,7 @@ module _ {S R : Type 0} (shown : S → Shown) where
           → Readies shown cmp record_of width x (record x { body = b; supply = t; extract = v; sources = src })
       readies-step v src rests room within ready =
           record {
-            holds = record { works = works-step v src rests ready.rest room within ready.ascends ready.order; bag = ready.bag; count = omega (arith, ready.count) };
+            holds = record { works = works-step v src rests ready.rest room within ready.ascends ready.order; quiet = ready.quiet; bag = ready.bag; count = omega (arith, ready.count) };
             some = ready.some;
           }
 
@@ -257,6 +268,14 @@ module _ {T : Type 0} where
   pub not_ok : (P : Type 0) (r : Result T StoreFault) (e : StoreFault) → IsErrAnd r (λ given. given ≡ e) → OnOk r P
   not_ok P (Ok v) e is = absurd is
   not_ok P (Err f) e is = tt
+
+  -- what a fault means, of an error that is handed on
+  abbrev err_of : StoreFault → Result T StoreFault
+  err_of e = Err e
+
+  pub given_means : {P : Type 0} (r : Result T StoreFault) (e k : StoreFault) → IsErrAnd r (λ given. given ≡ e) → (IsErrOf (err_of e) k → P) → IsErrOf r k → P
+  given_means (Ok v) e k is means err = absurd is
+  given_means (Err f) e k is means err = means (subst (λ (x : StoreFault). IsErrOf (err_of x) k) is err)
 
   -- what follows from a fault
   pub err-map : {P Q : StoreFault → Type 0} (r : Result T StoreFault) → ((e : StoreFault) → P e → Q e) → IfErr r P → IfErr r Q

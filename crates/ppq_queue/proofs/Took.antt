@@ -46,6 +46,7 @@ module _ {S R : Type 0} (shown : S → Shown) {cmp : R → R → Ordering} (o : 
   took-none h x works =
       record {
         works = works;
+        quiet = refl;
         few = omega arith;
         count = omega arith;
         fewer = omega arith;
@@ -63,6 +64,7 @@ module _ {S R : Type 0} (shown : S → Shown) {cmp : R → R → Ordering} (o : 
       let works = took.works in
       record {
         works = works-step shown cmp record_of width y y.body y.supply works (kept-refl shown y.body y.supply) works.runs.no_row v y.sources (same-sources shown y) works.runs.rest room (omega (arith, m.fewer, works.within, room)) (λ tell. m.ascends (works.ascends tell)) (λ tell. m.order runs (works.order tell));
+        quiet = took.quiet;
         few = few;
         count = omega (arith, took.count, m.count);
         fewer = omega (arith, took.fewer, m.fewer);
@@ -75,6 +77,7 @@ module _ {S R : Type 0} (shown : S → Shown) {cmp : R → R → Ordering} (o : 
   took-held h h1 x y z out kept took holds =
       record {
         works = holds.works;
+        quiet = holds.quiet ∙ took.quiet;
         few = took.few;
         count = omega (arith, took.count, holds.count);
         fewer = omega (arith, took.fewer, holds.count);
@@ -89,6 +92,7 @@ module _ {S R : Type 0} (shown : S → Shown) {cmp : R → R → Ordering} (o : 
   took-settled h h' x y z out kept holds took =
       record {
         works = took.works;
+        quiet = took.quiet ∙ holds.quiet;
         few = took.few;
         count = omega (arith, took.count, holds.count);
         fewer = omega (arith, took.fewer, holds.count);

@@ -4,6 +4,7 @@ use Rattle.std.specs.declared.cmp.Ordering.{Ordering}
 use Rattle.ppq_heap.specs.ppq_record.Order.{is_before, Ascends}
 use Rattle.ppq_heap.specs.ppq_record.Bag.{IsSameBag, front, without_front, size_below}
 use Rattle.ppq_extract.specs.ppq_outside.Shown.{Shown, AllTell}
+use Rattle.ppq_extract.specs.ppq_array.Kept.{AreQuiet}
 use Rattle.ppq_extract.specs.ppq_fetch.Taking.{wanted, NoneAfter, IsTaken, AllBelow, NoneBelow}
 use Rattle.ppq_extract.specs.Extracted.{Held}
 use Rattle.ppq_queue.specs.Out.{Listed}
@@ -63,11 +64,13 @@ module _ {R : Type 0} (cmp : R → R → Ordering) where
     pub few : length out ≤ most
     pub count : limit ≡ None → length out ≡ min most old.size
     pub sound : new.failed ≡ None
+    pub quiet : AreQuiet old.slots new.slots
 
 module _ {S R : Type 0} (shown : S → Shown) (cmp : R → R → Ordering) (record_of : List ℕ → R) (width : ℕ) where
   -- Out of heaps and a store the least records were taken, at most so many, all below the limit, if there is one. The store may work on
   pub record TookOut (limit : Option R) (most : ℕ) (heap heap' : List R) (old new : Store S R) (out : List R) : Type 0 where
     pub works : MayWork shown cmp record_of width new
+    pub quiet : AreQuiet (slots_in shown old) (slots_in shown new)
     pub few : length out ≤ most
     pub count : length out + length heap' + stored new ≡ length heap + stored old
     pub fewer : stored new ≤ stored old

@@ -5,7 +5,7 @@ use Rattle.ppq_extract.specs.ppq_outside.Shown.{Shown}
 use Rattle.ppq_extract.specs.ppq_budget.Sizes.{pool_of}
 use Rattle.ppq_heap.specs.Heaps.{Shares, items_of, share_at}
 use Rattle.ppq_queue.specs.Holding.{Holding}
-use Rattle.ppq_queue.specs.Resting.{slots_of, runs_bag, lane_buffers}
+use Rattle.ppq_queue.specs.Resting.{slots_of, runs_bag, lane_buffers, crowd_of}
 use Rattle.ppq_queue.specs.State.{IsQueue, IsSound}
 use Rattle.ppq_queue.specs.declared.store.Store.{Store}
 use Rattle.ppq_queue.specs.declared.queue_parts.QueueParts.{QueueParts}
@@ -26,7 +26,9 @@ module _ {S R : Type 0} (shown : S → Shown) where
         in_first = length (share_at q.heaps 0);
         in_extract = length q.extract.items;
         runs = length q.body.runs.external.items;
+        crowd = crowd_of q.body.runs.external.items;
         buffers = lane_buffers q.sizes + pool_of q.sizes;
+        idle = q.supply.sure_buffers;
         limited = q.limited;
       }
 
@@ -45,7 +47,9 @@ module _ {S R : Type 0} (shown : S → Shown) where
         in_first = length (share_at heaps 0);
         in_extract = length store.extract.items;
         runs = length store.body.runs.external.items;
+        crowd = crowd_of store.body.runs.external.items;
         buffers = lane_buffers store.sizes + pool_of store.sizes;
+        idle = store.supply.sure_buffers;
         limited = limited;
       }
 

@@ -1,9 +1,10 @@
 -- What a queue holds.
-use Rattle.std.specs.Prelude.{◌≡◌, ◌<◌, ◌≤◌, ◌+◌, ◌-◌, ◌*◌, ℕ, Bool, false, List, length, max, Option, Some, None, Result, Ok, Err, ⊤, All}
-use Rattle.ppq_heap.specs.ppq_record.Bag.{IsSameBag}
+use Rattle.std.specs.Prelude.{◌≡◌, ◌<◌, ◌≤◌, ◌+◌, ◌-◌, ◌*◌, ℕ, Bool, false, List, ◌∷◌, length, max, Option, Some, None, Result, Ok, Err, ⊤, All}
+use Rattle.std.specs.declared.cmp.Ordering.{Ordering}
+use Rattle.ppq_heap.specs.ppq_record.Bag.{IsSameBag, without_front}
 use Rattle.ppq_extract.specs.ppq_budget.Sizes.{Numbers, fixed_of, batch_of, heap_of, blocks_for, room_of}
 use Rattle.ppq_extract.specs.ppq_outside.Shown.{Shown, AllTell}
-use Rattle.ppq_extract.specs.ppq_array.Kept.{SameSlots, HasFailed, all_writes}
+use Rattle.ppq_extract.specs.ppq_array.Kept.{SameSlots, HasFailed, AreQuiet, all_writes}
 use Rattle.ppq_extract.specs.ppq_array.declared.store_fault.StoreFault.{StoreFault}
 use Rattle.ppq_extract.specs.ppq_array.declared.store_fault.StoreFault.TheVariants.{NoFreeBlock, Device}
 use Rattle.ppq_queue.specs.declared.fault.OpenFault.{OpenFault}
@@ -11,8 +12,9 @@ use Rattle.ppq_queue.specs.declared.fault.OpenFault.TheVariants.{TooSmall, Memor
 
 -- The bag of its records, as far as its slots tell; how many records it counts; its sizes; the greatest size that it had or was to get
 -- by a push; all its slots, in some order, and how many of them are free; the number of the slot a call of which failed first, if any;
--- how many records its heaps have, how many the first of them, and how many its extract buffer; how many runs in blocks there are; how many buffers of a block each; and whether a
--- limit session was begun, which stores heaps that are not full
+-- how many records its heaps have, how many the first of them, and how many its extract buffer; how many runs in blocks there are, and
+-- how many of them a level has at the most; how many buffers of a block each, and how many of those of the pool no run has; and whether
+-- a limit session was begun, which stores heaps that are not full
 pub record Holding (R : Type 0) : Type 0 where
   pub bag : List R
   pub size : ℕ
@@ -25,7 +27,9 @@ pub record Holding (R : Type 0) : Type 0 where
   pub in_first : ℕ
   pub in_extract : ℕ
   pub runs : ℕ
+  pub crowd : ℕ
   pub buffers : ℕ
+  pub idle : ℕ
   pub limited : Bool
 
 -- the peak is above what one heap holds, unless a limit session was begun
@@ -65,29 +69,53 @@ latched (Err NoFreeBlock) failed = failed
 latched (Err (Device number)) failed = Some number
 
 module _ {R : Type 0} where
+  -- the queue with one record more in its first heap, and with these records; no slot and no run has changed
+  abbrev pub with_one : Holding R → List R → Holding R
+  with_one old bag = record old { bag = bag; size = old.size + 1; peak = max old.peak (old.size + 1); in_heap = old.in_heap + 1; in_first = old.in_first + 1 }
+
   -- the same records, and no call failed
   pub record SameRecords (old new : Holding R) : Type 0 where
+    pub quiet : AreQuiet old.slots new.slots
     pub bag : AllTell old.slots → IsSameBag new.bag old.bag
     pub size : new.size ≡ old.size
     pub sound : new.failed ≡ None
 
-  -- whatever is answered: as many records are counted, the slots stay, those that tell go on telling, and no write is forgotten; so stay peak,
-  -- sizes, and whether a limit session was begun
+  -- whatever is answered: its sizes stay, and whether a limit session was begun; the slots stay, those that tell go on telling, and no write is
+  -- forgotten
   pub record Keeps (old new : Holding R) : Type 0 where
-    pub size : new.size ≡ old.size
+    pub sizes : new.sizes ≡ old.sizes
+    pub limited : new.limited ≡ old.limited
     pub slots : SameSlots old.slots new.slots
     pub tells : AllTell old.slots → AllTell new.slots
     pub writes : all_writes old.slots ≤ all_writes new.slots
-    pub peak : new.peak ≡ old.peak
-    pub sizes : new.sizes ≡ old.sizes
-    pub limited : new.limited ≡ old.limited
 
-  -- No block was free: the bag is as it was, where slots tell. Fewer slots are free than a merge or a store may want; the device has fewer
+  -- the same; and as many records are counted, and the peak stays
+  pub record Stays (old new : Holding R) : Type 0 where
+    pub keeps : Keeps old new
+    pub size : new.size ≡ old.size
+    pub peak : new.peak ≡ old.peak
+
+  -- the queue has this record more; no call failed
+  pub record HasAdded (r : R) (old new : Holding R) : Type 0 where
+    pub bag : AllTell old.slots → IsSameBag new.bag (r ∷ old.bag)
+    pub size : new.size ≡ old.size + 1
+    pub sound : new.failed ≡ None
+    pub quiet : AreQuiet old.slots new.slots
+
+  -- the least record left the queue, if there was one; no call failed
+  pub record HasTaken (cmp : R → R → Ordering) (old new : Holding R) : Type 0 where
+    pub bag : AllTell old.slots → IsSameBag new.bag (without_front cmp old.bag 1)
+    pub size : new.size ≡ old.size - 1
+    pub sound : new.failed ≡ None
+    pub quiet : AreQuiet old.slots new.slots
+
+  -- No block was free: the bag is as it was, where slots tell, and no call failed. Fewer slots are free than a merge or a store may want; the device has fewer
   -- blocks than are enough for the peak; and the peak is above what one heap holds, unless a limit session was begun
   pub record FoundNoBlock (old new : Holding R) : Type 0 where
     pub bag : AllTell old.slots → IsSameBag new.bag old.bag
     pub size : new.size ≡ old.size
     pub sound : new.failed ≡ None
+    pub quiet : AreQuiet old.slots new.slots
     pub free : new.free < max (8 + new.sizes.workers) (blocks_for new.sizes new.size)
     pub room : new.sizes.blocks < room_of new.sizes new.peak
     pub above : IsAbove new.sizes new.peak new.limited

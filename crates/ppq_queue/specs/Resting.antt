@@ -1,5 +1,5 @@
 -- The runs of a queue between its calls.
-use Rattle.std.specs.Prelude.{◌≡◌, ◌↔◌, ◌⊎◌, ◌==◌, cond, ℕ, ◌+◌, ◌*◌, ◌<◌, ◌≤◌, List, [], ◌++◌, length, sum_by, flat_map, All, vec_capacity}
+use Rattle.std.specs.Prelude.{◌≡◌, ◌↔◌, ◌⊎◌, ◌==◌, cond, ℕ, zero, suc, ◌+◌, ◌*◌, ◌<◌, ◌≤◌, List, [], ◌++◌, length, max, sum_by, flat_map, All, vec_capacity}
 use Rattle.std.specs.declared.cmp.Ordering.{Ordering}
 use Rattle.ppq_heap.specs.ppq_record.Order.{Ascends}
 use Rattle.ppq_heap.specs.ppq_record.Bag.{IsSameBag}
@@ -10,11 +10,12 @@ use Rattle.ppq_extract.specs.ppq_array.Run.{Run, items_of, buffers_of}
 use Rattle.ppq_extract.specs.ppq_array.External.{External, size_of, records_in, IsPacked}
 use Rattle.ppq_extract.specs.ppq_array.Supply.{Stock}
 use Rattle.ppq_extract.specs.ppq_array.Owner.{HasBlock}
-use Rattle.ppq_extract.specs.ppq_array.Kept.{SameSlots, all_writes}
+use Rattle.ppq_extract.specs.ppq_array.Kept.{SameSlots, AreQuiet, all_writes}
 use Rattle.ppq_extract.specs.ppq_array.Holdings.{internal_items, internal_buffers, external_buffers, RunHasBlock, ArrayHasSize, CanTakeBack}
 use Rattle.ppq_extract.specs.ppq_fetch.Fetching.{IsFitting, fronts_in, count_in}
 use Rattle.ppq_extract.specs.ppq_fetch.Taking.{NoneAfter}
 use Rattle.ppq_spill.specs.Body.{body_slots, held_by}
+use Rattle.ppq_spill.specs.Leveling.{count_level}
 use Rattle.ppq_spill.specs.declared.body.PassBody.{PassBody}
 
 -- how many buffers the lanes of a queue have: fronts of runs, inputs of merges, and three for each worker
@@ -41,6 +42,14 @@ module _ {S R : Type 0} where
   -- 1 of a run in blocks that is odd: its records do not just fill its stored blocks, as they do where nothing is loaded and all are full
   abbrev pub odd_of : ℕ → External S R → ℕ
   odd_of block a = cond (size_of a == length a.stored * block) 0 1
+
+  -- how many runs in blocks of one level there are at the most, of the levels below this one, and of all
+  unfoldable pub crowd_below : ℕ → List (External S R) → ℕ
+  crowd_below zero arrays = 0
+  crowd_below (suc level) arrays = max (count_level level arrays) (crowd_below level arrays)
+
+  unfoldable pub crowd_of : List (External S R) → ℕ
+  crowd_of arrays = crowd_below 8 arrays
 
   -- how many runs in blocks are odd
   abbrev pub odd_in : ℕ → List (External S R) → ℕ
@@ -87,7 +96,7 @@ module _ {S R : Type 0} where
         pub internal : All (λ (run : Run R). Ascends cmp (items_of run)) body.runs.internal.items
         pub external : All (λ (a : External S R). Ascends cmp (records_in record_of width shown a)) body.runs.external.items
 
-      -- Each run rests, and where slots tell, it ascends. Buffers and slots are of one size, and the supply can take all back. As many buffers
+      -- Each run rests, and where slots tell, it ascends. Buffers and slots are of one size, and the supply can take all back. Just as many buffers
       -- are idle or loaded as the lanes have; no more are loaded than one for each run that has something loaded and one for each worker. At
       -- most 65 of the runs in blocks are odd, and at most 64 have something loaded
       pub record AtRest (sizes : Numbers) (body : PassBody S R) (stock : Stock) : Type 0 where
@@ -98,7 +107,7 @@ module _ {S R : Type 0} where
         pub takes_back : CanTakeBack shown stock body.runs.internal.items body.runs.external.items
         pub no_job : body.lanes.jobs.items ≡ []
         pub batch : length body.lanes.batch.items ≡ sizes.workers * stock.block
-        pub buffers : lane_buffers sizes ≤ length body.lanes.idle + external_buffers body.runs.external.items
+        pub buffers : length body.lanes.idle + external_buffers body.runs.external.items ≡ lane_buffers sizes
         pub held : internal_buffers body.runs.internal.items + external_buffers body.runs.external.items + length body.lanes.idle ≡ lane_buffers sizes + stock.buffer_room
         pub bounded : external_buffers body.runs.external.items ≤ fronts_in body.runs.external.items + sizes.workers
         pub fronts : fronts_in body.runs.external.items ≤ 64
@@ -110,9 +119,10 @@ module _ {S R : Type 0} where
         pub leaves : pool_of sizes < length body.tree.items
         pub rise : AllTell (slots_of body stock) → AllRise body
 
-      -- all runs rest, and hold what they held before, and these records more
+      -- all runs rest, and hold what they held before, and these records more; no call of a slot failed
       pub record Moved (sizes : Numbers) (added : List R) (old new : PassBody S R) (before now : Stock) : Type 0 where
         pub rest : AtRest sizes new now
+        pub quiet : AreQuiet (slots_of old before) (slots_of new now)
         pub bag : AllTell (slots_of old before) → IsSameBag (runs_bag record_of width new) (added ++ runs_bag record_of width old)
         pub count : count_of new ≡ length added + count_of old
 
@@ -129,6 +139,7 @@ module _ {S R : Type 0} where
       -- The extract buffer has the least records of what it and the runs held, in order, and is empty only if no run is left
       pub record Readied (sizes : Numbers) (extract extract' : List R) (old new : PassBody S R) (before now : Stock) : Type 0 where
         pub rest : AtRest sizes new now
+        pub quiet : AreQuiet (slots_of old before) (slots_of new now)
         pub bag : AllTell (slots_of old before) → IsSameBag (extract' ++ runs_bag record_of width new) (extract ++ runs_bag record_of width old)
         pub count : length extract' + count_of new ≡ length extract + count_of old
         pub ascends : AllTell (slots_of old before) → Ascends cmp extract'

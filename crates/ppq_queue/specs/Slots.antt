@@ -1,11 +1,8 @@
 -- The slots of a queue.
-use Rattle.std.specs.Prelude.{◌≡◌, ℕ, List, sum_by}
+use Rattle.std.specs.Prelude.{ℕ, List}
 use Rattle.ppq_extract.specs.ppq_outside.Shown.{Shown}
 use Rattle.ppq_extract.specs.ppq_array.Supply.{Stock}
-
--- the same slots as they are, in any order: they add up to the same, whatever is added
-abbrev pub SameSums : List Shown → List Shown → Type 0
-SameSums before now = (f : Shown → ℕ) → sum_by f before ≡ sum_by f now
+pub use Rattle.ppq_extract.specs.ppq_array.Kept.{SameSums}
 
 -- a supply with other slots
 abbrev pub with_slots : Stock → List Shown → ℕ → Stock

@@ -49,21 +49,25 @@ module _ {S R : Type 0} (shown : S → Shown) where
     pub workers : sources.bench.workers ≡ sizes.workers
     pub serves : ServesFor (pool_of sizes + 65) sources
 
+-- a body with no runs, for a queue whose pool has so many buffers, and the buffers of its lanes
+pub record IsBareBody {S R : Type 0} (sizes : Numbers) (pool : ℕ) (body : PassBody S R) : Type 0 where
+  pub no_internal : body.runs.internal.items ≡ []
+  pub no_external : body.runs.external.items ≡ []
+  pub internal_room : pool < vec_capacity body.runs.internal
+  pub external_room : sizes.blocks + 66 ≤ vec_capacity body.runs.external
+  pub idle : length body.lanes.idle ≡ lane_buffers sizes
+  pub blocks : All (λ b. b ≡ holding sizes.block []) body.lanes.idle
+  pub no_job : body.lanes.jobs.items ≡ []
+  pub batch : length body.lanes.batch.items ≡ batch_of sizes
+  pub leaves : length body.tree.items ≡ pool + 1
+
 -- the parts of a new queue
 pub record AreNewParts {S R : Type 0} (sizes : Numbers) (parts : Parts S R) : Type 0 where
   pub same_sizes : parts.store.sizes ≡ sizes
   pub no_record : items_of parts.heaps ≡ []
   pub cap : parts.heaps.cap ≡ heap_of sizes
   pub shares : length parts.heaps.heaps ≡ sizes.workers
-  pub no_internal : parts.store.body.runs.internal.items ≡ []
-  pub no_external : parts.store.body.runs.external.items ≡ []
-  pub internal_room : pool_of sizes < vec_capacity parts.store.body.runs.internal
-  pub external_room : sizes.blocks + 66 ≤ vec_capacity parts.store.body.runs.external
-  pub idle : length parts.store.body.lanes.idle ≡ lane_buffers sizes
-  pub blocks : All (λ b. b ≡ holding sizes.block []) parts.store.body.lanes.idle
-  pub no_job : parts.store.body.lanes.jobs.items ≡ []
-  pub batch : length parts.store.body.lanes.batch.items ≡ batch_of sizes
-  pub leaves : length parts.store.body.tree.items ≡ pool_of sizes + 1
+  pub body : IsBareBody sizes (pool_of sizes) parts.store.body
   pub extract : parts.store.extract ≡ held [] (batch_of sizes)
   pub workers : parts.store.sources.bench.workers ≡ sizes.workers
   pub serves : ServesFor (pool_of sizes + 65) parts.store.sources

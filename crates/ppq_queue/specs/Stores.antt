@@ -7,7 +7,7 @@ use Rattle.ppq_heap.specs.Heaps.{Shares, ChangesOnly, items_of}
 use Rattle.ppq_extract.specs.ppq_outside.Shown.{Shown, AllTell}
 use Rattle.ppq_extract.specs.ppq_budget.Sizes.{Numbers, AreInRange, fixed_of, batch_of, pool_of}
 use Rattle.ppq_extract.specs.ppq_array.Supply.{Stock}
-use Rattle.ppq_extract.specs.ppq_array.Kept.{HasFailed}
+use Rattle.ppq_extract.specs.ppq_array.Kept.{HasFailed, AreQuiet}
 use Rattle.ppq_extract.specs.ppq_array.declared.store_fault.StoreFault.{StoreFault}
 use Rattle.ppq_extract.specs.ppq_array.declared.store_fault.StoreFault.TheVariants.{NoFreeBlock, Device}
 use Rattle.ppq_extract.specs.ppq_fetch.Taking.{NoneAfter}
@@ -62,6 +62,11 @@ module _ {S R : Type 0} (shown : S → Shown) where
     pub kept : StoreKept old new
     pub extract : length new.extract.items ≤ length old.extract.items
 
+  -- whatever a merge of levels answers: the same, and the runs in buffers are as they were
+  pub record LevelsStay (old new : Store S R) : Type 0 where
+    pub stays : StoreStays old new
+    pub internal : new.body.runs.internal ≡ old.body.runs.internal
+
   -- a call of the slot with this number failed, and no other refusal comes
   abbrev pub FailsAlone : Store S R → StoreFault → Type 0
   FailsAlone new NoFreeBlock = ⊥
@@ -95,9 +100,10 @@ module _ {S R : Type 0} (shown : S → Shown) where
     abbrev pub whole_bag : List R → Store S R → List R
     whole_bag heap store = heap ++ store.extract.items ++ runs_bag shown record_of width store.body
 
-    -- heaps and store hold together what they held, and the store may work on
+    -- heaps and store hold together what they held, no call of a slot failed, and the store may work on
     pub record Holds (heap heap' : List R) (old new : Store S R) : Type 0 where
       pub works : MayWork new
+      pub quiet : AreQuiet (slots_in old) (slots_in new)
       pub bag : AllTell (slots_in old) → IsSameBag (whole_bag heap' new) (whole_bag heap old)
       pub count : length heap' + stored new ≡ length heap + stored old
 

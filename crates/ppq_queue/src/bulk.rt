@@ -9,6 +9,7 @@ ghost use Rattle.ppq_queue.specs.Bulk as spec;
 
 use crate::choice::goes_first;
 use crate::store::Store;
+use crate::wanted::Wanted;
 use crate::{Out, QueueFault};
 use ppq_extract::{Extract, Gate, Host, Slot, StoreFault};
 use ppq_heap::{Heaps, Record, record_laws};
@@ -22,8 +23,7 @@ impl<S: Slot + Send + Sync, R: Record + Send + Sync> Store<S, R> {
         &mut self,
         rt: &H,
         heaps: &mut Heaps<R>,
-        limit: Option<R>,
-        most: u32,
+        wanted: &Wanted<R>,
         out: &mut Out<R>,
         gate: &G,
     ) -> Result<(), QueueFault>
@@ -31,28 +31,28 @@ impl<S: Slot + Send + Sync, R: Record + Send + Sync> Store<S, R> {
         H::Dir: Send,
         requires works { MayWork S.shown R.Ord.cmp R.record_of R.WIDTH self.old }
         requires none { out.old.items ≡ [] }
-        requires most { most ≤ out.old.room }
+        requires most { wanted.now.most ≤ out.old.room }
         ensures kept { StoreKept S.shown self.old self.new }
         ensures heaps { HeapsStay heaps.old heaps.new }
         ensures list_room { out.new.room ≡ out.old.room }
-        ensures took { OnOk result (TookAll S.shown R.Ord.cmp R.record_of R.WIDTH limit most (items_of heaps.old) (items_of heaps.new) self.old self.new out.new.items) }
+        ensures took { OnOk result (TookAll S.shown R.Ord.cmp R.record_of R.WIDTH wanted.now.limit wanted.now.most (items_of heaps.old) (items_of heaps.new) self.old self.new out.new.items) }
         ensures same_heaps { IsErrOf result StoreFault.NoFreeBlock → heaps.new ≡ heaps.old }
         ensures refused { IfErr result (Refuses S.shown R.Ord.cmp R.record_of R.WIDTH [] [] self.old self.new) }
     {
         record_laws::<R>();
-        if self.wants_nothing(limit, most) {
+        if self.wants_nothing(wanted) {
             return Ok(());
         }
         self.settle_some(rt, gate)?;
-        self.gather(rt, heaps, limit, most, out, gate)
+        self.gather(rt, heaps, wanted, out, gate)
     }
 
     // Whether no record is wanted, and no look at what is left that is not to be had already.
-    fn wants_nothing(&self, limit: Option<R>, most: u32) -> bool
-        ensures none { result ≡ true → most ≡ 0 }
-        ensures ready { result ≡ true → (l : R) → limit ≡ Some l → self.now.extract.items ≡ [] → ⊥ }
+    fn wants_nothing(&self, wanted: &Wanted<R>) -> bool
+        ensures none { result ≡ true → wanted.now.most ≡ 0 }
+        ensures ready { result ≡ true → (l : R) → wanted.now.limit ≡ Some l → self.now.extract.items ≡ [] → ⊥ }
     {
-        most == 0 && (limit.is_none() || !self.extract.is_empty())
+        wanted.most == 0 && (wanted.limit.is_none() || !self.extract.is_empty())
     }
 
     // Takes the least records of heaps and the store into an empty list.
@@ -60,8 +60,7 @@ impl<S: Slot + Send + Sync, R: Record + Send + Sync> Store<S, R> {
         &mut self,
         rt: &H,
         heaps: &mut Heaps<R>,
-        limit: Option<R>,
-        most: u32,
+        wanted: &Wanted<R>,
         out: &mut Out<R>,
         gate: &G,
     ) -> Result<(), QueueFault>
@@ -70,36 +69,50 @@ impl<S: Slot + Send + Sync, R: Record + Send + Sync> Store<S, R> {
         requires works { MayWork S.shown R.Ord.cmp R.record_of R.WIDTH self.old }
         requires few { length self.old.body.runs.external.items ≤ 64 }
         requires none { out.old.items ≡ [] }
-        requires most { most ≤ out.old.room }
+        requires most { wanted.now.most ≤ out.old.room }
         ensures kept { StoreKept S.shown self.old self.new }
         ensures heaps { HeapsStay heaps.old heaps.new }
         ensures list_room { out.new.room ≡ out.old.room }
-        ensures took { OnOk result (TookAll S.shown R.Ord.cmp R.record_of R.WIDTH limit most (items_of heaps.old) (items_of heaps.new) self.old self.new out.new.items) }
+        ensures took { OnOk result (TookAll S.shown R.Ord.cmp R.record_of R.WIDTH wanted.now.limit wanted.now.most (items_of heaps.old) (items_of heaps.new) self.old self.new out.new.items) }
         ensures failed { IfErr result (FailsAlone S.shown self.new) }
     {
         record_laws::<R>();
         let first = self.has_run();
-        merge(heaps, &mut self.extract, first, limit, most, out);
-        'refilling: while self.wants_refill(limit, most, out) {
+        merge(
+            heaps,
+            &mut self.extract,
+            first,
+            wanted.limit,
+            wanted.most,
+            out,
+        );
+        'refilling: while self.wants_refill(wanted, out) {
             self.refill(rt, gate)?;
             let more = self.has_run();
-            merge(heaps, &mut self.extract, more, limit, most, out);
+            merge(
+                heaps,
+                &mut self.extract,
+                more,
+                wanted.limit,
+                wanted.most,
+                out,
+            );
         }
         Ok(())
     }
 
     // Whether the extract buffer is to be refilled: it is empty, there is a run, and the list is not full or
     // a look at what is left is wanted.
-    fn wants_refill(&self, limit: Option<R>, most: u32, out: &Out<R>) -> bool
+    fn wants_refill(&self, wanted: &Wanted<R>, out: &Out<R>) -> bool
         requires { MayWork S.shown R.Ord.cmp R.record_of R.WIDTH self.now }
         ensures empty { result ≡ true → self.now.extract.items ≡ [] }
         ensures some { result ≡ true → 0 < count_of self.now.body }
-        ensures ready { result ≡ false → self.now.extract.items ≡ [] → (count_of self.now.body ≡ 0) ⊎ ((limit ≡ None) × (most ≤ length out.now.items)) }
+        ensures ready { result ≡ false → self.now.extract.items ≡ [] → (count_of self.now.body ≡ 0) ⊎ ((wanted.now.limit ≡ None) × (wanted.now.most ≤ length out.now.items)) }
     {
         if !self.extract.is_empty() || !self.has_run() {
             return false;
         }
-        limit.is_some() || out.len() < most
+        wanted.limit.is_some() || out.len() < wanted.most
     }
 }
 

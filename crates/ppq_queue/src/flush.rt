@@ -1,5 +1,5 @@
 //! A heap and the rest of an extract buffer that are stored as runs.
-ghost use Rattle.std.specs.Prelude.{◌≡◌, ◌⊎◌, ◌≤◌, ◌<◌, ◌*◌, [], length, false, IsTrue, OnOk, IfErr};
+ghost use Rattle.std.specs.Prelude.{◌≡◌, ◌⊎◌, ◌≤◌, ◌<◌, ◌*◌, [], length, true, false, IsTrue, OnOk, IfErr};
 ghost use Rattle.ppq_extract.specs.ppq_budget.Sizes.{pool_of};
 ghost use Rattle.ppq_heap.specs.Heaps.{items_of, share_at};
 ghost use Rattle.ppq_spill.specs.Storing.{in_buffers};
@@ -60,6 +60,7 @@ impl<S: Slot + Send + Sync, R: Record + Send + Sync> Store<S, R> {
         requires works { MayWork S.shown R.Ord.cmp R.record_of R.WIDTH self.old }
         ensures stays { StoreStays S.shown self.old self.new }
         ensures emptied { OnOk result (Empties S.shown R.Ord.cmp R.record_of R.WIDTH [] [] self.old self.new) }
+        ensures merged { merges ≡ true → OnOk result (pool_of self.new.sizes ≤ 2 * self.new.supply.sure_buffers) }
         ensures refused { IfErr result (Refuses S.shown R.Ord.cmp R.record_of R.WIDTH [] [] self.old self.new) }
     {
         self.store_extract(rt, gate)?;
@@ -78,6 +79,7 @@ impl<S: Slot + Send + Sync, R: Record + Send + Sync> Store<S, R> {
         requires few { length self.old.body.runs.external.items ≤ 64 }
         ensures stays { StoreStays S.shown self.old self.new }
         ensures settled { OnOk result (Settles S.shown R.Ord.cmp R.record_of R.WIDTH [] [] self.old self.new) }
+        ensures idle { OnOk result (pool_of self.new.sizes ≤ 2 * self.new.supply.sure_buffers) }
         ensures refused { IfErr result (Refuses S.shown R.Ord.cmp R.record_of R.WIDTH [] [] self.old self.new) }
     {
         if !self.are_few_idle() {

@@ -24,6 +24,7 @@ mod queue_parts;
 mod refill;
 mod settle;
 mod store;
+mod wanted;
 
 pub use fault::OpenFault;
 pub use limit_end::LimitEnd;

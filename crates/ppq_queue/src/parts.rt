@@ -1,8 +1,7 @@
 //! The parts of a queue that take memory once.
-ghost use Rattle.std.specs.Prelude.{◌≡◌, ◌≤◌, ◌<◌, ◌+◌, ◌*◌, [], length, All, IfOk, vec_capacity};
-ghost use Rattle.ppq_extract.specs.ppq_block.Block.{holding};
-ghost use Rattle.ppq_extract.specs.ppq_budget.Sizes.{fixed_of, batch_of, pool_of};
-ghost use Rattle.ppq_queue.specs.State.{AreNewParts};
+ghost use Rattle.std.specs.Prelude.{◌≡◌, ◌≤◌, IfOk};
+ghost use Rattle.ppq_extract.specs.ppq_budget.Sizes.{fixed_of, pool_of};
+ghost use Rattle.ppq_queue.specs.State.{AreNewParts, IsBareBody};
 
 use crate::berths::make_buffers;
 use crate::store::Store;
@@ -52,15 +51,7 @@ fn new_body<S: Slot, R: Record>(
     buffers: u32,
 ) -> Result<PassBody<S, R>, Memory>
     requires { buffers ≤ 65536 }
-    ensures no_internal { IfOk result (λ body. body.runs.internal.items ≡ []) }
-    ensures no_external { IfOk result (λ body. body.runs.external.items ≡ []) }
-    ensures internal_room { IfOk result (λ body. buffers < vec_capacity body.runs.internal) }
-    ensures external_room { IfOk result (λ body. sizes.now.blocks + 66 ≤ vec_capacity body.runs.external) }
-    ensures idle { IfOk result (λ body. length body.lanes.idle ≡ 72 + 3 * sizes.now.workers) }
-    ensures blocks { IfOk result (λ body. All (λ b. b ≡ holding sizes.now.block []) body.lanes.idle) }
-    ensures no_job { IfOk result (λ body. body.lanes.jobs.items ≡ []) }
-    ensures batch { IfOk result (λ body. length body.lanes.batch.items ≡ batch_of sizes.now) }
-    ensures leaves { IfOk result (λ body. length body.tree.items ≡ buffers + 1) }
+    ensures { IfOk result (IsBareBody sizes.now buffers) }
 {
     let workers = sizes.workers();
     let runs = Runs::new(alloc, buffers + 1, sizes.blocks() + 66)?;

@@ -1,13 +1,13 @@
 //! The queue.
-ghost use Rattle.std.specs.Prelude.{◌≡◌, ◌≤◌, ◌<◌, ◌+◌, ◌-◌, ◌*◌, ◌↔◌, ◌∷◌, [], ℕ, length, map, All, Some, None, IsNone, Err, IfOk, IfErr, OnOk, OnErr, max, min, true, false};
+ghost use Rattle.std.specs.Prelude.{◌≡◌, ◌≤◌, ◌<◌, ◌+◌, ◌-◌, ◌*◌, ◌↔◌, ◌∷◌, [], ℕ, length, map, All, Some, None, IsNone, IsOk, Err, IsErrOf, IfOk, IfErr, OnOk, OnErr, max, min, true, false};
 ghost use Rattle.ppq_heap.specs.ppq_record.Bag.{IsSameBag, least, front, without_front, size_below};
-ghost use Rattle.ppq_extract.specs.ppq_budget.Sizes.{AreInRange, fixed_of, heap_of, heaps_of, batch_of};
+ghost use Rattle.ppq_extract.specs.ppq_budget.Sizes.{AreInRange, fixed_of, heap_of, heaps_of, batch_of, pool_of};
 ghost use Rattle.ppq_extract.specs.ppq_outside.Shown.{AllTell};
-ghost use Rattle.ppq_extract.specs.ppq_array.Kept.{SameSlots, HasFailed, all_writes};
-ghost use Rattle.ppq_extract.specs.ppq_array.declared.store_fault.StoreFault.TheVariants.{Device};
+ghost use Rattle.ppq_extract.specs.ppq_array.Kept.{SameSlots, SameSums, HasFailed, AreQuiet, all_writes};
+ghost use Rattle.ppq_extract.specs.ppq_array.declared.store_fault.StoreFault.TheVariants.{NoFreeBlock, Device};
 ghost use Rattle.ppq_queue.specs.Bulk.{IsEnd, TookFront};
 ghost use Rattle.ppq_queue.specs.Handed.{holding_of, IsWhole};
-ghost use Rattle.ppq_queue.specs.Holding.{resident_of, NamesNeed, AreNewSlots, IsRefusal, Keeps, SameRecords};
+ghost use Rattle.ppq_queue.specs.Holding.{resident_of, with_one, IsAbove, NamesNeed, AreNewSlots, IsRefusal, Keeps, Stays, SameRecords, HasAdded, HasTaken};
 
 use crate::berths::{berth_slots, give_back};
 use crate::bulk::{empty_on_error, keep_below};
@@ -15,6 +15,7 @@ use crate::choice::goes_first;
 use crate::latch::latch;
 use crate::parts::Parts;
 use crate::store::Store;
+use crate::wanted::Wanted;
 use crate::{LimitEnd, OpenFault, Out, QueueFault, QueueParts};
 use ppq_extract::{Gate, Host, Sizes, Slot, Supply};
 use ppq_heap::{Heaps, Record, record_laws};
@@ -106,8 +107,9 @@ impl<S: Slot + Send + Sync, R: Record + Send + Sync> Queue<S, R> {
         })
     }
 
-    /// Adds a record. It costs one sift into the first heap; where that is full, the rest of the extract
-    /// buffer and the sorted heap are stored as runs first, and levels of runs are merged.
+    /// Adds a record. It costs one sift into the first heap, and while that has room nothing else is touched
+    /// and no `NoFreeBlock` comes; where it is full, the rest of the extract buffer and the sorted heap are
+    /// stored as runs first, and levels of runs are merged.
     ///
     /// Each refusal hands the record back. `NoFreeBlock`: the bag is as it was; the device has fewer blocks
     /// than are enough for the peak, and the peak is above what a heap holds, unless a limit session was
@@ -116,19 +118,14 @@ impl<S: Slot + Send + Sync, R: Record + Send + Sync> Queue<S, R> {
     pub fn push<H: Host, G: Gate>(&mut self, rt: &H, r: R, gate: &G) -> Result<(), (R, QueueFault)>
     where
         H::Dir: Send,
-        ensures added { OnOk result (AllTell self.old.slots → IsSameBag self.new.bag (r ∷ self.old.bag)) }
-        ensures size { OnOk result (self.new.size ≡ self.old.size + 1) }
-        ensures sound { OnOk result (self.new.failed ≡ None) }
+        ensures added { OnOk result (HasAdded r self.old self.new) }
+        ensures easy { self.old.failed ≡ None → self.old.in_first < heap_of self.old.sizes → IsOk result × (self.new ≡ with_one self.old self.new.bag) }
         ensures back { IfErr result (λ refused. refused.0 ≡ r) }
         ensures same_size { OnErr result (self.new.size ≡ self.old.size) }
         ensures refused { IfErr result (λ refused. IsRefusal self.old self.new refused.1) }
         ensures latched { (number : ℕ) → self.old.failed ≡ Some number → (result ≡ Err (r, Device number)) × (self.new ≡ record self.old { peak = self.new.peak }) }
-        ensures slots { SameSlots self.old.slots self.new.slots }
-        ensures tells { AllTell self.old.slots → AllTell self.new.slots }
-        ensures writes { all_writes self.old.slots ≤ all_writes self.new.slots }
         ensures peak { self.new.peak ≡ max self.old.peak (self.old.size + 1) }
-        ensures sizes { self.new.sizes ≡ self.old.sizes }
-        ensures limited { self.new.limited ≡ self.old.limited }
+        ensures keeps { Keeps self.old self.new }
     {
         self.raise_peak();
         if let Some(number) = self.failed {
@@ -151,8 +148,9 @@ impl<S: Slot + Send + Sync, R: Record + Send + Sync> Queue<S, R> {
         requires peak { self.old.size < self.old.peak }
         ensures same { OnOk result (SameRecords self.old self.new) }
         ensures room { OnOk result (self.new.in_first < heap_of self.new.sizes) }
+        ensures easy { self.old.in_first < heap_of self.old.sizes → IsOk result × (self.new ≡ self.old) }
         ensures refused { IfErr result (IsRefusal self.old self.new) }
-        ensures keeps { Keeps self.old self.new }
+        ensures stays { Stays self.old self.new }
     {
         self.heaps.known();
         if !self.heaps.is_full() {
@@ -174,7 +172,7 @@ impl<S: Slot + Send + Sync, R: Record + Send + Sync> Queue<S, R> {
         requires room { self.old.in_first < heap_of self.old.sizes }
         requires peak { self.old.size < self.old.peak }
         ensures added { IsSameBag self.new.bag (r ∷ self.old.bag) }
-        ensures rest { self.new ≡ record self.old { bag = self.new.bag; size = self.old.size + 1; in_heap = self.new.in_heap; in_first = self.new.in_first } }
+        ensures rest { self.new ≡ record self.old { bag = self.new.bag; size = self.old.size + 1; in_heap = self.old.in_heap + 1; in_first = self.old.in_first + 1 } }
     {
         // There is room, so the heap takes it.
         // The first heap has room, so no record comes back.
@@ -183,17 +181,16 @@ impl<S: Slot + Send + Sync, R: Record + Send + Sync> Queue<S, R> {
         self.count += 1;
     }
 
-    // Stores the rest of the extract buffer and the first heap, which is full.
+    // Stores the rest of the extract buffer and the first heap.
     fn flush<H: Host, G: Gate>(&mut self, rt: &H, gate: &G) -> Result<(), QueueFault>
     where
         H::Dir: Send,
         requires sound { self.old.failed ≡ None }
-        requires full { self.old.in_first ≡ heap_of self.old.sizes }
-        requires peak { heap_of self.old.sizes < self.old.peak }
+        requires above { IsAbove self.old.sizes self.old.peak self.old.limited }
         ensures same { OnOk result (SameRecords self.old self.new) }
         ensures emptied { OnOk result (self.new.in_first ≡ 0) }
         ensures refused { IfErr result (IsRefusal self.old self.new) }
-        ensures keeps { Keeps self.old self.new }
+        ensures stays { Stays self.old self.new }
     {
         let answer = self.store.flush_all(rt, &mut self.heaps, gate);
         latch(&mut self.failed, answer);
@@ -208,7 +205,7 @@ impl<S: Slot + Send + Sync, R: Record + Send + Sync> Queue<S, R> {
         ensures some { OnOk result (self.new.in_extract ≡ 0 → self.new.size ≡ self.new.in_heap) }
         ensures refused { IfErr result (IsRefusal self.old self.new) }
         ensures latched { (number : ℕ) → self.old.failed ≡ Some number → (result ≡ Err (Device number)) × (self.new ≡ self.old) }
-        ensures keeps { Keeps self.old self.new }
+        ensures stays { Stays self.old self.new }
     {
         if let Some(number) = self.failed {
             return Err(QueueFault::Device { number });
@@ -260,17 +257,10 @@ impl<S: Slot + Send + Sync, R: Record + Send + Sync> Queue<S, R> {
         H::Dir: Send,
         ensures answer { IfOk result (λ answer. AllTell self.old.slots → answer ≡ least R.Ord.cmp self.old.bag) }
         ensures none { IfOk result (λ answer. IsNone answer ↔ (self.old.size ≡ 0)) }
-        ensures bag { OnOk result (AllTell self.old.slots → IsSameBag self.new.bag self.old.bag) }
-        ensures size { self.new.size ≡ self.old.size }
-        ensures sound { OnOk result (self.new.failed ≡ None) }
+        ensures same { OnOk result (SameRecords self.old self.new) }
         ensures refused { IfErr result (IsRefusal self.old self.new) }
         ensures latched { (number : ℕ) → self.old.failed ≡ Some number → (result ≡ Err (Device number)) × (self.new ≡ self.old) }
-        ensures slots { SameSlots self.old.slots self.new.slots }
-        ensures tells { AllTell self.old.slots → AllTell self.new.slots }
-        ensures writes { all_writes self.old.slots ≤ all_writes self.new.slots }
-        ensures peak { self.new.peak ≡ self.old.peak }
-        ensures sizes { self.new.sizes ≡ self.old.sizes }
-        ensures limited { self.new.limited ≡ self.old.limited }
+        ensures stays { Stays self.old self.new }
     {
         record_laws::<R>();
         self.ready(rt, gate)?;
@@ -287,18 +277,12 @@ impl<S: Slot + Send + Sync, R: Record + Send + Sync> Queue<S, R> {
         H::Dir: Send,
         ensures answer { IfOk result (λ answer. AllTell self.old.slots → answer ≡ least R.Ord.cmp self.old.bag) }
         ensures none { IfOk result (λ answer. IsNone answer ↔ (self.old.size ≡ 0)) }
-        ensures rest { OnOk result (AllTell self.old.slots → IsSameBag self.new.bag (without_front R.Ord.cmp self.old.bag 1)) }
-        ensures size { OnOk result (self.new.size ≡ self.old.size - 1) }
+        ensures taken { OnOk result (HasTaken R.Ord.cmp self.old self.new) }
         ensures same_size { OnErr result (self.new.size ≡ self.old.size) }
-        ensures sound { OnOk result (self.new.failed ≡ None) }
         ensures refused { IfErr result (IsRefusal self.old self.new) }
         ensures latched { (number : ℕ) → self.old.failed ≡ Some number → (result ≡ Err (Device number)) × (self.new ≡ self.old) }
-        ensures slots { SameSlots self.old.slots self.new.slots }
-        ensures tells { AllTell self.old.slots → AllTell self.new.slots }
-        ensures writes { all_writes self.old.slots ≤ all_writes self.new.slots }
         ensures peak { self.new.peak ≡ self.old.peak }
-        ensures sizes { self.new.sizes ≡ self.old.sizes }
-        ensures limited { self.new.limited ≡ self.old.limited }
+        ensures keeps { Keeps self.old self.new }
     {
         record_laws::<R>();
         self.ready(rt, gate)?;
@@ -330,14 +314,11 @@ impl<S: Slot + Send + Sync, R: Record + Send + Sync> Queue<S, R> {
         ensures emptied { OnErr result (out.new.items ≡ []) }
         ensures list_room { out.new.room ≡ out.old.room }
         ensures sound { OnOk result (self.new.failed ≡ None) }
+        ensures quiet { OnOk result (AreQuiet self.old.slots self.new.slots) }
         ensures refused { IfErr result (IsRefusal self.old self.new) }
         ensures latched { (number : ℕ) → self.old.failed ≡ Some number → (result ≡ Err (Device number)) × (self.new ≡ self.old) }
-        ensures slots { SameSlots self.old.slots self.new.slots }
-        ensures tells { AllTell self.old.slots → AllTell self.new.slots }
-        ensures writes { all_writes self.old.slots ≤ all_writes self.new.slots }
         ensures peak { self.new.peak ≡ self.old.peak }
-        ensures sizes { self.new.sizes ≡ self.old.sizes }
-        ensures limited { self.new.limited ≡ self.old.limited }
+        ensures keeps { Keeps self.old self.new }
     {
         record_laws::<R>();
         let most = k.min(u64::from(out.room())) as u32;
@@ -371,14 +352,11 @@ impl<S: Slot + Send + Sync, R: Record + Send + Sync> Queue<S, R> {
         ensures emptied { OnErr result (out.new.items ≡ []) }
         ensures list_room { out.new.room ≡ out.old.room }
         ensures sound { OnOk result (self.new.failed ≡ None) }
+        ensures quiet { OnOk result (AreQuiet self.old.slots self.new.slots) }
         ensures refused { IfErr result (IsRefusal self.old self.new) }
         ensures latched { (number : ℕ) → self.old.failed ≡ Some number → (result ≡ Err (Device number)) × (self.new ≡ self.old) }
-        ensures slots { SameSlots self.old.slots self.new.slots }
-        ensures tells { AllTell self.old.slots → AllTell self.new.slots }
-        ensures writes { all_writes self.old.slots ≤ all_writes self.new.slots }
         ensures peak { self.new.peak ≡ self.old.peak }
-        ensures sizes { self.new.sizes ≡ self.old.sizes }
-        ensures limited { self.new.limited ≡ self.old.limited }
+        ensures keeps { Keeps self.old self.new }
     {
         record_laws::<R>();
         let room = u64::from(out.room());
@@ -411,16 +389,17 @@ impl<S: Slot + Send + Sync, R: Record + Send + Sync> Queue<S, R> {
         ensures list_room { out.new.room ≡ out.old.room }
         ensures refused { IfErr result (IsRefusal self.old self.new) }
         ensures latched { (number : ℕ) → self.old.failed ≡ Some number → (result ≡ Err (Device number)) × (self.new ≡ self.old) }
-        ensures keeps { Keeps (record self.old { size = self.old.size - length out.new.items }) self.new }
+        ensures size { self.new.size ≡ self.old.size - length out.new.items }
+        ensures peak { self.new.peak ≡ self.old.peak }
+        ensures keeps { Keeps self.old self.new }
     {
         record_laws::<R>();
         out.clear();
         if let Some(number) = self.failed {
             return Err(QueueFault::Device { number });
         }
-        let answer = self
-            .store
-            .take_out(rt, &mut self.heaps, limit, most, out, gate);
+        let wanted = Wanted { limit, most };
+        let answer = self.store.take_out(rt, &mut self.heaps, &wanted, out, gate);
         empty_on_error(answer, out);
         self.count = self.count.saturating_sub(u64::from(out.len()));
         latch(&mut self.failed, answer);
@@ -444,22 +423,16 @@ impl<S: Slot + Send + Sync, R: Record + Send + Sync> Queue<S, R> {
     /// Merges levels of runs in blocks until none of the 8 levels has more than 8. A session ends with it:
     /// the runs that its passes stored came without one.
     ///
-    /// `NoFreeBlock` and `Device` come as from `push`.
+    /// `NoFreeBlock` and `Device` come as from `push`; the former only while a level has more than 8 still.
     pub fn settle<H: Host, G: Gate>(&mut self, rt: &H, gate: &G) -> Result<(), QueueFault>
     where
         H::Dir: Send,
-        ensures bag { OnOk result (AllTell self.old.slots → IsSameBag self.new.bag self.old.bag) }
+        ensures same { OnOk result (SameRecords self.old self.new) }
         ensures settled { OnOk result (self.new.runs ≤ 64) }
-        ensures sound { OnOk result (self.new.failed ≡ None) }
+        ensures crowded { IsErrOf result NoFreeBlock → 8 < self.new.crowd }
         ensures refused { IfErr result (IsRefusal self.old self.new) }
         ensures latched { (number : ℕ) → self.old.failed ≡ Some number → (result ≡ Err (Device number)) × (self.new ≡ self.old) }
-        ensures size { self.new.size ≡ self.old.size }
-        ensures slots { SameSlots self.old.slots self.new.slots }
-        ensures tells { AllTell self.old.slots → AllTell self.new.slots }
-        ensures writes { all_writes self.old.slots ≤ all_writes self.new.slots }
-        ensures peak { self.new.peak ≡ self.old.peak }
-        ensures sizes { self.new.sizes ≡ self.old.sizes }
-        ensures limited { self.new.limited ≡ self.old.limited }
+        ensures stays { Stays self.old self.new }
     {
         if let Some(number) = self.failed {
             return Err(QueueFault::Device { number });
@@ -472,7 +445,7 @@ impl<S: Slot + Send + Sync, R: Record + Send + Sync> Queue<S, R> {
     /// Makes the queue ready for a session: the rest of the extract buffer is stored as a run, and levels of
     /// runs are merged before and after. The heaps stay as they are. If `merges`, and fewer than half of the
     /// pool's buffers are idle then, all runs in buffers are merged into one run in blocks, and levels of runs
-    /// again, so that the passes have buffers.
+    /// again, so that the passes have buffers: half of the pool is idle afterwards.
     ///
     /// `NoFreeBlock` and `Device` come as from `push`.
     pub fn begin_session<H: Host, G: Gate>(
@@ -483,20 +456,15 @@ impl<S: Slot + Send + Sync, R: Record + Send + Sync> Queue<S, R> {
     ) -> Result<(), QueueFault>
     where
         H::Dir: Send,
-        ensures bag { OnOk result (AllTell self.old.slots → IsSameBag self.new.bag self.old.bag) }
+        ensures same { OnOk result (SameRecords self.old self.new) }
         ensures emptied { OnOk result (self.new.in_extract ≡ 0) }
         ensures heaps { self.new.in_heap ≡ self.old.in_heap }
+        ensures first { self.new.in_first ≡ self.old.in_first }
         ensures settled { OnOk result (self.new.runs ≤ 64) }
-        ensures sound { OnOk result (self.new.failed ≡ None) }
+        ensures merged { merges ≡ true → OnOk result (pool_of self.new.sizes ≤ 2 * self.new.idle) }
         ensures refused { IfErr result (IsRefusal self.old self.new) }
         ensures latched { (number : ℕ) → self.old.failed ≡ Some number → (result ≡ Err (Device number)) × (self.new ≡ self.old) }
-        ensures size { self.new.size ≡ self.old.size }
-        ensures slots { SameSlots self.old.slots self.new.slots }
-        ensures tells { AllTell self.old.slots → AllTell self.new.slots }
-        ensures writes { all_writes self.old.slots ≤ all_writes self.new.slots }
-        ensures peak { self.new.peak ≡ self.old.peak }
-        ensures sizes { self.new.sizes ≡ self.old.sizes }
-        ensures limited { self.new.limited ≡ self.old.limited }
+        ensures stays { Stays self.old self.new }
     {
         if let Some(number) = self.failed {
             return Err(QueueFault::Device { number });
@@ -514,20 +482,13 @@ impl<S: Slot + Send + Sync, R: Record + Send + Sync> Queue<S, R> {
     pub fn store_heaps<H: Host, G: Gate>(&mut self, rt: &H, gate: &G) -> Result<(), QueueFault>
     where
         H::Dir: Send,
-        ensures bag { OnOk result (AllTell self.old.slots → IsSameBag self.new.bag self.old.bag) }
+        ensures same { OnOk result (SameRecords self.old self.new) }
         ensures emptied { OnOk result (self.new.in_extract ≡ 0) }
         ensures heaps { OnOk result (self.new.in_heap ≡ 0) }
         ensures settled { OnOk result (self.new.runs ≤ 64) }
-        ensures sound { OnOk result (self.new.failed ≡ None) }
         ensures refused { IfErr result (IsRefusal self.old self.new) }
         ensures latched { (number : ℕ) → self.old.failed ≡ Some number → (result ≡ Err (Device number)) × (self.new ≡ record self.old { limited = true }) }
-        ensures size { self.new.size ≡ self.old.size }
-        ensures slots { SameSlots self.old.slots self.new.slots }
-        ensures tells { AllTell self.old.slots → AllTell self.new.slots }
-        ensures writes { all_writes self.old.slots ≤ all_writes self.new.slots }
-        ensures peak { self.new.peak ≡ self.old.peak }
-        ensures sizes { self.new.sizes ≡ self.old.sizes }
-        ensures limited { self.new.limited ≡ true }
+        ensures stays { Stays (record self.old { limited = true }) self.new }
     {
         self.note_limit();
         self.begin_session(rt, false, gate)?;
@@ -554,7 +515,7 @@ impl<S: Slot + Send + Sync, R: Record + Send + Sync> Queue<S, R> {
         ensures heaps { OnOk result (self.new.in_heap ≡ 0) }
         ensures settled { OnOk result (self.new.runs ≤ 64) }
         ensures refused { IfErr result (IsRefusal self.old self.new) }
-        ensures keeps { Keeps self.old self.new }
+        ensures stays { Stays self.old self.new }
     {
         let answer = self.store.store_heaps(rt, &mut self.heaps, gate);
         latch(&mut self.failed, answer);
@@ -680,11 +641,10 @@ impl<S: Slot + Send + Sync, R: Record + Send + Sync> Queue<S, R> {
         self.heaps.known();
     }
 
-    /// Ends the queue, and gives back every slot that was handed in, each once.
+    /// Ends the queue, and gives back every slot that was handed in, each once and as it is: no call of one is
+    /// made.
     pub fn close(self) -> Vec<S>
-        ensures slots { SameSlots self.slots (map S.shown result.items) }
-        ensures tells { AllTell self.slots → AllTell (map S.shown result.items) }
-        ensures writes { all_writes self.slots ≤ all_writes (map S.shown result.items) }
+        ensures { SameSums self.slots (map S.shown result.items) }
     {
         let Queue { store, slots, .. } = self;
         let Store { body, supply, .. } = store;

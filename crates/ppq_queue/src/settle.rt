@@ -1,7 +1,9 @@
 //! Levels of runs that are merged until none has more than 8.
-ghost use Rattle.std.specs.Prelude.{◌≡◌, ◌≤◌, ◌<◌, ℕ, [], length, OnOk, IfErr};
+ghost use Rattle.std.specs.Prelude.{◌≡◌, ◌≤◌, ◌<◌, ℕ, [], length, OnOk, IfErr, IsErrOf};
+ghost use Rattle.ppq_extract.specs.ppq_array.declared.store_fault.StoreFault.TheVariants.{NoFreeBlock};
 ghost use Rattle.ppq_spill.specs.Leveling.{count_level};
-ghost use Rattle.ppq_queue.specs.Stores.{MayWork, StoreStays, Holds, Settles, Refuses};
+ghost use Rattle.ppq_queue.specs.Resting.{crowd_of};
+ghost use Rattle.ppq_queue.specs.Stores.{MayWork, StoreStays, LevelsStay, Holds, Settles, Refuses};
 
 use crate::QueueFault;
 use crate::store::Store;
@@ -17,6 +19,7 @@ impl<S: Slot + Send + Sync, R: Record + Send + Sync> Store<S, R> {
         requires works { MayWork S.shown R.Ord.cmp R.record_of R.WIDTH self.old }
         ensures stays { StoreStays S.shown self.old self.new }
         ensures settled { OnOk result (Settles S.shown R.Ord.cmp R.record_of R.WIDTH [] [] self.old self.new) }
+        ensures crowded { IsErrOf result NoFreeBlock → 8 < crowd_of self.new.body.runs.external.items }
         ensures refused { IfErr result (Refuses S.shown R.Ord.cmp R.record_of R.WIDTH [] [] self.old self.new) }
     {
         if !self.has_run() {
@@ -31,8 +34,9 @@ impl<S: Slot + Send + Sync, R: Record + Send + Sync> Store<S, R> {
     where
         H::Dir: Send,
         requires works { MayWork S.shown R.Ord.cmp R.record_of R.WIDTH self.old }
-        ensures stays { StoreStays S.shown self.old self.new }
+        ensures stays { LevelsStay S.shown self.old self.new }
         ensures settled { OnOk result (Settles S.shown R.Ord.cmp R.record_of R.WIDTH [] [] self.old self.new) }
+        ensures crowded { IsErrOf result NoFreeBlock → 8 < crowd_of self.new.body.runs.external.items }
         ensures refused { IfErr result (Refuses S.shown R.Ord.cmp R.record_of R.WIDTH [] [] self.old self.new) }
     {
         for level in 0..8 {
@@ -52,10 +56,11 @@ impl<S: Slot + Send + Sync, R: Record + Send + Sync> Store<S, R> {
         H::Dir: Send,
         requires works { MayWork S.shown R.Ord.cmp R.record_of R.WIDTH self.old }
         requires level { level ≤ 7 }
-        ensures stays { StoreStays S.shown self.old self.new }
+        ensures stays { LevelsStay S.shown self.old self.new }
         ensures holds { OnOk result (Holds S.shown R.Ord.cmp R.record_of R.WIDTH [] [] self.old self.new) }
         ensures level { OnOk result (count_level level self.new.body.runs.external.items ≤ 8) }
         ensures lower { OnOk result ((j : ℕ) → j < level → count_level j self.new.body.runs.external.items ≡ count_level j self.old.body.runs.external.items) }
+        ensures crowded { IsErrOf result NoFreeBlock → 8 < crowd_of self.new.body.runs.external.items }
         ensures refused { IfErr result (Refuses S.shown R.Ord.cmp R.record_of R.WIDTH [] [] self.old self.new) }
     {
         while count_at(&self.body.runs.external, level) > 8 {
@@ -76,10 +81,11 @@ impl<S: Slot + Send + Sync, R: Record + Send + Sync> Store<S, R> {
         requires works { MayWork S.shown R.Ord.cmp R.record_of R.WIDTH self.old }
         requires level { level ≤ 7 }
         requires more { 8 < count_level level self.old.body.runs.external.items }
-        ensures stays { StoreStays S.shown self.old self.new }
+        ensures stays { LevelsStay S.shown self.old self.new }
         ensures holds { OnOk result (Holds S.shown R.Ord.cmp R.record_of R.WIDTH [] [] self.old self.new) }
         ensures fewer { OnOk result (length self.new.body.runs.external.items < length self.old.body.runs.external.items) }
         ensures lower { OnOk result ((j : ℕ) → j < level → count_level j self.new.body.runs.external.items ≡ count_level j self.old.body.runs.external.items) }
+        ensures crowded { IsErrOf result NoFreeBlock → 8 < crowd_of self.new.body.runs.external.items }
         ensures refused { IfErr result (Refuses S.shown R.Ord.cmp R.record_of R.WIDTH [] [] self.old self.new) }
     {
         let answer = merge_level(

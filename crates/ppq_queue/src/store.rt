@@ -1,5 +1,5 @@
 //! The runs of a queue with all that works on them, and the first of their records.
-ghost use Rattle.std.specs.Prelude.{◌≤◌, ◌<◌, [], length, OnOk, IfErr};
+ghost use Rattle.std.specs.Prelude.{◌≡◌, ◌≤◌, ◌<◌, [], length, OnOk, IfErr};
 ghost use Rattle.ppq_heap.specs.ppq_record.Order.{Ascends};
 ghost use Rattle.ppq_extract.specs.ppq_outside.Shown.{AllTell};
 ghost use Rattle.ppq_spill.specs.Storing.{in_buffers};
@@ -34,6 +34,7 @@ impl<S: Slot + Send + Sync, R: Record + Send + Sync> Store<S, R> {
         requires some { 0 < in_buffers self.old.body }
         ensures stays { StoreStays S.shown self.old self.new }
         ensures holds { OnOk result (Holds S.shown R.Ord.cmp R.record_of R.WIDTH [] [] self.old self.new) }
+        ensures none { OnOk result (self.new.body.runs.internal.items ≡ []) }
         ensures refused { IfErr result (Refuses S.shown R.Ord.cmp R.record_of R.WIDTH [] [] self.old self.new) }
     {
         let answer = store_buffers(rt, &mut self.body, &mut self.supply);

@@ -1,12 +1,17 @@
 -- What asking for lengths of files does to a library.
-use Rattle.std.proofs.Common.{◌≡◌, ℕ, ◌≤◌, refl, arith}
+use Rattle.std.proofs.Common.{◌≡◌, ℕ, ◌+◌, ◌<◌, ◌≤◌, List, [], ◌∷◌, ◌++◌, length, take, set, sym, subst, arith}
+use Rattle.std.proofs.lemmas.Grind.{common_steps}
+use Rattle.std.proofs.lemmas.List.{take_more_set}
+use Rattle.std.proofs.lemmas.List.Quantifiers.{Any-push}
+use Rattle.std.specs.List.{Any}
 use Rattle.std.specs.Prelude.{Result, Ok, Err, OnOk, IfErr, IsErrOf}
-use Rattle.ppq_outside.specs.Told.{Reply, Rose}
-use Rattle.ppq_outside.proofs.Replies.{no_replies, replies_then}
+use Rattle.ppq_outside.specs.Told.{Reply, RepliesOnly, Rose}
+use Rattle.ppq_outside.proofs.Replies.{no_replies, replies_wider, replies_then}
 use Rattle.ppq_script.specs.Files.{IsLength}
+use Rattle.ppq_script.specs.declared.numbered.Numbered.{Numbered}
 use Rattle.ppq_script.specs.declared.check.CheckFault.{CheckFault}
 use Rattle.ppq_script.specs.declared.check.CheckFault.TheVariants.{BadLine, ReadFault, Memory}
-use Rattle.ppq_script.specs.Checking.{AsksLengths, CountsFaults, StaysUnlessRead}
+use Rattle.ppq_script.specs.Checking.{AsksLengths, CountsFaults, IsKeptBy, IsKeptAmong, StaysUnlessRead}
 
 pub asks_nothing : (replied : Reply → Type 0) → AsksLengths replied replied
 asks_nothing replied = record { remembers = λ reply h. h; asks = no_replies replied IsLength }
@@ -16,6 +21,20 @@ asks_then before mid now first next = record {
   remembers = λ reply h. next.remembers reply (first.remembers reply h);
   asks = replies_then before mid now IsLength first.asks next.asks;
 }
+
+-- what one of a list has, one of a longer list has
+Any-more : {X : Type 0} (P : X → Type 0) (xs : List X) (y : X) → Any P xs → Any P (xs ++ y ∷ [])
+Any-more P xs y a = (a.0, a.1, grind (arith, common_steps, a.2), grind (arith, common_steps, a.2, a.3), a.4)
+
+-- one command more keeps its length, and all replies since are lengths that are kept
+pub kept_more : (before mid now : Reply → Type 0) (names : List (List ℕ)) (items : List Numbered) (i : ℕ) (item : Numbered) → i < length items → RepliesOnly before mid (IsKeptAmong names (take i items))
+    → RepliesOnly mid now (λ reply. IsKeptBy names reply item) → RepliesOnly before now (IsKeptAmong names (take (i + 1) (set items i item)))
+kept_more before mid now names items i item below done here =
+    let all = take i items ++ item ∷ [] in
+    subst (λ (xs : List Numbered). RepliesOnly before now (IsKeptAmong names xs)) (sym (take_more_set items i item below))
+    (replies_then before mid now (IsKeptAmong names all)
+    (replies_wider before mid (IsKeptAmong names (take i items)) (IsKeptAmong names all) (λ reply any. Any-more (IsKeptBy names reply) (take i items) item any) done)
+    (replies_wider mid now (λ reply. IsKeptBy names reply item) (IsKeptAmong names all) (λ reply kept. Any-push (IsKeptBy names reply) (take i items) item kept) here))
 
 -- what the count of faults says, clause by clause
 module _ {T : Type 0} (before now : ℕ) where

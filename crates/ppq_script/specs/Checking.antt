@@ -1,6 +1,6 @@
 -- What checking a script's files answers, and what it makes of the script.
-use Rattle.std.specs.Prelude.{◌≡◌, ◌⊎◌, ℕ, ◌≤◌, Bool, ⊤, List, Option, Some, None, Result, Ok, Err, IsOk, IsErrOf, MatchOption, map, length}
-use Rattle.std.specs.List.{AllZip}
+use Rattle.std.specs.Prelude.{◌≡◌, ◌⊎◌, ℕ, ◌≤◌, Bool, ⊤, List, Option, Some, None, Result, Ok, Err, IsOk, IsErrOf, IsSomeAnd, MatchOption, map, length}
+use Rattle.std.specs.List.{AllZip, Any}
 use Rattle.ppq_outside.specs.Told.{Reply, OfLength, Remembers, RepliesOnly, Rose, bytes_or_none}
 use Rattle.ppq_outside.specs.declared.fault.OutsideFault.{OutsideFault}
 use Rattle.ppq_outside.specs.declared.fault.OutsideFault.TheVariants as outside
@@ -87,6 +87,18 @@ abbrev pub StaysUnlessRead : ℕ → ℕ → CheckFault → Type 0
 StaysUnlessRead before now (BadLine line) = now ≡ before
 StaysUnlessRead before now ReadFault = ⊤
 StaysUnlessRead before now Memory = now ≡ before
+
+-- the reply is the length that a command keeps of its file
+abbrev pub IsKeptBy : List (List ℕ) → Reply → Numbered → Type 0
+IsKeptBy names reply item = IsSomeAnd (file_in item.command) (λ file. reply ≡ OfLength (name_at names file.0) (Some file.1))
+
+-- the reply is the length that one of the commands keeps of its file
+abbrev pub IsKeptAmong : List (List ℕ) → List Numbered → Reply → Type 0
+IsKeptAmong names items reply = Any (IsKeptBy names reply) items
+
+-- the same of a script's commands
+abbrev pub IsKeptLength : Reading → Reply → Type 0
+IsKeptLength script reply = IsKeptAmong script.names script.commands reply
 
 -- what the library replied it has replied, and it replied nothing more but lengths of files
 pub record AsksLengths (before now : Reply → Type 0) : Type 0 where

@@ -3,7 +3,7 @@ ghost use Rattle.std.specs.Prelude.{◌≡◌, ◌≤◌, None, Some, length, ma
 ghost use Rattle.std.specs.List.{AllZip};
 ghost use Rattle.ppq_outside.specs.Told.{Rose, OfLength, Remembers, RepliesOnly};
 ghost use Rattle.ppq_script.specs.Files.{IsRecordLength, is_record_length, is_usable, IsLength, NamesFile};
-ghost use Rattle.ppq_script.specs.Checking.{bad_of, IsCheckAnswer, CheckRefusalIsRight, CommandsRefusalIsRight, ItemRefusalIsRight, NameRefusalIsRight, IsSameItem, IsAsked, IsSameScript, with_sizes, StaysUnlessRead, AsksLengths, CountsFaults};
+ghost use Rattle.ppq_script.specs.Checking.{bad_of, IsCheckAnswer, CheckRefusalIsRight, CommandsRefusalIsRight, ItemRefusalIsRight, NameRefusalIsRight, IsSameItem, IsAsked, IsSameScript, with_sizes, StaysUnlessRead, IsKeptBy, IsKeptAmong, IsKeptLength, AsksLengths, CountsFaults};
 ghost use Rattle.ppq_script.specs.declared.check.CheckFault.TheVariants.{ReadFault};
 
 use crate::{Command, Numbered, Script};
@@ -36,7 +36,8 @@ impl From<OutsideFault> for CheckFault {
 
 /// Asks a library the length of each file that the script names, in order, and keeps it in the
 /// script's command. It costs one call of the library for each `bulk` line before the first bad line,
-/// and reads nothing of the files.
+/// and reads nothing of the files. After `Ok` the library replied nothing more but the lengths that
+/// the commands keep, so none was asked and then dropped.
 ///
 /// A file that is absent, whose length is no multiple of 16, or is above 68,719,476,736 bytes makes
 /// its line bad. `BadLine` is the first bad line, by lines and files together, and comes exactly
@@ -59,6 +60,7 @@ pub fn check_files<H: Host, L: Library>(
     ensures read { IsErrOf result ReadFault → Rose (L.faults library.old) (L.faults library.new) }
     ensures remembers { Remembers (L.replied library.old) (L.replied library.new) }
     ensures asks { RepliesOnly (L.replied library.old) (L.replied library.new) IsLength }
+    ensures once { OnOk result (RepliesOnly (L.replied library.old) (L.replied library.new) (IsKeptLength script.new)) }
     ensures kept { L.told library.new ≡ L.told library.old }
     ensures later { L.faults library.old ≤ L.faults library.new }
     ensures stays { OnOk result (L.faults library.new ≡ L.faults library.old) }
@@ -82,6 +84,7 @@ pub(crate) fn ask_all<H: Host, L: Library>(
     ensures refused { IfErr result (CommandsRefusalIsRight (L.replied library.new) (map string_bytes names.now) commands.old) }
     ensures told { L.told library.new ≡ L.told library.old }
     ensures replied { AsksLengths (L.replied library.old) (L.replied library.new) }
+    ensures once { OnOk result (RepliesOnly (L.replied library.old) (L.replied library.new) (IsKeptAmong (map string_bytes names.now) commands.new)) }
     ensures faults { CountsFaults (L.faults library.old) (L.faults library.new) result }
 {
     for item in commands.iter_mut() {
@@ -107,6 +110,7 @@ fn ask<H: Host, L: Library>(
     ensures refused { IfErr result (ItemRefusalIsRight (L.replied library.new) (map string_bytes names.now) item.old) }
     ensures told { L.told library.new ≡ L.told library.old }
     ensures replied { AsksLengths (L.replied library.old) (L.replied library.new) }
+    ensures once { OnOk result (RepliesOnly (L.replied library.old) (L.replied library.new) (λ reply. IsKeptBy (map string_bytes names.now) reply item.new)) }
     ensures faults { CountsFaults (L.faults library.old) (L.faults library.new) result }
 {
     let Command::Bulk { file, .. } = item.command else {
@@ -133,6 +137,7 @@ fn record_length<H: Host, L: Library>(
     ensures refused { IfErr result (NameRefusalIsRight (L.replied library.new) name.now line) }
     ensures told { L.told library.new ≡ L.told library.old }
     ensures replied { AsksLengths (L.replied library.old) (L.replied library.new) }
+    ensures once { IfOk result (λ length. RepliesOnly (L.replied library.old) (L.replied library.new) (λ reply. reply ≡ OfLength name.now (Some length))) }
     ensures faults { CountsFaults (L.faults library.old) (L.faults library.new) result }
 {
     match library.length(rt, alloc, name)? {

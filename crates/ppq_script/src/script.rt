@@ -5,7 +5,8 @@ ghost use Rattle.std.specs.List.{AllZip};
 ghost use Rattle.ppq_script.specs.Reading.{IsReady};
 ghost use Rattle.ppq_script.specs.Sessions.{are_in_place};
 ghost use Rattle.ppq_script.specs.declared.session.Session.TheVariants.{Outside};
-ghost use Rattle.ppq_script.specs.Checking.{CheckRefusalIsRight, IsAsked, IsSameScript, AsksLengths, CountsFaults};
+ghost use Rattle.ppq_script.specs.Checking.{CheckRefusalIsRight, IsAsked, IsKeptLength, IsSameScript, AsksLengths, CountsFaults};
+ghost use Rattle.ppq_outside.specs.Told.{RepliesOnly};
 
 use crate::check::ask_all;
 use crate::{CheckFault, Command, Numbered};
@@ -146,6 +147,7 @@ impl Script {
         ensures same { IsSameScript self.old self.new }
         ensures told { L.told library.new ≡ L.told library.old }
         ensures replied { AsksLengths (L.replied library.old) (L.replied library.new) }
+        ensures once { OnOk result (RepliesOnly (L.replied library.old) (L.replied library.new) (IsKeptLength self.new)) }
         ensures faults { CountsFaults (L.faults library.old) (L.faults library.new) result }
     {
         self.checked = false;

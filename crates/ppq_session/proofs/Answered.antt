@@ -8,6 +8,7 @@ use Rattle.ppq_pass.specs.ppq_record.Bag.{IsSameBag, ascending, first_of}
 use Rattle.ppq_pass.proofs.ppq_record.Order.{IsSameBag-trans}
 use Rattle.ppq_session.proofs.Belows.{least_below-same, without_below-same}
 use Rattle.ppq_pass.specs.ppq_outside.Shown.{AllTell}
+use Rattle.ppq_pass.specs.ppq_array.Kept.{AreQuiet}
 use Rattle.ppq_pass.proofs.ppq_spill.SameSlots.{SameSlots-refl, SameSlots-trans}
 use Rattle.ppq_pass.specs.ppq_array.declared.store_fault.StoreFault.{StoreFault as QueueFault}
 use Rattle.ppq_pass.specs.ppq_array.declared.store_fault.StoreFault.TheVariants.{NoFreeBlock, Device}
@@ -110,6 +111,7 @@ module _ {S R : Type 0} where
 -- A front answered these asks, all of them, and met no fault
 pub record SoFar {S R : Type 0} (cmp : R → R → Ordering) (asks : List Ask) (answers : List (Option R)) (old new : FrontHolding S R) : Type 0 where
   pub kept : KeepsFront (pops_in asks) old new
+  pub quiet : AreQuiet old.slots new.slots
   pub sound : new.failed ≡ None
   pub long : length answers ≡ length asks
   pub are : AllTell old.slots → answers ≡ answers_to cmp old.limit old.bag asks
@@ -118,20 +120,21 @@ pub record SoFar {S R : Type 0} (cmp : R → R → Ordering) (asks : List Ask) (
 module _ {S R : Type 0} {cmp : R → R → Ordering} where
   -- no ask yet
   pub answered-none : (answers : List (Option R)) (front : FrontHolding S R) → answers ≡ [] → front.failed ≡ None → SoFar cmp [] answers front front
-  answered-none answers front none sound = record { kept = KeepsFront-refl front; sound = sound; long = ap length none; are = λ t. none; left = λ t p. refl }
+  answered-none answers front none sound = record { kept = KeepsFront-refl front; quiet = refl; sound = sound; long = ap length none; are = λ t. none; left = λ t p. refl }
 
   -- one ask more
   pub answered-more :
       IsTotalOrder cmp → ((x y : R) → cmp x y ≡ Equal → x ≡ y) → (asks : List Ask) (i : ℕ) (ask : Ask) (answers all : List (Option R)) (answer : Option R) (old mid new : FrontHolding S R) → all ≡ answers ++ answer ∷ [] → i < length asks → ask ≡ get_or asks i Top
-      → SoFar cmp (take i asks) answers old mid → KeepsFront (pops_by ask) mid new → new.failed ≡ None → (AllTell mid.slots → answer ≡ least_below cmp mid.limit mid.bag)
+      → SoFar cmp (take i asks) answers old mid → KeepsFront (pops_by ask) mid new → AreQuiet mid.slots new.slots → new.failed ≡ None → (AllTell mid.slots → answer ≡ least_below cmp mid.limit mid.bag)
       → (AllTell mid.slots → IsSameBag new.bag (left_by cmp mid.limit mid.bag ask)) → SoFar cmp (take (i + 1) asks) all old new
-  answered-more o equal asks i ask answers all answer old mid new pushed l is so_far keeps sound gives leaves =
+  answered-more o equal asks i ask answers all answer old mid new pushed l is so_far keeps quiet sound gives leaves =
       let limit = old.limit in
       let before = take i asks in
       let was = left_after cmp limit old.bag before in
       let more : take (i + 1) asks ≡ before ++ ask ∷ [] = take_more asks i Top l ∙ ap (λ a. before ++ a ∷ []) (sym is) in
       record {
         kept = subst (λ n. KeepsFront n old new) (sym (ap pops_in more ∙ pops_in-more before ask)) (KeepsFront-trans (pops_in before) (pops_by ask) old mid new so_far.kept keeps);
+        quiet = quiet ∙ so_far.quiet;
         sound = sound;
         long = omega (arith, so_far.long, ap length pushed, ap length more, length-append before (ask ∷ []), length-append answers (answer ∷ []));
         are = λ t.
@@ -149,6 +152,7 @@ module _ {S R : Type 0} {cmp : R → R → Ordering} where
       let all : SoFar cmp asks answers old new = subst (λ xs. SoFar cmp xs answers old new) (take_all n asks h) so_far in
       record {
         kept = all.kept;
+        quiet = λ f. all.quiet;
         fewer = omega (arith, all.long);
         all = λ f. all.long;
         are = λ t. all.are t ∙ sym (take_all (length answers) (answers_to cmp old.limit old.bag asks) (omega (arith, all.long, answers_to-length cmp old.limit old.bag asks)));
@@ -168,6 +172,7 @@ module _ {S R : Type 0} {cmp : R → R → Ordering} where
       let long : length answers ≡ i = omega (arith, so_far.long, length-take i asks) in
       record {
         kept = KeepsFront-more (pops_in before + pops_by ask) (pops_in asks) old new most (KeepsFront-trans (pops_in before) (pops_by ask) old mid new so_far.kept keeps);
+        quiet = λ none. absurd (cc);
         fewer = omega (arith, long);
         all = λ none. absurd (cc);
         are = λ t. so_far.are t ∙ (answers_to-take cmp old.limit i old.bag asks ∙ ap (λ n. take n (answers_to cmp old.limit old.bag asks)) (sym long));

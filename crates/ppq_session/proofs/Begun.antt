@@ -1,18 +1,21 @@
 -- What the clauses of a session's beginning are put together from.
-use Rattle.std.proofs.Common.{◌≡◌, List, ◌++◌, All, sym, ap, ◌∙◌, subst}
+use Rattle.std.proofs.Common.{◌≡◌, ◌*◌, ◌≤◌, List, ◌++◌, All, sym, ap, ◌∙◌, subst}
 use Rattle.std.specs.Prelude.{slice_index_or, Vec, Result, Ok, Err, IfOk, IfErr}
 use Rattle.std.specs.Global.{Global}
-use Rattle.ppq_pass.specs.ppq_record.Bag.{IsSameBag}
 use Rattle.ppq_pass.proofs.ppq_record.Order.{IsSameBag-trans}
 use Rattle.ppq_pass.specs.ppq_outside.Shown.{Shown, AllTell}
 use Rattle.ppq_pass.specs.ppq_array.Owner.{slots_shown}
+use Rattle.ppq_pass.specs.ppq_array.Kept.{SameSlots, all_faults, all_writes}
+use Rattle.ppq_pass.specs.ppq_budget.Sizes.{pool_of}
+use Rattle.ppq_pass.specs.ppq_pool.Seats.{count_of}
 use Rattle.ppq_pass.specs.Passed.{PassKey, PassHolding, PassTells, IsOf}
 use Rattle.ppq_pass.specs.declared.shared.Shared.{Shared}
-use Rattle.ppq_queue.specs.Holding.{Holding}
+use Rattle.ppq_queue.specs.Holding.{Holding, Keeps, Stays, SameRecords}
 use Rattle.ppq_session.specs.BulkSession.{BulkHolding, AreOf, keys_of, bag_of, shared_by, pass_key}
 use Rattle.ppq_session.specs.declared.fault.BeginFault.{BeginFault}
 use Rattle.ppq_session.specs.declared.fault.BeginFault.TheVariants.{Memory}
-use Rattle.ppq_session.specs.Opened.{HandedOut, HoldsNoSlot}
+use Rattle.ppq_session.specs.Opened.{HandedOut, BulkBegan, HoldsNoSlot}
+use Rattle.ppq_session.specs.Sessions.{IsUnbegun}
 use Rattle.ppq_session.proofs.Mapped.{all_mapped}
 
 module _ {S R : Type 0} (bulk : BulkHolding S R) (passes : List (PassHolding S R)) (of : AreOf bulk (keys_of passes)) where
@@ -31,6 +34,10 @@ module _ {S R : Type 0} (bulk : BulkHolding S R) (passes : List (PassHolding S R
           let items : slots_shown shown bulk.items ≡ slots_shown shown p.key.items = ap (λ (x : PassKey S R). slots_shown shown x.items) (sym key) in
           let all : slots_shown shown bulk.items ≡ p.slots ++ slots_shown shown p.key.items = items ∙ ap (λ (l : List Shown). l ++ slots_shown shown p.key.items) (sym empty) in
           subst AllTell all tell
+
+-- a queue that has what it had was handed back for want of memory
+pub unbegun-memory : {R : Type 0} (old begun new : Holding R) → SameRecords old new → Keeps begun new → new.peak ≡ old.peak → IsUnbegun old begun new Memory
+unbegun-memory old begun new same kept peak = record { why = record { bag = same.bag; sound = same.sound }; kept = kept; peak = peak }
 
 -- what a beginning returns
 abbrev pub Begins : Type 0 → Type 0 → Type 0
@@ -52,11 +59,33 @@ module _ {S R : Type 0} where
     begun-with Q (Ok x) f h = f x h
     begun-with Q (Err x) f h = h
 
-    pub begun-passes : (x : BulkHolding S R × Shared S R × Vec (PassHolding S R) Global) → IsHanded x → All (IsOf x.1) x.2.items
-    begun-passes x h = subst (λ (s : Shared S R). All (IsOf s) x.2.items) (sym h.shared_is) (all_of x.0 x.2.items h.of)
-
-    pub begun-bag : (x : BulkHolding S R × Shared S R × Vec (PassHolding S R) Global) → IsHanded x → (AllTell old.slots → IsSameBag new.bag old.bag) → AllTell old.slots → IsSameBag (x.0.bag ++ bag_of x.2.items) old.bag
-    begun-bag x h same tell = IsSameBag-trans (x.0.bag ++ bag_of x.2.items) new.bag old.bag h.bag (same tell)
-
-    pub begun-tells : (x : BulkHolding S R × Shared S R × Vec (PassHolding S R) Global) → IsHanded x → (AllTell old.slots → AllTell new.slots) → AllTell old.slots → AllTell x.0.slots × All (PassTells shown) x.2.items
-    begun-tells x h tells tell = let all = tells tell in (subst AllTell (sym h.slots) all, all_tell x.0 x.2.items h.of shown h.no_slots (h.items all))
+    -- a session began: the queue was readied for it, and handed out
+    pub began-bulk :
+        SameRecords old new → Stays old new → new.in_heap ≡ old.in_heap → new.in_first ≡ old.in_first → new.runs ≤ 64 → pool_of new.sizes ≤ 2 * new.idle
+        → (x : BulkHolding S R × Shared S R × Vec (PassHolding S R) Global) → IsHanded x → BulkBegan shown old x.0 x.1 x.2.items
+    began-bulk same stays heaps first settled half x h =
+        let bulk = x.0 in
+        let kept = stays.keeps in
+        record {
+          of = h.of;
+          shared_is = h.shared_is;
+          passes_of = subst (λ (s : Shared S R). All (IsOf s) x.2.items) (sym h.shared_is) (all_of bulk x.2.items h.of);
+          fresh = h.fresh;
+          no_slots = h.no_slots;
+          whole = h.whole;
+          begun = h.begun ∙ heaps;
+          first = h.first ∙ first;
+          runs = subst (λ k. k ≤ 64) (sym h.runs) settled;
+          buffers = h.buffers;
+          pool = h.pool;
+          half = subst (λ n. pool_of n ≤ 2 * count_of bulk.pool) (sym h.sizes) (subst (λ k. pool_of new.sizes ≤ 2 * k) (sym h.idle) half);
+          bag = λ tell. IsSameBag-trans (bulk.bag ++ bag_of x.2.items) new.bag old.bag h.bag (same.bag tell);
+          quiet = ap all_faults h.slots ∙ same.quiet;
+          slots = subst (SameSlots old.slots) (sym h.slots) kept.slots;
+          tells = λ tell. (let all = kept.tells tell in (subst AllTell (sym h.slots) all, all_tell bulk x.2.items h.of shown h.no_slots (h.items all)));
+          writes = subst (λ l. all_writes old.slots ≤ all_writes l) (sym h.slots) kept.writes;
+          size = h.size ∙ stays.size;
+          peak = h.peak ∙ stays.peak;
+          limited = h.limited ∙ kept.limited;
+          sizes = h.sizes ∙ kept.sizes;
+        }

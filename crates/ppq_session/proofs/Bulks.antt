@@ -5,11 +5,12 @@ use Rattle.std.specs.Prelude.{◌≤◌, vec_capacity}
 use Rattle.std.proofs.lemmas.List.{length-map, map-id}
 use Rattle.ppq_pass.specs.ppq_record.Bag.{IsSameBag}
 use Rattle.ppq_pass.specs.ppq_outside.Shown.{Shown, AllTell}
+use Rattle.ppq_pass.specs.ppq_array.Kept.{SameSlots, all_faults, all_writes}
 use Rattle.ppq_pass.specs.Passed.{PassKey, PassHolding}
 use Rattle.ppq_queue.specs.Holding.{Holding}
 use Rattle.ppq_pass.specs.ppq_array.declared.store_fault.StoreFault.TheVariants.{NoFreeBlock, Device}
 use Rattle.ppq_queue.specs.Resting.{count_of, runs_bag}
-use Rattle.ppq_session.specs.BulkSession.{BulkHolding, AreOf, IsTogether, EndsIn, keys_of, bag_of, pass_key, shared_by}
+use Rattle.ppq_session.specs.BulkSession.{BulkHolding, AreOf, BulkEnded, IsTogether, EndsIn, keys_of, bag_of, pass_key, shared_by}
 use Rattle.ppq_session.specs.State.{IsBulk, bulk_slots, bulk_holding}
 use Rattle.ppq_session.specs.declared.fault.SessionEnd.{SessionEnd}
 use Rattle.ppq_session.specs.declared.fault.SessionEnd.TheVariants.{Whole, Stopped}
@@ -52,6 +53,7 @@ module _ {S R : Type 0} (shown : S → Shown) (cmp : R → R → Ordering) (reco
           size = h.size;
           peak = omega (arith, h.peak, h.size);
           sound = h.sound;
+          quiet = h.quiet ∙ ap all_faults slots_same;
           limited = limited;
           no_fault = h.no_fault.1;
           short = h.short;
@@ -95,8 +97,17 @@ module _ {S R : Type 0} (shown : S → Shown) (cmp : R → R → Ordering) (reco
         }
 
     -- the slots of the parts are those of the bulk
-    pub slots_shows : apart_slots shown q ≡ b.slots
+    slots_shows : apart_slots shown q ≡ b.slots
     slots_shows = slots_same ∙ ap (λ (x : BulkHolding S R). x.slots) shows
 
-    pub bulk_ended : (queue : Holding R) (end : SessionEnd) → SessionEnded shown record_of width q 0 None ps queue end → EndsIn shown b ps queue end
-    bulk_ended queue end e = subst (λ x. EndsIn shown x ps queue end) shows (bulk_ends ps its queue end e.limited e.end_is)
+    pub bulk_ended : (queue : Holding R) (end : SessionEnd) → SessionEnded shown record_of width q 0 None ps queue end → BulkEnded shown b ps queue end
+    bulk_ended queue end e =
+        record {
+          end_is = subst (λ x. EndsIn shown x ps queue end) shows (bulk_ends ps its queue end e.limited e.end_is);
+          settled = e.settled;
+          slots = subst (λ s. SameSlots s queue.slots) slots_shows e.slots;
+          tells = λ tell each. e.tells (subst AllTell (sym slots_shows) tell) each;
+          writes = subst (λ s. all_writes s ≤ all_writes queue.slots) slots_shows e.writes;
+          sizes = e.sizes ∙ ap (λ (x : BulkHolding S R). x.sizes) shows;
+          limited = e.limited ∙ ap (λ (x : BulkHolding S R). x.limited) shows;
+        }

@@ -14,8 +14,9 @@ use Rattle.ppq_pass.proofs.ppq_record.Order.{count_by-cons, count_by-append}
 use Rattle.ppq_pass.specs.ppq_outside.Shown.{Shown}
 use Rattle.ppq_pass.specs.Passed.{PassHolding, PassTells}
 use Rattle.ppq_session.specs.BulkSession.{bag_of, accepted_of}
-use Rattle.ppq_session.specs.Dealing.{IsGoing, HasEnded, Adds, EachAdds, Dealt, part_for}
+use Rattle.ppq_session.specs.Dealing.{IsGoing, HasNoFault, HasEnded, Adds, EachAdds, AddsPart, Dealt, part_for}
 use Rattle.ppq_session.proofs.Adding.{going_or_ended}
+use Rattle.ppq_session.proofs.AddedParts.{part-none, part-both}
 
 -- the part of a worker, as it is cut: within the records
 pub part_is : {X : Type 0} (xs : List X) (place part : ℕ) → take (min part (length xs - min (length xs) place)) (drop (min (length xs) place) xs) ≡ take part (drop place xs)
@@ -60,10 +61,23 @@ module _ {S R : Type 0} where
       keys = refl;
       tells = λ t. t;
       bag = λ going t p. refl;
+      part = λ fine t. part-none [] [] (λ p. refl);
       accepted = λ going. refl;
       most = omega arith;
       fewer = λ any. absurd (any-none any);
     }
+
+    -- one pass has the first of its records, and no other, unless a call of a slot failed
+    adds-part : (records : List R) (old new : PassHolding S R) → Adds shown records old new → new.failed ≡ None → PassTells shown old → AddsPart records old.bag new.bag
+    adds-part records old new adds fine t =
+        let k = new.accepted - old.accepted in
+        record { part = take k records; left = drop k records; all = λ p. ap (count_by p) (sym (take-append-drop k records)); bag = adds.bag fine t }
+
+    -- one pass that goes on has all of its records
+    adds-all : (records : List R) (old new : PassHolding S R) → Adds shown records old new → IsGoing new → PassTells shown old → IsSameBag new.bag (records ++ old.bag)
+    adds-all records old new adds going t =
+        let all : take (new.accepted - old.accepted) records ≡ records = take_all (new.accepted - old.accepted) records (omega (arith, adds.accepted going)) in
+        subst (λ l. IsSameBag new.bag (l ++ old.bag)) all (adds.bag going.sound t)
 
     -- one pass more, with the first of the records
     pub dealt-cons :
@@ -76,9 +90,13 @@ module _ {S R : Type 0} where
           keys = ap₂ (λ k ks. k ∷ ks) one.key all.keys;
           tells = λ t. All-cons (PassTells shown) n ns (one.tells (All-head (PassTells shown) o os t)) (all.tells (All-tail (PassTells shown) o os t));
           bag = λ going t p.
-              let here = one.bag (All-head IsGoing n ns going) (All-head (PassTells shown) o os t) p in
+              let here = adds-all part o n one (All-head IsGoing n ns going) (All-head (PassTells shown) o os t) p in
               let there = all.bag (All-tail IsGoing n ns going) (All-tail (PassTells shown) o os t) p in
               omega (arith, here, there, count_by-append p part o.bag, count_by-append p rest (bag_of os), count_by-append p n.bag (bag_of ns), count_by-append p o.bag (bag_of os), count_by-append p part rest, count_by-append p (part ++ rest) (o.bag ++ bag_of os));
+          part = λ fine t.
+              let here = adds-part part o n one (All-head HasNoFault n ns fine) (All-head (PassTells shown) o os t) in
+              let there = all.part (All-tail HasNoFault n ns fine) (All-tail (PassTells shown) o os t) in
+              part-both part rest o.bag n.bag (bag_of os) (bag_of ns) (o.bag ++ bag_of os) (n.bag ++ bag_of ns) (λ p. omega (arith, count_by-append p o.bag (bag_of os), count_by-append p n.bag (bag_of ns))) here there;
           accepted = λ going. omega (arith, one.accepted (All-head IsGoing n ns going), all.accepted (All-tail IsGoing n ns going), old, new, long);
           most = omega (arith, adds-most part o n one, all.most, old, new, long);
           fewer = λ any.

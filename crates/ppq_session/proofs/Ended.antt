@@ -1,5 +1,5 @@
 -- A session whose seats were joined and closed: all slots and all buffers are there.
-use Rattle.std.proofs.Common.{◌≡◌, ℕ, ◌≤◌, List, [], ◌∷◌, ◌++◌, length, sum_by, All, refl, sym, ap, ap₂, ◌∙◌, subst, arith, length-append}
+use Rattle.std.proofs.Common.{◌≡◌, ℕ, ◌≤◌, None, List, [], ◌∷◌, ◌++◌, length, sum_by, All, refl, sym, ap, ap₂, ◌∙◌, subst, arith, length-append}
 use Rattle.std.specs.Prelude.{flat_map}
 use Rattle.std.specs.declared.cmp.Ordering.{Ordering}
 use Rattle.std.proofs.lemmas.List.{map-append}
@@ -12,7 +12,7 @@ use Rattle.ppq_pass.specs.ppq_budget.Sizes.{Numbers}
 use Rattle.ppq_pass.specs.ppq_outside.Shown.{Shown}
 use Rattle.ppq_pass.specs.ppq_array.declared.berth.DeviceBlock.{DeviceBlock}
 use Rattle.ppq_pass.specs.ppq_array.Owner.{slots_shown}
-use Rattle.ppq_pass.specs.ppq_array.Kept.{SameSlots, all_writes, weight_at}
+use Rattle.ppq_pass.specs.ppq_array.Kept.{SameSlots, AreQuiet, all_faults, all_writes, weight_at}
 use Rattle.ppq_pass.proofs.ppq_spill.SameSlots.{SameSlots-refl}
 use Rattle.ppq_pass.specs.ppq_spill.Untold.{untold}
 use Rattle.ppq_pass.specs.Passing.{items_at, with_item}
@@ -90,3 +90,16 @@ module _ {S R : Type 0} (shown : S → Shown) where
         let b : slots_in shown (x ∷ xs) ≡ have ++ slots_in shown xs = flat_map-cons (λ (one : Brought S R). pass_slots shown one.body one.kept.value) x xs in
         let more = drawn-untold xs (All-tail (IsBrought shown record_of width n cmp) x xs all) in
         omega (arith, is.untold, more, ap (sum_by untold) a, ap (sum_by untold) b, sum_by-append untold mine (drawn_in xs), sum_by-append untold have (slots_in shown xs))
+
+    -- no call failed of what they drew, where none of them met a fault
+    pub drawn-quiet : (brought : List (Brought S R)) → All (IsBrought shown record_of width n cmp) brought → All (λ (one : Brought S R). one.failed ≡ None) brought → AreQuiet (drawn_in brought) (slots_in shown brought)
+    drawn-quiet [] all fine = refl
+    drawn-quiet (x ∷ xs) all fine =
+        let is = (All-head (IsBrought shown record_of width n cmp) x xs all).sound (All-head (λ (one : Brought S R). one.failed ≡ None) x xs fine) in
+        let mine = drawn_of shown x.kept.value in
+        let have = pass_slots shown x.body x.kept.value in
+        let a : drawn_in (x ∷ xs) ≡ mine ++ drawn_in xs = flat_map-cons (λ (one : Brought S R). drawn_of shown one.kept.value) x xs in
+        let b : slots_in shown (x ∷ xs) ≡ have ++ slots_in shown xs = flat_map-cons (λ (one : Brought S R). pass_slots shown one.body one.kept.value) x xs in
+        let more = drawn-quiet xs (All-tail (IsBrought shown record_of width n cmp) x xs all) (All-tail (λ (one : Brought S R). one.failed ≡ None) x xs fine) in
+        let f : Shown → ℕ = λ s. s.faults in
+        omega (arith, is.quiet, more, ap all_faults a, ap all_faults b, sum_by-append f mine (drawn_in xs), sum_by-append f have (slots_in shown xs))

@@ -18,7 +18,7 @@ use Rattle.ppq_pass.specs.ppq_heap.Heap.{Contents}
 use Rattle.ppq_pass.specs.ppq_heap.Heaps.{items_in}
 use Rattle.ppq_pass.specs.ppq_array.declared.berth.DeviceBlock.{DeviceBlock}
 use Rattle.ppq_pass.specs.ppq_array.Owner.{slots_shown}
-use Rattle.ppq_pass.specs.ppq_array.Kept.{SameSlots, all_writes}
+use Rattle.ppq_pass.specs.ppq_array.Kept.{SameSlots, AreQuiet, all_writes}
 use Rattle.ppq_pass.specs.ppq_spill.Body.{held_by, body_slots}
 use Rattle.ppq_pass.specs.ppq_record.Order.{Le, is_before}
 use Rattle.ppq_pass.proofs.ppq_record.Order.{Each-append_right}
@@ -41,7 +41,7 @@ use Rattle.ppq_session.specs.declared.closed.Closed.{Closed}
 use Rattle.ppq_session.specs.declared.parts.BulkParts.{BulkParts}
 use Rattle.ppq_session.proofs.Mapped.{sum-mapped, all_mapped}
 use Rattle.ppq_session.proofs.Places.{items_at-once}
-use Rattle.ppq_session.proofs.Ended.{SameSlots-append, drawn_in, places_in, drawn-places, drawn-same, drawn-untold}
+use Rattle.ppq_session.proofs.Ended.{SameSlots-append, drawn_in, places_in, drawn-places, drawn-same, drawn-untold, drawn-quiet}
 
 module _ {S R : Type 0} (shown : S → Shown) (cmp : R → R → Ordering) (record_of : List ℕ → R) (width : ℕ) (q : BulkParts S R) (failed : Option ℕ) (is : IsApart shown width q failed) (q1 : BulkParts S R) (passes : List (PassHolding S R)) (br : BroughtAll shown record_of width q.sizes cmp passes q q1) (c : Closed S R) (cl : IsClosed shown q1 failed c) (count : length passes ≡ q.sizes.workers) (keys : All (λ (p : PassHolding S R). p.key.items ≡ q.row_seat.hand.items) passes) where
   abbrev rest : List (Brought S R)
@@ -171,6 +171,18 @@ module _ {S R : Type 0} (shown : S → Shown) (cmp : R → R → Ordering) (reco
   writes_now =
       let f : Shown → ℕ = λ s. s.writes in
       omega (arith, moved f, drawn.1, sum_by-append f (slots_of shown q.body c.supply) (drawn_in shown rest), sum_by-append f (slots_of shown q.body c.supply) (slots_in shown rest))
+
+  -- where no pass met a fault, no call of a slot failed
+  pub quiet_now : All (λ (one : Brought S R). one.failed ≡ None) rest → AreQuiet (apart_slots shown q) now
+  quiet_now fine =
+      let f : Shown → ℕ = λ s. s.faults in
+      omega (
+        arith,
+        moved f,
+        drawn-quiet shown cmp record_of width q.sizes rest br.each fine,
+        sum_by-append f (slots_of shown q.body c.supply) (drawn_in shown rest),
+        sum_by-append f (slots_of shown q.body c.supply) (slots_in shown rest),
+      )
 
   -- where all tells now, the row's slots did
   items_told : AllTell now → AllTell (slots_shown shown items)

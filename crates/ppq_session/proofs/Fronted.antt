@@ -32,7 +32,7 @@ use Rattle.ppq_session.specs.declared.parts.BulkParts.{BulkParts}
 use Rattle.ppq_session.specs.FrontState.{IsFront, IsTallied, IsSoundFront, front_slots, front_holding, with_lent}
 use Rattle.ppq_session.specs.Limited.{LimitHolding, IsLimited}
 use Rattle.ppq_session.specs.Fronts.{FrontHolding}
-use Rattle.ppq_session.specs.LimitSession.{AreLimited, IsTogether, EndsIn, front_key, shared_of, limited_accepted}
+use Rattle.ppq_session.specs.LimitSession.{AreLimited, IsTogether, EndsIn, LimitEnded, front_key, shared_of, limited_accepted}
 use Rattle.ppq_session.proofs.Moved.{lent-length, told-whole}
 use Rattle.ppq_pass.specs.declared.shared.Shared.{Shared}
 use Rattle.ppq_session.specs.Bringing.{BroughtAll, IsShareOf}
@@ -226,6 +226,7 @@ module _ {S R : Type 0} (shown : S → Shown) (cmp : R → R → Ordering) (reco
         size = omega (arith, h.size, accepted);
         peak = omega (arith, h.peak, accepted);
         sound = h.sound;
+        quiet = h.quiet ∙ sym (turned shown width q (λ s. s.faults));
         no_fault = (h.no_fault.0, all_mapped pass_in (λ (p : PassHolding S R). p.failed ≡ None) passes h.no_fault.1);
         short = λ any. h.short (any_mapped pass_in (λ (p : PassHolding S R). p.refused ≡ true) passes any);
       }
@@ -310,19 +311,12 @@ module _ {S R : Type 0} (shown : S → Shown) (cmp : R → R → Ordering) (reco
     same_parts queue (Stopped (Device number)) h = h
 
     -- what the end of such parts says of the front
-    pub record IsEnded (queue : Holding R) (end : SessionEnd) : Type 0 where
-      pub end_is : EndsIn shown front passes queue end
-      pub slots : SameSlots front.slots queue.slots
-      pub tells : AllTell front.slots → All (λ (p : LimitHolding S R). PassTells shown p.pass) passes → AllTell queue.slots
-      pub writes : all_writes front.slots ≤ all_writes queue.slots
-      pub sizes : queue.sizes ≡ front.sizes
-      pub limited : queue.limited ≡ true
-
-    pub front_ended : (queue : Holding R) (end : SessionEnd) → SessionEnded shown record_of width q2 popped failed (passes_of passes) queue end → IsEnded queue end
+    pub front_ended : (queue : Holding R) (end : SessionEnd) → SessionEnded shown record_of width q2 popped failed (passes_of passes) queue end → LimitEnded shown front passes queue end
     front_ended queue end h =
         let slots_are : front_slots shown q ≡ front.slots = ap (λ (f : FrontHolding S R). f.slots) t.shows in
         record {
           end_is = subst (λ (f : FrontHolding S R). EndsIn shown f passes queue end) t.shows (front_ends shown cmp record_of width q popped failed limit passes queue end (same_parts queue end h.end_is));
+          settled = h.settled;
           slots = subst (λ s. SameSlots s queue.slots) slots_are (SameSlots-trans (front_slots shown q) (apart_slots shown q) queue.slots (same_slots shown width q) (subst (λ s. SameSlots s queue.slots) t.slots h.slots));
           tells = λ tell each. h.tells (subst AllTell (sym t.slots) (tells_apart shown width q (subst AllTell (sym slots_are) tell))) (All-map (PassTells shown) pass_in passes each);
           writes = omega (arith, h.writes, ap all_writes t.slots, turned shown width q (λ s. s.writes), ap all_writes slots_are);

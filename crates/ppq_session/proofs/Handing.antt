@@ -1,5 +1,5 @@
 -- A queue whose extract buffer is empty is handed out.
-use Rattle.std.proofs.Common.{◌≡◌, ℕ, List, [], ◌∷◌, ◌++◌, length, None, refl, sym, ap, ap₂, ◌∙◌, subst, arith, append-nil}
+use Rattle.std.proofs.Common.{◌≡◌, ℕ, ◌+◌, List, [], ◌∷◌, ◌++◌, length, None, refl, sym, ap, ap₂, ◌∙◌, subst, arith, append-nil}
 use Rattle.std.specs.declared.cmp.Ordering.{Ordering}
 use Rattle.std.proofs.lemmas.List.Elements.{All-tail}
 use Rattle.ppq_pass.specs.ppq_record.Bag.{IsSameBag}
@@ -7,7 +7,9 @@ use Rattle.ppq_pass.specs.ppq_outside.Shown.{Shown, Tells, AllTell}
 use Rattle.ppq_pass.specs.ppq_heap.Heaps.{items_of}
 use Rattle.ppq_pass.specs.ppq_array.Supply.{Stock}
 use Rattle.ppq_pass.specs.ppq_array.Owner.{slots_shown}
-use Rattle.ppq_pass.specs.ppq_array.Holdings.{external_slots}
+use Rattle.ppq_pass.specs.ppq_array.Holdings.{external_slots, internal_buffers}
+use Rattle.ppq_pass.specs.ppq_budget.Sizes.{pool_of}
+use Rattle.ppq_pass.specs.ppq_pool.Seats.{count_of}
 use Rattle.ppq_pass.specs.ppq_spill.Body.{job_slots}
 use Rattle.ppq_queue.specs.Holding.{Holding}
 use Rattle.ppq_queue.specs.Resting.{runs_bag}
@@ -53,6 +55,16 @@ module _ {S R : Type 0} (shown : S → Shown) (cmp : R → R → Ordering) (reco
       let x = external_slots shown p.body.runs.external.items in
       let r = (whole.sound (ap (λ h. h.failed) shows ∙ sound)).rest in
       ap₂ (λ (a b : List Shown). a ++ b) (sym (append-nil x) ∙ ap (λ j. x ++ job_slots shown j) (sym r.no_job)) first.items ∙ ap (λ h. h.slots) shows
+
+  -- the pool has the idle buffers
+  pub idle_are : (s : FirstSeats S R) → IsFirst shown width p.supply s → count_of s.shared.pool ≡ q.idle
+  idle_are s first = first.count ∙ ap (λ h. h.idle) shows
+
+  -- and the runs in buffers have the other buffers of the pool
+  pub pool_is : IsWhole shown cmp record_of width p → q.failed ≡ None → (s : FirstSeats S R) → IsFirst shown width p.supply s → internal_buffers p.body.runs.internal.items + count_of s.shared.pool ≡ pool_of p.sizes
+  pool_is whole sound s first =
+      let r = (whole.sound (ap (λ h. h.failed) shows ∙ sound)).rest in
+      omega (arith, r.held, r.buffers, r.pool, first.count)
 
   -- with a supply as it was they make the queue again
   pub whole_again : IsWhole shown cmp record_of width p → (supply : Stock) → supply ≡ p.supply → IsWhole shown cmp record_of width (record p { supply = supply })

@@ -6,6 +6,7 @@ pub use Rattle.ppq_queue.proofs as ppq_queue
 pub use Rattle.ppq_pass.proofs.ppq_record as ppq_record
 pub use Rattle.ppq_pass.proofs.ppq_spill as ppq_spill
 pub use Rattle.ppq_pass.proofs.ppq_table as ppq_table
+pub mod AddedParts
 pub mod Adding
 pub mod Answered
 pub mod Begun

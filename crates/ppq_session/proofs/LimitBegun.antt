@@ -167,6 +167,8 @@ module _ {S R : Type 0} (shown : S → Shown) (cmp : R → R → Ordering) (reco
         row = refl;
         items = refl;
         pool = refl;
+        run_buffers = refl;
+        quiet = sym (slots_first (λ s. s.faults));
         slots = SameSlots-sums (bulk_slots shown q) (front_slots shown q) slots_first (sym (SameSums-length (bulk_slots shown q) (front_slots shown q) slots_first));
         tells = told_first;
         writes = omega (arith, slots_first (λ s. s.writes));

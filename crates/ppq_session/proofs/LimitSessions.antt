@@ -14,7 +14,7 @@ use Rattle.ppq_pass.proofs.ppq_record.Order.{count_by-append, IsSameBag-trans}
 use Rattle.ppq_pass.specs.ppq_outside.Shown.{Shown, AllTell}
 use Rattle.ppq_pass.specs.ppq_budget.Sizes.{Numbers, room_of}
 use Rattle.ppq_pass.proofs.ppq_spill.SameSlots.{SameSlots-trans}
-use Rattle.ppq_pass.specs.ppq_array.Kept.{SameSlots, all_writes}
+use Rattle.ppq_pass.specs.ppq_array.Kept.{SameSlots, AreQuiet, all_writes}
 use Rattle.ppq_pass.specs.ppq_array.declared.berth.DeviceBlock.{DeviceBlock}
 use Rattle.ppq_pass.specs.ppq_array.Owner.{slots_shown}
 use Rattle.ppq_pass.specs.Passed.{PassKey, PassHolding, PassTells, IsOf}
@@ -23,14 +23,15 @@ use Rattle.ppq_queue.specs.Holding.{Holding}
 use Rattle.ppq_pass.specs.ppq_array.declared.store_fault.StoreFault.{StoreFault as QueueFault}
 use Rattle.ppq_pass.specs.ppq_array.declared.store_fault.StoreFault.TheVariants.{NoFreeBlock, Device}
 use Rattle.ppq_session.specs.BulkSession.{IsBeginRefusal, keys_of, bag_of}
+use Rattle.ppq_session.specs.declared.fault.SessionEnd.{SessionEnd}
 use Rattle.ppq_session.specs.declared.fault.SessionEnd.TheVariants.{Stopped}
-use Rattle.ppq_session.specs.Dealing.{IsGoing, HasEnded, Dealt}
+use Rattle.ppq_session.specs.Dealing.{IsGoing, HasNoFault, HasEnded, AddsPart, Dealt}
 use Rattle.ppq_session.proofs.Adding.{not_both}
 use Rattle.ppq_session.specs.Refusal.{Keeps, HasNoRoom}
 use Rattle.ppq_session.proofs.Refusals.{room-more}
 use Rattle.ppq_session.specs.Fronts.{FrontHolding}
 use Rattle.ppq_session.specs.Limited.{LimitHolding}
-use Rattle.ppq_session.specs.LimitSession.{AreLimited, IsNew, IsTogether, EndsIn, limited_bag, limited_accepted, shared_of, front_key}
+use Rattle.ppq_session.specs.LimitSession.{AreLimited, IsNew, IsTogether, EndsIn, LimitBegan, LimitEnded, limited_bag, limited_accepted, shared_of, front_key}
 use Rattle.ppq_session.specs.declared.ask.Ask.{Ask}
 use Rattle.ppq_session.specs.Asks.{answers_to, left_after, pops_in}
 use Rattle.ppq_session.specs.Answering.{KeepsFront, HasAnswered}
@@ -39,6 +40,8 @@ use Rattle.ppq_session.specs.LimitSessions.{AreGoing, InLimits, IsOver, begun_in
 use Rattle.ppq_session.proofs.Answered.{left_after-same, answers_to-same}
 use Rattle.ppq_session.proofs.Limited.{bag_of-limited, accepted_of-limited}
 use Rattle.ppq_session.proofs.Mapped.{all_mapped}
+use Rattle.ppq_session.proofs.AddedParts.{part-none, part-both, part-same}
+use Rattle.ppq_session.proofs.Sessions.{ok-no_err, device-no_block}
 
 module _ {S R : Type 0} where
   fresh-going : (passes : List (LimitHolding S R)) → All IsNew passes → All (λ p. IsGoing p.pass) passes
@@ -116,24 +119,24 @@ module _ {S R : Type 0} where
 
     -- the session has begun
     pub session-begin :
-        (queue : Holding R) (limit : R) (front : FrontHolding S R) (passes : List (LimitHolding S R)) → AreLimited front passes → All IsNew passes → front.limit ≡ limit
-        → (AllTell queue.slots → IsSameBag front.bag queue.bag) → SameSlots queue.slots front.slots → (AllTell queue.slots → AllTell front.slots) → all_writes queue.slots ≤ all_writes front.slots
-        → front.size ≡ queue.size → front.popped ≡ 0 → front.failed ≡ None → front.peak ≡ queue.peak → front.sizes ≡ queue.sizes → (AllTell front.slots → AllTell (slots_shown shown front.items))
+        (queue : Holding R) (limit : R) (front : FrontHolding S R) (shared : Shared S R) (passes : List (LimitHolding S R)) → LimitBegan queue limit front shared passes → (AllTell front.slots → AllTell (slots_shown shown front.items))
         → InLimits shown queue limit [] queue.bag 0 (record { front = front; passes = passes })
-    session-begin queue limit front passes of new limit_is bag slots tells writes size unpopped sound peak sizes items = record {
-      sizes = sizes;
-      limit_is = limit_is;
-      peak = peak;
-      total = omega (arith, size, unpopped);
-      popped_is = omega (arith, unpopped);
-      slots = slots;
-      tells = λ t. (tells t, new-tells front passes of new (items (tells t)));
-      writes = writes;
-      rest = λ _ t. bag t;
-      bag = λ going t p. ap (count_by p) (fresh-bag passes new);
-      accepted = λ going. fresh-accepted passes new;
-      most = omega (arith, fresh-accepted passes new);
-      fewer = λ ended. absurd (none-ended (passes_of passes) (going-begin front passes new sound).passes ended);
+    session-begin queue limit front shared passes began items = record {
+      sizes = began.sizes;
+      limit_is = began.limit_is;
+      peak = began.peak;
+      total = omega (arith, began.size, began.unpopped);
+      popped_is = omega (arith, began.unpopped);
+      slots = began.slots;
+      tells = λ t. (began.tells t, new-tells front passes began.of began.new (items (began.tells t)));
+      writes = began.writes;
+      quiet = λ _. began.quiet;
+      part = λ _ t. part-none [] (limited_bag passes) (λ p. ap (count_by p) (fresh-bag passes began.new));
+      rest = λ _ t. began.bag t;
+      bag = λ going t p. ap (count_by p) (fresh-bag passes began.new);
+      accepted = λ going. fresh-accepted passes began.new;
+      most = omega (arith, fresh-accepted passes began.new);
+      fewer = λ ended. absurd (none-ended (passes_of passes) (going-begin front passes began.new began.sound).passes ended);
     }
 
     module _ (queue : Holding R) (limit : R) (given left : List R) (popped : ℕ) where
@@ -158,6 +161,12 @@ module _ {S R : Type 0} where
             slots = SameSlots-trans queue.slots old.slots new.slots s.slots kept.slots;
             tells = λ t. (kept.tells (s.tells t).0, dealt.tells (s.tells t).1);
             writes = omega (arith, kept.writes, s.writes);
+            quiet = λ sound. answered.quiet sound ∙ s.quiet going.front;
+            part = λ fine t.
+                part-both given more [] (limited_bag olds) (bag_of (passes_of olds)) (bag_of (passes_of news)) [] (limited_bag news)
+                (λ p. omega (arith, ap (count_by p) (bag_of-limited olds), ap (count_by p) (bag_of-limited news)))
+                (s.part (λ k d h. (going.passes k d h).sound) t)
+                (dealt.part fine (s.tells t).1);
             rest = λ sound t.
                 IsSameBag-trans new.bag (left_after cmp limit old.bag asks) (left_after cmp limit left asks)
                 (subst (λ l. IsSameBag new.bag (left_after cmp l old.bag asks)) s.limit_is (answered.left sound (s.tells t).0))
@@ -181,15 +190,13 @@ module _ {S R : Type 0} where
 
       module _ (front : FrontHolding S R) (passes : List (LimitHolding S R)) (s : InLimits shown queue limit given left popped (record { front = front; passes = passes })) (new : Holding R) where
         -- what the end keeps, keeps the session
-        pub end-keeps :
-            SameSlots front.slots new.slots → (AllTell front.slots → All (λ p. PassTells shown p.pass) passes → AllTell new.slots) → all_writes front.slots ≤ all_writes new.slots → new.sizes ≡ front.sizes → new.limited ≡ true
-            → Keeps (begun_in queue) new
-        end-keeps slots tells writes sizes limited = record {
-          sizes = sizes ∙ s.sizes;
-          limited = limited;
-          slots = SameSlots-trans queue.slots front.slots new.slots s.slots slots;
-          tells = λ t. tells (s.tells t).0 (all_mapped (λ (p : LimitHolding S R). p.pass) (PassTells shown) passes (s.tells t).1);
-          writes = omega (arith, s.writes, writes);
+        pub end-keeps : (how : SessionEnd) → LimitEnded shown front passes new how → Keeps (begun_in queue) new
+        end-keeps how e = record {
+          sizes = e.sizes ∙ s.sizes;
+          limited = e.limited;
+          slots = SameSlots-trans queue.slots front.slots new.slots s.slots e.slots;
+          tells = λ t. e.tells (s.tells t).0 (all_mapped (λ (p : LimitHolding S R). p.pass) (PassTells shown) passes (s.tells t).1);
+          writes = omega (arith, s.writes, e.writes);
         }
 
         module _ (end : IsTogether shown front passes new) where
@@ -211,9 +218,19 @@ module _ {S R : Type 0} where
                 least = omega (arith, end.size, all);
                 high = omega (arith, end.size, s.total, all);
                 sound = end.sound;
+                quiet = end.quiet ∙ s.quiet end.no_fault.0;
+                part = λ e. absurd (ok-no_err value e);
                 peak = omega (arith, end.peak, s.peak, s.total, all);
                 refused = tt;
               }
+
+          -- whatever was refused, the queue has what was left, and a part of what was given
+          over-part : AllTell queue.slots → AddsPart given left new.bag
+          over-part t =
+              let same = end.bag (s.tells t).0 (all_mapped (λ (p : LimitHolding S R). p.pass) (PassTells shown) passes (s.tells t).1) in
+              let had = s.rest end.no_fault.0 t in
+              part-same given given [] left (limited_bag passes) new.bag (λ p. refl) (λ p. omega (arith, same p, had p, count_by-append p front.bag (limited_bag passes)))
+              (s.part (All-map HasNoFault (λ (p : LimitHolding S R). p.pass) passes end.no_fault.1) t)
 
           any-refused : Any (λ (p : LimitHolding S R). HasEnded p.pass) passes → Any (λ (p : LimitHolding S R). p.pass.refused ≡ true) passes
           any-refused (k, pass, l, e, inl refused) = (k, pass, l, e, refused)
@@ -227,12 +244,13 @@ module _ {S R : Type 0} where
 
           -- a push was refused
           pub over-short : {T : Type 0} → Keeps (begun_in queue) new → 0 < front.sizes.block → Any (λ (p : LimitHolding S R). HasEnded p.pass) passes → IsOver {T = T} queue given left popped new (Err NoFreeBlock)
-          over-short kept some ended = record { kept = kept; bag = tt; low = tt; least = tt; high = tt; sound = tt; peak = tt; refused = no-room some (end.short (any-refused ended)).0 }
+          over-short kept some ended = record { kept = kept; bag = tt; low = tt; least = tt; high = tt; sound = tt; quiet = tt; part = λ _. over-part; peak = tt; refused = no-room some (end.short (any-refused ended)).0 }
 
         -- a merge of levels found no block, or a call of a slot failed
         pub over-stopped :
             {T : Type 0} (fault : QueueFault) → Keeps (begun_in queue) new → 0 < front.sizes.block → new.sizes ≡ front.sizes → EndsIn shown front passes new (Stopped fault) → IsOver {T = T} queue given left popped new (Err fault)
-        over-stopped NoFreeBlock kept some same end =
+        over-stopped {T} NoFreeBlock kept some same end =
             let room : front.sizes.blocks < room_of front.sizes new.peak = subst (λ n. n.blocks < room_of n new.peak) same end.1.room in
-            record { kept = kept; bag = tt; low = tt; least = tt; high = tt; sound = tt; peak = tt; refused = no-room end.0 some room }
-        over-stopped (Device number) kept some same end = record { kept = kept; bag = tt; low = tt; least = tt; high = tt; sound = tt; peak = tt; refused = end.fault }
+            record { kept = kept; bag = tt; low = tt; least = tt; high = tt; sound = tt; quiet = tt; part = λ _. over-part end.0; peak = tt; refused = no-room end.0 some room }
+        over-stopped {T} (Device number) kept some same end =
+            record { kept = kept; bag = tt; low = tt; least = tt; high = tt; sound = tt; quiet = tt; part = λ e. absurd (device-no_block T number e); peak = tt; refused = end.fault }

@@ -1,21 +1,29 @@
 -- Passes of a session that begin without records.
-use Rattle.std.proofs.Common.{◌≡◌, ◌+◌, List, [], ◌∷◌, ◌++◌, length, sum_by, All, refl, sym, ap, ap₂, ◌∙◌, subst, arith}
+use Rattle.std.proofs.Common.{◌≡◌, ℕ, ◌+◌, List, [], ◌∷◌, ◌++◌, length, sum_by, All, refl, sym, ap, ap₂, ◌∙◌, subst, arith}
 use Rattle.std.proofs.lemmas.List.{length-map}
 use Rattle.std.proofs.lemmas.List.Elements.{All-nil, All-cons, All-head, All-tail}
 use Rattle.std.proofs.lemmas.List.Concat.{flat_map-cons}
 use Rattle.std.proofs.lemmas.List.Sums.{sum_by-cons}
+use Rattle.std.specs.Prelude.{count_by}
 use Rattle.atomic_table.specs.Seated.{TableId}
-use Rattle.ppq_pass.specs.ppq_budget.Sizes.{Numbers}
+use Rattle.ppq_pass.proofs.ppq_record.Order.{count_by-append}
+use Rattle.ppq_pass.specs.ppq_outside.Shown.{Shown, AllTell}
+use Rattle.ppq_pass.specs.ppq_array.Kept.{SameSlots, all_faults, all_writes}
+use Rattle.ppq_pass.proofs.ppq_spill.SameSlots.{SameSlots-trans}
+use Rattle.ppq_pass.specs.ppq_pool.Seats.{count_of}
+use Rattle.ppq_pass.specs.ppq_budget.Sizes.{Numbers, pool_of}
 use Rattle.ppq_pass.specs.ppq_array.declared.berth.DeviceBlock.{DeviceBlock}
 use Rattle.ppq_pass.specs.Passed.{PassKey, PassHolding, IsOf}
 use Rattle.ppq_queue.proofs.Took.{empty_list}
 use Rattle.ppq_pass.specs.declared.shared.Shared.{Shared}
 use Rattle.ppq_session.specs.Equipped.{HasBegun}
-use Rattle.ppq_session.specs.Opened.{HoldsNoSlot}
+use Rattle.ppq_queue.specs.Holding.{Holding, Stays, SameRecords}
+use Rattle.ppq_session.specs.Opened.{HandedOut, HoldsNoSlot}
+use Rattle.ppq_session.specs.LimitSessions.{begun_in}
 use Rattle.ppq_session.specs.BulkSession.{BulkHolding, AreOf, bag_of, keys_of, pass_key, shared_by}
 use Rattle.ppq_session.specs.Fronts.{FrontHolding}
 use Rattle.ppq_session.specs.Limited.{LimitHolding, HoldsNothing}
-use Rattle.ppq_session.specs.LimitSession.{AreLimited, IsFrontOf, front_key, shared_of}
+use Rattle.ppq_session.specs.LimitSession.{AreLimited, IsFrontOf, IsNew, LimitBegan, front_key, shared_of}
 
 module _ {S R : Type 0} where
   -- where passes began with no record together, each did
@@ -80,3 +88,49 @@ module _ {S R : Type 0} where
   limited_of front list shared are same =
       subst (λ (s : Shared S R). All (λ (p : LimitHolding S R). IsOf s p.pass) list) (sym same)
       (λ k d h. record { row = ap (λ (key : PassKey S R). key.row) (are.keys k d h); pool = ap (λ (key : PassKey S R). key.pool) (are.keys k d h) })
+
+module _ {S R : Type 0} (shown : S → Shown) (old new : Holding R) (bulk : BulkHolding S R) (shared : Shared S R) (passes : List (PassHolding S R)) (h : HandedOut shown new bulk shared passes) (heaps : new.in_heap ≡ 0) where
+  none : bulk.begun ≡ 0
+  none = h.begun ∙ heaps
+
+  pub handed_nothing : All HoldsNothing passes
+  handed_nothing = all_nothing bulk passes h.of none h.whole h.no_slots
+
+  pub handed_count : length passes ≡ bulk.sizes.workers
+  handed_count = passes_count bulk passes h.of none
+
+  -- a session began: a queue that has no record in heaps was handed out, and its passes got the limit
+  pub limit_began :
+      SameRecords old new → Stays (begun_in old) new → (limit : R) (front : FrontHolding S R) → IsFrontOf bulk limit front
+      → (list : List (LimitHolding S R)) → length list ≡ length passes → All IsNew list → All (λ (p : LimitHolding S R). p.limit ≡ limit) list
+      → ((key : PassKey S R) → All (λ (p : PassHolding S R). p.key ≡ key) passes → All (λ (p : LimitHolding S R). p.pass.key ≡ key) list) → LimitBegan old limit front shared list
+  limit_began same stays limit front is list count all_new limits keys =
+      let kept = stays.keeps in
+      let of = are_limited bulk passes h.of none limit front is list count limits keys in
+      let shared_is : shared ≡ shared_of front = h.shared_is ∙ shared_front bulk limit front is in
+      record {
+        of = of;
+        shared_is = shared_is;
+        passes_of = limited_of front list shared of shared_is;
+        new = all_new;
+        limit_is = is.limit_is;
+        pool = ap₂ (λ (i k : ℕ). i + k) is.run_buffers (ap count_of is.pool) ∙ h.pool ∙ sym (ap pool_of is.sizes);
+        bag = λ tell p.
+            omega (
+              arith,
+              ap (count_by p) is.bag,
+              h.bag p,
+              same.bag tell p,
+              count_by-append p bulk.bag (bag_of passes),
+              ap (count_by p) (bag_none passes handed_nothing),
+            );
+        quiet = is.quiet ∙ ap all_faults h.slots ∙ same.quiet;
+        slots = SameSlots-trans old.slots bulk.slots front.slots (subst (λ s. SameSlots old.slots s) (sym h.slots) kept.slots) is.slots;
+        tells = λ tell. is.tells (subst AllTell (sym h.slots) (kept.tells tell));
+        writes = omega (arith, is.writes, ap all_writes h.slots, kept.writes);
+        size = is.size ∙ h.size ∙ stays.size;
+        unpopped = is.unpopped;
+        sound = is.sound;
+        peak = is.peak ∙ h.peak ∙ stays.peak;
+        sizes = is.sizes ∙ h.sizes ∙ kept.sizes;
+      }

@@ -16,6 +16,7 @@ use Rattle.ppq_session.specs.BulkSession.{bag_of}
 use Rattle.ppq_session.specs.declared.line.Line.{Line}
 use Rattle.ppq_session.specs.Dealing.{IsGoing, HasEnded, Adds, EachAdds, Dealt, records_in, records_for}
 use Rattle.ppq_session.proofs.DealtParts.{dealt-cons, dealt-none}
+use Rattle.ppq_session.proofs.AddedParts.{part-same}
 
 module _ {R : Type 0} where
   -- of lines in two parts
@@ -108,6 +109,7 @@ module _ {S R : Type 0} (shown : S → Shown) where
         keys = dealt.keys;
         tells = dealt.tells;
         bag = λ going t p. omega (arith, dealt.bag going t p, same p, count_by-append p xs (bag_of olds), count_by-append p ys (bag_of olds));
+        part = λ fine t. part-same xs ys (bag_of olds) (bag_of olds) (bag_of news) (bag_of news) same (λ p. refl) (dealt.part fine t);
         accepted = λ going. omega (arith, dealt.accepted going, long);
         most = omega (arith, dealt.most, long);
         fewer = λ any. omega (arith, dealt.fewer any, long);

@@ -282,6 +282,8 @@ module _ {S R : Type 0} (shown : S → Shown) (cmp : R → R → Ordering) (reco
           first = first_same passes p.heaps.heaps a.whole a.bags;
           runs = refl;
           buffers = held_all;
+          run_buffers = refl;
+          pool = pool_same;
           bag = IsSameBag-trans (runs ++ bag_of passes) (bag_of passes ++ runs) (items_of p.heaps ++ runs) (IsSameBag-append_comm runs (bag_of passes)) (IsSameBag-append (bag_of passes) (items_of p.heaps) runs runs (λ t. ap (count_by t) (bag_same passes p.heaps.heaps a.bags)) (λ t. refl));
           slots = ap (λ l. external_slots shown p.body.runs.external.items ++ slots_shown shown l) items_same;
           items = items_same;

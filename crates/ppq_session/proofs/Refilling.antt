@@ -1,9 +1,10 @@
 -- A front whose extract buffer is refilled: its runs rest, with all that is out, and nothing below the limit is passed over.
-use Rattle.std.proofs.Common.{◌≡◌, ℕ, ◌+◌, ◌-◌, ◌*◌, ◌<◌, ◌≤◌, Bool, true, false, cond, List, [], ◌∷◌, ◌++◌, length, min, Some, All, sym, ap, ◌∙◌, subst, arith, length-append, length-take}
+use Rattle.std.proofs.Common.{◌≡◌, ℕ, ◌+◌, ◌-◌, ◌*◌, ◌<◌, ◌≤◌, Bool, true, false, cond, List, [], ◌∷◌, ◌++◌, length, min, sum_by, Some, All, sym, ap, ◌∙◌, subst, arith, length-append, length-take}
 use Rattle.std.specs.Prelude.{count_by}
 use Rattle.std.specs.declared.cmp.Ordering.{Ordering}
 use Rattle.std.specs.Cmp.{IsTotalOrder}
 use Rattle.std.proofs.lemmas.Nat.{mul-le}
+use Rattle.std.proofs.lemmas.List.Sums.{sum_by-append}
 use Rattle.std.proofs.lemmas.List.Elements.{All-contains, All-from_recursion, recursion_from_All, All-drop}
 use Rattle.ppq_pass.specs.ppq_record.Order.{is_before, Ascends}
 use Rattle.ppq_pass.specs.ppq_record.Bag.{IsSameBag, front, size_below, ascending}
@@ -18,6 +19,7 @@ use Rattle.ppq_pass.specs.ppq_array.External.{External, records_in, IsPacked}
 use Rattle.ppq_pass.specs.ppq_array.Owner.{slots_shown, HasBlock}
 use Rattle.ppq_pass.specs.ppq_array.Holdings.{external_slots, internal_buffers}
 use Rattle.ppq_pass.specs.ppq_array.Supply.{Stock}
+use Rattle.ppq_pass.specs.ppq_array.Kept.{AreQuiet}
 use Rattle.ppq_pass.proofs.ppq_array.Noted.{all_left, all_right}
 use Rattle.ppq_pass.specs.ppq_fetch.Fetching.{MayFetch, SourcesTell, RunsRise, source_items}
 use Rattle.ppq_pass.specs.ppq_fetch.Taking.{wanted, NoneBelow}
@@ -130,6 +132,28 @@ module _ {S R : Type 0} (shown : S → Shown) (cmp : R → R → Ordering) (reco
             internal = recursion_from_All (λ (run : Run R). Ascends cmp (items_of run)) a.runs.internal.items rise.internal;
             external = recursion_from_All (λ (y : External S R). Ascends cmp (records_in record_of width shown y)) a.runs.external.items rise.external;
           }
+
+      -- no call of a slot failed
+      pub quiet-refilled : AreQuiet (front_slots shown q) (front_slots shown (refilled shown width q x b t src))
+      quiet-refilled =
+          let f : Shown → ℕ = λ y. y.faults in
+          let own = slots_shown shown items in
+          let before = external_slots shown a.runs.external.items in
+          let now = external_slots shown b.runs.external.items in
+          omega (
+            arith,
+            r.quiet,
+            sum_by-append f own (slots_of shown a s),
+            sum_by-append f own (slots_of shown b t),
+            sum_by-append f (body_slots shown a) s.kept,
+            sum_by-append f (body_slots shown b) t.kept,
+            sum_by-append f before (job_slots shown a.lanes.jobs.items),
+            sum_by-append f now (job_slots shown b.lanes.jobs.items),
+            sum_by-append f before s.kept,
+            sum_by-append f now t.kept,
+            ap (λ l. sum_by f (job_slots shown l)) is.no_job,
+            ap (λ l. sum_by f (job_slots shown l)) none',
+          )
 
       run_rests : All (IsRestingRun t.block) b.runs.internal.items
       run_rests k d h = record {

@@ -11,23 +11,33 @@ use Rattle.ppq_pass.proofs.ppq_record.Order.{count_by-append}
 use Rattle.ppq_pass.specs.ppq_outside.Shown.{Shown, AllTell}
 use Rattle.ppq_pass.specs.ppq_budget.Sizes.{Numbers, AreInRange, batch_of}
 use Rattle.ppq_pass.proofs.ppq_spill.SameSlots.{SameSlots-trans}
-use Rattle.ppq_pass.specs.ppq_array.Kept.{SameSlots, all_writes}
+use Rattle.ppq_pass.specs.ppq_array.Kept.{SameSlots, AreQuiet, all_writes}
 use Rattle.ppq_pass.specs.Passed.{PassKey, PassHolding, PassTells, IsOf}
 use Rattle.ppq_pass.specs.declared.shared.Shared.{Shared}
 use Rattle.ppq_queue.specs.Holding.{Holding}
 use Rattle.ppq_pass.specs.ppq_array.declared.store_fault.StoreFault.{StoreFault as QueueFault}
 use Rattle.ppq_pass.specs.ppq_array.declared.store_fault.StoreFault.TheVariants.{NoFreeBlock, Device}
-use Rattle.ppq_session.specs.BulkSession.{BulkHolding, AreOf, IsFresh, IsTogether, HasNoBlock, EndsIn, IsBeginRefusal, keys_of, shared_by, pass_key, bag_of, accepted_of}
+use Rattle.ppq_session.specs.BulkSession.{BulkHolding, AreOf, BulkEnded, IsFresh, IsTogether, HasNoBlock, EndsIn, IsBeginRefusal, keys_of, shared_by, pass_key, bag_of, accepted_of}
+use Rattle.ppq_session.specs.Opened.{BulkBegan}
+use Rattle.ppq_session.specs.declared.fault.SessionEnd.{SessionEnd}
 use Rattle.ppq_session.specs.declared.fault.SessionEnd.TheVariants.{Stopped}
-use Rattle.ppq_session.specs.Dealing.{IsGoing, HasEnded, Dealt}
+use Rattle.ppq_session.specs.Dealing.{IsGoing, HasNoFault, HasEnded, AddsPart, Dealt}
 use Rattle.ppq_session.specs.Refusal.{Keeps, HasNoRoom}
-use Rattle.ppq_session.specs.Sessions.{SessionHolding, InSession, IsLoaded, with_batch}
+use Rattle.ppq_session.specs.Sessions.{SessionHolding, InSession, IsLoaded, IsLeftBy, with_batch}
 use Rattle.ppq_session.proofs.Mapped.{all_mapped}
+use Rattle.ppq_session.proofs.AddedParts.{part-none, part-both, part-more, part-same}
 use Rattle.ppq_session.proofs.Refusals.{room-more, no_room-later}
 
 -- a list that was written through a slice of the whole
 pub kept_back : {X : Type 0} (len : ℕ) (new rest : List X) → length new ≡ len → take len (new ++ rest) ≡ new
 kept_back len new rest e = ap (λ n. take n (new ++ rest)) (sym e) ∙ take-append_seam new rest
+
+-- an Ok is no fault, and a failed call no want of blocks
+pub ok-no_err : {T : Type 0} (value : T) → ◌≡◌ {A = Result T QueueFault} (Ok value) (Err NoFreeBlock) → ⊥
+ok-no_err value e = cc
+
+pub device-no_block : (T : Type 0) (number : ℕ) → ◌≡◌ {A = Result T QueueFault} (Err (Device number)) (Err NoFreeBlock) → ⊥
+device-no_block T number e = cc
 
 module _ {S R : Type 0} where
   pub fresh-going : (passes : List (PassHolding S R)) → All IsFresh passes → All IsGoing passes
@@ -71,24 +81,28 @@ module _ {S R : Type 0} where
       let at : batch ≡ new.bulk.batch = sym (ap (λ (session : SessionHolding S R). session.bulk.batch) is) in
       is ∙ ap (λ (session : SessionHolding S R). with_batch session batch) had ∙ ap (with_batch old) at
 
+  -- what a stopped end left
+  pub left-stopped : (shown : S → Shown) (bulk : BulkHolding S R) (passes : List (PassHolding S R)) (new : Holding R) (fault : QueueFault) → EndsIn shown bulk passes new (Stopped fault) → IsLeftBy shown (record { bulk = bulk; passes = passes }) new fault
+  left-stopped shown bulk passes new NoFreeBlock end = end.0
+  left-stopped shown bulk passes new (Device number) end = end
+
   module _ (shown : S → Shown) (queue : Holding R) where
     -- the session has begun
-    pub session-begin :
-        (bulk : BulkHolding S R) (passes : List (PassHolding S R)) → All IsFresh passes
-        → (AllTell queue.slots → IsSameBag (bulk.bag ++ bag_of passes) queue.bag) → SameSlots queue.slots bulk.slots → (AllTell queue.slots → AllTell bulk.slots × All (PassTells shown) passes)
-        → all_writes queue.slots ≤ all_writes bulk.slots → bulk.size ≡ queue.size → bulk.peak ≡ queue.peak → bulk.sizes ≡ queue.sizes → bulk.limited ≡ queue.limited → InSession shown queue [] (record { bulk = bulk; passes = passes })
-    session-begin bulk passes fresh bag slots tells writes size peak sizes limited = record {
-      sizes = sizes;
-      limited = limited;
-      peak = peak;
-      size = size;
-      slots = slots;
-      tells = tells;
-      writes = writes;
-      bag = λ going t. bag t;
-      accepted = λ going. fresh-accepted passes fresh;
-      most = omega (arith, fresh-accepted passes fresh);
-      fewer = λ ended. absurd (none-ended passes (fresh-going passes fresh) ended);
+    pub session-begin : (bulk : BulkHolding S R) (shared : Shared S R) (passes : List (PassHolding S R)) → BulkBegan shown queue bulk shared passes → InSession shown queue [] (record { bulk = bulk; passes = passes })
+    session-begin bulk shared passes began = record {
+      sizes = began.sizes;
+      limited = began.limited;
+      peak = began.peak;
+      size = began.size;
+      slots = began.slots;
+      tells = began.tells;
+      writes = began.writes;
+      quiet = began.quiet;
+      part = λ _ t. part-none queue.bag (bulk.bag ++ bag_of passes) (began.bag t);
+      bag = λ going t. began.bag t;
+      accepted = λ going. fresh-accepted passes began.fresh;
+      most = omega (arith, fresh-accepted passes began.fresh);
+      fewer = λ ended. absurd (none-ended passes (fresh-going passes began.fresh) ended);
     }
 
     pub session-batch : (records : List R) (session : SessionHolding S R) (batch : List R) → InSession shown queue records session → InSession shown queue records (with_batch session batch)
@@ -100,6 +114,8 @@ module _ {S R : Type 0} where
       slots = s.slots;
       tells = s.tells;
       writes = s.writes;
+      quiet = s.quiet;
+      part = s.part;
       bag = s.bag;
       accepted = s.accepted;
       most = s.most;
@@ -121,6 +137,12 @@ module _ {S R : Type 0} where
           slots = s.slots;
           tells = λ t. ((s.tells t).0, dealt.tells (s.tells t).1);
           writes = s.writes;
+          quiet = s.quiet;
+          part = λ fine t.
+              part-both records more queue.bag (bulk.bag ++ bag_of olds) (bag_of olds) (bag_of news) queue.bag (bulk.bag ++ bag_of news)
+              (λ p. omega (arith, count_by-append p bulk.bag (bag_of olds), count_by-append p bulk.bag (bag_of news)))
+              (s.part (λ k d h. (going k d h).sound) t)
+              (dealt.part fine (s.tells t).1);
           bag = λ on t p.
               let before = s.bag going t p in
               let now = dealt.bag on (s.tells t).1 p in
@@ -143,6 +165,8 @@ module _ {S R : Type 0} where
           slots = s.slots;
           tells = s.tells;
           writes = s.writes;
+          quiet = s.quiet;
+          part = λ fine t. part-more records rest queue.bag (session.bulk.bag ++ bag_of session.passes) (s.part fine t);
           bag = λ going. absurd (none-ended session.passes going ended);
           accepted = λ going. absurd (none-ended session.passes going ended);
           most = omega (arith, less, long);
@@ -151,18 +175,24 @@ module _ {S R : Type 0} where
 
     module _ (records : List R) (bulk : BulkHolding S R) (passes : List (PassHolding S R)) (s : InSession shown queue records (record { bulk = bulk; passes = passes })) (new : Holding R) where
       -- what the end keeps, keeps the session
-      pub end-keeps : SameSlots bulk.slots new.slots → (AllTell bulk.slots → All (PassTells shown) passes → AllTell new.slots) → all_writes bulk.slots ≤ all_writes new.slots → new.sizes ≡ bulk.sizes → new.limited ≡ bulk.limited → Keeps queue new
-      end-keeps slots tells writes sizes limited = record {
-        sizes = sizes ∙ s.sizes;
-        limited = limited ∙ s.limited;
-        slots = SameSlots-trans queue.slots bulk.slots new.slots s.slots slots;
-        tells = λ t. tells (s.tells t).0 (s.tells t).1;
-        writes = omega (arith, s.writes, writes);
+      pub end-keeps : (how : SessionEnd) → BulkEnded shown bulk passes new how → Keeps queue new
+      end-keeps how e = record {
+        sizes = e.sizes ∙ s.sizes;
+        limited = e.limited ∙ s.limited;
+        slots = SameSlots-trans queue.slots bulk.slots new.slots s.slots e.slots;
+        tells = λ t. e.tells (s.tells t).0 (s.tells t).1;
+        writes = omega (arith, s.writes, e.writes);
       }
 
       module _ (end : IsTogether shown bulk passes new) where
         pub end-bag : All IsGoing passes → AllTell queue.slots → IsSameBag new.bag (records ++ queue.bag)
         end-bag going t p = end.bag (s.tells t).0 (s.tells t).1 p ∙ s.bag going t p
+
+        -- whatever was refused, the queue has a part of the records, and no other
+        pub end-part : AllTell queue.slots → AddsPart records queue.bag new.bag
+        end-part t =
+            let same = end.bag (s.tells t).0 (s.tells t).1 in
+            part-same records records queue.bag queue.bag (bulk.bag ++ bag_of passes) new.bag (λ p. refl) (λ p. omega (arith, same p)) (s.part end.no_fault t)
 
         pub end-size : All IsGoing passes → new.size ≡ queue.size + length records
         end-size going = omega (arith, end.size, s.size, s.accepted going)
@@ -187,10 +217,20 @@ module _ {S R : Type 0} where
             subst (λ n. HasNoRoom n queue.limited most) s.sizes ((λ _. omega (arith, short.1, end.size, s.size, less)), omega (arith, short.0, room-more bulk.sizes new.peak most some peak-most))
 
         pub loaded-whole : {T : Type 0} (value : T) → Keeps queue new → All IsGoing passes → IsLoaded queue records new (Ok value)
-        loaded-whole value kept going = record { kept = kept; bag = end-bag going; size = end-size going; sound = end.sound; peak = end-peak going; refused = tt }
+        loaded-whole value kept going =
+            record {
+              kept = kept;
+              bag = end-bag going;
+              size = end-size going;
+              sound = end.sound;
+              quiet = end.quiet ∙ s.quiet;
+              part = λ e. absurd (ok-no_err value e);
+              peak = end-peak going;
+              refused = tt;
+            }
 
         pub loaded-short : {T : Type 0} → Keeps queue new → 0 < bulk.sizes.block → Any HasEnded passes → IsLoaded {T = T} queue records new (Err NoFreeBlock)
-        loaded-short kept some ended = record { kept = kept; bag = tt; size = tt; sound = tt; peak = tt; refused = short-much some ended }
+        loaded-short kept some ended = record { kept = kept; bag = tt; size = tt; sound = tt; quiet = tt; part = λ _. end-part; peak = tt; refused = short-much some ended }
 
         -- a merge of levels found no block
         unmerged-much : 0 < bulk.sizes.block → new.sizes ≡ bulk.sizes → HasNoBlock new → HasNoRoom queue.sizes queue.limited (max queue.peak (queue.size + length records))
@@ -202,5 +242,5 @@ module _ {S R : Type 0} where
 
       pub loaded-stopped :
           {T : Type 0} (fault : QueueFault) → Keeps queue new → 0 < bulk.sizes.block → new.sizes ≡ bulk.sizes → EndsIn shown bulk passes new (Stopped fault) → IsLoaded {T = T} queue records new (Err fault)
-      loaded-stopped NoFreeBlock kept some same end = record { kept = kept; bag = tt; size = tt; sound = tt; peak = tt; refused = unmerged-much end.0 some same end.1 }
-      loaded-stopped (Device number) kept some same end = record { kept = kept; bag = tt; size = tt; sound = tt; peak = tt; refused = end.fault }
+      loaded-stopped {T} NoFreeBlock kept some same end = record { kept = kept; bag = tt; size = tt; sound = tt; quiet = tt; part = λ _. end-part end.0; peak = tt; refused = unmerged-much end.0 some same end.1 }
+      loaded-stopped {T} (Device number) kept some same end = record { kept = kept; bag = tt; size = tt; sound = tt; quiet = tt; part = λ e. absurd (device-no_block T number e); peak = tt; refused = end.fault }

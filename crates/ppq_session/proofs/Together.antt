@@ -13,11 +13,11 @@ use Rattle.ppq_pass.specs.ppq_outside.Shown.{Shown, AllTell}
 use Rattle.ppq_pass.specs.ppq_heap.Heaps.{items_in}
 use Rattle.ppq_pass.specs.ppq_array.declared.berth.DeviceBlock.{DeviceBlock}
 use Rattle.ppq_pass.specs.ppq_array.Owner.{slots_shown}
-use Rattle.ppq_pass.specs.ppq_array.Kept.{SameSlots, all_writes}
+use Rattle.ppq_pass.specs.ppq_array.Kept.{SameSlots, AreQuiet, all_faults, all_writes}
 use Rattle.ppq_pass.proofs.ppq_spill.SameSlots.{SameSlots-trans}
 use Rattle.ppq_pass.specs.Passed.{PassKey, PassHolding, PassTells}
 use Rattle.ppq_pass.specs.ppq_budget.Sizes.{heap_of, room_of}
-use Rattle.ppq_queue.specs.Holding.{Holding, IsRefusal}
+use Rattle.ppq_queue.specs.Holding.{Holding, IsRefusal, SameRecords, Stays}
 use Rattle.ppq_pass.specs.ppq_array.declared.store_fault.StoreFault.{StoreFault as QueueFault}
 use Rattle.ppq_pass.specs.ppq_array.declared.store_fault.StoreFault.TheVariants.{NoFreeBlock, Device}
 use Rattle.ppq_session.specs.declared.fault.SessionEnd.{SessionEnd}
@@ -37,7 +37,7 @@ use Rattle.ppq_session.specs.Bringing.{BroughtAll, IsShareOf}
 use Rattle.ppq_session.specs.Closing.{IsClosed}
 use Rattle.ppq_session.proofs.Gathered.{count-flat}
 use Rattle.ppq_session.proofs.Mapped.{sum-mapped}
-use Rattle.ppq_session.proofs.FirstGathered.{gathered-first, closed, closed_is, same_now, writes_now, told_now}
+use Rattle.ppq_session.proofs.FirstGathered.{gathered-first, closed, closed_is, same_now, writes_now, quiet_now, told_now}
 use Rattle.ppq_session.proofs.ShortOfBlocks.{short}
 use Rattle.ppq_session.proofs.Loads.{load_within}
 
@@ -67,16 +67,6 @@ pub record IsMade {S R : Type 0} (shown : S → Shown) (cmp : R → R → Orderi
   pub peak : queue.peak ≡ max d.peak (min (d.count + popped) (d.sizes.memory + d.sizes.block * d.sizes.blocks))
   pub sizes : queue.sizes ≡ d.sizes
   pub limited : queue.limited ≡ d.limited
-
--- what a settling keeps, whatever it answers
-pub record IsStill {R : Type 0} (old new : Holding R) : Type 0 where
-  pub size : new.size ≡ old.size
-  pub peak : new.peak ≡ old.peak
-  pub slots : SameSlots old.slots new.slots
-  pub tells : AllTell old.slots → AllTell new.slots
-  pub writes : all_writes old.slots ≤ all_writes new.slots
-  pub sizes : new.sizes ≡ old.sizes
-  pub limited : new.limited ≡ old.limited
 
 -- A settling tells a fault that was met before, if there is one. So where it answers Ok, or another fault, there is none
 module _ {A : Type 0} (failed : Option ℕ) (r : Result A QueueFault) (latched : (number : ℕ) → failed ≡ Some number → r ≡ Err (Device number)) where
@@ -184,15 +174,18 @@ module _ {S R : Type 0} (shown : S → Shown) (cmp : R → R → Ordering) (reco
         pub last_writes : all_writes (apart_slots shown q) ≤ all_writes (slots_of shown d.body d.supply)
         last_writes = omega (arith, writes_now shown cmp record_of width q failed is q1 (reverse ps) br c cl count keys, last_sums (λ s. s.writes))
 
+        pub last_quiet : All (λ (x : Brought S R). x.failed ≡ None) br.brought → AreQuiet (apart_slots shown q) (slots_of shown d.body d.supply)
+        last_quiet fine = omega (arith, quiet_now shown cmp record_of width q failed is q1 (reverse ps) br c cl count keys fine, last_sums (λ s. s.faults))
+
         pub last_tells : AllTell (apart_slots shown q) → All (PassTells shown) ps → AllTell (slots_of shown d.body d.supply)
         last_tells tell each =
             tells-sums now (slots_of shown d.body d.supply) last_sums (told_now shown cmp record_of width q failed is q1 (reverse ps) br c cl count keys tell (turned (PassTells shown) ps each))
 
         -- what putting all passes in did
-        module _ (whole : d.failed ≡ None → (c.failed ≡ None) × All (λ (x : Brought S R). x.failed ≡ None) c.brought.items) (bag : d.failed ≡ None → IsSameBag (gathered_bag shown cmp record_of width d []) (gathered_bag shown cmp record_of width c c.brought.items)) (more : d.failed ≡ None → d.count ≡ c.count + accepted_in shown c.brought.items) (alike : (d.sizes ≡ c.sizes) × (d.peak ≡ c.peak)) (no_limit : d.limited ≡ c.limited) (queue end : Holding R) (made : IsMade shown cmp record_of width popped d queue) (still : IsStill queue end) where
+        module _ (whole : d.failed ≡ None → (c.failed ≡ None) × All (λ (x : Brought S R). x.failed ≡ None) c.brought.items) (bag : d.failed ≡ None → IsSameBag (gathered_bag shown cmp record_of width d []) (gathered_bag shown cmp record_of width c c.brought.items)) (more : d.failed ≡ None → d.count ≡ c.count + accepted_in shown c.brought.items) (alike : (d.sizes ≡ c.sizes) × (d.peak ≡ c.peak)) (no_limit : d.limited ≡ c.limited) (queue end : Holding R) (made : IsMade shown cmp record_of width popped d queue) (still : Stays queue end) where
           -- where no fault was met the queue has all, also after a settling that lost nothing
-          together : queue.failed ≡ None → (AllTell queue.slots → IsSameBag end.bag queue.bag) → end.failed ≡ None → HasAll shown record_of width q popped failed ps end
-          together fine moved sound =
+          together : queue.failed ≡ None → SameRecords queue end → HasAll shown record_of width q popped failed ps end
+          together fine moved =
               let pass = pass_of shown record_of width q.sizes in
               let Whole : PassHolding S R → Type 0 = λ p. p.failed ≡ None in
               let none : d.failed ≡ None = sym made.failed ∙ fine in
@@ -206,10 +199,11 @@ module _ {S R : Type 0} (shown : S → Shown) (cmp : R → R → Ordering) (reco
               let limit : d.sizes.memory + d.sizes.block * d.sizes.blocks ≡ q.sizes.memory + q.sizes.block * q.sizes.blocks = ap (λ n. n.memory + n.block * n.blocks) sizes in
               let high : end.peak ≡ max q.peak (q.count + popped + accepted_of ps) = omega (arith, still.peak, made.peak, alike.1, ap (λ k. k.peak) first_is, counted, within, limit, accepted_here) in
               record {
-                bag = λ tell each p. omega (arith, moved (subst AllTell (sym made.slots) (last_tells tell each)) p, ap (count_by p) made.bag, bag none p, bag_first p);
+                bag = λ tell each p. omega (arith, moved.bag (subst AllTell (sym made.slots) (last_tells tell each)) p, ap (count_by p) made.bag, bag none p, bag_first p);
                 size = omega (arith, total, accepted_here);
                 peak = high;
-                sound = sound;
+                sound = moved.sound;
+                quiet = moved.quiet ∙ ap all_faults made.slots ∙ last_quiet here;
                 no_fault = (begun_whole, turned_back Whole ps (subst (All Whole) br.passes_are (All-map Whole pass br.brought here)));
                 short = λ any.
                     let Refused : PassHolding S R → Type 0 = λ p. p.refused ≡ true in
@@ -220,25 +214,27 @@ module _ {S R : Type 0} (shown : S → Shown) (cmp : R → R → Ordering) (reco
               }
 
           -- what stands where the settling was refused
-          stopped : (fault : QueueFault) → IsRefusal queue end fault → (fault ≡ NoFreeBlock → queue.failed ≡ None) → EndsApart shown record_of width q popped failed ps end (Stopped fault)
-          stopped NoFreeBlock refused fine = (together (fine refl) refused.bag refused.sound, record { free = refused.free; room = refused.room; above = refused.above })
-          stopped (Device number) refused fine = refused
+          stopped : (fault : QueueFault) → IsRefusal queue end fault → (fault ≡ NoFreeBlock → 8 < end.crowd) → (fault ≡ NoFreeBlock → queue.failed ≡ None) → EndsApart shown record_of width q popped failed ps end (Stopped fault)
+          stopped NoFreeBlock refused crowded fine =
+              let same : SameRecords queue end = record { quiet = refused.quiet; bag = refused.bag; size = refused.size; sound = refused.sound } in
+              (together (fine refl) same, record { crowded = crowded refl; free = refused.free; room = refused.room; above = refused.above })
+          stopped (Device number) refused crowded fine = refused
 
           ended : (how : SessionEnd) → EndsApart shown record_of width q popped failed ps end how → (how ≡ Whole → end.runs ≤ 64) → SessionEnded shown record_of width q popped failed ps end how
           ended how ends settled =
               record {
                 end_is = ends;
                 settled = settled;
-                slots = SameSlots-trans (apart_slots shown q) (slots_of shown d.body d.supply) end.slots last_slots (subst (λ s. SameSlots s end.slots) made.slots still.slots);
-                tells = λ tell each. still.tells (subst AllTell (sym made.slots) (last_tells tell each));
-                writes = omega (arith, last_writes, still.writes, ap all_writes made.slots);
-                sizes = still.sizes ∙ made.sizes ∙ alike.0 ∙ ap (λ k. k.sizes) cl.rest ∙ ap (λ k. k.sizes) br.rest;
-                limited = still.limited ∙ made.limited ∙ no_limit ∙ ap (λ k. k.limited) cl.rest ∙ ap (λ k. k.limited) br.rest;
+                slots = SameSlots-trans (apart_slots shown q) (slots_of shown d.body d.supply) end.slots last_slots (subst (λ s. SameSlots s end.slots) made.slots still.keeps.slots);
+                tells = λ tell each. still.keeps.tells (subst AllTell (sym made.slots) (last_tells tell each));
+                writes = omega (arith, last_writes, still.keeps.writes, ap all_writes made.slots);
+                sizes = still.keeps.sizes ∙ made.sizes ∙ alike.0 ∙ ap (λ k. k.sizes) cl.rest ∙ ap (λ k. k.sizes) br.rest;
+                limited = still.keeps.limited ∙ made.limited ∙ no_limit ∙ ap (λ k. k.limited) cl.rest ∙ ap (λ k. k.limited) br.rest;
               }
 
           -- the settling went well, or was refused
-          pub ended_whole : queue.failed ≡ None → (AllTell queue.slots → IsSameBag end.bag queue.bag) → end.failed ≡ None → end.runs ≤ 64 → SessionEnded shown record_of width q popped failed ps end Whole
-          ended_whole fine moved sound settled = ended Whole (together fine moved sound) (λ whole. settled)
+          pub ended_whole : queue.failed ≡ None → SameRecords queue end → end.runs ≤ 64 → SessionEnded shown record_of width q popped failed ps end Whole
+          ended_whole fine moved settled = ended Whole (together fine moved) (λ whole. settled)
 
-          pub ended_stopped : (fault : QueueFault) → IsRefusal queue end fault → (fault ≡ NoFreeBlock → queue.failed ≡ None) → SessionEnded shown record_of width q popped failed ps end (Stopped fault)
-          ended_stopped fault refused fine = ended (Stopped fault) (stopped fault refused fine) (λ whole. cc)
+          pub ended_stopped : (fault : QueueFault) → IsRefusal queue end fault → (fault ≡ NoFreeBlock → 8 < end.crowd) → (fault ≡ NoFreeBlock → queue.failed ≡ None) → SessionEnded shown record_of width q popped failed ps end (Stopped fault)
+          ended_stopped fault refused crowded fine = ended (Stopped fault) (stopped fault refused crowded fine) (λ whole. cc)

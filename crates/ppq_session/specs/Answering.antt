@@ -3,7 +3,7 @@ use Rattle.std.specs.Prelude.{◌≡◌, ℕ, ◌+◌, ◌≤◌, List, length, 
 use Rattle.std.specs.declared.cmp.Ordering.{Ordering}
 use Rattle.ppq_pass.specs.ppq_record.Bag.{IsSameBag}
 use Rattle.ppq_pass.specs.ppq_outside.Shown.{AllTell}
-use Rattle.ppq_pass.specs.ppq_array.Kept.{SameSlots, all_writes}
+use Rattle.ppq_pass.specs.ppq_array.Kept.{SameSlots, AreQuiet, all_writes}
 use Rattle.ppq_session.specs.Fronts.{FrontHolding}
 use Rattle.ppq_session.specs.declared.ask.Ask.{Ask}
 use Rattle.ppq_session.specs.Asks.{answers_to, left_after, pops_in}
@@ -26,6 +26,7 @@ module _ {S R : Type 0} where
   -- A front answered these asks, up to the first that met a fault
   pub record HasAnswered (cmp : R → R → Ordering) (asks : List Ask) (answers : List (Option R)) (old new : FrontHolding S R) : Type 0 where
     pub kept : KeepsFront (pops_in asks) old new
+    pub quiet : new.failed ≡ None → AreQuiet old.slots new.slots
     pub fewer : length answers ≤ length asks
     pub all : new.failed ≡ None → length answers ≡ length asks
     pub are : AllTell old.slots → answers ≡ take (length answers) (answers_to cmp old.limit old.bag asks)

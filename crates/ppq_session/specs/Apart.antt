@@ -8,7 +8,7 @@ use Rattle.ppq_pass.specs.ppq_outside.Shown.{Shown, AllTell}
 use Rattle.ppq_pass.specs.ppq_budget.Sizes.{AreInRange, fixed_of, heap_of, batch_of, pool_of, room_of}
 use Rattle.ppq_pass.specs.ppq_table.Sums.{all_shares}
 use Rattle.ppq_pass.specs.ppq_array.Owner.{slots_shown, HasSize, HasBlock}
-use Rattle.ppq_pass.specs.ppq_array.Kept.{HasFailed, SameSlots, all_writes}
+use Rattle.ppq_pass.specs.ppq_array.Kept.{HasFailed, SameSlots, AreQuiet, all_writes}
 use Rattle.ppq_pass.specs.ppq_array.Holdings.{external_buffers}
 use Rattle.ppq_pass.specs.ppq_fetch.Fetching.{fronts_in}
 use Rattle.ppq_pass.specs.ppq_fetch.Taking.{NoneAfter}
@@ -87,7 +87,7 @@ module _ {S R : Type 0} where
         pub internal : All (IsRestingRun q.sizes.block) q.body.runs.internal.items
         pub external : All (IsRestingArray shown width q.sizes.block) q.body.runs.external.items
         pub batch : length q.body.lanes.batch.items ≡ batch_of q.sizes
-        pub buffers : lane_buffers q.sizes ≤ length q.body.lanes.idle + 2 * q.sizes.workers + external_buffers q.body.runs.external.items
+        pub buffers : length q.body.lanes.idle + 2 * q.sizes.workers + external_buffers q.body.runs.external.items ≡ lane_buffers q.sizes
         pub bounded : external_buffers q.body.runs.external.items ≤ fronts_in q.body.runs.external.items + q.sizes.workers
         pub fronts : fronts_in q.body.runs.external.items ≤ 64
         pub few : odd_in q.sizes.block q.body.runs.external.items ≤ 65
@@ -115,6 +115,7 @@ module _ {S R : Type 0} where
       pub size : queue.size ≡ q.count + accepted_of passes
       pub peak : queue.peak ≡ max q.peak (q.count + popped + accepted_of passes)
       pub sound : queue.failed ≡ None
+      pub quiet : AreQuiet (apart_slots q) queue.slots
       pub no_fault : (failed ≡ None) × All (λ (p : PassHolding S R). p.failed ≡ None) passes
       -- where a push was refused for want of blocks, the device has fewer than are enough for the peak
       pub short : Any (λ (p : PassHolding S R). p.refused ≡ true) passes → (q.sizes.blocks < room_of q.sizes queue.peak) × (heap_of q.sizes ≤ queue.size)

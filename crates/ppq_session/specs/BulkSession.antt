@@ -5,6 +5,7 @@ use Rattle.ppq_pass.specs.ppq_record.Bag.{IsSameBag}
 use Rattle.ppq_pass.specs.ppq_outside.Shown.{Shown, AllTell}
 use Rattle.ppq_pass.specs.ppq_budget.Sizes.{Numbers, heap_of, blocks_for, room_of, pool_of}
 use Rattle.ppq_pass.specs.ppq_array.declared.berth.DeviceBlock.{DeviceBlock}
+use Rattle.ppq_pass.specs.ppq_array.Kept.{SameSlots, AreQuiet, all_writes}
 use Rattle.ppq_pass.specs.ppq_pool.Seats.{count_of}
 use Rattle.ppq_pass.specs.Passed.{PassKey, PassHolding, PassTells}
 use Rattle.ppq_pass.specs.declared.shared.Shared.{Shared}
@@ -19,7 +20,8 @@ use Rattle.ppq_session.specs.declared.fault.SessionEnd.TheVariants.{Whole, Stopp
 -- What the owner of a queue keeps while passes fill it: the bag of the records of its runs, as far as its slots tell; how many records
 -- the queue had when the session began, and how many of them are in the heaps, which the passes have; how many runs in blocks there are;
 -- its sizes; the greatest size so far; whether a limit session was begun; all slots of the queue, those of the runs and those that were
--- put into the row; how many buffers of a block it has; the row with those slots, and the pool; and a batch of records to be dealt
+-- put into the row; how many buffers of a block it has, and how many of them its runs in buffers; the row with those slots, and the pool;
+-- and a batch of records to be dealt
 pub record BulkHolding (S R : Type 0) : Type 0 where
   pub bag : List R
   pub size : ℕ
@@ -30,6 +32,7 @@ pub record BulkHolding (S R : Type 0) : Type 0 where
   pub limited : Bool
   pub slots : List Shown
   pub buffers : ℕ
+  pub run_buffers : ℕ
   pub row : TableId
   pub items : List (DeviceBlock S R)
   pub pool : TableId
@@ -39,6 +42,10 @@ pub record BulkHolding (S R : Type 0) : Type 0 where
 -- written from and merged by, and those of the pool
 abbrev pub HasBuffers : Numbers → ℕ → TableId → Type 0
 HasBuffers sizes owned pool = owned + 2 * sizes.workers + count_of pool ≡ lane_buffers sizes + pool_of sizes
+
+-- the pool has all buffers of the budget's pool but those of the runs in buffers
+abbrev pub HasPool : Numbers → ℕ → TableId → Type 0
+HasPool sizes run_buffers pool = run_buffers + count_of pool ≡ pool_of sizes
 
 module _ {R : Type 0} where
   -- The queue as it was, in another order at most
@@ -52,9 +59,10 @@ module _ {R : Type 0} where
   IsBeginRefusal old new NoBlockAtBegin = FoundNoBlock old new
   IsBeginRefusal old new (DeviceAtBegin number) = HasStopped number new
 
-  -- No block was free for a merge of levels: the device has fewer blocks than are enough for the peak, which is above what one heap holds,
-  -- unless a limit session was begun
+  -- No block was free for a merge of levels, of which one has more than 8 runs still: the device has fewer blocks than are enough for the peak,
+  -- which is above what one heap holds, unless a limit session was begun
   pub record HasNoBlock (queue : Holding R) : Type 0 where
+    pub crowded : 8 < queue.crowd
     pub free : queue.free < max (8 + queue.sizes.workers) (blocks_for queue.sizes queue.size)
     pub room : queue.sizes.blocks < room_of queue.sizes queue.peak
     pub above : IsAbove queue.sizes queue.peak queue.limited
@@ -102,6 +110,7 @@ module _ {S R : Type 0} where
       pub size : queue.size ≡ bulk.size + accepted_of passes
       pub peak : queue.peak ≡ max bulk.peak queue.size
       pub sound : queue.failed ≡ None
+      pub quiet : AreQuiet bulk.slots queue.slots
       pub limited : queue.limited ≡ bulk.limited
       pub no_fault : All (λ (p : PassHolding S R). p.failed ≡ None) passes
       -- where a push was refused for want of blocks, the device has fewer than are enough for the peak
@@ -112,3 +121,13 @@ module _ {S R : Type 0} where
   EndsIn shown bulk passes queue Whole = IsTogether shown bulk passes queue
   EndsIn shown bulk passes queue (Stopped NoFreeBlock) = IsTogether shown bulk passes queue × HasNoBlock queue
   EndsIn shown bulk passes queue (Stopped (Device number)) = HasStopped number queue
+
+  -- how a session ended, and what it left of its slots and sizes
+  pub record BulkEnded (shown : S → Shown) (bulk : BulkHolding S R) (passes : List (PassHolding S R)) (queue : Holding R) (end : SessionEnd) : Type 0 where
+    pub end_is : EndsIn shown bulk passes queue end
+    pub settled : end ≡ Whole → queue.runs ≤ 64
+    pub slots : SameSlots bulk.slots queue.slots
+    pub tells : AllTell bulk.slots → All (PassTells shown) passes → AllTell queue.slots
+    pub writes : all_writes bulk.slots ≤ all_writes queue.slots
+    pub sizes : queue.sizes ≡ bulk.sizes
+    pub limited : queue.limited ≡ bulk.limited

@@ -1,5 +1,5 @@
 -- Records that are dealt to passes.
-use Rattle.std.specs.Prelude.{◌≡◌, ◌⊎◌, ◌<◌, ◌≤◌, ◌==◌, ◌+◌, ℕ, true, false, List, ◌++◌, length, get_or, map, All, Some, None}
+use Rattle.std.specs.Prelude.{◌≡◌, ◌⊎◌, ◌<◌, ◌≤◌, ◌==◌, ◌+◌, ◌-◌, ℕ, true, false, List, ◌++◌, length, take, get_or, map, All, Some, None}
 use Rattle.std.specs.Fork.{slice_chunk}
 use Rattle.std.specs.Int.{div_ceil}
 use Rattle.std.specs.List.{Any, filter}
@@ -22,22 +22,35 @@ module _ {R : Type 0} where
   abbrev pub part_for : ℕ → List R → ℕ → List R
   part_for passes records pass = slice_chunk records (div_ceil (length records) passes) pass
 
+  -- a bag got a part of these records, each once, and no other
+  pub record AddsPart (records old new : List R) : Type 0 where
+    pub part : List R
+    pub left : List R
+    pub all : IsSameBag records (part ++ left)
+    pub bag : IsSameBag new (part ++ old)
+
 module _ {S R : Type 0} where
   -- no push of the pass was refused
   pub record IsGoing (pass : PassHolding S R) : Type 0 where
     pub unrefused : pass.refused ≡ false
     pub sound : pass.failed ≡ None
 
+  -- no call of a slot of the pass failed
+  abbrev pub HasNoFault : PassHolding S R → Type 0
+  HasNoFault pass = pass.failed ≡ None
+
   -- a push of the pass was refused: no block was free, or a call of a slot failed
   abbrev pub HasEnded : PassHolding S R → Type 0
   HasEnded pass = (pass.refused ≡ true) ⊎ ((number : ℕ) × (pass.failed ≡ Some number))
 
   module _ (shown : S → Shown) where
-    -- a pass was given these records: it has all of them, or stopped at one that was refused
+    -- a pass was given these records: it has all of them, or stopped at one that was refused and has those in front of it, unless a call of a
+    -- slot failed
     pub record Adds (records : List R) (old new : PassHolding S R) : Type 0 where
       pub key : new.key ≡ old.key
       pub tells : PassTells shown old → PassTells shown new
-      pub bag : IsGoing new → PassTells shown old → IsSameBag new.bag (records ++ old.bag)
+      pub bag : new.failed ≡ None → PassTells shown old → IsSameBag new.bag (take (new.accepted - old.accepted) records ++ old.bag)
+      pub least : old.accepted ≤ new.accepted
       pub accepted : IsGoing new → new.accepted ≡ old.accepted + length records
       pub fewer : HasEnded new → new.accepted < old.accepted + length records
 
@@ -51,6 +64,7 @@ module _ {S R : Type 0} where
       pub keys : keys_of new ≡ keys_of old
       pub tells : All (PassTells shown) old → All (PassTells shown) new
       pub bag : All IsGoing new → All (PassTells shown) old → IsSameBag (bag_of new) (records ++ bag_of old)
+      pub part : All HasNoFault new → All (PassTells shown) old → AddsPart records (bag_of old) (bag_of new)
       pub accepted : All IsGoing new → accepted_of new ≡ accepted_of old + length records
       pub most : accepted_of new ≤ accepted_of old + length records
       pub fewer : Any HasEnded new → accepted_of new < accepted_of old + length records

@@ -10,6 +10,7 @@ use Rattle.ppq_pass.specs.ppq_array.declared.berth.DeviceBlock.{DeviceBlock}
 use Rattle.ppq_pass.specs.ppq_array.Supply.{Stock}
 use Rattle.ppq_pass.specs.ppq_array.Kept.{HasFailed}
 use Rattle.ppq_pass.specs.ppq_array.Owner.{slots_shown, HasSize}
+use Rattle.ppq_pass.specs.ppq_array.Holdings.{internal_buffers}
 use Rattle.ppq_pass.specs.ppq_fetch.Taking.{NoneAfter, AllBelow}
 use Rattle.ppq_pass.specs.ppq_extract.Extracted.{ServesFor}
 use Rattle.ppq_pass.specs.ppq_pool.Seats.{count_of as pool_count}
@@ -59,6 +60,7 @@ module _ {S R : Type 0} where
           peak = q.peak;
           slots = front_slots q;
           buffers = (held_by shown q.body).buffers + q.supply.sure_buffers;
+          run_buffers = internal_buffers q.body.runs.internal.items;
           in_extract = length q.extract.items;
           row = q.row_seat.row;
           items = q.row_seat.hand.items;

@@ -94,7 +94,7 @@ module _ {S R : Type 0} (shown : S → Shown) where
       pub internal : All (IsRestingRun c.sizes.block) c.body.runs.internal.items
       pub external : All (IsRestingArray shown width c.sizes.block) c.body.runs.external.items
       pub batch : length c.body.lanes.batch.items ≡ batch_of c.sizes
-      pub buffers : lane_buffers c.sizes ≤ length c.body.lanes.idle + 2 * length rest + external_buffers c.body.runs.external.items
+      pub buffers : length c.body.lanes.idle + 2 * length rest + external_buffers c.body.runs.external.items ≡ lane_buffers c.sizes
       pub bounded : external_buffers c.body.runs.external.items ≤ fronts_in c.body.runs.external.items + c.sizes.workers
       pub fronts : fronts_in c.body.runs.external.items ≤ 64
       pub few : odd_in c.sizes.block c.body.runs.external.items ≤ 65

@@ -3,12 +3,12 @@ use Rattle.std.specs.Prelude.{◌≡◌, ℕ, ◌+◌, ◌<◌, ◌≤◌, true,
 use Rattle.ppq_pass.specs.ppq_record.Bag.{IsSameBag}
 use Rattle.ppq_pass.specs.ppq_outside.Shown.{Shown, AllTell}
 use Rattle.ppq_pass.specs.ppq_budget.Sizes.{heap_of, room_of}
-use Rattle.ppq_pass.specs.ppq_array.Kept.{SameSlots, all_writes}
-use Rattle.ppq_pass.specs.Passed.{PassKey, PassTells}
+use Rattle.ppq_pass.specs.ppq_array.Kept.{SameSlots, AreQuiet, all_writes}
+use Rattle.ppq_pass.specs.Passed.{PassKey, PassTells, IsOf}
 use Rattle.ppq_pass.specs.declared.shared.Shared.{Shared}
 use Rattle.ppq_queue.specs.Holding.{Holding, HasStopped}
 use Rattle.ppq_pass.specs.ppq_array.declared.store_fault.StoreFault.TheVariants.{NoFreeBlock, Device}
-use Rattle.ppq_session.specs.BulkSession.{BulkHolding, IsFresh, HasNoBlock}
+use Rattle.ppq_session.specs.BulkSession.{BulkHolding, IsFresh, HasPool, HasNoBlock}
 use Rattle.ppq_session.specs.declared.fault.SessionEnd.{SessionEnd}
 use Rattle.ppq_session.specs.declared.fault.SessionEnd.TheVariants.{Whole, Stopped}
 use Rattle.ppq_session.specs.Fronts.{FrontHolding}
@@ -42,6 +42,8 @@ module _ {S R : Type 0} where
     pub row : front.row ≡ bulk.row
     pub items : front.items ≡ bulk.items
     pub pool : front.pool ≡ bulk.pool
+    pub run_buffers : front.run_buffers ≡ bulk.run_buffers
+    pub quiet : AreQuiet bulk.slots front.slots
     pub slots : SameSlots bulk.slots front.slots
     pub tells : AllTell bulk.slots → AllTell front.slots
     pub writes : all_writes bulk.slots ≤ all_writes front.slots
@@ -67,6 +69,7 @@ module _ {S R : Type 0} where
       pub size : queue.size ≡ front.size + limited_accepted passes
       pub peak : queue.peak ≡ max front.peak (front.size + front.popped + limited_accepted passes)
       pub sound : queue.failed ≡ None
+      pub quiet : AreQuiet front.slots queue.slots
       pub no_fault : (front.failed ≡ None) × All (λ (p : LimitHolding S R). p.pass.failed ≡ None) passes
       -- where a push was refused for want of blocks, the device has fewer than are enough for the peak
       pub short : Any (λ (p : LimitHolding S R). p.pass.refused ≡ true) passes → (front.sizes.blocks < room_of front.sizes queue.peak) × (heap_of front.sizes ≤ queue.size)
@@ -76,3 +79,33 @@ module _ {S R : Type 0} where
   EndsIn shown front passes queue Whole = IsTogether shown front passes queue
   EndsIn shown front passes queue (Stopped NoFreeBlock) = IsTogether shown front passes queue × HasNoBlock queue
   EndsIn shown front passes queue (Stopped (Device number)) = HasStopped number queue
+
+  -- how a session ended, and what it left of its slots and sizes
+  pub record LimitEnded (shown : S → Shown) (front : FrontHolding S R) (passes : List (LimitHolding S R)) (queue : Holding R) (end : SessionEnd) : Type 0 where
+    pub end_is : EndsIn shown front passes queue end
+    pub settled : end ≡ Whole → queue.runs ≤ 64
+    pub slots : SameSlots front.slots queue.slots
+    pub tells : AllTell front.slots → All (λ (p : LimitHolding S R). PassTells shown p.pass) passes → AllTell queue.slots
+    pub writes : all_writes front.slots ≤ all_writes queue.slots
+    pub sizes : queue.sizes ≡ front.sizes
+    pub limited : queue.limited ≡ true
+
+  -- A limit session of a queue began: the front has its records, and the passes have none. All buffers that no run has are in the pool. No call
+  -- of a slot failed
+  pub record LimitBegan (q : Holding R) (limit : R) (front : FrontHolding S R) (shared : Shared S R) (passes : List (LimitHolding S R)) : Type 0 where
+    pub of : AreLimited front passes
+    pub shared_is : shared ≡ shared_of front
+    pub passes_of : All (λ (p : LimitHolding S R). IsOf shared p.pass) passes
+    pub new : All IsNew passes
+    pub limit_is : front.limit ≡ limit
+    pub pool : HasPool front.sizes front.run_buffers front.pool
+    pub bag : AllTell q.slots → IsSameBag front.bag q.bag
+    pub quiet : AreQuiet q.slots front.slots
+    pub slots : SameSlots q.slots front.slots
+    pub tells : AllTell q.slots → AllTell front.slots
+    pub writes : all_writes q.slots ≤ all_writes front.slots
+    pub size : front.size ≡ q.size
+    pub unpopped : front.popped ≡ 0
+    pub sound : front.failed ≡ None
+    pub peak : front.peak ≡ q.peak
+    pub sizes : front.sizes ≡ q.sizes

@@ -1,13 +1,14 @@
 -- An open limit session, whose lines come in batches, and what the queue has at its end.
-use Rattle.std.specs.Prelude.{◌≡◌, ◌⊎◌, ◌<◌, ◌≤◌, ◌+◌, ℕ, true, List, ◌++◌, length, max, All, Some, None, Result, OnOk, IfErr}
+use Rattle.std.specs.Prelude.{◌≡◌, ◌⊎◌, ◌<◌, ◌≤◌, ◌+◌, ℕ, true, List, [], ◌++◌, length, max, All, Some, None, Result, OnOk, IfErr, IsErrOf}
 use Rattle.std.specs.List.{Any}
 use Rattle.ppq_pass.specs.ppq_record.Bag.{IsSameBag}
 use Rattle.ppq_pass.specs.ppq_outside.Shown.{Shown, AllTell}
-use Rattle.ppq_pass.specs.ppq_array.Kept.{SameSlots, all_writes}
+use Rattle.ppq_pass.specs.ppq_array.Kept.{SameSlots, AreQuiet, all_writes}
 use Rattle.ppq_pass.specs.Passed.{PassTells}
 use Rattle.ppq_queue.specs.Holding.{Holding}
 use Rattle.ppq_pass.specs.ppq_array.declared.store_fault.StoreFault.{StoreFault as QueueFault}
-use Rattle.ppq_session.specs.Dealing.{IsGoing, HasEnded}
+use Rattle.ppq_pass.specs.ppq_array.declared.store_fault.StoreFault.TheVariants.{NoFreeBlock}
+use Rattle.ppq_session.specs.Dealing.{IsGoing, HasNoFault, HasEnded, AddsPart}
 use Rattle.ppq_session.specs.Refusal.{Keeps, IsRefusedBy}
 use Rattle.ppq_session.specs.Fronts.{FrontHolding}
 use Rattle.ppq_session.specs.Limited.{LimitHolding}
@@ -44,14 +45,16 @@ pub record InLimits {S R : Type 0} (shown : S → Shown) (queue : Holding R) (li
   pub slots : SameSlots queue.slots session.front.slots
   pub tells : AllTell queue.slots → AllTell session.front.slots × All (PassTells shown) (passes_of session.passes)
   pub writes : all_writes queue.slots ≤ all_writes session.front.slots
+  pub quiet : session.front.failed ≡ None → AreQuiet queue.slots session.front.slots
+  pub part : All HasNoFault (passes_of session.passes) → AllTell queue.slots → AddsPart given [] (limited_bag session.passes)
   pub rest : session.front.failed ≡ None → AllTell queue.slots → IsSameBag session.front.bag left
   pub bag : All IsGoing (passes_of session.passes) → AllTell queue.slots → IsSameBag (limited_bag session.passes) given
   pub accepted : All IsGoing (passes_of session.passes) → limited_accepted session.passes ≡ length given
   pub most : limited_accepted session.passes ≤ length given
   pub fewer : Any HasEnded (passes_of session.passes) → limited_accepted session.passes < length given
 
--- A limit session of a queue ended. Where the result is Ok, the queue has what was left and all that was given; else there is no room for
--- what was given, or a block failed
+-- A limit session of a queue ended. Where the result is Ok, the queue has what was left and all that was given, and no call of a slot
+-- failed; else there is no room for what was given, and the queue has what was left and a part of it, or a block failed
 pub record IsOver {T R : Type 0} (queue : Holding R) (given left : List R) (popped : ℕ) (new : Holding R) (result : Result T QueueFault) : Type 0 where
   pub kept : Keeps (begun_in queue) new
   pub bag : OnOk result (AllTell queue.slots → IsSameBag new.bag (given ++ left))
@@ -59,5 +62,7 @@ pub record IsOver {T R : Type 0} (queue : Holding R) (given left : List R) (popp
   pub least : OnOk result (length given ≤ new.size)
   pub high : OnOk result (new.size ≤ queue.size + length given)
   pub sound : OnOk result (new.failed ≡ None)
+  pub quiet : OnOk result (AreQuiet queue.slots new.slots)
+  pub part : IsErrOf result NoFreeBlock → AllTell queue.slots → AddsPart given left new.bag
   pub peak : OnOk result (new.peak ≡ max queue.peak (queue.size + length given))
   pub refused : IfErr result (IsRefusedBy (max queue.peak (queue.size + length given)) queue.sizes true new.slots)

@@ -1,19 +1,22 @@
 -- A session that begins.
-use Rattle.std.specs.Prelude.{◌≡◌, ℕ, [], List, ◌++◌, length, None, All}
+use Rattle.std.specs.Prelude.{◌≡◌, ◌≤◌, ◌*◌, ℕ, [], List, ◌++◌, length, None, All}
 use Rattle.std.specs.declared.cmp.Ordering.{Ordering}
 use Rattle.ppq_pass.specs.ppq_record.Bag.{IsSameBag}
 use Rattle.ppq_pass.specs.ppq_outside.Shown.{Shown, AllTell}
 use Rattle.ppq_pass.specs.ppq_heap.Heaps.{items_of, share_at}
 use Rattle.ppq_pass.specs.ppq_array.Supply.{Stock}
 use Rattle.ppq_pass.specs.ppq_array.Owner.{slots_shown}
-use Rattle.ppq_pass.specs.ppq_array.Holdings.{external_slots}
-use Rattle.ppq_pass.specs.Passed.{PassHolding}
+use Rattle.ppq_pass.specs.ppq_array.Holdings.{external_slots, internal_buffers}
+use Rattle.ppq_pass.specs.ppq_array.Kept.{SameSlots, AreQuiet, all_writes}
+use Rattle.ppq_pass.specs.ppq_budget.Sizes.{pool_of}
+use Rattle.ppq_pass.specs.ppq_pool.Seats.{count_of}
+use Rattle.ppq_pass.specs.Passed.{PassHolding, PassTells, IsOf}
 use Rattle.ppq_pass.specs.declared.shared.Shared.{Shared}
 use Rattle.ppq_queue.specs.Holding.{Holding}
 use Rattle.ppq_queue.specs.Resting.{runs_bag}
 use Rattle.ppq_queue.specs.Handed.{IsWhole}
 use Rattle.ppq_queue.specs.declared.queue_parts.QueueParts.{QueueParts}
-use Rattle.ppq_session.specs.BulkSession.{BulkHolding, HasBuffers, AreOf, IsFresh, keys_of, bag_of, shared_by}
+use Rattle.ppq_session.specs.BulkSession.{BulkHolding, HasBuffers, HasPool, AreOf, IsFresh, keys_of, bag_of, shared_by}
 use Rattle.ppq_session.specs.Equipped.{HasBegun, first_begun}
 use Rattle.ppq_session.specs.Shares.{bare, IsFirst}
 use Rattle.ppq_session.specs.declared.share.FirstSeats.{FirstSeats}
@@ -47,6 +50,8 @@ module _ {S R : Type 0} where
       pub slots : bulk.slots ≡ external_slots shown q.body.runs.external.items ++ slots_shown shown s.row_seat.hand.items
       pub items : bulk.items ≡ s.row_seat.hand.items
       pub buffers : HasBuffers bulk.sizes bulk.buffers bulk.pool
+      pub run_buffers : bulk.run_buffers ≡ internal_buffers q.body.runs.internal.items
+      pub pool : bulk.pool ≡ s.shared.pool
       pub size : bulk.size ≡ q.count
       pub peak : bulk.peak ≡ q.peak
       pub limited : bulk.limited ≡ q.limited
@@ -63,9 +68,36 @@ module _ {S R : Type 0} where
       pub first : first_begun passes ≡ q.in_first
       pub runs : bulk.runs ≡ q.runs
       pub buffers : HasBuffers bulk.sizes bulk.buffers bulk.pool
+      pub pool : HasPool bulk.sizes bulk.run_buffers bulk.pool
+      pub idle : count_of bulk.pool ≡ q.idle
       pub bag : IsSameBag (bulk.bag ++ bag_of passes) q.bag
       pub slots : bulk.slots ≡ q.slots
       pub items : AllTell q.slots → AllTell (slots_shown shown bulk.items)
+      pub size : bulk.size ≡ q.size
+      pub peak : bulk.peak ≡ q.peak
+      pub limited : bulk.limited ≡ q.limited
+      pub sizes : bulk.sizes ≡ q.sizes
+
+    -- A bulk session of a queue began: the passes have the records of its heaps, the first those of the first heap, and the bulk has the rest. All buffers that no run has are in
+    -- the pool, which are half of the budget's pool at least. No call of a slot failed
+    pub record BulkBegan (q : Holding R) (bulk : BulkHolding S R) (shared : Shared S R) (passes : List (PassHolding S R)) : Type 0 where
+      pub of : AreOf bulk (keys_of passes)
+      pub shared_is : shared ≡ shared_by bulk
+      pub passes_of : All (IsOf shared) passes
+      pub fresh : All IsFresh passes
+      pub no_slots : All HoldsNoSlot passes
+      pub whole : All HasBegun passes
+      pub begun : bulk.begun ≡ q.in_heap
+      pub first : first_begun passes ≡ q.in_first
+      pub runs : bulk.runs ≤ 64
+      pub buffers : HasBuffers bulk.sizes bulk.buffers bulk.pool
+      pub pool : HasPool bulk.sizes bulk.run_buffers bulk.pool
+      pub half : pool_of bulk.sizes ≤ 2 * count_of bulk.pool
+      pub bag : AllTell q.slots → IsSameBag (bulk.bag ++ bag_of passes) q.bag
+      pub quiet : AreQuiet q.slots bulk.slots
+      pub slots : SameSlots q.slots bulk.slots
+      pub tells : AllTell q.slots → AllTell bulk.slots × All (PassTells shown) passes
+      pub writes : all_writes q.slots ≤ all_writes bulk.slots
       pub size : bulk.size ≡ q.size
       pub peak : bulk.peak ≡ q.peak
       pub limited : bulk.limited ≡ q.limited

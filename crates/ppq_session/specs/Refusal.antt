@@ -1,20 +1,12 @@
 -- What calls that hand a queue back keep, and what a refused one says of it.
 use Rattle.std.specs.Prelude.{◌≡◌, ◌⊎◌, ◌<◌, ◌≤◌, ℕ, Bool, false, List}
-use Rattle.ppq_pass.specs.ppq_outside.Shown.{Shown, AllTell}
+use Rattle.ppq_pass.specs.ppq_outside.Shown.{Shown}
 use Rattle.ppq_pass.specs.ppq_budget.Sizes.{Numbers, heap_of, room_of}
-use Rattle.ppq_pass.specs.ppq_array.Kept.{SameSlots, HasFailed, all_writes}
-use Rattle.ppq_queue.specs.Holding.{Holding, IsAbove}
+use Rattle.ppq_pass.specs.ppq_array.Kept.{HasFailed}
+use Rattle.ppq_queue.specs.Holding.{IsAbove}
+pub use Rattle.ppq_queue.specs.Holding.{Keeps}
 use Rattle.ppq_pass.specs.ppq_array.declared.store_fault.StoreFault.{StoreFault as QueueFault}
 use Rattle.ppq_pass.specs.ppq_array.declared.store_fault.StoreFault.TheVariants.{NoFreeBlock, Device}
-
--- what calls of the queue keep, whatever they answer: its sizes, whether a limit session was begun, its slots, that these tell, and their
--- writes
-pub record Keeps {R : Type 0} (old new : Holding R) : Type 0 where
-  pub sizes : new.sizes ≡ old.sizes
-  pub limited : new.limited ≡ old.limited
-  pub slots : SameSlots old.slots new.slots
-  pub tells : AllTell old.slots → AllTell new.slots
-  pub writes : all_writes old.slots ≤ all_writes new.slots
 
 -- no limit session was begun and one heap holds a load of so many records, or the device has room for it
 abbrev pub HasRoom : Numbers → Bool → ℕ → Type 0

@@ -38,6 +38,7 @@ module _ {S R : Type 0} (shown : S → Shown) where
         limited = q.limited;
         slots = bulk_slots q;
         buffers = internal_buffers q.body.runs.internal.items + external_buffers q.body.runs.external.items + length q.body.lanes.idle;
+        run_buffers = internal_buffers q.body.runs.internal.items;
         row = q.row_seat.row;
         items = q.row_seat.hand.items;
         pool = q.pool_seat.pool;

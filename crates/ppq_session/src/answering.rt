@@ -2,6 +2,7 @@
 ghost use Rattle.std.specs.Prelude.{◌≡◌, ◌≤◌, [], None, IfOk, IfErr, OnOk, length, vec_capacity};
 ghost use Rattle.ppq_pass.specs.ppq_record.Bag.{IsSameBag};
 ghost use Rattle.ppq_pass.specs.ppq_outside.Shown.{AllTell};
+ghost use Rattle.ppq_pass.specs.ppq_array.Kept.{AreQuiet};
 ghost use Rattle.ppq_session.specs.Fronts.{IsFrontRefusal, least_below};
 ghost use Rattle.ppq_session.specs.Asks.{left_by, pops_by};
 ghost use Rattle.ppq_session.specs.Answering.{HasAnswered, KeepsFront};
@@ -21,6 +22,7 @@ where
     ensures answer { IfOk result (λ answer. AllTell front.old.slots → answer ≡ least_below R.Ord.cmp front.old.limit front.old.bag) }
     ensures left { OnOk result (AllTell front.old.slots → IsSameBag front.new.bag (left_by R.Ord.cmp front.old.limit front.old.bag ask)) }
     ensures sound { OnOk result (front.new.failed ≡ None) }
+    ensures quiet { OnOk result (AreQuiet front.old.slots front.new.slots) }
     ensures refused { IfErr result (IsFrontRefusal front.new) }
     ensures kept { KeepsFront (pops_by ask) front.old front.new }
 {

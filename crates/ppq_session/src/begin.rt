@@ -1,13 +1,8 @@
 //! The beginning of a session.
-ghost use Rattle.std.specs.Prelude.{◌≡◌, ◌≤◌, ◌+◌, ◌/◌, ℕ, [], ◌++◌, length, All, Some, None, Err, IfOk, IfErr, vec_capacity};
-ghost use Rattle.ppq_pass.specs.ppq_record.Bag.{IsSameBag};
-ghost use Rattle.ppq_pass.specs.ppq_outside.Shown.{AllTell};
-ghost use Rattle.ppq_pass.specs.ppq_array.Kept.{SameSlots, all_writes};
-ghost use Rattle.ppq_pass.specs.Passed.{PassTells, IsOf};
-ghost use Rattle.ppq_session.specs.BulkSession.{AreOf, HasBuffers, IsFresh, IsBeginRefusal, keys_of, bag_of, shared_by};
+ghost use Rattle.std.specs.Prelude.{◌≡◌, ◌≤◌, ◌+◌, ◌/◌, ℕ, [], length, All, Some, None, Err, IfOk, IfErr, vec_capacity};
 ghost use Rattle.ppq_session.specs.declared.fault.BeginFault.TheVariants.{Memory, Device};
-ghost use Rattle.ppq_session.specs.Equipped.{HasBegun};
-ghost use Rattle.ppq_session.specs.Opened.{IsOpened, DealtOut, HandedOut, HoldsNoSlot};
+ghost use Rattle.ppq_session.specs.Opened.{IsOpened, DealtOut, HandedOut, BulkBegan};
+ghost use Rattle.ppq_session.specs.Sessions.{IsUnbegun};
 ghost use Rattle.ppq_session.specs.Outfits.{IsOutfit};
 ghost use Rattle.ppq_pass.specs.ppq_pool.Seats.{count_of};
 ghost use Rattle.ppq_pass.specs.ppq_budget.Sizes.{pool_of};
@@ -42,32 +37,9 @@ pub fn bulk_begin<H: Host, S: Slot + Send + Sync, R: Record + Send + Sync, G: Ga
 ) -> Result<(Bulk<S, R>, Shared<S, R>, Vec<Pass<S, R>>), (Queue<S, R>, BeginFault)>
 where
     H::Dir: Send,
-    ensures of { IfOk result (λ r. AreOf r.0 (keys_of r.2.items)) }
-    ensures shared { IfOk result (λ r. r.1 ≡ shared_by r.0) }
-    ensures passes { IfOk result (λ r. All (IsOf r.1) r.2.items) }
-    ensures fresh { IfOk result (λ r. All IsFresh r.2.items) }
-    ensures no_slots { IfOk result (λ r. All HoldsNoSlot r.2.items) }
-    ensures whole { IfOk result (λ r. All HasBegun r.2.items) }
-    ensures begun { IfOk result (λ r. r.0.begun ≡ q.in_heap) }
-    ensures runs { IfOk result (λ r. r.0.runs ≤ 64) }
-    ensures buffers { IfOk result (λ r. HasBuffers r.0.sizes r.0.buffers r.0.pool) }
-    ensures bag { IfOk result (λ r. AllTell q.slots → IsSameBag (r.0.bag ++ bag_of r.2.items) q.bag) }
-    ensures slots { IfOk result (λ r. SameSlots q.slots r.0.slots) }
-    ensures tells { IfOk result (λ r. AllTell q.slots → AllTell r.0.slots × All (PassTells S.shown) r.2.items) }
-    ensures writes { IfOk result (λ r. all_writes q.slots ≤ all_writes r.0.slots) }
-    ensures size { IfOk result (λ r. r.0.size ≡ q.size) }
-    ensures peak { IfOk result (λ r. r.0.peak ≡ q.peak) }
-    ensures limited { IfOk result (λ r. r.0.limited ≡ q.limited) }
-    ensures sizes { IfOk result (λ r. r.0.sizes ≡ q.sizes) }
-    ensures refused { IfErr result (λ e. IsBeginRefusal q e.0 e.1) }
+    ensures begun { IfOk result (λ r. BulkBegan S.shown q r.0 r.1 r.2.items) }
+    ensures refused { IfErr result (λ e. IsUnbegun q q e.0 e.1) }
     ensures latched { (number : ℕ) → q.failed ≡ Some number → result ≡ Err (q, Device number) }
-    ensures back_slots { IfErr result (λ e. SameSlots q.slots e.0.slots) }
-    ensures back_tells { IfErr result (λ e. AllTell q.slots → AllTell e.0.slots) }
-    ensures back_writes { IfErr result (λ e. all_writes q.slots ≤ all_writes e.0.slots) }
-    ensures back_size { IfErr result (λ e. e.0.size ≡ q.size) }
-    ensures back_peak { IfErr result (λ e. e.0.peak ≡ q.peak) }
-    ensures back_limited { IfErr result (λ e. e.0.limited ≡ q.limited) }
-    ensures back_sizes { IfErr result (λ e. e.0.sizes ≡ q.sizes) }
 {
     let mut q = q;
     match q.begin_session(rt, true, gate) {

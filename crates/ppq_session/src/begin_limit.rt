@@ -1,13 +1,11 @@
 //! The beginning of a limit session.
 ghost use Rattle.std.specs.Prelude.{◌≡◌, ◌≤◌, ℕ, [], length, true, All, Some, None, Err, IfOk, IfErr, vec_capacity};
-ghost use Rattle.ppq_pass.specs.ppq_record.Bag.{IsSameBag};
-ghost use Rattle.ppq_pass.specs.ppq_outside.Shown.{AllTell};
-ghost use Rattle.ppq_pass.specs.ppq_array.Kept.{SameSlots, all_writes};
-ghost use Rattle.ppq_pass.specs.Passed.{IsOf};
-ghost use Rattle.ppq_session.specs.BulkSession.{IsFresh, IsBeginRefusal};
+ghost use Rattle.ppq_session.specs.BulkSession.{IsFresh};
 ghost use Rattle.ppq_session.specs.declared.fault.BeginFault.TheVariants.{Device};
+ghost use Rattle.ppq_session.specs.Sessions.{IsUnbegun};
+ghost use Rattle.ppq_session.specs.LimitSessions.{begun_in};
 ghost use Rattle.ppq_session.specs.Limited.{HoldsNothing};
-ghost use Rattle.ppq_session.specs.LimitSession.{AreLimited, IsNew, shared_of, IsFrontOf};
+ghost use Rattle.ppq_session.specs.LimitSession.{IsNew, IsFrontOf, LimitBegan};
 
 use crate::begin::hand_out;
 use crate::{BeginFault, Bulk, Front, LimitPass};
@@ -32,29 +30,9 @@ pub fn limit_begin<H: Host, S: Slot + Send + Sync, R: Record + Send + Sync, G: G
 ) -> Result<(Front<S, R>, Shared<S, R>, Vec<LimitPass<S, R>>), (Queue<S, R>, BeginFault)>
 where
     H::Dir: Send,
-    ensures of { IfOk result (λ r. AreLimited r.0 r.2.items) }
-    ensures shared { IfOk result (λ r. r.1 ≡ shared_of r.0) }
-    ensures passes { IfOk result (λ r. All (λ p. IsOf r.1 p.pass) r.2.items) }
-    ensures new { IfOk result (λ r. All IsNew r.2.items) }
-    ensures limit { IfOk result (λ r. r.0.limit ≡ l) }
-    ensures bag { IfOk result (λ r. AllTell q.slots → IsSameBag r.0.bag q.bag) }
-    ensures slots { IfOk result (λ r. SameSlots q.slots r.0.slots) }
-    ensures tells { IfOk result (λ r. AllTell q.slots → AllTell r.0.slots) }
-    ensures writes { IfOk result (λ r. all_writes q.slots ≤ all_writes r.0.slots) }
-    ensures size { IfOk result (λ r. r.0.size ≡ q.size) }
-    ensures unpopped { IfOk result (λ r. r.0.popped ≡ 0) }
-    ensures sound { IfOk result (λ r. r.0.failed ≡ None) }
-    ensures peak { IfOk result (λ r. r.0.peak ≡ q.peak) }
-    ensures sizes { IfOk result (λ r. r.0.sizes ≡ q.sizes) }
-    ensures refused { IfErr result (λ e. IsBeginRefusal q e.0 e.1) }
-    ensures latched { (number : ℕ) → q.failed ≡ Some number → result ≡ Err (record q { limited = true }, Device number) }
-    ensures back_slots { IfErr result (λ e. SameSlots q.slots e.0.slots) }
-    ensures back_tells { IfErr result (λ e. AllTell q.slots → AllTell e.0.slots) }
-    ensures back_writes { IfErr result (λ e. all_writes q.slots ≤ all_writes e.0.slots) }
-    ensures back_size { IfErr result (λ e. e.0.size ≡ q.size) }
-    ensures back_peak { IfErr result (λ e. e.0.peak ≡ q.peak) }
-    ensures back_sizes { IfErr result (λ e. e.0.sizes ≡ q.sizes) }
-    ensures back_limited { IfErr result (λ e. e.0.limited ≡ true) }
+    ensures begun { IfOk result (λ r. LimitBegan q l r.0 r.1 r.2.items) }
+    ensures refused { IfErr result (λ e. IsUnbegun q (begun_in q) e.0 e.1) }
+    ensures latched { (number : ℕ) → q.failed ≡ Some number → result ≡ Err (begun_in q, Device number) }
 {
     let mut q = q;
     match q.store_heaps(rt, gate) {

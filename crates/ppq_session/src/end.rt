@@ -1,10 +1,7 @@
 //! The end of a session.
-ghost use Rattle.std.specs.Prelude.{◌≡◌, ◌≤◌, List, All};
-ghost use Rattle.ppq_pass.specs.ppq_outside.Shown.{AllTell};
-ghost use Rattle.ppq_pass.specs.ppq_array.Kept.{SameSlots, all_writes};
-ghost use Rattle.ppq_pass.specs.Passed.{PassHolding, PassTells};
-ghost use Rattle.ppq_session.specs.declared.fault.SessionEnd.TheVariants.{Whole};
-ghost use Rattle.ppq_session.specs.BulkSession.{AreOf, EndsIn, keys_of, shared_by};
+ghost use Rattle.std.specs.Prelude.{◌≡◌, List};
+ghost use Rattle.ppq_pass.specs.Passed.{PassHolding};
+ghost use Rattle.ppq_session.specs.BulkSession.{AreOf, BulkEnded, keys_of, shared_by};
 ghost use Rattle.ppq_session.specs.Apart.{IsJoined, SessionEnded, BulkHeld};
 
 use crate::bringing::bring_all;
@@ -36,13 +33,7 @@ where
     H::Dir: Send,
     requires of { AreOf b (keys_of passes.items) }
     requires shared { shared ≡ shared_by b }
-    ensures end { EndsIn S.shown b passes.items result.0 result.1 }
-    ensures settled { result.1 ≡ Whole → result.0.runs ≤ 64 }
-    ensures slots { SameSlots b.slots result.0.slots }
-    ensures tells { AllTell b.slots → All (PassTells S.shown) passes.items → AllTell result.0.slots }
-    ensures writes { all_writes b.slots ≤ all_writes result.0.slots }
-    ensures sizes { result.0.sizes ≡ b.sizes }
-    ensures limited { result.0.limited ≡ b.limited }
+    ensures { BulkEnded S.shown b passes.items result.0 result.1 }
 {
     let mut parts = b.into_parts();
     bring_all(&mut parts, &shared, passes);

@@ -1,10 +1,6 @@
 //! The end of a limit session.
-ghost use Rattle.std.specs.Prelude.{◌≡◌, ◌≤◌, true, All};
-ghost use Rattle.ppq_pass.specs.ppq_outside.Shown.{AllTell};
-ghost use Rattle.ppq_pass.specs.ppq_array.Kept.{SameSlots, all_writes};
-ghost use Rattle.ppq_pass.specs.Passed.{PassTells};
-ghost use Rattle.ppq_session.specs.declared.fault.SessionEnd.TheVariants.{Whole};
-ghost use Rattle.ppq_session.specs.LimitSession.{AreLimited, EndsIn, shared_of};
+ghost use Rattle.std.specs.Prelude.{◌≡◌};
+ghost use Rattle.ppq_session.specs.LimitSession.{AreLimited, LimitEnded, shared_of};
 
 use crate::bringing::bring_all;
 use crate::end::end_joined;
@@ -34,13 +30,7 @@ where
     H::Dir: Send,
     requires of { AreLimited front passes.items }
     requires shared { shared ≡ shared_of front }
-    ensures end { EndsIn S.shown front passes.items result.0 result.1 }
-    ensures settled { result.1 ≡ Whole → result.0.runs ≤ 64 }
-    ensures slots { SameSlots front.slots result.0.slots }
-    ensures tells { AllTell front.slots → All (λ p. PassTells S.shown p.pass) passes.items → AllTell result.0.slots }
-    ensures writes { all_writes front.slots ≤ all_writes result.0.slots }
-    ensures sizes { result.0.sizes ≡ front.sizes }
-    ensures limited { result.0.limited ≡ true }
+    ensures { LimitEnded S.shown front passes.items result.0 result.1 }
 {
     record_laws::<R>();
     let (parts, popped, failed) = front.into_parts();

@@ -3,7 +3,7 @@ ghost use Rattle.std.specs.Prelude.{◌≡◌, ◌≤◌, ◌+◌, ◌↔◌, �
 ghost use Rattle.ppq_pass.specs.ppq_record.Bag.{IsSameBag, size_below};
 ghost use Rattle.ppq_pass.specs.ppq_budget.Sizes.{AreInRange};
 ghost use Rattle.ppq_pass.specs.ppq_outside.Shown.{AllTell};
-ghost use Rattle.ppq_pass.specs.ppq_array.Kept.{SameSlots, HasFailed, all_writes};
+ghost use Rattle.ppq_pass.specs.ppq_array.Kept.{SameSlots, HasFailed, AreQuiet, all_writes};
 ghost use Rattle.ppq_pass.specs.ppq_array.Owner.{slots_shown};
 ghost use Rattle.ppq_queue.specs.Resting.{count_of};
 ghost use Rattle.ppq_pass.specs.ppq_array.declared.store_fault.StoreFault.TheVariants.{Device};
@@ -78,10 +78,11 @@ impl<S: Slot + Send + Sync, R: Record + Send + Sync> Front<S, R> {
         ensures sound { OnOk result (self.new.failed ≡ None) }
         ensures refused { IfErr result (IsFrontRefusal self.new) }
         ensures latched { (number : ℕ) → self.old.failed ≡ Some number → (result ≡ Err (Device number)) × (self.new ≡ self.old) }
+        ensures quiet { OnOk result (AreQuiet self.old.slots self.new.slots) }
         ensures slots { SameSlots self.old.slots self.new.slots }
         ensures tells { AllTell self.old.slots → AllTell self.new.slots }
         ensures writes { all_writes self.old.slots ≤ all_writes self.new.slots }
-        ensures rest { self.new ≡ record self.old { bag = self.new.bag; slots = self.new.slots; in_extract = self.new.in_extract; failed = self.new.failed } }
+        ensures rest { self.new ≡ record self.old { bag = self.new.bag; slots = self.new.slots; run_buffers = self.new.run_buffers; in_extract = self.new.in_extract; failed = self.new.failed } }
     {
         record_laws::<R>();
         self.ready(rt, gate)?;
@@ -105,10 +106,11 @@ impl<S: Slot + Send + Sync, R: Record + Send + Sync> Front<S, R> {
         ensures sound { OnOk result (self.new.failed ≡ None) }
         ensures refused { IfErr result (IsFrontRefusal self.new) }
         ensures latched { (number : ℕ) → self.old.failed ≡ Some number → (result ≡ Err (Device number)) × (self.new ≡ self.old) }
+        ensures quiet { OnOk result (AreQuiet self.old.slots self.new.slots) }
         ensures slots { SameSlots self.old.slots self.new.slots }
         ensures tells { AllTell self.old.slots → AllTell self.new.slots }
         ensures writes { all_writes self.old.slots ≤ all_writes self.new.slots }
-        ensures rest { self.new ≡ record self.old { bag = self.new.bag; slots = self.new.slots; in_extract = self.new.in_extract; size = self.new.size; popped = self.new.popped; failed = self.new.failed } }
+        ensures rest { self.new ≡ record self.old { bag = self.new.bag; slots = self.new.slots; run_buffers = self.new.run_buffers; in_extract = self.new.in_extract; size = self.new.size; popped = self.new.popped; failed = self.new.failed } }
     {
         record_laws::<R>();
         self.ready(rt, gate)?;
@@ -124,10 +126,11 @@ impl<S: Slot + Send + Sync, R: Record + Send + Sync> Front<S, R> {
         ensures sound { OnOk result (self.new.failed ≡ None) }
         ensures refused { IfErr result (IsFrontRefusal self.new) }
         ensures latched { (number : ℕ) → self.old.failed ≡ Some number → (result ≡ Err (Device number)) × (self.new ≡ self.old) }
+        ensures quiet { OnOk result (AreQuiet self.old.slots self.new.slots) }
         ensures slots { SameSlots self.old.slots self.new.slots }
         ensures tells { AllTell self.old.slots → AllTell self.new.slots }
         ensures writes { all_writes self.old.slots ≤ all_writes self.new.slots }
-        ensures rest { self.new ≡ record self.old { bag = self.new.bag; slots = self.new.slots; in_extract = self.new.in_extract; failed = self.new.failed } }
+        ensures rest { self.new ≡ record self.old { bag = self.new.bag; slots = self.new.slots; run_buffers = self.new.run_buffers; in_extract = self.new.in_extract; failed = self.new.failed } }
     {
         if let Some(number) = self.failed {
             return Err(QueueFault::Device { number });

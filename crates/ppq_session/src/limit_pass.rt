@@ -3,7 +3,7 @@ ghost use Rattle.std.specs.Prelude.{◌≡◌, ◌<◌, ◌+◌, ◌↔◌, ◌�
 ghost use Rattle.ppq_pass.specs.ppq_record.Order.{is_before};
 ghost use Rattle.ppq_pass.specs.ppq_record.Bag.{IsSameBag};
 ghost use Rattle.ppq_pass.specs.ppq_budget.Sizes.{heap_of};
-ghost use Rattle.ppq_pass.specs.Passed.{IsOf, PassTells, with_one, IsRefusedPush};
+ghost use Rattle.ppq_pass.specs.Passed.{IsOf, PassTells, KeptSlots, with_one, IsRefusedPush};
 ghost use Rattle.ppq_pass.specs.ppq_array.declared.store_fault.StoreFault.TheVariants.{Device};
 ghost use Rattle.ppq_session.specs.Limited.{HoldsNothing, IsLimited, limited};
 ghost use Rattle.ppq_session.specs.Dealing.{IsGoing, Adds, records_for};
@@ -89,11 +89,13 @@ impl<S: Slot, R: Record> LimitPass<S, R> {
         ensures accepted { OnOk result (self.new.pass.accepted ≡ self.old.pass.accepted + 1) }
         ensures same { OnOk result (self.new.pass.refused ≡ self.old.pass.refused) }
         ensures sound { OnOk result (self.new.pass.failed ≡ None) }
+        ensures stored { OnOk result (self.old.pass.in_heap ≡ heap_of self.old.pass.key.sizes → self.new.pass.in_heap ≡ 1) }
         ensures easy { self.old.pass.failed ≡ None → self.old.pass.in_heap < heap_of self.old.pass.key.sizes → IsOk result × (self.new.pass ≡ with_one self.old.pass self.new.pass.bag) }
         ensures back { IfErr result (λ e. e.0 ≡ r) }
         ensures refused { IfErr result (λ e. IsRefusedPush self.old.pass self.new.pass e.1) }
         ensures latched { (number : ℕ) → self.old.pass.failed ≡ Some number → (result ≡ Err (r, Device number)) × (self.new.pass ≡ self.old.pass) }
         ensures tells { PassTells S.shown self.old.pass → PassTells S.shown self.new.pass }
+        ensures kept { KeptSlots self.old.pass self.new.pass }
         ensures key { self.new.pass.key ≡ self.old.pass.key }
         ensures unmoved { self.new.limit ≡ self.old.limit }
     {

@@ -2,7 +2,7 @@
 ghost use Rattle.std.specs.Prelude.{◌≡◌, ◌<◌, ℕ, [], Some, OnOk, IsErrOf};
 ghost use Rattle.ppq_pass.specs.ppq_record.Bag.{IsSameBag};
 ghost use Rattle.ppq_pass.specs.ppq_outside.Shown.{AllTell};
-ghost use Rattle.ppq_pass.specs.ppq_array.Kept.{HasFailed};
+ghost use Rattle.ppq_pass.specs.ppq_array.Kept.{HasFailed, AreQuiet};
 ghost use Rattle.ppq_pass.specs.ppq_fetch.Taking.{NoneBelow};
 ghost use Rattle.ppq_queue.specs.Resting.{BodyKept, runs_bag};
 ghost use Rattle.ppq_session.specs.FrontState.{IsFront, IsSoundFront, front_slots, front_bag};
@@ -28,6 +28,7 @@ where
     ensures kept { BodyKept S.shown q.old.body q.new.body q.old.supply q.new.supply }
     ensures sound { OnOk result (IsSoundFront S.shown R.Ord.cmp R.record_of R.WIDTH q.new limit) }
     ensures bag { OnOk result (AllTell (front_slots S.shown q.old) → IsSameBag (front_bag S.shown R.record_of R.WIDTH q.new) (front_bag S.shown R.record_of R.WIDTH q.old)) }
+    ensures quiet { OnOk result (AreQuiet (front_slots S.shown q.old) (front_slots S.shown q.new)) }
     ensures ready { OnOk result (q.new.extract.items ≡ [] → AllTell (front_slots S.shown q.old) → NoneBelow R.Ord.cmp (Some limit) (runs_bag S.shown R.record_of R.WIDTH q.new.body)) }
     ensures none_free { IsErrOf result StoreFault.NoFreeBlock → ⊥ }
     ensures device { (number : ℕ) → IsErrOf result (StoreFault.Device number) → HasFailed number (front_slots S.shown q.new) }

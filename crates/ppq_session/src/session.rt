@@ -3,7 +3,7 @@ ghost use Rattle.std.specs.Prelude.{◌≡◌, ◌<◌, ◌≤◌, ◌++◌, ◌
 ghost use Rattle.ppq_pass.specs.ppq_budget.Sizes.{AreInRange, batch_of};
 ghost use Rattle.ppq_queue.specs.Holding.{Holding};
 ghost use Rattle.ppq_session.specs.declared.fault.BeginFault.TheVariants.{Device};
-ghost use Rattle.ppq_session.specs.Dealing.{IsGoing, HasEnded, records_in};
+ghost use Rattle.ppq_session.specs.Dealing.{IsGoing, HasEnded, EachAdds, records_in, records_for, part_for};
 ghost use Rattle.ppq_session.specs.Sessions.{InSession, IsLoaded, IsLeftBy, IsUnbegun, with_batch};
 
 use crate::begin::bulk_begin;
@@ -100,6 +100,7 @@ impl<S: Slot + Send + Sync, R: Record + Send + Sync> Session<S, R> {
         ensures all { IsTrue result ↔ All IsGoing self.new.passes }
         ensures ended { result ≡ false → Any HasEnded self.new.passes }
         ensures session { (queue : Holding R) → (records : List R) → InSession S.shown queue records self.old → InSession S.shown queue (records ++ take count self.old.bulk.batch) self.new }
+        ensures each { EachAdds S.shown (part_for (length self.old.passes) (take count self.old.bulk.batch)) self.old.passes self.new.passes }
         ensures bulk { self.new.bulk ≡ self.old.bulk }
     {
         self.bulk.known();
@@ -117,6 +118,7 @@ impl<S: Slot + Send + Sync, R: Record + Send + Sync> Session<S, R> {
         ensures all { IsTrue result ↔ All IsGoing self.new.passes }
         ensures ended { result ≡ false → Any HasEnded self.new.passes }
         ensures session { (queue : Holding R) → (records : List R) → InSession S.shown queue records self.old → InSession S.shown queue (records ++ records_in lines.now) self.new }
+        ensures each { EachAdds S.shown (λ pass. records_for pass lines.now) self.old.passes self.new.passes }
         ensures bulk { self.new.bulk ≡ self.old.bulk }
     {
         self.bulk.known();

@@ -98,7 +98,7 @@ where
     H::Dir: Send,
     requires limited { AreLimited front.old passes.old }
     requires of { All (λ p. IsOf shared.now p.pass) passes.old }
-    ensures front { front.new ≡ record front.old { bag = front.new.bag; slots = front.new.slots; in_extract = front.new.in_extract; size = front.new.size; popped = front.new.popped; failed = front.new.failed } }
+    ensures front { front.new ≡ record front.old { bag = front.new.bag; slots = front.new.slots; run_buffers = front.new.run_buffers; in_extract = front.new.in_extract; size = front.new.size; popped = front.new.popped; failed = front.new.failed } }
     ensures keys { (key : _) → All (λ p. p.pass.key ≡ key) passes.old → All (λ p. p.pass.key ≡ key) passes.new }
     ensures limits { (limit : _) → All (λ p. p.limit ≡ limit) passes.old → All (λ p. p.limit ≡ limit) passes.new }
 {
@@ -123,7 +123,7 @@ fn run<H: Host + Abort>(
 where
     H::Dir: Send,
     requires { All (λ p. IsOf shared.now p.pass) passes.old }
-    ensures front { front.new ≡ record front.old { bag = front.new.bag; slots = front.new.slots; in_extract = front.new.in_extract; size = front.new.size; popped = front.new.popped; failed = front.new.failed } }
+    ensures front { front.new ≡ record front.old { bag = front.new.bag; slots = front.new.slots; run_buffers = front.new.run_buffers; in_extract = front.new.in_extract; size = front.new.size; popped = front.new.popped; failed = front.new.failed } }
     ensures keys { (key : _) → All (λ p. p.pass.key ≡ key) passes.old → All (λ p. p.pass.key ≡ key) passes.new }
     ensures limits { (limit : _) → All (λ p. p.limit ≡ limit) passes.old → All (λ p. p.limit ≡ limit) passes.new }
 {
@@ -132,7 +132,7 @@ where
         ensures { ((key : _) → All (λ p. p.pass.key ≡ key) passes.entry.now → All (λ p. p.pass.key ≡ key) passes.exit.now) × ((limit : _) → All (λ p. p.limit ≡ limit) passes.entry.now → All (λ p. p.limit ≡ limit) passes.exit.now) }
     { push_all(rt, shared, records, passes) };
     let mut take = ||
-        ensures { front.exit.now ≡ record front.entry.now { bag = front.exit.now.bag; slots = front.exit.now.slots; in_extract = front.exit.now.in_extract; size = front.exit.now.size; popped = front.exit.now.popped; failed = front.exit.now.failed } }
+        ensures { front.exit.now ≡ record front.entry.now { bag = front.exit.now.bag; slots = front.exit.now.slots; run_buffers = front.exit.now.run_buffers; in_extract = front.exit.now.in_extract; size = front.exit.now.size; popped = front.exit.now.popped; failed = front.exit.now.failed } }
     { take_all(rt, front, given) };
     join_mut(rt, &mut push, &mut take);
 }
@@ -187,7 +187,7 @@ fn push_half<H: Host + Abort>(
 fn take_all<H: Host + Abort>(rt: &H, front: &mut Front<MemSlot, Pair>, given: &mut Vec<Pair>)
 where
     H::Dir: Send,
-    ensures { front.new ≡ record front.old { bag = front.new.bag; slots = front.new.slots; in_extract = front.new.in_extract; size = front.new.size; popped = front.new.popped; failed = front.new.failed } }
+    ensures { front.new ≡ record front.old { bag = front.new.bag; slots = front.new.slots; run_buffers = front.new.run_buffers; in_extract = front.new.in_extract; size = front.new.size; popped = front.new.popped; failed = front.new.failed } }
 {
     'taking: for _ in 0..400 {
         let top = front.top(rt, &OpenGate);
@@ -214,7 +214,7 @@ where
     H::Dir: Send,
     requires limited { AreLimited front.old passes.old }
     requires of { All (λ p. IsOf shared.now p.pass) passes.old }
-    ensures front { front.new ≡ record front.old { bag = front.new.bag; slots = front.new.slots; in_extract = front.new.in_extract; size = front.new.size; popped = front.new.popped; failed = front.new.failed } }
+    ensures front { front.new ≡ record front.old { bag = front.new.bag; slots = front.new.slots; run_buffers = front.new.run_buffers; in_extract = front.new.in_extract; size = front.new.size; popped = front.new.popped; failed = front.new.failed } }
     ensures keys { (key : _) → All (λ p. p.pass.key ≡ key) passes.old → All (λ p. p.pass.key ≡ key) passes.new }
     ensures limits { (limit : _) → All (λ p. p.limit ≡ limit) passes.old → All (λ p. p.limit ≡ limit) passes.new }
 {
@@ -297,7 +297,7 @@ where
     H::Dir: Send,
     requires { AreLimited front.old passes.now }
     ensures answer { IfOk result (λ answer. AllTell front.old.slots → All (λ p. p.pass.failed ≡ None) passes.now → answer ≡ least_below R.Ord.cmp front.old.limit (front.old.bag ++ limited_bag passes.now)) }
-    ensures front { front.new ≡ record front.old { bag = front.new.bag; slots = front.new.slots; in_extract = front.new.in_extract; size = front.new.size; popped = front.new.popped; failed = front.new.failed } }
+    ensures front { front.new ≡ record front.old { bag = front.new.bag; slots = front.new.slots; run_buffers = front.new.run_buffers; in_extract = front.new.in_extract; size = front.new.size; popped = front.new.popped; failed = front.new.failed } }
 {
     passes_stand_back(front, passes);
     front.pop(rt, &OpenGate)

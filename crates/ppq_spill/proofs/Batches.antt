@@ -8,6 +8,7 @@ use Rattle.std.proofs.lemmas.List.Elements.{All-nil, All-append}
 use Rattle.ppq_fetch.specs.ppq_block.Block.{Block}
 use Rattle.ppq_fetch.specs.ppq_outside.Shown.{Shown, AllTell}
 use Rattle.ppq_fetch.specs.ppq_array.Owner.{HasBlock, HasSize}
+use Rattle.ppq_fetch.specs.ppq_array.Kept.{AreQuiet}
 use Rattle.ppq_fetch.proofs.ppq_array.Noted.{all_right}
 use Rattle.ppq_fetch.specs.ppq_array.declared.berth.DeviceBlock.{DeviceBlock}
 use Rattle.ppq_fetch.specs.ppq_array.declared.store_fault.StoreFault.{StoreFault}
@@ -18,10 +19,11 @@ use Rattle.ppq_spill.specs.Writing.{SameBuffers}
 use Rattle.ppq_spill.proofs.Parts.{Wrote-trans, Wrote-none, hand_long}
 use Rattle.ppq_spill.proofs.Blocks.{counts_append, counts_full, all_full, packed_append, packed_full, fewer_than}
 
--- So many of the records were written, in blocks that are full as long as records are left
+-- So many of the records were written, in blocks that are full as long as records are left, and no write failed
 pub record Batch {S R : Type 0} (record_of : List ℕ → R) (width block : ℕ) (shown : S → Shown) (bytes : ℕ) (records : List R) (at : ℕ) (old new : Hand S R) : Type 0 where
   pub blocks : List (DeviceBlock S R)
   pub wrote : Wrote shown bytes old new blocks
+  pub quiet : AreQuiet (hand_slots shown old) (hand_slots shown new)
   pub within : at ≤ length records
   pub size : counts blocks ≡ at
   pub packed : IsPacked block blocks
@@ -42,6 +44,7 @@ module _ {S R : Type 0} (record_of : List ℕ → R) (width block : ℕ) (shown 
       record {
         blocks = [];
         wrote = Wrote-none shown bytes old;
+        quiet = refl;
         within = omega arith;
         size = refl;
         packed = packed_full block [] (All-nil (λ (b : DeviceBlock S R). b.count ≡ block));
@@ -65,6 +68,7 @@ module _ {S R : Type 0} (record_of : List ℕ → R) (width block : ℕ) (shown 
       record {
         blocks = bs ++ cs;
         wrote = Wrote-trans shown bytes old now new bs cs batch.wrote put.wrote;
+        quiet = put.quiet ∙ batch.quiet;
         within = omega (arith, is);
         size = size;
         packed = packed_append block bs cs full (some_block cs (omega (arith, put.size, long, is, more, some))) put.packed;
@@ -103,6 +107,7 @@ module _ {S R : Type 0} (record_of : List ℕ → R) (width block : ℕ) (shown 
       record {
         blocks = batch.blocks;
         wrote = batch.wrote;
+        quiet = batch.quiet;
         size = batch.size ∙ e;
         packed = batch.packed;
         tight = omega (arith, batch.tight, e);

@@ -4,9 +4,8 @@ use Rattle.std.proofs.lemmas.List.Sums.{sum_by-cons, sum_by-append}
 use Rattle.std.proofs.lemmas.List.Elements.{All-cons, All-head, All-nil}
 use Rattle.ppq_fetch.specs.ppq_outside.Shown.{Shown, Tells}
 use Rattle.ppq_fetch.specs.ppq_array.Supply.{Stock}
-use Rattle.ppq_fetch.specs.ppq_array.Kept.{MoreWrites, weight_at}
+use Rattle.ppq_fetch.specs.ppq_array.Kept.{SameSums, AreQuiet, MoreWrites, weight_at, all_faults}
 use Rattle.ppq_spill.specs.Went.{Went, WentWriting}
-use Rattle.ppq_spill.specs.Moves.{SameSums}
 use Rattle.ppq_spill.specs.Writing.{Grew}
 use Rattle.ppq_spill.proofs.SameSlots.{SameSlots-refl, SameSlots-trans, SameSlots-grown}
 use Rattle.ppq_spill.proofs.Keeping.{sum_ones}
@@ -18,6 +17,9 @@ w_of s = s.writes
 
 abbrev r_of : Shown → ℕ
 r_of s = s.reads
+
+abbrev pub f_of : Shown → ℕ
+f_of s = s.faults
 
 pub Went-refl : (xs : List Shown) → Went 0 0 xs xs
 Went-refl xs = record { same = SameSlots-refl xs; calls = record { written = omega arith; stay = omega arith; read = omega arith }; tells = (λ t. t, λ t. t) }
@@ -114,18 +116,33 @@ WentWriting-more base xs ys s t n k m before grew calls e =
     omega (arith, before.untold, untold_grown s t grew, sum_by-append untold xs (s ∷ ys), sum_by-cons untold s ys, sum_by-append untold xs (t ∷ ys), sum_by-cons untold t ys) in
     record { went = Went-more base xs ys s t n k m before.went grew calls e; untold = same }
 
+-- the same slots among others, in any order, of which no call failed
+pub quiet_placed :
+    (xs a b a' b' : List Shown) → ((f : Shown → ℕ) → sum_by f a' ≡ sum_by f xs + sum_by f a) → ((f : Shown → ℕ) → sum_by f b' ≡ sum_by f xs + sum_by f b) → AreQuiet a b → AreQuiet a' b'
+quiet_placed xs a b a' b' before now is = let e : all_faults b' ≡ all_faults a' = omega (arith, before f_of, now f_of, is) in e
+
+-- one slot more was called, and did not fail
+pub quiet_more : (base xs ys : List Shown) (s t : Shown) → AreQuiet base (xs ++ s ∷ ys) → t.faults ≡ s.faults → AreQuiet base (xs ++ t ∷ ys)
+quiet_more base xs ys s t before same =
+    let e : all_faults (xs ++ t ∷ ys) ≡ all_faults base = omega (arith, before, same, sum_by-append f_of xs (s ∷ ys), sum_by-cons f_of s ys, sum_by-append f_of xs (t ∷ ys), sum_by-cons f_of t ys) in
+    e
+
 -- of what is held and kept, only slots that were drawn were called
-pub went_kept :
-    (most : ℕ) (e j k0 d1 b0 e' j' k1 d0 b k : List Shown) → SameSums (k0 ++ d1) (b0 ++ k ++ d0) → WentWriting most b0 b
-    → ((f : Shown → ℕ) → sum_by f e' + sum_by f j' + sum_by f k1 ≡ sum_by f e + sum_by f j + sum_by f k + sum_by f b)
-    → WentWriting most (e ++ j ++ k0 ++ d1) (e' ++ j' ++ k1 ++ d0)
-went_kept most e j k0 d1 b0 e' j' k1 d0 b k moved went placed =
-    WentWriting-placed most (e ++ j ++ k ++ d0) b0 b (e ++ j ++ k0 ++ d1) (e' ++ j' ++ k1 ++ d0)
-    (λ f. omega (arith, four f e j k0 d1, four f e j k d0, moved f, sum_by-append f k0 d1, sum_by-append f (b0 ++ k) d0, sum_by-append f b0 k))
-    (λ f. omega (arith, four f e' j' k1 d0, four f e j k d0, placed f)) went
-  where
-    four : (f : Shown → ℕ) (a b c d : List Shown) → sum_by f (a ++ b ++ c ++ d) ≡ sum_by f a + sum_by f b + sum_by f c + sum_by f d
-    four f a b c d = omega (arith, sum_by-append f (a ++ b ++ c) d, sum_by-append f (a ++ b) c, sum_by-append f a b)
+module _ (e j k0 d1 b0 e' j' k1 d0 b k : List Shown) (moved : SameSums (k0 ++ d1) (b0 ++ k ++ d0)) (placed : (f : Shown → ℕ) → sum_by f e' + sum_by f j' + sum_by f k1 ≡ sum_by f e + sum_by f j + sum_by f k + sum_by f b) where
+  four : (f : Shown → ℕ) (a b c d : List Shown) → sum_by f (a ++ b ++ c ++ d) ≡ sum_by f a + sum_by f b + sum_by f c + sum_by f d
+  four f a b c d = omega (arith, sum_by-append f (a ++ b ++ c) d, sum_by-append f (a ++ b) c, sum_by-append f a b)
+
+  held_before : (f : Shown → ℕ) → sum_by f (e ++ j ++ k0 ++ d1) ≡ sum_by f (e ++ j ++ k ++ d0) + sum_by f b0
+  held_before f = omega (arith, four f e j k0 d1, four f e j k d0, moved f, sum_by-append f k0 d1, sum_by-append f (b0 ++ k) d0, sum_by-append f b0 k)
+
+  held_now : (f : Shown → ℕ) → sum_by f (e' ++ j' ++ k1 ++ d0) ≡ sum_by f (e ++ j ++ k ++ d0) + sum_by f b
+  held_now f = omega (arith, four f e' j' k1 d0, four f e j k d0, placed f)
+
+  pub went_kept : (most : ℕ) → WentWriting most b0 b → WentWriting most (e ++ j ++ k0 ++ d1) (e' ++ j' ++ k1 ++ d0)
+  went_kept most went = WentWriting-placed most (e ++ j ++ k ++ d0) b0 b (e ++ j ++ k0 ++ d1) (e' ++ j' ++ k1 ++ d0) held_before held_now went
+
+  pub quiet_kept : AreQuiet b0 b → AreQuiet (e ++ j ++ k0 ++ d1) (e' ++ j' ++ k1 ++ d0)
+  quiet_kept is = quiet_placed (e ++ j ++ k ++ d0) b0 b (e ++ j ++ k0 ++ d1) (e' ++ j' ++ k1 ++ d0) held_before held_now is
 
 -- the supply's slots are as they were
 pub went_untouched : (slots : List Shown) (o n : Stock) → n.kept ≡ o.kept → n.drawn ≡ o.drawn → WentWriting 0 (slots ++ o.kept ++ n.drawn) (slots ++ n.kept ++ o.drawn)

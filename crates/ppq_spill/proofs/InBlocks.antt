@@ -12,14 +12,16 @@ use Rattle.ppq_fetch.specs.ppq_array.Run.{Run}
 use Rattle.ppq_fetch.specs.ppq_array.External.{External, size_of, records_in, IsPacked}
 use Rattle.ppq_fetch.specs.ppq_array.Supply.{Stock}
 use Rattle.ppq_fetch.specs.ppq_array.Owner.{slots_shown}
-use Rattle.ppq_fetch.specs.ppq_array.Holdings.{internal_items}
+use Rattle.ppq_fetch.specs.ppq_array.Holdings.{internal_items, external_slots}
+use Rattle.ppq_fetch.specs.ppq_array.Kept.{SameSums, AreQuiet}
 use Rattle.ppq_fetch.proofs.ppq_array.Noted.{all_left}
 use Rattle.ppq_spill.specs.declared.body.PassBody.{PassBody}
-use Rattle.ppq_spill.specs.Body.{body_slots}
+use Rattle.ppq_spill.specs.Body.{body_slots, job_slots}
 use Rattle.ppq_spill.specs.Moves.{DrewSlots, FoundScant}
 use Rattle.ppq_spill.specs.Storing.{RunsAscend, BlocksStored, IsStored, StoreLeaves, StoreEnds, NoSlots, NoneFree, SameScant, TooFew}
 use Rattle.ppq_spill.specs.Writing.{Writing, left_in}
-use Rattle.ppq_spill.proofs.Keeping.{slots_long}
+use Rattle.ppq_spill.proofs.Keeping.{slots_more, slots_long}
+use Rattle.ppq_spill.proofs.Going.{quiet_kept}
 use Rattle.ppq_spill.specs.Untold.{untold}
 use Rattle.ppq_spill.proofs.Telling.{tell_sum, sum_tell, tell_moved}
 
@@ -31,9 +33,9 @@ module _ {S R : Type 0} (cmp : R → R → Ordering) (record_of : List ℕ → R
   pub blocks_stored :
       (sorted : List R) (old new : PassBody S R) (o d r : Stock) (slots0 : List (DeviceBlock S R)) (runs : List (Run R)) (array : External S R) → DrewSlots shown width o d slots0 → r.drawn ≡ d.drawn → r.kept ≡ d.kept
       → Writing cmp record_of width block shown slots0 old.runs.internal.items sorted [] runs [] array → block ≡ o.block → length slots0 * block < length sorted + length (internal_items old.runs.internal.items) + block → RunsAscend cmp shown sorted old o
-      → new.runs.internal.items ≡ [] → new.runs.external.items ≡ old.runs.external.items ++ array ∷ []
+      → new.runs.internal.items ≡ [] → new.runs.external.items ≡ old.runs.external.items ++ array ∷ [] → new.lanes.jobs.items ≡ old.lanes.jobs.items
       → BlocksStored cmp record_of width shown sorted old new o r
-  blocks_stored sorted old new o d r slots0 runs array drew drawn same_kept writing same least up none more =
+  blocks_stored sorted old new o d r slots0 runs array drew drawn same_kept writing same least up none more jobs =
       let items = internal_items old.runs.internal.items in
       let left = left_in runs [] in
       let z : 0 * block ≡ 0 = omega arith in
@@ -45,8 +47,15 @@ module _ {S R : Type 0} (cmp : R → R → Ordering) (record_of : List ℕ → R
       let long : length array.stored ≡ length slots0 = omega (arith, writing.went.went.same.length, length-append (slots_shown shown array.stored) [], slots_long shown array.stored, slots_long shown slots0) in
       let size : size_of array ≡ length sorted + length items = omega (arith, writing.size, ap length empty, length-append items sorted) in
       let few : length array.stored * block < size_of array + block = subst (λ k. k * block < size_of array + block) (sym long) (omega (arith, least, size)) in
+      let stored = slots_shown shown array.stored in
+      let had = external_slots shown old.runs.external.items in
+      let has : external_slots shown new.runs.external.items ≡ had ++ stored = ap (external_slots shown) more ∙ slots_more shown old.runs.external.items array in
       record {
         array = array;
+        quiet = quiet_kept had (job_slots shown old.lanes.jobs.items) o.kept r.drawn (slots_shown shown slots0) (external_slots shown new.runs.external.items) (job_slots shown new.lanes.jobs.items) r.kept o.drawn stored d.kept
+            (subst (λ (x : List Shown). SameSums (o.kept ++ x) (slots_shown shown slots0 ++ d.kept ++ o.drawn)) (sym drawn) drew.moved)
+            (λ f. omega (arith, ap (sum_by f) has, sum_by-append f had stored, ap (sum_by f) same_kept, ap (λ js. sum_by f (job_slots shown js)) jobs))
+            (subst (AreQuiet (slots_shown shown slots0)) (append-nil stored) writing.quiet);
         level = ap (λ a. a.level) writing.shape;
         loaded = ap (λ a. a.loaded) writing.shape;
         lifted = ap (λ a. a.lifted) writing.shape;
@@ -72,9 +81,7 @@ module _ {S R : Type 0} (cmp : R → R → Ordering) (record_of : List ℕ → R
   pub stored_after :
       (sorted : List R) (old new : PassBody S R) (o m r : Stock) → FoundScant (length sorted) o m → SameScant m r → BlocksStored cmp record_of width shown sorted old new m r → IsStored cmp record_of width shown sorted old new o r
   stored_after sorted old new o m r found same blocks =
-      let kept : m.kept ≡ o.kept = ap (λ s. s.kept) found.stock in
-      let same_block : m.block ≡ o.block = ap (λ s. s.block) found.stock in
-      let as_before : AllTell (body_slots shown old ++ o.kept ++ r.drawn) → AllTell (body_slots shown old ++ m.kept ++ r.drawn) = subst (λ (k : List Shown). AllTell (body_slots shown old ++ k ++ r.drawn)) (sym kept) in
+      let at = subst (λ s. BlocksStored cmp record_of width shown sorted old new s r) found.stock blocks in
       inr record {
         short = record {
           counted = subst (λ n. Rose o.scant n) (sym same.scant) found.short.counted;
@@ -82,19 +89,20 @@ module _ {S R : Type 0} (cmp : R → R → Ordering) (record_of : List ℕ → R
           few = subst (λ n. TooFew (n - o.buffer_room) o.block (length sorted)) (sym same.room) found.short.few;
         };
         blocks = record {
-          array = blocks.array;
-          level = blocks.level;
-          loaded = blocks.loaded;
-          lifted = blocks.lifted;
-          size = blocks.size;
-          ascends = λ t. blocks.ascends (as_before t);
-          records = λ t. blocks.records (as_before t);
-          blocks = subst (λ b. length blocks.array.stored * b < size_of blocks.array + b) same_block blocks.blocks;
-          packed = subst (λ b. IsPacked b blocks.array.stored) same_block blocks.packed;
-          written = blocks.written;
-          kept = omega (arith, blocks.kept, ap length kept);
-          internal = blocks.internal;
-          external = blocks.external;
+          array = at.array;
+          quiet = at.quiet;
+          level = at.level;
+          loaded = at.loaded;
+          lifted = at.lifted;
+          size = at.size;
+          ascends = at.ascends;
+          records = at.records;
+          blocks = at.blocks;
+          packed = at.packed;
+          written = at.written;
+          kept = at.kept;
+          internal = at.internal;
+          external = at.external;
         };
       }
 
@@ -139,5 +147,5 @@ none_after n old new o m r found same is =
         unsure = found.short.unsure;
         few = subst (λ k. TooFew (k - o.buffer_room) o.block n) (sym same.room) found.short.few;
       };
-      slots = record { dry = at.dry; unsure = at.unsure; still = at.still; still_few = at.still_few; internal = at.internal; external = at.external; idle = at.idle; buffers = at.buffers };
+      slots = record { untouched = at.untouched; dry = at.dry; unsure = at.unsure; still = at.still; still_few = at.still_few; internal = at.internal; external = at.external; idle = at.idle; buffers = at.buffers };
     }

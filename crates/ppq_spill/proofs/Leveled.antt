@@ -22,7 +22,7 @@ use Rattle.ppq_fetch.specs.ppq_array.Run.{run_of, items_of, buffers_of}
 use Rattle.ppq_fetch.specs.ppq_array.External.{External, external, size_of, counts, records_in, waiting, blocks_items, IsPacked}
 use Rattle.ppq_fetch.specs.ppq_array.Supply.{Stock}
 use Rattle.ppq_fetch.specs.ppq_array.Owner.{slots_shown, HasBlock, HasSize}
-use Rattle.ppq_fetch.specs.ppq_array.Kept.{Kept, HasFailed, SameSlots, weight_at}
+use Rattle.ppq_fetch.specs.ppq_array.Kept.{Kept, HasFailed, SameSlots, AreQuiet, weight_at, all_faults}
 use Rattle.ppq_fetch.specs.ppq_array.Holdings.{external_slots, external_buffers, RunHasBlock, ArrayHasSize}
 use Rattle.ppq_fetch.proofs.ppq_array.Noted.{all_left}
 use Rattle.ppq_fetch.specs.Fetching.{state, source_items, waiting_items, IsFitting, blocks_in, one_if_some}
@@ -32,7 +32,7 @@ use Rattle.ppq_spill.specs.Leveling.{EightOf, MayLevel, AreOneSize, LevelCalls, 
 use Rattle.ppq_spill.specs.Moves.{DrewSlots, FoundFewSlots}
 use Rattle.ppq_spill.specs.Went.{Went}
 use Rattle.ppq_spill.specs.Making.{Hand, Table, table, table_slots, total, BetweenBatches, Merging, MergedOn, IsRising, all_records, HasNothing, IsFaultOf, LastMerged, LastFailed, freed}
-use Rattle.ppq_spill.proofs.Going.{Went-placed, WentWriting-refl, went_kept}
+use Rattle.ppq_spill.proofs.Going.{f_of, Went-placed, WentWriting-refl, went_kept}
 use Rattle.ppq_spill.proofs.Keeping.{slots_long, sum_ones}
 use Rattle.ppq_spill.specs.Untold.{untold}
 use Rattle.ppq_spill.proofs.Telling.{tell_part}
@@ -177,6 +177,14 @@ module _ {S R : Type 0} (shown : S → Shown) (width level : ℕ) (old new other
   nil_went =
       subst (λ (xs : List Shown). Went (length is.merging.blocks) (blocks_in o.inputs - blocks_in t.inputs) (xs ++ stock.kept ++ now.drawn) (arrays_after shown new stock now)) (append-nil (external_slots shown old))
       (subst (λ (xs : List Shown). Went (length is.merging.blocks) (blocks_in o.inputs - blocks_in t.inputs) (external_slots shown old ++ [] ++ stock.kept ++ now.drawn) (xs ++ now.kept ++ stock.drawn)) (append-nil (external_slots shown new)) (level_went []))
+
+  -- no call failed, of all slots if of those that the merge called
+  pub level_quiet : AreQuiet (table_slots shown o) (table_slots shown t) → AreQuiet (arrays_before shown old stock now) (arrays_after shown new stock now)
+  level_quiet quiet =
+      let before : sum_by f_of (external_slots shown old ++ [] ++ stock.kept ++ now.drawn) ≡ all_faults (arrays_before shown old stock now) = ap (λ (xs : List Shown). sum_by f_of (xs ++ stock.kept ++ now.drawn)) (append-nil (external_slots shown old)) in
+      let after : sum_by f_of (external_slots shown new ++ [] ++ now.kept ++ stock.drawn) ≡ all_faults (arrays_after shown new stock now) = ap (λ (xs : List Shown). sum_by f_of (xs ++ now.kept ++ stock.drawn)) (append-nil (external_slots shown new)) in
+      let e : all_faults (arrays_after shown new stock now) ≡ all_faults (arrays_before shown old stock now) = omega (arith, old_sum f_of [], new_sum f_of [], before, after, quiet) in
+      e
 
   -- the supply can take back as many more as are held more
   pub level_room : length (external_slots shown new) + stock.slot_room ≡ length (external_slots shown old) + now.slot_room
@@ -395,6 +403,7 @@ level_merged {S} {R} cmp record_of width workers level next shown old new others
       others = others;
       of = is.of;
       made = t.hand.made;
+      quiet = level_quiet shown width level old new others o t stock now is on.quiet;
       arrays = new_is;
       level_is = ap (λ a. a.level) on.merging.made ∙ ap (λ a. a.level) start ∙ next_is;
       loaded = ap (λ a. a.loaded) on.ready.shape;
@@ -531,6 +540,7 @@ module _ {S R : Type 0} (shown : S → Shown) (width workers level : ℕ) (old n
         others = others;
         of = of;
         arrays = new_is;
+        untouched = found.moved;
         dry = found.dry;
         unsure = omega (arith, found.few, found.still);
         still = found.still;
@@ -543,8 +553,8 @@ module _ {S R : Type 0} (shown : S → Shown) (width workers level : ℕ) (old n
 
   went_none : (j : List Shown) → Went 0 0 (external_slots shown old ++ j ++ stock.kept ++ now.drawn) (external_slots shown new ++ j ++ now.kept ++ stock.drawn)
   went_none j =
-      (went_kept 0 (external_slots shown old) j stock.kept now.drawn [] (external_slots shown new) j now.kept stock.drawn [] now.kept found.moved (WentWriting-refl [])
-      (λ f. (let z : sum_by f [] ≡ 0 = refl in omega (arith, z, slots_sum shown f old, slots_sum shown f new, sum_same (λ a. sum_by f (slots_shown shown a.stored)))))).went
+      (went_kept (external_slots shown old) j stock.kept now.drawn [] (external_slots shown new) j now.kept stock.drawn [] now.kept found.moved
+      (λ f. (let z : sum_by f [] ≡ 0 = refl in omega (arith, z, slots_sum shown f old, slots_sum shown f new, sum_same (λ a. sum_by f (slots_shown shown a.stored))))) 0 (WentWriting-refl [])).went
 
   went_plain : Went 0 0 (arrays_before shown old stock now) (arrays_after shown new stock now)
   went_plain =

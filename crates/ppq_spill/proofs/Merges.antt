@@ -2,16 +2,19 @@
 use Rattle.std.proofs.Common.{◌≡◌, ℕ, ◌+◌, ◌-◌, ◌*◌, ◌<◌, ◌≤◌, List, [], ◌∷◌, ◌++◌, length, sum_by, All, refl, sym, ap, ◌∙◌, subst, arith, append_assoc, length-append, append-nil}
 use Rattle.std.proofs.lemmas.List.Sums.{sum_by-cons, sum_by-append}
 use Rattle.std.proofs.lemmas.List.Elements.{All-nil, All-append}
+use Rattle.ppq_fetch.specs.ppq_block.Block.{Block}
 use Rattle.ppq_fetch.specs.ppq_outside.Shown.{Shown}
 use Rattle.ppq_fetch.specs.ppq_array.declared.berth.DeviceBlock.{DeviceBlock}
 use Rattle.ppq_fetch.specs.ppq_array.Run.{items_of}
 use Rattle.ppq_fetch.specs.ppq_array.External.{External, external}
 use Rattle.ppq_fetch.specs.ppq_array.Owner.{slots_shown, HasBlock, HasSize}
+use Rattle.ppq_fetch.specs.ppq_array.Supply.{Stock}
+use Rattle.ppq_fetch.specs.ppq_array.Kept.{AreQuiet, all_faults}
 use Rattle.ppq_fetch.specs.ppq_array.Holdings.{external_slots, external_buffers, ArrayHasSize, RunHasBlock}
 use Rattle.ppq_fetch.specs.Fetching.{State, state, slots_in, AreSources, PartsKept, blocks_in, fronts_in, one_if_some}
 use Rattle.ppq_spill.specs.Went.{Went}
-use Rattle.ppq_spill.specs.Making.{hand_slots, Wrote, Table, table, table_slots, total, BetweenBatches, Merging}
-use Rattle.ppq_spill.proofs.Going.{Went-refl, Went-trans, Went-placed}
+use Rattle.ppq_spill.specs.Making.{Hand, hand, hand_slots, Wrote, Table, table, table_slots, total, BetweenBatches, Merging}
+use Rattle.ppq_spill.proofs.Going.{f_of, Went-refl, Went-trans, Went-placed}
 use Rattle.ppq_spill.proofs.Parts.{SameRest-trans, hand_sum}
 use Rattle.ppq_spill.proofs.Fetches.{parts_went, parts_rest}
 
@@ -88,6 +91,27 @@ module _ {S R : Type 0} (shown : S → Shown) where
         same_external = subst (All (ArrayHasSize shown (o.hand.stock.block * width))) (sym inputs) (subst (λ b. All (ArrayHasSize shown (b * width)) h.inputs) block sources.external);
         same_loaded = subst (All (λ (a : External S R). RunHasBlock o.hand.stock.block a.loaded)) (sym inputs) (subst (λ b. All (λ (a : External S R). RunHasBlock b a.loaded) h.inputs) block sources.loaded);
       }
+
+  -- no call failed, as blocks were loaded and then blocks written
+  pub quiet_both :
+      (o : Table S R) (inputs : List (External S R)) (idle idle' : List (Block R)) (stock : Stock) (n : Hand S R)
+      → AreQuiet (slots_in shown (state [] o.inputs o.idle o.hand.stock)) (slots_in shown (state [] inputs idle stock)) → AreQuiet (hand_slots shown (hand o.hand.made o.hand.berths stock)) (hand_slots shown n)
+      → AreQuiet (table_slots shown o) (table_slots shown (table inputs idle' n.made n.berths n.stock))
+  quiet_both o inputs idle idle' stock n loaded written =
+      let t = table inputs idle' n.made n.berths n.stock in
+      let e : all_faults (table_slots shown t) ≡ all_faults (table_slots shown o) =
+      omega (
+        arith,
+        loaded,
+        written,
+        table_sum f_of o,
+        table_sum f_of t,
+        sum_by-append f_of (external_slots shown o.inputs) o.hand.stock.kept,
+        sum_by-append f_of (external_slots shown inputs) stock.kept,
+        hand_sum shown f_of (hand o.hand.made o.hand.berths stock),
+        hand_sum shown f_of n,
+      ) in
+      e
 
   -- nothing was merged yet
   pub Merging-none : (width workers : ℕ) (o : Table S R) → BetweenBatches shown width workers o → Merging shown width o o

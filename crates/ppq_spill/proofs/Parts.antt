@@ -11,13 +11,12 @@ use Rattle.ppq_fetch.specs.ppq_array.Run.{run_of}
 use Rattle.ppq_fetch.specs.ppq_array.External.{External, external, counts, block_items}
 use Rattle.ppq_fetch.specs.ppq_array.Supply.{Stock, GetsSlot}
 use Rattle.ppq_fetch.specs.ppq_array.Owner.{slots_shown, HasSize}
-use Rattle.ppq_fetch.specs.ppq_array.Kept.{HasFailed, weight_at}
+use Rattle.ppq_fetch.specs.ppq_array.Kept.{SameSums, HasFailed, weight_at}
 use Rattle.ppq_fetch.proofs.ppq_array.Noted.{all_left}
-use Rattle.ppq_spill.specs.Moves.{SameSums}
 use Rattle.ppq_spill.specs.Writing.{BlockStored, BlockFailed}
 use Rattle.ppq_spill.specs.Went.{Went}
 use Rattle.ppq_spill.specs.Making.{Hand, hand, hand_slots, SameRest, Wrote, WroteAll, WroteSome}
-use Rattle.ppq_spill.proofs.Going.{Went-refl, Went-trans, Went-placed, Went-one}
+use Rattle.ppq_spill.proofs.Going.{Went-refl, Went-trans, Went-placed, Went-one, quiet_placed, quiet_more}
 use Rattle.ppq_spill.proofs.Keeping.{slots_long}
 use Rattle.ppq_spill.specs.Untold.{untold}
 use Rattle.ppq_spill.proofs.Telling.{tell_part, tell_moved}
@@ -74,6 +73,23 @@ module _ {S R : Type 0} (shown : S → Shown) where
         written = All-nil (λ (b : DeviceBlock S R). 1 ≤ (shown b.slot).writes);
       }
 
+  -- the next of the slots at hand, beside the others
+  next_taken :
+      (made : External S R) (berths berths' : List (DeviceBlock S R)) (next : Shown) (s s' : Stock) → SameSums (slots_shown shown berths ++ s.kept) (next ∷ (slots_shown shown berths' ++ s'.kept))
+      → (f : Shown → ℕ) → sum_by f (hand_slots shown (hand made berths s)) ≡ sum_by f (slots_shown shown made.stored ++ slots_shown shown berths' ++ s'.kept) + sum_by f (next ∷ [])
+  next_taken made berths berths' next s s' moved f =
+      omega (
+        arith,
+        hand_sum f (hand made berths s),
+        moved f,
+        sum_by-append f (slots_shown shown berths) s.kept,
+        sum_by-cons f next (slots_shown shown berths' ++ s'.kept),
+        sum_by-append f (slots_shown shown berths') s'.kept,
+        sum_by-append f (slots_shown shown made.stored ++ slots_shown shown berths') s'.kept,
+        sum_by-append f (slots_shown shown made.stored) (slots_shown shown berths'),
+        sum_by-cons f next [],
+      )
+
   -- a slot of those at hand was called, and holds a block of records now
   pub part_written :
       (record_of : List ℕ → R) (width block bytes : ℕ) (records : List R) (made made' : External S R) (berths berths' : List (DeviceBlock S R)) (b : DeviceBlock S R) (s s' : Stock)
@@ -89,37 +105,30 @@ module _ {S R : Type 0} (shown : S → Shown) where
       let is : made' ≡ external made.level made.loaded made.lifted (made.stored ++ last ∷ []) = put.run ∙ ap (λ (bs : List (DeviceBlock S R)). external made.level made.loaded bs (made.stored ++ last ∷ [])) (sym (ap (λ a. a.lifted) shape)) in
       let stored : made'.stored ≡ made.stored ++ last ∷ [] = ap (λ a. a.stored) is in
       let one : counts (last ∷ []) ≡ length records = omega (arith, sum_by-cons (λ (b : DeviceBlock S R). b.count) last [], put.count) in
+      let others = slots_shown shown made.stored ++ slots_shown shown berths' ++ s'.kept in
+      let before = next_taken made berths berths' (shown b.slot) s s' moved in
+      let now : (f : Shown → ℕ) → sum_by f (hand_slots shown n) ≡ sum_by f others + sum_by f (shown last.slot ∷ []) =
+      λ f. omega (
+        arith,
+        hand_sum f n,
+        ap (λ bs. sum_by f (slots_shown shown bs)) stored,
+        ap (sum_by f) (shown_append made.stored (last ∷ [])),
+        sum_by-append f (slots_shown shown made.stored) (shown last.slot ∷ []),
+        sum_by-append f (slots_shown shown made.stored ++ slots_shown shown berths') s'.kept,
+        sum_by-append f (slots_shown shown made.stored) (slots_shown shown berths'),
+      ) in
       record {
         blocks = last ∷ [];
         wrote = record {
           made = is;
-          went = Went-placed 1 0 (slots_shown shown made.stored ++ slots_shown shown berths' ++ s'.kept) (shown b.slot ∷ []) (shown last.slot ∷ []) (hand_slots shown o) (hand_slots shown n)
-              (λ f. omega (
-                arith,
-                hand_sum f o,
-                moved f,
-                sum_by-append f (slots_shown shown berths) s.kept,
-                sum_by-cons f (shown b.slot) (slots_shown shown berths' ++ s'.kept),
-                sum_by-append f (slots_shown shown berths') s'.kept,
-                sum_by-append f (slots_shown shown made.stored ++ slots_shown shown berths') s'.kept,
-                sum_by-append f (slots_shown shown made.stored) (slots_shown shown berths'),
-                sum_by-cons f (shown b.slot) [],
-              ))
-              (λ f. omega (
-                arith,
-                hand_sum f n,
-                ap (λ bs. sum_by f (slots_shown shown bs)) stored,
-                ap (sum_by f) (shown_append made.stored (last ∷ [])),
-                sum_by-append f (slots_shown shown made.stored) (shown last.slot ∷ []),
-                sum_by-append f (slots_shown shown made.stored ++ slots_shown shown berths') s'.kept,
-                sum_by-append f (slots_shown shown made.stored) (slots_shown shown berths'),
-              ))
+          went = Went-placed 1 0 others (shown b.slot ∷ []) (shown last.slot ∷ []) (hand_slots shown o) (hand_slots shown n) before now
               (Went-one 1 (shown b.slot) (shown last.slot) put.grew put.transfers);
           rest = rest;
           room = omega (arith, room, ap length stored, length-append made.stored (last ∷ []));
           sizes = λ a. All-append P made'.stored berths' (subst (All P) (sym stored) (All-push P made.stored last (all_left P made.stored berths a) (put.grew.size ∙ size))) sizes;
           written = All-cons (λ (b : DeviceBlock S R). 1 ≤ (shown b.slot).writes) last [] put.written (All-nil (λ (b : DeviceBlock S R). 1 ≤ (shown b.slot).writes));
         };
+        quiet = quiet_placed others (shown b.slot ∷ []) (shown last.slot ∷ []) (hand_slots shown o) (hand_slots shown n) before now (quiet_more (shown b.slot ∷ []) [] [] (shown b.slot) (shown last.slot) refl put.quiet);
         size = one;
         packed = record {
           full = λ k d h. absurd (omega arith);
@@ -152,17 +161,7 @@ module _ {S R : Type 0} (shown : S → Shown) where
         wrote = record {
           made = put.run ∙ ap (λ bs. external made.level made.loaded made.lifted bs) (sym (append-nil made.stored));
           went = Went-placed 0 0 (slots_shown shown made.stored ++ slots_shown shown berths' ++ s'.kept) (shown b.slot ∷ []) (shown failed.slot ∷ []) (hand_slots shown o) (hand_slots shown n)
-              (λ f. omega (
-                arith,
-                hand_sum f o,
-                moved f,
-                sum_by-append f (slots_shown shown berths) s.kept,
-                sum_by-cons f (shown b.slot) (slots_shown shown berths' ++ s'.kept),
-                sum_by-append f (slots_shown shown berths') s'.kept,
-                sum_by-append f (slots_shown shown made.stored ++ slots_shown shown berths') s'.kept,
-                sum_by-append f (slots_shown shown made.stored) (slots_shown shown berths'),
-                sum_by-cons f (shown b.slot) [],
-              ))
+              (next_taken made berths berths' (shown b.slot) s s' moved)
               (λ w. omega (
                 arith,
                 hand_sum w n,

@@ -23,7 +23,7 @@ use Rattle.ppq_spill.specs.Making.{hand, WroteAll, WroteSome, MayWrite, Table, t
 use Rattle.ppq_spill.proofs.Parts.{Wrote-none}
 use Rattle.ppq_spill.proofs.Blocks.{counts_full}
 use Rattle.ppq_spill.proofs.Fetches.{went_fit}
-use Rattle.ppq_spill.proofs.Merges.{some_idle, merging_of, Merging-none, Merging-trans}
+use Rattle.ppq_spill.proofs.Merges.{some_idle, merging_of, quiet_both, Merging-none, Merging-trans}
 use Rattle.ppq_spill.proofs.Readies.{zero_or, enough_taken, ready_after, rising_after}
 
 -- a fault that is none of the first kind names a failed slot
@@ -114,6 +114,7 @@ module _ {S R : Type 0} (cmp : R → R → Ordering) (record_of : List ℕ → R
       record {
         merged = record {
           merging = merging_of shown width workers o (table inputs1 idle1 o.hand.made o.hand.berths stock1) n put.blocks ready refl refl got.parts may.sources taken.1 eight put.wrote refl same.long idle_blocks (omega (arith, tight, after.1));
+          quiet = quiet_both shown o inputs1 idle1 idle2 stock1 (hand made2 berths2 stock2) got.quiet put.quiet;
           ready = after.0;
           same = after.1;
           rise = λ t r. (rising_after shown cmp record_of width o inputs1 idle1 idle2 stock1 stock2 made2 berths2 records order ready.shape got put t r).0;
@@ -172,12 +173,13 @@ module _ {S R : Type 0} (cmp : R → R → Ordering) (record_of : List ℕ → R
       }
 
   pub MergedOn-none : (o : Table S R) → BetweenBatches shown width workers o → MergedOn cmp record_of width workers shown o o
-  MergedOn-none o ready = record { merging = Merging-none shown width workers o ready; ready = ready; same = refl; rise = λ t r. r; records = λ t r p. refl }
+  MergedOn-none o ready = record { merging = Merging-none shown width workers o ready; quiet = refl; ready = ready; same = refl; rise = λ t r. r; records = λ t r p. refl }
 
   pub MergedOn-trans : (o h n : Table S R) → MergedOn cmp record_of width workers shown o h → MergedOn cmp record_of width workers shown h n → MergedOn cmp record_of width workers shown o n
   MergedOn-trans o h n a b =
       record {
         merging = Merging-trans shown width o h n a.merging a.same b.merging;
+        quiet = b.quiet ∙ a.quiet;
         ready = b.ready;
         same = b.same ∙ a.same;
         rise = λ t r. b.rise (a.merging.went.tells.0 t) (a.rise t r);

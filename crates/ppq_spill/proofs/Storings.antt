@@ -9,8 +9,8 @@ use Rattle.ppq_fetch.specs.ppq_array.Owner.{slots_shown, HasBlock}
 use Rattle.ppq_fetch.specs.ppq_array.Holdings.{RunHasBlock, ArrayHasSize}
 use Rattle.ppq_spill.specs.declared.body.PassBody.{PassBody}
 use Rattle.ppq_spill.specs.Storing.{HasOneSize}
-use Rattle.ppq_fetch.specs.ppq_array.Kept.{Held, Kept}
-use Rattle.ppq_spill.specs.Moves.{SameSums, DrewSlots, FoundFewSlots, with_buffers}
+use Rattle.ppq_fetch.specs.ppq_array.Kept.{Held, Kept, SameSums}
+use Rattle.ppq_spill.specs.Moves.{DrewSlots, FoundFewSlots, with_buffers}
 use Rattle.ppq_spill.proofs.Keeping.{slots_long}
 use Rattle.ppq_spill.specs.Went.{WentWriting}
 use Rattle.ppq_spill.proofs.Going.{WentWriting-refl, went_kept}
@@ -21,7 +21,7 @@ held slots buffers = record { slots = slots; buffers = buffers }
 -- too few slots were had: none was called
 pub went_refused : (o n : Stock) (need : ℕ) (e j : List Shown) → FoundFewSlots need o n → WentWriting 0 (e ++ j ++ o.kept ++ n.drawn) (e ++ j ++ n.kept ++ o.drawn)
 went_refused o n need e j found =
-    went_kept 0 e j o.kept n.drawn [] e j n.kept o.drawn [] n.kept found.moved (WentWriting-refl []) (λ f. (let z : sum_by f [] ≡ 0 = refl in omega (arith, z)))
+    went_kept e j o.kept n.drawn [] e j n.kept o.drawn [] n.kept found.moved (λ f. (let z : sum_by f [] ≡ 0 = refl in omega (arith, z))) 0 (WentWriting-refl [])
 
 pub kept_refused : (o n : Stock) (need : ℕ) (e j : List Shown) (buffers : ℕ) → FoundFewSlots need o n → Kept o n (held (e ++ j) buffers) (held (e ++ j) buffers)
 kept_refused o n need e j buffers found =
@@ -41,9 +41,9 @@ module _ {S R : Type 0} (shown : S → Shown) (width : ℕ) (o d : Stock) (e j e
         let here : WentWriting most (slots_shown shown slots0) stored = subst (WentWriting most (slots_shown shown slots0)) (append-nil stored) calls in
         let kept : r.kept ≡ d.kept = ap (λ s. s.kept) is in
         let drawn : r.drawn ≡ d.drawn = ap (λ s. s.drawn) is in
-        went_kept most e j o.kept r.drawn (slots_shown shown slots0) e' j r.kept o.drawn stored d.kept
-        (subst (λ (x : List Shown). SameSums (o.kept ++ x) (slots_shown shown slots0 ++ d.kept ++ o.drawn)) (sym drawn) drew.moved) here
-        (λ f. omega (arith, ap (sum_by f) more, sum_by-append f e stored, ap (sum_by f) kept))
+        went_kept e j o.kept r.drawn (slots_shown shown slots0) e' j r.kept o.drawn stored d.kept
+        (subst (λ (x : List Shown). SameSums (o.kept ++ x) (slots_shown shown slots0 ++ d.kept ++ o.drawn)) (sym drawn) drew.moved)
+        (λ f. omega (arith, ap (sum_by f) more, sum_by-append f e stored, ap (sum_by f) kept)) most here
 
     pub kept_written :
         (most ib ib' ib'' eb eb' l l' : ℕ) → WentWriting most (slots_shown shown slots0) (slots_shown shown array.stored ++ [])
@@ -72,8 +72,8 @@ module _ {S R : Type 0} (shown : S → Shown) (width : ℕ) (o d : Stock) (e j e
         let fkept : f.kept ≡ d.kept ++ one ∷ [] = ap (λ s. s.kept) gets in
         let rkept : r.kept ≡ f.kept ++ lefts = ap (λ s. s.kept) is in
         let drawn : r.drawn ≡ d.drawn = ap (λ s. s.drawn) is ∙ ap (λ s. s.drawn) gets in
-        went_kept most e j o.kept r.drawn (slots_shown shown slots0) e' j r.kept o.drawn (stored ++ (one ∷ lefts)) d.kept
-        (subst (λ (x : List Shown). SameSums (o.kept ++ x) (slots_shown shown slots0 ++ d.kept ++ o.drawn)) (sym drawn) drew.moved) calls
+        went_kept e j o.kept r.drawn (slots_shown shown slots0) e' j r.kept o.drawn (stored ++ (one ∷ lefts)) d.kept
+        (subst (λ (x : List Shown). SameSums (o.kept ++ x) (slots_shown shown slots0 ++ d.kept ++ o.drawn)) (sym drawn) drew.moved)
         (λ w. omega (
           arith,
           ap (sum_by w) more,
@@ -86,6 +86,7 @@ module _ {S R : Type 0} (shown : S → Shown) (width : ℕ) (o d : Stock) (e j e
           sum_by-append w stored (one ∷ lefts),
           sum_by-cons w one lefts,
         ))
+        most calls
 
     pub room_failed : r.slot_room ≡ o.slot_room + length array.stored
     room_failed =

@@ -3,7 +3,7 @@ use Rattle.std.proofs.Common.{◌≡◌, ℕ, ◌≤◌, List, [], ◌∷◌, su
 use Rattle.std.proofs.lemmas.List.Sums.{sum_by-cons}
 use Rattle.std.proofs.lemmas.List.Elements.{All-cons, All-head, All-tail, All-nil}
 use Rattle.ppq_fetch.specs.ppq_outside.Shown.{Shown, Tells, AllTell}
-use Rattle.ppq_spill.specs.Moves.{SameSums}
+use Rattle.ppq_fetch.specs.ppq_array.Kept.{SameSums}
 use Rattle.ppq_spill.specs.Untold.{untold, untold_of}
 
 told_none : (told : Option (List ℕ)) → IsSome told → untold_of told ≡ 0

@@ -18,12 +18,12 @@ use Rattle.ppq_fetch.specs.ppq_array.declared.berth.DeviceBlock.{DeviceBlock}
 use Rattle.ppq_fetch.specs.ppq_array.Run.{Run, run_of, buffers_of}
 use Rattle.ppq_fetch.specs.ppq_array.External.{External, external, size_of, counts, records_in, blocks_items, block_items, IsPacked}
 use Rattle.ppq_fetch.specs.ppq_array.Owner.{slots_shown, HasSize}
-use Rattle.ppq_fetch.specs.ppq_array.Kept.{MoreWrites}
+use Rattle.ppq_fetch.specs.ppq_array.Kept.{AreQuiet, MoreWrites}
 use Rattle.ppq_fetch.proofs.ppq_array.Noted.{all_left, all_right, take_whole}
 use Rattle.ppq_fetch.specs.Taking.{NoneAfter}
 use Rattle.ppq_spill.specs.Writing.{Grew, MergedOut, BlockStored, BlockFailed, WriteFailed, Writing, left_in}
 use Rattle.ppq_spill.specs.Went.{WentWriting}
-use Rattle.ppq_spill.proofs.Going.{WentWriting-refl, WentWriting-more}
+use Rattle.ppq_spill.proofs.Going.{WentWriting-refl, WentWriting-more, quiet_more}
 use Rattle.ppq_spill.proofs.Keeping.{slots_long}
 
 module _ {S R : Type 0} (cmp : R → R → Ordering) (record_of : List ℕ → R) (width block : ℕ) (shown : S → Shown) where
@@ -55,6 +55,7 @@ module _ {S R : Type 0} (cmp : R → R → Ordering) (record_of : List ℕ → R
         buffers = refl;
         written = subst (λ bs. All (λ (b : DeviceBlock S R). 1 ≤ (shown b.slot).writes) bs) (sym none) (λ k d h. absurd (omega arith));
         went = subst (λ bs. WentWriting (length bs) (slots_shown shown slots) (slots_shown shown bs ++ slots_shown shown slots)) (sym none) (WentWriting-refl (slots_shown shown slots));
+        quiet = subst (λ bs. AreQuiet (slots_shown shown slots) (slots_shown shown bs ++ slots_shown shown slots)) (sym none) refl;
         full = λ some. subst (λ bs. All (λ (b : DeviceBlock S R). b.count ≡ block) bs) (sym none) (λ k d h. absurd (omega arith));
         packed = subst (IsPacked block) (sym none) (record { full = λ k d h. absurd (omega arith); last = λ k d h. absurd (omega arith) });
         tells = λ t. t;
@@ -90,6 +91,7 @@ module _ {S R : Type 0} (cmp : R → R → Ordering) (record_of : List ℕ → R
         buffers = merged.buffers ∙ is.buffers;
         written = subst (λ bs. All (λ (b : DeviceBlock S R). 1 ≤ (shown b.slot).writes) bs) (sym blocks) (All-push (λ (b : DeviceBlock S R). 1 ≤ (shown b.slot).writes) stored last is.written put.written);
         went = went_more slots0 stored b last slots put.grew put.transfers is.went blocks;
+        quiet = subst (AreQuiet (slots_shown shown slots0)) (shown_more stored last slots blocks) (quiet_more (slots_shown shown slots0) (slots_shown shown stored) (slots_shown shown slots) (shown b.slot) (shown last.slot) is.quiet put.quiet);
         full = λ h. subst (All IsFull) (sym blocks) (All-push IsFull stored last (is.full (omega arith)) (omega (arith, is.least (omega arith), more, sum, merged.count, at_least block (length slots) h, put.count)));
         packed = subst (IsPacked block) (sym blocks) (record {
           full = subst (All IsFull) (sym (but_last stored last)) (is.full (omega arith));

@@ -50,6 +50,7 @@ module _ {S R : Type 0} (bytes_of : R → List ℕ) (record_of : List ℕ → R)
         run = run;
         count = count;
         grew = grew;
+        quiet = subst (λ s. (shown s).faults ≡ (shown slot).faults) (sym at) (IfOk-at_ok (λ _. (shown slot').faults ≡ (shown slot).faults) e w.wrote.cause.ok);
         written = subst (λ s. 1 ≤ (shown s).writes) (sym at) (omega (arith, once));
         transfers = subst (λ s. MoreWrites 1 (shown slot ∷ []) (shown s ∷ [])) (sym at) (one_slot 1 (shown slot) (shown slot') (omega (arith, once)) (omega (arith, w.wrote.reads)));
         items_are = λ t. ap (λ s. records_told record_of width last.count (shown s).told) at ∙ ap (λ n. records_told record_of width n (shown slot').told) count ∙ back t;

@@ -12,7 +12,7 @@ use Rattle.ppq_fetch.specs.ppq_array.Supply.{Stock, sure_slots}
 use Rattle.ppq_fetch.specs.ppq_array.Owner.{HasBlock}
 use Rattle.ppq_fetch.specs.ppq_array.Run.{run_of, buffers_of}
 use Rattle.ppq_fetch.specs.ppq_array.External.{External, size_of, records_in, IsPacked}
-use Rattle.ppq_fetch.specs.ppq_array.Kept.{Held, HasFailed, all_writes, all_reads}
+use Rattle.ppq_fetch.specs.ppq_array.Kept.{Held, HasFailed, SameSums, AreQuiet, all_writes, all_reads}
 use Rattle.ppq_fetch.specs.ppq_array.Holdings.{external_slots, external_buffers, RunHasBlock, ArrayHasSize}
 use Rattle.ppq_fetch.specs.Fetching.{IsFitting, fronts_in, blocks_in}
 use Rattle.ppq_spill.specs.Body.{job_slots}
@@ -99,13 +99,14 @@ module _ {S R : Type 0} where
       pub few : blocks * before.block < records_count inputs + before.block
       pub calls : MoreCalls blocks (blocks_in inputs) (arrays_before old before now) (arrays_after new before now)
 
-    -- too few slots were to be had, fewer than 8 arrays of the level have loaded blocks; and only the order of the arrays and the supply's slots
-    -- and counts have changed
+    -- too few slots were to be had, fewer than 8 arrays of the level have loaded blocks, before any of them was called; only the order of the
+    -- arrays, which slots the supply keeps, and its counts have changed
     pub record NoneForLevel (level workers : ℕ) (old new : List (External S R)) (old_lanes new_lanes : Lanes (DeviceBlock S R) R) (before now : Stock) : Type 0 where
       pub inputs : List (External S R)
       pub others : List (External S R)
       pub of : EightOf level old inputs others
       pub arrays : new ≡ others ++ inputs
+      pub untouched : SameSums (before.kept ++ now.drawn) (now.kept ++ before.drawn)
       pub dry : Rose before.dry now.dry
       pub unsure : sure_slots before < external_buffers inputs
       pub still : sure_slots before ≤ sure_slots now
@@ -116,13 +117,14 @@ module _ {S R : Type 0} where
       pub idle : new_lanes.idle ≡ old_lanes.idle
       pub buffers : now.buffer_room ≡ before.buffer_room
 
-  -- 8 arrays of the level became one of the next level, at most 7, with nothing loaded; the others stayed. Where slots tell, the new one has the
-  -- records of the 8 in ascending order
+  -- 8 arrays of the level became one of the next level, at most 7, with nothing loaded; the others stayed, and no call of a slot failed. Where
+  -- slots tell, the new one has the records of the 8 in ascending order
   pub record LevelMerged (cmp : R → R → Ordering) (record_of : List ℕ → R) (width : ℕ) (shown : S → Shown) (level : ℕ) (old new : List (External S R)) (before now : Stock) : Type 0 where
     pub inputs : List (External S R)
     pub others : List (External S R)
     pub of : EightOf level old inputs others
     pub made : External S R
+    pub quiet : AreQuiet (arrays_before shown old before now) (arrays_after shown new before now)
     pub arrays : new ≡ others ++ made ∷ []
     pub level_is : made.level ≡ min (level + 1) 7
     pub loaded : made.loaded ≡ run_of [] 0 []

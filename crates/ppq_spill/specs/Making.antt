@@ -12,7 +12,7 @@ use Rattle.ppq_fetch.specs.ppq_array.Supply.{Stock}
 use Rattle.ppq_fetch.specs.ppq_array.Owner.{slots_shown, HasSize, HasBlock}
 use Rattle.ppq_fetch.specs.ppq_array.Run.{run_of, items_of, buffers_of}
 use Rattle.ppq_fetch.specs.ppq_array.External.{External, external, size_of, counts, records_in, blocks_items, IsPacked}
-use Rattle.ppq_fetch.specs.ppq_array.Kept.{HasFailed}
+use Rattle.ppq_fetch.specs.ppq_array.Kept.{HasFailed, AreQuiet}
 use Rattle.ppq_fetch.specs.ppq_array.Holdings.{external_slots, external_buffers, RunHasBlock, ArrayHasSize}
 use Rattle.ppq_fetch.specs.Fetching.{state, source_items, MayFetch, RunsRise, blocks_in, count_in}
 use Rattle.ppq_fetch.specs.ppq_lane.declared.lanes.Lanes.{Lanes}
@@ -72,10 +72,11 @@ module _ {S R : Type 0} where
     pub sizes : All (HasSize shown bytes) (old.made.stored ++ old.berths) → All (HasSize shown bytes) (new.made.stored ++ new.berths)
     pub written : All (λ (b : DeviceBlock S R). 1 ≤ (shown b.slot).writes) blocks
 
-  -- all records were written, in blocks of which all but the last are full
+  -- all records were written, in blocks of which all but the last are full, and no write failed
   pub record WroteAll (record_of : List ℕ → R) (width block : ℕ) (shown : S → Shown) (bytes : ℕ) (records : List R) (old new : Hand S R) : Type 0 where
     pub blocks : List (DeviceBlock S R)
     pub wrote : Wrote shown bytes old new blocks
+    pub quiet : AreQuiet (hand_slots shown old) (hand_slots shown new)
     pub size : counts blocks ≡ length records
     pub packed : IsPacked block blocks
     pub tight : length blocks * block < length records + block
@@ -212,9 +213,10 @@ module _ {S R : Type 0} where
     pub made : Ascends cmp (records_in record_of width shown t.hand.made)
     pub after : NoneAfter cmp (records_in record_of width shown t.hand.made) (source_items record_of width shown (state [] t.inputs t.idle t.hand.stock))
 
-  -- so many records went from the arrays to made blocks
+  -- records went from the arrays to made blocks, and no read or write failed
   pub record MergedOn (cmp : R → R → Ordering) (record_of : List ℕ → R) (width workers : ℕ) (shown : S → Shown) (old new : Table S R) : Type 0 where
     pub merging : Merging shown width old new
+    pub quiet : AreQuiet (table_slots shown old) (table_slots shown new)
     pub ready : BetweenBatches shown width workers new
     pub same : total new ≡ total old
     pub rise : AllTell (table_slots shown old) → IsRising cmp record_of width shown old → IsRising cmp record_of width shown new

@@ -1,5 +1,5 @@
 -- Slots and buffers that are taken from a supply and given back.
-use Rattle.std.specs.Prelude.{◌≡◌, ℕ, ◌+◌, ◌-◌, ◌*◌, ◌<◌, ◌≤◌, ◌^◌, List, [], ◌++◌, length, sum_by, All}
+use Rattle.std.specs.Prelude.{◌≡◌, ℕ, ◌+◌, ◌-◌, ◌*◌, ◌<◌, ◌≤◌, ◌^◌, List, [], ◌++◌, length, All}
 use Rattle.ppq_fetch.specs.ppq_block.Block.{Block, holding}
 use Rattle.ppq_fetch.specs.ppq_outside.Shown.{Shown}
 use Rattle.ppq_fetch.specs.ppq_outside.Told.{Rose}
@@ -7,6 +7,7 @@ use Rattle.ppq_fetch.specs.ppq_array.declared.berth.DeviceBlock.{DeviceBlock}
 use Rattle.ppq_fetch.specs.ppq_array.Run.{Run, items_of, buffers_of}
 use Rattle.ppq_fetch.specs.ppq_array.Supply.{Stock}
 use Rattle.ppq_fetch.specs.ppq_array.Owner.{slots_shown, HasBlock, HasSize}
+use Rattle.ppq_fetch.specs.ppq_array.Kept.{SameSums}
 use Rattle.ppq_fetch.specs.ppq_array.Holdings.{RunHasBlock}
 use Rattle.ppq_fetch.specs.Fetching.{IsFitting}
 use Rattle.ppq_spill.specs.Storing.{IsShortOfBuffers}
@@ -14,10 +15,6 @@ use Rattle.ppq_spill.specs.Storing.{IsShortOfBuffers}
 -- the supply with other buffers
 abbrev pub with_buffers : Stock → ℕ → ℕ → Stock
 with_buffers old sure room = record old { sure_buffers = sure; buffer_room = room }
-
--- the same slots as they are, in any order: they add up to the same, whatever is added
-abbrev pub SameSums : List Shown → List Shown → Type 0
-SameSums before now = (f : Shown → ℕ) → sum_by f before ≡ sum_by f now
 
 module _ {R : Type 0} where
   -- these empty buffers were taken

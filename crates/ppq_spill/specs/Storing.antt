@@ -13,7 +13,7 @@ use Rattle.ppq_fetch.specs.ppq_array.Run.{Run, run_of, items_of, buffers_of}
 use Rattle.ppq_fetch.specs.ppq_array.External.{External, size_of, records_in, IsPacked}
 use Rattle.ppq_fetch.specs.ppq_array.declared.store_fault.StoreFault.{StoreFault}
 use Rattle.ppq_fetch.specs.ppq_array.declared.store_fault.StoreFault.TheVariants.{NoFreeBlock, Device}
-use Rattle.ppq_fetch.specs.ppq_array.Kept.{Kept, HasFailed, MoreWrites, all_writes}
+use Rattle.ppq_fetch.specs.ppq_array.Kept.{Kept, HasFailed, MoreWrites, SameSums, AreQuiet, all_writes}
 use Rattle.ppq_fetch.specs.ppq_array.Holdings.{internal_items, RunHasBlock, ArrayHasSize, CanTakeBack}
 use Rattle.ppq_fetch.specs.Fetching.{IsFitting}
 use Rattle.ppq_spill.specs.Body.{body_slots, held_by}
@@ -92,9 +92,11 @@ module _ {S R : Type 0} where
     pub external : new.runs.external.items ≡ old.runs.external.items
     pub slots : SlotsUntouched before now
 
-  -- the run and all runs in buffers are one more run in blocks, of level 0, with nothing loaded; it ascends where slots tell
+  -- the run and all runs in buffers are one more run in blocks, of level 0, with nothing loaded; it ascends where slots tell. No call of a
+  -- slot failed
   pub record BlocksStored (cmp : R → R → Ordering) (record_of : List ℕ → R) (width : ℕ) (shown : S → Shown) (sorted : List R) (old new : PassBody S R) (before now : Stock) : Type 0 where
     pub array : External S R
+    pub quiet : AreQuiet (body_slots shown old ++ before.kept ++ now.drawn) (body_slots shown new ++ now.kept ++ before.drawn)
     pub level : array.level ≡ 0
     pub loaded : array.loaded ≡ run_of [] 0 []
     pub lifted : array.lifted ≡ []
@@ -118,8 +120,10 @@ module _ {S R : Type 0} where
   abbrev pub IsStored : (R → R → Ordering) → (List ℕ → R) → ℕ → (S → Shown) → List R → PassBody S R → PassBody S R → Stock → Stock → Type 0
   IsStored cmp record_of width shown sorted old new before now = IsInBuffers sorted old new before now ⊎ IsInBlocks cmp record_of width shown sorted old new before now
 
-  -- too few slots were to be had, and nothing has changed but the supply's counts, its slots, and the order of its buffers
+  -- too few slots were to be had, before any of them was called: nothing has changed but the supply's counts, which slots it keeps, and the
+  -- order of its buffers
   pub record NoSlots (n : ℕ) (old new : PassBody S R) (before now : Stock) : Type 0 where
+    pub untouched : SameSums (before.kept ++ now.drawn) (now.kept ++ before.drawn)
     pub dry : Rose before.dry now.dry
     pub unsure : TooFew (sure_slots before) before.block (n + in_buffers old)
     pub still : sure_slots before ≤ sure_slots now

@@ -9,7 +9,7 @@ use Rattle.ppq_fetch.specs.ppq_array.declared.berth.DeviceBlock.{DeviceBlock}
 use Rattle.ppq_fetch.specs.ppq_array.Run.{Run, run_of, items_of, buffers_of}
 use Rattle.ppq_fetch.specs.ppq_array.External.{External, external, size_of, records_in, block_items, IsPacked}
 use Rattle.ppq_fetch.specs.ppq_array.Owner.{slots_shown, HasBlock, HasSize}
-use Rattle.ppq_fetch.specs.ppq_array.Kept.{MoreWrites}
+use Rattle.ppq_fetch.specs.ppq_array.Kept.{MoreWrites, AreQuiet}
 use Rattle.ppq_fetch.specs.ppq_array.Holdings.{internal_items}
 use Rattle.ppq_fetch.specs.Taking.{NoneAfter}
 use Rattle.ppq_spill.specs.Went.{WentWriting}
@@ -52,6 +52,7 @@ module _ {S R : Type 0} where
     pub run : new ≡ external old.level old.loaded [] (old.stored ++ last ∷ [])
     pub count : last.count ≡ length items
     pub grew : Grew (shown slot) (shown last.slot)
+    pub quiet : (shown last.slot).faults ≡ (shown slot).faults
     pub written : 1 ≤ (shown last.slot).writes
     pub transfers : MoreWrites 1 (shown slot ∷ []) (shown last.slot ∷ [])
     pub items_are : Tells (shown slot) → block_items record_of width shown last ≡ items
@@ -88,6 +89,7 @@ module _ {S R : Type 0} where
     pub buffers : map buffers_of runs ≡ map buffers_of runs0
     pub written : All (λ (b : DeviceBlock S R). 1 ≤ (shown b.slot).writes) array.stored
     pub went : WentWriting (length array.stored) (slots_shown shown slots0) (slots_shown shown array.stored ++ slots_shown shown slots)
+    pub quiet : AreQuiet (slots_shown shown slots0) (slots_shown shown array.stored ++ slots_shown shown slots)
     pub full : 0 < length slots → All (λ (b : DeviceBlock S R). b.count ≡ block) array.stored
     pub packed : IsPacked block array.stored
     pub tells : AllTell (slots_shown shown slots0) → AllTell (slots_shown shown slots)

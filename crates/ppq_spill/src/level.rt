@@ -27,9 +27,12 @@ use ppq_fetch::{
 /// written. Each block of the 8 that is not loaded is read once, and of the blocks that are written all
 /// but the last are full. It does not allocate.
 ///
+/// `Ok` only if no read and no write failed; a call that fails is not tried again.
+///
 /// `NoFreeBlock` only if a draw returned `None`, and the supply was sure of fewer slots than the 8 have
-/// loaded blocks, which are at most 8 and one for each worker. Nothing has changed then but the order of
-/// the arrays and the supply's counts and slots: slots that were drawn are kept by the supply.
+/// loaded blocks, which are at most 8 and one for each worker. No slot was called then, and nothing has
+/// changed but the order of the arrays and the supply's counts and slots: slots that were drawn are kept
+/// by the supply.
 ///
 /// `Device` only if a read or write of the slot with that number failed. Records may be lost then, but no
 /// slot and no buffer; what was written of the new array stands after the others.

@@ -1,7 +1,7 @@
 //! Writing merged records as blocks of a new array.
 ghost use Rattle.std.specs.Prelude.{◌≡◌, ◌+◌, ◌*◌, ◌<◌, ◌++◌, ◌∷◌, [], length, All};
 ghost use Rattle.ppq_fetch.specs.ppq_array.Owner.{HasSize, slots_shown};
-ghost use Rattle.ppq_spill.specs.Moves.{SameSums};
+ghost use Rattle.ppq_fetch.specs.ppq_array.Kept.{SameSums};
 ghost use Rattle.ppq_spill.specs.Writing.{SameBuffers};
 ghost use Rattle.ppq_spill.specs.Making.{hand_of, MayWrite, MayWritePart, BatchEnds, SameRest};
 

@@ -22,9 +22,11 @@ use ppq_fetch::{ExternalArray, Host, InternalArray, Record, Slot, StoreFault, Su
 /// written. So there are at most `ceil((n + m) / block)` block writes, and no block is read. A record
 /// that is merged costs a match on each level of the tree.
 ///
+/// `Ok` only if no write failed; a write that fails is not tried again.
+///
 /// `NoFreeBlock` only if buffers were short, a draw returned `None`, and the supply was sure of fewer
-/// slots than the blocks need. Nothing has changed then but the supply's counts and slots and the order
-/// of its buffers: slots that were drawn are kept by the supply.
+/// slots than the blocks need. No slot was called then, and nothing has changed but the supply's counts
+/// and slots and the order of its buffers: slots that were drawn are kept by the supply.
 ///
 /// `Device` only if a write of the slot with that number failed; the supply keeps that slot. Records may
 /// be lost then, but no slot and no buffer.
@@ -63,7 +65,7 @@ pub fn store_sorted<H: Host, S: Slot, R: Record, P: Supply<S, R>>(
 /// Merges all runs in buffers into one run in blocks, as `store_sorted` does where buffers are short, with
 /// no list beside them.
 ///
-/// `NoFreeBlock` and `Device` come as from there, and leave the same.
+/// `Ok`, `NoFreeBlock` and `Device` come as from there, and leave the same.
 pub fn store_buffers<H: Host, S: Slot, R: Record, P: Supply<S, R>>(
     rt: &H,
     body: &mut PassBody<S, R>,

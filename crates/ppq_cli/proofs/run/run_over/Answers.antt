@@ -6,7 +6,7 @@ use Rattle.ppq_cli.specs.RunOver.{RunWrites, RunEnds, RunFaults}
 use Rattle.ppq_cli.specs.Device.{AreBlocks}
 use Rattle.ppq_cli.proofs.Blocks.{returned, in_order, made_just, made_nothing}
 use Rattle.ppq_cli.proofs.Ends.{ran_to_load, fault_to_file, may_write}
-use Rattle.ppq_cli.proofs.RunOver.{wrote_nothing, unmade_wrote, asked_nothing, small_ends, unmade_ends, begun_ends, small_faults, unmade_faults, made_count, no_device_blocks, unmade_blocks}
+use Rattle.ppq_cli.proofs.RunOver.{wrote_nothing, unmade_wrote, asked_nothing, small_ends, unmade_ends, begun_ends, small_faults, unmade_faults, made_count, no_device_blocks, unmade_blocks, unmade_not_done}
 use Rattle.ppq_cli.proofs.run.run_over.Goals as goal
 
 -- the budget is too small
@@ -23,6 +23,7 @@ returns-then-memory-need-clause-blocks g c =
     record {
       made = made_nothing (λ s. (shown s).number) r.result.blocks.items (g.K.Rack.made c.args.rack.now) r.ensures.none;
       are = subst (λ (e : End). AreBlocks c.args.arguments.now.sizes e (map shown r.result.blocks.items)) (sym r.ensures.end) (no_device_blocks c.args.arguments.now.sizes (map shown r.result.blocks.items) _ (ap (map shown) r.ensures.none));
+      unfailed = λ is. let other = r.ensures.end in absurd (cc);
       tells = λ t. t;
     }
 
@@ -73,6 +74,7 @@ returns-in-Ok-clause-blocks g c =
     record {
       made = made_just shown back (g.K.Rack.made c.args.rack.now) (g.K.Rack.made c.make_blocks.new.rack) (length slots) numbers (same.length ∙ length-map slots shown) c.in-Ok.ensures.made;
       are = record { numbers = numbers; most = omega (arith, all); all = λ run. all; all_or_none = λ run. inl all };
+      unfailed = c.run_script.ensures.unfailed;
       tells = c.make_blocks.ensures.kept;
     }
 
@@ -107,6 +109,7 @@ returns-in-Err-clause-blocks g c =
     record {
       made = made_just shown back (g.K.Rack.made c.args.rack.now) (g.K.Rack.made c.make_blocks.new.rack) (length back) numbers (length-map back shown) c.in-Err.ensures.made;
       are = subst (λ (e : End). AreBlocks c.args.arguments.now.sizes e (map shown back)) (sym c.end_of_making.ensures) (unmade_blocks c.args.arguments.now.sizes (map shown back) c.in-Err.fault numbers (omega (arith, made.most, length-map back shown)));
+      unfailed = λ is. absurd (unmade_not_done c.in-Err.fault (sym c.end_of_making.ensures ∙ is));
       tells = c.make_blocks.ensures.kept;
     }
 

@@ -78,6 +78,9 @@ pub returns-in-Ok-load_script-clause-blocks : goal.returns-in-Ok-load_script-cla
 returns-in-Ok-load_script-clause-blocks g c =
     of_words c.args.words.now _ c.in-Some.arguments (λ r. AreBlocks r.sizes c.run_over.result.end (map g.K.Slot.Slot.shown c.run_over.result.blocks.items)) c.in-Some.is c.in-Ok.ensures.reading c.run_over.ensures.blocks.are
 
+pub returns-in-Ok-load_script-clause-unfailed : goal.returns-in-Ok-load_script-clause-unfailed
+returns-in-Ok-load_script-clause-unfailed g c = c.run_over.ensures.blocks.unfailed
+
 pub returns-in-Ok-load_script-clause-complete : goal.returns-in-Ok-load_script-clause-complete
 returns-in-Ok-load_script-clause-complete g c = λ t fault.
     let told = g.L.Library.told c.args.library.now in

@@ -13,6 +13,7 @@ returns g c =
       used_any = e.used_any;
       made = e.made;
       blocks = e.blocks;
+      unfailed = e.unfailed;
       none = e.none;
       rack_tells = e.rack_tells;
       files = e.files;

@@ -31,6 +31,7 @@ returns-in-Ok-put-clause-ends g c =
           sink_same = omega (arith, ok (put run.new.out ≡ put c.args.out.now) run.ensures.sink.stays, c.in-Ok-put.ensures.cause);
           library_same = ok (faults run.new.library ≡ faults c.args.library.now) run.ensures.library.stays;
         },
+        runs.quiet,
       );
       file = tt;
     }

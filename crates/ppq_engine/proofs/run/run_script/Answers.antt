@@ -1,10 +1,10 @@
-use Rattle.std.proofs.Common.{ℕ, List, Option, map, subst}
+use Rattle.std.proofs.Common.{ℕ, ◌*◌, List, Option, map, subst}
 use Rattle.ppq_script.specs.ppq_outside.Shown.{Shown, AllTell}
 use Rattle.ppq_script.specs.ppq_outside.Told.{TakesPart}
 use Rattle.ppq_script.specs.Reading.{command_list}
 use Rattle.ppq_engine.specs.Output.{AreFilesOf, given_of, output_of}
 use Rattle.ppq_engine.specs.Outcome.{EndSays, FaultBeforeFile}
-use Rattle.ppq_engine.proofs.Ending.{says-first, says-began, same_blocks, end-done, end-used, end-used_any, end-within, end-above, end-failed, end-complete, end-complete_any}
+use Rattle.ppq_engine.proofs.Ending.{says-first, says-began, same_blocks, end-done, end-used, end-used_any, end-unfailed, end-within, end-above, end-failed, end-complete, end-complete_any}
 use Rattle.ppq_engine.proofs.run.run_script.Given as given
 use Rattle.ppq_engine.proofs.run.run_script.Goals as goal
 
@@ -18,28 +18,31 @@ pub returns-clause-answer : goal.returns-clause-answer
 returns-clause-answer g c = says-began (g.L.Library.told c.args.library.now) (g.L.Library.replied c.run_opened-queue.new.library) c.args.script.now (map g.S.Slot.shown c.args.slots.items) c.args.sizes (g.O.Sink.told c.args.out.now) (g.O.Sink.told c.run_opened-queue.new.out) (g.O.Sink.faults c.args.out.now) (g.O.Sink.faults c.run_opened-queue.new.out) (g.L.Library.faults c.args.library.now) (g.L.Library.faults c.run_opened-queue.new.library) c.run_opened-queue.result.0.slots c.run_opened-queue.result.1 (says g c) c.in-Ok.ensures.budget
 
 pub returns-clause-done : goal.returns-clause-done
-returns-clause-done g c = end-done (g.L.Library.told c.args.library.now) (g.L.Library.replied c.run_opened-queue.new.library) c.args.script.now (map g.S.Slot.shown c.args.slots.items) c.args.sizes (g.O.Sink.told c.args.out.now) (g.O.Sink.told c.run_opened-queue.new.out) (g.O.Sink.faults c.args.out.now) (g.O.Sink.faults c.run_opened-queue.new.out) (g.L.Library.faults c.args.library.now) (g.L.Library.faults c.run_opened-queue.new.library) c.run_opened-queue.result.0.slots (map g.S.Slot.shown c.close.result.items) c.run_opened-queue.result.1 c.close.ensures.slots c.close.ensures.writes (says g c)
+returns-clause-done g c = end-done (g.L.Library.told c.args.library.now) (g.L.Library.replied c.run_opened-queue.new.library) c.args.script.now (map g.S.Slot.shown c.args.slots.items) c.args.sizes (g.O.Sink.told c.args.out.now) (g.O.Sink.told c.run_opened-queue.new.out) (g.O.Sink.faults c.args.out.now) (g.O.Sink.faults c.run_opened-queue.new.out) (g.L.Library.faults c.args.library.now) (g.L.Library.faults c.run_opened-queue.new.library) c.run_opened-queue.result.0.slots (map g.S.Slot.shown c.close.result.items) c.run_opened-queue.result.1 c.close.ensures (says g c)
 
 pub returns-clause-within : goal.returns-clause-within
-returns-clause-within g c = end-within (g.L.Library.told c.args.library.now) (g.L.Library.replied c.run_opened-queue.new.library) c.args.script.now (map g.S.Slot.shown c.args.slots.items) c.args.sizes (g.O.Sink.told c.args.out.now) (g.O.Sink.told c.run_opened-queue.new.out) (g.O.Sink.faults c.args.out.now) (g.O.Sink.faults c.run_opened-queue.new.out) (g.L.Library.faults c.args.library.now) (g.L.Library.faults c.run_opened-queue.new.library) c.run_opened-queue.result.0.slots (map g.S.Slot.shown c.close.result.items) c.run_opened-queue.result.1 c.close.ensures.slots c.close.ensures.writes (says g c)
+returns-clause-within g c = end-within (g.L.Library.told c.args.library.now) (g.L.Library.replied c.run_opened-queue.new.library) c.args.script.now (map g.S.Slot.shown c.args.slots.items) c.args.sizes (g.O.Sink.told c.args.out.now) (g.O.Sink.told c.run_opened-queue.new.out) (g.O.Sink.faults c.args.out.now) (g.O.Sink.faults c.run_opened-queue.new.out) (g.L.Library.faults c.args.library.now) (g.L.Library.faults c.run_opened-queue.new.library) c.run_opened-queue.result.0.slots (map g.S.Slot.shown c.close.result.items) c.run_opened-queue.result.1 c.close.ensures (says g c)
 
 pub returns-clause-failed : goal.returns-clause-failed
-returns-clause-failed g c = end-failed (g.L.Library.told c.args.library.now) (g.L.Library.replied c.run_opened-queue.new.library) c.args.script.now (map g.S.Slot.shown c.args.slots.items) c.args.sizes (g.O.Sink.told c.args.out.now) (g.O.Sink.told c.run_opened-queue.new.out) (g.O.Sink.faults c.args.out.now) (g.O.Sink.faults c.run_opened-queue.new.out) (g.L.Library.faults c.args.library.now) (g.L.Library.faults c.run_opened-queue.new.library) c.run_opened-queue.result.0.slots (map g.S.Slot.shown c.close.result.items) c.run_opened-queue.result.1 c.close.ensures.slots c.close.ensures.writes (says g c)
+returns-clause-failed g c = end-failed (g.L.Library.told c.args.library.now) (g.L.Library.replied c.run_opened-queue.new.library) c.args.script.now (map g.S.Slot.shown c.args.slots.items) c.args.sizes (g.O.Sink.told c.args.out.now) (g.O.Sink.told c.run_opened-queue.new.out) (g.O.Sink.faults c.args.out.now) (g.O.Sink.faults c.run_opened-queue.new.out) (g.L.Library.faults c.args.library.now) (g.L.Library.faults c.run_opened-queue.new.library) c.run_opened-queue.result.0.slots (map g.S.Slot.shown c.close.result.items) c.run_opened-queue.result.1 c.close.ensures (says g c)
 
 pub returns-clause-above : goal.returns-clause-above
-returns-clause-above g c = end-above (g.L.Library.told c.args.library.now) (g.L.Library.replied c.run_opened-queue.new.library) c.args.script.now (map g.S.Slot.shown c.args.slots.items) c.args.sizes (g.O.Sink.told c.args.out.now) (g.O.Sink.told c.run_opened-queue.new.out) (g.O.Sink.faults c.args.out.now) (g.O.Sink.faults c.run_opened-queue.new.out) (g.L.Library.faults c.args.library.now) (g.L.Library.faults c.run_opened-queue.new.library) c.run_opened-queue.result.0.slots (map g.S.Slot.shown c.close.result.items) c.run_opened-queue.result.1 c.close.ensures.slots c.close.ensures.writes (says g c)
+returns-clause-above g c = end-above (g.L.Library.told c.args.library.now) (g.L.Library.replied c.run_opened-queue.new.library) c.args.script.now (map g.S.Slot.shown c.args.slots.items) c.args.sizes (g.O.Sink.told c.args.out.now) (g.O.Sink.told c.run_opened-queue.new.out) (g.O.Sink.faults c.args.out.now) (g.O.Sink.faults c.run_opened-queue.new.out) (g.L.Library.faults c.args.library.now) (g.L.Library.faults c.run_opened-queue.new.library) c.run_opened-queue.result.0.slots (map g.S.Slot.shown c.close.result.items) c.run_opened-queue.result.1 c.close.ensures (says g c)
 
 pub returns-clause-used : goal.returns-clause-used
-returns-clause-used g c = end-used (g.L.Library.told c.args.library.now) (g.L.Library.replied c.run_opened-queue.new.library) c.args.script.now (map g.S.Slot.shown c.args.slots.items) c.args.sizes (g.O.Sink.told c.args.out.now) (g.O.Sink.told c.run_opened-queue.new.out) (g.O.Sink.faults c.args.out.now) (g.O.Sink.faults c.run_opened-queue.new.out) (g.L.Library.faults c.args.library.now) (g.L.Library.faults c.run_opened-queue.new.library) c.run_opened-queue.result.0.slots (map g.S.Slot.shown c.close.result.items) c.run_opened-queue.result.1 c.close.ensures.slots c.close.ensures.writes (says g c)
+returns-clause-used g c = end-used (g.L.Library.told c.args.library.now) (g.L.Library.replied c.run_opened-queue.new.library) c.args.script.now (map g.S.Slot.shown c.args.slots.items) c.args.sizes (g.O.Sink.told c.args.out.now) (g.O.Sink.told c.run_opened-queue.new.out) (g.O.Sink.faults c.args.out.now) (g.O.Sink.faults c.run_opened-queue.new.out) (g.L.Library.faults c.args.library.now) (g.L.Library.faults c.run_opened-queue.new.library) c.run_opened-queue.result.0.slots (map g.S.Slot.shown c.close.result.items) c.run_opened-queue.result.1 c.close.ensures (says g c)
 
 pub returns-clause-used_any : goal.returns-clause-used_any
-returns-clause-used_any g c = end-used_any (g.L.Library.told c.args.library.now) (g.L.Library.replied c.run_opened-queue.new.library) c.args.script.now (map g.S.Slot.shown c.args.slots.items) c.args.sizes (g.O.Sink.told c.args.out.now) (g.O.Sink.told c.run_opened-queue.new.out) (g.O.Sink.faults c.args.out.now) (g.O.Sink.faults c.run_opened-queue.new.out) (g.L.Library.faults c.args.library.now) (g.L.Library.faults c.run_opened-queue.new.library) c.run_opened-queue.result.0.slots (map g.S.Slot.shown c.close.result.items) c.run_opened-queue.result.1 c.close.ensures.slots c.close.ensures.writes (says g c)
+returns-clause-used_any g c = end-used_any (g.L.Library.told c.args.library.now) (g.L.Library.replied c.run_opened-queue.new.library) c.args.script.now (map g.S.Slot.shown c.args.slots.items) c.args.sizes (g.O.Sink.told c.args.out.now) (g.O.Sink.told c.run_opened-queue.new.out) (g.O.Sink.faults c.args.out.now) (g.O.Sink.faults c.run_opened-queue.new.out) (g.L.Library.faults c.args.library.now) (g.L.Library.faults c.run_opened-queue.new.library) c.run_opened-queue.result.0.slots (map g.S.Slot.shown c.close.result.items) c.run_opened-queue.result.1 c.close.ensures (says g c)
+
+pub returns-clause-unfailed : goal.returns-clause-unfailed
+returns-clause-unfailed g c = end-unfailed (g.L.Library.told c.args.library.now) (g.L.Library.replied c.run_opened-queue.new.library) c.args.script.now (map g.S.Slot.shown c.args.slots.items) c.args.sizes (g.O.Sink.told c.args.out.now) (g.O.Sink.told c.run_opened-queue.new.out) (g.O.Sink.faults c.args.out.now) (g.O.Sink.faults c.run_opened-queue.new.out) (g.L.Library.faults c.args.library.now) (g.L.Library.faults c.run_opened-queue.new.library) c.run_opened-queue.result.0.slots (map g.S.Slot.shown c.close.result.items) c.run_opened-queue.result.1 c.close.ensures (says g c) (c.args.sizes.block * 16) c.requires.slots.fresh
 
 pub returns-clause-complete : goal.returns-clause-complete
-returns-clause-complete g c = λ fixed. end-complete (g.L.Library.told c.args.library.now) (g.L.Library.replied c.run_opened-queue.new.library) c.args.script.now (map g.S.Slot.shown c.args.slots.items) c.args.sizes (g.O.Sink.told c.args.out.now) (g.O.Sink.told c.run_opened-queue.new.out) (g.O.Sink.faults c.args.out.now) (g.O.Sink.faults c.run_opened-queue.new.out) (g.L.Library.faults c.args.library.now) (g.L.Library.faults c.run_opened-queue.new.library) c.run_opened-queue.result.0.slots (map g.S.Slot.shown c.close.result.items) c.run_opened-queue.result.1 c.close.ensures.slots c.close.ensures.writes (says g c)
+returns-clause-complete g c = λ fixed. end-complete (g.L.Library.told c.args.library.now) (g.L.Library.replied c.run_opened-queue.new.library) c.args.script.now (map g.S.Slot.shown c.args.slots.items) c.args.sizes (g.O.Sink.told c.args.out.now) (g.O.Sink.told c.run_opened-queue.new.out) (g.O.Sink.faults c.args.out.now) (g.O.Sink.faults c.run_opened-queue.new.out) (g.L.Library.faults c.args.library.now) (g.L.Library.faults c.run_opened-queue.new.library) c.run_opened-queue.result.0.slots (map g.S.Slot.shown c.close.result.items) c.run_opened-queue.result.1 c.close.ensures (says g c)
 
 pub returns-clause-complete_any : goal.returns-clause-complete_any
-returns-clause-complete_any g c = λ fixed. end-complete_any (g.L.Library.told c.args.library.now) (g.L.Library.replied c.run_opened-queue.new.library) c.args.script.now (map g.S.Slot.shown c.args.slots.items) c.args.sizes (g.O.Sink.told c.args.out.now) (g.O.Sink.told c.run_opened-queue.new.out) (g.O.Sink.faults c.args.out.now) (g.O.Sink.faults c.run_opened-queue.new.out) (g.L.Library.faults c.args.library.now) (g.L.Library.faults c.run_opened-queue.new.library) c.run_opened-queue.result.0.slots (map g.S.Slot.shown c.close.result.items) c.run_opened-queue.result.1 c.close.ensures.slots c.close.ensures.writes (says g c)
+returns-clause-complete_any g c = λ fixed. end-complete_any (g.L.Library.told c.args.library.now) (g.L.Library.replied c.run_opened-queue.new.library) c.args.script.now (map g.S.Slot.shown c.args.slots.items) c.args.sizes (g.O.Sink.told c.args.out.now) (g.O.Sink.told c.run_opened-queue.new.out) (g.O.Sink.faults c.args.out.now) (g.O.Sink.faults c.run_opened-queue.new.out) (g.L.Library.faults c.args.library.now) (g.L.Library.faults c.run_opened-queue.new.library) c.run_opened-queue.result.0.slots (map g.S.Slot.shown c.close.result.items) c.run_opened-queue.result.1 c.close.ensures (says g c)
 
 pub returns-clause-part : goal.returns-clause-part
 returns-clause-part g c =
@@ -53,4 +56,4 @@ returns-clause-file g c =
     subst P c.in-Ok.ensures.slots c.run_opened-queue.ensures.ends.file
 
 pub returns-clause-blocks : goal.returns-clause-blocks
-returns-clause-blocks g c = same_blocks (map g.S.Slot.shown c.args.slots.items) c.in-Ok.queue.slots c.run_opened-queue.result.0.slots (map g.S.Slot.shown c.close.result.items) c.in-Ok.ensures.slots c.run_opened-queue.ensures.slots c.close.ensures.slots
+returns-clause-blocks g c = same_blocks (map g.S.Slot.shown c.args.slots.items) c.in-Ok.queue.slots c.run_opened-queue.result.0.slots (map g.S.Slot.shown c.close.result.items) c.in-Ok.ensures.slots c.run_opened-queue.ensures.slots c.close.ensures

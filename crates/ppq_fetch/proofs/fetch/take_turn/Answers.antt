@@ -119,7 +119,7 @@ returns-in-Take-clause-outcome g c =
     let next = state k.internal k.external k.idle (g.P.Supply.stock k.supply) in
     let waits = waiting_items g.R.Record.record_of g.R.Record.WIDTH g.S.Slot.shown c.args.external.now in
     let edge = c.choose_edge-edge.ensures ∙ ap (λ f. edge_of g.R.Ord.cmp f c.args.below) c.first_of.ensures in
-    let long : c.in-Take.count ≡ length k.out = omega (arith, c.take_safe.ensures.room.out, length-take c.in-Take.count c.args.out.now, c.in-Take.ensures.2) in
+    let long : c.in-Take.count ≡ length k.out = omega (arith, c.take_safe.ensures.room.out, length-take c.in-Take.count c.args.out.now, c.in-Take.ensures.1) in
     let step = taken_step g.R.Ord.cmp o g.R.Record.record_of g.R.Record.WIDTH g.S.Slot.shown c.mark_runs-safe.new.places c.args.internal.now k.internal c.args.external.now k.external c.args.idle.now k.idle
     (g.P.Supply.stock c.args.supply.now) (g.P.Supply.stock k.supply) k.out c.take_safe.ensures.taken c.mark_runs-safe.ensures.within c.choose_edge-edge.result c.args.below c.mark_runs-safe.ensures.safe
     (λ tell rise. subst (λ e. IsSafeEdge g.R.Ord.cmp e c.args.below waits) (sym edge) (edge_is_safe g.R.Ord.cmp o g.R.Record.record_of g.R.Record.WIDTH g.S.Slot.shown c.args.external.now c.next_block-next.result c.args.below waits c.next_block-next.ensures.next
@@ -127,7 +127,7 @@ returns-in-Take-clause-outcome g c =
     let same = blocks_same g.R.Ord.cmp (ranks c.record_laws.ensures.order) g.R.Record.record_of g.R.Record.WIDTH g.S.Slot.shown c.mark_runs-safe.new.places c.args.internal.now k.internal c.args.external.now k.external c.args.idle.now k.idle
     (g.P.Supply.stock c.args.supply.now) (g.P.Supply.stock k.supply) k.out c.take_safe.ensures.taken c.mark_runs-safe.ensures.within in
     record {
-      within = c.in-Take.ensures.2;
+      within = omega (arith, c.in-Take.ensures.1);
       fetched = subst (λ xs. Fetched g.R.Ord.cmp g.R.Record.record_of g.R.Record.WIDTH g.S.Slot.shown c.args.below s next xs) (sym (take_first k.out (drop c.in-Take.count c.args.out.now) c.in-Take.count long)) step;
       may = sources_on g.R.Ord.cmp (ranks c.record_laws.ensures.order) g.R.Record.record_of g.R.Record.WIDTH g.S.Slot.shown c.mark_runs-safe.new.places c.args.internal.now k.internal c.args.external.now k.external c.args.idle.now k.idle
           (g.P.Supply.stock c.args.supply.now) (g.P.Supply.stock k.supply) k.out c.take_safe.ensures.taken c.mark_runs-safe.ensures.within c.args.ahead c.requires.may;

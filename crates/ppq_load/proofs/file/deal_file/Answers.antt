@@ -1,16 +1,22 @@
-use Rattle.std.proofs.Common.{◌≡◌, ◌∙◌, ◌+◌, ◌*◌, ◌/◌, drop, ap, refl, sym, subst, arith, length-append, length-drop}
+use Rattle.std.proofs.Common.{◌≡◌, ◌∙◌, ◌+◌, ◌*◌, ◌/◌, ℕ, List, Option, drop, ap, refl, sym, subst, arith, length-append, length-drop}
+use Rattle.ppq_session.specs.ppq_record.declared.pair.Pair.{Pair}
 use Rattle.ppq_session.specs.ppq_budget.Sizes.{batch_of}
-use Rattle.ppq_load.specs.Loading.{InSession, HasGiven}
+use Rattle.ppq_session.specs.ppq_queue.Holding.{Holding}
+use Rattle.ppq_load.specs.Loading.{LoadHolding, HasGiven}
 use Rattle.ppq_load.proofs.FileRecords.{given-none, given-stopped}
 use Rattle.ppq_load.proofs.Loadings.{batch-some}
 use Rattle.ppq_load.proofs.Reading.{reads-none, reads-then}
 use Rattle.ppq_load.proofs.file.deal_file.Goals as goal
 
-pub returns-in_err-deal_piece-clause-session : goal.returns-in_err-deal_piece-clause-session
-returns-in_err-deal_piece-clause-session g c =
+pub returns-in_err-deal_piece-clause-some : goal.returns-in_err-deal_piece-clause-some
+returns-in_err-deal_piece-clause-some g c =
+    let i = c.pieces.invariant in
     λ queue s.
-    let had = c.pieces.invariant.given queue s in
-    (had.records, subst (λ l. InSession g.S.Slot.shown queue had.records l) (sym c.in_err-deal_piece.ensures.same) had.session)
+    record {
+      count = c.pieces.from;
+      few = omega (arith, i.records, i.within);
+      given = subst (λ l. HasGiven g.S.Slot.shown queue (g.L.Library.told c.args.library.now) c.args.source.name.now c.pieces.from l) (sym c.in_err-deal_piece.ensures.same) (i.given queue s);
+    }
 
 pub returns-in_err-deal_piece-clause-reads : goal.returns-in_err-deal_piece-clause-reads
 returns-in_err-deal_piece-clause-reads g c = reads-then g.L.Library.told g.L.Library.replied c.args.source.name.now c.pieces.invariant.reads c.deal_piece.ensures.reads
@@ -67,14 +73,17 @@ returns-then-not-branch-clause-given g c =
     given-stopped told name shown queue (c.pieces.from + n) (c.args.source.said / 16) new (omega (arith, i.records)) (e.dealt.stopped c.if-not-branch.true)
     (subst (λ t. HasGiven shown queue t name (c.pieces.from + n) new) i.reads.told (e.given queue (subst (λ t. HasGiven shown queue t name c.pieces.from old) (sym i.reads.told) (i.given queue s))))
 
-pub returns-then-not-branch-clause-session : goal.returns-then-not-branch-clause-session
-returns-then-not-branch-clause-session g c =
-    let shown = g.S.Slot.shown in
+pub returns-then-not-branch-clause-some : goal.returns-then-not-branch-clause-some
+returns-then-not-branch-clause-some g c =
     let i = c.pieces.invariant in
-    let e = c.in_ok-deal_piece.ensures in
+    let n = c.min-count.result in
+    let Given : Holding Pair → LoadHolding g.row.S.Denot → ℕ → Option (List ℕ → Option (List ℕ)) → Type 0 = λ queue load k told. HasGiven g.S.Slot.shown queue told c.args.source.name.now k load in
     λ queue s.
-    let had = e.given queue (subst (λ t. HasGiven shown queue t c.args.source.name.now c.pieces.from c.pieces.load) (sym i.reads.told) (i.given queue s)) in
-    (had.records, had.session)
+    record {
+      count = c.pieces.from + n;
+      few = omega (arith, i.records);
+      given = subst (Given queue c.deal_piece.new.load (c.pieces.from + n)) i.reads.told (c.in_ok-deal_piece.ensures.given queue (subst (Given queue c.pieces.load c.pieces.from) (sym i.reads.told) (i.given queue s)));
+    }
 
 pub returns-then-not-branch-clause-reads : goal.returns-then-not-branch-clause-reads
 returns-then-not-branch-clause-reads g c = reads-then g.L.Library.told g.L.Library.replied c.args.source.name.now c.pieces.invariant.reads c.deal_piece.ensures.reads
@@ -85,8 +94,5 @@ returns-clause-given g c =
     let end : c.pieces.from ≡ c.args.source.said / 16 = omega (arith, i.records, i.within) in
     λ queue s. subst (λ k. HasGiven g.S.Slot.shown queue (g.L.Library.told c.args.library.now) c.args.source.name.now k c.pieces.load) end (i.given queue s)
 
-pub returns-clause-session : goal.returns-clause-session
-returns-clause-session g c =
-    λ queue s.
-    let had = c.pieces.invariant.given queue s in
-    (had.records, had.session)
+pub returns-clause-some : goal.returns-clause-some
+returns-clause-some g c = let i = c.pieces.invariant in λ queue s. record { count = c.pieces.from; few = omega (arith, i.records, i.within); given = i.given queue s }

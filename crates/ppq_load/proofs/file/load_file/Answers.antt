@@ -1,4 +1,4 @@
-use Rattle.std.proofs.Common.{◌≡◌, ℕ, ◌+◌, ◌/◌, ◌++◌, List, Option, Some, max, [], sym, subst, arith}
+use Rattle.std.proofs.Common.{◌≡◌, ℕ, ◌+◌, ◌/◌, ◌++◌, List, Option, Some, None, max, [], sym, subst, arith}
 use Rattle.std.specs.Prelude.{OnOk, IfErr, ⊤}
 use Rattle.ppq_session.specs.ppq_record.declared.pair.Pair.{Pair}
 use Rattle.ppq_session.specs.ppq_record.Bag.{IsSameBag}
@@ -7,10 +7,12 @@ use Rattle.ppq_session.specs.ppq_outside.Shown.{AllTell}
 use Rattle.ppq_session.specs.ppq_outside.Told.{bytes_or_none}
 use Rattle.ppq_session.proofs.ppq_outside.Replies.{no_replies}
 use Rattle.ppq_session.specs.ppq_queue.Holding.{Holding}
+use Rattle.ppq_session.specs.Dealing.{AddsPart}
 use Rattle.ppq_load.specs.Loading.{InSession, HasGiven, IsByRead, IsReadRefusal, LoadEndsIn, LoadCountsFrom}
 use Rattle.ppq_load.specs.Reading.{IsReadWithin}
 use Rattle.ppq_load.proofs.Refusals.{stop-later}
-use Rattle.ppq_load.proofs.Results.{LoadSays, first-says, first-err, first-ok, on_ok, on_ok-map, if_err-map, unread-ends, unread-counts}
+use Rattle.ppq_load.proofs.Parts.{ended-part, unbegun-part, file-part}
+use Rattle.ppq_load.proofs.Results.{LoadSays, first-says, first-err, first-ok, on_err, on_ok, on_ok-map, if_err-map, unread-ends, unread-counts}
 use Rattle.ppq_load.proofs.file.load_file.Given as over
 use Rattle.ppq_load.proofs.file.load_file.Goals.{After-first_fault}
 use Rattle.ppq_load.proofs.file.load_file.Goals as goal
@@ -41,6 +43,25 @@ returns-in-Ok-clause-size g c = (says g (goal.at.returns-in-Ok-clause-size g c).
 pub returns-in-Ok-clause-sound : goal.returns-in-Ok-clause-sound
 returns-in-Ok-clause-sound g c = (says g (goal.at.returns-in-Ok-clause-sound g c).After-first_fault).sound
 
+pub returns-in-Ok-clause-quiet : goal.returns-in-Ok-clause-quiet
+returns-in-Ok-clause-quiet g c = (says g (goal.at.returns-in-Ok-clause-quiet g c).After-first_fault).quiet
+
+pub returns-in-Ok-clause-part : goal.returns-in-Ok-clause-part
+returns-in-Ok-clause-part g c =
+    let q = c.args.queue in
+    let new = c.end-queue.result.0 in
+    let name = c.args.name.now in
+    let told = g.L.Library.told c.args.library.now in
+    let some = c.deal_file-read.ensures.some q c.in-Ok.ensures.session in
+    let ended = c.end-queue.ensures.loaded q some.given.records some.given.session in
+    on_err c.first_fault.result (new.failed ≡ None → AllTell q.slots → (files : List ℕ → Option (List ℕ)) → told ≡ Some files → AddsPart (records_of (bytes_or_none (files name))) q.bag new.bag)
+    (λ sound tells files is.
+    file-part told name files c.args.said some.count some.given.records q.bag new.bag is (c.requires.long files is) some.few some.given.are
+    (ended-part g.S.Slot.shown c.deal_file-read.new.load q new some.given.records c.end-queue.result.1 ended c.end-queue.ensures.left sound tells))
+
+pub returns-in-Err-clause-part : goal.returns-in-Err-clause-part
+returns-in-Err-clause-part g c = λ sound tells files is. unbegun-part (records_of (bytes_or_none (files c.args.name.now))) c.args.queue c.in-Err.queue c.in-Err.fault c.in-Err.ensures.intact sound tells
+
 pub returns-in-Ok-clause-peak : goal.returns-in-Ok-clause-peak
 returns-in-Ok-clause-peak g c = (says g (goal.at.returns-in-Ok-clause-peak g c).After-first_fault).peak
 
@@ -56,8 +77,8 @@ returns-in-Ok-clause-ended g c =
 
 pub returns-in-Ok-clause-kept : goal.returns-in-Ok-clause-kept
 returns-in-Ok-clause-kept g c =
-    let had = c.deal_file-read.ensures.session c.args.queue c.in-Ok.ensures.session in
-    (c.end-queue.ensures.loaded c.args.queue had.0 had.1).kept
+    let some = c.deal_file-read.ensures.some c.args.queue c.in-Ok.ensures.session in
+    (c.end-queue.ensures.loaded c.args.queue some.given.records some.given.session).kept
 
 pub returns-in-Ok-clause-stays : goal.returns-in-Ok-clause-stays
 returns-in-Ok-clause-stays g c =

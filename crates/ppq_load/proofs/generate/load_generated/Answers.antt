@@ -1,12 +1,14 @@
-use Rattle.std.proofs.Common.{◌+◌, ◌++◌, max, sym, subst, arith}
+use Rattle.std.proofs.Common.{◌≡◌, ◌+◌, ◌++◌, None, max, sym, subst, arith}
 use Rattle.std.specs.Prelude.{IfErr}
 use Rattle.ppq_session.specs.ppq_record.Bag.{IsSameBag}
 use Rattle.ppq_session.specs.ppq_record.Given.{generated}
 use Rattle.ppq_session.specs.ppq_outside.Shown.{AllTell}
+use Rattle.ppq_session.specs.Dealing.{AddsPart}
 use Rattle.ppq_load.specs.Loading.{IsLoaded, IsByLoad}
 use Rattle.ppq_load.proofs.Generated.{length-generated}
 use Rattle.ppq_load.proofs.Refusals.{stop-later}
-use Rattle.ppq_load.proofs.Results.{LoadSays, loaded-says, loaded-by}
+use Rattle.ppq_load.proofs.Parts.{ended-part, unbegun-part}
+use Rattle.ppq_load.proofs.Results.{LoadSays, loaded-says, loaded-by, on_err}
 use Rattle.ppq_load.proofs.generate.load_generated.Given as over
 use Rattle.ppq_load.proofs.generate.load_generated.Goals.{After-end-queue, After-loaded}
 use Rattle.ppq_load.proofs.generate.load_generated.Goals as goal
@@ -33,6 +35,21 @@ returns-in-Ok-clause-size g c = (says g (goal.at.returns-in-Ok-clause-size g c).
 
 pub returns-in-Ok-clause-sound : goal.returns-in-Ok-clause-sound
 returns-in-Ok-clause-sound g c = (says g (goal.at.returns-in-Ok-clause-sound g c).After-loaded).sound
+
+pub returns-in-Ok-clause-quiet : goal.returns-in-Ok-clause-quiet
+returns-in-Ok-clause-quiet g c = (says g (goal.at.returns-in-Ok-clause-quiet g c).After-loaded).quiet
+
+pub returns-in-Ok-clause-part : goal.returns-in-Ok-clause-part
+returns-in-Ok-clause-part g c =
+    let q = c.args.queue in
+    let new = c.end-queue.result.0 in
+    let records = generated c.args.seed c.args.count in
+    let ended = done g (goal.at.returns-in-Ok-clause-part g c).After-end-queue in
+    on_err c.loaded.result (new.failed ≡ None → AllTell q.slots → AddsPart records q.bag new.bag)
+    (ended-part g.S.Slot.shown c.deal_generated.new.load q new records c.end-queue.result.1 ended c.end-queue.ensures.left)
+
+pub returns-in-Err-clause-part : goal.returns-in-Err-clause-part
+returns-in-Err-clause-part g c = unbegun-part (generated c.args.seed c.args.count) c.args.queue c.in-Err.queue c.in-Err.fault c.in-Err.ensures.intact
 
 pub returns-in-Ok-clause-peak : goal.returns-in-Ok-clause-peak
 returns-in-Ok-clause-peak g c = (says g (goal.at.returns-in-Ok-clause-peak g c).After-loaded).peak

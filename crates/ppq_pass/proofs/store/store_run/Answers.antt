@@ -9,8 +9,9 @@ use Rattle.ppq_pass.specs.Passing.{IsPass, IsSince, home_of}
 use Rattle.ppq_pass.specs.PassState.{stock_of}
 use Rattle.ppq_pass.proofs.store.store_run.Goals as goal
 
-moved : (F : Stock → Stock → Type 0) (s s' t t' : Stock) → s ≡ s' → t' ≡ t → F s t → F s' t'
-moved F s s' t t' a b x = subst (F s') (sym b) (subst (λ y. F y t) a x)
+-- what is known of the stocks of the supply holds of those of the parts that it was made of, and was taken apart into
+moved : {s s' t t' : Stock} (F : Stock → Stock → Type 0) → s ≡ s' → t' ≡ t → F s t → F s' t'
+moved {s} {s'} {t} {t'} F a b x = subst (F s') (sym b) (subst (λ y. F y t) a x)
 
 pub returns-clause-kept : goal.returns-clause-kept
 returns-clause-kept g c =
@@ -24,38 +25,28 @@ returns-clause-kept g c =
     let made = c.from_parts-supply.ensures in
     let left = c.into_parts.ensures.same in
     let home = ap home_of left ∙ e.home ∙ ap home_of made in
-    let s0 = c.from_parts-supply.result.stock in
-    let s1 = stock_of shown p in
-    let t0 = c.store_sorted-answer.new.supply.stock in
-    let t1 = stock_of shown q in
-    let s = ap (λ x. x.stock) made in
-    let t = ap (λ x. x.stock) left in
+    let s : c.from_parts-supply.result.stock ≡ stock_of shown p = ap (λ x. x.stock) made in
+    let t : stock_of shown q ≡ c.store_sorted-answer.new.supply.stock = ap (λ x. x.stock) left in
     record {
-      supply = subst (λ h. IsPass shown width h q.row_seat q.pool_seat q.stash q.numbers q.block q.dry) (ap (λ h. h.shared) home) c.into_parts.ensures.of;
+      supply = subst (λ h. IsPass shown width h q.row_seat q.pool_seat q.stash q.numbers q.block q.dry q.scant) (ap (λ h. h.shared) home) c.into_parts.ensures.of;
       items = ap (λ h. h.items) home;
       row_shares = ap (λ h. h.row_shares) home;
       pool_shares = ap (λ h. h.pool_shares) home;
       dry = λ some. c.into_parts.ensures.was_dry (ap (λ h. h.was_dry) home ∙ lt-ltb 0 p.dry some);
       since = subst (λ h. IsSince h.places h.steps q.row_seat q.pool_seat) home c.into_parts.ensures.since;
-      kept = moved (λ x y. Kept x y (held_by shown a) (held_by shown b)) s0 s1 t0 t1 s t e.kept;
-      takes_back = moved (λ x y. CanTakeBack shown y b.runs.internal.items b.runs.external.items) s0 s1 t0 t1 s t e.takes_back;
-      tells = moved (λ x y. StillTell shown a b x y) s0 s1 t0 t1 s t e.tells;
-      untold = moved (λ x y. StillUntold shown a b x y) s0 s1 t0 t1 s t e.untold;
-      writes = moved (λ x y. WritesFew shown (length c.args.sorted.now) a b x y) s0 s1 t0 t1 s t e.writes;
+      kept = moved (λ x y. Kept x y (held_by shown a) (held_by shown b)) s t e.kept;
+      takes_back = moved (λ x y. CanTakeBack shown y b.runs.internal.items b.runs.external.items) s t e.takes_back;
+      tells = moved (λ x y. StillTell shown a b x y) s t e.tells;
+      untold = moved (λ x y. StillUntold shown a b x y) s t e.untold;
+      writes = moved (λ x y. WritesFew shown (length c.args.sorted.now) a b x y) s t e.writes;
       lanes = e.lanes;
-      size = moved (λ x y. HasOneSize shown width b y) s0 s1 t0 t1 s t e.size;
+      size = moved (λ x y. HasOneSize shown width b y) s t e.size;
       rooms = e.rooms;
     }
 
 pub returns-clause-none_free : goal.returns-clause-none_free
 returns-clause-none_free g c err =
     let shown = g.S.Slot.shown in
-    let a = c.args.body.now in
-    let b = c.store_sorted-answer.new.body in
-    let s0 = c.from_parts-supply.result.stock in
-    let s1 = stock_of shown c.args.parts in
-    let t0 = c.store_sorted-answer.new.supply.stock in
-    let t1 = stock_of shown c.into_parts.result in
-    let s : s0 ≡ s1 = ap (λ x. x.stock) c.from_parts-supply.ensures in
-    let t : t1 ≡ t0 = ap (λ x. x.stock) c.into_parts.ensures.same in
-    moved (λ x y. NoneFree (length c.args.sorted.now) a b x y) s0 s1 t0 t1 s t (c.store_sorted-answer.ensures.none_free err)
+    let s : c.from_parts-supply.result.stock ≡ stock_of shown c.args.parts = ap (λ x. x.stock) c.from_parts-supply.ensures in
+    let t : stock_of shown c.into_parts.result ≡ c.store_sorted-answer.new.supply.stock = ap (λ x. x.stock) c.into_parts.ensures.same in
+    moved (λ x y. NoneFree (length c.args.sorted.now) c.args.body.now c.store_sorted-answer.new.body x y) s t (c.store_sorted-answer.ensures.none_free err)

@@ -1,11 +1,14 @@
-use Rattle.std.proofs.Common.{◌≡◌, ◌<◌, ◌∙◌, length, take, get_or, map, refl, sym, subst, rules}
+use Rattle.std.proofs.Common.{◌≡◌, ◌<◌, ◌≤◌, ◌∙◌, List, length, take, get_or, map, refl, sym, subst, arith, rules}
 use Rattle.std.specs.Prelude.{string_bytes}
+use Rattle.std.proofs.lemmas.List.{take_all}
+use Rattle.ppq_outside.specs.Told.{RepliesOnly}
+use Rattle.ppq_outside.proofs.Replies.{no_replies}
 use Rattle.ppq_outside.proofs.Shrunk.{done_more, left_more}
 use Rattle.ppq_script.specs.declared.command.Command.TheVariants.{Push}
 use Rattle.ppq_script.specs.declared.numbered.Numbered.{Numbered}
 use Rattle.ppq_script.specs.Files.{NamesFile}
-use Rattle.ppq_script.specs.Checking.{IsAsked, IsSameItem, ItemRefusalIsRight, RisesByRead}
-use Rattle.ppq_script.proofs.Asking.{asks_nothing, asks_then}
+use Rattle.ppq_script.specs.Checking.{IsAsked, IsKeptAmong, IsSameItem, ItemRefusalIsRight, RisesByRead}
+use Rattle.ppq_script.proofs.Asking.{asks_nothing, asks_then, kept_more}
 use Rattle.ppq_script.proofs.Checks.{same_items, item_here, all_asked_later, commands_refusal, AllZip-set, IsSameItem-IsAsked}
 use Rattle.ppq_script.proofs.check.ask_all.Goals as goal
 
@@ -14,7 +17,7 @@ abbrev first : Numbered
 first = record { line = 0; command = Push (record { key = 0; value = 0 }) }
 
 pub loop-item-init : goal.loop-item-init
-loop-item-init g c = record { done = tt; same = same_items c.args.commands.now; left = refl; long = refl; told = refl; replied = asks_nothing (g.L.Library.replied c.args.library.now); faults = refl }
+loop-item-init g c = record { done = tt; same = same_items c.args.commands.now; left = refl; long = refl; told = refl; replied = asks_nothing (g.L.Library.replied c.args.library.now); once = no_replies (g.L.Library.replied c.args.library.now) _; faults = refl }
 
 pub ask-requires-after_bounds : goal.ask-requires-after_bounds
 ask-requires-after_bounds g c κs within =
@@ -48,8 +51,16 @@ loop-item-preserved g c =
       long = search rules;
       told = c.ask.ensures.told ∙ l.invariant.told;
       replied = asks_then (g.L.Library.replied c.args.library.now) (g.L.Library.replied l.library) replied l.invariant.replied c.ask.ensures.replied;
+      once = kept_more (g.L.Library.replied c.args.library.now) (g.L.Library.replied l.library) replied names l.commands l.item-index c.ask.new.item (subst (λ n. l.item-index < n) (sym l.invariant.long) below) l.invariant.once c.in-Ok.ensures.once;
       faults = c.in-Ok.ensures.faults ∙ l.invariant.faults;
     }
+
+pub returns-clause-once : goal.returns-clause-once
+returns-clause-once g c =
+    let l = c.loop-item in
+    let names = map string_bytes c.args.names.now in
+    let over : length l.commands ≤ l.item-index = omega arith in
+    subst (λ (items : List Numbered). RepliesOnly (g.L.Library.replied c.args.library.now) (g.L.Library.replied l.library) (IsKeptAmong names items)) (take_all l.item-index l.commands over) l.invariant.once
 
 pub returns-in-Err-clause-replied : goal.returns-in-Err-clause-replied
 returns-in-Err-clause-replied g c = asks_then (g.L.Library.replied c.args.library.now) (g.L.Library.replied c.loop-item.library) (g.L.Library.replied c.ask.new.library) c.loop-item.invariant.replied c.ask.ensures.replied

@@ -1,7 +1,8 @@
 use Rattle.std.proofs.Common.{◌≡◌, length, take, drop, map}
 use Rattle.std.specs.Prelude.{string_bytes}
 use Rattle.std.specs.List.{AllZip}
-use Rattle.ppq_script.specs.Checking.{AsksLengths, IsAsked, IsSameItem}
+use Rattle.ppq_outside.specs.Told.{RepliesOnly}
+use Rattle.ppq_script.specs.Checking.{AsksLengths, IsAsked, IsKeptAmong, IsSameItem}
 use Rattle.ppq_script.proofs.check.ask_all.Given as goal
 
 abbrev pub invariant-loop-item : goal.invariant-loop-item
@@ -12,5 +13,6 @@ invariant-loop-item g l = record {
   long : length l.commands ≡ length l.fn.commands;
   told : g.L.Library.told l.library ≡ g.L.Library.told l.fn.library;
   replied : AsksLengths (g.L.Library.replied l.fn.library) (g.L.Library.replied l.library);
+  once : RepliesOnly (g.L.Library.replied l.fn.library) (g.L.Library.replied l.library) (IsKeptAmong (map string_bytes l.names) (take l.item-index l.commands));
   faults : g.L.Library.faults l.library ≡ g.L.Library.faults l.fn.library;
 }

@@ -12,7 +12,7 @@ loop-i-preserved g c =
     let new = c.answer_one.new.front in
     let ok = c.in-Ok.ensures in
     record {
-      so_far = answered-more c.record_laws.ensures.order c.record_laws.ensures.same c.args.asks.now c.loop-i.i _ c.loop-i.answers.items c.push_reserved.new.self.items c.in-Ok.answer old c.loop-i.front new c.push_reserved.ensures.items (omega arith) refl i.so_far c.answer_one.ensures.kept ok.sound ok.answer ok.left;
+      so_far = answered-more c.record_laws.ensures.order c.record_laws.ensures.same c.args.asks.now c.loop-i.i _ c.loop-i.answers.items c.push_reserved.new.self.items c.in-Ok.answer old c.loop-i.front new c.push_reserved.ensures.items (omega arith) refl i.so_far c.answer_one.ensures.kept ok.quiet ok.sound ok.answer ok.left;
       room = omega (arith, c.push_reserved.ensures.capacity, i.room);
     }
 

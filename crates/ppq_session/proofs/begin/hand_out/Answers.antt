@@ -1,4 +1,4 @@
-use Rattle.std.proofs.Common.{◌≡◌, ℕ, ◌+◌, ◌/◌, ◌++◌, List, All, sym, ap, ◌∙◌, subst}
+use Rattle.std.proofs.Common.{◌≡◌, ℕ, ◌+◌, ◌/◌, ◌++◌, List, All, sym, ap, ap₂, ◌∙◌, subst}
 use Rattle.ppq_pass.specs.ppq_budget.Sizes.{pool_of}
 use Rattle.ppq_pass.specs.ppq_outside.Shown.{AllTell}
 use Rattle.ppq_pass.specs.ppq_array.declared.berth.DeviceBlock.{DeviceBlock}
@@ -6,10 +6,10 @@ use Rattle.ppq_pass.specs.ppq_array.Owner.{slots_shown}
 use Rattle.ppq_pass.specs.ppq_array.Holdings.{external_slots}
 use Rattle.ppq_pass.specs.ppq_pool.Seats.{count_of}
 use Rattle.ppq_queue.specs.Holding.{Holding}
-use Rattle.ppq_session.specs.BulkSession.{bag_of}
+use Rattle.ppq_session.specs.BulkSession.{HasPool, bag_of}
 use Rattle.ppq_session.specs.Outfits.{IsOutfit}
 use Rattle.ppq_session.specs.declared.fault.BeginFault.TheVariants.{Memory}
-use Rattle.ppq_session.proofs.Handing.{opens, bag_is, slots_are, tell_right, whole_again, shows_again}
+use Rattle.ppq_session.proofs.Handing.{opens, bag_is, slots_are, idle_are, pool_is, tell_right, whole_again, shows_again}
 use Rattle.ppq_session.proofs.begin.hand_out.Goals as goal
 
 pub make_stores-requires : goal.make_stores-requires
@@ -56,6 +56,9 @@ returns-in-Ok-share-clause-handed g c =
     let r = c.deal_out.result in
     let dealt = c.deal_out.ensures in
     let slots = slots_are shown g.R.Ord.cmp g.R.Record.record_of g.R.Record.WIDTH c.into_parts-parts.result c.args.q shows is.whole c.requires.sound s c.in-Ok-share.ensures.session in
+    let first = c.in-Ok-share.ensures.session in
+    let all = pool_is shown g.R.Ord.cmp g.R.Record.record_of g.R.Record.WIDTH c.into_parts-parts.result c.args.q shows is.whole c.requires.sound s first in
+    let pool : HasPool r.0.sizes r.0.run_buffers r.0.pool = ap₂ (λ (i k : ℕ). i + k) dealt.run_buffers (ap count_of dealt.pool) ∙ all ∙ sym (ap pool_of dealt.sizes) in
     record {
       of = dealt.of;
       shared_is = dealt.shared_is;
@@ -66,6 +69,8 @@ returns-in-Ok-share-clause-handed g c =
       first = dealt.first ∙ ap (λ (q : Holding g.row.R.Denot). q.in_first) shows;
       runs = dealt.runs ∙ ap (λ (q : Holding g.row.R.Denot). q.runs) shows;
       buffers = dealt.buffers;
+      pool = pool;
+      idle = ap count_of dealt.pool ∙ idle_are shown g.R.Ord.cmp g.R.Record.record_of g.R.Record.WIDTH c.into_parts-parts.result c.args.q shows s c.in-Ok-share.ensures.session;
       bag = bag_is shown g.R.Ord.cmp g.R.Record.record_of g.R.Record.WIDTH c.into_parts-parts.result c.args.q shows c.requires.emptied (r.0.bag ++ bag_of r.2.items) dealt.bag;
       slots = dealt.slots ∙ slots;
       items = λ tell.

@@ -1,4 +1,4 @@
-use Rattle.std.proofs.Common.{◌+◌, ◌++◌, ◌∷◌, [], ◌∙◌, take, drop, sym, ap, refl, subst, arith, take-append-drop}
+use Rattle.std.proofs.Common.{◌+◌, ◌++◌, ◌∷◌, [], ◌∙◌, take, sym, ap, refl, subst, arith, take-append-drop}
 use Rattle.std.proofs.lemmas.List.{take_all, take_more}
 use Rattle.ppq_session.specs.Dealing.{Adds}
 use Rattle.ppq_session.proofs.Adding.{takes-none, takes-then, takes-ended}

@@ -1,7 +1,4 @@
-use Rattle.std.proofs.Common.{◌≤◌, ◌∙◌, sym, ap, subst}
-use Rattle.ppq_pass.specs.ppq_outside.Shown.{AllTell}
-use Rattle.ppq_pass.specs.ppq_array.Kept.{SameSlots, all_writes}
-use Rattle.ppq_session.proofs.Bulks.{bulk_row, bulk_pool, bulk_shares, bulk_room, bulk_joined, slots_shows, bulk_ended}
+use Rattle.ppq_session.proofs.Bulks.{bulk_row, bulk_pool, bulk_shares, bulk_room, bulk_joined, bulk_ended}
 use Rattle.ppq_session.proofs.end.bulk_end.Goals as goal
 
 pub bring_all-requires-clause-row : goal.bring_all-requires-clause-row
@@ -21,17 +18,6 @@ end_joined-requires-after_bounds g c = λ κs bounds. (c.into_parts-parts.result
 
 pub returns : goal.returns
 returns g c =
-    let queue = c.end_joined.result.0 in
     let joined = bulk_joined g.S.Slot.shown g.R.Ord.cmp g.R.Record.record_of g.R.Record.WIDTH c.into_parts-parts.result c.into_parts-parts.ensures.whole c.args.b c.into_parts-parts.ensures.shows c.args.passes.items c.requires.of c.args.shared c.requires.shared c.bring_all.new.parts c.bring_all.ensures.brought in
     let e = c.end_joined.ensures c.into_parts-parts.result c.args.passes.items joined in
-    let shows = c.into_parts-parts.ensures.shows in
-    let same = slots_shows g.S.Slot.shown g.R.Ord.cmp g.R.Record.record_of g.R.Record.WIDTH c.into_parts-parts.result c.into_parts-parts.ensures.whole c.args.b c.into_parts-parts.ensures.shows c.args.passes.items c.requires.of c.args.shared c.requires.shared in
-    record {
-      end = bulk_ended g.S.Slot.shown g.R.Ord.cmp g.R.Record.record_of g.R.Record.WIDTH c.into_parts-parts.result c.into_parts-parts.ensures.whole c.args.b c.into_parts-parts.ensures.shows c.args.passes.items c.requires.of c.args.shared c.requires.shared queue c.end_joined.result.1 e;
-      settled = e.settled;
-      slots = subst (λ s. SameSlots s queue.slots) same e.slots;
-      tells = λ tell each. e.tells (subst AllTell (sym same) tell) each;
-      writes = subst (λ s. all_writes s ≤ all_writes queue.slots) same e.writes;
-      sizes = e.sizes ∙ ap (λ b. b.sizes) shows;
-      limited = e.limited ∙ ap (λ b. b.limited) shows;
-    }
+    bulk_ended g.S.Slot.shown g.R.Ord.cmp g.R.Record.record_of g.R.Record.WIDTH c.into_parts-parts.result c.into_parts-parts.ensures.whole c.args.b c.into_parts-parts.ensures.shows c.args.passes.items c.requires.of c.args.shared c.requires.shared c.end_joined.result.0 c.end_joined.result.1 e

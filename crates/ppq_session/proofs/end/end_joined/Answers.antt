@@ -1,9 +1,12 @@
-use Rattle.std.proofs.Common.{◌++◌, reverse}
+use Rattle.std.proofs.Common.{◌≡◌, ◌++◌, ◌∙◌, ap, reverse}
+use Rattle.std.specs.Prelude.{Err}
+use Rattle.ppq_pass.specs.ppq_array.declared.store_fault.StoreFault.{StoreFault as QueueFault}
+use Rattle.ppq_pass.specs.ppq_array.declared.store_fault.StoreFault.TheVariants.{NoFreeBlock}
 use Rattle.ppq_pass.specs.ppq_array.Owner.{slots_shown}
 use Rattle.ppq_queue.specs.Resting.{slots_of}
 use Rattle.ppq_session.specs.Gathering.{slots_in}
 use Rattle.ppq_session.proofs.Joined.{may_close}
-use Rattle.ppq_session.proofs.Together.{IsMade, IsStill, came, first, ended_whole, ended_stopped, unlatched_ok, unlatched_err}
+use Rattle.ppq_session.proofs.Together.{IsMade, came, first, ended_whole, ended_stopped, unlatched_ok, unlatched_err}
 use Rattle.ppq_session.proofs.end.end_joined.Goals as goal
 
 pub close-closed-requires-after_bounds : goal.close-closed-requires-after_bounds
@@ -55,9 +58,8 @@ returns-in-Ok g c = λ q ps j.
     let r = c.rejoin-queue.ensures in
     let t = c.settle.ensures in
     let made : IsMade shown cmp record_of width c.args.popped c.gather_all.new.c queue = record { bag = r.bag; slots = r.slots; failed = r.failed; size = r.size; peak = r.peak; sizes = r.sizes; limited = r.limited } in
-    let still : IsStill queue c.settle.new.self = record { size = t.size; peak = t.peak; slots = t.slots; tells = t.tells; writes = t.writes; sizes = t.sizes; limited = t.limited } in
     let fine = unlatched_ok queue.failed c.settle.result (λ number h. (t.latched number h).0) _ c.in-Ok.is in
-    ended_whole shown cmp record_of width q failed j.apart ps j.count j.of c.args.parts br c1 cl c.args.popped j.sound j.before c.gather_all.new.c all e.failed e.bag e.size e.same e.limited queue c.settle.new.self made still fine c.in-Ok.ensures.bag c.in-Ok.ensures.sound c.in-Ok.ensures.settled
+    ended_whole shown cmp record_of width q failed j.apart ps j.count j.of c.args.parts br c1 cl c.args.popped j.sound j.before c.gather_all.new.c all e.failed e.bag e.size e.same e.limited queue c.settle.new.self made t.stays fine c.in-Ok.ensures.same c.in-Ok.ensures.settled
 
 pub returns-in-Err : goal.returns-in-Err
 returns-in-Err g c = λ q ps j.
@@ -76,6 +78,6 @@ returns-in-Err g c = λ q ps j.
     let r = c.rejoin-queue.ensures in
     let t = c.settle.ensures in
     let made : IsMade shown cmp record_of width c.args.popped c.gather_all.new.c queue = record { bag = r.bag; slots = r.slots; failed = r.failed; size = r.size; peak = r.peak; sizes = r.sizes; limited = r.limited } in
-    let still : IsStill queue c.settle.new.self = record { size = t.size; peak = t.peak; slots = t.slots; tells = t.tells; writes = t.writes; sizes = t.sizes; limited = t.limited } in
+    let crowded = λ (e : c.in-Err.fault ≡ NoFreeBlock). t.crowded (c.in-Err.is ∙ ap (λ (x : QueueFault). Err x) e) in
     let fine = unlatched_err queue.failed c.settle.result (λ number h. (t.latched number h).0) c.in-Err.fault c.in-Err.is in
-    ended_stopped shown cmp record_of width q failed j.apart ps j.count j.of c.args.parts br c1 cl c.args.popped j.sound j.before c.gather_all.new.c all e.failed e.bag e.size e.same e.limited queue c.settle.new.self made still c.in-Err.fault c.in-Err.ensures.refused fine
+    ended_stopped shown cmp record_of width q failed j.apart ps j.count j.of c.args.parts br c1 cl c.args.popped j.sound j.before c.gather_all.new.c all e.failed e.bag e.size e.same e.limited queue c.settle.new.self made t.stays c.in-Err.fault c.in-Err.ensures.refused crowded fine

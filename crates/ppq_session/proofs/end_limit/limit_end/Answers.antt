@@ -50,5 +50,4 @@ end_joined-requires-after_bounds g c = λ κs bounds. (c.with_room-parts.result,
 pub returns : goal.returns
 returns g c =
     let h = c.end_joined.ensures c.with_room-parts.result (passes_of c.args.passes.items) (joined g c.before) in
-    let e = front_ended g.S.Slot.shown g.R.Ord.cmp g.R.Record.record_of g.R.Record.WIDTH c.into_parts-parts.result.0 c.with_room-parts.result c.into_parts-parts.result.1 c.into_parts-parts.result.2 c.args.front.limit c.args.passes.items c.args.front (taken g c.before.before.before.before) c.end_joined.result.0 c.end_joined.result.1 h in
-    record { end = e.end_is; settled = h.settled; slots = e.slots; tells = e.tells; writes = e.writes; sizes = e.sizes; limited = e.limited }
+    front_ended g.S.Slot.shown g.R.Ord.cmp g.R.Record.record_of g.R.Record.WIDTH c.into_parts-parts.result.0 c.with_room-parts.result c.into_parts-parts.result.1 c.into_parts-parts.result.2 c.args.front.limit c.args.passes.items c.args.front (taken g c.before.before.before.before) c.end_joined.result.0 c.end_joined.result.1 h

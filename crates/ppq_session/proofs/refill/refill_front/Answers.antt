@@ -5,7 +5,7 @@ use Rattle.ppq_queue.specs.Resting.{BodyKept}
 use Rattle.ppq_queue.proofs.Moves.{ok-map, ok-map2, ok-map3, any_answer}
 use Rattle.ppq_queue.proofs.Refilled.{kept-refilled}
 use Rattle.ppq_session.proofs.Moved.{front-refilled, failed-kept}
-use Rattle.ppq_session.proofs.Refilling.{may_fetch, runs_served, sound-refilled, bag-refilled, ready-refilled, room_some}
+use Rattle.ppq_session.proofs.Refilling.{may_fetch, runs_served, quiet-refilled, sound-refilled, bag-refilled, ready-refilled, room_some}
 use Rattle.ppq_session.proofs.refill.refill_front.Goals as goal
 
 pub refill-answer-requires-clause-may : goal.refill-answer-requires-clause-may
@@ -78,6 +78,23 @@ returns-clause-bag g c =
     (λ r rm. (
     let may = subst (λ w. MayFetch g.S.Slot.shown g.R.Record.WIDTH w (sources_of b.runs b.lanes.idle m.new.supply)) workers rm in
     bag-refilled g.S.Slot.shown g.R.Ord.cmp g.R.Record.record_of g.R.Record.WIDTH q c.args.limit c.requires.front c.requires.sound m.new.self b m.new.supply m.new.sources kept r may none' e.batch c.requires.empty))
+    e.refilled
+    e.may
+
+pub returns-clause-quiet : goal.returns-clause-quiet
+returns-clause-quiet g c =
+    let m = c.refill-answer in
+    let e = m.ensures in
+    let q = c.args.q.now in
+    let b = record q.body { runs = m.new.runs; lanes = m.new.lanes } in
+    let kept = returns-clause-kept g c in
+    let none' = ap (λ v. v.items) e.jobs ∙ c.requires.front.no_job in
+    let workers = e.rest.workers ∙ c.requires.front.workers in
+    ok-map2
+    m.result
+    (λ r rm. (
+    let may = subst (λ w. MayFetch g.S.Slot.shown g.R.Record.WIDTH w (sources_of b.runs b.lanes.idle m.new.supply)) workers rm in
+    quiet-refilled g.S.Slot.shown g.R.Ord.cmp g.R.Record.record_of g.R.Record.WIDTH q c.args.limit c.requires.front c.requires.sound m.new.self b m.new.supply m.new.sources kept r may none' e.batch))
     e.refilled
     e.may
 

@@ -13,4 +13,4 @@ bulk_end-queue-requires-clause-of g c κs within =
     let back : take count (news ++ drop (length news) items) ≡ news =
     ap (λ n. take n (news ++ drop (length news) items)) same ∙ (take-append-le (length news) news (drop (length news) items) (omega arith) ∙ take_all (length news) news (omega arith)) in
     let keys : keys_of news ≡ keys_of items = c.add-done.ensures ∙ ap keys_of c.as_mut_slice.ensures.value in
-    subst (AreOf c.in-Ok.begun.0) (sym (ap keys_of back ∙ keys)) c.in-Ok.ensures.of
+    subst (AreOf c.in-Ok.begun.0) (sym (ap keys_of back ∙ keys)) c.in-Ok.ensures.begun.of

@@ -5,7 +5,7 @@ use Rattle.ppq_session.specs.LimitSession.{front_key, shared_of}
 use Rattle.ppq_session_tests.proofs.limited.in_session.Goals as goal
 
 pub act-added-requires-clause-of : goal.act-added-requires-clause-of
-act-added-requires-clause-of g c = λ κs bounds. subst (All (λ p. IsOf c.in-Ok.begun.1 p.pass)) (sym c.as_mut_slice.ensures.value) c.in-Ok.ensures.passes
+act-added-requires-clause-of g c = λ κs bounds. subst (All (λ p. IsOf c.in-Ok.begun.1 p.pass)) (sym c.as_mut_slice.ensures.value) c.in-Ok.ensures.begun.passes_of
 
 -- the passes that were lent are back in their places
 pub limit_end-queue-requires-clause-of : goal.limit_end-queue-requires-clause-of
@@ -13,7 +13,7 @@ limit_end-queue-requires-clause-of g c κs within =
     let items = c.in-Ok.begun.2.items in
     let news = c.act-added.new.passes in
     let count = c.in-Ok.begun.2.len in
-    let of = c.in-Ok.ensures.of in
+    let of = c.in-Ok.ensures.begun.of in
     let same : count ≡ length news = sym c.as_mut_slice.ensures.len ∙ sym c.act-added.auto.passes in
     let back : take count (news ++ drop (length news) items) ≡ news =
     ap (λ n. take n (news ++ drop (length news) items)) same ∙ (take-append-le (length news) news (drop (length news) items) (omega arith) ∙ take_all (length news) news (omega arith)) in
@@ -28,4 +28,4 @@ limit_end-queue-requires-clause-of g c κs within =
     }
 
 pub limit_end-queue-requires-clause-shared : goal.limit_end-queue-requires-clause-shared
-limit_end-queue-requires-clause-shared g c κs within = c.in-Ok.ensures.shared ∙ sym (ap (λ f. shared_of f) c.act-added.ensures.front)
+limit_end-queue-requires-clause-shared g c κs within = c.in-Ok.ensures.begun.shared_is ∙ sym (ap (λ f. shared_of f) c.act-added.ensures.front)

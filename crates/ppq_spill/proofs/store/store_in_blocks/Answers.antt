@@ -78,6 +78,7 @@ returns-in_default-clause-outcome g c =
     let few = too_few (length (g.P.Supply.stock c.draw_slots.new.supply).kept) c.blocks_for.result (length c.args.sorted.now + length (internal_items body.runs.internal.items)) c.args.block found.few least in
     let before = too_few (length (g.P.Supply.stock c.args.supply.now).kept) c.blocks_for.result (length c.args.sorted.now + length (internal_items body.runs.internal.items)) c.args.block (omega (arith, found.few, found.still)) least in
     record {
+      untouched = found.moved;
       dry = found.dry;
       unsure = subst (λ b. length (g.P.Supply.stock c.args.supply.now).kept * b < length c.args.sorted.now + length (internal_items body.runs.internal.items)) c.requires.block before;
       still = found.still;
@@ -153,7 +154,7 @@ returns-in-None-clause-outcome g c =
     let need : length c.in-Some.berths ≡ c.blocks_for.result = c.in-Some.ensures.all in
     let few_slots : length c.in-Some.berths * c.args.block < length c.args.sorted.now + length (internal_items body.runs.internal.items) + c.args.block = subst (λ k. k * c.args.block < length c.args.sorted.now + length (internal_items body.runs.internal.items) + c.args.block) (sym need) (omega (arith, c.blocks_for.ensures.least, total)) in
     blocks_stored g.R.Ord.cmp g.R.Record.record_of g.R.Record.WIDTH c.args.block g.S.Slot.shown c.args.sorted.now c.args.body.now _ (g.P.Supply.stock c.args.supply.now) (g.P.Supply.stock c.draw_slots.new.supply) (g.P.Supply.stock c.release_runs.new.supply)
-    c.in-Some.berths c.write_runs-failed.new.internal.items c.write_runs-failed.new.making.made c.in-Some.ensures.drawn (ap (λ s. s.drawn) c.release_runs.ensures.stock) (ap (λ s. s.kept) c.release_runs.ensures.stock) c.in-None.ensures.outcome c.requires.block few_slots c.requires.ascend c.release_runs.ensures.none c.push_reserved.ensures.items
+    c.in-Some.berths c.write_runs-failed.new.internal.items c.write_runs-failed.new.making.made c.in-Some.ensures.drawn (ap (λ s. s.drawn) c.release_runs.ensures.stock) (ap (λ s. s.kept) c.release_runs.ensures.stock) c.in-None.ensures.outcome c.requires.block few_slots c.requires.ascend c.release_runs.ensures.none c.push_reserved.ensures.items refl
 
 pub returns-in-Some-failed-clause-leaves : goal.returns-in-Some-failed-clause-leaves
 returns-in-Some-failed-clause-leaves g c =

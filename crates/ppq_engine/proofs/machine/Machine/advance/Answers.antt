@@ -115,7 +115,7 @@ returns-in_default g c =
     on-ok-map r Left (RunsStep files script old new k)
     (λ left.
     let any = left (λ file. []) in
-    record { bag = λ tells given are. (left (given_of given script)).bag tells; low = any.low; high = any.high; sound = any.sound; peak = a.lent.peak }) a.left in
+    record { bag = λ tells given are. (left (given_of given script)).bag tells; low = any.low; high = any.high; sound = any.sound; quiet = any.quiet; peak = a.lent.peak }) a.left in
     let stops : IfErr r (StopsStep old new k) =
     if-err-map r By (StopsStep old new k)
     (λ stop why. record {

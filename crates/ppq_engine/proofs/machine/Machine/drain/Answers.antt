@@ -15,6 +15,7 @@ rounds-init g c = record {
   within = omega arith;
   size = omega arith;
   sound = c.requires;
+  quiet = refl;
   peak = omega arith;
   kept = Keeps-refl c.args.self.now.queue;
   gathered = refl;
@@ -46,6 +47,7 @@ returns-then-is_empty-clause-left g c =
       low = omega (arith, c.rounds.invariant.size, c.rounds.invariant.within, popped.size, popped.end refl none);
       high = omega (arith, c.rounds.invariant.size, c.rounds.invariant.within, popped.size, popped.end refl none);
       sound = popped.sound;
+      quiet = popped.quiet ∙ c.rounds.invariant.quiet;
     }
 
 pub returns-then-is_empty-clause-called : goal.returns-then-is_empty-clause-called
@@ -85,6 +87,7 @@ rounds-preserved g c =
       within = omega (arith, sum, popped.few, v.within);
       size = omega (arith, sum, popped.size, v.size);
       sound = popped.sound;
+      quiet = popped.quiet ∙ v.quiet;
       peak = omega (arith, c.pop_round.ensures.called.peak, v.peak);
       kept = Keeps-trans c.args.self.now.queue c.rounds.self.queue c.pop_round.new.self.queue v.kept c.pop_round.ensures.called.kept;
       gathered = c.pop_round.ensures.called.gathered ∙ v.gathered;
@@ -104,4 +107,5 @@ returns-clause-left g c =
       low = omega (arith, c.rounds.invariant.size, all);
       high = omega (arith, c.rounds.invariant.size, all);
       sound = c.rounds.invariant.sound;
+      quiet = c.rounds.invariant.quiet;
     }

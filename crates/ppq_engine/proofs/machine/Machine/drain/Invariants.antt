@@ -3,6 +3,7 @@ use Rattle.ppq_script.specs.ppq_record.Pair.{pair_cmp}
 use Rattle.ppq_script.specs.ppq_record.Bag.{IsSameBag, ascending}
 use Rattle.ppq_script.specs.ppq_outside.Shown.{AllTell}
 use Rattle.ppq_engine.specs.Gathers.{IsSummary}
+use Rattle.ppq_load.specs.ppq_array.Kept.{AreQuiet}
 use Rattle.ppq_load.specs.Refusal.{Keeps}
 use Rattle.ppq_engine.proofs.machine.Machine.drain.Given as goal
 
@@ -14,6 +15,7 @@ invariant-rounds g l = record {
   within : l.done ≤ l.count;
   size : l.self.queue.size ≡ l.fn.self.queue.size - l.done;
   sound : l.self.queue.failed ≡ None;
+  quiet : AreQuiet l.fn.self.queue.slots l.self.queue.slots;
   peak : l.self.queue.peak ≤ l.fn.self.queue.peak;
   kept : Keeps l.fn.self.queue l.self.queue;
   gathered : l.self.desk.gathered ≡ l.fn.self.desk.gathered;

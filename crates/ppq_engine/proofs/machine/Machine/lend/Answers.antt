@@ -84,6 +84,6 @@ returns-in_ok-print-in_default g c =
     record {
       prints = record { text = λ tells. gathers-as a.gathered (ok.text tells) c.in_ok-print-in_default.ensures.ok; part = tt };
       counts = record { later = cause.later; stays = cause.ok; cause = tt };
-      left = λ given. let left = ok.left given in record { bag = (left none_go).bag; low = (left all_go).low; high = (left none_go).high; sound = (left none_go).sound };
+      left = λ given. let left = ok.left given in record { bag = (left none_go).bag; low = (left all_go).low; high = (left none_go).high; sound = (left none_go).sound; quiet = (left none_go).quiet };
       lent = record { kept = a.kept; peak = a.peak; refused = tt; no_file = tt };
     }

@@ -18,6 +18,7 @@ returns-in_ok-_taken-in-None-clause-popped g c =
       end = λ same none. omega (arith, c.requires, room, b.count, b.answer, ap length none);
       size = b.size;
       sound = b.sound;
+      quiet = b.quiet;
     })
 
 pub returns-in_ok-_end-in-Some-clause-popped : goal.returns-in_ok-_end-in-Some-clause-popped
@@ -33,4 +34,5 @@ returns-in_ok-_end-in-Some-clause-popped g c =
       end = λ same none. let different : Some limit ≡ None = same in cc;
       size = b.size;
       sound = b.sound;
+      quiet = b.quiet;
     })

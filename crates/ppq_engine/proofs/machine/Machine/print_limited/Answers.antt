@@ -97,6 +97,6 @@ returns g c =
         part = tt;
       };
       counts = record { later = omega (arith, p.sink.stays, c.print.ensures.cause.later); stays = c.in_ok-print.ensures.cause.ok ∙ p.sink.stays; cause = tt };
-      left = λ given. record { bag = λ tells x. m.left.bag (p.lent.kept.tells tells) x ∙ p.left.bag tells x; low = omega (arith, p.left.low, m.left.low); high = omega (arith, p.left.high, m.left.high); sound = m.left.sound };
+      left = λ given. record { bag = λ tells x. m.left.bag (p.lent.kept.tells tells) x ∙ p.left.bag tells x; low = omega (arith, p.left.low, m.left.low); high = omega (arith, p.left.high, m.left.high); sound = m.left.sound; quiet = m.left.quiet ∙ p.left.quiet };
       lent = record { kept = Keeps-trans old.queue mid.queue new.queue p.lent.kept called.kept; peak = omega (arith, p.lent.peak, called.peak); refused = tt; no_file = tt };
     }

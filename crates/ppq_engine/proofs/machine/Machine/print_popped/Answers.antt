@@ -19,6 +19,7 @@ rounds-init g c = record {
   within = omega arith;
   size = omega arith;
   sound = c.requires;
+  quiet = refl;
   peak = omega arith;
   kept = Keeps-refl c.args.self.now.queue;
   stays = refl;
@@ -61,6 +62,7 @@ returns-then-is_empty-clause-left g c =
           left-most c.args.below c.args.self.now.queue.size c.args.count c.pop_round.new.self.queue.size (omega (arith, c.rounds.invariant.size, popped.size))
           (λ same. omega (arith, c.rounds.invariant.size, c.rounds.invariant.within, popped.size, popped.end same (c.if-is_empty.ensures.0 refl)));
       sound = popped.sound;
+      quiet = popped.quiet ∙ c.rounds.invariant.quiet;
     }
 
 pub returns-then-is_empty-clause-lent : goal.returns-then-is_empty-clause-lent
@@ -125,6 +127,7 @@ rounds-preserved g c =
       within = omega (arith, sum, popped.few, v.within);
       size = omega (arith, sum, popped.size, v.size);
       sound = popped.sound;
+      quiet = popped.quiet ∙ v.quiet;
       peak = omega (arith, c.pop_round.ensures.called.peak, v.peak);
       kept = Keeps-trans c.args.self.now.queue c.rounds.self.queue c.pop_round.new.self.queue v.kept c.pop_round.ensures.called.kept;
       stays = c.in_ok-print_all.ensures.cause.ok ∙ v.stays;
@@ -149,4 +152,5 @@ returns-clause-left g c =
       low = omega (arith, c.rounds.invariant.size, c.rounds.invariant.within);
       high = left-most c.args.below c.args.self.now.queue.size c.args.count c.rounds.self.queue.size (omega (arith, c.rounds.invariant.size)) (λ same. omega (arith, c.rounds.invariant.size, c.rounds.invariant.within, c.rounds-test.false));
       sound = c.rounds.invariant.sound;
+      quiet = c.rounds.invariant.quiet;
     }

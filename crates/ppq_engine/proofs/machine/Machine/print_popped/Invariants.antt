@@ -5,6 +5,7 @@ use Rattle.ppq_script.specs.ppq_outside.Shown.{AllTell}
 use Rattle.ppq_engine.specs.Output.{lines_text}
 use Rattle.ppq_engine.specs.Gathers.{Gathers}
 use Rattle.ppq_engine.specs.Popping.{popped_count}
+use Rattle.ppq_load.specs.ppq_array.Kept.{AreQuiet}
 use Rattle.ppq_load.specs.Refusal.{Keeps}
 use Rattle.ppq_engine.proofs.machine.Machine.print_popped.Given as goal
 
@@ -16,6 +17,7 @@ invariant-rounds g l = record {
   within : l.done ≤ l.count;
   size : l.self.queue.size ≡ l.fn.self.queue.size - l.done;
   sound : l.self.queue.failed ≡ None;
+  quiet : AreQuiet l.fn.self.queue.slots l.self.queue.slots;
   peak : l.self.queue.peak ≤ l.fn.self.queue.peak;
   kept : Keeps l.fn.self.queue l.self.queue;
   stays : g.O.Sink.faults l.out ≡ g.O.Sink.faults l.fn.out;

@@ -28,7 +28,7 @@ returns g c =
     let one = turn-alone script queue c.args.place k c.requires.turn (λ e. cc) (λ limit e. cc) in
     let Loaded : Type 0 = AllTell queue.slots → IsSameBag new.bag (generated c.args.seed count ++ queue.bag) in
     let Why : Stop → Type 0 = StopsFor (max queue.peak (queue.size + count)) queue.sizes queue.limited new.slots in
-    let adds = on-ok-both r Loaded (Adds queue new count) (loaded-ok 0 0 q.result.1 r same Loaded q.ensures.bag) (loaded-adds 0 0 q.result.1 r same queue new count q.ensures.size q.ensures.sound q.ensures.peak) in
+    let adds = on-ok-both r Loaded (Adds queue new count) (loaded-ok 0 0 q.result.1 r same Loaded q.ensures.bag) (loaded-adds 0 0 q.result.1 r same queue new count q.ensures.size q.ensures.sound q.ensures.quiet q.ensures.peak) in
     let by = loaded-by_session 0 0 q.result.1 r same q.ensures.by_load in
     let why = if-err-both r Why IsBySession (loaded-refused 0 0 q.result.1 r same (max queue.peak (queue.size + count)) queue.sizes queue.limited new.slots q.ensures.refused) by in
     record {

@@ -42,6 +42,7 @@ commands-init g c =
       within = omega arith;
       in_place = (c.checked.ensures.ready (c.checked.ensures.checked ∙ c.requires.may.checked)).in_place;
       sound = c.requires.may.sound;
+      quiet = refl;
       kept = Keeps-none queue queue (take 0 (command_list c.args.world.now.script.now)) refl (Keeps-refl queue);
       library = library-none told (g.L.Library.replied c.args.library.now) c.args.world.now.script.now (g.L.Library.faults c.args.library.now);
       library_stays = refl;
@@ -167,6 +168,7 @@ commands-preserved g c =
       within = omega (arith, next, part-within commands i (omega (arith, within)), length-map script.commands (λ n. n.command));
       in_place = subst Place (sym next) (place-next script.workers commands i k within here v.in_place);
       sound = runs.sound;
+      quiet = runs.quiet ∙ v.quiet;
       kept = subst Kept (sym split) kept;
       library = library-then v.library (library-stays a.library);
       library_stays = ok (g.L.Library.faults c.advance-back.new.library ≡ g.L.Library.faults c.commands.library) a.library.stays ∙ v.library_stays;
@@ -191,6 +193,7 @@ returns-clause-runs g c =
       all = λ tells files are. subst (Out (given_of files script)) all (v.run tells files are).output;
       crest = λ tells files are. subst (Crest (given_of files script)) all (v.run tells files are).crest;
       least = subst Least all v.has.crest;
+      quiet = v.quiet;
     }
 
 pub returns-clause-library : goal.returns-clause-library

@@ -3,6 +3,7 @@ use Rattle.ppq_script.specs.ppq_outside.Shown.{AllTell}
 use Rattle.ppq_script.specs.declared.session.Session.TheVariants.{Outside}
 use Rattle.ppq_script.specs.Reading.{command_list}
 use Rattle.ppq_script.specs.Sessions.{are_in_place}
+use Rattle.ppq_load.specs.ppq_array.Kept.{AreQuiet}
 use Rattle.ppq_load.specs.Refusal.{Keeps}
 use Rattle.ppq_engine.specs.Calls.{LibraryStays}
 use Rattle.ppq_engine.specs.Output.{AreFilesOf, given_of}
@@ -20,6 +21,7 @@ invariant-commands g l = record {
   within : l.place ≤ length l.script.commands;
   in_place : are_in_place l.script.workers Outside (drop l.place (command_list l.script)) ≡ true;
   sound : l.machine.queue.failed ≡ None;
+  quiet : AreQuiet l.fn.self.queue.slots l.machine.queue.slots;
   kept : Keeps (behind_part l.fn.self.queue (take l.place (command_list l.script))) l.machine.queue;
   library : LibraryStays (g.L.Library.told l.fn.library) (g.L.Library.told l.library) (g.L.Library.replied l.fn.library) (g.L.Library.replied l.library) l.script (g.L.Library.faults l.fn.library) (g.L.Library.faults l.library);
   library_stays : g.L.Library.faults l.library ≡ g.L.Library.faults l.fn.library;

@@ -5,7 +5,8 @@ use Rattle.ppq_extract.specs.ppq_array.declared.store_fault.StoreFault.TheVarian
 use Rattle.ppq_pass.specs.PassState.{IsPassing}
 use Rattle.ppq_pass.proofs.PassKeeps.{heap_small}
 use Rattle.ppq_pass.proofs.PassOpened.{on_ok, matched, has_room}
-use Rattle.ppq_pass.proofs.PassPut.{AtStore, at_store, some, of_session, has_store_room, all_ascend, may_count, push_keeps, put_holds, put_after, none_holds, found_none, fault_holds, met_fault}
+use Rattle.ppq_pass.proofs.PassReady.{AtStore, at_store}
+use Rattle.ppq_pass.proofs.PassPut.{some, of_session, has_store_room, all_ascend, may_count, push_keeps, put_holds, put_after, none_holds, found_none, fault_holds, met_fault}
 use Rattle.ppq_pass.proofs.pass.Pass.store_and_put.Given as given
 use Rattle.ppq_pass.proofs.pass.Pass.store_and_put.Goals.{After-as_slice, After-try_push}
 use Rattle.ppq_pass.proofs.pass.Pass.store_and_put.Goals as goal

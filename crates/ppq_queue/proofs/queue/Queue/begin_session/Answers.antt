@@ -56,18 +56,13 @@ returns g c =
     let view = c.self.view_is in
     let done = ended shown cmp record_of width x y h h' kept heaps s.peak s.count s.failed c.latch.new.failed s.limited m.result _ none c.latch.ensures view c.self.invariant.0 sound (above-some shown cmp record_of width x y h h' kept heaps s.peak s.count s.limited m.result sound e.refused) holds refused in
     record {
-      bag = ok-map m.result (λ d. d.bag) done.same;
+      same = done.same;
       emptied = ok-map m.result (λ d. ap length d.emptied.no_extract) e.emptied;
       heaps = ap (λ q. q.in_heap) view;
+      first = ap (λ q. q.in_first) view;
       settled = ok-map m.result (λ d. d.emptied.few) e.emptied;
-      sound = ok-map m.result (λ d. d.sound) done.same;
+      merged = e.merged;
       refused = done.refused;
       latched = λ number failed. not_sound number (sym failed ∙ sym (ap (λ q. q.failed) view) ∙ none);
-      size = done.keeps.size;
-      slots = done.keeps.slots;
-      tells = done.keeps.tells;
-      writes = done.keeps.writes;
-      peak = done.keeps.peak;
-      sizes = done.keeps.sizes;
-      limited = done.keeps.limited;
+      stays = done.stays;
     }

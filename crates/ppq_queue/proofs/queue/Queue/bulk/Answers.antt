@@ -63,5 +63,7 @@ returns g c =
       list_room = c.empty_on_error.ensures.room ∙ e.list_room ∙ ap (λ l. l.room) c.clear.ensures;
       refused = done.refused;
       latched = λ number failed. not_sound number (sym failed ∙ sym (ap (λ q. q.failed) view) ∙ none);
+      size = done.size;
+      peak = done.peak;
       keeps = done.keeps;
     }

@@ -1,5 +1,5 @@
-use Rattle.std.proofs.Common.{ap, sym, ◌∙◌, ◌<◌, length, subst, arith}
-use Rattle.ppq_extract.specs.ppq_budget.Sizes.{heap_of}
+use Rattle.std.proofs.Common.{ap, sym, ◌∙◌, length, subst, arith}
+use Rattle.ppq_queue.specs.Holding.{IsAbove}
 use Rattle.ppq_queue.proofs.Bounds.{heaps_within}
 use Rattle.ppq_queue.proofs.Moves.{ok-map}
 use Rattle.ppq_queue.proofs.Calls.{may_work, stands, ended}
@@ -38,7 +38,7 @@ invariant_of-self g c =
     let sound = c.self.invariant.1 none in
     let holds = ok-map m.result (λ d. d.holds) e.emptied in
     let refused = e.refused in
-    let all = stands shown cmp record_of width x y h h' kept heaps s.peak s.count s.failed c.latch.new.failed s.limited m.result _ c.latch.ensures c.self.invariant.0 sound (λ more full. subst (λ q. heap_of q.sizes < q.peak) (sym c.self.view_is) c.requires.peak) holds refused c.self.invariant.3 in
+    let all = stands shown cmp record_of width x y h h' kept heaps s.peak s.count s.failed c.latch.new.failed s.limited m.result _ c.latch.ensures c.self.invariant.0 sound (λ more. subst (λ q. IsAbove q.sizes q.peak q.limited) (sym c.self.view_is) c.requires.above) holds refused c.self.invariant.3 in
     (all.0, all.1, c.self.invariant.2, all.2)
 
 pub returns : goal.returns
@@ -61,10 +61,10 @@ returns g c =
     let holds = ok-map m.result (λ d. d.holds) e.emptied in
     let refused = e.refused in
     let view = c.self.view_is in
-    let done = ended shown cmp record_of width x y h h' kept heaps s.peak s.count s.failed c.latch.new.failed s.limited m.result _ none c.latch.ensures view c.self.invariant.0 sound (λ err full. subst (λ q. heap_of q.sizes < q.peak) (sym c.self.view_is) c.requires.peak) holds refused in
+    let done = ended shown cmp record_of width x y h h' kept heaps s.peak s.count s.failed c.latch.new.failed s.limited m.result _ none c.latch.ensures view c.self.invariant.0 sound (λ err. subst (λ q. IsAbove q.sizes q.peak q.limited) (sym c.self.view_is) c.requires.above) holds refused in
     record {
       same = done.same;
       emptied = ok-map m.result (λ d. ap length d) e.first;
       refused = done.refused;
-      keeps = done.keeps;
+      stays = done.stays;
     }

@@ -1,15 +1,30 @@
-use Rattle.std.proofs.Common.{◌∙◌, take, drop, ap}
+use Rattle.std.proofs.Common.{◌-◌, ◌∙◌, take, drop, ap}
 use Rattle.std.specs.Prelude.{count_by}
+use Rattle.ppq_extract.specs.ppq_array.Kept.{all_faults}
 use Rattle.ppq_heap.specs.ppq_record.Bag.{first_of}
 use Rattle.ppq_heap.proofs.ppq_record.Fronts.{ascending-same_bag}
+use Rattle.ppq_queue.proofs.Flushed.{keeps-slots, keeps-more}
 use Rattle.ppq_queue.proofs.queue.Queue.pop.Goals as goal
 
 pub returns-clause-answer : goal.returns-clause-answer
 returns-clause-answer g c tell =
     let laws = c.record_laws.ensures in
-    c.take_least.ensures.answer (c.ready.ensures.keeps.tells tell) ∙ ap (λ l. first_of (take 1 l)) (ascending-same_bag laws.order laws.same c.ready.new.self.bag c.args.self.now.bag (c.in_ok-ready.ensures.same.bag tell))
+    c.take_least.ensures.answer (c.ready.ensures.stays.keeps.tells tell) ∙ ap (λ l. first_of (take 1 l)) (ascending-same_bag laws.order laws.same c.ready.new.self.bag c.args.self.now.bag (c.in_ok-ready.ensures.same.bag tell))
 
-pub returns-clause-rest : goal.returns-clause-rest
-returns-clause-rest g c tell p =
+pub returns-clause-taken : goal.returns-clause-taken
+returns-clause-taken g c =
     let laws = c.record_laws.ensures in
-    c.take_least.ensures.rest (c.ready.ensures.keeps.tells tell) p ∙ ap (λ l. count_by p (drop 1 l)) (ascending-same_bag laws.order laws.same c.ready.new.self.bag c.args.self.now.bag (c.in_ok-ready.ensures.same.bag tell))
+    let same = c.in_ok-ready.ensures.same in
+    let took = c.take_least.ensures in
+    record {
+      bag = λ tell p. took.rest (c.ready.ensures.stays.keeps.tells tell) p ∙ ap (λ l. count_by p (drop 1 l)) (ascending-same_bag laws.order laws.same c.ready.new.self.bag c.args.self.now.bag (same.bag tell));
+      size = ap (λ q. q.size) took.fields ∙ ap (λ k. k - 1) same.size;
+      sound = ap (λ q. q.failed) took.fields ∙ same.sound;
+      quiet = ap (λ q. all_faults q.slots) took.fields ∙ same.quiet;
+    }
+
+pub returns-clause-keeps : goal.returns-clause-keeps
+returns-clause-keeps g c =
+    let took = c.take_least.ensures.fields in
+    let now = c.take_least.new.self in
+    keeps-more c.args.self.now c.ready.new.self now c.ready.ensures.stays.keeps (keeps-slots c.ready.new.self now (ap (λ q. q.sizes) took) (ap (λ q. q.limited) took) (ap (λ q. q.slots) took))

@@ -1,26 +1,60 @@
-use Rattle.std.proofs.Common.{ap, sym, subst, arith}
+use Rattle.std.proofs.Common.{◌+◌, ◌<◌, ◌∙◌, ap, sym, subst, refl, arith}
 use Rattle.std.specs.Prelude.{count_by}
 use Rattle.ppq_extract.specs.ppq_outside.Shown.{AllTell}
-use Rattle.ppq_extract.specs.ppq_array.Kept.{SameSlots}
+use Rattle.ppq_extract.specs.ppq_budget.Sizes.{heap_of}
+use Rattle.ppq_extract.specs.ppq_array.Kept.{all_faults}
 use Rattle.ppq_heap.proofs.ppq_record.Order.{count_by-cons}
-use Rattle.ppq_queue.specs.Holding.{IsRefusal}
-use Rattle.ppq_queue.proofs.Flushed.{refusal-raised}
+use Rattle.ppq_queue.specs.Holding.{Holding, IsRefusal}
+use Rattle.ppq_queue.proofs.Flushed.{refusal-raised, keeps-slots, keeps-more}
 use Rattle.ppq_queue.proofs.queue.Queue.push.Goals as goal
+
+pub returns-in-Some-clause-keeps : goal.returns-in-Some-clause-keeps
+returns-in-Some-clause-keeps g c = (let raised = c.raise_peak.ensures in keeps-slots c.args.self.now c.raise_peak.new.self (ap (λ q. q.sizes) raised) (ap (λ q. q.limited) raised) (ap (λ q. q.slots) raised))
 
 pub returns-in-Err-clause-refused : goal.returns-in-Err-clause-refused
 returns-in-Err-clause-refused g c = refusal-raised c.args.self.now c.make_room.new.self _ c.in-Err.fault (subst (λ q. IsRefusal q c.make_room.new.self c.in-Err.fault) c.raise_peak.ensures c.in-Err.ensures.refused)
 
-pub returns-in-Ok-clause-added : goal.returns-in-Ok-clause-added
-returns-in-Ok-clause-added g c tell p =
-    let told = subst (λ q. AllTell q.slots) (sym c.raise_peak.ensures) tell in
-    omega (
-      arith,
-      c.put.ensures.added p,
-      count_by-cons p c.args.r c.make_room.new.self.bag,
-      count_by-cons p c.args.r c.args.self.now.bag,
-      c.in-Ok.ensures.same.bag told p,
-      ap (λ q. count_by p q.bag) c.raise_peak.ensures,
-    )
+pub returns-in-Err-clause-keeps : goal.returns-in-Err-clause-keeps
+returns-in-Err-clause-keeps g c =
+    let raised = c.raise_peak.ensures in
+    keeps-more c.args.self.now c.raise_peak.new.self c.make_room.new.self (keeps-slots c.args.self.now c.raise_peak.new.self (ap (λ q. q.sizes) raised) (ap (λ q. q.limited) raised) (ap (λ q. q.slots) raised)) c.make_room.ensures.stays.keeps
 
-pub returns-in-Ok-clause-slots : goal.returns-in-Ok-clause-slots
-returns-in-Ok-clause-slots g c = subst (λ q. SameSlots c.args.self.now.slots q.slots) (sym c.put.ensures.rest) (subst (λ q. SameSlots q.slots c.make_room.new.self.slots) c.raise_peak.ensures c.make_room.ensures.keeps.slots)
+pub returns-in-Ok-clause-added : goal.returns-in-Ok-clause-added
+returns-in-Ok-clause-added g c =
+    let raised = c.raise_peak.ensures in
+    let same = c.in-Ok.ensures.same in
+    let rest = c.put.ensures.rest in
+    record {
+      bag = λ tell p.
+          let told = subst (λ q. AllTell q.slots) (sym raised) tell in
+          omega (
+            arith,
+            c.put.ensures.added p,
+            count_by-cons p c.args.r c.make_room.new.self.bag,
+            count_by-cons p c.args.r c.args.self.now.bag,
+            same.bag told p,
+            ap (λ q. count_by p q.bag) raised,
+          );
+      size = ap (λ q. q.size) rest ∙ ap (λ k. k + 1) (same.size ∙ ap (λ q. q.size) raised);
+      sound = ap (λ q. q.failed) rest ∙ same.sound;
+      quiet = ap (λ q. all_faults q.slots) rest ∙ same.quiet ∙ ap (λ q. all_faults q.slots) raised;
+    }
+
+pub returns-in-Ok-clause-easy : goal.returns-in-Ok-clause-easy
+returns-in-Ok-clause-easy g c none room =
+    let raised = c.raise_peak.ensures in
+    let same = (c.make_room.ensures.easy (subst (λ q. q.in_first < heap_of q.sizes) (sym raised) room)).1 ∙ raised in
+    let more : Holding g.row.R.Denot → Holding g.row.R.Denot = λ q. record q { bag = c.put.new.self.bag; size = q.size + 1; in_heap = q.in_heap + 1; in_first = q.in_first + 1 } in
+    (refl, c.put.ensures.rest ∙ ap more same)
+
+pub returns-in-Ok-clause-keeps : goal.returns-in-Ok-clause-keeps
+returns-in-Ok-clause-keeps g c =
+    let raised = c.raise_peak.ensures in
+    let rest = c.put.ensures.rest in
+    let old = c.args.self.now in
+    let up = c.raise_peak.new.self in
+    let roomed = c.make_room.new.self in
+    let now = c.put.new.self in
+    let first = keeps-slots old up (ap (λ q. q.sizes) raised) (ap (λ q. q.limited) raised) (ap (λ q. q.slots) raised) in
+    let last = keeps-slots roomed now (ap (λ q. q.sizes) rest) (ap (λ q. q.limited) rest) (ap (λ q. q.slots) rest) in
+    keeps-more old up now first (keeps-more up roomed now c.make_room.ensures.stays.keeps last)

@@ -1,7 +1,9 @@
-use Rattle.std.proofs.Common.{◌+◌, ◌*◌, ◌<◌, ◌≤◌, ◌≡◌, ◌∷◌, ◌++◌, length, arith, ap, ap₂, ◌∙◌, subst}
+use Rattle.std.proofs.Common.{ℕ, ◌+◌, ◌*◌, ◌<◌, ◌≤◌, ◌≡◌, ◌∷◌, ◌++◌, length, arith, ap, ap₂, ◌∙◌, subst}
 use Rattle.std.specs.Prelude.{count_by}
 use Rattle.ppq_heap.proofs.ppq_record.Order.{IsSameBag-length, count_by-append, count_by-cons}
 use Rattle.ppq_heap.specs.Heaps.{items_of, share_at}
+use Rattle.ppq_queue.specs.Handed.{viewed}
+use Rattle.ppq_queue.specs.Holding.{Holding}
 use Rattle.ppq_queue.specs.Resting.{runs_bag}
 use Rattle.ppq_queue.proofs.Bounds.{records_most}
 use Rattle.ppq_queue.proofs.Ready.{has_room}
@@ -76,3 +78,24 @@ returns-clause-added g c p =
       ap (λ q. count_by p q.bag) view,
       count_by-cons p c.args.r c.args.self.now.bag,
     )
+
+pub returns-clause-rest : goal.returns-clause-rest
+returns-clause-rest g c =
+    let shown = g.S.Slot.shown in
+    let record_of = g.R.Record.record_of in
+    let width = g.R.Record.WIDTH in
+    let s = c.self.inside in
+    let i = c.self.invariant.0 in
+    let view = c.self.view_is in
+    let push = c.try_push.ensures in
+    let old = items_of s.heaps in
+    let new = items_of c.try_push.new.self in
+    let one = share_at s.heaps 0 in
+    let one' = share_at c.try_push.new.self 0 in
+    let room : length one < s.heaps.cap = omega (arith, c.requires.room, ap (λ q. q.in_first) view, ap (λ q. q.sizes.heap * q.sizes.block) view, i.cap) in
+    let heap : length new ≡ length old + 1 = IsSameBag-length new (c.args.r ∷ old) (has_room c.try_push.result (length one) s.heaps.cap room push.full.0 push.added) ∙ omega arith in
+    let first : length one' ≡ length one + 1 = IsSameBag-length one' (c.args.r ∷ one) (has_room c.try_push.result (length one) s.heaps.cap room push.full.0 push.share) ∙ omega arith in
+    let bag = new ++ s.store.extract.items ++ runs_bag shown record_of width s.store.body in
+    let made : ℕ → ℕ → Holding g.row.R.Denot = λ h f. record (viewed shown record_of width s.store s.heaps s.count s.peak s.failed s.limited) { bag = bag; size = s.count + 1; in_heap = h; in_first = f } in
+    let more : Holding g.row.R.Denot → Holding g.row.R.Denot = λ q. record q { bag = bag; size = q.size + 1; in_heap = q.in_heap + 1; in_first = q.in_first + 1 } in
+    ap₂ made heap first ∙ ap more view

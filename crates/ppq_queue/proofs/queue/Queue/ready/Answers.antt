@@ -61,5 +61,5 @@ returns g c =
       some = ok-map m.result (λ d gone. omega (arith, gone, d.some (empty_list y.extract.items gone), sound.counted, d.holds.count)) e.readied;
       refused = done.refused;
       latched = λ number failed. not_sound number (sym failed ∙ sym (ap (λ q. q.failed) view) ∙ none);
-      keeps = done.keeps;
+      stays = done.stays;
     }

@@ -74,5 +74,5 @@ returns g c =
       heaps = ok-map m.result (λ d. ap length d) e.none;
       settled = ok-map m.result (λ d. d.emptied.few) e.emptied;
       refused = done.refused;
-      keeps = done.keeps;
+      stays = done.stays;
     }

@@ -1,10 +1,32 @@
-use Rattle.std.proofs.Common.{ap, subst}
-use Rattle.ppq_extract.specs.ppq_array.Kept.{SameSlots}
-use Rattle.ppq_spill.proofs.SameSlots.{SameSlots-trans}
+use Rattle.std.proofs.Common.{subst}
+use Rattle.ppq_queue.specs.Holding.{Stays, SameRecords, IsRefusal}
+use Rattle.ppq_queue.proofs.Moves.{ok-map}
+use Rattle.ppq_queue.proofs.Stores.{err-map, on_given}
+use Rattle.ppq_queue.proofs.Flushed.{same-more, stays-more, refusal-more, refusal-limited, same-limited}
 use Rattle.ppq_queue.proofs.queue.Queue.store_heaps.Goals as goal
 
-pub returns-clause-slots : goal.returns-clause-slots
-returns-clause-slots g c =
-    let begun = c.begin_session.new.self.slots in
-    let stored = c.store_all.new.self.slots in
-    subst (λ l. SameSlots l stored) (ap (λ q. q.slots) c.note_limit.ensures) (SameSlots-trans c.note_limit.new.self.slots begun stored c.begin_session.ensures.slots c.store_all.ensures.keeps.slots)
+pub returns-in_err-begin_session-clause-stays : goal.returns-in_err-begin_session-clause-stays
+returns-in_err-begin_session-clause-stays g c = subst (λ q. Stays q c.begin_session.new.self) c.note_limit.ensures c.begin_session.ensures.stays
+
+pub returns-in_err-begin_session-clause-refused : goal.returns-in_err-begin_session-clause-refused
+returns-in_err-begin_session-clause-refused g c =
+    let begun = c.begin_session.new.self in
+    let e = c.in_err-begin_session.field-0.0 in
+    on_given (IsRefusal c.args.self.now begun) c.from_residual.result e c.from_residual.ensures.1 (refusal-limited c.args.self.now begun e (subst (λ q. IsRefusal q begun e) c.note_limit.ensures c.in_err-begin_session.ensures.refused))
+
+pub returns-clause-same : goal.returns-clause-same
+returns-clause-same g c =
+    let noted = c.note_limit.new.self in
+    let begun = c.begin_session.new.self in
+    let now = c.store_all.new.self in
+    ok-map c.store_all.result (λ same. same-limited c.args.self.now now (subst (λ q. SameRecords q now) c.note_limit.ensures (same-more noted begun now c.begin_session.ensures.stays.keeps.tells c.in_ok-begin_session.ensures.same same))) c.store_all.ensures.same
+
+pub returns-clause-stays : goal.returns-clause-stays
+returns-clause-stays g c = subst (λ q. Stays q c.store_all.new.self) c.note_limit.ensures (stays-more c.note_limit.new.self c.begin_session.new.self c.store_all.new.self c.begin_session.ensures.stays c.store_all.ensures.stays)
+
+pub returns-clause-refused : goal.returns-clause-refused
+returns-clause-refused g c =
+    let noted = c.note_limit.new.self in
+    let begun = c.begin_session.new.self in
+    let now = c.store_all.new.self in
+    err-map c.store_all.result (λ e is. refusal-limited c.args.self.now now e (subst (λ q. IsRefusal q now e) c.note_limit.ensures (refusal-more noted begun now e c.begin_session.ensures.stays.keeps.tells c.in_ok-begin_session.ensures.same is))) c.store_all.ensures.refused

@@ -1,5 +1,5 @@
 use Rattle.std.proofs.Common.{◌≡◌, ◌-◌, ◌∙◌, ◌++◌, cond, length, ap, sym, subst, arith, refl, length-drop}
-use Rattle.std.specs.Prelude.{count_by}
+use Rattle.std.specs.Prelude.{count_by, ◌↔◌, IsNone}
 use Rattle.ppq_extract.specs.ppq_outside.Shown.{AllTell}
 use Rattle.ppq_heap.specs.ppq_record.Bag.{least, without_front}
 use Rattle.ppq_heap.specs.Heaps.{items_of}
@@ -7,7 +7,7 @@ use Rattle.ppq_queue.specs.Resting.{runs_bag, count_of}
 use Rattle.ppq_heap.specs.ppq_record.Order.{Ascends}
 use Rattle.ppq_extract.specs.ppq_fetch.Taking.{NoneAfter}
 use Rattle.ppq_queue.proofs.Bounds.{bag_length}
-use Rattle.ppq_queue.proofs.Ready.{ready_least, first_some, second_empty, left_over, popped_one, rest_heap, rest_extract, each_rest, ascends_rest}
+use Rattle.ppq_queue.proofs.Ready.{ready_least, first_some, stored_none, second_empty, left_over, popped_one, rest_heap, rest_extract, each_rest, ascends_rest}
 use Rattle.ppq_queue.proofs.queue.Queue.take_least.Goals as goal
 
 pub invariant_of-self : goal.invariant_of-self
@@ -168,3 +168,14 @@ returns-clause-rest g c tell p =
     ap (λ e. count_by p (items_of s.heaps ++ e.items ++ runs)) c.pop-2.ensures.rest
     ∙ rest_extract laws.order laws.same (items_of s.heaps) s.store.extract.items runs c.front.result c.front.ensures (sym (ap (λ b. cond b c.min.result c.front.result) c.if-goes_first.false) ∙ two) p
     ∙ ap (λ q. count_by p (without_front g.R.Ord.cmp q.bag 1)) view
+
+pub returns-clause-none : goal.returns-clause-none
+returns-clause-none g c =
+    let laws = c.record_laws.ensures in
+    let s = c.self.inside in
+    let view = c.self.view_is in
+    let sound = c.self.invariant.1 (ap (λ q. q.failed) view ∙ c.requires.sound) in
+    let extract = s.store.extract.items in
+    subst (λ q. IsNone c.pop-2.result ↔ (q.size ≡ 0)) view
+    (stored_none laws.order laws.same (items_of s.heaps) extract c.min.result c.front.result c.pop-2.result s.count (count_of s.store.body) c.min.ensures.none.0 c.front.ensures c.pop-2.ensures.first (sym c.goes_first.ensures ∙ c.if-goes_first.false) sound.counted
+    (λ z. ap (λ q. q.size) view ∙ c.requires.ready (sym (ap (λ q. q.in_extract) view) ∙ z) ∙ sym (ap (λ q. q.in_heap) view)))

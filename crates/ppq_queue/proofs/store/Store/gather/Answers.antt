@@ -15,8 +15,8 @@ refilling-init g c =
     let record_of = g.R.Record.record_of in
     let width = g.R.Record.WIDTH in
     let order = c.record_laws.ensures.order in
-    let limit = c.args.limit in
-    let most = c.args.most in
+    let limit = c.args.wanted.now.limit in
+    let most = c.args.wanted.now.most in
     let x = c.args.self.now in
     let works = c.requires.works in
     let h = items_of c.args.heaps.now in
@@ -50,8 +50,8 @@ refilling-preserved g c =
     let record_of = g.R.Record.record_of in
     let width = g.R.Record.WIDTH in
     let order = c.record_laws.ensures.order in
-    let limit = c.args.limit in
-    let most = c.args.most in
+    let limit = c.args.wanted.now.limit in
+    let most = c.args.wanted.now.most in
     let i = c.refilling.invariant in
     let m = c.merge-in-refilling in
     let x = c.args.self.now in
@@ -94,4 +94,4 @@ pub returns-clause-took : goal.returns-clause-took
 returns-clause-took g c =
     let l = c.refilling in
     let i = l.invariant in
-    took-all g.S.Slot.shown c.record_laws.ensures.order g.R.Record.record_of g.R.Record.WIDTH c.args.limit c.args.most (items_of c.args.heaps.now) (items_of l.heaps) c.args.self.now l.self l.out.items i.stands i.took (c.wants_refill.ensures.ready c.refilling-test.false)
+    took-all g.S.Slot.shown c.record_laws.ensures.order g.R.Record.record_of g.R.Record.WIDTH c.args.wanted.now.limit c.args.wanted.now.most (items_of c.args.heaps.now) (items_of l.heaps) c.args.self.now l.self l.out.items i.stands i.took (c.wants_refill.ensures.ready c.refilling-test.false)

@@ -8,7 +8,7 @@ pub returns-in_err-settle : goal.returns-in_err-settle
 returns-in_err-settle g c =
     let e = c.in_err-settle.field-0.0 in
     record {
-      kept = c.settle.ensures.stays.kept;
+      kept = c.settle.ensures.stays.stays.kept;
       readied = not_ok _ c.from_residual.result e c.from_residual.ensures.1;
       refused = on_given (Refuses g.S.Slot.shown g.R.Ord.cmp g.R.Record.record_of g.R.Record.WIDTH [] [] c.args.self.now c.settle.new.self) c.from_residual.result e c.from_residual.ensures.1 c.in_err-settle.ensures.refused;
     }
@@ -22,7 +22,7 @@ returns g c =
     let x = c.args.self.now in
     let y = c.settle.new.self in
     let z = c.refill.new.self in
-    let kept = c.settle.ensures.stays.kept in
+    let kept = c.settle.ensures.stays.stays.kept in
     let e = c.refill.ensures in
     record {
       kept = kept-more shown x y z kept e.kept;

@@ -35,7 +35,8 @@ returns g c =
     record {
       stays = stays;
       holds = ok-map m.result (λ stored. holds-runs shown cmp record_of width x b t works kept no_row x.sources rests (moved-in_blocks shown cmp record_of width x.sizes a b s t runs.rest kept e.size e.takes_back e.lanes [] (omega (arith, c.requires.some)) c.requires.few runs.no_row no_row stored)) e.stored;
+      none = ok-map m.result (λ stored. stored.internal) e.stored;
       refused = by_fault (Refuses shown cmp record_of width [] [] x (record x { body = b; supply = t })) m.result
-          (λ err. (let short = short-merged shown cmp record_of width x.sizes a b s t runs.rest kept e.size e.takes_back e.lanes (e.none_free err) in lacks-runs shown cmp record_of width x b t works kept no_row x.sources rests short.moved (omega (arith, c.requires.some, internal_count a.runs.internal.items)) (inr (omega (arith, short.short)))))
+          (λ err. (let short = short-merged shown cmp record_of width x.sizes a b s t runs.rest kept e.size e.takes_back e.lanes runs.no_row no_row (e.none_free err) in lacks-runs shown cmp record_of width x b t works kept no_row x.sources rests short.moved (omega (arith, c.requires.some, internal_count a.runs.internal.items)) (inr (omega (arith, short.short)))))
           e.device;
     }

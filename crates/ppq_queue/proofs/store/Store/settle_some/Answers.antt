@@ -14,5 +14,6 @@ returns-then-not-has_run g c =
         holds = holds-same g.S.Slot.shown g.R.Ord.cmp g.R.Record.record_of g.R.Record.WIDTH [] x c.requires.works;
         few = omega (arith, count_some g.S.Slot.shown g.R.Record.WIDTH x.supply.block runs.internal.items runs.external.items rest.internal rest.external, c.has_run.ensures.none c.if-not-has_run.true);
       };
+      crowded = λ err. cc;
       refused = tt;
     }

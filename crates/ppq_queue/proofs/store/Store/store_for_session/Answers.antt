@@ -24,5 +24,6 @@ returns g c =
     record {
       stays = stays-more shown x y z one two.stays;
       emptied = ok-map c.merge_buffers.result (λ d. record { holds = holds-more shown cmp record_of width [] [] [] x y z one.kept holds d.holds; emptied = record { no_extract = empty_list z.extract.items (omega (arith, two.stays.extract, ap length c.in_ok-store_extract.ensures.emptied.emptied.no_extract)); few = d.few } }) two.settled;
+      merged = λ t. two.idle;
       refused = err-map c.merge_buffers.result (λ e r. refused-more shown cmp record_of width [] [] [] x y z e one.kept holds r) two.refused;
     }

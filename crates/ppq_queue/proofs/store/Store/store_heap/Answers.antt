@@ -106,7 +106,7 @@ returns g c =
     let two = c.settle.ensures in
     let beside = holds-beside shown cmp record_of width left y z in
     record {
-      stays = stays-more shown x y z stays two.stays;
+      stays = stays-more shown x y z stays two.stays.stays;
       changed = record {
         only = changes-trans c.args.place c.args.heaps.now all c.clear_share.new.self c.sort_share.ensures.others c.clear_share.ensures.others;
         fewer = omega (arith, IsSameBag-length (items_of all) h c.sort_share.ensures.bag, IsSameBag-length (items_of all) (sorted ++ left) c.clear_share.ensures.bag, length-append sorted left);
@@ -114,7 +114,7 @@ returns g c =
       emptied = ok-map c.settle.result
           (λ d. record {
             holds = holds-more shown cmp record_of width h left left x y z kept holds (beside d.holds);
-            emptied = record { no_extract = empty_list z.extract.items (omega (arith, two.stays.extract, ap length none)); few = d.few };
+            emptied = record { no_extract = empty_list z.extract.items (omega (arith, two.stays.stays.extract, ap length none)); few = d.few };
           })
           two.settled;
       share = ok-map c.settle.result (λ d. c.clear_share.ensures.share) two.settled;

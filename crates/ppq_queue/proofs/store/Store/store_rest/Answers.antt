@@ -69,7 +69,7 @@ returns g c =
     let holds = holds-rest shown cmp record_of width x b t c.requires.works made.kept.body made.kept.no_row v room none moved in
     let two = c.settle.ensures in
     record {
-      stays = stays-more shown x y z stays two.stays;
-      emptied = ok-map c.settle.result (λ d. record { holds = holds-more shown cmp record_of width [] [] [] x y z kept holds d.holds; emptied = record { no_extract = empty_list z.extract.items (omega (arith, two.stays.extract, ap length none)); few = d.few } }) two.settled;
+      stays = stays-more shown x y z stays two.stays.stays;
+      emptied = ok-map c.settle.result (λ d. record { holds = holds-more shown cmp record_of width [] [] [] x y z kept holds d.holds; emptied = record { no_extract = empty_list z.extract.items (omega (arith, two.stays.stays.extract, ap length none)); few = d.few } }) two.settled;
       refused = err-map c.settle.result (λ e r. refused-more shown cmp record_of width [] [] [] x y z e kept holds r) two.refused;
     }

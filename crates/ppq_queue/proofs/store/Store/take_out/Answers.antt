@@ -15,13 +15,13 @@ returns-then-wants_nothing g c =
     let width = g.R.Record.WIDTH in
     let x = c.args.self.now in
     let h = items_of c.args.heaps.now in
-    let took = took-none shown c.record_laws.ensures.order record_of width c.args.limit c.args.most h x c.requires.works in
-    let full : length c.args.out.now.items ≡ c.args.most = ap length c.requires.none ∙ sym (c.wants_nothing.ensures.none c.if-wants_nothing.true) in
+    let took = took-none shown c.record_laws.ensures.order record_of width c.args.wanted.now.limit c.args.wanted.now.most h x c.requires.works in
+    let full : length c.args.out.now.items ≡ c.args.wanted.now.most = ap length c.requires.none ∙ sym (c.wants_nothing.ensures.none c.if-wants_nothing.true) in
     record {
       kept = kept-same shown x;
       heaps = heaps-same c.args.heaps.now;
       list_room = refl;
-      took = record { took = subst (λ l. TookOut shown cmp record_of width c.args.limit c.args.most h h x x l) (sym c.requires.none) took; all = λ unset. inl full; low = λ tell. inl full; ready = λ l is gone. absurd (c.wants_nothing.ensures.ready c.if-wants_nothing.true l is gone) };
+      took = record { took = subst (λ l. TookOut shown cmp record_of width c.args.wanted.now.limit c.args.wanted.now.most h h x x l) (sym c.requires.none) took; all = λ unset. inl full; low = λ tell. inl full; ready = λ l is gone. absurd (c.wants_nothing.ensures.ready c.if-wants_nothing.true l is gone) };
       same_heaps = λ err. refl;
       refused = tt;
     }
@@ -61,7 +61,7 @@ returns g c =
       kept = kept-more shown x y z kept e.kept;
       heaps = e.heaps;
       list_room = e.list_room;
-      took = ok-map c.gather.result (all-settled shown c.record_laws.ensures.order record_of width c.args.limit c.args.most h h' x y z c.gather.new.out.items kept c.in_ok-settle_some.ensures.settled.holds) e.took;
+      took = ok-map c.gather.result (all-settled shown c.record_laws.ensures.order record_of width c.args.wanted.now.limit c.args.wanted.now.most h h' x y z c.gather.new.out.items kept c.in_ok-settle_some.ensures.settled.holds) e.took;
       same_heaps = alone (FailsAlone shown z) c.gather.result e.failed (λ never. never);
       refused = err-map c.gather.result (refused-alone shown cmp record_of width [] [] x z) e.failed;
     }

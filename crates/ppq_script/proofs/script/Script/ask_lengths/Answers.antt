@@ -8,7 +8,8 @@ use Rattle.ppq_script.specs.declared.session.Session.TheVariants.{Outside}
 use Rattle.ppq_script.specs.Sessions.{are_in_place}
 use Rattle.ppq_script.specs.Files.{NamesFile, HasRecords, IsBadAmong}
 use Rattle.ppq_script.specs.Reading.{Reading}
-use Rattle.ppq_script.specs.Checking.{IsSameItem, IsAsked}
+use Rattle.ppq_outside.specs.Told.{RepliesOnly}
+use Rattle.ppq_script.specs.Checking.{IsSameItem, IsAsked, IsKeptAmong}
 use Rattle.ppq_script.proofs.Checks.{all_names, all_records, bad_behind, in_place_later}
 use Rattle.ppq_script.proofs.script.Script.ask_lengths.Goals as goal
 
@@ -61,3 +62,13 @@ returns-in-Some-clause-refused g c =
     (subst (λ (old : List Numbered). AllZip (IsAsked replied (map string_bytes c.deref.result.now)) old c.ask_all.new.commands) c.deref_mut.ensures.value c.in-Ok.ensures.asked) in
     let bad : IsBadAmong replied (map string_bytes s.names.items) s.commands.items s.bad c.in-Some.line = bad_behind replied (map string_bytes s.names.items) s.commands.items c.ask_all.new.commands c.in-Some.line s.bad asked c.in-Some.is in
     subst (λ (r : Reading). IsBadAmong replied r.names r.commands r.bad c.in-Some.line) c.self.view_is bad
+
+pub returns-in-None-clause-once : goal.returns-in-None-clause-once
+returns-in-None-clause-once g c =
+    let before = g.L.Library.replied c.args.library.now in
+    let replied = g.L.Library.replied c.ask_all.new.library in
+    let v = c.self.inside.commands in
+    let new = c.ask_all.new.commands in
+    let written : (with_items v new).items ≡ new = with_items_is v new (c.ask_all.auto.commands ∙ ap length c.deref_mut.ensures.value ∙ sym v.ok.0) in
+    subst (λ (items : List Numbered). RepliesOnly before replied (IsKeptAmong (map string_bytes c.self.inside.names.items) items)) (sym written)
+    (subst (λ (names : List _). RepliesOnly before replied (IsKeptAmong (map string_bytes names) new)) c.deref.ensures.value c.in-Ok.ensures.once)

@@ -1,7 +1,7 @@
 use Rattle.std.proofs.Common.{◌≡◌, ◌∷◌, false, sym, subst}
 use Rattle.std.specs.Prelude.{OnOk}
 use Rattle.ppq_pass.specs.ppq_record.Bag.{IsSameBag}
-use Rattle.ppq_pass.specs.Passed.{PassTells}
+use Rattle.ppq_pass.specs.Passed.{PassTells, KeptSlots}
 use Rattle.ppq_pass.specs.ppq_record.Order.{is_before}
 use Rattle.ppq_session.proofs.LimitPassed.{limited-pushed}
 use Rattle.ppq_session.proofs.limit_pass.LimitPass.push.Goals as goal
@@ -18,3 +18,6 @@ returns-clause-added g c = subst (λ p. OnOk c.push.result (PassTells g.S.Slot.s
 
 pub returns-clause-tells : goal.returns-clause-tells
 returns-clause-tells g c = subst (λ p. PassTells g.S.Slot.shown p.pass → PassTells g.S.Slot.shown c.push.new.self) c.self.view_is c.push.ensures.tells
+
+pub returns-clause-kept : goal.returns-clause-kept
+returns-clause-kept g c = subst (λ p. KeptSlots p.pass c.push.new.self) c.self.view_is c.push.ensures.kept

@@ -9,20 +9,10 @@ use Rattle.ppq_session.proofs.limit_session.LimitSession.begin.Goals as goal
 
 pub returns-in-Ok-clause-session : goal.returns-in-Ok-clause-session
 returns-in-Ok-clause-session g c =
-    let e = c.in-Ok.ensures in
-    session-begin g.S.Slot.shown c.args.queue c.args.limit c.in-Ok.front c.in-Ok.passes.items e.of e.new e.limit e.bag e.slots e.tells e.writes e.size e.unpopped e.sound e.peak e.sizes c.known.ensures.items
+    session-begin g.S.Slot.shown c.args.queue c.args.limit c.in-Ok.front c.in-Ok.shared c.in-Ok.passes.items c.in-Ok.ensures.begun c.known.ensures.items
 
 pub returns-in-Ok-clause-going : goal.returns-in-Ok-clause-going
-returns-in-Ok-clause-going g c = let e = c.in-Ok.ensures in going-begin c.in-Ok.front c.in-Ok.passes.items e.new e.sound
-
-pub returns-in-Err-clause-refused : goal.returns-in-Err-clause-refused
-returns-in-Err-clause-refused g c =
-    let e = c.in-Err.ensures in
-    record {
-      why = e.refused;
-      kept = record { sizes = e.back_sizes; limited = e.back_limited; slots = e.back_slots; tells = e.back_tells; writes = e.back_writes };
-      peak = e.back_peak;
-    }
+returns-in-Ok-clause-going g c = let e = c.in-Ok.ensures.begun in going-begin c.in-Ok.front c.in-Ok.passes.items e.new e.sound
 
 pub returns-in-Ok-clause-latched : goal.returns-in-Ok-clause-latched
 returns-in-Ok-clause-latched g c = λ number latched. let said = c.in-Ok.ensures.latched number latched in absurd (cc)

@@ -22,10 +22,10 @@ returns-in-Stopped-clause-over g c =
     let passes = c.self.inside.passes.items in
     let e = c.limit_end-queue.ensures in
     let new = c.limit_end-queue.result.0 in
-    let end = subst (λ how. EndsIn shown front passes new how) c.in-Stopped.is e.end in
+    let end = subst (λ how. EndsIn shown front passes new how) c.in-Stopped.is e.end_is in
     subst (λ old. (queue : Holding g.row.R.Denot) (limit : g.row.R.Denot) (given left : List g.row.R.Denot) (popped : ℕ) → InLimits shown queue limit given left popped old → IsOver {T = ⊤} queue given left popped new (Err c.in-Stopped.fault)) c.self.view_is
     (λ queue limit given left popped s.
-    over-stopped shown queue limit given left popped front passes s new c.in-Stopped.fault (end-keeps shown queue limit given left popped front passes s new e.slots e.tells e.writes e.sizes e.limited) (omega (arith, c.known.ensures.range.two_records)) e.sizes end)
+    over-stopped shown queue limit given left popped front passes s new c.in-Stopped.fault (end-keeps shown queue limit given left popped front passes s new c.limit_end-queue.result.1 e) (omega (arith, c.known.ensures.range.two_records)) e.sizes end)
 
 pub returns-in-Whole-clause-all : goal.returns-in-Whole-clause-all
 returns-in-Whole-clause-all g c =
@@ -33,7 +33,7 @@ returns-in-Whole-clause-all g c =
     let front = c.self.inside.front in
     let passes = c.self.inside.passes.items in
     let new = c.limit_end-queue.result.0 in
-    let end = subst (λ how. EndsIn shown front passes new how) c.in-Whole.is c.limit_end-queue.ensures.end in
+    let end = subst (λ how. EndsIn shown front passes new how) c.in-Whole.is c.limit_end-queue.ensures.end_is in
     let going = subst (All (λ (p : LimitHolding g.row.S.Denot g.row.R.Denot). IsGoing p.pass)) c.as_slice.ensures.value (c.limited_are_going-all.ensures.all.0 c.if-all.true) in
     subst (λ old. AreGoing old) c.self.view_is (record { passes = All-map IsGoing (λ (p : LimitHolding g.row.S.Denot g.row.R.Denot). p.pass) passes going; front = end.no_fault.0 })
 
@@ -44,11 +44,11 @@ returns-in-Whole-clause-over g c =
     let passes = c.self.inside.passes.items in
     let e = c.limit_end-queue.ensures in
     let new = c.limit_end-queue.result.0 in
-    let end = subst (λ how. EndsIn shown front passes new how) c.in-Whole.is e.end in
+    let end = subst (λ how. EndsIn shown front passes new how) c.in-Whole.is e.end_is in
     let going = subst (All (λ (p : LimitHolding g.row.S.Denot g.row.R.Denot). IsGoing p.pass)) c.as_slice.ensures.value (c.limited_are_going-all.ensures.all.0 c.if-all.true) in
     subst (λ old. (queue : Holding g.row.R.Denot) (limit : g.row.R.Denot) (given left : List g.row.R.Denot) (popped : ℕ) → InLimits shown queue limit given left popped old → IsOver queue given left popped new (Ok tt)) c.self.view_is
     (λ queue limit given left popped s.
-    over-whole shown queue limit given left popped front passes s new end tt (end-keeps shown queue limit given left popped front passes s new e.slots e.tells e.writes e.sizes e.limited)
+    over-whole shown queue limit given left popped front passes s new end tt (end-keeps shown queue limit given left popped front passes s new c.limit_end-queue.result.1 e)
     (All-map IsGoing (λ (p : LimitHolding g.row.S.Denot g.row.R.Denot). p.pass) passes going))
 
 pub returns-in-Whole-2-clause-over : goal.returns-in-Whole-2-clause-over
@@ -58,11 +58,11 @@ returns-in-Whole-2-clause-over g c =
     let passes = c.self.inside.passes.items in
     let e = c.limit_end-queue.ensures in
     let new = c.limit_end-queue.result.0 in
-    let end = subst (λ how. EndsIn shown front passes new how) c.in-Whole-2.is e.end in
+    let end = subst (λ how. EndsIn shown front passes new how) c.in-Whole-2.is e.end_is in
     let ended = subst (Any (λ (p : LimitHolding g.row.S.Denot g.row.R.Denot). HasEnded p.pass)) c.as_slice.ensures.value (c.limited_are_going-all.ensures.ended c.if-all.false) in
     subst (λ old. (queue : Holding g.row.R.Denot) (limit : g.row.R.Denot) (given left : List g.row.R.Denot) (popped : ℕ) → InLimits shown queue limit given left popped old → IsOver {T = ⊤} queue given left popped new (Err NoFreeBlock)) c.self.view_is
     (λ queue limit given left popped s.
-    over-short shown queue limit given left popped front passes s new end (end-keeps shown queue limit given left popped front passes s new e.slots e.tells e.writes e.sizes e.limited) (omega (arith, c.known.ensures.range.two_records)) ended)
+    over-short shown queue limit given left popped front passes s new end (end-keeps shown queue limit given left popped front passes s new c.limit_end-queue.result.1 e) (omega (arith, c.known.ensures.range.two_records)) ended)
 
 pub returns-in-Stopped-clause-all_records : goal.returns-in-Stopped-clause-all_records
 returns-in-Stopped-clause-all_records g c =
@@ -70,7 +70,7 @@ returns-in-Stopped-clause-all_records g c =
     let front = c.self.inside.front in
     let passes = c.self.inside.passes.items in
     let new = c.limit_end-queue.result.0 in
-    let end = subst (λ how. EndsIn shown front passes new how) c.in-Stopped.is c.limit_end-queue.ensures.end in
+    let end = subst (λ how. EndsIn shown front passes new how) c.in-Stopped.is c.limit_end-queue.ensures.end_is in
     λ e.
     subst (λ l. AllTell l.front.slots → All (PassTells shown) (passes_of l.passes) → IsSameBag new.bag (l.front.bag ++ limited_bag l.passes)) c.self.view_is
     (all-records shown front passes new (unfilled shown front passes new c.in-Stopped.fault end (cc)))
@@ -81,7 +81,7 @@ returns-in-Stopped-clause-counted g c =
     let front = c.self.inside.front in
     let passes = c.self.inside.passes.items in
     let new = c.limit_end-queue.result.0 in
-    let end = subst (λ how. EndsIn shown front passes new how) c.in-Stopped.is c.limit_end-queue.ensures.end in
+    let end = subst (λ how. EndsIn shown front passes new how) c.in-Stopped.is c.limit_end-queue.ensures.end_is in
     λ e. subst (λ l. new.size ≡ l.front.size + limited_accepted l.passes) c.self.view_is (unfilled shown front passes new c.in-Stopped.fault end (cc)).size
 
 pub returns-in-Whole-2-clause-all_records : goal.returns-in-Whole-2-clause-all_records
@@ -90,7 +90,7 @@ returns-in-Whole-2-clause-all_records g c =
     let front = c.self.inside.front in
     let passes = c.self.inside.passes.items in
     let new = c.limit_end-queue.result.0 in
-    let end = subst (λ how. EndsIn shown front passes new how) c.in-Whole-2.is c.limit_end-queue.ensures.end in
+    let end = subst (λ how. EndsIn shown front passes new how) c.in-Whole-2.is c.limit_end-queue.ensures.end_is in
     λ e.
     subst (λ l. AllTell l.front.slots → All (PassTells shown) (passes_of l.passes) → IsSameBag new.bag (l.front.bag ++ limited_bag l.passes)) c.self.view_is (all-records shown front passes new end)
 
@@ -100,5 +100,5 @@ returns-in-Whole-2-clause-counted g c =
     let front = c.self.inside.front in
     let passes = c.self.inside.passes.items in
     let new = c.limit_end-queue.result.0 in
-    let end = subst (λ how. EndsIn shown front passes new how) c.in-Whole-2.is c.limit_end-queue.ensures.end in
+    let end = subst (λ how. EndsIn shown front passes new how) c.in-Whole-2.is c.limit_end-queue.ensures.end_is in
     λ e. subst (λ l. new.size ≡ l.front.size + limited_accepted l.passes) c.self.view_is end.size

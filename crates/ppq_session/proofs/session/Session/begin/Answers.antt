@@ -7,19 +7,10 @@ use Rattle.ppq_session.proofs.Sessions.{session-begin, fresh-going}
 use Rattle.ppq_session.proofs.session.Session.begin.Goals as goal
 
 pub returns-in-Ok-clause-session : goal.returns-in-Ok-clause-session
-returns-in-Ok-clause-session g c = let e = c.in-Ok.ensures in session-begin g.S.Slot.shown c.args.queue _ _ e.fresh e.bag e.slots e.tells e.writes e.size e.peak e.sizes e.limited
+returns-in-Ok-clause-session g c = session-begin g.S.Slot.shown c.args.queue c.in-Ok.bulk c.in-Ok.shared c.in-Ok.passes.items c.in-Ok.ensures.begun
 
 pub returns-in-Ok-clause-going : goal.returns-in-Ok-clause-going
-returns-in-Ok-clause-going g c = fresh-going _ c.in-Ok.ensures.fresh
-
-pub returns-in-Err-clause-refused : goal.returns-in-Err-clause-refused
-returns-in-Err-clause-refused g c =
-    let e = c.in-Err.ensures in
-    record {
-      why = e.refused;
-      kept = record { sizes = e.back_sizes; limited = e.back_limited; slots = e.back_slots; tells = e.back_tells; writes = e.back_writes };
-      peak = e.back_peak;
-    }
+returns-in-Ok-clause-going g c = fresh-going c.in-Ok.passes.items c.in-Ok.ensures.begun.fresh
 
 pub returns-in-Ok-clause-latched : goal.returns-in-Ok-clause-latched
 returns-in-Ok-clause-latched g c = λ number latched. let said = c.in-Ok.ensures.latched number latched in absurd (cc)

@@ -2,7 +2,7 @@ use Rattle.std.proofs.Common.{◌≡◌, ◌∙◌, ◌++◌, ◌↔◌, List, A
 use Rattle.std.specs.Prelude.{Any}
 use Rattle.ppq_pass.specs.Passed.{IsOf}
 use Rattle.ppq_queue.specs.Holding.{Holding}
-use Rattle.ppq_session.specs.Dealing.{IsGoing, HasEnded, Dealt}
+use Rattle.ppq_session.specs.Dealing.{IsGoing, HasEnded, EachAdds, Dealt, part_for}
 use Rattle.ppq_session.specs.Sessions.{InSession}
 use Rattle.ppq_session.proofs.Sessions.{kept_back, of-shared, session-deal}
 use Rattle.ppq_session.proofs.session.Session.deal.Goals as goal
@@ -36,3 +36,15 @@ returns-clause-session g c =
     (λ queue records s.
     subst (λ ps. InSession shown queue (records ++ take n inside.bulk.batch) (record { bulk = inside.bulk; passes = ps })) (sym back)
     (session-deal shown queue records (take n inside.bulk.batch) inside.bulk inside.passes.items news s going dealt))
+
+pub returns-clause-each : goal.returns-clause-each
+returns-clause-each g c =
+    let shown = g.S.Slot.shown in
+    let inside = c.self.inside in
+    let olds = inside.passes.items in
+    let news = c.deal.new.passes in
+    let n = c.args.count in
+    let after = take inside.passes.len (news ++ drop (length news) olds) in
+    let back = kept_back inside.passes.len news (drop (length news) olds) (c.deal.auto.passes ∙ c.as_mut_slice.ensures.len) in
+    let each = subst (λ xs. EachAdds shown (part_for (length olds) (take n xs)) olds news) c.batch.ensures.items (subst (λ ps. EachAdds shown (part_for (length ps) (take n c.batch.result.now)) ps news) c.as_mut_slice.ensures.value c.deal.ensures.each) in
+    subst (λ old. EachAdds shown (part_for (length old.passes) (take n old.bulk.batch)) old.passes after) c.self.view_is (subst (λ ps. EachAdds shown (part_for (length olds) (take n inside.bulk.batch)) olds ps) (sym back) each)

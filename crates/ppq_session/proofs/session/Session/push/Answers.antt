@@ -1,8 +1,8 @@
-use Rattle.std.proofs.Common.{◌≡◌, ◌∙◌, ◌++◌, ◌↔◌, List, All, IsTrue, false, length, take, drop, sym, subst}
+use Rattle.std.proofs.Common.{◌≡◌, ℕ, ◌∙◌, ◌++◌, ◌↔◌, List, All, IsTrue, false, length, take, drop, sym, subst}
 use Rattle.std.specs.Prelude.{Any}
 use Rattle.ppq_pass.specs.Passed.{IsOf}
 use Rattle.ppq_queue.specs.Holding.{Holding}
-use Rattle.ppq_session.specs.Dealing.{IsGoing, HasEnded, Dealt, records_in}
+use Rattle.ppq_session.specs.Dealing.{IsGoing, HasEnded, EachAdds, Dealt, records_in, records_for}
 use Rattle.ppq_session.specs.Sessions.{InSession}
 use Rattle.ppq_session.proofs.Sessions.{kept_back, of-shared, session-deal}
 use Rattle.ppq_session.proofs.session.Session.push.Goals as goal
@@ -36,3 +36,15 @@ returns-clause-session g c =
     (λ queue records s.
     subst (λ ps. InSession shown queue (records ++ more) (record { bulk = inside.bulk; passes = ps })) (sym back)
     (session-deal shown queue records more inside.bulk inside.passes.items news s going dealt))
+
+pub returns-clause-each : goal.returns-clause-each
+returns-clause-each g c =
+    let shown = g.S.Slot.shown in
+    let inside = c.self.inside in
+    let olds = inside.passes.items in
+    let news = c.push_lines.new.passes in
+    let records = λ (pass : ℕ). records_for pass c.args.lines.now in
+    let after = take inside.passes.len (news ++ drop (length news) olds) in
+    let back = kept_back inside.passes.len news (drop (length news) olds) (c.push_lines.auto.passes ∙ c.as_mut_slice.ensures.len) in
+    let each = subst (λ ps. EachAdds shown records ps news) c.as_mut_slice.ensures.value c.push_lines.ensures.each in
+    subst (λ old. EachAdds shown records old.passes after) c.self.view_is (subst (λ ps. EachAdds shown records olds ps) (sym back) each)
