@@ -22,6 +22,8 @@ pub enum Adding {
     Hundreds,
     /// three records to a single pass without a device, whose heap has room for two
     Three,
+    /// records to each of three passes until its heap is full, for which it takes three, two and one
+    Fill,
 }
 
 /// What the passes of a session did.
@@ -74,6 +76,7 @@ where
         Adding::Lines => push_to_two(rt, shared, lines, passes),
         Adding::Hundreds => push_hundreds(rt, shared, passes),
         Adding::Three => push_to_one(rt, shared, passes),
+        Adding::Fill => fill_three(rt, passes),
     }
 }
 
@@ -128,6 +131,35 @@ fn push_three<H: Host + Abort>(
         taken: false,
         accepted: (pass.accepted(), pass.accepted()),
     }
+}
+
+// The heaps of three passes have room for three records, two and one.
+fn fill_three<H: Host + Abort>(rt: &H, passes: &mut [Pass<MemSlot, Pair>]) -> Done
+    ensures { keys_of passes.new ≡ keys_of passes.old }
+{
+    assert!(rt; passes.len() == 3);
+    let took = (
+        fill(&mut passes[0]),
+        fill(&mut passes[1]),
+        fill(&mut passes[2]),
+    );
+    assert!(rt; took == (3, 2, 1));
+    Done {
+        taken: false,
+        accepted: (took.0, took.2),
+    }
+}
+
+// Tries records at a new pass until its heap, of at most four records, is full. How many it took.
+fn fill(pass: &mut Pass<MemSlot, Pair>) -> u64
+    ensures { pass.new.key ≡ pass.old.key }
+{
+    'filling: for key in 0..5 {
+        if tries(pass, key) == Err(Full) {
+            break;
+        }
+    }
+    pass.accepted()
 }
 
 // Tries a record at a pass.

@@ -1,10 +1,11 @@
 //! Worked examples of bulk sessions, with two records a block and one block a heap.
 ghost use Rattle.std.specs.Prelude.{◌≡◌, ◌<◌, All, IfOk};
+ghost use Rattle.ppq_session.specs.Dealing.{IsGoing};
 
 use crate::bulk::{Adding, Done, in_session};
 use crate::records::{are_keys, are_twins, ascend, popped, queue_of};
 use ppq_outside::{MemSlot, OpenGate};
-use ppq_session::{Host, Line, Out, Pair, Queue, SessionEnd, Sizes};
+use ppq_session::{Host, Line, Out, Pair, Queue, Session, SessionEnd, Sizes};
 use ppq_testkit::pair;
 use std::alloc::Global;
 use std::process::Abort;
@@ -207,4 +208,59 @@ where
 #[test]
 fn what_two_threads_of_ones_own_push_comes_out_in_order(rt: HostRuntime) -> Result<(), Fail> {
     with_own_threads(&rt, rt.alloc())
+}
+
+// A line of a pass.
+fn line(pass: u32) -> Line<Pair>
+    ensures { result.pass ≡ pass }
+{
+    Line {
+        pass,
+        record: pair(7),
+    }
+}
+
+// A session of an empty queue for three workers, with heaps of four records.
+fn begun<H: Host + Abort>(rt: &H, alloc: Global) -> Result<Session<MemSlot, Pair>, Fail>
+where
+    H::Dir: Send,
+    ensures workers { IfOk result (λ session. session.bulk.sizes.workers ≡ 3) }
+    ensures going { IfOk result (λ session. All IsGoing session.passes) }
+{
+    let sizes = Sizes::new(3, 2, 2, 232, 20).expect(rt, "sizes in range");
+    let queue = queue_of(rt, alloc, sizes, Vec::new(alloc))?;
+    match Session::begin(rt, alloc, queue, &OpenGate) {
+        Ok(session) => Ok(session),
+        Err(_) => panic!(rt; "no session began"),
+    }
+}
+
+// The queue after a session that gave the first worker's heap one record, the second's two and the third's three.
+fn after_steps<H: Host + Abort>(rt: &H, alloc: Global) -> Result<Queue<MemSlot, Pair>, Fail>
+where
+    H::Dir: Send,
+{
+    let mut session = begun(rt, alloc)?;
+    let lines = [line(0), line(1), line(1), line(2), line(2), line(2)];
+    let all = session.push(rt, &lines, &OpenGate);
+    let (queue, end) = session.end(rt, &OpenGate);
+    assert!(rt; all & end.is_ok());
+    Ok(queue)
+}
+
+// Each pass of a second session has the heap that its worker had in the first.
+fn come_back<H: Host + Abort>(rt: &H, alloc: Global) -> Result<(), Fail>
+where
+    H::Dir: Send,
+{
+    let queue = after_steps(rt, alloc)?;
+    let (queue, end, done) = in_session(rt, alloc, queue, Adding::Fill, &[]);
+    let records = popped(rt, alloc, queue);
+    assert!(rt; (end == SessionEnd::Whole) & (done.accepted == (3, 1)) & (records.len() == 12));
+    Ok(())
+}
+
+#[test]
+fn each_worker_has_its_own_heap_again_in_the_next_session(rt: HostRuntime) -> Result<(), Fail> {
+    come_back(&rt, rt.alloc())
 }
