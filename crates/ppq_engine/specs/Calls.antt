@@ -27,7 +27,8 @@ use Rattle.ppq_engine.specs.declared.end.End.{End}
 use Rattle.ppq_engine.specs.declared.machine.Machine.{Machine}
 use Rattle.ppq_engine.specs.declared.stop.Stop.{Stop}
 
--- a call that the machine makes of its queue, whatever it answers: what the queue keeps, that nothing was printed, that the peak is no more than this, and why it was refused
+-- a call that the machine makes of its queue, whatever it answers: what the queue keeps, that nothing was printed, that the peak is no more
+-- than this, and why it was refused
 pub record IsCalled {S T : Type 0} {slot : Ghosts S} (old new : Machine S slot) (most : ℕ) (result : Result T QueueFault) : Type 0 where
   pub kept : Keeps old.queue new.queue
   pub gathered : new.desk.gathered ≡ old.desk.gathered
@@ -99,7 +100,8 @@ pub record LibraryCounts {T : Type 0} (files files_now : Option (List ℕ → Op
   pub cause : IfErr result (LibraryAfter before now)
   pub changed : IfErr result (ChangedIn files replied_now script)
 
--- a command that stands at this place of a script, where no session is open, and a queue that may run it: of the script's workers, and no call of a slot of it failed
+-- a command that stands at this place of a script, where no session is open, and a queue that may run it: of the script's workers, and no call
+-- of a slot of it failed
 pub record IsTurn (script : Reading) (queue : Holding Pair) (place : ℕ) (command : Command) : Type 0 where
   pub place_is : place < length script.commands
   pub here : slice_get (command_list script) place ≡ Some command

@@ -109,8 +109,8 @@ module _ {R : Type 0} where
     pub sound : new.failed ≡ None
     pub quiet : AreQuiet old.slots new.slots
 
-  -- No block was free: the bag is as it was, where slots tell, and no call failed. Fewer slots are free than a merge or a store may want; the device has fewer
-  -- blocks than are enough for the peak; and the peak is above what one heap holds, unless a limit session was begun
+  -- No block was free: the bag is as it was, where slots tell, and no call failed. Fewer slots are free than a merge or a store may want; the
+  -- device has fewer blocks than are enough for the peak; and the peak is above what one heap holds, unless a limit session was begun
   pub record FoundNoBlock (old new : Holding R) : Type 0 where
     pub bag : AllTell old.slots → IsSameBag new.bag old.bag
     pub size : new.size ≡ old.size

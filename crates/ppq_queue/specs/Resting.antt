@@ -96,9 +96,9 @@ module _ {S R : Type 0} where
         pub internal : All (λ (run : Run R). Ascends cmp (items_of run)) body.runs.internal.items
         pub external : All (λ (a : External S R). Ascends cmp (records_in record_of width shown a)) body.runs.external.items
 
-      -- Each run rests, and where slots tell, it ascends. Buffers and slots are of one size, and the supply can take all back. Just as many buffers
-      -- are idle or loaded as the lanes have; no more are loaded than one for each run that has something loaded and one for each worker. At
-      -- most 65 of the runs in blocks are odd, and at most 64 have something loaded
+      -- Each run rests, and where slots tell, it ascends. Buffers and slots are of one size, and the supply can take all back. Just as many
+      -- buffers are idle or loaded as the lanes have; no more are loaded than one for each run that has something loaded and one for each
+      -- worker. At most 65 of the runs in blocks are odd, and at most 64 have something loaded
       pub record AtRest (sizes : Numbers) (body : PassBody S R) (stock : Stock) : Type 0 where
         pub block : stock.block ≡ sizes.block
         pub idle : All (HasBlock stock.block) body.lanes.idle

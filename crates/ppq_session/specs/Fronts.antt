@@ -11,10 +11,10 @@ use Rattle.ppq_pass.specs.ppq_fetch.Taking.{NoneBelow}
 use Rattle.ppq_pass.specs.ppq_array.declared.store_fault.StoreFault.{StoreFault as QueueFault}
 use Rattle.ppq_pass.specs.ppq_array.declared.store_fault.StoreFault.TheVariants.{NoFreeBlock, Device}
 
--- The bag of its records, as far as its slots tell, and the limit; how many records it counts, and how many it gave; its sizes; the
--- greatest size of the queue when the session began; all slots, those of its runs, those that it freed and those that were put into the
--- row; how many buffers of a block it has, idle ones too, and how many of them its runs in buffers; how many records its extract buffer has; the row with the slots that were put into it, and the pool; and the number of the slot a
--- call of which failed first, if any
+-- The bag of its records, as far as its slots tell, and the limit; how many records it counts, and how many it gave; its sizes; the greatest
+-- size of the queue when the session began; all slots, those of its runs, those that it freed and those that were put into the row; how many
+-- buffers of a block it has, idle ones too, and how many of them its runs in buffers; how many records its extract buffer has; the row with the
+-- slots that were put into it, and the pool; and the number of the slot a call of which failed first, if any
 pub record FrontHolding (S R : Type 0) : Type 0 where
   pub bag : List R
   pub limit : R

@@ -78,8 +78,8 @@ module _ {S R : Type 0} where
       pub limited : bulk.limited ≡ q.limited
       pub sizes : bulk.sizes ≡ q.sizes
 
-    -- A bulk session of a queue began: the passes have the records of its heaps, the first those of the first heap, and the bulk has the rest. All buffers that no run has are in
-    -- the pool, which are half of the budget's pool at least. No call of a slot failed
+    -- A bulk session of a queue began: the passes have the records of its heaps, the first those of the first heap, and the bulk has the rest.
+    -- All buffers that no run has are in the pool, which are half of the budget's pool at least. No call of a slot failed
     pub record BulkBegan (q : Holding R) (bulk : BulkHolding S R) (shared : Shared S R) (passes : List (PassHolding S R)) : Type 0 where
       pub of : AreOf bulk (keys_of passes)
       pub shared_is : shared ≡ shared_by bulk

@@ -1,4 +1,4 @@
-//! Worked examples of bulk sessions, with two records a block and one block a heap.
+//! Worked examples of bulk sessions, with two records a block and one block a heap, or two where a test says so.
 ghost use Rattle.std.specs.Prelude.{◌≡◌, ◌<◌, All, IfOk};
 ghost use Rattle.ppq_session.specs.Dealing.{IsGoing};
 
