@@ -29,18 +29,36 @@ fn take(rt: &impl Abort, state: &mut State<Pair>, steps: &[(Event<Pair>, bool)])
         } else {
             Err(StepFault::Illegal)
         };
-        assert_eq!(rt; state.step(event), want);
+        assert!(rt; state.step(event) == want);
     }
+}
+
+// Whether the buffer is at this place.
+fn buffer_is(state: &State<Pair>, place: Place) -> bool
+    requires { length state.now.buffers ≡ 1 }
+{
+    state.buffer(0) == place
+}
+
+// Whether the slots are at these places.
+fn slots_are(state: &State<Pair>, first: Place, second: Place) -> bool
+    requires { length state.now.slots ≡ 2 }
+{
+    (state.slot(0) == first) & (state.slot(1) == second)
+}
+
+// Whether the passes pushed these records.
+fn pushed_are(state: &State<Pair>, first: &[Pair], second: &[Pair]) -> bool
+    requires { length state.now.pushed ≡ 2 }
+{
+    (state.pushed(0) == first) & (state.pushed(1) == second)
 }
 
 #[test]
 fn a_new_state_is_free_and_nothing_is_pushed(rt: HostRuntime) {
     let state = small(&rt, rt.alloc());
-    assert_eq!(rt; state.buffer(0), Place::Free);
-    assert_eq!(rt; state.slot(0), Place::Free);
-    assert_eq!(rt; state.slot(1), Place::Free);
-    assert_eq!(rt; state.pushed(0).len(), 0);
-    assert_eq!(rt; state.pushed(1).len(), 0);
+    assert!(rt; buffer_is(&state, Place::Free) & slots_are(&state, Place::Free, Place::Free));
+    assert!(rt; pushed_are(&state, &[], &[]));
 }
 
 #[test]
@@ -55,8 +73,7 @@ fn slots_are_drawn_in_order(rt: HostRuntime) {
         (Event::Draw { pass: 0, slot: 2 }, false),
     ];
     take(&rt, &mut state, &steps);
-    assert_eq!(rt; state.slot(0), Place::Held { pass: 1 });
-    assert_eq!(rt; state.slot(1), Place::Held { pass: 0 });
+    assert!(rt; slots_are(&state, Place::Held { pass: 1 }, Place::Held { pass: 0 }));
 }
 
 #[test]
@@ -68,19 +85,19 @@ fn a_buffer_is_given_by_who_took_it(rt: HostRuntime) {
         (Event::Give { pass: 0, buffer: 0 }, false),
     ];
     take(&rt, &mut state, &steps);
-    assert_eq!(rt; state.buffer(0), Place::Held { pass: 1 });
+    assert!(rt; buffer_is(&state, Place::Held { pass: 1 }));
     take(
         &rt,
         &mut state,
         &[(Event::Give { pass: 1, buffer: 0 }, true)],
     );
-    assert_eq!(rt; state.buffer(0), Place::Free);
+    assert!(rt; buffer_is(&state, Place::Free));
     take(
         &rt,
         &mut state,
         &[(Event::Take { pass: 0, buffer: 0 }, true)],
     );
-    assert_eq!(rt; state.buffer(0), Place::Held { pass: 0 });
+    assert!(rt; buffer_is(&state, Place::Held { pass: 0 }));
 }
 
 #[test]
@@ -94,39 +111,20 @@ fn a_slot_is_stored_once_by_who_drew_it(rt: HostRuntime) {
         (Event::Store { pass: 1, slot: 0 }, false),
     ];
     take(&rt, &mut state, &steps);
-    assert_eq!(rt; state.slot(0), Place::Stored { pass: 1 });
+    assert!(rt; slots_are(&state, Place::Stored { pass: 1 }, Place::Free));
+}
+
+// The legal step in which a pass pushes the pair with this key.
+fn push(pass: u32, key: u64) -> (Event<Pair>, bool) {
+    let item = pair(key);
+    (Event::Push { pass, item }, true)
 }
 
 #[test]
 fn a_push_is_read_back_by_its_own_pass(rt: HostRuntime) {
     let mut state = small(&rt, rt.alloc());
-    let (seven, nine, three) = (pair(7), pair(9), pair(3));
-    let steps = [
-        (
-            Event::Push {
-                pass: 1,
-                item: seven,
-            },
-            true,
-        ),
-        (
-            Event::Push {
-                pass: 0,
-                item: nine,
-            },
-            true,
-        ),
-        (
-            Event::Push {
-                pass: 1,
-                item: three,
-            },
-            true,
-        ),
-    ];
-    take(&rt, &mut state, &steps);
-    assert_eq!(rt; state.pushed(0), [nine].as_slice());
-    assert_eq!(rt; state.pushed(1), [seven, three].as_slice());
+    take(&rt, &mut state, &[push(1, 7), push(0, 9), push(1, 3)]);
+    assert!(rt; pushed_are(&state, &[pair(9)], &[pair(7), pair(3)]));
 }
 
 #[test]
@@ -144,9 +142,8 @@ fn numbers_out_of_range_are_illegal(rt: HostRuntime) {
         (Event::Store { pass: 0, slot: 2 }, false),
     ];
     take(&rt, &mut state, &steps);
-    assert_eq!(rt; state.buffer(0), Place::Free);
-    assert_eq!(rt; state.slot(0), Place::Free);
-    assert_eq!(rt; state.pushed(0).len(), 0);
+    assert!(rt; buffer_is(&state, Place::Free) & slots_are(&state, Place::Free, Place::Free));
+    assert!(rt; pushed_are(&state, &[], &[]));
 }
 
 #[test]

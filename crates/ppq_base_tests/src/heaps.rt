@@ -29,49 +29,52 @@ fn takes(rt: &impl Abort, heaps: &mut Heaps<Pair>, keys: &[u64])
     ensures { length heaps.new.heaps ≡ length heaps.old.heaps }
 {
     'taking: for key in keys {
-        assert_eq!(rt; heaps.try_push(pair(*key)), Ok(()));
+        assert!(rt; heaps.try_push(pair(*key)).is_ok());
     }
 }
 
-// Pops give the pairs with these keys in turn, and then none.
-fn gives(rt: &impl Abort, heaps: &mut Heaps<Pair>, keys: &[u64]) {
+// Whether the pair with this key is the least.
+fn has_least(heaps: &Heaps<Pair>, key: u64) -> bool {
+    heaps.min() == Some(pair(key))
+}
+
+// Whether pops give the pairs with these keys in turn, and then none.
+fn gives(heaps: &mut Heaps<Pair>, keys: &[u64]) -> bool {
+    let mut is_same = true;
     for key in keys {
-        assert_eq!(rt; heaps.min(), Some(pair(*key)));
-        assert_eq!(rt; heaps.pop(), Some(pair(*key)));
+        is_same &= has_least(heaps, *key) & (heaps.pop() == Some(pair(*key)));
     }
-    assert_eq!(rt; heaps.pop(), None);
-    assert_eq!(rt; heaps.min(), None);
+    is_same & heaps.pop().is_none() & heaps.min().is_none()
 }
 
 #[test]
 fn pushes_go_to_the_first_heap_alone(rt: HostRuntime) {
     let mut heaps = heaps_of(&rt, rt.alloc(), 3, 2);
-    assert!(rt; heaps.count() == 3 && heaps.len() == 0 && !heaps.is_full());
+    assert!(rt; (heaps.count() == 3) & (heaps.len() == 0) & !heaps.is_full());
     takes(&rt, &mut heaps, &[5, 3]);
-    assert!(rt; heaps.is_full() && heaps.len() == 2);
-    assert_eq!(rt; heaps.try_push(pair(1)), Err(pair(1)));
-    assert!(rt; heaps.share(0).len() == 2);
-    assert!(rt; heaps.share(1).is_empty() && heaps.share(2).is_empty());
-    assert_eq!(rt; heaps.min(), Some(pair(3)));
+    assert!(rt; heaps.is_full() & (heaps.len() == 2));
+    assert!(rt; heaps.try_push(pair(1)) == Err(pair(1)));
+    assert!(rt;
+        (heaps.share(0).len() == 2) & heaps.share(1).is_empty() & heaps.share(2).is_empty()
+    );
+    assert!(rt; has_least(&heaps, 3));
 }
 
 #[test]
 fn pops_take_the_least_of_all_heaps(rt: HostRuntime) {
     let made = heaps_of(&rt, rt.alloc(), 3, 3);
     let mut heaps = put(put(put(put(put(made, 0, 7), 1, 9), 2, 5), 1, 2), 0, 2);
-    assert!(rt; heaps.len() == 5);
-    gives(&rt, &mut heaps, &[2, 2, 5, 7, 9]);
+    assert!(rt; (heaps.len() == 5) & gives(&mut heaps, &[2, 2, 5, 7, 9]));
 }
 
 #[test]
 fn a_push_is_the_least_where_it_is_below_all_heaps(rt: HostRuntime) {
     let mut heaps = put(heaps_of(&rt, rt.alloc(), 2, 4), 1, 4);
-    takes(&rt, &mut heaps, &[6]);
-    assert_eq!(rt; heaps.min(), Some(pair(4)));
-    takes(&rt, &mut heaps, &[1]);
-    assert_eq!(rt; heaps.min(), Some(pair(1)));
-    takes(&rt, &mut heaps, &[9]);
-    gives(&rt, &mut heaps, &[1, 4, 6, 9]);
+    for (key, least) in [(6, 4), (1, 1), (9, 1)] {
+        takes(&rt, &mut heaps, &[key]);
+        assert!(rt; has_least(&heaps, least));
+    }
+    assert!(rt; gives(&mut heaps, &[1, 4, 6, 9]));
 }
 
 #[test]
@@ -80,11 +83,9 @@ fn a_share_is_sorted_and_emptied(rt: HostRuntime) {
     let mut heaps = put(put(put(put(made, 1, 6), 1, 1), 1, 3), 0, 4);
     heaps.sort_share(1);
     let sorted = [pair(1), pair(3), pair(6)];
-    assert_eq!(rt; heaps.share(1), sorted.as_slice());
-    assert_eq!(rt; heaps.min(), Some(pair(1)));
+    assert!(rt; (heaps.share(1) == sorted.as_slice()) & has_least(&heaps, 1));
     heaps.clear_share(1);
-    assert!(rt; heaps.share(1).is_empty() && heaps.len() == 1);
-    gives(&rt, &mut heaps, &[4]);
+    assert!(rt; heaps.share(1).is_empty() & (heaps.len() == 1) & gives(&mut heaps, &[4]));
 }
 
 #[test]
@@ -93,14 +94,14 @@ fn parts_that_are_put_together_are_the_heaps(rt: HostRuntime) {
     takes(&rt, &mut heaps, &[3]);
     let (parts, tree) = heaps.into_parts();
     assert!(rt; parts.len() == 2 && tree.leaves() == 2);
-    assert_eq!(rt; parts[0].as_slice(), [pair(3)].as_slice());
+    assert!(rt; parts[0].as_slice() == [pair(3)].as_slice());
     let mut heaps = Heaps::from_parts(parts, tree);
-    gives(&rt, &mut heaps, &[3, 8]);
+    assert!(rt; gives(&mut heaps, &[3, 8]));
 }
 
 #[test]
 fn one_heap_alone_gives_its_records_in_order(rt: HostRuntime) {
     let mut heaps = heaps_of(&rt, rt.alloc(), 1, 3);
     takes(&rt, &mut heaps, &[3, 1, 3]);
-    gives(&rt, &mut heaps, &[1, 3, 3]);
+    assert!(rt; gives(&mut heaps, &[1, 3, 3]));
 }

@@ -5,6 +5,8 @@ use ppq_outside::{
     Gate, Host, Library, MemLibrary, MemRack, MemSink, MemSlot, OpenGate, OutsideFault, Rack, Sink,
     Slot,
 };
+use std::alloc::Global;
+use std::process::Abort;
 use std::thread::join_mut;
 
 // Writes a slot, and says whether that went well.
@@ -34,9 +36,9 @@ where
     a & b
 }
 
-// Puts two pieces, and says whether both were taken.
-fn put_both<H: Host, O: Sink>(rt: &H, out: &mut O, one: &[u8], other: &[u8]) -> (bool, bool) {
-    (out.put(rt, one).is_ok(), out.put(rt, other).is_ok())
+// Whether a sink takes a piece, or fails, as is said.
+fn puts<H: Host, O: Sink>(rt: &H, out: &mut O, piece: &[u8], is_taken: bool) -> bool {
+    out.put(rt, piece).is_ok() == is_taken
 }
 
 #[test]
@@ -49,26 +51,24 @@ fn two_slots_are_written_beside_each_other(rt: HostRuntime) {
     let mut other = rack
         .block(&rt, alloc, "ppq.device", 1, 2)
         .expect(&rt, "a block");
-    assert_eq!(rt; one.size(), 2);
-    assert_eq!(rt; other.size(), 2);
+    assert!(rt; (one.size() == 2) & (other.size() == 2));
     assert!(rt; fill_both(&rt, &mut one, &mut other, &[5, 6]));
-    assert_eq!(rt; one.writes(), 1);
-    assert_eq!(rt; other.writes(), 1);
+    assert!(rt; (one.writes() == 1) & (other.writes() == 1));
 }
 
-// A read of a slot of two bytes, into nines: whether it went well, and the bytes.
-fn read_of<H: Host>(rt: &H, slot: &mut MemSlot) -> (bool, [u8; 2])
+// Whether a read of a slot of two bytes, into nines, leaves these bytes and goes well or not.
+fn reads<H: Host>(rt: &H, slot: &mut MemSlot, is_read: bool, bytes: [u8; 2]) -> bool
     requires { (⟦<MemSlot as Slot>⟧.shown slot.old).size ≡ 2 }
     ensures { (⟦<MemSlot as Slot>⟧.shown slot.new).size ≡ 2 }
 {
     let mut into = [9; 2];
     let read = slot.read(rt, &mut into).is_ok();
-    (read, into)
+    (read == is_read) & (into == bytes)
 }
 
-// The writes, reads and faults of a slot.
-fn calls_of(slot: &MemSlot) -> (u64, u64, u64) {
-    (slot.writes(), slot.reads(), slot.faults())
+// Whether a slot had so many writes, reads and faults.
+fn had(slot: &MemSlot, writes: u64, reads: u64, faults: u64) -> bool {
+    (slot.writes() == writes) & (slot.reads() == reads) & (slot.faults() == faults)
 }
 
 #[test]
@@ -76,12 +76,11 @@ fn a_slot_is_zeros_until_it_is_written(rt: HostRuntime) {
     let mut rack = MemRack::new();
     let made = rack.block(&rt, rt.alloc(), "ppq.device", 7, 2);
     let mut slot = made.expect(&rt, "a block");
-    assert_eq!(rt; read_of(&rt, &mut slot), (true, [0; 2]));
-    assert!(rt; fill(&rt, &mut slot, &[1, 2]));
-    assert_eq!(rt; read_of(&rt, &mut slot), (true, [1, 2]));
-    assert_eq!(rt; (slot.number(), slot.size()), (7, 2));
-    assert_eq!(rt; calls_of(&slot), (1, 2, 0));
-    assert_eq!(rt; rack.faults(), 0);
+    assert!(rt; reads(&rt, &mut slot, true, [0; 2]));
+    assert!(rt; fill(&rt, &mut slot, &[1, 2]) & reads(&rt, &mut slot, true, [1, 2]));
+    assert!(rt;
+        (slot.number() == 7) & (slot.size() == 2) & had(&slot, 1, 2, 0) & (rack.faults() == 0)
+    );
 }
 
 #[test]
@@ -91,12 +90,14 @@ fn a_planned_call_of_a_block_fails_and_changes_no_bytes(rt: HostRuntime) {
     let mut rack = MemRack::failing(calls, Vec::new(alloc));
     let made = rack.block(&rt, alloc, "ppq.device", 0, 2);
     let mut slot = made.expect(&rt, "a block");
-    assert!(rt; fill(&rt, &mut slot, &[1, 2]));
-    assert!(rt; !fill(&rt, &mut slot, &[3, 4]));
-    assert_eq!(rt; read_of(&rt, &mut slot), (false, [9; 2]));
-    assert_eq!(rt; read_of(&rt, &mut slot), (true, [1, 2]));
-    assert_eq!(rt; calls_of(&slot), (1, 1, 2));
-    assert_eq!(rt; rack.faults(), 0);
+    assert!(rt; fill(&rt, &mut slot, &[1, 2]) & !fill(&rt, &mut slot, &[3, 4]));
+    assert!(rt; reads(&rt, &mut slot, false, [9; 2]) & reads(&rt, &mut slot, true, [1, 2]));
+    assert!(rt; had(&slot, 1, 1, 2) & (rack.faults() == 0));
+}
+
+// Whether a device makes the block with this number.
+fn makes<H: Host>(rt: &H, alloc: Global, rack: &mut MemRack, number: u32) -> bool {
+    rack.block(rt, alloc, "ppq.device", number, 2).is_ok()
 }
 
 #[test]
@@ -104,104 +105,117 @@ fn a_planned_block_is_not_made(rt: HostRuntime) {
     let alloc = rt.alloc();
     let mut rack = MemRack::failing(Vec::new(alloc), vec![in alloc; 3].expect(&rt, "memory"));
     for number in 0..5 {
-        let made = rack.block(&rt, alloc, "ppq.device", number, 2);
-        assert_eq!(rt; made.is_ok(), number != 3);
+        assert!(rt; makes(&rt, alloc, &mut rack, number) == (number != 3));
     }
-    assert_eq!(rt; rack.made(), [0, 1, 2, 4].as_slice());
-    assert_eq!(rt; rack.faults(), 1);
+    assert!(rt; (rack.made() == [0, 1, 2, 4].as_slice()) & (rack.faults() == 1));
+}
+
+// A library to which files with these names and texts were added in turn.
+fn library_of(rt: &impl Abort, alloc: Global, files: &[(&str, &str)]) -> MemLibrary {
+    let mut library = MemLibrary::new(alloc);
+    for (name, text) in files {
+        library
+            .add(alloc, name, text.as_bytes())
+            .expect(rt, "memory");
+    }
+    library
+}
+
+// Whether a library says that the file with this name has this length.
+fn says<H: Host>(
+    rt: &H,
+    alloc: Global,
+    library: &mut MemLibrary,
+    name: &str,
+    length: Option<u64>,
+) -> bool {
+    library.length(rt, alloc, name) == Ok(length)
+}
+
+// Whether a read of a file from a place on gives so many bytes.
+fn gives<H: Host>(
+    rt: &H,
+    alloc: Global,
+    library: &mut MemLibrary,
+    from: (&str, u64),
+    into: &mut [u8],
+    count: usize,
+) -> bool {
+    library.read_at(rt, alloc, from.0, from.1, into) == Ok(count)
 }
 
 #[test]
 fn a_name_that_is_added_again_has_the_new_bytes(rt: HostRuntime) {
     let alloc = rt.alloc();
-    let mut library = MemLibrary::new(alloc);
-    library.add(alloc, "f", b"old").expect(&rt, "memory");
-    library.add(alloc, "g", b"other").expect(&rt, "memory");
-    library.add(alloc, "f", b"newer").expect(&rt, "memory");
-    assert_eq!(rt; library.length(&rt, alloc, "f"), Ok(Some(5)));
-    assert_eq!(rt; library.length(&rt, alloc, "g"), Ok(Some(5)));
-    assert_eq!(rt; library.length(&rt, alloc, "h"), Ok(None));
+    let files = [("f", "old"), ("g", "other"), ("f", "newer")];
+    let mut library = library_of(&rt, alloc, &files);
+    assert!(rt; says(&rt, alloc, &mut library, "f", Some(5)));
+    assert!(rt;
+        says(&rt, alloc, &mut library, "g", Some(5)) & says(&rt, alloc, &mut library, "h", None)
+    );
     let mut into = [0; 4];
-    assert_eq!(rt; library.read_at(&rt, alloc, "f", 0, &mut into), Ok(4));
-    assert_eq!(rt; into, *b"newe");
-    assert_eq!(rt; library.read_at(&rt, alloc, "f", 3, &mut into), Ok(2));
-    assert_eq!(rt; into, *b"erwe");
-    for (name, at) in [("f", 5), ("f", u64::MAX), ("h", 0)] {
-        assert_eq!(rt; library.read_at(&rt, alloc, name, at, &mut into), Ok(0));
+    assert!(rt; gives(&rt, alloc, &mut library, ("f", 0), &mut into, 4) & (into == *b"newe"));
+    assert!(rt; gives(&rt, alloc, &mut library, ("f", 3), &mut into, 2) & (into == *b"erwe"));
+    for from in [("f", 5), ("f", u64::MAX), ("h", 0)] {
+        assert!(rt; gives(&rt, alloc, &mut library, from, &mut into, 0));
     }
-    assert_eq!(rt; library.faults(), 0);
+    assert!(rt; library.faults() == 0);
 }
 
 #[test]
 fn a_file_that_is_shrunk_keeps_its_length_and_ends_early(rt: HostRuntime) {
     let alloc = rt.alloc();
-    let mut library = MemLibrary::new(alloc);
-    library
-        .add(alloc, "f", b"0123456789abcdefghijklmnopqrstuv")
-        .expect(&rt, "memory");
-    library.add(alloc, "g", b"other").expect(&rt, "memory");
-    library.shrink("f", 16);
-    assert_eq!(rt; library.length(&rt, alloc, "f"), Ok(Some(32)));
-    let mut into = [0; 20];
-    assert_eq!(rt; library.read_at(&rt, alloc, "f", 16, &mut into), Ok(0));
-    assert_eq!(rt; library.read_at(&rt, alloc, "f", 0, &mut into), Ok(16));
-    assert_eq!(rt; into, *b"0123456789abcdef\0\0\0\0");
-    assert_eq!(rt; library.length(&rt, alloc, "g"), Ok(Some(5)));
-    assert_eq!(rt; library.read_at(&rt, alloc, "g", 0, &mut into), Ok(5));
-    library.shrink("f", 40);
-    assert_eq!(rt; library.read_at(&rt, alloc, "f", 31, &mut into), Ok(1));
-    assert_eq!(rt; library.faults(), 0);
+    let files = [("f", "01234567"), ("g", "other")];
+    let mut library = library_of(&rt, alloc, &files);
+    library.shrink("f", 4);
+    let mut into = [0; 6];
+    assert!(rt; says(&rt, alloc, &mut library, "f", Some(8)));
+    assert!(rt; gives(&rt, alloc, &mut library, ("f", 4), &mut into, 0));
+    assert!(rt; gives(&rt, alloc, &mut library, ("f", 0), &mut into, 4) & (into == *b"0123\0\0"));
+    assert!(rt; says(&rt, alloc, &mut library, "g", Some(5)));
+    assert!(rt; gives(&rt, alloc, &mut library, ("g", 0), &mut into, 5));
+    library.shrink("f", 10);
+    assert!(rt; gives(&rt, alloc, &mut library, ("f", 7), &mut into, 1));
+    assert!(rt; library.faults() == 0);
 }
 
 #[test]
 fn calls_of_both_kinds_are_numbered_together(rt: HostRuntime) {
     let alloc = rt.alloc();
-    let mut library = MemLibrary::new(alloc);
-    library.add(alloc, "f", b"abc").expect(&rt, "memory");
+    let mut library = library_of(&rt, alloc, &[("f", "abc")]);
     library.fail_call(1).expect(&rt, "memory");
     library.fail_call(3).expect(&rt, "memory");
     let mut into = [0; 3];
-    let failed = Err(OutsideFault::Failed);
-    assert_eq!(rt; library.length(&rt, alloc, "f"), failed);
-    assert_eq!(rt; library.length(&rt, alloc, "f"), Ok(Some(3)));
-    assert_eq!(rt;
-        library.read_at(&rt, alloc, "f", 0, &mut into).is_err(),
-        true
-    );
-    assert_eq!(rt; library.read_at(&rt, alloc, "f", 0, &mut into), Ok(3));
-    assert_eq!(rt; library.faults(), 2);
+    assert!(rt; library.length(&rt, alloc, "f") == Err(OutsideFault::Failed));
+    assert!(rt; says(&rt, alloc, &mut library, "f", Some(3)));
+    assert!(rt; library.read_at(&rt, alloc, "f", 0, &mut into).is_err());
+    assert!(rt; gives(&rt, alloc, &mut library, ("f", 0), &mut into, 3));
+    assert!(rt; library.faults() == 2);
+}
+
+// A sink with this room whose put with this number takes so many bytes and fails.
+fn failing(rt: &impl Abort, alloc: Global, room: usize, put: (u64, usize)) -> MemSink {
+    let planned = vec![in alloc; put].expect(rt, "memory");
+    MemSink::failing(alloc, room, planned).expect(rt, "memory")
 }
 
 #[test]
 fn a_planned_put_takes_a_part_and_fails_though_its_piece_fits(rt: HostRuntime) {
-    let alloc = rt.alloc();
-    let mut first = MemSink::failing(
-        alloc,
-        1_048_576,
-        vec![in alloc; (1, 3)].expect(&rt, "memory"),
-    )
-    .expect(&rt, "memory");
-    let taken = put_both(&rt, &mut first, b"empty\n", b"7 7\n");
-    assert_eq!(rt; taken, (false, true));
-    assert_eq!(rt; first.bytes(), b"emp7 7\n".as_slice());
-    assert_eq!(rt; first.faults(), 1);
-    let mut second = MemSink::failing(
-        alloc,
-        100,
-        vec![in alloc; (2, 9)].expect(&rt, "memory"),
-    ).expect(&rt, "memory");
-    let taken = put_both(&rt, &mut second, b"ab", b"cd");
-    assert_eq!(rt; taken, (true, false));
-    assert_eq!(rt; second.bytes(), b"abcd".as_slice());
+    let mut first = failing(&rt, rt.alloc(), 1_048_576, (1, 3));
+    assert!(rt; puts(&rt, &mut first, b"empty\n", false) & puts(&rt, &mut first, b"7 7\n", true));
+    assert!(rt; (first.bytes() == b"emp7 7\n".as_slice()) & (first.faults() == 1));
+    let mut second = failing(&rt, rt.alloc(), 100, (2, 9));
+    assert!(rt; puts(&rt, &mut second, b"ab", true) & puts(&rt, &mut second, b"cd", false));
+    assert!(rt; second.bytes() == b"abcd".as_slice());
 }
 
 #[test]
 fn a_piece_past_the_room_is_cut_and_fails(rt: HostRuntime) {
     let mut sink = MemSink::new(rt.alloc(), 4).expect(&rt, "memory");
-    assert_eq!(rt; put_both(&rt, &mut sink, b"abc", b"def"), (true, false));
-    assert_eq!(rt; sink.bytes(), b"abcd".as_slice());
-    assert_eq!(rt; put_both(&rt, &mut sink, b"", b"e"), (true, false));
-    assert_eq!(rt; sink.faults(), 2);
+    assert!(rt; puts(&rt, &mut sink, b"abc", true) & puts(&rt, &mut sink, b"def", false));
+    assert!(rt; sink.bytes() == b"abcd".as_slice());
+    assert!(rt; puts(&rt, &mut sink, b"", true) & puts(&rt, &mut sink, b"e", false));
+    assert!(rt; sink.faults() == 2);
 }
 
 #[test]

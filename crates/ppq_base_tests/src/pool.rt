@@ -1,10 +1,10 @@
-ghost use Rattle.std.specs.Prelude.{◌≡◌, ◌-◌, ◌<◌, ℕ, IfOk};
+ghost use Rattle.std.specs.Prelude.{◌≡◌, ◌-◌, ◌<◌, ℕ};
 ghost use Rattle.std.specs.Thread.{IsSync};
 ghost use Rattle.ppq_pool.specs.Seats.{IsSeatOf, IsOnly, count_of};
 
 use ppq_pool::{Pool, PoolSeat, Shaped, looks_are_true, steps_are_events};
-use std::alloc::{AllocError, Global};
-use std::test::Fail;
+use std::alloc::Global;
+use std::process::Abort;
 use std::thread::{Threads, join};
 
 #[derive(Debug, Drop)]
@@ -21,24 +21,33 @@ impl Shaped for Tile {
 }
 
 // A pool of tiles with the values from 10 on.
-fn pool_of(alloc: Global, count: u64) -> Result<(Pool<Tile>, PoolSeat<Tile>), AllocError>
+fn pool_of(rt: &impl Abort, alloc: Global, count: u64) -> (Pool<Tile>, PoolSeat<Tile>)
     requires { count < 1000 }
-    ensures pool { IfOk result (λ r. IsSeatOf r.0 r.1 × (count_of r.0 ≡ count)) }
-    ensures only { IfOk result (λ r. IsOnly r.1.hand) }
+    ensures pool { IsSeatOf result.0 result.1 × (count_of result.0 ≡ count) }
+    ensures only { IsOnly result.1.hand }
 {
     let mut tiles = Vec::new(alloc);
     for i in 0..count {
-        tiles.push(Tile { value: 10 + i })?;
+        tiles.push(Tile { value: 10 + i }).expect(rt, "memory");
     }
     match Pool::new(alloc, tiles) {
-        Ok(both) => Ok(both),
-        Err(_) => Err(AllocError),
+        Ok(both) => both,
+        Err(_) => panic!(rt; "memory"),
     }
 }
 
+// Whether these are tiles with these values, in their order.
+fn are(tiles: &[Tile], values: &[u64]) -> bool {
+    let mut is_same = tiles.len() == values.len();
+    for (tile, value) in tiles.iter().zip(values) {
+        is_same &= tile.value == *value;
+    }
+    is_same
+}
+
 #[test]
-fn three_takes_of_two_tiles_give_both_and_then_none(rt: HostRuntime) -> Result<(), Fail> {
-    let (pool, mut seat) = pool_of(rt.alloc(), 2)?;
+fn three_takes_of_two_tiles_give_both_and_then_none(rt: HostRuntime) {
+    let (pool, mut seat) = pool_of(&rt, rt.alloc(), 2);
     let (Some((a, x)), Some((b, y)), None) = (
         pool.take(&mut seat),
         pool.take(&mut seat),
@@ -46,32 +55,30 @@ fn three_takes_of_two_tiles_give_both_and_then_none(rt: HostRuntime) -> Result<(
     ) else {
         panic!(rt; "two were free, and no third")
     };
-    assert!(rt; x.shape() == 4 && y.shape() == 4);
-    assert!(rt; a == 0 && x.value == 10 && b == 1 && y.value == 11);
+    assert!(rt; (x.shape() == 4) & (y.shape() == 4) & (x.value == 10) & (y.value == 11));
+    assert!(rt; (a == 0) & (b == 1));
     pool.give(&mut seat, a, x);
     let Some((number, x)) = pool.take(&mut seat) else {
         panic!(rt; "number 0 was free")
     };
-    assert!(rt; number == 0 && x.value == 10);
+    assert!(rt; (number == 0) & (x.value == 10));
     let left = pool.close(seat);
     assert!(rt; left.is_empty());
-    Ok(())
 }
 
 #[test]
-fn an_empty_pool_has_nothing_to_take(rt: HostRuntime) -> Result<(), Fail> {
-    let (pool, mut seat) = pool_of(rt.alloc(), 0)?;
+fn an_empty_pool_has_nothing_to_take(rt: HostRuntime) {
+    let (pool, mut seat) = pool_of(&rt, rt.alloc(), 0);
     assert!(rt; pool.take(&mut seat).is_none());
     let other = pool.split(&mut seat);
     pool.join(&mut seat, other);
     let left = pool.close(seat);
     assert!(rt; left.is_empty());
-    Ok(())
 }
 
 #[test]
-fn numbers_are_given_back_in_any_order(rt: HostRuntime) -> Result<(), Fail> {
-    let (pool, mut seat) = pool_of(rt.alloc(), 3)?;
+fn numbers_are_given_back_in_any_order(rt: HostRuntime) {
+    let (pool, mut seat) = pool_of(&rt, rt.alloc(), 3);
     let (Some((a, x)), Some((b, y)), Some((c, z))) = (
         pool.take(&mut seat),
         pool.take(&mut seat),
@@ -79,30 +86,23 @@ fn numbers_are_given_back_in_any_order(rt: HostRuntime) -> Result<(), Fail> {
     ) else {
         panic!(rt; "all were free")
     };
-    assert!(rt; a == 0 && b == 1 && c == 2);
+    assert!(rt; (a == 0) & (b == 1) & (c == 2));
     pool.give(&mut seat, b, y);
     pool.give(&mut seat, c, z);
     pool.give(&mut seat, a, x);
     let left = pool.close(seat);
-    assert!(rt;
-        left.len() == 3 && left[0].value == 10 && left[1].value == 11 && left[2].value == 12
-    );
-    Ok(())
+    assert!(rt; are(&left, &[10, 11, 12]));
 }
 
 #[test]
-fn close_gives_what_the_seat_does_not_hold(rt: HostRuntime) -> Result<(), Fail> {
-    let (pool, mut seat) = pool_of(rt.alloc(), 4)?;
+fn close_gives_what_the_seat_does_not_hold(rt: HostRuntime) {
+    let (pool, mut seat) = pool_of(&rt, rt.alloc(), 4);
     let (Some((a, x)), Some((b, y))) = (pool.take(&mut seat), pool.take(&mut seat)) else {
         panic!(rt; "two were free")
     };
     pool.give(&mut seat, a, x);
     let left = pool.close(seat);
-    assert!(rt; b == 1 && y.value == 11);
-    assert!(rt;
-        left.len() == 3 && left[0].value == 10 && left[1].value == 12 && left[2].value == 13
-    );
-    Ok(())
+    assert!(rt; (b == 1) & (y.value == 11) & are(&left, &[10, 12, 13]));
 }
 
 // Takes and gives back, so often.
@@ -149,26 +149,24 @@ fn work_beside<R: Threads + Sync>(
     seat
 }
 
-fn left_after<R: Threads + Sync>(
+// What a pool of three tiles has when so many more seats worked beside the first.
+fn left_after<R: Threads + Sync + Abort>(
     rt: &R,
     alloc: Global,
     others: u32,
     turns: u32,
-) -> Result<Vec<Tile>, AllocError> {
-    let (pool, seat) = pool_of(alloc, 3)?;
+) -> Vec<Tile> {
+    let (pool, seat) = pool_of(rt, alloc, 3);
     let seat = work_beside(rt, &pool, seat, others, turns);
-    Ok(pool.close(seat))
+    pool.close(seat)
 }
 
 #[test]
-fn four_and_sixty_four_seats_share_three_tiles(rt: HostRuntime) -> Result<(), Fail> {
+fn four_and_sixty_four_seats_share_three_tiles(rt: HostRuntime) {
     for (others, turns) in [(3, 10000), (63, 200)] {
-        let left = left_after(&rt, rt.alloc(), others, turns)?;
-        assert!(rt;
-            left.len() == 3 && left[0].value == 10 && left[1].value == 11 && left[2].value == 12
-        );
+        let left = left_after(&rt, rt.alloc(), others, turns);
+        assert!(rt; are(&left, &[10, 11, 12]));
     }
-    Ok(())
 }
 
 #[test]
