@@ -159,6 +159,30 @@ pub(crate) struct Task {
     pub(crate) workers: u32,
 }
 
+// Adds the records of a task to a queue, and turns them over once.
+fn fill_and_turn<H: Host>(
+    rt: &H,
+    queue: &mut Queue<FileSlot, Pair>,
+    task: Task,
+) -> io::Result<Removed>
+where
+    H::Dir: Send,
+{
+    let number = fill(rt, queue, task.seed, task.count)?;
+    turn_over(rt, queue, number, task.count)
+}
+
+// An empty queue over a device file.
+fn open<H: Host>(
+    rt: &H,
+    alloc: Global,
+    device: &str,
+    sizes: Sizes,
+) -> io::Result<Queue<FileSlot, Pair>> {
+    let slots = make_slots(rt, alloc, &mut FileRack::new(), device, sizes)?;
+    Queue::open(alloc, sizes, slots).map_err(|_| out_of_memory())
+}
+
 // Holds records in a queue over a device file, and turns them over once.
 pub(crate) fn hold<H: Host>(
     rt: &H,
@@ -170,19 +194,11 @@ pub(crate) fn hold<H: Host>(
 where
     H::Dir: Send,
 {
-    let Task {
-        seed,
-        count,
-        workers,
-    } = task;
-    let Some(sizes) = sizes_for(shape, count, workers) else {
+    let Some(sizes) = sizes_for(shape, task.count, task.workers) else {
         return Err(io::Error::from(ErrorKind::InvalidInput));
     };
-    let mut rack = FileRack::new();
-    let slots = make_slots(rt, alloc, &mut rack, device, sizes)?;
-    let Ok(mut queue) = Queue::open(alloc, sizes, slots) else {
-        return Err(out_of_memory());
-    };
-    let number = fill(rt, &mut queue, seed, count)?;
-    turn_over(rt, &mut queue, number, count)
+    let mut queue = open(rt, alloc, device, sizes)?;
+    let removed = fill_and_turn(rt, &mut queue, task);
+    let _slots = queue.close();
+    removed
 }

@@ -21,17 +21,23 @@ pub(crate) fn out_of_memory() -> io::Error {
     io::Error::from(ErrorKind::OutOfMemory)
 }
 
+// So many records, all the same.
+pub(crate) fn room(alloc: Global, records: u64) -> io::Result<Vec<Pair>> {
+    let none = Pair { key: 0, value: 0 };
+    Ok(vec![in alloc; none; records as usize]?)
+}
+
 // A sorted run of so many pairs. The numbers are Knuth's MMIX sequence from the seed; the key is a
 // number mixed, the value the number itself.
 fn run_of(alloc: Global, seed: u64, size: u64) -> io::Result<Vec<Pair>> {
-    let mut items = Vec::with_capacity(alloc, size as usize)?;
+    let mut items = room(alloc, size)?;
     let mut number = seed;
-    for _item in 0..size {
+    for item in items.iter_mut() {
         number = number
             .wrapping_mul(6364136223846793005)
             .wrapping_add(1442695040888963407);
-        let key = number ^ (number >> 29);
-        items.push(Pair { key, value: number })?;
+        item.key = number ^ (number >> 29);
+        item.value = number;
     }
     sort(items.as_mut_slice());
     Ok(items)

@@ -1,9 +1,9 @@
 //! Times the library's own calls on this machine.
 //!
 //! With no argument it makes small merges and says whether they are those of a sort, and holds some
-//! records in a queue by one worker and by four, so that it prints the same on every machine. With the argument `merge` it times large ones: 8, 64 and 512
-//! runs of pairs from memory, by one worker and by four. `bench/merge` runs it beside a loser tree in
-//! C++ over the same records.
+//! records in a queue by one worker and by four, so that it prints the same on every machine. With the
+//! argument `merge` it times large ones: 8, 64 and 512 runs of pairs from memory, by one worker and by
+//! four. `bench/merge` runs it beside a loser tree in C++ over the same records.
 //!
 //! With the arguments `hold SEED COUNT WORKERS DEVICE` it holds so many records in a queue over a device
 //! file, and COUNT times removes the least and adds one with a greater key. It prints the count, the first
@@ -60,20 +60,49 @@ const SEED: u64 = 7;
 // The device file of a small queue.
 const DEVICE: &str = "ppq_bench.device";
 
+// Makes a small merge of so many runs, and says whether it is that of a sort.
+fn check_merge<H: Threads + Sync>(
+    rt: &H,
+    alloc: Global,
+    runs: u32,
+    workers: u32,
+) -> io::Result<&'static str> {
+    let load = Load::new(alloc, runs, FEW)?;
+    let is_sorted = as_sorted(rt, alloc, &load, workers)?;
+    Ok(if is_sorted { "as sorted" } else { "WRONG" })
+}
+
 // Makes the small merges, and says of each whether it is that of a sort.
 fn check_merges<H: Threads + Sync + Print>(rt: &H, alloc: Global) -> io::Result<()> {
     for runs in RUNS {
-        let load = Load::new(alloc, runs, FEW)?;
         for workers in WORKERS {
-            let answer = if as_sorted(rt, alloc, &load, workers)? {
-                "as sorted"
-            } else {
-                "WRONG"
-            };
+            let answer = check_merge(rt, alloc, runs, workers)?;
             println!(rt; "{runs} runs by {workers}: {answer}")?;
         }
     }
     Ok(())
+}
+
+// The picoseconds a record that merging a load takes, by one worker and by four.
+fn times_of<H: Threads + Sync + Clock>(
+    rt: &H,
+    alloc: Global,
+    load: &Load,
+) -> io::Result<(u64, u64)> {
+    let one = picoseconds(rt, alloc, load, 1)?;
+    let four = picoseconds(rt, alloc, load, 4)?;
+    Ok((one, four))
+}
+
+// Times large merges of so many runs, as `times_of` does.
+fn time_merges<H: Threads + Sync + Clock>(
+    rt: &H,
+    alloc: Global,
+    runs: u32,
+    records: u64,
+) -> io::Result<(u64, u64)> {
+    let load = Load::new(alloc, runs, records)?;
+    times_of(rt, alloc, &load)
 }
 
 // Times large merges: for each number of records and of runs the picoseconds a record, by one worker
@@ -81,9 +110,7 @@ fn check_merges<H: Threads + Sync + Print>(rt: &H, alloc: Global) -> io::Result<
 fn time<H: Threads + Sync + Clock + Print>(rt: &H, alloc: Global) -> io::Result<()> {
     for records in SIZES {
         for runs in RUNS {
-            let load = Load::new(alloc, runs, records)?;
-            let one = picoseconds(rt, alloc, &load, 1)?;
-            let four = picoseconds(rt, alloc, &load, 4)?;
+            let (one, four) = time_merges(rt, alloc, runs, records)?;
             println!(rt; "{records} {runs} {one} {four}")?;
         }
     }

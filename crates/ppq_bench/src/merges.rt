@@ -1,5 +1,5 @@
 //! Merges of a load.
-use crate::load::{Load, out_of_memory};
+use crate::load::{Load, out_of_memory, room};
 use ppq_queue::{Bench, Listing, Lists, OpenGate, Pair, merge_workers, size_of, sort};
 use std::alloc::Global;
 use std::io;
@@ -9,15 +9,6 @@ use std::time::Instant;
 
 // How many records are merged in all to time one merge, again and again; the least time counts.
 const MERGED: u64 = 67108864;
-
-// Room for so many records.
-fn room(alloc: Global, records: u64) -> io::Result<Vec<Pair>> {
-    let mut out = Vec::with_capacity(alloc, records as usize)?;
-    for _record in 0..records {
-        out.push(Pair { key: 0, value: 0 })?;
-    }
-    Ok(out)
-}
 
 // A bench for the runs of a load.
 fn bench_for(alloc: Global, load: &Load, workers: u32) -> io::Result<Bench<Pair>> {
@@ -40,6 +31,28 @@ fn merge_all<H: Threads + Sync>(
     true
 }
 
+// Merges all records of a load by so many workers; says whether there were so many.
+fn merge_by<H: Threads + Sync>(
+    rt: &H,
+    alloc: Global,
+    load: &Load,
+    workers: u32,
+    out: &mut [Pair],
+) -> io::Result<bool> {
+    let mut bench = bench_for(alloc, load, workers)?;
+    Ok(merge_all(rt, load, &mut bench, out))
+}
+
+// All records of a load, sorted.
+fn sorted(alloc: Global, load: &Load) -> io::Result<Vec<Pair>> {
+    let mut all = Vec::with_capacity(alloc, load.size as usize)?;
+    for list in &load.lists {
+        all.extend_from_slice(list.as_slice())?;
+    }
+    sort(all.as_mut_slice());
+    Ok(all)
+}
+
 // Whether the merge of a load by so many workers is what a sort of all its records gives.
 pub(crate) fn as_sorted<H: Threads + Sync>(
     rt: &H,
@@ -47,16 +60,27 @@ pub(crate) fn as_sorted<H: Threads + Sync>(
     load: &Load,
     workers: u32,
 ) -> io::Result<bool> {
+    let all = sorted(alloc, load)?;
     let mut out = room(alloc, load.size)?;
-    let mut all = Vec::with_capacity(alloc, out.len())?;
-    for list in &load.lists {
-        for item in list.as_slice() {
-            all.push(*item)?;
-        }
+    let is_whole = merge_by(rt, alloc, load, workers, out.as_mut_slice())?;
+    Ok(is_whole & (out.as_slice() == all.as_slice()))
+}
+
+// The least time that a merge of a load takes with a bench, in picoseconds a record.
+fn least_time<H: Threads + Sync + Clock>(
+    rt: &H,
+    load: &Load,
+    bench: &mut Bench<Pair>,
+    out: &mut [Pair],
+) -> io::Result<u64> {
+    let mut best = u64::MAX;
+    for _turn in 0..MERGED / load.size.max(1) {
+        let start = Instant::now(rt)?;
+        merge_all(rt, load, bench, out);
+        let took = start.elapsed(rt)?.as_nanos().min(u128::from(u64::MAX)) as u64;
+        best = best.min(took);
     }
-    sort(all.as_mut_slice());
-    let mut bench = bench_for(alloc, load, workers)?;
-    Ok(merge_all(rt, load, &mut bench, out.as_mut_slice()) && out.as_slice() == all.as_slice())
+    Ok(best.saturating_mul(1000) / load.size.max(1))
 }
 
 // The least time that merging a load by so many workers took, in picoseconds a record.
@@ -68,12 +92,5 @@ pub(crate) fn picoseconds<H: Threads + Sync + Clock>(
 ) -> io::Result<u64> {
     let mut out = room(alloc, load.size)?;
     let mut bench = bench_for(alloc, load, workers)?;
-    let mut best = u64::MAX;
-    for _turn in 0..MERGED / load.size.max(1) {
-        let start = Instant::now(rt)?;
-        merge_all(rt, load, &mut bench, out.as_mut_slice());
-        let took = start.elapsed(rt)?.as_nanos().min(u128::from(u64::MAX)) as u64;
-        best = best.min(took);
-    }
-    Ok(best.saturating_mul(1000) / load.size.max(1))
+    least_time(rt, load, &mut bench, out.as_mut_slice())
 }

@@ -48,36 +48,51 @@ fn make_blocks<H: Host, K: Rack>(
     Ok(blocks)
 }
 
+// Opens a queue over the blocks of a device file.
+fn open<H: Host>(rt: &H, alloc: Global) -> Result<Events, Fault> {
+    let sizes = Sizes::new(2, 16, 1, 2048, 330).unwrap();
+    let blocks = make_blocks(rt, alloc, &mut FileRack::new(), sizes).map_err(Fault::Device)?;
+    Queue::open(alloc, sizes, blocks).map_err(|refused| Fault::Open(refused.1))
+}
+
 // Lets the machine of this number begin a piece at this time; it takes 1 to 256 ticks.
-fn begin<H: Host>(rt: &H, events: &mut Events, time: u64, number: u64) -> Result<(), Fault>
+fn begin<H: Host>(rt: &H, events: &mut Events, time: u64, number: u64) -> Result<(), QueueFault>
 where
     H::Dir: Send,
 {
     let ticks = 1 + ((time ^ number).wrapping_mul(0x9E37_79B9_7F4A_7C15) >> 56);
     let key = time.saturating_add(ticks);
     let pushed = events.push(rt, Pair { key, value: number }, &OpenGate);
-    pushed.map_err(|refused| Fault::Queue(refused.1))
+    pushed.map_err(|refused| refused.1)
 }
 
 // Runs the machines until so many pieces are made, and says when that was.
+fn make_pieces<H: Host>(rt: &H, events: &mut Events) -> Result<u64, QueueFault>
+where
+    H::Dir: Send,
+{
+    for number in 0..MACHINES {
+        begin(rt, events, 0, number)?;
+    }
+    let mut clock = 0;
+    for _piece in 0..PIECES {
+        if let Some(done) = events.pop(rt, &OpenGate)? {
+            clock = done.key;
+            begin(rt, events, clock, done.value)?;
+        }
+    }
+    Ok(clock)
+}
+
+// Runs the simulation over a queue that is closed whatever came, and prints its end.
 fn simulate<H: Host>(rt: &H, alloc: Global) -> Result<(), Fault>
 where
     H::Dir: Send,
 {
-    let sizes = Sizes::new(2, 16, 1, 2048, 330).unwrap();
-    let blocks = make_blocks(rt, alloc, &mut FileRack::new(), sizes).map_err(Fault::Device)?;
-    let mut events = Queue::open(alloc, sizes, blocks).map_err(|refused| Fault::Open(refused.1))?;
-    for number in 0..MACHINES {
-        begin(rt, &mut events, 0, number)?;
-    }
-    let mut clock = 0;
-    for _piece in 0..PIECES {
-        if let Some(done) = events.pop(rt, &OpenGate).map_err(Fault::Queue)? {
-            clock = done.key;
-            begin(rt, &mut events, clock, done.value)?;
-        }
-    }
+    let mut events = open(rt, alloc)?;
+    let ended = make_pieces(rt, &mut events);
     let written = events.close().iter().any(|block| block.writes() > 0);
+    let clock = ended.map_err(Fault::Queue)?;
     let said = println!(rt; "{PIECES} pieces at {clock}, device used: {written}");
     said.map_err(|_| Fault::Print)
 }
