@@ -1,5 +1,6 @@
 -- What a run has that has no record left.
-use Rattle.std.proofs.Common.{◌≡◌, ℕ, zero, suc, true, false, true≢false, eqb, ◌<◌, List, [], ◌∷◌, ◌++◌, length, Option, Some, IsNone, ◌↔◌, All, subst, refl, ap, ap₂, arith, length-append}
+use Rattle.std.proofs.Common.{◌≡◌, ℕ, ◌<◌, List, [], ◌∷◌, ◌++◌, length, Option, Some, IsNone, ◌↔◌, All, subst, refl, ap, ap₂, arith, length-append}
+use Rattle.std.proofs.lemmas.List.{nil_from_length}
 use Rattle.std.proofs.lemmas.List.Sums.{sum_by-cons, sum_by-append}
 use Rattle.ppq_fetch.specs.ppq_outside.Shown.{Shown}
 use Rattle.ppq_fetch.specs.ppq_array.declared.berth.DeviceBlock.{DeviceBlock}
@@ -8,13 +9,9 @@ use Rattle.ppq_fetch.specs.ppq_array.External.{External, IsLabelled, counts, siz
 use Rattle.ppq_fetch.proofs.ppq_array.Items.{no_items, no_live}
 use Rattle.ppq_extract.specs.Emptied.{IsEmptyRun, IsEmptyArray}
 
-nothing : {X : Type 0} (xs : List X) → length xs ≡ 0 → xs ≡ []
-nothing [] e = refl
-nothing (x ∷ xs) e = absurd (omega (arith, e))
-
 module _ {R : Type 0} where
   pub empty_run : (run : Run R) → IsRun run → run.spent ≡ [] → length (items_of run) ≡ 0 → IsEmptyRun run
-  empty_run run is unspent none = record { live = no_live run.live run.taken is.taken (nothing (items_of run) none); spent = unspent }
+  empty_run run is unspent none = record { live = no_live run.live run.taken is.taken (nil_from_length (items_of run) none); spent = unspent }
 
   pub no_items_in : (run : Run R) → IsEmptyRun run → items_of run ≡ []
   no_items_in run is = no_items run.live run.taken is.live
@@ -49,11 +46,3 @@ module _ {S R : Type 0} where
 
   pub some_loaded : (a : External S R) → 0 < length (items_of a.loaded) → 0 < size_of a
   some_loaded a some = omega arith
-
-pub not_zero : (n : ℕ) → eqb n 0 ≡ false → 0 < n
-not_zero zero e = absurd (true≢false e)
-not_zero (suc n) e = omega arith
-
-pub is_zero : (n : ℕ) → eqb n 0 ≡ true → n ≡ 0
-is_zero zero e = refl
-is_zero (suc n) e = grind (arith, e)

@@ -1,8 +1,8 @@
 -- A refill: what the fetch left, without the runs that have no record left.
-use Rattle.std.proofs.Common.{◌≡◌, ℕ, ◌<◌, ◌≤◌, List, [], ◌∷◌, ◌++◌, length, get_or, All, Option, take, drop, sym, ap, subst, ◌∙◌, arith}
-use Rattle.std.proofs.Math.Seq.{take-append_seam}
+use Rattle.std.proofs.Common.{◌≡◌, ℕ, ◌-◌, ◌<◌, ◌≤◌, List, [], ◌∷◌, ◌++◌, length, get_or, All, Option, take, drop, sym, ap, subst, ◌∙◌, arith}
 use Rattle.std.specs.Prelude.{sum_by}
 use Rattle.std.specs.List.{AllZip}
+use Rattle.std.proofs.lemmas.List.{take_at}
 use Rattle.std.proofs.lemmas.List.Sums.{sum_by-cons}
 use Rattle.std.proofs.lemmas.List.Elements.{AllZip-get_or, length_all_zip, Contains-get_or}
 use Rattle.std.specs.declared.cmp.Ordering.{Ordering}
@@ -12,9 +12,9 @@ use Rattle.ppq_fetch.specs.ppq_array.Run.{Run, items_of}
 use Rattle.ppq_fetch.specs.ppq_array.External.{External, size_of}
 use Rattle.ppq_fetch.specs.ppq_array.Supply.{Stock}
 use Rattle.ppq_fetch.specs.ppq_array.Holdings.{external_slots}
+use Rattle.ppq_fetch.specs.Fetching.{State, state, blocks_in, slots_in, source_items, SourcesTell, RunsRise, WentOn, StockWentOn, Fetched}
 use Rattle.ppq_fetch.specs.ppq_record.Bag.{front}
 use Rattle.ppq_fetch.specs.Taking.{wanted}
-use Rattle.ppq_fetch.specs.Fetching.{State, state, blocks_in, slots_in, source_items, SourcesTell, RunsRise, WentOn, Fetched}
 use Rattle.ppq_extract.specs.Emptied.{LostOnly, IsEmptyRun, IsEmptyArray}
 use Rattle.ppq_extract.specs.Extracted.{ComesFrom, Refilled}
 use Rattle.ppq_extract.proofs.Removing.{sum_at_most, length_lost, All_lost}
@@ -54,16 +54,7 @@ module _ {S R : Type 0} (cmp : R → R → Ordering) (record_of : List ℕ → R
         some_internal = some_internal;
         some_external = some_external;
         buffers = omega (arith, p.buffers, thin_buffers mi ni me ne li le);
-        stock = record {
-          more = p.stock.more;
-          kept = p.stock.kept;
-          counted = omega (arith, p.stock.counted, blocks);
-          drawn = p.stock.drawn;
-          sure = p.stock.sure;
-          dry = p.stock.dry;
-          scant = p.stock.scant;
-          room_when_scant = p.stock.room_when_scant;
-        };
+        stock = subst (λ k. StockWentOn (blocks_in old.external - k) old.stock stock) (sym blocks) p.stock;
         transfers = record {
           writes = same (λ s. s.writes) ∙ p.transfers.writes;
           reads = omega (arith, same (λ s. s.reads), p.transfers.reads, blocks);
@@ -95,6 +86,4 @@ module _ {S R : Type 0} (cmp : R → R → Ordering) (record_of : List ℕ → R
 
 -- what a list is over which another of its length was written
 pub written : {X : Type 0} (n m long : ℕ) (out items : List X) → m ≡ n → length out ≡ length items → long ≡ length items → take m (take long (out ++ drop (length out) items)) ≡ take n out
-written n m long out items same as_long is =
-    let e : long ≡ length out = is ∙ sym as_long in
-    ap (λ k. take m (take k (out ++ drop (length out) items))) e ∙ (ap (take m) (take-append_seam out (drop (length out) items)) ∙ ap (λ k. take k out) same)
+written n m long out items same as_long is = ap (take m) (take_at out (drop (length out) items) long (as_long ∙ sym is)) ∙ ap (λ k. take k out) same

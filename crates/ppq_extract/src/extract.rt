@@ -6,9 +6,9 @@ ghost use Rattle.ppq_fetch.specs.Taking.{wanted};
 ghost use Rattle.ppq_fetch.specs.Fetching.{source_items, AreSources, MayFetch, FetchFailed, SourcesTell, RunsRise, count_in};
 ghost use Rattle.ppq_extract.specs.Extracted.{held, sources_of, ServesFor, SourcesRest, Refilled};
 
-use crate::emptied::{drop_emptied_external, drop_emptied_internal};
+use crate::emptied::drop_emptied;
 use crate::sources::Sources;
-use crate::taking::take_from_runs;
+use crate::taking::{Taking, take_from_runs};
 use ppq_budget::Sizes;
 use ppq_fetch::{
     Berth, Gate, Host, Lanes, Memory, Record, Runs, Slot, StoreFault, Supply, record_laws,
@@ -153,14 +153,13 @@ impl<R: Record> Extract<R> {
         ensures external_room { vec_capacity runs.new.external ≡ vec_capacity runs.old.external }
     {
         let taken = take_from_runs(
-            rt,
-            &mut self.records,
+            &Taking { rt, gate, below },
             runs,
-            lanes,
-            sources,
+            &mut lanes.idle,
+            &mut sources.places,
+            &mut sources.bench,
             supply,
-            below,
-            gate,
+            &mut self.records,
         );
         self.from = 0;
         match taken {
@@ -170,8 +169,8 @@ impl<R: Record> Extract<R> {
             }
             Ok(n) => {
                 self.to = n;
-                drop_emptied_internal(&mut runs.internal);
-                drop_emptied_external(&mut runs.external);
+                drop_emptied(&mut runs.internal);
+                drop_emptied(&mut runs.external);
                 Ok(())
             }
         }

@@ -3,21 +3,13 @@ pub use Rattle.ppq_array.proofs.ppq_block as ppq_block
 pub use Rattle.ppq_lane.proofs as ppq_lane
 pub use Rattle.ppq_array.proofs.ppq_outside as ppq_outside
 pub use Rattle.ppq_array.proofs.ppq_record as ppq_record
-pub mod Composing
 pub mod Consuming
-pub mod Counts
-pub mod KeptSame
 pub mod Listings
-pub mod Loading
 pub mod Loads
 pub mod Marking
-pub mod Nexts
 pub mod Parted
 pub mod Ready
 pub mod Rounds
-pub mod Searching
-pub mod Taken
+pub mod Sums
 pub mod Takes
-pub mod Telling
 pub mod Waiting
-pub mod Zips

@@ -1,36 +1,128 @@
--- A turn that loads a block, or loses one.
-use Rattle.std.proofs.Common.{◌≡◌, inl, inr, ℕ, ◌+◌, ◌*◌, ◌<◌, ◌≤◌, ◌==◌, Bool, true, false, cond, List, [], ◌∷◌, ◌++◌, length, map, drop, get_or, slice_set, sum_by, All, Option, refl, sym, ap, ap₂, ◌∙◌, subst, arith, length-append, length-set, true≢false}
-use Rattle.std.specs.Prelude.{count_by}
+-- A block is read into a buffer, and a turn loads it or loses it.
+use Rattle.std.proofs.Common.{◌≡◌, inl, inr, ℕ, ◌+◌, ◌*◌, ◌<◌, ◌≤◌, List, [], ◌∷◌, ◌++◌, length, drop, Option, Result, Ok, Err, refl, sym, ap, ap₂, ◌∙◌, subst, arith, ◌==◌, Bool, true, false, cond, map, get_or, slice_set, sum_by, All, length-append, length-set, true≢false}
+use Rattle.std.proofs.lemmas.Bool.{cases_lt, eq-eqb}
+use Rattle.std.proofs.lemmas.Result.{IfOk-at_ok, IfErr-at_err}
+use Rattle.ppq_array.specs.ppq_record.Given.{records_from}
+use Rattle.ppq_array.specs.ppq_block.Block.{Block, holding}
+use Rattle.ppq_array.specs.ppq_block.Told.{records_told}
+use Rattle.ppq_array.proofs.ppq_block.Blocks.{length-records_from}
+use Rattle.ppq_array.proofs.ppq_block.Buffers.{fits_one}
+use Rattle.ppq_array.specs.ppq_outside.Shown.{Shown, Tells, IsRead}
+use Rattle.ppq_array.specs.ppq_outside.Told.{Keeps, Rose, next_count}
+use Rattle.ppq_array.proofs.ppq_outside.Slots.{holds_written}
+use Rattle.ppq_lane.specs.Jobs.{IsReadInto}
+use Rattle.ppq_array.specs.declared.berth.DeviceBlock.{DeviceBlock}
+use Rattle.ppq_array.specs.Run.{Run, run_of, items_of, buffers_of}
+use Rattle.ppq_array.specs.External.{External, external, waiting, records_in, blocks_items, block_items, FirstTells, IsLabelled, counts, size_of}
+use Rattle.ppq_array.specs.Supply.{Stock, GetsSlot}
+use Rattle.ppq_fetch.specs.Steps.{SlotRead, BlockLoaded, BlockLost}
 use Rattle.std.specs.List.{AllByRecursion as Each}
 use Rattle.std.specs.Cmp.{IsStrictWeakOrder}
 use Rattle.std.specs.declared.cmp.Ordering.{Ordering}
-use Rattle.std.proofs.lemmas.Bool.Decides.{eqb_tells}
 use Rattle.std.proofs.lemmas.List.{length-map}
 use Rattle.std.proofs.lemmas.List.Concat.{flat_map-cons}
-use Rattle.std.proofs.lemmas.List.Sums.{sum_by-cons, sum_by-append, sum_by-set}
-use Rattle.std.proofs.lemmas.List.Elements.{All-set, All-get_or, All-head, All-tail, All-append, All-nil, All-cons}
+use Rattle.std.proofs.lemmas.List.Sums.{sum_by-cons, sum_by-append, sum_by_push, sum_by-set}
+use Rattle.std.proofs.lemmas.List.Elements.{All-set, All-get_or, All-head, All-tail, All-append, All-nil, All-cons, All-from_recursion}
 use Rattle.ppq_array.specs.ppq_record.Order.{is_before, Ascends}
 use Rattle.ppq_array.specs.ppq_record.Bag.{IsSameBag}
 use Rattle.ppq_array.specs.ppq_record.Runs.{all_of}
-use Rattle.ppq_array.proofs.ppq_record.Order.{count_by-append}
-use Rattle.ppq_array.specs.ppq_block.Block.{Block}
-use Rattle.ppq_array.specs.ppq_outside.Shown.{Shown, Tells, AllTell}
-use Rattle.ppq_array.specs.declared.berth.DeviceBlock.{DeviceBlock}
-use Rattle.ppq_array.specs.Run.{Run, items_of, buffers_of}
-use Rattle.ppq_array.specs.External.{External, counts, waiting, size_of, records_in, blocks_items}
-use Rattle.ppq_array.specs.Supply.{Stock}
 use Rattle.ppq_array.specs.Owner.{HasBlock, HasSize, slots_shown}
 use Rattle.ppq_array.specs.Kept.{AreQuiet, weight_at}
 use Rattle.ppq_array.specs.Holdings.{external_slots, external_buffers, RunHasBlock, ArrayHasSize}
 use Rattle.ppq_array.proofs.Noted.{all_left, all_right}
 use Rattle.ppq_fetch.specs.Turns.{HasBuffer}
-use Rattle.ppq_fetch.specs.Steps.{SlotRead, BlockLoaded, BlockLost}
-use Rattle.ppq_fetch.specs.Fetching.{State, state, AreSources, MayFetch, PartsKept, Fetched, FetchFailed, SourcesTell, WentOn, IsFitting, fronts_in, one_if_some, loaded_lists, blocks_in, slots_in, waiting_items, source_items}
-use Rattle.ppq_fetch.proofs.Loading.{count_fits}
-use Rattle.ppq_fetch.proofs.Taken.{taken_none, taken_same}
-use Rattle.ppq_fetch.proofs.Telling.{untold_of, untold, tell_sum, sum_tell}
-use Rattle.ppq_fetch.proofs.Rounds.{none_below}
-use Rattle.ppq_fetch.proofs.Zips.{zip_set, each_set, each_at, on_same}
+use Rattle.ppq_fetch.specs.Fetching.{State, state, AreSources, MayFetch, PartsKept, FetchFailed, SourcesTell, WentOn, IsFitting, fronts_in, one_if_some, loaded_lists, blocks_in, slots_in, waiting_items, source_items}
+use Rattle.ppq_fetch.proofs.Parted.{taken_none, taken_same}
+use Rattle.ppq_fetch.proofs.Sums.{one_le, untold_of, untold, none_told, tell_sum, sum_tell, loaded_of, sum_flat_map, sum_all_of, sum_two_of}
+use Rattle.ppq_fetch.proofs.Rounds.{TookTurn, none_below, long_three, zip_set, each_set, on_same}
+
+pub count_fits : (count block width bytes : ℕ) → 1 ≤ width → count * width ≤ bytes → bytes ≡ block * width → count ≤ block
+count_fits count block width bytes w h e = elim (cases_lt block count) as (λ _. count ≤ block) [
+  | inl k ↦ absurd (omega (arith, fits_one width count block k, h, e, w))
+  | inr k ↦ omega (arith, k)
+]
+
+module _ {S R : Type 0} (record_of : List ℕ → R) (width : ℕ) (shown : S → Shown) where
+  abbrev slot_read : {T E : Type 0} (answer : Result T E) (block : DeviceBlock S R) (slot : Shown) (bytes : List ℕ) (s t : Stock) → IsRead answer bytes (shown block.slot) slot → slot.reads ≤ (shown block.slot).reads + 1 → GetsSlot s slot t → SlotRead record_of width shown block s t
+  slot_read answer block slot bytes s t r n freed = record {
+    slot = slot;
+    told = r.kept;
+    number = r.number;
+    size = r.size;
+    faults = r.cause.later;
+    writes = r.writes;
+    least_reads = r.reads.later;
+    reads = n;
+    freed = freed;
+  }
+
+  -- what a buffer has after a read of the block
+  pub filled :
+      {T E : Type 0} (answer : Result T E) (u : T) → answer ≡ Ok u → (block : DeviceBlock S R) (slot : Shown) (count : ℕ) (buf buf' : Block R) → count ≡ block.count → IsReadInto record_of width count answer (shown block.slot) slot buf buf'
+      → (length buf'.items ≡ block.count) × ((Tells (shown block.slot) → buf'.items ≡ block_items record_of width shown block) × (buf'.block ≡ buf.block))
+  filled answer u e block slot count buf buf' n r =
+      let is : buf' ≡ holding buf.block (records_from record_of width count r.bytes) = IfOk-at_ok (λ _. buf' ≡ holding buf.block (records_from record_of width count r.bytes)) e r.records in
+      let items : buf'.items ≡ records_from record_of width count r.bytes = ap (λ (b : Block R). b.items) is in
+      let given : Keeps (shown block.slot).told (shown block.slot).told r.bytes = IfOk-at_ok (λ _. Keeps (shown block.slot).told (shown block.slot).told r.bytes) e r.read.given in (
+        omega (arith, ap length items, length-records_from record_of width count r.bytes, n),
+        (λ t. items ∙ (ap (λ k. records_from record_of width k r.bytes) n ∙ ap (λ told. records_told record_of width block.count told) (sym (holds_written (shown block.slot).told (shown block.slot).told r.bytes t given))), ap (λ (b : Block R). b.block) is),
+      )
+
+  pub block_loaded :
+      {T E : Type 0} (answer : Result T E) (u : T) → answer ≡ Ok u → (block : DeviceBlock S R) (slot : Shown) (count : ℕ) (buf buf' : Block R) → count ≡ block.count → IsReadInto record_of width count answer (shown block.slot) slot buf buf' → IsLabelled record_of width shown block
+      → (a m b : External S R) → a.stored ≡ block ∷ m.stored → a.lifted ≡ [] → m ≡ external a.level a.loaded (a.lifted ++ block ∷ []) m.stored
+      → b.loaded ≡ run_of (m.loaded.live ++ buf' ∷ []) m.loaded.taken m.loaded.spent → items_of b.loaded ≡ items_of m.loaded ++ buf'.items
+      → (FirstTells record_of width shown m.lifted → records_in record_of width shown b ≡ records_in record_of width shown m) → b ≡ external m.level b.loaded (drop 1 m.lifted) m.stored
+      → (idle idle' : List (Block R)) → idle ≡ buf ∷ idle' → (s t : Stock) → GetsSlot s slot t → BlockLoaded record_of width shown a b idle idle' s t
+  block_loaded answer u e block slot count buf buf' n r labelled a m b st none mrest bl items same brest idle idle' taken s t freed =
+      let f = filled answer u e block slot count buf buf' n r in
+      let once : slot.reads ≡ next_count (shown block.slot).reads = IfOk-at_ok (λ _. slot.reads ≡ next_count (shown block.slot).reads) e r.read.reads.ok in
+      let lif : m.lifted ≡ block ∷ [] = ap (λ (z : External S R). z.lifted) mrest ∙ ap (λ xs. xs ++ block ∷ []) none in
+      let ml : m.loaded ≡ a.loaded = ap (λ (z : External S R). z.loaded) mrest in
+      let lv : m.level ≡ a.level = ap (λ (z : External S R). z.level) mrest in
+      let bs : b.stored ≡ m.stored = ap (λ (z : External S R). z.stored) brest in
+      let ld : b.loaded ≡ run_of (a.loaded.live ++ buf' ∷ []) a.loaded.taken a.loaded.spent = bl ∙ ap (λ (z : Run R). run_of (z.live ++ buf' ∷ []) z.taken z.spent) ml in
+      let wait : waiting m ≡ waiting a = ap₂ (λ xs ys. xs ++ ys) lif refl ∙ (sym st ∙ ap₂ (λ xs ys. xs ++ ys) (sym none) refl) in
+      record {
+        block = block;
+        buf = buf;
+        filled = buf';
+        stored = st ∙ ap (λ xs. block ∷ xs) (sym bs);
+        taken = taken;
+        room = f.1.1;
+        count = f.0;
+        some = labelled.some;
+        fits = labelled.fits;
+        array = brest ∙ (ap (λ k. external k b.loaded (drop 1 m.lifted) m.stored) lv ∙ (ap (λ k. external a.level k (drop 1 m.lifted) m.stored) ld ∙ (ap (λ k. external a.level (run_of (a.loaded.live ++ buf' ∷ []) a.loaded.taken a.loaded.spent) (drop 1 k) m.stored) lif ∙ ap (λ k. external a.level (run_of (a.loaded.live ++ buf' ∷ []) a.loaded.taken a.loaded.spent) [] k) (sym bs))));
+        items = items ∙ ap (λ (z : Run R). items_of z ++ buf'.items) ml;
+        same = λ tells. same (subst (FirstTells record_of width shown) (sym lif) tells) ∙ ap₂ (λ (z : Run R) w. items_of z ++ blocks_items record_of width shown w) ml wait;
+        read = slot_read answer block slot r.bytes s t r.read (omega (arith, once)) freed;
+        quiet = IfOk-at_ok (λ _. slot.faults ≡ (shown block.slot).faults) e r.read.cause.ok;
+      }
+
+  pub block_lost :
+      {T E : Type 0} (answer : Result T E) (x : E) → answer ≡ Err x → (number : ℕ) (block : DeviceBlock S R) (slot : Shown) (count : ℕ) (buf buf' : Block R) → number ≡ slot.number → IsReadInto record_of width count answer (shown block.slot) slot buf buf'
+      → (a m : External S R) → a.stored ≡ block ∷ m.stored → a.lifted ≡ [] → m ≡ external a.level a.loaded (a.lifted ++ block ∷ []) m.stored
+      → (idle left idle' : List (Block R)) → idle ≡ buf ∷ left → idle' ≡ left ++ buf' ∷ [] → (s t : Stock) → GetsSlot s slot t → BlockLost record_of width shown number a m idle idle' s t
+  block_lost answer x e number block slot count buf buf' named r a m st none mrest idle left idle' taken returned s t freed =
+      let is : buf' ≡ holding buf.block [] = IfErr-at_err (λ _. buf' ≡ holding buf.block []) e r.none in
+      let still : slot.reads ≡ (shown block.slot).reads = IfErr-at_err (λ _. slot.reads ≡ (shown block.slot).reads) e r.read.reads.err in
+      let rose : Rose (shown block.slot).faults slot.faults = IfErr-at_err (λ _. Rose (shown block.slot).faults slot.faults) e r.read.cause.failed in
+      let some : 0 < slot.faults = omega (arith, rose) in
+      record {
+        block = block;
+        buf = buf;
+        back = buf';
+        left = left;
+        stored = st;
+        taken = taken;
+        returned = returned;
+        room = ap (λ (b : Block R). b.block) is;
+        array = mrest ∙ ap (λ xs. external a.level a.loaded (xs ++ block ∷ []) m.stored) none;
+        named = named ∙ r.read.number;
+        read = slot_read answer block slot r.bytes s t r.read (omega (arith, still)) freed;
+        failed = some;
+      }
 
 cond_le : (x y : Bool) → y ≡ x → (m k : ℕ) → m ≤ k → cond x m 0 ≤ cond y k 0
 cond_le true true e m k h = h
@@ -43,38 +135,18 @@ weight_le f n a b e h = cond_le (a.number == n) (b.number == n) (ap (λ k. k == 
 once_same : (n : ℕ) (a b : Shown) → b.number ≡ a.number → weight_at (λ s. 1) n b ≡ weight_at (λ s. 1) n a
 once_same n a b e = ap (λ k. cond (k == n) 1 0) e
 
-eqb_same : (m k : ℕ) → m ≡ k → (m == k) ≡ true
-eqb_same m k e = elim (eqb_tells m k) as (λ _. (m == k) ≡ true) [ inl p ↦ p.0 | inr q ↦ absurd (q.1 e) ]
-
 named : (number : ℕ) (s : Shown) → number ≡ s.number → weight_at (λ s. s.faults) number s ≡ s.faults
-named number s e = ap (λ v. cond v s.faults 0) (eqb_same s.number number (sym e))
+named number s e = ap (λ v. cond v s.faults 0) (eq-eqb s.number number (sym e))
 
-three : (f : Shown → ℕ) (a b c : List Shown) → sum_by f (a ++ b ++ c) ≡ sum_by f a + sum_by f b + sum_by f c
-three f a b c = omega (arith, sum_by-append f (a ++ b) c, sum_by-append f a b)
-
-long : (a b c : List Shown) → length (a ++ b ++ c) ≡ length a + length b + length c
-long a b c = omega (arith, length-append (a ++ b) c, length-append a b)
+each_at : {X : Type 0} (Q : X → Type 0) (xs : List X) (i : ℕ) (d : X) → i < length xs → Each Q xs → Q (get_or xs i d)
+each_at Q xs i d h e = All-get_or Q xs i d h (All-from_recursion Q xs e)
 
 one_or_more : {X : Type 0} (xs ys : List X) → 1 ≤ length ys → one_if_some (xs ++ ys) ≡ 1
 one_or_more [] [] h = absurd (omega arith)
 one_or_more [] (y ∷ ys) h = refl
 one_or_more (x ∷ xs) ys h = refl
 
-one_le : {X : Type 0} (xs : List X) → one_if_some xs ≤ 1
-one_le [] = omega arith
-one_le (x ∷ xs) = omega arith
-
 module _ {S R : Type 0} (record_of : List ℕ → R) (width : ℕ) (shown : S → Shown) where
-  slots_sum : (f : Shown → ℕ) (xs : List (External S R)) → sum_by f (external_slots shown xs) ≡ sum_by (λ (a : External S R). sum_by f (slots_shown shown a.stored)) xs
-  slots_sum f [] = refl
-  slots_sum f (x ∷ xs) = omega (
-    arith,
-    ap (sum_by f) (flat_map-cons (λ (a : External S R). slots_shown shown a.stored) x xs),
-    sum_by-append f (slots_shown shown x.stored) (external_slots shown xs),
-    slots_sum f xs,
-    sum_by-cons (λ (a : External S R). sum_by f (slots_shown shown a.stored)) x xs,
-  )
-
   pub slots_long : (xs : List (External S R)) → length (external_slots shown xs) ≡ blocks_in xs
   slots_long [] = refl
   slots_long (x ∷ xs) = omega (
@@ -86,41 +158,16 @@ module _ {S R : Type 0} (record_of : List ℕ → R) (width : ℕ) (shown : S �
     sum_by-cons (λ (a : External S R). length a.stored) x xs,
   )
 
-  tells_to : (xs : List (External S R)) → AllTell (external_slots shown xs) → Each (λ (a : External S R). AllTell (slots_shown shown a.stored)) xs
-  tells_to [] t = tt
-  tells_to (x ∷ xs) t =
-      let e = subst AllTell (flat_map-cons (λ (a : External S R). slots_shown shown a.stored) x xs) t in
-      (all_left Tells (slots_shown shown x.stored) (external_slots shown xs) e, tells_to xs (all_right Tells (slots_shown shown x.stored) (external_slots shown xs) e))
-
-  tells_from : (xs : List (External S R)) → Each (λ (a : External S R). AllTell (slots_shown shown a.stored)) xs → AllTell (external_slots shown xs)
-  tells_from [] t = All-nil Tells
-  tells_from (x ∷ xs) t = subst AllTell (sym (flat_map-cons (λ (a : External S R). slots_shown shown a.stored) x xs)) (All-append Tells (slots_shown shown x.stored) (external_slots shown xs) t.0 (tells_from xs t.1))
-
-  count_lists : {A : Type 0} (p : R → Bool) (f : A → List R) (xs : List A) (ys : List (List R)) → count_by p (all_of (map f xs ++ ys)) ≡ sum_by (λ x. count_by p (f x)) xs + count_by p (all_of ys)
-  count_lists p f [] ys = omega arith
-  count_lists p f (x ∷ xs) ys = omega (arith, count_by-append p (f x) (all_of (map f xs ++ ys)), count_lists p f xs ys, sum_by-cons (λ x. count_by p (f x)) x xs)
-
-  count_arrays : (p : R → Bool) (xs : List (External S R)) → count_by p (all_of (map (λ (a : External S R). items_of a.loaded) xs)) + count_by p (waiting_items record_of width shown xs) ≡ sum_by (λ (a : External S R). count_by p (records_in record_of width shown a)) xs
-  count_arrays p [] = omega arith
-  count_arrays p (x ∷ xs) =
-      let rest = all_of (map (λ (a : External S R). items_of a.loaded) xs) in
-      let w = blocks_items record_of width shown (waiting x) in
-      omega (
-        arith,
-        count_by-append p (items_of x.loaded) rest,
-        ap (count_by p) (flat_map-cons (λ (a : External S R). blocks_items record_of width shown (waiting a)) x xs),
-        count_by-append p w (waiting_items record_of width shown xs),
-        count_by-append p (items_of x.loaded) w,
-        count_arrays p xs,
-        sum_by-cons (λ (a : External S R). count_by p (records_in record_of width shown a)) x xs,
-      )
-
-  source_count : (p : R → Bool) (s : State S R) → count_by p (source_items record_of width shown s) ≡ sum_by (λ (run : Run R). count_by p (items_of run)) s.internal + sum_by (λ (a : External S R). count_by p (records_in record_of width shown a)) s.external
-  source_count p s = omega (
+  source_sum :
+      (f : R → ℕ) (s : State S R)
+      → sum_by f (source_items record_of width shown s) ≡ sum_by (λ (run : Run R). sum_by f (items_of run)) s.internal + sum_by (λ (a : External S R). sum_by f (items_of a.loaded)) s.external + sum_by (λ (a : External S R). sum_by f (blocks_items record_of width shown (waiting a))) s.external
+  source_sum f s = omega (
     arith,
-    count_by-append p (all_of (loaded_lists s.internal s.external)) (waiting_items record_of width shown s.external),
-    count_lists p (λ (run : Run R). items_of run) s.internal (map (λ (a : External S R). items_of a.loaded) s.external),
-    count_arrays p s.external,
+    sum_by-append f (all_of (loaded_lists s.internal s.external)) (waiting_items record_of width shown s.external),
+    sum_two_of f (map items_of s.internal) (map loaded_of s.external),
+    sum_all_of f items_of s.internal,
+    sum_all_of f loaded_of s.external,
+    sum_flat_map f (λ (a : External S R). blocks_items record_of width shown (waiting a)) s.external,
   )
 
   module _ (internal : List (Run R)) (arrays : List (External S R)) (i : ℕ) (d b : External S R) (idle idle' : List (Block R)) (stock stock' : Stock) (h : i < length arrays) where
@@ -139,8 +186,8 @@ module _ {S R : Type 0} (record_of : List ℕ → R) (width : ℕ) (shown : S �
     module _ (block : DeviceBlock S R) (stored : a.stored ≡ block ∷ b.stored) (level : b.level ≡ a.level) (read : SlotRead record_of width shown block stock stock') (few : length (buffers_of b.loaded) + length idle' ≡ length (buffers_of a.loaded) + length idle) where
       slots_set : (f : Shown → ℕ) → sum_by f (external_slots shown (slice_set arrays i b)) + f (shown block.slot) ≡ sum_by f (external_slots shown arrays)
       slots_set f =
-          let g = λ (a : External S R). sum_by f (slots_shown shown a.stored) in
-          omega (arith, slots_sum f arrays, slots_sum f (slice_set arrays i b), set_sum g, ap (λ bs. sum_by f (slots_shown shown bs)) stored, sum_by-cons f (shown block.slot) (slots_shown shown b.stored))
+          let g = λ (a : External S R). slots_shown shown a.stored in
+          omega (arith, sum_flat_map f g arrays, sum_flat_map f g (slice_set arrays i b), set_sum (λ (a : External S R). sum_by f (slots_shown shown a.stored)), ap (λ bs. sum_by f (slots_shown shown bs)) stored, sum_by-cons f (shown block.slot) (slots_shown shown b.stored))
 
       pub blocks_set : blocks_in (slice_set arrays i b) + 1 ≡ blocks_in arrays
       blocks_set = omega (arith, set_sum (λ (a : External S R). length a.stored), ap length stored)
@@ -151,19 +198,6 @@ module _ {S R : Type 0} (record_of : List ℕ → R) (width : ℕ) (shown : S �
       drawn : stock'.drawn ≡ stock.drawn
       drawn = ap (λ (s : Stock). s.drawn) read.freed
 
-      all_set : (f : Shown → ℕ) → sum_by f ((external_slots shown (slice_set arrays i b) ++ stock'.kept) ++ stock.drawn) + f (shown block.slot) ≡ sum_by f ((external_slots shown arrays ++ stock.kept) ++ stock'.drawn) + f read.slot
-      all_set f =
-          omega (
-            arith,
-            slots_set f,
-            three f (external_slots shown (slice_set arrays i b)) stock'.kept stock.drawn,
-            three f (external_slots shown arrays) stock.kept stock'.drawn,
-            ap (sum_by f) kept,
-            sum_by-append f stock.kept (read.slot ∷ []),
-            sum_by-cons f read.slot [],
-            ap (sum_by f) drawn,
-          )
-
       -- what is added up of the slots of the runs and those that are kept
       both_set : (f : Shown → ℕ) → sum_by f (slots_in shown after) + f (shown block.slot) ≡ sum_by f (slots_in shown before) + f read.slot
       both_set f =
@@ -173,9 +207,11 @@ module _ {S R : Type 0} (record_of : List ℕ → R) (width : ℕ) (shown : S �
             sum_by-append f (external_slots shown (slice_set arrays i b)) stock'.kept,
             sum_by-append f (external_slots shown arrays) stock.kept,
             ap (sum_by f) kept,
-            sum_by-append f stock.kept (read.slot ∷ []),
-            sum_by-cons f read.slot [],
+            sum_by_push f stock.kept read.slot,
           )
+
+      all_set : (f : Shown → ℕ) → sum_by f (slots_in shown after ++ stock.drawn) + f (shown block.slot) ≡ sum_by f (slots_in shown before ++ stock'.drawn) + f read.slot
+      all_set f = omega (arith, both_set f, sum_by-append f (slots_in shown after) stock.drawn, sum_by-append f (slots_in shown before) stock'.drawn, ap (sum_by f) drawn)
 
       untold_set : sum_by untold (slots_in shown after) ≡ sum_by untold (slots_in shown before)
       untold_set = omega (arith, both_set untold, ap untold_of read.told)
@@ -190,17 +226,7 @@ module _ {S R : Type 0} (record_of : List ℕ → R) (width : ℕ) (shown : S �
           record {
             kept = record {
               slots = record {
-                length = omega (
-                  arith,
-                  n1,
-                  n2,
-                  blocks_set,
-                  long (external_slots shown (slice_set arrays i b)) stock'.kept stock.drawn,
-                  long (external_slots shown arrays) stock.kept stock'.drawn,
-                  ap length kept,
-                  length-append stock.kept (read.slot ∷ []),
-                  ap length drawn,
-                );
+                length = omega (arith, n1, n2, blocks_set, long_three (external_slots shown (slice_set arrays i b)) stock'.kept stock.drawn, long_three (external_slots shown arrays) stock.kept stock'.drawn, ap length kept, length-append stock.kept (read.slot ∷ []), ap length drawn);
                 each_once = λ n. omega (arith, all_set (weight_at (λ s. 1) n), once_same n (shown block.slot) read.slot read.number);
                 faults = λ n. omega (arith, all_set (weight_at (λ s. s.faults) n), weight_le (λ s. s.faults) n (shown block.slot) read.slot read.number read.faults);
                 writes = λ n. omega (arith, all_set (weight_at (λ s. s.writes) n), weight_le (λ s. s.writes) n (shown block.slot) read.slot read.number (omega (arith, read.writes)));
@@ -279,10 +305,7 @@ module _ {S R : Type 0} (record_of : List ℕ → R) (width : ℕ) (shown : S �
           let wb : waiting b ≡ b.stored = ap₂ (λ us vs. us ++ vs) (ap (λ (z : External S R). z.lifted) x.array) refl in
           omega (arith, ap length x.items, length-append (items_of a.loaded) x.filled.items, x.count, ap counts wa, ap counts wb, sum_by-cons (λ (k : DeviceBlock S R). k.count) x.block b.stored)
 
-      pub fewer_blocks : blocks_in (slice_set arrays i b) < blocks_in arrays
-      fewer_blocks = omega (arith, blocks_set x.block x.stored lv x.read fewer)
-
-      pub loaded_may : (ahead : ℕ) → 1 ≤ width → MayFetch shown width ahead before → HasBuffer arrays ahead a → MayFetch shown width ahead after
+      loaded_may : (ahead : ℕ) → 1 ≤ width → MayFetch shown width ahead before → HasBuffer arrays ahead a → MayFetch shown width ahead after
       loaded_may ahead w m buffer =
           let s = m.sources in
           let n = stock.block in
@@ -308,24 +331,38 @@ module _ {S R : Type 0} (record_of : List ℕ → R) (width : ℕ) (shown : S �
             none_lifted = each_set (λ (a : External S R). a.lifted ≡ []) arrays i b (ap (λ (z : External S R). z.lifted) x.array) m.none_lifted;
           }
 
-      pub loaded_step :
-          (cmp : R → R → Ordering) → IsStrictWeakOrder (is_before cmp) → (below : Option R) (ahead : ℕ) → MayFetch shown width ahead before → Fetched cmp record_of width shown below before after []
-      loaded_step cmp o below ahead m =
+      pub loaded_turn :
+          (cmp : R → R → Ordering) → IsStrictWeakOrder (is_before cmp) → (below : Option R) (ahead : ℕ) → 1 ≤ width → MayFetch shown width ahead before → HasBuffer arrays ahead a → TookTurn cmp record_of width shown below ahead before after []
+      loaded_turn cmp o below ahead w m buffer =
           let none = each_at (λ (a : External S R). a.lifted ≡ []) arrays i d h m.none_lifted in
-          let told = λ (t : SourcesTell shown before). subst (λ bs. AllTell (slots_shown shown bs)) x.stored (each_at (λ (a : External S R). AllTell (slots_shown shown a.stored)) arrays i d h (tells_to arrays t)) in
-          let same = λ (t : SourcesTell shown before). x.same (All-head Tells (shown x.block.slot) (slots_shown shown b.stored) (told t)) in
-          let bag : (t : SourcesTell shown before) → IsSameBag (source_items record_of width shown before) (source_items record_of width shown after) = λ t p. omega (arith, source_count p before, source_count p after, set_sum (λ (a : External S R). count_by p (records_in record_of width shown a)), ap (count_by p) (same t)) in
+          let told = λ (t : SourcesTell shown before). none_told (shown x.block.slot).told (omega (arith, slots_set x.block x.stored lv x.read fewer untold, tell_sum (external_slots shown arrays) t)) in
+          let bag : (t : SourcesTell shown before) → IsSameBag (source_items record_of width shown before) (source_items record_of width shown after) = λ t p.
+          let f : R → ℕ = λ z. cond (p z) 1 0 in
+          omega (
+            arith,
+            source_sum f before,
+            source_sum f after,
+            set_sum (λ (a : External S R). sum_by f (items_of a.loaded)),
+            set_sum (λ (a : External S R). sum_by f (blocks_items record_of width shown (waiting a))),
+            sum_by-append f (items_of a.loaded) (blocks_items record_of width shown (waiting a)),
+            sum_by-append f (items_of b.loaded) (blocks_items record_of width shown (waiting b)),
+            ap (sum_by f) (x.same (told t)),
+          ) in
           record {
-            parts = parts_set x.block x.stored lv x.read fewer m.sources.takes_back.slots;
-            quiet = quiet_set x.block x.stored lv x.read fewer x.quiet;
-            counted = omega (arith, sized none, set_sum (λ (a : External S R). size_of a));
-            tell = λ t. tells_from (slice_set arrays i b) (each_set (λ (a : External S R). AllTell (slots_shown shown a.stored)) arrays i b (All-tail Tells (shown x.block.slot) (slots_shown shown b.stored) (told t)) (tells_to arrays t));
-            rise = λ t r. record {
-              internal = r.internal;
-              external = each_set (λ (a : External S R). Ascends cmp (records_in record_of width shown a)) arrays i b (subst (Ascends cmp) (sym (same t)) (each_at (λ (a : External S R). Ascends cmp (records_in record_of width shown a)) arrays i d h r.external)) r.external;
+            fetched = record {
+              parts = parts_set x.block x.stored lv x.read fewer m.sources.takes_back.slots;
+              quiet = quiet_set x.block x.stored lv x.read fewer x.quiet;
+              counted = omega (arith, sized none, set_sum (λ (a : External S R). size_of a));
+              tell = λ t. sum_tell (external_slots shown (slice_set arrays i b)) (omega (arith, slots_set x.block x.stored lv x.read fewer untold, tell_sum (external_slots shown arrays) t));
+              rise = λ t r. record {
+                internal = r.internal;
+                external = each_set (λ (a : External S R). Ascends cmp (records_in record_of width shown a)) arrays i b (subst (Ascends cmp) (sym (x.same (told t))) (each_at (λ (a : External S R). Ascends cmp (records_in record_of width shown a)) arrays i d h r.external)) r.external;
+              };
+              taken = λ t r. taken_same cmp o (source_items record_of width shown before) [] (source_items record_of width shown before) (source_items record_of width shown after) (taken_none cmp o (source_items record_of width shown before)) (bag t);
+              under = λ t r. none_below cmp below;
             };
-            taken = λ t r. taken_same cmp o (source_items record_of width shown before) [] (source_items record_of width shown before) (source_items record_of width shown after) (taken_none cmp o (source_items record_of width shown before)) (bag t);
-            under = λ t r. none_below cmp o record_of width shown below below;
+            may = loaded_may ahead w m buffer;
+            less = omega (arith, blocks_set x.block x.stored lv x.read fewer);
           }
 
     -- a block was lost
@@ -339,7 +376,7 @@ module _ {S R : Type 0} (record_of : List ℕ → R) (width : ℕ) (shown : S �
       same_few : length (buffers_of b.loaded) + length idle' ≡ length (buffers_of a.loaded) + length idle
       same_few = omega (arith, ap (λ (r : Run R). length (buffers_of r)) same_loaded, ap length x.taken, ap length x.returned, length-append x.left (x.back ∷ []))
 
-      pub lost_sources : (ahead : ℕ) → MayFetch shown width ahead before → AreSources shown width ahead after
+      lost_sources : (ahead : ℕ) → MayFetch shown width ahead before → AreSources shown width ahead after
       lost_sources ahead m =
           let s = m.sources in
           let n = stock.block in
@@ -357,12 +394,15 @@ module _ {S R : Type 0} (record_of : List ℕ → R) (width : ℕ) (shown : S �
           (omega (arith, ap counts wa, ap counts wb, ap (λ (r : Run R). length (items_of r)) same_loaded))
           (omega (arith, s.bounded, up, fr, ap (λ (r : Run R). length (buffers_of r)) same_loaded, ap (λ (r : Run R). one_if_some (items_of r)) same_loaded))
 
-      pub lost_failed : (ahead : ℕ) → MayFetch shown width ahead before → FetchFailed shown number before after
+      lost_failed : (ahead : ℕ) → MayFetch shown width ahead before → FetchFailed shown number before after
       lost_failed ahead m =
           let kept_now = ap (λ (s : Stock). s.kept) x.read.freed in
           let w = weight_at (λ s. s.faults) number in
           let here : w x.read.slot ≡ x.read.slot.faults = named number x.read.slot (x.named ∙ sym x.read.number) in
           record {
             parts = parts_set x.block x.stored same_level x.read same_few m.sources.takes_back.slots;
-            failed = omega (arith, x.failed, here, ap (sum_by w) kept_now, sum_by-append w stock.kept (x.read.slot ∷ []), sum_by-cons w x.read.slot []);
+            failed = omega (arith, x.failed, here, ap (sum_by w) kept_now, sum_by_push w stock.kept x.read.slot);
           }
+
+      pub lost_turn : (ahead : ℕ) → MayFetch shown width ahead before → FetchFailed shown number before after × AreSources shown width ahead after
+      lost_turn ahead m = (lost_failed ahead m, lost_sources ahead m)

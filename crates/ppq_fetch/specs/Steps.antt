@@ -1,5 +1,5 @@
 -- What a turn does to its runs: records leave their fronts, or a block is loaded.
-use Rattle.std.specs.Prelude.{◌≡◌, ℕ, ◌+◌, ◌-◌, ◌*◌, ◌<◌, ◌≤◌, ◌^◌, List, [], ◌∷◌, ◌++◌, length, drop, map, All}
+use Rattle.std.specs.Prelude.{◌≡◌, ℕ, ◌+◌, ◌-◌, ◌*◌, ◌<◌, ◌≤◌, ◌^◌, List, [], ◌∷◌, ◌++◌, length, take, drop, map, All}
 use Rattle.std.specs.declared.cmp.Ordering.{Ordering}
 use Rattle.std.specs.List.{AllByRecursion as Each, AllZip}
 use Rattle.ppq_array.specs.ppq_record.Order.{Ascends}
@@ -11,7 +11,7 @@ use Rattle.ppq_array.specs.declared.berth.DeviceBlock.{DeviceBlock}
 use Rattle.ppq_array.specs.Run.{Run, run_of, items_of, buffers_of}
 use Rattle.ppq_array.specs.External.{External, external, records_in}
 use Rattle.ppq_array.specs.Supply.{Stock, GetsSlot}
-use Rattle.ppq_array.specs.Owner.{HasBlock}
+use Rattle.ppq_array.specs.Owner.{HasBlock, HasSize}
 use Rattle.ppq_array.specs.Holdings.{internal_buffers, external_buffers, RunHasBlock}
 use Rattle.ppq_merge.specs.ppq_split.Cut.{AreWithin, total}
 use Rattle.ppq_merge.specs.Bench.{Cuts}
@@ -25,6 +25,12 @@ pub record BuffersGiven (old new : Stock) : Type 0 where
   pub sure : old.sure_buffers ≤ new.sure_buffers
 
 module _ {R : Type 0} where
+  -- The least records of those in front of the bounds were merged, of each run those up to its place
+  pub record MergesSafe (cmp : R → R → Ordering) (bounds : List ℕ) (lists : List (List R)) (places : List ℕ) (out : List R) : Type 0 where
+    pub within : AreWithin places (firsts bounds lists)
+    pub bag : IsSameBag out (before places (firsts bounds lists))
+    pub least : Each (Ascends cmp) (firsts bounds lists) → out ≡ front cmp (all_of (firsts bounds lists)) (length out)
+
   -- the lists that a merge writes over have the lengths that they had, and the bench its workers
   pub record SameRoom (xs ys : List R) (ps qs : List ℕ) (before now : Cuts) : Type 0 where
     pub out : length ys ≡ length xs
@@ -49,6 +55,7 @@ module _ {R : Type 0} where
 
   -- several did
   pub record RunsConsumed (places : List ℕ) (old new : List (Run R)) (before now : Stock) : Type 0 where
+    pub each : length places ≡ length old
     pub long : length new ≡ length old
     pub items : map items_of new ≡ rests places (map items_of old)
     pub spent : Each (λ (run : Run R). run.spent ≡ []) new
@@ -58,6 +65,15 @@ module _ {R : Type 0} where
     pub given : BuffersGiven before now
 
 module _ {S R : Type 0} where
+  -- The next block of the run may be loaded into an idle buffer, and the supply take its slot
+  pub record MayLoad (shown : S → Shown) (width : ℕ) (a : External S R) (buffers : List (Block R)) (stock : Stock) : Type 0 where
+    pub stored : 0 < length a.stored
+    pub none_lifted : a.lifted ≡ []
+    pub idle : HasIdle stock.block buffers
+    pub sizes : All (HasSize shown (stock.block * width)) a.stored
+    pub room : 0 < stock.slot_room
+    pub few : length (buffers_of a.loaded) < 2 ^ 32 - 1
+
   -- the places say which records may be merged, as many as there are to be, and the numbers fit
   pub record MayMergeParts (internal : List (Run R)) (external : List (External S R)) (places : List ℕ) (bench : Cuts) (wanted : ℕ) : Type 0 where
     pub few_runs : length internal + length external < 2 ^ 32
@@ -83,6 +99,7 @@ module _ {S R : Type 0} where
 
   -- several did
   pub record ArraysConsumed (places : List ℕ) (old new : List (External S R)) (before now : List (Block R)) : Type 0 where
+    pub each : length places ≡ length old
     pub rest : AllZip SameBlocks old new
     pub items : map (λ (a : External S R). items_of a.loaded) new ≡ rests places (map (λ (a : External S R). items_of a.loaded) old)
     pub spent : Each (λ (a : External S R). a.loaded.spent ≡ []) new
@@ -91,16 +108,10 @@ module _ {S R : Type 0} where
     pub fitting : Each (λ (a : External S R). All IsFitting (buffers_of a.loaded)) old → Each (λ (a : External S R). All IsFitting (buffers_of a.loaded)) new
     pub bounded : external_buffers new + fronts_in old ≤ external_buffers old + fronts_in new
 
-  -- The least records of those in front of the bounds were merged into out, and left their runs
-  pub record TakesSafe (cmp : R → R → Ordering) (bounds : List ℕ) (internal internal' : List (Run R)) (external external' : List (External S R)) (idle idle' : List (Block R)) (stock stock' : Stock) (out : List R) : Type 0 where
-    pub places : List ℕ
-    pub more : List ℕ
-    pub within : AreWithin (places ++ more) (firsts bounds (loaded_lists internal external))
-    pub bag : IsSameBag out (before (places ++ more) (firsts bounds (loaded_lists internal external)))
-    pub least : Each (Ascends cmp) (firsts bounds (loaded_lists internal external)) → out ≡ front cmp (all_of (firsts bounds (loaded_lists internal external))) (length out)
-    pub internal_long : length places ≡ length internal
-    pub runs : RunsConsumed places internal internal' stock stock'
-    pub arrays : ArraysConsumed more external external' idle idle'
+  -- Runs lost their first records, up to these places: those in buffers, and then those in blocks
+  pub record AllConsumed (places : List ℕ) (internal internal' : List (Run R)) (external external' : List (External S R)) (idle idle' : List (Block R)) (stock stock' : Stock) : Type 0 where
+    pub runs : RunsConsumed (take (length internal) places) internal internal' stock stock'
+    pub arrays : ArraysConsumed (drop (length internal) places) external external' idle idle'
 
   module _ (record_of : List ℕ → R) (width : ℕ) (shown : S → Shown) where
     -- The slot of a block was read once, and went to the supply

@@ -1,20 +1,16 @@
 -- One turn of a refill: which block is next, and what is to be done.
-use Rattle.std.specs.Prelude.{◌≡◌, ◌≢◌, ◌⊎◌, ℕ, ◌+◌, ◌<◌, ◌≤◌, ⊤, ◌==◌, if◌then◌else◌, cond, min, List, [], length, take, Option, Some, None, slice_get}
+use Rattle.std.specs.Prelude.{◌≡◌, ◌≢◌, ◌⊎◌, ℕ, ◌+◌, ◌<◌, ⊤, ◌==◌, if◌then◌else◌, cond, min, List, [], length, Option, Some, None, slice_get}
 use Rattle.std.specs.declared.cmp.Ordering.{Ordering}
 use Rattle.std.specs.List.{AllByRecursion as Each}
 use Rattle.ppq_array.specs.ppq_record.Order.{Le, is_before}
 use Rattle.ppq_array.specs.Run.{items_of}
 use Rattle.ppq_array.specs.External.{External, next_of}
 use Rattle.ppq_array.specs.Holdings.{external_buffers}
-use Rattle.ppq_array.specs.ppq_outside.Shown.{Shown}
-use Rattle.ppq_fetch.specs.Taking.{NoneBelow}
-use Rattle.ppq_fetch.specs.Fetching.{State, Fetched, FetchFailed, MayFetch, AreSources, SourcesTell, RunsRise, source_items, count_in, blocks_in, fronts_in}
+use Rattle.ppq_fetch.specs.Fetching.{fronts_in}
 use Rattle.ppq_fetch.specs.declared.edge.Edge.{Edge}
 use Rattle.ppq_fetch.specs.declared.turn.NextBlock.{NextBlock}
-use Rattle.ppq_fetch.specs.declared.turn.Step.{Step}
-use Rattle.ppq_fetch.specs.declared.turn.Step.TheVariants.{Took, Ended, Failed}
 use Rattle.ppq_fetch.specs.declared.turn.Turn.{Turn}
-use Rattle.ppq_fetch.specs.declared.turn.Turn.TheVariants.{End, Load, Take, Odd}
+use Rattle.ppq_fetch.specs.declared.turn.Turn.TheVariants.{End, Load, Take}
 
 -- this record is not after the first of the run's blocks that are not loaded, where there are any
 abbrev pub NotAfter : {R : Type 0} → (R → R → Ordering) → R → Option R → Type 0
@@ -52,34 +48,26 @@ module _ {S R : Type 0} (cmp : R → R → Ordering) where
 abbrev pub HasBuffer : {S R : Type 0} → List (External S R) → ℕ → External S R → Type 0
 HasBuffer arrays ahead a = (items_of a.loaded ≡ []) ⊎ (external_buffers arrays < fronts_in arrays + ahead)
 
+-- The next block of a run is to be loaded, and there is a buffer for it
+pub record LoadsNext {S R : Type 0} (arrays : List (External S R)) (ahead at : ℕ) : Type 0 where
+  pub array : External S R
+  pub here : slice_get arrays at ≡ Some array
+  pub stored : 0 < length array.stored
+  pub buffer : HasBuffer arrays ahead array
+
+-- No record is safe, and there is no buffer for the block that is next, though its run has a record loaded
+pub record IsOdd {S R : Type 0} (arrays : List (External S R)) (next : Option (NextBlock R)) (edge : Edge R) (safe : ℕ) : Type 0 where
+  pub none : safe ≡ 0
+  pub block : NextBlock R
+  pub array : External S R
+  pub is : next ≡ Some block
+  pub near : edge ≡ Edge.AtMost block.minimum
+  pub here : slice_get arrays block.place ≡ Some array
+  pub loaded : 0 < length (items_of array.loaded)
+
 -- what a turn does: it takes safe records, as many as are wanted or all that are; or it loads the next block; or nothing is left within reach
-abbrev pub IsTurn : {S R : Type 0} → List (External S R) → Option (NextBlock R) → Edge R → ℕ → ℕ → ℕ → Turn → Type 0
-IsTurn arrays next edge safe room ahead (Take n) = (0 < n) × (n ≡ min safe room)
-IsTurn {S} {R} arrays next edge safe room ahead (Load at) = (b : NextBlock R) × (a : External S R) × (next ≡ Some b) × (b.place ≡ at) × (slice_get arrays at ≡ Some a) × HasBuffer arrays ahead a
-IsTurn {S} {R} arrays next edge safe room ahead Odd = (safe ≡ 0) × ((b : NextBlock R) × (a : External S R) × (next ≡ Some b) × (edge ≡ Edge.AtMost b.minimum) × (slice_get arrays b.place ≡ Some a) × (0 < length (items_of a.loaded)))
-IsTurn {S} {R} arrays next edge safe room ahead End = (safe ≡ 0) × ((u : R) → edge ≢ Edge.AtMost u)
-
-module _ {S R : Type 0} (cmp : R → R → Ordering) (record_of : List ℕ → R) (width ahead : ℕ) (shown : S → Shown) where
-  -- a turn took so many records, or loaded a block and took none
-  pub record TookTurn (below : Option R) (old new : State S R) (out out' : List R) (n : ℕ) : Type 0 where
-    pub within : n ≤ length out
-    pub fetched : Fetched cmp record_of width shown below old new (take n out')
-    pub may : MayFetch shown width ahead new
-    pub less : blocks_in new.external + length out < blocks_in old.external + length out + n
-
-  -- a turn found no more, and changed nothing
-  pub record EndedTurn (below : Option R) (old new : State S R) : Type 0 where
-    pub same : new ≡ old
-    pub none : SourcesTell shown old → RunsRise record_of width shown cmp old → NoneBelow cmp below (source_items record_of width shown old)
-    pub all : below ≡ None → count_in old.internal old.external ≡ 0
-
-  -- a read failed
-  pub record FailedTurn (old new : State S R) (number : ℕ) : Type 0 where
-    pub failed : FetchFailed shown number old new
-    pub sources : AreSources shown width ahead new
-
-  -- how a turn ends
-  abbrev pub TurnEnds : Option R → State S R → State S R → List R → List R → Step → Type 0
-  TurnEnds below old new out out' (Took n) = TookTurn below old new out out' n
-  TurnEnds below old new out out' Ended = EndedTurn below old new
-  TurnEnds below old new out out' (Failed number) = FailedTurn old new number
+abbrev pub IsTurn : {S R : Type 0} → List (External S R) → Option (NextBlock R) → Edge R → ℕ → ℕ → ℕ → Option Turn → Type 0
+IsTurn arrays next edge safe room ahead (Some (Take n)) = (0 < n) × (n ≡ min safe room)
+IsTurn arrays next edge safe room ahead (Some (Load at)) = LoadsNext arrays ahead at
+IsTurn {S} {R} arrays next edge safe room ahead (Some End) = (safe ≡ 0) × ((u : R) → edge ≢ Edge.AtMost u)
+IsTurn arrays next edge safe room ahead None = IsOdd arrays next edge safe

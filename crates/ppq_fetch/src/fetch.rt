@@ -2,15 +2,13 @@
 ghost use Rattle.std.specs.Prelude.{◌≡◌, ◌+◌, ◌<◌, ◌≤◌, ℕ, min, length, take, None, IfOk, OnOk, IsErrOf};
 ghost use Rattle.ppq_array.specs.ppq_record.Bag.{front};
 ghost use Rattle.ppq_fetch.specs.Taking.{wanted};
-ghost use Rattle.ppq_fetch.specs.Turns.{TurnEnds};
-ghost use Rattle.ppq_fetch.specs.Steps.{SameRoom};
 ghost use Rattle.ppq_fetch.specs.Fetching.{state, source_items, AreSources, MayFetch, Fetched, FetchFailed, SourcesTell, RunsRise, count_in};
 
-use crate::edge::{Edge, choose_edge};
+use crate::crew::Crew;
 use crate::load::load_block;
-use crate::mark::mark_runs;
-use crate::take::take_safe;
-use crate::turn::{Step, Turn, choose, first_of, next_block};
+use crate::plan::plan_turn;
+use crate::take::{consume_taken, merge_parts};
+use crate::turn::Turn;
 use ppq_array::{
     BufList, ExternalArray, Gate, Host, InternalArray, Record, Slot, StoreFault, Supply,
     record_laws,
@@ -67,16 +65,24 @@ pub fn take_least<H: Host, S: Slot + Sync, R: Record + Send + Sync, P: Supply<S,
 {
     record_laws::<R>();
     straighten(internal);
+    let crew = Crew { rt, gate };
     let mut to = 0;
     while to < out.len() {
-        let rest = &mut out[to..];
-        let step = take_turn(
-            rt, internal, external, idle, places, bench, supply, below, ahead, rest, gate,
-        );
-        match step {
-            Step::Took(count) => to += count,
-            Step::Ended => return Ok(to),
-            Step::Failed(number) => return Err(StoreFault::Device { number }),
+        let room = (out.len() - to) as u64;
+        let turn = plan_turn(&*internal, &*external, places, below, room, ahead);
+        match turn {
+            Turn::End => return Ok(to),
+            Turn::Load(place) => match load_block(rt, &mut external[place], idle, supply) {
+                None => {}
+                Some(number) => return Err(StoreFault::Device { number }),
+            },
+            Turn::Take(count) => {
+                let end = to + count as usize;
+                let part = &mut out[to..end];
+                merge_parts(&crew, &*internal, &*external, places, bench, part);
+                consume_taken(internal, external, places, idle, supply);
+                to = end;
+            }
         }
     }
     Ok(to)
@@ -88,56 +94,5 @@ fn straighten<R: Record>(internal: &mut [InternalArray<R>])
 {
     for i in 0..internal.len() {
         internal[i].straighten();
-    }
-}
-
-// One turn: it loads a block, or takes safe records into the beginning of `out`.
-fn take_turn<H: Host, S: Slot + Sync, R: Record + Send + Sync, P: Supply<S, R>, G: Gate>(
-    rt: &H,
-    internal: &mut [InternalArray<R>],
-    external: &mut [ExternalArray<S, R>],
-    idle: &mut BufList<R>,
-    places: &mut [u64],
-    bench: &mut Bench<R>,
-    supply: &mut P,
-    below: Option<R>,
-    ahead: u32,
-    out: &mut [R],
-    gate: &G,
-) -> Step
-    requires may { MayFetch S.shown R.WIDTH ahead (state internal.old external.old idle.old (P.stock supply.old)) }
-    requires places { length places.old ≡ length internal.old + length external.old }
-    requires bench { length places.old ≤ length bench.old.places }
-    requires some { 0 < length out.old }
-    ensures outcome { TurnEnds R.Ord.cmp R.record_of R.WIDTH ahead S.shown below (state internal.old external.old idle.old (P.stock supply.old)) (state internal.new external.new idle.new (P.stock supply.new)) out.old out.new result }
-    ensures room { SameRoom out.old out.new places.old places.new bench.old bench.new }
-    ensures home { P.home supply.new ≡ P.home supply.old }
-{
-    record_laws::<R>();
-    let next = next_block(&*external);
-    let edge = choose_edge(first_of(next), below);
-    let safe = mark_runs(&*internal, &*external, &edge, places);
-    let turn = choose(&*external, next, edge, safe, out.len() as u64, ahead);
-    match turn {
-        Turn::End => Step::Ended,
-        Turn::Load(place) => match load_block(rt, &mut external[place], idle, supply) {
-            None => Step::Took(0),
-            Some(number) => Step::Failed(number),
-        },
-        Turn::Take(count) => {
-            let part = &mut out[..count as usize];
-            take_safe(
-                rt, internal, external, idle, places, bench, supply, part, gate,
-            );
-            Step::Took(count as usize)
-        }
-        Turn::Odd => {
-            mark_runs(&*internal, &*external, &Edge::Whole, places);
-            let part = &mut out[..1];
-            take_safe(
-                rt, internal, external, idle, places, bench, supply, part, gate,
-            );
-            Step::Took(1)
-        }
     }
 }

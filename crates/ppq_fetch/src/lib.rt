@@ -5,11 +5,13 @@
 //! and a merge of runs in blocks are made of it.
 #![tactic(auto)]
 
+mod crew;
 mod edge;
 mod fetch;
 mod load;
 mod loaded;
 mod mark;
+mod plan;
 mod take;
 mod turn;
 
@@ -19,5 +21,5 @@ pub use ppq_array::{
     OpenGate, OutsideFault, OwnerLists, Rack, Record, Runs, Slot, StoreFault, Supply, free_slot,
     give_buffer, record_laws,
 };
-pub use ppq_lane::{Job, JobKind, Lanes, run_job};
+pub use ppq_lane::{Job, JobKind, Lanes, overlap_mut, run_job, run_jobs};
 pub use ppq_merge::{Bench, MinTree, merge_workers, size_of};

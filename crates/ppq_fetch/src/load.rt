@@ -1,8 +1,6 @@
 //! Loading the next block of a run.
-ghost use Rattle.std.specs.Prelude.{◌≡◌, ◌*◌, ◌-◌, ◌<◌, ◌^◌, [], length, IfSome, IfNone, All};
-ghost use Rattle.ppq_array.specs.Run.{buffers_of};
-ghost use Rattle.ppq_array.specs.Owner.{HasSize};
-ghost use Rattle.ppq_fetch.specs.Steps.{HasIdle, BlockLoaded, BlockLost};
+ghost use Rattle.std.specs.Prelude.{◌≡◌, IfSome, IfNone};
+ghost use Rattle.ppq_fetch.specs.Steps.{MayLoad, BlockLoaded, BlockLost};
 
 use ppq_array::{BufList, ExternalArray, Host, Record, Slot, Supply, free_slot, record_laws};
 use ppq_lane::{Job, JobKind, run_job};
@@ -15,12 +13,7 @@ pub(crate) fn load_block<H: Host, S: Slot, R: Record, P: Supply<S, R>>(
     idle: &mut BufList<R>,
     supply: &mut P,
 ) -> Option<u32>
-    requires stored { 0 < length array.old.stored }
-    requires none_lifted { array.old.lifted ≡ [] }
-    requires idle { HasIdle (P.stock supply.old).block idle.old }
-    requires sizes { All (HasSize S.shown ((P.stock supply.old).block * R.WIDTH)) array.old.stored }
-    requires room { 0 < (P.stock supply.old).slot_room }
-    requires few { length (buffers_of array.old.loaded) < 2 ^ 32 - 1 }
+    requires may { MayLoad S.shown R.WIDTH array.old idle.old (P.stock supply.old) }
     ensures loaded { IfNone result (BlockLoaded R.record_of R.WIDTH S.shown array.old array.new idle.old idle.new (P.stock supply.old) (P.stock supply.new)) }
     ensures lost { IfSome result (λ number. BlockLost R.record_of R.WIDTH S.shown number array.old array.new idle.old idle.new (P.stock supply.old) (P.stock supply.new)) }
     ensures home { P.home supply.new ≡ P.home supply.old }

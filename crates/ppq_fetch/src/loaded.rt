@@ -1,9 +1,9 @@
 //! The loaded parts of runs, shown as runs.
-ghost use Rattle.std.specs.Prelude.{◌≡◌, ◌+◌, ◌<◌, ◌≤◌, ◌^◌, ◌++◌, ℕ, List, Some, length, map, get_or, slice_get};
+ghost use Rattle.std.specs.Prelude.{◌≡◌, ◌+◌, ◌<◌, ◌^◌, ◌++◌, List, Some, length, map, slice_get};
 ghost use Rattle.ppq_array.specs.ppq_record.Runs.{list_at};
 ghost use Rattle.ppq_array.specs.Run.{items_of};
 ghost use Rattle.ppq_merge.specs.ppq_split.Cut.{AreWithin};
-ghost use Rattle.ppq_fetch.specs.Parts.{firsts};
+ghost use Rattle.ppq_fetch.specs.Parts.{firsts, AreWithin-prop};
 
 use ppq_array::{ExternalArray, InternalArray, Listing, Record, Slot};
 use std::marker::PhantomData;
@@ -68,8 +68,7 @@ pub(crate) struct SafeParts<'a, R: Record + Sync, I: Loaded<R> + Sync, E: Loaded
     places: &'a [u64],
     of: PhantomData<R>,
     ghost few: { length internal.now + length external.now < 2 ^ 32 },
-    ghost all: { length places.now ≡ length (map I.list internal.now ++ map E.list external.now) },
-    ghost within: { (i : ℕ) → get_or places.now i 0 ≤ length (list_at (map I.list internal.now ++ map E.list external.now) i) },
+    ghost within: { AreWithin places.now (map I.list internal.now ++ map E.list external.now) } by { AreWithin-prop places.now (map I.list internal.now ++ map E.list external.now) },
 }
 
 impl<'a, R: Record + Sync, I: Loaded<R> + Sync, E: Loaded<R> + Sync> SafeParts<'a, R, I, E> {

@@ -1,11 +1,9 @@
 //! How many records of each run are safe.
 ghost use Rattle.std.specs.Prelude.{◌≡◌, ◌+◌, ◌<◌, ◌≤◌, ◌^◌, length, map, count_by};
-ghost use Rattle.std.specs.List.{AllByRecursion as Each};
 ghost use Rattle.ppq_array.specs.ppq_record.Order.{Ascends};
 ghost use Rattle.ppq_array.specs.ppq_record.Runs.{all_of};
-ghost use Rattle.ppq_merge.specs.ppq_split.Cut.{AreWithin, total};
 ghost use Rattle.ppq_fetch.specs.Edges.{is_within};
-ghost use Rattle.ppq_fetch.specs.Parts.{passed};
+ghost use Rattle.ppq_fetch.specs.Plan.{IsMarked};
 ghost use Rattle.ppq_fetch.specs.Fetching.{loaded_lists, count_in};
 
 use crate::edge::Edge;
@@ -49,10 +47,7 @@ fn mark_all<R: Record, Q: Loaded<R>>(runs: &[Q], edge: &Edge<R>, places: &mut [u
     requires places { length places.old ≡ length runs.now }
     requires few { length (all_of (map Q.list runs.now)) < 2 ^ 64 }
     ensures length { length places.new ≡ length places.old }
-    ensures within { AreWithin places.new (map Q.list runs.now) }
-    ensures total { result ≡ total places.new }
-    ensures safe { Each (Ascends R.Ord.cmp) (map Q.list runs.now) → places.new ≡ passed (is_within R.Ord.cmp edge.now) (map Q.list runs.now) }
-    ensures whole { edge.now ≡ Edge.Whole → result ≡ length (all_of (map Q.list runs.now)) }
+    ensures marked { IsMarked R.Ord.cmp edge.now (map Q.list runs.now) places.new result }
 {
     let mut sum = 0;
     for i in 0..runs.len() {
@@ -73,10 +68,7 @@ pub(crate) fn mark_runs<S: Slot, R: Record>(
     requires places { length places.old ≡ length internal.now + length external.now }
     requires few { count_in internal.now external.now < 2 ^ 64 }
     ensures length { length places.new ≡ length places.old }
-    ensures within { AreWithin places.new (loaded_lists internal.now external.now) }
-    ensures total { result ≡ total places.new }
-    ensures safe { Each (Ascends R.Ord.cmp) (loaded_lists internal.now external.now) → places.new ≡ passed (is_within R.Ord.cmp edge.now) (loaded_lists internal.now external.now) }
-    ensures whole { edge.now ≡ Edge.Whole → result ≡ length (all_of (loaded_lists internal.now external.now)) }
+    ensures marked { IsMarked R.Ord.cmp edge.now (loaded_lists internal.now external.now) places.new result }
 {
     let (first, second) = places.split_at_mut(internal.len());
     let inside = mark_all(internal, edge, first);

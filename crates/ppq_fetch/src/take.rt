@@ -10,63 +10,33 @@ ghost use Rattle.ppq_array.specs.Owner.{HasBlock};
 ghost use Rattle.ppq_array.specs.Holdings.{internal_buffers, external_buffers, RunHasBlock};
 ghost use Rattle.ppq_merge.specs.ppq_split.Cut.{AreWithin};
 ghost use Rattle.ppq_merge.specs.Parts.{before, places_for};
-ghost use Rattle.ppq_fetch.specs.Parts.{firsts};
-ghost use Rattle.ppq_fetch.specs.Steps.{SameRoom, MayMergeParts, BuffersGiven, RunConsumed, RunsConsumed, ArrayConsumed, ArraysConsumed, TakesSafe};
+ghost use Rattle.ppq_fetch.specs.Steps.{SameRoom, MayMergeParts, BuffersGiven, RunConsumed, RunsConsumed, ArrayConsumed, ArraysConsumed, AllConsumed, MergesSafe};
 ghost use Rattle.ppq_fetch.specs.Fetching.{loaded_lists};
 
+use crate::crew::Crew;
 use crate::loaded::{Loaded, SafeParts};
 use ppq_array::{
-    BufList, ExternalArray, Gate, Host, InternalArray, Listing, Record, Slot, Supply, give_buffer,
+    BufList, ExternalArray, Gate, InternalArray, Listing, Record, Slot, Supply, give_buffer,
 };
 use ppq_merge::{Bench, merge_workers};
 use std::thread::Threads;
 
-// Merges the least of the safe records into `out`, and takes them out of their runs. The places say
-// which are safe, and become those up to which records were taken.
-pub(crate) fn take_safe<H: Host, S: Slot + Sync, R: Record + Send + Sync, P: Supply<S, R>, G: Gate>(
-    rt: &H,
-    internal: &mut [InternalArray<R>],
-    external: &mut [ExternalArray<S, R>],
-    idle: &mut BufList<R>,
-    places: &mut [u64],
-    bench: &mut Bench<R>,
-    supply: &mut P,
-    out: &mut [R],
-    gate: &G,
-)
-    requires may { MayMergeParts internal.old external.old places.old bench.old (length out.old) }
-    requires room { internal_buffers internal.old ≤ (P.stock supply.old).buffer_room }
-    requires blocks { All (RunHasBlock (P.stock supply.old).block) internal.old }
-    requires few_buffers { external_buffers external.old + length idle.old < 2 ^ 32 - 1 }
-    ensures taken { TakesSafe R.Ord.cmp places.old internal.old internal.new external.old external.new idle.old idle.new (P.stock supply.old) (P.stock supply.new) out.new }
-    ensures room { SameRoom out.old out.new places.old places.new bench.old bench.new }
-    ensures home { P.home supply.new ≡ P.home supply.old }
-{
-    merge_parts(rt, &*internal, &*external, places, bench, out, gate);
-    let (first, second) = places.split_at(internal.len());
-    consume_internal(internal, first, supply);
-    consume_external(external, second, idle);
-}
-
 // Merges the least of the safe records; `places` say which are safe, and become the places up to which
 // they were taken.
 pub(crate) fn merge_parts<H: Threads + Sync, S: Slot + Sync, R: Record + Send + Sync, G: Gate>(
-    rt: &H,
+    crew: &Crew<H, G>,
     internal: &[InternalArray<R>],
     external: &[ExternalArray<S, R>],
     places: &mut [u64],
     bench: &mut Bench<R>,
     out: &mut [R],
-    gate: &G,
 )
     requires may { MayMergeParts internal.now external.now places.old bench.old (length out.old) }
     ensures room { SameRoom out.old out.new places.old places.new bench.old bench.new }
-    ensures within { AreWithin places.new (firsts places.old (loaded_lists internal.now external.now)) }
-    ensures bag { IsSameBag out.new (before places.new (firsts places.old (loaded_lists internal.now external.now))) }
-    ensures front { Each (Ascends R.Ord.cmp) (firsts places.old (loaded_lists internal.now external.now)) → out.new ≡ front R.Ord.cmp (all_of (firsts places.old (loaded_lists internal.now external.now))) (length out.old) }
+    ensures merged { MergesSafe R.Ord.cmp places.old (loaded_lists internal.now external.now) places.new out.new }
 {
     let parts = SafeParts::new(internal, external, places);
-    merge_shown(rt, &parts, bench, out, gate);
+    merge_shown(crew.rt, &parts, bench, out, crew.gate);
     copy_cuts(bench, places);
 }
 
@@ -101,6 +71,27 @@ fn copy_cuts<R: Record>(bench: &Bench<R>, places: &mut [u64])
     for run in 0..places.len() {
         places[run] = bench.cut(run as u32);
     }
+}
+
+// Takes the first records of each run away, up to its place. The buffers that are spent go to the supply,
+// and of runs in blocks they are idle.
+pub(crate) fn consume_taken<S: Slot, R: Record, P: Supply<S, R>>(
+    internal: &mut [InternalArray<R>],
+    external: &mut [ExternalArray<S, R>],
+    places: &[u64],
+    idle: &mut BufList<R>,
+    supply: &mut P,
+)
+    requires within { AreWithin places.now (loaded_lists internal.old external.old) }
+    requires room { internal_buffers internal.old ≤ (P.stock supply.old).buffer_room }
+    requires blocks { All (RunHasBlock (P.stock supply.old).block) internal.old }
+    requires few { external_buffers external.old + length idle.old < 2 ^ 32 - 1 }
+    ensures consumed { AllConsumed places.now internal.old internal.new external.old external.new idle.old idle.new (P.stock supply.old) (P.stock supply.new) }
+    ensures home { P.home supply.new ≡ P.home supply.old }
+{
+    let (first, second) = places.split_at(internal.len());
+    consume_internal(internal, first, supply);
+    consume_external(external, second, idle);
 }
 
 // Takes the first records of each run away, up to its place; the buffers that are spent go to the supply.

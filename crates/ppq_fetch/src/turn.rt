@@ -28,19 +28,6 @@ pub(crate) enum Turn {
     Load(usize),
     // It takes so many safe records.
     Take(u64),
-    // It takes any record; over slots that tell it never comes.
-    Odd,
-}
-
-// How a turn ended.
-#[derive(Clone, Copy)]
-pub(crate) enum Step {
-    // It gave so many records; none where it loaded a block.
-    Took(usize),
-    // No record is within reach any more.
-    Ended,
-    // The read of the slot with this number failed.
-    Failed(u32),
 }
 
 // Of the blocks that are next in their runs, one with the least first record.
@@ -105,7 +92,8 @@ fn has_room_ahead<S: Slot, R: Record>(external: &[ExternalArray<S, R>], ahead: u
 }
 
 // What is to be done: as long as fewer safe records are loaded than are wanted, the next block is loaded,
-// where there is a buffer for it.
+// where there is a buffer for it. None if there is no buffer and no safe record, though a record is loaded
+// of the run whose block is next; over slots that tell it never comes.
 pub(crate) fn choose<S: Slot, R: Record>(
     external: &[ExternalArray<S, R>],
     next: Option<NextBlock<R>>,
@@ -113,7 +101,7 @@ pub(crate) fn choose<S: Slot, R: Record>(
     safe: u64,
     room: u64,
     ahead: u32,
-) -> Turn
+) -> Option<Turn>
     requires next { IsNext R.Ord.cmp external.now next }
     requires edge { (u : _) → edge ≡ Edge.AtMost u → minimum_of next ≡ Some u }
     requires room { 0 < room }
@@ -122,11 +110,11 @@ pub(crate) fn choose<S: Slot, R: Record>(
     ensures { IsTurn external.now next edge safe room ahead result }
 {
     if safe >= room {
-        return Turn::Take(room);
+        return Some(Turn::Take(room));
     }
     match edge {
         Edge::AtMost(_) => choose_load(external, next, edge, safe, room, ahead),
-        _ => choose_rest(safe),
+        _ => Some(choose_rest(safe)),
     }
 }
 
@@ -149,7 +137,7 @@ fn choose_load<S: Slot, R: Record>(
     safe: u64,
     room: u64,
     ahead: u32,
-) -> Turn
+) -> Option<Turn>
     requires next { IsNext R.Ord.cmp external.now next }
     requires edge { (u : _) → edge ≡ Edge.AtMost u → minimum_of next ≡ Some u }
     requires near { (u : _) × (edge ≡ Edge.AtMost u) }
@@ -161,10 +149,10 @@ fn choose_load<S: Slot, R: Record>(
     let Some(block) = next else { unreachable!() };
     let loaded = external[block.place].loaded();
     if loaded == 0 || has_room_ahead(external, ahead) {
-        return Turn::Load(block.place);
+        return Some(Turn::Load(block.place));
     }
     if safe == 0 {
-        return Turn::Odd;
+        return None;
     }
-    Turn::Take(safe)
+    Some(Turn::Take(safe))
 }

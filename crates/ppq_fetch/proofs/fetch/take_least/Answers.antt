@@ -1,9 +1,18 @@
-use Rattle.std.proofs.Common.{◌≡◌, ◌+◌, ◌-◌, ◌≤◌, ◌++◌, [], length, take, drop, inl, inr, refl, sym, ap, ◌∙◌, subst, arith, length-take, length-drop, length-append}
+use Rattle.std.proofs.Common.{◌≡◌, ◌+◌, ◌-◌, ◌<◌, ◌≤◌, ℕ, List, [], ◌++◌, length, take, drop, slice_set, inl, inr, refl, sym, ◌∙◌, subst, arith, length-take, length-drop, length-append}
+use Rattle.std.proofs.lemmas.Option.{slice_get_within}
+use Rattle.std.proofs.lemmas.Slice.{take-put_mid}
 use Rattle.ppq_array.proofs.ppq_record.Fronts.{ranks, no_tie}
-use Rattle.ppq_fetch.specs.Fetching.{state, MayFetch, Fetched, FetchFailed}
-use Rattle.ppq_fetch.proofs.Ready.{take_first, take_left, take_more}
-use Rattle.ppq_fetch.proofs.Rounds.{Fetched-none, Fetched-more, Failed-more, Fetched-front}
+use Rattle.ppq_fetch.specs.Fetching.{state, MayFetch, Fetched, FetchFailed, loaded_lists}
+use Rattle.ppq_fetch.proofs.Loads.{loaded_turn, lost_turn}
+use Rattle.ppq_fetch.proofs.Parted.{within_whole}
+use Rattle.ppq_fetch.proofs.Ready.{may_load, has_buffer}
+use Rattle.ppq_fetch.proofs.Rounds.{Fetched-none, Fetched-more, Fetched-on, Failed-more, Fetched-front}
+use Rattle.ppq_fetch.proofs.Takes.{taken_turn}
 use Rattle.ppq_fetch.proofs.fetch.take_least.Goals as goal
+
+-- a list of which a part was written over is as long as before
+long_written : {X : Type 0} (xs ys : List X) (a k : ℕ) → length ys ≡ k → a + k ≤ length xs → length (take a xs ++ (ys ++ drop k (drop a xs))) ≡ length xs
+long_written xs ys a k e h = omega (arith, length-append (take a xs) (ys ++ drop k (drop a xs)), length-append ys (drop k (drop a xs)), length-take a xs, length-drop k (drop a xs), length-drop a xs)
 
 pub loop-to-init : goal.loop-to-init
 loop-to-init g c =
@@ -22,66 +31,139 @@ loop-to-init g c =
       home = refl;
     }
 
+pub bounds-external-place : goal.bounds-external-place
+bounds-external-place g c = let load = c.in-Load.ensures.plan in slice_get_within c.loop-to.external c.in-Load.place load.array load.here
+
+pub offset_bounds-external-place : goal.offset_bounds-external-place
+offset_bounds-external-place g c = let load = c.in-Load.ensures.plan in omega (arith, slice_get_within c.loop-to.external c.in-Load.place load.array load.here, c.loop-to.invariant.may.sources.few_runs)
+
+pub load_block-requires-clause-may : goal.load_block-requires-clause-may
+load_block-requires-clause-may g c κs within =
+    let l = c.loop-to in
+    may_load g.R.Record.record_of g.S.Slot.shown g.R.Record.WIDTH c.args.ahead (state l.internal l.external l.idle (g.P.Supply.stock l.supply)) c.in-Load.place c.index-external-place.result l.invariant.may c.in-Load.ensures.plan
+
+pub loop-to-preserved-in-None : goal.loop-to-preserved-in-None
+loop-to-preserved-in-None g c =
+    let l = c.loop-to in
+    let i = l.invariant in
+    let k = c.load_block.new in
+    let p = c.in-Load.place in
+    let load = c.in-Load.ensures.plan in
+    let o = ranks c.record_laws.ensures.order in
+    let stock = g.P.Supply.stock l.supply in
+    let old = state c.args.internal.now c.args.external.now c.args.idle.now (g.P.Supply.stock c.args.supply.now) in
+    let turn = loaded_turn g.R.Record.record_of g.R.Record.WIDTH g.S.Slot.shown l.internal l.external p c.index-external-place.result k.array l.idle k.idle stock (g.P.Supply.stock k.supply) (slice_get_within l.external p load.array load.here) c.in-None.ensures.loaded
+    g.R.Ord.cmp o c.args.below c.args.ahead c.record_laws.ensures.width.0 i.may (has_buffer l.external c.args.ahead p c.index-external-place.result load) in
+    record {
+      within = i.within;
+      out = i.out;
+      fetched = Fetched-on g.R.Ord.cmp o g.R.Record.record_of g.R.Record.WIDTH g.S.Slot.shown c.args.below old (state l.internal l.external l.idle stock) (state l.internal (slice_set l.external p k.array) k.idle (g.P.Supply.stock k.supply)) (take l.to l.out) i.fetched turn.fetched;
+      may = turn.may;
+      places = c.plan_turn-turn.ensures.places ∙ i.places;
+      bench = i.bench;
+      workers = i.workers;
+      home = c.load_block.ensures.home ∙ i.home;
+    }
+
+pub loop-to-smaller-in-None : goal.loop-to-smaller-in-None
+loop-to-smaller-in-None g c =
+    let l = c.loop-to in
+    let k = c.load_block.new in
+    let p = c.in-Load.place in
+    let load = c.in-Load.ensures.plan in
+    let turn = loaded_turn g.R.Record.record_of g.R.Record.WIDTH g.S.Slot.shown l.internal l.external p c.index-external-place.result k.array l.idle k.idle (g.P.Supply.stock l.supply) (g.P.Supply.stock k.supply) (slice_get_within l.external p load.array load.here) c.in-None.ensures.loaded
+    g.R.Ord.cmp (ranks c.record_laws.ensures.order) c.args.below c.args.ahead c.record_laws.ensures.width.0 l.invariant.may (has_buffer l.external c.args.ahead p c.index-external-place.result load) in
+    omega (arith, turn.less)
+
+pub returns-in-Some-clause-sources : goal.returns-in-Some-clause-sources
+returns-in-Some-clause-sources g c =
+    let l = c.loop-to in
+    let k = c.load_block.new in
+    let load = c.in-Load.ensures.plan in
+    (lost_turn g.R.Record.record_of g.R.Record.WIDTH g.S.Slot.shown l.internal l.external c.in-Load.place c.index-external-place.result k.array l.idle k.idle (g.P.Supply.stock l.supply) (g.P.Supply.stock k.supply) (slice_get_within l.external c.in-Load.place load.array load.here)
+    c.in-Some.number c.in-Some.ensures.lost c.args.ahead l.invariant.may).1
+
+pub returns-in-Some-clause-device : goal.returns-in-Some-clause-device
+returns-in-Some-clause-device g c number is =
+    let l = c.loop-to in
+    let k = c.load_block.new in
+    let load = c.in-Load.ensures.plan in
+    let stock = g.P.Supply.stock l.supply in
+    let old = state c.args.internal.now c.args.external.now c.args.idle.now (g.P.Supply.stock c.args.supply.now) in
+    let now = state l.internal l.external l.idle stock in
+    let next = state l.internal (slice_set l.external c.in-Load.place k.array) k.idle (g.P.Supply.stock k.supply) in
+    let lost = lost_turn g.R.Record.record_of g.R.Record.WIDTH g.S.Slot.shown l.internal l.external c.in-Load.place c.index-external-place.result k.array l.idle k.idle stock (g.P.Supply.stock k.supply) (slice_get_within l.external c.in-Load.place load.array load.here)
+    c.in-Some.number c.in-Some.ensures.lost c.args.ahead l.invariant.may in
+    let e : c.in-Some.number ≡ number = cc in
+    Failed-more g.R.Ord.cmp (ranks c.record_laws.ensures.order) g.R.Record.record_of g.R.Record.WIDTH g.S.Slot.shown c.args.below number old now next (take l.to l.out) l.invariant.fetched (subst (λ n. FetchFailed g.S.Slot.shown n now next) e lost.0)
+
+pub consume_taken-requires-clause-within : goal.consume_taken-requires-clause-within
+consume_taken-requires-clause-within g c =
+    let p = c.plan_turn-turn.new.places in
+    within_whole c.merge_parts.new.places p (loaded_lists c.loop-to.internal c.loop-to.external) c.merge_parts.ensures.merged.within c.in-Take.ensures.plan.within
+
 pub loop-to-preserved : goal.loop-to-preserved
 loop-to-preserved g c =
     let l = c.loop-to in
     let i = l.invariant in
-    let k = c.take_turn-step.new in
+    let m = c.merge_parts in
+    let k = c.consume_taken.new in
+    let n = c.in-Take.count in
+    let plan = c.in-Take.ensures.plan in
     let o = ranks c.record_laws.ensures.order in
+    let stock = g.P.Supply.stock l.supply in
     let old = state c.args.internal.now c.args.external.now c.args.idle.now (g.P.Supply.stock c.args.supply.now) in
-    let now = state l.internal l.external l.idle (g.P.Supply.stock l.supply) in
     let next = state k.internal k.external k.idle (g.P.Supply.stock k.supply) in
-    let done = take l.to l.out in
-    let long : l.to ≡ length done = omega (arith, length-take l.to l.out, i.within) in
-    let n = c.in-Took.count in
-    let tail = drop (length l.out - l.to) (drop l.to l.out) in
-    let none : length tail ≡ 0 = omega (arith, length-drop (length l.out - l.to) (drop l.to l.out), length-drop l.to l.out) in
-    let sums : length (done ++ (k.out ++ tail)) ≡ length l.out = omega (arith, none, c.take_turn-step.ensures.room.out, length-drop l.to l.out, length-append done (k.out ++ tail), length-append k.out tail, length-take l.to l.out, i.within) in
-    let few : n ≤ length k.out = omega (arith, c.in-Took.ensures.outcome.within, c.take_turn-step.ensures.room.out) in
-    let whole : take (l.to + n) (done ++ (k.out ++ tail)) ≡ done ++ take n k.out = take_more done (k.out ++ tail) l.to n long ∙ ap (λ xs. done ++ xs) (take_left k.out tail n few) in
-    let more = Fetched-more g.R.Ord.cmp o g.R.Record.record_of g.R.Record.WIDTH g.S.Slot.shown c.args.below old now next done (take n k.out) i.fetched c.in-Took.ensures.outcome.fetched in
+    let few : l.to + n ≤ length l.out = omega (arith, plan.few, i.within) in
+    let cut : l.to + n - l.to ≡ n = omega arith in
+    let long : n ≡ length m.new.out = omega (arith, m.ensures.room.out, length-take (l.to + n - l.to) (drop l.to l.out), length-drop l.to l.out, few, cut) in
+    let turn = taken_turn g.R.Ord.cmp o g.R.Record.record_of g.R.Record.WIDTH g.S.Slot.shown c.args.below l.internal k.internal l.external k.external l.idle k.idle stock (g.P.Supply.stock k.supply)
+    c.plan_turn-turn.new.places m.new.places (length l.out - l.to) n m.new.out plan m.ensures.merged c.consume_taken.ensures.consumed c.args.ahead i.may long in
+    let sums : length (take l.to l.out ++ (m.new.out ++ drop (l.to + n - l.to) (drop l.to l.out))) ≡ length l.out = long_written l.out m.new.out l.to (l.to + n - l.to) (omega (arith, long, cut)) (omega (arith, few, cut)) in
     record {
-      within = omega (arith, c.in-Took.ensures.outcome.within, sums, length-drop l.to l.out, i.within);
+      within = omega (arith, sums, few);
       out = sums ∙ i.out;
-      fetched = subst (λ xs. Fetched g.R.Ord.cmp g.R.Record.record_of g.R.Record.WIDTH g.S.Slot.shown c.args.below old next xs) (sym whole) more;
-      may = c.in-Took.ensures.outcome.may;
-      places = c.take_turn-step.ensures.room.places ∙ i.places;
-      bench = c.take_turn-step.ensures.room.bench ∙ i.bench;
-      workers = c.take_turn-step.ensures.room.workers ∙ i.workers;
-      home = c.take_turn-step.ensures.home ∙ i.home;
+      fetched = subst (Fetched g.R.Ord.cmp g.R.Record.record_of g.R.Record.WIDTH g.S.Slot.shown c.args.below old next) (sym (take-put_mid l.to (l.to + n - l.to) l.out m.new.out (l.to + n) (omega (arith, long)) i.within))
+          (Fetched-more g.R.Ord.cmp o g.R.Record.record_of g.R.Record.WIDTH g.S.Slot.shown c.args.below old (state l.internal l.external l.idle stock) next (take l.to l.out) m.new.out i.fetched turn.fetched);
+      may = turn.may;
+      places = m.ensures.room.places ∙ (c.plan_turn-turn.ensures.places ∙ i.places);
+      bench = m.ensures.room.bench ∙ i.bench;
+      workers = m.ensures.room.workers ∙ i.workers;
+      home = c.consume_taken.ensures.home ∙ i.home;
     }
 
-pub returns-in-Ended-clause-front : goal.returns-in-Ended-clause-front
-returns-in-Ended-clause-front g c =
+pub loop-to-smaller : goal.loop-to-smaller
+loop-to-smaller g c =
     let l = c.loop-to in
     let i = l.invariant in
-    let k = c.take_turn-step.new in
-    let o = ranks c.record_laws.ensures.order in
-    let old = state c.args.internal.now c.args.external.now c.args.idle.now (g.P.Supply.stock c.args.supply.now) in
-    let now = state l.internal l.external l.idle (g.P.Supply.stock l.supply) in
-    let done = take l.to l.out in
-    let long : l.to ≡ length done = omega (arith, length-take l.to l.out, i.within) in
-    λ tell rise. take_first done (k.out ++ drop (length l.out - l.to) (drop l.to l.out)) l.to long
-    ∙ Fetched-front g.R.Ord.cmp o g.R.Record.record_of g.R.Record.WIDTH g.S.Slot.shown c.args.below (no_tie c.record_laws.ensures.order c.record_laws.ensures.same) old now done (length c.args.out.now) i.fetched (omega (arith, long, i.within, i.out)) (inr c.in-Ended.ensures.outcome.none) tell rise
+    let m = c.merge_parts in
+    let k = c.consume_taken.new in
+    let n = c.in-Take.count in
+    let plan = c.in-Take.ensures.plan in
+    let few : l.to + n ≤ length l.out = omega (arith, plan.few, i.within) in
+    let cut : l.to + n - l.to ≡ n = omega arith in
+    let long : n ≡ length m.new.out = omega (arith, m.ensures.room.out, length-take (l.to + n - l.to) (drop l.to l.out), length-drop l.to l.out, few, cut) in
+    let turn = taken_turn g.R.Ord.cmp (ranks c.record_laws.ensures.order) g.R.Record.record_of g.R.Record.WIDTH g.S.Slot.shown c.args.below l.internal k.internal l.external k.external l.idle k.idle (g.P.Supply.stock l.supply) (g.P.Supply.stock k.supply)
+    c.plan_turn-turn.new.places m.new.places (length l.out - l.to) n m.new.out plan m.ensures.merged c.consume_taken.ensures.consumed c.args.ahead i.may long in
+    let sums : length (take l.to l.out ++ (m.new.out ++ drop (l.to + n - l.to) (drop l.to l.out))) ≡ length l.out = long_written l.out m.new.out l.to (l.to + n - l.to) (omega (arith, long, cut)) (omega (arith, few, cut)) in
+    omega (arith, turn.less, sums, long, few)
 
-pub returns-in-Failed-clause-device : goal.returns-in-Failed-clause-device
-returns-in-Failed-clause-device g c number is =
+pub returns-in-End-clause-front : goal.returns-in-End-clause-front
+returns-in-End-clause-front g c =
     let l = c.loop-to in
-    let k = c.take_turn-step.new in
+    let i = l.invariant in
     let old = state c.args.internal.now c.args.external.now c.args.idle.now (g.P.Supply.stock c.args.supply.now) in
     let now = state l.internal l.external l.idle (g.P.Supply.stock l.supply) in
-    let next = state k.internal k.external k.idle (g.P.Supply.stock k.supply) in
-    let e : c.in-Failed.number ≡ number = cc in
-    Failed-more g.R.Ord.cmp (ranks c.record_laws.ensures.order) g.R.Record.record_of g.R.Record.WIDTH g.S.Slot.shown c.args.below number old now next (take l.to l.out) l.invariant.fetched
-    (subst (λ n. FetchFailed g.S.Slot.shown n now next) e c.in-Failed.ensures.outcome.failed)
+    let long = length-take l.to l.out in
+    Fetched-front g.R.Ord.cmp (ranks c.record_laws.ensures.order) g.R.Record.record_of g.R.Record.WIDTH g.S.Slot.shown c.args.below (no_tie c.record_laws.ensures.order c.record_laws.ensures.same) old now (take l.to l.out) (length c.args.out.now) i.fetched (omega (arith, long, i.within, i.out))
+    (inr (λ tell rise. c.in-End.ensures.plan.none record { tell = tell; internal = rise.internal; external = rise.external }))
 
 pub returns-clause-front : goal.returns-clause-front
 returns-clause-front g c =
     let l = c.loop-to in
     let i = l.invariant in
-    let o = ranks c.record_laws.ensures.order in
     let old = state c.args.internal.now c.args.external.now c.args.idle.now (g.P.Supply.stock c.args.supply.now) in
     let now = state l.internal l.external l.idle (g.P.Supply.stock l.supply) in
     let long = length-take l.to l.out in
-    Fetched-front g.R.Ord.cmp o g.R.Record.record_of g.R.Record.WIDTH g.S.Slot.shown c.args.below (no_tie c.record_laws.ensures.order c.record_laws.ensures.same) old now (take l.to l.out) (length c.args.out.now) i.fetched
+    Fetched-front g.R.Ord.cmp (ranks c.record_laws.ensures.order) g.R.Record.record_of g.R.Record.WIDTH g.S.Slot.shown c.args.below (no_tie c.record_laws.ensures.order c.record_laws.ensures.same) old now (take l.to l.out) (length c.args.out.now) i.fetched
     (omega (arith, long, i.out, i.within)) (inl (omega (arith, long, i.out, i.within, c.loop-to-test.false)))

@@ -1,7 +1,7 @@
 use Rattle.std.proofs.Common.{◌≡◌, ◌+◌, ◌-◌, ◌/◌, true, false, refl, sym, ap, ◌∙◌, subst, arith, true≢false}
 use Rattle.ppq_array.proofs.ppq_record.Fronts.{ranks}
 use Rattle.ppq_fetch.specs.Edges.{is_within}
-use Rattle.ppq_fetch.proofs.Searching.{Found, found_none, found_high, found_low, found_count, edge_downward}
+use Rattle.ppq_fetch.proofs.Marking.{Found, found_none, found_high, found_low, found_count, edge_downward}
 use Rattle.ppq_fetch.proofs.mark.count_inside.Goals as goal
 
 pub loop-low-init : goal.loop-low-init

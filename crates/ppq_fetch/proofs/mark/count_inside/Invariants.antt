@@ -2,7 +2,7 @@ use Rattle.std.proofs.Common.{◌-◌, ◌≡◌, ◌≤◌, length}
 use Rattle.ppq_array.specs.ppq_record.Order.{Ascends}
 use Rattle.ppq_fetch.specs.Edges.{is_within}
 use Rattle.ppq_fetch.specs.declared.edge.Edge.TheVariants.{Whole}
-use Rattle.ppq_fetch.proofs.Searching.{Found}
+use Rattle.ppq_fetch.proofs.Marking.{Found}
 use Rattle.ppq_fetch.proofs.mark.count_inside.Given as goal
 
 abbrev pub invariant-loop-low : goal.invariant-loop-low

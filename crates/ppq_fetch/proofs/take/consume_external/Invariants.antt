@@ -7,4 +7,5 @@ invariant-loop-i g l = record {
   done : ArraysConsumed (take l.i l.places) (take l.i l.fn.external) (take l.i l.external) l.fn.idle l.idle;
   rest : drop l.i l.external ≡ drop l.i l.fn.external;
   long : length l.external ≡ length l.fn.external;
+  each : length l.places ≡ length l.fn.external;
 }

@@ -1,6 +1,6 @@
 use lib.Dec.{ltb}
 use Rattle.std.proofs.Common.{take, arith, length-take}
-use Rattle.ppq_fetch.proofs.Nexts.{fronts-le, byte_le}
+use Rattle.ppq_fetch.proofs.Waiting.{fronts-le, byte_le}
 use Rattle.ppq_fetch.proofs.turn.has_room_ahead.Goals as goal
 
 pub overflow_add-fronts : goal.overflow_add-fronts

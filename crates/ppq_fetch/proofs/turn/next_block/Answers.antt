@@ -5,7 +5,7 @@ use Rattle.ppq_array.proofs.ppq_record.Order.{Each-append}
 use Rattle.ppq_array.proofs.ppq_record.Fronts.{ranks}
 use Rattle.ppq_array.specs.External.{IsLabelled}
 use Rattle.ppq_fetch.specs.Turns.{IsNext, lesser_block}
-use Rattle.ppq_fetch.proofs.Nexts.{next_more}
+use Rattle.ppq_fetch.proofs.Waiting.{next_more}
 use Rattle.ppq_fetch.proofs.turn.next_block.Goals as goal
 
 pub loop-i-preserved : goal.loop-i-preserved
