@@ -1,5 +1,5 @@
 -- Slots that are moved, written and read, one step after the other.
-use Rattle.std.proofs.Common.{◌≡◌, ℕ, ◌+◌, List, [], ◌∷◌, ◌++◌, length, sum_by, Option, Some, None, IsSome, refl, sym, subst, arith}
+use Rattle.std.proofs.Common.{◌≡◌, ℕ, ◌+◌, ◌≤◌, List, [], ◌∷◌, ◌++◌, length, sum_by, Option, Some, None, IsSome, refl, sym, subst, arith}
 use Rattle.std.proofs.lemmas.List.Sums.{sum_by-cons, sum_by-append}
 use Rattle.std.proofs.lemmas.List.Elements.{All-cons, All-head, All-nil}
 use Rattle.ppq_fetch.specs.ppq_outside.Shown.{Shown, Tells}
@@ -115,6 +115,14 @@ WentWriting-more base xs ys s t n k m before grew calls e =
     let same : sum_by untold base ≡ sum_by untold (xs ++ t ∷ ys) =
     omega (arith, before.untold, untold_grown s t grew, sum_by-append untold xs (s ∷ ys), sum_by-cons untold s ys, sum_by-append untold xs (t ∷ ys), sum_by-cons untold t ys) in
     record { went = Went-more base xs ys s t n k m before.went grew calls e; untold = same }
+
+-- they were written so often at most, so more often at most
+pub WentWriting-weaker : (n m : ℕ) (a b : List Shown) → n ≤ m → WentWriting n a b → WentWriting m a b
+WentWriting-weaker n m a b h is =
+    record {
+      went = record { same = is.went.same; calls = record { written = omega (arith, h, is.went.calls.written); stay = is.went.calls.stay; read = is.went.calls.read }; tells = is.went.tells };
+      untold = is.untold;
+    }
 
 -- the same slots among others, in any order, of which no call failed
 pub quiet_placed :

@@ -4,14 +4,18 @@ pub mod Idle
 pub mod Choosing
 pub mod Counted
 pub mod Fetches
+pub mod Filled
 pub mod Filling
 pub mod Emptied
 pub mod Ends
 pub mod Fresh
 pub mod Gathered
 pub mod Going
+pub mod Grouped
+pub mod Groupwise
 pub mod Heads
 pub mod InBlocks
+pub mod Jobs
 pub mod Keeping
 pub mod Leveled
 pub mod Merges
@@ -23,6 +27,7 @@ pub mod Rounds
 pub mod SameSlots
 pub mod Starts
 pub mod Storings
+pub mod Taken
 pub mod Telling
 pub mod Written
 pub mod Transfers

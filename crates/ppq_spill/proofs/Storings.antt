@@ -32,23 +32,23 @@ kept_refused o n need e j buffers found =
       block = ap (λ s. s.block) found.stock;
     }
 
-module _ {S R : Type 0} (shown : S → Shown) (width : ℕ) (o d : Stock) (e j e' : List Shown) (slots0 : List (DeviceBlock S R)) (array : External S R) (drew : DrewSlots shown width o d slots0) (more : e' ≡ e ++ slots_shown shown array.stored) where
+module _ {S R : Type 0} (shown : S → Shown) (width : ℕ) (o d : Stock) (e j e' j' : List Shown) (slots0 : List (DeviceBlock S R)) (array : External S R) (drew : DrewSlots shown width o d slots0) (more : e' ≡ e ++ slots_shown shown array.stored) (same_jobs : j' ≡ j) where
   -- all blocks were written
   module _ (r : Stock) (sure room : ℕ) (is : r ≡ with_buffers d sure room) where
-    pub went_written : (most : ℕ) → WentWriting most (slots_shown shown slots0) (slots_shown shown array.stored ++ []) → WentWriting most (e ++ j ++ o.kept ++ r.drawn) (e' ++ j ++ r.kept ++ o.drawn)
+    pub went_written : (most : ℕ) → WentWriting most (slots_shown shown slots0) (slots_shown shown array.stored ++ []) → WentWriting most (e ++ j ++ o.kept ++ r.drawn) (e' ++ j' ++ r.kept ++ o.drawn)
     went_written most calls =
         let stored = slots_shown shown array.stored in
         let here : WentWriting most (slots_shown shown slots0) stored = subst (WentWriting most (slots_shown shown slots0)) (append-nil stored) calls in
         let kept : r.kept ≡ d.kept = ap (λ s. s.kept) is in
         let drawn : r.drawn ≡ d.drawn = ap (λ s. s.drawn) is in
-        went_kept e j o.kept r.drawn (slots_shown shown slots0) e' j r.kept o.drawn stored d.kept
+        went_kept e j o.kept r.drawn (slots_shown shown slots0) e' j' r.kept o.drawn stored d.kept
         (subst (λ (x : List Shown). SameSums (o.kept ++ x) (slots_shown shown slots0 ++ d.kept ++ o.drawn)) (sym drawn) drew.moved)
-        (λ f. omega (arith, ap (sum_by f) more, sum_by-append f e stored, ap (sum_by f) kept)) most here
+        (λ f. omega (arith, ap (sum_by f) more, sum_by-append f e stored, ap (sum_by f) kept, ap (sum_by f) same_jobs)) most here
 
     pub kept_written :
         (most ib ib' ib'' eb eb' l l' : ℕ) → WentWriting most (slots_shown shown slots0) (slots_shown shown array.stored ++ [])
         → room ≡ d.buffer_room - ib' → ib' ≡ ib → ib ≤ o.buffer_room → ib'' ≡ 0 → eb' ≡ eb → l' ≡ l
-        → Kept o r (held (e ++ j) (ib + eb + l)) (held (e' ++ j) (ib'' + eb' + l'))
+        → Kept o r (held (e ++ j) (ib + eb + l)) (held (e' ++ j') (ib'' + eb' + l'))
     kept_written most ib ib' ib'' eb eb' l l' calls room_is same_ib within none same_eb same_l =
         let stored = slots_shown shown array.stored in
         let slot_room : r.slot_room ≡ o.slot_room + length slots0 = ap (λ s. s.slot_room) is ∙ ap (λ s. s.slot_room) drew.stock in
@@ -56,7 +56,7 @@ module _ {S R : Type 0} (shown : S → Shown) (width : ℕ) (o d : Stock) (e j e
         let long : length stored ≡ length slots0 = omega (arith, calls.went.same.length, length-append stored [], slots_long shown slots0) in
         record {
           slots = (went_written most calls).went.same;
-          slot_room = omega (arith, length-append e' j, length-append e j, ap length more, length-append e stored, slot_room, long);
+          slot_room = omega (arith, length-append e' j', ap length same_jobs, length-append e j, ap length more, length-append e stored, slot_room, long);
           buffers = omega (arith, bufs, none, same_eb, same_l, within);
           block = ap (λ s. s.block) is ∙ ap (λ s. s.block) drew.stock;
         }
@@ -64,7 +64,7 @@ module _ {S R : Type 0} (shown : S → Shown) (width : ℕ) (o d : Stock) (e j e
   -- a write failed
   module _ (f r : Stock) (left : List (DeviceBlock S R)) (failed : DeviceBlock S R) (gets : GetsSlot d (shown failed.slot) f) (is : r ≡ record f { kept = f.kept ++ slots_shown shown left; slot_room = f.slot_room - length left })
       (most : ℕ) (calls : WentWriting most (slots_shown shown slots0) (slots_shown shown array.stored ++ (shown failed.slot ∷ slots_shown shown left))) where
-    pub went_failed : WentWriting most (e ++ j ++ o.kept ++ r.drawn) (e' ++ j ++ r.kept ++ o.drawn)
+    pub went_failed : WentWriting most (e ++ j ++ o.kept ++ r.drawn) (e' ++ j' ++ r.kept ++ o.drawn)
     went_failed =
         let stored = slots_shown shown array.stored in
         let lefts = slots_shown shown left in
@@ -72,7 +72,7 @@ module _ {S R : Type 0} (shown : S → Shown) (width : ℕ) (o d : Stock) (e j e
         let fkept : f.kept ≡ d.kept ++ one ∷ [] = ap (λ s. s.kept) gets in
         let rkept : r.kept ≡ f.kept ++ lefts = ap (λ s. s.kept) is in
         let drawn : r.drawn ≡ d.drawn = ap (λ s. s.drawn) is ∙ ap (λ s. s.drawn) gets in
-        went_kept e j o.kept r.drawn (slots_shown shown slots0) e' j r.kept o.drawn (stored ++ (one ∷ lefts)) d.kept
+        went_kept e j o.kept r.drawn (slots_shown shown slots0) e' j' r.kept o.drawn (stored ++ (one ∷ lefts)) d.kept
         (subst (λ (x : List Shown). SameSums (o.kept ++ x) (slots_shown shown slots0 ++ d.kept ++ o.drawn)) (sym drawn) drew.moved)
         (λ w. omega (
           arith,
@@ -85,6 +85,7 @@ module _ {S R : Type 0} (shown : S → Shown) (width : ℕ) (o d : Stock) (e j e
           sum_by-cons w one [],
           sum_by-append w stored (one ∷ lefts),
           sum_by-cons w one lefts,
+          ap (sum_by w) same_jobs,
         ))
         most calls
 
@@ -102,11 +103,11 @@ module _ {S R : Type 0} (shown : S → Shown) (width : ℕ) (o d : Stock) (e j e
     pub buffers_failed : r.buffer_room ≡ o.buffer_room
     buffers_failed = ap (λ s. s.buffer_room) is ∙ ap (λ s. s.buffer_room) gets ∙ ap (λ s. s.buffer_room) drew.stock
 
-    pub kept_failed : (ib ib' eb eb' l l' : ℕ) → ib' ≡ ib → eb' ≡ eb → l' ≡ l → Kept o r (held (e ++ j) (ib + eb + l)) (held (e' ++ j) (ib' + eb' + l'))
+    pub kept_failed : (ib ib' eb eb' l l' : ℕ) → ib' ≡ ib → eb' ≡ eb → l' ≡ l → Kept o r (held (e ++ j) (ib + eb + l)) (held (e' ++ j') (ib' + eb' + l'))
     kept_failed ib ib' eb eb' l l' same_ib same_eb same_l =
         record {
           slots = went_failed.went.same;
-          slot_room = omega (arith, length-append e' j, length-append e j, ap length more, length-append e (slots_shown shown array.stored), room_failed, slots_long shown array.stored);
+          slot_room = omega (arith, length-append e' j', ap length same_jobs, length-append e j, ap length more, length-append e (slots_shown shown array.stored), room_failed, slots_long shown array.stored);
           buffers = omega (arith, buffers_failed, same_ib, same_eb, same_l);
           block = ap (λ s. s.block) is ∙ ap (λ s. s.block) gets ∙ ap (λ s. s.block) drew.stock;
         }

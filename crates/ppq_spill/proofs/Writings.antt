@@ -23,7 +23,7 @@ use Rattle.ppq_fetch.proofs.ppq_array.Noted.{all_left, all_right, take_whole}
 use Rattle.ppq_fetch.specs.Taking.{NoneAfter}
 use Rattle.ppq_spill.specs.Writing.{Grew, MergedOut, BlockStored, BlockFailed, WriteFailed, Writing, left_in}
 use Rattle.ppq_spill.specs.Went.{WentWriting}
-use Rattle.ppq_spill.proofs.Going.{WentWriting-refl, WentWriting-more, quiet_more}
+use Rattle.ppq_spill.proofs.Going.{WentWriting-refl, WentWriting-more, WentWriting-weaker, quiet_more}
 use Rattle.ppq_spill.proofs.Keeping.{slots_long}
 
 module _ {S R : Type 0} (cmp : R → R → Ordering) (record_of : List ℕ → R) (width block : ℕ) (shown : S → Shown) where
@@ -172,10 +172,12 @@ module _ {S R : Type 0} (cmp : R → R → Ordering) (record_of : List ℕ → R
       let P = HasSize {S = S} {R = R} shown (block * width) in
       let behind = all_right P array.stored (b ∷ slots) is.sizes in
       let sizes : All P (array.stored ++ failed ∷ slots) = All-append P array.stored (failed ∷ slots) (all_left P array.stored (b ∷ slots) is.sizes) (All-cons P failed slots (put.grew.size ∙ All-head P b slots behind) (All-tail P b slots behind)) in
+      let before = slots_shown shown slots0 in
+      let now = xs ++ shown failed.slot ∷ ys in
+      let few : length array.stored ≤ length slots0 = omega (arith, is.went.went.same.length, length-append xs (shown b.slot ∷ ys), slots_long shown array.stored, slots_long shown slots0) in
+      let called = WentWriting-more before xs ys (shown b.slot) (shown failed.slot) (length array.stored) 0 (length array.stored) is.went put.grew put.transfers (omega arith) in
       record {
-        went = subst (λ bs. WentWriting (length bs) (slots_shown shown slots0) (slots_shown shown bs ++ shown failed.slot ∷ ys)) blocks
-            (WentWriting-more (slots_shown shown slots0) xs ys (shown b.slot) (shown failed.slot) (length array.stored) 0 (length array.stored) is.went put.grew put.transfers (omega arith));
-        few = omega (arith, ap length blocks, is.went.went.same.length, length-append xs (shown b.slot ∷ ys), slots_long shown array.stored, slots_long shown slots0);
+        went = subst (λ bs. WentWriting (length slots0) before (slots_shown shown bs ++ shown failed.slot ∷ ys)) blocks (WentWriting-weaker (length array.stored) (length slots0) before now few called);
         sizes = subst (λ bs. All P (bs ++ failed ∷ slots)) blocks sizes;
         shape = put.run ∙ is.shape ∙ ap (λ bs. external 0 (run_of [] 0 []) [] bs) blocks;
         buffers = same ∙ is.buffers;

@@ -1,5 +1,6 @@
 pub mod Body
 pub mod Choosing
+pub mod Grouping
 pub mod Leveling
 pub mod Making
 pub mod Moves

@@ -1,5 +1,5 @@
 -- Runs that are merged into blocks and written, one after the other.
-use Rattle.std.specs.Prelude.{◌≡◌, ℕ, ◌+◌, ◌*◌, ◌<◌, ◌≤◌, ◌-◌, ◌^◌, List, [], ◌∷◌, ◌++◌, length, min, map, All, Option, Some, None}
+use Rattle.std.specs.Prelude.{◌≡◌, ℕ, ◌+◌, ◌*◌, ◌<◌, ◌≤◌, ◌-◌, ◌^◌, List, [], ◌∷◌, ◌++◌, length, min, map, All, Option, Some, None, vec_capacity}
 use Rattle.std.specs.declared.cmp.Ordering.{Ordering}
 use Rattle.ppq_fetch.specs.ppq_record.Order.{Ascends}
 use Rattle.ppq_fetch.specs.ppq_record.Bag.{IsSameBag}
@@ -12,6 +12,8 @@ use Rattle.ppq_fetch.specs.ppq_array.Owner.{slots_shown, HasBlock, HasSize}
 use Rattle.ppq_fetch.specs.ppq_array.Kept.{MoreWrites, AreQuiet}
 use Rattle.ppq_fetch.specs.ppq_array.Holdings.{internal_items}
 use Rattle.ppq_fetch.specs.Taking.{NoneAfter}
+use Rattle.ppq_spill.specs.declared.body.PassBody.{PassBody}
+use Rattle.ppq_spill.specs.declared.new_array.NewArray.{NewArray}
 use Rattle.ppq_spill.specs.Went.{WentWriting}
 
 -- a slot after a call: the same slot, and no count of it fell
@@ -32,6 +34,11 @@ module _ {R : Type 0} where
   -- all of it ascends
   abbrev pub AllAscend : (R → R → Ordering) → List (Run R) → List R → Type 0
   AllAscend cmp runs rest = All (λ (run : Run R). Ascends cmp (items_of run)) runs × Ascends cmp rest
+
+  -- how many records the first of some buffers can hold
+  abbrev pub block_in : List (Block R) → ℕ
+  block_in [] = 0
+  block_in (b ∷ bs) = b.block
 
   -- as many buffers as before, all of one block size
   pub record SameBuffers (block : ℕ) (old new : List (Block R)) : Type 0 where
@@ -96,30 +103,42 @@ module _ {S R : Type 0} where
     pub ascends : AllTell (slots_shown shown slots0) → AllAscend cmp runs0 rest0 → AllAscend cmp runs rest × Ascends cmp (records_in record_of width shown array) × NoneAfter cmp (records_in record_of width shown array) (left_in runs rest)
     pub records : AllTell (slots_shown shown slots0) → IsSameBag (left_in runs0 rest0) (records_in record_of width shown array ++ left_in runs rest)
 
-  -- a write failed: that slot, those that hold blocks now and those that are left are the slots from before, and a call of the first failed
+  -- A write failed: that slot, those that hold blocks now and those that are left are the slots from before, and a call of the first failed.
+  -- Each was written once at most, those that are left too
   pub record WriteFailed (shown : S → Shown) (bytes : ℕ) (slots0 : List (DeviceBlock S R)) (runs0 : List (Run R)) (slots : List (DeviceBlock S R)) (runs : List (Run R)) (array : External S R) (failed : DeviceBlock S R) : Type 0 where
     pub sizes : All (HasSize shown bytes) (array.stored ++ failed ∷ slots)
     pub shape : array ≡ external 0 (run_of [] 0 []) [] array.stored
-    pub went : WentWriting (length array.stored) (slots_shown shown slots0) (slots_shown shown array.stored ++ (shown failed.slot ∷ slots_shown shown slots))
-    pub few : length array.stored ≤ length slots0
+    pub went : WentWriting (length slots0) (slots_shown shown slots0) (slots_shown shown array.stored ++ (shown failed.slot ∷ slots_shown shown slots))
     pub buffers : map buffers_of runs ≡ map buffers_of runs0
     pub fault : 0 < (shown failed.slot).faults
 
-  -- runs and a list may be merged into as many blocks as there are slots, by a tree with so many leaves
-  pub record MayWriteRuns (shown : S → Shown) (width block leaf_count : ℕ) (bufs : List (Block R)) (runs : List (Run R)) (rest : List R) (slots : List (DeviceBlock S R)) (array : External S R) : Type 0 where
+  -- the runs of a body and a list may be merged into as many blocks as there are slots, by its tree and with its idle buffers
+  pub record MayWriteRuns (shown : S → Shown) (width block : ℕ) (body : PassBody S R) (rest : List R) (making : NewArray S R) : Type 0 where
     pub some : 1 ≤ block
-    pub leaves : length runs < leaf_count
-    pub idle : 0 < length bufs
-    pub few_idle : length bufs < 2 ^ 32 - 1
-    pub blocks : All (HasBlock block) bufs
-    pub empty : array ≡ external 0 (run_of [] 0 []) [] []
-    pub few : length rest + length (internal_items runs) < 2 ^ 32 - 1
-    pub few_slots : length slots < 2 ^ 32 - 1
-    pub sizes : All (HasSize shown (block * width)) slots
-    pub room : length (left_in runs rest) ≤ length slots * block
-    pub least : length slots * block < length (left_in runs rest) + block
+    pub leaves : length body.runs.internal.items < length body.tree.items
+    pub idle : 0 < length body.lanes.idle
+    pub few_idle : length body.lanes.idle < 2 ^ 32 - 1
+    pub blocks : All (HasBlock block) body.lanes.idle
+    pub no_job : body.lanes.jobs.items ≡ []
+    pub empty : making.made ≡ external 0 (run_of [] 0 []) [] []
+    pub few : length rest + length (internal_items body.runs.internal.items) < 2 ^ 32 - 1
+    pub few_slots : length making.berths < 2 ^ 32 - 1
+    pub sizes : All (HasSize shown (block * width)) making.berths
+    pub room : length (left_in body.runs.internal.items rest) ≤ length making.berths * block
+    pub least : length making.berths * block < length (left_in body.runs.internal.items rest) + block
+
+  -- What writing leaves of a body: its tree has as many leaves, as many buffers are idle, there is no job, and lists have the room that they
+  -- had; the batch and the runs in blocks are as they were
+  pub record BodyRests (block : ℕ) (old new : PassBody S R) : Type 0 where
+    pub leaves : length new.tree.items ≡ length old.tree.items
+    pub idle : SameBuffers block old.lanes.idle new.lanes.idle
+    pub no_job : new.lanes.jobs.items ≡ []
+    pub job_room : vec_capacity new.lanes.jobs ≡ vec_capacity old.lanes.jobs
+    pub batch : new.lanes.batch ≡ old.lanes.batch
+    pub internal_room : vec_capacity new.runs.internal ≡ vec_capacity old.runs.internal
+    pub external : new.runs.external ≡ old.runs.external
 
   -- how it ends: all is written and no slot is left, or a write failed
-  abbrev pub RunsEnd : (R → R → Ordering) → (List ℕ → R) → ℕ → ℕ → (S → Shown) → List (DeviceBlock S R) → List (Run R) → List R → List (DeviceBlock S R) → List (Run R) → External S R → Option (DeviceBlock S R) → Type 0
-  RunsEnd cmp record_of width block shown slots0 runs0 rest0 slots runs array None = Writing cmp record_of width block shown slots0 runs0 rest0 [] runs [] array
-  RunsEnd cmp record_of width block shown slots0 runs0 rest0 slots runs array (Some failed) = WriteFailed shown (block * width) slots0 runs0 slots runs array failed
+  abbrev pub RunsEnd : (R → R → Ordering) → (List ℕ → R) → ℕ → ℕ → (S → Shown) → List R → PassBody S R → PassBody S R → NewArray S R → NewArray S R → Option (DeviceBlock S R) → Type 0
+  RunsEnd cmp record_of width block shown rest old new making making' None = Writing cmp record_of width block shown making.berths old.runs.internal.items rest [] new.runs.internal.items [] making'.made
+  RunsEnd cmp record_of width block shown rest old new making making' (Some failed) = WriteFailed shown (block * width) making.berths old.runs.internal.items making'.berths new.runs.internal.items making'.made failed

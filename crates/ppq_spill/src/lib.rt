@@ -5,7 +5,8 @@
 //! Bingmann, Keh and Sanders (A Bulk-Parallel Priority Queue in External Memory with STXXL, 2015). It
 //! takes buffers from a `Supply`. Where there are too few, the list is merged with all runs in buffers,
 //! by a tree of minima, into one run in blocks. The slots for it are all drawn before the first block is
-//! written, so a device that is full changes nothing.
+//! written, so a device that is full changes nothing. Where there is room for it, a group of blocks is
+//! written by a thread while the next one is merged.
 //!
 //! [`merge_level`] merges 8 runs in blocks of one level into one of the next. As many slots as their
 //! loaded blocks are drawn first; with those and with the slots of the blocks that are read it never wants
@@ -18,6 +19,7 @@ mod body;
 mod buffers;
 mod crew;
 mod gathering;
+mod groups;
 mod level;
 mod making;
 mod merging;

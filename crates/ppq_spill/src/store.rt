@@ -7,9 +7,10 @@ ghost use Rattle.ppq_spill.specs.Storing.{in_buffers, MayStore, WritesFew, HasOn
 
 use crate::PassBody;
 use crate::buffers::{blocks_for, store_in_buffers};
+use crate::groups::write_run;
 use crate::new_array::NewArray;
 use crate::slots::{draw_slots, free_slots};
-use crate::writing::{release_runs, write_runs};
+use crate::writing::release_runs;
 use ppq_fetch::{ExternalArray, Host, InternalArray, Record, Slot, StoreFault, Supply, free_slot};
 
 /// Stores a list of records as one more run of a body. Where the list and the runs in buffers ascend, so
@@ -28,14 +29,17 @@ use ppq_fetch::{ExternalArray, Host, InternalArray, Record, Slot, StoreFault, Su
 /// slots than the blocks need. No slot was called then, and nothing has changed but the supply's counts
 /// and slots and the order of its buffers: slots that were drawn are kept by the supply.
 ///
-/// `Device` only if a write of the slot with that number failed; the supply keeps that slot. Records may
-/// be lost then, but no slot and no buffer.
-pub fn store_sorted<H: Host, S: Slot, R: Record, P: Supply<S, R>>(
+/// `Device` only if a write of the slot with that number failed; the supply keeps that slot. Where several
+/// of a group failed, it is the first of them in the order of the run. Records may be lost then, but no slot
+/// and no buffer.
+pub fn store_sorted<H: Host, S: Slot + Send, R: Record + Send, P: Supply<S, R>>(
     rt: &H,
     body: &mut PassBody<S, R>,
     supply: &mut P,
     sorted: &[R],
 ) -> Result<(), StoreFault>
+where
+    H::Dir: Send,
     requires some { 0 < length sorted.now }
     requires room { MayStore S.shown R.WIDTH (length sorted.now) body.old (P.stock supply.old) }
     requires ascend { RunsAscend R.Ord.cmp S.shown sorted.now body.old (P.stock supply.old) }
@@ -66,11 +70,13 @@ pub fn store_sorted<H: Host, S: Slot, R: Record, P: Supply<S, R>>(
 /// no list beside them.
 ///
 /// `Ok`, `NoFreeBlock` and `Device` come as from there, and leave the same.
-pub fn store_buffers<H: Host, S: Slot, R: Record, P: Supply<S, R>>(
+pub fn store_buffers<H: Host, S: Slot + Send, R: Record + Send, P: Supply<S, R>>(
     rt: &H,
     body: &mut PassBody<S, R>,
     supply: &mut P,
 ) -> Result<(), StoreFault>
+where
+    H::Dir: Send,
     requires some { 0 < in_buffers body.old }
     requires room { MayStore S.shown R.WIDTH 0 body.old (P.stock supply.old) }
     requires ascend { RunsAscend R.Ord.cmp S.shown [] body.old (P.stock supply.old) }
@@ -92,13 +98,15 @@ pub fn store_buffers<H: Host, S: Slot, R: Record, P: Supply<S, R>>(
 }
 
 // Stores a list and all runs in buffers as one run in blocks.
-fn store_in_blocks<H: Host, S: Slot, R: Record, P: Supply<S, R>>(
+fn store_in_blocks<H: Host, S: Slot + Send, R: Record + Send, P: Supply<S, R>>(
     rt: &H,
     body: &mut PassBody<S, R>,
     supply: &mut P,
     sorted: &[R],
     block: u32,
 ) -> Result<(), StoreFault>
+where
+    H::Dir: Send,
     requires some { 0 < length sorted.now + in_buffers body.old }
     requires block { block ≡ (P.stock supply.old).block }
     requires room { MayStore S.shown R.WIDTH (length sorted.now) body.old (P.stock supply.old) }
@@ -114,15 +122,7 @@ fn store_in_blocks<H: Host, S: Slot, R: Record, P: Supply<S, R>>(
     };
     let made = ExternalArray::empty(0);
     let mut making = NewArray { made, berths };
-    let failed = write_runs(
-        rt,
-        &mut body.tree,
-        &mut body.lanes.idle,
-        &mut body.runs.internal,
-        sorted,
-        &mut making,
-        block,
-    );
+    let failed = write_run(rt, body, sorted, &mut making);
     let NewArray { made, berths } = making;
     body.runs.external.push_reserved(made);
     match failed {

@@ -3,42 +3,44 @@ ghost use Rattle.std.specs.Prelude.{◌≡◌, ◌-◌, ◌≤◌, [], length, A
 ghost use Rattle.ppq_fetch.specs.ppq_array.Owner.{HasBlock};
 ghost use Rattle.ppq_fetch.specs.ppq_array.Holdings.{internal_buffers, RunHasBlock};
 ghost use Rattle.ppq_spill.specs.Moves.{with_buffers};
-ghost use Rattle.ppq_spill.specs.Writing.{SameBuffers, MayAppend, BlockEnds, MayWriteRuns, RunsEnd};
+ghost use Rattle.ppq_spill.specs.Writing.{MayAppend, BlockEnds, MayWriteRuns, BodyRests, RunsEnd, block_in};
 
+use crate::PassBody;
 use crate::merging::{merge_least, write_heads};
 use crate::new_array::NewArray;
 use ppq_fetch::{
-    Berth, BlockBuf, BufList, ExternalArray, Host, InternalArray, Job, JobKind, MinTree, Record,
-    Slot, Supply, give_buffer, record_laws, run_job,
+    Berth, BlockBuf, ExternalArray, Host, InternalArray, Job, JobKind, Record, Slot, Supply,
+    give_buffer, record_laws, run_job,
 };
 
-// Merges runs and a sorted list into blocks, and writes them to these slots, a block for each. Where a
-// write fails, it ends there and gives that slot. It costs as many block writes as there are slots, and
-// for each record a match on each level of the tree.
+// Merges all runs in buffers of a body and a sorted list into blocks, and writes them to the slots of a
+// new array, a block for each. Where a write fails, it ends there and gives that slot. It costs as many
+// block writes as there are slots, and for each record a match on each level of the tree.
 pub(crate) fn write_runs<H: Host, S: Slot, R: Record>(
     rt: &H,
-    tree: &mut MinTree<R>,
-    idle: &mut BufList<R>,
-    internal: &mut Vec<InternalArray<R>>,
+    body: &mut PassBody<S, R>,
     sorted: &[R],
     making: &mut NewArray<S, R>,
-    block: u32,
 ) -> Option<Berth<S, R>>
-    requires may { MayWriteRuns S.shown R.WIDTH block (length tree.old.items) idle.old internal.old.items sorted.now making.old.berths making.old.made }
-    ensures leaves { length tree.new.items ≡ length tree.old.items }
-    ensures idle { SameBuffers block idle.old idle.new }
-    ensures room { vec_capacity internal.new ≡ vec_capacity internal.old }
-    ensures outcome { RunsEnd R.Ord.cmp R.record_of R.WIDTH block S.shown making.old.berths internal.old.items sorted.now making.new.berths internal.new.items making.new.made result }
+    requires may { MayWriteRuns S.shown R.WIDTH (block_in body.old.lanes.idle) body.old sorted.now making.old }
+    ensures rests { BodyRests (block_in body.old.lanes.idle) body.old body.new }
+    ensures outcome { RunsEnd R.Ord.cmp R.record_of R.WIDTH (block_in body.old.lanes.idle) S.shown sorted.now body.old body.new making.old making.new result }
 {
     record_laws::<R>();
-    write_heads(tree, &*internal, sorted);
+    write_heads(&mut body.tree, &body.runs.internal, sorted);
     let mut at = 0;
     while let Some(berth) = making.berths.pop_front() {
-        let mut buf = idle.pop_front().unwrap();
+        let mut buf = body.lanes.idle.pop_front().unwrap();
         buf.clear();
-        merge_least(tree, internal, sorted, &mut at, &mut buf);
+        merge_least(
+            &mut body.tree,
+            &mut body.runs.internal,
+            sorted,
+            &mut at,
+            &mut buf,
+        );
         let (buf, failed) = write_block(rt, &mut making.made, berth, buf);
-        idle.push_back(buf);
+        body.lanes.idle.push_back(buf);
         match failed {
             Some(berth) => return Some(berth),
             None => {}
