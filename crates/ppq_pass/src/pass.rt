@@ -128,7 +128,9 @@ impl<S: Slot, R: Record> Pass<S, R> {
             Err(_) => Err(Full),
         }
     }
+}
 
+impl<S: Slot + Send, R: Record + Send> Pass<S, R> {
     /// Adds a record. Where the heap has room it costs one sift, and touches nothing that is shared.
     /// Where the heap is full, it is sorted first and stored as a run: `h` takes of buffers, or else a draw
     /// and a write for each block of the heap and of all runs in buffers. The heap has one record then.
@@ -143,6 +145,8 @@ impl<S: Slot, R: Record> Pass<S, R> {
         shared: &Shared<S, R>,
         r: R,
     ) -> Result<(), (R, StoreFault)>
+    where
+        H::Dir: Send,
         requires { IsOf shared.now self.old }
         ensures added { OnOk result (PassTells S.shown self.old → IsSameBag self.new.bag (r ∷ self.old.bag)) }
         ensures size { OnOk result (self.new.size ≡ self.old.size + 1) }
@@ -178,6 +182,8 @@ impl<S: Slot, R: Record> Pass<S, R> {
         shared: &Shared<S, R>,
         r: R,
     ) -> Result<(), StoreFault>
+    where
+        H::Dir: Send,
         requires of { IsOf shared.now self.old }
         requires sound { self.old.failed ≡ None }
         requires full { self.old.in_heap ≡ heap_of self.old.key.sizes }
@@ -210,7 +216,9 @@ impl<S: Slot, R: Record> Pass<S, R> {
             }
         }
     }
+}
 
+impl<S: Slot, R: Record> Pass<S, R> {
     /// How many of its pushes answered Ok.
     #[inline]
     pub fn accepted(&self) -> u64

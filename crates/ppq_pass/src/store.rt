@@ -11,13 +11,15 @@ use ppq_pool::Record;
 use ppq_spill::{PassBody, store_sorted};
 
 /// Stores an ascending list as one more run of a pass, by a supply that is made for this call.
-pub fn store_run<H: Host, S: Slot, R: Record>(
+pub fn store_run<H: Host, S: Slot + Send, R: Record + Send>(
     rt: &H,
     shared: &Shared<S, R>,
     body: &mut PassBody<S, R>,
     parts: PassParts<S, R>,
     sorted: &[R],
 ) -> (PassParts<S, R>, Result<(), StoreFault>)
+where
+    H::Dir: Send,
     requires some { 0 < length sorted.now }
     requires of { IsPass S.shown R.WIDTH shared.now parts.row_seat parts.pool_seat parts.stash parts.numbers parts.block parts.dry parts.scant }
     requires room { MayStore S.shown R.WIDTH (length sorted.now) body.old (stock_of S.shown parts) }

@@ -48,11 +48,6 @@ batch_some n range =
     let one : 1 * n.block ≤ n.workers * n.block = mul-le-mul_right n.block range.some_worker in
     omega (arith, one, range.two_records)
 
-pub heap_within : (n : Numbers) → AreInRange n → fixed_of n ≤ n.memory → heap_of n ≤ n.memory
-heap_within n range budget =
-    let one : 1 * (n.heap * n.block) ≤ n.workers * (n.heap * n.block) = mul-le-mul_right (n.heap * n.block) range.some_worker in
-    omega (arith, one, heaps_within n range budget)
-
 module _ {S R : Type 0} (shown : S → Shown) (cmp : R → R → Ordering) (record_of : List ℕ → R) (width : ℕ) (n : Numbers) (body : PassBody S R) (stock : Stock) where
   abbrev Rests : Type 0
   Rests = AtRest shown cmp record_of width n body stock

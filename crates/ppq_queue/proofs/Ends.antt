@@ -1,5 +1,5 @@
--- A queue after a bulk pop, and how a bulk pop with a limit ended.
-use Rattle.std.proofs.Common.{◌≡◌, ℕ, ◌<◌, ◌≤◌, Bool, true, false, cond, List, [], ◌∷◌, ◌++◌, length, Option, Some, None, sym, ap, ◌∙◌, inl, inr, arith, Ordering}
+-- What is left after a bulk pop, and how a bulk pop with a limit ended.
+use Rattle.std.proofs.Common.{◌≡◌, ℕ, ◌<◌, ◌≤◌, min, Bool, true, false, cond, List, [], ◌∷◌, ◌++◌, length, Option, Some, None, sym, ap, ◌∙◌, inl, inr, arith, Ordering}
 use Rattle.std.specs.Prelude.{count_by, ◌⊎◌}
 use Rattle.std.specs.declared.cmp.Ordering.TheVariants.{Equal}
 use Rattle.std.specs.Cmp.{IsTotalOrder}
@@ -8,38 +8,11 @@ use Rattle.ppq_heap.specs.ppq_record.Order.{is_before, Le}
 use Rattle.ppq_heap.specs.ppq_record.Bag.{IsSameBag, first_of, least, front, without_front, size_below}
 use Rattle.ppq_heap.proofs.ppq_record.Order.{count_by-cons, count_by-append, Each-weaker, Le-trans, none_pass}
 use Rattle.ppq_heap.proofs.ppq_record.Fronts.{ranks, front-parts}
-use Rattle.ppq_extract.specs.ppq_outside.Shown.{Shown}
-use Rattle.ppq_extract.specs.ppq_budget.Sizes.{Numbers}
-use Rattle.ppq_heap.specs.Heaps.{Shares}
-use Rattle.ppq_extract.specs.ppq_array.Supply.{Stock}
 use Rattle.ppq_extract.specs.ppq_fetch.Taking.{IsTaken, NoneBelow}
-use Rattle.ppq_extract.specs.Extracted.{Held}
-use Rattle.ppq_spill.specs.declared.body.PassBody.{PassBody}
-use Rattle.ppq_queue.specs.State.{IsQueue}
-use Rattle.ppq_queue.specs.Bulk.{kept_below}
+use Rattle.ppq_queue.specs.Bulk.{IsEnd, EndsBy, kept_below}
+use Rattle.ppq_queue.specs.declared.limit_end.LimitEnd.{LimitEnd}
+use Rattle.ppq_queue.specs.declared.limit_end.LimitEnd.TheVariants.{All, More, Round}
 use Rattle.ppq_queue.proofs.Least.{least-le, least-none}
-
-module _ {S R : Type 0} (shown : S → Shown) (n : Numbers) where
-  -- a queue that counts fewer records
-  pub queue-less : (h : Shares R) (x : Held R) (a : PassBody S R) (s : Stock) (count less peak : ℕ) (failed : Option ℕ) → less ≤ count → IsQueue shown n h x a s count peak failed → IsQueue shown n h x a s less peak failed
-  queue-less h x a s count less peak failed few is =
-      record {
-        range = is.range;
-        budget = is.budget;
-        cap = is.cap;
-        shares = is.shares;
-        in_heap = is.in_heap;
-        room = is.room;
-        in_extract = is.in_extract;
-        held = is.held;
-        pool = is.pool;
-        slots = is.slots;
-        no_row = is.no_row;
-        counted = omega (arith, is.counted, few);
-        most = is.most;
-        most_count = omega (arith, is.most_count, few);
-        fault = is.fault;
-      }
 
 module _ {R : Type 0} {cmp : R → R → Ordering} (o : IsTotalOrder cmp) (same : (x y : R) → cmp x y ≡ Equal → x ≡ y) where
   -- what is left where a front was taken
@@ -78,7 +51,15 @@ module _ {R : Type 0} {cmp : R → R → Ordering} (o : IsTotalOrder cmp) (same 
   none_below l bag (Some y) e kept =
       none_pass (λ x. is_before cmp x l) bag (Each-weaker (Le (is_before cmp) y) (Le (is_before cmp) l) (λ z k. Le-trans (is_before cmp) (ranks o) l y z (not_below l y kept) k) bag (least-le o same y bag (sym e)))
 
-  -- of an end: what is counted below the limit tells that the list is full
-  pub full_list : (l : R) (given left : List R) (most : ℕ) → (length given ≡ most) ⊎ NoneBelow cmp (Some l) left → 0 < size_below cmp left l → length given ≡ most
+  -- what is counted below the limit tells that the list is full
+  full_list : (l : R) (given left : List R) (most : ℕ) → (length given ≡ most) ⊎ NoneBelow cmp (Some l) left → 0 < size_below cmp left l → length given ≡ most
   full_list l given left most (inl full) some = full
   full_list l given left most (inr none) some = absurd (omega (arith, some, none_pass (λ x. is_before cmp x l) left none))
+
+  -- so an end by what is left is the end of a list
+  pub end_is :
+      (l : R) (given left : List R) (wanted room most : ℕ)
+      → most ≡ min wanted room → (end : LimitEnd) → (length given ≡ most) ⊎ NoneBelow cmp (Some l) left → EndsBy cmp room wanted l left end → IsEnd cmp room wanted l given left end
+  end_is l given left wanted room most e All full none = none
+  end_is l given left wanted room most e More full some = (omega (arith, full_list l given left most full some.1, some.0), some.1)
+  end_is l given left wanted room most e Round full some = (omega (arith, full_list l given left most full some.1, some.0), some.0, some.1)

@@ -1,20 +1,66 @@
 -- A queue whose runs moved, and what a refusal says of it.
-use Rattle.std.proofs.Common.{◌≡◌, ℕ, ◌+◌, ◌<◌, ◌≤◌, List, [], length, max, true, Option, None, Some, ap, sym, ◌∙◌, subst, arith}
+use Rattle.std.proofs.Common.{◌≡◌, ℕ, ◌+◌, ◌*◌, ◌<◌, ◌≤◌, List, [], length, max, true, Bool, Option, None, Some, ap, sym, ◌∙◌, subst, arith}
 use Rattle.std.specs.declared.cmp.Ordering.{Ordering}
 use Rattle.ppq_extract.specs.ppq_outside.Shown.{Shown, AllTell}
-use Rattle.ppq_extract.specs.ppq_budget.Sizes.{Numbers, AreInRange, batch_of, blocks_for, room_of}
+use Rattle.ppq_extract.specs.ppq_budget.Sizes.{Numbers, AreInRange, heaps_of, batch_of, blocks_for, room_of}
 use Rattle.ppq_heap.specs.Heaps.{Shares, items_of}
 use Rattle.ppq_extract.specs.ppq_array.Supply.{Stock}
 use Rattle.ppq_extract.specs.ppq_array.Kept.{HasFailed, SameSlots, all_writes}
+use Rattle.ppq_extract.specs.ppq_fetch.Taking.{NoneAfter}
 use Rattle.ppq_extract.specs.Extracted.{Held}
+use Rattle.ppq_extract.specs.declared.sources.Sources.{Sources}
+use Rattle.ppq_heap.specs.ppq_record.Order.{Ascends}
 use Rattle.ppq_spill.specs.declared.body.PassBody.{PassBody}
-use Rattle.ppq_queue.specs.Resting.{BodyKept, AtRest, IsShort, slots_of, count_of}
-use Rattle.ppq_queue.specs.State.{IsQueue}
-use Rattle.ppq_queue.specs.Holding.{Holding, IsRefusal, Keeps, Stays, SameRecords}
+use Rattle.ppq_queue.specs.Resting.{BodyKept, AtRest, IsShort, slots_of, count_of, runs_bag}
+use Rattle.ppq_queue.specs.State.{IsQueue, IsSound}
+use Rattle.ppq_queue.specs.Holding.{Holding, IsAbove, IsRefusal, Keeps, Stays, SameRecords}
 use Rattle.ppq_extract.specs.ppq_array.declared.store_fault.StoreFault.{StoreFault}
 use Rattle.ppq_extract.specs.ppq_array.declared.store_fault.StoreFault.TheVariants.{NoFreeBlock, Device}
 use Rattle.ppq_spill.proofs.SameSlots.{SameSlots-refl, SameSlots-trans}
 use Rattle.ppq_queue.proofs.Bounds.{room_short, free_short}
+use Rattle.ppq_queue.proofs.Moves.{kept-refl}
+
+module _ {S R : Type 0} {shown : S → Shown} {n : Numbers} where
+  -- a queue whose parts and counts changed
+  pub queue-moved :
+      {h h' : Shares R} {x x' : Held R} {a b : PassBody S R} {s t : Stock} {count count' peak peak' : ℕ} {failed failed' : Option ℕ}
+      → IsQueue shown n h x a s count peak failed → BodyKept shown a b s t → t.drawn ≡ [] → h'.cap ≡ h.cap → length h'.heaps ≡ length h.heaps → length (items_of h') ≤ heaps_of n → x'.room ≡ x.room → length x'.items ≤ batch_of n
+      → count' ≤ peak' → peak' ≤ n.memory + n.block * n.blocks + 1 → count' ≤ n.memory + n.block * n.blocks → ((number : ℕ) → failed' ≡ Some number → HasFailed number (slots_of shown b t))
+      → IsQueue shown n h' x' b t count' peak' failed'
+  queue-moved is kept no_row cap heaps in_heap room within counted most most_count fault =
+      record {
+        range = is.range;
+        budget = is.budget;
+        cap = cap ∙ is.cap;
+        shares = heaps ∙ is.shares;
+        in_heap = in_heap;
+        room = room ∙ is.room;
+        in_extract = within;
+        held = omega (arith, kept.held, is.held);
+        pool = kept.all_buffers ∙ is.pool;
+        slots = kept.slots.length ∙ is.slots;
+        no_row = no_row;
+        counted = counted;
+        most = most;
+        most_count = most_count;
+        fault = fault;
+      }
+
+  -- a queue whose heaps, extract buffer and counts changed
+  pub queue-counts :
+      {h h' : Shares R} {x x' : Held R} {a : PassBody S R} {s : Stock} {count count' peak peak' : ℕ} {failed : Option ℕ}
+      → IsQueue shown n h x a s count peak failed → h'.cap ≡ h.cap → length h'.heaps ≡ length h.heaps → length (items_of h') ≤ heaps_of n → x'.room ≡ x.room → length x'.items ≤ batch_of n
+      → count' ≤ peak' → peak' ≤ n.memory + n.block * n.blocks + 1 → count' ≤ n.memory + n.block * n.blocks
+      → IsQueue shown n h' x' a s count' peak' failed
+  queue-counts {a = a} {s = s} is cap heaps in_heap room within counted most most_count = queue-moved is (kept-refl shown a s) is.no_row cap heaps in_heap room within counted most most_count is.fault
+
+  -- a sound queue, likewise
+  pub sound-counts :
+      {cmp : R → R → Ordering} {record_of : List ℕ → R} {width : ℕ} {h h' : Shares R} {x x' : Held R} {a : PassBody S R} {s : Stock} {src : Sources R} {count count' peak peak' : ℕ} {limited limited' : Bool}
+      → IsSound shown cmp record_of width n h x a s src count peak limited → count' ≡ length (items_of h') + length x'.items + count_of a
+      → (AllTell (slots_of shown a s) → Ascends cmp x'.items) → (AllTell (slots_of shown a s) → NoneAfter cmp x'.items (runs_bag shown record_of width a)) → (length (items_of h') < count' → IsAbove n peak' limited')
+      → IsSound shown cmp record_of width n h' x' a s src count' peak' limited'
+  sound-counts sound counted ascends order above = record { rest = sound.rest; counted = counted; ascends = ascends; order = order; above = above; workers = sound.workers; serves = sound.serves }
 
 module _ {S R : Type 0} (shown : S → Shown) (n : Numbers) where
   -- a fault that was counted stays
@@ -26,24 +72,7 @@ module _ {S R : Type 0} (shown : S → Shown) (n : Numbers) where
       → IsQueue shown n h x a s count peak failed → BodyKept shown a b s t → t.drawn ≡ [] → h'.cap ≡ h.cap → length h'.heaps ≡ length h.heaps → length (items_of h') ≤ length (items_of h) → x'.room ≡ x.room → length x'.items ≤ batch_of n
       → ((number : ℕ) → failed' ≡ Some number → HasFailed number (slots_of shown b t))
       → IsQueue shown n h' x' b t count peak failed'
-  queue-kept h h' x x' a b s t count peak failed failed' is kept no_row cap heaps fewer room within fault =
-      record {
-        range = is.range;
-        budget = is.budget;
-        cap = cap ∙ is.cap;
-        shares = heaps ∙ is.shares;
-        in_heap = omega (arith, fewer, is.in_heap);
-        room = room ∙ is.room;
-        in_extract = within;
-        held = omega (arith, kept.held, is.held);
-        pool = kept.all_buffers ∙ is.pool;
-        slots = kept.slots.length ∙ is.slots;
-        no_row = no_row;
-        counted = is.counted;
-        most = is.most;
-        most_count = is.most_count;
-        fault = fault;
-      }
+  queue-kept h h' x x' a b s t count peak failed failed' is kept no_row cap heaps fewer room within fault = queue-moved is kept no_row cap heaps (omega (arith, fewer, is.in_heap)) room within is.counted is.most is.most_count fault
 
   module _ (cmp : R → R → Ordering) (record_of : List ℕ → R) (width : ℕ) where
     -- what too few free slots say

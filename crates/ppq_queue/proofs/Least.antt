@@ -8,11 +8,8 @@ use Rattle.std.proofs.lemmas.Bool.{cases_Bool}
 use Rattle.ppq_heap.specs.ppq_record.Order.{is_before, Le, Rising, in_order}
 use Rattle.ppq_heap.specs.ppq_record.Bag.{IsSameBag, first_of, without_front, least, ascending}
 use Rattle.ppq_heap.proofs.ppq_record.Order.{front_is, in_order-same_bag, Rising-in_order, Each-same_bag, Each-weaker, Each-append, Le-refl, Le-trans, IsSameBag-length, count_by-cons, count_by-append}
-use Rattle.ppq_heap.proofs.ppq_record.Fronts.{ranks, no_tie}
+use Rattle.ppq_heap.proofs.ppq_record.Fronts.{ranks, no_tie, ascending-same_bag}
 use Rattle.ppq_queue.specs.Choice.{goes_first}
-
-cut_head : (a b c : ℕ) → a + b ≡ a + c → b ≡ c
-cut_head a b c e = omega arith
 
 module _ {R : Type 0} {cmp : R → R → Ordering} (o : IsTotalOrder cmp) (same : (x y : R) → cmp x y ≡ Equal → x ≡ y) where
   -- a record that is not after any other is the least
@@ -80,20 +77,8 @@ module _ {R : Type 0} {cmp : R → R → Ordering} (o : IsTotalOrder cmp) (same 
   least_of_empty [] h = refl
   least_of_empty (z ∷ zs) h = absurd (omega arith)
 
-  swap_bags : (xs ys : List R) (answer : Option R) → least cmp (ys ++ xs) ≡ answer → least cmp (xs ++ ys) ≡ answer
-  swap_bags xs ys None e =
-      let none = least-none (ys ++ xs) e in
-      let short : length (xs ++ ys) ≡ 0 = IsSameBag-length (xs ++ ys) (ys ++ xs) (λ p. omega (arith, count_by-append p xs ys, count_by-append p ys xs)) ∙ ap length none in
-      least_of_empty (xs ++ ys) short
-  swap_bags xs ys (Some x) e = by_order (ascending cmp (ys ++ xs)) (in_order-same_bag (is_before cmp) (ranks o) (ys ++ xs)) e
-    where
-      by_order : (up : List R) → IsSameBag up (ys ++ xs) → first_of (take 1 up) ≡ Some x → least cmp (xs ++ ys) ≡ Some x
-      by_order [] bag f = cc
-      by_order (z ∷ zs) bag f =
-          let is : z ≡ x = cc in
-          let le = least-le x (ys ++ xs) e in
-          let tail : Each (Le (is_before cmp) x) zs = (Each-same_bag (λ y. is_before cmp y x) (ys ++ xs) (z ∷ zs) (λ p. sym (bag p)) le).1 in
-          least_is x zs (xs ++ ys) (λ p. (let head : ◌≡◌ {A = ℕ} (cond (p z) 1 0) (cond (p x) 1 0) = ap (λ (w : R). cond (p w) 1 0) is in omega (arith, head, bag p, count_by-cons p z zs, count_by-cons p x zs, count_by-append p ys xs, count_by-append p xs ys))) tail
+  swap_bags : (xs ys : List R) → least cmp (xs ++ ys) ≡ least cmp (ys ++ xs)
+  swap_bags xs ys = ap (λ (l : List R). first_of (take 1 l)) (ascending-same_bag o same (xs ++ ys) (ys ++ xs) (λ p. omega (arith, count_by-append p xs ys, count_by-append p ys xs)))
 
   none_with : (xs ys : List R) → least cmp ys ≡ None → least cmp (xs ++ ys) ≡ least cmp xs
   none_with xs ys e = ap (λ (l : List R). least cmp (xs ++ l)) (least-none ys e) ∙ ap (least cmp) (append-nil xs)
@@ -109,12 +94,8 @@ module _ {R : Type 0} {cmp : R → R → Ordering} (o : IsTotalOrder cmp) (same 
       elim (cases_Bool (is_before cmp y x)) as (λ _. least cmp (xs ++ ys) ≡ cond choice (Some x) (Some y)) [
         | inl t ↦
             let second : choice ≡ false = c ∙ ap not t in
-            subst (λ (b : Bool). least cmp (xs ++ ys) ≡ cond b (Some x) (Some y)) (sym second) (swap_bags xs ys (Some y) (first_is_least y ys xs (sym f) (le_from y x xs ((ranks o).one_way y x t) (least-le x xs (sym e)))))
+            subst (λ (b : Bool). least cmp (xs ++ ys) ≡ cond b (Some x) (Some y)) (sym second) (swap_bags xs ys ∙ first_is_least y ys xs (sym f) (le_from y x xs ((ranks o).one_way y x t) (least-le x xs (sym e))))
         | inr t ↦
             let first : choice ≡ true = c ∙ ap not t in
             subst (λ (b : Bool). least cmp (xs ++ ys) ≡ cond b (Some x) (Some y)) (sym first) (first_is_least x xs ys (sym e) (le_from x y ys t (least-le y ys (sym f))))
       ]
-
-  -- a record of a bag that is not after any is the least
-  pub least_member : (x : R) (rest all : List R) → IsSameBag all (x ∷ rest) → Each (Le (is_before cmp) x) all → least cmp all ≡ Some x
-  least_member x rest all bag each = least_is x rest all (λ p. sym (bag p)) (Each-same_bag (λ y. is_before cmp y x) all (x ∷ rest) bag each).1

@@ -28,14 +28,11 @@ use Rattle.ppq_extract.specs.ppq_lane.declared.lanes.Lanes.{Lanes}
 use Rattle.ppq_spill.specs.declared.body.PassBody.{PassBody}
 use Rattle.ppq_queue.specs.Resting.{BodyKept, IsRestingRun, IsRestingArray, AtRest, Moved, LevelShort, slots_of, lane_buffers, odd_of, odd_in, crowd_below, crowd_of}
 use Rattle.ppq_queue.proofs.Bounds.{pool_small, idle_most, idle_some, blocks_few, records_most}
+use Rattle.ppq_queue.proofs.Moves.{rest-moved}
 use Rattle.ppq_queue.proofs.Odd.{odd_made}
 use Rattle.ppq_queue.proofs.Slots.{no_row_more, kept-sums, sum-stored, slots-no_job, quiet-arrays, quiet-same}
 
 module _ {S R : Type 0} (shown : S → Shown) where
-  -- the body with other runs in blocks and other lanes
-  abbrev pub with_level : PassBody S R → PassBody S R → Type 0
-  with_level a b = (b.runs.internal ≡ a.runs.internal) × (b.tree ≡ a.tree)
-
   -- what a merge keeps, whatever it answers
   pub kept-leveled :
       (a b : PassBody S R) (s t : Stock) (level : ℕ)
@@ -108,9 +105,6 @@ module _ {S R : Type 0} (shown : S → Shown) where
     bag-permuted xs ys moved p = omega (arith, count-flat_map p xs, count-flat_map p ys, sum_by-IsPermutation (λ (x : External S R). count_by p (records_in record_of width shown x)) xs ys moved)
 
     module _ (a b : PassBody S R) (s t : Stock) (rest : AtRest shown cmp record_of width n a s) (kept : BodyKept shown a b s t) (size : AreOneSize shown width b.runs.external.items b.lanes t) (lanes : LanesStay a.lanes b.lanes) (int : b.runs.internal ≡ a.runs.internal) (room : t.buffer_room ≡ s.buffer_room) where
-      held_now : internal_buffers b.runs.internal.items + external_buffers b.runs.external.items + length b.lanes.idle ≡ lane_buffers n + t.buffer_room
-      held_now = omega (arith, kept.held, rest.held, ap length rest.no_job, ap length lanes.no_job)
-
       same_arrays : (xs : List (External S R)) → All (IsRestingArray shown width s.block) xs → All (IsRestingArray shown width t.block) xs
       same_arrays xs all = subst (λ k. All (IsRestingArray shown width k) xs) (sym kept.block) all
 
@@ -122,29 +116,10 @@ module _ {S R : Type 0} (shown : S → Shown) where
           → odd_in s.block b.runs.external.items ≤ 65 → (AllTell (slots_of shown b t) → All (λ (x : External S R). Ascends cmp (records_in record_of width shown x)) b.runs.external.items)
           → AtRest shown cmp record_of width n b t
       rest-with all bounded fronts few up =
-          record {
-            block = kept.block ∙ rest.block;
-            idle = size.idle;
-            internal = subst (All (IsRestingRun t.block)) (sym int_items) (subst (λ k. All (IsRestingRun k) a.runs.internal.items) (sym kept.block) rest.internal);
-            external = all;
-            takes_back = record { slots = size.takes_back; buffers = omega (arith, rest.takes_back.buffers, room, ap internal_buffers int_items) };
-            no_job = lanes.no_job;
-            batch = lanes.batch ∙ rest.batch ∙ ap (λ k. n.workers * k) (sym kept.block);
-            buffers = omega (arith, held_now, rest.held, rest.buffers, room, ap internal_buffers int_items);
-            held = held_now;
-            bounded = bounded;
-            fronts = fronts;
-            few = omega (arith, few, ap (λ k. odd_in k b.runs.external.items) kept.block);
-            pool = kept.all_buffers ∙ rest.pool;
-            slots = kept.all_slots ∙ rest.slots;
-            internal_room = omega (arith, rest.internal_room, kept.internal_room);
-            external_room = omega (arith, rest.external_room, kept.external_room);
-            leaves = omega (arith, rest.leaves, kept.leaves);
-            rise = λ tell. record {
-              internal = subst (All (λ (run : Run R). Ascends cmp (items_of run))) (sym int_items) (rest.rise (kept.tells.1 tell)).internal;
-              external = up tell;
-            };
-          }
+          rest-moved rest kept size.idle lanes.no_job lanes.batch (record { slots = size.takes_back; buffers = omega (arith, rest.takes_back.buffers, room, ap internal_buffers int_items) })
+          (subst (All (IsRestingRun t.block)) (sym int_items) (subst (λ k. All (IsRestingRun k) a.runs.internal.items) (sym kept.block) rest.internal)) all
+          (omega (arith, kept.held, ap length rest.no_job, ap length lanes.no_job, room, ap internal_buffers int_items)) bounded fronts (omega (arith, few, ap (λ k. odd_in k b.runs.external.items) kept.block))
+          (λ tell. record { internal = subst (All (λ (run : Run R). Ascends cmp (items_of run))) (sym int_items) (rest.rise (kept.tells.1 tell)).internal; external = up tell })
 
       -- a refusal only changed the order of the runs
       pub short-leveled : (level : ℕ) → s.drawn ≡ [] → t.drawn ≡ [] → NoneForLevel shown level n.workers a.runs.external.items b.runs.external.items a.lanes b.lanes s t → LevelShort shown cmp record_of width n a b s t

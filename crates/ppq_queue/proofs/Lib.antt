@@ -18,6 +18,7 @@ pub mod Leveled
 pub mod Refilled
 pub mod Least
 pub mod Ready
+pub mod Firsts
 pub mod Opened
 pub mod Stores
 pub mod Flushed

@@ -10,9 +10,13 @@ use Rattle.ppq_heap.specs.ppq_record.Bag.{IsSameBag, first_of, least}
 use Rattle.ppq_heap.proofs.ppq_record.Order.{Each-same_bag, Each-weaker, Each-append, Each-append_right, IsSameBag-length, Le-trans, count_by-cons, count_by-append}
 use Rattle.ppq_heap.proofs.ppq_record.Fronts.{ranks}
 use Rattle.ppq_extract.specs.ppq_fetch.Taking.{NoneAfter, IsTaken, AllBelow, NoneBelow}
-use Rattle.ppq_extract.proofs.ppq_fetch.Taken.{taken_more}
+use Rattle.ppq_extract.proofs.ppq_fetch.Parted.{taken_more}
 use Rattle.ppq_queue.specs.Choice.{goes_first}
-use Rattle.ppq_queue.specs.Bulk.{kept_below, Merged, Exhausted}
+use Rattle.ppq_extract.specs.Extracted.{Held}
+use Rattle.ppq_heap.specs.Heaps.{Shares}
+use Rattle.ppq_queue.specs.Bulk.{kept_below, Merged, Moves, Exhausted}
+use Rattle.ppq_queue.specs.Out.{Listed}
+use Rattle.ppq_queue.proofs.Stores.{heaps-same, heaps-more}
 use Rattle.ppq_queue.proofs.Least.{least-le, least-none}
 
 some_is : {R : Type 0} (x y : R) → ◌≡◌ {A = Option R} (Some x) (Some y) → x ≡ y
@@ -40,21 +44,33 @@ module _ {R : Type 0} {cmp : R → R → Ordering} (o : IsTotalOrder cmp) where
   le_runs x [] runs none each after = subst (λ (l : List R). Each (Le (is_before cmp) x) l) (sym (none refl)) tt
   le_runs x (y ∷ ys) runs none each after = le_all x y runs each.0 after.0
 
-module _ {R : Type 0} {cmp : R → R → Ordering} (o : IsTotalOrder cmp) (same : (x y : R) → cmp x y ≡ Equal → x ≡ y) (more : Bool) (limit : Option R) where
-  pub merged-refl : (h e out : List R) → Merged cmp more limit h h e e out out
-  merged-refl h e out = record { count = refl; fewer = omega arith; ascends = λ u. u; order = λ runs n. n; taken = λ bag runs w u n t. t; under = λ u. u }
+module _ {R : Type 0} {cmp : R → R → Ordering} {more : Bool} {limit : Option R} where
+  -- nothing was taken
+  pub moves-same : {h : Shares R} {e : Held R} {out : Listed R} → Moves cmp more limit h h e e out out
+  moves-same = record {
+    merged = record { count = refl; fewer = omega arith; ascends = λ u. u; order = λ runs n. n; taken = λ bag runs w u n t. t; under = λ u. u };
+    heaps = heaps-same;
+    rooms = record { first = refl; list = refl };
+  }
 
-  pub merged-then : (h h' h'' e e' e'' out out' out'' : List R) → Merged cmp more limit h h' e e' out out' → Merged cmp more limit h' h'' e' e'' out' out'' → Merged cmp more limit h h'' e e'' out out''
-  merged-then h h' h'' e e' e'' out out' out'' a b =
+  pub moves-then : {h h' h'' : Shares R} {e e' e'' : Held R} {out out' out'' : Listed R} → Moves cmp more limit h h' e e' out out' → Moves cmp more limit h' h'' e' e'' out' out'' → Moves cmp more limit h h'' e e'' out out''
+  moves-then one two =
+      let a = one.merged in
+      let b = two.merged in
       record {
-        count = omega (arith, a.count, b.count);
-        fewer = omega (arith, a.fewer, b.fewer);
-        ascends = λ u. b.ascends (a.ascends u);
-        order = λ runs n. b.order runs (a.order runs n);
-        taken = λ bag runs w u n t. b.taken bag runs w (a.ascends u) (a.order runs n) (a.taken bag runs w u n t);
-        under = λ u. b.under (a.under u);
+        merged = record {
+          count = omega (arith, a.count, b.count);
+          fewer = omega (arith, a.fewer, b.fewer);
+          ascends = λ u. b.ascends (a.ascends u);
+          order = λ runs n. b.order runs (a.order runs n);
+          taken = λ bag runs w u n t. b.taken bag runs w (a.ascends u) (a.order runs n) (a.taken bag runs w u n t);
+          under = λ u. b.under (a.under u);
+        };
+        heaps = heaps-more one.heaps two.heaps;
+        rooms = record { first = two.rooms.first ∙ one.rooms.first; list = two.rooms.list ∙ one.rooms.list };
       }
 
+module _ {R : Type 0} {cmp : R → R → Ordering} (o : IsTotalOrder cmp) (same : (x y : R) → cmp x y ≡ Equal → x ≡ y) (more : Bool) (limit : Option R) where
   -- one record more was taken
   taken_one : (bag out left left' : List R) (x : R) → IsTaken cmp bag out left → IsSameBag left (x ∷ left') → Each (Le (is_before cmp) x) left' → IsTaken cmp bag (out ++ x ∷ []) left'
   taken_one bag out left left' x s moved each = taken_more cmp (ranks o) bag out left (x ∷ []) left' s (record { moved = moved; ascends = (tt, tt); least = (each, tt) })

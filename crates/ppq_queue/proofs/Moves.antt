@@ -1,10 +1,10 @@
 -- What runs keep, and what follows from an answer.
-use Rattle.std.proofs.Common.{ℕ, ◌≤◌, List, refl, ◌∙◌, arith, inl, inr}
+use Rattle.std.proofs.Common.{◌≡◌, ℕ, ◌+◌, ◌*◌, ◌≤◌, List, [], All, length, refl, sym, ap, ◌∙◌, arith, inl, inr}
 use Rattle.std.specs.Prelude.{Result, Ok, Err, OnOk, IsErrOf}
 use Rattle.ppq_extract.specs.ppq_array.declared.store_fault.StoreFault.{StoreFault}
 use Rattle.ppq_extract.specs.ppq_array.declared.store_fault.StoreFault.TheVariants.{NoFreeBlock, Device}
 use Rattle.std.specs.declared.cmp.Ordering.{Ordering}
-use Rattle.ppq_extract.specs.ppq_outside.Shown.{Shown}
+use Rattle.ppq_extract.specs.ppq_outside.Shown.{Shown, AllTell}
 use Rattle.ppq_extract.specs.ppq_budget.Sizes.{Numbers}
 use Rattle.ppq_heap.specs.ppq_record.Bag.{IsSameBag}
 use Rattle.ppq_heap.proofs.ppq_record.Order.{Each-weaker, Each-same_bag}
@@ -12,9 +12,12 @@ use Rattle.ppq_heap.specs.ppq_record.Order.{Le, is_before}
 use Rattle.ppq_extract.specs.ppq_fetch.Taking.{NoneAfter}
 use Rattle.std.specs.List.{AllByRecursion as Each}
 use Rattle.ppq_extract.specs.ppq_array.Supply.{Stock}
+use Rattle.ppq_extract.specs.ppq_array.Owner.{HasBlock}
+use Rattle.ppq_extract.specs.ppq_array.Holdings.{external_buffers, CanTakeBack}
+use Rattle.ppq_extract.specs.ppq_fetch.Fetching.{fronts_in}
 use Rattle.ppq_spill.specs.declared.body.PassBody.{PassBody}
 use Rattle.ppq_spill.proofs.SameSlots.{SameSlots-refl, SameSlots-trans}
-use Rattle.ppq_queue.specs.Resting.{BodyKept, IsShort, slots_of}
+use Rattle.ppq_queue.specs.Resting.{BodyKept, IsRestingRun, IsRestingArray, AllRise, AtRest, IsShort, slots_of, odd_in}
 
 module _ {S R : Type 0} (shown : S → Shown) where
   pub kept-refl : (a : PassBody S R) (s : Stock) → BodyKept shown a a s s
@@ -45,6 +48,36 @@ module _ {S R : Type 0} (shown : S → Shown) where
         internal_room = k.internal_room ∙ h.internal_room;
         external_room = k.external_room ∙ h.external_room;
         leaves = k.leaves ∙ h.leaves;
+      }
+
+module _ {S R : Type 0} {shown : S → Shown} {cmp : R → R → Ordering} {record_of : List ℕ → R} {width : ℕ} {n : Numbers} {a b : PassBody S R} {s t : Stock} where
+  -- runs rest after a step that lost no buffer and no slot, if each of them rests
+  pub rest-moved :
+      AtRest shown cmp record_of width n a s → BodyKept shown a b s t
+      → All (HasBlock t.block) b.lanes.idle → b.lanes.jobs.items ≡ [] → length b.lanes.batch.items ≡ length a.lanes.batch.items → CanTakeBack shown t b.runs.internal.items b.runs.external.items
+      → All (IsRestingRun t.block) b.runs.internal.items → All (IsRestingArray shown width t.block) b.runs.external.items → length b.lanes.idle + external_buffers b.runs.external.items ≡ length a.lanes.idle + external_buffers a.runs.external.items
+      → external_buffers b.runs.external.items ≤ fronts_in b.runs.external.items + n.workers → fronts_in b.runs.external.items ≤ 64 → odd_in t.block b.runs.external.items ≤ 65 → (AllTell (slots_of shown b t) → AllRise shown cmp record_of width b)
+      → AtRest shown cmp record_of width n b t
+  rest-moved rest kept idle no_job batch takes_back internal external buffers bounded fronts few rise =
+      record {
+        block = kept.block ∙ rest.block;
+        idle = idle;
+        internal = internal;
+        external = external;
+        takes_back = takes_back;
+        no_job = no_job;
+        batch = batch ∙ rest.batch ∙ ap (λ k. n.workers * k) (sym kept.block);
+        buffers = buffers ∙ rest.buffers;
+        held = omega (arith, kept.held, rest.held, ap length rest.no_job, ap length no_job);
+        bounded = bounded;
+        fronts = fronts;
+        few = few;
+        pool = kept.all_buffers ∙ rest.pool;
+        slots = kept.all_slots ∙ rest.slots;
+        internal_room = omega (arith, rest.internal_room, kept.internal_room);
+        external_room = omega (arith, rest.external_room, kept.external_room);
+        leaves = omega (arith, rest.leaves, kept.leaves);
+        rise = rise;
       }
 
 -- what no record of a list is after stays so in another order

@@ -42,9 +42,6 @@ module _ {S R : Type 0} (shown : S → Shown) (n : Numbers) (parts : Parts S R) 
   slots-opened =
       ap (λ l. external_slots shown l ++ job_slots shown parts.store.body.lanes.jobs.items ++ stock.kept) is.body.no_external ∙ ap (λ l. job_slots shown l ++ stock.kept) is.body.no_job ∙ kept_is
 
-  pub bag-opened : (record_of : List ℕ → R) (width : ℕ) → runs_bag shown record_of width parts.store.body ≡ []
-  bag-opened record_of width = ap (λ l. internal_items l ++ flat_map (records_in record_of width shown) parts.store.body.runs.external.items) is.body.no_internal ∙ ap (λ l. flat_map (records_in record_of width shown) l) is.body.no_external
-
   internal_none : internal_buffers parts.store.body.runs.internal.items ≡ 0
   internal_none = ap internal_buffers is.body.no_internal
 

@@ -27,7 +27,7 @@ use Rattle.ppq_queue.proofs.Bounds.{pool_small, runs_few, idle_most, records_mos
 use Rattle.ppq_queue.proofs.Counts.{fronts_few}
 use Rattle.ppq_queue.proofs.Odd.{odd_most}
 use Rattle.ppq_queue.proofs.Slots.{slots-no_job, quiet-free}
-use Rattle.ppq_queue.proofs.Moves.{none_after-same}
+use Rattle.ppq_queue.proofs.Moves.{none_after-same, rest-moved}
 
 module _ {S R : Type 0} where
   -- the last blocks of a packed run
@@ -182,32 +182,16 @@ module _ {S R : Type 0} (shown : S → Shown) where
           }
 
       rest_now : AtRest shown cmp record_of width n b t
-      rest_now = record {
-        block = kept.block ∙ rest.block;
-        idle = may.sources.idle;
-        internal = run_rests;
-        external = array_rests;
-        takes_back = may.sources.takes_back;
-        no_job = none';
-        batch = ap (λ v. length v.items) batch ∙ rest.batch ∙ ap (λ k. n.workers * k) (sym kept.block);
-        buffers = omega (arith, rest.buffers, r.buffers);
-        held = omega (arith, kept.held, rest.held, ap length rest.no_job, ap length none');
-        bounded = may.sources.bounded;
-        fronts = omega (arith, fronts_few b.runs.external.items, r.external, few);
-        few = omega (arith, odd_most t.block b.runs.external.items, r.external, few);
-        pool = kept.all_buffers ∙ rest.pool;
-        slots = kept.all_slots ∙ rest.slots;
-        internal_room = omega (arith, rest.internal_room, kept.internal_room);
-        external_room = omega (arith, rest.external_room, kept.external_room);
-        leaves = omega (arith, rest.leaves, kept.leaves);
-        rise = λ tell.
-            let was = kept.tells.1 tell in
-            let rise = r.rise (told was) (rises was) in
-            record {
-              internal = All-from_recursion (λ (run : Run R). Ascends cmp (items_of run)) b.runs.internal.items rise.internal;
-              external = All-from_recursion (λ (x : External S R). Ascends cmp (records_in record_of width shown x)) b.runs.external.items rise.external;
-            };
-      }
+      rest_now =
+          rest-moved rest kept may.sources.idle none' (ap (λ v. length v.items) batch) may.sources.takes_back run_rests array_rests (omega (arith, r.buffers)) may.sources.bounded (omega (arith, fronts_few b.runs.external.items, r.external, few))
+          (omega (arith, odd_most t.block b.runs.external.items, r.external, few))
+          (λ tell.
+          let was = kept.tells.1 tell in
+          let rise = r.rise (told was) (rises was) in
+          record {
+            internal = All-from_recursion (λ (run : Run R). Ascends cmp (items_of run)) b.runs.internal.items rise.internal;
+            external = All-from_recursion (λ (x : External S R). Ascends cmp (records_in record_of width shown x)) b.runs.external.items rise.external;
+          })
 
       pub readied-refilled : (room : ℕ) → 0 < room → length out ≡ min room (count_in a.runs.internal.items a.runs.external.items) → Readied shown cmp record_of width n [] out a b s t
       readied-refilled room some all = record {

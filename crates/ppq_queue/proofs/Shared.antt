@@ -14,10 +14,6 @@ module _ {R : Type 0} where
   pub share_most : (shares : Shares R) (place : ℕ) → length (share_at shares place) ≤ length (items_of shares)
   share_most shares place = heap_most shares.heaps place
 
-  -- the first heap has room for its records
-  pub first_within : (shares : Shares R) → AreShares shares → length (share_at shares 0) ≤ shares.cap
-  first_within shares are = are.within 0 (empty_heap 0) are.some
-
   -- all heaps have room for theirs
   pub all_within : (shares : Shares R) → AreShares shares → length (items_of shares) ≤ length shares.heaps * shares.cap
   all_within shares are = length_all shares.heaps shares.cap are.within

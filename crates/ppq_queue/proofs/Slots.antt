@@ -19,10 +19,6 @@ use Rattle.ppq_spill.specs.declared.body.PassBody.{PassBody}
 use Rattle.ppq_queue.specs.Resting.{slots_of}
 use Rattle.ppq_queue.specs.Slots.{SameSums}
 
--- the last of a list is the first of it in reverse
-pub reverse-push : {A : Type 0} (xs : List A) (x : A) → reverse (xs ++ x ∷ []) ≡ x ∷ reverse xs
-reverse-push xs x = reverse-append xs (x ∷ [])
-
 module _ {S : Type 0} (shown : S → Shown) where
   pub shown-push : (xs : List S) (x : S) → map shown (xs ++ x ∷ []) ≡ map shown xs ++ shown x ∷ []
   shown-push xs x = map-append shown xs (x ∷ [])

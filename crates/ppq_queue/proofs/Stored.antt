@@ -20,9 +20,10 @@ use Rattle.ppq_extract.specs.ppq_fetch.Fetching.{IsFitting, fronts_in, one_if_so
 use Rattle.ppq_spill.specs.Body.{held_by}
 use Rattle.ppq_spill.specs.Storing.{in_buffers, NoSlots, MayStore, HasOneSize, LanesRest, RoomsRest, IsInBuffers, BlocksStored, IsStored, NoneFree, WritesFew, StillTell}
 use Rattle.ppq_spill.specs.declared.body.PassBody.{PassBody}
-use Rattle.ppq_queue.specs.Resting.{BodyKept, IsRestingRun, IsRestingArray, AtRest, Moved, StoreShort, runs_bag, slots_of, lane_buffers, odd_in}
+use Rattle.ppq_queue.specs.Resting.{BodyKept, IsRestingRun, IsRestingArray, AllRise, AtRest, Moved, StoreShort, runs_bag, slots_of, lane_buffers, odd_in}
 use Rattle.ppq_queue.proofs.Bounds.{pool_within, pool_small, runs_few, idle_most, idle_some, in_buffers_few}
 use Rattle.ppq_queue.proofs.Counts.{internal_count}
+use Rattle.ppq_queue.proofs.Moves.{rest-moved}
 use Rattle.ppq_queue.proofs.Odd.{odd_most}
 use Rattle.ppq_queue.proofs.Slots.{no_row_more, kept-sums, quiet-same}
 
@@ -77,12 +78,6 @@ module _ {S R : Type 0} (shown : S → Shown) where
         }
 
     module _ (a b : PassBody S R) (s t : Stock) (rest : AtRest shown cmp record_of width n a s) (kept : BodyKept shown a b s t) (size : HasOneSize shown width b t) (takes_back : CanTakeBack shown t b.runs.internal.items b.runs.external.items) (lanes : LanesRest a.lanes b.lanes) where
-      held_now : internal_buffers b.runs.internal.items + external_buffers b.runs.external.items + length b.lanes.idle ≡ lane_buffers n + t.buffer_room
-      held_now = omega (arith, kept.held, rest.held, ap length rest.no_job, ap length lanes.no_job)
-
-      batch_now : length b.lanes.batch.items ≡ n.workers * t.block
-      batch_now = lanes.batch ∙ rest.batch ∙ ap (λ k. n.workers * k) (sym kept.block)
-
       same_runs : All (IsRestingRun t.block) a.runs.internal.items
       same_runs = subst (λ k. All (IsRestingRun k) a.runs.internal.items) (sym kept.block) rest.internal
 
@@ -92,40 +87,27 @@ module _ {S R : Type 0} (shown : S → Shown) where
       odd_same : b.runs.external.items ≡ a.runs.external.items → odd_in t.block b.runs.external.items ≤ 65
       odd_same ext = omega (arith, rest.few, ap (λ k. odd_in k b.runs.external.items) kept.block, ap (odd_in s.block) ext)
 
+      rest-with :
+          All (IsRestingRun t.block) b.runs.internal.items → All (IsRestingArray shown width t.block) b.runs.external.items → external_buffers b.runs.external.items ≡ external_buffers a.runs.external.items → fronts_in b.runs.external.items ≡ fronts_in a.runs.external.items
+          → odd_in t.block b.runs.external.items ≤ 65 → (AllTell (slots_of shown a s) → AllRise shown cmp record_of width b)
+          → AtRest shown cmp record_of width n b t
+      rest-with int ext buffers fronts few rise =
+          rest-moved rest kept size.idle lanes.no_job lanes.batch takes_back int ext (omega (arith, lanes.idle, buffers)) (omega (arith, rest.bounded, buffers, fronts)) (omega (arith, rest.fronts, fronts)) few (λ tell. rise (kept.tells.1 tell))
+
       -- the same runs, and what changed besides
-      pub rest-same : b.runs.internal.items ≡ a.runs.internal.items → b.runs.external.items ≡ a.runs.external.items → AtRest shown cmp record_of width n b t
+      rest-same : b.runs.internal.items ≡ a.runs.internal.items → b.runs.external.items ≡ a.runs.external.items → AtRest shown cmp record_of width n b t
       rest-same int ext =
-          record {
-            block = kept.block ∙ rest.block;
-            idle = size.idle;
-            internal = subst (All (IsRestingRun t.block)) (sym int) same_runs;
-            external = subst (All (IsRestingArray shown width t.block)) (sym ext) same_arrays;
-            takes_back = takes_back;
-            no_job = lanes.no_job;
-            batch = batch_now;
-            buffers = omega (arith, rest.buffers, lanes.idle, ap external_buffers ext);
-            held = held_now;
-            bounded = omega (arith, rest.bounded, ap external_buffers ext, ap fronts_in ext);
-            fronts = omega (arith, rest.fronts, ap fronts_in ext);
-            few = odd_same ext;
-            pool = kept.all_buffers ∙ rest.pool;
-            slots = kept.all_slots ∙ rest.slots;
-            internal_room = omega (arith, rest.internal_room, kept.internal_room);
-            external_room = omega (arith, rest.external_room, kept.external_room);
-            leaves = omega (arith, rest.leaves, kept.leaves);
-            rise = λ tell.
-                let rise = rest.rise (kept.tells.1 tell) in
-                record {
-                  internal = subst (All (λ (run : Run R). Ascends cmp (items_of run))) (sym int) rise.internal;
-                  external = subst (All (λ (x : External S R). Ascends cmp (records_in record_of width shown x))) (sym ext) rise.external;
-                };
-          }
+          rest-with (subst (All (IsRestingRun t.block)) (sym int) same_runs) (subst (All (IsRestingArray shown width t.block)) (sym ext) same_arrays) (ap external_buffers ext) (ap fronts_in ext) (odd_same ext)
+          (λ told. record {
+            internal = subst (All (λ (run : Run R). Ascends cmp (items_of run))) (sym int) (rest.rise told).internal;
+            external = subst (All (λ (x : External S R). Ascends cmp (records_in record_of width shown x))) (sym ext) (rest.rise told).external;
+          })
 
       -- of the same runs in blocks, and of slots that were not called, no call failed
       quiet-kept : b.runs.external.items ≡ a.runs.external.items → SameSums s.kept t.kept → AreQuiet (slots_of shown a s) (slots_of shown b t)
       quiet-kept ext = quiet-same shown a b s t rest.no_job lanes.no_job (λ f. ap (λ l. sum_by f (external_slots shown l)) (sym ext))
 
-      pub moved-same : b.runs.internal.items ≡ a.runs.internal.items → b.runs.external.items ≡ a.runs.external.items → SameSums s.kept t.kept → Moved shown cmp record_of width n [] a b s t
+      moved-same : b.runs.internal.items ≡ a.runs.internal.items → b.runs.external.items ≡ a.runs.external.items → SameSums s.kept t.kept → Moved shown cmp record_of width n [] a b s t
       moved-same int ext untouched =
           record {
             rest = rest-same int ext;
@@ -168,32 +150,12 @@ module _ {S R : Type 0} (shown : S → Shown) where
             omega (arith, ap fronts_in ext, sum_by-append (λ (x : External S R). one_if_some (items_of x.loaded)) a.runs.external.items one, sum_by-cons (λ (x : External S R). one_if_some (items_of x.loaded)) array [], ap one_if_some empty)
             in
             record {
-              rest = record {
-                block = kept.block ∙ rest.block;
-                idle = size.idle;
-                internal = subst (All (IsRestingRun t.block)) (sym int) (All-nil (IsRestingRun t.block));
-                external = subst (All (IsRestingArray shown width t.block)) (sym ext) (All-push (IsRestingArray shown width t.block) a.runs.external.items array same_arrays is);
-                takes_back = takes_back;
-                no_job = lanes.no_job;
-                batch = batch_now;
-                buffers = omega (arith, rest.buffers, lanes.idle, loaded_buffers);
-                held = held_now;
-                bounded = omega (arith, rest.bounded, loaded_buffers, fronts);
-                fronts = omega (arith, rest.fronts, fronts);
-                few = omega (arith, few, odd_most t.block b.runs.external.items, ap length ext, length-append a.runs.external.items one);
-                pool = kept.all_buffers ∙ rest.pool;
-                slots = kept.all_slots ∙ rest.slots;
-                internal_room = omega (arith, rest.internal_room, kept.internal_room);
-                external_room = omega (arith, rest.external_room, kept.external_room);
-                leaves = omega (arith, rest.leaves, kept.leaves);
-                rise = λ tell.
-                    let told = kept.tells.1 tell in
-                    let rise = rest.rise told in
-                    record {
-                      internal = subst (All (λ (run : Run R). Ascends cmp (items_of run))) (sym int) (All-nil (λ (run : Run R). Ascends cmp (items_of run)));
-                      external = subst (All (λ (x : External S R). Ascends cmp (records_in record_of width shown x))) (sym ext) (All-push (λ (x : External S R). Ascends cmp (records_in record_of width shown x)) a.runs.external.items array rise.external (put.ascends (subst AllTell (sym before) told)));
-                    };
-              };
+              rest = rest-with (subst (All (IsRestingRun t.block)) (sym int) (All-nil (IsRestingRun t.block))) (subst (All (IsRestingArray shown width t.block)) (sym ext) (All-push (IsRestingArray shown width t.block) a.runs.external.items array same_arrays is)) loaded_buffers fronts
+                  (omega (arith, few, odd_most t.block b.runs.external.items, ap length ext, length-append a.runs.external.items one))
+                  (λ told. record {
+                    internal = subst (All (λ (run : Run R). Ascends cmp (items_of run))) (sym int) (All-nil (λ (run : Run R). Ascends cmp (items_of run)));
+                    external = subst (All (λ (x : External S R). Ascends cmp (records_in record_of width shown x))) (sym ext) (All-push (λ (x : External S R). Ascends cmp (records_in record_of width shown x)) a.runs.external.items array (rest.rise told).external (put.ascends (subst AllTell (sym before) told)));
+                  });
               quiet = sym (ap all_faults after) ∙ put.quiet ∙ ap all_faults before;
               bag = λ tell p.
                   omega (
@@ -229,32 +191,11 @@ module _ {S R : Type 0} (shown : S → Shown) where
             let blocks = All-head (RunHasBlock t.block) put.run [] (all_right (RunHasBlock t.block) a.runs.internal.items one (subst (All (RunHasBlock t.block)) int size.internal)) in
             let run : IsRestingRun t.block put.run = record { some = omega (arith, ap length put.items, some); spent = put.spent; blocks = blocks; fitting = put.fitting } in
             record {
-              rest = record {
-                block = kept.block ∙ rest.block;
-                idle = size.idle;
-                internal = subst (All (IsRestingRun t.block)) (sym int) (All-push (IsRestingRun t.block) a.runs.internal.items put.run same_runs run);
-                external = subst (All (IsRestingArray shown width t.block)) (sym ext) same_arrays;
-                takes_back = takes_back;
-                no_job = lanes.no_job;
-                batch = batch_now;
-                buffers = omega (arith, rest.buffers, lanes.idle, ap external_buffers ext);
-                held = held_now;
-                bounded = omega (arith, rest.bounded, ap external_buffers ext, ap fronts_in ext);
-                fronts = omega (arith, rest.fronts, ap fronts_in ext);
-                few = odd_same ext;
-                pool = kept.all_buffers ∙ rest.pool;
-                slots = kept.all_slots ∙ rest.slots;
-                internal_room = omega (arith, rest.internal_room, kept.internal_room);
-                external_room = omega (arith, rest.external_room, kept.external_room);
-                leaves = omega (arith, rest.leaves, kept.leaves);
-                rise = λ tell.
-                    let told = kept.tells.1 tell in
-                    let rise = rest.rise told in
-                    record {
-                      internal = subst (All (λ (run : Run R). Ascends cmp (items_of run))) (sym int) (All-push (λ (run : Run R). Ascends cmp (items_of run)) a.runs.internal.items put.run rise.internal (subst (Ascends cmp) (sym put.items) (up told)));
-                      external = subst (All (λ (x : External S R). Ascends cmp (records_in record_of width shown x))) (sym ext) rise.external;
-                    };
-              };
+              rest = rest-with (subst (All (IsRestingRun t.block)) (sym int) (All-push (IsRestingRun t.block) a.runs.internal.items put.run same_runs run)) (subst (All (IsRestingArray shown width t.block)) (sym ext) same_arrays) (ap external_buffers ext) (ap fronts_in ext) (odd_same ext)
+                  (λ told. record {
+                    internal = subst (All (λ (run : Run R). Ascends cmp (items_of run))) (sym int) (All-push (λ (run : Run R). Ascends cmp (items_of run)) a.runs.internal.items put.run (rest.rise told).internal (subst (Ascends cmp) (sym put.items) (up told)));
+                    external = subst (All (λ (x : External S R). Ascends cmp (records_in record_of width shown x))) (sym ext) (rest.rise told).external;
+                  });
               quiet = quiet-kept ext (λ f. ap (sum_by f) (sym put.slots.kept));
               bag = λ tell p.
                   omega (

@@ -1,20 +1,22 @@
 -- What a bulk pop took of a heap, an extract buffer and runs, step by step.
 use Rattle.std.proofs.Common.{◌≡◌, ℕ, ◌+◌, ◌<◌, ◌≤◌, Bool, true, false, List, [], ◌∷◌, ◌++◌, length, Option, Some, None, refl, sym, ap, ◌∙◌, inl, inr, arith, length-append, Ordering}
-use Rattle.std.specs.Prelude.{◌⊎◌}
+use Rattle.std.specs.Prelude.{◌⊎◌, Result}
 use Rattle.std.specs.Cmp.{IsTotalOrder}
 use Rattle.ppq_heap.proofs.ppq_record.Fronts.{ranks}
+use Rattle.ppq_heap.specs.Heaps.{Shares, items_of}
 use Rattle.ppq_extract.specs.ppq_outside.Shown.{Shown, AllTell}
+use Rattle.ppq_extract.specs.ppq_array.declared.store_fault.StoreFault.{StoreFault}
 use Rattle.ppq_extract.specs.ppq_fetch.Taking.{AllBelow, NoneBelow}
 use Rattle.ppq_extract.specs.Extracted.{Held}
-use Rattle.ppq_extract.proofs.ppq_fetch.Taken.{taken_none, taken_same, taken_of}
+use Rattle.ppq_extract.proofs.ppq_fetch.Parted.{taken_none, taken_same, taken_of}
 use Rattle.ppq_queue.specs.Resting.{runs_bag, count_of}
 use Rattle.ppq_queue.specs.Stores.{StoreKept, MayWork, Holds, stored, slots_in, whole_bag}
 use Rattle.ppq_queue.specs.declared.store.Store.{Store}
-use Rattle.ppq_queue.specs.Bulk.{Merged, HasEnded, TookOut, TookAll}
+use Rattle.ppq_queue.specs.Bulk.{Merged, HasEnded, TookOut, TookAll, TakesOut}
 use Rattle.ppq_queue.proofs.Bounds.{bag_length}
 use Rattle.ppq_queue.proofs.Merging.{exhausted-runs}
-use Rattle.ppq_queue.proofs.Moves.{kept-refl}
-use Rattle.ppq_queue.proofs.Stores.{same-sources, works-step, holds-beside}
+use Rattle.ppq_queue.proofs.Moves.{kept-refl, ok-map}
+use Rattle.ppq_queue.proofs.Stores.{same-sources, kept-more, works-step, holds-beside, refused-more, err-map}
 
 pub empty_list : {X : Type 0} (l : List X) → length l ≡ 0 → l ≡ []
 empty_list [] h = refl
@@ -63,7 +65,7 @@ module _ {S R : Type 0} (shown : S → Shown) {cmp : R → R → Ordering} (o : 
       let runs = runs_bag shown record_of width y.body in
       let works = took.works in
       record {
-        works = works-step shown cmp record_of width y y.body y.supply works (kept-refl shown y.body y.supply) works.runs.no_row v y.sources (same-sources shown y) works.runs.rest room (omega (arith, m.fewer, works.within, room)) (λ tell. m.ascends (works.ascends tell)) (λ tell. m.order runs (works.order tell));
+        works = works-step y y.body y.supply works (kept-refl shown y.body y.supply) works.runs.no_row v y.sources same-sources works.runs.rest room (omega (arith, m.fewer, works.within, room)) (λ tell. m.ascends (works.ascends tell)) (λ tell. m.order runs (works.order tell));
         quiet = took.quiet;
         few = few;
         count = omega (arith, took.count, m.count);
@@ -83,7 +85,7 @@ module _ {S R : Type 0} (shown : S → Shown) {cmp : R → R → Ordering} (o : 
         fewer = omega (arith, took.fewer, holds.count);
         taken = λ tell.
             taken_same cmp (ranks o) (whole_bag shown cmp record_of width h x) out (whole_bag shown cmp record_of width h1 y) (whole_bag shown cmp record_of width h1 z) (took.taken tell)
-            (λ p. sym ((holds-beside shown cmp record_of width h1 y z holds).bag (kept.body.tells.0 tell) p));
+            (λ p. sym ((holds-beside h1 holds).bag (kept.body.tells.0 tell) p));
         under = took.under;
       }
 
@@ -98,11 +100,11 @@ module _ {S R : Type 0} (shown : S → Shown) {cmp : R → R → Ordering} (o : 
         fewer = omega (arith, took.fewer, holds.count);
         taken = λ tell.
             taken_of cmp (ranks o) (whole_bag shown cmp record_of width h y) (whole_bag shown cmp record_of width h x) out (whole_bag shown cmp record_of width h' z) (took.taken (kept.body.tells.0 tell))
-            (λ p. sym ((holds-beside shown cmp record_of width h x y holds).bag tell p));
+            (λ p. sym ((holds-beside h holds).bag tell p));
         under = λ tell. took.under (kept.body.tells.0 tell);
       }
 
-  pub all-settled : (h h' : List R) (x y z : Store S R) (out : List R) → StoreKept shown x y → Holds shown cmp record_of width [] [] x y → TookAll shown cmp record_of width limit most h h' y z out → TookAll shown cmp record_of width limit most h h' x z out
+  all-settled : (h h' : List R) (x y z : Store S R) (out : List R) → StoreKept shown x y → Holds shown cmp record_of width [] [] x y → TookAll shown cmp record_of width limit most h h' y z out → TookAll shown cmp record_of width limit most h h' x z out
   all-settled h h' x y z out kept holds all = record { took = took-settled h h' x y z out kept holds all.took; all = all.all; low = all.low; ready = all.ready }
 
   pub stands-ended :
@@ -147,3 +149,16 @@ module _ {S R : Type 0} (shown : S → Shown) {cmp : R → R → Ordering} (o : 
       look : (l : R) → limit ≡ Some l → (count_of x.body ≡ 0) ⊎ ((limit ≡ None) × (most ≤ length out)) → count_of x.body ≡ 0
       look l is (inl none) = none
       look l is (inr all) = absurd (let odd : ◌≡◌ {A = Option R} None (Some l) = sym all.0 ∙ is in cc)
+
+-- levels were settled before heaps and a store were asked
+pub takes-settled :
+    {S R T : Type 0} {shown : S → Shown} {cmp : R → R → Ordering} {record_of : List ℕ → R} {width : ℕ} {limit : Option R} {most : ℕ} {before after : Shares R} {x y z : Store S R} {out : List R} {r : Result T StoreFault}
+    → IsTotalOrder cmp → StoreKept shown x y → Holds shown cmp record_of width [] [] x y → TakesOut shown cmp record_of width limit most before after y z out r → TakesOut shown cmp record_of width limit most before after x z out r
+takes-settled {shown = shown} {cmp = cmp} {record_of = record_of} {width = width} {limit = limit} {most = most} {before = before} {after = after} {x = x} {y = y} {z = z} {out = out} {r = r} o kept holds takes =
+    record {
+      kept = kept-more kept takes.kept;
+      heaps = takes.heaps;
+      took = ok-map r (all-settled shown o record_of width limit most (items_of before) (items_of after) x y z out kept holds) takes.took;
+      same_heaps = takes.same_heaps;
+      refused = err-map r (λ fault. refused-more shown cmp record_of width [] [] [] x y z fault kept holds) takes.refused;
+    }

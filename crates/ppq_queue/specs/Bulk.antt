@@ -1,16 +1,19 @@
 -- Taking many records out of a queue at once.
-use Rattle.std.specs.Prelude.{◌≡◌, ◌⊎◌, ℕ, ◌+◌, ◌<◌, ◌≤◌, Bool, true, false, cond, List, [], ◌++◌, length, min, Option, Some, None}
+use Rattle.std.specs.Prelude.{◌≡◌, ◌⊎◌, ℕ, ◌+◌, ◌-◌, ◌<◌, ◌≤◌, Bool, true, false, cond, List, [], ◌++◌, length, min, Option, Some, None, Result, OnOk, OnErr, IfErr, IsErrOf}
 use Rattle.std.specs.declared.cmp.Ordering.{Ordering}
 use Rattle.ppq_heap.specs.ppq_record.Order.{is_before, Ascends}
 use Rattle.ppq_heap.specs.ppq_record.Bag.{IsSameBag, front, without_front, size_below}
 use Rattle.ppq_extract.specs.ppq_outside.Shown.{Shown, AllTell}
 use Rattle.ppq_extract.specs.ppq_array.Kept.{AreQuiet}
+use Rattle.ppq_extract.specs.ppq_array.declared.store_fault.StoreFault.{StoreFault}
+use Rattle.ppq_extract.specs.ppq_array.declared.store_fault.StoreFault.TheVariants.{NoFreeBlock}
+use Rattle.ppq_heap.specs.Heaps.{Shares, items_of}
 use Rattle.ppq_extract.specs.ppq_fetch.Taking.{wanted, NoneAfter, IsTaken, AllBelow, NoneBelow}
 use Rattle.ppq_extract.specs.Extracted.{Held}
 use Rattle.ppq_queue.specs.Out.{Listed}
-use Rattle.ppq_queue.specs.Holding.{Holding}
+use Rattle.ppq_queue.specs.Holding.{Holding, Keeps, IsRefusal}
 use Rattle.ppq_queue.specs.Resting.{count_of}
-use Rattle.ppq_queue.specs.Stores.{MayWork, stored, slots_in, whole_bag}
+use Rattle.ppq_queue.specs.Stores.{MayWork, StoreKept, HeapsStay, Refuses, stored, slots_in, whole_bag}
 use Rattle.ppq_queue.specs.declared.store.Store.{Store}
 use Rattle.ppq_queue.specs.declared.limit_end.LimitEnd.{LimitEnd}
 use Rattle.ppq_queue.specs.declared.limit_end.LimitEnd.TheVariants.{All, More, Round}
@@ -28,6 +31,12 @@ module _ {R : Type 0} (cmp : R → R → Ordering) where
   IsEnd batch wanted limit given left More = (length given ≡ wanted) × (0 < size_below cmp left limit)
   IsEnd batch wanted limit given left Round = (length given ≡ batch) × (batch < wanted) × (0 < size_below cmp left limit)
 
+  -- the same by what is left alone, of so many records wanted and so much room: a list that is not full ended by all
+  abbrev pub EndsBy : (room wanted : ℕ) (limit : R) (left : List R) → LimitEnd → Type 0
+  EndsBy room wanted limit left All = size_below cmp left limit ≡ 0
+  EndsBy room wanted limit left More = (wanted ≤ room) × (0 < size_below cmp left limit)
+  EndsBy room wanted limit left Round = (room < wanted) × (0 < size_below cmp left limit)
+
   -- a record where it is below a limit, if there is one
   abbrev pub kept_below : Option R → Option R → Option R
   kept_below None limit = None
@@ -43,6 +52,12 @@ module _ {R : Type 0} (cmp : R → R → Ordering) where
     pub order : (runs : List R) → NoneAfter cmp extract runs → NoneAfter cmp extract' runs
     pub taken : (bag runs : List R) → (more ≡ false → runs ≡ []) → Ascends cmp extract → NoneAfter cmp extract runs → IsTaken cmp bag out (heap ++ extract ++ runs) → IsTaken cmp bag out' (heap' ++ extract' ++ runs)
     pub under : AllBelow cmp limit out → AllBelow cmp limit out'
+
+  -- the same of heaps, an extract buffer and a list, all of which keep their room
+  pub record Moves (more : Bool) (limit : Option R) (before after : Shares R) (extract extract' : Held R) (out out' : Listed R) : Type 0 where
+    pub merged : Merged more limit (items_of before) (items_of after) extract.items extract'.items out.items out'.items
+    pub heaps : HeapsStay before after
+    pub rooms : RoomsStay extract extract' out out'
 
   -- nothing that is wanted is left
   pub record Exhausted (more : Bool) (limit : Option R) (heap extract : List R) : Type 0 where
@@ -66,6 +81,15 @@ module _ {R : Type 0} (cmp : R → R → Ordering) where
     pub sound : new.failed ≡ None
     pub quiet : AreQuiet old.slots new.slots
 
+  -- what a bulk pop leaves of a queue: the least records were taken if it is Ok, none is given if it is not, what a refusal means, and what stays
+  pub record BulkLeaves {T : Type 0} (limit : Option R) (most : ℕ) (old new : Holding R) (out : List R) (r : Result T StoreFault) : Type 0 where
+    pub took : OnOk r (TookFront limit most old new out)
+    pub emptied : OnErr r (out ≡ [])
+    pub refused : IfErr r (IsRefusal old new)
+    pub size : new.size ≡ old.size - length out
+    pub peak : new.peak ≡ old.peak
+    pub keeps : Keeps old new
+
 module _ {S R : Type 0} (shown : S → Shown) (cmp : R → R → Ordering) (record_of : List ℕ → R) (width : ℕ) where
   -- Out of heaps and a store the least records were taken, at most so many, all below the limit, if there is one. The store may work on
   pub record TookOut (limit : Option R) (most : ℕ) (heap heap' : List R) (old new : Store S R) (out : List R) : Type 0 where
@@ -84,3 +108,12 @@ module _ {S R : Type 0} (shown : S → Shown) (cmp : R → R → Ordering) (reco
     pub all : limit ≡ None → (length out ≡ most) ⊎ (length heap' + stored new ≡ 0)
     pub low : AllTell (slots_in shown new) → (length out ≡ most) ⊎ NoneBelow cmp limit (whole_bag shown cmp record_of width heap' new)
     pub ready : (l : R) → limit ≡ Some l → new.extract.items ≡ [] → count_of new.body ≡ 0
+
+  -- what a bulk pop leaves of heaps and the store: what stays whatever is returned; all that was wanted was taken if it is Ok; what a refusal means, and
+  -- that the heaps are as they were where no block was free
+  pub record TakesOut {T : Type 0} (limit : Option R) (most : ℕ) (before after : Shares R) (old new : Store S R) (out : List R) (r : Result T StoreFault) : Type 0 where
+    pub kept : StoreKept shown old new
+    pub heaps : HeapsStay before after
+    pub took : OnOk r (TookAll limit most (items_of before) (items_of after) old new out)
+    pub same_heaps : IsErrOf r NoFreeBlock → after ≡ before
+    pub refused : IfErr r (Refuses shown cmp record_of width [] [] old new)

@@ -53,6 +53,12 @@ module _ {S R : Type 0} (shown : S → Shown) where
         limited = limited;
       }
 
+  -- what holds between its calls of a queue of this store and these heaps, with so much room in its list of slots
+  pub record QueueStands (cmp : R → R → Ordering) (record_of : List ℕ → R) (width : ℕ) (store : Store S R) (heaps : Shares R) (count peak : ℕ) (failed : Option ℕ) (limited : Bool) (room : ℕ) : Type 0 where
+    pub queue : IsQueue shown store.sizes heaps store.extract store.body store.supply count peak failed
+    pub sound : failed ≡ None → IsSound shown cmp record_of width store.sizes heaps store.extract store.body store.supply store.sources count peak limited
+    pub slots_room : store.sizes.blocks ≤ room
+
   -- the parts make a queue: what holds of it between its calls holds of them
   pub record IsWhole (cmp : R → R → Ordering) (record_of : List ℕ → R) (width : ℕ) (q : QueueParts S R) : Type 0 where
     pub queue : IsQueue shown q.sizes q.heaps q.extract q.body q.supply q.count q.peak q.failed

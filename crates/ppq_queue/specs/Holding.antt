@@ -1,5 +1,5 @@
 -- What a queue holds.
-use Rattle.std.specs.Prelude.{◌≡◌, ◌<◌, ◌≤◌, ◌+◌, ◌-◌, ◌*◌, ℕ, Bool, false, List, ◌∷◌, length, max, Option, Some, None, Result, Ok, Err, ⊤, All}
+use Rattle.std.specs.Prelude.{◌≡◌, ◌<◌, ◌≤◌, ◌+◌, ◌-◌, ◌*◌, ℕ, Bool, false, List, ◌∷◌, length, max, Option, Some, None, Result, Ok, Err, OnOk, IfErr, ⊤, All}
 use Rattle.std.specs.declared.cmp.Ordering.{Ordering}
 use Rattle.ppq_heap.specs.ppq_record.Bag.{IsSameBag, without_front}
 use Rattle.ppq_extract.specs.ppq_budget.Sizes.{Numbers, fixed_of, batch_of, heap_of, blocks_for, room_of}
@@ -95,6 +95,11 @@ module _ {R : Type 0} where
     pub size : new.size ≡ old.size
     pub peak : new.peak ≡ old.peak
 
+  -- no call failed, and the extract buffer is empty only if no run is left
+  pub record IsReady (q : Holding R) : Type 0 where
+    pub sound : q.failed ≡ None
+    pub some : q.in_extract ≡ 0 → q.size ≡ q.in_heap
+
   -- the queue has this record more; no call failed
   pub record HasAdded (r : R) (old new : Holding R) : Type 0 where
     pub bag : AllTell old.slots → IsSameBag new.bag (r ∷ old.bag)
@@ -129,3 +134,9 @@ module _ {R : Type 0} where
   abbrev pub IsRefusal : Holding R → Holding R → StoreFault → Type 0
   IsRefusal old new NoFreeBlock = FoundNoBlock old new
   IsRefusal old new (Device number) = HasStopped number new
+
+  -- what a call leaves that takes no record out and adds none: the same records if it is Ok, what a refusal means, and what stays whatever is returned
+  pub record QueueLeaves {T : Type 0} (old new : Holding R) (r : Result T StoreFault) : Type 0 where
+    pub same : OnOk r (SameRecords old new)
+    pub refused : IfErr r (IsRefusal old new)
+    pub stays : Stays old new

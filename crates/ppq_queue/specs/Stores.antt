@@ -1,5 +1,5 @@
 -- What a store needs for its calls, what stays after them, and what they say.
-use Rattle.std.specs.Prelude.{◌≡◌, ℕ, ◌+◌, ◌<◌, ◌≤◌, List, [], ◌++◌, length}
+use Rattle.std.specs.Prelude.{◌≡◌, ℕ, ◌+◌, ◌<◌, ◌≤◌, List, [], ◌++◌, length, Result, OnOk, IfErr, IsErrOf}
 use Rattle.std.specs.declared.cmp.Ordering.{Ordering}
 use Rattle.ppq_heap.specs.ppq_record.Order.{Ascends}
 use Rattle.ppq_heap.specs.ppq_record.Bag.{IsSameBag}
@@ -13,7 +13,7 @@ use Rattle.ppq_extract.specs.ppq_array.declared.store_fault.StoreFault.TheVarian
 use Rattle.ppq_extract.specs.ppq_fetch.Taking.{NoneAfter}
 use Rattle.ppq_extract.specs.Extracted.{ServesFor, SourcesRest}
 use Rattle.ppq_spill.specs.declared.body.PassBody.{PassBody}
-use Rattle.ppq_queue.specs.Resting.{AtRest, BodyKept, StoreShort, IsShort, runs_bag, count_of, slots_of}
+use Rattle.ppq_queue.specs.Resting.{AtRest, BodyKept, Moved, StoreShort, IsShort, runs_bag, count_of, crowd_of, slots_of}
 use Rattle.ppq_queue.specs.declared.store.Store.{Store}
 
 module _ {R : Type 0} where
@@ -62,11 +62,6 @@ module _ {S R : Type 0} (shown : S → Shown) where
     pub kept : StoreKept old new
     pub extract : length new.extract.items ≤ length old.extract.items
 
-  -- whatever a merge of levels answers: the same, and the runs in buffers are as they were
-  pub record LevelsStay (old new : Store S R) : Type 0 where
-    pub stays : StoreStays old new
-    pub internal : new.body.runs.internal ≡ old.body.runs.internal
-
   -- a call of the slot with this number failed, and no other refusal comes
   abbrev pub FailsAlone : Store S R → StoreFault → Type 0
   FailsAlone new NoFreeBlock = ⊥
@@ -80,10 +75,23 @@ module _ {S R : Type 0} (shown : S → Shown) where
       pub rest : AtRest shown cmp record_of width sizes body supply
       pub no_row : supply.drawn ≡ []
 
+    -- a run of so many records may be stored: there are some, the budget has room for them, and there is room for one run in blocks more
+    pub record RunMayCome (sizes : Numbers) (body : PassBody S R) (supply : Stock) (n : ℕ) : Type 0 where
+      pub runs : RunsMayMove sizes body supply
+      pub few : length body.runs.external.items ≤ 64
+      pub some : 0 < n
+      pub most : n ≤ sizes.memory
+
     -- what a run of so many records that was refused says
     abbrev pub RunRefused : (sizes : Numbers) (n : ℕ) (old new : PassBody S R) (before now : Stock) → StoreFault → Type 0
     RunRefused sizes n old new before now NoFreeBlock = StoreShort shown cmp record_of width sizes n old new before now
     RunRefused sizes n old new before now (Device number) = HasFailed number (slots_of shown new now)
+
+    -- what the store of a list of records as one run more leaves: what stays whatever is returned, that they came, and what a refusal means
+    pub record RunLeaves {T : Type 0} (sizes : Numbers) (sorted : List R) (old new : PassBody S R) (before now : Stock) (r : Result T StoreFault) : Type 0 where
+      pub kept : RunsKept old new before now
+      pub stored : OnOk r (Moved shown cmp record_of width sizes sorted old new before now)
+      pub refused : IfErr r (RunRefused sizes (length sorted) old new before now)
 
     -- What each call of a store needs and leaves, unless a slot failed: runs may move, and the sources serve for all of them. The extract buffer
     -- is within its room; where slots tell it ascends, and no record of a run is before one of its
@@ -107,16 +115,6 @@ module _ {S R : Type 0} (shown : S → Shown) where
       pub bag : AllTell (slots_in old) → IsSameBag (whole_bag heap' new) (whole_bag heap old)
       pub count : length heap' + stored new ≡ length heap + stored old
 
-    -- the same, and there is room for one run in blocks more: no level has more than 8
-    pub record Settles (heap heap' : List R) (old new : Store S R) : Type 0 where
-      pub holds : Holds heap heap' old new
-      pub few : length new.body.runs.external.items ≤ 64
-
-    -- the extract buffer was stored, and maybe records of the heaps
-    pub record Empties (heap heap' : List R) (old new : Store S R) : Type 0 where
-      pub holds : Holds heap heap' old new
-      pub emptied : IsEmptied new
-
     -- the extract buffer is empty only if no run is left
     pub record Readies (old new : Store S R) : Type 0 where
       pub holds : Holds [] [] old new
@@ -132,3 +130,15 @@ module _ {S R : Type 0} (shown : S → Shown) where
     abbrev pub Refuses : (heap heap' : List R) (old new : Store S R) → StoreFault → Type 0
     Refuses heap heap' old new NoFreeBlock = Lacks heap heap' old new
     Refuses heap heap' old new (Device number) = HasFailed number (slots_in new)
+
+    -- what a call leaves of heaps and the store: what stays whatever is returned, that all is held if it is Ok, and what a refusal means
+    pub record StoreLeaves {T : Type 0} (heap heap' : List R) (old new : Store S R) (r : Result T StoreFault) : Type 0 where
+      pub stays : StoreStays old new
+      pub holds : OnOk r (Holds heap heap' old new)
+      pub refused : IfErr r (Refuses heap heap' old new)
+
+    -- what a merge of levels leaves: the same; the runs in buffers are as they were; and where no block was free, a level has more than 8 runs
+    pub record LevelsLeave {T : Type 0} (old new : Store S R) (r : Result T StoreFault) : Type 0 where
+      pub leaves : StoreLeaves [] [] old new r
+      pub internal : new.body.runs.internal ≡ old.body.runs.internal
+      pub crowded : IsErrOf r NoFreeBlock → 8 < crowd_of new.body.runs.external.items

@@ -1,17 +1,17 @@
 //! Many records that are taken out at once: the least of the heaps and of an extract buffer go into a list,
 //! and the extract buffer is refilled on the way.
-ghost use Rattle.std.specs.Prelude.{◌≡◌, ◌≤◌, ◌<◌, ◌+◌, ◌⊎◌, true, false, [], length, Some, None, OnOk, OnErr, IfErr, IsErrOf};
+ghost use Rattle.std.specs.Prelude.{◌≡◌, ◌≤◌, ◌<◌, ◌+◌, ◌⊎◌, true, false, [], length, Some, None, OnOk, OnErr};
 ghost use Rattle.ppq_heap.specs.Heaps.{items_of};
 ghost use Rattle.ppq_queue.specs.Resting.{count_of};
-ghost use Rattle.ppq_queue.specs.Stores.{MayWork, StoreKept, HeapsStay, Refuses, FailsAlone};
-ghost use Rattle.ppq_queue.specs.Bulk.{Merged, Exhausted, HasEnded, RoomsStay, TookAll};
+ghost use Rattle.ppq_queue.specs.Stores.{MayWork};
+ghost use Rattle.ppq_queue.specs.Bulk.{Moves, Exhausted, HasEnded, TakesOut};
 ghost use Rattle.ppq_queue.specs.Bulk as spec;
 
 use crate::choice::goes_first;
 use crate::store::Store;
 use crate::wanted::Wanted;
 use crate::{Out, QueueFault};
-use ppq_extract::{Extract, Gate, Host, Slot, StoreFault};
+use ppq_extract::{Extract, Gate, Host, Slot};
 use ppq_heap::{Heaps, Record, record_laws};
 
 impl<S: Slot + Send + Sync, R: Record + Send + Sync> Store<S, R> {
@@ -32,12 +32,8 @@ impl<S: Slot + Send + Sync, R: Record + Send + Sync> Store<S, R> {
         requires works { MayWork S.shown R.Ord.cmp R.record_of R.WIDTH self.old }
         requires none { out.old.items ≡ [] }
         requires most { wanted.now.most ≤ out.old.room }
-        ensures kept { StoreKept S.shown self.old self.new }
-        ensures heaps { HeapsStay heaps.old heaps.new }
+        ensures takes { TakesOut S.shown R.Ord.cmp R.record_of R.WIDTH wanted.now.limit wanted.now.most heaps.old heaps.new self.old self.new out.new.items result }
         ensures list_room { out.new.room ≡ out.old.room }
-        ensures took { OnOk result (TookAll S.shown R.Ord.cmp R.record_of R.WIDTH wanted.now.limit wanted.now.most (items_of heaps.old) (items_of heaps.new) self.old self.new out.new.items) }
-        ensures same_heaps { IsErrOf result StoreFault.NoFreeBlock → heaps.new ≡ heaps.old }
-        ensures refused { IfErr result (Refuses S.shown R.Ord.cmp R.record_of R.WIDTH [] [] self.old self.new) }
     {
         record_laws::<R>();
         if self.wants_nothing(wanted) {
@@ -70,11 +66,8 @@ impl<S: Slot + Send + Sync, R: Record + Send + Sync> Store<S, R> {
         requires few { length self.old.body.runs.external.items ≤ 64 }
         requires none { out.old.items ≡ [] }
         requires most { wanted.now.most ≤ out.old.room }
-        ensures kept { StoreKept S.shown self.old self.new }
-        ensures heaps { HeapsStay heaps.old heaps.new }
+        ensures takes { TakesOut S.shown R.Ord.cmp R.record_of R.WIDTH wanted.now.limit wanted.now.most heaps.old heaps.new self.old self.new out.new.items result }
         ensures list_room { out.new.room ≡ out.old.room }
-        ensures took { OnOk result (TookAll S.shown R.Ord.cmp R.record_of R.WIDTH wanted.now.limit wanted.now.most (items_of heaps.old) (items_of heaps.new) self.old self.new out.new.items) }
-        ensures failed { IfErr result (FailsAlone S.shown self.new) }
     {
         record_laws::<R>();
         let first = self.has_run();
@@ -128,11 +121,9 @@ fn merge<R: Record>(
 )
     requires most { most ≤ out.old.room }
     requires few { length out.old.items ≤ most }
-    ensures merged { Merged R.Ord.cmp more limit (items_of heaps.old) (items_of heaps.new) extract.old.items extract.new.items out.old.items out.new.items }
+    ensures moves { Moves R.Ord.cmp more limit heaps.old heaps.new extract.old extract.new out.old out.new }
     ensures few { length out.new.items ≤ most }
     ensures ended { HasEnded R.Ord.cmp most more limit (items_of heaps.new) extract.new.items out.new.items }
-    ensures heaps { HeapsStay heaps.old heaps.new }
-    ensures rooms { RoomsStay extract.old extract.new out.old out.new }
 {
     record_laws::<R>();
     'moving: while goes_on(extract, more, most, out) {
@@ -165,12 +156,10 @@ fn move_next<R: Record>(
 ) -> bool
     requires room { length out.old.items < out.old.room }
     requires whole { extract.old.items ≡ [] → more ≡ false }
-    ensures merged { Merged R.Ord.cmp more limit (items_of heaps.old) (items_of heaps.new) extract.old.items extract.new.items out.old.items out.new.items }
+    ensures moves { Moves R.Ord.cmp more limit heaps.old heaps.new extract.old extract.new out.old out.new }
     ensures one { result ≡ true → length out.new.items ≡ length out.old.items + 1 }
     ensures none { result ≡ false → length out.new.items ≡ length out.old.items }
     ensures ended { result ≡ false → Exhausted R.Ord.cmp more limit (items_of heaps.new) extract.new.items }
-    ensures heaps { HeapsStay heaps.old heaps.new }
-    ensures rooms { RoomsStay extract.old extract.new out.old out.new }
 {
     record_laws::<R>();
     let latest = heaps.min();

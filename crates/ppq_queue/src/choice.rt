@@ -1,8 +1,12 @@
 //! Which of two least records goes first.
 ghost use Rattle.std.specs.Prelude.{◌≡◌};
+ghost use Rattle.ppq_heap.specs.Heaps.{items_of};
+ghost use Rattle.ppq_queue.specs.Stores.{HeapsStay};
+ghost use Rattle.ppq_queue.specs.Choice.{TookFirst};
 ghost use Rattle.ppq_queue.specs.Choice as spec;
 
-use ppq_heap::Record;
+use ppq_extract::Extract;
+use ppq_heap::{Heaps, Record, record_laws};
 
 // Whether the first of two least records goes first: it is there, and the other is not before it.
 #[inline]
@@ -14,4 +18,26 @@ pub fn goes_first<R: Record>(one: Option<R>, other: Option<R>) -> bool
         (Some(_), None) => true,
         (Some(one), Some(other)) => !other.cmp(&one).is_lt(),
     }
+}
+
+// The one of two least records that goes first.
+#[inline]
+pub fn first_of_two<R: Record>(one: Option<R>, other: Option<R>) -> Option<R>
+    ensures { result ≡ spec.first_of_two R.Ord.cmp one other }
+{
+    if goes_first(one, other) { one } else { other }
+}
+
+// Takes the least record of heaps, or the first of an extract buffer: the one that goes first.
+#[inline]
+pub fn take_first<R: Record>(heaps: &mut Heaps<R>, extract: &mut Extract<R>) -> Option<R>
+    ensures took { TookFirst R.Ord.cmp (items_of heaps.old) (items_of heaps.new) extract.old.items extract.new.items result }
+    ensures heaps { HeapsStay heaps.old heaps.new }
+    ensures room { extract.new.room ≡ extract.old.room }
+{
+    record_laws::<R>();
+    if goes_first(heaps.min(), extract.front()) {
+        return heaps.pop();
+    }
+    extract.pop()
 }

@@ -1,9 +1,9 @@
 //! A heap and the rest of an extract buffer that are stored as runs.
-ghost use Rattle.std.specs.Prelude.{◌≡◌, ◌⊎◌, ◌≤◌, ◌<◌, ◌*◌, [], length, true, false, IsTrue, OnOk, IfErr};
+ghost use Rattle.std.specs.Prelude.{◌≡◌, ◌⊎◌, ◌≤◌, ◌<◌, ◌*◌, [], length, true, false, IsTrue, OnOk};
 ghost use Rattle.ppq_extract.specs.ppq_budget.Sizes.{pool_of};
 ghost use Rattle.ppq_heap.specs.Heaps.{items_of, share_at};
 ghost use Rattle.ppq_spill.specs.Storing.{in_buffers};
-ghost use Rattle.ppq_queue.specs.Stores.{MayWork, StoreStays, HeapsStay, Settles, Empties, Refuses};
+ghost use Rattle.ppq_queue.specs.Stores.{MayWork, StoreLeaves, HeapsStay, IsEmptied};
 
 use crate::QueueFault;
 use crate::store::{Store, store_run};
@@ -24,11 +24,10 @@ impl<S: Slot + Send + Sync, R: Record + Send + Sync> Store<S, R> {
         requires works { MayWork S.shown R.Ord.cmp R.record_of R.WIDTH self.old }
         requires some { 0 < length heaps.old.heaps }
         requires heaps { length (items_of heaps.old) ≤ self.old.sizes.memory }
-        ensures stays { StoreStays S.shown self.old self.new }
+        ensures leaves { StoreLeaves S.shown R.Ord.cmp R.record_of R.WIDTH (items_of heaps.old) (items_of heaps.new) self.old self.new result }
         ensures heaps { HeapsStay heaps.old heaps.new }
-        ensures emptied { OnOk result (Empties S.shown R.Ord.cmp R.record_of R.WIDTH (items_of heaps.old) (items_of heaps.new) self.old self.new) }
+        ensures emptied { OnOk result (IsEmptied self.new) }
         ensures first { OnOk result (share_at heaps.new 0 ≡ []) }
-        ensures refused { IfErr result (Refuses S.shown R.Ord.cmp R.record_of R.WIDTH (items_of heaps.old) (items_of heaps.new) self.old self.new) }
     {
         self.store_extract(rt, gate)?;
         self.store_heap(rt, heaps, 0, gate)
@@ -39,9 +38,8 @@ impl<S: Slot + Send + Sync, R: Record + Send + Sync> Store<S, R> {
     where
         H::Dir: Send,
         requires works { MayWork S.shown R.Ord.cmp R.record_of R.WIDTH self.old }
-        ensures stays { StoreStays S.shown self.old self.new }
-        ensures emptied { OnOk result (Empties S.shown R.Ord.cmp R.record_of R.WIDTH [] [] self.old self.new) }
-        ensures refused { IfErr result (Refuses S.shown R.Ord.cmp R.record_of R.WIDTH [] [] self.old self.new) }
+        ensures leaves { StoreLeaves S.shown R.Ord.cmp R.record_of R.WIDTH [] [] self.old self.new result }
+        ensures emptied { OnOk result (IsEmptied self.new) }
     {
         self.settle_some(rt, gate)?;
         self.store_rest(rt, gate)
@@ -58,10 +56,9 @@ impl<S: Slot + Send + Sync, R: Record + Send + Sync> Store<S, R> {
     where
         H::Dir: Send,
         requires works { MayWork S.shown R.Ord.cmp R.record_of R.WIDTH self.old }
-        ensures stays { StoreStays S.shown self.old self.new }
-        ensures emptied { OnOk result (Empties S.shown R.Ord.cmp R.record_of R.WIDTH [] [] self.old self.new) }
+        ensures leaves { StoreLeaves S.shown R.Ord.cmp R.record_of R.WIDTH [] [] self.old self.new result }
+        ensures emptied { OnOk result (IsEmptied self.new) }
         ensures merged { merges ≡ true → OnOk result (pool_of self.new.sizes ≤ 2 * self.new.supply.sure_buffers) }
-        ensures refused { IfErr result (Refuses S.shown R.Ord.cmp R.record_of R.WIDTH [] [] self.old self.new) }
     {
         self.store_extract(rt, gate)?;
         if !merges {
@@ -77,10 +74,9 @@ impl<S: Slot + Send + Sync, R: Record + Send + Sync> Store<S, R> {
         H::Dir: Send,
         requires works { MayWork S.shown R.Ord.cmp R.record_of R.WIDTH self.old }
         requires few { length self.old.body.runs.external.items ≤ 64 }
-        ensures stays { StoreStays S.shown self.old self.new }
-        ensures settled { OnOk result (Settles S.shown R.Ord.cmp R.record_of R.WIDTH [] [] self.old self.new) }
+        ensures leaves { StoreLeaves S.shown R.Ord.cmp R.record_of R.WIDTH [] [] self.old self.new result }
+        ensures few { OnOk result (length self.new.body.runs.external.items ≤ 64) }
         ensures idle { OnOk result (pool_of self.new.sizes ≤ 2 * self.new.supply.sure_buffers) }
-        ensures refused { IfErr result (Refuses S.shown R.Ord.cmp R.record_of R.WIDTH [] [] self.old self.new) }
     {
         if !self.are_few_idle() {
             return Ok(());
@@ -111,9 +107,8 @@ impl<S: Slot + Send + Sync, R: Record + Send + Sync> Store<S, R> {
         H::Dir: Send,
         requires works { MayWork S.shown R.Ord.cmp R.record_of R.WIDTH self.old }
         requires few { length self.old.body.runs.external.items ≤ 64 }
-        ensures stays { StoreStays S.shown self.old self.new }
-        ensures emptied { OnOk result (Empties S.shown R.Ord.cmp R.record_of R.WIDTH [] [] self.old self.new) }
-        ensures refused { IfErr result (Refuses S.shown R.Ord.cmp R.record_of R.WIDTH [] [] self.old self.new) }
+        ensures leaves { StoreLeaves S.shown R.Ord.cmp R.record_of R.WIDTH [] [] self.old self.new result }
+        ensures emptied { OnOk result (IsEmptied self.new) }
     {
         if self.extract.is_empty() {
             return Ok(());

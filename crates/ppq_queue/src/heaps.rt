@@ -1,7 +1,7 @@
 //! Heaps that are stored as runs.
-ghost use Rattle.std.specs.Prelude.{◌≡◌, ◌≤◌, ◌<◌, [], length, OnOk, IfErr};
+ghost use Rattle.std.specs.Prelude.{◌≡◌, ◌≤◌, ◌<◌, [], length, OnOk};
 ghost use Rattle.ppq_heap.specs.Heaps.{items_of, share_at};
-ghost use Rattle.ppq_queue.specs.Stores.{MayWork, StoreStays, HeapsStay, ShareChanged, IsEmptied, Empties, Refuses};
+ghost use Rattle.ppq_queue.specs.Stores.{MayWork, StoreLeaves, HeapsStay, ShareChanged, IsEmptied};
 
 use crate::QueueFault;
 use crate::store::{Store, store_run};
@@ -22,11 +22,10 @@ impl<S: Slot + Send + Sync, R: Record + Send + Sync> Store<S, R> {
         requires works { MayWork S.shown R.Ord.cmp R.record_of R.WIDTH self.old }
         requires emptied { IsEmptied self.old }
         requires heaps { length (items_of heaps.old) ≤ self.old.sizes.memory }
-        ensures stays { StoreStays S.shown self.old self.new }
+        ensures leaves { StoreLeaves S.shown R.Ord.cmp R.record_of R.WIDTH (items_of heaps.old) (items_of heaps.new) self.old self.new result }
         ensures heaps { HeapsStay heaps.old heaps.new }
-        ensures emptied { OnOk result (Empties S.shown R.Ord.cmp R.record_of R.WIDTH (items_of heaps.old) (items_of heaps.new) self.old self.new) }
+        ensures emptied { OnOk result (IsEmptied self.new) }
         ensures none { OnOk result (items_of heaps.new ≡ []) }
-        ensures refused { IfErr result (Refuses S.shown R.Ord.cmp R.record_of R.WIDTH (items_of heaps.old) (items_of heaps.new) self.old self.new) }
     {
         let count = heaps.count();
         'storing: for place in 0..count {
@@ -49,11 +48,10 @@ impl<S: Slot + Send + Sync, R: Record + Send + Sync> Store<S, R> {
         requires emptied { IsEmptied self.old }
         requires place { place < length heaps.old.heaps }
         requires heaps { length (items_of heaps.old) ≤ self.old.sizes.memory }
-        ensures stays { StoreStays S.shown self.old self.new }
+        ensures leaves { StoreLeaves S.shown R.Ord.cmp R.record_of R.WIDTH (items_of heaps.old) (items_of heaps.new) self.old self.new result }
         ensures changed { ShareChanged place heaps.old heaps.new }
-        ensures emptied { OnOk result (Empties S.shown R.Ord.cmp R.record_of R.WIDTH (items_of heaps.old) (items_of heaps.new) self.old self.new) }
+        ensures emptied { OnOk result (IsEmptied self.new) }
         ensures share { OnOk result (share_at heaps.new place ≡ []) }
-        ensures refused { IfErr result (Refuses S.shown R.Ord.cmp R.record_of R.WIDTH (items_of heaps.old) (items_of heaps.new) self.old self.new) }
     {
         record_laws::<R>();
         if heaps.share(place).is_empty() {

@@ -58,7 +58,7 @@ fn new_body<S: Slot, R: Record>(
     let lanes = Lanes::new(
         alloc,
         72 + 3 * workers,
-        3 * workers,
+        36 + 3 * workers,
         sizes.block(),
         sizes.batch(),
     )?;

@@ -5,13 +5,13 @@ ghost use Rattle.ppq_extract.specs.ppq_budget.Sizes.{AreInRange, fixed_of, heap_
 ghost use Rattle.ppq_extract.specs.ppq_outside.Shown.{AllTell};
 ghost use Rattle.ppq_extract.specs.ppq_array.Kept.{SameSlots, SameSums, HasFailed, AreQuiet, all_writes};
 ghost use Rattle.ppq_extract.specs.ppq_array.declared.store_fault.StoreFault.TheVariants.{NoFreeBlock, Device};
-ghost use Rattle.ppq_queue.specs.Bulk.{IsEnd, TookFront};
+ghost use Rattle.ppq_queue.specs.Bulk.{IsEnd, EndsBy, BulkLeaves};
 ghost use Rattle.ppq_queue.specs.Handed.{holding_of, IsWhole};
-ghost use Rattle.ppq_queue.specs.Holding.{resident_of, with_one, IsAbove, NamesNeed, AreNewSlots, IsRefusal, Keeps, Stays, SameRecords, HasAdded, HasTaken};
+ghost use Rattle.ppq_queue.specs.Holding.{resident_of, with_one, IsAbove, NamesNeed, AreNewSlots, IsReady, IsRefusal, Keeps, Stays, SameRecords, QueueLeaves, HasAdded, HasTaken};
 
 use crate::berths::{berth_slots, give_back};
 use crate::bulk::{empty_on_error, keep_below};
-use crate::choice::goes_first;
+use crate::choice::{first_of_two, take_first};
 use crate::latch::latch;
 use crate::parts::Parts;
 use crate::store::Store;
@@ -46,16 +46,15 @@ pub struct Queue<S: Slot + Send + Sync, R: Record + Send + Sync> {
 }
 
 impl<S: Slot + Send + Sync, R: Record + Send + Sync> Model for Queue<S, R> {
-    ghost use Rattle.std.specs.Prelude.{◌≡◌, ◌≤◌, [], None, vec_capacity};
-    ghost use Rattle.ppq_queue.specs.Handed.{viewed};
+    ghost use Rattle.std.specs.Prelude.{◌≡◌, [], vec_capacity};
+    ghost use Rattle.ppq_queue.specs.Handed.{viewed, QueueStands};
     ghost use Rattle.ppq_queue.specs.Holding.{Holding};
-    ghost use Rattle.ppq_queue.specs.State.{IsQueue, IsSound};
 
     ghost Value = { Holding R };
 
     ghost view = { λ q. viewed S.shown R.record_of R.WIDTH q.store q.heaps q.count q.peak q.failed q.limited };
 
-    ghost invariant = { λ q. IsQueue S.shown q.store.sizes q.heaps q.store.extract q.store.body q.store.supply q.count q.peak q.failed × (q.failed ≡ None → IsSound S.shown R.Ord.cmp R.record_of R.WIDTH q.store.sizes q.heaps q.store.extract q.store.body q.store.supply q.store.sources q.count q.peak q.limited) × (q.slots.items ≡ []) × (q.store.sizes.blocks ≤ vec_capacity q.slots) };
+    ghost invariant = { λ q. QueueStands S.shown R.Ord.cmp R.record_of R.WIDTH q.store q.heaps q.count q.peak q.failed q.limited (vec_capacity q.slots) × (q.slots.items ≡ []) };
 }
 
 impl<S: Slot + Send + Sync, R: Record + Send + Sync> Queue<S, R> {
@@ -146,11 +145,9 @@ impl<S: Slot + Send + Sync, R: Record + Send + Sync> Queue<S, R> {
         H::Dir: Send,
         requires sound { self.old.failed ≡ None }
         requires peak { self.old.size < self.old.peak }
-        ensures same { OnOk result (SameRecords self.old self.new) }
+        ensures leaves { QueueLeaves self.old self.new result }
         ensures room { OnOk result (self.new.in_first < heap_of self.new.sizes) }
         ensures easy { self.old.in_first < heap_of self.old.sizes → IsOk result × (self.new ≡ self.old) }
-        ensures refused { IfErr result (IsRefusal self.old self.new) }
-        ensures stays { Stays self.old self.new }
     {
         self.heaps.known();
         if !self.heaps.is_full() {
@@ -187,10 +184,8 @@ impl<S: Slot + Send + Sync, R: Record + Send + Sync> Queue<S, R> {
         H::Dir: Send,
         requires sound { self.old.failed ≡ None }
         requires above { IsAbove self.old.sizes self.old.peak self.old.limited }
-        ensures same { OnOk result (SameRecords self.old self.new) }
+        ensures leaves { QueueLeaves self.old self.new result }
         ensures emptied { OnOk result (self.new.in_first ≡ 0) }
-        ensures refused { IfErr result (IsRefusal self.old self.new) }
-        ensures stays { Stays self.old self.new }
     {
         let answer = self.store.flush_all(rt, &mut self.heaps, gate);
         latch(&mut self.failed, answer);
@@ -201,11 +196,9 @@ impl<S: Slot + Send + Sync, R: Record + Send + Sync> Queue<S, R> {
     fn ready<H: Host, G: Gate>(&mut self, rt: &H, gate: &G) -> Result<(), QueueFault>
     where
         H::Dir: Send,
-        ensures same { OnOk result (SameRecords self.old self.new) }
-        ensures some { OnOk result (self.new.in_extract ≡ 0 → self.new.size ≡ self.new.in_heap) }
-        ensures refused { IfErr result (IsRefusal self.old self.new) }
+        ensures leaves { QueueLeaves self.old self.new result }
+        ensures readied { OnOk result (IsReady self.new) }
         ensures latched { (number : ℕ) → self.old.failed ≡ Some number → (result ≡ Err (Device number)) × (self.new ≡ self.old) }
-        ensures stays { Stays self.old self.new }
     {
         if let Some(number) = self.failed {
             return Err(QueueFault::Device { number });
@@ -217,24 +210,17 @@ impl<S: Slot + Send + Sync, R: Record + Send + Sync> Queue<S, R> {
 
     // The least record of a queue whose extract buffer is ready.
     fn least(&self) -> Option<R>
-        requires sound { self.now.failed ≡ None }
-        requires ready { self.now.in_extract ≡ 0 → self.now.size ≡ self.now.in_heap }
+        requires ready { IsReady self.now }
         ensures answer { AllTell self.now.slots → result ≡ least R.Ord.cmp self.now.bag }
         ensures none { IsNone result ↔ (self.now.size ≡ 0) }
     {
         record_laws::<R>();
-        let latest = self.heaps.min();
-        let stored = self.store.extract.front();
-        if goes_first(latest, stored) {
-            return latest;
-        }
-        stored
+        first_of_two(self.heaps.min(), self.store.extract.front())
     }
 
     // Takes the least record out of a queue whose extract buffer is ready.
     fn take_least(&mut self) -> Option<R>
-        requires sound { self.old.failed ≡ None }
-        requires ready { self.old.in_extract ≡ 0 → self.old.size ≡ self.old.in_heap }
+        requires ready { IsReady self.old }
         ensures answer { AllTell self.old.slots → result ≡ least R.Ord.cmp self.old.bag }
         ensures none { IsNone result ↔ (self.old.size ≡ 0) }
         ensures rest { AllTell self.old.slots → IsSameBag self.new.bag (without_front R.Ord.cmp self.old.bag 1) }
@@ -242,10 +228,7 @@ impl<S: Slot + Send + Sync, R: Record + Send + Sync> Queue<S, R> {
     {
         record_laws::<R>();
         self.count = self.count.saturating_sub(1);
-        if goes_first(self.heaps.min(), self.store.extract.front()) {
-            return self.heaps.pop();
-        }
-        self.store.extract.pop()
+        take_first(&mut self.heaps, &mut self.store.extract)
     }
 
     /// The least record, left in the queue; none exactly where the queue is empty. It costs one comparison.
@@ -362,13 +345,7 @@ impl<S: Slot + Send + Sync, R: Record + Send + Sync> Queue<S, R> {
         let room = u64::from(out.room());
         let most = n.min(room) as u32;
         self.bulk(rt, Some(l), most, out, gate)?;
-        if !self.has_below(l) {
-            return Ok(LimitEnd::All);
-        }
-        if n <= room {
-            return Ok(LimitEnd::More);
-        }
-        Ok(LimitEnd::Round)
+        Ok(self.limit_end(l, n, room))
     }
 
     // Takes the least records out into a list, at most so many; with a limit only those below it, and the
@@ -384,14 +361,9 @@ impl<S: Slot + Send + Sync, R: Record + Send + Sync> Queue<S, R> {
     where
         H::Dir: Send,
         requires most { most ≤ out.old.room }
-        ensures took { OnOk result (TookFront R.Ord.cmp limit most self.old self.new out.new.items) }
-        ensures emptied { OnErr result (out.new.items ≡ []) }
+        ensures leaves { BulkLeaves R.Ord.cmp limit most self.old self.new out.new.items result }
         ensures list_room { out.new.room ≡ out.old.room }
-        ensures refused { IfErr result (IsRefusal self.old self.new) }
         ensures latched { (number : ℕ) → self.old.failed ≡ Some number → (result ≡ Err (Device number)) × (self.new ≡ self.old) }
-        ensures size { self.new.size ≡ self.old.size - length out.new.items }
-        ensures peak { self.new.peak ≡ self.old.peak }
-        ensures keeps { Keeps self.old self.new }
     {
         record_laws::<R>();
         out.clear();
@@ -406,18 +378,20 @@ impl<S: Slot + Send + Sync, R: Record + Send + Sync> Queue<S, R> {
         answer
     }
 
-    // Whether a queue whose extract buffer is ready has a record below a limit.
-    fn has_below(&self, l: R) -> bool
-        requires sound { self.now.failed ≡ None }
-        requires ready { self.now.in_extract ≡ 0 → self.now.size ≡ self.now.in_heap }
-        ensures some { result ≡ true → AllTell self.now.slots → 0 < size_below R.Ord.cmp self.now.bag l }
-        ensures none { result ≡ false → AllTell self.now.slots → size_below R.Ord.cmp self.now.bag l ≡ 0 }
+    // Why a bulk pop ended of so many records below a limit, with so much room, by the least record that is
+    // left; the extract buffer is ready.
+    fn limit_end(&self, l: R, n: u64, room: u64) -> LimitEnd
+        requires ready { IsReady self.now }
+        ensures { AllTell self.now.slots → EndsBy R.Ord.cmp room n l self.now.bag result }
     {
         record_laws::<R>();
         let Some(_below) = keep_below(self.least(), Some(l)) else {
-            return false;
+            return LimitEnd::All;
         };
-        true
+        if n <= room {
+            return LimitEnd::More;
+        }
+        LimitEnd::Round
     }
 
     /// Merges levels of runs in blocks until none of the 8 levels has more than 8. A session ends with it:
@@ -510,12 +484,10 @@ impl<S: Slot + Send + Sync, R: Record + Send + Sync> Queue<S, R> {
         requires emptied { self.old.in_extract ≡ 0 }
         requires settled { self.old.runs ≤ 64 }
         requires limited { self.old.limited ≡ true }
-        ensures same { OnOk result (SameRecords self.old self.new) }
+        ensures leaves { QueueLeaves self.old self.new result }
         ensures emptied { self.new.in_extract ≡ 0 }
         ensures heaps { OnOk result (self.new.in_heap ≡ 0) }
         ensures settled { OnOk result (self.new.runs ≤ 64) }
-        ensures refused { IfErr result (IsRefusal self.old self.new) }
-        ensures stays { Stays self.old self.new }
     {
         let answer = self.store.store_heaps(rt, &mut self.heaps, gate);
         latch(&mut self.failed, answer);

@@ -1,10 +1,10 @@
 //! The runs of a queue with all that works on them, and the first of their records.
-ghost use Rattle.std.specs.Prelude.{◌≡◌, ◌≤◌, ◌<◌, [], length, OnOk, IfErr};
+ghost use Rattle.std.specs.Prelude.{◌≡◌, ◌≤◌, ◌<◌, [], length, OnOk};
 ghost use Rattle.ppq_heap.specs.ppq_record.Order.{Ascends};
 ghost use Rattle.ppq_extract.specs.ppq_outside.Shown.{AllTell};
 ghost use Rattle.ppq_spill.specs.Storing.{in_buffers};
-ghost use Rattle.ppq_queue.specs.Resting.{Moved, slots_of};
-ghost use Rattle.ppq_queue.specs.Stores.{RunsMayMove, RunsKept, RunRefused, MayWork, StoreStays, Holds, Refuses};
+ghost use Rattle.ppq_queue.specs.Resting.{slots_of};
+ghost use Rattle.ppq_queue.specs.Stores.{RunMayCome, RunLeaves, MayWork, StoreLeaves};
 
 use crate::QueueFault;
 use ppq_extract::{Extract, Host, OwnerLists, Sizes, Slot, Sources};
@@ -29,13 +29,13 @@ pub struct Store<S: Slot + Send + Sync, R: Record + Send + Sync> {
 impl<S: Slot + Send + Sync, R: Record + Send + Sync> Store<S, R> {
     // Merges all runs in buffers into one run in blocks.
     pub fn merge_runs<H: Host>(&mut self, rt: &H) -> Result<(), QueueFault>
+    where
+        H::Dir: Send,
         requires works { MayWork S.shown R.Ord.cmp R.record_of R.WIDTH self.old }
         requires few { length self.old.body.runs.external.items ≤ 64 }
         requires some { 0 < in_buffers self.old.body }
-        ensures stays { StoreStays S.shown self.old self.new }
-        ensures holds { OnOk result (Holds S.shown R.Ord.cmp R.record_of R.WIDTH [] [] self.old self.new) }
+        ensures leaves { StoreLeaves S.shown R.Ord.cmp R.record_of R.WIDTH [] [] self.old self.new result }
         ensures none { OnOk result (self.new.body.runs.internal.items ≡ []) }
-        ensures refused { IfErr result (Refuses S.shown R.Ord.cmp R.record_of R.WIDTH [] [] self.old self.new) }
     {
         let answer = store_buffers(rt, &mut self.body, &mut self.supply);
         let _free = self.supply.free_slots();
@@ -51,14 +51,11 @@ pub fn store_run<H: Host, S: Slot + Send + Sync, R: Record + Send + Sync>(
     supply: &mut OwnerLists<S, R>,
     sorted: &[R],
 ) -> Result<(), QueueFault>
-    requires runs { RunsMayMove S.shown R.Ord.cmp R.record_of R.WIDTH sizes body.old supply.old }
-    requires few { length body.old.runs.external.items ≤ 64 }
-    requires some { 0 < length sorted.now }
-    requires most { length sorted.now ≤ sizes.memory }
+where
+    H::Dir: Send,
+    requires may { RunMayCome S.shown R.Ord.cmp R.record_of R.WIDTH sizes body.old supply.old (length sorted.now) }
     requires ascends { AllTell (slots_of S.shown body.old supply.old) → Ascends R.Ord.cmp sorted.now }
-    ensures kept { RunsKept S.shown body.old body.new supply.old supply.new }
-    ensures stored { OnOk result (Moved S.shown R.Ord.cmp R.record_of R.WIDTH sizes sorted.now body.old body.new supply.old supply.new) }
-    ensures refused { IfErr result (RunRefused S.shown R.Ord.cmp R.record_of R.WIDTH sizes (length sorted.now) body.old body.new supply.old supply.new) }
+    ensures { RunLeaves S.shown R.Ord.cmp R.record_of R.WIDTH sizes sorted.now body.old body.new supply.old supply.new result }
 {
     let answer = store_sorted(rt, body, supply, sorted);
     let _free = supply.free_slots();

@@ -60,6 +60,8 @@ fn add_part<H: Host, S: Slot + Send + Sync, R: Record + Send + Sync>(
     worker: usize,
     pass: &mut Pass<S, R>,
 )
+where
+    H::Dir: Send,
     requires worker { worker < 2 ^ 32 }
     requires part { part < 2 ^ 32 }
     requires of { IsOf shared.now pass.old }
@@ -78,6 +80,8 @@ fn add_all<H: Host, S: Slot + Send + Sync, R: Record + Send + Sync>(
     records: &[R],
     pass: &mut Pass<S, R>,
 )
+where
+    H::Dir: Send,
     requires of { IsOf shared.now pass.old }
     requires going { IsGoing pass.old }
     ensures { Adds S.shown records.now pass.old pass.new }

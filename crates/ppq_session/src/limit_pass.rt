@@ -68,7 +68,9 @@ impl<S: Slot, R: Record> LimitPass<S, R> {
     {
         self.pass.try_push(r)
     }
+}
 
+impl<S: Slot + Send, R: Record + Send> LimitPass<S, R> {
     /// Adds a record that is not below the limit. Where the heap has room it costs one sift, and touches
     /// nothing that is shared. Where the heap is full, it is sorted first and stored as a run: `h` takes of
     /// buffers, or else a draw and a write for each block of the heap and of all runs in buffers.
@@ -82,6 +84,8 @@ impl<S: Slot, R: Record> LimitPass<S, R> {
         shared: &Shared<S, R>,
         r: R,
     ) -> Result<(), (R, QueueFault)>
+    where
+        H::Dir: Send,
         requires of { IsOf shared.now self.old.pass }
         requires limit { is_before R.Ord.cmp r self.old.limit ≡ false }
         ensures added { OnOk result (PassTells S.shown self.old.pass → IsSameBag self.new.pass.bag (r ∷ self.old.pass.bag)) }
@@ -110,6 +114,8 @@ impl<S: Slot, R: Record> LimitPass<S, R> {
         lines: &[Line<R>],
         number: u32,
     )
+    where
+        H::Dir: Send,
         requires above { AreAbove R.Ord.cmp self.old.limit lines.now }
         requires of { IsOf shared.now self.old.pass }
         requires going { IsGoing self.old.pass }
@@ -118,7 +124,9 @@ impl<S: Slot, R: Record> LimitPass<S, R> {
     {
         push_named(rt, shared, lines, number, &mut self.pass);
     }
+}
 
+impl<S: Slot, R: Record> LimitPass<S, R> {
     /// How many of its pushes returned `Ok`.
     #[inline]
     pub fn accepted(&self) -> u64

@@ -82,13 +82,15 @@ where
 }
 
 // Pushes the records of the lines that name a pass to it, up to the first that is refused.
-pub fn push_named<H: Host, S: Slot, R: Record>(
+pub fn push_named<H: Host, S: Slot + Send, R: Record + Send>(
     rt: &H,
     shared: &Shared<S, R>,
     lines: &[Line<R>],
     number: u32,
     pass: &mut Pass<S, R>,
 )
+where
+    H::Dir: Send,
     requires of { IsOf shared.now pass.old }
     requires going { IsGoing pass.old }
     ensures { Takes S.shown R.Ord.cmp (records_for number lines.now) pass.old pass.new }
@@ -101,13 +103,15 @@ pub fn push_named<H: Host, S: Slot, R: Record>(
 }
 
 // Pushes a line's record to a pass, if the line names it. Whether it was not refused.
-fn push_line<H: Host, S: Slot, R: Record>(
+fn push_line<H: Host, S: Slot + Send, R: Record + Send>(
     rt: &H,
     shared: &Shared<S, R>,
     line: Line<R>,
     number: u32,
     pass: &mut Pass<S, R>,
 ) -> bool
+where
+    H::Dir: Send,
     requires of { IsOf shared.now pass.old }
     requires going { IsGoing pass.old }
     ensures takes { Takes S.shown R.Ord.cmp (records_for number (line ∷ [])) pass.old pass.new }
@@ -120,12 +124,14 @@ fn push_line<H: Host, S: Slot, R: Record>(
 }
 
 // Pushes a record to a pass. Whether it was not refused.
-pub fn push_one<H: Host, S: Slot, R: Record>(
+pub fn push_one<H: Host, S: Slot + Send, R: Record + Send>(
     rt: &H,
     shared: &Shared<S, R>,
     r: R,
     pass: &mut Pass<S, R>,
 ) -> bool
+where
+    H::Dir: Send,
     requires of { IsOf shared.now pass.old }
     requires going { IsGoing pass.old }
     ensures takes { Takes S.shown R.Ord.cmp (r ∷ []) pass.old pass.new }

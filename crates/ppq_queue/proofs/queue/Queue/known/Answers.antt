@@ -12,7 +12,7 @@ pub returns-clause-counted : goal.returns-clause-counted
 returns-clause-counted g c none tell =
     let s = c.self.inside in
     let shown = g.S.Slot.shown in
-    let sound = c.self.invariant.1 (ap (λ q. q.failed) c.self.view_is ∙ none) in
+    let sound = c.self.invariant.0.sound (ap (λ q. q.failed) c.self.view_is ∙ none) in
     let told = subst (λ q. AllTell q.slots) (sym c.self.view_is) tell in
     let runs = runs_bag shown g.R.Record.record_of g.R.Record.WIDTH s.store.body in
     omega (
@@ -29,8 +29,8 @@ pub returns-clause-written : goal.returns-clause-written
 returns-clause-written g c none =
     let s = c.self.inside in
     let shown = g.S.Slot.shown in
-    let i = c.self.invariant.0 in
-    let sound = c.self.invariant.1 (ap (λ q. q.failed) c.self.view_is ∙ none) in
+    let i = c.self.invariant.0.queue in
+    let sound = c.self.invariant.0.sound (ap (λ q. q.failed) c.self.view_is ∙ none) in
     let slots = slots_of shown s.store.body s.store.supply in
     let within = records_within shown g.R.Ord.cmp g.R.Record.record_of g.R.Record.WIDTH s.store.sizes s.store.body s.store.supply sound.rest i.range i.budget (length (items_of s.heaps)) (length s.store.extract.items) i.in_heap i.in_extract in
     let few = written shown g.R.Ord.cmp g.R.Record.record_of g.R.Record.WIDTH s.store.sizes s.store.body s.store.supply sound.rest in

@@ -1,10 +1,8 @@
+use Rattle.ppq_queue.proofs.Flushed.{sound-counts}
 use Rattle.ppq_queue.proofs.queue.Queue.note_limit.Goals as goal
 
 -- a limit session was begun, so no record wants a peak above what a heap holds
 pub invariant_of-self : goal.invariant_of-self
-invariant_of-self g c = (
-  c.self.invariant.0,
-  (λ none. (let sound = c.self.invariant.1 none in record { rest = sound.rest; counted = sound.counted; ascends = sound.ascends; order = sound.order; above = λ more odd. cc; workers = sound.workers; serves = sound.serves })),
-  c.self.invariant.2,
-  c.self.invariant.3,
-)
+invariant_of-self g c =
+    let stands = c.self.invariant.0 in
+    (record { queue = stands.queue; sound = λ none. (let sound = stands.sound none in sound-counts sound sound.counted sound.ascends sound.order (λ more odd. cc)); slots_room = stands.slots_room }, c.self.invariant.1)

@@ -25,8 +25,10 @@ invariant_of-result g c =
     let e : stock ≡ with_slots parts.store.supply slots (parts.store.supply.slot_room - length slots) = ok_holds c.berth_slots.result c.is_err.result c.is_err.ensures.value c.if-is_err.false c.berth_slots.ensures.stock ∙ ap (λ k. with_slots parts.store.supply slots (parts.store.supply.slot_room - k)) (sym long) in
     let same = sym is.same_sizes in
     let room : c.args.sizes.blocks ≤ vec_capacity c.berth_slots.new.slots = omega (arith, c.berth_slots.ensures.capacity, c.requires.count, long) in (
-      subst (λ n. IsQueue shown n parts.heaps parts.store.extract parts.store.body stock 0 0 None) same (queue-opened shown c.args.sizes parts is slots stock e c.requires.count c.workers-workers.ensures.range (omega (arith, c.in-Ok.ensures.budget))),
-      (λ none. subst (λ n. IsSound shown g.R.Ord.cmp g.R.Record.record_of g.R.Record.WIDTH n parts.heaps parts.store.extract parts.store.body stock parts.store.sources 0 0 false) same (sound-opened shown c.args.sizes parts is slots stock e c.requires.count g.R.Ord.cmp g.R.Record.record_of g.R.Record.WIDTH)),
+      record {
+        queue = subst (λ n. IsQueue shown n parts.heaps parts.store.extract parts.store.body stock 0 0 None) same (queue-opened shown c.args.sizes parts is slots stock e c.requires.count c.workers-workers.ensures.range (omega (arith, c.in-Ok.ensures.budget)));
+        sound = λ none. subst (λ n. IsSound shown g.R.Ord.cmp g.R.Record.record_of g.R.Record.WIDTH n parts.heaps parts.store.extract parts.store.body stock parts.store.sources 0 0 false) same (sound-opened shown c.args.sizes parts is slots stock e c.requires.count g.R.Ord.cmp g.R.Record.record_of g.R.Record.WIDTH);
+        slots_room = subst (λ n. n.blocks ≤ vec_capacity c.berth_slots.new.slots) same room;
+      },
       ok_holds c.berth_slots.result c.is_err.result c.is_err.ensures.value c.if-is_err.false c.berth_slots.ensures.emptied,
-      subst (λ n. n.blocks ≤ vec_capacity c.berth_slots.new.slots) same room,
     )

@@ -12,17 +12,17 @@ pub returns-in-Some-clause-keeps : goal.returns-in-Some-clause-keeps
 returns-in-Some-clause-keeps g c = (let raised = c.raise_peak.ensures in keeps-slots c.args.self.now c.raise_peak.new.self (ap (λ q. q.sizes) raised) (ap (λ q. q.limited) raised) (ap (λ q. q.slots) raised))
 
 pub returns-in-Err-clause-refused : goal.returns-in-Err-clause-refused
-returns-in-Err-clause-refused g c = refusal-raised c.args.self.now c.make_room.new.self _ c.in-Err.fault (subst (λ q. IsRefusal q c.make_room.new.self c.in-Err.fault) c.raise_peak.ensures c.in-Err.ensures.refused)
+returns-in-Err-clause-refused g c = refusal-raised c.args.self.now c.make_room.new.self _ c.in-Err.fault (subst (λ q. IsRefusal q c.make_room.new.self c.in-Err.fault) c.raise_peak.ensures c.in-Err.ensures.leaves.refused)
 
 pub returns-in-Err-clause-keeps : goal.returns-in-Err-clause-keeps
 returns-in-Err-clause-keeps g c =
     let raised = c.raise_peak.ensures in
-    keeps-more c.args.self.now c.raise_peak.new.self c.make_room.new.self (keeps-slots c.args.self.now c.raise_peak.new.self (ap (λ q. q.sizes) raised) (ap (λ q. q.limited) raised) (ap (λ q. q.slots) raised)) c.make_room.ensures.stays.keeps
+    keeps-more c.args.self.now c.raise_peak.new.self c.make_room.new.self (keeps-slots c.args.self.now c.raise_peak.new.self (ap (λ q. q.sizes) raised) (ap (λ q. q.limited) raised) (ap (λ q. q.slots) raised)) c.make_room.ensures.leaves.stays.keeps
 
 pub returns-in-Ok-clause-added : goal.returns-in-Ok-clause-added
 returns-in-Ok-clause-added g c =
     let raised = c.raise_peak.ensures in
-    let same = c.in-Ok.ensures.same in
+    let same = c.in-Ok.ensures.leaves.same in
     let rest = c.put.ensures.rest in
     record {
       bag = λ tell p.
@@ -57,4 +57,4 @@ returns-in-Ok-clause-keeps g c =
     let now = c.put.new.self in
     let first = keeps-slots old up (ap (λ q. q.sizes) raised) (ap (λ q. q.limited) raised) (ap (λ q. q.slots) raised) in
     let last = keeps-slots roomed now (ap (λ q. q.sizes) rest) (ap (λ q. q.limited) rest) (ap (λ q. q.slots) rest) in
-    keeps-more old up now first (keeps-more up roomed now c.make_room.ensures.stays.keeps last)
+    keeps-more old up now first (keeps-more up roomed now c.make_room.ensures.leaves.stays.keeps last)

@@ -1,4 +1,4 @@
-use Rattle.std.proofs.Common.{ℕ, ◌+◌, ◌*◌, ◌<◌, ◌≤◌, ◌≡◌, ◌∷◌, ◌++◌, length, arith, ap, ap₂, ◌∙◌, subst}
+use Rattle.std.proofs.Common.{ℕ, ◌+◌, ◌*◌, ◌<◌, ◌≤◌, ◌≡◌, ◌∷◌, ◌++◌, length, arith, refl, ap, ap₂, ◌∙◌, subst}
 use Rattle.std.specs.Prelude.{count_by}
 use Rattle.ppq_heap.proofs.ppq_record.Order.{IsSameBag-length, count_by-append, count_by-cons}
 use Rattle.ppq_heap.specs.Heaps.{items_of, share_at}
@@ -6,6 +6,7 @@ use Rattle.ppq_queue.specs.Handed.{viewed}
 use Rattle.ppq_queue.specs.Holding.{Holding}
 use Rattle.ppq_queue.specs.Resting.{runs_bag}
 use Rattle.ppq_queue.proofs.Bounds.{records_most}
+use Rattle.ppq_queue.proofs.Flushed.{queue-counts, sound-counts}
 use Rattle.ppq_queue.proofs.Ready.{has_room}
 use Rattle.ppq_queue.proofs.Shared.{all_within}
 use Rattle.ppq_queue.proofs.queue.Queue.put.Goals as goal
@@ -13,53 +14,31 @@ use Rattle.ppq_queue.proofs.queue.Queue.put.Goals as goal
 pub invariant_of-self : goal.invariant_of-self
 invariant_of-self g c =
     let s = c.self.inside in
-    let i = c.self.invariant.0 in
+    let stands = c.self.invariant.0 in
+    let i = stands.queue in
     let view = c.self.view_is in
     let push = c.try_push.ensures in
-    let old = items_of s.heaps in
-    let new = items_of c.try_push.new.self in
-    let sound = c.self.invariant.1 (ap (λ q. q.failed) view ∙ c.requires.sound) in
+    let now = c.try_push.new.self in
+    let sound = stands.sound (ap (λ q. q.failed) view ∙ c.requires.sound) in
     let room : length (share_at s.heaps 0) < s.heaps.cap = omega (arith, c.requires.room, ap (λ q. q.in_first) view, ap (λ q. q.sizes.heap * q.sizes.block) view, i.cap) in
     let added = has_room c.try_push.result (length (share_at s.heaps 0)) s.heaps.cap room push.full.0 push.added in
-    let long : length new ≡ length old + 1 = omega (arith, IsSameBag-length new (c.args.r ∷ old) added) in
-    let heaps : length c.try_push.new.self.heaps ≡ s.store.sizes.workers = push.others.count ∙ i.shares in
-    let cap : c.try_push.new.self.cap ≡ s.store.sizes.heap * s.store.sizes.block = push.others.cap ∙ i.cap in
-    let within : length new ≤ s.store.sizes.workers * (s.store.sizes.heap * s.store.sizes.block) = subst (λ k. length new ≤ k) (ap₂ (λ a b. a * b) heaps cap) (all_within c.try_push.new.self c.known.ensures) in
-    let most = records_most g.S.Slot.shown g.R.Ord.cmp g.R.Record.record_of g.R.Record.WIDTH s.store.sizes s.store.body s.store.supply sound.rest i.range i.budget (length new) (length s.store.extract.items) within i.in_extract in (
+    let long : length (items_of now) ≡ length (items_of s.heaps) + 1 = omega (arith, IsSameBag-length (items_of now) (c.args.r ∷ items_of s.heaps) added) in
+    let heaps : length now.heaps ≡ s.store.sizes.workers = push.others.count ∙ i.shares in
+    let cap : now.cap ≡ s.store.sizes.heap * s.store.sizes.block = push.others.cap ∙ i.cap in
+    let within : length (items_of now) ≤ s.store.sizes.workers * (s.store.sizes.heap * s.store.sizes.block) = subst (λ k. length (items_of now) ≤ k) (ap₂ (λ a b. a * b) heaps cap) (all_within now c.known.ensures) in
+    let most = records_most g.S.Slot.shown g.R.Ord.cmp g.R.Record.record_of g.R.Record.WIDTH s.store.sizes s.store.body s.store.supply sound.rest i.range i.budget (length (items_of now)) (length s.store.extract.items) within i.in_extract in (
       record {
-        range = i.range;
-        budget = i.budget;
-        cap = cap;
-        shares = heaps;
-        in_heap = within;
-        room = i.room;
-        in_extract = i.in_extract;
-        held = i.held;
-        pool = i.pool;
-        slots = i.slots;
-        no_row = i.no_row;
-        counted = omega (arith, c.requires.peak, ap (λ q. q.size) view, ap (λ q. q.peak) view);
-        most = i.most;
-        most_count = omega (arith, most, long, sound.counted);
-        fault = i.fault;
+        queue = queue-counts i push.others.cap push.others.count within refl i.in_extract (omega (arith, c.requires.peak, ap (λ q. q.size) view, ap (λ q. q.peak) view)) i.most (omega (arith, most, long, sound.counted));
+        sound = λ none. sound-counts sound (omega (arith, sound.counted, long)) sound.ascends sound.order (λ more. sound.above (omega (arith, more, long)));
+        slots_room = stands.slots_room;
       },
-      (λ none. record {
-        rest = sound.rest;
-        counted = omega (arith, sound.counted, long);
-        ascends = sound.ascends;
-        order = sound.order;
-        above = λ more. sound.above (omega (arith, more, long));
-        workers = sound.workers;
-        serves = sound.serves;
-      }),
-      c.self.invariant.2,
-      c.self.invariant.3,
+      c.self.invariant.1,
     )
 
 pub returns-clause-added : goal.returns-clause-added
 returns-clause-added g c p =
     let s = c.self.inside in
-    let i = c.self.invariant.0 in
+    let i = c.self.invariant.0.queue in
     let view = c.self.view_is in
     let push = c.try_push.ensures in
     let old = items_of s.heaps in
@@ -85,7 +64,7 @@ returns-clause-rest g c =
     let record_of = g.R.Record.record_of in
     let width = g.R.Record.WIDTH in
     let s = c.self.inside in
-    let i = c.self.invariant.0 in
+    let i = c.self.invariant.0.queue in
     let view = c.self.view_is in
     let push = c.try_push.ensures in
     let old = items_of s.heaps in

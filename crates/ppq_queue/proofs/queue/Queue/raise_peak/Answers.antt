@@ -1,29 +1,16 @@
-use Rattle.std.proofs.Common.{arith}
+use Rattle.std.proofs.Common.{refl, arith}
+use Rattle.ppq_queue.proofs.Flushed.{queue-counts, sound-counts}
 use Rattle.ppq_queue.proofs.queue.Queue.raise_peak.Goals as goal
 
 pub invariant_of-self : goal.invariant_of-self
 invariant_of-self g c =
-    let i = c.self.invariant.0 in (
+    let stands = c.self.invariant.0 in
+    let i = stands.queue in
+    let up = c.max-self-inside.ensures in (
       record {
-        range = i.range;
-        budget = i.budget;
-        cap = i.cap;
-        shares = i.shares;
-        in_heap = i.in_heap;
-        room = i.room;
-        in_extract = i.in_extract;
-        held = i.held;
-        pool = i.pool;
-        slots = i.slots;
-        no_row = i.no_row;
-        counted = omega (arith, c.max-self-inside.ensures, i.counted);
-        most = omega (arith, c.max-self-inside.ensures, i.most, i.most_count);
-        most_count = i.most_count;
-        fault = i.fault;
+        queue = queue-counts i refl refl i.in_heap refl i.in_extract (omega (arith, up, i.counted)) (omega (arith, up, i.most, i.most_count)) i.most_count;
+        sound = λ none. (let sound = stands.sound none in sound-counts sound sound.counted sound.ascends sound.order (λ more full. omega (arith, up, sound.above more full)));
+        slots_room = stands.slots_room;
       },
-      (λ none.
-          let sound = c.self.invariant.1 none in
-          record { rest = sound.rest; counted = sound.counted; ascends = sound.ascends; order = sound.order; above = λ more full. omega (arith, c.max-self-inside.ensures, sound.above more full); workers = sound.workers; serves = sound.serves }),
-      c.self.invariant.2,
-      c.self.invariant.3,
+      c.self.invariant.1,
     )

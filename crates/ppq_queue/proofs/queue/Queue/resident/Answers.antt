@@ -8,7 +8,7 @@ use Rattle.ppq_queue.proofs.queue.Queue.resident.Goals as goal
 pub returns-clause-budget : goal.returns-clause-budget
 returns-clause-budget g c =
     let s = c.self.inside in
-    let i = c.self.invariant.0 in
+    let i = c.self.invariant.0.queue in
     let n = s.store.sizes in
     let used : c.from-3.result - c.from-4.result ≤ n.blocks = omega (arith, c.from-3.ensures, c.blocks-2.ensures.same) in
     let batches : c.from-batches.result ≡ batch_of n = c.from-batches.ensures ∙ c.batch.ensures.same in

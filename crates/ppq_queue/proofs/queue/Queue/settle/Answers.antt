@@ -1,65 +1,29 @@
 use Rattle.std.proofs.Common.{ap, sym, ◌∙◌}
-use Rattle.ppq_heap.specs.Heaps.{items_of}
-use Rattle.ppq_queue.proofs.Moves.{ok-map}
-use Rattle.ppq_queue.proofs.Stores.{heaps-same, holds-beside, refused-beside, err-map}
 use Rattle.ppq_queue.proofs.Flushed.{not_sound}
-use Rattle.ppq_queue.proofs.Calls.{may_work, stands, ended, above-some}
+use Rattle.ppq_queue.proofs.Calls.{may_work, called-beside}
 use Rattle.ppq_queue.proofs.queue.Queue.settle.Goals as goal
 
 pub settle_some-answer-requires-clause-works : goal.settle_some-answer-requires-clause-works
-settle_some-answer-requires-clause-works g c κs within =
-    let s = c.self.inside in
-    let none = c.in_default.is in
-    may_work g.S.Slot.shown g.R.Ord.cmp g.R.Record.record_of g.R.Record.WIDTH s.store s.heaps s.count s.peak s.failed s.limited c.self.invariant.0 (c.self.invariant.1 none)
+settle_some-answer-requires-clause-works g c κs within = may_work c.self.invariant.0 c.in_default.is
 
 pub invariant_of-self : goal.invariant_of-self
 invariant_of-self g c =
-    let shown = g.S.Slot.shown in
-    let cmp = g.R.Ord.cmp in
-    let record_of = g.R.Record.record_of in
-    let width = g.R.Record.WIDTH in
-    let s = c.self.inside in
     let m = c.settle_some-answer in
     let e = m.ensures in
-    let x = s.store in
-    let y = m.new.self in
-    let h = s.heaps in
-    let h' = s.heaps in
-    let kept = e.stays.kept in
-    let heaps = heaps-same h in
-    let none = c.in_default.is in
-    let sound = c.self.invariant.1 none in
-    let holds = ok-map m.result (λ d. holds-beside shown cmp record_of width (items_of h) x y d.holds) e.settled in
-    let refused = err-map m.result (refused-beside shown cmp record_of width (items_of h) x y) e.refused in
-    let all = stands shown cmp record_of width x y h h' kept heaps s.peak s.count s.failed c.latch.new.failed s.limited m.result _ c.latch.ensures c.self.invariant.0 sound sound.above holds refused c.self.invariant.3 in
-    (all.0, all.1, c.self.invariant.2, all.2)
+    ((called-beside c.self.invariant.0 c.in_default.is m.result c.self.view_is c.latch.ensures e.leaves.stays.kept e.leaves.holds e.leaves.refused).0, c.self.invariant.1)
 
 pub returns : goal.returns
 returns g c =
-    let shown = g.S.Slot.shown in
-    let cmp = g.R.Ord.cmp in
-    let record_of = g.R.Record.record_of in
-    let width = g.R.Record.WIDTH in
-    let s = c.self.inside in
+    let none = c.in_default.is in
+    let view = c.self.view_is in
     let m = c.settle_some-answer in
     let e = m.ensures in
-    let x = s.store in
-    let y = m.new.self in
-    let h = s.heaps in
-    let h' = s.heaps in
-    let kept = e.stays.kept in
-    let heaps = heaps-same h in
-    let none = c.in_default.is in
-    let sound = c.self.invariant.1 none in
-    let holds = ok-map m.result (λ d. holds-beside shown cmp record_of width (items_of h) x y d.holds) e.settled in
-    let refused = err-map m.result (refused-beside shown cmp record_of width (items_of h) x y) e.refused in
-    let view = c.self.view_is in
-    let done = ended shown cmp record_of width x y h h' kept heaps s.peak s.count s.failed c.latch.new.failed s.limited m.result _ none c.latch.ensures view c.self.invariant.0 sound (above-some shown cmp record_of width x y h h' kept heaps s.peak s.count s.limited m.result sound e.refused) holds refused in
+    let left = (called-beside c.self.invariant.0 none m.result view c.latch.ensures e.leaves.stays.kept e.leaves.holds e.leaves.refused).1 in
     record {
-      same = done.same;
-      settled = ok-map m.result (λ d. d.few) e.settled;
+      same = left.same;
+      settled = e.few;
       crowded = e.crowded;
-      refused = done.refused;
+      refused = left.refused;
       latched = λ number failed. not_sound number (sym failed ∙ sym (ap (λ q. q.failed) view) ∙ none);
-      stays = done.stays;
+      stays = left.stays;
     }

@@ -19,14 +19,14 @@ returns-clause-same g c =
     let noted = c.note_limit.new.self in
     let begun = c.begin_session.new.self in
     let now = c.store_all.new.self in
-    ok-map c.store_all.result (λ same. same-limited c.args.self.now now (subst (λ q. SameRecords q now) c.note_limit.ensures (same-more noted begun now c.begin_session.ensures.stays.keeps.tells c.in_ok-begin_session.ensures.same same))) c.store_all.ensures.same
+    ok-map c.store_all.result (λ same. same-limited c.args.self.now now (subst (λ q. SameRecords q now) c.note_limit.ensures (same-more noted begun now c.begin_session.ensures.stays.keeps.tells c.in_ok-begin_session.ensures.same same))) c.store_all.ensures.leaves.same
 
 pub returns-clause-stays : goal.returns-clause-stays
-returns-clause-stays g c = subst (λ q. Stays q c.store_all.new.self) c.note_limit.ensures (stays-more c.note_limit.new.self c.begin_session.new.self c.store_all.new.self c.begin_session.ensures.stays c.store_all.ensures.stays)
+returns-clause-stays g c = subst (λ q. Stays q c.store_all.new.self) c.note_limit.ensures (stays-more c.note_limit.new.self c.begin_session.new.self c.store_all.new.self c.begin_session.ensures.stays c.store_all.ensures.leaves.stays)
 
 pub returns-clause-refused : goal.returns-clause-refused
 returns-clause-refused g c =
     let noted = c.note_limit.new.self in
     let begun = c.begin_session.new.self in
     let now = c.store_all.new.self in
-    err-map c.store_all.result (λ e is. refusal-limited c.args.self.now now e (subst (λ q. IsRefusal q now e) c.note_limit.ensures (refusal-more noted begun now e c.begin_session.ensures.stays.keeps.tells c.in_ok-begin_session.ensures.same is))) c.store_all.ensures.refused
+    err-map c.store_all.result (λ e is. refusal-limited c.args.self.now now e (subst (λ q. IsRefusal q now e) c.note_limit.ensures (refusal-more noted begun now e c.begin_session.ensures.stays.keeps.tells c.in_ok-begin_session.ensures.same is))) c.store_all.ensures.leaves.refused

@@ -6,4 +6,4 @@ use Rattle.ppq_queue.proofs.queue.Queue.top.Goals as goal
 pub returns-clause-answer : goal.returns-clause-answer
 returns-clause-answer g c tell =
     let laws = c.record_laws.ensures in
-    c.least.ensures.answer (c.ready.ensures.stays.keeps.tells tell) ∙ ap (λ l. first_of (take 1 l)) (ascending-same_bag laws.order laws.same c.ready.new.self.bag c.args.self.now.bag (c.in_ok-ready.ensures.same.bag tell))
+    c.least.ensures.answer (c.ready.ensures.leaves.stays.keeps.tells tell) ∙ ap (λ l. first_of (take 1 l)) (ascending-same_bag laws.order laws.same c.ready.new.self.bag c.args.self.now.bag (c.in_ok-ready.ensures.leaves.same.bag tell))

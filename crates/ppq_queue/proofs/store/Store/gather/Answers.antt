@@ -4,7 +4,7 @@ use Rattle.ppq_queue.specs.Resting.{count_of}
 use Rattle.ppq_queue.specs.Bulk.{Merged}
 use Rattle.ppq_queue.specs.Stores.{FailsAlone}
 use Rattle.ppq_queue.proofs.Moves.{kept-refl}
-use Rattle.ppq_queue.proofs.Stores.{kept-same, kept-more, kept-step, same-sources, heaps-more, not_ok, on_given}
+use Rattle.ppq_queue.proofs.Stores.{kept-same, kept-more, kept-step, same-sources, heaps-more, refused-alone, err-map, alone, not_ok, on_given}
 use Rattle.ppq_queue.proofs.Took.{smaller, took-none, took-merged, took-held, took-all, stands-ended}
 use Rattle.ppq_queue.proofs.store.Store.gather.Goals as goal
 
@@ -25,15 +25,15 @@ refilling-init g c =
     let out = m.new.out.items in
     let left = items_of m.new.heaps in
     let more = c.has_run-first.result in
-    let merged = subst (λ l. Merged cmp more limit h left x.extract.items v.items l out) c.requires.none m.ensures.merged in
-    let took = took-merged shown order record_of width limit most h h left x x v [] out more (kept-same shown x) (took-none shown order record_of width limit most h x works) c.has_run-first.ensures.none merged m.ensures.rooms.first m.ensures.few in
+    let merged = subst (λ l. Merged cmp more limit h left x.extract.items v.items l out) c.requires.none m.ensures.moves.merged in
+    let took = took-merged shown order record_of width limit most h h left x x v [] out more kept-same (took-none shown order record_of width limit most h x works) c.has_run-first.ensures.none merged m.ensures.moves.rooms.first m.ensures.few in
     record {
-      kept = kept-step shown x x.body x.supply v x.sources (kept-refl shown x.body x.supply) works.runs.no_row (same-sources shown x) m.ensures.rooms.first (λ within. omega (arith, within, m.ensures.merged.fewer, m.ensures.rooms.first));
-      heaps = m.ensures.heaps;
+      kept = kept-step x x.body x.supply v x.sources (kept-refl shown x.body x.supply) works.runs.no_row same-sources m.ensures.moves.rooms.first (λ within. omega (arith, within, m.ensures.moves.merged.fewer, m.ensures.moves.rooms.first));
+      heaps = m.ensures.moves.heaps;
       took = took;
       stands = stands-ended shown order record_of width limit most left (record x { extract = v }) out more took.works c.has_run-first.ensures.some c.has_run-first.ensures.none m.ensures.ended;
       few = c.requires.few;
-      list_room = m.ensures.rooms.list;
+      list_room = m.ensures.moves.rooms.list;
     }
 
 pub refilling-smaller : goal.refilling-smaller
@@ -65,33 +65,38 @@ refilling-preserved g c =
     let out = c.refilling.out.items in
     let out' = m.new.out.items in
     let more = c.has_run-more.result in
-    let kept = kept-more shown x y z i.kept c.refill.ensures.kept in
+    let kept = kept-more i.kept c.refill.ensures.kept in
     let filled = took-held shown order record_of width limit most h here x y z out i.kept i.took c.in_ok-refill.ensures.readied.holds in
-    let took = took-merged shown order record_of width limit most h here left x z v out out' more kept filled c.has_run-more.ensures.none m.ensures.merged m.ensures.rooms.first m.ensures.few in
-    let step = kept-step shown z z.body z.supply v z.sources (kept-refl shown z.body z.supply) filled.works.runs.no_row (same-sources shown z) m.ensures.rooms.first (λ within. omega (arith, within, m.ensures.merged.fewer, m.ensures.rooms.first)) in
+    let took = took-merged shown order record_of width limit most h here left x z v out out' more kept filled c.has_run-more.ensures.none m.ensures.moves.merged m.ensures.moves.rooms.first m.ensures.few in
+    let step = kept-step z z.body z.supply v z.sources (kept-refl shown z.body z.supply) filled.works.runs.no_row same-sources m.ensures.moves.rooms.first (λ within. omega (arith, within, m.ensures.moves.merged.fewer, m.ensures.moves.rooms.first)) in
     record {
-      kept = kept-more shown x z last kept step;
-      heaps = heaps-more c.args.heaps.now c.refilling.heaps m.new.heaps i.heaps m.ensures.heaps;
+      kept = kept-more kept step;
+      heaps = heaps-more i.heaps m.ensures.moves.heaps;
       took = took;
       stands = stands-ended shown order record_of width limit most left last out' more took.works c.has_run-more.ensures.some c.has_run-more.ensures.none m.ensures.ended;
       few = c.in_ok-refill.ensures.few;
-      list_room = m.ensures.rooms.list ∙ i.list_room;
+      list_room = m.ensures.moves.rooms.list ∙ i.list_room;
     }
 
 pub returns-in_err-refill : goal.returns-in_err-refill
 returns-in_err-refill g c =
     let i = c.refilling.invariant in
-    let e = c.in_err-refill.field-0.0 in
+    let given = c.from_residual.ensures.1 in
+    let failed = on_given (FailsAlone g.S.Slot.shown c.refill.new.self) c.from_residual.result c.in_err-refill.field-0.0 given c.in_err-refill.ensures.failed in
     record {
-      kept = kept-more g.S.Slot.shown c.args.self.now c.refilling.self c.refill.new.self i.kept c.refill.ensures.kept;
-      heaps = i.heaps;
+      takes = record {
+        kept = kept-more i.kept c.refill.ensures.kept;
+        heaps = i.heaps;
+        took = not_ok _ _ _ given;
+        same_heaps = alone (FailsAlone g.S.Slot.shown c.refill.new.self) c.from_residual.result failed (λ never. never);
+        refused = err-map c.from_residual.result (refused-alone g.S.Slot.shown g.R.Ord.cmp g.R.Record.record_of g.R.Record.WIDTH [] [] c.args.self.now c.refill.new.self) failed;
+      };
       list_room = i.list_room;
-      took = not_ok _ c.from_residual.result e c.from_residual.ensures.1;
-      failed = on_given (FailsAlone g.S.Slot.shown c.refill.new.self) c.from_residual.result e c.from_residual.ensures.1 c.in_err-refill.ensures.failed;
     }
 
-pub returns-clause-took : goal.returns-clause-took
-returns-clause-took g c =
+pub returns : goal.returns
+returns g c =
     let l = c.refilling in
     let i = l.invariant in
-    took-all g.S.Slot.shown c.record_laws.ensures.order g.R.Record.record_of g.R.Record.WIDTH c.args.wanted.now.limit c.args.wanted.now.most (items_of c.args.heaps.now) (items_of l.heaps) c.args.self.now l.self l.out.items i.stands i.took (c.wants_refill.ensures.ready c.refilling-test.false)
+    let took = took-all g.S.Slot.shown c.record_laws.ensures.order g.R.Record.record_of g.R.Record.WIDTH c.args.wanted.now.limit c.args.wanted.now.most (items_of c.args.heaps.now) (items_of l.heaps) c.args.self.now l.self l.out.items i.stands i.took (c.wants_refill.ensures.ready c.refilling-test.false) in
+    record { takes = record { kept = i.kept; heaps = i.heaps; took = took; same_heaps = λ err. cc; refused = tt }; list_room = i.list_room }

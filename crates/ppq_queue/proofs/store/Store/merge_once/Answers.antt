@@ -2,6 +2,7 @@ use Rattle.std.proofs.Common.{◌+◌, ◌≤◌, [], ap, subst, sym, arith, ref
 use Rattle.ppq_extract.specs.ppq_array.Holdings.{external_buffers}
 use Rattle.ppq_extract.specs.ppq_array.Kept.{HasFailed}
 use Rattle.ppq_extract.specs.ppq_fetch.Fetching.{fronts_in}
+use Rattle.ppq_extract.specs.Extracted.{SourcesRest}
 use Rattle.ppq_spill.specs.Leveling.{MayLevel, NoneForLevel}
 use Rattle.ppq_queue.specs.Stores.{Refuses}
 use Rattle.ppq_queue.proofs.Bounds.{arrays_few}
@@ -9,7 +10,7 @@ use Rattle.ppq_queue.proofs.Counts.{count_some}
 use Rattle.ppq_queue.proofs.Moves.{ok-map, ok-map2}
 use Rattle.ppq_queue.proofs.Leveled.{kept-leveled, may_level, moved-leveled, fewer-leveled, lower-leveled, short-leveled, still_crowded}
 use Rattle.ppq_queue.proofs.Slots.{slots-no_job}
-use Rattle.ppq_queue.proofs.Stores.{by_fault, level_few, kept-step, holds-runs, lacks-runs}
+use Rattle.ppq_queue.proofs.Stores.{by_fault, level_few, stays-step, holds-runs, lacks-runs}
 use Rattle.ppq_queue.proofs.store.Store.merge_once.Goals as goal
 
 pub merge_level-answer-requires-clause-may : goal.merge_level-answer-requires-clause-may
@@ -46,21 +47,25 @@ returns g c =
     let no_row = c.free_slots-free.ensures.no_row in
     let kept = kept-leveled shown a b s t level e.kept e.tells e.calls e.lanes rest.no_job refl refl e.rooms (ap (λ h. h.0) home) (ap (λ h. h.1) home) works.runs.no_row no_row in
     let some = count_some shown width s.block a.runs.internal.items a.runs.external.items rest.internal rest.external in
+    let rests : SourcesRest x.sources src = record { workers = e.workers; bench = e.bench; places = refl } in
+    let holds = ok-map2 m.result
+    (λ merged again. (
+    let bounded : external_buffers m.new.arrays.items ≤ fronts_in m.new.arrays.items + n.workers = omega (arith, again.bounded, e.workers, works.workers) in
+    let moved = moved-leveled shown cmp record_of width n a b s t rest kept e.size e.lanes refl merged.buffers level c.requires.level merged works.runs.no_row no_row bounded in
+    holds-runs x b t works kept no_row src rests moved))
+    e.merged e.again in
+    let refused = by_fault (Refuses shown cmp record_of width [] [] x (record x { body = b; supply = t; sources = src })) m.result
+    (λ err. (
+    let none = subst (λ w. NoneForLevel shown level w a.runs.external.items m.new.arrays.items a.lanes m.new.lanes s t) works.workers (e.none_free err) in
+    let short = short-leveled shown cmp record_of width n a b s t rest kept e.size e.lanes refl none.buffers level works.runs.no_row no_row none in
+    lacks-runs x b t works kept no_row src rests short.moved (omega (arith, c.requires.more, level_few level a.runs.external.items, some)) (inl short.short)))
+    (λ number err. subst (HasFailed number) (sym (slots-no_job shown b t e.lanes.no_job)) (e.device number err)) in
     record {
-      stays = record { stays = record { kept = kept-step shown x b t x.extract src kept no_row (record { workers = e.workers; bench = e.bench; places = refl }) refl (λ within. within); extract = omega arith }; internal = refl };
-      holds = ok-map2 m.result
-          (λ merged again. (
-          let bounded : external_buffers m.new.arrays.items ≤ fronts_in m.new.arrays.items + n.workers = omega (arith, again.bounded, e.workers, works.workers) in
-          let moved = moved-leveled shown cmp record_of width n a b s t rest kept e.size e.lanes refl merged.buffers level c.requires.level merged works.runs.no_row no_row bounded in
-          holds-runs shown cmp record_of width x b t works kept no_row src (record { workers = e.workers; bench = e.bench; places = refl }) moved))
-          e.merged e.again;
+      levels = record {
+        leaves = record { stays = stays-step x b t src kept no_row rests; holds = holds; refused = refused };
+        internal = refl;
+        crowded = λ err. still_crowded shown level x.sources.bench.workers a.runs.external.items m.new.arrays.items a.lanes m.new.lanes s t c.requires.level c.requires.more (e.none_free err);
+      };
       fewer = ok-map m.result (λ merged. fewer-leveled shown cmp record_of width n a b s t rest kept e.size e.lanes refl merged.buffers level c.requires.level merged) e.merged;
       lower = ok-map m.result (lower-leveled cmp record_of width shown level a.runs.external.items m.new.arrays.items s t c.requires.level) e.merged;
-      crowded = λ err. still_crowded shown level x.sources.bench.workers a.runs.external.items m.new.arrays.items a.lanes m.new.lanes s t c.requires.level c.requires.more (e.none_free err);
-      refused = by_fault (Refuses shown cmp record_of width [] [] x (record x { body = b; supply = t; sources = src })) m.result
-          (λ err. (
-          let none = subst (λ w. NoneForLevel shown level w a.runs.external.items m.new.arrays.items a.lanes m.new.lanes s t) works.workers (e.none_free err) in
-          let short = short-leveled shown cmp record_of width n a b s t rest kept e.size e.lanes refl none.buffers level works.runs.no_row no_row none in
-          lacks-runs shown cmp record_of width x b t works kept no_row src (record { workers = e.workers; bench = e.bench; places = refl }) short.moved (omega (arith, c.requires.more, level_few level a.runs.external.items, some)) (inl short.short)))
-          (λ number err. subst (HasFailed number) (sym (slots-no_job shown b t e.lanes.no_job)) (e.device number err));
     }

@@ -1,9 +1,9 @@
-use Rattle.std.proofs.Common.{[], ap, refl, arith, inr}
-use Rattle.ppq_queue.specs.Stores.{Refuses, StoreStays}
+use Rattle.std.proofs.Common.{[], ap, arith, inr}
+use Rattle.ppq_queue.specs.Stores.{Refuses}
 use Rattle.ppq_queue.proofs.Counts.{internal_count}
 use Rattle.ppq_queue.proofs.Moves.{ok-map}
 use Rattle.ppq_queue.proofs.Stored.{kept-stored, may_store, moved-in_blocks, short-merged}
-use Rattle.ppq_queue.proofs.Stores.{by_fault, kept-step, same-sources, holds-runs, lacks-runs}
+use Rattle.ppq_queue.proofs.Stores.{by_fault, stays-step, same-sources, holds-runs, lacks-runs}
 use Rattle.ppq_queue.proofs.store.Store.merge_runs.Goals as goal
 
 pub store_buffers-answer-requires-clause-room : goal.store_buffers-answer-requires-clause-room
@@ -30,13 +30,13 @@ returns g c =
     let home = e.home in
     let no_row = c.free_slots-free.ensures.no_row in
     let kept = kept-stored shown a b s t e.kept e.tells 0 e.writes e.rooms (ap (λ h. h.0) home) (ap (λ h. h.1) home) runs.no_row no_row in
-    let rests = same-sources shown x in
-    let stays : StoreStays shown x (record x { body = b; supply = t }) = record { kept = kept-step shown x b t x.extract x.sources kept no_row rests refl (λ within. within); extract = omega arith } in
     record {
-      stays = stays;
-      holds = ok-map m.result (λ stored. holds-runs shown cmp record_of width x b t works kept no_row x.sources rests (moved-in_blocks shown cmp record_of width x.sizes a b s t runs.rest kept e.size e.takes_back e.lanes [] (omega (arith, c.requires.some)) c.requires.few runs.no_row no_row stored)) e.stored;
+      leaves = record {
+        stays = stays-step x b t x.sources kept no_row same-sources;
+        holds = ok-map m.result (λ stored. holds-runs x b t works kept no_row x.sources same-sources (moved-in_blocks shown cmp record_of width x.sizes a b s t runs.rest kept e.size e.takes_back e.lanes [] (omega (arith, c.requires.some)) c.requires.few runs.no_row no_row stored)) e.stored;
+        refused = by_fault (Refuses shown cmp record_of width [] [] x (record x { body = b; supply = t })) m.result
+            (λ err. (let short = short-merged shown cmp record_of width x.sizes a b s t runs.rest kept e.size e.takes_back e.lanes runs.no_row no_row (e.none_free err) in lacks-runs x b t works kept no_row x.sources same-sources short.moved (omega (arith, c.requires.some, internal_count a.runs.internal.items)) (inr (omega (arith, short.short)))))
+            e.device;
+      };
       none = ok-map m.result (λ stored. stored.internal) e.stored;
-      refused = by_fault (Refuses shown cmp record_of width [] [] x (record x { body = b; supply = t })) m.result
-          (λ err. (let short = short-merged shown cmp record_of width x.sizes a b s t runs.rest kept e.size e.takes_back e.lanes runs.no_row no_row (e.none_free err) in lacks-runs shown cmp record_of width x b t works kept no_row x.sources rests short.moved (omega (arith, c.requires.some, internal_count a.runs.internal.items)) (inr (omega (arith, short.short)))))
-          e.device;
     }

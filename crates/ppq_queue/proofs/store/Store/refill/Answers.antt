@@ -50,12 +50,12 @@ returns g c =
     (λ err. absurd (e.device_alone err))
     (λ number err. (let p = (e.device number err).parts in kept-refilled shown a b s t p.kept p.all_tell _ p.transfers none none' refl e.internal_room e.external_room (ap (λ h. h.0) home) (ap (λ h. h.1) home) works.runs.no_row no_row)) in
     record {
-      kept = kept-step shown x b t v m.new.sources kept no_row e.rest e.room (λ before. omega (arith, e.within, e.room));
+      kept = kept-step x b t v m.new.sources kept no_row e.rest e.room (λ before. omega (arith, e.within, e.room));
       readied = ok-map3 m.result
           (λ all r rm. (
           let may = subst (λ w. MayFetch shown width w (sources_of b.runs b.lanes.idle t)) (e.rest.workers ∙ works.workers) rm in
           let ready = readied-refilled shown cmp record_of width n a b s t v.items rest kept c.requires.few r may none' e.batch x.extract.room (omega (arith, works.room, batch_some n works.runs.range)) all in
-          readies-step shown cmp record_of width x b t works kept no_row v m.new.sources e.rest e.room (omega (arith, e.within, e.room)) (subst (λ l. Readied shown cmp record_of width n l v.items a b s t) (sym c.requires.empty) ready)))
+          readies-step x b t works kept no_row v m.new.sources e.rest e.room (omega (arith, e.within, e.room)) (subst (λ l. Readied shown cmp record_of width n l v.items a b s t) (sym c.requires.empty) ready)))
           (e.all refl)
           e.refilled
           e.may;

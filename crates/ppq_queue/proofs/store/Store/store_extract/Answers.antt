@@ -1,27 +1,8 @@
-use Rattle.std.proofs.Common.{[]}
-use Rattle.ppq_queue.specs.Stores.{Refuses}
-use Rattle.ppq_queue.proofs.Moves.{ok-map}
-use Rattle.ppq_queue.proofs.Stores.{stays-more, holds-more, refused-more, err-map, on_given}
+use Rattle.ppq_queue.proofs.Stores.{leaves-after, leaves-given, not_ok}
 use Rattle.ppq_queue.proofs.store.Store.store_extract.Goals as goal
 
-pub returns-in_err-settle_some-clause-refused : goal.returns-in_err-settle_some-clause-refused
-returns-in_err-settle_some-clause-refused g c =
-    on_given (Refuses g.S.Slot.shown g.R.Ord.cmp g.R.Record.record_of g.R.Record.WIDTH [] [] c.args.self.now c.settle_some.new.self) c.from_residual.result c.in_err-settle_some.field-0.0 c.from_residual.ensures.1 c.in_err-settle_some.ensures.refused
+pub returns-in_err-settle_some : goal.returns-in_err-settle_some
+returns-in_err-settle_some g c = (let given = c.from_residual.ensures.1 in record { leaves = leaves-given given c.in_err-settle_some.ensures.leaves; emptied = not_ok _ _ _ given })
 
 pub returns : goal.returns
-returns g c =
-    let shown = g.S.Slot.shown in
-    let cmp = g.R.Ord.cmp in
-    let record_of = g.R.Record.record_of in
-    let width = g.R.Record.WIDTH in
-    let x = c.args.self.now in
-    let y = c.settle_some.new.self in
-    let z = c.store_rest.new.self in
-    let one = c.settle_some.ensures.stays in
-    let two = c.store_rest.ensures in
-    let holds = c.in_ok-settle_some.ensures.settled.holds in
-    record {
-      stays = stays-more shown x y z one two.stays;
-      emptied = ok-map c.store_rest.result (λ d. record { holds = holds-more shown cmp record_of width [] [] [] x y z one.kept holds d.holds; emptied = d.emptied }) two.emptied;
-      refused = err-map c.store_rest.result (λ e r. refused-more shown cmp record_of width [] [] [] x y z e one.kept holds r) two.refused;
-    }
+returns g c = record { leaves = leaves-after c.in_ok-settle_some.ensures.leaves c.store_rest.ensures.leaves; emptied = c.store_rest.ensures.emptied }
