@@ -14,7 +14,7 @@ use Rattle.ppq_script.specs.Files.{file_in, name_at}
 use Rattle.ppq_script.specs.Checking.{with_size, with_sizes}
 use Rattle.ppq_script.specs.Reading.{Reading, command_list}
 use Rattle.ppq_engine.specs.Output.{AreFilesOf, KeepsLengths, given_of, outside, after}
-use Rattle.ppq_engine.proofs.Lines.{HasLength, FirstHasLength}
+use Rattle.ppq_engine.proofs.Lines.{HasLength}
 
 pub has_length :
     (told : Option (List ℕ → Option (List ℕ))) (script : Reading) (files : List ℕ → Option (List ℕ)) (i : ℕ) (command : Command)
@@ -24,10 +24,6 @@ has_length told script files i command here keeps (inl is) = λ file bytes e.
     let all = bytes_or_none (files (name_at script.names file)) in
     length-records_from pair_of 16 (length all / 16) all ∙ ap (λ (n : ℕ). n / 16) (keeps files is i file bytes there)
 has_length told script files i command here keeps (inr never) = λ file bytes e. absurd (never i file bytes (here ∙ ap (λ (c : Command). Some c) e))
-
--- a part whose first command has the length of its file, if it reads one
-pub part-long : (given : ℕ → List Pair) (command : Command) (behind part : List Command) → part ≡ command ∷ behind → HasLength given command → FirstHasLength given part
-part-long given command behind part e long = subst (FirstHasLength given) (sym e) long
 
 -- the records of a file that a command adds are those that the script's command gives
 pub file-bag :

@@ -1,7 +1,6 @@
 pub use Rattle.ppq_load.proofs as ppq_load
 pub mod Advancing
 pub mod Asked
-pub mod Batches
 pub mod Below
 pub mod Deferred
 pub mod Ending

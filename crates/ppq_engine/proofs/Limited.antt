@@ -8,7 +8,6 @@ use Rattle.ppq_script.specs.ppq_outside.Shown.{Shown, AllTell}
 use Rattle.ppq_script.specs.ppq_outside.Told.{TakesPart}
 use Rattle.ppq_script.proofs.ppq_outside.Takes.{takes_and_part, part_of_more}
 use Rattle.ppq_script.specs.declared.command.Command.{Command}
-use Rattle.ppq_script.specs.Reading.{Reading, command_list}
 use Rattle.ppq_load.specs.ppq_pass.Passed.{PassHolding}
 use Rattle.ppq_load.specs.ppq_queue.Holding.{Holding}
 use Rattle.ppq_load.specs.ppq_session.declared.line.Line.{Line}
@@ -18,11 +17,11 @@ use Rattle.ppq_load.specs.ppq_session.Asks.{pops_in, left_after, answers_to}
 use Rattle.ppq_load.specs.Limits.{LimitsHolding, InLimits, AreGoing, HasStopped}
 use Rattle.ppq_engine.specs.Gathers.{Gathers}
 use Rattle.ppq_engine.specs.Output.{limited_text}
-use Rattle.ppq_engine.specs.Parts.{up_to_end, pushed_by, pushed_in}
-use Rattle.ppq_engine.specs.Limits.{ask_by, asks_in, answers_text, answers_of, AreLimitLines, IsInLimit, EndsLimit, between, IsBatch, RunsBatch, HasBegun, RunsLines, BreaksOff}
-use Rattle.ppq_engine.proofs.Asked.{pops_in-append, left_after-append, answers_to-append, length-answers_to, lines-append, lines-records}
-use Rattle.ppq_engine.proofs.Batches.{between-none, between-append, session-split, session-some, session-end}
+use Rattle.ppq_engine.specs.Pushes.{lines_in, pushed_in}
+use Rattle.ppq_engine.specs.Limits.{ask_by, asks_in, answers_text, answers_of, HasDone, HasBegun, RunsBatch, RunsLines, BreaksOff}
+use Rattle.ppq_engine.proofs.Asked.{pops_in-append, left_after-append, answers_to-append, length-answers_to}
 use Rattle.ppq_engine.proofs.Popped.{gathers-more, gathers-nothing}
+use Rattle.ppq_engine.proofs.Pushes.{pushed-append}
 
 -- a pass that goes on has not ended
 going-not_ended : {S : Type 0} (pass : PassHolding S Pair) → IsGoing pass → HasEnded pass → ⊥
@@ -51,189 +50,138 @@ sink-part before mid now had between text more rest first took =
     ∙ append_assoc had (text ++ more) rest ∙ ap (λ (t : List ℕ). had ++ t) (append_assoc text more rest) in
     subst P all (part_of_more before now (first.put ++ (between ++ more)) rest (takes_and_part before mid now first.put (between ++ more) first.took took))
 
-module _ {S : Type 0} (shown : S → Shown) (script : Reading) (from : ℕ) (before : Option (List ℕ)) (had : List ℕ) (old : LimitsHolding S) where
-  abbrev limit : Pair
-  limit = old.front.limit
+-- lines were run behind others
+pub done-more :
+    {S : Type 0} (shown : S → Shown) (queue : Holding Pair) (limit : Pair) (cs ds : List Command) (lines : List (Line Pair)) (asks : List Ask) (new : LimitsHolding S) → lines ≡ lines_in ds → asks ≡ asks_in ds
+    → InLimits shown queue limit (pushed_in cs ++ records_in lines) (left_after pair_cmp limit (left_after pair_cmp limit queue.bag (asks_in cs)) asks) (pops_in (asks_in cs) + pops_in asks) new → HasDone shown queue limit (cs ++ ds) new
+done-more shown queue limit cs ds lines asks new lines_are asks_are all =
+    let left = left_after pair_cmp limit queue.bag (asks_in cs) in
+    let given : pushed_in cs ++ records_in lines ≡ pushed_in (cs ++ ds) = ap (λ (ls : List (Line Pair)). pushed_in cs ++ records_in ls) lines_are ∙ sym (pushed-append cs ds) in
+    let asked : asks_in cs ++ asks ≡ asks_in (cs ++ ds) = ap (λ (xs : List Ask). asks_in cs ++ xs) asks_are ∙ sym (flat_map-append ask_by cs ds) in
+    let left_is : left_after pair_cmp limit left asks ≡ left_after pair_cmp limit queue.bag (asks_in (cs ++ ds)) =
+    sym (left_after-append limit queue.bag (asks_in cs) asks) ∙ ap (λ (xs : List Ask). left_after pair_cmp limit queue.bag xs) asked in
+    let popped : pops_in (asks_in cs) + pops_in asks ≡ pops_in (asks_in (cs ++ ds)) = sym (pops_in-append (asks_in cs) asks) ∙ ap pops_in asked in
+    let P : List Pair → Type 0 = λ xs. InLimits shown queue limit xs (left_after pair_cmp limit left asks) (pops_in (asks_in cs) + pops_in asks) new in
+    let Q : List Pair → Type 0 = λ xs. InLimits shown queue limit (pushed_in (cs ++ ds)) xs (pops_in (asks_in cs) + pops_in asks) new in
+    let R : ℕ → Type 0 = λ n. InLimits shown queue limit (pushed_in (cs ++ ds)) (left_after pair_cmp limit queue.bag (asks_in (cs ++ ds))) n new in
+    subst R popped (subst Q left_is (subst P given all))
 
-  -- the lines up to a place were run, and all answers are gathered
-  pub record IsGoingOn (place : ℕ) (now : Option (List ℕ)) (has : List ℕ) (new : LimitsHolding S) : Type 0 where
-    pub forward : from ≤ place
-    pub lines : AreLimitLines script.workers old.front.limit (between script from place)
-    pub inside : IsInLimit script old.front.limit place
+module _ {S : Type 0} (shown : S → Shown) (whole : List Command) (before : Option (List ℕ)) (had : List ℕ) (old : LimitsHolding S) where
+  -- of the lines these are left, and all answers of the others are gathered
+  pub record IsGoingOn (rest : List Command) (now : Option (List ℕ)) (has : List ℕ) (new : LimitsHolding S) : Type 0 where
+    pub done : List Command
+    pub all : whole ≡ done ++ rest
     pub going : AreGoing new
-    pub sizes : new.front.sizes ≡ old.front.sizes
-    pub limit_is : new.front.limit ≡ old.front.limit
-    pub session :
-        (queue : Holding Pair) → HasBegun shown queue old
-        → InLimits shown queue old.front.limit (pushed_in (between script from place)) (left_after pair_cmp old.front.limit queue.bag (asks_in (between script from place))) (pops_in (asks_in (between script from place))) new
-    pub text : (queue : Holding Pair) → HasBegun shown queue old → AllTell queue.slots → Gathers before now had (answers_of old.front.limit queue.bag (between script from place)) has
+    pub session : (queue : Holding Pair) (limit : Pair) → HasBegun shown queue limit old → HasDone shown queue limit done new
+    pub text : (queue : Holding Pair) (limit : Pair) → HasBegun shown queue limit old → AllTell queue.slots → Gathers before now had (answers_of limit queue.bag done) has
 
-  pub going-begin : IsInLimit script limit from → AreGoing old → IsGoingOn from before had old
-  going-begin inside going =
-      let P : List Command → Type 0 = λ cs. AreLimitLines script.workers limit cs in
-      record {
-        forward = omega arith;
-        lines = subst P (sym (between-none script from)) tt;
-        inside = inside;
-        going = going;
-        sizes = refl;
-        limit_is = refl;
-        session =
-            λ queue begun.
-            let Q : List Command → Type 0 = λ cs. InLimits shown queue limit (pushed_in cs) (left_after pair_cmp limit queue.bag (asks_in cs)) (pops_in (asks_in cs)) old in
-            subst Q (sym (between-none script from)) begun;
-        text =
-            λ queue begun tells.
-            let Q : List Command → Type 0 = λ cs. Gathers before before had (answers_of limit queue.bag cs) had in
-            subst Q (sym (between-none script from)) (gathers-nothing before had);
-      }
+  pub going-begin : AreGoing old → IsGoingOn whole before had old
+  going-begin going = record {
+    done = [];
+    all = refl;
+    going = going;
+    session = λ queue limit begun. begun;
+    text = λ queue limit begun tells. gathers-nothing before had;
+  }
 
-  -- all lines up to the end were run
-  pub runs-all : (place : ℕ) (now : Option (List ℕ)) (has : List ℕ) (new : LimitsHolding S) → IsGoingOn place now has new → EndsLimit script place → RunsLines shown script from before now had has old new
-  runs-all place now has new on end = record {
-    lines = between script from place;
-    rest = up_to_end (drop place (command_list script));
-    all = session-split script limit from place on.forward on.lines on.inside;
-    some = session-some script limit from place on.forward on.lines on.inside;
-    inside = on.lines;
+  -- all lines were run
+  pub runs-all : (now : Option (List ℕ)) (has : List ℕ) (new : LimitsHolding S) → IsGoingOn [] now has new → RunsLines shown whole before now had has old new
+  runs-all now has new on = record {
+    lines = on.done;
+    rest = [];
+    all = on.all;
     session = on.session;
-    part =
-        λ queue begun tells.
-        record {
-          part = answers_of limit queue.bag (between script from place);
-          rest = [];
-          all = sym (append-nil (answers_of limit queue.bag (between script from place)));
-          gathers = on.text queue begun tells;
-        };
-    text = λ sound queue begun tells. on.text queue begun tells;
-    end = λ going. session-end script limit from place on.forward on.lines on.inside end;
+    part = λ queue limit begun tells. let text = answers_of limit queue.bag on.done in record { part = text; rest = []; all = sym (append-nil text); gathers = on.text queue limit begun tells };
+    text = λ sound. on.text;
+    end = λ going. refl;
   }
 
   -- a batch more was run
   module _
-      (place to : ℕ) (mid_told now : Option (List ℕ)) (mid_has has : List ℕ) (mid new : LimitsHolding S) (lines : List (Line Pair)) (asks : List Ask) (answers : List (Option Pair))
-      (on : IsGoingOn place mid_told mid_has mid) (b : IsBatch script place to lines asks) (ran : RunsBatch shown lines asks answers mid new)
+      (rest first behind : List Command) (mid_told now : Option (List ℕ)) (mid_has has : List ℕ) (mid new : LimitsHolding S) (answers : List (Option Pair))
+      (on : IsGoingOn rest mid_told mid_has mid) (cut : rest ≡ first ++ behind) (ran : RunsBatch shown first answers mid new)
     where
       abbrev cs : List Command
-      cs = between script from place
+      cs = on.done
 
-      abbrev ds : List Command
-      ds = between script place to
+      all_to : whole ≡ (cs ++ first) ++ behind
+      all_to = on.all ∙ ap (λ (xs : List Command). cs ++ xs) cut ∙ sym (append_assoc cs first behind)
 
-      behind : between script from to ≡ cs ++ ds
-      behind = between-append script from place to on.forward b.forward
-
-      forward : from ≤ to
-      forward = omega (arith, on.forward, b.forward)
-
-      lines_to : AreLimitLines script.workers limit (between script from to)
-      lines_to =
-          let P : List Command → Type 0 = λ xs. AreLimitLines script.workers limit xs in
-          subst P (sym behind) (lines-append script.workers limit cs ds on.lines (b.inside limit on.inside).0)
-
-      inside_to : IsInLimit script limit to
-      inside_to = (b.inside limit on.inside).1
-
-      session_to :
-          (queue : Holding Pair) → HasBegun shown queue old
-          → InLimits shown queue limit (pushed_in (between script from to)) (left_after pair_cmp limit queue.bag (asks_in (between script from to))) (pops_in (asks_in (between script from to))) new
-      session_to queue begun =
-          let left = left_after pair_cmp limit queue.bag (asks_in cs) in
-          let all = ran.session queue limit (pushed_in cs) left (pops_in (asks_in cs)) (on.session queue begun) in
-          let more : List Command → List Pair = λ xs. pushed_in xs in
-          let given : pushed_in cs ++ records_in lines ≡ pushed_in (cs ++ ds) =
-          ap (λ (ls : List (Line Pair)). pushed_in cs ++ records_in ls) b.lines_are ∙ ap (λ (xs : List Pair). pushed_in cs ++ xs) (lines-records script.workers limit ds (b.inside limit on.inside).0) ∙ sym (flat_map-append pushed_by cs ds) in
-          let asked : asks_in cs ++ asks ≡ asks_in (cs ++ ds) = ap (λ (xs : List Ask). asks_in cs ++ xs) b.asks_are ∙ sym (flat_map-append ask_by cs ds) in
-          let left_is : left_after pair_cmp limit left asks ≡ left_after pair_cmp limit queue.bag (asks_in (cs ++ ds)) =
-          sym (left_after-append limit queue.bag (asks_in cs) asks) ∙ ap (λ (xs : List Ask). left_after pair_cmp limit queue.bag xs) asked in
-          let popped : pops_in (asks_in cs) + pops_in asks ≡ pops_in (asks_in (cs ++ ds)) = sym (pops_in-append (asks_in cs) asks) ∙ ap pops_in asked in
-          let P : List Pair → Type 0 = λ xs. InLimits shown queue limit xs (left_after pair_cmp limit left asks) (pops_in (asks_in cs) + pops_in asks) new in
-          let Q : List Pair → Type 0 = λ xs. InLimits shown queue limit (pushed_in (cs ++ ds)) xs (pops_in (asks_in cs) + pops_in asks) new in
-          let R : ℕ → Type 0 = λ n. InLimits shown queue limit (pushed_in (cs ++ ds)) (left_after pair_cmp limit queue.bag (asks_in (cs ++ ds))) n new in
-          let T : List Command → Type 0 = λ xs. InLimits shown queue limit (pushed_in xs) (left_after pair_cmp limit queue.bag (asks_in xs)) (pops_in (asks_in xs)) new in
-          subst T (sym behind) (subst R popped (subst Q left_is (subst P given all)))
+      session_to : (queue : Holding Pair) (limit : Pair) → HasBegun shown queue limit old → HasDone shown queue limit (cs ++ first) new
+      session_to queue limit begun = ran.session queue limit cs (on.session queue limit begun)
 
       -- the text of the answers of the batch, and of those that are missing
       answered_to :
-          (queue : Holding Pair) → HasBegun shown queue old → AllTell queue.slots
-          → (missing : List (Option Pair)) × (answers_of limit queue.bag (between script from to) ≡ answers_of limit queue.bag cs ++ (answers_text answers ++ answers_text missing))
-      answered_to queue begun tells =
-          let left = left_after pair_cmp limit queue.bag (asks_in cs) in
-          let all = answers_to pair_cmp limit left (asks_in ds) in
+          (queue : Holding Pair) (limit : Pair) → HasBegun shown queue limit old → AllTell queue.slots
+          → (missing : List (Option Pair)) × (answers_of limit queue.bag (cs ++ first) ≡ answers_of limit queue.bag cs ++ (answers_text answers ++ answers_text missing))
+      answered_to queue limit begun tells =
+          let all = answers_to pair_cmp limit (left_after pair_cmp limit queue.bag (asks_in cs)) (asks_in first) in
           let n = length answers in
-          let are : answers ≡ take n all = ran.answers_are queue limit (pushed_in cs) left (pops_in (asks_in cs)) (on.session queue begun) tells ∙ ap (λ (xs : List Ask). take n (answers_to pair_cmp limit left xs)) b.asks_are in (
+          let are : answers ≡ take n all = ran.answers_are queue limit cs (on.session queue limit begun) tells in (
             drop n all,
-            ap (answers_of limit queue.bag) behind ∙ answers-append limit queue.bag cs ds
-                ∙ ap (λ (xs : List (Option Pair)). answers_of limit queue.bag cs ++ answers_text xs) (sym (take-append-drop n all))
+            answers-append limit queue.bag cs first ∙ ap (λ (xs : List (Option Pair)). answers_of limit queue.bag cs ++ answers_text xs) (sym (take-append-drop n all))
                 ∙ ap (λ (t : List ℕ). answers_of limit queue.bag cs ++ t) (flat_map-append limited_text (take n all) (drop n all) ∙ ap (λ (xs : List (Option Pair)). answers_text xs ++ answers_text (drop n all)) (sym are)),
           )
 
       -- all of them unless a call of a slot failed
       answered_all :
-          (queue : Holding Pair) → HasBegun shown queue old → AllTell queue.slots → new.front.failed ≡ None
-          → answers_of limit queue.bag (between script from to) ≡ answers_of limit queue.bag cs ++ answers_text answers
-      answered_all queue begun tells sound =
+          (queue : Holding Pair) (limit : Pair) → HasBegun shown queue limit old → AllTell queue.slots → new.front.failed ≡ None
+          → answers_of limit queue.bag (cs ++ first) ≡ answers_of limit queue.bag cs ++ answers_text answers
+      answered_all queue limit begun tells sound =
           let left = left_after pair_cmp limit queue.bag (asks_in cs) in
-          let all = answers_to pair_cmp limit left asks in
-          let full : length answers ≡ length all = ran.answered sound ∙ sym (length-answers_to limit left asks) in
-          let are : answers ≡ all = ran.answers_are queue limit (pushed_in cs) left (pops_in (asks_in cs)) (on.session queue begun) tells ∙ ap (λ (n : ℕ). take n all) full ∙ take-length all in
-          ap (answers_of limit queue.bag) behind ∙ answers-append limit queue.bag cs ds
-          ∙ ap (λ (xs : List (Option Pair)). answers_of limit queue.bag cs ++ answers_text xs) (ap (answers_to pair_cmp limit left) (sym b.asks_are) ∙ sym are)
+          let all = answers_to pair_cmp limit left (asks_in first) in
+          let full : length answers ≡ length all = ran.answered sound ∙ sym (length-answers_to limit left (asks_in first)) in
+          let are : answers ≡ all = ran.answers_are queue limit cs (on.session queue limit begun) tells ∙ ap (λ (n : ℕ). take n all) full ∙ take-length all in
+          answers-append limit queue.bag cs first ∙ ap (λ (xs : List (Option Pair)). answers_of limit queue.bag cs ++ answers_text xs) (sym are)
 
       module _ (printed : Gathers mid_told now mid_has (answers_text answers) has) where
-        gathered : (queue : Holding Pair) → HasBegun shown queue old → AllTell queue.slots → Gathers before now had (answers_of limit queue.bag cs ++ answers_text answers) has
-        gathered queue begun tells = gathers-more before mid_told now had mid_has has (answers_of limit queue.bag cs) (answers_text answers) (on.text queue begun tells) printed
+        gathered : (queue : Holding Pair) (limit : Pair) → HasBegun shown queue limit old → AllTell queue.slots → Gathers before now had (answers_of limit queue.bag cs ++ answers_text answers) has
+        gathered queue limit begun tells = gathers-more before mid_told now had mid_has has (answers_of limit queue.bag cs) (answers_text answers) (on.text queue limit begun tells) printed
 
-        gathered_all : new.front.failed ≡ None → (queue : Holding Pair) → HasBegun shown queue old → AllTell queue.slots → Gathers before now had (answers_of limit queue.bag (between script from to)) has
-        gathered_all sound queue begun tells =
+        gathered_all : new.front.failed ≡ None → (queue : Holding Pair) (limit : Pair) → HasBegun shown queue limit old → AllTell queue.slots → Gathers before now had (answers_of limit queue.bag (cs ++ first)) has
+        gathered_all sound queue limit begun tells =
             let P : List ℕ → Type 0 = λ t. Gathers before now had t has in
-            subst P (sym (answered_all queue begun tells sound)) (gathered queue begun tells)
+            subst P (sym (answered_all queue limit begun tells sound)) (gathered queue limit begun tells)
 
-        pub going-more : AreGoing new → IsGoingOn to now has new
+        pub going-more : AreGoing new → IsGoingOn behind now has new
         going-more going = record {
-          forward = forward;
-          lines = lines_to;
-          inside = inside_to;
+          done = cs ++ first;
+          all = all_to;
           going = going;
-          sizes = ran.sizes ∙ on.sizes;
-          limit_is = ran.limit_is ∙ on.limit_is;
           session = session_to;
           text = gathered_all going.front;
         }
 
-        pub runs-stopped : HasStopped new → RunsLines shown script from before now had has old new
+        pub runs-stopped : HasStopped new → RunsLines shown whole before now had has old new
         runs-stopped stopped = record {
-          lines = between script from to;
-          rest = up_to_end (drop to (command_list script));
-          all = session-split script limit from to forward lines_to inside_to;
-          some = session-some script limit from to forward lines_to inside_to;
-          inside = lines_to;
+          lines = cs ++ first;
+          rest = behind;
+          all = all_to;
           session = session_to;
           part =
-              λ queue begun tells.
-              let a = answered_to queue begun tells in
+              λ queue limit begun tells.
+              let a = answered_to queue limit begun tells in
               record {
                 part = answers_of limit queue.bag cs ++ answers_text answers;
                 rest = answers_text a.0;
                 all = a.1 ∙ sym (append_assoc (answers_of limit queue.bag cs) (answers_text answers) (answers_text a.0));
-                gathers = gathered queue begun tells;
+                gathers = gathered queue limit begun tells;
               };
           text = gathered_all;
           end = λ going. absurd (going-not_stopped new going stopped);
         }
 
-      pub breaks-off : TakesPart mid_told now (mid_has ++ answers_text answers) → BreaksOff shown script from before now had old new
+      pub breaks-off : TakesPart mid_told now (mid_has ++ answers_text answers) → BreaksOff shown whole before now had old new
       breaks-off took = record {
-        session = λ queue begun. (pushed_in (between script from to), left_after pair_cmp limit queue.bag (asks_in (between script from to)), (pops_in (asks_in (between script from to)), session_to queue begun));
+        session = λ queue limit begun. (cs ++ first, session_to queue limit begun);
         text =
-            λ queue begun tells.
-            let a = answered_to queue begun tells in
-            let rest = up_to_end (drop to (command_list script)) in
-            let first = answers_of limit queue.bag cs in
-            let later = answers_of limit (left_after pair_cmp limit queue.bag (asks_in (between script from to))) rest in
+            λ queue limit begun tells.
+            let a = answered_to queue limit begun tells in
+            let done = answers_of limit queue.bag cs in
+            let later = answers_of limit (left_after pair_cmp limit queue.bag (asks_in (cs ++ first))) behind in
             let P : List ℕ → Type 0 = λ t. TakesPart before now (had ++ t) in
-            let all : answers_of limit queue.bag (up_to_end (drop from (command_list script))) ≡ first ++ (answers_text answers ++ (answers_text a.0 ++ later)) =
-            ap (answers_of limit queue.bag) (session-split script limit from to forward lines_to inside_to) ∙ answers-append limit queue.bag (between script from to) rest ∙ ap (λ (t : List ℕ). t ++ later) a.1
-            ∙ append_assoc first (answers_text answers ++ answers_text a.0) later ∙ ap (λ (t : List ℕ). first ++ t) (append_assoc (answers_text answers) (answers_text a.0) later) in
-            subst P (sym all) (sink-part before mid_told now had mid_has first (answers_text answers) (answers_text a.0 ++ later) (on.text queue begun tells) took);
+            let all : answers_of limit queue.bag whole ≡ done ++ (answers_text answers ++ (answers_text a.0 ++ later)) =
+            ap (answers_of limit queue.bag) all_to ∙ answers-append limit queue.bag (cs ++ first) behind ∙ ap (λ (t : List ℕ). t ++ later) a.1
+            ∙ append_assoc done (answers_text answers ++ answers_text a.0) later ∙ ap (λ (t : List ℕ). done ++ t) (append_assoc (answers_text answers) (answers_text a.0) later) in
+            subst P (sym all) (sink-part before mid_told now had mid_has done (answers_text answers) (answers_text a.0 ++ later) (on.text queue limit begun tells) took);
       }

@@ -9,42 +9,18 @@ use Rattle.ppq_load.specs.ppq_budget.Sizes.{Numbers}
 use Rattle.ppq_load.specs.ppq_array.Kept.{all_writes}
 use Rattle.ppq_script.specs.declared.command.Command.{Command}
 use Rattle.ppq_script.specs.declared.command.Command.TheVariants.{Push, Pop, Top, Size, Bulk, Gen, BulkPop, Drain, BulkBegin, BulkPush, BulkEnd, LimitBegin, LimitPush, LimitTop, LimitEnd}
+use Rattle.ppq_script.specs.declared.part.Part.{Part}
 use Rattle.ppq_script.specs.declared.session.Session.{Session}
 use Rattle.ppq_script.specs.declared.session.Session.TheVariants.{Outside}
-use Rattle.ppq_script.specs.Sessions.{turn_of}
+use Rattle.ppq_script.specs.Parts.{commands_in, HasItsLines}
 use Rattle.ppq_engine.specs.Loads.{none_go, all_go, size_after, size_from, greatest_from, settled_from, most_of, least_of, is_limit_begin, begins_limit, FitsWritten}
 use Rattle.ppq_engine.specs.Running.{HasSizes}
-use Rattle.ppq_engine.proofs.Parts.{IsPart}
-use Rattle.ppq_engine.proofs.Lines.{session_from, part-settled}
-use Rattle.ppq_engine.proofs.Running.{take-fewer}
-
--- whether a limit session was begun
-pub begins-append : (cs ds : List Command) → begins_limit (cs ++ ds) ≡ (begins_limit cs || begins_limit ds)
-begins-append [] ds = refl
-begins-append (c ∷ cs) ds = ap (λ b. is_limit_begin c || b) (begins-append cs ds) ∙ sym (or_assoc (is_limit_begin c) (begins_limit cs) (begins_limit ds))
-
--- where none of the commands begins one, none of the first of them does
-begins-first : (cs ds : List Command) → begins_limit (cs ++ ds) ≡ false → begins_limit cs ≡ false
-begins-first cs ds e = (or_parts (begins_limit cs) (begins_limit ds) (sym (begins-append cs ds) ∙ e)).0
-
-pub begins-take : (k j : ℕ) (cs : List Command) → k ≤ j → begins_limit (take j cs) ≡ false → begins_limit (take k cs) ≡ false
-begins-take k j cs h e = begins-first (take k cs) (take (j - k) (drop k cs)) (ap begins_limit (sym (take-fewer k j cs h)) ∙ e)
-
-pub begins-take_all : (k : ℕ) (cs : List Command) → begins_limit cs ≡ false → begins_limit (take k cs) ≡ false
-begins-take_all k cs e = begins-first (take k cs) (drop k cs) (ap begins_limit (take-append-drop k cs) ∙ e)
+use Rattle.ppq_engine.proofs.Lines.{session_from, size_from-append, settled_from-append, part-settled}
 
 module _ (leaves : ℕ → ℕ → ℕ) where
-  size_from-append : (size : ℕ) (cs ds : List Command) → size_from leaves size (cs ++ ds) ≡ size_from leaves (size_from leaves size cs) ds
-  size_from-append size [] ds = refl
-  size_from-append size (c ∷ cs) ds = size_from-append (size_after leaves size c) cs ds
-
   greatest_from-append : (size : ℕ) (cs ds : List Command) → greatest_from leaves size (cs ++ ds) ≡ max (greatest_from leaves size cs) (greatest_from leaves (size_from leaves size cs) ds)
   greatest_from-append size [] ds = omega arith
   greatest_from-append size (c ∷ cs) ds = omega (arith, greatest_from-append (size_after leaves size c) cs ds)
-
-  settled_from-append : (size : ℕ) (session : Session) (cs ds : List Command) → settled_from leaves size session (cs ++ ds) ≡ max (settled_from leaves size session cs) (settled_from leaves (size_from leaves size cs) (session_from session cs) ds)
-  settled_from-append size session [] ds = omega arith
-  settled_from-append size session (c ∷ cs) ds = omega (arith, settled_from-append (size_after leaves size c) (unwrap_or (turn_of c) session) cs ds)
 
   -- the last size is no more than the greatest, or than the size before
   size-le-greatest : (size : ℕ) (cs : List Command) → size_from leaves size cs ≤ max size (greatest_from leaves size cs)
@@ -101,10 +77,11 @@ peak-part size peak higher sizes slots cs part has up =
 
 -- a part more was run
 pub sizes-part :
-    (size next peak higher : ℕ) (sizes : Numbers) (slots later : List Shown) (cs part : List Command) → IsPart part → session_from Outside cs ≡ Outside
-    → HasSizes size peak sizes slots cs → size_from all_go size part ≤ next → next ≤ size_from none_go size part → higher ≤ max peak (size_from none_go size part) → FitsWritten next sizes later → all_writes slots ≤ all_writes later
-    → HasSizes next higher sizes later (cs ++ part)
-sizes-part size next peak higher sizes slots later cs part is closed has low high up fits more =
+    (size next peak higher : ℕ) (sizes : Numbers) (slots later : List Shown) (cs : List Command) (p : Part) (workers : ℕ) → HasItsLines workers p → session_from Outside cs ≡ Outside
+    → HasSizes size peak sizes slots cs → size_from all_go size (commands_in p) ≤ next → next ≤ size_from none_go size (commands_in p) → higher ≤ max peak (size_from none_go size (commands_in p)) → FitsWritten next sizes later → all_writes slots ≤ all_writes later
+    → HasSizes next higher sizes later (cs ++ commands_in p)
+sizes-part size next peak higher sizes slots later cs p workers is closed has low high up fits more =
+    let part = commands_in p in
     let least = size_from all_go 0 cs in
     let below = all_go-mono_from least size part has.low in
     let above = none_go-mono_from size (size_from none_go 0 cs) part has.high in
@@ -113,5 +90,5 @@ sizes-part size next peak higher sizes slots later cs part is closed has low hig
       high = omega (arith, above, high, size_from-append none_go 0 cs part);
       highest = peak-part size peak higher sizes slots cs part has up;
       crest =
-          omega (arith, below, low, fits, fits-more (least_of cs) sizes slots later has.crest more, part-settled all_go least part is, ap (λ (s : Session). settled_from all_go least s part) closed, settled_from-append all_go 0 Outside cs part);
+          omega (arith, below, low, fits, fits-more (least_of cs) sizes slots later has.crest more, part-settled all_go least p workers is, ap (λ (s : Session). settled_from all_go least s part) closed, settled_from-append all_go 0 Outside cs part);
     }

@@ -10,13 +10,14 @@ use Rattle.ppq_script.proofs.ppq_outside.Takes.{takes_nothing}
 use Rattle.ppq_load.specs.ppq_budget.Sizes.{Numbers}
 use Rattle.ppq_load.specs.ppq_array.Kept.{all_writes}
 use Rattle.ppq_script.specs.declared.command.Command.{Command}
+use Rattle.ppq_script.specs.declared.part.Part.{Part}
+use Rattle.ppq_script.specs.Parts.{commands_in, first_in, HasItsLines}
 use Rattle.ppq_engine.specs.Loads.{none_go, size_from, FitsWritten}
 use Rattle.ppq_engine.specs.Output.{State, outside, state_from, state_of, bag_of, output_of, output_from, load_from, load_of, crest_from, crest_of}
 use Rattle.ppq_engine.specs.Gathers.{Gathers}
 use Rattle.ppq_engine.specs.Running.{IsGathered, HasRun, IsCut}
 use Rattle.ppq_engine.proofs.Sizes.{fits-more}
-use Rattle.ppq_engine.proofs.Parts.{IsPart}
-use Rattle.ppq_engine.proofs.Lines.{FirstHasLength, part-closed, part-crest, part-grows}
+use Rattle.ppq_engine.proofs.Lines.{HasLength, part-closed, part-crest, part-grows}
 use Rattle.ppq_engine.proofs.Running.{outside-same, output_from-same, state_from-same, state_from-append, output_from-append, load_from-append, crest_from-append, bag_of-le, gathered-more}
 
 regroup : (out text part rest behind : List ℕ) → text ≡ part ++ rest → (out ++ text) ++ behind ≡ (out ++ part) ++ (rest ++ behind)
@@ -53,13 +54,16 @@ module _ (given : ℕ → List Pair) (before : Option (List ℕ)) where
     crest-behind : (xs : List Command) → crest_of given (cs ++ xs) ≡ max (crest_of given cs) (crest_from given (outside (bag_of given cs)) xs)
     crest-behind xs = crest_from-append given (outside []) cs xs ∙ ap (λ (s : State). max (crest_of given cs) (crest_from given s xs)) run.closed
 
-    module _ (part : List Command) (is : IsPart part) (long : FirstHasLength given part) where
+    module _ (p : Part) (workers : ℕ) (is : HasItsLines workers p) (long : HasLength given (first_in p)) where
+      abbrev part : List Command
+      part = commands_in p
+
       -- the peak that the first commands of a part are to reach is no more than the load with them
       pub peak-run : (higher n : ℕ) → higher ≤ max peak (size_from none_go size (take n part)) → higher ≤ load_of given (cs ++ take n part)
       peak-run higher n up =
           let xs = take n part in
           let all = bag_of given cs in
-          omega (arith, up, ap (λ (m : ℕ). size_from none_go m xs) run.counted, run.highest, part-grows given all part n is long, bag_of-le given cs, load-behind xs)
+          omega (arith, up, ap (λ (m : ℕ). size_from none_go m xs) run.counted, run.highest, part-grows given all n p workers is long, bag_of-le given cs, load-behind xs)
 
       -- a part more was run
       pub run-part :
@@ -72,18 +76,18 @@ module _ (given : ℕ → List Pair) (before : Option (List ℕ)) where
           let all = bag_of given cs in
           let behind = state-behind part in
           let moved = state_from-same given (outside bag) (outside all) part (outside-same bag all run.holds) in
-          let holds : IsSameBag next (state_from given (outside all) part).bag = λ p. same p ∙ moved.bag p in
+          let holds : IsSameBag next (state_from given (outside all) part).bag = λ q. same q ∙ moved.bag q in
           let here : new_size ≡ length (state_from given (outside all) part).bag = sym sized ∙ IsSameBag-length next (state_from given (outside all) part).bag holds in
           let whole : take (length part) part ≡ part = take-length part in
           let Up : List Command → Type 0 = λ xs. higher ≤ max peak (size_from none_go size xs) in
           let Load : List Command → Type 0 = λ xs. higher ≤ load_of given (cs ++ xs) in
           record {
-            closed = behind ∙ part-closed given all part is ∙ ap (λ (s : State). outside s.bag) (sym behind);
+            closed = behind ∙ part-closed given all p workers is ∙ ap (λ (s : State). outside s.bag) (sym behind);
             output = subst P (sym (output-behind part)) (gathered-more before mid now had has (output_of given cs) (output_from given (outside bag) part) run.output step);
-            holds = λ p. holds p ∙ ap (λ (s : State). count_by p s.bag) (sym behind);
+            holds = λ q. holds q ∙ ap (λ (s : State). count_by q s.bag) (sym behind);
             counted = here ∙ ap (λ (s : State). length s.bag) (sym behind);
             highest = subst Load whole (peak-run higher (length part) (subst Up (sym whole) up));
-            crest = omega (arith, fits, here, part-crest given all part is, fits-more (crest_of given cs) sizes slots later run.crest more, crest-behind part);
+            crest = omega (arith, fits, here, part-crest given all p workers is, fits-more (crest_of given cs) sizes slots later run.crest more, crest-behind part);
           }
 
     -- the first commands of a part were run, and of what they and the rest print the beginning is gathered

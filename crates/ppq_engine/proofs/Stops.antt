@@ -8,6 +8,8 @@ use Rattle.ppq_script.specs.ppq_outside.Told.{Reply, TakesAll, TakesPart}
 use Rattle.ppq_script.proofs.ppq_outside.Takes.{part_of_more, all_is_part}
 use Rattle.ppq_load.specs.ppq_budget.Sizes.{Numbers}
 use Rattle.ppq_script.specs.declared.command.Command.{Command}
+use Rattle.ppq_script.specs.declared.part.Part.{Part}
+use Rattle.ppq_script.specs.Parts.{commands_in, first_in, IsPartAt}
 use Rattle.ppq_script.specs.Reading.{Reading, command_list, line_list}
 use Rattle.ppq_load.specs.Refusal.{HasNoRoom, IsRefusedBy}
 use Rattle.ppq_load.proofs.Refusals.{room-not_none, no_room-later, cause-later}
@@ -26,10 +28,10 @@ use Rattle.ppq_engine.specs.declared.stop.Stop.TheVariants.{Sink, Queue, Read, M
 use Rattle.ppq_load.specs.ppq_array.declared.store_fault.StoreFault.{StoreFault as QueueFault}
 use Rattle.ppq_load.specs.ppq_array.declared.store_fault.StoreFault.TheVariants.{NoFreeBlock, Device}
 use Rattle.ppq_engine.specs.Gathers.{Gathers}
-use Rattle.ppq_engine.proofs.Parts.{IsPart, take-part_of}
-use Rattle.ppq_engine.proofs.Lines.{FirstHasLength, part-begins}
+use Rattle.ppq_engine.proofs.Parts.{take-part, take-part_of}
+use Rattle.ppq_engine.proofs.Lines.{HasLength, begins-append, begins-take, begins-take_all, part-begins}
 use Rattle.ppq_engine.proofs.Running.{take-fewer, output_from-append, load-take, load-take_all, gathered-all, gathered-part, part-behind, at_least}
-use Rattle.ppq_engine.proofs.Sizes.{peak-part, greatest-take_all, begins-append, begins-take, begins-take_all}
+use Rattle.ppq_engine.proofs.Sizes.{peak-part, greatest-take_all}
 use Rattle.ppq_engine.proofs.Steps.{peak-run, output-behind, run-cut}
 
 -- a cut output: what is put of it is a part of all, or the output of the first commands
@@ -73,12 +75,17 @@ around commands i part split = sym (take-append-drop (i + length part) commands)
 module _ (told : Option (List ℕ → Option (List ℕ))) (script : Reading) (first : List Shown) (before : Option (List ℕ)) where
   -- a part at a place that did not run to its end
   module _
-      (mid now : Option (List ℕ)) (had has : List ℕ) (bag : List Pair) (size peak : ℕ) (sizes : Numbers) (slots held later : List Shown) (limited : Bool) (i : ℕ) (command : Command) (part : List Command)
-      (is : IsPart part) (here : slice_get (command_list script) i ≡ Some command) (split : take (i + length part) (command_list script) ≡ take i (command_list script) ++ part) (block : 0 < sizes.block)
+      (mid now : Option (List ℕ)) (had has : List ℕ) (bag : List Pair) (size peak : ℕ) (sizes : Numbers) (slots held later : List Shown) (limited : Bool) (i : ℕ) (p : Part) (here : IsPartAt script i p) (block : 0 < sizes.block)
       (tell : AllTell first → AllTell held) (begun : limited ≡ begins_limit (take i (command_list script)))
-      (long : (files : List ℕ → Option (List ℕ)) → AreFilesOf told script files → FirstHasLength (given_of files script) part)
+      (long : (files : List ℕ → Option (List ℕ)) → AreFilesOf told script files → HasLength (given_of files script) (first_in p))
       (run : AllTell first → (files : List ℕ → Option (List ℕ)) → AreFilesOf told script files → HasRun (given_of files script) before mid had bag size peak sizes slots (take i (command_list script)))
       (sized : HasSizes size peak sizes slots (take i (command_list script))) where
+    abbrev part : List Command
+    part = commands_in p
+
+    split : take (i + length part) (command_list script) ≡ take i (command_list script) ++ part
+    split = take-part (command_list script) i part here.whole
+
     -- nothing of it is gathered
     before-part : (given : ℕ → List Pair) → HasRun given before mid had bag size peak sizes slots (take i (command_list script)) → Gathers mid now had [] has → IsCut given before now has (command_list script) i []
     before-part given ran step =
@@ -92,14 +99,14 @@ module _ (told : Option (List ℕ → Option (List ℕ))) (script : Reading) (fi
       next : take (done + 1) (command_list script) ≡ take i (command_list script) ++ take (refused.done + 1) part
       next =
           let sum : done + 1 ≡ i + (refused.done + 1) = omega arith in
-          ap (λ (n : ℕ). take n (command_list script)) sum ∙ take-part_of (command_list script) i (refused.done + 1) part split (omega (arith, refused.within))
+          ap (λ (n : ℕ). take n (command_list script)) sum ∙ take-part_of (command_list script) i part here.whole (refused.done + 1) (omega (arith, refused.within))
 
       -- the commands up to the one that was refused begin a limit session if the queue knows of one
       flag : (limited || begins_limit part) ≡ begins_limit (take (done + 1) (command_list script))
       flag =
           let cs = take i (command_list script) in
           let xs = take (refused.done + 1) part in
-          ap₂ (λ (a b : Bool). a || b) begun (sym (part-begins refused.done part is)) ∙ sym (begins-append cs xs) ∙ ap begins_limit (sym next)
+          ap₂ (λ (a b : Bool). a || b) begun (sym (part-begins refused.done p script.workers here.lines)) ∙ sym (begins-append cs xs) ∙ ap begins_limit (sym next)
 
       cause-with : (count : List Command → ℕ) → max peak (size_from none_go size (take (refused.done + 1) part)) ≤ count (take i (command_list script) ++ take (refused.done + 1) part)
           → IsRefusedBy (count (take (done + 1) (command_list script))) sizes (begins_limit (take (done + 1) (command_list script))) later fault
@@ -122,13 +129,13 @@ module _ (told : Option (List ℕ → Option (List ℕ))) (script : Reading) (fi
                 let c = refused.cut (tell tells) given in (
                   c.text,
                   run-cut given before mid had bag size peak sizes slots cs (run tells files are) now has commands part (take n part) (drop (i + length part) commands) done c.text c.rest
-                      (around commands i part split) (take-part_of commands i n part split (omega (arith, refused.within))) c.all c.gathers,
+                      (around commands i part split) (take-part_of commands i part here.whole n (omega (arith, refused.within))) c.all c.gathers,
                 );
-            cause = λ tells files are. let given = given_of files script in cause-with (load_of given) (peak-run given before mid had bag size peak sizes slots cs (run tells files are) part is (long files are) higher (n + 1) (omega arith));
+            cause = λ tells files are. let given = given_of files script in cause-with (load_of given) (peak-run given before mid had bag size peak sizes slots cs (run tells files are) p script.workers here.lines (long files are) higher (n + 1) (omega arith));
             any = cause-with most_of (peak-part size peak higher sizes slots cs (take (n + 1) part) sized (omega arith));
           }
 
-    pub stopped-part : (stop : Stop) → PartStops held mid now had bag size peak part sizes (limited || begins_limit part) later has stop → IsOfFile command stop → HasStopped told script first before now has sizes later stop
+    pub stopped-part : (stop : Stop) → PartStops held mid now had bag size peak part sizes (limited || begins_limit part) later has stop → IsOfFile (first_in p) stop → HasStopped told script first before now has sizes later stop
     stopped-part Sink stops of_file = λ tells files are.
         let given = given_of files script in
         let commands = command_list script in
@@ -145,13 +152,13 @@ module _ (told : Option (List ℕ → Option (List ℕ))) (script : Reading) (fi
       done = i;
       file = of_file.0;
       size = of_file.1.0;
-      here = here ∙ ap (λ (c : Command). Some c) of_file.1.1;
+      here = here.first ∙ ap (λ (c : Command). Some c) of_file.1.1;
       cut = λ tells files are. before-part (given_of files script) (run tells files are) (stops (tell tells));
     }
     stopped-part Memory stops of_file = record {
       done = i;
-      command = command;
-      here = here;
+      command = first_in p;
+      here = here.first;
       loads = of_file;
       cut = λ tells files are. before-part (given_of files script) (run tells files are) (stops (tell tells));
     }
@@ -159,7 +166,7 @@ module _ (told : Option (List ℕ → Option (List ℕ))) (script : Reading) (fi
       done = i;
       file = of_file.0;
       size = of_file.1.0;
-      here = here ∙ ap (λ (c : Command). Some c) of_file.1.1;
+      here = here.first ∙ ap (λ (c : Command). Some c) of_file.1.1;
       cut = λ tells files are. before-part (given_of files script) (run tells files are) (stops (tell tells));
     }
 
@@ -289,24 +296,22 @@ not-by_limit Sink by = tt
 not-by_limit (Queue fault) by = tt
 not-by_limit _ by = absurd by
 
--- a stop by a session says nothing of files, and leaves the sink alone
-pub session_of_file : (command : Command) (stop : Stop) → IsLoad command → IsBySession stop → IsOfFile command stop
-session_of_file command (Queue fault) loads by = tt
-session_of_file command Memory loads by = loads
-session_of_file command _ loads by = absurd by
-
+-- a stop by a session is one by a load of a file, and one by a limit session
 pub session_by_file : (stop : Stop) → IsBySession stop → IsByFile stop
-session_by_file (Queue fault) by = tt
-session_by_file Memory by = tt
-session_by_file _ by = absurd by
+session_by_file Sink by = absurd by
+session_by_file _ by = tt
+
+pub session-by_limit : (stop : Stop) → IsBySession stop → IsByLimit stop
+session-by_limit (Queue fault) by = tt
+session-by_limit Memory by = tt
+session-by_limit _ by = absurd by
 
 -- a stop by a limit session says nothing of files, and asks no library
 pub limit_of_file : (command : Command) (stop : Stop) → IsLoad command → IsByLimit stop → IsOfFile command stop
 limit_of_file command Sink loads by = tt
 limit_of_file command (Queue fault) loads by = tt
-limit_of_file command Read loads by = absurd by
 limit_of_file command Memory loads by = loads
-limit_of_file command (Changed line said got) loads by = absurd by
+limit_of_file command _ loads by = absurd by
 
 pub limit_not_changed : (told : Option (List ℕ → Option (List ℕ))) (replied : Reply → Type 0) (script : Reading) (stop : Stop) → IsByLimit stop → ChangedIn told replied script stop
 limit_not_changed told replied script Read by = absurd by

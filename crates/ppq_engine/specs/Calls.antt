@@ -7,11 +7,10 @@ use Rattle.ppq_script.specs.ppq_outside.declared.slot.Slot.{Ghosts}
 use Rattle.ppq_script.specs.ppq_outside.Told.{Reply, Remembers, RepliesOnly, TakesPart, HasOneCause}
 use Rattle.ppq_load.specs.ppq_array.Kept.{SameSlots, AreQuiet}
 use Rattle.ppq_script.specs.declared.command.Command.{Command}
-use Rattle.ppq_script.specs.declared.session.Session.{Session}
-use Rattle.ppq_script.specs.declared.session.Session.TheVariants.{Outside}
+use Rattle.ppq_script.specs.declared.part.Part.{Part}
 use Rattle.ppq_script.specs.Files.{NamesFile, HasRecords}
 use Rattle.ppq_script.specs.Reading.{Reading, command_list}
-use Rattle.ppq_script.specs.Sessions.{are_in_place}
+use Rattle.ppq_script.specs.Parts.{first_in, HasItsLines}
 use Rattle.ppq_load.specs.ppq_queue.Holding.{Holding}
 use Rattle.ppq_load.specs.ppq_array.declared.store_fault.StoreFault.{StoreFault as QueueFault}
 use Rattle.ppq_load.specs.Refusal.{Keeps, IsRefusedBy}
@@ -20,7 +19,6 @@ use Rattle.ppq_engine.specs.Gathers.{Gathers}
 use Rattle.ppq_engine.specs.Loads.{none_go, all_go, size_after, size_from, least_of, begins_limit, FitsWritten}
 use Rattle.ppq_engine.specs.Output.{AreFilesOf, TellsLengths, given_of, outside, text_of, after, output_from, state_from, output_of, crest_of}
 use Rattle.ppq_engine.specs.Outcome.{EndSays, FaultBeforeFile}
-use Rattle.ppq_engine.specs.Parts.{part_at}
 use Rattle.ppq_engine.specs.Popping.{NotByFile, IsRound}
 use Rattle.ppq_engine.specs.Running.{IsGathered, WritesPart, StopsFor, PartStops, behind_part, IsOfFile, ChangedIn, SinkAfter, LibraryAfter}
 use Rattle.ppq_engine.specs.declared.end.End.{End}
@@ -100,23 +98,15 @@ pub record LibraryCounts {T : Type 0} (files files_now : Option (List ℕ → Op
   pub cause : IfErr result (LibraryAfter before now)
   pub changed : IfErr result (ChangedIn files replied_now script)
 
--- a command that stands at this place of a script, where no session is open, and a queue that may run it: of the script's workers, and no call
+-- a part that begins at this place of a script, where no session is open, and a queue that may run it: of the script's workers, and no call
 -- of a slot of it failed
-pub record IsTurn (script : Reading) (queue : Holding Pair) (place : ℕ) (command : Command) : Type 0 where
+pub record IsTurn (script : Reading) (queue : Holding Pair) (place : ℕ) (part : Part) : Type 0 where
   pub place_is : place < length script.commands
-  pub here : slice_get (command_list script) place ≡ Some command
-  pub fits : length script.commands < 2 ^ 64
-  pub in_place : are_in_place script.workers Outside (drop place (command_list script)) ≡ true
-  pub file : NamesFile (length script.names) command
-  pub records : HasRecords command
-  pub workers : script.workers ≡ queue.sizes.workers
+  pub first : slice_get (command_list script) place ≡ Some (first_in part)
+  pub lines : HasItsLines queue.sizes.workers part
+  pub file : NamesFile (length script.names) (first_in part)
+  pub records : HasRecords (first_in part)
   pub sound : queue.failed ≡ None
-
--- behind this place of a script a session is open
-pub record IsOpenAt (script : Reading) (at : ℕ) (session : Session) : Type 0 where
-  pub inside : are_in_place script.workers session (drop (at + 1) (command_list script)) ≡ true
-  pub place : at < length script.commands
-  pub fits : length script.commands < 2 ^ 64
 
 -- what one command did to the queue where it ran to its end
 pub record RunsStep (told : Option (List ℕ → Option (List ℕ))) (script : Reading) (old new : Holding Pair) (command : Command) : Type 0 where
@@ -157,17 +147,15 @@ pub record Lends {S : Type 0} {slot : Ghosts S} (before now : Option (List ℕ))
       ((given : ℕ → List Pair) → Leaves old.queue new.queue (after given (outside old.queue.bag) command).bag (size_after all_go old.queue.size command) (size_after none_go old.queue.size command))
   pub lent : IsLent old.queue new.queue (max old.queue.peak (size_after none_go old.queue.size command)) result
 
--- the commands that run together from this place of a script on, of which this is the first, whatever is answered: what they did and the place
--- behind them, or why they stopped
-pub record Goes (files : Option (List ℕ → Option (List ℕ))) (script : Reading) (place : ℕ) (command : Command) (before now : Option (List ℕ)) (old new : Holding Pair) (had has : List ℕ) (result : Result ℕ Stop) : Type 0 where
-  pub next : IfOk result (λ next. next ≡ place + length (part_at script place))
-  pub runs : OnOk result (RunsPart files script old new before now had has (part_at script place))
-  pub stopped : IfErr result (StopsPart old new before now had has command (part_at script place))
+-- commands that run together, of which this is the first, whatever is answered: what they did, or why they stopped
+pub record Goes (files : Option (List ℕ → Option (List ℕ))) (script : Reading) (first : Command) (part : List Command) (before now : Option (List ℕ)) (old new : Holding Pair) (had has : List ℕ) (result : Result ⊤ Stop) : Type 0 where
+  pub runs : OnOk result (RunsPart files script old new before now had has part)
+  pub stopped : IfErr result (StopsPart old new before now had has first part)
   pub slots : SameSlots old.slots new.slots
 
 -- the same of commands that need no file and print nothing
-pub record GoesAlone (script : Reading) (place : ℕ) (command : Command) (old new : Holding Pair) (had has : List ℕ) (result : Result ℕ Stop) : Type 0 where
-  pub goes : (files : Option (List ℕ → Option (List ℕ))) (put : Option (List ℕ)) → Goes files script place command put put old new had has result
+pub record GoesAlone (script : Reading) (first : Command) (part : List Command) (old new : Holding Pair) (had has : List ℕ) (result : Result ⊤ Stop) : Type 0 where
+  pub goes : (files : Option (List ℕ → Option (List ℕ))) (put : Option (List ℕ)) → Goes files script first part put put old new had has result
   pub by_session : IfErr result IsBySession
 
 -- a checked script of whose files the library tells the lengths that it keeps, and a queue for its workers that nothing was done with

@@ -15,7 +15,6 @@ pub mod Limits
 pub mod Loads
 pub mod Outcome
 pub mod Output
-pub mod Parts
 pub mod Popping
 pub mod Pushes
 pub mod Running

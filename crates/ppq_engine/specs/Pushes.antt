@@ -1,28 +1,50 @@
--- Lines of a bulk session, and how they are given to its passes.
-use Rattle.std.specs.Prelude.{◌≡◌, ◌<◌, ◌+◌, ℕ, true, List, ◌∷◌, ◌++◌, drop}
+-- What the lines of a session push, and how they are given to the passes of a bulk session.
+use Rattle.std.specs.Prelude.{◌≡◌, List, [], ◌∷◌, ◌++◌, flat_map, All}
 use Rattle.ppq_script.specs.ppq_record.declared.pair.Pair.{Pair}
 use Rattle.ppq_script.specs.ppq_outside.Shown.{Shown}
-use Rattle.ppq_script.specs.declared.command.Command.TheVariants.{BulkPush, BulkEnd}
-use Rattle.ppq_script.specs.declared.session.Session.TheVariants.{InBulk}
-use Rattle.ppq_script.specs.Sessions.{are_in_place}
-use Rattle.ppq_script.specs.Reading.{Reading, command_list}
+use Rattle.ppq_script.specs.declared.command.Command.{Command}
+use Rattle.ppq_script.specs.declared.command.Command.TheVariants.{Push, Pop, Top, Size, Bulk, Gen, BulkPop, BulkPopLimit, Drain, BulkBegin, BulkPush, BulkEnd, LimitBegin, LimitPush, LimitTop, LimitPop, LimitEnd}
 use Rattle.ppq_load.specs.ppq_queue.Holding.{Holding}
 use Rattle.ppq_load.specs.ppq_session.declared.line.Line.{Line}
+use Rattle.ppq_load.specs.ppq_session.Dealing.{IsGoing, records_in}
 use Rattle.ppq_load.specs.Loading.{LoadHolding, InSession}
 
--- the command at a place of a bulk session pushes this record by this pass, and the session goes on behind it
-pub record IsPushAt (script : Reading) (place : ℕ) (line : Line Pair) : Type 0 where
-  pub here : drop place (command_list script) ≡ BulkPush line.pass line.record ∷ drop (place + 1) (command_list script)
-  pub named : line.pass < script.workers
-  pub inside : are_in_place script.workers InBulk (drop (place + 1) (command_list script)) ≡ true
+-- the line of a pass that a command of a session is
+abbrev pub line_by : Command → List (Line Pair)
+line_by (Push item) = []
+line_by Pop = []
+line_by Top = []
+line_by Size = []
+line_by (Bulk file size) = []
+line_by (Gen seed count) = []
+line_by (BulkPop count) = []
+line_by (BulkPopLimit limit count) = []
+line_by (Drain count) = []
+line_by BulkBegin = []
+line_by (BulkPush pass item) = record { pass = pass; «record» = item } ∷ []
+line_by BulkEnd = []
+line_by (LimitBegin limit) = []
+line_by (LimitPush pass item) = record { pass = pass; «record» = item } ∷ []
+line_by LimitTop = []
+line_by LimitPop = []
+line_by LimitEnd = []
 
--- the command there ends it
-abbrev pub IsEndAt : Reading → ℕ → Type 0
-IsEndAt script place = drop place (command_list script) ≡ BulkEnd ∷ drop (place + 1) (command_list script)
+-- the same of commands
+abbrev pub lines_in : List Command → List (Line Pair)
+lines_in commands = flat_map line_by commands
 
--- of the records that were to be given to the passes of a session the first were given, and these are left
-pub record GivesFirst {S : Type 0} (shown : S → Shown) (were left : List Pair) (old new : LoadHolding S) : Type 0 where
-  pub given : List Pair
-  pub all : were ≡ given ++ left
-  pub session : (queue : Holding Pair) (records : List Pair) → InSession shown queue records old → InSession shown queue (records ++ given) new
-  pub bulk : new.bulk ≡ old.bulk
+-- the records that they push
+abbrev pub pushed_in : List Command → List Pair
+pushed_in commands = records_in (lines_in commands)
+
+-- of the lines of a bulk session these are left, and the records of the others were given to its passes
+pub record IsPushing {S : Type 0} (shown : S → Shown) (lines rest : List Command) (old new : LoadHolding S) : Type 0 where
+  pub given : List Command
+  pub all : lines ≡ given ++ rest
+  pub session : (queue : Holding Pair) → InSession shown queue [] old → InSession shown queue (pushed_in given) new
+
+-- the records of the first lines were given to them, and those of all if no pass stopped
+pub record GivesLines {S : Type 0} (shown : S → Shown) (lines : List Command) (old new : LoadHolding S) : Type 0 where
+  pub rest : List Command
+  pub pushing : IsPushing shown lines rest old new
+  pub whole : All IsGoing new.passes → rest ≡ []

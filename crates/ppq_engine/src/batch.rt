@@ -1,127 +1,114 @@
-//! A batch of lines of a limit session.
-ghost use Rattle.std.specs.Prelude.{◌≡◌, ◌≤◌, ◌<◌, ◌+◌, ◌^◌, ◌++◌, ℕ, false, length, All, None, Some, IsTrue, IfOk, slice_get};
+//! A batch of lines of a session.
+ghost use Rattle.std.specs.Prelude.{◌≡◌, ◌≤◌, ◌<◌, ◌+◌, ◌++◌, false, length, Some, IsTrue, slice_get, vec_len, vec_capacity};
 ghost use Rattle.ppq_script.specs.ppq_record.declared.pair.Pair.{Pair};
-ghost use Rattle.ppq_script.specs.ppq_record.Order.{is_before};
-ghost use Rattle.ppq_script.specs.ppq_record.Pair.{pair_cmp};
+ghost use Rattle.ppq_script.specs.Parts.{AreLines, commands_of};
+ghost use Rattle.ppq_script.specs.declared.session.Session.TheVariants.{InLimit};
 ghost use Rattle.ppq_load.specs.Limits.{AreGoing, HasStopped};
 ghost use Rattle.ppq_engine.specs.Calls.{GathersAll};
 ghost use Rattle.ppq_engine.specs.Gathers.{answer_text};
 ghost use Rattle.ppq_engine.specs.Output.{limited_text};
-ghost use Rattle.ppq_engine.specs.Limits.{line_by, ask_by, answers_text, IsLimitLine, IsInLimit, EndsLimit, IsBatch, RunsBatch};
+ghost use Rattle.ppq_engine.specs.Limits.{ask_by, asks_in, answers_text, RunsBatch};
 
 use crate::Answer;
+use crate::collected::Collected;
 use crate::gathered::Gathered;
-use ppq_load::{Ask, Limits, Line};
-use ppq_script::{Command, Failed, Gate, Host, Memory, Pair, Script, Sink, Slot};
+use ppq_load::{Ask, Limits};
+use ppq_script::{Command, Failed, Gate, Host, Memory, Numbered, Pair, Sink, Slot};
 use std::alloc::Global;
-use std::marker::Model;
 
-// What the lines of a batch push, what they ask, and what was answered. The memory for as many lines as a
-// batch may have is taken once.
-#[derive(Drop)]
-pub struct Batch {
-    lines: Vec<Line<Pair>>,
-    asks: Vec<Ask>,
-    answers: Vec<Option<Pair>>,
-    // How many lines a batch may have.
-    most: usize,
+// The first of these lines, at most so many, and those behind them.
+pub fn cut(lines: &[Numbered], most: usize) -> (&[Numbered], &[Numbered])
+    requires { 0 < most }
+    ensures all { commands_of lines.now ≡ commands_of result.0.now ++ commands_of result.1.now }
+    ensures few { length result.0.now ≤ most }
+    ensures fewer { 0 < length lines.now → length result.1.now < length lines.now }
+{
+    if lines.len() < most {
+        lines.split_at(lines.len())
+    } else {
+        lines.split_at(most)
+    }
 }
 
-impl Model for Batch {
-    ghost use Rattle.std.specs.Prelude.{◌≤◌, ◌+◌, length, vec_capacity};
-    ghost use Rattle.ppq_engine.specs.Limits.{BatchHolding};
+// What the lines of a batch of a limit session push, what they ask, and what was answered. The memory for
+// as many lines as a batch may have is taken once.
+#[derive(Drop)]
+pub struct Batch {
+    pub lines: Collected,
+    asks: Vec<Ask>,
+    pub answers: Vec<Option<Pair>>,
 
-    ghost Value = { BatchHolding };
-
-    ghost view = { λ b. record { lines = b.lines.items; asks = b.asks.items; answers = b.answers.items; most = b.most } };
-
-    ghost invariant = { λ b. record { for_lines : b.most ≤ vec_capacity b.lines; for_asks : b.most ≤ vec_capacity b.asks; for_answers : b.most ≤ vec_capacity b.answers; within : length b.lines.items + length b.asks.items ≤ b.most } };
+    ghost few: { vec_len asks ≤ lines.most },
+    ghost for_asks: { lines.most ≤ vec_capacity asks },
+    ghost for_answers: { lines.most ≤ vec_capacity answers },
 }
 
 impl Batch {
     // No line, with memory for so many.
     pub fn new(alloc: Global, most: u32) -> Result<Batch, Memory>
-        ensures { IfOk result (λ batch. batch.most ≡ most) }
+        requires { 0 < most }
     {
-        let most = most as usize;
-        let lines = Vec::with_capacity(alloc, most)?;
-        let asks = Vec::with_capacity(alloc, most)?;
-        let answers = Vec::with_capacity(alloc, most)?;
+        let lines = Collected::new(alloc, most)?;
+        let asks = Vec::with_capacity(alloc, lines.most)?;
+        let answers = Vec::with_capacity(alloc, lines.most)?;
         Ok(Batch {
             lines,
             asks,
             answers,
-            most,
         })
     }
 
-    // Takes the lines of a session from this place on, up to its end and no more than a batch may have.
-    // The place behind them.
-    pub fn fill(&mut self, script: &Script, from: usize) -> usize
-        requires inside { (limit : Pair) × IsInLimit script.now limit from }
-        requires fits { length script.now.commands < 2 ^ 64 }
-        ensures batch { IsBatch script.now from result self.new.lines self.new.asks }
-        ensures moves { 0 < self.old.most → (EndsLimit script.now from → ⊥) → from < result }
-        ensures most { self.new.most ≡ self.old.most }
+    // Takes what these lines ask in place of what was asked.
+    fn fill(&mut self, lines: &[Numbered])
+        requires { length lines.now ≤ self.old.lines.most }
+        ensures asks { self.new.asks.items ≡ asks_in (commands_of lines.now) }
+        ensures lines { self.new.lines ≡ self.old.lines }
     {
-        self.lines.clear();
         self.asks.clear();
-        let mut place = from;
-        'lines: while place - from < self.most {
-            if !self.take(script.at(place)) {
-                return place;
-            }
-            place += 1;
+        for i in 0..lines.len() {
+            self.take(lines[i].command);
         }
-        place
     }
 
-    // Takes a line, unless it is the end of the session. Whether it was taken.
-    fn take(&mut self, command: Command) -> bool
-        requires { length self.old.lines + length self.old.asks < self.old.most }
-        ensures lines { self.new.lines ≡ self.old.lines ++ line_by command }
-        ensures asks { self.new.asks ≡ self.old.asks ++ ask_by command }
-        ensures taken { IsTrue result → length (line_by command) + length (ask_by command) ≡ 1 }
-        ensures unchanged { result ≡ false → self.new ≡ self.old }
-        ensures left { result ≡ false → (workers : ℕ) (limit : Pair) → IsLimitLine workers limit command → ⊥ }
-        ensures most { self.new.most ≡ self.old.most }
+    // Takes what a command asks of the front.
+    fn take(&mut self, command: Command)
+        requires { vec_len self.old.asks < self.old.lines.most }
+        ensures asks { self.new.asks.items ≡ self.old.asks.items ++ ask_by command }
+        ensures few { vec_len self.new.asks ≤ vec_len self.old.asks + 1 }
+        ensures lines { self.new.lines ≡ self.old.lines }
     {
         match command {
-            Command::LimitPush { pass, item } => {
-                self.lines.push_reserved(Line { pass, record: item });
-                true
-            }
             Command::LimitTop => {
                 self.asks.push_reserved(Ask::Top);
-                true
             }
             Command::LimitPop => {
                 self.asks.push_reserved(Ask::Pop);
-                true
             }
-            _ => false,
+            _ => {}
         }
     }
 
-    // Runs the batch in a session. Whether all was done.
+    // Runs a batch of lines in a session. Whether all was done.
     pub fn run<H: Host, S: Slot + Send + Sync, G: Gate>(
         &mut self,
         rt: &H,
         session: &mut Limits<S>,
+        lines: &[Numbered],
         gate: &G,
     ) -> bool
     where
         H::Dir: Send,
-        requires named { All (λ line. line.pass < session.old.front.sizes.workers) self.old.lines }
-        requires above { All (λ line. is_before pair_cmp line.record session.old.front.limit ≡ false) self.old.lines }
+        requires few { length lines.now ≤ self.old.lines.most }
+        requires lines { AreLines session.old.front.sizes.workers (InLimit session.old.front.limit) (commands_of lines.now) }
         requires going { AreGoing session.old }
         ensures all { IsTrue result → AreGoing session.new }
         ensures stopped { result ≡ false → HasStopped session.new }
-        ensures ran { RunsBatch S.shown self.old.lines self.old.asks self.new.answers session.old session.new }
-        ensures batch { self.new ≡ record self.old { answers = self.new.answers } }
+        ensures ran { RunsBatch S.shown (commands_of lines.now) self.new.answers.items session.old session.new }
     {
+        self.lines.fill(lines);
+        self.fill(lines);
         self.answers.clear();
-        session.run(rt, &self.lines, &self.asks, &mut self.answers, gate)
+        session.run(rt, &self.lines.items, &self.asks, &mut self.answers, gate)
     }
 
     // Gathers the answers' texts, in the order of lines.
@@ -131,7 +118,7 @@ impl Batch {
         gathered: &mut Gathered,
         out: &mut O,
     ) -> Result<(), Failed>
-        ensures { GathersAll (O.told out.old) (O.told out.new) (O.faults out.old) (O.faults out.new) gathered.old (answers_text self.now.answers) gathered.new result }
+        ensures { GathersAll (O.told out.old) (O.told out.new) (O.faults out.old) (O.faults out.new) gathered.old (answers_text self.now.answers.items) gathered.new result }
     {
         for i in 0..self.answers.len() {
             gathered.print(rt, answer_of(answer_at(&self.answers, i)), out)?;

@@ -1,10 +1,10 @@
 //! Adds many records to a queue by a session: generated ones, or those of a file.
-ghost use Rattle.std.specs.Prelude.{◌≡◌, List, ℕ, Option, IfErr};
+ghost use Rattle.std.specs.Prelude.{◌≡◌, ◌∷◌, [], List, ℕ, Option, IfErr};
 ghost use Rattle.ppq_script.specs.declared.command.Command.TheVariants.{Bulk, Gen};
+ghost use Rattle.ppq_script.specs.declared.part.Part.TheVariants.{One};
 ghost use Rattle.ppq_engine.specs.Calls.{IsTurn, Goes, GoesAlone, LibraryCounts};
 ghost use Rattle.ppq_engine.specs.Files.{load_stop, load_result, IsByFile};
 ghost use Rattle.ppq_engine.specs.Output.{TellsLengths};
-ghost use Rattle.ppq_engine.specs.Parts.{behind_step};
 
 use crate::machine::Machine;
 use crate::stop::Stop;
@@ -34,40 +34,25 @@ fn stopped(loaded: Result<(), LoadFault>, line: u32, said: u64) -> Result<(), St
     }
 }
 
-// The place behind a command that was run, or why it stopped.
-pub fn behind(given: Result<(), Stop>, next: usize) -> Result<usize, Stop>
-    ensures { result ≡ behind_step given next }
-{
-    match given {
-        Ok(()) => Ok(next),
-        Err(stop) => Err(stop),
-    }
-}
-
 impl<S: Slot + Send + Sync> Machine<S> {
-    // Adds so many generated records, for the command at this place of the script. It gives the machine
-    // back, and the place behind the command.
+    // Adds so many generated records. It gives the machine back.
     pub fn push_generated<H: Host, G: Gate>(
         self,
         world: &World<'_, H, G>,
-        place: usize,
         seed: u64,
         count: u64,
-    ) -> (Machine<S>, Result<usize, Stop>)
+    ) -> (Machine<S>, Result<(), Stop>)
     where
         H::Dir: Send,
-        requires turn { IsTurn world.now.script.now self.queue place (Gen seed count) }
-        ensures { GoesAlone world.now.script.now place (Gen seed count) self.queue result.0.queue self.desk.gathered result.0.desk.gathered result.1 }
+        ensures { GoesAlone world.now.script.now (Gen seed count) (Gen seed count ∷ []) self.queue result.0.queue self.desk.gathered result.0.desk.gathered result.1 }
     {
         let Machine { queue, desk } = self;
         let (queue, loaded) = load_generated(world.rt, world.alloc, queue, seed, count, world.gate);
-        let done = stopped(loaded, 0, 0);
-        (Machine { queue, desk }, behind(done, place + 1))
+        (Machine { queue, desk }, stopped(loaded, 0, 0))
     }
 
     // Adds the records of a file of `said` bytes, for the command at this place of the script. They are
-    // read by pieces of as many records as the desk has room for. It gives the machine back, and the place
-    // behind the command.
+    // read by pieces of as many records as the desk has room for. It gives the machine back.
     pub fn push_file<H: Host, L: Library, G: Gate>(
         self,
         world: &World<'_, H, G>,
@@ -75,12 +60,12 @@ impl<S: Slot + Send + Sync> Machine<S> {
         file: u32,
         said: u64,
         library: &mut L,
-    ) -> (Machine<S>, Result<usize, Stop>)
+    ) -> (Machine<S>, Result<(), Stop>)
     where
         H::Dir: Send,
-        requires turn { IsTurn world.now.script.now self.queue place (Bulk file said) }
+        requires turn { IsTurn world.now.script.now self.queue place (One (Bulk file said)) }
         requires lengths { TellsLengths (L.told library.old) world.now.script.now }
-        ensures goes { (put : Option (List ℕ)) → Goes (L.told library.old) world.now.script.now place (Bulk file said) put put self.queue result.0.queue self.desk.gathered result.0.desk.gathered result.1 }
+        ensures goes { (put : Option (List ℕ)) → Goes (L.told library.old) world.now.script.now (Bulk file said) (Bulk file said ∷ []) put put self.queue result.0.queue self.desk.gathered result.0.desk.gathered result.1 }
         ensures by_file { IfErr result.1 IsByFile }
         ensures library { LibraryCounts (L.told library.old) (L.told library.new) (L.replied library.old) (L.replied library.new) world.now.script.now (L.faults library.old) (L.faults library.new) result.1 }
     {
@@ -98,7 +83,6 @@ impl<S: Slot + Send + Sync> Machine<S> {
             queue,
             world.gate,
         );
-        let done = stopped(loaded, line, said);
-        (Machine { queue, desk }, behind(done, place + 1))
+        (Machine { queue, desk }, stopped(loaded, line, said))
     }
 }

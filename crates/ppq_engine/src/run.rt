@@ -51,14 +51,15 @@ impl<S: Slot + Send + Sync> Machine<S> {
         let mut machine = self;
         let mut place = 0;
         'commands: while place < script.len() {
-            let command = script.at(place);
-            let (back, result) = machine.advance(world, place, command, library, out);
+            let part = script.part(place);
+            let (back, result) = machine.advance(world, place, part, library, out);
             machine = back;
             match result {
-                Ok(next) => place = next,
+                Ok(()) => {}
                 Err(stop) => return (machine, Err(stop)),
             }
             machine.queue.known();
+            place += part.count();
         }
         (machine, Ok(()))
     }

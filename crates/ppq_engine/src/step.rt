@@ -2,6 +2,7 @@
 ghost use Rattle.std.specs.Prelude.{◌≡◌, List, ℕ, None, OnOk, IfOk, max};
 ghost use Rattle.ppq_script.specs.ppq_record.declared.pair.Pair.{Pair};
 ghost use Rattle.ppq_script.specs.ppq_outside.Shown.{AllTell};
+ghost use Rattle.ppq_script.specs.Parts.{commands_in, first_in};
 ghost use Rattle.ppq_engine.specs.Calls.{IsCalled, Leaves, Lends, SinkCounts, LibraryCounts, IsTurn, Goes};
 ghost use Rattle.ppq_engine.specs.Loads.{none_go, size_after};
 ghost use Rattle.ppq_engine.specs.Output.{least_text, outside, text_of, after, TellsLengths};
@@ -9,12 +10,11 @@ ghost use Rattle.ppq_engine.specs.Gathers.{answer_text};
 ghost use Rattle.ppq_engine.specs.Running.{IsPlain, LendsQueue};
 
 use crate::Answer;
-use crate::load::behind;
 use crate::machine::Machine;
 use crate::stop::Stop;
 use crate::world::World;
 use ppq_load::QueueFault;
-use ppq_script::{Command, Gate, Host, Library, Pair, Sink, Slot};
+use ppq_script::{Command, Gate, Host, Library, Pair, Part, Sink, Slot};
 
 // What is printed of the least record.
 fn answer_of(item: Option<Pair>) -> Answer
@@ -99,36 +99,38 @@ impl<S: Slot + Send + Sync> Machine<S> {
         }
     }
 
-    // Runs the commands from this place of the script on that run together: a session, or one command. It
-    // gives the machine back, and the place behind them.
+    // Runs the commands of a part, at this place of the script. It gives the machine back.
     pub fn advance<H: Host, L: Library, O: Sink, G: Gate>(
         self,
         world: &World<'_, H, G>,
         place: usize,
-        command: Command,
+        part: Part<'_>,
         library: &mut L,
         out: &mut O,
-    ) -> (Machine<S>, Result<usize, Stop>)
+    ) -> (Machine<S>, Result<(), Stop>)
     where
         H::Dir: Send,
-        requires turn { IsTurn world.now.script.now self.queue place command }
+        requires turn { IsTurn world.now.script.now self.queue place part }
         requires lengths { TellsLengths (L.told library.old) world.now.script.now }
-        ensures goes { Goes (L.told library.old) world.now.script.now place command (O.told out.old) (O.told out.new) self.queue result.0.queue self.desk.gathered result.0.desk.gathered result.1 }
+        ensures goes { Goes (L.told library.old) world.now.script.now (first_in part.entry) (commands_in part.entry) (O.told out.old) (O.told out.new) self.queue result.0.queue self.desk.gathered result.0.desk.gathered result.1 }
         ensures library { LibraryCounts (L.told library.old) (L.told library.new) (L.replied library.old) (L.replied library.new) world.now.script.now (L.faults library.old) (L.faults library.new) result.1 }
         ensures sink { SinkCounts (O.faults out.old) (O.faults out.new) result.1 }
     {
+        let command = match part {
+            Part::Bulk { lines } => return self.run_bulk(world, lines),
+            Part::Limit { limit, lines } => return self.run_limit(world, limit, lines, out),
+            Part::One { command } => command,
+        };
         match command {
-            Command::BulkBegin => self.run_bulk(world, place),
-            Command::LimitBegin { limit } => self.run_limit(world, place, limit, out),
             Command::Bulk { file, length } => {
                 self.push_file(world, place, file, length, library)
             }
-            Command::Gen { seed, count } => self.push_generated(world, place, seed, count),
+            Command::Gen { seed, count } => self.push_generated(world, seed, count),
             _ => {
                 self.queue.known();
                 let mut machine = self;
                 let done = machine.lend(world, command, out);
-                (machine, behind(done, place + 1))
+                (machine, done)
             }
         }
     }

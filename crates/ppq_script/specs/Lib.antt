@@ -6,6 +6,7 @@ pub mod Files
 pub mod Lines
 pub mod Meaning
 pub mod Number
+pub mod Parts
 pub mod Reading
 pub mod Sessions
 pub mod Shown

@@ -1,7 +1,8 @@
 //! A script as a list of commands.
-ghost use Rattle.std.specs.Prelude.{◌≡◌, ◌<◌, true, false, IsTrue, is_ok, OnOk, IfErr, length, map, string_bytes, None, Some, All, slice_get, nat_eq};
+ghost use Rattle.std.specs.Prelude.{◌≡◌, ◌<◌, true, false, IsTrue, is_ok, OnOk, IfErr, length, drop, map, string_bytes, None, Some, All, slice_get, nat_eq};
 ghost use Rattle.ppq_script.specs.Files.{NamesFile, HasRecords, name_at};
 ghost use Rattle.std.specs.List.{AllZip};
+ghost use Rattle.ppq_script.specs.Parts.{IsPartAt, first_in};
 ghost use Rattle.ppq_script.specs.Reading.{IsReady};
 ghost use Rattle.ppq_script.specs.Sessions.{are_in_place};
 ghost use Rattle.ppq_script.specs.declared.session.Session.TheVariants.{Outside};
@@ -9,7 +10,8 @@ ghost use Rattle.ppq_script.specs.Checking.{CheckRefusalIsRight, IsAsked, IsKept
 ghost use Rattle.ppq_outside.specs.Told.{RepliesOnly};
 
 use crate::check::ask_all;
-use crate::{CheckFault, Command, Numbered};
+use crate::part::session_lines;
+use crate::{CheckFault, Command, Numbered, Part};
 use ppq_outside::{Host, Library};
 use std::alloc::Global;
 use std::marker::Model;
@@ -98,6 +100,30 @@ impl Script {
         ensures records { IsTrue self.now.checked → HasRecords result }
     {
         self.commands[i].command
+    }
+
+    /// The commands from a place on that run together, where no session is open: the session that
+    /// begins there, or the one command. It costs a look at each line of the session.
+    ///
+    /// Its first command has what is said of the command `at` that place.
+    pub fn part(&self, place: usize) -> Part<'_>
+        requires place { place < length self.now.commands }
+        requires outside { are_in_place self.now.workers Outside (drop place (command_list self.now)) ≡ true }
+        ensures part { IsPartAt self.now place result }
+        ensures file { NamesFile (length self.now.names) (first_in result) }
+        ensures records { IsTrue self.now.checked → HasRecords (first_in result) }
+    {
+        let (_before, behind) = self.commands.split_at(place + 1);
+        match self.at(place) {
+            Command::BulkBegin => Part::Bulk {
+                lines: session_lines(behind),
+            },
+            Command::LimitBegin { limit } => Part::Limit {
+                limit,
+                lines: session_lines(behind),
+            },
+            command => Part::One { command },
+        }
     }
 
     /// The number of the line of the command at a place.

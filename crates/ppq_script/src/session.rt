@@ -57,7 +57,7 @@ fn allows(session: Session, command: Command, workers: u32) -> bool
 }
 
 // The session behind a command that begins or ends one.
-fn turn(command: Command) -> Option<Session>
+pub fn turn(command: Command) -> Option<Session>
     ensures { result ≡ turn_of command }
 {
     match command {

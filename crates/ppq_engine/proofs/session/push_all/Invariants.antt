@@ -1,19 +1,16 @@
-use Rattle.std.proofs.Common.{◌≡◌, ◌+◌, ◌-◌, ◌<◌, true, All, length, drop}
+use Rattle.std.proofs.Common.{All, length}
 use Rattle.ppq_script.specs.declared.session.Session.TheVariants.{InBulk}
-use Rattle.ppq_script.specs.Sessions.{are_in_place}
-use Rattle.ppq_script.specs.Reading.{command_list}
+use Rattle.ppq_script.specs.Parts.{AreLines, commands_of}
 use Rattle.ppq_load.specs.ppq_session.Dealing.{IsGoing}
-use Rattle.ppq_engine.proofs.Pushes.{IsPushing}
+use Rattle.ppq_engine.specs.Pushes.{IsPushing}
 use Rattle.ppq_engine.proofs.session.push_all.Given as goal
 
-abbrev pub invariant-lines : goal.invariant-lines
-invariant-lines g l = record {
-  inside : are_in_place l.script.workers InBulk (drop l.place (command_list l.script)) ≡ true;
-  pushing : IsPushing g.S.Slot.shown l.script (l.at + 1) l.place l.lines.items.items l.fn.load l.load;
+abbrev pub invariant-batches : goal.invariant-batches
+invariant-batches g l = record {
+  pushing : IsPushing g.S.Slot.shown (commands_of l.lines) (commands_of l.rest) l.fn.load l.load;
+  lines : AreLines l.load.bulk.sizes.workers InBulk (commands_of l.rest);
   going : All IsGoing l.load.passes;
-  bulk : l.load.bulk ≡ l.fn.load.bulk;
-  named : All (λ line. line.pass < l.script.workers) l.lines.items.items;
 }
 
-abbrev pub decreases-lines : goal.decreases-lines
-decreases-lines g l = length l.script.commands - l.place
+abbrev pub decreases-batches : goal.decreases-batches
+decreases-batches g l = length l.rest

@@ -1,13 +1,12 @@
-use Rattle.std.proofs.Common.{◌≡◌, ◌+◌, ◌-◌, length}
-use Rattle.ppq_engine.specs.Limits.{IsBatch}
+use Rattle.std.proofs.Common.{◌≡◌, ◌≤◌, take}
+use Rattle.std.specs.Prelude.{vec_len}
+use Rattle.ppq_script.specs.Parts.{commands_of}
+use Rattle.ppq_engine.specs.Limits.{asks_in}
 use Rattle.ppq_engine.proofs.batch.Batch.fill.Given as goal
 
-abbrev pub invariant-lines : goal.invariant-lines
-invariant-lines l = record {
-  batch : IsBatch l.script l.from l.place l.self.lines l.self.asks;
-  count : length l.self.lines + length l.self.asks ≡ l.place - l.from;
-  most : l.self.most ≡ l.fn.self.most;
+abbrev pub invariant-loop-i : goal.invariant-loop-i
+invariant-loop-i l = record {
+  asks : l.self.asks.items ≡ asks_in (commands_of (take l.i l.lines));
+  few : vec_len l.self.asks ≤ l.i;
+  lines : l.self.lines ≡ l.fn.self.lines;
 }
-
-abbrev pub decreases-lines : goal.decreases-lines
-decreases-lines l = length l.script.commands - l.place

@@ -4,7 +4,7 @@ use Rattle.std.proofs.lemmas.List.Concat.{flat_map-append}
 use Rattle.ppq_script.specs.ppq_record.declared.pair.Pair.{Pair}
 use Rattle.ppq_script.specs.ppq_outside.Told.{TakesPart}
 use Rattle.ppq_engine.specs.Gathers.{answer_text, Gathers}
-use Rattle.ppq_engine.specs.Limits.{answers_text, BatchHolding}
+use Rattle.ppq_engine.specs.Limits.{answers_text}
 use Rattle.ppq_engine.specs.Output.{limited_text}
 use Rattle.ppq_engine.proofs.Popped.{gathers-more, takes-part}
 use Rattle.ppq_engine.proofs.Results.{on-err}
@@ -23,7 +23,7 @@ text-around answers i = sym (flat_map-append limited_text (take i answers) (drop
 pub returns-in_err-print : goal.returns-in_err-print
 returns-in_err-print g c =
     let told = g.O.Sink.told in
-    let answers = c.args.self.now.answers in
+    let answers = c.args.self.now.answers.items in
     let i = c.loop-i.i in
     let P : List ℕ → Type 0 = λ t. TakesPart (told c.args.out.now) (told c.print.new.out) (c.args.gathered.now ++ t) in
     record {
@@ -37,12 +37,12 @@ returns-in_err-print g c =
 pub loop-i-preserved : goal.loop-i-preserved
 loop-i-preserved g c =
     let told = g.O.Sink.told in
-    let answers = c.args.self.now.answers in
+    let answers = c.args.self.now.answers.items in
     let i = c.loop-i.i in
     let answer = c.answer_at.result in
     let text = answers_text (take i answers) in
     let Q : List (Option Pair) → Type 0 = λ xs. slice_get xs i ≡ Some answer in
-    let same : c.deref.result.now ≡ answers = c.deref.ensures.value ∙ ap (λ (b : BatchHolding). b.answers) c.self.view_is in
+    let same : c.deref.result.now ≡ answers = c.deref.ensures.value in
     let here : slice_get answers i ≡ Some answer = subst Q same c.answer_at.ensures in
     let P : List ℕ → Type 0 = λ t. Gathers (told c.args.out.now) (told c.print.new.out) c.args.gathered.now t c.print.new.self in
     record {

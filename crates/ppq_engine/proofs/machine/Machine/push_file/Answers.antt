@@ -14,12 +14,12 @@ use Rattle.ppq_engine.proofs.Lengths.{file-bag}
 use Rattle.ppq_engine.proofs.Loads.{loaded-ok, loaded-adds, loaded-refused, loaded-by_file, loaded-ended, loaded-counts}
 use Rattle.ppq_engine.proofs.Results.{if-err-map, on-ok-map, on-ok-both}
 use Rattle.ppq_engine.proofs.Stops.{file_of_file, file_changed}
-use Rattle.ppq_engine.proofs.Turns.{step-err, step-library, adds-runs, adds-prints, turn-alone, turn-goes}
+use Rattle.ppq_engine.proofs.Turns.{adds-runs, adds-prints, turn-goes}
 use Rattle.ppq_engine.proofs.machine.Machine.push_file.Goals as goal
 
 pub load_file-queue-requires-clause-long : goal.load_file-queue-requires-clause-long
 load_file-queue-requires-clause-long g c = λ lives fits files tells.
-    ap (λ (n : List ℕ). length (bytes_or_none (files n))) c.name-name.ensures ∙ c.requires.lengths files tells c.args.place c.args.file c.args.said c.requires.turn.here
+    ap (λ (n : List ℕ). length (bytes_or_none (files n))) c.name-name.ensures ∙ c.requires.lengths files tells c.args.place c.args.file c.args.said c.requires.turn.first
 
 pub returns : goal.returns
 returns g c =
@@ -32,17 +32,15 @@ returns g c =
     let k = Bulk file said in
     let name = c.name-name.result.now in
     let line = c.line-line.result in
-    let here = c.requires.turn.here in
+    let here = c.requires.turn.first in
     let q = c.load_file-queue in
     let new = q.result.0 in
     let faults = g.L.Library.faults in
     let told = g.L.Library.told c.args.library.now in
     let before = g.L.Library.replied c.args.library.now in
     let replied = g.L.Library.replied q.new.library in
-    let r = c.stopped-done.result in
-    let same = c.stopped-done.ensures in
-    let s = c.behind.result in
-    let one = turn-alone script queue place k c.requires.turn (λ e. cc) (λ limit e. cc) in
+    let r = c.stopped.result in
+    let same = c.stopped.ensures in
     let Loaded : Type 0 = AllTell queue.slots → (files : List ℕ → Option (List ℕ)) → told ≡ Some files → IsSameBag new.bag (records_of (bytes_or_none (files name)) ++ queue.bag) in
     let Why : Stop → Type 0 = StopsFor (max queue.peak (queue.size + said / 16)) queue.sizes queue.limited new.slots in
     let Early : Stop → Type 0 = EndsEarly told replied name line said in
@@ -55,12 +53,12 @@ returns g c =
     record {
       goes =
           λ put.
-          turn-goes (place + 1) r s c.behind.ensures script place k one queue new put put had had told (adds-prints queue.slots put had [] r refl by) refl q.ensures.kept
+          turn-goes told script queue.sizes.workers k (record { stands = refl; stays = refl }) queue new put put had had r (adds-prints queue.slots put had [] r refl by) q.ensures.kept
           (on-ok-map r (Loaded × Adds') (RunsStep told script queue new k)
           (λ both. adds-runs k (λ leaves. refl) (λ tells. file-bag told script place file said k name queue.bag new.bag here refl c.name-name.ensures (both.0 tells)) both.1) adds)
           (if-err-map r Why (StopsStep queue new k) (λ stop why. record { refused = why; of_file = file_of_file file said stop }) refused);
-      by_file = step-err (place + 1) r s c.behind.ensures IsByFile IsByFile (λ stop is. is) by;
-      library = step-library (place + 1) r s c.behind.ensures (record {
+      by_file = by;
+      library = record {
         told = q.ensures.told;
         remembers = q.ensures.remembers;
         asks =
@@ -70,5 +68,5 @@ returns g c =
         stays = loaded-ok line said q.result.1 r same (faults q.new.library ≡ faults c.args.library.now) q.ensures.stays;
         cause = loaded-counts line said q.result.1 r same (faults c.args.library.now) (faults q.new.library) q.ensures.cause;
         changed = if-err-map r Early (ChangedIn told replied script) (λ stop ends. file_changed told replied script place file said line stop here c.line-line.ensures (subst (N stop) c.name-name.ensures ends)) early;
-      });
+      };
     }

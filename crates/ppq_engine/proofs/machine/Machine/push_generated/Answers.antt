@@ -9,8 +9,8 @@ use Rattle.ppq_engine.specs.Running.{StopsFor}
 use Rattle.ppq_engine.specs.declared.stop.Stop.{Stop}
 use Rattle.ppq_engine.proofs.Loads.{loaded-ok, loaded-adds, loaded-refused, loaded-by_session}
 use Rattle.ppq_engine.proofs.Results.{if-err-map, if-err-both, on-ok-map, on-ok-both}
-use Rattle.ppq_engine.proofs.Stops.{session_of_file, session_by_file}
-use Rattle.ppq_engine.proofs.Turns.{step-err, adds-runs, adds-prints, turn-alone, turn-goes}
+use Rattle.ppq_engine.proofs.Stops.{session_by_file, session-by_limit, limit_of_file}
+use Rattle.ppq_engine.proofs.Turns.{adds-runs, adds-prints, turn-goes}
 use Rattle.ppq_engine.proofs.machine.Machine.push_generated.Goals as goal
 
 pub returns : goal.returns
@@ -22,10 +22,8 @@ returns g c =
     let k = Gen c.args.seed count in
     let q = c.load_generated-queue in
     let new = q.result.0 in
-    let r = c.stopped-done.result in
-    let same = c.stopped-done.ensures in
-    let s = c.behind.result in
-    let one = turn-alone script queue c.args.place k c.requires.turn (λ e. cc) (λ limit e. cc) in
+    let r = c.stopped.result in
+    let same = c.stopped.ensures in
     let Loaded : Type 0 = AllTell queue.slots → IsSameBag new.bag (generated c.args.seed count ++ queue.bag) in
     let Why : Stop → Type 0 = StopsFor (max queue.peak (queue.size + count)) queue.sizes queue.limited new.slots in
     let adds = on-ok-both r Loaded (Adds queue new count) (loaded-ok 0 0 q.result.1 r same Loaded q.ensures.bag) (loaded-adds 0 0 q.result.1 r same queue new count q.ensures.size q.ensures.sound q.ensures.quiet q.ensures.peak) in
@@ -34,9 +32,9 @@ returns g c =
     record {
       goes =
           λ files put.
-          turn-goes (c.args.place + 1) r s c.behind.ensures script c.args.place k one queue new put put had had files (adds-prints queue.slots put had [] r refl (if-err-map r IsBySession IsByFile session_by_file by)) refl q.ensures.kept
+          turn-goes files script queue.sizes.workers k (record { stands = refl; stays = refl }) queue new put put had had r (adds-prints queue.slots put had [] r refl (if-err-map r IsBySession IsByFile session_by_file by)) q.ensures.kept
           (on-ok-map r (Loaded × Adds queue new count) (RunsStep files script queue new k) (λ both. adds-runs k (λ leaves. refl) (λ tells given are. both.0 tells) both.1) adds)
           (if-err-map r (λ stop. Why stop × IsBySession stop) (StopsStep queue new k)
-          (λ stop both. record { refused = both.0; of_file = session_of_file k stop tt both.1 }) why);
-      by_session = step-err (c.args.place + 1) r s c.behind.ensures IsBySession IsBySession (λ stop is. is) by;
+          (λ stop both. record { refused = both.0; of_file = limit_of_file k stop tt (session-by_limit stop both.1) }) why);
+      by_session = by;
     }

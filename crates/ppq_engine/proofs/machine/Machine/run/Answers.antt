@@ -1,28 +1,31 @@
-use Rattle.std.proofs.Common.{◌≡◌, ◌≤◌, ◌<◌, ◌+◌, ◌++◌, ℕ, List, ◌∷◌, Option, true, length, take, drop, take_all, refl, sym, ap, ◌∙◌, subst, arith}
+use Rattle.std.proofs.Common.{◌≡◌, ◌≤◌, ◌<◌, ◌+◌, ◌++◌, ℕ, List, ◌∷◌, Option, Some, true, length, take, drop, take_all, refl, sym, ap, ◌∙◌, subst, arith, length-append}
 use Rattle.std.specs.Prelude.{OnOk, IfErr, ◌||◌}
 use Rattle.std.proofs.Math.Bool.{false-or}
+use Rattle.std.proofs.Math.Facts.{Fits-of_lt}
 use Rattle.std.proofs.lemmas.List.{length-map}
 use Rattle.ppq_load.specs.ppq_budget.Sizes.{Numbers}
 use Rattle.ppq_script.specs.ppq_record.declared.pair.Pair.{Pair}
 use Rattle.ppq_script.specs.declared.command.Command.{Command}
 use Rattle.ppq_script.specs.declared.session.Session.{Session}
 use Rattle.ppq_script.specs.declared.session.Session.TheVariants.{Outside}
+use Rattle.ppq_script.specs.declared.part.Part.{Part}
+use Rattle.ppq_script.specs.declared.part.Part.TheVariants as part
+use Rattle.ppq_script.specs.Parts.{commands_in, first_in, HasItsLines}
 use Rattle.ppq_script.specs.Reading.{Reading, command_list}
-use Rattle.ppq_script.specs.Sessions.{are_in_place}
 use Rattle.ppq_load.specs.Refusal.{Keeps}
+use Rattle.ppq_script.specs.Sessions.{are_in_place}
 use Rattle.ppq_engine.specs.Calls.{RunsPart, StopsPart}
 use Rattle.ppq_engine.specs.Loads.{FitsWritten, least_of, begins_limit}
 use Rattle.ppq_engine.specs.Output.{AreFilesOf, given_of, output_of, crest_of}
-use Rattle.ppq_engine.specs.Parts.{part_at}
 use Rattle.ppq_engine.specs.Running.{HasRun, HasSizes, IsGathered, PartStops, SinkAfter, behind_part}
 use Rattle.ppq_engine.specs.declared.stop.Stop.{Stop}
 use Rattle.ppq_engine.proofs.Advancing.{Keeps-none, Keeps-behind}
 use Rattle.ppq_engine.proofs.Kept.{Keeps-refl}
-use Rattle.ppq_engine.proofs.Lengths.{has_length, part-long}
+use Rattle.ppq_engine.proofs.Lengths.{has_length}
 use Rattle.ppq_engine.proofs.Libraries.{library-none, library-stays, library-then, library-stop}
 use Rattle.ppq_engine.proofs.Lines.{session_from, session_from-append, part-outside}
-use Rattle.ppq_engine.proofs.Parts.{part-is, part-first, part-within, place-next, take-part}
-use Rattle.ppq_engine.proofs.Results.{at-ok, at-err, at-if-ok}
+use Rattle.ppq_engine.proofs.Parts.{take-part, part-within}
+use Rattle.ppq_engine.proofs.Results.{at-ok, at-err}
 use Rattle.ppq_engine.proofs.Sizes.{sizes-begin, sizes-part}
 use Rattle.ppq_engine.proofs.Slots.{SameSlots-trans}
 use Rattle.ppq_engine.proofs.Steps.{run-begin, run-part}
@@ -50,16 +53,16 @@ commands-init g c =
     }
 
 pub advance-back-requires-clause-turn : goal.advance-back-requires-clause-turn
-advance-back-requires-clause-turn g c κs within = record {
-  place_is = omega (arith, c.commands-test.true, c.len.ensures);
-  here = c.at-command.ensures.command;
-  fits = omega (arith, c.len.ensures);
-  in_place = c.commands.invariant.in_place;
-  file = c.at-command.ensures.file;
-  records = c.at-command.ensures.records c.requires.may.checked;
-  workers = c.requires.may.workers ∙ ap (λ (n : Numbers). n.workers) (sym c.commands.invariant.kept.sizes);
-  sound = c.commands.invariant.sound;
-}
+advance-back-requires-clause-turn g c κs within =
+    let P : ℕ → Type 0 = λ n. HasItsLines n c.part-part.result in
+    record {
+      place_is = omega (arith, c.commands-test.true, c.len.ensures);
+      first = c.part-part.ensures.part.first;
+      lines = subst P (c.requires.may.workers ∙ ap (λ (n : Numbers). n.workers) (sym c.commands.invariant.kept.sizes)) c.part-part.ensures.part.lines;
+      file = c.part-part.ensures.file;
+      records = c.part-part.ensures.records c.requires.may.checked;
+      sound = c.commands.invariant.sound;
+    }
 
 pub advance-back-requires-clause-lengths : goal.advance-back-requires-clause-lengths
 advance-back-requires-clause-lengths g c κs within = λ files tells. c.requires.may.lengths files (sym c.commands.invariant.library.told ∙ tells)
@@ -75,22 +78,16 @@ returns-in-Err-clause-stopped g c =
     let later = c.advance-back.result.0.queue.slots in
     let stop = c.in-Err.stop in
     let i = c.commands.place in
-    let k = c.at-command.result in
-    let part = part_at script i in
-    let a = c.advance-back.ensures in
+    let p = c.part-part.result in
+    let is = c.part-part.ensures.part in
     let v = c.commands.invariant in
-    let here = c.at-command.ensures.command in
-    let within : i < length commands = omega (arith, c.commands-test.true, c.len.ensures, length-map script.commands (λ n. n.command)) in
-    let first = part-first script.workers commands i k within here v.in_place in
-    let is = part-is script.workers commands i k within here v.in_place in
-    let err : (P : Stop → Type 0) → IfErr c.advance-back.result.1 P → P stop = λ P h. at-err c.advance-back.result.1 stop P c.in-Err.is h in
     let begun : queue.limited ≡ begins_limit (take i commands) = v.kept.limited ∙ ap (λ l. l || begins_limit (take i commands)) c.requires.may.unlimited ∙ false-or (begins_limit (take i commands)) in
-    let why = err (StopsPart queue c.advance-back.result.0.queue (sink c.commands.out) (sink c.advance-back.new.out) c.commands.machine.desk.gathered c.advance-back.result.0.desk.gathered k part) a.goes.stopped in
-    let Why : Numbers → Stop → Type 0 =
-    λ n s. PartStops queue.slots (sink c.commands.out) (sink c.advance-back.new.out) c.commands.machine.desk.gathered queue.bag queue.size queue.peak part n (queue.limited || begins_limit part) later c.advance-back.result.0.desk.gathered s in
-    stopped-part told script c.args.self.queue.slots (sink c.args.out.now) (sink c.commands.out) (sink c.advance-back.new.out) c.commands.machine.desk.gathered c.advance-back.result.0.desk.gathered queue.bag queue.size queue.peak sizes queue.slots queue.slots later queue.limited i k part
-    is here (take-part commands i) c.requires.block v.kept.tells begun (λ files are. part-long (given_of files script) k first.0 part first.1 (has_length told script files i k here c.requires.may.lengths are))
-    v.run v.has stop (let P : Numbers → Type 0 = λ n. Why n stop in subst P v.kept.sizes why.wrote) why.of_file
+    let why = at-err c.advance-back.result.1 stop (StopsPart queue c.advance-back.result.0.queue (sink c.commands.out) (sink c.advance-back.new.out) c.commands.machine.desk.gathered c.advance-back.result.0.desk.gathered (first_in p) (commands_in p)) c.in-Err.is c.advance-back.ensures.goes.stopped in
+    let Why : Numbers → Type 0 =
+    λ n. PartStops queue.slots (sink c.commands.out) (sink c.advance-back.new.out) c.commands.machine.desk.gathered queue.bag queue.size queue.peak (commands_in p) n (queue.limited || begins_limit (commands_in p)) later c.advance-back.result.0.desk.gathered stop in
+    stopped-part told script c.args.self.queue.slots (sink c.args.out.now) (sink c.commands.out) (sink c.advance-back.new.out) c.commands.machine.desk.gathered c.advance-back.result.0.desk.gathered queue.bag queue.size queue.peak sizes queue.slots queue.slots later queue.limited i p
+    is c.requires.block v.kept.tells begun (λ files are. has_length told script files i (first_in p) is.first c.requires.may.lengths are)
+    v.run v.has stop (subst Why v.kept.sizes why.wrote) why.of_file
 
 pub returns-in-Err-clause-slots : goal.returns-in-Err-clause-slots
 returns-in-Err-clause-slots g c = SameSlots-trans c.args.self.queue.slots c.commands.machine.queue.slots c.advance-back.result.0.queue.slots c.commands.invariant.kept.slots c.advance-back.ensures.goes.slots
@@ -107,18 +104,26 @@ returns-in-Err-clause-sink g c =
     record { later = omega (arith, a.later, c.commands.invariant.stays); stays = tt; cause = subst P c.commands.invariant.stays (at-err c.advance-back.result.1 stop (SinkAfter (faults c.commands.out) (faults c.advance-back.new.out)) c.in-Err.is a.cause) }
 
 -- a part has a command
-some_command : (part behind : List Command) (command : Command) → part ≡ command ∷ behind → 0 < length part
-some_command part behind command e = omega (arith, ap (λ (cs : List Command). length cs) e)
+some_command : (p : Part) → 0 < length (commands_in p)
+some_command (part.One command) = omega arith
+some_command (part.Bulk lines) = omega arith
+some_command (part.Limit limit lines) = omega arith
+
+-- the place behind it is one of the script's
+within_script : (script : Reading) (i : ℕ) (part : List Command) → drop i (command_list script) ≡ part ++ drop (i + length part) (command_list script) → i < length script.commands → i + length part ≤ length script.commands
+within_script script i part whole h =
+    let long = length-map script.commands (λ n. n.command) in
+    omega (arith, long, part-within (command_list script) i part whole (omega (arith, h, long)))
+
+pub overflow_add-place : goal.overflow_add-place
+overflow_add-place g c =
+    let i = c.commands.place in
+    let p = c.part-part.result in
+    let here : i < length c.args.world.now.script.now.commands = omega (arith, c.commands-test.true, c.len.ensures) in
+    Fits-of_lt (omega (arith, c.count-place.ensures, within_script c.args.world.now.script.now i (commands_in p) c.part-part.ensures.part.whole here, c.len.ensures))
 
 pub commands-smaller : goal.commands-smaller
-commands-smaller g c =
-    let script = c.args.world.now.script.now in
-    let commands = command_list script in
-    let i = c.commands.place in
-    let within : i < length commands = omega (arith, c.commands-test.true, c.len.ensures, length-map script.commands (λ n. n.command)) in
-    let first = part-first script.workers commands i c.at-command.result within c.at-command.ensures.command c.commands.invariant.in_place in
-    let next = at-if-ok c.advance-back.result.1 c.in-Ok.next (λ n. n ≡ i + length (part_at script i)) c.in-Ok.is c.advance-back.ensures.goes.next in
-    omega (arith, next, within, some_command (part_at script i) first.0 c.at-command.result first.1, length-map script.commands (λ n. n.command))
+commands-smaller g c = omega (arith, c.commands-test.true, c.len.ensures, c.count-place.ensures, some_command c.part-part.result)
 
 pub commands-preserved : goal.commands-preserved
 commands-preserved g c =
@@ -130,17 +135,15 @@ commands-preserved g c =
     let new = c.advance-back.result.0.queue in
     let sizes = c.args.self.queue.sizes in
     let i = c.commands.place in
-    let k = c.at-command.result in
-    let part = part_at script i in
+    let p = c.part-part.result in
+    let part = commands_in p in
+    let is = c.part-part.ensures.part in
     let a = c.advance-back.ensures in
     let v = c.commands.invariant in
-    let here = c.at-command.ensures.command in
-    let within : i < length commands = omega (arith, c.commands-test.true, c.len.ensures, length-map script.commands (λ n. n.command)) in
-    let first = part-first script.workers commands i k within here v.in_place in
-    let is = part-is script.workers commands i k within here v.in_place in
-    let next = at-if-ok c.advance-back.result.1 c.in-Ok.next (λ n. n ≡ i + length part) c.in-Ok.is a.goes.next in
-    let split : take c.in-Ok.next commands ≡ take i commands ++ part = ap (λ (n : ℕ). take n commands) next ∙ take-part commands i in
-    let ok : (A : Type 0) → OnOk c.advance-back.result.1 A → A = λ A h. at-ok c.advance-back.result.1 c.in-Ok.next A c.in-Ok.is h in
+    let here : i < length script.commands = omega (arith, c.commands-test.true, c.len.ensures) in
+    let next : i + c.count-place.result ≡ i + length part = ap (λ (n : ℕ). i + n) c.count-place.ensures in
+    let split : take (i + c.count-place.result) commands ≡ take i commands ++ part = ap (λ (n : ℕ). take n commands) next ∙ take-part commands i part is.whole in
+    let ok : (A : Type 0) → OnOk c.advance-back.result.1 A → A = λ A h. at-ok c.advance-back.result.1 tt A c.in-Ok.is h in
     let runs = ok (RunsPart (told c.commands.library) script queue new (sink c.commands.out) (sink c.advance-back.new.out) c.commands.machine.desk.gathered c.advance-back.result.0.desk.gathered part) a.goes.runs in
     let kept = Keeps-behind c.args.self.queue queue new (take i commands) part v.kept runs.kept in
     let Fits : Numbers → Type 0 = λ s. FitsWritten new.size s new.slots in
@@ -155,18 +158,18 @@ commands-preserved g c =
           let given = given_of files script in
           let Files : Option (List ℕ → Option (List ℕ)) → Type 0 = λ t. AreFilesOf t script files in
           let Run : List Command → Type 0 = λ cs. HasRun given (sink c.args.out.now) (sink c.advance-back.new.out) c.advance-back.result.0.desk.gathered new.bag new.size new.peak sizes new.slots cs in
-          let long = part-long given k first.0 part first.1 (has_length (told c.args.library.now) script files i k here c.requires.may.lengths are) in
+          let long = has_length (told c.args.library.now) script files i (first_in p) is.first c.requires.may.lengths are in
           subst Run (sym split)
-          (run-part given (sink c.args.out.now) (sink c.commands.out) c.commands.machine.desk.gathered queue.bag queue.size queue.peak sizes queue.slots (take i commands) (v.run tells files are) part is long
+          (run-part given (sink c.args.out.now) (sink c.commands.out) c.commands.machine.desk.gathered queue.bag queue.size queue.peak sizes queue.slots (take i commands) (v.run tells files are) p script.workers is.lines long
           (sink c.advance-back.new.out) c.advance-back.result.0.desk.gathered new.bag new.size new.peak new.slots
           (runs.text now given) (runs.bag now files (subst Files (sym v.library.told) are)) (c.known.ensures.counted runs.sound (kept.tells tells)) runs.peak fits runs.kept.writes);
       has =
           subst Sized (sym split)
-          (sizes-part queue.size new.size queue.peak new.peak sizes queue.slots new.slots (take i commands) part is v.closed v.has runs.low runs.high runs.peak fits runs.kept.writes);
+          (sizes-part queue.size new.size queue.peak new.peak sizes queue.slots new.slots (take i commands) p script.workers is.lines v.closed v.has runs.low runs.high runs.peak fits runs.kept.writes);
       closed =
-          ap (session_from Outside) split ∙ session_from-append Outside (take i commands) part ∙ ap (λ (s : Session). session_from s part) v.closed ∙ part-outside part is;
-      within = omega (arith, next, part-within commands i (omega (arith, within)), length-map script.commands (λ n. n.command));
-      in_place = subst Place (sym next) (place-next script.workers commands i k within here v.in_place);
+          ap (session_from Outside) split ∙ session_from-append Outside (take i commands) part ∙ ap (λ (s : Session). session_from s part) v.closed ∙ part-outside p script.workers is.lines;
+      within = omega (arith, next, within_script script i part is.whole here);
+      in_place = subst Place (sym next) is.next;
       sound = runs.sound;
       quiet = runs.quiet ∙ v.quiet;
       kept = subst Kept (sym split) kept;
