@@ -66,6 +66,8 @@ fn two_passes<H: Host + Abort>(rt: &H, alloc: Global) -> Session
 
 // Pushes 40 records, or as many as are taken.
 fn fill<H: Host>(rt: &H, shared: &Shared<MemSlot, Pair>, pass: &mut Pass<MemSlot, Pair>)
+where
+    H::Dir: Send,
     requires { IsOf shared.now pass.old }
 {
     'pushing: for key in 0..40 {
@@ -165,6 +167,8 @@ fn must_push<H: Host + Abort>(
     pass: &mut Pass<MemSlot, Pair>,
     keys: &[u64],
 )
+where
+    H::Dir: Send,
     requires { IsOf shared.now pass.old }
     ensures { pass.new.key ≡ pass.old.key }
 {
@@ -186,6 +190,8 @@ fn push_until_refused<H: Host + Abort>(
     shared: &Shared<MemSlot, Pair>,
     pass: &mut Pass<MemSlot, Pair>,
 )
+where
+    H::Dir: Send,
     requires { IsOf shared.now pass.old }
 {
     must_push(rt, shared, pass, &[5, 4]);
@@ -211,7 +217,10 @@ fn holds_all(pass: Pass<MemSlot, Pair>) -> bool {
 }
 
 // A pass beside one that pushes nothing fills three of the four blocks, and is refused a record then.
-fn refuses_one<H: Host + Abort>(rt: &H, alloc: Global) {
+fn refuses_one<H: Host + Abort>(rt: &H, alloc: Global)
+where
+    H::Dir: Send,
+{
     let Session {
         shared,
         one: mut pass,

@@ -3,10 +3,10 @@ ghost use Rattle.std.specs.Prelude.{◌≡◌, [], ◌∷◌};
 ghost use Rattle.ppq_block.specs.Block.{holding};
 
 use ppq_block::BlockBuf;
-use ppq_lane::{Job, JobKind, Lanes, run_job, run_jobs};
-use ppq_outside::{Failed, Host, MemRack, MemSlot, Rack, Slot};
+use ppq_lane::{Job, JobKind, Lanes, Work, overlap, run_job, run_jobs};
+use ppq_outside::{Failed, Gate, Host, MemRack, MemSlot, Rack, Slot};
 use ppq_record::Pair;
-use ppq_testkit::pair;
+use ppq_testkit::{PairGate, pair};
 use std::alloc::Global;
 use std::process::Abort;
 
@@ -50,6 +50,73 @@ impl Slot for GoneSlot {
         into.fill(9);
         self.faults = self.faults.saturating_add(1);
         Err(Failed)
+    }
+}
+
+// A slot in whose write worker 0 enters a gate. It keeps nothing.
+#[derive(Drop)]
+struct MeetSlot<'a> {
+    gate: &'a PairGate,
+    faults: u64,
+    writes: u64,
+}
+
+impl<'a> Slot for MeetSlot<'a> {
+    ghost use Rattle.std.specs.Prelude.{None};
+
+    ghost shown = { λ s. record { told = None; number = 7; size = 32; faults = s.faults; writes = s.writes; reads = 0 } };
+
+    fn number(&self) -> u32 {
+        7
+    }
+
+    fn size(&self) -> usize {
+        32
+    }
+
+    fn faults(&self) -> u64 {
+        self.faults
+    }
+
+    fn writes(&self) -> u64 {
+        self.writes
+    }
+
+    fn reads(&self) -> u64 {
+        0
+    }
+
+    fn write<H: Host>(&mut self, _rt: &H, _bytes: &[u8]) -> Result<(), Failed> {
+        self.gate.enter(0);
+        self.writes = self.writes.saturating_add(1);
+        Ok(())
+    }
+
+    fn read<H: Host>(&mut self, _rt: &H, _into: &mut [u8]) -> Result<(), Failed> {
+        self.faults = self.faults.saturating_add(1);
+        Err(Failed)
+    }
+}
+
+// Work in which worker 1 enters a gate. It adds one to a number.
+#[derive(Drop)]
+struct MeetWork<'a> {
+    gate: &'a PairGate,
+    number: u32,
+}
+
+impl<'a> Work for MeetWork<'a> {
+    type Out = u32;
+
+    ghost use Rattle.std.specs.Prelude.{◌≡◌, ◌+◌, ◌^◌, ◌<◌};
+
+    ghost may_work = { λ w. w.number + 1 < 2 ^ 32 };
+
+    ghost gives = { λ w r. r ≡ w.number + 1 };
+
+    fn work(self) -> u32 {
+        self.gate.enter(1);
+        self.number + 1
     }
 }
 
@@ -151,6 +218,29 @@ fn a_failed_write_leaves_its_buffer_and_a_failed_read_none(rt: HostRuntime) {
     assert!(rt; job.done == Some(Err(Failed)));
     assert_eq!(rt; job.buf.len(), 0);
     assert_eq!(rt; job.slot.faults(), 2);
+}
+
+#[test]
+fn a_job_and_the_work_are_under_way_at_once(rt: HostRuntime) {
+    let gate = PairGate::new();
+    let slot = MeetSlot {
+        gate: &gate,
+        faults: 0,
+        writes: 0,
+    };
+    let mut jobs = [Job {
+        slot,
+        buf: buffer_of(&rt, rt.alloc(), 5),
+        kind: JobKind::Write,
+        done: None,
+    }];
+    let work = MeetWork {
+        gate: &gate,
+        number: 8,
+    };
+    let next = overlap(&rt, &mut jobs, work);
+    assert!(rt; gate.is_passed() & (next == 9));
+    assert!(rt; (jobs[0].done == Some(Ok(()))) & (jobs[0].slot.writes() == 1));
 }
 
 #[test]

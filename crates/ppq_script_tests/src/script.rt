@@ -1,8 +1,13 @@
 //! Scripts read from their bytes.
-ghost use Rattle.std.specs.Prelude.{◌<◌, length};
+ghost use Rattle.std.specs.Prelude.{◌<◌, ◌≡◌, true, drop, length};
+ghost use Rattle.ppq_script.specs.Reading.{command_list};
+ghost use Rattle.ppq_script.specs.Sessions.{are_in_place};
+ghost use Rattle.ppq_script.specs.declared.session.Session.TheVariants.{Outside};
 
 use ppq_outside::{Host, Library, MemLibrary};
-use ppq_script::{CheckFault, Command, Pair, Script, check_files, lines_mean, read};
+use ppq_script::{
+    CheckFault, Command, Numbered, Pair, Part, Script, check_files, lines_mean, read,
+};
 use std::alloc::Global;
 use std::process::Abort;
 
@@ -599,4 +604,91 @@ fn a_failed_call_is_a_read_fault(rt: HostRuntime) {
     assert_eq!(rt; library.faults(), 1);
     let bad = Err(CheckFault::BadLine { line: 3 });
     answers(&rt, alloc, &mut script, &mut library, bad);
+}
+
+// The part of a script from a place on, and the place behind it.
+fn part_from<'a>(rt: &impl Abort, script: &'a Script, place: usize) -> (Part<'a>, usize)
+    requires { are_in_place script.now.workers Outside (drop place (command_list script.now)) ≡ true }
+    ensures { are_in_place script.now.workers Outside (drop result.1 (command_list script.now)) ≡ true }
+{
+    assert!(rt; place < script.len());
+    let part = script.part(place);
+    let next = place.checked_add(part.count()).expect(rt, "place");
+    (part, next)
+}
+
+// Asserts that a checked script has these parts.
+fn has_parts(rt: &impl Abort, script: &Script, parts: &[Part<'static>]) {
+    let ready = script.checked();
+    assert!(rt; ready);
+    let mut place = 0;
+    for part in parts {
+        let (found, next) = part_from(rt, script, place);
+        assert!(rt; found == *part);
+        place = next;
+    }
+    assert_eq!(rt; place, script.len());
+}
+
+// A script for two workers with a session of each kind, and one with no line.
+const SESSIONS: &[u8] =
+    b"push 9 1\nbulk_begin\n#\nbulk_push 1 7 2\nbulk_push 0 8 3\nbulk_end\nlimit_begin 8 0\nlimit_push 1 8 4\nlimit_top\nlimit_pop\nlimit_end\nbulk_begin\nbulk_end\npop\n";
+
+// The commands of it that run together.
+const PARTS: &[Part<'static>] = &[
+    Part::One {
+        command: Command::Push {
+            item: Pair { key: 9, value: 1 },
+        },
+    },
+    Part::Bulk {
+        lines: &[
+            Numbered {
+                line: 4,
+                command: Command::BulkPush {
+                    pass: 1,
+                    item: Pair { key: 7, value: 2 },
+                },
+            },
+            Numbered {
+                line: 5,
+                command: Command::BulkPush {
+                    pass: 0,
+                    item: Pair { key: 8, value: 3 },
+                },
+            },
+        ],
+    },
+    Part::Limit {
+        limit: Pair { key: 8, value: 0 },
+        lines: &[
+            Numbered {
+                line: 8,
+                command: Command::LimitPush {
+                    pass: 1,
+                    item: Pair { key: 8, value: 4 },
+                },
+            },
+            Numbered {
+                line: 9,
+                command: Command::LimitTop,
+            },
+            Numbered {
+                line: 10,
+                command: Command::LimitPop,
+            },
+        ],
+    },
+    Part::Bulk { lines: &[] },
+    Part::One {
+        command: Command::Pop,
+    },
+];
+
+#[test]
+fn a_session_is_one_part(rt: HostRuntime) {
+    let mut script = read_for(&rt, rt.alloc(), SESSIONS, 2);
+    let mut library = MemLibrary::new(rt.alloc());
+    answers(&rt, rt.alloc(), &mut script, &mut library, Ok(()));
+    has_parts(&rt, &script, PARTS);
 }

@@ -108,6 +108,8 @@ fn push_to_one<H: Host + Abort>(
     shared: &Shared<MemSlot, Pair>,
     passes: &mut [Pass<MemSlot, Pair>],
 ) -> Done
+where
+    H::Dir: Send,
     requires { All (IsOf shared.now) passes.old }
     ensures { keys_of passes.new ≡ keys_of passes.old }
 {
@@ -121,6 +123,8 @@ fn push_three<H: Host + Abort>(
     shared: &Shared<MemSlot, Pair>,
     pass: &mut Pass<MemSlot, Pair>,
 ) -> Done
+where
+    H::Dir: Send,
     requires { IsOf shared.now pass.old }
     ensures { pass.new.key ≡ pass.old.key }
 {

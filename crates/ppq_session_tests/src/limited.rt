@@ -169,6 +169,8 @@ fn push_half<H: Host + Abort>(
     worker: usize,
     pass: &mut LimitPass<MemSlot, Pair>,
 )
+where
+    H::Dir: Send,
     requires { IsOf shared.now pass.old.pass }
     ensures key { pass.new.pass.key ≡ pass.old.pass.key }
     ensures limit { pass.new.limit ≡ pass.old.limit }
@@ -233,6 +235,8 @@ fn add_to_first<H: Host + Abort>(
     passes: &mut [LimitPass<MemSlot, Pair>],
     records: &[Pair],
 ) -> Added
+where
+    H::Dir: Send,
     requires { All (λ p. IsOf shared.now p.pass) passes.old }
     ensures keys { (key : _) → All (λ p. p.pass.key ≡ key) passes.old → All (λ p. p.pass.key ≡ key) passes.new }
     ensures limits { (limit : _) → All (λ p. p.limit ≡ limit) passes.old → All (λ p. p.limit ≡ limit) passes.new }
@@ -248,6 +252,8 @@ fn add_all<H: Host + Abort>(
     pass: &mut LimitPass<MemSlot, Pair>,
     records: &[Pair],
 ) -> Added
+where
+    H::Dir: Send,
     requires { IsOf shared.now pass.old.pass }
     ensures key { pass.new.pass.key ≡ pass.old.pass.key }
     ensures limit { pass.new.limit ≡ pass.old.limit }
@@ -275,6 +281,8 @@ fn add<H: Host + Abort>(
     pass: &mut LimitPass<MemSlot, Pair>,
     r: Pair,
 ) -> Result<bool, (Pair, QueueFault)>
+where
+    H::Dir: Send,
     requires { IsOf shared.now pass.old.pass }
     ensures key { pass.new.pass.key ≡ pass.old.pass.key }
     ensures limit { pass.new.limit ≡ pass.old.limit }

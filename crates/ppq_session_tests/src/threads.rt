@@ -16,6 +16,8 @@ fn push_hundred<H: Host + Abort>(
     worker: u64,
     pass: &mut Pass<MemSlot, Pair>,
 )
+where
+    H::Dir: Send,
     requires { IsOf shared.now pass.old }
     ensures { pass.new.key ≡ pass.old.key }
 {
