@@ -1,7 +1,8 @@
 -- A body with wide lanes can store a run.
 use Rattle.std.proofs.Common.{◌≡◌, ℕ, ◌-◌, ◌*◌, ◌<◌, ◌≤◌, ◌^◌, List, [], length, All, sym, ap, subst, arith}
 use Rattle.std.specs.declared.cmp.Ordering.{Ordering}
-use Rattle.ppq_record.specs.Order.{Ascends, IsTotalOrder}
+use Rattle.std.specs.Cmp.{IsTotalOrder}
+use Rattle.ppq_record.specs.Order.{Ascends}
 use Rattle.ppq_record.specs.Bag.{front}
 use Rattle.ppq_record.proofs.Fronts.{IsFront-front}
 use Rattle.ppq_outside.specs.Shown.{Shown}
