@@ -22,7 +22,8 @@ use Rattle.ppq_fetch.specs.Fetching.{state, one_if_some, IsFitting, loaded_lists
 use Rattle.ppq_extract.specs.Emptied.{LostOnly, IsEmptyRun, IsEmptyArray}
 use Rattle.ppq_extract.proofs.Removing.{sum_lost, length_lost, All_lost}
 use Rattle.ppq_extract.proofs.Emptying.{no_length, no_size, no_buffers_in, no_items_in, no_waiting}
-use Rattle.ppq_extract.proofs.Sums.{SameSums, sum_flat_map, sum_all_of, sum_two_of, same_length, same_before}
+use Rattle.ppq_fetch.proofs.Sums.{sum_flat_map, sum_all_of, sum_two_of}
+use Rattle.ppq_extract.proofs.Sums.{SameSums, same_length, same_before}
 
 thin_each : {X : Type 0} (IsLost : X → Type 0) (xs ys : List X) → LostOnly IsLost xs ys → (P : X → Type 0) → Each P xs → Each P ys
 thin_each IsLost xs ys l P each = recursion_from_All P ys (All_lost IsLost xs ys l P (All-from_recursion P xs each))
