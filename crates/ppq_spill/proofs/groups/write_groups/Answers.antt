@@ -79,11 +79,8 @@ write_beside-filled-requires-clause-may g c κs within =
       ready = i.ready;
     }
 
-pub end_group-requires-clause-none_lifted : goal.end_group-requires-clause-none_lifted
-end_group-requires-clause-none_lifted g c = ap (λ a. a.lifted) c.groups.invariant.under.writing.shape
-
-pub end_group-requires-clause-can : goal.end_group-requires-clause-can
-end_group-requires-clause-can g c =
+pub end_group-requires : goal.end_group-requires
+end_group-requires g c =
     let l = c.groups in
     let goes = l.invariant.under in
     let cmp = g.R.Ord.cmp in
@@ -96,101 +93,26 @@ end_group-requires-clause-can g c =
     let slots = c.args.making.now.berths in
     let block = block_in body.lanes.idle in
     let group = c.args.group in
+    let may = c.requires.may in
     let begin = c.begin_group in
     let begun = begin.new.jobs.items in
     let next = c.write_beside-filled in
     let done = next.new.jobs in
     let zip = subst (λ js. AllZip (Ran cmp b f w block shown) js done) c.deref_mut.ensures.value next.ensures.jobs in
     let whole = lent_back begin.new.jobs.len done (drop (length done) begun) (sym c.deref_mut.ensures.len ∙ sym next.auto.jobs) in
-    subst (All (CanEnd f w shown)) (sym whole) (group_can_end cmp b f w block shown group sorted body.runs.internal.items body.lanes.idle slots l.body l.making l.at l.filled goes begin.new.berths begun begin.ensures.slots begin.ensures.bufs begin.ensures.write done zip c.requires.may.some)
-
-pub end_group-requires-clause-few_idle : goal.end_group-requires-clause-few_idle
-end_group-requires-clause-few_idle g c =
-    let l = c.groups in
-    let goes = l.invariant.under in
-    let cmp = g.R.Ord.cmp in
-    let b = g.R.Record.bytes_of in
-    let f = g.R.Record.record_of in
-    let w = g.R.Record.WIDTH in
-    let shown = g.S.Slot.shown in
-    let body = c.args.body.now in
-    let sorted = c.args.sorted.now in
-    let slots = c.args.making.now.berths in
-    let block = block_in body.lanes.idle in
-    let group = c.args.group in
-    let begin = c.begin_group in
-    let begun = begin.new.jobs.items in
-    let next = c.write_beside-filled in
-    let done = next.new.jobs in
-    let zip = subst (λ js. AllZip (Ran cmp b f w block shown) js done) c.deref_mut.ensures.value next.ensures.jobs in
-    let whole = lent_back begin.new.jobs.len done (drop (length done) begun) (sym c.deref_mut.ensures.len ∙ sym next.auto.jobs) in
-    omega (arith, ap length whole, group_long cmp b f w block shown group sorted body.runs.internal.items body.lanes.idle slots l.body l.making l.at l.filled goes begin.new.berths begun begin.ensures.slots begin.ensures.bufs begin.ensures.write done zip, next.ensures.filled.left, goes.idle_left, c.requires.may.few_idle)
-
-pub end_group-requires-clause-few_slots : goal.end_group-requires-clause-few_slots
-end_group-requires-clause-few_slots g c =
-    let l = c.groups in
-    let goes = l.invariant.under in
-    let cmp = g.R.Ord.cmp in
-    let b = g.R.Record.bytes_of in
-    let f = g.R.Record.record_of in
-    let w = g.R.Record.WIDTH in
-    let shown = g.S.Slot.shown in
-    let body = c.args.body.now in
-    let sorted = c.args.sorted.now in
-    let slots = c.args.making.now.berths in
-    let block = block_in body.lanes.idle in
-    let group = c.args.group in
-    let begin = c.begin_group in
-    let begun = begin.new.jobs.items in
-    let next = c.write_beside-filled in
-    let done = next.new.jobs in
-    let zip = subst (λ js. AllZip (Ran cmp b f w block shown) js done) c.deref_mut.ensures.value next.ensures.jobs in
-    let whole = lent_back begin.new.jobs.len done (drop (length done) begun) (sym c.deref_mut.ensures.len ∙ sym next.auto.jobs) in
-    omega (arith, ap length whole, group_slots cmp b f w block shown group sorted body.runs.internal.items body.lanes.idle slots l.body l.making l.at l.filled goes begin.new.berths begun begin.ensures.slots begin.ensures.bufs begin.ensures.write done zip, c.requires.may.few_slots)
-
-pub end_group-requires-clause-room : goal.end_group-requires-clause-room
-end_group-requires-clause-room g c =
-    let l = c.groups in
-    let goes = l.invariant.under in
-    let cmp = g.R.Ord.cmp in
-    let b = g.R.Record.bytes_of in
-    let f = g.R.Record.record_of in
-    let w = g.R.Record.WIDTH in
-    let shown = g.S.Slot.shown in
-    let body = c.args.body.now in
-    let sorted = c.args.sorted.now in
-    let slots = c.args.making.now.berths in
-    let block = block_in body.lanes.idle in
-    let group = c.args.group in
-    let begin = c.begin_group in
-    let begun = begin.new.jobs.items in
-    let next = c.write_beside-filled in
-    let done = next.new.jobs in
-    let zip = subst (λ js. AllZip (Ran cmp b f w block shown) js done) c.deref_mut.ensures.value next.ensures.jobs in
-    let whole = lent_back begin.new.jobs.len done (drop (length done) begun) (sym c.deref_mut.ensures.len ∙ sym next.auto.jobs) in
-    omega (arith, ap length whole, group_slots cmp b f w block shown group sorted body.runs.internal.items body.lanes.idle slots l.body l.making l.at l.filled goes begin.new.berths begun begin.ensures.slots begin.ensures.bufs begin.ensures.write done zip, c.requires.may.few_slots)
-
-pub end_group-requires-clause-few : goal.end_group-requires-clause-few
-end_group-requires-clause-few g c =
-    let l = c.groups in
-    let goes = l.invariant.under in
-    let cmp = g.R.Ord.cmp in
-    let b = g.R.Record.bytes_of in
-    let f = g.R.Record.record_of in
-    let w = g.R.Record.WIDTH in
-    let shown = g.S.Slot.shown in
-    let body = c.args.body.now in
-    let sorted = c.args.sorted.now in
-    let slots = c.args.making.now.berths in
-    let block = block_in body.lanes.idle in
-    let group = c.args.group in
-    let begin = c.begin_group in
-    let begun = begin.new.jobs.items in
-    let next = c.write_beside-filled in
-    let done = next.new.jobs in
-    let zip = subst (λ js. AllZip (Ran cmp b f w block shown) js done) c.deref_mut.ensures.value next.ensures.jobs in
-    let whole = lent_back begin.new.jobs.len done (drop (length done) begun) (sym c.deref_mut.ensures.len ∙ sym next.auto.jobs) in
-    omega (arith, ap items_in whole, group_few cmp b f w block shown group sorted body.runs.internal.items body.lanes.idle slots l.body l.making l.at l.filled goes begin.new.berths begun begin.ensures.slots begin.ensures.bufs begin.ensures.write done zip, c.requires.may.few, length-append (internal_items body.runs.internal.items) sorted)
+    let runs = body.runs.internal.items in
+    let idle = body.lanes.idle in
+    let taken = group_slots cmp b f w block shown group sorted runs idle slots l.body l.making l.at l.filled goes begin.new.berths begun begin.ensures.slots begin.ensures.bufs begin.ensures.write done zip in
+    let long = group_long cmp b f w block shown group sorted runs idle slots l.body l.making l.at l.filled goes begin.new.berths begun begin.ensures.slots begin.ensures.bufs begin.ensures.write done zip in
+    let few = group_few cmp b f w block shown group sorted runs idle slots l.body l.making l.at l.filled goes begin.new.berths begun begin.ensures.slots begin.ensures.bufs begin.ensures.write done zip in
+    record {
+      none_lifted = ap (λ a. a.lifted) goes.writing.shape;
+      can = subst (All (CanEnd f w shown)) (sym whole) (group_can_end cmp b f w block shown group sorted runs idle slots l.body l.making l.at l.filled goes begin.new.berths begun begin.ensures.slots begin.ensures.bufs begin.ensures.write done zip may.some);
+      few_idle = omega (arith, ap length whole, long, next.ensures.filled.left, goes.idle_left, may.few_idle);
+      few_slots = omega (arith, ap length whole, taken, may.few_slots);
+      room = omega (arith, ap length whole, taken, may.few_slots);
+      few = omega (arith, ap items_in whole, few, may.few, length-append (internal_items runs) sorted);
+    }
 
 pub put_back-requires : goal.put_back-requires
 put_back-requires g c =
