@@ -1,5 +1,5 @@
 //! A batch of lines of a session.
-ghost use Rattle.std.specs.Prelude.{◌≡◌, ◌≤◌, ◌<◌, ◌+◌, ◌++◌, false, length, Some, IsTrue, slice_get, vec_len, vec_capacity};
+ghost use Rattle.std.specs.Prelude.{◌≡◌, ◌≤◌, ◌<◌, ◌+◌, ◌++◌, false, length, Some, IsTrue, slice_get, vec_len, vec_capacity, IfOk};
 ghost use Rattle.ppq_script.specs.ppq_record.declared.pair.Pair.{Pair};
 ghost use Rattle.ppq_script.specs.Parts.{AreLines, commands_of};
 ghost use Rattle.ppq_script.specs.declared.session.Session.TheVariants.{InLimit};
@@ -47,6 +47,7 @@ impl Batch {
     // No line, with memory for so many.
     pub fn new(alloc: Global, most: u32) -> Result<Batch, Memory>
         requires { 0 < most }
+        ensures { IfOk result (λ batch. batch.lines.most ≡ most) }
     {
         let lines = Collected::new(alloc, most)?;
         let asks = Vec::with_capacity(alloc, lines.most)?;

@@ -1,5 +1,5 @@
 //! Lines of a session that are collected before its passes get them.
-ghost use Rattle.std.specs.Prelude.{◌≡◌, ◌≤◌, ◌<◌, ◌+◌, ◌++◌, length, vec_len, vec_capacity};
+ghost use Rattle.std.specs.Prelude.{◌≡◌, ◌≤◌, ◌<◌, ◌+◌, ◌++◌, [], length, vec_len, vec_capacity, IfOk};
 ghost use Rattle.ppq_script.specs.Parts.{commands_of};
 ghost use Rattle.ppq_engine.specs.Pushes.{line_by, lines_in};
 
@@ -23,6 +23,8 @@ impl Collected {
     // No line, with memory for so many.
     pub fn new(alloc: Global, most: u32) -> Result<Collected, Memory>
         requires { 0 < most }
+        ensures most { IfOk result (λ lines. lines.most ≡ most) }
+        ensures none { IfOk result (λ lines. lines.items.items ≡ []) }
     {
         let most = most as usize;
         let items = Vec::with_capacity(alloc, most)?;
