@@ -1,0 +1,5 @@
+pub mod Folds
+pub mod Noticed
+pub mod Rows
+pub mod Steps
+pub mod Words

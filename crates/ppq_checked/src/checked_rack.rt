@@ -1,0 +1,54 @@
+//! A device of blocks that notice when what is read is not what was written.
+ghost use Rattle.std.specs.Prelude.{◌≡◌};
+
+use crate::Checked;
+use ppq_outside::{Host, OutsideFault, Rack};
+use std::alloc::Global;
+
+/// A device of checked blocks, over another device: its blocks are those of the device inside, each in a
+/// [`Checked`].
+///
+/// Whether its contents are visible to proofs, which blocks it made and how many calls failed are those of the
+/// device inside.
+#[derive(Drop)]
+pub struct CheckedRack<R: Rack + Drop> {
+    // the device that makes the blocks
+    inside: R,
+}
+
+impl<R: Rack + Drop> CheckedRack<R> {
+    /// A device over another one. It makes no block.
+    pub fn new(inside: R) -> Self
+        ensures { result.inside ≡ inside }
+    {
+        CheckedRack { inside }
+    }
+}
+
+impl<R: Rack + Drop> Rack for CheckedRack<R> {
+    type Slot = Checked<R::Slot>;
+
+    ghost tells = { λ r. R.tells r.inside };
+
+    ghost made = { λ r. R.made r.inside };
+
+    ghost faults = { λ r. R.faults r.inside };
+
+    fn faults(&self) -> u64 {
+        self.inside.faults()
+    }
+
+    fn block<H: Host>(
+        &mut self,
+        rt: &H,
+        alloc: Global,
+        device: &str,
+        number: u32,
+        bytes: usize,
+    ) -> Result<Checked<R::Slot>, OutsideFault> {
+        match self.inside.block(rt, alloc, device, number, bytes) {
+            Ok(slot) => Ok(Checked::new(slot)),
+            Err(fault) => Err(fault),
+        }
+    }
+}
