@@ -4,22 +4,29 @@ ghost use Rattle.std.specs.Prelude.{◌≡◌};
 use crate::Checked;
 use ppq_outside::{Host, OutsideFault, Rack};
 use std::alloc::Global;
+use std::marker::Model;
 
 /// A device of checked blocks, over another device: its blocks are those of the device inside, each in a
 /// [`Checked`].
 ///
-/// Whether its contents are visible to proofs, which blocks it made and how many calls failed are those of the
-/// device inside.
+/// Contracts see the device inside: whether its contents are visible to proofs, which blocks it made, and how many
+/// calls failed.
 #[derive(Drop)]
 pub struct CheckedRack<R: Rack + Drop> {
     // the device that makes the blocks
     inside: R,
 }
 
+impl<R: Rack + Drop> Model for CheckedRack<R> {
+    ghost Value = { R };
+
+    ghost view = { λ r. r.inside };
+}
+
 impl<R: Rack + Drop> CheckedRack<R> {
     /// A device over another one. It makes no block.
     pub fn new(inside: R) -> Self
-        ensures { result.inside ≡ inside }
+        ensures { result ≡ inside }
     {
         CheckedRack { inside }
     }
@@ -28,11 +35,11 @@ impl<R: Rack + Drop> CheckedRack<R> {
 impl<R: Rack + Drop> Rack for CheckedRack<R> {
     type Slot = Checked<R::Slot>;
 
-    ghost tells = { λ r. R.tells r.inside };
+    ghost tells = { R.tells };
 
-    ghost made = { λ r. R.made r.inside };
+    ghost made = { R.made };
 
-    ghost faults = { λ r. R.faults r.inside };
+    ghost faults = { R.faults };
 
     fn faults(&self) -> u64 {
         self.inside.faults()
