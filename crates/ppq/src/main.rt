@@ -3,7 +3,9 @@
 //! `main` hands the real outside in, reports on standard error and ends with the status.
 #![tactic(auto)]
 
-use ppq_cli::{DirLibrary, FileRack, OpenGate, StdSink, report_end, run_and_report, words_of};
+use ppq_cli::{
+    CheckedRack, DirLibrary, FileRack, OpenGate, StdSink, report_end, run_and_report, words_of,
+};
 use std::process::ExitCode;
 
 fn main(rt: HostRuntime) -> ExitCode {
@@ -14,7 +16,7 @@ fn main(rt: HostRuntime) -> ExitCode {
             rt.alloc(),
             &words,
             &mut DirLibrary::new(),
-            &mut FileRack::new(),
+            &mut CheckedRack::new(FileRack::new()),
             &OpenGate,
             &mut StdSink::out(),
             &mut errors,

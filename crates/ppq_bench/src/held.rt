@@ -1,6 +1,7 @@
 //! Records that are held in a queue over a device file, while others come and go.
 use crate::load::out_of_memory;
 use crate::slots::make_slots;
+use ppq_checked::{Checked, CheckedRack};
 use ppq_edge::{FileRack, FileSlot};
 use ppq_queue::{Host, OpenGate, Pair, Queue, QueueFault, Sizes};
 use std::alloc::Global;
@@ -71,7 +72,7 @@ fn sizes_for(shape: Shape, count: u32, workers: u32) -> Option<Sizes> {
 }
 
 // Adds a record.
-fn push<H: Host>(rt: &H, queue: &mut Queue<FileSlot, Pair>, item: Pair) -> io::Result<()>
+fn push<H: Host>(rt: &H, queue: &mut Queue<Checked<FileSlot>, Pair>, item: Pair) -> io::Result<()>
 where
     H::Dir: Send,
 {
@@ -82,7 +83,7 @@ where
 }
 
 // Removes the least record of a queue that is not empty.
-fn pop<H: Host>(rt: &H, queue: &mut Queue<FileSlot, Pair>) -> io::Result<Pair>
+fn pop<H: Host>(rt: &H, queue: &mut Queue<Checked<FileSlot>, Pair>) -> io::Result<Pair>
 where
     H::Dir: Send,
 {
@@ -96,7 +97,7 @@ where
 // Adds so many records with keys below 2^40, and gives the generator's number after them.
 fn fill<H: Host>(
     rt: &H,
-    queue: &mut Queue<FileSlot, Pair>,
+    queue: &mut Queue<Checked<FileSlot>, Pair>,
     seed: u64,
     count: u32,
 ) -> io::Result<u64>
@@ -122,7 +123,7 @@ where
 // So many times removes the least record and adds one whose key is greater by a number below 2^40.
 fn turn_over<H: Host>(
     rt: &H,
-    queue: &mut Queue<FileSlot, Pair>,
+    queue: &mut Queue<Checked<FileSlot>, Pair>,
     from: u64,
     count: u32,
 ) -> io::Result<Removed>
@@ -162,7 +163,7 @@ pub(crate) struct Task {
 // Adds the records of a task to a queue, and turns them over once.
 fn fill_and_turn<H: Host>(
     rt: &H,
-    queue: &mut Queue<FileSlot, Pair>,
+    queue: &mut Queue<Checked<FileSlot>, Pair>,
     task: Task,
 ) -> io::Result<Removed>
 where
@@ -178,8 +179,8 @@ fn open<H: Host>(
     alloc: Global,
     device: &str,
     sizes: Sizes,
-) -> io::Result<Queue<FileSlot, Pair>> {
-    let slots = make_slots(rt, alloc, &mut FileRack::new(), device, sizes)?;
+) -> io::Result<Queue<Checked<FileSlot>, Pair>> {
+    let slots = make_slots(rt, alloc, &mut CheckedRack::new(FileRack::new()), device, sizes)?;
     Queue::open(alloc, sizes, slots).map_err(|_| out_of_memory())
 }
 

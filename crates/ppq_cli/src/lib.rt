@@ -17,6 +17,7 @@ mod twice;
 mod whole;
 
 pub use arguments::words_of;
+pub use ppq_checked::CheckedRack;
 pub use ppq_edge::{DirLibrary, FileRack, StdSink};
 pub use ppq_engine::{End, Ended};
 pub use ppq_words::OpenGate;

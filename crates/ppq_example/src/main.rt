@@ -6,6 +6,7 @@
 ghost use Rattle.std.specs.Prelude.{map, IfOk};
 ghost use Rattle.ppq_queue.specs.Holding.{AreNewSlots};
 
+use ppq_checked::{Checked, CheckedRack};
 use ppq_edge::{FileRack, FileSlot};
 use ppq_queue::{
     Host, OpenFault, OpenGate, OutsideFault, Pair, Queue, QueueFault, Rack, Record, Sizes, Slot,
@@ -19,7 +20,7 @@ const MACHINES: u64 = 2000;
 const PIECES: u64 = 20000;
 
 // The time at which a machine is done, and its number.
-type Events = Queue<FileSlot, Pair>;
+type Events = Queue<Checked<FileSlot>, Pair>;
 
 // Why the simulation stopped early.
 #[derive(Debug, Drop)]
@@ -51,7 +52,8 @@ fn make_blocks<H: Host, K: Rack>(
 // Opens a queue over the blocks of a device file.
 fn open<H: Host>(rt: &H, alloc: Global) -> Result<Events, Fault> {
     let sizes = Sizes::new(2, 16, 1, 2048, 330).unwrap();
-    let blocks = make_blocks(rt, alloc, &mut FileRack::new(), sizes).map_err(Fault::Device)?;
+    let mut rack = CheckedRack::new(FileRack::new());
+    let blocks = make_blocks(rt, alloc, &mut rack, sizes).map_err(Fault::Device)?;
     Queue::open(alloc, sizes, blocks).map_err(|refused| Fault::Open(refused.1))
 }
 

@@ -2,7 +2,7 @@
 //! line and the status with which it ends, and whether blocks were written as often as they must and may be.
 #![tactic(auto)]
 
-use ppq_cli::{DirLibrary, FileRack, OpenGate, StdSink, report, run_words, status};
+use ppq_cli::{CheckedRack, DirLibrary, FileRack, OpenGate, StdSink, report, run_words, status};
 use ppq_outside::{Host, Slot};
 use std::alloc::{AllocError, Global};
 use std::process::ExitCode;
@@ -103,7 +103,7 @@ where
         alloc,
         &words,
         &mut DirLibrary::new(),
-        &mut FileRack::new(),
+        &mut CheckedRack::new(FileRack::new()),
         &OpenGate,
         &mut out,
     );
