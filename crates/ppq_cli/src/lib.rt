@@ -18,7 +18,7 @@ mod whole;
 
 pub use arguments::words_of;
 pub use ppq_checked::CheckedRack;
-pub use ppq_edge::{DirLibrary, FileRack, StdSink};
+pub use ppq_edge::{DirLibrary, FileRack, NamedFiles, StdSink};
 pub use ppq_engine::{End, Ended};
 pub use ppq_words::OpenGate;
 pub use program::{report_end, run_and_report};

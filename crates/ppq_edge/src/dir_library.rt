@@ -2,9 +2,10 @@
 ghost use Rattle.std.specs.Prelude.{None, ◌≡◌, ◌≤◌, ⊤};
 ghost use Rattle.ppq_outside.specs.Told.{Rose};
 
+use crate::NamedFiles;
 use ppq_outside::{Host, Library, OutsideFault};
-use std::alloc::Global;
-use std::fs::{self, File};
+use std::alloc::{AllocError, Global};
+use std::fs::{self, File, Metadata};
 use std::io::ErrorKind;
 use std::os::unix::fs::FileExt;
 
@@ -14,17 +15,41 @@ use std::os::unix::fs::FileExt;
 /// A folder, a pipe or a device is there and has no length that its reads could keep to, so it is
 /// a fault to ask for it.
 #[derive(Drop)]
-pub struct DirLibrary {
+pub struct DirLibrary<'a> {
+    // where it adds the files that it is asked for
+    named: Option<&'a NamedFiles>,
     // how many calls failed
     faults: u64,
 }
 
-impl DirLibrary {
+impl<'a> DirLibrary<'a> {
     /// A library without a fault so far.
     pub fn new() -> Self
-        ensures { ⟦<DirLibrary as Library>⟧.faults result ≡ 0 }
+        ensures { ⟦<DirLibrary<'a> as Library>⟧.faults result ≡ 0 }
     {
-        DirLibrary { faults: 0 }
+        DirLibrary {
+            named: None,
+            faults: 0,
+        }
+    }
+
+    /// The same, which adds each plain file that it is asked for to these. So a question after a length may
+    /// allocate.
+    pub fn naming(named: &'a NamedFiles) -> Self
+        ensures { ⟦<DirLibrary<'a> as Library>⟧.faults result ≡ 0 }
+    {
+        DirLibrary {
+            named: Some(named),
+            faults: 0,
+        }
+    }
+
+    // Adds a file that it was asked for, where it does so.
+    fn add(&self, alloc: Global, data: &Metadata) -> Result<(), AllocError> {
+        match self.named {
+            Some(named) => named.add(alloc, data),
+            None => Ok(()),
+        }
     }
 
     // Counts a failed call.
@@ -38,7 +63,7 @@ impl DirLibrary {
     }
 }
 
-impl Library for DirLibrary {
+impl<'a> Library for DirLibrary<'a> {
     ghost told = { λ _. None };
 
     ghost replied = { λ _ _. ⊤ };
@@ -52,11 +77,14 @@ impl Library for DirLibrary {
     fn length<H: Host>(
         &mut self,
         rt: &H,
-        _alloc: Global,
+        alloc: Global,
         name: &str,
     ) -> Result<Option<u64>, OutsideFault> {
         match fs::metadata(rt, name) {
-            Ok(data) if data.is_file() => Ok(Some(data.len())),
+            Ok(data) if data.is_file() => {
+                self.add(alloc, &data)?;
+                Ok(Some(data.len()))
+            }
             Ok(_) => Err(self.fault()),
             Err(error) => {
                 if error.kind() == ErrorKind::NotFound {

@@ -2,7 +2,7 @@
 ghost use Rattle.std.specs.Prelude.{◌≡◌, ◌≤◌, ⊤};
 ghost use Rattle.ppq_outside.specs.Told.{Rose};
 
-use crate::FileSlot;
+use crate::{FileSlot, NamedFiles};
 use ppq_outside::{Host, OutsideFault, Rack};
 use std::alloc::Global;
 use std::fs::{File, Files, TryLockError};
@@ -17,19 +17,34 @@ use std::sync::Arc;
 /// A plain file is locked as long as a block of it lives: a second device in it is refused, of this process or
 /// of another, and what the first one keeps there stays. A file system without locks goes without.
 #[derive(Drop)]
-pub struct FileRack {
+pub struct FileRack<'a> {
+    // the files that are no device of its
+    spared: Option<&'a NamedFiles>,
     // the device file, once block 0 was made
     file: Option<Arc<File, Global>>,
     // how many calls failed
     faults: u64,
 }
 
-impl FileRack {
+impl<'a> FileRack<'a> {
     /// A device of which no block was made yet. It opens no file.
     pub fn new() -> Self
-        ensures { ⟦<FileRack as Rack>⟧.faults result ≡ 0 }
+        ensures { ⟦<FileRack<'a> as Rack>⟧.faults result ≡ 0 }
     {
         FileRack {
+            spared: None,
+            file: None,
+            faults: 0,
+        }
+    }
+
+    /// The same, which leaves each of these files as it is, if its device would be one of them: the making of
+    /// block 0 then fails.
+    pub fn sparing(spared: &'a NamedFiles) -> Self
+        ensures { ⟦<FileRack<'a> as Rack>⟧.faults result ≡ 0 }
+    {
+        FileRack {
+            spared: Some(spared),
             file: None,
             faults: 0,
         }
@@ -64,16 +79,25 @@ fn claim(file: &File) -> io::Result<()> {
     file.set_len(0)
 }
 
-// The file of a device. What is no plain file, as /dev/full, is not locked, and has no length.
-fn create_device<F: Files<File = File>>(files: &F, device: &str) -> io::Result<File> {
+// The file of a device, unless it is to be spared. What is no plain file, as /dev/full, is not locked, and has no
+// length.
+fn create_device<F: Files<File = File>>(
+    files: &F,
+    device: &str,
+    spared: Option<&NamedFiles>,
+) -> io::Result<File> {
     let file = open_device(files, device)?;
-    if file.metadata()?.is_file() {
+    let data = file.metadata()?;
+    if spared.is_some_and(|named| named.has(&data)) {
+        return Err(io::Error::from(ErrorKind::PermissionDenied));
+    }
+    if data.is_file() {
         claim(&file)?;
     }
     Ok(file)
 }
 
-impl Rack for FileRack {
+impl<'a> Rack for FileRack<'a> {
     type Slot = FileSlot;
 
     ghost tells = { λ _. ⊥ };
@@ -95,7 +119,7 @@ impl Rack for FileRack {
         bytes: usize,
     ) -> Result<FileSlot, OutsideFault> {
         if number == 0 {
-            let Ok(file) = create_device(rt, device) else {
+            let Ok(file) = create_device(rt, device, self.spared) else {
                 return Err(self.fault());
             };
             self.file = Some(Arc::new(alloc, file)?);

@@ -2,7 +2,9 @@
 //! line and the status with which it ends, and whether blocks were written as often as they must and may be.
 #![tactic(auto)]
 
-use ppq_cli::{CheckedRack, DirLibrary, FileRack, OpenGate, StdSink, report, run_words, status};
+use ppq_cli::{
+    CheckedRack, DirLibrary, FileRack, NamedFiles, OpenGate, StdSink, report, run_words, status,
+};
 use ppq_outside::{Host, Slot};
 use std::alloc::{AllocError, Global};
 use std::process::ExitCode;
@@ -98,12 +100,13 @@ where
     println!(rt; "ppq {}", example.words).map_err(|_| Stop::Print)?;
     let words = words_in(alloc, example.words).map_err(|_| Stop::Memory)?;
     let mut out = StdSink::out();
+    let named = NamedFiles::new();
     let ended = run_words(
         rt,
         alloc,
         &words,
-        &mut DirLibrary::new(),
-        &mut CheckedRack::new(FileRack::new()),
+        &mut DirLibrary::naming(&named),
+        &mut CheckedRack::new(FileRack::sparing(&named)),
         &OpenGate,
         &mut out,
     );
