@@ -2,10 +2,11 @@
 ghost use Rattle.std.specs.Prelude.{None, ◌<◌, ◌^◌, ⊤};
 
 use crate::memory::{TWO, sink_in, words_in};
-use ppq_cli::{DirLibrary, FileRack, OpenGate, run_and_report};
-use ppq_outside::{Host, Library, OutsideFault};
+use ppq_cli::{CheckedRack, DirLibrary, FileRack, NamedFiles, OpenGate, run_and_report};
+use ppq_outside::{Host, Library, OutsideFault, Rack};
 use std::alloc::Global;
 use std::fs;
+use std::os::unix::fs::symlink;
 use std::process::Abort;
 
 // Sizes by which a file is read by four records at once, and the third record of a queue is written.
@@ -29,17 +30,20 @@ fn write_file<H: Host + Abort>(rt: &H, name: &str, bytes: &[u8]) {
     fs::write(rt, name, bytes).expect(rt, "a file");
 }
 
-// Asserts what the program does for a line of words, over a library.
-fn does<H: Host + Abort, L: Library>(
+// Asserts what the program does for a line of words, over a library and a device.
+fn does<H: Host + Abort, L: Library, K: Rack>(
     rt: &H,
     alloc: Global,
     line: &str,
     library: &mut L,
+    rack: &mut K,
     outcome: Outcome,
 )
 where
     H::Dir: Send,
-    requires { L.faults library.old < 2 ^ 63 }
+    K::Slot: Send + Sync,
+    requires library { L.faults library.old < 2 ^ 63 }
+    requires rack { K.faults rack.old < 2 ^ 63 }
 {
     let words = words_in(rt, alloc, line);
     let mut out = sink_in(rt, alloc);
@@ -49,7 +53,7 @@ where
         alloc,
         &words,
         library,
-        &mut FileRack::new(),
+        rack,
         &OpenGate,
         &mut out,
         &mut errors,
@@ -76,7 +80,8 @@ where
     let name = format!(in alloc; "{folder}/s.ppq").expect(rt, "memory");
     write_file(rt, name.as_str(), script.as_bytes());
     let line = format!(in alloc; "run {name} --device {device} {SIZES}").expect(rt, "memory");
-    does(rt, alloc, line.as_str(), library, outcome);
+    let mut rack = CheckedRack::new(FileRack::new());
+    does(rt, alloc, line.as_str(), library, &mut rack, outcome);
 }
 
 // Scripts, the device of each, and what the program does.
@@ -150,7 +155,15 @@ const WORDS: &[(&str, Outcome<'static>)] = &[
 #[test]
 fn words_and_scripts_that_cannot_be_used_are_reported(rt: HostRuntime) {
     for (line, outcome) in WORDS {
-        does(&rt, rt.alloc(), line, &mut DirLibrary::new(), *outcome);
+        let mut rack = FileRack::new();
+        does(
+            &rt,
+            rt.alloc(),
+            line,
+            &mut DirLibrary::new(),
+            &mut rack,
+            *outcome,
+        );
     }
 }
 
@@ -232,22 +245,22 @@ fn a_name_of_255_bytes_names_a_file_and_a_longer_one_does_not(rt: HostRuntime) {
     remove_folder(&rt, "ppq_cli_name");
 }
 
-// A record file that is cut.
-const CUT: &str = "ppq_cli_cut/records";
-
-// The files of the machine, of which somebody cuts the record file at 80 bytes once its first four
-// records were read.
+// The files of the machine, of which somebody writes bytes over one once the first four records of a record file
+// were read.
 #[derive(Drop)]
-struct CutLibrary {
-    files: DirLibrary,
+struct ChangedFiles {
+    files: DirLibrary<'static>,
+    records: &'static str,
+    changed: &'static str,
+    bytes: &'static [u8],
 }
 
-impl Library for CutLibrary {
+impl Library for ChangedFiles {
     ghost told = { λ _. None };
 
     ghost replied = { λ _ _. ⊤ };
 
-    ghost faults = { λ c. ⟦<DirLibrary as Library>⟧.faults c.files };
+    ghost faults = { λ c. ⟦<DirLibrary<'static> as Library>⟧.faults c.files };
 
     fn faults(&self) -> u64 {
         self.files.faults()
@@ -270,9 +283,9 @@ impl Library for CutLibrary {
         at: u64,
         into: &mut [u8],
     ) -> Result<usize, OutsideFault> {
-        if name == CUT && at > 0 {
-            // If this fails, the test finds the file whole.
-            let _ = fs::write(rt, CUT, [0u8; 80].as_slice());
+        if name == self.records && at > 0 {
+            // If this fails, the test finds the file as it was.
+            let _ = fs::write(rt, self.changed, self.bytes);
         }
         self.files.read_at(rt, alloc, name, at, into)
     }
@@ -282,10 +295,14 @@ impl Library for CutLibrary {
 
 #[test]
 fn a_file_that_is_cut_while_it_is_read_has_changed(rt: HostRuntime) {
+    let records = "ppq_cli_cut/records";
     make_folder(&rt, "ppq_cli_cut");
-    write_file(&rt, CUT, &[0; 160]);
-    let mut library = CutLibrary {
+    write_file(&rt, records, &[0; 160]);
+    let mut library = ChangedFiles {
         files: DirLibrary::new(),
+        records,
+        changed: records,
+        bytes: &[0; 80],
     };
     let script = "size\nbulk ppq_cli_cut/records\npop\n";
     let report = b"ppq: line 2: file changed, said 160, got 80\n";
@@ -301,6 +318,78 @@ fn a_file_that_is_cut_while_it_is_read_has_changed(rt: HostRuntime) {
     );
     assert_eq!(rt; library.faults(), 0);
     remove_folder(&rt, "ppq_cli_cut");
+}
+
+#[test]
+fn a_block_that_somebody_wrote_over_has_failed(rt: HostRuntime) {
+    let records = "ppq_cli_wrong/records";
+    make_folder(&rt, "ppq_cli_wrong");
+    write_file(&rt, records, &[7; 160]);
+    // All blocks of the device become zeros, which a queue would take for records 0 0. By then block 0 has 1 0
+    // and 2 0, the first records that are popped.
+    let mut library = ChangedFiles {
+        files: DirLibrary::new(),
+        records,
+        changed: "ppq_cli_wrong/s.device",
+        bytes: &[0; 54_400],
+    };
+    let script = "push 2 0\npush 1 0\npush 3 0\nbulk ppq_cli_wrong/records\nsize\npop\n";
+    let report = b"ppq: device block 0 failed\n";
+    let outcome = (5, b"13\n".as_slice(), report.as_slice());
+    does_script(
+        &rt,
+        rt.alloc(),
+        "ppq_cli_wrong",
+        "ppq_cli_wrong/s.device",
+        script,
+        &mut library,
+        outcome,
+    );
+    remove_folder(&rt, "ppq_cli_wrong");
+}
+
+// Asserts that a file of the folder is not made the device of the script in it.
+fn is_no_device<H: Host + Abort>(rt: &H, alloc: Global, device: &str)
+where
+    H::Dir: Send,
+{
+    let line = format!(in alloc;
+        "run ppq_cli_same/s.ppq --device ppq_cli_same/{device} {SIZES}"
+    ).expect(rt, "memory");
+    let named = NamedFiles::new();
+    let mut library = DirLibrary::naming(&named);
+    let mut rack = CheckedRack::new(FileRack::sparing(&named));
+    let report = b"ppq: cannot make the device\n".as_slice();
+    does(
+        rt,
+        alloc,
+        line.as_str(),
+        &mut library,
+        &mut rack,
+        (10, b"", report),
+    );
+}
+
+// Asserts the bytes of a file.
+fn has_bytes<H: Host + Abort + AllocGlobal>(rt: &H, name: &str, bytes: &[u8]) {
+    let found = fs::read(rt, name).expect(rt, "a file");
+    assert_eq!(rt; found.as_slice(), bytes, "{name}");
+}
+
+#[test]
+fn neither_the_script_nor_a_record_file_is_made_the_device(rt: HostRuntime) {
+    let script = b"bulk ppq_cli_same/two\npop\n";
+    make_folder(&rt, "ppq_cli_same");
+    write_file(&rt, "ppq_cli_same/s.ppq", script);
+    write_file(&rt, "ppq_cli_same/two", TWO);
+    symlink(&rt, "s.ppq", "ppq_cli_same/soft").expect(&rt, "a link");
+    fs::hard_link(&rt, "ppq_cli_same/two", "ppq_cli_same/hard").expect(&rt, "a link");
+    for device in ["s.ppq", "two", "soft", "hard", "../ppq_cli_same/two"] {
+        is_no_device(&rt, rt.alloc(), device);
+    }
+    has_bytes(&rt, "ppq_cli_same/s.ppq", script);
+    has_bytes(&rt, "ppq_cli_same/two", TWO);
+    remove_folder(&rt, "ppq_cli_same");
 }
 
 // A script that pushes 1,600 records, the greatest first, and pops them; and its output.

@@ -1,9 +1,9 @@
 //! Device, library and streams over real files in the working folder.
-use ppq_edge::{DirLibrary, FileRack, FileSlot, StdSink};
+use ppq_edge::{DirLibrary, FileRack, FileSlot, NamedFiles, StdSink};
 use ppq_outside::{Failed, Host, Library, OutsideFault, Rack, Sink, Slot};
 use std::alloc::Global;
 use std::fs::{self, File, Permissions};
-use std::os::unix::fs::{FileExt, PermissionsExt};
+use std::os::unix::fs::{FileExt, PermissionsExt, symlink};
 use std::process::Abort;
 
 // Makes a file of these bytes, or writes over one.
@@ -217,6 +217,52 @@ fn a_library_reads_plain_files_from_any_place_on(rt: HostRuntime) {
     remove_file(&rt, path);
     says(&rt, rt.alloc(), &mut library, path, Ok(None));
     assert_eq!(rt; library.faults(), 0);
+}
+
+// The links to a file, and then the file; and another one.
+const NAMES: [&str; 3] = [
+    "ppq_edge_test.soft",
+    "ppq_edge_test.hard",
+    "ppq_edge_test.named",
+];
+
+const OTHER: &str = "ppq_edge_test.other";
+
+// Makes these files.
+fn write_names<H: Host + Abort>(rt: &H) {
+    let [soft, hard, file] = NAMES;
+    write_file(rt, file, b"push 1 0\n");
+    symlink(rt, file, soft).expect(rt, "a link");
+    fs::hard_link(rt, file, hard).expect(rt, "a link");
+    write_file(rt, OTHER, b"records");
+}
+
+// Asserts how long a file is.
+fn has_length<H: Host + Abort>(rt: &H, path: &str, length: u64) {
+    let data = fs::metadata(rt, path).expect(rt, "a file");
+    assert_eq!(rt; data.len(), length, "{path}");
+}
+
+#[test]
+fn a_file_that_the_library_was_asked_for_is_no_device(rt: HostRuntime) {
+    let alloc = rt.alloc();
+    write_names(&rt);
+    let named = NamedFiles::new();
+    let mut rack = FileRack::sparing(&named);
+    let mut library = DirLibrary::naming(&named);
+    says(&rt, alloc, &mut library, NAMES[2], Ok(Some(9)));
+    says(&rt, alloc, &mut library, ".", Err(OutsideFault::Failed));
+    // one that it was not asked for is cut
+    let _block = block_of(&rt, alloc, &mut rack, OTHER, 0);
+    has_length(&rt, OTHER, 0);
+    says(&rt, alloc, &mut library, OTHER, Ok(Some(0)));
+    for name in NAMES {
+        assert!(rt; rack.block(&rt, alloc, name, 0, 4).is_err(), "{name}");
+        has_length(&rt, name, 9);
+        remove_file(&rt, name);
+    }
+    assert_eq!(rt; (rack.faults(), library.faults()), (3, 1));
+    remove_file(&rt, OTHER);
 }
 
 #[test]
