@@ -180,7 +180,13 @@ fn open<H: Host>(
     device: &str,
     sizes: Sizes,
 ) -> io::Result<Queue<Checked<FileSlot>, Pair>> {
-    let slots = make_slots(rt, alloc, &mut CheckedRack::new(FileRack::new()), device, sizes)?;
+    let slots = make_slots(
+        rt,
+        alloc,
+        &mut CheckedRack::new(FileRack::new()),
+        device,
+        sizes,
+    )?;
     Queue::open(alloc, sizes, slots).map_err(|_| out_of_memory())
 }
 
