@@ -38,83 +38,129 @@ fn three_blocks(rt: &impl Abort, alloc: Global) -> ExternalArray<QuietSlot, Pair
     run
 }
 
-#[test]
-fn blocks_are_lifted_in_order_and_loaded_one_by_one(rt: HostRuntime) {
-    let alloc = rt.alloc();
-    let mut run = three_blocks(&rt, alloc);
-    assert_eq!(rt; (run.len(), run.level(), run.loaded()), (5, 1, 0));
-    assert_eq!(rt; run.next_minimum(), Some(pair(10)));
+// Whether a run has three blocks, the first of them, which it lifts, is in slot 4, and the next one begins with 20. It
+// is accepted as 10 and 15.
+fn lifts_and_loads(rt: &impl Abort, alloc: Global, run: &mut ExternalArray<QuietSlot, Pair>) -> bool
+    requires { run.old.lifted ≡ [] }
+    ensures { run.new.lifted ≡ [] }
+{
     assert!(rt; run.blocks() == 3);
     let (slot, count) = run.lift();
-    assert_eq!(rt; slot.number(), 4);
     assert!(rt; count == 2);
-    assert_eq!(rt; run.next_to_lift(), Some(pair(20)));
-    assert_eq!(rt; run.loaded(), 0);
-    let buf = buffer_of(&rt, alloc, 10, 15);
+    let next = (run.next_to_lift() == Some(pair(20))) & (run.loaded() == 0);
+    let buf = buffer_of(rt, alloc, 10, 15);
     assert!(rt; run.buffers() == 0);
     run.accept_block(buf);
-    assert_eq!(rt; run.buffers(), 1);
-    assert_eq!(rt; run.next_minimum(), Some(pair(20)));
-    assert_eq!(rt; (run.len(), run.blocks()), (5, 2));
-    assert!(rt; run.loaded() == 2);
-    assert_eq!(rt; run.loaded_at(1), pair(15));
-    for (key, count) in [(9, 0), (10, 1), (14, 1), (15, 2), (99, 2)] {
-        assert_eq!(rt; run.loaded_at_most(&pair(key)), count);
+    (slot.number() == 4) & next & (run.buffers() == 1)
+}
+
+// Whether so many loaded records are not above this key.
+fn loads_up_to(run: &ExternalArray<QuietSlot, Pair>, key: u64, count: u64) -> bool {
+    run.loaded_at_most(&pair(key)) == count
+}
+
+// Whether two records are loaded, 10 and 15.
+fn loads_two(run: &ExternalArray<QuietSlot, Pair>) -> bool {
+    if run.loaded() != 2 {
+        return false;
+    }
+    let below = loads_up_to(run, 9, 0) & loads_up_to(run, 10, 1) & loads_up_to(run, 14, 1);
+    below & loads_up_to(run, 15, 2) & loads_up_to(run, 99, 2) & (run.loaded_at(1) == pair(15))
+}
+
+// Consumes the two records that are loaded, and says whether one buffer is spent then.
+fn spends_one(run: &mut ExternalArray<QuietSlot, Pair>) -> bool {
+    if run.loaded() != 2 {
+        return false;
     }
     run.consume(2);
-    assert_eq!(rt; (run.len(), run.loaded()), (3, 0));
-    assert!(rt; run.take_spent().is_some());
-    assert!(rt; run.take_spent().is_none());
+    let left = (run.len() == 3) & (run.loaded() == 0);
+    left & run.take_spent().is_some() & run.take_spent().is_none()
+}
+
+#[test]
+fn blocks_are_lifted_in_order_and_loaded_one_by_one(rt: HostRuntime) {
+    let mut run = three_blocks(&rt, rt.alloc());
+    let sizes = (run.len() == 5) & (run.level() == 1) & (run.loaded() == 0);
+    assert!(rt; sizes & (run.next_minimum() == Some(pair(10))));
+    assert!(rt; lifts_and_loads(&rt, rt.alloc(), &mut run));
+    let sizes = (run.len() == 5) & (run.blocks() == 2);
+    assert!(rt; sizes & (run.next_minimum() == Some(pair(20))));
+    assert!(rt; loads_two(&run) & spends_one(&mut run));
+}
+
+// The number of the slot that a run gives up.
+fn given_up(run: &mut ExternalArray<QuietSlot, Pair>) -> Option<u32> {
+    match run.give_up() {
+        Some(berth) => Some(berth.into_slot().number()),
+        None => None,
+    }
 }
 
 #[test]
 fn slots_are_given_up_from_the_last_block_on(rt: HostRuntime) {
     let mut run = three_blocks(&rt, rt.alloc());
-    for number in [6, 5, 4] {
-        let berth = run.give_up().expect(&rt, "a slot");
-        assert_eq!(rt; berth.into_slot().number(), number);
+    let three = (given_up(&mut run), given_up(&mut run), given_up(&mut run));
+    assert!(rt; (three == (Some(6), Some(5), Some(4))) & given_up(&mut run).is_none());
+    assert!(rt; (run.len() == 0) & (run.blocks() == 0) & run.next_to_lift().is_none());
+}
+
+// An owner of slots and buffers for two pairs each, with room for so many.
+type Owner = OwnerLists<QuietSlot, Pair>;
+
+// The number of the slot that an owner gives.
+fn drawn(owner: &mut Owner) -> Option<u32> {
+    match owner.draw_slot() {
+        Some(slot) => Some(slot.number()),
+        None => None,
     }
-    assert!(rt; run.give_up().is_none());
-    assert_eq!(rt; (run.len(), run.blocks()), (0, 0));
-    assert_eq!(rt; run.next_to_lift(), None);
+}
+
+// Whether an owner gives slot 0, which has 32 bytes, and takes it back.
+fn lends_first(owner: &mut Owner) -> bool {
+    let Some(slot) = owner.draw_slot() else {
+        return false;
+    };
+    let is_first = (slot.number() == 0) & (slot.size() == 32);
+    free_slot(owner, slot);
+    is_first
+}
+
+// Whether an owner was asked in vain for so many slots and so many buffers.
+fn lacked(owner: &Owner, slots: u64, buffers: u64) -> bool {
+    (owner.dry() == slots) & (owner.scant() == buffers)
 }
 
 #[test]
 fn an_owner_gives_slots_in_order_and_takes_them_back_at_the_end(rt: HostRuntime) {
-    let alloc = rt.alloc();
-    let mut owner = OwnerLists::<QuietSlot, Pair>::new(2, 2, 1);
-    free_slot(&mut owner, berth(&rt, alloc, 0));
-    free_slot(&mut owner, berth(&rt, alloc, 1));
-    assert_eq!(rt; owner.free_slots(), 2);
-    let first = owner.draw_slot().expect(&rt, "a slot");
-    assert_eq!(rt; first.number(), 0);
-    assert_eq!(rt; first.size(), 32);
-    free_slot(&mut owner, first);
-    for number in [1, 0] {
-        let slot = owner.draw_slot().expect(&rt, "a slot");
-        assert_eq!(rt; slot.number(), number);
+    let mut owner = Owner::new(2, 2, 1);
+    free_slot(&mut owner, berth(&rt, rt.alloc(), 0));
+    free_slot(&mut owner, berth(&rt, rt.alloc(), 1));
+    assert!(rt; (owner.free_slots() == 2) & lends_first(&mut owner));
+    assert!(rt; (drawn(&mut owner) == Some(1)) & (drawn(&mut owner) == Some(0)));
+    assert!(rt; (owner.dry() == 0) & drawn(&mut owner).is_none() & lacked(&owner, 1, 0));
+}
+
+// How many records the buffer has that an owner gives.
+fn taken(owner: &mut Owner) -> Option<u32> {
+    match owner.take_buffer() {
+        Some(buf) => Some(buf.len()),
+        None => None,
     }
-    assert_eq!(rt; owner.dry(), 0);
-    assert!(rt; owner.draw_slot().is_none());
-    assert_eq!(rt; (owner.dry(), owner.scant()), (1, 0));
 }
 
 #[test]
 fn an_owner_counts_the_buffers_that_it_could_not_give(rt: HostRuntime) {
-    let mut owner = OwnerLists::<QuietSlot, Pair>::new(2, 0, 1);
+    let mut owner = Owner::new(2, 0, 1);
     give_buffer(&mut owner, buffer_of(&rt, rt.alloc(), 1, 2));
-    assert_eq!(rt; owner.idle_buffers(), 1);
-    let buf = owner.take_buffer().expect(&rt, "a buffer");
-    assert_eq!(rt; buf.len(), 2);
-    assert!(rt; owner.take_buffer().is_none());
-    assert!(rt; owner.take_buffer().is_none());
-    assert_eq!(rt; (owner.scant(), owner.dry()), (2, 0));
+    assert!(rt; (owner.idle_buffers() == 1) & (taken(&mut owner) == Some(2)));
+    assert!(rt; taken(&mut owner).is_none() & taken(&mut owner).is_none());
+    assert!(rt; lacked(&owner, 0, 2));
 }
 
 #[test]
 fn new_runs_have_room_and_no_run(rt: HostRuntime) {
     let runs = Runs::<QuietSlot, Pair>::new(rt.alloc(), 3, 5).expect(&rt, "memory");
-    assert_eq!(rt; (runs.internal.len(), runs.external.len()), (0, 0));
-    assert!(rt; runs.internal.capacity() >= 3);
-    assert!(rt; runs.external.capacity() >= 5);
+    let is_empty = (runs.internal.len() == 0) & (runs.external.len() == 0);
+    assert!(rt; is_empty & (runs.internal.capacity() >= 3) & (runs.external.capacity() >= 5));
 }

@@ -52,8 +52,9 @@ fn run_of_block<H: Host + Abort>(
     bytes[23] = other;
     let mut slot = QuietSlot::new(4, broken);
     assert!(rt; slot.write(rt, &bytes).is_ok() != broken);
-    let Ok(berth) = Berth::new(alloc, slot) else {
-        panic!(rt; "memory")
+    let berth = match Berth::new(alloc, slot) {
+        Ok(berth) => berth,
+        Err(_) => panic!(rt; "memory"),
     };
     let mut run = ExternalArray::empty(0);
     run.append(berth, pair(u64::from(one)), 2);
@@ -110,34 +111,42 @@ fn refill<H: Host>(rt: &H, w: &mut World, below: Option<Pair>) -> Result<(), Sto
 // Drops the world, which in place would be proved anew in each test.
 fn end(_w: World) {}
 
+// Whether a buffer has no record and gives none.
+fn gives_none(extract: &mut Extract<Pair>) -> bool {
+    let none = extract.front().is_none() & extract.pop().is_none();
+    none & extract.is_empty() & (extract.len() == 0) & extract.rest().is_empty()
+}
+
 #[test]
 fn a_new_buffer_is_empty(rt: HostRuntime) {
     let made = Extract::<Pair>::new(rt.alloc(), &sizes(&rt));
-    let mut extract = made.expect(&rt, "memory");
-    assert!(rt; extract.is_empty());
-    assert_eq!(rt; extract.len(), 0);
-    assert_eq!(rt; extract.front(), None);
-    assert_eq!(rt; extract.pop(), None);
-    assert!(rt; extract.rest().is_empty());
+    assert!(rt; gives_none(&mut made.expect(&rt, "memory")));
+}
+
+// Whether so many runs are in buffers and in blocks, and so many slots are free.
+fn has_runs(w: &World, internal: usize, external: usize, slots: u32) -> bool {
+    let runs = (w.runs.internal.len() == internal) & (w.runs.external.len() == external);
+    runs & (w.owner.free_slots() == slots)
+}
+
+// Whether a buffer of two records gives 7, and then 9 as the last one.
+fn gives_last_two(extract: &mut Extract<Pair>) -> bool {
+    let two = (extract.len() == 2) & (extract.front() == Some(pair(7)));
+    let seven = extract.pop() == Some(pair(7));
+    let nine = (extract.rest() == [pair(9)].as_slice()) & (extract.pop() == Some(pair(9)));
+    two & seven & nine & extract.pop().is_none()
 }
 
 #[test]
 fn a_refill_takes_the_least_records_of_all_runs(rt: HostRuntime) {
     let mut w = three_runs(&rt, rt.alloc(), false);
     refill(&rt, &mut w, None).expect(&rt, "a refill");
-    assert!(rt; w.extract.rest() == [pair(1), pair(2), pair(3), pair(5)].as_slice());
+    let four = [pair(1), pair(2), pair(3), pair(5)];
     // the run 3 5 is gone, and the slot of the block is free
-    assert_eq!(rt; (w.runs.internal.len(), w.runs.external.len()), (1, 1));
-    assert_eq!(rt; w.owner.free_slots(), 1);
+    assert!(rt; (w.extract.rest() == four.as_slice()) & has_runs(&w, 1, 1, 1));
     refill(&rt, &mut w, None).expect(&rt, "a refill");
-    assert_eq!(rt; w.extract.len(), 2);
-    assert_eq!(rt; w.extract.front(), Some(pair(7)));
-    assert_eq!(rt; w.extract.pop(), Some(pair(7)));
-    assert!(rt; w.extract.rest() == [pair(9)].as_slice());
-    assert_eq!(rt; w.extract.pop(), Some(pair(9)));
-    assert_eq!(rt; w.extract.pop(), None);
-    assert_eq!(rt; (w.runs.internal.len(), w.runs.external.len()), (0, 0));
-    assert_eq!(rt; (w.owner.free_slots(), w.owner.idle_buffers()), (1, 2));
+    let given = gives_last_two(&mut w.extract);
+    assert!(rt; given & has_runs(&w, 0, 0, 1) & (w.owner.idle_buffers() == 2));
     end(w);
 }
 
@@ -145,8 +154,8 @@ fn a_refill_takes_the_least_records_of_all_runs(rt: HostRuntime) {
 fn a_limit_gives_only_what_is_below_it(rt: HostRuntime) {
     let mut w = three_runs(&rt, rt.alloc(), false);
     refill(&rt, &mut w, Some(pair(3))).expect(&rt, "a refill");
-    assert!(rt; w.extract.rest() == [pair(1), pair(2)].as_slice());
-    assert_eq!(rt; (w.runs.internal.len(), w.runs.external.len()), (2, 1));
+    let two = w.extract.rest() == [pair(1), pair(2)].as_slice();
+    assert!(rt; two & (w.runs.internal.len() == 2) & (w.runs.external.len() == 1));
     end(w);
 }
 
@@ -154,8 +163,7 @@ fn a_limit_gives_only_what_is_below_it(rt: HostRuntime) {
 fn a_read_that_fails_is_answered_with_its_slot(rt: HostRuntime) {
     let mut w = three_runs(&rt, rt.alloc(), true);
     let refilled = refill(&rt, &mut w, None);
-    assert!(rt; refilled == Err(StoreFault::Device { number: 4 }));
-    assert!(rt; w.extract.is_empty());
-    assert_eq!(rt; w.owner.free_slots(), 1);
+    let named = refilled == Err(StoreFault::Device { number: 4 });
+    assert!(rt; named & w.extract.is_empty() & (w.owner.free_slots() == 1));
     end(w);
 }

@@ -1,6 +1,7 @@
 //! Worked examples of jobs and lanes.
-ghost use Rattle.std.specs.Prelude.{◌≡◌, [], ◌∷◌};
+ghost use Rattle.std.specs.Prelude.{◌≡◌, ◌<◌, ◌≤◌, [], ◌∷◌};
 ghost use Rattle.ppq_block.specs.Block.{holding};
+ghost use Rattle.ppq_lane.specs.Jobs.{MayRun};
 
 use ppq_block::BlockBuf;
 use ppq_lane::{Job, JobKind, Lanes, Work, overlap, run_job, run_jobs};
@@ -137,87 +138,112 @@ fn slot_of<H: Host + Abort>(rt: &H, alloc: Global, rack: &mut MemRack, number: u
         .expect(rt, "a block")
 }
 
-// Reads the block of a job that wrote one pair, and expects that pair.
-fn expect_again<H: Host + Abort>(rt: &H, job: &mut Job<MemSlot, Pair>, key: u64) {
-    assert!(rt; job.done == Some(Ok(())));
-    assert_eq!(rt; job.buf.len(), 1);
-    job.buf.clear();
-    job.kind = JobKind::Read { count: 1 };
+// Whether a buffer holds so many records, of which the pair with this key is at a place.
+fn has_at(buf: &BlockBuf<Pair>, count: u32, place: u32, key: u64) -> bool
+    requires { place < count }
+{
+    (buf.len() == count) && (buf.at(place) == pair(key))
+}
+
+// Runs a job that reads so many records into a buffer for two.
+fn read<H: Host + Abort, S: Slot>(rt: &H, job: &mut Job<S, Pair>, count: u32)
+    requires { count ≤ 2 }
+{
+    job.kind = JobKind::Read { count };
     assert!(rt; job.buf.block() == 2);
     assert!(rt; job.slot.size() == 32);
     run_job(rt, job);
-    assert!(rt; job.buf.len() == 1);
-    assert_eq!(rt; job.buf.at(0), pair(key));
-    assert_eq!(rt; (job.slot.writes(), job.slot.reads()), (1, 1));
+}
+
+// Whether a job wrote one pair, which is what a read of its block gives.
+fn reads_again<H: Host + Abort>(rt: &H, job: &mut Job<MemSlot, Pair>, key: u64) -> bool {
+    let is_written = (job.done == Some(Ok(()))) & (job.buf.len() == 1);
+    job.buf.clear();
+    read(rt, job, 1);
+    let calls = (job.slot.writes() == 1) & (job.slot.reads() == 1);
+    is_written & calls & has_at(&job.buf, 1, 0, key)
+}
+
+// A job that writes this pair to the block with this number.
+fn write_of<H: Host + Abort>(
+    rt: &H,
+    alloc: Global,
+    rack: &mut MemRack,
+    number: u32,
+    key: u64,
+) -> Job<MemSlot, Pair>
+    ensures { MayRun 16 ⟦<MemSlot as Slot>⟧.shown result }
+{
+    Job {
+        slot: slot_of(rt, alloc, rack, number),
+        buf: buffer_of(rt, alloc, key),
+        kind: JobKind::Write,
+        done: None,
+    }
+}
+
+// Whether two blocks that are written by jobs are read again.
+fn both_are_read_again<H: Host + Abort>(rt: &H, alloc: Global) -> bool {
+    let mut rack = MemRack::new();
+    let five = write_of(rt, alloc, &mut rack, 0, 5);
+    let four = write_of(rt, alloc, &mut rack, 1, 4);
+    let mut jobs = [five, four];
+    run_jobs(rt, &mut jobs);
+    reads_again(rt, &mut jobs[0], 5) & reads_again(rt, &mut jobs[1], 4)
 }
 
 #[test]
 fn blocks_are_written_and_read_again(rt: HostRuntime) {
-    let alloc = rt.alloc();
-    let mut rack = MemRack::new();
-    let mut jobs = [
-        Job {
-            slot: slot_of(&rt, alloc, &mut rack, 0),
-            buf: buffer_of(&rt, alloc, 5),
-            kind: JobKind::Write,
-            done: None,
-        },
-        Job {
-            slot: slot_of(&rt, alloc, &mut rack, 1),
-            buf: buffer_of(&rt, alloc, 4),
-            kind: JobKind::Write,
-            done: None,
-        },
-    ];
-    run_jobs(&rt, &mut jobs);
-    expect_again(&rt, &mut jobs[0], 5);
-    expect_again(&rt, &mut jobs[1], 4);
+    assert!(rt; both_are_read_again(&rt, rt.alloc()));
+}
+
+// A block in memory that holds the pairs 3 and 8.
+fn slot_with_two<H: Host + Abort>(rt: &H, alloc: Global) -> MemSlot {
+    let mut slot = slot_of(rt, alloc, &mut MemRack::new(), 0);
+    let mut bytes = [0; 32];
+    bytes[7] = 3;
+    bytes[23] = 8;
+    assert!(rt; slot.write(rt, &bytes) == Ok(()));
+    slot
+}
+
+// Whether a read of a block of two takes one record when told so, and then two.
+fn reads_as_told<H: Host + Abort>(rt: &H, alloc: Global) -> bool {
+    let mut job = Job {
+        slot: slot_with_two(rt, alloc),
+        buf: BlockBuf::<Pair>::new(alloc, 2).expect(rt, "memory"),
+        kind: JobKind::Read { count: 1 },
+        done: None,
+    };
+    read(rt, &mut job, 1);
+    let one = has_at(&job.buf, 1, 0, 3);
+    read(rt, &mut job, 2);
+    one & has_at(&job.buf, 2, 1, 8)
 }
 
 #[test]
 fn a_read_takes_so_many_records_as_it_is_told(rt: HostRuntime) {
-    let alloc = rt.alloc();
-    let mut rack = MemRack::new();
-    let mut slot = slot_of(&rt, alloc, &mut rack, 0);
-    let mut bytes = [0; 32];
-    bytes[7] = 3;
-    bytes[23] = 8;
-    assert_eq!(rt; slot.write(&rt, &bytes), Ok(()));
+    assert!(rt; reads_as_told(&rt, rt.alloc()));
+}
+
+// Whether a job on a slot that fails keeps what it was to write, and has nothing read.
+fn fails_twice<H: Host + Abort>(rt: &H, alloc: Global) -> bool {
     let mut job = Job {
-        slot,
-        buf: BlockBuf::<Pair>::new(alloc, 2).expect(&rt, "memory"),
-        kind: JobKind::Read { count: 1 },
+        slot: GoneSlot { faults: 0 },
+        buf: buffer_of(rt, alloc, 5),
+        kind: JobKind::Write,
         done: None,
     };
-    run_job(&rt, &mut job);
-    assert!(rt; job.buf.len() == 1);
-    assert_eq!(rt; job.buf.at(0), pair(3));
-    job.kind = JobKind::Read { count: 2 };
-    assert!(rt; job.buf.block() == 2);
-    assert!(rt; job.slot.size() == 32);
-    run_job(&rt, &mut job);
-    assert!(rt; job.buf.len() == 2);
-    assert_eq!(rt; job.buf.at(1), pair(8));
+    run_job(rt, &mut job);
+    let kept = (job.done == Some(Err(Failed))) & has_at(&job.buf, 1, 0, 5);
+    read(rt, &mut job, 2);
+    let none = (job.done == Some(Err(Failed))) & (job.buf.len() == 0);
+    kept & none & (job.slot.faults() == 2)
 }
 
 #[test]
 fn a_failed_write_leaves_its_buffer_and_a_failed_read_none(rt: HostRuntime) {
-    let mut job = Job {
-        slot: GoneSlot { faults: 0 },
-        buf: buffer_of(&rt, rt.alloc(), 5),
-        kind: JobKind::Write,
-        done: None,
-    };
-    run_job(&rt, &mut job);
-    assert!(rt; job.done == Some(Err(Failed)));
-    assert!(rt; job.buf.len() == 1);
-    assert_eq!(rt; job.buf.at(0), pair(5));
-    job.kind = JobKind::Read { count: 2 };
-    assert!(rt; job.buf.block() == 2);
-    run_job(&rt, &mut job);
-    assert!(rt; job.done == Some(Err(Failed)));
-    assert_eq!(rt; job.buf.len(), 0);
-    assert_eq!(rt; job.slot.faults(), 2);
+    assert!(rt; fails_twice(&rt, rt.alloc()));
 }
 
 #[test]
@@ -243,14 +269,20 @@ fn a_job_and_the_work_are_under_way_at_once(rt: HostRuntime) {
     assert!(rt; (jobs[0].done == Some(Ok(()))) & (jobs[0].slot.writes() == 1));
 }
 
+// Whether three buffers are idle, and the last of them is empty and for four records.
+fn has_three_idle(lanes: &Lanes<MemSlot, Pair>) -> bool {
+    if lanes.idle.len() != 3 {
+        return false;
+    }
+    let last = lanes.idle.at(2);
+    (last.len() == 0) & (last.block() == 4)
+}
+
 #[test]
 fn new_lanes_have_buffers_room_and_a_batch(rt: HostRuntime) {
     let made = Lanes::<MemSlot, Pair>::new(rt.alloc(), 3, 2, 4, 5);
     let lanes = made.expect(&rt, "memory");
-    assert!(rt; lanes.idle.len() == 3);
-    assert_eq!(rt; lanes.idle.at(2).len(), 0);
-    assert_eq!(rt; lanes.idle.at(2).block(), 4);
-    assert_eq!(rt; lanes.jobs.len(), 0);
-    assert!(rt; lanes.jobs.capacity() >= 2);
-    assert_eq!(rt; lanes.batch.as_slice(), [pair(0); 5].as_slice());
+    let is_batch = lanes.batch.as_slice() == [pair(0); 5].as_slice();
+    let has_room = (lanes.jobs.len() == 0) & (lanes.jobs.capacity() >= 2);
+    assert!(rt; has_three_idle(&lanes) & is_batch & has_room);
 }

@@ -85,34 +85,81 @@ fn merge_by<H: Threads + Sync + Abort, G: Gate>(
     Merged { out, cuts }
 }
 
+// Whether a merge of some runs by so many workers gives these records and has these places.
+fn merges<H: Threads + Sync + Abort>(
+    rt: &H,
+    alloc: Global,
+    lists: &[Vec<Pair>],
+    workers: u32,
+    want: &[Pair],
+    cuts: &[u64],
+) -> bool {
+    let made = merge_by(rt, alloc, lists, workers, want.len() as u64, &OpenGate);
+    (made.out.as_slice() == want) & (made.cuts.as_slice() == cuts)
+}
+
+// Whether so many workers merge no record of two runs, the first five and all six.
+fn merges_fronts<H: Threads + Sync + Abort>(
+    rt: &H,
+    alloc: Global,
+    lists: &[Vec<Pair>],
+    workers: u32,
+) -> bool {
+    let five = run(rt, alloc, &[1, 2, 3, 3, 4]);
+    let six = run(rt, alloc, &[1, 2, 3, 3, 4, 5]);
+    let fronts = merges(rt, alloc, lists, workers, &[], &[0, 0])
+        & merges(rt, alloc, lists, workers, &five, &[2, 3]);
+    fronts & merges(rt, alloc, lists, workers, &six, &[3, 3])
+}
+
 #[test]
 fn any_number_of_workers_merges_the_smallest_of_two_runs(rt: HostRuntime) {
     let alloc = rt.alloc();
     let lists = runs(&rt, alloc, &[&[1, 3, 5], &[2, 3, 4]]);
-    let six = run(&rt, alloc, &[1, 2, 3, 3, 4, 5]);
     for workers in [1, 2, 3, 64] {
-        for (count, cuts) in [(0, [0, 0]), (5, [2, 3]), (6, [3, 3])] {
-            let made = merge_by(&rt, alloc, &lists, workers, count, &OpenGate);
-            assert_eq!(rt; Some(made.out.as_slice()), six.get(..count as usize));
-            assert_eq!(rt; made.cuts.as_slice(), cuts.as_slice());
-        }
+        assert!(rt; merges_fronts(&rt, alloc, &lists, workers));
     }
+}
+
+// A merge by workers of whom the first two wait for each other, and whether they met and all entered.
+fn merge_met<H: Threads + Sync + Abort>(
+    rt: &H,
+    alloc: Global,
+    lists: &[Vec<Pair>],
+    workers: u32,
+    count: u64,
+) -> (Merged, bool) {
+    let gate = PairGate::new();
+    let made = merge_by(rt, alloc, lists, workers, count, &gate);
+    let met = gate.is_passed() & (gate.entered() == u64::from(workers));
+    (made, met)
+}
+
+// Whether two workers meet while they merge five records of two runs.
+fn two_meet<H: Threads + Sync + Abort>(rt: &H, alloc: Global, lists: &[Vec<Pair>]) -> bool {
+    let (five, met) = merge_met(rt, alloc, lists, 2, 5);
+    met & (five.cuts.as_slice() == [2, 3].as_slice())
+}
+
+// Whether so many workers meet while they merge half of the records.
+fn all_meet<H: Threads + Sync + Abort>(
+    rt: &H,
+    alloc: Global,
+    lists: &[Vec<Pair>],
+    workers: u32,
+) -> bool {
+    let (half, met) = merge_met(rt, alloc, lists, workers, 4000);
+    met & is_front(rt, alloc, lists, &half)
 }
 
 #[test]
 fn two_workers_are_on_their_way_at_once(rt: HostRuntime) {
     let alloc = rt.alloc();
     let few = runs(&rt, alloc, &[&[1, 3, 5], &[2, 3, 4]]);
-    let gate = PairGate::new();
-    let five = merge_by(&rt, alloc, &few, 2, 5, &gate);
-    assert!(rt; gate.is_passed() && gate.entered() == 2);
-    assert_eq!(rt; five.cuts.as_slice(), [2, 3].as_slice());
+    assert!(rt; two_meet(&rt, alloc, &few));
     let many = generated(&rt, alloc, &mut 7, 4, 2000);
     for workers in [2, 3, 5] {
-        let gate = PairGate::new();
-        let half = merge_by(&rt, alloc, &many, workers, 4000, &gate);
-        assert!(rt; gate.is_passed() && gate.entered() == u64::from(workers));
-        is_front(&rt, alloc, &many, &half);
+        assert!(rt; all_meet(&rt, alloc, &many, workers));
     }
 }
 
@@ -156,16 +203,29 @@ fn merge_held<H: Threads + Sync + Abort>(
     merge_shown(rt, alloc, &mut bench, &runs, 8000, gate);
 }
 
+// Whether a worker merges its share while the others wait, and each of 8,000 records is read once.
+fn merges_its_share<H: Threads + Sync + Abort>(
+    rt: &H,
+    alloc: Global,
+    lists: &[Vec<Pair>],
+    workers: u32,
+    worker: u32,
+) -> bool
+    requires { 0 < workers }
+{
+    let gate = SoloGate::new(worker, 8000 / u64::from(workers));
+    merge_held(rt, alloc, lists, workers, &gate);
+    gate.is_passed() & (gate.read() == 8000)
+}
+
 #[test]
 fn each_worker_merges_its_share_and_each_record_is_read_once(rt: HostRuntime) {
     let alloc = rt.alloc();
     let lists = generated(&rt, alloc, &mut 5, 4, 2000);
     for workers in [2, 3, 5] {
         for worker in 0..workers {
-            let gate = SoloGate::new(worker, 8000 / u64::from(workers));
-            merge_held(&rt, alloc, &lists, workers, &gate);
             assert!(rt;
-                gate.is_passed() && gate.read() == 8000,
+                merges_its_share(&rt, alloc, &lists, workers, worker),
                 "{worker} of {workers}"
             );
         }
@@ -226,12 +286,12 @@ fn taken(rt: &impl Abort, alloc: Global, lists: &[Vec<Pair>], cuts: &[u64]) -> V
     all
 }
 
-// Compares what was merged with a sort of all records, and of those in front of the places.
-fn is_front(rt: &impl Abort, alloc: Global, lists: &[Vec<Pair>], merged: &Merged) {
+// Whether what was merged is the front of a sort of all records, and the records in front of the places.
+fn is_front(rt: &impl Abort, alloc: Global, lists: &[Vec<Pair>], merged: &Merged) -> bool {
     let front = taken(rt, alloc, lists, merged.cuts.as_slice());
     let all = taken(rt, alloc, lists, &[]);
-    assert_eq!(rt; merged.out.as_slice(), front.as_slice());
-    assert_eq!(rt; all.get(..merged.out.len()), Some(front.as_slice()));
+    let out = merged.out.as_slice();
+    (out == front.as_slice()) & (all.get(..out.len()) == Some(front.as_slice()))
 }
 
 // One merge of generated runs by one to six workers.
@@ -243,7 +303,7 @@ fn one_case<H: Threads + Sync + Abort>(rt: &H, alloc: Global, seed: &mut u64, si
     let count = draw(seed, all.saturating_add(1));
     let workers = draw(seed, 6) as u32;
     let made = merge_by(rt, alloc, &lists, workers + 1, count, &OpenGate);
-    is_front(rt, alloc, &lists, &made);
+    assert!(rt; is_front(rt, alloc, &lists, &made));
 }
 
 #[test]
@@ -255,19 +315,27 @@ fn generated_runs_are_merged_as_a_sort_would(rt: HostRuntime) {
     }
 }
 
-// Merges so many records, and compares them with those in front of the places.
+// Whether a merge of so many records gives those in front of the places.
 fn gives_what_it_took<H: Threads + Sync + Abort>(
     rt: &H,
     alloc: Global,
     lists: &[Vec<Pair>],
     workers: u32,
     count: u64,
-) {
+) -> bool {
     let mut made = merge_by(rt, alloc, lists, workers, count, &OpenGate);
     sort(made.out.as_mut_slice());
     let same = taken(rt, alloc, lists, made.cuts.as_slice());
-    assert_eq!(rt; made.out.as_slice(), same.as_slice());
-    assert_eq!(rt; made.out.len() as u64, count);
+    (made.out.as_slice() == same.as_slice()) & (made.out.len() as u64 == count)
+}
+
+// Generated runs, each with its records from the greatest to the least.
+fn falling(rt: &impl Abort, alloc: Global) -> Vec<Vec<Pair>> {
+    let mut many = generated(rt, alloc, &mut 3, 4, 2000);
+    for list in &mut many {
+        list.as_mut_slice().reverse();
+    }
+    many
 }
 
 #[test]
@@ -275,30 +343,47 @@ fn runs_that_do_not_ascend_give_some_of_their_records(rt: HostRuntime) {
     let alloc = rt.alloc();
     let lists = runs(&rt, alloc, &[&[9, 1, 8], &[3, 6, 0]]);
     for workers in [1, 2, 3] {
-        gives_what_it_took(&rt, alloc, &lists, workers, 4);
+        assert!(rt; gives_what_it_took(&rt, alloc, &lists, workers, 4));
     }
-    let mut many = generated(&rt, alloc, &mut 3, 4, 2000);
-    for list in &mut many {
-        list.as_mut_slice().reverse();
-    }
+    let many = falling(&rt, alloc);
     for workers in [2, 4] {
-        gives_what_it_took(&rt, alloc, &many, workers, 5000);
+        assert!(rt; gives_what_it_took(&rt, alloc, &many, workers, 5000));
     }
+}
+
+// Whether a merge of some runs with a bench gives these records.
+fn merges_with<H: Threads + Sync + Abort>(
+    rt: &H,
+    alloc: Global,
+    bench: &mut Bench<Pair>,
+    lists: &[Vec<Pair>],
+    want: &[Pair],
+) -> bool {
+    let made = merge_with(rt, alloc, bench, lists, want.len() as u64, &OpenGate);
+    made.as_slice() == want
+}
+
+// Whether a bench for three runs has these places.
+fn has_cuts(bench: &Bench<Pair>, first: u64, second: u64, third: u64) -> bool {
+    if bench.runs() != 3 {
+        return false;
+    }
+    (bench.cut(0) == first) & (bench.cut(1) == second) & (bench.cut(2) == third)
+}
+
+// Whether a bench of two workers merges two runs and then one.
+fn is_used_again<H: Threads + Sync + Abort>(rt: &H, alloc: Global) -> bool {
+    let lists = runs(rt, alloc, &[&[1, 3, 5], &[2, 3, 4]]);
+    let one = runs(rt, alloc, &[&[4, 6]]);
+    let mut bench = Bench::new(alloc, 2, 3).expect(rt, "memory");
+    let workers = bench.workers() == 2;
+    let three = merges_with(rt, alloc, &mut bench, &lists, &[pair(1), pair(2), pair(3)]);
+    let first = three & has_cuts(&bench, 2, 1, 0);
+    let four = merges_with(rt, alloc, &mut bench, &one, &[pair(4)]);
+    workers & first & four & has_cuts(&bench, 1, 0, 0)
 }
 
 #[test]
 fn a_bench_is_used_again_by_fewer_runs(rt: HostRuntime) {
-    let alloc = rt.alloc();
-    let lists = runs(&rt, alloc, &[&[1, 3, 5], &[2, 3, 4]]);
-    let one = runs(&rt, alloc, &[&[4, 6]]);
-    let mut bench = Bench::new(alloc, 2, 3).expect(&rt, "memory");
-    assert_eq!(rt; bench.workers(), 2);
-    let three = merge_with(&rt, alloc, &mut bench, &lists, 3, &OpenGate);
-    assert_eq!(rt; three.as_slice(), [pair(1), pair(2), pair(3)].as_slice());
-    assert!(rt; bench.runs() == 3);
-    assert_eq!(rt; (bench.cut(0), bench.cut(1), bench.cut(2)), (2, 1, 0));
-    let first = merge_with(&rt, alloc, &mut bench, &one, 1, &OpenGate);
-    assert_eq!(rt; first.as_slice(), [pair(4)].as_slice());
-    assert!(rt; bench.runs() == 3);
-    assert_eq!(rt; (bench.cut(0), bench.cut(1), bench.cut(2)), (1, 0, 0));
+    assert!(rt; is_used_again(&rt, rt.alloc()));
 }

@@ -21,91 +21,180 @@ fn berth(rt: &impl Abort, alloc: Global, number: u32, broken: bool) -> Berth<Qui
     quiet_berth(alloc, number, broken).expect(rt, "memory")
 }
 
-// Stores a run of one record in a new body.
-fn store_one<H: Host>(
-    rt: &H,
-    body: &mut PassBody<QuietSlot, Pair>,
-    owner: &mut OwnerLists<QuietSlot, Pair>,
-    key: u64,
-) -> Result<(), StoreFault>
+// What runs of two records are stored by.
+type Body = PassBody<QuietSlot, Pair>;
+
+// The slots and buffers of two records that are not in use.
+type Owner = OwnerLists<QuietSlot, Pair>;
+
+// A new body for runs of two records.
+fn new_body(rt: &impl Abort, alloc: Global) -> Body
+    ensures { IsNewBody 2 2 1 result }
+{
+    PassBody::new(alloc, 2, 2, 1).expect(rt, "memory")
+}
+
+// Stores a run of one record, 5, in a new body.
+fn store_one<H: Host>(rt: &H, body: &mut Body, owner: &mut Owner) -> Result<(), StoreFault>
 where
     H::Dir: Send,
     requires new { IsNewBody 2 2 1 body.old }
     requires block { owner.old.block ≡ 2 }
 {
-    store_sorted(rt, body, owner, &[pair(key)])
+    store_sorted(rt, body, owner, &[pair(5)])
 }
 
 // Drops both, which in place would be proved anew in each test.
-fn end(_body: PassBody<QuietSlot, Pair>, _owner: OwnerLists<QuietSlot, Pair>) {}
+fn end(_body: Body, _owner: Owner) {}
+
+// Whether an owner was asked in vain for so many buffers and so many slots.
+fn lacked(owner: &Owner, buffers: u64, slots: u64) -> bool {
+    (owner.scant() == buffers) & (owner.dry() == slots)
+}
+
+// Whether a body has so many runs in buffers and in blocks.
+fn has_runs(body: &Body, internal: usize, external: usize) -> bool {
+    (body.runs.internal.len() == internal) & (body.runs.external.len() == external)
+}
+
+// An owner with one slot and one buffer.
+fn one_of_each(rt: &impl Abort, alloc: Global) -> Owner
+    ensures { result.block ≡ 2 }
+{
+    let mut owner = OwnerLists::new(2, 1, 1);
+    free_slot(&mut owner, berth(rt, alloc, 0, false));
+    give_buffer(&mut owner, BlockBuf::new(alloc, 2).expect(rt, "memory"));
+    owner
+}
+
+// Whether the first run in buffers begins with 5.
+fn begins_with_five(body: &Body) -> bool {
+    match body.runs.internal.first() {
+        Some(run) => run.first() == Some(pair(5)),
+        None => false,
+    }
+}
+
+// Stores a run where there is a buffer.
+fn stores_in_a_buffer<H: Host + Abort>(rt: &H, alloc: Global)
+where
+    H::Dir: Send,
+{
+    let mut owner = one_of_each(rt, alloc);
+    let mut body = new_body(rt, alloc);
+    let stored = store_one(rt, &mut body, &mut owner) == Ok(());
+    let run = has_runs(&body, 1, 0) & begins_with_five(&body);
+    assert!(rt; stored & run & (owner.scant() == 0) & (owner.free_slots() == 1));
+    end(body, owner);
+}
 
 #[test]
 fn a_run_goes_into_buffers_where_there_are_enough(rt: HostRuntime) {
-    let alloc = rt.alloc();
-    let mut owner = OwnerLists::new(2, 1, 1);
-    free_slot(&mut owner, berth(&rt, alloc, 0, false));
-    give_buffer(&mut owner, BlockBuf::new(alloc, 2).expect(&rt, "memory"));
-    let mut body = PassBody::new(alloc, 2, 2, 1).expect(&rt, "memory");
-    assert!(rt; store_one(&rt, &mut body, &mut owner, 5) == Ok(()));
-    assert!(rt; body.runs.internal.len() == 1);
-    assert_eq!(rt; body.runs.internal[0].first(), Some(pair(5)));
-    assert_eq!(rt; body.runs.external.len(), 0);
-    assert_eq!(rt; (owner.scant(), owner.free_slots()), (0, 1));
+    stores_in_a_buffer(&rt, rt.alloc());
+}
+
+// An owner with two slots, 7 and 8, and no buffer.
+fn two_slots(rt: &impl Abort, alloc: Global) -> Owner
+    ensures { result.block ≡ 2 }
+{
+    let mut owner = OwnerLists::new(2, 2, 0);
+    free_slot(&mut owner, berth(rt, alloc, 7, false));
+    free_slot(&mut owner, berth(rt, alloc, 8, false));
+    owner
+}
+
+// Whether slot 7 comes, written once, and a read of it gives 5 and zeros.
+fn holds_five<H: Host + Abort>(rt: &H, berth: Option<Berth<QuietSlot, Pair>>) -> bool {
+    let mut slot = berth.expect(rt, "a block").into_slot();
+    let is_written = (slot.number() == 7) & (slot.writes() == 1);
+    let mut bytes = [1; 32];
+    let is_read = slot.read(rt, &mut bytes) == Ok(());
+    is_written & is_read & (bytes[7] == 5) & (bytes[8] == 0) & (bytes[23] == 0)
+}
+
+// Whether the first run in blocks has the one record 5 in one block, in slot 7. It is given up.
+fn gives_up_five<H: Host + Abort>(rt: &H, body: &mut Body) -> bool {
+    match body.runs.external.first_mut() {
+        Some(run) => {
+            let sizes = (run.level() == 0) & (run.len() == 1) & (run.loaded() == 0);
+            let next = run.next_to_lift() == Some(pair(5));
+            sizes & next & holds_five(rt, run.give_up())
+        }
+        None => false,
+    }
+}
+
+// Stores a run where there is no buffer.
+fn stores_in_a_block<H: Host + Abort>(rt: &H, alloc: Global)
+where
+    H::Dir: Send,
+{
+    let mut owner = two_slots(rt, alloc);
+    let mut body = new_body(rt, alloc);
+    let stored = store_one(rt, &mut body, &mut owner) == Ok(());
+    let run = has_runs(&body, 0, 1) & gives_up_five(rt, &mut body);
+    assert!(rt; stored & run & lacked(&owner, 1, 0) & (owner.free_slots() == 1));
     end(body, owner);
 }
 
 #[test]
 fn a_run_that_finds_no_buffer_goes_to_a_block(rt: HostRuntime) {
-    let alloc = rt.alloc();
-    let mut owner = OwnerLists::new(2, 2, 0);
-    free_slot(&mut owner, berth(&rt, alloc, 7, false));
-    free_slot(&mut owner, berth(&rt, alloc, 8, false));
-    let mut body = PassBody::new(alloc, 2, 2, 1).expect(&rt, "memory");
-    assert!(rt; store_one(&rt, &mut body, &mut owner, 5) == Ok(()));
-    assert_eq!(rt; body.runs.internal.len(), 0);
-    assert!(rt; body.runs.external.len() == 1);
-    let run = &mut body.runs.external[0];
-    assert_eq!(rt; (run.level(), run.len(), run.loaded()), (0, 1, 0));
-    assert_eq!(rt; run.next_to_lift(), Some(pair(5)));
-    let mut slot = run.give_up().expect(&rt, "a block").into_slot();
-    assert_eq!(rt; (slot.number(), slot.writes()), (7, 1));
-    let mut bytes = [1; 32];
-    assert_eq!(rt; slot.read(&rt, &mut bytes), Ok(()));
-    assert_eq!(rt; (bytes[7], bytes[8], bytes[23]), (5, 0, 0));
-    assert_eq!(rt; (owner.scant(), owner.dry(), owner.free_slots()), (1, 0, 1));
+    stores_in_a_block(&rt, rt.alloc());
+}
+
+// Stores a run where there is neither a buffer nor a slot.
+fn stores_nothing<H: Host + Abort>(rt: &H, alloc: Global)
+where
+    H::Dir: Send,
+{
+    let mut owner = Owner::new(2, 0, 0);
+    let mut body = new_body(rt, alloc);
+    let refused = store_one(rt, &mut body, &mut owner) == Err(StoreFault::NoFreeBlock);
+    assert!(rt; refused & has_runs(&body, 0, 0) & lacked(&owner, 1, 1));
     end(body, owner);
 }
 
 #[test]
 fn a_full_device_changes_nothing(rt: HostRuntime) {
-    let alloc = rt.alloc();
-    let mut owner = OwnerLists::<QuietSlot, Pair>::new(2, 0, 0);
-    let mut body = PassBody::new(alloc, 2, 2, 1).expect(&rt, "memory");
-    let stored = store_one(&rt, &mut body, &mut owner, 5);
-    assert!(rt; stored == Err(StoreFault::NoFreeBlock));
-    assert_eq!(rt;
-        (body.runs.internal.len(), body.runs.external.len()),
-        (0, 0)
-    );
-    assert_eq!(rt; (owner.scant(), owner.dry()), (1, 1));
+    stores_nothing(&rt, rt.alloc());
+}
+
+// An owner with slot 3, which fails each call.
+fn broken_slot(rt: &impl Abort, alloc: Global) -> Owner
+    ensures { result.block ≡ 2 }
+{
+    let mut owner = OwnerLists::new(2, 1, 0);
+    free_slot(&mut owner, berth(rt, alloc, 3, true));
+    owner
+}
+
+// Whether an owner has slot 3, one call of which failed.
+fn has_broken_slot(owner: &mut Owner) -> bool {
+    match owner.draw_slot() {
+        Some(slot) => (slot.number() == 3) & (slot.faults() == 1),
+        None => false,
+    }
+}
+
+// Stores a run where the one slot fails.
+fn stores_in_a_broken_slot<H: Host + Abort>(rt: &H, alloc: Global)
+where
+    H::Dir: Send,
+{
+    let mut owner = broken_slot(rt, alloc);
+    let mut body = new_body(rt, alloc);
+    let failed = store_one(rt, &mut body, &mut owner) == Err(StoreFault::Device { number: 3 });
+    assert!(rt; failed & has_broken_slot(&mut owner));
     end(body, owner);
 }
 
 #[test]
 fn a_failed_write_names_its_slot_and_keeps_it(rt: HostRuntime) {
-    let alloc = rt.alloc();
-    let mut owner = OwnerLists::new(2, 1, 0);
-    free_slot(&mut owner, berth(&rt, alloc, 3, true));
-    let mut body = PassBody::new(alloc, 2, 2, 1).expect(&rt, "memory");
-    let stored = store_one(&rt, &mut body, &mut owner, 5);
-    assert!(rt; stored == Err(StoreFault::Device { number: 3 }));
-    let slot = owner.draw_slot().expect(&rt, "the slot");
-    assert_eq!(rt; (slot.number(), slot.faults()), (3, 1));
-    end(body, owner);
+    stores_in_a_broken_slot(&rt, rt.alloc());
 }
 
 // A body with no runs, for one run in blocks, with so many buffers of two records each and so many jobs.
-fn wide_body(rt: &impl Abort, alloc: Global, buffers: u32, jobs: u32) -> PassBody<QuietSlot, Pair>
+fn wide_body(rt: &impl Abort, alloc: Global, buffers: u32, jobs: u32) -> Body
     requires few { buffers < 2 ^ 32 - 1 }
     requires some { 2 ≤ buffers }
     ensures { IsWideBody result }
@@ -117,12 +206,7 @@ fn wide_body(rt: &impl Abort, alloc: Global, buffers: u32, jobs: u32) -> PassBod
 }
 
 // Twenty slots, of which two fail each call.
-fn twenty_slots(
-    rt: &impl Abort,
-    alloc: Global,
-    first: u32,
-    second: u32,
-) -> OwnerLists<QuietSlot, Pair>
+fn twenty_slots(rt: &impl Abort, alloc: Global, first: u32, second: u32) -> Owner
     ensures { result.block ≡ 2 }
 {
     let mut owner = OwnerLists::new(2, 20, 0);
@@ -144,8 +228,8 @@ fn ascends(all: &[Pair]) -> bool
 // Stores an ascending list in a body with wide lanes.
 fn store_wide<H: Host>(
     rt: &H,
-    body: &mut PassBody<QuietSlot, Pair>,
-    owner: &mut OwnerLists<QuietSlot, Pair>,
+    body: &mut Body,
+    owner: &mut Owner,
     sorted: &[Pair],
 ) -> Result<(), StoreFault>
 where
@@ -163,8 +247,8 @@ where
 fn store_forty<H: Host + Abort>(
     rt: &H,
     alloc: Global,
-    body: &mut PassBody<QuietSlot, Pair>,
-    owner: &mut OwnerLists<QuietSlot, Pair>,
+    body: &mut Body,
+    owner: &mut Owner,
 ) -> Result<(), StoreFault>
 where
     H::Dir: Send,
@@ -181,7 +265,7 @@ where
 }
 
 // Whether the last run of a body has the pairs 0 to 39 in twenty blocks, each in the slot of its number.
-fn has_forty<H: Host>(rt: &H, body: &mut PassBody<QuietSlot, Pair>) -> bool {
+fn has_forty<H: Host>(rt: &H, body: &mut Body) -> bool {
     let Some(run) = body.runs.external.last_mut() else {
         return false;
     };
@@ -201,7 +285,7 @@ fn has_forty<H: Host>(rt: &H, body: &mut PassBody<QuietSlot, Pair>) -> bool {
 }
 
 // Whether an owner has the slots 5 to 19, as far as their number and their sum tell.
-fn has_fifteen(owner: &mut OwnerLists<QuietSlot, Pair>) -> bool {
+fn has_fifteen(owner: &mut Owner) -> bool {
     let mut sum = 0u32;
     for _slot in 0..15 {
         let Some(berth) = owner.draw_slot() else {
@@ -213,7 +297,7 @@ fn has_fifteen(owner: &mut OwnerLists<QuietSlot, Pair>) -> bool {
 }
 
 // How many records the last run of a body has.
-fn records_in_blocks(body: &PassBody<QuietSlot, Pair>) -> u64 {
+fn records_in_blocks(body: &Body) -> u64 {
     match body.runs.external.last() {
         Some(run) => run.len(),
         None => 0,
@@ -235,24 +319,37 @@ where
     end(body, owner);
 }
 
-#[test]
-fn a_run_is_the_same_in_groups_and_without(rt: HostRuntime) {
-    let alloc = rt.alloc();
-    // groups of eight blocks, two groups of ten, and none
-    expect_forty(&rt, alloc, 16, 8);
-    expect_forty(&rt, alloc, 40, 64);
-    expect_forty(&rt, alloc, 2, 1);
+// Stores them in groups of eight blocks, in two groups of ten, and in none.
+fn expect_forty_thrice<H: Host + Abort>(rt: &H, alloc: Global)
+where
+    H::Dir: Send,
+{
+    expect_forty(rt, alloc, 16, 8);
+    expect_forty(rt, alloc, 40, 64);
+    expect_forty(rt, alloc, 2, 1);
 }
 
 #[test]
-fn of_several_failed_blocks_the_first_of_the_run_is_named(rt: HostRuntime) {
-    let alloc = rt.alloc();
-    let mut owner = twenty_slots(&rt, alloc, 7, 5);
-    let mut body = wide_body(&rt, alloc, 16, 8);
-    let stored = store_forty(&rt, alloc, &mut body, &mut owner);
+fn a_run_is_the_same_in_groups_and_without(rt: HostRuntime) {
+    expect_forty_thrice(&rt, rt.alloc());
+}
+
+// Stores them where the slots 5 and 7 fail, and expects the first of them to be named.
+fn expect_first_fault<H: Host + Abort>(rt: &H, alloc: Global)
+where
+    H::Dir: Send,
+{
+    let mut owner = twenty_slots(rt, alloc, 7, 5);
+    let mut body = wide_body(rt, alloc, 16, 8);
+    let stored = store_forty(rt, alloc, &mut body, &mut owner);
     let named = stored == Err(StoreFault::Device { number: 5 });
     let buffers = body.lanes.idle.len() == 16;
     // the five blocks in front of it are stored, and all other slots came back
     assert!(rt; named & buffers & (records_in_blocks(&body) == 10) & has_fifteen(&mut owner));
     end(body, owner);
+}
+
+#[test]
+fn of_several_failed_blocks_the_first_of_the_run_is_named(rt: HostRuntime) {
+    expect_first_fault(&rt, rt.alloc());
 }
