@@ -6,7 +6,7 @@ ghost use Rattle.ppq_pass.specs.ppq_pool.Seats.{IsSeatOf as IsPoolSeat, count_of
 ghost use Rattle.ppq_pass.specs.ppq_array.Owner.{HasSize};
 ghost use Rattle.ppq_pass.specs.Passing.{new_pass};
 
-use crate::seats::{Seats, seats_of};
+use crate::seats::{Seats, end_shared, seats_of};
 use ppq_outside::{MemSlot, Slot};
 use ppq_pass::{
     Berth, Host, Pair, PassSupply, PoolBuf, PoolSeat, RowSeat, Shared, Supply, free_slot,
@@ -36,6 +36,9 @@ fn supply_of<'a, H: Abort>(
     let numbers = Vec::with_capacity(alloc, 2).expect(rt, "numbers");
     PassSupply::new(shared, row_seat, pool_seat, numbers, 2)
 }
+
+// Drops a pass, which in place would be proved anew in each test.
+fn end(_pass: PassSupply<MemSlot, Pair>) {}
 
 // The number of the slot that a pass draws. The slot is dropped.
 fn drawn(pass: &mut PassSupply<MemSlot, Pair>) -> Option<u32> {
@@ -67,18 +70,27 @@ fn draws_its_stash(shared: &Shared<MemSlot, Pair>, pass: PassSupply<MemSlot, Pai
     let parts = pass.into_parts();
     let kept = (parts.stash.len() == 1) & (parts.dry == 0);
     let mut pass = PassSupply::from_parts(shared, parts);
-    kept & (twice == (Some(0), Some(0))) & draws_two(&mut pass)
+    let two = draws_two(&mut pass);
+    end(pass);
+    kept & (twice == (Some(0), Some(0))) & two
 }
 
-#[test]
-fn a_stash_is_drawn_before_the_row_and_kept_between_calls(rt: HostRuntime) {
+// Whether a pass over new seats draws its stash first.
+fn stash_is_drawn_first<H: Host + Abort>(rt: &H, alloc: Global) -> bool {
     let Seats {
         shared,
         row_seat,
         pool_seat,
-    } = seats_of(&rt, rt.alloc(), 2);
-    let pass = supply_of(&rt, rt.alloc(), &shared, row_seat, pool_seat);
-    assert!(rt; draws_its_stash(&shared, pass));
+    } = seats_of(rt, alloc, 2);
+    let pass = supply_of(rt, alloc, &shared, row_seat, pool_seat);
+    let is_first = draws_its_stash(&shared, pass);
+    end_shared(shared);
+    is_first
+}
+
+#[test]
+fn a_stash_is_drawn_before_the_row_and_kept_between_calls(rt: HostRuntime) {
+    assert!(rt; stash_is_drawn_first(&rt, rt.alloc()));
 }
 
 // Whether a pass takes two buffers and no third, and one again once it gave one.
@@ -91,15 +103,23 @@ fn takes_two<H: Abort>(rt: &H, pass: &mut PassSupply<MemSlot, Pair>) -> bool {
     none & counts & pass.take_buffer().is_some() & (other.block() == 2)
 }
 
-#[test]
-fn buffers_are_taken_until_all_are_held(rt: HostRuntime) {
+// Whether a pass over new seats takes two buffers.
+fn both_are_taken<H: Host + Abort>(rt: &H, alloc: Global) -> bool {
     let Seats {
         shared,
         row_seat,
         pool_seat,
-    } = seats_of(&rt, rt.alloc(), 2);
-    let mut pass = supply_of(&rt, rt.alloc(), &shared, row_seat, pool_seat);
-    assert!(rt; takes_two(&rt, &mut pass));
+    } = seats_of(rt, alloc, 2);
+    let mut pass = supply_of(rt, alloc, &shared, row_seat, pool_seat);
+    let are_taken = takes_two(rt, &mut pass);
+    end(pass);
+    end_shared(shared);
+    are_taken
+}
+
+#[test]
+fn buffers_are_taken_until_all_are_held(rt: HostRuntime) {
+    assert!(rt; both_are_taken(&rt, rt.alloc()));
 }
 
 // The number of the slot that a pass draws, and whether it takes a buffer.
@@ -129,6 +149,9 @@ fn two_share<H: Host + Abort>(rt: &H, alloc: Global) {
     let mut pass = supply_of(rt, alloc, &shared, row_seat, pool_seat);
     let mut other = supply_of(rt, alloc, &shared, other_row_seat, other_pool_seat);
     assert!(rt; share_all(&mut pass, &mut other));
+    end(pass);
+    end(other);
+    end_shared(shared);
 }
 
 #[test]

@@ -6,7 +6,7 @@ ghost use Rattle.ppq_pass.specs.ppq_pool.Seats.{count_of};
 ghost use Rattle.ppq_pass.specs.ppq_array.Owner.{HasSize};
 ghost use Rattle.ppq_pass.specs.Passed.{IsOf};
 
-use crate::seats::{Seats, seats_of};
+use crate::seats::{Seats, end_shared, seats_of};
 use ppq_outside::MemSlot;
 use ppq_pass::{
     Berth, ExternalArray, Full, Host, InsertionHeap, InternalArray, Pair, Pass, PassBody, PassHeld,
@@ -118,13 +118,24 @@ fn in_blocks(runs: &[ExternalArray<MemSlot, Pair>]) -> u64 {
     count
 }
 
+// How many records are in what a pass had.
+fn records_in(held: &PassHeld<MemSlot, Pair>) -> u64 {
+    let runs = &held.body.runs;
+    let in_runs = in_buffers(runs.internal.as_slice()).saturating_add(in_blocks(
+        runs.external.as_slice(),
+    ));
+    in_runs.saturating_add(u64::from(held.heap.len()))
+}
+
+// Drops what a pass had, which in place would be proved anew in each helper.
+fn end_held(_held: PassHeld<MemSlot, Pair>) {}
+
 // How many records a pass has.
 fn records_of(pass: Pass<MemSlot, Pair>) -> u64 {
-    let PassHeld { heap, body, .. } = pass.into_parts();
-    let in_runs = in_buffers(body.runs.internal.as_slice()).saturating_add(in_blocks(
-        body.runs.external.as_slice(),
-    ));
-    in_runs.saturating_add(u64::from(heap.len()))
+    let held = pass.into_parts();
+    let count = records_in(&held);
+    end_held(held);
+    count
 }
 
 // How many records a pass accepted that refused one: it has them all.
@@ -150,14 +161,22 @@ where
         fill(rt, &shared, &mut one);
         fill(rt, &shared, &mut other);
     }
+    end_shared(shared);
     all_of_full(rt, one).saturating_add(all_of_full(rt, other))
+}
+
+// Whether two passes accept no more than fits, by turns and on two threads.
+fn fill_the_device<H: Host + Abort>(rt: &H, alloc: Global) -> bool
+where
+    H::Dir: Send,
+{
+    // at most four blocks, two buffers and two heaps
+    (filled(rt, alloc, false) <= 16) & (filled(rt, alloc, true) <= 16)
 }
 
 #[test]
 fn two_passes_fill_the_device_by_turns_and_on_two_threads(rt: HostRuntime) {
-    // at most four blocks, two buffers and two heaps
-    assert!(rt; filled(&rt, rt.alloc(), false) <= 16);
-    assert!(rt; filled(&rt, rt.alloc(), true) <= 16);
+    assert!(rt; fill_the_device(&rt, rt.alloc()));
 }
 
 // Pushes records that are taken.
@@ -204,17 +223,24 @@ where
     assert!(rt; taken & last & heap_is_full(pass));
 }
 
-// Whether a pass holds two records in its heap, two runs in buffers, one in blocks, and one slot in its stash.
-fn holds_all(pass: Pass<MemSlot, Pair>) -> bool {
-    let PassHeld {
-        heap,
-        body,
-        parts,
-        ..
-    } = pass.into_parts();
-    let runs = (body.runs.internal.len() == 2) & (body.runs.external.len() == 1);
-    runs & (heap.len() == 2) & (heap.min() == Some(pair(11))) & (parts.stash.len() == 1)
+// Whether two records are in a heap, two runs in buffers, one in blocks, and one slot in a stash.
+fn has_all(held: &PassHeld<MemSlot, Pair>) -> bool {
+    let runs = &held.body.runs;
+    let counts = (runs.internal.len() == 2) & (runs.external.len() == 1);
+    let heap = (held.heap.len() == 2) & (held.heap.min() == Some(pair(11)));
+    counts & heap & (held.parts.stash.len() == 1)
 }
+
+// Whether a pass holds all of these.
+fn holds_all(pass: Pass<MemSlot, Pair>) -> bool {
+    let held = pass.into_parts();
+    let all = has_all(&held);
+    end_held(held);
+    all
+}
+
+// Drops a pass that is not needed.
+fn end(_pass: Pass<MemSlot, Pair>) {}
 
 // A pass beside one that pushes nothing fills three of the four blocks, and is refused a record then.
 fn refuses_one<H: Host + Abort>(rt: &H, alloc: Global)
@@ -224,9 +250,11 @@ where
     let Session {
         shared,
         one: mut pass,
-        other: _other,
+        other,
     } = two_passes(rt, alloc);
     push_until_refused(rt, &shared, &mut pass);
+    end(other);
+    end_shared(shared);
     let told = pass.refused() & pass.failed().is_none() & (pass.accepted() == 12);
     assert!(rt; told & holds_all(pass));
 }

@@ -19,6 +19,9 @@ pub struct Seats {
     pub pool_seat: PoolSeat<PoolBuf<Pair>>,
 }
 
+// Drops what is shared, which in place would be proved anew in each test.
+pub fn end_shared(_shared: Shared<MemSlot, Pair>) {}
+
 // So many slots, in boxes, with the numbers from 0 on.
 fn berths<H: Host + Abort>(rt: &H, alloc: Global, count: u32) -> Vec<Berth<MemSlot, Pair>>
     ensures count { length result.items ≡ count }

@@ -137,33 +137,47 @@ fn gives_last_two(extract: &mut Extract<Pair>) -> bool {
     two & seven & nine & extract.pop().is_none()
 }
 
-#[test]
-fn a_refill_takes_the_least_records_of_all_runs(rt: HostRuntime) {
-    let mut w = three_runs(&rt, rt.alloc(), false);
-    refill(&rt, &mut w, None).expect(&rt, "a refill");
+// Refills twice, and expects the least four records of all runs and then the other two.
+fn refill_twice<H: Host + Abort>(rt: &H, alloc: Global) {
+    let mut w = three_runs(rt, alloc, false);
+    refill(rt, &mut w, None).expect(rt, "a refill");
     let four = [pair(1), pair(2), pair(3), pair(5)];
     // the run 3 5 is gone, and the slot of the block is free
     assert!(rt; (w.extract.rest() == four.as_slice()) & has_runs(&w, 1, 1, 1));
-    refill(&rt, &mut w, None).expect(&rt, "a refill");
+    refill(rt, &mut w, None).expect(rt, "a refill");
     let given = gives_last_two(&mut w.extract);
     assert!(rt; given & has_runs(&w, 0, 0, 1) & (w.owner.idle_buffers() == 2));
     end(w);
 }
 
 #[test]
-fn a_limit_gives_only_what_is_below_it(rt: HostRuntime) {
-    let mut w = three_runs(&rt, rt.alloc(), false);
-    refill(&rt, &mut w, Some(pair(3))).expect(&rt, "a refill");
+fn a_refill_takes_the_least_records_of_all_runs(rt: HostRuntime) {
+    refill_twice(&rt, rt.alloc());
+}
+
+// Refills with what is below 3, and expects that all runs stay.
+fn refill_below<H: Host + Abort>(rt: &H, alloc: Global) {
+    let mut w = three_runs(rt, alloc, false);
+    refill(rt, &mut w, Some(pair(3))).expect(rt, "a refill");
     let two = w.extract.rest() == [pair(1), pair(2)].as_slice();
     assert!(rt; two & (w.runs.internal.len() == 2) & (w.runs.external.len() == 1));
     end(w);
 }
 
 #[test]
-fn a_read_that_fails_is_answered_with_its_slot(rt: HostRuntime) {
-    let mut w = three_runs(&rt, rt.alloc(), true);
-    let refilled = refill(&rt, &mut w, None);
-    let named = refilled == Err(StoreFault::Device { number: 4 });
+fn a_limit_gives_only_what_is_below_it(rt: HostRuntime) {
+    refill_below(&rt, rt.alloc());
+}
+
+// Refills from a block that cannot be read, and expects its number.
+fn refill_in_vain<H: Host + Abort>(rt: &H, alloc: Global) {
+    let mut w = three_runs(rt, alloc, true);
+    let named = refill(rt, &mut w, None) == Err(StoreFault::Device { number: 4 });
     assert!(rt; named & w.extract.is_empty() & (w.owner.free_slots() == 1));
     end(w);
+}
+
+#[test]
+fn a_read_that_fails_is_answered_with_its_slot(rt: HostRuntime) {
+    refill_in_vain(&rt, rt.alloc());
 }

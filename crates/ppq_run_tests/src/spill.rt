@@ -5,7 +5,9 @@ ghost use Rattle.ppq_record.specs.Order.{Ascends};
 ghost use Rattle.ppq_record.specs.Pair.{pair_cmp};
 ghost use Rattle.ppq_run_tests.specs.Wide.{IsWideBody};
 
-use ppq_array::{Berth, OwnerLists, Runs, StoreFault, Supply, free_slot, give_buffer};
+use ppq_array::{
+    Berth, ExternalArray, OwnerLists, Runs, StoreFault, Supply, free_slot, give_buffer,
+};
 use ppq_block::BlockBuf;
 use ppq_lane::Lanes;
 use ppq_merge::MinTree;
@@ -103,23 +105,33 @@ fn two_slots(rt: &impl Abort, alloc: Global) -> Owner
     owner
 }
 
-// Whether slot 7 comes, written once, and a read of it gives 5 and zeros.
-fn holds_five<H: Host + Abort>(rt: &H, berth: Option<Berth<QuietSlot, Pair>>) -> bool {
-    let mut slot = berth.expect(rt, "a block").into_slot();
-    let is_written = (slot.number() == 7) & (slot.writes() == 1);
+// Whether a slot is 7, written once, and a read of it gives 5 and zeros.
+fn holds_five<H: Host>(rt: &H, berth: Berth<QuietSlot, Pair>) -> bool {
+    let mut slot = berth.into_slot();
     let mut bytes = [1; 32];
     let is_read = slot.read(rt, &mut bytes) == Ok(());
-    is_written & is_read & (bytes[7] == 5) & (bytes[8] == 0) & (bytes[23] == 0)
+    let is_five = (bytes[7] == 5) & (bytes[8] == 0) & (bytes[23] == 0);
+    is_read & is_five & (slot.number() == 7) & (slot.writes() == 1)
+}
+
+// Whether the last block of a run has the one record 5, in slot 7. It is given up.
+fn gives_up_five<H: Host>(rt: &H, run: &mut ExternalArray<QuietSlot, Pair>) -> bool {
+    match run.give_up() {
+        Some(berth) => holds_five(rt, berth),
+        None => false,
+    }
+}
+
+// Whether a run has one record, 5, which is not loaded.
+fn is_five_stored(run: &ExternalArray<QuietSlot, Pair>) -> bool {
+    let sizes = (run.level() == 0) & (run.len() == 1) & (run.loaded() == 0);
+    sizes & (run.next_to_lift() == Some(pair(5)))
 }
 
 // Whether the first run in blocks has the one record 5 in one block, in slot 7. It is given up.
-fn gives_up_five<H: Host + Abort>(rt: &H, body: &mut Body) -> bool {
+fn has_five<H: Host>(rt: &H, body: &mut Body) -> bool {
     match body.runs.external.first_mut() {
-        Some(run) => {
-            let sizes = (run.level() == 0) & (run.len() == 1) & (run.loaded() == 0);
-            let next = run.next_to_lift() == Some(pair(5));
-            sizes & next & holds_five(rt, run.give_up())
-        }
+        Some(run) => is_five_stored(run) & gives_up_five(rt, run),
         None => false,
     }
 }
@@ -132,7 +144,7 @@ where
     let mut owner = two_slots(rt, alloc);
     let mut body = new_body(rt, alloc);
     let stored = store_one(rt, &mut body, &mut owner) == Ok(());
-    let run = has_runs(&body, 0, 1) & gives_up_five(rt, &mut body);
+    let run = has_runs(&body, 0, 1) & has_five(rt, &mut body);
     assert!(rt; stored & run & lacked(&owner, 1, 0) & (owner.free_slots() == 1));
     end(body, owner);
 }
@@ -264,24 +276,42 @@ where
     store_wide(rt, body, owner, &all)
 }
 
-// Whether the last run of a body has the pairs 0 to 39 in twenty blocks, each in the slot of its number.
-fn has_forty<H: Host>(rt: &H, body: &mut Body) -> bool {
-    let Some(run) = body.runs.external.last_mut() else {
-        return false;
-    };
+// Whether a slot has this number, and a read of it gives the two pairs of that place.
+fn holds_two_of<H: Host>(rt: &H, berth: Berth<QuietSlot, Pair>, place: u32) -> bool
+    requires { place < 20 }
+{
+    let mut slot = berth.into_slot();
+    let mut bytes = [0; 32];
+    let is_read = slot.read(rt, &mut bytes).is_ok();
+    let first = u32::from(bytes[7]) == 2 * place;
+    is_read & (slot.number() == place) & first & (u32::from(bytes[23]) == 2 * place + 1)
+}
+
+// Whether the last block of a run is that of this place. It is given up.
+fn gives_up_block<H: Host>(rt: &H, run: &mut ExternalArray<QuietSlot, Pair>, place: u32) -> bool
+    requires { place < 20 }
+{
+    match run.give_up() {
+        Some(berth) => holds_two_of(rt, berth, place),
+        None => false,
+    }
+}
+
+// Whether a run has 40 records in twenty blocks, which it gives up.
+fn gives_up_forty<H: Host>(rt: &H, run: &mut ExternalArray<QuietSlot, Pair>) -> bool {
     let mut right = run.len() == 40;
     for back in 0u32..20 {
-        let Some(last) = run.give_up() else {
-            return false;
-        };
-        let mut slot = last.into_slot();
-        let mut bytes = [0; 32];
-        let read = slot.read(rt, &mut bytes).is_ok();
-        let place = 19 - back;
-        let keys = (u32::from(bytes[7]), u32::from(bytes[23]));
-        right = right & read & (slot.number() == place) & (keys == (2 * place, 2 * place + 1));
+        right &= gives_up_block(rt, run, 19 - back);
     }
     right
+}
+
+// Whether the last run of a body has the pairs 0 to 39 in twenty blocks, each in the slot of its number.
+fn has_forty<H: Host>(rt: &H, body: &mut Body) -> bool {
+    match body.runs.external.last_mut() {
+        Some(run) => gives_up_forty(rt, run),
+        None => false,
+    }
 }
 
 // Whether an owner has the slots 5 to 19, as far as their number and their sum tell.
