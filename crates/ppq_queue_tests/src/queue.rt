@@ -1,12 +1,12 @@
 //! Worked examples of a queue over blocks in memory. Each queue is given to the helper that closes it: to drop
 //! one in place would be proved anew in each test.
-ghost use Rattle.std.specs.Prelude.{◌≡◌, ◌<◌, Some, max};
+ghost use Rattle.std.specs.Prelude.{◌≡◌, Some};
 
 use ppq_budget::Sizes;
 use ppq_outside::{Host, MemRack, MemSlot, OpenGate, Slot};
 use ppq_queue::{Queue, QueueFault};
 use ppq_record::Pair;
-use ppq_testkit::{opened, pair, pushed};
+use ppq_testkit::{draw, opened, pair, pushed};
 use std::alloc::Global;
 use std::process::Abort;
 
@@ -289,17 +289,6 @@ where
 #[test]
 fn free_blocks_come_back_while_a_queue_is_filled_and_emptied_ten_times(rt: HostRuntime) {
     assert!(rt; uses_blocks_again(&rt, rt.alloc()));
-}
-
-// The next number of Knuth's MMIX sequence; its upper half below a bound.
-fn draw(seed: &mut u64, below: u64) -> u64
-    ensures { result < max below 1 }
-{
-    let next = seed
-        .wrapping_mul(6364136223846793005)
-        .wrapping_add(1442695040888963407);
-    *seed = next;
-    (next >> 32) % below.max(1)
 }
 
 // Puts a record into a sorted list, the smallest last.

@@ -1,5 +1,5 @@
 -- Bodies whose lanes have more than two buffers.
-use Rattle.std.specs.Prelude.{◌≡◌, ◌+◌, ◌-◌, ◌^◌, ◌<◌, ◌≤◌, [], length, All, vec_capacity}
+use Rattle.std.specs.Prelude.{◌≡◌, ◌-◌, ◌^◌, ◌<◌, ◌≤◌, [], length, All, vec_capacity}
 use Rattle.ppq_array.specs.Owner.{HasBlock}
 use Rattle.ppq_spill.specs.declared.body.PassBody.{PassBody}
 

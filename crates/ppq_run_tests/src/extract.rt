@@ -1,6 +1,5 @@
 //! Worked examples of refills. A number stands for the pair with that key and value 0.
-ghost use Rattle.std.specs.Prelude.{◌≡◌, ◌+◌, ◌∷◌, [], length, OnOk};
-ghost use Rattle.ppq_array.specs.Run.{run_of};
+ghost use Rattle.std.specs.Prelude.{◌+◌, length, OnOk};
 ghost use Rattle.ppq_extract.specs.ppq_fetch.Fetching.{MayFetch};
 ghost use Rattle.ppq_extract.specs.Extracted.{sources_of, ServesFor};
 ghost use Rattle.ppq_extract.specs.Examples.{IsRunOfTwo, IsRunOfBlock};
@@ -113,8 +112,8 @@ fn end(_w: World) {}
 
 // Whether a buffer has no record and gives none.
 fn gives_none(extract: &mut Extract<Pair>) -> bool {
-    let none = extract.front().is_none() & extract.pop().is_none();
-    none & extract.is_empty() & (extract.len() == 0) & extract.rest().is_empty()
+    let is_empty = extract.is_empty() & (extract.len() == 0) & extract.front().is_none();
+    is_empty & extract.pop().is_none() & extract.rest().is_empty()
 }
 
 #[test]

@@ -1,10 +1,10 @@
 //! Merges of pairs by workers.
-ghost use Rattle.std.specs.Prelude.{◌<◌, max};
+ghost use Rattle.std.specs.Prelude.{◌<◌};
 
 use ppq_merge::{Bench, merge_workers, size_of};
 use ppq_outside::{Gate, OpenGate};
 use ppq_record::{Listing, Lists, Pair, sort};
-use ppq_testkit::{PairGate, SoloGate, pair};
+use ppq_testkit::{PairGate, SoloGate, draw, pair};
 use std::alloc::Global;
 use std::process::Abort;
 use std::thread::Threads;
@@ -230,17 +230,6 @@ fn each_worker_merges_its_share_and_each_record_is_read_once(rt: HostRuntime) {
             );
         }
     }
-}
-
-// The next number of Knuth's MMIX sequence; its upper half below a bound.
-fn draw(seed: &mut u64, below: u64) -> u64
-    ensures { result < max below 1 }
-{
-    let next = seed
-        .wrapping_mul(6364136223846793005)
-        .wrapping_add(1442695040888963407);
-    *seed = next;
-    (next >> 32) % below.max(1)
 }
 
 // Sorted runs of generated pairs, of which many have the same key, and some are equal.

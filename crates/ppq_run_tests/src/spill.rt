@@ -1,5 +1,5 @@
 //! Worked examples of storing runs. A number stands for the pair with that key and value 0.
-ghost use Rattle.std.specs.Prelude.{◌≡◌, ◌+◌, ◌-◌, ◌*◌, ◌^◌, ◌<◌, ◌≤◌, true, length, vec_capacity};
+ghost use Rattle.std.specs.Prelude.{◌≡◌, ◌-◌, ◌^◌, ◌<◌, ◌≤◌, true, length};
 ghost use Rattle.ppq_spill.specs.Body.{IsNewBody};
 ghost use Rattle.ppq_record.specs.Order.{Ascends};
 ghost use Rattle.ppq_record.specs.Pair.{pair_cmp};
@@ -108,10 +108,10 @@ fn two_slots(rt: &impl Abort, alloc: Global) -> Owner
 // Whether a slot is 7, written once, and a read of it gives 5 and zeros.
 fn holds_five<H: Host>(rt: &H, berth: Berth<QuietSlot, Pair>) -> bool {
     let mut slot = berth.into_slot();
+    let is_written = (slot.number() == 7) & (slot.writes() == 1);
     let mut bytes = [1; 32];
     let is_read = slot.read(rt, &mut bytes) == Ok(());
-    let is_five = (bytes[7] == 5) & (bytes[8] == 0) & (bytes[23] == 0);
-    is_read & is_five & (slot.number() == 7) & (slot.writes() == 1)
+    is_written & is_read & (bytes[7] == 5) & (bytes[8] == 0) & (bytes[23] == 0)
 }
 
 // Whether the last block of a run has the one record 5, in slot 7. It is given up.

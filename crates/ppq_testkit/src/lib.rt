@@ -1,9 +1,10 @@
-//! What several test crates use: records, blocks and queues in memory, a slot whose contents contracts do not know, and
-//! gates that hold workers until others are under way.
+//! What several test crates use: records, generated numbers, blocks and queues in memory, a slot whose contents contracts
+//! do not know, and gates that hold workers until others are under way.
 #![tactic(auto)]
 
 mod blocks;
 mod crowd_gate;
+mod draws;
 mod pair_gate;
 mod queues;
 mod quiet_slot;
@@ -12,6 +13,7 @@ mod solo_gate;
 
 pub use blocks::blocks_of;
 pub use crowd_gate::CrowdGate;
+pub use draws::draw;
 pub use pair_gate::PairGate;
 pub use queues::{opened, pushed};
 pub use quiet_slot::{QuietSlot, quiet_berth};
