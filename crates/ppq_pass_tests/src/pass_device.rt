@@ -2,6 +2,7 @@
 //! two pairs. A number stands for the pair with that key and value 0.
 ghost use Rattle.std.specs.Prelude.{◌≡◌, ◌<◌, [], All, length};
 ghost use Rattle.ppq_outside.specs.MemoryDevice.{slot_shown};
+ghost use Rattle.ppq_pass.specs.ppq_budget.Sizes.{numbers};
 ghost use Rattle.ppq_pass.specs.ppq_pool.Seats.{count_of};
 ghost use Rattle.ppq_pass.specs.ppq_array.Owner.{HasSize};
 ghost use Rattle.ppq_pass.specs.Passed.{IsOf};
@@ -24,6 +25,13 @@ struct Session {
     other: Pass<MemSlot, Pair>,
 }
 
+// Two workers, two records a block, one block a heap, a budget of 180 records, and four blocks.
+fn sizes(rt: &impl Abort) -> Sizes
+    ensures { result ≡ numbers 2 2 1 180 4 }
+{
+    Sizes::new(2, 2, 1, 180, 4).expect(rt, "sizes")
+}
+
 // A pass over new seats.
 fn pass_of<H: Host + Abort>(
     rt: &H,
@@ -40,7 +48,7 @@ fn pass_of<H: Host + Abort>(
     ensures row { result.key.row ≡ row_seat.row }
     ensures pool { result.key.pool ≡ pool_seat.pool }
 {
-    let sizes = Sizes::new(2, 2, 1, 180, 4).expect(rt, "sizes");
+    let sizes = sizes(rt);
     let heap = InsertionHeap::new(alloc, 2).expect(rt, "a heap");
     let body = PassBody::new(alloc, 2, 3, 5).expect(rt, "a body");
     let numbers = Vec::with_capacity(alloc, 2).expect(rt, "numbers");
@@ -239,9 +247,6 @@ fn holds_all(pass: Pass<MemSlot, Pair>) -> bool {
     all
 }
 
-// Drops a pass that is not needed.
-fn end(_pass: Pass<MemSlot, Pair>) {}
-
 // A pass beside one that pushes nothing fills three of the four blocks, and is refused a record then.
 fn refuses_one<H: Host + Abort>(rt: &H, alloc: Global)
 where
@@ -253,7 +258,7 @@ where
         other,
     } = two_passes(rt, alloc);
     push_until_refused(rt, &shared, &mut pass);
-    end(other);
+    end_held(other.into_parts());
     end_shared(shared);
     let told = pass.refused() & pass.failed().is_none() & (pass.accepted() == 12);
     assert!(rt; told & holds_all(pass));

@@ -1,5 +1,5 @@
-//! What several test crates use: records, generated numbers, blocks and queues in memory, a slot whose contents contracts
-//! do not know, and gates that hold workers until others are under way.
+//! What several test crates use: records, generated numbers, blocks and queues in memory, a slot whose contents
+//! contracts do not know, and gates that hold workers until others are under way.
 #![tactic(auto)]
 
 mod blocks;
