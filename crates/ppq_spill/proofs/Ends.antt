@@ -65,7 +65,7 @@ module _ {S R : Type 0} (shown : S → Shown) (width workers level : ℕ) (old m
           batch = may.batch ∙ ap (λ k. workers * k) (sym (ap (λ s. s.block) drew.stock));
         }
 
-    module _ (cmp : R → R → Ordering) (record_of : List ℕ → R) (new : List (External S R)) (lanes' : Lanes (DeviceBlock S R) R) (now : Stock) (jobs : lanes'.jobs ≡ lanes.jobs) where
+    module _ (cmp : R → R → Ordering) (record_of : List ℕ → R) (new : List (External S R)) (lanes' : Lanes (DeviceBlock S R) R) (now : Stock) (jobs : lanes'.jobs.items ≡ lanes.jobs.items) where
       -- they were merged
       pub level_ends :
           length lanes'.batch.items ≡ length lanes.batch.items → ArraysAscend cmp record_of width shown old stock → LastMerged cmp record_of width workers shown (all_but_eight mid) (start made) new lanes'.idle now
@@ -89,7 +89,7 @@ module _ {S R : Type 0} (shown : S → Shown) (width workers level : ℕ) (old m
 
     -- a read or write failed
     pub level_stops :
-        (new : List (External S R)) (lanes' : Lanes (DeviceBlock S R) R) (now : Stock) (fault : StoreFault) → lanes'.jobs ≡ lanes.jobs → LastFailed shown width (all_but_eight mid) (start made) new lanes'.idle now fault
+        (new : List (External S R)) (lanes' : Lanes (DeviceBlock S R) R) (now : Stock) (fault : StoreFault) → lanes'.jobs.items ≡ lanes.jobs.items → LastFailed shown width (all_but_eight mid) (start made) new lanes'.idle now fault
         → Leaves shown width level old new lanes lanes' stock now
     level_stops new lanes' now fault jobs last1 =
         let last = subst (λ m. LastFailed shown width (all_but_eight mid) (start m) new lanes'.idle now fault) empty last1 in

@@ -1,5 +1,5 @@
 -- A group of jobs that were run: its blocks are the next ones of a run.
-use Rattle.std.proofs.Common.{◌≡◌, ℕ, ◌+◌, ◌*◌, ◌≤◌, List, [], ◌∷◌, ◌++◌, length, map, sum_by, All, Result, Ok, Err, refl, sym, ap, ◌∙◌, subst, arith, append_assoc, length-append, append-nil}
+use Rattle.std.proofs.Common.{◌≡◌, ℕ, ◌+◌, ◌*◌, ◌<◌, ◌≤◌, List, [], ◌∷◌, ◌++◌, length, map, sum_by, All, Result, Ok, Err, refl, sym, ap, ◌∙◌, subst, arith, append_assoc, length-append, append-nil}
 use Rattle.std.specs.List.{AllZip}
 use Rattle.std.proofs.lemmas.List.{map-append}
 use Rattle.std.proofs.lemmas.List.Sums.{sum_by-cons, sum_by-append}
@@ -36,12 +36,12 @@ one_more (Ok u) before now c = let e : now ≡ next_count before = c.ok in omega
 one_more (Err x) before now c = let e : now ≡ before = c.err in omega (arith, e)
 
 -- a slot that was called once, to write
-record WroteOnce (before now : Shown) : Type 0 where
+pub record WroteOnce (before now : Shown) : Type 0 where
   pub grew : Grew before now
   pub calls : MoreWrites 1 (before ∷ []) (now ∷ [])
 
 -- each of some slots that stand between others was called
-went_each :
+pub went_each :
     (base xs ys ys' zs : List Shown) (n m : ℕ) → m ≡ n + length ys → WentWriting n base (xs ++ ys ++ zs) → AllZip WroteOnce ys ys' → WentWriting m base (xs ++ ys' ++ zs)
 went_each base xs [] [] zs n m e before zip = subst (λ k. WentWriting k base (xs ++ [] ++ zs)) (let s : n ≡ m = omega (arith, e) in s) before
 went_each base xs [] (y ∷ ys') zs n m e before zip = absurd zip
@@ -70,7 +70,7 @@ module _ {S R : Type 0} (cmp : R → R → Ordering) (bytes_of : R → List ℕ)
         calls = one_slot 1 (shown j.slot.slot) (shown d.slot.slot) (one_more done.answer (shown j.slot.slot).writes (shown d.slot.slot).writes w.wrote.writes) (omega (arith, w.wrote.reads));
       }
 
-  called_all : (js ds : List (Job (DeviceBlock S R) R)) → All IsWrite js → AllZip Ran js ds → AllZip WroteOnce (slots_shown shown (map slot_of js)) (slots_shown shown (map slot_of ds))
+  pub called_all : (js ds : List (Job (DeviceBlock S R) R)) → All IsWrite js → AllZip Ran js ds → AllZip WroteOnce (slots_shown shown (map slot_of js)) (slots_shown shown (map slot_of ds))
   called_all [] [] is zip = tt
   called_all [] (d ∷ ds) is zip = absurd zip
   called_all (j ∷ js) [] is zip = absurd zip
@@ -88,7 +88,7 @@ module _ {S R : Type 0} (cmp : R → R → Ordering) (bytes_of : R → List ℕ)
   abbrev Sized : DeviceBlock S R → Type 0
   Sized = HasSize {S = S} {R = R} shown (block * width)
 
-  sized_all : (js ds : List (Job (DeviceBlock S R) R)) → All IsWrite js → AllZip Ran js ds → All Sized (map slot_of js) → All Sized (map slot_of ds)
+  pub sized_all : (js ds : List (Job (DeviceBlock S R) R)) → All IsWrite js → AllZip Ran js ds → All Sized (map slot_of js) → All Sized (map slot_of ds)
   sized_all [] [] is zip sizes = sizes
   sized_all [] (d ∷ ds) is zip sizes = absurd zip
   sized_all (j ∷ js) [] is zip sizes = absurd zip
@@ -105,6 +105,31 @@ module _ {S R : Type 0} (cmp : R → R → Ordering) (bytes_of : R → List ℕ)
       let e : done.answer ≡ Ok u = some_is (Ok u) done.answer (Ok u) (sym done.done ∙ good) in
       block_stored bytes_of record_of width shown done.answer u e j.slot.slot d.slot.slot j.buf d.buf w array (written_run (array.stored ++ block_of d ∷ [])) (block_of d)
       (ap (λ (a : External S R). external a.level a.loaded [] (array.stored ++ block_of d ∷ [])) (sym shape)) refl (ap (λ b. length b.items) w.same)
+
+  -- a good job wrote its slot, and that call did not fail
+  pub good_write : (j d : Job (DeviceBlock S R) R) → IsWrite j → Ran j d → IsGood d → 1 ≤ (shown d.slot.slot).writes
+  good_write j d is done (u, good) =
+      let w = wrote j d is done in
+      let e : done.answer ≡ Ok u = some_is (Ok u) done.answer (Ok u) (sym done.done ∙ good) in
+      let once : (shown d.slot.slot).writes ≡ next_count (shown j.slot.slot).writes = IfOk-at_ok (λ _. (shown d.slot.slot).writes ≡ next_count (shown j.slot.slot).writes) e w.wrote.writes.ok in
+      omega (arith, once)
+
+  pub good_quiet : (j d : Job (DeviceBlock S R) R) → IsWrite j → Ran j d → IsGood d → (shown d.slot.slot).faults ≡ (shown j.slot.slot).faults
+  good_quiet j d is done (u, good) =
+      let w = wrote j d is done in
+      let e : done.answer ≡ Ok u = some_is (Ok u) done.answer (Ok u) (sym done.done ∙ good) in
+      IfOk-at_ok (λ _. (shown d.slot.slot).faults ≡ (shown j.slot.slot).faults) e w.wrote.cause.ok
+
+  -- the slot of a job that failed has a failed call
+  pub bad_fault : (js good later : List (Job (DeviceBlock S R) R)) (bad : Job (DeviceBlock S R) R) → All IsWrite js → AllZip Ran js (good ++ bad ∷ later) → IsBad bad → 0 < (shown bad.slot.slot).faults
+  bad_fault [] [] later bad is zip failed = absurd zip
+  bad_fault [] (d ∷ ds) later bad is zip failed = absurd zip
+  bad_fault (j ∷ js) (d ∷ ds) later bad is zip failed = bad_fault js ds later bad (All-tail IsWrite j js is) zip.1 failed
+  bad_fault (j ∷ js) [] later bad is zip (x, e) =
+      let one = zip.0 in
+      let w = wrote j bad (All-head IsWrite j js is) one in
+      let err : one.answer ≡ Err x = some_is (Err x) one.answer (Err x) (sym one.done ∙ e) in
+      (block_failed bytes_of record_of width shown one.answer x err j.slot.slot bad.slot j.buf bad.buf w (external 0 (run_of [] 0 []) [] [])).failed
 
   -- the slot of a good job holds its records
   pub told_items : (j d : Job (DeviceBlock S R) R) → IsWrite j → Ran j d → IsGood d → Tells (shown j.slot.slot) → block_items record_of width shown (block_of d) ≡ j.buf.items

@@ -38,13 +38,13 @@ some_first [] h = absurd (omega (arith, h))
 some_first (x ∷ xs) h = refl
 
 module _ {R : Type 0} (block : ℕ) where
-  abbrev HasRecord : Block R → Type 0
+  abbrev pub HasRecord : Block R → Type 0
   HasRecord b = 0 < length b.items
 
-  abbrev Fits : Block R → Type 0
+  abbrev pub Fits : Block R → Type 0
   Fits b = length b.items ≤ block
 
-  held_blocks : (bs : List (Block R)) → All (λ (b : Block R). b ≡ holding block b.items) bs → All (HasBlock block) bs
+  pub held_blocks : (bs : List (Block R)) → All (λ (b : Block R). b ≡ holding block b.items) bs → All (HasBlock block) bs
   held_blocks [] held = All-nil (HasBlock block)
   held_blocks (b ∷ bs) held =
       let Held : Block R → Type 0 = λ b. b ≡ holding block b.items in
@@ -84,7 +84,7 @@ module _ {S R : Type 0} (cmp : R → R → Ordering) (bytes_of : R → List ℕ)
             };
       }
 
-  can_end_all :
+  pub can_end_all :
       (js ds : List (Job (DeviceBlock S R) R)) → All IsWrite js → AllRan js ds → All (HasRecord block) (map buf_of js) → All (Fits block) (map buf_of js) → All Sized (map slot_of js) → All (CanEnd record_of width shown) ds
   can_end_all [] [] is zip some fit sized = All-nil (CanEnd record_of width shown)
   can_end_all [] (d ∷ ds) is zip some fit sized = absurd zip

@@ -75,7 +75,8 @@ pub record Placed {S R : Type 0} (shown : S → Shown) (width level : ℕ) (old 
   pub drew : DrewSlots shown width stock o.hand.stock o.hand.berths
   pub none_made : o.hand.made.stored ≡ []
   pub none_size : size_of o.hand.made ≡ 0
-  pub merging : Merging shown width o t
+  pub later : ℕ
+  pub merging : Merging shown width later o t
   pub back : length t.hand.berths ≤ t.hand.stock.slot_room
   pub slots : (f : Shown → ℕ) → sum_by f (external_slots shown new) ≡ sum_by f (external_slots shown others) + (sum_by f (external_slots shown t.inputs) + sum_by f (slots_shown shown t.hand.made.stored))
   pub buffers : external_buffers new ≡ external_buffers others + external_buffers t.inputs
@@ -168,15 +169,15 @@ module _ {S R : Type 0} (shown : S → Shown) (width level : ℕ) (old new other
       omega (arith, e, same)
 
   -- all slots, with those of jobs
-  pub level_went : (j : List Shown) → Went (length is.merging.blocks) (blocks_in o.inputs - blocks_in t.inputs) (external_slots shown old ++ j ++ stock.kept ++ now.drawn) (external_slots shown new ++ j ++ now.kept ++ stock.drawn)
+  pub level_went : (j : List Shown) → Went (length is.merging.blocks + is.later) (blocks_in o.inputs - blocks_in t.inputs) (external_slots shown old ++ j ++ stock.kept ++ now.drawn) (external_slots shown new ++ j ++ now.kept ++ stock.drawn)
   level_went j =
-      Went-placed (length is.merging.blocks) (blocks_in o.inputs - blocks_in t.inputs) (external_slots shown others ++ stock.drawn ++ j) (table_slots shown o) (table_slots shown t)
+      Went-placed (length is.merging.blocks + is.later) (blocks_in o.inputs - blocks_in t.inputs) (external_slots shown others ++ stock.drawn ++ j) (table_slots shown o) (table_slots shown t)
       (external_slots shown old ++ j ++ stock.kept ++ now.drawn) (external_slots shown new ++ j ++ now.kept ++ stock.drawn) (λ f. old_sum f j) (λ f. new_sum f j) is.merging.went
 
-  nil_went : Went (length is.merging.blocks) (blocks_in o.inputs - blocks_in t.inputs) (arrays_before shown old stock now) (arrays_after shown new stock now)
+  nil_went : Went (length is.merging.blocks + is.later) (blocks_in o.inputs - blocks_in t.inputs) (arrays_before shown old stock now) (arrays_after shown new stock now)
   nil_went =
-      subst (λ (xs : List Shown). Went (length is.merging.blocks) (blocks_in o.inputs - blocks_in t.inputs) (xs ++ stock.kept ++ now.drawn) (arrays_after shown new stock now)) (append-nil (external_slots shown old))
-      (subst (λ (xs : List Shown). Went (length is.merging.blocks) (blocks_in o.inputs - blocks_in t.inputs) (external_slots shown old ++ [] ++ stock.kept ++ now.drawn) (xs ++ now.kept ++ stock.drawn)) (append-nil (external_slots shown new)) (level_went []))
+      subst (λ (xs : List Shown). Went (length is.merging.blocks + is.later) (blocks_in o.inputs - blocks_in t.inputs) (xs ++ stock.kept ++ now.drawn) (arrays_after shown new stock now)) (append-nil (external_slots shown old))
+      (subst (λ (xs : List Shown). Went (length is.merging.blocks + is.later) (blocks_in o.inputs - blocks_in t.inputs) (external_slots shown old ++ [] ++ stock.kept ++ now.drawn) (xs ++ now.kept ++ stock.drawn)) (append-nil (external_slots shown new)) (level_went []))
 
   -- no call failed, of all slots if of those that the merge called
   pub level_quiet : AreQuiet (table_slots shown o) (table_slots shown t) → AreQuiet (arrays_before shown old stock now) (arrays_after shown new stock now)
@@ -203,11 +204,11 @@ module _ {S R : Type 0} (shown : S → Shown) (width level : ℕ) (old new other
   pub level_buffer_room : now.buffer_room ≡ stock.buffer_room
   level_buffer_room = ap (λ s. s.buffer_room) is.stock_is ∙ is.merging.rest.buffers ∙ ap (λ s. s.buffer_room) is.drew.stock
 
-  pub level_kept : (lanes lanes' : Lanes (DeviceBlock S R) R) → lanes.idle ≡ o.idle → lanes'.idle ≡ t.idle → lanes'.jobs ≡ lanes.jobs → Kept stock now (held_in shown old lanes) (held_in shown new lanes')
+  pub level_kept : (lanes lanes' : Lanes (DeviceBlock S R) R) → lanes.idle ≡ o.idle → lanes'.idle ≡ t.idle → lanes'.jobs.items ≡ lanes.jobs.items → Kept stock now (held_in shown old lanes) (held_in shown new lanes')
   level_kept lanes lanes' idle idle' jobs =
       let j = job_slots shown lanes.jobs.items in
       let j' = job_slots shown lanes'.jobs.items in
-      let same : j ≡ j' = ap (λ js. job_slots shown js.items) (sym jobs) in
+      let same : j ≡ j' = ap (λ js. job_slots shown js) (sym jobs) in
       let room : now.buffer_room ≡ stock.buffer_room = ap (λ s. s.buffer_room) is.stock_is ∙ is.merging.rest.buffers ∙ ap (λ s. s.buffer_room) is.drew.stock in
       record {
         slots = subst (λ (x : List Shown). SameSlots (external_slots shown old ++ j ++ stock.kept ++ now.drawn) (external_slots shown new ++ x ++ now.kept ++ stock.drawn)) same (level_went j).same;
@@ -220,7 +221,7 @@ module _ {S R : Type 0} (shown : S → Shown) (width level : ℕ) (old new other
           is.merging.buffers,
           ap length idle,
           ap length idle',
-          ap (λ js. length js.items) jobs,
+          ap length jobs,
         );
         block = block_is;
       }
@@ -238,8 +239,8 @@ module _ {S R : Type 0} (shown : S → Shown) (width level : ℕ) (old new other
         inputs = o.inputs;
         others = others;
         of = is.of;
-        blocks = length is.merging.blocks;
-        few = subst (λ b. length is.merging.blocks * b < records_count o.inputs + b) block (subst (λ k. k * o.hand.stock.block < records_count o.inputs + o.hand.stock.block) blocks_long (omega (arith, is.merging.few, is.none_size)));
+        blocks = length is.merging.blocks + is.later;
+        few = subst (λ b. (length is.merging.blocks + is.later) * b < records_count o.inputs + b) block (subst (λ k. (k + is.later) * o.hand.stock.block < records_count o.inputs + o.hand.stock.block) blocks_long (omega (arith, is.merging.few, is.none_size)));
         calls = record { written = nil_went.calls.written; stay = nil_went.calls.stay; read = omega (arith, nil_went.calls.read) };
       }
 
@@ -266,7 +267,7 @@ module _ {S R : Type 0} (shown : S → Shown) (width level : ℕ) (old new other
 
   -- 8 arrays became one
   module _ (lanes lanes' : Lanes (DeviceBlock S R) R) (workers : ℕ) (may : MayLevel shown width workers old lanes stock) (ready : BetweenBatches shown width workers t) (emptied : All HasNothing t.inputs) (same : total t ≡ total o)
-      (idle : lanes.idle ≡ o.idle) (idle' : lanes'.idle ≡ t.idle) (jobs : lanes'.jobs ≡ lanes.jobs) (batch : length lanes'.batch.items ≡ length lanes.batch.items) (new_is : new ≡ others ++ t.hand.made ∷ []) where
+      (idle : lanes.idle ≡ o.idle) (idle' : lanes'.idle ≡ t.idle) (jobs : lanes'.jobs.items ≡ lanes.jobs.items) (batch : length lanes'.batch.items ≡ length lanes.batch.items) (new_is : new ≡ others ++ t.hand.made ∷ []) where
     abbrev pushed : (P : External S R → Type 0) → All P others → P t.hand.made → All P new
     pushed P a p = subst (All P) (sym new_is) (All-push P others t.hand.made a p)
 
@@ -315,7 +316,7 @@ module _ {S R : Type 0} (shown : S → Shown) (width level : ℕ) (old new other
           fitting = pushed (λ (a : External S R). All IsFitting (buffers_of a.loaded)) (kept_others (λ (a : External S R). All IsFitting (buffers_of a.loaded)) may.fitting) (subst (λ run. All IsFitting (buffers_of run)) (sym made_loaded) (All-nil (IsFitting {R = R})));
           packed = pushed (λ (a : External S R). IsPacked now.block a.stored) (subst (λ k. All (λ (a : External S R). IsPacked k a.stored) others) (sym block_is) (kept_others (λ (a : External S R). IsPacked b a.stored) may.packed)) (subst (λ k. IsPacked k t.hand.made.stored) (is.merging.rest.block ∙ start_block ∙ sym block_is) ready.packed);
           buffers = omega (arith, may.buffers, is.merging.buffers, none_left.1, ap length idle, ap length idle');
-          no_job = ap (λ js. js.items) jobs ∙ may.no_job;
+          no_job = jobs ∙ may.no_job;
           batch = batch ∙ may.batch ∙ ap (λ k. workers * k) (sym block_is);
           bounded = omega (arith, may.bounded, level_buffers, sum_old buf, sum_old front, sum_new front, none_front, fronts_buffers o.inputs);
           few_buffers = omega (arith, may.few_buffers, level_buffers, sum_old buf, is.merging.buffers, none_left.1, ap length idle, ap length idle');
@@ -432,14 +433,14 @@ module _ {S R : Type 0} (shown : S → Shown) (width workers level next : ℕ) (
   abbrev pub start : Table S R
   start = table inputs lanes.idle (external next (run_of [] 0 []) [] []) berths stock1
 
-  back_fits : (t : Table S R) → Merging shown width start t → length t.hand.berths ≤ t.hand.stock.slot_room
-  back_fits t merging = omega (arith, merging.room, ready.room)
+  back_fits : (later : ℕ) (t : Table S R) → Merging shown width later start t → length t.hand.berths ≤ t.hand.stock.slot_room
+  back_fits later t merging = omega (arith, merging.room, ready.room)
 
-  loaded_none : (t : Table S R) → Merging shown width start t → t.hand.made.loaded ≡ run_of [] 0 []
-  loaded_none t merging = ap (λ a. a.loaded) merging.made
+  loaded_none : (later : ℕ) (t : Table S R) → Merging shown width later start t → t.hand.made.loaded ≡ run_of [] 0 []
+  loaded_none later t merging = ap (λ a. a.loaded) merging.made
 
-  buffers_none : (t : Table S R) → Merging shown width start t → length (buffers_of t.hand.made.loaded) ≡ 0
-  buffers_none t merging = ap (λ run. length (buffers_of run)) (loaded_none t merging)
+  buffers_none : (later : ℕ) (t : Table S R) → Merging shown width later start t → length (buffers_of t.hand.made.loaded) ≡ 0
+  buffers_none later t merging = ap (λ run. length (buffers_of run)) (loaded_none later t merging)
 
   -- after all was merged
   pub placed_merged :
@@ -453,15 +454,16 @@ module _ {S R : Type 0} (shown : S → Shown) (width workers level next : ℕ) (
         drew = drew;
         none_made = refl;
         none_size = omega arith;
+        later = 0;
         merging = last.merged.merging;
-        back = back_fits t last.merged.merging;
+        back = back_fits 0 t last.merged.merging;
         slots = λ f. (let e : sum_by f (external_slots shown t.inputs) ≡ 0 = ap (sum_by f) none.0 in omega (arith, ap (λ xs. sum_by f (external_slots shown xs)) last.arrays_are, slots_pushed shown f others t.hand.made, e));
         buffers = omega (
           arith,
           ap external_buffers last.arrays_are,
           sum_by-append (λ (a : External S R). length (buffers_of a.loaded)) others (t.hand.made ∷ []),
           sum_by-cons (λ (a : External S R). length (buffers_of a.loaded)) t.hand.made [],
-          buffers_none t last.merged.merging,
+          buffers_none 0 t last.merged.merging,
           none.1,
         );
         stock_is = last.stock_is;
@@ -478,8 +480,9 @@ module _ {S R : Type 0} (shown : S → Shown) (width workers level next : ℕ) (
         drew = drew;
         none_made = refl;
         none_size = omega arith;
+        later = last.failed.later;
         merging = last.failed.merging;
-        back = back_fits t last.failed.merging;
+        back = back_fits last.failed.later t last.failed.merging;
         slots = λ f. omega (arith, ap (λ xs. sum_by f (external_slots shown xs)) last.arrays_are, slots_pushed shown f (others ++ t.inputs) t.hand.made, slots_joined shown f others t.inputs);
         buffers = omega (
           arith,
@@ -487,7 +490,7 @@ module _ {S R : Type 0} (shown : S → Shown) (width workers level next : ℕ) (
           sum_by-append (λ (a : External S R). length (buffers_of a.loaded)) (others ++ t.inputs) (t.hand.made ∷ []),
           sum_by-append (λ (a : External S R). length (buffers_of a.loaded)) others t.inputs,
           sum_by-cons (λ (a : External S R). length (buffers_of a.loaded)) t.hand.made [],
-          buffers_none t last.failed.merging,
+          buffers_none last.failed.later t last.failed.merging,
         );
         stock_is = last.stock_is;
       }
@@ -503,7 +506,7 @@ module _ {S R : Type 0} (shown : S → Shown) (width workers level next : ℕ) (
       let P : External S R → Type 0 = ArrayHasSize shown (b * width) in
       let Q : External S R → Type 0 = λ a. RunHasBlock b a.loaded in
       let pm = made_size shown width level old new others start t stock now is in
-      let qm : RunHasBlock b t.hand.made.loaded = subst (λ run. RunHasBlock b run) (sym (loaded_none t last.failed.merging)) (All-nil (HasBlock {R = R} b)) in
+      let qm : RunHasBlock b t.hand.made.loaded = subst (λ run. RunHasBlock b run) (sym (loaded_none last.failed.later t last.failed.merging)) (All-nil (HasBlock {R = R} b)) in
       let pi = subst (λ k. All (ArrayHasSize shown (k * width)) t.inputs) block1 last.failed.merging.same_external in
       let qi = subst (λ k. All (λ (a : External S R). RunHasBlock k a.loaded) t.inputs) block1 last.failed.merging.same_loaded in
       level_size shown width level old new others start t stock now is lanes lanes' size last.idle_is

@@ -8,6 +8,7 @@ pub mod Filled
 pub mod Filling
 pub mod Emptied
 pub mod Ends
+pub mod Framed
 pub mod Fresh
 pub mod Gathered
 pub mod Going
@@ -25,10 +26,12 @@ pub mod Parts
 pub mod Readies
 pub mod Rounds
 pub mod SameSlots
+pub mod Standing
 pub mod Starts
 pub mod Storings
 pub mod Taken
 pub mod Telling
+pub mod Turned
 pub mod Written
 pub mod Transfers
 pub mod Writings

@@ -1,5 +1,5 @@
 -- One batch of a merge, and one batch after the other.
-use Rattle.std.proofs.Common.{◌≡◌, ℕ, ◌+◌, ◌-◌, ◌*◌, ◌<◌, ◌≤◌, ◌^◌, inl, inr, min, List, [], ◌++◌, length, take, All, None, refl, sym, ap, ◌∙◌, subst, arith, length-append}
+use Rattle.std.proofs.Common.{◌≡◌, ℕ, ◌+◌, ◌-◌, ◌*◌, ◌<◌, ◌≤◌, ◌^◌, inl, inr, min, List, [], ◌++◌, length, take, All, refl, sym, ap, ◌∙◌, subst, arith, length-append}
 use Rattle.std.specs.Cmp.{IsStrictWeakOrder}
 use Rattle.std.specs.declared.cmp.Ordering.{Ordering}
 use Rattle.std.proofs.Math.Nat.{add-mul}
@@ -16,14 +16,15 @@ use Rattle.ppq_fetch.specs.ppq_array.External.{External, size_of, counts}
 use Rattle.ppq_fetch.specs.ppq_array.Kept.{HasFailed}
 use Rattle.ppq_fetch.specs.ppq_array.Supply.{Stock}
 use Rattle.ppq_fetch.specs.ppq_array.Owner.{HasBlock, HasSize}
-use Rattle.ppq_fetch.specs.Fetching.{State, state, AreSources, MayFetch, PartsKept, Fetched, WentOn, count_in}
+use Rattle.ppq_fetch.specs.Fetching.{state, WentOn, count_in}
 use Rattle.ppq_fetch.specs.ppq_lane.declared.lanes.Lanes.{Lanes}
 use Rattle.ppq_spill.specs.Writing.{SameBuffers}
 use Rattle.ppq_spill.specs.Making.{hand, WroteAll, WroteSome, MayWrite, Table, table, total, BetweenBatches, MayMerge, SameTools, MergedOn, MergeFailed, MergedBatch, AllFull, IsFaultOf}
+use Rattle.ppq_spill.specs.Staging.{TookBatch, ReadFailed}
 use Rattle.ppq_spill.proofs.Parts.{Wrote-none}
 use Rattle.ppq_spill.proofs.Blocks.{counts_full}
 use Rattle.ppq_spill.proofs.Fetches.{went_fit}
-use Rattle.ppq_spill.proofs.Merges.{some_idle, merging_of, quiet_both, Merging-none, Merging-trans}
+use Rattle.ppq_spill.proofs.Merges.{some_idle, tried_of, merging_of, quiet_both, Merging-none, Merging-trans}
 use Rattle.ppq_spill.proofs.Readies.{zero_or, enough_taken, ready_after, rising_after}
 
 -- a fault that is none of the first kind names a failed slot
@@ -34,22 +35,13 @@ fault_of stock (Device number) never named = named number refl
 -- tools that are left as they were, twice
 pub SameTools-trans :
     {S R : Type 0} (a b c : Lanes (DeviceBlock S R) R) (n m k p q r : ℕ) → SameTools a b n m p q → SameTools b c m k q r → SameTools a c n k p r
-SameTools-trans a b c n m k p q r h i = record { jobs = i.jobs ∙ h.jobs; batch = i.batch ∙ h.batch; workers = i.workers ∙ h.workers; same_places = i.same_places ∙ h.same_places }
-
--- so many of the records were taken for a batch, all there are or as many as it has room for
-pub record TookBatch {S R : Type 0} (cmp : R → R → Ordering) (record_of : List ℕ → R) (width workers : ℕ) (shown : S → Shown) (old new : State S R) (batch : List R) (count : ℕ) : Type 0 where
-  pub within : count ≤ length batch
-  pub taken : Fetched cmp record_of width shown None old new (take count batch)
-  pub all : count ≡ min (length batch) (count_in old.internal old.external)
-  pub may : MayFetch shown width workers new
-
--- a read failed
-pub record ReadFailed {S R : Type 0} (shown : S → Shown) (width workers : ℕ) (old new : State S R) (fault : StoreFault) : Type 0 where
-  pub sources : AreSources shown width workers new
-  pub failed : IsFaultOf new.stock fault
-  pub parts : PartsKept shown old new
+SameTools-trans a b c n m k p q r h i = record { jobs = i.jobs ∙ h.jobs; job_room = i.job_room ∙ h.job_room; batch = i.batch ∙ h.batch; workers = i.workers ∙ h.workers; same_places = i.same_places ∙ h.same_places }
 
 module _ {S R : Type 0} (cmp : R → R → Ordering) (record_of : List ℕ → R) (width workers : ℕ) (shown : S → Shown) where
+  -- no slot was called besides
+  no_more : (b t : ℕ) (n : Table S R) → length n.hand.made.stored * b < t + b → (length n.hand.made.stored + 0) * b < t + b
+  no_more b t n h = subst (λ k. k * b < t + b) (let e : length n.hand.made.stored ≡ length n.hand.made.stored + 0 = omega arith in e) h
+
   -- what was taken may be written
   pub may_write :
       (places most : ℕ) (o : Table S R) (inputs1 : List (External S R)) (idle1 : List (Block R)) (stock1 : Stock) (batch : List R) (count : ℕ) → MayMerge shown width workers places most o
@@ -113,7 +105,7 @@ module _ {S R : Type 0} (cmp : R → R → Ordering) (record_of : List ℕ → R
       let eight : length inputs1 ≡ length o.inputs = sym (length_all_zip WentOn o.inputs inputs1 got.parts.went_on) in
       record {
         merged = record {
-          merging = merging_of shown width workers o (table inputs1 idle1 o.hand.made o.hand.berths stock1) n put.blocks ready refl refl got.parts may.sources taken.1 eight put.wrote refl same.long idle_blocks (omega (arith, tight, after.1));
+          merging = merging_of shown width workers 0 o (table inputs1 idle1 o.hand.made o.hand.berths stock1) n put.blocks ready refl refl got.parts may.sources taken.1 eight (tried_of shown (b * width) (hand o.hand.made o.hand.berths stock1) n.hand put.blocks put.wrote) refl same.long idle_blocks (no_more b (total o) n (omega (arith, tight, after.1)));
           quiet = quiet_both shown o inputs1 idle1 idle2 stock1 (hand made2 berths2 stock2) got.quiet put.quiet;
           ready = after.0;
           same = after.1;
@@ -137,7 +129,8 @@ module _ {S R : Type 0} (cmp : R → R → Ordering) (record_of : List ℕ → R
       let fit = went_fit b o.inputs inputs1 parts.went_on ready.fit in
       let eight : length inputs1 ≡ length o.inputs = sym (length_all_zip WentOn o.inputs inputs1 parts.went_on) in
       record {
-        merging = merging_of shown width workers o h h [] ready refl refl parts sources fit.1 eight (Wrote-none shown (b * width) h.hand) refl refl (subst (λ k. All (HasBlock k) idle1) parts.kept.block sources.idle) (omega (arith, ready.tight));
+        later = 0;
+        merging = merging_of shown width workers 0 o h h [] ready refl refl parts sources fit.1 eight (tried_of shown (b * width) h.hand h.hand [] (Wrote-none shown (b * width) h.hand)) refl refl (subst (λ k. All (HasBlock k) idle1) parts.kept.block sources.idle) (no_more b (total o) h (omega (arith, ready.tight)));
         failed = is.failed;
       }
 
@@ -168,7 +161,8 @@ module _ {S R : Type 0} (cmp : R → R → Ordering) (record_of : List ℕ → R
         | inr h ↦ omega (arith, sum, put.few, size0, got.counted, ready.some, counts_full b made.stored (ready.full (omega (arith, got.counted, h))))
       ] in
       record {
-        merging = merging_of shown width workers o (table inputs1 idle1 o.hand.made o.hand.berths stock1) n put.blocks ready refl refl got.parts may.sources taken.1 eight put.wrote refl idle_long idle_blocks few;
+        later = 0;
+        merging = merging_of shown width workers 0 o (table inputs1 idle1 o.hand.made o.hand.berths stock1) n put.blocks ready refl refl got.parts may.sources taken.1 eight (tried_of shown (b * width) (hand o.hand.made o.hand.berths stock1) n.hand put.blocks put.wrote) refl idle_long idle_blocks (no_more b (total o) n few);
         failed = put.failed;
       }
 
@@ -178,7 +172,7 @@ module _ {S R : Type 0} (cmp : R → R → Ordering) (record_of : List ℕ → R
   pub MergedOn-trans : (o h n : Table S R) → MergedOn cmp record_of width workers shown o h → MergedOn cmp record_of width workers shown h n → MergedOn cmp record_of width workers shown o n
   MergedOn-trans o h n a b =
       record {
-        merging = Merging-trans shown width o h n a.merging a.same b.merging;
+        merging = Merging-trans shown width 0 o h n a.merging a.same b.merging;
         quiet = b.quiet ∙ a.quiet;
         ready = b.ready;
         same = b.same ∙ a.same;
@@ -187,4 +181,4 @@ module _ {S R : Type 0} (cmp : R → R → Ordering) (record_of : List ℕ → R
       }
 
   pub MergeFailed-trans : (o h n : Table S R) (fault : StoreFault) → MergedOn cmp record_of width workers shown o h → MergeFailed shown width h n fault → MergeFailed shown width o n fault
-  MergeFailed-trans o h n fault a b = record { merging = Merging-trans shown width o h n a.merging a.same b.merging; failed = b.failed }
+  MergeFailed-trans o h n fault a b = record { later = b.later; merging = Merging-trans shown width b.later o h n a.merging a.same b.merging; failed = b.failed }

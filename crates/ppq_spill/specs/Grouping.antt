@@ -9,7 +9,7 @@ use Rattle.ppq_fetch.specs.ppq_lane.declared.job.JobKind.TheVariants.{Write}
 use Rattle.ppq_fetch.specs.ppq_array.declared.berth.DeviceBlock.{DeviceBlock}
 use Rattle.ppq_fetch.specs.ppq_array.Owner.{HasBlock}
 use Rattle.ppq_fetch.specs.ppq_array.Run.{Run}
-use Rattle.ppq_fetch.specs.ppq_array.External.{External, external, size_of, IsLabelled}
+use Rattle.ppq_fetch.specs.ppq_array.External.{External, external, IsLabelled}
 use Rattle.ppq_fetch.specs.ppq_record.Bag.{first_of}
 use Rattle.ppq_spill.specs.declared.body.PassBody.{PassBody}
 use Rattle.ppq_spill.specs.declared.new_array.NewArray.{NewArray}

@@ -4,6 +4,7 @@ pub mod Grouping
 pub mod Leveling
 pub mod Making
 pub mod Moves
+pub mod Staging
 pub mod Storing
 pub mod Untold
 pub mod Went

@@ -1,5 +1,5 @@
 -- Blocks that are made of records, one after the other, and merged arrays that give the records.
-use Rattle.std.specs.Prelude.{◌≡◌, ℕ, ◌+◌, ◌-◌, ◌*◌, ◌<◌, ◌≤◌, ◌^◌, List, [], ◌∷◌, ◌++◌, length, take, drop, sum_by, All, Result, Ok, Err}
+use Rattle.std.specs.Prelude.{◌≡◌, ℕ, ◌+◌, ◌-◌, ◌*◌, ◌<◌, ◌≤◌, ◌^◌, List, [], ◌∷◌, ◌++◌, length, take, drop, sum_by, All, Result, Ok, Err, vec_capacity}
 use Rattle.std.specs.declared.cmp.Ordering.{Ordering}
 use Rattle.ppq_fetch.specs.ppq_record.Order.{Ascends}
 use Rattle.ppq_fetch.specs.ppq_record.Bag.{IsSameBag}
@@ -67,6 +67,15 @@ module _ {S R : Type 0} where
   pub record Wrote (shown : S → Shown) (bytes : ℕ) (old new : Hand S R) (blocks : List (DeviceBlock S R)) : Type 0 where
     pub made : new.made ≡ external old.made.level old.made.loaded old.made.lifted (old.made.stored ++ blocks)
     pub went : Went (length blocks) 0 (hand_slots shown old) (hand_slots shown new)
+    pub rest : SameRest old.stock new.stock
+    pub room : length new.made.stored + length new.berths + old.stock.slot_room ≡ length old.made.stored + length old.berths + new.stock.slot_room
+    pub sizes : All (HasSize shown bytes) (old.made.stored ++ old.berths) → All (HasSize shown bytes) (new.made.stored ++ new.berths)
+    pub written : All (λ (b : DeviceBlock S R). 1 ≤ (shown b.slot).writes) blocks
+
+  -- the same, and slots at hand were called to be written so many times more, some of which failed
+  pub record Tried (shown : S → Shown) (bytes later : ℕ) (old new : Hand S R) (blocks : List (DeviceBlock S R)) : Type 0 where
+    pub made : new.made ≡ external old.made.level old.made.loaded old.made.lifted (old.made.stored ++ blocks)
+    pub went : Went (length blocks + later) 0 (hand_slots shown old) (hand_slots shown new)
     pub rest : SameRest old.stock new.stock
     pub room : length new.made.stored + length new.berths + old.stock.slot_room ≡ length old.made.stored + length old.berths + new.stock.slot_room
     pub sizes : All (HasSize shown bytes) (old.made.stored ++ old.berths) → All (HasSize shown bytes) (new.made.stored ++ new.berths)
@@ -181,19 +190,20 @@ module _ {S R : Type 0} where
 
   -- what a merge uses is left as it was: jobs, room in the batch, workers, and places for runs
   pub record SameTools (old new : Lanes (DeviceBlock S R) R) (before now places places' : ℕ) : Type 0 where
-    pub jobs : new.jobs ≡ old.jobs
+    pub jobs : new.jobs.items ≡ old.jobs.items
+    pub job_room : vec_capacity new.jobs ≡ vec_capacity old.jobs
     pub batch : length new.batch.items ≡ length old.batch.items
     pub workers : now ≡ before
     pub same_places : places' ≡ places
 
-  -- What holds after merging, whatever the answer
-  pub record Merging (shown : S → Shown) (width : ℕ) (old new : Table S R) : Type 0 where
+  -- What holds after merging, whatever the answer. Slots were written so many times besides: behind a write that failed
+  pub record Merging (shown : S → Shown) (width later : ℕ) (old new : Table S R) : Type 0 where
     pub blocks : List (DeviceBlock S R)
     pub made : new.hand.made ≡ external old.hand.made.level old.hand.made.loaded old.hand.made.lifted (old.hand.made.stored ++ blocks)
-    pub few : length new.hand.made.stored * old.hand.stock.block < total old + old.hand.stock.block
+    pub few : (length new.hand.made.stored + later) * old.hand.stock.block < total old + old.hand.stock.block
     pub fewer : blocks_in new.inputs ≤ blocks_in old.inputs
     pub eight : length new.inputs ≡ length old.inputs
-    pub went : Went (length blocks) (blocks_in old.inputs - blocks_in new.inputs) (table_slots shown old) (table_slots shown new)
+    pub went : Went (length blocks + later) (blocks_in old.inputs - blocks_in new.inputs) (table_slots shown old) (table_slots shown new)
     pub rest : SameRest old.hand.stock new.hand.stock
     pub room : held_slots shown new + old.hand.stock.slot_room ≡ held_slots shown old + new.hand.stock.slot_room
     pub buffers : length new.idle + external_buffers new.inputs ≡ length old.idle + external_buffers old.inputs
@@ -215,7 +225,7 @@ module _ {S R : Type 0} where
 
   -- records went from the arrays to made blocks, and no read or write failed
   pub record MergedOn (cmp : R → R → Ordering) (record_of : List ℕ → R) (width workers : ℕ) (shown : S → Shown) (old new : Table S R) : Type 0 where
-    pub merging : Merging shown width old new
+    pub merging : Merging shown width 0 old new
     pub quiet : AreQuiet (table_slots shown old) (table_slots shown new)
     pub ready : BetweenBatches shown width workers new
     pub same : total new ≡ total old
@@ -224,7 +234,8 @@ module _ {S R : Type 0} where
 
   -- a read or write failed
   pub record MergeFailed (shown : S → Shown) (width : ℕ) (old new : Table S R) (fault : StoreFault) : Type 0 where
-    pub merging : Merging shown width old new
+    pub later : ℕ
+    pub merging : Merging shown width later old new
     pub failed : IsFaultOf new.hand.stock fault
 
   -- so many records were merged, and none only if none is left

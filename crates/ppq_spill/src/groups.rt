@@ -66,7 +66,9 @@ fn group_size(idle: u32, room: usize, blocks: u32) -> u32
 }
 
 // Takes a list of jobs away, and leaves an empty one without room.
-fn take_jobs<S: Slot, R: Record>(jobs: &mut Vec<Job<Berth<S, R>, R>>) -> Vec<Job<Berth<S, R>, R>>
+pub(crate) fn take_jobs<S: Slot, R: Record>(
+    jobs: &mut Vec<Job<Berth<S, R>, R>>,
+) -> Vec<Job<Berth<S, R>, R>>
     ensures taken { result ≡ jobs.old }
     ensures none { jobs.new.items ≡ [] }
 {
@@ -199,7 +201,7 @@ fn begin_group<S: Slot, R: Record>(
 
 // Takes jobs that were done: their buffers are idle again, and their slots hold the next blocks of a new
 // array. The first that failed comes back, and those after it go to the slots that are left.
-fn end_group<S: Slot, R: Record>(
+pub(crate) fn end_group<S: Slot, R: Record>(
     jobs: &mut Vec<Job<Berth<S, R>, R>>,
     idle: &mut BufList<R>,
     making: &mut NewArray<S, R>,

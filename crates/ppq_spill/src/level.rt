@@ -10,9 +10,11 @@ ghost use Rattle.ppq_spill.specs.Leveling.{held_in, count_level, MayLevel, AreOn
 
 use crate::crew::Crew;
 use crate::gathering::{count_buffers, gather_level};
+use crate::groups::take_jobs;
 use crate::making::write_batch;
 use crate::new_array::NewArray;
 use crate::slots::{draw_slots, free_slots};
+use crate::turns::{goes_beside, merge_beside};
 use ppq_fetch::{
     Bench, Berth, BerthList, ExternalArray, Gate, Host, InternalArray, Lanes, Record, Slot,
     StoreFault, Supply, record_laws, take_least,
@@ -24,8 +26,9 @@ use ppq_fetch::{
 /// As many slots as the 8 have loaded blocks are drawn before the first block is read or written. With
 /// those and with the slots of the blocks that it reads it never wants another one. `workers` blocks are
 /// read ahead, and the workers of the bench merge `workers * block` records at a time, which are then
-/// written. Each block of the 8 that is not loaded is read once, and of the blocks that are written all
-/// but the last are full. It does not allocate.
+/// written: by four workers or more, where there is room for so many jobs, on a thread of its own while
+/// the next ones are merged. Each block of the 8 that is not loaded is read once, and of the blocks that
+/// are written all but the last are full. It does not allocate.
 ///
 /// `Ok` only if no read and no write failed; a call that fails is not tried again.
 ///
@@ -34,8 +37,9 @@ use ppq_fetch::{
 /// changed but the order of the arrays and the supply's counts and slots: slots that were drawn are kept
 /// by the supply.
 ///
-/// `Device` only if a read or write of the slot with that number failed. Records may be lost then, but no
-/// slot and no buffer; what was written of the new array stands after the others.
+/// `Device` only if a read or write of the slot with that number failed; where more than one write failed,
+/// it names the first of them in the order of the new array. Records may be lost then, but no slot and no
+/// buffer; what was written of the new array up to there stands after the others.
 pub fn merge_level<
     H: Host,
     S: Slot + Send + Sync,
@@ -51,6 +55,8 @@ pub fn merge_level<
     bench: &mut Bench<R>,
     gate: &G,
 ) -> Result<(), StoreFault>
+where
+    H::Dir: Send,
     requires level { level ≤ 7 }
     requires more { 8 < count_level level arrays.old.items }
     requires may { MayLevel S.shown R.WIDTH bench.old.workers arrays.old.items lanes.old (P.stock supply.old) }
@@ -113,6 +119,8 @@ fn merge_last<H: Host, S: Slot + Send + Sync, R: Record + Send + Sync, P: Supply
     lanes: &mut Lanes<Berth<S, R>, R>,
     bench: &mut Bench<R>,
 ) -> Result<(), StoreFault>
+where
+    H::Dir: Send,
     requires eight { 8 ≤ length arrays.old.items }
     requires room { length arrays.old.items < vec_capacity arrays.old }
     requires may { MayMerge S.shown R.WIDTH bench.old.workers (length bench.old.places) (length lanes.old.batch.items) (table_of (last_eight arrays.old.items) lanes.old making (P.stock supply.old)) }
@@ -149,6 +157,8 @@ fn merge_behind<H: Host, S: Slot + Send + Sync, R: Record + Send + Sync, P: Supp
     lanes: &mut Lanes<Berth<S, R>, R>,
     bench: &mut Bench<R>,
 ) -> Result<(), StoreFault>
+where
+    H::Dir: Send,
     requires eight { 8 ≤ length arrays.old }
     requires may { MayMerge S.shown R.WIDTH bench.old.workers (length bench.old.places) (length lanes.old.batch.items) (table_of (last_eight arrays.old) lanes.old making.old (P.stock supply.old)) }
     ensures others { take (length arrays.old - 8) arrays.new ≡ all_but_eight arrays.old }
@@ -160,8 +170,41 @@ fn merge_behind<H: Host, S: Slot + Send + Sync, R: Record + Send + Sync, P: Supp
     merge_arrays(crew, &mut arrays[first..], making, supply, lanes, bench)
 }
 
-// Merges 8 arrays into a new one, until nothing is left of them.
+// Merges 8 arrays into a new one, until nothing is left of them. Where there are workers enough, a batch
+// is written on a thread of its own while the next one is taken.
 fn merge_arrays<H: Host, S: Slot + Send + Sync, R: Record + Send + Sync, P: Supply<S, R>, G: Gate>(
+    crew: &Crew<H, G>,
+    inputs: &mut [ExternalArray<S, R>],
+    making: &mut NewArray<S, R>,
+    supply: &mut P,
+    lanes: &mut Lanes<Berth<S, R>, R>,
+    bench: &mut Bench<R>,
+) -> Result<(), StoreFault>
+where
+    H::Dir: Send,
+    requires may { MayMerge S.shown R.WIDTH bench.old.workers (length bench.old.places) (length lanes.old.batch.items) (table_of inputs.old lanes.old making.old (P.stock supply.old)) }
+    ensures outcome { MergeEnds R.Ord.cmp R.record_of R.WIDTH bench.old.workers S.shown (table_of inputs.old lanes.old making.old (P.stock supply.old)) (table_of inputs.new lanes.new making.new (P.stock supply.new)) result }
+    ensures home { P.home supply.new ≡ P.home supply.old }
+    ensures tools { SameTools lanes.old lanes.new bench.old.workers bench.new.workers (length bench.old.places) (length bench.new.places) }
+{
+    let slots = making.berths.len();
+    if !goes_beside(
+        bench.workers(),
+        lanes.jobs.len(),
+        lanes.jobs.capacity(),
+        slots,
+    ) {
+        return merge_in_turn(crew, inputs, making, supply, lanes, bench);
+    }
+    let mut jobs = take_jobs(&mut lanes.jobs);
+    let ended = merge_beside(crew, &mut jobs, inputs, making, supply, lanes, bench);
+    lanes.jobs = jobs;
+    ended
+}
+
+// Merges 8 arrays into a new one, until nothing is left of them, one batch after
+// the other.
+fn merge_in_turn<H: Host, S: Slot + Send + Sync, R: Record + Send + Sync, P: Supply<S, R>, G: Gate>(
     crew: &Crew<H, G>,
     inputs: &mut [ExternalArray<S, R>],
     making: &mut NewArray<S, R>,
@@ -215,7 +258,13 @@ fn merge_batch<H: Host, S: Slot + Send + Sync, R: Record + Send + Sync, P: Suppl
 
 // Takes the least records of 8 arrays into the batch, as many as it has room for, or all there are. It
 // returns how many.
-fn take_batch<H: Host, S: Slot + Send + Sync, R: Record + Send + Sync, P: Supply<S, R>, G: Gate>(
+pub(crate) fn take_batch<
+    H: Host,
+    S: Slot + Send + Sync,
+    R: Record + Send + Sync,
+    P: Supply<S, R>,
+    G: Gate,
+>(
     crew: &Crew<H, G>,
     inputs: &mut [ExternalArray<S, R>],
     supply: &mut P,
@@ -254,7 +303,7 @@ fn take_batch<H: Host, S: Slot + Send + Sync, R: Record + Send + Sync, P: Supply
 }
 
 // Arrays that have no record have no slot and no buffer.
-fn see_emptied<S: Slot, R: Record>(arrays: &[ExternalArray<S, R>])
+pub(crate) fn see_emptied<S: Slot, R: Record>(arrays: &[ExternalArray<S, R>])
     requires none { count_in [] arrays.now ≡ 0 }
     requires lifted { All (λ (a : External S R). a.lifted ≡ []) arrays.now }
     requires spent { All (λ (a : External S R). a.loaded.spent ≡ []) arrays.now }

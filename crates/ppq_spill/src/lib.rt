@@ -10,7 +10,8 @@
 //!
 //! [`merge_level`] merges 8 runs in blocks of one level into one of the next. As many slots as their
 //! loaded blocks are drawn first; with those and with the slots of the blocks that are read it never wants
-//! another one, so a device that is full changes nothing here either.
+//! another one, so a device that is full changes nothing here either. Where there are workers enough, a
+//! batch of blocks is written by a thread while the next one is merged.
 //!
 //! Whatever the answer, no slot and no buffer is lost or made.
 #![tactic(auto)]
@@ -26,6 +27,7 @@ mod merging;
 mod new_array;
 mod slots;
 mod store;
+mod turns;
 mod writing;
 
 pub use body::PassBody;

@@ -1,5 +1,5 @@
 //! Writing merged records as blocks of a new array.
-ghost use Rattle.std.specs.Prelude.{◌≡◌, ◌+◌, ◌*◌, ◌<◌, ◌++◌, ◌∷◌, [], length, All};
+ghost use Rattle.std.specs.Prelude.{◌≡◌, ◌+◌, ◌-◌, ◌*◌, ◌<◌, ◌++◌, ◌∷◌, [], length, All};
 ghost use Rattle.ppq_fetch.specs.ppq_array.Owner.{HasSize, slots_shown};
 ghost use Rattle.ppq_fetch.specs.ppq_array.Kept.{SameSums};
 ghost use Rattle.ppq_spill.specs.Writing.{SameBuffers};
@@ -69,7 +69,7 @@ fn write_part<H: Host, S: Slot, R: Record, P: Supply<S, R>>(
 }
 
 // The next of the slots in hand, or where there is none, of those that the supply keeps. There is one.
-fn next_slot<S: Slot, R: Record, P: Supply<S, R>>(
+pub(crate) fn next_slot<S: Slot, R: Record, P: Supply<S, R>>(
     supply: &mut P,
     berths: &mut BerthList<S, R>,
 ) -> Berth<S, R>
@@ -77,6 +77,7 @@ fn next_slot<S: Slot, R: Record, P: Supply<S, R>>(
     requires sizes { All (HasSize S.shown ((P.stock supply.old).block * R.WIDTH)) berths.old }
     ensures moved { SameSums (slots_shown S.shown berths.old ++ (P.stock supply.old).kept) (S.shown result.slot ∷ (slots_shown S.shown berths.new ++ (P.stock supply.new).kept)) }
     ensures room { (P.stock supply.new).slot_room + length berths.old ≡ (P.stock supply.old).slot_room + 1 + length berths.new }
+    ensures left { length berths.new ≡ length berths.old - 1 }
     ensures rest { SameRest (P.stock supply.old) (P.stock supply.new) }
     ensures size { (S.shown result.slot).size ≡ (P.stock supply.old).block * R.WIDTH }
     ensures sizes { All (HasSize S.shown ((P.stock supply.old).block * R.WIDTH)) berths.new }

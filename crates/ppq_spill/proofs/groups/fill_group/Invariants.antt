@@ -1,4 +1,4 @@
-use Rattle.std.proofs.Common.{◌≡◌, ◌-◌, ◌≤◌, length}
+use Rattle.std.proofs.Common.{◌-◌, ◌≤◌, length}
 use Rattle.ppq_spill.specs.Grouping.{FilledGroup}
 use Rattle.ppq_spill.proofs.groups.fill_group.Given as goal
 

@@ -1,4 +1,4 @@
-use Rattle.std.proofs.Common.{◌≡◌, ◌+◌, ◌++◌, All, length, drop, map, min, refl, sym, ap, ◌∙◌, subst, arith, length-append}
+use Rattle.std.proofs.Common.{◌++◌, All, length, drop, map, min, refl, sym, ap, ◌∙◌, subst, arith, length-append}
 use Rattle.std.specs.Prelude.{vec_capacity}
 use Rattle.std.specs.List.{AllZip}
 use Rattle.ppq_fetch.proofs.ppq_record.Fronts.{ranks}
@@ -7,7 +7,7 @@ use Rattle.ppq_spill.specs.Writing.{block_in}
 use Rattle.ppq_spill.specs.Grouping.{IsGood, CanEnd, GroupStopped, appended, buf_of, items_in}
 use Rattle.ppq_spill.proofs.Writings.{Writing-none}
 use Rattle.ppq_spill.proofs.Grouped.{Ran}
-use Rattle.ppq_spill.proofs.Groupwise.{lent_back, group_may_run, group_can_end, group_few, group_slots, group_long, underway_begin, underway_next, underway_back, underway_failed, underway_end}
+use Rattle.ppq_spill.proofs.Groupwise.{lent_back, group_may_run, group_can_end, group_few, group_slots, group_long, underway_begin, underway_next, underway_back, underway_failed}
 use Rattle.ppq_spill.proofs.groups.write_groups.Goals as goal
 
 pub fill_group-filled-requires : goal.fill_group-filled-requires

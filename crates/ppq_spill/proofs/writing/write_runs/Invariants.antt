@@ -1,4 +1,4 @@
-use Rattle.std.proofs.Common.{◌≡◌, length, drop}
+use Rattle.std.proofs.Common.{length, drop}
 use Rattle.ppq_spill.specs.Choosing.{OnTree}
 use Rattle.ppq_spill.specs.Writing.{BodyRests, Writing, block_in}
 use Rattle.ppq_spill.proofs.writing.write_runs.Given as goal

@@ -1,7 +1,7 @@
 use Rattle.std.proofs.Common.{◌≡◌, ◌+◌, min, [], length}
 use Rattle.ppq_fetch.specs.Fetching.{count_in}
 use Rattle.ppq_spill.specs.Making.{table_of, MergedOn, SameTools}
-use Rattle.ppq_spill.proofs.level.merge_arrays.Given as goal
+use Rattle.ppq_spill.proofs.level.merge_in_turn.Given as goal
 
 abbrev pub invariant-loop-last : goal.invariant-loop-last
 invariant-loop-last g l =
