@@ -1,6 +1,6 @@
 -- A queue after a call of its store, whatever was answered.
 use Rattle.std.proofs.Common.{◌≡◌, ℕ, ◌+◌, ◌-◌, ◌<◌, ◌≤◌, List, [], length, min, Bool, Option, None, Some, refl, sym, ap, ◌∙◌, subst, arith, inl, inr}
-use Rattle.std.specs.Prelude.{◌⊎◌, Result, Ok, Err, OnOk, OnErr, IfErr, IsErrOf}
+use Rattle.std.specs.Prelude.{◌⊎◌, Result, Ok, Err, OnOk, OnErr, IfErr, IsErrOf, IsErrAnd}
 use Rattle.std.specs.declared.cmp.Ordering.{Ordering}
 use Rattle.std.specs.declared.cmp.Ordering.TheVariants.{Equal}
 use Rattle.std.specs.Cmp.{IsTotalOrder}
@@ -15,17 +15,17 @@ use Rattle.ppq_extract.specs.ppq_array.declared.store_fault.StoreFault.{StoreFau
 use Rattle.ppq_extract.specs.ppq_array.declared.store_fault.StoreFault.TheVariants.{NoFreeBlock, Device}
 use Rattle.ppq_queue.specs.Resting.{IsShort}
 use Rattle.ppq_queue.specs.State.{IsQueue, IsSound}
-use Rattle.ppq_queue.specs.Stores.{HeapsStay, StoreKept, MayWork, Holds, Lacks, Refuses, stored, slots_in, whole_bag}
-use Rattle.ppq_queue.specs.Bulk.{TookOut, TookAll, TakesOut, TookFront, BulkLeaves}
-use Rattle.ppq_queue.specs.Out.{Listed}
+use Rattle.ppq_queue.specs.Stores.{HeapsStay, StoreKept, StoreLeaves, HeapsLeave, MayWork, Holds, Lacks, Refuses, stored, slots_in, whole_bag}
+use Rattle.ppq_queue.specs.Bulk.{TookOut, TookAll, TakesOut, TookFront, BulkLeaves, left_after}
+use Rattle.ppq_queue.specs.Out.{Listed, listed}
 use Rattle.ppq_queue.specs.Handed.{viewed, QueueStands}
 use Rattle.ppq_queue.specs.Holding.{Holding, IsAbove, IsRefusal, FoundNoBlock, Keeps, Stays, SameRecords, QueueLeaves, latched}
 use Rattle.ppq_queue.specs.declared.store.Store.{Store}
 use Rattle.ppq_queue.proofs.Moves.{ok-map, ok-map2}
-use Rattle.ppq_queue.proofs.Stores.{heaps-same, holds-beside, refused-beside, err-map}
+use Rattle.ppq_queue.proofs.Stores.{heaps-same, holds-beside, refused-beside, err-map, err_of, err_is}
 use Rattle.ppq_queue.proofs.Took.{empty_list}
 use Rattle.ppq_queue.proofs.Ends.{left_is}
-use Rattle.ppq_queue.proofs.Flushed.{fault-kept, queue-moved, short-bounds, device-fault, not_sound}
+use Rattle.ppq_queue.proofs.Flushed.{fault-kept, queue-moved, short-bounds, device-fault, not_sound, leaves-stopped}
 
 module _ {S R : Type 0} (shown : S → Shown) (cmp : R → R → Ordering) (record_of : List ℕ → R) (width : ℕ) (x y : Store S R) (h h' : Shares R) (kept : StoreKept shown x y) (heaps : HeapsStay h h') (count peak : ℕ) (limited : Bool) where
   abbrev Was : Option ℕ → Type 0
@@ -146,7 +146,7 @@ module _ {S R : Type 0} (shown : S → Shown) (cmp : R → R → Ordering) (reco
         let left = whole_bag shown cmp record_of width (items_of h') y in
         let is = λ (tell : AllTell (slots_in shown x)). taken_wanted cmp (ranks o) (no_tie o same) most limit bag out left (took.taken tell) took.few (took.under tell) (all.low (kept.body.tells.0 tell)) in
         record {
-          taken = is;
+          front = is;
           rest = λ tell. left_is o same bag out left (wanted cmp most limit bag) (took.taken tell) (is tell);
           left = λ tell. all.low (kept.body.tells.0 tell);
           ready = λ l has none. omega (arith, all.ready l has (empty_list y.extract.items none), none, sound.counted, took.count, fewer);
@@ -167,6 +167,41 @@ module _ {S R : Type 0} (shown : S → Shown) (cmp : R → R → Ordering) (reco
     refused-fewer : {T : Type 0} (r : Result T StoreFault) (failed : Option ℕ) → IfErr r (IsRefusal from (to count failed)) → OnErr r (out ≡ []) → IfErr r (IsRefusal from (to less failed))
     refused-fewer (Ok v) failed refused gone = tt
     refused-fewer (Err e) failed refused gone = (let all : count ≡ less = omega (arith, fewer, ap length gone) in subst (λ k. IsRefusal from (to k failed) e) all refused)
+
+-- a list that is emptied after an error
+module _ {T R : Type 0} (was now : Listed R) where
+  left-ok : (r : Result T StoreFault) → now ≡ left_after r was → OnOk r (now ≡ was)
+  left-ok (Ok v) e = e
+  left-ok (Err f) e = tt
+
+  left-err : (r : Result T StoreFault) → now ≡ left_after r was → OnErr r (now.items ≡ [])
+  left-err (Ok v) e = tt
+  left-err (Err f) e = ap (λ l. l.items) e
+
+  left-room : (r : Result T StoreFault) → now ≡ left_after r was → now.room ≡ was.room
+  left-room (Ok v) e = ap (λ l. l.room) e
+  left-room (Err f) e = ap (λ l. l.room) e
+
+module _ {S R : Type 0} {shown : S → Shown} {cmp : R → R → Ordering} {record_of : List ℕ → R} {width : ℕ} {x : Store S R} {h : Shares R} {count peak room : ℕ} {failed : Option ℕ} {limited : Bool} (stands : QueueStands shown cmp record_of width x h count peak failed limited room) {old : Holding R} (view : viewed shown record_of width x h count peak failed limited ≡ old) {T : Type 0} {number : ℕ} (is : failed ≡ Some number) where
+  -- a call of a queue that a failed block stopped
+  pub stopped : QueueLeaves {T = T} old old (Err (Device number))
+  stopped =
+      let r : Result T StoreFault = Err (Device number) in
+      subst (λ q. QueueLeaves q q r) view (leaves-stopped (viewed shown record_of width x h count peak failed limited) number is (stands.queue.fault number is))
+
+  -- the same of a bulk pop
+  pub bulk-stopped : {limit : Option R} {most : ℕ} (given : Listed R) {now : Listed R} → now ≡ listed [] given.room → BulkLeaves cmp {T = T} limit most old old given now (Err (Device number))
+  bulk-stopped given cleared =
+      record {
+        took = tt;
+        emptied = ap (λ l. l.items) cleared;
+        refused = stopped.refused;
+        latched = stopped.latched;
+        size = omega (arith, ap (λ l. length l.items) cleared);
+        list_room = ap (λ l. l.room) cleared;
+        peak = refl;
+        keeps = stopped.stays.keeps;
+      }
 
 module _ {S R : Type 0} {shown : S → Shown} {cmp : R → R → Ordering} {record_of : List ℕ → R} {width : ℕ} {x : Store S R} {h : Shares R} {count peak room : ℕ} {failed : Option ℕ} {limited : Bool} (stands : QueueStands shown cmp record_of width x h count peak failed limited room) (none : failed ≡ None) where
   -- the store of a sound queue may work
@@ -212,6 +247,7 @@ module _ {S R : Type 0} {shown : S → Shown} {cmp : R → R → Ordering} {reco
           told y h' count (λ a b. QueueLeaves a b r) (record {
             same = same-called shown cmp record_of width x y h h' kept heaps count peak limited r holds;
             refused = refused-called shown cmp record_of width x y h h' kept heaps count peak limited r was_none sound why refused;
+            latched = λ number e. not_sound number (sym e);
             stays = record { keeps = keeps-called shown cmp record_of width x y h h' kept heaps count peak limited count (latched r None); size = refl; peak = refl };
           }),
         )
@@ -225,13 +261,25 @@ module _ {S R : Type 0} {shown : S → Shown} {cmp : R → R → Ordering} {reco
         let sound = stands.sound none in
         called {h' = h} kept heaps-same sound.above (above-some shown cmp record_of width x y h h kept heaps-same count peak limited r sound refused) (ok-map r (λ one. holds-beside (items_of h) one) holds) (err-map r (refused-beside shown cmp record_of width (items_of h) x y) refused)
 
-    -- a bulk pop
+    pub called-leaves :
+        {y : Store S R} → StoreLeaves shown cmp record_of width [] [] x y r → QueueStands shown cmp record_of width y h count peak failed' limited room × QueueLeaves old (viewed shown record_of width y h count peak failed' limited) r
+    called-leaves one = called-beside one.stays.kept one.holds one.refused
+
+    -- a store of heaps
+    pub called-heaps :
+        {y : Store S R} {h' : Shares R} → IsAbove x.sizes peak limited → HeapsLeave shown cmp record_of width h h' x y r
+        → QueueStands shown cmp record_of width y h' count peak failed' limited room × QueueLeaves old (viewed shown record_of width y h' count peak failed' limited) r
+    called-heaps above one = called one.leaves.stays.kept one.heaps (λ more. above) (λ err. above) one.leaves.holds one.leaves.refused
+
+    -- a bulk pop into a list that was emptied first, and is after an error
     pub bulk-called :
-        {y : Store S R} {h' : Shares R} {limit : Option R} {most less : ℕ} (was now : Listed R)
-        → IsTotalOrder cmp → ((a b : R) → cmp a b ≡ Equal → a ≡ b) → TakesOut shown cmp record_of width limit most h h' x y was.items r → OnOk r (now ≡ was) → OnErr r (now.items ≡ []) → less ≡ count - length now.items
-        → QueueStands shown cmp record_of width y h' less peak failed' limited room × BulkLeaves cmp limit most old (viewed shown record_of width y h' less peak failed' limited) now.items r
-    bulk-called {y = y} {h' = h'} {limit = limit} {most = most} {less = less} was now o same takes as_was gone fewer =
+        {y : Store S R} {h' : Shares R} {limit : Option R} {most less : ℕ} (given first was now : Listed R)
+        → IsTotalOrder cmp → ((a b : R) → cmp a b ≡ Equal → a ≡ b) → first ≡ listed [] given.room → TakesOut shown cmp record_of width limit most h h' x y first was r → now ≡ left_after r was → less ≡ count - length now.items
+        → QueueStands shown cmp record_of width y h' less peak failed' limited room × BulkLeaves cmp limit most old (viewed shown record_of width y h' less peak failed' limited) given now r
+    bulk-called {y = y} {h' = h'} {limit = limit} {most = most} {less = less} given first was now o same cleared takes left fewer =
         let sound = stands.sound none in
+        let as_was = left-ok was now r left in
+        let gone = left-err was now r left in
         let kept = takes.kept in
         let heaps = takes.heaps in
         let out = now.items in
@@ -243,12 +291,42 @@ module _ {S R : Type 0} {shown : S → Shown} {cmp : R → R → Ordering} {reco
             sound = λ n. bulk-sound shown cmp record_of width x y h h' kept heaps count peak limited limit most less out fewer failed r sound took takes.refused refused gone (sym late ∙ n);
             slots_room = omega (arith, stands.slots_room, ap (λ n. n.blocks) kept.sizes);
           },
-          told y h' less (λ a b. BulkLeaves cmp limit most a b out r) (record {
+          told y h' less (λ a b. BulkLeaves cmp limit most a b given now r) (record {
             took = front-called shown cmp record_of width x y h h' kept heaps count peak limited limit most less out fewer r o same sound took;
             emptied = gone;
             refused = refused-fewer shown cmp record_of width x y h h' kept heaps count peak limited limit most less out fewer r (latched r None) (refused-called shown cmp record_of width x y h h' kept heaps count peak limited r was_none sound why refused) gone;
+            latched = λ number e. not_sound number (sym e);
             size = fewer;
+            list_room = left-room was now r left ∙ takes.list_room ∙ ap (λ l. l.room) cleared;
             peak = refl;
             keeps = keeps-called shown cmp record_of width x y h h' kept heaps count peak limited less (latched r None);
           }),
         )
+
+-- of as many records wanted, in other words
+pub bulk-at :
+    {R T : Type 0} {cmp : R → R → Ordering} {limit : Option R} {most more : ℕ} {old new : Holding R} {was now : Listed R} {r : Result T StoreFault} → most ≡ more → BulkLeaves cmp limit most old new was now r → BulkLeaves cmp limit more old new was now r
+bulk-at {cmp = cmp} {limit = limit} {old = old} {new = new} {was = was} {now = now} {r = r} e = subst (λ k. BulkLeaves cmp limit k old new was now r) e
+
+module _ {R T U : Type 0} {cmp : R → R → Ordering} {limit : Option R} {most : ℕ} {old new : Holding R} {was now : Listed R} where
+  -- a bulk pop that returns more
+  pub bulk-answered : {v : T} {w : U} → BulkLeaves cmp limit most old new was now (Ok v) → BulkLeaves cmp limit most old new was now (Ok w)
+  bulk-answered one = record { took = one.took; emptied = tt; refused = tt; latched = λ number e. absurd (let odd = (one.latched number e).0 in cc); size = one.size; list_room = one.list_room; peak = one.peak; keeps = one.keeps }
+
+  -- an error of a bulk pop that is handed on
+  pub bulk-given : {r : Result T StoreFault} {e : StoreFault} → IsErrAnd r (λ given. given ≡ e) → BulkLeaves cmp {T = U} limit most old new was now (Err e) → BulkLeaves cmp limit most old new was now r
+  bulk-given {r = Ok v} is one = absurd is
+  bulk-given {r = Err f} {e = e} is one =
+      record {
+        took = tt;
+        emptied = one.emptied;
+        refused = subst (IsRefusal old new) (sym is) one.refused;
+        latched = λ number failed. (let same = one.latched number failed in (ap (err_of T) is ∙ err_on e number same.0, same.1));
+        size = one.size;
+        list_room = one.list_room;
+        peak = one.peak;
+        keeps = one.keeps;
+      }
+    where
+      err_on : (e : StoreFault) (number : ℕ) → err_of U e ≡ err_of U (Device number) → err_of T e ≡ err_of T (Device number)
+      err_on e number is = ap (err_of T) (err_is e (Device number) is)

@@ -1,5 +1,6 @@
 -- A queue whose runs moved, and what a refusal says of it.
-use Rattle.std.proofs.Common.{◌≡◌, ℕ, ◌+◌, ◌*◌, ◌<◌, ◌≤◌, List, [], length, max, true, Bool, Option, None, Some, ap, sym, ◌∙◌, subst, arith}
+use Rattle.std.proofs.Common.{◌≡◌, ℕ, ◌+◌, ◌*◌, ◌<◌, ◌≤◌, List, [], length, max, true, Bool, Option, None, Some, refl, ap, sym, ◌∙◌, subst, arith}
+use Rattle.std.specs.Prelude.{Result, Ok, Err}
 use Rattle.std.specs.declared.cmp.Ordering.{Ordering}
 use Rattle.ppq_extract.specs.ppq_outside.Shown.{Shown, AllTell}
 use Rattle.ppq_extract.specs.ppq_budget.Sizes.{Numbers, AreInRange, heaps_of, batch_of, blocks_for, room_of}
@@ -13,7 +14,7 @@ use Rattle.ppq_heap.specs.ppq_record.Order.{Ascends}
 use Rattle.ppq_spill.specs.declared.body.PassBody.{PassBody}
 use Rattle.ppq_queue.specs.Resting.{BodyKept, AtRest, IsShort, slots_of, count_of, runs_bag}
 use Rattle.ppq_queue.specs.State.{IsQueue, IsSound}
-use Rattle.ppq_queue.specs.Holding.{Holding, IsAbove, IsRefusal, Keeps, Stays, SameRecords}
+use Rattle.ppq_queue.specs.Holding.{Holding, IsAbove, IsRefusal, Keeps, Stays, SameRecords, QueueLeaves}
 use Rattle.ppq_extract.specs.ppq_array.declared.store_fault.StoreFault.{StoreFault}
 use Rattle.ppq_extract.specs.ppq_array.declared.store_fault.StoreFault.TheVariants.{NoFreeBlock, Device}
 use Rattle.ppq_spill.proofs.SameSlots.{SameSlots-refl, SameSlots-trans}
@@ -92,6 +93,9 @@ device-fault slots number k fault e =
 pub not_sound : {P : Type 0} (number : ℕ) → ◌≡◌ {A = Option ℕ} (Some number) None → P
 not_sound number e = absurd (cc)
 
+fault_again : (T : Type 0) (n k : ℕ) → ◌≡◌ {A = Option ℕ} (Some n) (Some k) → ◌≡◌ {A = Result T StoreFault} (Err (Device n)) (Err (Device k))
+fault_again T n k e = (let same : n ≡ k = cc in subst (λ m. ◌≡◌ {A = Result T StoreFault} (Err (Device n)) (Err (Device m))) same refl)
+
 -- a refusal after a limit session was noted is one of the whole call
 pub refusal-limited : {R : Type 0} (old new : Holding R) (fault : StoreFault) → IsRefusal (record old { limited = true }) new fault → IsRefusal old new fault
 refusal-limited old new NoFreeBlock is = record { bag = is.bag; size = is.size; sound = is.sound; quiet = is.quiet; free = is.free; room = is.room; above = is.above }
@@ -116,6 +120,17 @@ module _ {R : Type 0} where
         tells = subst AllTell (sym same);
         writes = omega (arith, ap all_writes same);
       }
+
+  stays-same : (q : Holding R) → Stays q q
+  stays-same q = record { keeps = keeps-slots q q refl refl refl; size = refl; peak = refl }
+
+  -- a sound queue to which nothing was done
+  pub leaves-same : {T : Type 0} {v : T} (q : Holding R) → q.failed ≡ None → QueueLeaves q q (Ok v)
+  leaves-same q none = record { same = record { quiet = refl; bag = λ tell p. refl; size = refl; sound = none }; refused = tt; latched = λ number e. not_sound number (sym e ∙ none); stays = stays-same q }
+
+  -- a queue that a failed block stopped
+  pub leaves-stopped : {T : Type 0} (q : Holding R) (number : ℕ) → q.failed ≡ Some number → HasFailed number q.slots → QueueLeaves {T = T} q q (Err (Device number))
+  leaves-stopped {T = T} q number failed fault = record { same = tt; refused = record { fault = fault; kept = failed }; latched = λ k e. (fault_again T number k (sym failed ∙ e), refl); stays = stays-same q }
 
   pub keeps-more : (a b c : Holding R) → Keeps a b → Keeps b c → Keeps a c
   keeps-more a b c h k =

@@ -4,6 +4,7 @@ use mathlib.Core.Logic.{dite}
 use native.Mathlib.Decide.{dec_le}
 use Rattle.ppq_heap.specs.Heap.{Contents}
 use Rattle.ppq_heap.specs.Heaps.{Shares, ChangesOnly, empty_heap, items_in, items_of, share_at}
+use Rattle.ppq_queue.specs.Stores.{HeapsStay}
 
 module _ {R : Type 0} where
   pub changes-refl : (place : ℕ) (shares : Shares R) → ChangesOnly place shares shares
@@ -12,6 +13,10 @@ module _ {R : Type 0} where
   -- one place after the other changed
   pub changes-trans : (place : ℕ) (a b c : Shares R) → ChangesOnly place a b → ChangesOnly place b c → ChangesOnly place a c
   changes-trans place a b c h k = record { count = k.count ∙ h.count; cap = k.cap ∙ h.cap; others = λ other away. k.others other away ∙ h.others other away }
+
+  -- where one place changed, and no record came, all heaps stay
+  pub changed-stay : {place : ℕ} {a b : Shares R} → ChangesOnly place a b → length (items_of b) ≤ length (items_of a) → HeapsStay a b
+  changed-stay only fewer = record { count = only.count; cap = only.cap; fewer = fewer }
 
   -- a list that is not empty has an element
   pub some_list : (l : List R) → (l ≡ [] → ⊥) → 0 < length l

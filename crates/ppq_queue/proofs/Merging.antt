@@ -1,5 +1,5 @@
 -- Merging heaps and an extract buffer into a list, one record after the other.
-use Rattle.std.proofs.Common.{◌≡◌, Bool, true, false, cond, not, List, [], ◌∷◌, ◌++◌, drop, Option, Some, None, refl, sym, ap, ◌∙◌, subst, inl, inr, arith, length-append, Ordering}
+use Rattle.std.proofs.Common.{◌≡◌, Bool, true, false, cond, not, List, [], ◌∷◌, ◌++◌, length, drop, Option, Some, None, refl, sym, ap, ◌∙◌, subst, inl, inr, arith, length-append, Ordering}
 use Rattle.std.specs.Prelude.{IfSome}
 use Rattle.std.specs.declared.cmp.Ordering.TheVariants.{Equal}
 use Rattle.std.specs.List.{AllByRecursion as Each}
@@ -13,9 +13,10 @@ use Rattle.ppq_extract.specs.ppq_fetch.Taking.{NoneAfter, IsTaken, AllBelow, Non
 use Rattle.ppq_extract.proofs.ppq_fetch.Parted.{taken_more}
 use Rattle.ppq_queue.specs.Choice.{goes_first}
 use Rattle.ppq_extract.specs.Extracted.{Held}
-use Rattle.ppq_heap.specs.Heaps.{Shares}
-use Rattle.ppq_queue.specs.Bulk.{kept_below, Merged, Moves, Exhausted}
-use Rattle.ppq_queue.specs.Out.{Listed}
+use Rattle.ppq_heap.specs.Heaps.{Shares, items_of}
+use Rattle.ppq_queue.specs.Bulk.{kept_below, Merged, Moves, MovesNext, Exhausted}
+use Rattle.ppq_queue.specs.Stores.{HeapsStay}
+use Rattle.ppq_queue.specs.Out.{Listed, listed}
 use Rattle.ppq_queue.proofs.Stores.{heaps-same, heaps-more}
 use Rattle.ppq_queue.proofs.Least.{least-le, least-none}
 
@@ -68,6 +69,23 @@ module _ {R : Type 0} {cmp : R → R → Ordering} {more : Bool} {limit : Option
         };
         heaps = heaps-more one.heaps two.heaps;
         rooms = record { first = two.rooms.first ∙ one.rooms.first; list = two.rooms.list ∙ one.rooms.list };
+      }
+
+  -- no record is left that is wanted
+  pub moves-none : {h : Shares R} {e : Held R} {out : Listed R} → Exhausted cmp more limit (items_of h) e.items → MovesNext cmp more limit h h e e out out false
+  moves-none ended = record { moves = moves-same; one = λ t. cc; none = λ f. refl; ended = λ f. ended }
+
+  -- one record went to the end of the list
+  pub moves-one :
+      {h h' : Shares R} {e e' : Held R} (out : Listed R) {out' : Listed R} (x : R)
+      → out' ≡ listed (out.items ++ x ∷ []) out.room → Merged cmp more limit (items_of h) (items_of h') e.items e'.items out.items (out.items ++ x ∷ []) → HeapsStay h h' → e'.room ≡ e.room
+      → MovesNext cmp more limit h h' e e' out out' true
+  moves-one {h = h} {h' = h'} {e = e} {e' = e'} out x is merged heaps room =
+      record {
+        moves = record { merged = subst (λ l. Merged cmp more limit (items_of h) (items_of h') e.items e'.items out.items l) (sym (ap (λ l. l.items) is)) merged; heaps = heaps; rooms = record { first = room; list = ap (λ l. l.room) is } };
+        one = λ t. omega (arith, ap (λ l. length l.items) is, length-append out.items (x ∷ []));
+        none = λ f. cc;
+        ended = λ f. cc;
       }
 
 module _ {R : Type 0} {cmp : R → R → Ordering} (o : IsTotalOrder cmp) (same : (x y : R) → cmp x y ≡ Equal → x ≡ y) (more : Bool) (limit : Option R) where

@@ -1,5 +1,5 @@
 -- What a refill leaves: the least records in the extract buffer, and runs at rest.
-use Rattle.std.proofs.Common.{◌≡◌, ℕ, Bool, ◌+◌, ◌-◌, ◌*◌, ◌<◌, ◌≤◌, List, [], ◌∷◌, ◌++◌, length, min, take, drop, get_or, map, None, All, refl, sym, ap, ◌∙◌, subst, arith, append-nil, length-drop}
+use Rattle.std.proofs.Common.{◌≡◌, ℕ, Bool, ◌+◌, ◌-◌, ◌*◌, ◌<◌, ◌≤◌, List, [], ◌∷◌, ◌++◌, length, min, take, drop, get_or, map, Option, None, All, refl, sym, ap, ◌∙◌, subst, arith, append-nil, length-drop}
 use Rattle.std.specs.Prelude.{◌↔◌, flat_map, vec_capacity, count_by}
 use Rattle.std.specs.declared.cmp.Ordering.{Ordering}
 use Rattle.std.proofs.lemmas.Nat.{mul-le}
@@ -22,7 +22,7 @@ use Rattle.ppq_extract.proofs.ppq_array.Noted.{all_left}
 use Rattle.ppq_extract.specs.ppq_fetch.Fetching.{State, held_in, slots_in, count_in, MayFetch, source_items, loaded_lists, waiting_items, SourcesTell, RunsRise, MoreReads}
 use Rattle.ppq_extract.specs.Extracted.{sources_of, Refilled}
 use Rattle.ppq_spill.specs.declared.body.PassBody.{PassBody}
-use Rattle.ppq_queue.specs.Resting.{BodyKept, IsRestingRun, IsRestingArray, AtRest, Readied, runs_bag, slots_of}
+use Rattle.ppq_queue.specs.Resting.{BodyKept, IsRestingRun, IsRestingArray, AllRise, AtRest, Readied, runs_bag, slots_of}
 use Rattle.ppq_queue.proofs.Bounds.{pool_small, runs_few, idle_most, records_most}
 use Rattle.ppq_queue.proofs.Counts.{fronts_few}
 use Rattle.ppq_queue.proofs.Odd.{odd_most}
@@ -144,30 +144,35 @@ module _ {S R : Type 0} (shown : S → Shown) where
           count_by-append p (internal_items a.runs.internal.items) (flat_map (records_in record_of width shown) a.runs.external.items),
         )
 
-    module _ (a b : PassBody S R) (s t : Stock) (out : List R) (rest : AtRest shown cmp record_of width n a s) (kept : BodyKept shown a b s t) (few : length a.runs.external.items ≤ 64) (r : Refilled cmp record_of width shown None (source a s) (source b t) out) (may : MayFetch shown width n.workers (source b t)) (none' : b.lanes.jobs.items ≡ []) (batch : b.lanes.batch ≡ a.lanes.batch) where
-      rises : AllTell (slots_of shown a s) → RunsRise record_of width shown cmp (source a s)
-      rises tell =
-          let rise = rest.rise tell in
-          record {
-            internal = recursion_from_All (λ (run : Run R). Ascends cmp (items_of run)) a.runs.internal.items rise.internal;
-            external = recursion_from_All (λ (x : External S R). Ascends cmp (records_in record_of width shown x)) a.runs.external.items rise.external;
-          }
+    -- where each run of a body ascends, so do those that a refill reads
+    pub rises-in : (a : PassBody S R) (s : Stock) → AllRise shown cmp record_of width a → RunsRise record_of width shown cmp (source a s)
+    rises-in a s rise =
+        record {
+          internal = recursion_from_All (λ (run : Run R). Ascends cmp (items_of run)) a.runs.internal.items rise.internal;
+          external = recursion_from_All (λ (x : External S R). Ascends cmp (records_in record_of width shown x)) a.runs.external.items rise.external;
+        }
 
-      told : AllTell (slots_of shown a s) → SourcesTell shown (source a s)
-      told tell = one_slot shown a s rest.no_job tell
+    pub rises-out : (b : PassBody S R) (t : Stock) → RunsRise record_of width shown cmp (source b t) → AllRise shown cmp record_of width b
+    rises-out b t rise =
+        record {
+          internal = All-from_recursion (λ (run : Run R). Ascends cmp (items_of run)) b.runs.internal.items rise.internal;
+          external = All-from_recursion (λ (x : External S R). Ascends cmp (records_in record_of width shown x)) b.runs.external.items rise.external;
+        }
 
-      run_rests : All (IsRestingRun t.block) b.runs.internal.items
-      run_rests k d h = record {
+    -- each run that a refill leaves rests, with or without a limit, if those before did
+    module _ {limit : Option R} {w : ℕ} (a b : PassBody S R) (s t : Stock) {out : List R} (r : Refilled cmp record_of width shown limit (source a s) (source b t) out) (may : MayFetch shown width w (source b t)) where
+      pub runs-refilled : All (IsRestingRun t.block) b.runs.internal.items
+      runs-refilled k d h = record {
         some = r.some_internal k d h;
         spent = All-from_recursion (λ (run : Run R). run.spent ≡ []) b.runs.internal.items may.sources.internal_spent k d h;
         blocks = may.sources.internal k d h;
         fitting = may.sources.internal_fitting k d h;
       }
 
-      array_rests : All (IsRestingArray shown width t.block) b.runs.external.items
-      array_rests k d h =
+      pub arrays-refilled : t.block ≡ s.block → All (IsRestingArray shown width s.block) a.runs.external.items → All (IsRestingArray shown width t.block) b.runs.external.items
+      arrays-refilled block rest k d h =
           let from = r.came_from k d h in
-          let old = All-contains (IsRestingArray shown width s.block) a.runs.external.items from.before rest.external from.there in
+          let old = All-contains (IsRestingArray shown width s.block) a.runs.external.items from.before rest from.there in
           let went = from.went_on in
           record {
             some = r.some_external k d h;
@@ -177,21 +182,24 @@ module _ {S R : Type 0} (shown : S → Shown) where
             loaded = may.sources.loaded k d h;
             fitting = may.sources.fitting k d h;
             spent = All-from_recursion (λ (x : External S R). x.loaded.spent ≡ []) b.runs.external.items may.sources.external_spent k d h;
-            packed = subst (IsPacked t.block) (sym went.stored) (packed-drop t.block went.loads from.before.stored (subst (λ m. IsPacked m from.before.stored) (sym kept.block) old.packed));
+            packed = subst (IsPacked t.block) (sym went.stored) (packed-drop t.block went.loads from.before.stored (subst (λ m. IsPacked m from.before.stored) (sym block) old.packed));
             written = subst (All (λ (b : DeviceBlock S R). 1 ≤ (shown b.slot).writes)) (sym went.stored) (All-drop (λ (b : DeviceBlock S R). 1 ≤ (shown b.slot).writes) went.loads from.before.stored old.written);
           }
 
+    module _ (a b : PassBody S R) (s t : Stock) (out : List R) (rest : AtRest shown cmp record_of width n a s) (kept : BodyKept shown a b s t) (few : length a.runs.external.items ≤ 64) (r : Refilled cmp record_of width shown None (source a s) (source b t) out) (may : MayFetch shown width n.workers (source b t)) (none' : b.lanes.jobs.items ≡ []) (batch : b.lanes.batch ≡ a.lanes.batch) where
+      rises : AllTell (slots_of shown a s) → RunsRise record_of width shown cmp (source a s)
+      rises tell = rises-in a s (rest.rise tell)
+
+      told : AllTell (slots_of shown a s) → SourcesTell shown (source a s)
+      told tell = one_slot shown a s rest.no_job tell
+
       rest_now : AtRest shown cmp record_of width n b t
       rest_now =
-          rest-moved rest kept may.sources.idle none' (ap (λ v. length v.items) batch) may.sources.takes_back run_rests array_rests (omega (arith, r.buffers)) may.sources.bounded (omega (arith, fronts_few b.runs.external.items, r.external, few))
+          rest-moved rest kept may.sources.idle none' (ap (λ v. length v.items) batch) may.sources.takes_back (runs-refilled a b s t r may) (arrays-refilled a b s t r may kept.block rest.external) (omega (arith, r.buffers)) may.sources.bounded (omega (arith, fronts_few b.runs.external.items, r.external, few))
           (omega (arith, odd_most t.block b.runs.external.items, r.external, few))
           (λ tell.
           let was = kept.tells.1 tell in
-          let rise = r.rise (told was) (rises was) in
-          record {
-            internal = All-from_recursion (λ (run : Run R). Ascends cmp (items_of run)) b.runs.internal.items rise.internal;
-            external = All-from_recursion (λ (x : External S R). Ascends cmp (records_in record_of width shown x)) b.runs.external.items rise.external;
-          })
+          rises-out b t (r.rise (told was) (rises was)))
 
       pub readied-refilled : (room : ℕ) → 0 < room → length out ≡ min room (count_in a.runs.internal.items a.runs.external.items) → Readied shown cmp record_of width n [] out a b s t
       readied-refilled room some all = record {

@@ -19,7 +19,7 @@ use Rattle.ppq_extract.specs.declared.sources.Sources.{Sources}
 use Rattle.ppq_spill.specs.Leveling.{count_level}
 use Rattle.ppq_spill.specs.declared.body.PassBody.{PassBody}
 use Rattle.ppq_queue.specs.Resting.{AtRest, BodyKept, Moved, Readied, IsShort, runs_bag, count_of}
-use Rattle.ppq_queue.specs.Stores.{HeapsStay, ShareChanged, stored, StoreKept, StoreStays, FailsAlone, RunLeaves, RunRefused, MayWork, Holds, Readies, Lacks, Refuses, StoreLeaves, LevelsLeave, slots_in}
+use Rattle.ppq_queue.specs.Stores.{HeapsStay, stored, StoreKept, StoreStays, FailsAlone, RunLeaves, RunRefused, MayWork, Holds, Readies, Lacks, Refuses, StoreLeaves, LevelsLeave, slots_in}
 use Rattle.ppq_queue.specs.declared.store.Store.{Store}
 use Rattle.ppq_queue.proofs.Moves.{kept-refl, kept-trans, none_after-same, short-more}
 
@@ -27,10 +27,10 @@ use Rattle.ppq_queue.proofs.Moves.{kept-refl, kept-trans, none_after-same, short
 abbrev pub done : Result ⊤ StoreFault
 done = Ok tt
 
-abbrev err_of : (T : Type 0) → StoreFault → Result T StoreFault
+abbrev pub err_of : (T : Type 0) → StoreFault → Result T StoreFault
 err_of T e = Err e
 
-err_is : {T : Type 0} (e f : StoreFault) → err_of T e ≡ err_of T f → e ≡ f
+pub err_is : {T : Type 0} (e f : StoreFault) → err_of T e ≡ err_of T f → e ≡ f
 err_is e f same = cc
 
 -- heaps that did not change
@@ -39,10 +39,6 @@ heaps-same = record { count = refl; cap = refl; fewer = omega arith }
 
 pub heaps-more : {R : Type 0} {h h' h'' : Shares R} → HeapsStay h h' → HeapsStay h' h'' → HeapsStay h h''
 heaps-more a b = record { count = b.count ∙ a.count; cap = b.cap ∙ a.cap; fewer = omega (arith, a.fewer, b.fewer) }
-
--- where one heap changed, all heaps stay
-pub share-heaps : {R : Type 0} {place : ℕ} {h h' : Shares R} → ShareChanged place h h' → HeapsStay h h'
-share-heaps changed = record { count = changed.only.count; cap = changed.only.cap; fewer = changed.fewer }
 
 pub same-sources : {R : Type 0} {src : Sources R} → SourcesRest src src
 same-sources = record { workers = refl; bench = refl; places = refl }
@@ -185,9 +181,9 @@ module _ {S R : Type 0} {shown : S → Shown} {cmp : R → R → Ordering} {reco
       → StoreLeaves shown cmp record_of width h h' x y (Ok v) → StoreLeaves shown cmp record_of width h' h'' y z r → StoreLeaves shown cmp record_of width h h'' x z r
   leaves-after one two = leaves-more one.stays one.holds two
 
-  -- a step after calls that were not refused
-  pub leaves-on : {T : Type 0} {v : T} {h h' h'' : List R} {x y z : Store S R} → StoreLeaves shown cmp record_of width h h' x y (Ok v) → StoreStays shown y z → Holds shown cmp record_of width h' h'' y z → StoreLeaves shown cmp record_of width h h'' x z (Ok v)
-  leaves-on one stays holds = record { stays = stays-more one.stays stays; holds = holds-more one.stays.kept one.holds holds; refused = tt }
+  -- two calls that were not refused, in a loop
+  pub leaves-on : {T U : Type 0} {v : T} {u : U} {h h' h'' : List R} {x y z : Store S R} → StoreLeaves shown cmp record_of width h h' x y (Ok v) → StoreLeaves shown cmp record_of width h' h'' y z (Ok u) → StoreLeaves shown cmp record_of width h h'' x z (Ok v)
+  leaves-on one two = record { stays = stays-more one.stays two.stays; holds = holds-more one.stays.kept one.holds two.holds; refused = tt }
 
   -- an error that is handed on
   pub leaves-given :
@@ -210,9 +206,9 @@ module _ {S R : Type 0} {shown : S → Shown} {cmp : R → R → Ordering} {reco
   levels-after one two = record { leaves = leaves-after one.leaves two.leaves; internal = two.internal ∙ one.internal; crowded = two.crowded }
 
   pub levels-on :
-      {T : Type 0} {v : T} {x y z : Store S R}
-      → LevelsLeave shown cmp record_of width x y (Ok v) → StoreStays shown y z → Holds shown cmp record_of width [] [] y z → z.body.runs.internal ≡ y.body.runs.internal → LevelsLeave shown cmp record_of width x z (Ok v)
-  levels-on one stays holds internal = record { leaves = leaves-on one.leaves stays holds; internal = internal ∙ one.internal; crowded = λ err. cc }
+      {T U : Type 0} {v : T} {u : U} {x y z : Store S R}
+      → LevelsLeave shown cmp record_of width x y (Ok v) → LevelsLeave shown cmp record_of width y z (Ok u) → LevelsLeave shown cmp record_of width x z (Ok v)
+  levels-on one two = record { leaves = leaves-on one.leaves two.leaves; internal = two.internal ∙ one.internal; crowded = λ err. cc }
 
   pub levels-given :
       {T U : Type 0} {x y : Store S R} {r : Result T StoreFault} {e : StoreFault}

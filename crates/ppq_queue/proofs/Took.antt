@@ -12,6 +12,7 @@ use Rattle.ppq_extract.proofs.ppq_fetch.Parted.{taken_none, taken_same, taken_of
 use Rattle.ppq_queue.specs.Resting.{runs_bag, count_of}
 use Rattle.ppq_queue.specs.Stores.{StoreKept, MayWork, Holds, stored, slots_in, whole_bag}
 use Rattle.ppq_queue.specs.declared.store.Store.{Store}
+use Rattle.ppq_queue.specs.Out.{Listed}
 use Rattle.ppq_queue.specs.Bulk.{Merged, HasEnded, TookOut, TookAll, TakesOut}
 use Rattle.ppq_queue.proofs.Bounds.{bag_length}
 use Rattle.ppq_queue.proofs.Merging.{exhausted-runs}
@@ -26,6 +27,11 @@ empty_list (x ∷ xs) h = absurd (omega arith)
 pub smaller : {X : Type 0} (e : List X) (k m : ℕ) → length e + k ≡ m → 0 < m → (e ≡ [] → k ≡ 0) → k < m
 smaller [] k m all some none = omega (arith, some, none refl)
 smaller (x ∷ xs) k m all some none = omega (arith, all)
+
+-- why a merge of many records ended
+pub merge_ended : {P Q : Type 0} (n most : ℕ) → n ≤ most → (most ≤ n) ⊎ P → (n ≡ most) ⊎ P ⊎ Q
+merge_ended n most few (inl full) = inl (omega (arith, few, full))
+merge_ended n most few (inr dry) = inr (inl dry)
 
 none_taken : {R : Type 0} (cmp : R → R → Ordering) (limit : Option R) → AllBelow cmp limit []
 none_taken cmp None = tt
@@ -152,13 +158,14 @@ module _ {S R : Type 0} (shown : S → Shown) {cmp : R → R → Ordering} (o : 
 
 -- levels were settled before heaps and a store were asked
 pub takes-settled :
-    {S R T : Type 0} {shown : S → Shown} {cmp : R → R → Ordering} {record_of : List ℕ → R} {width : ℕ} {limit : Option R} {most : ℕ} {before after : Shares R} {x y z : Store S R} {out : List R} {r : Result T StoreFault}
-    → IsTotalOrder cmp → StoreKept shown x y → Holds shown cmp record_of width [] [] x y → TakesOut shown cmp record_of width limit most before after y z out r → TakesOut shown cmp record_of width limit most before after x z out r
-takes-settled {shown = shown} {cmp = cmp} {record_of = record_of} {width = width} {limit = limit} {most = most} {before = before} {after = after} {x = x} {y = y} {z = z} {out = out} {r = r} o kept holds takes =
+    {S R T : Type 0} {shown : S → Shown} {cmp : R → R → Ordering} {record_of : List ℕ → R} {width : ℕ} {limit : Option R} {most : ℕ} {before after : Shares R} {x y z : Store S R} {was now : Listed R} {r : Result T StoreFault}
+    → IsTotalOrder cmp → StoreKept shown x y → Holds shown cmp record_of width [] [] x y → TakesOut shown cmp record_of width limit most before after y z was now r → TakesOut shown cmp record_of width limit most before after x z was now r
+takes-settled {shown = shown} {cmp = cmp} {record_of = record_of} {width = width} {limit = limit} {most = most} {before = before} {after = after} {x = x} {y = y} {z = z} {now = now} {r = r} o kept holds takes =
     record {
       kept = kept-more kept takes.kept;
       heaps = takes.heaps;
-      took = ok-map r (all-settled shown o record_of width limit most (items_of before) (items_of after) x y z out kept holds) takes.took;
+      list_room = takes.list_room;
+      took = ok-map r (all-settled shown o record_of width limit most (items_of before) (items_of after) x y z now.items kept holds) takes.took;
       same_heaps = takes.same_heaps;
       refused = err-map r (λ fault. refused-more shown cmp record_of width [] [] [] x y z fault kept holds) takes.refused;
     }

@@ -1,5 +1,5 @@
 -- Taking many records out of a queue at once.
-use Rattle.std.specs.Prelude.{◌≡◌, ◌⊎◌, ℕ, ◌+◌, ◌-◌, ◌<◌, ◌≤◌, Bool, true, false, cond, List, [], ◌++◌, length, min, Option, Some, None, Result, OnOk, OnErr, IfErr, IsErrOf}
+use Rattle.std.specs.Prelude.{◌≡◌, ◌⊎◌, ℕ, ◌+◌, ◌-◌, ◌<◌, ◌≤◌, Bool, true, false, cond, List, [], ◌++◌, length, min, Option, Some, None, Result, Ok, Err, OnOk, OnErr, IfErr, IsErrOf}
 use Rattle.std.specs.declared.cmp.Ordering.{Ordering}
 use Rattle.ppq_heap.specs.ppq_record.Order.{is_before, Ascends}
 use Rattle.ppq_heap.specs.ppq_record.Bag.{IsSameBag, front, without_front, size_below}
@@ -10,13 +10,23 @@ use Rattle.ppq_extract.specs.ppq_array.declared.store_fault.StoreFault.TheVarian
 use Rattle.ppq_heap.specs.Heaps.{Shares, items_of}
 use Rattle.ppq_extract.specs.ppq_fetch.Taking.{wanted, NoneAfter, IsTaken, AllBelow, NoneBelow}
 use Rattle.ppq_extract.specs.Extracted.{Held}
-use Rattle.ppq_queue.specs.Out.{Listed}
-use Rattle.ppq_queue.specs.Holding.{Holding, Keeps, IsRefusal}
+use Rattle.ppq_queue.specs.Out.{Listed, listed}
+use Rattle.ppq_queue.specs.Holding.{Holding, Keeps, IsRefusal, NamesAgain}
 use Rattle.ppq_queue.specs.Resting.{count_of}
 use Rattle.ppq_queue.specs.Stores.{MayWork, StoreKept, HeapsStay, Refuses, stored, slots_in, whole_bag}
 use Rattle.ppq_queue.specs.declared.store.Store.{Store}
 use Rattle.ppq_queue.specs.declared.limit_end.LimitEnd.{LimitEnd}
 use Rattle.ppq_queue.specs.declared.limit_end.LimitEnd.TheVariants.{All, More, Round}
+
+-- an empty list that has room for so many records
+pub record MayFill {R : Type 0} (most : ℕ) (out : Listed R) : Type 0 where
+  pub none : out.items ≡ []
+  pub room : most ≤ out.room
+
+-- what is left in a list after an answer: nothing after an error
+abbrev pub left_after : {T R : Type 0} → Result T StoreFault → Listed R → Listed R
+left_after (Ok v) out = out
+left_after (Err e) out = listed [] out.room
 
 -- the extract buffer and the list have the room that they had
 pub record RoomsStay {R : Type 0} (extract extract' : Held R) (out out' : Listed R) : Type 0 where
@@ -65,14 +75,28 @@ module _ {R : Type 0} (cmp : R → R → Ordering) where
     pub all : limit ≡ None → heap ++ extract ≡ []
     pub low : Ascends cmp extract → NoneBelow cmp limit (heap ++ extract)
 
+  -- The least record of heaps and an extract buffer went to the end of a list, and the answer says whether one did; if none did, nothing that is
+  -- wanted is left
+  pub record MovesNext (more : Bool) (limit : Option R) (before after : Shares R) (extract extract' : Held R) (out out' : Listed R) (answer : Bool) : Type 0 where
+    pub moves : Moves more limit before after extract extract' out out'
+    pub one : answer ≡ true → length out'.items ≡ length out.items + 1
+    pub none : answer ≡ false → length out'.items ≡ length out.items
+    pub ended : answer ≡ false → Exhausted more limit (items_of after) extract'.items
+
   -- the list is full; or the extract buffer wants a refill; or nothing that is wanted is left
   abbrev pub HasEnded : (most : ℕ) (more : Bool) (limit : Option R) (heap extract out : List R) → Type 0
   HasEnded most more limit heap extract out = (length out ≡ most) ⊎ ((extract ≡ []) × (more ≡ true)) ⊎ Exhausted more limit heap extract
 
+  -- as many records went to the end of a list as could be, at most so many in it
+  pub record MergesTo (most : ℕ) (more : Bool) (limit : Option R) (before after : Shares R) (extract extract' : Held R) (out out' : Listed R) : Type 0 where
+    pub moves : Moves more limit before after extract extract' out out'
+    pub few : length out'.items ≤ most
+    pub ended : HasEnded most more limit (items_of after) extract'.items out'.items
+
   -- The least records of a queue were taken, at most so many, all below the limit, if there is one. With a limit the extract buffer is ready for
   -- a look at the least record that is left
   pub record TookFront (limit : Option R) (most : ℕ) (old new : Holding R) (out : List R) : Type 0 where
-    pub taken : AllTell old.slots → out ≡ front cmp old.bag (wanted cmp most limit old.bag)
+    pub front : AllTell old.slots → out ≡ front cmp old.bag (wanted cmp most limit old.bag)
     pub rest : AllTell old.slots → IsSameBag new.bag (without_front cmp old.bag (wanted cmp most limit old.bag))
     pub left : AllTell old.slots → (length out ≡ most) ⊎ NoneBelow cmp limit new.bag
     pub ready : (l : R) → limit ≡ Some l → new.in_extract ≡ 0 → new.size ≡ new.in_heap
@@ -81,12 +105,15 @@ module _ {R : Type 0} (cmp : R → R → Ordering) where
     pub sound : new.failed ≡ None
     pub quiet : AreQuiet old.slots new.slots
 
-  -- what a bulk pop leaves of a queue: the least records were taken if it is Ok, none is given if it is not, what a refusal means, and what stays
-  pub record BulkLeaves {T : Type 0} (limit : Option R) (most : ℕ) (old new : Holding R) (out : List R) (r : Result T StoreFault) : Type 0 where
-    pub took : OnOk r (TookFront limit most old new out)
-    pub emptied : OnErr r (out ≡ [])
+  -- What a bulk pop leaves of a queue and of its list: the least records were taken if it is Ok; none is returned if it is not, and what a refusal
+  -- means; the queue counts as many fewer as are in the list; and what stays whatever is returned
+  pub record BulkLeaves {T : Type 0} (limit : Option R) (most : ℕ) (old new : Holding R) (was now : Listed R) (r : Result T StoreFault) : Type 0 where
+    pub took : OnOk r (TookFront limit most old new now.items)
+    pub emptied : OnErr r (now.items ≡ [])
     pub refused : IfErr r (IsRefusal old new)
-    pub size : new.size ≡ old.size - length out
+    pub latched : NamesAgain old new r
+    pub size : new.size ≡ old.size - length now.items
+    pub list_room : now.room ≡ was.room
     pub peak : new.peak ≡ old.peak
     pub keeps : Keeps old new
 
@@ -111,9 +138,10 @@ module _ {S R : Type 0} (shown : S → Shown) (cmp : R → R → Ordering) (reco
 
   -- what a bulk pop leaves of heaps and the store: what stays whatever is returned; all that was wanted was taken if it is Ok; what a refusal means, and
   -- that the heaps are as they were where no block was free
-  pub record TakesOut {T : Type 0} (limit : Option R) (most : ℕ) (before after : Shares R) (old new : Store S R) (out : List R) (r : Result T StoreFault) : Type 0 where
+  pub record TakesOut {T : Type 0} (limit : Option R) (most : ℕ) (before after : Shares R) (old new : Store S R) (was now : Listed R) (r : Result T StoreFault) : Type 0 where
     pub kept : StoreKept shown old new
     pub heaps : HeapsStay before after
-    pub took : OnOk r (TookAll limit most (items_of before) (items_of after) old new out)
+    pub list_room : now.room ≡ was.room
+    pub took : OnOk r (TookAll limit most (items_of before) (items_of after) old new now.items)
     pub same_heaps : IsErrOf r NoFreeBlock → after ≡ before
     pub refused : IfErr r (Refuses shown cmp record_of width [] [] old new)

@@ -3,7 +3,10 @@ use Rattle.std.specs.Prelude.{◌≡◌, ℕ, ◌+◌, ◌-◌, ◌≤◌, Bool,
 use Rattle.std.specs.declared.cmp.Ordering.{Ordering}
 use Rattle.ppq_heap.specs.ppq_record.Order.{is_before, Ascends}
 use Rattle.ppq_heap.specs.ppq_record.Bag.{IsSameBag, first_of, least, without_front}
+use Rattle.ppq_heap.specs.Heaps.{Shares, items_of}
 use Rattle.ppq_extract.specs.ppq_fetch.Taking.{NoneAfter}
+use Rattle.ppq_extract.specs.Extracted.{Held}
+use Rattle.ppq_queue.specs.Stores.{HeapsStay}
 
 -- the first of two records, where the other is not before it; one that is there before one that is not
 abbrev pub goes_first : {R : Type 0} → (R → R → Ordering) → Option R → Option R → Bool
@@ -25,3 +28,9 @@ pub record TookFirst {R : Type 0} (cmp : R → R → Ordering) (heap heap' extra
   pub ascends : Ascends cmp extract → Ascends cmp extract'
   pub order : (runs : List R) → NoneAfter cmp extract runs → NoneAfter cmp extract' runs
   pub rest : (runs : List R) → answer ≡ least cmp (heap ++ extract ++ runs) → IsSameBag (heap' ++ extract' ++ runs) (without_front cmp (heap ++ extract ++ runs) 1)
+
+-- the same of heaps and an extract buffer, which keep their room
+pub record TakesFirst {R : Type 0} (cmp : R → R → Ordering) (before after : Shares R) (extract extract' : Held R) (answer : Option R) : Type 0 where
+  pub took : TookFirst cmp (items_of before) (items_of after) extract.items extract'.items answer
+  pub heaps : HeapsStay before after
+  pub room : extract'.room ≡ extract.room

@@ -1,7 +1,7 @@
 -- What a queue holds.
-use Rattle.std.specs.Prelude.{◌≡◌, ◌<◌, ◌≤◌, ◌+◌, ◌-◌, ◌*◌, ℕ, Bool, false, List, ◌∷◌, length, max, Option, Some, None, Result, Ok, Err, OnOk, IfErr, ⊤, All}
+use Rattle.std.specs.Prelude.{◌≡◌, ◌<◌, ◌≤◌, ◌+◌, ◌-◌, ◌*◌, ◌↔◌, ℕ, Bool, true, false, List, ◌∷◌, length, max, Option, Some, None, IsNone, Result, Ok, Err, OnOk, IfErr, ⊤, All}
 use Rattle.std.specs.declared.cmp.Ordering.{Ordering}
-use Rattle.ppq_heap.specs.ppq_record.Bag.{IsSameBag, without_front}
+use Rattle.ppq_heap.specs.ppq_record.Bag.{IsSameBag, least, without_front}
 use Rattle.ppq_extract.specs.ppq_budget.Sizes.{Numbers, fixed_of, batch_of, heap_of, blocks_for, room_of}
 use Rattle.ppq_extract.specs.ppq_outside.Shown.{Shown, AllTell}
 use Rattle.ppq_extract.specs.ppq_array.Kept.{SameSlots, HasFailed, AreQuiet, all_writes}
@@ -135,8 +135,43 @@ module _ {R : Type 0} where
   IsRefusal old new NoFreeBlock = FoundNoBlock old new
   IsRefusal old new (Device number) = HasStopped number new
 
+  -- a block that failed before is named again, and nothing is done
+  abbrev pub NamesAgain : {T : Type 0} → (old new : Holding R) → Result T StoreFault → Type 0
+  NamesAgain old new r = (number : ℕ) → old.failed ≡ Some number → (r ≡ Err (Device number)) × (new ≡ old)
+
   -- what a call leaves that takes no record out and adds none: the same records if it is Ok, what a refusal means, and what stays whatever is returned
   pub record QueueLeaves {T : Type 0} (old new : Holding R) (r : Result T StoreFault) : Type 0 where
     pub same : OnOk r (SameRecords old new)
     pub refused : IfErr r (IsRefusal old new)
+    pub latched : NamesAgain old new r
     pub stays : Stays old new
+
+  -- no call failed, the first heap has room for a record, and the peak counts it already
+  pub record MayPut (q : Holding R) : Type 0 where
+    pub sound : q.failed ≡ None
+    pub room : q.in_first < heap_of q.sizes
+    pub peak : q.size < q.peak
+
+  -- a limit session was begun, no call failed, the extract buffer is empty, and there is room for one run in blocks more
+  pub record MayStoreAll (q : Holding R) : Type 0 where
+    pub sound : q.failed ≡ None
+    pub emptied : q.in_extract ≡ 0
+    pub settled : q.runs ≤ 64
+    pub limited : q.limited ≡ true
+
+  -- all records are in runs, of which at most 64 are in blocks
+  pub record AreStored (q : Holding R) : Type 0 where
+    pub emptied : q.in_extract ≡ 0
+    pub heaps : q.in_heap ≡ 0
+    pub settled : q.runs ≤ 64
+
+  -- the least record, if there is one
+  pub record IsLeast (cmp : R → R → Ordering) (q : Holding R) (one : Option R) : Type 0 where
+    pub answer : AllTell q.slots → one ≡ least cmp q.bag
+    pub none : IsNone one ↔ (q.size ≡ 0)
+
+  -- the least record, if there is one, left the queue; no slot and no run in blocks has changed
+  pub record TookLeast (cmp : R → R → Ordering) (old new : Holding R) (one : Option R) : Type 0 where
+    pub least : IsLeast cmp old one
+    pub rest : AllTell old.slots → IsSameBag new.bag (without_front cmp old.bag 1)
+    pub fields : new ≡ record old { bag = new.bag; size = old.size - 1; in_heap = new.in_heap; in_first = new.in_first; in_extract = new.in_extract }

@@ -1,9 +1,9 @@
 -- What a store needs for its calls, what stays after them, and what they say.
-use Rattle.std.specs.Prelude.{◌≡◌, ℕ, ◌+◌, ◌<◌, ◌≤◌, List, [], ◌++◌, length, Result, OnOk, IfErr, IsErrOf}
+use Rattle.std.specs.Prelude.{◌≡◌, ℕ, ◌+◌, ◌*◌, ◌<◌, ◌≤◌, List, [], ◌++◌, length, Result, OnOk, IfErr, IsErrOf}
 use Rattle.std.specs.declared.cmp.Ordering.{Ordering}
 use Rattle.ppq_heap.specs.ppq_record.Order.{Ascends}
 use Rattle.ppq_heap.specs.ppq_record.Bag.{IsSameBag}
-use Rattle.ppq_heap.specs.Heaps.{Shares, ChangesOnly, items_of}
+use Rattle.ppq_heap.specs.Heaps.{Shares, items_of}
 use Rattle.ppq_extract.specs.ppq_outside.Shown.{Shown, AllTell}
 use Rattle.ppq_extract.specs.ppq_budget.Sizes.{Numbers, AreInRange, fixed_of, batch_of, pool_of}
 use Rattle.ppq_extract.specs.ppq_array.Supply.{Stock}
@@ -12,6 +12,7 @@ use Rattle.ppq_extract.specs.ppq_array.declared.store_fault.StoreFault.{StoreFau
 use Rattle.ppq_extract.specs.ppq_array.declared.store_fault.StoreFault.TheVariants.{NoFreeBlock, Device}
 use Rattle.ppq_extract.specs.ppq_fetch.Taking.{NoneAfter}
 use Rattle.ppq_extract.specs.Extracted.{ServesFor, SourcesRest}
+use Rattle.ppq_spill.specs.Leveling.{count_level}
 use Rattle.ppq_spill.specs.declared.body.PassBody.{PassBody}
 use Rattle.ppq_queue.specs.Resting.{AtRest, BodyKept, Moved, StoreShort, IsShort, runs_bag, count_of, crowd_of, slots_of}
 use Rattle.ppq_queue.specs.declared.store.Store.{Store}
@@ -23,16 +24,16 @@ module _ {R : Type 0} where
     pub cap : new.cap ≡ old.cap
     pub fewer : length (items_of new) ≤ length (items_of old)
 
-  -- only the heap at a place changed, and no record came
-  pub record ShareChanged (place : ℕ) (old new : Shares R) : Type 0 where
-    pub only : ChangesOnly place old new
-    pub fewer : length (items_of new) ≤ length (items_of old)
-
 module _ {S R : Type 0} where
   -- the extract buffer is empty, and there is room for one run in blocks more
   pub record IsEmptied (store : Store S R) : Type 0 where
     pub no_extract : store.extract.items ≡ []
     pub few : length store.body.runs.external.items ≤ 64
+
+  -- at least half of the pool's buffers are idle, and there is room for one run in blocks more
+  pub record IsHalfIdle (store : Store S R) : Type 0 where
+    pub few : length store.body.runs.external.items ≤ 64
+    pub idle : pool_of store.sizes ≤ 2 * store.supply.sure_buffers
 
   -- how many records the extract buffer and the runs have
   abbrev pub stored : Store S R → ℕ
@@ -104,6 +105,17 @@ module _ {S R : Type 0} (shown : S → Shown) where
       pub ascends : AllTell (slots_in store) → Ascends cmp store.extract.items
       pub order : AllTell (slots_in store) → NoneAfter cmp store.extract.items (runs_bag shown record_of width store.body)
 
+    -- the same, and there is room for one run in blocks more
+    pub record MayAdd (store : Store S R) : Type 0 where
+      pub works : MayWork store
+      pub few : length store.body.runs.external.items ≤ 64
+
+    -- the same with an empty extract buffer, and the budget has room for the records of heaps
+    pub record MayStoreHeaps (heap : List R) (store : Store S R) : Type 0 where
+      pub works : MayWork store
+      pub emptied : IsEmptied store
+      pub most : length heap ≤ store.sizes.memory
+
     -- the records of heaps, the extract buffer and the runs
     abbrev pub whole_bag : List R → Store S R → List R
     whole_bag heap store = heap ++ store.extract.items ++ runs_bag shown record_of width store.body
@@ -142,3 +154,37 @@ module _ {S R : Type 0} (shown : S → Shown) where
       pub leaves : StoreLeaves [] [] old new r
       pub internal : new.body.runs.internal ≡ old.body.runs.internal
       pub crowded : IsErrOf r NoFreeBlock → 8 < crowd_of new.body.runs.external.items
+
+    -- what a merge of one level leaves: the same; and lower levels have as many runs as before
+    pub record LevelLeaves {T : Type 0} (level : ℕ) (old new : Store S R) (r : Result T StoreFault) : Type 0 where
+      pub levels : LevelsLeave old new r
+      pub lower : OnOk r ((j : ℕ) → j < level → count_level j new.body.runs.external.items ≡ count_level j old.body.runs.external.items)
+
+    -- what a merge of all levels leaves: the same; and there is room for one run in blocks more
+    pub record Settles {T : Type 0} (old new : Store S R) (r : Result T StoreFault) : Type 0 where
+      pub levels : LevelsLeave old new r
+      pub few : OnOk r (length new.body.runs.external.items ≤ 64)
+
+    -- what a store of the rest of the extract buffer leaves
+    pub record RestLeaves {T : Type 0} (old new : Store S R) (r : Result T StoreFault) : Type 0 where
+      pub leaves : StoreLeaves [] [] old new r
+      pub emptied : OnOk r (IsEmptied new)
+
+    -- what a store of heaps leaves, which keep their room
+    pub record HeapsLeave {T : Type 0} (before after : Shares R) (old new : Store S R) (r : Result T StoreFault) : Type 0 where
+      pub leaves : StoreLeaves (items_of before) (items_of after) old new r
+      pub heaps : HeapsStay before after
+      pub emptied : OnOk r (IsEmptied new)
+
+    -- what a refill leaves of a store: it is ready, with room for one run in blocks more, unless a block failed
+    pub record Refills {T : Type 0} (old new : Store S R) (r : Result T StoreFault) : Type 0 where
+      pub kept : StoreKept old new
+      pub readied : OnOk r (Readies old new)
+      pub few : OnOk r (length new.body.runs.external.items ≤ 64)
+      pub failed : IfErr r (FailsAlone new)
+
+    -- what a call leaves that makes a store ready
+    pub record MakesReady {T : Type 0} (old new : Store S R) (r : Result T StoreFault) : Type 0 where
+      pub kept : StoreKept old new
+      pub readied : OnOk r (Readies old new)
+      pub refused : IfErr r (Refuses [] [] old new)

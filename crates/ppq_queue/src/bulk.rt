@@ -1,10 +1,9 @@
 //! Many records that are taken out at once: the least of the heaps and of an extract buffer go into a list,
 //! and the extract buffer is refilled on the way.
-ghost use Rattle.std.specs.Prelude.{◌≡◌, ◌≤◌, ◌<◌, ◌+◌, ◌⊎◌, true, false, [], length, Some, None, OnOk, OnErr};
-ghost use Rattle.ppq_heap.specs.Heaps.{items_of};
+ghost use Rattle.std.specs.Prelude.{◌≡◌, ◌≤◌, ◌<◌, ◌⊎◌, true, false, [], length, Some, None};
 ghost use Rattle.ppq_queue.specs.Resting.{count_of};
-ghost use Rattle.ppq_queue.specs.Stores.{MayWork};
-ghost use Rattle.ppq_queue.specs.Bulk.{Moves, Exhausted, HasEnded, TakesOut};
+ghost use Rattle.ppq_queue.specs.Stores.{MayWork, MayAdd};
+ghost use Rattle.ppq_queue.specs.Bulk.{MayFill, MovesNext, MergesTo, TakesOut};
 ghost use Rattle.ppq_queue.specs.Bulk as spec;
 
 use crate::choice::goes_first;
@@ -30,10 +29,8 @@ impl<S: Slot + Send + Sync, R: Record + Send + Sync> Store<S, R> {
     where
         H::Dir: Send,
         requires works { MayWork S.shown R.Ord.cmp R.record_of R.WIDTH self.old }
-        requires none { out.old.items ≡ [] }
-        requires most { wanted.now.most ≤ out.old.room }
-        ensures takes { TakesOut S.shown R.Ord.cmp R.record_of R.WIDTH wanted.now.limit wanted.now.most heaps.old heaps.new self.old self.new out.new.items result }
-        ensures list_room { out.new.room ≡ out.old.room }
+        requires list { MayFill wanted.now.most out.old }
+        ensures { TakesOut S.shown R.Ord.cmp R.record_of R.WIDTH wanted.now.limit wanted.now.most heaps.old heaps.new self.old self.new out.old out.new result }
     {
         record_laws::<R>();
         if self.wants_nothing(wanted) {
@@ -62,12 +59,9 @@ impl<S: Slot + Send + Sync, R: Record + Send + Sync> Store<S, R> {
     ) -> Result<(), QueueFault>
     where
         H::Dir: Send,
-        requires works { MayWork S.shown R.Ord.cmp R.record_of R.WIDTH self.old }
-        requires few { length self.old.body.runs.external.items ≤ 64 }
-        requires none { out.old.items ≡ [] }
-        requires most { wanted.now.most ≤ out.old.room }
-        ensures takes { TakesOut S.shown R.Ord.cmp R.record_of R.WIDTH wanted.now.limit wanted.now.most heaps.old heaps.new self.old self.new out.new.items result }
-        ensures list_room { out.new.room ≡ out.old.room }
+        requires may { MayAdd S.shown R.Ord.cmp R.record_of R.WIDTH self.old }
+        requires list { MayFill wanted.now.most out.old }
+        ensures { TakesOut S.shown R.Ord.cmp R.record_of R.WIDTH wanted.now.limit wanted.now.most heaps.old heaps.new self.old self.new out.old out.new result }
     {
         record_laws::<R>();
         let first = self.has_run();
@@ -121,9 +115,7 @@ fn merge<R: Record>(
 )
     requires most { most ≤ out.old.room }
     requires few { length out.old.items ≤ most }
-    ensures moves { Moves R.Ord.cmp more limit heaps.old heaps.new extract.old extract.new out.old out.new }
-    ensures few { length out.new.items ≤ most }
-    ensures ended { HasEnded R.Ord.cmp most more limit (items_of heaps.new) extract.new.items out.new.items }
+    ensures { MergesTo R.Ord.cmp most more limit heaps.old heaps.new extract.old extract.new out.old out.new }
 {
     record_laws::<R>();
     'moving: while goes_on(extract, more, most, out) {
@@ -156,10 +148,7 @@ fn move_next<R: Record>(
 ) -> bool
     requires room { length out.old.items < out.old.room }
     requires whole { extract.old.items ≡ [] → more ≡ false }
-    ensures moves { Moves R.Ord.cmp more limit heaps.old heaps.new extract.old extract.new out.old out.new }
-    ensures one { result ≡ true → length out.new.items ≡ length out.old.items + 1 }
-    ensures none { result ≡ false → length out.new.items ≡ length out.old.items }
-    ensures ended { result ≡ false → Exhausted R.Ord.cmp more limit (items_of heaps.new) extract.new.items }
+    ensures { MovesNext R.Ord.cmp more limit heaps.old heaps.new extract.old extract.new out.old out.new result }
 {
     record_laws::<R>();
     let latest = heaps.min();
@@ -196,9 +185,7 @@ pub fn keep_below<R: Record>(one: Option<R>, limit: Option<R>) -> Option<R>
 
 // Empties a list of what was taken before an error.
 pub fn empty_on_error<R: Record>(answer: Result<(), QueueFault>, out: &mut Out<R>)
-    ensures kept { OnOk answer (out.new ≡ out.old) }
-    ensures emptied { OnErr answer (out.new.items ≡ []) }
-    ensures room { out.new.room ≡ out.old.room }
+    ensures { out.new ≡ spec.left_after answer out.old }
 {
     if answer.is_err() {
         out.clear();

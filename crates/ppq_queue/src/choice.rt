@@ -1,8 +1,6 @@
 //! Which of two least records goes first.
 ghost use Rattle.std.specs.Prelude.{◌≡◌};
-ghost use Rattle.ppq_heap.specs.Heaps.{items_of};
-ghost use Rattle.ppq_queue.specs.Stores.{HeapsStay};
-ghost use Rattle.ppq_queue.specs.Choice.{TookFirst};
+ghost use Rattle.ppq_queue.specs.Choice.{TakesFirst};
 ghost use Rattle.ppq_queue.specs.Choice as spec;
 
 use ppq_extract::Extract;
@@ -31,9 +29,7 @@ pub fn first_of_two<R: Record>(one: Option<R>, other: Option<R>) -> Option<R>
 // Takes the least record of heaps, or the first of an extract buffer: the one that goes first.
 #[inline]
 pub fn take_first<R: Record>(heaps: &mut Heaps<R>, extract: &mut Extract<R>) -> Option<R>
-    ensures took { TookFirst R.Ord.cmp (items_of heaps.old) (items_of heaps.new) extract.old.items extract.new.items result }
-    ensures heaps { HeapsStay heaps.old heaps.new }
-    ensures room { extract.new.room ≡ extract.old.room }
+    ensures { TakesFirst R.Ord.cmp heaps.old heaps.new extract.old extract.new result }
 {
     record_laws::<R>();
     if goes_first(heaps.min(), extract.front()) {

@@ -3,7 +3,7 @@ ghost use Rattle.std.specs.Prelude.{◌≡◌, ◌⊎◌, ◌≤◌, ◌<◌, �
 ghost use Rattle.ppq_extract.specs.ppq_budget.Sizes.{pool_of};
 ghost use Rattle.ppq_heap.specs.Heaps.{items_of, share_at};
 ghost use Rattle.ppq_spill.specs.Storing.{in_buffers};
-ghost use Rattle.ppq_queue.specs.Stores.{MayWork, StoreLeaves, HeapsStay, IsEmptied};
+ghost use Rattle.ppq_queue.specs.Stores.{MayWork, MayAdd, StoreLeaves, RestLeaves, HeapsLeave, IsHalfIdle};
 
 use crate::QueueFault;
 use crate::store::{Store, store_run};
@@ -24,9 +24,7 @@ impl<S: Slot + Send + Sync, R: Record + Send + Sync> Store<S, R> {
         requires works { MayWork S.shown R.Ord.cmp R.record_of R.WIDTH self.old }
         requires some { 0 < length heaps.old.heaps }
         requires heaps { length (items_of heaps.old) ≤ self.old.sizes.memory }
-        ensures leaves { StoreLeaves S.shown R.Ord.cmp R.record_of R.WIDTH (items_of heaps.old) (items_of heaps.new) self.old self.new result }
-        ensures heaps { HeapsStay heaps.old heaps.new }
-        ensures emptied { OnOk result (IsEmptied self.new) }
+        ensures leaves { HeapsLeave S.shown R.Ord.cmp R.record_of R.WIDTH heaps.old heaps.new self.old self.new result }
         ensures first { OnOk result (share_at heaps.new 0 ≡ []) }
     {
         self.store_extract(rt, gate)?;
@@ -38,8 +36,7 @@ impl<S: Slot + Send + Sync, R: Record + Send + Sync> Store<S, R> {
     where
         H::Dir: Send,
         requires works { MayWork S.shown R.Ord.cmp R.record_of R.WIDTH self.old }
-        ensures leaves { StoreLeaves S.shown R.Ord.cmp R.record_of R.WIDTH [] [] self.old self.new result }
-        ensures emptied { OnOk result (IsEmptied self.new) }
+        ensures { RestLeaves S.shown R.Ord.cmp R.record_of R.WIDTH self.old self.new result }
     {
         self.settle_some(rt, gate)?;
         self.store_rest(rt, gate)
@@ -56,8 +53,7 @@ impl<S: Slot + Send + Sync, R: Record + Send + Sync> Store<S, R> {
     where
         H::Dir: Send,
         requires works { MayWork S.shown R.Ord.cmp R.record_of R.WIDTH self.old }
-        ensures leaves { StoreLeaves S.shown R.Ord.cmp R.record_of R.WIDTH [] [] self.old self.new result }
-        ensures emptied { OnOk result (IsEmptied self.new) }
+        ensures rest { RestLeaves S.shown R.Ord.cmp R.record_of R.WIDTH self.old self.new result }
         ensures merged { merges ≡ true → OnOk result (pool_of self.new.sizes ≤ 2 * self.new.supply.sure_buffers) }
     {
         self.store_extract(rt, gate)?;
@@ -72,11 +68,9 @@ impl<S: Slot + Send + Sync, R: Record + Send + Sync> Store<S, R> {
     fn merge_buffers<H: Host, G: Gate>(&mut self, rt: &H, gate: &G) -> Result<(), QueueFault>
     where
         H::Dir: Send,
-        requires works { MayWork S.shown R.Ord.cmp R.record_of R.WIDTH self.old }
-        requires few { length self.old.body.runs.external.items ≤ 64 }
+        requires may { MayAdd S.shown R.Ord.cmp R.record_of R.WIDTH self.old }
         ensures leaves { StoreLeaves S.shown R.Ord.cmp R.record_of R.WIDTH [] [] self.old self.new result }
-        ensures few { OnOk result (length self.new.body.runs.external.items ≤ 64) }
-        ensures idle { OnOk result (pool_of self.new.sizes ≤ 2 * self.new.supply.sure_buffers) }
+        ensures idle { OnOk result (IsHalfIdle self.new) }
     {
         if !self.are_few_idle() {
             return Ok(());
@@ -105,10 +99,8 @@ impl<S: Slot + Send + Sync, R: Record + Send + Sync> Store<S, R> {
     fn store_rest<H: Host, G: Gate>(&mut self, rt: &H, gate: &G) -> Result<(), QueueFault>
     where
         H::Dir: Send,
-        requires works { MayWork S.shown R.Ord.cmp R.record_of R.WIDTH self.old }
-        requires few { length self.old.body.runs.external.items ≤ 64 }
-        ensures leaves { StoreLeaves S.shown R.Ord.cmp R.record_of R.WIDTH [] [] self.old self.new result }
-        ensures emptied { OnOk result (IsEmptied self.new) }
+        requires may { MayAdd S.shown R.Ord.cmp R.record_of R.WIDTH self.old }
+        ensures { RestLeaves S.shown R.Ord.cmp R.record_of R.WIDTH self.old self.new result }
     {
         if self.extract.is_empty() {
             return Ok(());

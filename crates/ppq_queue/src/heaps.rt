@@ -1,7 +1,7 @@
 //! Heaps that are stored as runs.
-ghost use Rattle.std.specs.Prelude.{◌≡◌, ◌≤◌, ◌<◌, [], length, OnOk};
-ghost use Rattle.ppq_heap.specs.Heaps.{items_of, share_at};
-ghost use Rattle.ppq_queue.specs.Stores.{MayWork, StoreLeaves, HeapsStay, ShareChanged, IsEmptied};
+ghost use Rattle.std.specs.Prelude.{◌≡◌, ◌<◌, [], length, OnOk};
+ghost use Rattle.ppq_heap.specs.Heaps.{ChangesOnly, items_of, share_at};
+ghost use Rattle.ppq_queue.specs.Stores.{MayStoreHeaps, HeapsLeave};
 
 use crate::QueueFault;
 use crate::store::{Store, store_run};
@@ -19,12 +19,8 @@ impl<S: Slot + Send + Sync, R: Record + Send + Sync> Store<S, R> {
     ) -> Result<(), QueueFault>
     where
         H::Dir: Send,
-        requires works { MayWork S.shown R.Ord.cmp R.record_of R.WIDTH self.old }
-        requires emptied { IsEmptied self.old }
-        requires heaps { length (items_of heaps.old) ≤ self.old.sizes.memory }
-        ensures leaves { StoreLeaves S.shown R.Ord.cmp R.record_of R.WIDTH (items_of heaps.old) (items_of heaps.new) self.old self.new result }
-        ensures heaps { HeapsStay heaps.old heaps.new }
-        ensures emptied { OnOk result (IsEmptied self.new) }
+        requires may { MayStoreHeaps S.shown R.Ord.cmp R.record_of R.WIDTH (items_of heaps.old) self.old }
+        ensures leaves { HeapsLeave S.shown R.Ord.cmp R.record_of R.WIDTH heaps.old heaps.new self.old self.new result }
         ensures none { OnOk result (items_of heaps.new ≡ []) }
     {
         let count = heaps.count();
@@ -44,13 +40,10 @@ impl<S: Slot + Send + Sync, R: Record + Send + Sync> Store<S, R> {
     ) -> Result<(), QueueFault>
     where
         H::Dir: Send,
-        requires works { MayWork S.shown R.Ord.cmp R.record_of R.WIDTH self.old }
-        requires emptied { IsEmptied self.old }
+        requires may { MayStoreHeaps S.shown R.Ord.cmp R.record_of R.WIDTH (items_of heaps.old) self.old }
         requires place { place < length heaps.old.heaps }
-        requires heaps { length (items_of heaps.old) ≤ self.old.sizes.memory }
-        ensures leaves { StoreLeaves S.shown R.Ord.cmp R.record_of R.WIDTH (items_of heaps.old) (items_of heaps.new) self.old self.new result }
-        ensures changed { ShareChanged place heaps.old heaps.new }
-        ensures emptied { OnOk result (IsEmptied self.new) }
+        ensures leaves { HeapsLeave S.shown R.Ord.cmp R.record_of R.WIDTH heaps.old heaps.new self.old self.new result }
+        ensures only { ChangesOnly place heaps.old heaps.new }
         ensures share { OnOk result (share_at heaps.new place ≡ []) }
     {
         record_laws::<R>();

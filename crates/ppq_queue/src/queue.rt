@@ -1,13 +1,13 @@
 //! The queue.
-ghost use Rattle.std.specs.Prelude.{◌≡◌, ◌≤◌, ◌<◌, ◌+◌, ◌-◌, ◌*◌, ◌↔◌, ◌∷◌, [], ℕ, length, map, All, Some, None, IsNone, IsOk, Err, IsErrOf, IfOk, IfErr, OnOk, OnErr, max, min, true, false};
-ghost use Rattle.ppq_heap.specs.ppq_record.Bag.{IsSameBag, least, front, without_front, size_below};
+ghost use Rattle.std.specs.Prelude.{◌≡◌, ◌≤◌, ◌<◌, ◌+◌, ◌*◌, ◌↔◌, ◌∷◌, [], ℕ, length, map, Some, None, IsNone, IsOk, Err, IsErrOf, IfOk, IfErr, OnOk, OnErr, max, min, true, false};
+ghost use Rattle.ppq_heap.specs.ppq_record.Bag.{IsSameBag, least};
 ghost use Rattle.ppq_extract.specs.ppq_budget.Sizes.{AreInRange, fixed_of, heap_of, heaps_of, batch_of, pool_of};
 ghost use Rattle.ppq_extract.specs.ppq_outside.Shown.{AllTell};
-ghost use Rattle.ppq_extract.specs.ppq_array.Kept.{SameSlots, SameSums, HasFailed, AreQuiet, all_writes};
+ghost use Rattle.ppq_extract.specs.ppq_array.Kept.{SameSlots, SameSums, HasFailed, all_writes};
 ghost use Rattle.ppq_extract.specs.ppq_array.declared.store_fault.StoreFault.TheVariants.{NoFreeBlock, Device};
 ghost use Rattle.ppq_queue.specs.Bulk.{IsEnd, EndsBy, BulkLeaves};
 ghost use Rattle.ppq_queue.specs.Handed.{holding_of, IsWhole};
-ghost use Rattle.ppq_queue.specs.Holding.{resident_of, with_one, IsAbove, NamesNeed, AreNewSlots, IsReady, IsRefusal, Keeps, Stays, SameRecords, QueueLeaves, HasAdded, HasTaken};
+ghost use Rattle.ppq_queue.specs.Holding.{resident_of, with_one, IsAbove, NamesNeed, AreNewSlots, IsReady, IsRefusal, IsLeast, TookLeast, Keeps, Stays, SameRecords, QueueLeaves, HasAdded, HasTaken, MayPut, MayStoreAll, AreStored};
 
 use crate::berths::{berth_slots, give_back};
 use crate::bulk::{empty_on_error, keep_below};
@@ -165,9 +165,7 @@ impl<S: Slot + Send + Sync, R: Record + Send + Sync> Queue<S, R> {
 
     // Adds a record to the first heap, which has room.
     fn put(&mut self, r: R)
-        requires sound { self.old.failed ≡ None }
-        requires room { self.old.in_first < heap_of self.old.sizes }
-        requires peak { self.old.size < self.old.peak }
+        requires may { MayPut self.old }
         ensures added { IsSameBag self.new.bag (r ∷ self.old.bag) }
         ensures rest { self.new ≡ record self.old { bag = self.new.bag; size = self.old.size + 1; in_heap = self.old.in_heap + 1; in_first = self.old.in_first + 1 } }
     {
@@ -198,7 +196,6 @@ impl<S: Slot + Send + Sync, R: Record + Send + Sync> Queue<S, R> {
         H::Dir: Send,
         ensures leaves { QueueLeaves self.old self.new result }
         ensures readied { OnOk result (IsReady self.new) }
-        ensures latched { (number : ℕ) → self.old.failed ≡ Some number → (result ≡ Err (Device number)) × (self.new ≡ self.old) }
     {
         if let Some(number) = self.failed {
             return Err(QueueFault::Device { number });
@@ -210,9 +207,8 @@ impl<S: Slot + Send + Sync, R: Record + Send + Sync> Queue<S, R> {
 
     // The least record of a queue whose extract buffer is ready.
     fn least(&self) -> Option<R>
-        requires ready { IsReady self.now }
-        ensures answer { AllTell self.now.slots → result ≡ least R.Ord.cmp self.now.bag }
-        ensures none { IsNone result ↔ (self.now.size ≡ 0) }
+        requires { IsReady self.now }
+        ensures { IsLeast R.Ord.cmp self.now result }
     {
         record_laws::<R>();
         first_of_two(self.heaps.min(), self.store.extract.front())
@@ -220,11 +216,8 @@ impl<S: Slot + Send + Sync, R: Record + Send + Sync> Queue<S, R> {
 
     // Takes the least record out of a queue whose extract buffer is ready.
     fn take_least(&mut self) -> Option<R>
-        requires ready { IsReady self.old }
-        ensures answer { AllTell self.old.slots → result ≡ least R.Ord.cmp self.old.bag }
-        ensures none { IsNone result ↔ (self.old.size ≡ 0) }
-        ensures rest { AllTell self.old.slots → IsSameBag self.new.bag (without_front R.Ord.cmp self.old.bag 1) }
-        ensures fields { self.new ≡ record self.old { bag = self.new.bag; size = self.old.size - 1; in_heap = self.new.in_heap; in_first = self.new.in_first; in_extract = self.new.in_extract } }
+        requires { IsReady self.old }
+        ensures { TookLeast R.Ord.cmp self.old self.new result }
     {
         record_laws::<R>();
         self.count = self.count.saturating_sub(1);
@@ -288,23 +281,12 @@ impl<S: Slot + Send + Sync, R: Record + Send + Sync> Queue<S, R> {
     where
         H::Dir: Send,
         requires room { out.old.room ≡ batch_of self.old.sizes }
-        ensures front { OnOk result (AllTell self.old.slots → out.new.items ≡ front R.Ord.cmp self.old.bag (min k (batch_of self.old.sizes))) }
-        ensures rest { OnOk result (AllTell self.old.slots → IsSameBag self.new.bag (without_front R.Ord.cmp self.old.bag (min k (batch_of self.old.sizes)))) }
+        ensures pops { BulkLeaves R.Ord.cmp None (min k (batch_of self.old.sizes)) self.old self.new out.old out.new result }
         ensures answer { IfOk result (λ n. n ≡ length out.new.items) }
-        ensures count { IfOk result (λ n. n ≡ min k (min self.old.size (batch_of self.old.sizes))) }
-        ensures size { OnOk result (self.new.size ≡ self.old.size - length out.new.items) }
-        ensures same_size { OnErr result (self.new.size ≡ self.old.size) }
-        ensures emptied { OnErr result (out.new.items ≡ []) }
-        ensures list_room { out.new.room ≡ out.old.room }
-        ensures sound { OnOk result (self.new.failed ≡ None) }
-        ensures quiet { OnOk result (AreQuiet self.old.slots self.new.slots) }
-        ensures refused { IfErr result (IsRefusal self.old self.new) }
-        ensures latched { (number : ℕ) → self.old.failed ≡ Some number → (result ≡ Err (Device number)) × (self.new ≡ self.old) }
-        ensures peak { self.new.peak ≡ self.old.peak }
-        ensures keeps { Keeps self.old self.new }
     {
         record_laws::<R>();
-        let most = k.min(u64::from(out.room())) as u32;
+        let room = u64::from(out.room());
+        let most = k.min(room) as u32;
         self.bulk(rt, None, most, out, gate)?;
         Ok(u64::from(out.len()))
     }
@@ -326,20 +308,8 @@ impl<S: Slot + Send + Sync, R: Record + Send + Sync> Queue<S, R> {
     where
         H::Dir: Send,
         requires room { out.old.room ≡ batch_of self.old.sizes }
-        ensures front { OnOk result (AllTell self.old.slots → out.new.items ≡ front R.Ord.cmp self.old.bag (min (min n (batch_of self.old.sizes)) (size_below R.Ord.cmp self.old.bag l))) }
-        ensures rest { OnOk result (AllTell self.old.slots → IsSameBag self.new.bag (without_front R.Ord.cmp self.old.bag (min (min n (batch_of self.old.sizes)) (size_below R.Ord.cmp self.old.bag l)))) }
+        ensures pops { BulkLeaves R.Ord.cmp (Some l) (min n (batch_of self.old.sizes)) self.old self.new out.old out.new result }
         ensures answer { IfOk result (λ end. AllTell self.old.slots → IsEnd R.Ord.cmp (batch_of self.old.sizes) n l out.new.items self.new.bag end) }
-        ensures few { length out.new.items ≤ min n (batch_of self.old.sizes) }
-        ensures size { OnOk result (self.new.size ≡ self.old.size - length out.new.items) }
-        ensures same_size { OnErr result (self.new.size ≡ self.old.size) }
-        ensures emptied { OnErr result (out.new.items ≡ []) }
-        ensures list_room { out.new.room ≡ out.old.room }
-        ensures sound { OnOk result (self.new.failed ≡ None) }
-        ensures quiet { OnOk result (AreQuiet self.old.slots self.new.slots) }
-        ensures refused { IfErr result (IsRefusal self.old self.new) }
-        ensures latched { (number : ℕ) → self.old.failed ≡ Some number → (result ≡ Err (Device number)) × (self.new ≡ self.old) }
-        ensures peak { self.new.peak ≡ self.old.peak }
-        ensures keeps { Keeps self.old self.new }
     {
         record_laws::<R>();
         let room = u64::from(out.room());
@@ -361,9 +331,7 @@ impl<S: Slot + Send + Sync, R: Record + Send + Sync> Queue<S, R> {
     where
         H::Dir: Send,
         requires most { most ≤ out.old.room }
-        ensures leaves { BulkLeaves R.Ord.cmp limit most self.old self.new out.new.items result }
-        ensures list_room { out.new.room ≡ out.old.room }
-        ensures latched { (number : ℕ) → self.old.failed ≡ Some number → (result ≡ Err (Device number)) × (self.new ≡ self.old) }
+        ensures { BulkLeaves R.Ord.cmp limit most self.old self.new out.old out.new result }
     {
         record_laws::<R>();
         out.clear();
@@ -480,14 +448,9 @@ impl<S: Slot + Send + Sync, R: Record + Send + Sync> Queue<S, R> {
     fn store_all<H: Host, G: Gate>(&mut self, rt: &H, gate: &G) -> Result<(), QueueFault>
     where
         H::Dir: Send,
-        requires sound { self.old.failed ≡ None }
-        requires emptied { self.old.in_extract ≡ 0 }
-        requires settled { self.old.runs ≤ 64 }
-        requires limited { self.old.limited ≡ true }
+        requires may { MayStoreAll self.old }
         ensures leaves { QueueLeaves self.old self.new result }
-        ensures emptied { self.new.in_extract ≡ 0 }
-        ensures heaps { OnOk result (self.new.in_heap ≡ 0) }
-        ensures settled { OnOk result (self.new.runs ≤ 64) }
+        ensures stored { OnOk result (AreStored self.new) }
     {
         let answer = self.store.store_heaps(rt, &mut self.heaps, gate);
         latch(&mut self.failed, answer);

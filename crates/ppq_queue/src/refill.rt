@@ -1,7 +1,7 @@
 //! An extract buffer that is made ready for the next pop.
-ghost use Rattle.std.specs.Prelude.{◌≡◌, ◌≤◌, ◌<◌, true, false, [], length, OnOk, IfErr};
+ghost use Rattle.std.specs.Prelude.{◌≡◌, ◌<◌, true, false, []};
 ghost use Rattle.ppq_queue.specs.Resting.{count_of};
-ghost use Rattle.ppq_queue.specs.Stores.{MayWork, StoreKept, Readies, Refuses, FailsAlone};
+ghost use Rattle.ppq_queue.specs.Stores.{MayWork, MayAdd, MakesReady, Refills};
 
 use crate::QueueFault;
 use crate::store::Store;
@@ -15,9 +15,7 @@ impl<S: Slot + Send + Sync, R: Record + Send + Sync> Store<S, R> {
     where
         H::Dir: Send,
         requires works { MayWork S.shown R.Ord.cmp R.record_of R.WIDTH self.old }
-        ensures kept { StoreKept S.shown self.old self.new }
-        ensures readied { OnOk result (Readies S.shown R.Ord.cmp R.record_of R.WIDTH self.old self.new) }
-        ensures refused { IfErr result (Refuses S.shown R.Ord.cmp R.record_of R.WIDTH [] [] self.old self.new) }
+        ensures { MakesReady S.shown R.Ord.cmp R.record_of R.WIDTH self.old self.new result }
     {
         if !self.has_run() || !self.extract.is_empty() {
             return Ok(());
@@ -40,13 +38,9 @@ impl<S: Slot + Send + Sync, R: Record + Send + Sync> Store<S, R> {
     pub fn refill<H: Host, G: Gate>(&mut self, rt: &H, gate: &G) -> Result<(), QueueFault>
     where
         H::Dir: Send,
-        requires works { MayWork S.shown R.Ord.cmp R.record_of R.WIDTH self.old }
+        requires may { MayAdd S.shown R.Ord.cmp R.record_of R.WIDTH self.old }
         requires empty { self.old.extract.items ≡ [] }
-        requires few { length self.old.body.runs.external.items ≤ 64 }
-        ensures kept { StoreKept S.shown self.old self.new }
-        ensures readied { OnOk result (Readies S.shown R.Ord.cmp R.record_of R.WIDTH self.old self.new) }
-        ensures few { OnOk result (length self.new.body.runs.external.items ≤ 64) }
-        ensures failed { IfErr result (FailsAlone S.shown self.new) }
+        ensures { Refills S.shown R.Ord.cmp R.record_of R.WIDTH self.old self.new result }
     {
         let answer = self.extract.refill(
             rt,

@@ -1,9 +1,7 @@
 //! Levels of runs that are merged until none has more than 8.
-ghost use Rattle.std.specs.Prelude.{◌≡◌, ◌≤◌, ◌<◌, ℕ, [], length, OnOk, IsErrOf};
-ghost use Rattle.ppq_extract.specs.ppq_array.declared.store_fault.StoreFault.TheVariants.{NoFreeBlock};
+ghost use Rattle.std.specs.Prelude.{◌≡◌, ◌≤◌, ◌<◌, length, OnOk};
 ghost use Rattle.ppq_spill.specs.Leveling.{count_level};
-ghost use Rattle.ppq_queue.specs.Resting.{crowd_of};
-ghost use Rattle.ppq_queue.specs.Stores.{MayWork, StoreLeaves, LevelsLeave};
+ghost use Rattle.ppq_queue.specs.Stores.{MayWork, LevelLeaves, Settles};
 
 use crate::QueueFault;
 use crate::store::Store;
@@ -17,9 +15,7 @@ impl<S: Slot + Send + Sync, R: Record + Send + Sync> Store<S, R> {
     where
         H::Dir: Send,
         requires works { MayWork S.shown R.Ord.cmp R.record_of R.WIDTH self.old }
-        ensures leaves { StoreLeaves S.shown R.Ord.cmp R.record_of R.WIDTH [] [] self.old self.new result }
-        ensures few { OnOk result (length self.new.body.runs.external.items ≤ 64) }
-        ensures crowded { IsErrOf result NoFreeBlock → 8 < crowd_of self.new.body.runs.external.items }
+        ensures { Settles S.shown R.Ord.cmp R.record_of R.WIDTH self.old self.new result }
     {
         if !self.has_run() {
             return Ok(());
@@ -33,8 +29,7 @@ impl<S: Slot + Send + Sync, R: Record + Send + Sync> Store<S, R> {
     where
         H::Dir: Send,
         requires works { MayWork S.shown R.Ord.cmp R.record_of R.WIDTH self.old }
-        ensures levels { LevelsLeave S.shown R.Ord.cmp R.record_of R.WIDTH self.old self.new result }
-        ensures few { OnOk result (length self.new.body.runs.external.items ≤ 64) }
+        ensures { Settles S.shown R.Ord.cmp R.record_of R.WIDTH self.old self.new result }
     {
         for level in 0..8 {
             self.settle_level(rt, level, gate)?;
@@ -53,9 +48,8 @@ impl<S: Slot + Send + Sync, R: Record + Send + Sync> Store<S, R> {
         H::Dir: Send,
         requires works { MayWork S.shown R.Ord.cmp R.record_of R.WIDTH self.old }
         requires level { level ≤ 7 }
-        ensures levels { LevelsLeave S.shown R.Ord.cmp R.record_of R.WIDTH self.old self.new result }
+        ensures leaves { LevelLeaves S.shown R.Ord.cmp R.record_of R.WIDTH level self.old self.new result }
         ensures level { OnOk result (count_level level self.new.body.runs.external.items ≤ 8) }
-        ensures lower { OnOk result ((j : ℕ) → j < level → count_level j self.new.body.runs.external.items ≡ count_level j self.old.body.runs.external.items) }
     {
         while count_at(&self.body.runs.external, level) > 8 {
             self.merge_once(rt, level, gate)?;
@@ -75,9 +69,8 @@ impl<S: Slot + Send + Sync, R: Record + Send + Sync> Store<S, R> {
         requires works { MayWork S.shown R.Ord.cmp R.record_of R.WIDTH self.old }
         requires level { level ≤ 7 }
         requires more { 8 < count_level level self.old.body.runs.external.items }
-        ensures levels { LevelsLeave S.shown R.Ord.cmp R.record_of R.WIDTH self.old self.new result }
+        ensures leaves { LevelLeaves S.shown R.Ord.cmp R.record_of R.WIDTH level self.old self.new result }
         ensures fewer { OnOk result (length self.new.body.runs.external.items < length self.old.body.runs.external.items) }
-        ensures lower { OnOk result ((j : ℕ) → j < level → count_level j self.new.body.runs.external.items ≡ count_level j self.old.body.runs.external.items) }
     {
         let answer = merge_level(
             rt,

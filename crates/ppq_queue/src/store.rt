@@ -1,10 +1,10 @@
 //! The runs of a queue with all that works on them, and the first of their records.
-ghost use Rattle.std.specs.Prelude.{◌≡◌, ◌≤◌, ◌<◌, [], length, OnOk};
+ghost use Rattle.std.specs.Prelude.{◌≡◌, ◌<◌, [], length, OnOk};
 ghost use Rattle.ppq_heap.specs.ppq_record.Order.{Ascends};
 ghost use Rattle.ppq_extract.specs.ppq_outside.Shown.{AllTell};
 ghost use Rattle.ppq_spill.specs.Storing.{in_buffers};
 ghost use Rattle.ppq_queue.specs.Resting.{slots_of};
-ghost use Rattle.ppq_queue.specs.Stores.{RunMayCome, RunLeaves, MayWork, StoreLeaves};
+ghost use Rattle.ppq_queue.specs.Stores.{RunMayCome, RunLeaves, MayAdd, StoreLeaves};
 
 use crate::QueueFault;
 use ppq_extract::{Extract, Host, OwnerLists, Sizes, Slot, Sources};
@@ -31,8 +31,7 @@ impl<S: Slot + Send + Sync, R: Record + Send + Sync> Store<S, R> {
     pub fn merge_runs<H: Host>(&mut self, rt: &H) -> Result<(), QueueFault>
     where
         H::Dir: Send,
-        requires works { MayWork S.shown R.Ord.cmp R.record_of R.WIDTH self.old }
-        requires few { length self.old.body.runs.external.items ≤ 64 }
+        requires may { MayAdd S.shown R.Ord.cmp R.record_of R.WIDTH self.old }
         requires some { 0 < in_buffers self.old.body }
         ensures leaves { StoreLeaves S.shown R.Ord.cmp R.record_of R.WIDTH [] [] self.old self.new result }
         ensures none { OnOk result (self.new.body.runs.internal.items ≡ []) }

@@ -3,15 +3,12 @@ use Rattle.ppq_heap.specs.Heaps.{items_of}
 use Rattle.ppq_queue.specs.Bulk as spec
 use Rattle.ppq_queue.specs.Bulk.{Merged}
 use Rattle.ppq_queue.proofs.Ready.{popped_fewer}
-use Rattle.ppq_queue.proofs.Merging.{moves-same, kept_by, first_by, heap_moved, extract_moved, heap_ended, extract_ended}
+use Rattle.ppq_queue.proofs.Merging.{moves-none, moves-one, kept_by, first_by, heap_moved, extract_moved, heap_ended, extract_ended}
 use Rattle.ppq_queue.proofs.Stores.{heaps-same}
 use Rattle.ppq_queue.proofs.bulk.move_next.Goals as goal
 
-pub returns-in_default-clause-moves : goal.returns-in_default-clause-moves
-returns-in_default-clause-moves g c = moves-same
-
-pub returns-in_default-clause-ended : goal.returns-in_default-clause-ended
-returns-in_default-clause-ended g c none =
+pub returns-in_default : goal.returns-in_default
+returns-in_default g c =
     let laws = c.record_laws.ensures in
     let cmp = g.R.Ord.cmp in
     let one = c.min-latest.result in
@@ -19,10 +16,10 @@ returns-in_default-clause-ended g c none =
     let e = c.args.extract.now.items in
     let first = first_by cmp e one c.front-stored.result c.goes_first.result _ c.front-stored.ensures c.goes_first.ensures c.if-goes_first.true in
     let kept = kept_by cmp limit one c.keep_below.result None c.keep_below.ensures c.in_default.is in
-    heap_ended laws.order laws.same c.args.more limit limit (items_of c.args.heaps.now) e one c.min-latest.ensures.value first kept c.requires.whole
+    moves-none (heap_ended laws.order laws.same c.args.more limit limit (items_of c.args.heaps.now) e one c.min-latest.ensures.value first kept c.requires.whole)
 
-pub returns-then-goes_first-clause-moves : goal.returns-then-goes_first-clause-moves
-returns-then-goes_first-clause-moves g c =
+pub returns-then-goes_first : goal.returns-then-goes_first
+returns-then-goes_first g c =
     let laws = c.record_laws.ensures in
     let cmp = g.R.Ord.cmp in
     let one = c.min-latest.result in
@@ -36,17 +33,10 @@ returns-then-goes_first-clause-moves g c =
     let first = first_by cmp e one c.front-stored.result c.goes_first.result _ c.front-stored.ensures c.goes_first.ensures c.if-goes_first.true in
     let kept = kept_by cmp limit one c.keep_below.result (Some next) c.keep_below.ensures c.in-Some.is in
     let moved = heap_moved laws.order laws.same c.args.more limit h h' e out one c.pop.result next c.min-latest.ensures.value pop.value pop.taken first kept c.requires.whole in
-    record {
-      merged = subst (λ l. Merged cmp c.args.more limit h h' e e out l) (sym (ap (λ o. o.items) c.push.ensures)) moved;
-      heaps = record { count = pop.count; cap = pop.cap; fewer = popped_fewer h h' c.pop.result (λ none. ap items_of (pop.same none)) pop.taken };
-      rooms = record { first = refl; list = ap (λ o. o.room) c.push.ensures };
-    }
+    moves-one c.args.out.now next c.push.ensures moved (record { count = pop.count; cap = pop.cap; fewer = popped_fewer h h' c.pop.result (λ none. ap items_of (pop.same none)) pop.taken }) refl
 
-pub returns-in_default-keep_below-clause-moves : goal.returns-in_default-keep_below-clause-moves
-returns-in_default-keep_below-clause-moves g c = moves-same
-
-pub returns-in_default-keep_below-clause-ended : goal.returns-in_default-keep_below-clause-ended
-returns-in_default-keep_below-clause-ended g c none =
+pub returns-in_default-keep_below : goal.returns-in_default-keep_below
+returns-in_default-keep_below g c =
     let laws = c.record_laws.ensures in
     let cmp = g.R.Ord.cmp in
     let one = c.min-latest.result in
@@ -54,10 +44,10 @@ returns-in_default-keep_below-clause-ended g c none =
     let e = c.args.extract.now.items in
     let first = first_by cmp e one c.front-stored.result c.goes_first.result _ c.front-stored.ensures c.goes_first.ensures c.if-goes_first.false in
     let kept = sym (ap (λ x. spec.kept_below cmp x limit) c.front-stored.ensures) ∙ kept_by cmp limit c.front-stored.result c.keep_below-2.result None c.keep_below-2.ensures c.in_default-keep_below.is in
-    extract_ended laws.order laws.same c.args.more limit limit (items_of c.args.heaps.now) e one c.min-latest.ensures.value first kept c.requires.whole
+    moves-none (extract_ended laws.order laws.same c.args.more limit limit (items_of c.args.heaps.now) e one c.min-latest.ensures.value first kept c.requires.whole)
 
-pub returns-clause-moves : goal.returns-clause-moves
-returns-clause-moves g c =
+pub returns : goal.returns
+returns g c =
     let laws = c.record_laws.ensures in
     let cmp = g.R.Ord.cmp in
     let one = c.min-latest.result in
@@ -70,8 +60,4 @@ returns-clause-moves g c =
     let kept = sym (ap (λ x. spec.kept_below cmp x limit) c.front-stored.ensures) ∙ kept_by cmp limit c.front-stored.result c.keep_below-2.result (Some next) c.keep_below-2.ensures c.in-Some-keep_below.is in
     let moved = extract_moved laws.order laws.same c.args.more limit h e out one next c.min-latest.ensures.value first kept in
     let there = subst (λ l. Merged cmp c.args.more limit h h e l out (out ++ next ∷ [])) (sym (ap (λ x. x.items) c.pop-2.ensures.rest)) moved in
-    record {
-      merged = subst (λ l. Merged cmp c.args.more limit h h e c.pop-2.new.self.items out l) (sym (ap (λ o. o.items) c.push-2.ensures)) there;
-      heaps = heaps-same;
-      rooms = record { first = ap (λ v. v.room) c.pop-2.ensures.rest; list = ap (λ o. o.room) c.push-2.ensures };
-    }
+    moves-one c.args.out.now next c.push-2.ensures there heaps-same (ap (λ v. v.room) c.pop-2.ensures.rest)

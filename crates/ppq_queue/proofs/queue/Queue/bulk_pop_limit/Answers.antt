@@ -1,14 +1,28 @@
-use Rattle.std.proofs.Common.{◌≡◌, ◌∙◌, subst, arith}
+use Rattle.std.proofs.Common.{◌≡◌, ◌∙◌, Some, refl, subst, arith}
 use Rattle.std.specs.Prelude.{min}
 use Rattle.ppq_extract.specs.ppq_budget.Sizes.{batch_of}
 use Rattle.ppq_queue.specs.Bulk.{IsEnd}
 use Rattle.ppq_queue.proofs.Ends.{end_is}
+use Rattle.ppq_queue.proofs.Calls.{bulk-at, bulk-given, bulk-answered}
 use Rattle.ppq_queue.proofs.queue.Queue.bulk_pop_limit.Goals as goal
+
+pub returns-in_err-bulk-clause-pops : goal.returns-in_err-bulk-clause-pops
+returns-in_err-bulk-clause-pops g c =
+    let most : c.min-most.result ≡ min c.args.n (batch_of c.args.self.now.sizes) = omega (arith, c.min-most.ensures, c.from-room.ensures, c.room.ensures, c.requires.room) in
+    bulk-at most (bulk-given c.from_residual.ensures.1 c.in_err-bulk.ensures)
+
+pub limit_end-requires-clause-ready : goal.limit_end-requires-clause-ready
+limit_end-requires-clause-ready g c κs within = (let took = c.in_ok-bulk.ensures.took in record { sound = took.sound; some = took.ready c.args.l refl })
+
+pub returns-clause-pops : goal.returns-clause-pops
+returns-clause-pops g c =
+    let most : c.min-most.result ≡ min c.args.n (batch_of c.args.self.now.sizes) = omega (arith, c.min-most.ensures, c.from-room.ensures, c.room.ensures, c.requires.room) in
+    bulk-at most (bulk-answered c.in_ok-bulk.ensures)
 
 pub returns-clause-answer : goal.returns-clause-answer
 returns-clause-answer g c tell =
     let laws = c.record_laws.ensures in
-    let left = c.in_ok-bulk.ensures.leaves in
+    let left = c.in_ok-bulk.ensures in
     let out = c.bulk.new.out.items in
     let bag = c.bulk.new.self.bag in
     let most : c.min-most.result ≡ min c.args.n c.from-room.result = omega (arith, c.min-most.ensures) in

@@ -2,7 +2,7 @@ use Rattle.std.proofs.Common.{ap, sym, ◌∙◌, length, subst, arith}
 use Rattle.ppq_queue.specs.Holding.{IsAbove}
 use Rattle.ppq_queue.proofs.Bounds.{heaps_within}
 use Rattle.ppq_queue.proofs.Moves.{ok-map}
-use Rattle.ppq_queue.proofs.Calls.{may_work, called}
+use Rattle.ppq_queue.proofs.Calls.{may_work, called-heaps}
 use Rattle.ppq_queue.proofs.queue.Queue.flush.Goals as goal
 
 pub flush_all-answer-requires-clause-works : goal.flush_all-answer-requires-clause-works
@@ -20,9 +20,8 @@ pub invariant_of-self : goal.invariant_of-self
 invariant_of-self g c =
     let view = c.self.view_is in
     let m = c.flush_all-answer in
-    let e = m.ensures in
     let above = subst (λ q. IsAbove q.sizes q.peak q.limited) (sym view) c.requires.above in
-    ((called c.self.invariant.0 (ap (λ q. q.failed) view ∙ c.requires.sound) m.result view c.latch.ensures e.leaves.stays.kept e.heaps (λ more. above) (λ err. above) e.leaves.holds e.leaves.refused).0, c.self.invariant.1)
+    ((called-heaps c.self.invariant.0 (ap (λ q. q.failed) view ∙ c.requires.sound) m.result view c.latch.ensures above m.ensures.leaves).0, c.self.invariant.1)
 
 pub returns : goal.returns
 returns g c =
@@ -31,6 +30,6 @@ returns g c =
     let e = m.ensures in
     let above = subst (λ q. IsAbove q.sizes q.peak q.limited) (sym view) c.requires.above in
     record {
-      leaves = (called c.self.invariant.0 (ap (λ q. q.failed) view ∙ c.requires.sound) m.result view c.latch.ensures e.leaves.stays.kept e.heaps (λ more. above) (λ err. above) e.leaves.holds e.leaves.refused).1;
+      leaves = (called-heaps c.self.invariant.0 (ap (λ q. q.failed) view ∙ c.requires.sound) m.result view c.latch.ensures above e.leaves).1;
       emptied = ok-map m.result (λ d. ap length d) e.first;
     }

@@ -10,6 +10,6 @@ returns g c =
     let view = c.self.view_is in
     let first = c.first_of_two.ensures ∙ ap₂ (λ a b. first_of_two g.R.Ord.cmp a b) c.min.ensures.value c.front.ensures in
     record {
-      answer = λ tell. least_of_all c.self.invariant.0 view c.requires.ready laws.order laws.same c.first_of_two.result first tell ∙ ap (λ q. least g.R.Ord.cmp q.bag) view;
-      none = none_of_all c.self.invariant.0 view c.requires.ready laws.order laws.same c.first_of_two.result first;
+      answer = λ tell. least_of_all c.self.invariant.0 view c.requires laws.order laws.same c.first_of_two.result first tell ∙ ap (λ q. least g.R.Ord.cmp q.bag) view;
+      none = none_of_all c.self.invariant.0 view c.requires laws.order laws.same c.first_of_two.result first;
     }

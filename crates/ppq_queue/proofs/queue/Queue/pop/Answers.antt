@@ -1,15 +1,18 @@
-use Rattle.std.proofs.Common.{◌-◌, ◌∙◌, take, drop, ap}
-use Rattle.std.specs.Prelude.{count_by}
+use Rattle.std.proofs.Common.{◌≡◌, ◌-◌, ◌∙◌, take, drop, ap, subst}
+use Rattle.std.specs.Prelude.{◌↔◌, IsNone, count_by}
 use Rattle.ppq_extract.specs.ppq_array.Kept.{all_faults}
 use Rattle.ppq_heap.specs.ppq_record.Bag.{first_of}
 use Rattle.ppq_heap.proofs.ppq_record.Fronts.{ascending-same_bag}
 use Rattle.ppq_queue.proofs.Flushed.{keeps-slots, keeps-more}
 use Rattle.ppq_queue.proofs.queue.Queue.pop.Goals as goal
 
+pub returns-clause-none : goal.returns-clause-none
+returns-clause-none g c = subst (λ k. IsNone c.take_least.result ↔ (k ≡ 0)) c.in_ok-ready.ensures.leaves.same.size c.take_least.ensures.least.none
+
 pub returns-clause-answer : goal.returns-clause-answer
 returns-clause-answer g c tell =
     let laws = c.record_laws.ensures in
-    c.take_least.ensures.answer (c.ready.ensures.leaves.stays.keeps.tells tell) ∙ ap (λ l. first_of (take 1 l)) (ascending-same_bag laws.order laws.same c.ready.new.self.bag c.args.self.now.bag (c.in_ok-ready.ensures.leaves.same.bag tell))
+    c.take_least.ensures.least.answer (c.ready.ensures.leaves.stays.keeps.tells tell) ∙ ap (λ l. first_of (take 1 l)) (ascending-same_bag laws.order laws.same c.ready.new.self.bag c.args.self.now.bag (c.in_ok-ready.ensures.leaves.same.bag tell))
 
 pub returns-clause-taken : goal.returns-clause-taken
 returns-clause-taken g c =

@@ -11,6 +11,13 @@ use Rattle.ppq_queue.proofs.queue.Queue.push.Goals as goal
 pub returns-in-Some-clause-keeps : goal.returns-in-Some-clause-keeps
 returns-in-Some-clause-keeps g c = (let raised = c.raise_peak.ensures in keeps-slots c.args.self.now c.raise_peak.new.self (ap (λ q. q.sizes) raised) (ap (λ q. q.limited) raised) (ap (λ q. q.slots) raised))
 
+pub put-requires-clause-may : goal.put-requires-clause-may
+put-requires-clause-may g c κs within =
+    let raised = c.raise_peak.ensures in
+    let e = c.in-Ok.ensures in
+    let stays = c.make_room.ensures.leaves.stays in
+    record { sound = e.leaves.same.sound; room = e.room; peak = omega (arith, stays.size, stays.peak, ap (λ q. q.size) raised, ap (λ q. q.peak) raised) }
+
 pub returns-in-Err-clause-refused : goal.returns-in-Err-clause-refused
 returns-in-Err-clause-refused g c = refusal-raised c.args.self.now c.make_room.new.self _ c.in-Err.fault (subst (λ q. IsRefusal q c.make_room.new.self c.in-Err.fault) c.raise_peak.ensures c.in-Err.ensures.leaves.refused)
 

@@ -19,8 +19,8 @@ invariant_of-self g c =
     let view = c.self.view_is in
     let push = c.try_push.ensures in
     let now = c.try_push.new.self in
-    let sound = stands.sound (ap (λ q. q.failed) view ∙ c.requires.sound) in
-    let room : length (share_at s.heaps 0) < s.heaps.cap = omega (arith, c.requires.room, ap (λ q. q.in_first) view, ap (λ q. q.sizes.heap * q.sizes.block) view, i.cap) in
+    let sound = stands.sound (ap (λ q. q.failed) view ∙ c.requires.may.sound) in
+    let room : length (share_at s.heaps 0) < s.heaps.cap = omega (arith, c.requires.may.room, ap (λ q. q.in_first) view, ap (λ q. q.sizes.heap * q.sizes.block) view, i.cap) in
     let added = has_room c.try_push.result (length (share_at s.heaps 0)) s.heaps.cap room push.full.0 push.added in
     let long : length (items_of now) ≡ length (items_of s.heaps) + 1 = omega (arith, IsSameBag-length (items_of now) (c.args.r ∷ items_of s.heaps) added) in
     let heaps : length now.heaps ≡ s.store.sizes.workers = push.others.count ∙ i.shares in
@@ -28,7 +28,7 @@ invariant_of-self g c =
     let within : length (items_of now) ≤ s.store.sizes.workers * (s.store.sizes.heap * s.store.sizes.block) = subst (λ k. length (items_of now) ≤ k) (ap₂ (λ a b. a * b) heaps cap) (all_within now c.known.ensures) in
     let most = records_most g.S.Slot.shown g.R.Ord.cmp g.R.Record.record_of g.R.Record.WIDTH s.store.sizes s.store.body s.store.supply sound.rest i.range i.budget (length (items_of now)) (length s.store.extract.items) within i.in_extract in (
       record {
-        queue = queue-counts i push.others.cap push.others.count within refl i.in_extract (omega (arith, c.requires.peak, ap (λ q. q.size) view, ap (λ q. q.peak) view)) i.most (omega (arith, most, long, sound.counted));
+        queue = queue-counts i push.others.cap push.others.count within refl i.in_extract (omega (arith, c.requires.may.peak, ap (λ q. q.size) view, ap (λ q. q.peak) view)) i.most (omega (arith, most, long, sound.counted));
         sound = λ none. sound-counts sound (omega (arith, sound.counted, long)) sound.ascends sound.order (λ more. sound.above (omega (arith, more, long)));
         slots_room = stands.slots_room;
       },
@@ -43,7 +43,7 @@ returns-clause-added g c p =
     let push = c.try_push.ensures in
     let old = items_of s.heaps in
     let new = items_of c.try_push.new.self in
-    let room : length (share_at s.heaps 0) < s.heaps.cap = omega (arith, c.requires.room, ap (λ q. q.in_first) view, ap (λ q. q.sizes.heap * q.sizes.block) view, i.cap) in
+    let room : length (share_at s.heaps 0) < s.heaps.cap = omega (arith, c.requires.may.room, ap (λ q. q.in_first) view, ap (λ q. q.sizes.heap * q.sizes.block) view, i.cap) in
     let added = has_room c.try_push.result (length (share_at s.heaps 0)) s.heaps.cap room push.full.0 push.added in
     let runs = runs_bag g.S.Slot.shown g.R.Record.record_of g.R.Record.WIDTH s.store.body in
     omega (
@@ -71,7 +71,7 @@ returns-clause-rest g c =
     let new = items_of c.try_push.new.self in
     let one = share_at s.heaps 0 in
     let one' = share_at c.try_push.new.self 0 in
-    let room : length one < s.heaps.cap = omega (arith, c.requires.room, ap (λ q. q.in_first) view, ap (λ q. q.sizes.heap * q.sizes.block) view, i.cap) in
+    let room : length one < s.heaps.cap = omega (arith, c.requires.may.room, ap (λ q. q.in_first) view, ap (λ q. q.sizes.heap * q.sizes.block) view, i.cap) in
     let heap : length new ≡ length old + 1 = IsSameBag-length new (c.args.r ∷ old) (has_room c.try_push.result (length one) s.heaps.cap room push.full.0 push.added) ∙ omega arith in
     let first : length one' ≡ length one + 1 = IsSameBag-length one' (c.args.r ∷ one) (has_room c.try_push.result (length one) s.heaps.cap room push.full.0 push.share) ∙ omega arith in
     let bag = new ++ s.store.extract.items ++ runs_bag shown record_of width s.store.body in

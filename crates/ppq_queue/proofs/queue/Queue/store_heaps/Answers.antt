@@ -1,4 +1,4 @@
-use Rattle.std.proofs.Common.{subst}
+use Rattle.std.proofs.Common.{◌∙◌, ap, subst}
 use Rattle.ppq_queue.specs.Holding.{Stays, SameRecords, IsRefusal}
 use Rattle.ppq_queue.proofs.Moves.{ok-map}
 use Rattle.ppq_queue.proofs.Stores.{err-map, on_given}
@@ -13,6 +13,20 @@ returns-in_err-begin_session-clause-refused g c =
     let begun = c.begin_session.new.self in
     let e = c.in_err-begin_session.field-0.0 in
     on_given (IsRefusal c.args.self.now begun) c.from_residual.result e c.from_residual.ensures.1 (refusal-limited c.args.self.now begun e (subst (λ q. IsRefusal q begun e) c.note_limit.ensures c.in_err-begin_session.ensures.refused))
+
+pub store_all-requires-clause-may : goal.store_all-requires-clause-may
+store_all-requires-clause-may g c κs within =
+    let begun = c.in_ok-begin_session.ensures in
+    record { sound = begun.same.sound; emptied = begun.emptied; settled = begun.settled; limited = c.begin_session.ensures.stays.keeps.limited ∙ ap (λ q. q.limited) c.note_limit.ensures }
+
+pub returns-clause-emptied : goal.returns-clause-emptied
+returns-clause-emptied g c = ok-map c.store_all.result (λ all. all.emptied) c.store_all.ensures.stored
+
+pub returns-clause-heaps : goal.returns-clause-heaps
+returns-clause-heaps g c = ok-map c.store_all.result (λ all. all.heaps) c.store_all.ensures.stored
+
+pub returns-clause-settled : goal.returns-clause-settled
+returns-clause-settled g c = ok-map c.store_all.result (λ all. all.settled) c.store_all.ensures.stored
 
 pub returns-clause-same : goal.returns-clause-same
 returns-clause-same g c =

@@ -18,21 +18,21 @@ refilling-init g c =
     let limit = c.args.wanted.now.limit in
     let most = c.args.wanted.now.most in
     let x = c.args.self.now in
-    let works = c.requires.works in
+    let works = c.requires.may.works in
     let h = items_of c.args.heaps.now in
     let m = c.merge in
     let v = m.new.extract in
     let out = m.new.out.items in
     let left = items_of m.new.heaps in
     let more = c.has_run-first.result in
-    let merged = subst (λ l. Merged cmp more limit h left x.extract.items v.items l out) c.requires.none m.ensures.moves.merged in
+    let merged = subst (λ l. Merged cmp more limit h left x.extract.items v.items l out) c.requires.list.none m.ensures.moves.merged in
     let took = took-merged shown order record_of width limit most h h left x x v [] out more kept-same (took-none shown order record_of width limit most h x works) c.has_run-first.ensures.none merged m.ensures.moves.rooms.first m.ensures.few in
     record {
       kept = kept-step x x.body x.supply v x.sources (kept-refl shown x.body x.supply) works.runs.no_row same-sources m.ensures.moves.rooms.first (λ within. omega (arith, within, m.ensures.moves.merged.fewer, m.ensures.moves.rooms.first));
       heaps = m.ensures.moves.heaps;
       took = took;
       stands = stands-ended shown order record_of width limit most left (record x { extract = v }) out more took.works c.has_run-first.ensures.some c.has_run-first.ensures.none m.ensures.ended;
-      few = c.requires.few;
+      few = c.requires.may.few;
       list_room = m.ensures.moves.rooms.list;
     }
 
@@ -42,6 +42,9 @@ refilling-smaller g c =
     let r = c.in_ok-refill.ensures.readied in
     let empty = w.empty c.refilling-test.true in
     smaller c.refill.new.self.extract.items (count_of c.refill.new.self.body) (count_of c.refilling.self.body) (omega (arith, r.holds.count, ap length empty)) (w.some c.refilling-test.true) r.some
+
+pub refill-requires-clause-may : goal.refill-requires-clause-may
+refill-requires-clause-may g c κs within = (let i = c.refilling.invariant in record { works = i.took.works; few = i.few })
 
 pub refilling-preserved : goal.refilling-preserved
 refilling-preserved g c =
@@ -84,14 +87,12 @@ returns-in_err-refill g c =
     let given = c.from_residual.ensures.1 in
     let failed = on_given (FailsAlone g.S.Slot.shown c.refill.new.self) c.from_residual.result c.in_err-refill.field-0.0 given c.in_err-refill.ensures.failed in
     record {
-      takes = record {
-        kept = kept-more i.kept c.refill.ensures.kept;
-        heaps = i.heaps;
-        took = not_ok _ _ _ given;
-        same_heaps = alone (FailsAlone g.S.Slot.shown c.refill.new.self) c.from_residual.result failed (λ never. never);
-        refused = err-map c.from_residual.result (refused-alone g.S.Slot.shown g.R.Ord.cmp g.R.Record.record_of g.R.Record.WIDTH [] [] c.args.self.now c.refill.new.self) failed;
-      };
+      kept = kept-more i.kept c.refill.ensures.kept;
+      heaps = i.heaps;
       list_room = i.list_room;
+      took = not_ok _ _ _ given;
+      same_heaps = alone (FailsAlone g.S.Slot.shown c.refill.new.self) c.from_residual.result failed (λ never. never);
+      refused = err-map c.from_residual.result (refused-alone g.S.Slot.shown g.R.Ord.cmp g.R.Record.record_of g.R.Record.WIDTH [] [] c.args.self.now c.refill.new.self) failed;
     }
 
 pub returns : goal.returns
@@ -99,4 +100,4 @@ returns g c =
     let l = c.refilling in
     let i = l.invariant in
     let took = took-all g.S.Slot.shown c.record_laws.ensures.order g.R.Record.record_of g.R.Record.WIDTH c.args.wanted.now.limit c.args.wanted.now.most (items_of c.args.heaps.now) (items_of l.heaps) c.args.self.now l.self l.out.items i.stands i.took (c.wants_refill.ensures.ready c.refilling-test.false) in
-    record { takes = record { kept = i.kept; heaps = i.heaps; took = took; same_heaps = λ err. cc; refused = tt }; list_room = i.list_room }
+    record { kept = i.kept; heaps = i.heaps; list_room = i.list_room; took = took; same_heaps = λ err. cc; refused = tt }

@@ -14,6 +14,9 @@ returns-in_err-settle g c =
       refused = on_given (Refuses g.S.Slot.shown g.R.Ord.cmp g.R.Record.record_of g.R.Record.WIDTH [] [] c.args.self.now c.settle.new.self) c.from_residual.result e given c.in_err-settle.ensures.levels.leaves.refused;
     }
 
+pub refill-requires-clause-may : goal.refill-requires-clause-may
+refill-requires-clause-may g c κs within = (let e = c.in_ok-settle.ensures in record { works = e.levels.leaves.holds.works; few = e.few })
+
 pub returns : goal.returns
 returns g c =
     let kept = c.settle.ensures.levels.leaves.stays.kept in

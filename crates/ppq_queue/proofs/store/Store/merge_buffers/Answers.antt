@@ -1,23 +1,25 @@
 use Rattle.std.proofs.Common.{ap, inl, ◌∙◌}
 use Rattle.ppq_queue.proofs.Bounds.{half_idle}
-use Rattle.ppq_queue.proofs.Moves.{ok-map}
+use Rattle.ppq_queue.proofs.Moves.{ok-map2}
 use Rattle.ppq_queue.proofs.Stores.{leaves-same, leaves-after, leaves-given, not_ok}
 use Rattle.ppq_queue.proofs.store.Store.merge_buffers.Goals as goal
 
 pub returns-then-not-are_few_idle : goal.returns-then-not-are_few_idle
 returns-then-not-are_few_idle g c =
     let x = c.args.self.now in
-    let works = c.requires.works in
+    let works = c.requires.may.works in
     record {
       leaves = leaves-same works;
-      few = c.requires.few;
-      idle = half_idle g.S.Slot.shown g.R.Ord.cmp g.R.Record.record_of g.R.Record.WIDTH x.sizes x.body x.supply works.runs.rest (c.are_few_idle.ensures.enough c.if-not-are_few_idle.true);
+      idle = record {
+        few = c.requires.may.few;
+        idle = half_idle g.S.Slot.shown g.R.Ord.cmp g.R.Record.record_of g.R.Record.WIDTH x.sizes x.body x.supply works.runs.rest (c.are_few_idle.ensures.enough c.if-not-are_few_idle.true);
+      };
     }
 
 pub returns-in_err-merge_runs : goal.returns-in_err-merge_runs
 returns-in_err-merge_runs g c =
     let given = c.from_residual.ensures.1 in
-    record { leaves = leaves-given given c.in_err-merge_runs.ensures.leaves; few = not_ok _ _ _ given; idle = not_ok _ _ _ given }
+    record { leaves = leaves-given given c.in_err-merge_runs.ensures.leaves; idle = not_ok _ _ _ given }
 
 pub returns : goal.returns
 returns g c =
@@ -26,6 +28,5 @@ returns g c =
     let none = ap (λ v. v.items) two.levels.internal ∙ c.in_ok-merge_runs.ensures.none in
     record {
       leaves = leaves-after c.in_ok-merge_runs.ensures.leaves two.levels.leaves;
-      few = two.few;
-      idle = ok-map c.settle.result (λ holds. half_idle g.S.Slot.shown g.R.Ord.cmp g.R.Record.record_of g.R.Record.WIDTH z.sizes z.body z.supply holds.works.runs.rest (inl none)) two.levels.leaves.holds;
+      idle = ok-map2 c.settle.result (λ few holds. record { few = few; idle = half_idle g.S.Slot.shown g.R.Ord.cmp g.R.Record.record_of g.R.Record.WIDTH z.sizes z.body z.supply holds.works.runs.rest (inl none) }) two.few two.levels.leaves.holds;
     }

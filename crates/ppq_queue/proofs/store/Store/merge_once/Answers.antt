@@ -61,11 +61,13 @@ returns g c =
     lacks-runs x b t works kept no_row src rests short.moved (omega (arith, c.requires.more, level_few level a.runs.external.items, some)) (inl short.short)))
     (λ number err. subst (HasFailed number) (sym (slots-no_job shown b t e.lanes.no_job)) (e.device number err)) in
     record {
-      levels = record {
-        leaves = record { stays = stays-step x b t src kept no_row rests; holds = holds; refused = refused };
-        internal = refl;
-        crowded = λ err. still_crowded shown level x.sources.bench.workers a.runs.external.items m.new.arrays.items a.lanes m.new.lanes s t c.requires.level c.requires.more (e.none_free err);
+      leaves = record {
+        levels = record {
+          leaves = record { stays = stays-step x b t src kept no_row rests; holds = holds; refused = refused };
+          internal = refl;
+          crowded = λ err. still_crowded shown level x.sources.bench.workers a.runs.external.items m.new.arrays.items a.lanes m.new.lanes s t c.requires.level c.requires.more (e.none_free err);
+        };
+        lower = ok-map m.result (lower-leveled cmp record_of width shown level a.runs.external.items m.new.arrays.items s t c.requires.level) e.merged;
       };
       fewer = ok-map m.result (λ merged. fewer-leveled shown cmp record_of width n a b s t rest kept e.size e.lanes refl merged.buffers level c.requires.level merged) e.merged;
-      lower = ok-map m.result (lower-leveled cmp record_of width shown level a.runs.external.items m.new.arrays.items s t c.requires.level) e.merged;
     }

@@ -9,8 +9,8 @@ use Rattle.ppq_queue.proofs.store.Store.merge_runs.Goals as goal
 pub store_buffers-answer-requires-clause-room : goal.store_buffers-answer-requires-clause-room
 store_buffers-answer-requires-clause-room g c lives within =
     let x = c.args.self.now in
-    let runs = c.requires.works.runs in
-    may_store g.S.Slot.shown g.R.Ord.cmp g.R.Record.record_of g.R.Record.WIDTH x.sizes x.body x.supply 0 runs.rest runs.range runs.budget c.requires.few (omega arith)
+    let runs = c.requires.may.works.runs in
+    may_store g.S.Slot.shown g.R.Ord.cmp g.R.Record.record_of g.R.Record.WIDTH x.sizes x.body x.supply 0 runs.rest runs.range runs.budget c.requires.may.few (omega arith)
 
 pub returns : goal.returns
 returns g c =
@@ -18,7 +18,7 @@ returns g c =
     let cmp = g.R.Ord.cmp in
     let record_of = g.R.Record.record_of in
     let width = g.R.Record.WIDTH in
-    let works = c.requires.works in
+    let works = c.requires.may.works in
     let runs = works.runs in
     let m = c.store_buffers-answer in
     let e = m.ensures in
@@ -33,7 +33,7 @@ returns g c =
     record {
       leaves = record {
         stays = stays-step x b t x.sources kept no_row same-sources;
-        holds = ok-map m.result (λ stored. holds-runs x b t works kept no_row x.sources same-sources (moved-in_blocks shown cmp record_of width x.sizes a b s t runs.rest kept e.size e.takes_back e.lanes [] (omega (arith, c.requires.some)) c.requires.few runs.no_row no_row stored)) e.stored;
+        holds = ok-map m.result (λ stored. holds-runs x b t works kept no_row x.sources same-sources (moved-in_blocks shown cmp record_of width x.sizes a b s t runs.rest kept e.size e.takes_back e.lanes [] (omega (arith, c.requires.some)) c.requires.may.few runs.no_row no_row stored)) e.stored;
         refused = by_fault (Refuses shown cmp record_of width [] [] x (record x { body = b; supply = t })) m.result
             (λ err. (let short = short-merged shown cmp record_of width x.sizes a b s t runs.rest kept e.size e.takes_back e.lanes runs.no_row no_row (e.none_free err) in lacks-runs x b t works kept no_row x.sources same-sources short.moved (omega (arith, c.requires.some, internal_count a.runs.internal.items)) (inr (omega (arith, short.short)))))
             e.device;

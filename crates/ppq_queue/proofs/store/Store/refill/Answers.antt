@@ -13,16 +13,16 @@ use Rattle.ppq_queue.proofs.store.Store.refill.Goals as goal
 pub refill-answer-requires-clause-may : goal.refill-answer-requires-clause-may
 refill-answer-requires-clause-may g c lives within =
     let x = c.args.self.now in
-    let works = c.requires.works in
-    let may = may_fetch g.S.Slot.shown g.R.Ord.cmp g.R.Record.record_of g.R.Record.WIDTH x.sizes x.body x.supply works.runs.rest works.runs.range works.runs.budget c.requires.few in
+    let works = c.requires.may.works in
+    let may = may_fetch g.S.Slot.shown g.R.Ord.cmp g.R.Record.record_of g.R.Record.WIDTH x.sizes x.body x.supply works.runs.rest works.runs.range works.runs.budget c.requires.may.few in
     subst (λ w. MayFetch g.S.Slot.shown g.R.Record.WIDTH w (sources_of x.body.runs x.body.lanes.idle x.supply)) (sym works.workers) may
 
 pub refill-answer-requires-clause-serves : goal.refill-answer-requires-clause-serves
 refill-answer-requires-clause-serves g c lives within =
     let x = c.args.self.now in
-    let works = c.requires.works in
+    let works = c.requires.may.works in
     let few = runs_few g.S.Slot.shown g.R.Ord.cmp g.R.Record.record_of g.R.Record.WIDTH x.sizes x.body x.supply works.runs.rest in
-    record { bench = omega (arith, few, c.requires.few, works.serves.bench); places = omega (arith, few, c.requires.few, works.serves.places) }
+    record { bench = omega (arith, few, c.requires.may.few, works.serves.bench); places = omega (arith, few, c.requires.may.few, works.serves.places) }
 
 pub returns : goal.returns
 returns g c =
@@ -35,7 +35,7 @@ returns g c =
     let width = g.R.Record.WIDTH in
     let x = c.args.self.now in
     let n = x.sizes in
-    let works = c.requires.works in
+    let works = c.requires.may.works in
     let rest = works.runs.rest in
     let a = x.body in
     let b = record a { runs = m.new.runs; lanes = m.new.lanes } in
@@ -54,11 +54,11 @@ returns g c =
       readied = ok-map3 m.result
           (λ all r rm. (
           let may = subst (λ w. MayFetch shown width w (sources_of b.runs b.lanes.idle t)) (e.rest.workers ∙ works.workers) rm in
-          let ready = readied-refilled shown cmp record_of width n a b s t v.items rest kept c.requires.few r may none' e.batch x.extract.room (omega (arith, works.room, batch_some n works.runs.range)) all in
+          let ready = readied-refilled shown cmp record_of width n a b s t v.items rest kept c.requires.may.few r may none' e.batch x.extract.room (omega (arith, works.room, batch_some n works.runs.range)) all in
           readies-step x b t works kept no_row v m.new.sources e.rest e.room (omega (arith, e.within, e.room)) (subst (λ l. Readied shown cmp record_of width n l v.items a b s t) (sym c.requires.empty) ready)))
           (e.all refl)
           e.refilled
           e.may;
-      few = ok-map m.result (λ r. omega (arith, r.external, c.requires.few)) e.refilled;
+      few = ok-map m.result (λ r. omega (arith, r.external, c.requires.may.few)) e.refilled;
       failed = by_fault (FailsAlone shown (record x { body = b; supply = t; extract = v; sources = m.new.sources })) m.result e.device_alone (λ number err. failed-right number (body_slots shown b) t.kept (e.device number err).failed);
     }

@@ -3,15 +3,24 @@ use Rattle.ppq_queue.proofs.Stores.{levels-same, levels-on, levels-after, levels
 use Rattle.ppq_queue.proofs.store.Store.settle_level.Goals as goal
 
 pub loop-self-init : goal.loop-self-init
-loop-self-init g c = record { so_far = levels-same c.requires.works; lower = λ j h. refl }
+loop-self-init g c = record { levels = levels-same c.requires.works; lower = λ j h. refl }
+
+pub merge_once-requires-clause-works : goal.merge_once-requires-clause-works
+merge_once-requires-clause-works g c κs within = c.loop-self.invariant.levels.leaves.holds.works
 
 pub loop-self-preserved : goal.loop-self-preserved
 loop-self-preserved g c =
     let i = c.loop-self.invariant in
-    let e = c.in_ok-merge_once.ensures in
-    record { so_far = levels-on i.so_far e.levels.leaves.stays e.levels.leaves.holds e.levels.internal; lower = λ j h. e.lower j h ∙ i.lower j h }
+    let e = c.in_ok-merge_once.ensures.leaves in
+    record { levels = levels-on i.levels e.levels; lower = λ j h. e.lower j h ∙ i.lower j h }
 
 pub returns-in_err-merge_once : goal.returns-in_err-merge_once
 returns-in_err-merge_once g c =
     let given = c.from_residual.ensures.1 in
-    record { levels = levels-given given (levels-after c.loop-self.invariant.so_far c.in_err-merge_once.ensures.levels); level = not_ok _ _ _ given; lower = not_ok _ _ _ given }
+    record {
+      leaves = record { levels = levels-given given (levels-after c.loop-self.invariant.levels c.in_err-merge_once.ensures.leaves.levels); lower = not_ok _ _ _ given };
+      level = not_ok _ _ _ given;
+    }
+
+pub returns-clause-leaves : goal.returns-clause-leaves
+returns-clause-leaves g c = c.loop-self.invariant

@@ -1,6 +1,6 @@
 use Rattle.std.proofs.Common.{arith}
 use Rattle.ppq_queue.proofs.Counts.{count_some}
-use Rattle.ppq_queue.proofs.Stores.{leaves-same}
+use Rattle.ppq_queue.proofs.Stores.{levels-same}
 use Rattle.ppq_queue.proofs.store.Store.settle_some.Goals as goal
 
 pub returns-then-not-has_run : goal.returns-then-not-has_run
@@ -9,10 +9,9 @@ returns-then-not-has_run g c =
     let runs = x.body.runs in
     let rest = c.requires.works.runs.rest in
     record {
-      leaves = leaves-same c.requires.works;
+      levels = levels-same c.requires.works;
       few = omega (arith, count_some g.S.Slot.shown g.R.Record.WIDTH x.supply.block runs.internal.items runs.external.items rest.internal rest.external, c.has_run.ensures.none c.if-not-has_run.true);
-      crowded = λ err. cc;
     }
 
 pub returns : goal.returns
-returns g c = (let e = c.settle.ensures in record { leaves = e.levels.leaves; few = e.few; crowded = e.levels.crowded })
+returns g c = c.settle.ensures

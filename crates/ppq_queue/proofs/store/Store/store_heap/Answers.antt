@@ -7,17 +7,16 @@ use Rattle.ppq_queue.proofs.Moves.{ok-map}
 use Rattle.ppq_queue.proofs.Ready.{sorted-same}
 use Rattle.ppq_queue.proofs.Shared.{share_most}
 use Rattle.ppq_queue.proofs.Took.{empty_list}
-use Rattle.ppq_queue.proofs.HeapStores.{changes-refl, changes-trans}
-use Rattle.ppq_queue.proofs.Stores.{stays-step, same-sources, holds-heap, leaves-same, leaves-more, leaves-beside, leaves-sorted, leaves-refused, not_ok}
+use Rattle.ppq_queue.proofs.HeapStores.{changes-refl, changes-trans, changed-stay}
+use Rattle.ppq_queue.proofs.Stores.{heaps-same, stays-step, same-sources, holds-heap, leaves-same, leaves-more, leaves-beside, leaves-sorted, leaves-refused, not_ok}
 use Rattle.ppq_queue.proofs.store.Store.store_heap.Goals as goal
 
 pub returns-then-is_empty : goal.returns-then-is_empty
 returns-then-is_empty g c =
     let zero : length c.share.result.now ≡ 0 = grind (arith, nat_tests) in
     record {
-      leaves = leaves-same c.requires.works;
-      changed = record { only = changes-refl c.args.place c.args.heaps.now; fewer = omega arith };
-      emptied = c.requires.emptied;
+      leaves = record { leaves = leaves-same c.requires.may.works; heaps = heaps-same; emptied = c.requires.may.emptied };
+      only = changes-refl c.args.place c.args.heaps.now;
       share = sym c.share.ensures.items ∙ empty_list c.share.result.now zero;
     }
 
@@ -30,10 +29,10 @@ store_run-requires-clause-may g c κs within =
     let long = IsSameBag-length new old (sorted-same c.record_laws.ensures.order old new c.sort_share.ensures.share) in
     let run = ap length c.share-2.ensures.items in
     record {
-      runs = c.requires.works.runs;
-      few = c.requires.emptied.few;
+      runs = c.requires.may.works.runs;
+      few = c.requires.may.emptied.few;
       some = omega (arith, some, ap length c.share.ensures.items, long, run);
-      most = omega (arith, c.requires.heaps, share_most h c.args.place, long, run);
+      most = omega (arith, c.requires.may.most, share_most h c.args.place, long, run);
     }
 
 pub returns-in_err-store_run : goal.returns-in_err-store_run
@@ -51,9 +50,12 @@ returns-in_err-store_run g c =
     let run_long = IsSameBag-length run old (sorted-same c.record_laws.ensures.order old run c.sort_share.ensures.share) in
     let all = ap length c.share-2.ensures.items in
     record {
-      leaves = leaves-sorted same (leaves-refused x c.store_run.new.body c.store_run.new.supply c.requires.works made.kept.body made.kept.no_row (items_of h) (omega (arith, some, ap length c.share.ensures.items, run_long, all)) (omega (arith, long, share_most sorted c.args.place, all)) given c.in_err-store_run.ensures);
-      changed = record { only = c.sort_share.ensures.others; fewer = omega (arith, long) };
-      emptied = not_ok _ _ _ given;
+      leaves = record {
+        leaves = leaves-sorted same (leaves-refused x c.store_run.new.body c.store_run.new.supply c.requires.may.works made.kept.body made.kept.no_row (items_of h) (omega (arith, some, ap length c.share.ensures.items, run_long, all)) (omega (arith, long, share_most sorted c.args.place, all)) given c.in_err-store_run.ensures);
+        heaps = changed-stay c.sort_share.ensures.others (omega (arith, long));
+        emptied = not_ok _ _ _ given;
+      };
+      only = c.sort_share.ensures.others;
       share = not_ok _ _ _ given;
     }
 
@@ -65,7 +67,7 @@ settle-requires-clause-works g c κs within =
     let t = c.store_run.new.supply in
     let made = c.store_run.ensures in
     let moved = subst (λ l. Moved g.S.Slot.shown g.R.Ord.cmp g.R.Record.record_of g.R.Record.WIDTH x.sizes l x.body b x.supply t) c.share-2.ensures.items c.in_ok-store_run.ensures.stored in
-    (holds-heap x b t c.requires.works made.kept.body made.kept.no_row (items_of c.args.heaps.now) sorted (items_of c.clear_share.new.self) c.requires.emptied.no_extract (λ p. sym (c.sort_share.ensures.bag p) ∙ c.clear_share.ensures.bag p) moved).works
+    (holds-heap x b t c.requires.may.works made.kept.body made.kept.no_row (items_of c.args.heaps.now) sorted (items_of c.clear_share.new.self) c.requires.may.emptied.no_extract (λ p. sym (c.sort_share.ensures.bag p) ∙ c.clear_share.ensures.bag p) moved).works
 
 pub returns : goal.returns
 returns g c =
@@ -78,16 +80,17 @@ returns g c =
     let t = c.store_run.new.supply in
     let made = c.store_run.ensures in
     let moved = subst (λ l. Moved g.S.Slot.shown g.R.Ord.cmp g.R.Record.record_of g.R.Record.WIDTH x.sizes l x.body b x.supply t) c.share-2.ensures.items c.in_ok-store_run.ensures.stored in
-    let none = c.requires.emptied.no_extract in
-    let holds = holds-heap x b t c.requires.works made.kept.body made.kept.no_row h sorted left none (λ p. sym (c.sort_share.ensures.bag p) ∙ c.clear_share.ensures.bag p) moved in
+    let none = c.requires.may.emptied.no_extract in
+    let holds = holds-heap x b t c.requires.may.works made.kept.body made.kept.no_row h sorted left none (λ p. sym (c.sort_share.ensures.bag p) ∙ c.clear_share.ensures.bag p) moved in
     let two = c.settle.ensures in
     let settled = two.levels.leaves in
+    let only = changes-trans c.args.place c.args.heaps.now all c.clear_share.new.self c.sort_share.ensures.others c.clear_share.ensures.others in
     record {
-      leaves = leaves-more (stays-step x b t x.sources made.kept.body made.kept.no_row same-sources) holds (leaves-beside left settled);
-      changed = record {
-        only = changes-trans c.args.place c.args.heaps.now all c.clear_share.new.self c.sort_share.ensures.others c.clear_share.ensures.others;
-        fewer = omega (arith, IsSameBag-length (items_of all) h c.sort_share.ensures.bag, IsSameBag-length (items_of all) (sorted ++ left) c.clear_share.ensures.bag, length-append sorted left);
+      leaves = record {
+        leaves = leaves-more (stays-step x b t x.sources made.kept.body made.kept.no_row same-sources) holds (leaves-beside left settled);
+        heaps = changed-stay only (omega (arith, IsSameBag-length (items_of all) h c.sort_share.ensures.bag, IsSameBag-length (items_of all) (sorted ++ left) c.clear_share.ensures.bag, length-append sorted left));
+        emptied = ok-map c.settle.result (λ few. record { no_extract = empty_list c.settle.new.self.extract.items (omega (arith, settled.stays.extract, ap length none)); few = few }) two.few;
       };
-      emptied = ok-map c.settle.result (λ few. record { no_extract = empty_list c.settle.new.self.extract.items (omega (arith, settled.stays.extract, ap length none)); few = few }) two.few;
+      only = only;
       share = ok-map c.settle.result (λ few. c.clear_share.ensures.share) two.few;
     }

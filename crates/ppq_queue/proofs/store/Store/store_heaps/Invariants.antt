@@ -1,13 +1,11 @@
 use Rattle.std.proofs.Common.{◌≡◌, ℕ, ◌<◌, []}
-use Rattle.ppq_heap.specs.Heaps.{items_of, share_at}
-use Rattle.ppq_queue.specs.Stores.{StoreLeaves, HeapsStay, IsEmptied}
+use Rattle.ppq_heap.specs.Heaps.{share_at}
+use Rattle.ppq_queue.specs.Stores.{HeapsLeave}
 use Rattle.ppq_queue.proofs.Stores.{done}
 use Rattle.ppq_queue.proofs.store.Store.store_heaps.Given as goal
 
 abbrev pub invariant-storing : goal.invariant-storing
 invariant-storing g l = record {
-  so_far : StoreLeaves g.S.Slot.shown g.R.Ord.cmp g.R.Record.record_of g.R.Record.WIDTH (items_of l.fn.heaps) (items_of l.heaps) l.fn.self l.self done;
-  heaps : HeapsStay l.fn.heaps l.heaps;
-  emptied : IsEmptied l.self;
+  so_far : HeapsLeave g.S.Slot.shown g.R.Ord.cmp g.R.Record.record_of g.R.Record.WIDTH l.fn.heaps l.heaps l.fn.self l.self done;
   stored : (other : ℕ) → other < l.place → share_at l.heaps other ≡ [];
 }

@@ -10,16 +10,16 @@ use Rattle.ppq_queue.proofs.Stores.{kept-step, same-sources, holds-rest, leaves-
 use Rattle.ppq_queue.proofs.store.Store.store_rest.Goals as goal
 
 pub returns-then-is_empty : goal.returns-then-is_empty
-returns-then-is_empty g c = record { leaves = leaves-same c.requires.works; emptied = record { no_extract = c.is_empty.ensures.0 c.if-is_empty.true; few = c.requires.few } }
+returns-then-is_empty g c = record { leaves = leaves-same c.requires.may.works; emptied = record { no_extract = c.is_empty.ensures.0 c.if-is_empty.true; few = c.requires.may.few } }
 
 pub store_run-requires-clause-may : goal.store_run-requires-clause-may
 store_run-requires-clause-may g c κs within =
     let x = c.args.self.now in
-    let works = c.requires.works in
+    let works = c.requires.may.works in
     let some : 0 < length x.extract.items = some_list x.extract.items (λ none. absurd (false≢true (sym c.if-is_empty.false ∙ c.is_empty.ensures.1 none))) in
     record {
       runs = works.runs;
-      few = c.requires.few;
+      few = c.requires.may.few;
       some = omega (arith, some, ap length c.rest.ensures);
       most = omega (arith, works.within, works.room, parts_within x.sizes works.runs.range, works.runs.budget, ap length c.rest.ensures);
     }
@@ -32,7 +32,7 @@ returns-in_err-store_run g c =
     let few = c.rest.ensures in
     let some : 0 < length x.extract.items = some_list x.extract.items (λ none. absurd (false≢true (sym c.if-is_empty.false ∙ c.is_empty.ensures.1 none))) in
     record {
-      leaves = leaves-refused x c.store_run.new.body c.store_run.new.supply c.requires.works made.kept.body made.kept.no_row [] (omega (arith, some, ap length few)) (omega (arith, ap length few)) given c.in_err-store_run.ensures;
+      leaves = leaves-refused x c.store_run.new.body c.store_run.new.supply c.requires.may.works made.kept.body made.kept.no_row [] (omega (arith, some, ap length few)) (omega (arith, ap length few)) given c.in_err-store_run.ensures;
       emptied = not_ok _ _ _ given;
     }
 
@@ -42,7 +42,7 @@ settle-requires-clause-works g c κs within =
     let made = c.store_run.ensures in
     let moved = subst (λ l. Moved g.S.Slot.shown g.R.Ord.cmp g.R.Record.record_of g.R.Record.WIDTH x.sizes l x.body c.store_run.new.body x.supply c.store_run.new.supply) c.rest.ensures c.in_ok-store_run.ensures.stored in
     let gone = c.clear.ensures in
-    (holds-rest x c.store_run.new.body c.store_run.new.supply c.requires.works made.kept.body made.kept.no_row c.clear.new.self (ap (λ v. v.room) gone) (ap (λ v. v.items) gone) moved).works
+    (holds-rest x c.store_run.new.body c.store_run.new.supply c.requires.may.works made.kept.body made.kept.no_row c.clear.new.self (ap (λ v. v.room) gone) (ap (λ v. v.items) gone) moved).works
 
 pub returns : goal.returns
 returns g c =
@@ -60,6 +60,6 @@ returns g c =
     let two = c.settle.ensures in
     let leaves = two.levels.leaves in
     record {
-      leaves = leaves-more stays (holds-rest x b t c.requires.works made.kept.body made.kept.no_row v room none moved) leaves;
+      leaves = leaves-more stays (holds-rest x b t c.requires.may.works made.kept.body made.kept.no_row v room none moved) leaves;
       emptied = ok-map c.settle.result (λ few. record { no_extract = empty_list c.settle.new.self.extract.items (omega (arith, leaves.stays.extract, ap length none)); few = few }) two.few;
     }

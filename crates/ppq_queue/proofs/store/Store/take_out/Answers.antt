@@ -14,38 +14,38 @@ returns-then-wants_nothing g c =
     let h = items_of c.args.heaps.now in
     let limit = c.args.wanted.now.limit in
     let most = c.args.wanted.now.most in
+    let none = c.requires.list.none in
     let took = took-none shown c.record_laws.ensures.order g.R.Record.record_of g.R.Record.WIDTH limit most h x c.requires.works in
-    let full : length c.args.out.now.items ≡ most = ap length c.requires.none ∙ sym (c.wants_nothing.ensures.none c.if-wants_nothing.true) in
+    let full : length c.args.out.now.items ≡ most = ap length none ∙ sym (c.wants_nothing.ensures.none c.if-wants_nothing.true) in
     record {
-      takes = record {
-        kept = kept-same;
-        heaps = heaps-same;
-        took = record {
-          took = subst (λ l. TookOut shown cmp g.R.Record.record_of g.R.Record.WIDTH limit most h h x x l) (sym c.requires.none) took;
-          all = λ unset. inl full;
-          low = λ tell. inl full;
-          ready = λ l is gone. absurd (c.wants_nothing.ensures.ready c.if-wants_nothing.true l is gone);
-        };
-        same_heaps = λ err. refl;
-        refused = tt;
-      };
+      kept = kept-same;
+      heaps = heaps-same;
       list_room = refl;
+      took = record {
+        took = subst (λ l. TookOut shown cmp g.R.Record.record_of g.R.Record.WIDTH limit most h h x x l) (sym none) took;
+        all = λ unset. inl full;
+        low = λ tell. inl full;
+        ready = λ l is gone. absurd (c.wants_nothing.ensures.ready c.if-wants_nothing.true l is gone);
+      };
+      same_heaps = λ err. refl;
+      refused = tt;
     }
 
 pub returns-in_err-settle_some : goal.returns-in_err-settle_some
 returns-in_err-settle_some g c =
-    let e = c.in_err-settle_some.field-0.0 in
     let given = c.from_residual.ensures.1 in
+    let leaves = c.in_err-settle_some.ensures.levels.leaves in
     record {
-      takes = record {
-        kept = c.settle_some.ensures.leaves.stays.kept;
-        heaps = heaps-same;
-        took = not_ok _ _ _ given;
-        same_heaps = λ err. refl;
-        refused = on_given (Refuses g.S.Slot.shown g.R.Ord.cmp g.R.Record.record_of g.R.Record.WIDTH [] [] c.args.self.now c.settle_some.new.self) c.from_residual.result e given c.in_err-settle_some.ensures.leaves.refused;
-      };
+      kept = leaves.stays.kept;
+      heaps = heaps-same;
       list_room = refl;
+      took = not_ok _ _ _ given;
+      same_heaps = λ err. refl;
+      refused = on_given (Refuses g.S.Slot.shown g.R.Ord.cmp g.R.Record.record_of g.R.Record.WIDTH [] [] c.args.self.now c.settle_some.new.self) c.from_residual.result c.in_err-settle_some.field-0.0 given leaves.refused;
     }
 
+pub gather-requires-clause-may : goal.gather-requires-clause-may
+gather-requires-clause-may g c κs within = (let e = c.in_ok-settle_some.ensures in record { works = e.levels.leaves.holds.works; few = e.few })
+
 pub returns : goal.returns
-returns g c = record { takes = takes-settled c.record_laws.ensures.order c.settle_some.ensures.leaves.stays.kept c.in_ok-settle_some.ensures.leaves.holds c.gather.ensures.takes; list_room = c.gather.ensures.list_room }
+returns g c = (let leaves = c.in_ok-settle_some.ensures.levels.leaves in takes-settled c.record_laws.ensures.order leaves.stays.kept leaves.holds c.gather.ensures)
