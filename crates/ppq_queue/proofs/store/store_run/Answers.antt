@@ -1,4 +1,4 @@
-use Rattle.std.proofs.Common.{length, ap}
+use Rattle.std.proofs.Common.{length, ap, arith}
 use Rattle.ppq_queue.specs.Stores.{RunRefused}
 use Rattle.ppq_queue.proofs.Moves.{ok-map}
 use Rattle.ppq_queue.proofs.Stored.{kept-stored, may_store, moved-stored, short-stored}
@@ -31,3 +31,9 @@ returns g c =
           (λ err. short-stored shown g.R.Ord.cmp g.R.Record.record_of g.R.Record.WIDTH c.args.sizes a b s t runs.rest kept e.size e.takes_back e.lanes c.args.sorted.now c.requires.may.some c.requires.ascends runs.no_row no_row (e.none_free err))
           e.device;
     }
+
+pub store_sorted-answer-requires-clause-some : goal.store_sorted-answer-requires-clause-some
+store_sorted-answer-requires-clause-some g c = assumption
+
+pub store_sorted-answer-requires-clause-ascend : goal.store_sorted-answer-requires-clause-ascend
+store_sorted-answer-requires-clause-ascend g c = grind arith

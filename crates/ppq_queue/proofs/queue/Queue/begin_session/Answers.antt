@@ -31,3 +31,6 @@ returns g c =
       latched = left.latched;
       stays = left.stays;
     }
+
+pub same-self : goal.same-self
+same-self g c = assumption

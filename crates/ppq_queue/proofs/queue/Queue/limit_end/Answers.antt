@@ -16,3 +16,6 @@ pub returns : goal.returns
 returns g c tell =
     let laws = c.record_laws.ensures in
     (c.if-n-room.false, some_below laws.order laws.same c.args.l _ c.args.self.now.bag c.least.result (c.least.ensures.answer tell) (sym c.keep_below.ensures ∙ c.in-Some.is))
+
+pub least-requires-after_bounds : goal.least-requires-after_bounds
+least-requires-after_bounds g c = assumption

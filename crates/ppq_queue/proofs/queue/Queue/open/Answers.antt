@@ -1,4 +1,5 @@
 use Rattle.std.proofs.Common.{◌≡◌, ◌≤◌, ◌*◌, ◌-◌, ◌∙◌, length, map, None, false, ap, sym, subst, arith, All}
+use Rattle.std.proofs.lemmas.Grind.{common_steps}
 use Rattle.std.specs.Prelude.{vec_capacity}
 use Rattle.std.proofs.lemmas.List.{length-map}
 use Rattle.ppq_queue.specs.Slots.{with_slots}
@@ -32,3 +33,24 @@ invariant_of-result g c =
       },
       ok_holds c.berth_slots.result c.is_err.result c.is_err.ensures.value c.if-is_err.false c.berth_slots.ensures.emptied,
     )
+
+pub new-requires-clause-budget : goal.new-requires-clause-budget
+new-requires-clause-budget g c = grind arith
+
+pub new-requires-clause-buffers : goal.new-requires-clause-buffers
+new-requires-clause-buffers g c = grind arith
+
+pub berth_slots-requires-clause-none : goal.berth_slots-requires-clause-none
+berth_slots-requires-clause-none g c = grind arith
+
+pub berth_slots-requires-clause-room : goal.berth_slots-requires-clause-room
+berth_slots-requires-clause-room g c = grind (arith, common_steps)
+
+pub same-heaps : goal.same-heaps
+same-heaps g c = assumption
+
+pub returns-in-Err : goal.returns-in-Err
+returns-in-Err g c = record { bag = tt; size = tt; sizes = tt; peak = tt; sound = tt; unlimited = tt; budget = tt; slots = tt; back = omega arith; need = grind arith }
+
+pub returns : goal.returns
+returns g c = record { bag = grind arith; size = assumption; sizes = grind arith; peak = assumption; sound = assumption; unlimited = assumption; budget = grind arith; slots = grind arith; back = tt; need = tt }

@@ -8,8 +8,31 @@ use Rattle.ppq_queue.specs.Holding.{Holding, IsRefusal}
 use Rattle.ppq_queue.proofs.Flushed.{refusal-raised, keeps-slots, keeps-more}
 use Rattle.ppq_queue.proofs.queue.Queue.push.Goals as goal
 
-pub returns-in-Some-clause-keeps : goal.returns-in-Some-clause-keeps
-returns-in-Some-clause-keeps g c = (let raised = c.raise_peak.ensures in keeps-slots c.args.self.now c.raise_peak.new.self (ap (λ q. q.sizes) raised) (ap (λ q. q.limited) raised) (ap (λ q. q.slots) raised))
+pub same-self : goal.same-self
+same-self g c = assumption
+
+pub same-self-2 : goal.same-self-2
+same-self-2 g c = assumption
+
+pub returns-in-Some : goal.returns-in-Some
+returns-in-Some g c =
+    let raised = c.raise_peak.ensures in
+    record {
+      added = tt;
+      easy = grind arith;
+      back = assumption;
+      same_size = grind arith;
+      refused = grind arith;
+      latched = grind arith;
+      peak = grind arith;
+      keeps = keeps-slots c.args.self.now c.raise_peak.new.self (ap (λ q. q.sizes) raised) (ap (λ q. q.limited) raised) (ap (λ q. q.slots) raised);
+    }
+
+pub make_room-requires-clause-sound : goal.make_room-requires-clause-sound
+make_room-requires-clause-sound g c κs within = grind arith
+
+pub make_room-requires-clause-peak : goal.make_room-requires-clause-peak
+make_room-requires-clause-peak g c κs within = grind arith
 
 pub put-requires-clause-may : goal.put-requires-clause-may
 put-requires-clause-may g c κs within =
@@ -18,45 +41,25 @@ put-requires-clause-may g c κs within =
     let stays = c.make_room.ensures.leaves.stays in
     record { sound = e.leaves.same.sound; room = e.room; peak = omega (arith, stays.size, stays.peak, ap (λ q. q.size) raised, ap (λ q. q.peak) raised) }
 
-pub returns-in-Err-clause-refused : goal.returns-in-Err-clause-refused
-returns-in-Err-clause-refused g c = refusal-raised c.args.self.now c.make_room.new.self _ c.in-Err.fault (subst (λ q. IsRefusal q c.make_room.new.self c.in-Err.fault) c.raise_peak.ensures c.in-Err.ensures.leaves.refused)
-
-pub returns-in-Err-clause-keeps : goal.returns-in-Err-clause-keeps
-returns-in-Err-clause-keeps g c =
+pub returns-in-Err : goal.returns-in-Err
+returns-in-Err g c =
     let raised = c.raise_peak.ensures in
-    keeps-more c.args.self.now c.raise_peak.new.self c.make_room.new.self (keeps-slots c.args.self.now c.raise_peak.new.self (ap (λ q. q.sizes) raised) (ap (λ q. q.limited) raised) (ap (λ q. q.slots) raised)) c.make_room.ensures.leaves.stays.keeps
-
-pub returns-in-Ok-clause-added : goal.returns-in-Ok-clause-added
-returns-in-Ok-clause-added g c =
-    let raised = c.raise_peak.ensures in
-    let same = c.in-Ok.ensures.leaves.same in
-    let rest = c.put.ensures.rest in
+    let now = c.make_room.new.self in
     record {
-      bag = λ tell p.
-          let told = subst (λ q. AllTell q.slots) (sym raised) tell in
-          omega (
-            arith,
-            c.put.ensures.added p,
-            count_by-cons p c.args.r c.make_room.new.self.bag,
-            count_by-cons p c.args.r c.args.self.now.bag,
-            same.bag told p,
-            ap (λ q. count_by p q.bag) raised,
-          );
-      size = ap (λ q. q.size) rest ∙ ap (λ k. k + 1) (same.size ∙ ap (λ q. q.size) raised);
-      sound = ap (λ q. q.failed) rest ∙ same.sound;
-      quiet = ap (λ q. all_faults q.slots) rest ∙ same.quiet ∙ ap (λ q. all_faults q.slots) raised;
+      added = tt;
+      easy = grind arith;
+      back = assumption;
+      same_size = grind arith;
+      refused = refusal-raised c.args.self.now now _ c.in-Err.fault (subst (λ q. IsRefusal q now c.in-Err.fault) raised c.in-Err.ensures.leaves.refused);
+      latched = grind arith;
+      peak = grind arith;
+      keeps = keeps-more c.args.self.now c.raise_peak.new.self now (keeps-slots c.args.self.now c.raise_peak.new.self (ap (λ q. q.sizes) raised) (ap (λ q. q.limited) raised) (ap (λ q. q.slots) raised)) c.make_room.ensures.leaves.stays.keeps;
     }
 
-pub returns-in-Ok-clause-easy : goal.returns-in-Ok-clause-easy
-returns-in-Ok-clause-easy g c none room =
+pub returns-in-Ok : goal.returns-in-Ok
+returns-in-Ok g c =
     let raised = c.raise_peak.ensures in
-    let same = (c.make_room.ensures.easy (subst (λ q. q.in_first < heap_of q.sizes) (sym raised) room)).1 ∙ raised in
-    let more : Holding g.row.R.Denot → Holding g.row.R.Denot = λ q. record q { bag = c.put.new.self.bag; size = q.size + 1; in_heap = q.in_heap + 1; in_first = q.in_first + 1 } in
-    (refl, c.put.ensures.rest ∙ ap more same)
-
-pub returns-in-Ok-clause-keeps : goal.returns-in-Ok-clause-keeps
-returns-in-Ok-clause-keeps g c =
-    let raised = c.raise_peak.ensures in
+    let same = c.in-Ok.ensures.leaves.same in
     let rest = c.put.ensures.rest in
     let old = c.args.self.now in
     let up = c.raise_peak.new.self in
@@ -64,4 +67,21 @@ returns-in-Ok-clause-keeps g c =
     let now = c.put.new.self in
     let first = keeps-slots old up (ap (λ q. q.sizes) raised) (ap (λ q. q.limited) raised) (ap (λ q. q.slots) raised) in
     let last = keeps-slots roomed now (ap (λ q. q.sizes) rest) (ap (λ q. q.limited) rest) (ap (λ q. q.slots) rest) in
-    keeps-more old up now first (keeps-more up roomed now c.make_room.ensures.leaves.stays.keeps last)
+    let more : Holding g.row.R.Denot → Holding g.row.R.Denot = λ q. record q { bag = now.bag; size = q.size + 1; in_heap = q.in_heap + 1; in_first = q.in_first + 1 } in
+    record {
+      added = record {
+        bag = λ tell p.
+            let told = subst (λ q. AllTell q.slots) (sym raised) tell in
+            omega (arith, c.put.ensures.added p, count_by-cons p c.args.r roomed.bag, count_by-cons p c.args.r old.bag, same.bag told p, ap (λ q. count_by p q.bag) raised);
+        size = ap (λ q. q.size) rest ∙ ap (λ k. k + 1) (same.size ∙ ap (λ q. q.size) raised);
+        sound = ap (λ q. q.failed) rest ∙ same.sound;
+        quiet = ap (λ q. all_faults q.slots) rest ∙ same.quiet ∙ ap (λ q. all_faults q.slots) raised;
+      };
+      easy = λ none room. (refl, rest ∙ ap more ((c.make_room.ensures.easy (subst (λ q. q.in_first < heap_of q.sizes) (sym raised) room)).1 ∙ raised));
+      back = tt;
+      same_size = tt;
+      refused = tt;
+      latched = grind arith;
+      peak = grind arith;
+      keeps = keeps-more old up now first (keeps-more up roomed now c.make_room.ensures.leaves.stays.keeps last);
+    }

@@ -78,3 +78,6 @@ returns-clause-rest g c =
     let made : ℕ → ℕ → Holding g.row.R.Denot = λ h f. record (viewed shown record_of width s.store s.heaps s.count s.peak s.failed s.limited) { bag = bag; size = s.count + 1; in_heap = h; in_first = f } in
     let more : Holding g.row.R.Denot → Holding g.row.R.Denot = λ q. record q { bag = bag; size = q.size + 1; in_heap = q.in_heap + 1; in_first = q.in_first + 1 } in
     ap₂ made heap first ∙ ap more view
+
+pub overflow_add-self : goal.overflow_add-self
+overflow_add-self g c = grind arith

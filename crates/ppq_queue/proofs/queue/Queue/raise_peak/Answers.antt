@@ -14,3 +14,9 @@ invariant_of-self g c =
       },
       c.self.invariant.1,
     )
+
+pub overflow_add-self-inside : goal.overflow_add-self-inside
+overflow_add-self-inside g c = grind arith
+
+pub returns : goal.returns
+returns g c = grind arith

@@ -1,4 +1,5 @@
 use Rattle.std.proofs.Common.{◌≡◌, ◌+◌, ◌-◌, ◌*◌, ◌≤◌, length, arith, ap, ap₂, ◌∙◌}
+use Rattle.std.proofs.lemmas.Grind.{common_steps}
 use Rattle.ppq_extract.specs.ppq_budget.Sizes.{batch_of, pool_of}
 use Rattle.ppq_heap.specs.Heaps.{items_of}
 use Rattle.ppq_queue.specs.Resting.{lane_buffers}
@@ -17,3 +18,39 @@ returns-clause-budget g c =
     let product : (72 + 3 * c.from.result + c.from-2.result) * c.from-block.result ≡ (lane_buffers n + pool_of n) * n.block = ap₂ (λ a b. a * b) lanes block in
     let within = resident_within n i.range i.budget (length (items_of s.heaps)) (length s.store.extract.items) (c.from-3.result - c.from-4.result) i.in_heap i.in_extract used in
     omega (arith, within, c.len.ensures.value, c.len-2.ensures, batches, product, ap (λ q. q.sizes.memory) c.self.view_is)
+
+pub returns-in_default : goal.returns-in_default
+returns-in_default g c = record { sum = grind arith; budget = omega arith }
+
+pub overflow_mul-lanes : goal.overflow_mul-lanes
+overflow_mul-lanes g c = omega arith
+
+pub overflow_add-lanes : goal.overflow_add-lanes
+overflow_add-lanes g c = omega arith
+
+pub overflow_add-buffers : goal.overflow_add-buffers
+overflow_add-buffers g c = omega arith
+
+pub overflow_mul-buffers : goal.overflow_mul-buffers
+overflow_mul-buffers g c = grind arith
+
+pub overflow_sub-used : goal.overflow_sub-used
+overflow_sub-used g c = grind (arith, common_steps)
+
+pub overflow_mul-batches : goal.overflow_mul-batches
+overflow_mul-batches g c = omega arith
+
+pub overflow_add-result : goal.overflow_add-result
+overflow_add-result g c = omega arith
+
+pub overflow_add-result-2 : goal.overflow_add-result-2
+overflow_add-result-2 g c = omega arith
+
+pub overflow_add-result-3 : goal.overflow_add-result-3
+overflow_add-result-3 g c = omega arith
+
+pub overflow_add-result-4 : goal.overflow_add-result-4
+overflow_add-result-4 g c = grind arith
+
+pub returns-clause-sum : goal.returns-clause-sum
+returns-clause-sum g c = grind arith

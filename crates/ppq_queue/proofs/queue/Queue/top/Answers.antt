@@ -1,13 +1,24 @@
-use Rattle.std.proofs.Common.{◌≡◌, ◌∙◌, take, ap, subst}
+use Rattle.std.proofs.Common.{◌≡◌, ◌∙◌, take, ap, subst, arith}
 use Rattle.std.specs.Prelude.{◌↔◌, IsNone}
 use Rattle.ppq_heap.specs.ppq_record.Bag.{first_of}
 use Rattle.ppq_heap.proofs.ppq_record.Fronts.{ascending-same_bag}
 use Rattle.ppq_queue.proofs.queue.Queue.top.Goals as goal
 
-pub returns-clause-none : goal.returns-clause-none
-returns-clause-none g c = subst (λ k. IsNone c.least.result ↔ (k ≡ 0)) c.in_ok-ready.ensures.leaves.same.size c.least.ensures.none
+pub returns-in_err-ready : goal.returns-in_err-ready
+returns-in_err-ready g c = record { answer = grind arith; none = grind arith; same = grind arith; refused = grind arith; latched = grind arith; stays = assumption }
 
-pub returns-clause-answer : goal.returns-clause-answer
-returns-clause-answer g c tell =
+pub least-requires-after_bounds : goal.least-requires-after_bounds
+least-requires-after_bounds g c = grind arith
+
+pub returns : goal.returns
+returns g c =
     let laws = c.record_laws.ensures in
-    c.least.ensures.answer (c.ready.ensures.leaves.stays.keeps.tells tell) ∙ ap (λ l. first_of (take 1 l)) (ascending-same_bag laws.order laws.same c.ready.new.self.bag c.args.self.now.bag (c.in_ok-ready.ensures.leaves.same.bag tell))
+    let left = c.in_ok-ready.ensures.leaves in
+    record {
+      answer = λ tell. c.least.ensures.answer (left.stays.keeps.tells tell) ∙ ap (λ l. first_of (take 1 l)) (ascending-same_bag laws.order laws.same c.ready.new.self.bag c.args.self.now.bag (left.same.bag tell));
+      none = subst (λ k. IsNone c.least.result ↔ (k ≡ 0)) left.same.size c.least.ensures.none;
+      same = left.same;
+      refused = tt;
+      latched = grind arith;
+      stays = left.stays;
+    }

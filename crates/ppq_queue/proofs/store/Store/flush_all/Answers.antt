@@ -23,3 +23,9 @@ returns g c =
       leaves = record { leaves = leaves-after (leaves-beside (items_of c.args.heaps.now) c.in_ok-store_extract.ensures.leaves) two.leaves.leaves; heaps = two.leaves.heaps; emptied = two.leaves.emptied };
       first = two.share;
     }
+
+pub store_extract-requires-clause-works : goal.store_extract-requires-clause-works
+store_extract-requires-clause-works g c = assumption
+
+pub store_heap-requires-clause-place : goal.store_heap-requires-clause-place
+store_heap-requires-clause-place g c = assumption

@@ -101,3 +101,27 @@ returns g c =
     let i = l.invariant in
     let took = took-all g.S.Slot.shown c.record_laws.ensures.order g.R.Record.record_of g.R.Record.WIDTH c.args.wanted.now.limit c.args.wanted.now.most (items_of c.args.heaps.now) (items_of l.heaps) c.args.self.now l.self l.out.items i.stands i.took (c.wants_refill.ensures.ready c.refilling-test.false) in
     record { kept = i.kept; heaps = i.heaps; list_room = i.list_room; took = took; same_heaps = λ err. cc; refused = tt }
+
+pub has_run-first-requires-after_bounds : goal.has_run-first-requires-after_bounds
+has_run-first-requires-after_bounds g c = assumption
+
+pub merge-requires-clause-most : goal.merge-requires-clause-most
+merge-requires-clause-most g c = assumption
+
+pub merge-requires-clause-few : goal.merge-requires-clause-few
+merge-requires-clause-few g c = grind arith
+
+pub wants_refill-requires-after_bounds : goal.wants_refill-requires-after_bounds
+wants_refill-requires-after_bounds g c = assumption
+
+pub refill-requires-clause-empty : goal.refill-requires-clause-empty
+refill-requires-clause-empty g c = grind arith
+
+pub has_run-more-requires-after_bounds : goal.has_run-more-requires-after_bounds
+has_run-more-requires-after_bounds g c = grind arith
+
+pub merge-requires-in-refilling-clause-most : goal.merge-requires-in-refilling-clause-most
+merge-requires-in-refilling-clause-most g c = omega arith
+
+pub merge-requires-in-refilling-clause-few : goal.merge-requires-in-refilling-clause-few
+merge-requires-in-refilling-clause-few g c = assumption

@@ -1,4 +1,5 @@
-use Rattle.std.proofs.Common.{[]}
+use Rattle.std.proofs.Common.{[], arith}
+use Rattle.std.proofs.lemmas.Grind.{common_steps}
 use Rattle.ppq_queue.specs.Stores.{Refuses}
 use Rattle.ppq_queue.proofs.Moves.{ok-map}
 use Rattle.ppq_queue.proofs.Stores.{kept-more, holds-more, refused-alone, err-map, not_ok, on_given}
@@ -27,3 +28,15 @@ returns g c =
       readied = ok-map c.refill.result (λ ready. record { holds = holds-more kept holds ready.holds; some = ready.some }) e.readied;
       refused = err-map c.refill.result (refused-alone g.S.Slot.shown g.R.Ord.cmp g.R.Record.record_of g.R.Record.WIDTH [] [] c.args.self.now c.refill.new.self) e.failed;
     }
+
+pub has_run-requires-after_bounds : goal.has_run-requires-after_bounds
+has_run-requires-after_bounds g c = assumption
+
+pub returns-then-not-has_run : goal.returns-then-not-has_run
+returns-then-not-has_run g c = grind arith
+
+pub settle-requires-clause-works : goal.settle-requires-clause-works
+settle-requires-clause-works g c = assumption
+
+pub refill-requires-clause-empty : goal.refill-requires-clause-empty
+refill-requires-clause-empty g c = grind (arith, common_steps)

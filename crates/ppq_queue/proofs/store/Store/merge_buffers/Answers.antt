@@ -1,4 +1,4 @@
-use Rattle.std.proofs.Common.{ap, inl, ◌∙◌}
+use Rattle.std.proofs.Common.{ap, inl, ◌∙◌, arith}
 use Rattle.ppq_queue.proofs.Bounds.{half_idle}
 use Rattle.ppq_queue.proofs.Moves.{ok-map2}
 use Rattle.ppq_queue.proofs.Stores.{leaves-same, leaves-after, leaves-given, not_ok}
@@ -30,3 +30,15 @@ returns g c =
       leaves = leaves-after c.in_ok-merge_runs.ensures.leaves two.levels.leaves;
       idle = ok-map2 c.settle.result (λ few holds. record { few = few; idle = half_idle g.S.Slot.shown g.R.Ord.cmp g.R.Record.record_of g.R.Record.WIDTH z.sizes z.body z.supply holds.works.runs.rest (inl none) }) two.few two.levels.leaves.holds;
     }
+
+pub are_few_idle-requires-clause-works : goal.are_few_idle-requires-clause-works
+are_few_idle-requires-clause-works g c = assumption
+
+pub merge_runs-requires-clause-may : goal.merge_runs-requires-clause-may
+merge_runs-requires-clause-may g c = assumption
+
+pub merge_runs-requires-clause-some : goal.merge_runs-requires-clause-some
+merge_runs-requires-clause-some g c = omega arith
+
+pub settle-requires-clause-works : goal.settle-requires-clause-works
+settle-requires-clause-works g c = grind arith

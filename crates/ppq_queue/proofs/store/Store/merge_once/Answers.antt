@@ -1,4 +1,5 @@
 use Rattle.std.proofs.Common.{◌+◌, ◌≤◌, [], ap, subst, sym, arith, refl, inl}
+use Rattle.std.proofs.lemmas.Grind.{common_steps}
 use Rattle.ppq_extract.specs.ppq_array.Holdings.{external_buffers}
 use Rattle.ppq_extract.specs.ppq_array.Kept.{HasFailed}
 use Rattle.ppq_extract.specs.ppq_fetch.Fetching.{fronts_in}
@@ -71,3 +72,18 @@ returns g c =
       };
       fewer = ok-map m.result (λ merged. fewer-leveled shown cmp record_of width n a b s t rest kept e.size e.lanes refl merged.buffers level c.requires.level merged) e.merged;
     }
+
+pub merge_level-answer-requires-clause-level : goal.merge_level-answer-requires-clause-level
+merge_level-answer-requires-clause-level g c = assumption
+
+pub merge_level-answer-requires-clause-more : goal.merge_level-answer-requires-clause-more
+merge_level-answer-requires-clause-more g c = assumption
+
+pub merge_level-answer-requires-clause-worker : goal.merge_level-answer-requires-clause-worker
+merge_level-answer-requires-clause-worker g c = omega arith
+
+pub merge_level-answer-requires-clause-bench : goal.merge_level-answer-requires-clause-bench
+merge_level-answer-requires-clause-bench g c = omega arith
+
+pub merge_level-answer-requires-clause-ascend : goal.merge_level-answer-requires-clause-ascend
+merge_level-answer-requires-clause-ascend g c = grind (arith, common_steps)

@@ -40,3 +40,9 @@ returns g c =
       };
       none = ok-map m.result (λ stored. stored.internal) e.stored;
     }
+
+pub store_buffers-answer-requires-clause-some : goal.store_buffers-answer-requires-clause-some
+store_buffers-answer-requires-clause-some g c = assumption
+
+pub store_buffers-answer-requires-clause-ascend : goal.store_buffers-answer-requires-clause-ascend
+store_buffers-answer-requires-clause-ascend g c = grind arith

@@ -62,3 +62,6 @@ returns g c =
       few = ok-map m.result (λ r. omega (arith, r.external, c.requires.may.few)) e.refilled;
       failed = by_fault (FailsAlone shown (record x { body = b; supply = t; extract = v; sources = m.new.sources })) m.result e.device_alone (λ number err. failed-right number (body_slots shown b) t.kept (e.device number err).failed);
     }
+
+pub refill-answer-requires-clause-empty : goal.refill-answer-requires-clause-empty
+refill-answer-requires-clause-empty g c = assumption

@@ -31,3 +31,6 @@ returns g c =
       levels = i.so_far;
       few = levels_few c.loop-level.self.body.runs.external.items (λ k d h. (i.so_far.leaves.holds.works.runs.rest.external k d h).level) (λ j h. i.levels j (omega arith));
     }
+
+pub settle_level-requires-clause-level : goal.settle_level-requires-clause-level
+settle_level-requires-clause-level g c = omega arith

@@ -1,4 +1,4 @@
-use Rattle.std.proofs.Common.{◌∙◌, refl}
+use Rattle.std.proofs.Common.{◌∙◌, refl, arith}
 use Rattle.ppq_queue.proofs.Stores.{levels-same, levels-on, levels-after, levels-given, not_ok}
 use Rattle.ppq_queue.proofs.store.Store.settle_level.Goals as goal
 
@@ -24,3 +24,15 @@ returns-in_err-merge_once g c =
 
 pub returns-clause-leaves : goal.returns-clause-leaves
 returns-clause-leaves g c = c.loop-self.invariant
+
+pub merge_once-requires-clause-level : goal.merge_once-requires-clause-level
+merge_once-requires-clause-level g c = assumption
+
+pub merge_once-requires-clause-more : goal.merge_once-requires-clause-more
+merge_once-requires-clause-more g c = grind arith
+
+pub loop-self-smaller : goal.loop-self-smaller
+loop-self-smaller g c = grind arith
+
+pub returns-clause-level : goal.returns-clause-level
+returns-clause-level g c = grind arith

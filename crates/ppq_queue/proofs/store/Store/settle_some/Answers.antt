@@ -15,3 +15,9 @@ returns-then-not-has_run g c =
 
 pub returns : goal.returns
 returns g c = c.settle.ensures
+
+pub has_run-requires-after_bounds : goal.has_run-requires-after_bounds
+has_run-requires-after_bounds g c = assumption
+
+pub settle-requires-clause-works : goal.settle-requires-clause-works
+settle-requires-clause-works g c = assumption

@@ -9,3 +9,6 @@ store_rest-requires-clause-may g c κs within = (let e = c.in_ok-settle_some.ens
 
 pub returns : goal.returns
 returns g c = record { leaves = leaves-after c.in_ok-settle_some.ensures.levels.leaves c.store_rest.ensures.leaves; emptied = c.store_rest.ensures.emptied }
+
+pub settle_some-requires-clause-works : goal.settle_some-requires-clause-works
+settle_some-requires-clause-works g c = assumption

@@ -24,3 +24,9 @@ returns g c =
       };
       merged = λ t. ok-map c.merge_buffers.result (λ half. half.idle) two.idle;
     }
+
+pub store_extract-requires-clause-works : goal.store_extract-requires-clause-works
+store_extract-requires-clause-works g c = assumption
+
+pub returns-then-not-merges : goal.returns-then-not-merges
+returns-then-not-merges g c = record { rest = grind arith; merged = grind arith }

@@ -94,3 +94,18 @@ returns g c =
       only = only;
       share = ok-map c.settle.result (λ few. c.clear_share.ensures.share) two.few;
     }
+
+pub share-requires : goal.share-requires
+share-requires g c = assumption
+
+pub sort_share-requires : goal.sort_share-requires
+sort_share-requires g c = assumption
+
+pub share-requires-2 : goal.share-requires-2
+share-requires-2 g c = omega arith
+
+pub store_run-requires-clause-ascends : goal.store_run-requires-clause-ascends
+store_run-requires-clause-ascends g c = grind arith
+
+pub clear_share-requires : goal.clear_share-requires
+clear_share-requires g c = omega arith

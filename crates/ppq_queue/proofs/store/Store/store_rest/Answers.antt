@@ -63,3 +63,6 @@ returns g c =
       leaves = leaves-more stays (holds-rest x b t c.requires.may.works made.kept.body made.kept.no_row v room none moved) leaves;
       emptied = ok-map c.settle.result (λ few. record { no_extract = empty_list c.settle.new.self.extract.items (omega (arith, leaves.stays.extract, ap length none)); few = few }) two.few;
     }
+
+pub store_run-requires-clause-ascends : goal.store_run-requires-clause-ascends
+store_run-requires-clause-ascends g c = grind arith

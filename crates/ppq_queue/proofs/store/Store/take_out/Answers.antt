@@ -49,3 +49,9 @@ gather-requires-clause-may g c κs within = (let e = c.in_ok-settle_some.ensures
 
 pub returns : goal.returns
 returns g c = (let leaves = c.in_ok-settle_some.ensures.levels.leaves in takes-settled c.record_laws.ensures.order leaves.stays.kept leaves.holds c.gather.ensures)
+
+pub settle_some-requires-clause-works : goal.settle_some-requires-clause-works
+settle_some-requires-clause-works g c = assumption
+
+pub gather-requires-clause-list : goal.gather-requires-clause-list
+gather-requires-clause-list g c = assumption
