@@ -1,5 +1,5 @@
 -- What a bulk pop took of a heap, an extract buffer and runs, step by step.
-use Rattle.std.proofs.Common.{◌≡◌, ℕ, ◌+◌, ◌<◌, ◌≤◌, Bool, true, false, List, [], ◌∷◌, ◌++◌, length, Option, Some, None, refl, sym, ap, ◌∙◌, inl, inr, arith, length-append, Ordering}
+use Rattle.std.proofs.Common.{◌≡◌, ℕ, ◌+◌, ◌<◌, ◌≤◌, Bool, true, false, List, [], ◌∷◌, ◌++◌, length, Option, Some, None, refl, sym, ap, ◌∙◌, subst, inl, inr, arith, length-append, Ordering}
 use Rattle.std.specs.Prelude.{◌⊎◌, Result}
 use Rattle.std.specs.Cmp.{IsTotalOrder}
 use Rattle.ppq_heap.proofs.ppq_record.Fronts.{ranks}
@@ -10,14 +10,14 @@ use Rattle.ppq_extract.specs.ppq_fetch.Taking.{AllBelow, NoneBelow}
 use Rattle.ppq_extract.specs.Extracted.{Held}
 use Rattle.ppq_extract.proofs.ppq_fetch.Parted.{taken_none, taken_same, taken_of}
 use Rattle.ppq_queue.specs.Resting.{runs_bag, count_of}
-use Rattle.ppq_queue.specs.Stores.{StoreKept, MayWork, Holds, stored, slots_in, whole_bag}
+use Rattle.ppq_queue.specs.Stores.{StoreKept, HeapsStay, MayWork, Holds, stored, slots_in, whole_bag}
 use Rattle.ppq_queue.specs.declared.store.Store.{Store}
 use Rattle.ppq_queue.specs.Out.{Listed}
-use Rattle.ppq_queue.specs.Bulk.{Merged, HasEnded, TookOut, TookAll, TakesOut}
+use Rattle.ppq_queue.specs.Bulk.{Merged, MergesTo, HasEnded, TookOut, TookAll, TakesOut}
 use Rattle.ppq_queue.proofs.Bounds.{bag_length}
 use Rattle.ppq_queue.proofs.Merging.{exhausted-runs}
 use Rattle.ppq_queue.proofs.Moves.{kept-refl, ok-map}
-use Rattle.ppq_queue.proofs.Stores.{same-sources, kept-more, works-step, holds-beside, refused-more, err-map}
+use Rattle.ppq_queue.proofs.Stores.{same-sources, heaps-more, kept-more, kept-step, works-step, holds-beside, refused-more, err-map}
 
 pub empty_list : {X : Type 0} (l : List X) → length l ≡ 0 → l ≡ []
 empty_list [] h = refl
@@ -44,15 +44,24 @@ module _ {S R : Type 0} (shown : S → Shown) (cmp : R → R → Ordering) (reco
     Dry : x.extract.items ≡ [] → 0 < count_of x.body → Stands h x out
     Done : (limit ≡ None → length h + stored x ≡ 0) → (AllTell (slots_in shown x) → NoneBelow cmp limit (whole_bag shown cmp record_of width h x)) → Stands h x out
 
+  -- what a bulk pop took so far, and where its merge ended
+  pub record Gathers (before after : Shares R) (x y : Store S R) (was now : Listed R) : Type 0 where
+    pub kept : StoreKept shown x y
+    pub heaps : HeapsStay before after
+    pub took : TookOut shown cmp record_of width limit most (items_of before) (items_of after) x y now.items
+    pub stands : Stands (items_of after) y now.items
+    pub few : length y.body.runs.external.items ≤ 64
+    pub list_room : now.room ≡ was.room
+
 module _ {S R : Type 0} (shown : S → Shown) {cmp : R → R → Ordering} (o : IsTotalOrder cmp) (record_of : List ℕ → R) (width : ℕ) (limit : Option R) (most : ℕ) where
   -- runs without records show none
   no_runs : (x : Store S R) → MayWork shown cmp record_of width x → AllTell (slots_in shown x) → count_of x.body ≡ 0 → runs_bag shown record_of width x.body ≡ []
   no_runs x works tell none = empty_list (runs_bag shown record_of width x.body) (bag_length shown cmp record_of width x.sizes x.body x.supply works.runs.rest tell ∙ none)
 
   -- nothing was taken
-  pub took-none : (h : List R) (x : Store S R) → MayWork shown cmp record_of width x → TookOut shown cmp record_of width limit most h h x x []
-  took-none h x works =
-      record {
+  pub took-none : (h : List R) (x : Store S R) {out : List R} → MayWork shown cmp record_of width x → out ≡ [] → TookOut shown cmp record_of width limit most h h x x out
+  took-none h x works none =
+      subst (TookOut shown cmp record_of width limit most h h x x) (sym none) (record {
         works = works;
         quiet = refl;
         few = omega arith;
@@ -60,7 +69,7 @@ module _ {S R : Type 0} (shown : S → Shown) {cmp : R → R → Ordering} (o : 
         fewer = omega arith;
         taken = λ tell. taken_none cmp (ranks o) (whole_bag shown cmp record_of width h x);
         under = λ tell. none_taken cmp limit;
-      }
+      })
 
   -- then a merge took some
   pub took-merged :
@@ -127,6 +136,24 @@ module _ {S R : Type 0} (shown : S → Shown) {cmp : R → R → Ordering} (o : 
       let gone : e ≡ [] = empty_list e (omega (arith, long)) in
       omega (arith, long, none (done.whole gone))))
       (λ tell. exhausted-runs o more limit h e (runs_bag shown record_of width x.body) done (λ f. no_runs x works tell (none f)) (works.ascends tell) (works.order tell))
+
+  -- a merge after what was taken so far
+  pub gathers-merged :
+      {before after after' : Shares R} {x z : Store S R} {v : Held R} {was mid now : Listed R} {more : Bool}
+      → StoreKept shown x z → HeapsStay before after → TookOut shown cmp record_of width limit most (items_of before) (items_of after) x z mid.items → mid.room ≡ was.room → length z.body.runs.external.items ≤ 64
+      → (more ≡ true → 0 < count_of z.body) → (more ≡ false → count_of z.body ≡ 0) → MergesTo cmp most more limit after after' z.extract v mid now
+      → Gathers shown cmp record_of width limit most before after' x (record z { extract = v }) was now
+  gathers-merged {before = before} {after = after} {after' = after'} {x = x} {z = z} {v = v} {mid = mid} {now = now} {more = more} kept heaps took room few some none m =
+      let moves = m.moves in
+      let all = took-merged (items_of before) (items_of after) (items_of after') x z v mid.items now.items more kept took none moves.merged moves.rooms.first m.few in
+      record {
+        kept = kept-more kept (kept-step z z.body z.supply v z.sources (kept-refl shown z.body z.supply) took.works.runs.no_row same-sources moves.rooms.first (λ within. omega (arith, within, moves.merged.fewer, moves.rooms.first)));
+        heaps = heaps-more heaps moves.heaps;
+        took = all;
+        stands = stands-ended (items_of after') (record z { extract = v }) now.items more all.works some none m.ended;
+        few = few;
+        list_room = moves.rooms.list ∙ room;
+      }
 
   -- all that was wanted was taken, where no refill is wanted
   pub took-all :

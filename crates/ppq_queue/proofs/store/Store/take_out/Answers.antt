@@ -1,6 +1,5 @@
 use Rattle.std.proofs.Common.{◌≡◌, ◌∙◌, [], length, sym, ap, subst, inl, refl}
 use Rattle.ppq_heap.specs.Heaps.{items_of}
-use Rattle.ppq_queue.specs.Bulk.{TookOut}
 use Rattle.ppq_queue.specs.Stores.{Refuses}
 use Rattle.ppq_queue.proofs.Took.{took-none, takes-settled}
 use Rattle.ppq_queue.proofs.Stores.{heaps-same, kept-same, not_ok, on_given}
@@ -9,20 +8,19 @@ use Rattle.ppq_queue.proofs.store.Store.take_out.Goals as goal
 pub returns-then-wants_nothing : goal.returns-then-wants_nothing
 returns-then-wants_nothing g c =
     let shown = g.S.Slot.shown in
-    let cmp = g.R.Ord.cmp in
     let x = c.args.self.now in
     let h = items_of c.args.heaps.now in
     let limit = c.args.wanted.now.limit in
     let most = c.args.wanted.now.most in
     let none = c.requires.list.none in
-    let took = took-none shown c.record_laws.ensures.order g.R.Record.record_of g.R.Record.WIDTH limit most h x c.requires.works in
+    let took = took-none shown c.record_laws.ensures.order g.R.Record.record_of g.R.Record.WIDTH limit most h x c.requires.works none in
     let full : length c.args.out.now.items ≡ most = ap length none ∙ sym (c.wants_nothing.ensures.none c.if-wants_nothing.true) in
     record {
       kept = kept-same;
       heaps = heaps-same;
       list_room = refl;
       took = record {
-        took = subst (λ l. TookOut shown cmp g.R.Record.record_of g.R.Record.WIDTH limit most h h x x l) (sym none) took;
+        took = took;
         all = λ unset. inl full;
         low = λ tell. inl full;
         ready = λ l is gone. absurd (c.wants_nothing.ensures.ready c.if-wants_nothing.true l is gone);
