@@ -1,10 +1,12 @@
 -- The bounds of a queue whose runs are at rest: buffers, records, blocks.
 use Rattle.std.proofs.Common.{◌≡◌, ℕ, ◌+◌, ◌-◌, ◌*◌, ◌/◌, ◌<◌, ◌≤◌, List, [], ◌++◌, length, max, sum_by, sym, ap, arith, inl, inr, length-append}
 use Rattle.std.specs.Prelude.{flat_map, vec_capacity, ◌⊎◌}
+use Rattle.std.proofs.lemmas.Nat.{mul-le}
 use Rattle.std.proofs.lemmas.List.Sums.{sum_by-append}
+use Rattle.ppq_extract.proofs.ppq_array.Noted.{all_left}
 use Rattle.std.proofs.Math.Nat.{add-mul, mul_comm, mul_assoc, mul-le-mul_right, div-mul-le_self, lt_of_mul-lt-mul_right}
 use Rattle.std.specs.declared.cmp.Ordering.{Ordering}
-use Rattle.ppq_extract.specs.ppq_outside.Shown.{Shown, AllTell}
+use Rattle.ppq_extract.specs.ppq_outside.Shown.{Shown, Tells, AllTell}
 use Rattle.ppq_extract.specs.ppq_budget.Sizes.{Numbers, AreInRange, fixed_of, heap_of, heaps_of, batch_of, pool_of, blocks_for, room_of}
 use Rattle.ppq_extract.specs.ppq_array.Supply.{Stock}
 use Rattle.ppq_extract.specs.ppq_array.External.{records_in}
@@ -13,7 +15,7 @@ use Rattle.ppq_extract.specs.ppq_fetch.Fetching.{blocks_in}
 use Rattle.ppq_spill.specs.Body.{job_slots}
 use Rattle.ppq_spill.specs.declared.body.PassBody.{PassBody}
 use Rattle.ppq_queue.specs.Resting.{AtRest, runs_bag, lane_buffers, count_of, slots_of, odd_in, IsShort}
-use Rattle.ppq_queue.proofs.Counts.{left_tells, arrays_length, runs_some, runs_fit, internal_count, stored_slots, arrays_fit, arrays_written}
+use Rattle.ppq_queue.proofs.Counts.{arrays_length, runs_some, runs_fit, internal_count, stored_slots, arrays_fit, arrays_written}
 use Rattle.ppq_queue.proofs.Odd.{arrays_full, runs_most}
 
 -- the pool is within the budget
@@ -25,6 +27,10 @@ pool_within n h =
 
 pub pool_small : (n : Numbers) → pool_of n ≤ 65536
 pool_small n = omega arith
+
+-- what the blocks of a device hold
+pub blocks_hold : (n : Numbers) → AreInRange n → n.block * n.blocks ≤ 4294967296
+blocks_hold n range = (let most : n.block * n.blocks ≤ 65536 * 65536 = mul-le n.block n.blocks 65536 65536 range.block range.blocks in omega (arith, most))
 
 -- heaps, extract buffer and lanes are in the fixed part
 pub parts_within : (n : Numbers) → AreInRange n → heaps_of n + batch_of n + 2 * batch_of n + lane_buffers n * n.block + n.blocks ≤ fixed_of n
@@ -135,7 +141,7 @@ module _ {S R : Type 0} (shown : S → Shown) (cmp : R → R → Ordering) (reco
   bag_length rest tell =
       let ext = external_slots shown body.runs.external.items in
       let jobs = job_slots shown body.lanes.jobs.items in
-      let told = left_tells record_of width shown ext jobs (left_tells record_of width shown (ext ++ jobs) stock.kept tell) in
+      let told = all_left Tells ext jobs (all_left Tells (ext ++ jobs) stock.kept tell) in
       omega (
         arith,
         length-append (internal_items body.runs.internal.items) (flat_map (records_in record_of width shown) body.runs.external.items),

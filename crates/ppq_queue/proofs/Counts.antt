@@ -2,7 +2,7 @@
 use Rattle.std.proofs.Common.{◌≡◌, ℕ, suc, ◌+◌, ◌-◌, ◌*◌, ◌<◌, ◌≤◌, List, [], ◌∷◌, ◌++◌, length, take, sum_by, All, refl, sym, ap, ◌∙◌, subst, arith, length-append, length-drop}
 use Rattle.std.specs.Prelude.{flat_map, Option, Some, None, IsSome}
 use Rattle.std.proofs.lemmas.List.Sums.{sum_by-cons, sum_by-append}
-use Rattle.std.proofs.lemmas.List.Elements.{All-head, All-tail, All-cons}
+use Rattle.std.proofs.lemmas.List.Elements.{All-head, All-tail}
 use Rattle.std.proofs.lemmas.List.Concat.{flat_map-cons}
 use Rattle.std.proofs.lemmas.Nat.{mul-le}
 use Rattle.std.proofs.Math.Nat.{suc-mul, zero-mul, add-mul}
@@ -15,6 +15,7 @@ use Rattle.ppq_extract.specs.ppq_array.Run.{Run, items_of, buffers_of}
 use Rattle.ppq_extract.specs.ppq_array.External.{External, counts, waiting, size_of, records_in, blocks_items, block_items}
 use Rattle.ppq_extract.specs.ppq_array.Owner.{HasBlock, slots_shown}
 use Rattle.ppq_extract.specs.ppq_array.Holdings.{internal_items, internal_buffers, external_buffers, external_slots, RunHasBlock}
+use Rattle.ppq_extract.proofs.ppq_array.Noted.{all_left, all_right}
 use Rattle.ppq_extract.specs.ppq_fetch.Fetching.{IsFitting, one_if_some, fronts_in, blocks_in, count_in}
 use Rattle.ppq_spill.proofs.Keeping.{slots_long}
 use Rattle.ppq_queue.specs.Resting.{IsRestingRun, IsRestingArray}
@@ -36,14 +37,10 @@ module _ {R : Type 0} where
       let more = buffers_fit block bs (All-tail (HasBlock block) b bs h) (All-tail IsFitting b bs f) in
       omega (arith, here, size, more, one_more (length bs) block, ap length (flat_map-cons (λ (x : Block R). x.items) b bs), length-append b.items (all_items bs))
 
-  right_part : (P : Block R → Type 0) (xs ys : List (Block R)) → All P (xs ++ ys) → All P ys
-  right_part P [] ys a = a
-  right_part P (x ∷ xs) ys a = right_part P xs ys (All-tail P x (xs ++ ys) a)
-
   -- so does a run
   pub run_fits : (block : ℕ) (run : Run R) → RunHasBlock block run → All IsFitting (buffers_of run) → length (items_of run) ≤ length (buffers_of run) * block
   run_fits block run h f =
-      let live = buffers_fit block run.live (right_part (HasBlock block) run.spent run.live h) (right_part IsFitting run.spent run.live f) in
+      let live = buffers_fit block run.live (all_right (HasBlock block) run.spent run.live h) (all_right IsFitting run.spent run.live f) in
       let more : length run.live * block ≤ length (buffers_of run) * block = mul-le (length run.live) block (length (buffers_of run)) block (omega (arith, length-append run.spent run.live)) (omega arith) in
       omega (arith, live, more, length-drop run.taken (all_items run.live))
 
@@ -151,22 +148,14 @@ module _ {S R : Type 0} where
           sum_by-cons (λ (x : DeviceBlock S R). x.count) b bs,
         )
 
-    pub left_tells : (xs ys : List Shown) → All Tells (xs ++ ys) → All Tells xs
-    left_tells [] ys a = λ k d h. absurd (omega arith)
-    left_tells (x ∷ xs) ys a = All-cons Tells x xs (All-head Tells x (xs ++ ys) a) (left_tells xs ys (All-tail Tells x (xs ++ ys) a))
-
-    right_tells : (xs ys : List Shown) → All Tells (xs ++ ys) → All Tells ys
-    right_tells [] ys a = a
-    right_tells (x ∷ xs) ys a = right_tells xs ys (All-tail Tells x (xs ++ ys) a)
-
     -- where slots tell, runs have as many records as they count
     pub arrays_length : (block : ℕ) (arrays : List (External S R)) → All (IsRestingArray shown width block) arrays → All Tells (external_slots shown arrays) → length (flat_map (records_in record_of width shown) arrays) ≡ sum_by size_of arrays
     arrays_length block [] all tell = refl
     arrays_length block (x ∷ xs) all tell =
         let is = All-head (IsRestingArray shown width block) x xs all in
         let told = subst (All Tells) (flat_map-cons (λ (y : External S R). slots_shown shown y.stored) x xs) tell in
-        let stored = left_tells (slots_shown shown x.stored) (external_slots shown xs) told in
-        let rest = right_tells (slots_shown shown x.stored) (external_slots shown xs) told in
+        let stored = all_left Tells (slots_shown shown x.stored) (external_slots shown xs) told in
+        let rest = all_right Tells (slots_shown shown x.stored) (external_slots shown xs) told in
         omega (
           arith,
           ap length (flat_map-cons (records_in record_of width shown) x xs),

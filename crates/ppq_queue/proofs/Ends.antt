@@ -13,6 +13,7 @@ use Rattle.ppq_queue.specs.Bulk.{IsEnd, EndsBy, kept_below}
 use Rattle.ppq_queue.specs.declared.limit_end.LimitEnd.{LimitEnd}
 use Rattle.ppq_queue.specs.declared.limit_end.LimitEnd.TheVariants.{All, More, Round}
 use Rattle.ppq_queue.proofs.Least.{least-le, least-none}
+use Rattle.ppq_queue.proofs.Merging.{kept_is, kept_none}
 
 module _ {R : Type 0} {cmp : R → R → Ordering} (o : IsTotalOrder cmp) (same : (x y : R) → cmp x y ≡ Equal → x ≡ y) where
   -- what is left where a front was taken
@@ -28,28 +29,16 @@ module _ {R : Type 0} {cmp : R → R → Ordering} (o : IsTotalOrder cmp) (same 
       let one : ◌≡◌ {A = ℕ} (cond (p z) 1 0) 1 = ap (λ (w : R). cond (is_before cmp w l) 1 0) is ∙ ap (λ b. cond b 1 0) t in
       omega (arith, parts p, count_by-cons p z (zs ++ rest), one)
 
-  is_below : (l y : R) {x : R} → kept_below cmp (Some y) (Some l) ≡ Some x → is_before cmp y l ≡ true
-  is_below l y {x} e = elim (cases_Bool (is_before cmp y l)) as (λ _. is_before cmp y l ≡ true) [
-    | inl t ↦ t
-    | inr f ↦ absurd (let none : ◌≡◌ {A = Option R} None (Some x) = sym (ap (λ b. cond b (Some y) None) f) ∙ e in cc)
-  ]
-
-  not_below : (l y : R) → kept_below cmp (Some y) (Some l) ≡ None → Le (is_before cmp) l y
-  not_below l y e = elim (cases_Bool (is_before cmp y l)) as (λ _. is_before cmp y l ≡ false) [
-    | inl t ↦ absurd (let some : ◌≡◌ {A = Option R} (Some y) None = sym (ap (λ b. cond b (Some y) None) t) ∙ e in cc)
-    | inr f ↦ f
-  ]
-
   -- the least record is below the limit
   pub some_below : (l x : R) (bag : List R) (answer : Option R) → answer ≡ least cmp bag → kept_below cmp answer (Some l) ≡ Some x → 0 < size_below cmp bag l
   some_below l x bag None e kept = cc
-  some_below l x bag (Some y) e kept = counts_one l y (front cmp bag 1) (without_front cmp bag 1) bag (sym e) (front-parts o bag 1) (is_below l y kept)
+  some_below l x bag (Some y) e kept = counts_one l y (front cmp bag 1) (without_front cmp bag 1) bag (sym e) (front-parts o bag 1) (kept_is cmp (Some l) y x kept).1.0
 
   -- the least record is not below the limit, or there is none
   pub none_below : (l : R) (bag : List R) (answer : Option R) → answer ≡ least cmp bag → kept_below cmp answer (Some l) ≡ None → size_below cmp bag l ≡ 0
   none_below l bag None e kept = ap (λ (xs : List R). size_below cmp xs l) (least-none o same bag (sym e))
   none_below l bag (Some y) e kept =
-      none_pass (λ x. is_before cmp x l) bag (Each-weaker (Le (is_before cmp) y) (Le (is_before cmp) l) (λ z k. Le-trans (is_before cmp) (ranks o) l y z (not_below l y kept) k) bag (least-le o same y bag (sym e)))
+      none_pass (λ x. is_before cmp x l) bag (Each-weaker (Le (is_before cmp) y) (Le (is_before cmp) l) (λ z k. Le-trans (is_before cmp) (ranks o) l y z (kept_none cmp l y kept) k) bag (least-le o same y bag (sym e)))
 
   -- what is counted below the limit tells that the list is full
   full_list : (l : R) (given left : List R) (most : ℕ) → (length given ≡ most) ⊎ NoneBelow cmp (Some l) left → 0 < size_below cmp left l → length given ≡ most

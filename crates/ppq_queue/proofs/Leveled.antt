@@ -3,7 +3,6 @@ use Rattle.std.proofs.Common.{◌≡◌, ℕ, zero, suc, ◌+◌, ◌*◌, ◌<�
 use Rattle.std.specs.Prelude.{◌⊎◌, flat_map, vec_capacity, count_by}
 use Rattle.std.specs.List.Sorted.{IsPermutation}
 use Rattle.std.specs.declared.cmp.Ordering.{Ordering}
-use Rattle.std.proofs.lemmas.Nat.{mul-le}
 use Rattle.std.proofs.lemmas.Bool.Decides.{nat_tests}
 use Rattle.std.proofs.lemmas.List.Sums.{sum_by-cons, sum_by-append}
 use Rattle.std.proofs.lemmas.List.Elements.{All-head, All-tail, All-nil, All-push}
@@ -27,7 +26,7 @@ use Rattle.ppq_extract.specs.ppq_array.declared.berth.DeviceBlock.{DeviceBlock}
 use Rattle.ppq_extract.specs.ppq_lane.declared.lanes.Lanes.{Lanes}
 use Rattle.ppq_spill.specs.declared.body.PassBody.{PassBody}
 use Rattle.ppq_queue.specs.Resting.{BodyKept, IsRestingRun, IsRestingArray, AtRest, Moved, LevelShort, slots_of, lane_buffers, odd_of, odd_in, crowd_below, crowd_of}
-use Rattle.ppq_queue.proofs.Bounds.{pool_small, idle_most, idle_some, blocks_few, records_most}
+use Rattle.ppq_queue.proofs.Bounds.{blocks_hold, pool_small, idle_most, idle_some, blocks_few, records_most}
 use Rattle.ppq_queue.proofs.Moves.{rest-moved}
 use Rattle.ppq_queue.proofs.Odd.{odd_made}
 use Rattle.ppq_queue.proofs.Slots.{no_row_more, kept-sums, sum-stored, slots-no_job, quiet-arrays, quiet-same}
@@ -88,11 +87,8 @@ module _ {S R : Type 0} (shown : S → Shown) where
           bounded = rest.bounded;
           few_buffers = omega (arith, idle, pool_small n, range.workers);
           few_blocks = omega (arith, idle, pool_small n, range.workers, range.blocks, blocks_few shown cmp record_of width n a s rest);
-          few_records = omega (arith, records_most shown cmp record_of width n a s rest range budget 0 0 (omega arith) (omega arith), range.memory, many range);
+          few_records = omega (arith, records_most shown cmp record_of width n a s rest range budget 0 0 (omega arith) (omega arith), range.memory, blocks_hold n range);
         }
-      where
-        many : AreInRange n → n.block * n.blocks ≤ 4294967296
-        many range = (let most : n.block * n.blocks ≤ 65536 * 65536 = mul-le n.block n.blocks 65536 65536 range.block range.blocks in omega (arith, most))
 
     count-flat_map : (p : R → Bool) (arrays : List (External S R)) → count_by p (flat_map (records_in record_of width shown) arrays) ≡ sum_by (λ (x : External S R). count_by p (records_in record_of width shown x)) arrays
     count-flat_map p [] = refl

@@ -31,6 +31,21 @@ first_by cmp e one other choice is b c d = sym (ap (λ x. goes_first cmp one x) 
 pub kept_by : {R : Type 0} (cmp : R → R → Ordering) (limit : Option R) (one kept is : Option R) → kept ≡ kept_below cmp one limit → kept ≡ is → kept_below cmp one limit ≡ is
 kept_by cmp limit one kept is b c = sym b ∙ c
 
+module _ {R : Type 0} (cmp : R → R → Ordering) where
+  -- a record that is kept is below the limit, and one that is not kept is not
+  pub kept_is : (bound : Option R) (x next : R) → kept_below cmp (Some x) bound ≡ Some next → (x ≡ next) × AllBelow cmp bound (x ∷ [])
+  kept_is None x next e = (some_is x next e, tt)
+  kept_is (Some l) x next e = elim (cases_Bool (is_before cmp x l)) as (λ _. (x ≡ next) × AllBelow cmp (Some l) (x ∷ [])) [
+    | inl t ↦ (some_is x next (sym (ap (λ b. cond b (Some x) None) t) ∙ e), (t, tt))
+    | inr f ↦ absurd (let none : ◌≡◌ {A = Option R} None (Some next) = sym (ap (λ b. cond b (Some x) None) f) ∙ e in cc)
+  ]
+
+  pub kept_none : (l x : R) → kept_below cmp (Some x) (Some l) ≡ None → Le (is_before cmp) l x
+  kept_none l x e = elim (cases_Bool (is_before cmp x l)) as (λ _. is_before cmp x l ≡ false) [
+    | inl t ↦ absurd (let some : ◌≡◌ {A = Option R} (Some x) None = sym (ap (λ b. cond b (Some x) None) t) ∙ e in cc)
+    | inr f ↦ f
+  ]
+
 no_list : {R : Type 0} (h e runs : List R) → h ++ e ≡ [] → (e ≡ [] → runs ≡ []) → h ++ e ++ runs ≡ []
 no_list [] [] runs z w = w refl
 no_list [] (y ∷ ys) runs z w = cc
@@ -165,20 +180,6 @@ module _ {R : Type 0} {cmp : R → R → Ordering} (o : IsTotalOrder cmp) (same 
   extract_le y h None e first = subst (λ (l : List R). Each (Le (is_before cmp) y) l) (sym (least-none o same h (sym e))) tt
   extract_le y h (Some z) e first = le_all o y z h ((ranks o).one_way y z (not_false (is_before cmp y z) first)) (least-le o same z h (sym e))
 
-  -- a record that is kept is below the limit, and one that is not kept is not
-  kept_is : (bound : Option R) (x next : R) → kept_below cmp (Some x) bound ≡ Some next → (x ≡ next) × AllBelow cmp bound (x ∷ [])
-  kept_is None x next e = (some_is x next e, tt)
-  kept_is (Some l) x next e = elim (cases_Bool (is_before cmp x l)) as (λ _. (x ≡ next) × AllBelow cmp (Some l) (x ∷ [])) [
-    | inl t ↦ (some_is x next (sym (ap (λ b. cond b (Some x) None) t) ∙ e), (t, tt))
-    | inr f ↦ absurd (let none : ◌≡◌ {A = Option R} None (Some next) = sym (ap (λ b. cond b (Some x) None) f) ∙ e in cc)
-  ]
-
-  kept_none : (l x : R) → kept_below cmp (Some x) (Some l) ≡ None → Le (is_before cmp) l x
-  kept_none l x e = elim (cases_Bool (is_before cmp x l)) as (λ _. is_before cmp x l ≡ false) [
-    | inl t ↦ absurd (let some : ◌≡◌ {A = Option R} (Some x) None = sym (ap (λ b. cond b (Some x) None) t) ∙ e in cc)
-    | inr f ↦ f
-  ]
-
   -- the heaps' least record went
   pub heap_moved :
       (h h' e out : List R) (one popped : Option R) (next : R)
@@ -190,7 +191,7 @@ module _ {R : Type 0} {cmp : R → R → Ordering} (o : IsTotalOrder cmp) (same 
       let y_is : y ≡ x = some_is y x (was ∙ sym is) in
       let bag : IsSameBag h (x ∷ h') = subst (λ (z : R). IsSameBag h (z ∷ h')) y_is taken in
       let low = Each-same_bag (λ z. is_before cmp z x) h (x ∷ h') bag (least-le o same x h (sym is)) in
-      let keep = kept_is limit x next kept in
+      let keep = kept_is cmp limit x next kept in
       subst (λ (z : R). Merged cmp more limit h h' e e out (out ++ z ∷ [])) keep.0 (move_heap x h h' e out whole bag low.1 (heap_le x e first) keep.1)
 
   -- the extract buffer's record went
@@ -198,7 +199,7 @@ module _ {R : Type 0} {cmp : R → R → Ordering} (o : IsTotalOrder cmp) (same 
       (h e out : List R) (one : Option R) (next : R) → one ≡ least cmp h → goes_first cmp one (first_of e) ≡ false → kept_below cmp (first_of e) limit ≡ Some next → Merged cmp more limit h h e (drop 1 e) out (out ++ next ∷ [])
   extract_moved h [] out one next is first kept = cc
   extract_moved h (y ∷ ys) out one next is first kept =
-      let keep = kept_is limit y next kept in
+      let keep = kept_is cmp limit y next kept in
       subst (λ (x : R). Merged cmp more limit h h (y ∷ ys) ys out (out ++ x ∷ [])) keep.0 (move_extract y h ys out (extract_le y h one is first) keep.1)
 
   -- the heaps' least record is the least of all, and it is not below the limit
@@ -207,7 +208,7 @@ module _ {R : Type 0} {cmp : R → R → Ordering} (o : IsTotalOrder cmp) (same 
   heap_ended bound h e None is first kept whole = cc
   heap_ended None h e (Some x) is first kept whole = cc
   heap_ended (Some l) h e (Some x) is first kept whole =
-      let le = kept_none l x kept in
+      let le = kept_none cmp l x kept in
       record {
         whole = whole;
         all = λ n. absurd (cc);
@@ -225,7 +226,7 @@ module _ {R : Type 0} {cmp : R → R → Ordering} (o : IsTotalOrder cmp) (same 
   extract_ended bound h [] (Some x) is first kept whole = cc
   extract_ended None h (y ∷ ys) one is first kept whole = cc
   extract_ended (Some l) h (y ∷ ys) one is first kept whole =
-      let le = kept_none l y kept in
+      let le = kept_none cmp l y kept in
       record {
         whole = whole;
         all = λ n. absurd (cc);

@@ -2,7 +2,6 @@
 use Rattle.std.proofs.Common.{◌≡◌, ℕ, Bool, ◌+◌, ◌-◌, ◌*◌, ◌<◌, ◌≤◌, List, [], ◌∷◌, ◌++◌, length, min, take, drop, get_or, map, Option, None, All, refl, sym, ap, ◌∙◌, subst, arith, append-nil, length-drop}
 use Rattle.std.specs.Prelude.{◌↔◌, flat_map, vec_capacity, count_by}
 use Rattle.std.specs.declared.cmp.Ordering.{Ordering}
-use Rattle.std.proofs.lemmas.Nat.{mul-le}
 use Rattle.std.proofs.lemmas.List.{get_or-take, get_or-drop, length-take}
 use Rattle.std.proofs.lemmas.List.Elements.{All-contains, All-from_recursion, recursion_from_All, All-drop}
 use Rattle.std.proofs.lemmas.List.Concat.{flat_map-cons}
@@ -23,7 +22,7 @@ use Rattle.ppq_extract.specs.ppq_fetch.Fetching.{State, held_in, slots_in, count
 use Rattle.ppq_extract.specs.Extracted.{sources_of, Refilled}
 use Rattle.ppq_spill.specs.declared.body.PassBody.{PassBody}
 use Rattle.ppq_queue.specs.Resting.{BodyKept, IsRestingRun, IsRestingArray, AllRise, AtRest, Readied, runs_bag, slots_of}
-use Rattle.ppq_queue.proofs.Bounds.{pool_small, runs_few, idle_most, records_most}
+use Rattle.ppq_queue.proofs.Bounds.{blocks_hold, pool_small, runs_few, idle_most, records_most}
 use Rattle.ppq_queue.proofs.Counts.{fronts_few}
 use Rattle.ppq_queue.proofs.Odd.{odd_most}
 use Rattle.ppq_queue.proofs.Slots.{slots-no_job, quiet-free}
@@ -102,13 +101,10 @@ module _ {S R : Type 0} (shown : S → Shown) where
             bounded = rest.bounded;
             few_buffers = omega (arith, idle, pool_small n, range.workers);
             few_runs = omega (arith, runs_few shown cmp record_of width n a s rest, pool_small n, few);
-            few_records = omega (arith, records_most shown cmp record_of width n a s rest range budget 0 0 (omega arith) (omega arith), range.memory, many range);
+            few_records = omega (arith, records_most shown cmp record_of width n a s rest range budget 0 0 (omega arith) (omega arith), range.memory, blocks_hold n range);
           };
           none_lifted = recursion_from_All (λ (x : External S R). x.lifted ≡ []) a.runs.external.items (λ k d h. (rest.external k d h).lifted);
         }
-      where
-        many : AreInRange n → n.block * n.blocks ≤ 4294967296
-        many range = (let most : n.block * n.blocks ≤ 65536 * 65536 = mul-le n.block n.blocks 65536 65536 range.block range.blocks in omega (arith, most))
 
     -- sources are the records of all runs
     count-all_of : (p : R → Bool) (xs ys : List (List R)) → count_by p (all_of (xs ++ ys)) ≡ count_by p (all_of xs) + count_by p (all_of ys)

@@ -19,35 +19,11 @@ returns g c =
       leaves = ap length c.in_ok-tree.ensures.items ∙ length-replicate _ _;
     }
 
-pub overflow_add-buffers : goal.overflow_add-buffers
-overflow_add-buffers g c = omega arith
-
-pub overflow_add-blocks : goal.overflow_add-blocks
-overflow_add-blocks g c = omega arith
-
 pub returns-in_err-runs : goal.returns-in_err-runs
 returns-in_err-runs g c = grind arith
 
-pub overflow_mul-workers : goal.overflow_mul-workers
-overflow_mul-workers g c = omega arith
-
-pub overflow_add-workers : goal.overflow_add-workers
-overflow_add-workers g c = omega arith
-
-pub overflow_mul-workers-2 : goal.overflow_mul-workers-2
-overflow_mul-workers-2 g c = omega arith
-
-pub overflow_add-workers-2 : goal.overflow_add-workers-2
-overflow_add-workers-2 g c = omega arith
-
-pub new-requires-2 : goal.new-requires-2
-new-requires-2 g c = omega arith
-
 pub returns-in_err-lanes : goal.returns-in_err-lanes
 returns-in_err-lanes g c = grind arith
-
-pub overflow_add-buffers-2 : goal.overflow_add-buffers-2
-overflow_add-buffers-2 g c = omega arith
 
 pub returns-in_err-tree : goal.returns-in_err-tree
 returns-in_err-tree g c = grind arith

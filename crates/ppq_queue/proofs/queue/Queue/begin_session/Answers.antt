@@ -31,6 +31,3 @@ returns g c =
       latched = left.latched;
       stays = left.stays;
     }
-
-pub same-self : goal.same-self
-same-self g c = assumption

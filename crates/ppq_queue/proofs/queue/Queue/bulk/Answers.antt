@@ -26,6 +26,3 @@ returns g c =
     let now = c.empty_on_error.new.out in
     let fewer : c.saturating_sub-self-inside.result ≡ c.self.inside.count - length now.items = omega (arith, c.saturating_sub-self-inside.ensures, c.from.ensures, c.len.ensures.value) in
     (bulk-called c.self.invariant.0 c.in_default.is m.result c.self.view_is c.latch.ensures c.args.out.now c.clear.new.self m.new.out now laws.order laws.same c.clear.ensures m.ensures c.empty_on_error.ensures fewer).1
-
-pub same-self : goal.same-self
-same-self g c = assumption

@@ -6,9 +6,6 @@ use Rattle.ppq_queue.proofs.Ends.{end_is}
 use Rattle.ppq_queue.proofs.Calls.{bulk-at, bulk-given, bulk-answered}
 use Rattle.ppq_queue.proofs.queue.Queue.bulk_pop_limit.Goals as goal
 
-pub overflow_cast-most : goal.overflow_cast-most
-overflow_cast-most g c = omega arith
-
 pub bulk-requires-clause-most : goal.bulk-requires-clause-most
 bulk-requires-clause-most g c κs within = omega arith
 

@@ -46,9 +46,6 @@ berth_slots-requires-clause-none g c = grind arith
 pub berth_slots-requires-clause-room : goal.berth_slots-requires-clause-room
 berth_slots-requires-clause-room g c = grind (arith, common_steps)
 
-pub same-heaps : goal.same-heaps
-same-heaps g c = assumption
-
 pub returns-in-Err : goal.returns-in-Err
 returns-in-Err g c = record { bag = tt; size = tt; sizes = tt; peak = tt; sound = tt; unlimited = tt; budget = tt; slots = tt; back = omega arith; need = grind arith }
 

@@ -8,12 +8,6 @@ use Rattle.ppq_queue.specs.Holding.{Holding, IsRefusal}
 use Rattle.ppq_queue.proofs.Flushed.{refusal-raised, keeps-slots, keeps-more}
 use Rattle.ppq_queue.proofs.queue.Queue.push.Goals as goal
 
-pub same-self : goal.same-self
-same-self g c = assumption
-
-pub same-self-2 : goal.same-self-2
-same-self-2 g c = assumption
-
 pub returns-in-Some : goal.returns-in-Some
 returns-in-Some g c =
     let raised = c.raise_peak.ensures in

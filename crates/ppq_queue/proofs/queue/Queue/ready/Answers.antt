@@ -27,6 +27,3 @@ returns g c =
       leaves = left;
       readied = ok-map2 m.result (λ d same. record { sound = same.sound; some = λ gone. omega (arith, gone, d.some (empty_list m.new.self.extract.items gone), counted, d.holds.count) }) e.readied left.same;
     }
-
-pub same-self : goal.same-self
-same-self g c = assumption

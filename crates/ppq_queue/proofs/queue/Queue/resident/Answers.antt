@@ -22,35 +22,11 @@ returns-clause-budget g c =
 pub returns-in_default : goal.returns-in_default
 returns-in_default g c = record { sum = grind arith; budget = omega arith }
 
-pub overflow_mul-lanes : goal.overflow_mul-lanes
-overflow_mul-lanes g c = omega arith
-
-pub overflow_add-lanes : goal.overflow_add-lanes
-overflow_add-lanes g c = omega arith
-
-pub overflow_add-buffers : goal.overflow_add-buffers
-overflow_add-buffers g c = omega arith
-
 pub overflow_mul-buffers : goal.overflow_mul-buffers
 overflow_mul-buffers g c = grind arith
 
 pub overflow_sub-used : goal.overflow_sub-used
 overflow_sub-used g c = grind (arith, common_steps)
-
-pub overflow_mul-batches : goal.overflow_mul-batches
-overflow_mul-batches g c = omega arith
-
-pub overflow_add-result : goal.overflow_add-result
-overflow_add-result g c = omega arith
-
-pub overflow_add-result-2 : goal.overflow_add-result-2
-overflow_add-result-2 g c = omega arith
-
-pub overflow_add-result-3 : goal.overflow_add-result-3
-overflow_add-result-3 g c = omega arith
-
-pub overflow_add-result-4 : goal.overflow_add-result-4
-overflow_add-result-4 g c = grind arith
 
 pub returns-clause-sum : goal.returns-clause-sum
 returns-clause-sum g c = grind arith

@@ -18,6 +18,3 @@ returns g c =
     let e = m.ensures in
     let left = (called-leaves c.self.invariant.0 c.in_default.is m.result c.self.view_is c.latch.ensures e.levels.leaves).1 in
     record { same = left.same; settled = e.few; crowded = e.levels.crowded; refused = left.refused; latched = left.latched; stays = left.stays }
-
-pub same-self : goal.same-self
-same-self g c = assumption

@@ -21,9 +21,6 @@ returns-in_default g c = record { some = grind arith; few = grind arith; enough 
 pub returns-then-is_empty : goal.returns-then-is_empty
 returns-then-is_empty g c = record { some = grind arith; few = grind arith; enough = grind (arith, common_steps) }
 
-pub overflow_sub-result : goal.overflow_sub-result
-overflow_sub-result g c = omega arith
-
 pub returns-clause-few : goal.returns-clause-few
 returns-clause-few g c = grind arith
 

@@ -14,6 +14,3 @@ returns-clause-some g c e =
     let runs = c.args.self.now.body.runs in
     let some : 0 < length runs.internal.items + length runs.external.items = grind (arith, nat_tests) in
     omega (arith, some, count_some g.S.Slot.shown g.R.Record.WIDTH c.args.self.now.supply.block runs.internal.items runs.external.items c.requires.runs.rest.internal c.requires.runs.rest.external)
-
-pub overflow_add-runs : goal.overflow_add-runs
-overflow_add-runs g c = omega arith

@@ -27,6 +27,3 @@ returns g c =
 
 pub store_extract-requires-clause-works : goal.store_extract-requires-clause-works
 store_extract-requires-clause-works g c = assumption
-
-pub returns-then-not-merges : goal.returns-then-not-merges
-returns-then-not-merges g c = record { rest = grind arith; merged = grind arith }
