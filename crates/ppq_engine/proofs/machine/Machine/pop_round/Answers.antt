@@ -1,4 +1,4 @@
-use Rattle.std.proofs.Common.{◌≡◌, Option, None, Some, length, ap, sym, subst, arith}
+use Rattle.std.proofs.Common.{◌≡◌, Option, None, Some, length, refl, ap, sym, subst, arith}
 use Rattle.ppq_script.specs.ppq_record.declared.pair.Pair.{Pair}
 use Rattle.ppq_load.specs.ppq_budget.Sizes.{batch_of}
 use Rattle.ppq_engine.specs.Calls.{PopsRound}
@@ -9,16 +9,16 @@ pub returns-in_ok-_taken-in-None-clause-popped : goal.returns-in_ok-_taken-in-No
 returns-in_ok-_taken-in-None-clause-popped g c =
     let old = c.args.self.now.queue in
     let items = c.bulk_pop.new.out.items in
-    let b = c.in_ok-_taken-in-None.ensures in
+    let b = c.in_ok-_taken-in-None.ensures.pops in
     let room = some_room old.sizes c.known.ensures.range in
     let P : Option Pair → Type 0 = λ below. PopsRound below c.args.count old c.bulk_pop.new.self items in
     subst P (sym c.in-None.is) (record {
-      round = λ tells. round-all old.bag c.bulk_pop.new.self.bag items c.args.count (batch_of old.sizes) c.requires room (b.front tells) (b.rest tells);
-      few = omega (arith, b.count, b.answer);
-      end = λ same none. omega (arith, c.requires, room, b.count, b.answer, ap length none);
+      round = λ tells. round-all old.bag c.bulk_pop.new.self.bag items c.args.count (batch_of old.sizes) c.requires room (b.took.front tells) (b.took.rest tells);
+      few = omega (arith, b.took.few);
+      end = λ same none. omega (arith, c.requires, room, b.took.count refl, ap length none);
       size = b.size;
-      sound = b.sound;
-      quiet = b.quiet;
+      sound = b.took.sound;
+      quiet = b.took.quiet;
     })
 
 pub returns-in_ok-_end-in-Some-clause-popped : goal.returns-in_ok-_end-in-Some-clause-popped
@@ -26,13 +26,13 @@ returns-in_ok-_end-in-Some-clause-popped g c =
     let old = c.args.self.now.queue in
     let limit = c.in-Some.limit in
     let items = c.bulk_pop_limit.new.out.items in
-    let b = c.in_ok-_end-in-Some.ensures in
+    let b = c.in_ok-_end-in-Some.ensures.pops in
     let P : Option Pair → Type 0 = λ below. PopsRound below c.args.count old c.bulk_pop_limit.new.self items in
     subst P (sym c.in-Some.is) (record {
-      round = λ tells. round-low old.bag c.bulk_pop_limit.new.self.bag items limit c.args.count (batch_of old.sizes) c.requires (some_room old.sizes c.known.ensures.range) (b.front tells) (b.rest tells);
-      few = omega (arith, b.few);
+      round = λ tells. round-low old.bag c.bulk_pop_limit.new.self.bag items limit c.args.count (batch_of old.sizes) c.requires (some_room old.sizes c.known.ensures.range) (b.took.front tells) (b.took.rest tells);
+      few = omega (arith, b.took.few);
       end = λ same none. let different : Some limit ≡ None = same in cc;
       size = b.size;
-      sound = b.sound;
-      quiet = b.quiet;
+      sound = b.took.sound;
+      quiet = b.took.quiet;
     })
