@@ -7,7 +7,7 @@ use Rattle.ppq_extract.proofs.ppq_array.Noted.{all_left}
 use Rattle.std.proofs.Math.Nat.{add-mul, mul_comm, mul_assoc, mul-le-mul_right, div-mul-le_self, lt_of_mul-lt-mul_right}
 use Rattle.std.specs.declared.cmp.Ordering.{Ordering}
 use Rattle.ppq_extract.specs.ppq_outside.Shown.{Shown, Tells, AllTell}
-use Rattle.ppq_extract.specs.ppq_budget.Sizes.{Numbers, AreInRange, fixed_of, heap_of, heaps_of, batch_of, pool_of, blocks_for, room_of}
+use Rattle.ppq_extract.specs.ppq_budget.Sizes.{Numbers, AreInRange, fixed_of, heaps_of, batch_of, pool_of, blocks_for, room_of}
 use Rattle.ppq_extract.specs.ppq_array.Supply.{Stock}
 use Rattle.ppq_extract.specs.ppq_array.External.{records_in}
 use Rattle.ppq_extract.specs.ppq_array.Holdings.{internal_items, internal_buffers, external_buffers, external_slots}

@@ -16,10 +16,10 @@ use Rattle.ppq_extract.specs.ppq_array.declared.store_fault.StoreFault.TheVarian
 use Rattle.ppq_queue.specs.Resting.{IsShort}
 use Rattle.ppq_queue.specs.State.{IsQueue, IsSound}
 use Rattle.ppq_queue.specs.Stores.{HeapsStay, StoreKept, StoreLeaves, HeapsLeave, MayWork, Holds, Lacks, Refuses, stored, slots_in, whole_bag}
-use Rattle.ppq_queue.specs.Bulk.{TookOut, TookAll, TakesOut, TookFront, BulkLeaves, left_after}
+use Rattle.ppq_queue.specs.Bulk.{TookAll, TakesOut, TookFront, BulkLeaves, left_after}
 use Rattle.ppq_queue.specs.Out.{Listed, listed}
 use Rattle.ppq_queue.specs.Handed.{viewed, QueueStands}
-use Rattle.ppq_queue.specs.Holding.{Holding, IsAbove, IsRefusal, FoundNoBlock, Keeps, Stays, SameRecords, QueueLeaves, latched}
+use Rattle.ppq_queue.specs.Holding.{Holding, IsAbove, IsRefusal, FoundNoBlock, Keeps, SameRecords, QueueLeaves, latched}
 use Rattle.ppq_queue.specs.declared.store.Store.{Store}
 use Rattle.ppq_queue.proofs.Moves.{ok-map, ok-map2}
 use Rattle.ppq_queue.proofs.Stores.{heaps-same, holds-beside, refused-beside, err-map, err_of, err_is}

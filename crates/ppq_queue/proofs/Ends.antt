@@ -1,9 +1,8 @@
 -- What is left after a bulk pop, and how a bulk pop with a limit ended.
-use Rattle.std.proofs.Common.{◌≡◌, ℕ, ◌<◌, ◌≤◌, min, Bool, true, false, cond, List, [], ◌∷◌, ◌++◌, length, Option, Some, None, sym, ap, ◌∙◌, inl, inr, arith, Ordering}
+use Rattle.std.proofs.Common.{◌≡◌, ℕ, ◌<◌, min, Bool, true, cond, List, [], ◌∷◌, ◌++◌, length, Option, Some, None, sym, ap, ◌∙◌, inl, inr, arith, Ordering}
 use Rattle.std.specs.Prelude.{count_by, ◌⊎◌}
 use Rattle.std.specs.declared.cmp.Ordering.TheVariants.{Equal}
 use Rattle.std.specs.Cmp.{IsTotalOrder}
-use Rattle.std.proofs.lemmas.Bool.{cases_Bool}
 use Rattle.ppq_heap.specs.ppq_record.Order.{is_before, Le}
 use Rattle.ppq_heap.specs.ppq_record.Bag.{IsSameBag, first_of, least, front, without_front, size_below}
 use Rattle.ppq_heap.proofs.ppq_record.Order.{count_by-cons, count_by-append, Each-weaker, Le-trans, none_pass}

@@ -25,7 +25,7 @@ use Rattle.ppq_spill.specs.Leveling.{MayLevel, AreOneSize, LanesStay, LevelCalls
 use Rattle.ppq_extract.specs.ppq_array.declared.berth.DeviceBlock.{DeviceBlock}
 use Rattle.ppq_extract.specs.ppq_lane.declared.lanes.Lanes.{Lanes}
 use Rattle.ppq_spill.specs.declared.body.PassBody.{PassBody}
-use Rattle.ppq_queue.specs.Resting.{BodyKept, IsRestingRun, IsRestingArray, AtRest, Moved, LevelShort, slots_of, lane_buffers, odd_of, odd_in, crowd_below, crowd_of}
+use Rattle.ppq_queue.specs.Resting.{BodyKept, IsRestingRun, IsRestingArray, AtRest, Moved, LevelShort, slots_of, odd_of, odd_in, crowd_below, crowd_of}
 use Rattle.ppq_queue.proofs.Bounds.{blocks_hold, pool_small, idle_most, idle_some, blocks_few, records_most}
 use Rattle.ppq_queue.proofs.Moves.{rest-moved}
 use Rattle.ppq_queue.proofs.Odd.{odd_made}

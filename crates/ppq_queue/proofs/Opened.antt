@@ -1,6 +1,6 @@
 -- A new queue: its parts are at rest.
 use Rattle.std.proofs.Common.{◌≡◌, ℕ, ◌-◌, ◌*◌, ◌≤◌, List, [], ◌∷◌, ◌++◌, length, map, Option, None, Some, All, sym, ap, ◌∙◌, subst, arith}
-use Rattle.std.specs.Prelude.{flat_map, Result, Ok, Err, OnOk, OnErr, is_err, Bool, true, false}
+use Rattle.std.specs.Prelude.{Result, Ok, Err, OnOk, OnErr, is_err, Bool, true, false}
 use Rattle.std.specs.declared.cmp.Ordering.{Ordering}
 use Rattle.std.proofs.lemmas.List.Elements.{All-nil, All-weaker, All-cons, All-head, All-tail}
 use Rattle.ppq_heap.specs.ppq_record.Order.{Ascends}
@@ -11,7 +11,7 @@ use Rattle.ppq_extract.specs.ppq_array.Run.{Run, items_of}
 use Rattle.ppq_extract.specs.ppq_array.External.{External, records_in}
 use Rattle.ppq_extract.specs.ppq_array.Supply.{Stock}
 use Rattle.ppq_extract.specs.ppq_array.Owner.{HasBlock}
-use Rattle.ppq_extract.specs.ppq_array.Holdings.{internal_buffers, external_buffers, external_slots, internal_items}
+use Rattle.ppq_extract.specs.ppq_array.Holdings.{internal_buffers, external_buffers, external_slots}
 use Rattle.ppq_extract.specs.ppq_fetch.Fetching.{fronts_in, count_in}
 use Rattle.ppq_extract.specs.ppq_fetch.Taking.{NoneAfter}
 use Rattle.ppq_spill.specs.Body.{job_slots}

@@ -4,7 +4,7 @@ use Rattle.std.specs.Prelude.{count_by, ◌⊎◌, ◌↔◌, IfSome, IsNone, Re
 use Rattle.std.specs.declared.cmp.Ordering.TheVariants.{Equal}
 use Rattle.std.specs.Cmp.{IsTotalOrder}
 use Rattle.ppq_heap.specs.ppq_record.Order.{is_before, Le, Ascends}
-use Rattle.ppq_heap.specs.ppq_record.Bag.{IsSameBag, first_of, without_front, least, ascending}
+use Rattle.ppq_heap.specs.ppq_record.Bag.{IsSameBag, first_of, least, ascending}
 use Rattle.ppq_heap.proofs.ppq_record.Order.{Each-append, count_by-cons, count_by-append, IsSameBag-length, in_order-same_bag}
 use Rattle.ppq_heap.proofs.ppq_record.Fronts.{ranks}
 use Rattle.ppq_extract.specs.ppq_fetch.Taking.{NoneAfter}

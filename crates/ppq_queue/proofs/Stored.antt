@@ -14,13 +14,13 @@ use Rattle.ppq_extract.specs.ppq_array.Run.{Run, items_of, buffers_of}
 use Rattle.ppq_extract.specs.ppq_array.External.{External, size_of, records_in, IsPacked}
 use Rattle.ppq_extract.specs.ppq_array.Supply.{Stock}
 use Rattle.ppq_extract.specs.ppq_array.Kept.{Kept, SameSlots, SameSums, AreQuiet, all_writes, all_faults}
-use Rattle.ppq_extract.specs.ppq_array.Holdings.{internal_items, internal_buffers, external_buffers, external_slots, RunHasBlock, ArrayHasSize, CanTakeBack}
+use Rattle.ppq_extract.specs.ppq_array.Holdings.{internal_items, external_buffers, external_slots, RunHasBlock, ArrayHasSize, CanTakeBack}
 use Rattle.ppq_extract.proofs.ppq_array.Noted.{all_right}
 use Rattle.ppq_extract.specs.ppq_fetch.Fetching.{IsFitting, fronts_in, one_if_some, count_in}
 use Rattle.ppq_spill.specs.Body.{held_by}
 use Rattle.ppq_spill.specs.Storing.{in_buffers, NoSlots, MayStore, HasOneSize, LanesRest, RoomsRest, IsInBuffers, BlocksStored, IsStored, NoneFree, WritesFew, StillTell}
 use Rattle.ppq_spill.specs.declared.body.PassBody.{PassBody}
-use Rattle.ppq_queue.specs.Resting.{BodyKept, IsRestingRun, IsRestingArray, AllRise, AtRest, Moved, StoreShort, runs_bag, slots_of, lane_buffers, odd_in}
+use Rattle.ppq_queue.specs.Resting.{BodyKept, IsRestingRun, IsRestingArray, AllRise, AtRest, Moved, StoreShort, runs_bag, slots_of, odd_in}
 use Rattle.ppq_queue.proofs.Bounds.{pool_within, pool_small, runs_few, idle_most, idle_some, in_buffers_few}
 use Rattle.ppq_queue.proofs.Counts.{internal_count}
 use Rattle.ppq_queue.proofs.Moves.{rest-moved}

@@ -1,6 +1,6 @@
 -- Calls of a store, one after the other: what stays, and what heaps and store hold together.
-use Rattle.std.proofs.Common.{◌≡◌, ℕ, ◌+◌, ◌<◌, ◌≤◌, List, [], ◌∷◌, ◌++◌, length, Bool, true, false, cond, refl, sym, ap, ◌∙◌, subst, arith, inl, inr, length-append}
-use Rattle.std.specs.Prelude.{◌⊎◌, ◌==◌, count_by, Result, Ok, Err, OnOk, IfErr, IsErrOf, IsErrAnd, ⊤}
+use Rattle.std.proofs.Common.{◌≡◌, ℕ, ◌+◌, ◌<◌, ◌≤◌, List, [], ◌∷◌, ◌++◌, length, Bool, true, false, cond, refl, sym, ap, ◌∙◌, subst, arith, inr, length-append}
+use Rattle.std.specs.Prelude.{◌==◌, count_by, Result, Ok, Err, OnOk, IfErr, IsErrOf, IsErrAnd, ⊤}
 use Rattle.std.specs.declared.cmp.Ordering.{Ordering}
 use Rattle.std.proofs.lemmas.List.Sums.{sum_by-cons, sum_by-append}
 use Rattle.ppq_heap.specs.ppq_record.Order.{Ascends}

@@ -1,5 +1,5 @@
 -- Which of two least records goes first.
-use Rattle.std.specs.Prelude.{◌≡◌, ℕ, ◌+◌, ◌-◌, ◌≤◌, Bool, true, false, not, cond, List, ◌++◌, length, Option, Some, None}
+use Rattle.std.specs.Prelude.{◌≡◌, ◌+◌, ◌-◌, ◌≤◌, Bool, true, false, not, cond, List, ◌++◌, length, Option, Some, None}
 use Rattle.std.specs.declared.cmp.Ordering.{Ordering}
 use Rattle.ppq_heap.specs.ppq_record.Order.{is_before, Ascends}
 use Rattle.ppq_heap.specs.ppq_record.Bag.{IsSameBag, first_of, least, without_front}

@@ -1,4 +1,4 @@
-use Rattle.std.proofs.Common.{◌≡◌, ℕ, ◌+◌, ◌-◌, ◌++◌, ◌∙◌, length, ap, arith}
+use Rattle.std.proofs.Common.{◌≡◌, ℕ, ◌-◌, ◌++◌, ◌∙◌, length, ap, arith}
 use Rattle.std.specs.Prelude.{count_by}
 use Rattle.ppq_heap.specs.ppq_record.Bag.{least, without_front}
 use Rattle.ppq_heap.specs.Heaps.{items_of, share_at}

@@ -1,4 +1,4 @@
-use Rattle.std.proofs.Common.{◌≡◌, ◌∙◌, [], length, sym, ap, subst, inl, refl}
+use Rattle.std.proofs.Common.{◌≡◌, ◌∙◌, [], length, sym, ap, inl, refl}
 use Rattle.ppq_heap.specs.Heaps.{items_of}
 use Rattle.ppq_queue.specs.Stores.{Refuses}
 use Rattle.ppq_queue.proofs.Took.{took-none, takes-settled}
