@@ -1,10 +1,10 @@
 -- Asks that a front answers in turn: of equal bags the answers are the same, and one ask more.
-use Rattle.std.proofs.Common.{◌≡◌, ℕ, zero, suc, ◌+◌, ◌<◌, ◌≤◌, List, [], ◌∷◌, ◌++◌, length, take, get_or, min, Option, None, refl, sym, ap, ap₂, ◌∙◌, subst, arith, length-append, length-take, Ordering}
+use Rattle.std.proofs.Common.{◌≡◌, ℕ, zero, suc, ◌+◌, ◌<◌, ◌≤◌, List, [], ◌∷◌, ◌++◌, length, take, get_or, Option, None, refl, sym, ap, ap₂, ◌∙◌, subst, arith, length-append, length-take, Ordering}
 use Rattle.std.specs.declared.cmp.Ordering.TheVariants.{Equal}
 use Rattle.std.specs.Cmp.{IsTotalOrder}
-use Rattle.std.specs.Prelude.{count_by, drop}
+use Rattle.std.specs.Prelude.{count_by}
 use Rattle.std.proofs.lemmas.List.{take_more, take_all}
-use Rattle.ppq_pass.specs.ppq_record.Bag.{IsSameBag, ascending, first_of}
+use Rattle.ppq_pass.specs.ppq_record.Bag.{IsSameBag}
 use Rattle.ppq_pass.proofs.ppq_record.Order.{IsSameBag-trans}
 use Rattle.ppq_session.proofs.Belows.{least_below-same, without_below-same}
 use Rattle.ppq_pass.specs.ppq_outside.Shown.{AllTell}
@@ -64,28 +64,11 @@ pops_in-take (suc n) (ask ∷ asks) = omega (arith, pops_in-take n asks)
 
 module _ {S R : Type 0} where
   KeepsFront-refl : (front : FrontHolding S R) → KeepsFront 0 front front
-  KeepsFront-refl front = record {
-    limit = refl;
-    sizes = refl;
-    peak = refl;
-    row = refl;
-    items = refl;
-    pool = refl;
-    total = refl;
-    popped = omega arith;
-    slots = SameSlots-refl front.slots;
-    tells = λ t. t;
-    writes = omega arith;
-  }
+  KeepsFront-refl front = record { rest = refl; total = refl; popped = omega arith; slots = SameSlots-refl front.slots; tells = λ t. t; writes = omega arith }
 
   KeepsFront-trans : (n m : ℕ) (old mid new : FrontHolding S R) → KeepsFront n old mid → KeepsFront m mid new → KeepsFront (n + m) old new
   KeepsFront-trans n m old mid new one two = record {
-    limit = two.limit ∙ one.limit;
-    sizes = two.sizes ∙ one.sizes;
-    peak = two.peak ∙ one.peak;
-    row = two.row ∙ one.row;
-    items = two.items ∙ one.items;
-    pool = two.pool ∙ one.pool;
+    rest = two.rest ∙ ap (λ (f : FrontHolding S R). record f { bag = new.bag; size = new.size; popped = new.popped; slots = new.slots; run_buffers = new.run_buffers; in_extract = new.in_extract; failed = new.failed }) one.rest;
     total = two.total ∙ one.total;
     popped = omega (arith, one.popped, two.popped);
     slots = SameSlots-trans old.slots mid.slots new.slots one.slots two.slots;
@@ -94,19 +77,7 @@ module _ {S R : Type 0} where
   }
 
   KeepsFront-more : (n m : ℕ) (old new : FrontHolding S R) → n ≤ m → KeepsFront n old new → KeepsFront m old new
-  KeepsFront-more n m old new h keeps = record {
-    limit = keeps.limit;
-    sizes = keeps.sizes;
-    peak = keeps.peak;
-    row = keeps.row;
-    items = keeps.items;
-    pool = keeps.pool;
-    total = keeps.total;
-    popped = omega (arith, keeps.popped);
-    slots = keeps.slots;
-    tells = keeps.tells;
-    writes = keeps.writes;
-  }
+  KeepsFront-more n m old new h keeps = record { rest = keeps.rest; total = keeps.total; popped = omega (arith, keeps.popped); slots = keeps.slots; tells = keeps.tells; writes = keeps.writes }
 
 -- A front answered these asks, all of them, and met no fault
 pub record SoFar {S R : Type 0} (cmp : R → R → Ordering) (asks : List Ask) (answers : List (Option R)) (old new : FrontHolding S R) : Type 0 where
@@ -129,6 +100,7 @@ module _ {S R : Type 0} {cmp : R → R → Ordering} where
       → (AllTell mid.slots → IsSameBag new.bag (left_by cmp mid.limit mid.bag ask)) → SoFar cmp (take (i + 1) asks) all old new
   answered-more o equal asks i ask answers all answer old mid new pushed l is so_far keeps quiet sound gives leaves =
       let limit = old.limit in
+      let limit_is = ap (λ (f : FrontHolding S R). f.limit) so_far.kept.rest in
       let before = take i asks in
       let was = left_after cmp limit old.bag before in
       let more : take (i + 1) asks ≡ before ++ ask ∷ [] = take_more asks i Top l ∙ ap (λ a. before ++ a ∷ []) (sym is) in
@@ -138,10 +110,10 @@ module _ {S R : Type 0} {cmp : R → R → Ordering} where
         sound = sound;
         long = omega (arith, so_far.long, ap length pushed, ap length more, length-append before (ask ∷ []), length-append answers (answer ∷ []));
         are = λ t.
-            let last : answer ≡ least_below cmp limit was = gives (so_far.kept.tells t) ∙ (ap (λ l. least_below cmp l mid.bag) so_far.kept.limit ∙ least_below-same o equal limit mid.bag was (so_far.left t)) in
+            let last : answer ≡ least_below cmp limit was = gives (so_far.kept.tells t) ∙ (ap (λ l. least_below cmp l mid.bag) limit_is ∙ least_below-same o equal limit mid.bag was (so_far.left t)) in
             pushed ∙ (ap₂ (λ (xs : List (Option R)) (a : Option R). xs ++ a ∷ []) (so_far.are t) last ∙ (sym (answers_to-more cmp limit old.bag before ask) ∙ ap (answers_to cmp limit old.bag) (sym more)));
         left = λ t.
-            let now = subst (λ l. IsSameBag new.bag (left_by cmp l mid.bag ask)) so_far.kept.limit (leaves (so_far.kept.tells t)) in
+            let now = subst (λ l. IsSameBag new.bag (left_by cmp l mid.bag ask)) limit_is (leaves (so_far.kept.tells t)) in
             subst (λ bag. IsSameBag new.bag bag) (sym (ap (left_after cmp limit old.bag) more ∙ left_after-more cmp limit old.bag before ask))
             (IsSameBag-trans new.bag (left_by cmp limit mid.bag ask) (left_by cmp limit was ask) now (left_by-same o equal limit mid.bag was ask (so_far.left t)));
       }

@@ -1,8 +1,8 @@
 -- What the clauses of a session's beginning are put together from.
-use Rattle.std.proofs.Common.{◌≡◌, ◌*◌, ◌≤◌, List, ◌++◌, All, sym, ap, ◌∙◌, subst}
-use Rattle.std.specs.Prelude.{slice_index_or, Vec, Result, Ok, Err, IfOk, IfErr}
+use Rattle.std.proofs.Common.{◌≡◌, ◌*◌, ◌≤◌, List, ◌++◌, All, sym, ap, ◌∙◌, subst, ◌+◌, [], ◌∷◌, length, sum_by, refl, arith}
+use Rattle.std.specs.Prelude.{slice_index_or, Vec, Result, Ok, Err, IfOk, IfErr, count_by}
 use Rattle.std.specs.Global.{Global}
-use Rattle.ppq_pass.proofs.ppq_record.Order.{IsSameBag-trans}
+use Rattle.ppq_pass.proofs.ppq_record.Order.{IsSameBag-trans, count_by-append}
 use Rattle.ppq_pass.specs.ppq_outside.Shown.{Shown, AllTell}
 use Rattle.ppq_pass.specs.ppq_array.Owner.{slots_shown}
 use Rattle.ppq_pass.specs.ppq_array.Kept.{SameSlots, all_faults, all_writes}
@@ -17,6 +17,16 @@ use Rattle.ppq_session.specs.declared.fault.BeginFault.TheVariants.{Memory}
 use Rattle.ppq_session.specs.Opened.{HandedOut, BulkBegan, HoldsNoSlot}
 use Rattle.ppq_session.specs.Sessions.{IsUnbegun}
 use Rattle.ppq_session.proofs.Mapped.{all_mapped}
+use Rattle.std.proofs.lemmas.List.{length-map}
+use Rattle.std.proofs.lemmas.List.Elements.{All-nil, All-cons, All-head, All-tail}
+use Rattle.std.proofs.lemmas.List.Concat.{flat_map-cons}
+use Rattle.std.proofs.lemmas.List.Sums.{sum_by-cons}
+use Rattle.ppq_queue.proofs.Took.{empty_list}
+use Rattle.ppq_session.specs.Equipped.{HasBegun}
+use Rattle.ppq_session.specs.LimitSessions.{begun_in}
+use Rattle.ppq_session.specs.Fronts.{FrontHolding}
+use Rattle.ppq_session.specs.Limited.{LimitHolding, HoldsNothing}
+use Rattle.ppq_session.specs.LimitSession.{AreLimited, front_begun, GotLimit, LimitBegan, shared_of}
 
 module _ {S R : Type 0} (bulk : BulkHolding S R) (passes : List (PassHolding S R)) (of : AreOf bulk (keys_of passes)) where
   keys : All (λ (p : PassHolding S R). p.key ≡ pass_key bulk p.key.begun) passes
@@ -89,3 +99,79 @@ module _ {S R : Type 0} where
           limited = h.limited ∙ kept.limited;
           sizes = h.sizes ∙ kept.sizes;
         }
+
+module _ {S R : Type 0} where
+  -- where passes began with no record together, each did
+  none_begun : (passes : List (PassHolding S R)) → sum_by (λ (k : PassKey S R). k.begun) (keys_of passes) ≡ 0 → All (λ (p : PassHolding S R). p.key.begun ≡ 0) passes
+  none_begun [] e = All-nil (λ (p : PassHolding S R). p.key.begun ≡ 0)
+  none_begun (p ∷ ps) e =
+      let sum = sum_by-cons (λ (k : PassKey S R). k.begun) p.key (keys_of ps) in
+      All-cons (λ (p : PassHolding S R). p.key.begun ≡ 0) p ps (omega (arith, e, sum)) (none_begun ps (omega (arith, e, sum)))
+
+  -- passes without records have none together
+  pub bag_none : (passes : List (PassHolding S R)) → All HoldsNothing passes → bag_of passes ≡ []
+  bag_none [] all = refl
+  bag_none (p ∷ ps) all =
+      flat_map-cons (λ (x : PassHolding S R). x.bag) p ps ∙ ap (λ l. l ++ bag_of ps) (All-head HoldsNothing p ps all).bag ∙ bag_none ps (All-tail HoldsNothing p ps all)
+
+  module _ (bulk : BulkHolding S R) (passes : List (PassHolding S R)) (of : AreOf bulk (keys_of passes)) (none : bulk.begun ≡ 0) where
+    -- they have no records and no slots
+    pub all_nothing : All HasBegun passes → All HoldsNoSlot passes → All HoldsNothing passes
+    all_nothing whole slots = λ k d h. record { bag = empty_list _ (whole k d h ∙ none_begun passes (of.begun ∙ none) k d h); slots = slots k d h }
+
+    pub passes_count : length passes ≡ bulk.sizes.workers
+    passes_count = omega (arith, length-map passes (λ (p : PassHolding S R). p.key), of.count)
+
+    are_limited : (limit : R) (list : List (LimitHolding S R)) → GotLimit limit passes list → AreLimited (front_begun bulk limit) list
+    are_limited limit list got =
+        record {
+          count = got.count ∙ passes_count;
+          keys =
+              got.keys (pass_key bulk 0)
+              (λ k d h. all_mapped (λ (p : PassHolding S R). p.key) (λ (key : PassKey S R). key ≡ pass_key bulk key.begun) passes of.each k d h ∙ ap (pass_key bulk) (none_begun passes (of.begun ∙ none) k d h));
+          limits = got.limits;
+        }
+
+module _ {S R : Type 0} where
+  -- limit passes of the session are of what it shares
+  pub limited_of : (front : FrontHolding S R) (list : List (LimitHolding S R)) (shared : Shared S R) → AreLimited front list → shared ≡ shared_of front → All (λ (p : LimitHolding S R). IsOf shared p.pass) list
+  limited_of front list shared are same =
+      subst (λ (s : Shared S R). All (λ (p : LimitHolding S R). IsOf s p.pass) list) (sym same)
+      (λ k d h. record { row = ap (λ (key : PassKey S R). key.row) (are.keys k d h); pool = ap (λ (key : PassKey S R). key.pool) (are.keys k d h) })
+
+module _ {S R : Type 0} (shown : S → Shown) (old new : Holding R) (bulk : BulkHolding S R) (shared : Shared S R) (passes : List (PassHolding S R)) (h : HandedOut shown new bulk shared passes) (heaps : new.in_heap ≡ 0) where
+  none : bulk.begun ≡ 0
+  none = h.begun ∙ heaps
+
+  pub handed_nothing : All HoldsNothing passes
+  handed_nothing = all_nothing bulk passes h.of none h.whole h.no_slots
+
+  pub handed_count : length passes ≡ bulk.sizes.workers
+  handed_count = passes_count bulk passes h.of none
+
+  -- a session began: a queue that has no record in heaps was handed out, and its passes got the limit
+  pub limit_began :
+      SameRecords old new → Stays (begun_in old) new → (limit : R) (front : FrontHolding S R) → front ≡ front_begun bulk limit
+      → (list : List (LimitHolding S R)) → GotLimit limit passes list → LimitBegan old limit front shared list
+  limit_began same stays limit front is list got =
+      let kept = stays.keeps in
+      let of = are_limited bulk passes h.of none limit list got in
+      subst (λ f. LimitBegan old limit f shared list) (sym is)
+      (record {
+        of = of;
+        shared_is = h.shared_is;
+        passes_of = limited_of (front_begun bulk limit) list shared of h.shared_is;
+        new = got.new;
+        limit_is = refl;
+        pool = h.pool;
+        bag = λ tell p. omega (arith, h.bag p, same.bag tell p, count_by-append p bulk.bag (bag_of passes), ap (count_by p) (bag_none passes handed_nothing));
+        quiet = ap all_faults h.slots ∙ same.quiet;
+        slots = subst (λ s. SameSlots old.slots s) (sym h.slots) kept.slots;
+        tells = λ tell. subst AllTell (sym h.slots) (kept.tells tell);
+        writes = omega (arith, ap all_writes h.slots, kept.writes);
+        size = h.size ∙ stays.size;
+        unpopped = refl;
+        sound = refl;
+        peak = h.peak ∙ stays.peak;
+        sizes = h.sizes ∙ kept.sizes;
+      })

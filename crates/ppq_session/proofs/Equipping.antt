@@ -5,7 +5,7 @@ use Rattle.std.proofs.lemmas.List.{reverse-append}
 use mathlib.Core.List.{map-append, append_assoc}
 use Rattle.std.proofs.lemmas.List.Folds.{flat_map-map}
 use Rattle.std.proofs.lemmas.List.Concat.{flat_map-cons}
-use Rattle.std.proofs.lemmas.List.Elements.{All-nil, All-cons, All-head, All-tail, All-push}
+use Rattle.std.proofs.lemmas.List.Elements.{All-head, All-tail}
 use Rattle.std.proofs.lemmas.List.Sums.{sum_by-cons}
 use Rattle.atomic_table.specs.Seated.{TableId}
 use Rattle.ppq_pass.specs.ppq_outside.Shown.{Shown}
@@ -20,27 +20,21 @@ use Rattle.ppq_pass.specs.ppq_pool.declared.hand.Hand.{Hand as PoolHand}
 use Rattle.ppq_pass.specs.ppq_pool.Seats.{count_of}
 use Rattle.ppq_pass.specs.Passed.{PassKey, PassHolding}
 use Rattle.ppq_pass.specs.declared.shared.PoolBuf.{PoolBuf}
+use Rattle.ppq_pass.proofs.ppq_array.Noted.{all_left, all_right}
+use Rattle.std.proofs.lemmas.List.Sorted.{All-permutation, IsPermutation-reverse}
 use Rattle.ppq_session.specs.BulkSession.{bag_of}
 use Rattle.ppq_session.specs.Equipped.{Equipped, MayEquip, IsNewPass, HasBegun, bags_of, bags_in, first_begun, session_key}
 use Rattle.ppq_session.specs.declared.share.FirstSeats.{FirstSeats}
 
 module _ {X : Type 0} (P : X → Type 0) where
   pub all_front : (xs : List X) (x : X) → All P (xs ++ x ∷ []) → All P xs
-  all_front [] x a = All-nil P
-  all_front (y ∷ ys) x a = All-cons P y ys (All-head P y (ys ++ x ∷ []) a) (all_front ys x (All-tail P y (ys ++ x ∷ []) a))
+  all_front xs x a = all_left P xs (x ∷ []) a
 
   pub all_last : (xs : List X) (x : X) → All P (xs ++ x ∷ []) → P x
-  all_last [] x a = All-head P x [] a
-  all_last (y ∷ ys) x a = all_last ys x (All-tail P y (ys ++ x ∷ []) a)
+  all_last xs x a = All-head P x [] (all_right P xs (x ∷ []) a)
 
-module _ {X : Type 0} (P : X → Type 0) where
   pub all_turned : (xs : List X) → All P xs → All P (reverse xs)
-  all_turned [] a = a
-  all_turned (x ∷ xs) a = subst (All P) (sym (reverse-append (x ∷ []) xs)) (All-push P (reverse xs) x (all_turned xs (All-tail P x xs a)) (All-head P x xs a))
-
-pub no_heap : {R : Type 0} (heaps : List (Contents R)) → length heaps ≡ 0 → heaps ≡ []
-no_heap [] e = refl
-no_heap (h ∷ hs) e = absurd (omega (arith, e))
+  all_turned xs a = All-permutation P xs (reverse xs) (IsPermutation-reverse xs) a
 
 module _ {S R : Type 0} where
   abbrev bag : PassHolding S R → List R

@@ -1,11 +1,11 @@
--- A session that was closed, before the first pass is put in.
+-- A session whose seats were joined and closed, before the first pass is put in: all slots and all buffers are there.
 use Rattle.std.proofs.Common.{◌≡◌, ℕ, ◌+◌, ◌-◌, ◌*◌, ◌<◌, ◌≤◌, List, [], ◌∷◌, ◌++◌, length, take, drop, map, sum_by, All, Option, None, refl, sym, ap, ap₂, ◌∙◌, subst, arith, inl, length-append, length-drop, take-append-drop}
 use Rattle.std.specs.Prelude.{flat_map}
 use Rattle.std.specs.declared.cmp.Ordering.{Ordering}
 use Rattle.std.proofs.lemmas.Nat.{mul-le}
-use Rattle.std.proofs.lemmas.List.{length-map}
+use Rattle.std.proofs.lemmas.List.{length-map, map-append}
 use Rattle.std.proofs.lemmas.List.Sums.{sum_by-cons, sum_by-append}
-use Rattle.std.proofs.lemmas.List.Elements.{All-nil, All-head, All-tail, All-cons, All-append}
+use Rattle.std.proofs.lemmas.List.Elements.{All-nil, All-head, All-tail, All-append}
 use Rattle.std.proofs.lemmas.List.Concat.{flat_map-cons}
 use mathlib.Core.Logic.{dite}
 use native.Mathlib.Decide.{dec_le}
@@ -13,12 +13,12 @@ use Rattle.ppq_pass.specs.ppq_table.Sums.{times, once_below}
 use Rattle.ppq_pass.proofs.ppq_table.Numbers.{times_in, once-in}
 use Rattle.ppq_pass.specs.ppq_pool.Seats.{count_of as pool_count}
 use Rattle.ppq_pass.specs.ppq_outside.Shown.{Shown, AllTell}
-use Rattle.ppq_pass.specs.ppq_budget.Sizes.{heap_of}
+use Rattle.ppq_pass.specs.ppq_budget.Sizes.{heap_of, Numbers}
 use Rattle.ppq_pass.specs.ppq_heap.Heap.{Contents}
 use Rattle.ppq_pass.specs.ppq_heap.Heaps.{items_in}
 use Rattle.ppq_pass.specs.ppq_array.declared.berth.DeviceBlock.{DeviceBlock}
 use Rattle.ppq_pass.specs.ppq_array.Owner.{slots_shown}
-use Rattle.ppq_pass.specs.ppq_array.Kept.{SameSlots, AreQuiet, all_writes}
+use Rattle.ppq_pass.specs.ppq_array.Kept.{SameSlots, AreQuiet, all_writes, all_faults}
 use Rattle.ppq_pass.specs.ppq_spill.Body.{held_by, body_slots}
 use Rattle.ppq_pass.specs.ppq_record.Order.{Le, is_before}
 use Rattle.ppq_pass.proofs.ppq_record.Order.{Each-append_right}
@@ -27,7 +27,7 @@ use Rattle.ppq_pass.proofs.ppq_spill.Keeping.{slots_long}
 use Rattle.ppq_pass.proofs.ppq_spill.SameSlots.{SameSlots-refl, SameSlots-sums, SameSlots-trans}
 use Rattle.ppq_pass.specs.ppq_spill.Untold.{untold}
 use Rattle.ppq_pass.proofs.ppq_spill.Telling.{tell_sum, sum_tell}
-use Rattle.ppq_pass.specs.Passing.{items_at}
+use Rattle.ppq_pass.specs.Passing.{items_at, with_item}
 use Rattle.ppq_pass.specs.Passed.{PassHolding, PassTells, slots_of as pass_slots}
 use Rattle.ppq_queue.specs.Resting.{slots_of}
 use Rattle.ppq_queue.proofs.Slots.{SameSums-length}
@@ -41,7 +41,81 @@ use Rattle.ppq_session.specs.declared.closed.Closed.{Closed}
 use Rattle.ppq_session.specs.declared.parts.BulkParts.{BulkParts}
 use Rattle.ppq_session.proofs.Mapped.{sum-mapped, all_mapped}
 use Rattle.ppq_session.proofs.Places.{items_at-once}
-use Rattle.ppq_session.proofs.Ended.{SameSlots-append, drawn_in, places_in, drawn-places, drawn-same, drawn-untold, drawn-quiet}
+use Rattle.ppq_session.proofs.Emptying.{SameSlots-append}
+use mathlib.Core.Option.{Option as Maybe, some, none}
+use lib.ListN.{get_elem?}
+use Rattle.ppq_pass.specs.PassState.{drawn_of}
+
+module _ {T : Type 0} where
+  pub items_at-append : (items : List T) (ps qs : List ℕ) → items_at items (ps ++ qs) ≡ items_at items ps ++ items_at items qs
+  items_at-append items [] qs = refl
+  items_at-append items (p ∷ ps) qs = ap (with_item (get_elem? items p)) (items_at-append items ps qs) ∙ one (get_elem? items p) (items_at items ps) (items_at items qs)
+    where
+      one : (o : Maybe T) (xs ys : List T) → with_item o (xs ++ ys) ≡ with_item o xs ++ ys
+      one none xs ys = refl
+      one (some x) xs ys = refl
+
+module _ {S R : Type 0} (shown : S → Shown) where
+  -- the slots that passes drew, as they were put into the row
+  abbrev pub drawn_in : List (Brought S R) → List Shown
+  drawn_in brought = flat_map (λ one. drawn_of shown one.kept.value) brought
+
+  abbrev pub places_in : List (Brought S R) → List ℕ
+  places_in brought = flat_map (λ one. one.kept.value.row_seat.hand.places) brought
+
+  -- they are those at the passes' places
+  pub drawn-places :
+      (items : List (DeviceBlock S R)) (brought : List (Brought S R)) → All (λ (one : Brought S R). one.kept.value.row_seat.hand.items ≡ items) brought
+      → drawn_in brought ≡ slots_shown shown (items_at items (places_in brought))
+  drawn-places items [] all = refl
+  drawn-places items (x ∷ xs) all =
+      let here : x.kept.value.row_seat.hand.items ≡ items = All-head (λ (one : Brought S R). one.kept.value.row_seat.hand.items ≡ items) x xs all in
+      let more = drawn-places items xs (All-tail (λ (one : Brought S R). one.kept.value.row_seat.hand.items ≡ items) x xs all) in
+      let mine = x.kept.value.row_seat.hand.places in
+      flat_map-cons (λ (one : Brought S R). drawn_of shown one.kept.value) x xs
+      ∙ ap₂ (λ a b. a ++ b) (ap (λ l. slots_shown shown (items_at l mine)) here) more
+      ∙ sym (map-append (λ (b : DeviceBlock S R). shown b.slot) (items_at items mine) (items_at items (places_in xs)))
+      ∙ ap (slots_shown shown) (sym (items_at-append items mine (places_in xs)) ∙ ap (items_at items) (sym (flat_map-cons (λ (one : Brought S R). one.kept.value.row_seat.hand.places) x xs)))
+
+  module _ (cmp : R → R → Ordering) (record_of : List ℕ → R) (width : ℕ) (n : Numbers) where
+    -- what passes drew is what they have
+    pub drawn-same : (brought : List (Brought S R)) → All (IsBrought shown record_of width n cmp) brought → SameSlots (drawn_in brought) (slots_in shown brought) × (all_writes (drawn_in brought) ≤ all_writes (slots_in shown brought))
+    drawn-same [] all = (SameSlots-refl [], omega arith)
+    drawn-same (x ∷ xs) all =
+        let is = (All-head (IsBrought shown record_of width n cmp) x xs all).always in
+        let more = drawn-same xs (All-tail (IsBrought shown record_of width n cmp) x xs all) in
+        let mine = drawn_of shown x.kept.value in
+        let have = pass_slots shown x.body x.kept.value in
+        let a : drawn_in (x ∷ xs) ≡ mine ++ drawn_in xs = flat_map-cons (λ (one : Brought S R). drawn_of shown one.kept.value) x xs in
+        let b : slots_in shown (x ∷ xs) ≡ have ++ slots_in shown xs = flat_map-cons (λ (one : Brought S R). pass_slots shown one.body one.kept.value) x xs in (
+          subst (λ l. SameSlots l (slots_in shown (x ∷ xs))) (sym a) (subst (λ l. SameSlots (mine ++ drawn_in xs) l) (sym b) (SameSlots-append mine have (drawn_in xs) (slots_in shown xs) is.slots more.0)),
+          omega (arith, is.writes, more.1, ap all_writes a, ap all_writes b, sum_by-append (λ (s : Shown). s.writes) mine (drawn_in xs), sum_by-append (λ (s : Shown). s.writes) have (slots_in shown xs)),
+        )
+
+    -- as many of what they drew do not tell as of what they have
+    pub drawn-untold : (brought : List (Brought S R)) → All (IsBrought shown record_of width n cmp) brought → sum_by untold (drawn_in brought) ≡ sum_by untold (slots_in shown brought)
+    drawn-untold [] all = refl
+    drawn-untold (x ∷ xs) all =
+        let is = (All-head (IsBrought shown record_of width n cmp) x xs all).always in
+        let mine = drawn_of shown x.kept.value in
+        let have = pass_slots shown x.body x.kept.value in
+        let a : drawn_in (x ∷ xs) ≡ mine ++ drawn_in xs = flat_map-cons (λ (one : Brought S R). drawn_of shown one.kept.value) x xs in
+        let b : slots_in shown (x ∷ xs) ≡ have ++ slots_in shown xs = flat_map-cons (λ (one : Brought S R). pass_slots shown one.body one.kept.value) x xs in
+        let more = drawn-untold xs (All-tail (IsBrought shown record_of width n cmp) x xs all) in
+        omega (arith, is.untold, more, ap (sum_by untold) a, ap (sum_by untold) b, sum_by-append untold mine (drawn_in xs), sum_by-append untold have (slots_in shown xs))
+
+    -- no call failed of what they drew, where none of them met a fault
+    pub drawn-quiet : (brought : List (Brought S R)) → All (IsBrought shown record_of width n cmp) brought → All (λ (one : Brought S R). one.failed ≡ None) brought → AreQuiet (drawn_in brought) (slots_in shown brought)
+    drawn-quiet [] all fine = refl
+    drawn-quiet (x ∷ xs) all fine =
+        let is = (All-head (IsBrought shown record_of width n cmp) x xs all).sound (All-head (λ (one : Brought S R). one.failed ≡ None) x xs fine) in
+        let mine = drawn_of shown x.kept.value in
+        let have = pass_slots shown x.body x.kept.value in
+        let a : drawn_in (x ∷ xs) ≡ mine ++ drawn_in xs = flat_map-cons (λ (one : Brought S R). drawn_of shown one.kept.value) x xs in
+        let b : slots_in shown (x ∷ xs) ≡ have ++ slots_in shown xs = flat_map-cons (λ (one : Brought S R). pass_slots shown one.body one.kept.value) x xs in
+        let more = drawn-quiet xs (All-tail (IsBrought shown record_of width n cmp) x xs all) (All-tail (λ (one : Brought S R). one.failed ≡ None) x xs fine) in
+        let f : Shown → ℕ = λ s. s.faults in
+        omega (arith, is.quiet, more, ap all_faults a, ap all_faults b, sum_by-append f mine (drawn_in xs), sum_by-append f have (slots_in shown xs))
 
 module _ {S R : Type 0} (shown : S → Shown) (cmp : R → R → Ordering) (record_of : List ℕ → R) (width : ℕ) (q : BulkParts S R) (failed : Option ℕ) (is : IsApart shown width q failed) (q1 : BulkParts S R) (passes : List (PassHolding S R)) (br : BroughtAll shown record_of width q.sizes cmp passes q q1) (c : Closed S R) (cl : IsClosed shown q1 failed c) (count : length passes ≡ q.sizes.workers) (keys : All (λ (p : PassHolding S R). p.key.items ≡ q.row_seat.hand.items) passes) where
   abbrev rest : List (Brought S R)
@@ -52,33 +126,22 @@ module _ {S R : Type 0} (shown : S → Shown) (cmp : R → R → Ordering) (reco
 
   -- the parts, in terms of those that there were
   abbrev pub closed : Closed S R
-  closed = record { sizes = q.sizes; heaps = q.heaps; tree = q.tree; body = q.body; supply = c.supply; extract = q.extract; sources = q.sources; count = q.count; peak = q.peak; limited = q.limited; failed = failed; slots = q.slots; brought = q1.brought }
+  closed = record { sizes = q.sizes; heaps = q.heaps; tree = q.tree; body = q.body; supply = c.supply; extract = q.extract; sources = q.sources; count = q.count; peak = q.peak; limited = q.limited; failed = failed; slots = q.slots }
 
   pub closed_is : c ≡ closed
   closed_is =
       cl.rest
-      ∙ ap (λ (p : BulkParts S R). record { sizes = p.sizes; heaps = p.heaps; tree = p.tree; body = p.body; supply = c.supply; extract = p.extract; sources = p.sources; count = p.count; peak = p.peak; limited = p.limited; failed = failed; slots = p.slots; brought = p.brought }) br.rest
-
-  from_map : (xs : List (Brought S R)) (ps : List (PassHolding S R)) → map (pass_of shown record_of width q.sizes) xs ≡ ps → All (λ (p : PassHolding S R). p.key.items ≡ items) ps → All (λ (one : Brought S R). one.kept.value.row_seat.hand.items ≡ items) xs
-  from_map xs ps e all = by_list xs (subst (λ l. All (λ (p : PassHolding S R). p.key.items ≡ items) l) (sym e) all)
-    where
-      by_list : (xs : List (Brought S R)) → All (λ (p : PassHolding S R). p.key.items ≡ items) (map (pass_of shown record_of width q.sizes) xs) → All (λ (one : Brought S R). one.kept.value.row_seat.hand.items ≡ items) xs
-      by_list [] all = All-nil (λ (one : Brought S R). one.kept.value.row_seat.hand.items ≡ items)
-      by_list (x ∷ xs) all =
-          let P : PassHolding S R → Type 0 = λ p. p.key.items ≡ items in
-          All-cons (λ (one : Brought S R). one.kept.value.row_seat.hand.items ≡ items) x xs
-          (All-head P (pass_of shown record_of width q.sizes x) (map (pass_of shown record_of width q.sizes) xs) all)
-          (by_list xs (All-tail P (pass_of shown record_of width q.sizes x) (map (pass_of shown record_of width q.sizes) xs) all))
+      ∙ ap (λ (p : BulkParts S R). record { sizes = p.sizes; heaps = p.heaps; tree = p.tree; body = p.body; supply = c.supply; extract = p.extract; sources = p.sources; count = p.count; peak = p.peak; limited = p.limited; failed = failed; slots = p.slots }) br.rest
 
   same_items : All (λ (one : Brought S R). one.kept.value.row_seat.hand.items ≡ items) rest
-  same_items = from_map rest passes br.passes_are keys
+  same_items = all_mapped (pass_of shown record_of width q.sizes) (λ (p : PassHolding S R). p.key.items ≡ items) rest (subst (All (λ (p : PassHolding S R). p.key.items ≡ items)) (sym br.passes_are) keys)
 
   -- the places of all passes
   abbrev places : List ℕ
   places = places_in shown rest
 
   places_are : q1.row_seat.hand.places ≡ places
-  places_are = br.places ∙ ap (λ l. l ++ places_in shown br.brought) is.undrawn
+  places_are = br.places ∙ ap (λ l. l ++ places_in shown br.brought) is.out.home.undrawn
 
   below : All (λ p. p < length items) places
   below = by_list rest same_items br.each
@@ -106,8 +169,7 @@ module _ {S R : Type 0} (shown : S → Shown) (cmp : R → R → Ordering) (reco
   left_is = cl.left_is ∙ ap₂ (λ k l. drop k l) (ap length places_are) br.row_items
 
   sum-shown : (f : Shown → ℕ) (xs : List (DeviceBlock S R)) → sum_by f (slots_shown shown xs) ≡ sum_by (λ (b : DeviceBlock S R). f (shown b.slot)) xs
-  sum-shown f [] = refl
-  sum-shown f (x ∷ xs) = omega (arith, sum-shown f xs, sum_by-cons f (shown x.slot) (slots_shown shown xs), sum_by-cons (λ (b : DeviceBlock S R). f (shown b.slot)) x xs)
+  sum-shown f xs = sum-mapped (λ (b : DeviceBlock S R). shown b.slot) f xs
 
   -- what was put into the row is what passes drew, and what is left
   parted : (f : Shown → ℕ) → sum_by f (slots_shown shown items) ≡ sum_by f (drawn_in shown rest) + sum_by f (slots_shown shown cl.left)
@@ -212,11 +274,11 @@ module _ {S R : Type 0} (shown : S → Shown) (cmp : R → R → Ordering) (reco
   -- where the slots of the bulk and of all passes tell, all tell now
   pub told_now : AllTell (apart_slots shown q) → All (PassTells shown) passes → AllTell now
   told_now tell each =
-      let none = tell_each rest (subst (All (PassTells shown)) (sym br.passes_are) each) in
+      let fine = tell_each rest (subst (All (PassTells shown)) (sym br.passes_are) each) in
       sum_tell now (
       omega (
         arith,
-        none,
+        fine,
         tell_sum (apart_slots shown q) tell,
         sum_by-append untold (slots_of shown q.body q.supply) (slots_shown shown items),
         parted untold,
@@ -246,7 +308,7 @@ module _ {S R : Type 0} (shown : S → Shown) (cmp : R → R → Ordering) (reco
       )
 
   taken : length q1.pool_seat.hand.numbers ≡ length (numbers_of rest)
-  taken = omega (arith, ap length br.numbers, length-append q.pool_seat.hand.numbers (flat_map (λ (one : Brought S R). one.kept.value.pool_seat.hand.numbers) br.brought), ap length is.untaken)
+  taken = omega (arith, ap length br.numbers, length-append q.pool_seat.hand.numbers (flat_map (λ (one : Brought S R). one.kept.value.pool_seat.hand.numbers) br.brought), ap length is.out.home.untaken)
 
   all_pool : cl.given + length (numbers_of rest) ≡ pool_count q.pool_seat.pool
   all_pool = omega (arith, cl.given_are, taken, ap (λ p. p.slots) br.pool)
@@ -264,8 +326,8 @@ module _ {S R : Type 0} (shown : S → Shown) (cmp : R → R → Ordering) (reco
   items_few =
       omega (
         arith,
-        is.slots,
-        is.slot_room,
+        is.out.slots,
+        is.out.slot_room,
         length-append (slots_of shown q.body q.supply) (slots_shown shown items),
         length-append (body_slots shown q.body) q.supply.kept,
         slots_long shown items,
@@ -277,29 +339,29 @@ module _ {S R : Type 0} (shown : S → Shown) (cmp : R → R → Ordering) (reco
   always : IsGathering shown width now (slots_shown shown items) closed rest
   always =
       record {
-        range = is.range;
-        budget = is.budget;
-        heaps = omega (arith, ap length is.no_heap, rest_count);
-        heaps_room = is.heaps_room;
-        caps = subst (All (λ (h : Contents R). h.cap ≡ heap_of q.sizes)) (sym is.no_heap) (All-nil (λ (h : Contents R). h.cap ≡ heap_of q.sizes));
-        leaves = is.heaps_leaves;
-        block = ap (λ s. s.block) cl.supply ∙ ap (λ s. s.block) same_supply ∙ is.block;
-        no_row = ap (λ s. s.drawn) cl.supply ∙ ap (λ s. s.drawn) same_supply ∙ is.no_row;
-        pool = omega (arith, room_is, sure_is, all_pool, is.fits, is.pool);
-        slot_room = omega (arith, ap length kept_is, length-append q.supply.kept (slots_shown shown cl.left), slots_long shown cl.left, slot_room_is, items_few, left_few, is.slot_room);
-        no_job = is.no_job;
-        holds = omega (arith, is.held, buffers_are rest br.each, rest_count, all_pool, room_is, is.fits);
-        all_slots = same_now.length ∙ is.slots;
+        range = is.out.home.range;
+        budget = is.out.home.budget;
+        heaps = omega (arith, ap length is.out.home.no_heap, rest_count);
+        heaps_room = is.out.home.heaps_room;
+        caps = subst (All (λ (h : Contents R). h.cap ≡ heap_of q.sizes)) (sym is.out.home.no_heap) (All-nil (λ (h : Contents R). h.cap ≡ heap_of q.sizes));
+        leaves = is.out.home.heaps_leaves;
+        block = ap (λ s. s.block) cl.supply ∙ ap (λ s. s.block) same_supply ∙ is.out.block;
+        no_row = ap (λ s. s.drawn) cl.supply ∙ ap (λ s. s.drawn) same_supply ∙ is.out.no_row;
+        pool = omega (arith, room_is, sure_is, all_pool, is.fits, is.out.pool);
+        slot_room = omega (arith, ap length kept_is, length-append q.supply.kept (slots_shown shown cl.left), slots_long shown cl.left, slot_room_is, items_few, left_few, is.out.slot_room);
+        no_job = is.out.no_job;
+        holds = omega (arith, is.out.held, buffers_are rest br.each, rest_count, all_pool, room_is, is.fits);
+        all_slots = same_now.length ∙ is.out.slots;
         sums = λ f. refl;
         told = items_told;
         fault = λ number e. omega (arith, is.fault number e, same_now.faults number);
-        extract_room = is.extract_room;
-        in_extract = is.in_extract;
-        workers = is.workers;
-        serves = is.serves;
-        no_slot = is.no_slot;
-        slots_room = is.slots_room;
-        most_peak = is.most;
+        extract_room = is.out.room;
+        in_extract = is.out.in_extract;
+        workers = is.out.workers;
+        serves = is.out.serves;
+        no_slot = is.out.home.no_slot;
+        slots_room = is.out.home.slots_room;
+        most_peak = is.out.home.most;
       }
 
   -- where all tells now, all did
@@ -323,9 +385,9 @@ module _ {S R : Type 0} (shown : S → Shown) (cmp : R → R → Ordering) (reco
     none_after-right (x ∷ xs) ys zs h = (Each-append_right (Le (is_before cmp) x) ys zs h.0, none_after-right xs ys zs h.1)
 
     sound : failed ≡ None → IsSoundSoFar shown cmp record_of width closed rest
-    sound none =
-        let l = so none in
-        let room : q.sizes.block * q.sizes.blocks ≤ 65536 * 65536 = mul-le q.sizes.block q.sizes.blocks 65536 65536 is.range.block is.range.blocks in
+    sound whole =
+        let l = so whole in
+        let room : q.sizes.block * q.sizes.blocks ≤ 65536 * 65536 = mul-le q.sizes.block q.sizes.blocks 65536 65536 is.out.home.range.block is.out.home.range.blocks in
         record {
           idle = l.idle;
           internal = l.internal;
@@ -339,13 +401,13 @@ module _ {S R : Type 0} (shown : S → Shown) (cmp : R → R → Ordering) (reco
           external_room = l.external_room;
           tree = l.leaves;
           rise = λ tell. l.rise (was_told tell);
-          small = omega (arith, is.most_count, room, rest_count, is.range.workers, is.range.memory);
-          counted = omega (arith, l.counted, sum-mapped (pass_of shown record_of width q.sizes) (λ (p : PassHolding S R). p.key.begun) rest, ap (sum_by (λ (p : PassHolding S R). p.key.begun)) br.passes_are, ap (λ l. length (items_in l)) is.no_heap);
+          small = omega (arith, is.most_count, room, rest_count, is.out.home.range.workers, is.out.home.range.memory);
+          counted = omega (arith, l.counted, sum-mapped (pass_of shown record_of width q.sizes) (λ (p : PassHolding S R). p.key.begun) rest, ap (sum_by (λ (p : PassHolding S R). p.key.begun)) br.passes_are, ap (λ l. length (items_in l)) is.out.home.no_heap);
           above = λ some. inl (l.above some);
           ascends = λ tell. l.ascends (was_told tell);
           order = λ tell. l.order (was_told tell);
           order_rest = λ tell k d h fine.
-              let mine = all_mapped (pass_of shown record_of width q.sizes) (GoesBefore shown cmp q) rest (subst (All (GoesBefore shown cmp q)) (sym br.passes_are) (before none)) k d h (was_told tell) fine in
+              let mine = all_mapped (pass_of shown record_of width q.sizes) (GoesBefore shown cmp q) rest (subst (All (GoesBefore shown cmp q)) (sym br.passes_are) (before whole)) k d h (was_told tell) fine in
               none_after-right q.extract.items _ _ mine;
         }
 

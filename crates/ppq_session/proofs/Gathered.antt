@@ -1,6 +1,6 @@
 -- A pass that is put into the parts of a queue.
 use Rattle.std.proofs.Common.{◌≡◌, ℕ, zero, suc, ◌+◌, ◌-◌, ◌*◌, ◌<◌, ◌≤◌, ◌==◌, cond, List, [], ◌∷◌, ◌++◌, length, take, reverse, sum_by, All, Some, refl, sym, ap, ◌∙◌, subst, arith, append-nil, length-append, inl, inr}
-use Rattle.std.specs.Prelude.{◌⊎◌, vec_capacity}
+use Rattle.std.specs.Prelude.{◌⊎◌, vec_capacity, Bool, None, flat_map, count_by}
 use Rattle.std.specs.declared.cmp.Ordering.{Ordering}
 use Rattle.std.proofs.lemmas.Nat.{mul-le}
 use Rattle.std.proofs.lemmas.Bool.Decides.{nat_tests}
@@ -13,14 +13,14 @@ use Rattle.std.proofs.lemmas.Grind.{flat_map-append}
 use Rattle.ppq_pass.specs.ppq_table.Sums.{times}
 use Rattle.ppq_pass.proofs.ppq_table.Numbers.{upto, upto-times}
 use Rattle.ppq_pass.specs.ppq_pool.Seats.{count_of as pool_count}
-use Rattle.ppq_pass.specs.ppq_record.Order.{Ascends}
+use Rattle.ppq_pass.specs.ppq_record.Order.{Ascends, Le, is_before}
 use Rattle.ppq_pass.specs.ppq_outside.Shown.{Shown, Tells, AllTell}
 use Rattle.ppq_pass.specs.ppq_budget.Sizes.{heap_of, pool_of}
 use Rattle.ppq_pass.specs.ppq_array.declared.berth.DeviceBlock.{DeviceBlock}
 use Rattle.ppq_pass.specs.ppq_array.Run.{Run, items_of, buffers_of}
 use Rattle.ppq_pass.specs.ppq_array.External.{External, size_of, counts, records_in}
 use Rattle.ppq_pass.specs.ppq_array.Owner.{HasBlock, slots_shown}
-use Rattle.ppq_pass.specs.ppq_array.Holdings.{external_slots, internal_buffers, external_buffers}
+use Rattle.ppq_pass.specs.ppq_array.Holdings.{external_slots, internal_buffers, external_buffers, internal_items}
 use Rattle.ppq_pass.specs.ppq_array.Supply.{Stock}
 use Rattle.ppq_pass.specs.ppq_fetch.Fetching.{IsFitting, count_in, fronts_in, blocks_in, one_if_some}
 use Rattle.ppq_pass.specs.PassState.{IsPassed, IsSoundPass, IsPassRun, IsPassArray, all_slots}
@@ -35,19 +35,15 @@ use Rattle.ppq_pass.proofs.ppq_spill.Telling.{tell_sum, sum_tell}
 use Rattle.ppq_pass.specs.Passed.{slots_of as pass_slots}
 use Rattle.ppq_queue.specs.Slots.{with_slots}
 use Rattle.ppq_queue.proofs.Counts.{runs_fit, arrays_fit, stored_slots, internal_count}
-use Rattle.ppq_queue.specs.Resting.{IsRestingRun, IsRestingArray, odd_of, odd_in, slots_of, count_of}
+use Rattle.ppq_queue.specs.Resting.{IsRestingRun, IsRestingArray, odd_of, odd_in, slots_of, count_of, runs_bag}
 use Rattle.ppq_session.specs.Gathering.{IsGathering, IsSoundSoFar, slots_in, buffers_in, begun_in, Adopted}
 use Rattle.ppq_session.specs.declared.brought.Brought.{Brought}
 use Rattle.ppq_session.specs.declared.closed.Closed.{Closed}
-use Rattle.std.specs.Prelude.{Bool, None, flat_map, count_by}
-use Rattle.ppq_pass.specs.ppq_record.Order.{Le, is_before}
 use Rattle.ppq_pass.specs.ppq_record.Bag.{IsSameBag}
 use Rattle.ppq_pass.proofs.ppq_record.Order.{count_by-append, Each-append}
-use Rattle.ppq_pass.specs.ppq_array.Holdings.{internal_items}
 use Rattle.ppq_pass.proofs.ppq_array.Noted.{all_left, all_right}
 use Rattle.ppq_pass.specs.ppq_fetch.Taking.{NoneAfter}
 use Rattle.ppq_queue.specs.Holding.{IsAbove}
-use Rattle.ppq_queue.specs.Resting.{runs_bag}
 use Rattle.ppq_queue.proofs.Moves.{none_after-same}
 
 module _ {X : Type 0} where
@@ -130,7 +126,7 @@ module _ {S R : Type 0} (shown : S → Shown) (width : ℕ) (slots items : List 
       let g : Brought S R → List Shown = λ x. pass_slots shown x.body x.kept.value in
       omega (arith, ap (sum_by f) (flat_map-append g rest (one ∷ [])), sum_by-append f (slots_in shown rest) (slots_in shown (one ∷ [])), ap (sum_by f) (flat_map-cons g one [] ∙ append-nil (g one)))
 
-  buffers-push : buffers_in shown (rest ++ one ∷ []) ≡ buffers_in shown rest + (held_by shown one.body).buffers
+  pub buffers-push : buffers_in shown (rest ++ one ∷ []) ≡ buffers_in shown rest + (held_by shown one.body).buffers
   buffers-push = omega (arith, sum_by-append (λ (x : Brought S R). (held_by shown x.body).buffers) rest (one ∷ []), sum_by-cons (λ (x : Brought S R). (held_by shown x.body).buffers) one [])
 
   -- a pass more was put in: its slots and its buffers are among those of the parts

@@ -1,5 +1,5 @@
 -- Lines that are pushed to the passes that they name: the records for one pass, line by line, and those of all passes together.
-use Rattle.std.proofs.Common.{◌≡◌, inl, inr, ℕ, zero, suc, ◌+◌, ◌<◌, ◌≤◌, true, false, Bool, cond, List, [], ◌∷◌, ◌++◌, All, length, take, drop, get_or, Some, refl, sym, ap, ap₂, ◌∙◌, subst, arith, length-append, take-append-drop, Ordering}
+use Rattle.std.proofs.Common.{◌≡◌, inl, inr, ℕ, zero, suc, ◌+◌, ◌<◌, ◌≤◌, true, false, Bool, cond, List, [], ◌∷◌, ◌++◌, All, length, take, drop, get_or, Some, refl, sym, ap, ap₂, ◌∙◌, subst, arith, take-append-drop, Ordering}
 use Rattle.std.specs.Prelude.{count_by, ◌==◌}
 use Rattle.std.specs.List.{filter, AllByRecursion as Each}
 use Rattle.std.proofs.lemmas.List.{take_more, map-append}
@@ -14,9 +14,8 @@ use Rattle.ppq_pass.specs.ppq_outside.Shown.{Shown}
 use Rattle.ppq_pass.specs.Passed.{PassHolding}
 use Rattle.ppq_session.specs.BulkSession.{bag_of}
 use Rattle.ppq_session.specs.declared.line.Line.{Line}
-use Rattle.ppq_session.specs.Dealing.{IsGoing, HasEnded, Adds, EachAdds, Dealt, records_in, records_for}
-use Rattle.ppq_session.proofs.DealtParts.{dealt-cons, dealt-none}
-use Rattle.ppq_session.proofs.AddedParts.{part-same}
+use Rattle.ppq_session.specs.Dealing.{Adds, EachAdds, Dealt, records_in, records_for}
+use Rattle.ppq_session.proofs.Adding.{dealt-cons, dealt-none, part-same}
 
 module _ {R : Type 0} where
   -- of lines in two parts

@@ -1,5 +1,5 @@
 -- What holds of a mapped list, said of the list that it was made of.
-use Rattle.std.proofs.Common.{◌≡◌, ℕ, zero, suc, ◌<◌, List, [], ◌∷◌, length, map, get_or, drop, sum_by, All, Option, Some, None, refl, sym, ap, ap₂, subst, arith}
+use Rattle.std.proofs.Common.{◌≡◌, ℕ, zero, suc, ◌<◌, List, [], ◌∷◌, length, map, get_or, sum_by, All, refl, sym, ap₂, subst, arith}
 use Rattle.std.specs.List.{Any, slice_index_or}
 use Rattle.std.proofs.lemmas.List.{length-map}
 use Rattle.std.proofs.lemmas.List.Sums.{sum_by-cons}
@@ -47,14 +47,3 @@ module _ {X Y : Type 0} (f : X → Y) where
   same-mapped [] (y ∷ ys) e each = absurd (omega arith)
   same-mapped (x ∷ xs) [] e each = absurd (omega arith)
   same-mapped (x ∷ xs) (y ∷ ys) e each = ap₂ (λ (z : Y) (zs : List Y). z ∷ zs) (each 0 x (omega arith)) (same-mapped xs ys (omega arith) (λ i d h. each (suc i) d (omega arith)))
-
--- what two lists have in options
-pub unsome : {X : Type 0} (xs ys : List X) → map (λ (x : X). Some x) xs ≡ map (λ (x : X). Some x) ys → xs ≡ ys
-unsome [] [] e = refl
-unsome [] (y ∷ ys) e = absurd (omega (arith, ap length e))
-unsome (x ∷ xs) [] e = absurd (omega (arith, ap length e))
-unsome {X} (x ∷ xs) (y ∷ ys) e = ap₂ (λ (z : X) (zs : List X). z ∷ zs) (ap (λ (l : List (Option X)). value_of (get_or l 0 None)) e) (unsome xs ys (ap (drop 1) e))
-  where
-    value_of : Option X → X
-    value_of None = x
-    value_of (Some z) = z

@@ -1,15 +1,14 @@
--- What a session has when it begins.
-use Rattle.std.proofs.Common.{◌≡◌, ℕ, ◌*◌, ◌<◌, ◌≤◌, List, [], ◌∷◌, ◌++◌, length, map, sum_by, All, refl, sym, ap, ap₂, ◌∙◌, subst, arith, append-nil, ◌+◌, ◌-◌, length-append}
+-- A queue whose extract buffer is empty is handed out: what a session has when it begins.
+use Rattle.std.proofs.Common.{◌≡◌, ℕ, ◌*◌, ◌<◌, ◌≤◌, List, [], ◌∷◌, ◌++◌, length, All, refl, sym, ap, ap₂, ◌∙◌, subst, arith, append-nil, ◌+◌, ◌-◌, length-append, None}
 use Rattle.std.proofs.Math.Nat.{add-mul, mul-le-mul_right}
 use Rattle.std.specs.Prelude.{Vec, vec_capacity, count_by}
 use Rattle.std.specs.Global.{Global}
 use Rattle.std.specs.declared.cmp.Ordering.{Ordering}
 use Rattle.std.proofs.lemmas.List.{length-map}
-use Rattle.std.proofs.lemmas.List.Elements.{All-map}
-use Rattle.std.proofs.lemmas.List.Sums.{sum_by-cons}
+use Rattle.std.proofs.lemmas.List.Elements.{All-map, All-tail}
 use Rattle.atomic_table.specs.Seated.{TableId}
 use Rattle.ppq_pass.proofs.ppq_record.Order.{IsSameBag-trans, IsSameBag-append, IsSameBag-append_comm}
-use Rattle.ppq_pass.specs.ppq_outside.Shown.{Shown, AllTell}
+use Rattle.ppq_pass.specs.ppq_outside.Shown.{Shown, AllTell, Tells}
 use Rattle.ppq_pass.specs.ppq_budget.Sizes.{pool_of}
 use Rattle.ppq_pass.specs.ppq_block.Block.{Block}
 use Rattle.ppq_pass.specs.ppq_tree.Tree.{Leaves}
@@ -37,16 +36,19 @@ use Rattle.ppq_queue.specs.declared.queue_parts.QueueParts.{QueueParts}
 use Rattle.ppq_session.specs.BulkSession.{BulkHolding, AreOf, keys_of, bag_of, pass_key}
 use Rattle.ppq_session.specs.Apart.{apart_slots, in_runs}
 use Rattle.ppq_session.specs.State.{IsBulk, IsBare, bulk_holding, bulk_slots}
-use Rattle.ppq_session.specs.Opened.{IsOpened, DealtOut}
+use Rattle.ppq_session.specs.Opened.{IsOpened, HandedOut}
 use Rattle.ppq_session.specs.Equipped.{Equipped, MayEquip, ArePasses, session_key}
 use Rattle.ppq_session.specs.declared.share.FirstSeats.{FirstSeats}
 use Rattle.ppq_session.specs.declared.parts.BulkParts.{BulkParts}
 use Rattle.ppq_session.specs.declared.brought.Brought.{Brought}
+use Rattle.ppq_session.proofs.Emptying.{nothing}
+use Rattle.ppq_session.proofs.Mapped.{sum-mapped}
 use Rattle.ppq_session.proofs.Equipping.{bag_same, begun_same, first_same}
-
-sum_map : {X Y : Type 0} (f : Y → ℕ) (g : X → Y) (xs : List X) → sum_by f (map g xs) ≡ sum_by (λ x. f (g x)) xs
-sum_map f g [] = refl
-sum_map f g (x ∷ xs) = let e : sum_by f (map g (x ∷ xs)) ≡ sum_by (λ x. f (g x)) (x ∷ xs) = omega (arith, sum_map f g xs, sum_by-cons f (g x) (map g xs), sum_by-cons (λ x. f (g x)) x xs) in e
+use Rattle.ppq_pass.specs.ppq_record.Bag.{IsSameBag}
+use Rattle.ppq_pass.specs.ppq_array.Supply.{Stock}
+use Rattle.ppq_queue.specs.Holding.{Holding}
+use Rattle.ppq_queue.specs.Handed.{IsWhole, holding_of}
+use Rattle.ppq_session.specs.Shares.{bare, IsFirst}
 
 -- the parts of a bulk: those of the queue, with what is left of lanes and seats
 abbrev pub opened_parts : {S R : Type 0} → QueueParts S R → FirstSeats S R → Vec (Contents R) Global → Leaves R → List (Block R) → Vec (Brought S R) Global → BulkParts S R
@@ -67,6 +69,11 @@ opened_parts p s heaps tree idle brought =
       pool_seat = s.pool_seat;
       brought = brought;
     }
+
+-- of two lists of slots the second tells
+tell_right : (xs ys : List Shown) → AllTell (xs ++ ys) → AllTell ys
+tell_right [] ys a = a
+tell_right (x ∷ xs) ys a = tell_right xs ys (All-tail Tells x (xs ++ ys) a)
 
 -- no record of an empty list is after another
 pub none_first : {R : Type 0} (cmp : R → R → Ordering) (xs ys : List R) → xs ≡ [] → NoneAfter cmp xs ys
@@ -116,27 +123,27 @@ module _ {S R : Type 0} (shown : S → Shown) (width : ℕ) (q : BulkParts S R) 
 
 module _ {S R : Type 0} (shown : S → Shown) (cmp : R → R → Ordering) (record_of : List ℕ → R) (width : ℕ) where
   -- there is enough for a pass for each worker
-  pub may_equip : (p : QueueParts S R) (s : FirstSeats S R) → IsOpened shown cmp record_of width p s → MayEquip shown width p.sizes p.sizes.workers p.body.lanes.idle s
-  may_equip p s o =
+  pub may_equip : (queue : Holding R) (p : QueueParts S R) (s : FirstSeats S R) → IsOpened shown cmp record_of width queue p s → MayEquip shown width p.sizes p.sizes.workers p.body.lanes.idle s
+  may_equip queue p s o =
       let r = (o.whole.sound o.sound).rest in
       let range = o.whole.queue.range in
-      let count : pool_count s.pool_seat.pool ≡ o.before.sure_buffers = ap pool_count o.first.pool ∙ o.first.count in
+      let count : pool_count s.pool_seat.pool ≡ o.before.sure_buffers = ap pool_count o.first.pool.pool_is ∙ o.first.pool.count_is in
       record {
         buffers = omega (arith, r.buffers, r.bounded, r.fronts);
         blocks = subst (λ b. All (HasBlock b) p.body.lanes.idle) r.block r.idle;
-        row = o.first.row;
-        row_shares = omega (arith, range.workers, o.first.row_shares);
-        undrawn = o.first.undrawn;
-        few_slots = omega (arith, r.slots, ap length o.first.items, length-map s.row_seat.hand.items (λ (b : DeviceBlock S R). shown b.slot));
-        bytes = subst (λ b. All (HasSize shown (b * width)) s.row_seat.hand.items) r.block o.first.bytes;
-        pool = o.first.pool;
-        pool_shares = omega (arith, range.workers, o.first.pool_shares);
-        untaken = o.first.untaken;
-        shape = λ some. o.first.shape (subst (λ t. 0 < pool_count t) o.first.pool some) ∙ r.block;
+        row = o.first.row.row_is;
+        row_shares = omega (arith, range.workers, o.first.row.shares);
+        undrawn = o.first.row.undrawn;
+        few_slots = omega (arith, r.slots, ap length o.first.row.items, length-map s.row_seat.hand.items (λ (b : DeviceBlock S R). shown b.slot));
+        bytes = subst (λ b. All (HasSize shown (b * width)) s.row_seat.hand.items) r.block o.first.row.bytes;
+        pool = o.first.pool.pool_is;
+        pool_shares = omega (arith, range.workers, o.first.pool.shares);
+        untaken = o.first.pool.untaken;
+        shape = λ some. o.first.pool.shape (subst (λ t. 0 < pool_count t) o.first.pool.pool_is some) ∙ r.block;
         few_buffers = omega (arith, count, r.pool);
       }
 
-  module _ (p : QueueParts S R) (s s' : FirstSeats S R) (idle : List (Block R)) (heaps : Vec (Contents R) Global) (tree : Leaves R) (brought : Vec (Brought S R) Global) (o : IsOpened shown cmp record_of width p s)
+  module _ (queue : Holding R) (p : QueueParts S R) (s s' : FirstSeats S R) (idle : List (Block R)) (heaps : Vec (Contents R) Global) (tree : Leaves R) (brought : Vec (Brought S R) Global) (o : IsOpened shown cmp record_of width queue p s)
       (e : Equipped p.sizes p.sizes.workers p.body.lanes.idle idle s s') where
     rest : AtRest shown cmp record_of width p.sizes p.body o.before
     rest = (o.whole.sound o.sound).rest
@@ -147,13 +154,13 @@ module _ {S R : Type 0} (shown : S → Shown) (cmp : R → R → Ordering) (reco
     slots_same : bulk_slots shown (opened_parts p s' heaps tree idle brought) ≡ slots_of shown p.body o.before
     slots_same =
         let x = external_slots shown p.body.runs.external.items in
-        ap₂ (λ (a b : List Shown). a ++ b) (sym (append-nil x) ∙ ap (λ j. x ++ job_slots shown j) (sym rest.no_job)) (ap (slots_shown shown) items_same ∙ o.first.items)
+        ap₂ (λ (a b : List Shown). a ++ b) (sym (append-nil x) ∙ ap (λ j. x ++ job_slots shown j) (sym rest.no_job)) (ap (slots_shown shown) items_same ∙ o.first.row.items)
 
     pool_same : s'.pool_seat.pool ≡ s.shared.pool
-    pool_same = e.pool ∙ o.first.pool
+    pool_same = e.pool ∙ o.first.pool.pool_is
 
     count_same : pool_count s'.pool_seat.pool ≡ o.before.sure_buffers
-    count_same = ap pool_count pool_same ∙ o.first.count
+    count_same = ap pool_count pool_same ∙ o.first.pool.count_is
 
     -- the buffers that stay, those of the passes and those of the pool are all
     held_all : internal_buffers p.body.runs.internal.items + external_buffers p.body.runs.external.items + length idle + 2 * p.sizes.workers + pool_count s'.pool_seat.pool ≡ lane_buffers p.sizes + pool_of p.sizes
@@ -192,34 +199,39 @@ module _ {S R : Type 0} (shown : S → Shown) (cmp : R → R → Ordering) (reco
         let same = bare_slots shown q bare.kept rest.no_job in
         record {
           apart = record {
-            range = w.range;
-            budget = w.budget;
-            no_heap = none;
-            heaps_room = room;
-            heaps_leaves = leaves;
-            extract_room = w.room;
-            in_extract = omega (arith, ap length o.extract);
-            no_job = rest.no_job;
-            held = omega (arith, held_all, bare.buffer_room, ap length rest.no_job);
-            pool = omega (arith, bare.sure, bare.buffer_room);
+            out = record {
+              home = record {
+                range = w.range;
+                budget = w.budget;
+                no_heap = none;
+                heaps_room = room;
+                heaps_leaves = leaves;
+                row_shares = e.row_shares ∙ o.first.row.shares;
+                undrawn = ap (λ (h : RowHand (DeviceBlock S R)). h.places) e.row_hand ∙ o.first.row.undrawn;
+                bytes = subst (λ b. All (HasSize shown (b * width)) s'.row_seat.hand.items) rest.block (subst (All (HasSize shown (o.before.block * width))) (sym items_same) o.first.row.bytes);
+                pool_shares = e.pool_shares ∙ o.first.pool.shares;
+                untaken = ap (λ (h : PoolHand (PoolBuf R)). h.numbers) e.pool_hand ∙ o.first.pool.untaken;
+                shape = λ some. ap (λ (h : PoolHand (PoolBuf R)). h.shape) e.pool_hand ∙ o.first.pool.shape (subst (λ t. 0 < pool_count t) pool_same some) ∙ rest.block;
+                pooled = omega (arith, count_same, rest.pool);
+                no_slot = o.whole.no_slot;
+                slots_room = o.whole.slots_room;
+                none_brought = empty;
+                brought_room = many;
+                most = w.most;
+              };
+              room = w.room;
+              in_extract = omega (arith, ap length o.extract);
+              no_job = rest.no_job;
+              held = omega (arith, held_all, bare.buffer_room, ap length rest.no_job);
+              pool = omega (arith, bare.sure, bare.buffer_room);
+              slots = ap length same ∙ all_slots;
+              slot_room = omega (arith, ap length bare.kept, bare.slot_room);
+              block = bare.block;
+              no_row = bare.drawn;
+              workers = so.workers;
+              serves = so.serves;
+            };
             fits = omega (arith, held_all, rest.buffers, e.buffers, bare.buffer_room);
-            slots = ap length same ∙ all_slots;
-            slot_room = omega (arith, ap length bare.kept, bare.slot_room);
-            block = bare.block;
-            no_row = bare.drawn;
-            row_shares = e.row_shares ∙ o.first.row_shares;
-            undrawn = ap (λ (h : RowHand (DeviceBlock S R)). h.places) e.row_hand ∙ o.first.undrawn;
-            bytes = subst (λ b. All (HasSize shown (b * width)) s'.row_seat.hand.items) rest.block (subst (All (HasSize shown (o.before.block * width))) (sym items_same) o.first.bytes);
-            pool_shares = e.pool_shares ∙ o.first.pool_shares;
-            untaken = ap (λ (h : PoolHand (PoolBuf R)). h.numbers) e.pool_hand ∙ o.first.untaken;
-            shape = λ some. ap (λ (h : PoolHand (PoolBuf R)). h.shape) e.pool_hand ∙ o.first.shape (subst (λ t. 0 < pool_count t) pool_same some) ∙ rest.block;
-            workers = so.workers;
-            serves = so.serves;
-            no_slot = o.whole.no_slot;
-            slots_room = o.whole.slots_room;
-            none_brought = empty;
-            brought_room = many;
-            most = w.most;
             most_count = w.most_count;
             fault = λ number e. absurd (cc);
           };
@@ -265,30 +277,59 @@ module _ {S R : Type 0} (shown : S → Shown) (cmp : R → R → Ordering) (reco
         record {
           count = length-map passes (λ (x : PassHolding S R). x.key) ∙ a.count ∙ o.whole.queue.shares;
           each = All-map (λ (k : PassKey S R). k ≡ pass_key held k.begun) (λ (x : PassHolding S R). x.key) passes (λ k d h. a.keys k d h ∙ same_key _);
-          begun = omega (arith, sum_map (λ (k : PassKey S R). k.begun) (λ (x : PassHolding S R). x.key) passes, begun_same passes a.whole, ap length (bag_same passes p.heaps.heaps a.bags), so.counted, ap length o.extract);
+          begun = omega (arith, sum-mapped (λ (x : PassHolding S R). x.key) (λ (k : PassKey S R). k.begun) passes, begun_same passes a.whole, ap length (bag_same passes p.heaps.heaps a.bags), so.counted, ap length o.extract);
         }
 
-    pub handed_out : (passes : List (PassHolding S R)) (bulk : BulkHolding S R) → bulk ≡ held → ArePasses p.sizes p.heaps.heaps s passes → DealtOut shown record_of width p s bulk s'.shared passes
+    pub handed_out : (passes : List (PassHolding S R)) (bulk : BulkHolding S R) → bulk ≡ held → ArePasses p.sizes p.heaps.heaps s passes → HandedOut shown queue bulk s'.shared passes
     handed_out passes bulk is a =
         let runs = runs_bag shown record_of width p.body in
+        let heaps = items_of p.heaps in
         let share : TableId → TableId → Shared S R = λ row pool. record { row = row; pool = pool } in
-        subst (λ b. DealtOut shown record_of width p s b s'.shared passes) (sym is) (record {
+        let slots = slots_same ∙ ap (λ h. h.slots) o.shows in
+        let all : heaps ++ runs ≡ queue.bag = ap (λ l. l ++ runs) (sym (append-nil heaps) ∙ ap (λ l. heaps ++ l) (sym o.extract)) ∙ ap (λ h. h.bag) o.shows in
+        let begun : held.begun ≡ length heaps = (let so = o.whole.sound o.sound in omega (arith, so.counted, ap length o.extract)) in
+        subst (λ b. HandedOut shown queue b s'.shared passes) (sym is) (record {
           of = are_of passes a;
-          shared_is = e.shared ∙ ap₂ share (sym o.first.row ∙ sym e.row) (sym o.first.pool ∙ sym e.pool);
+          shared_is = e.shared ∙ ap₂ share (sym o.first.row.row_is ∙ sym e.row) (sym o.first.pool.pool_is ∙ sym e.pool);
           fresh = a.fresh;
           no_slots = a.slots;
           whole = a.whole;
-          begun = (let so = o.whole.sound o.sound in omega (arith, so.counted, ap length o.extract));
-          first = first_same passes p.heaps.heaps a.whole a.bags;
-          runs = refl;
+          begun = begun ∙ ap (λ h. h.in_heap) o.shows;
+          first = first_same passes p.heaps.heaps a.whole a.bags ∙ ap (λ h. h.in_first) o.shows;
+          runs = ap (λ h. h.runs) o.shows;
           buffers = held_all;
-          run_buffers = refl;
-          pool = pool_same;
-          bag = IsSameBag-trans (runs ++ bag_of passes) (bag_of passes ++ runs) (items_of p.heaps ++ runs) (IsSameBag-append_comm runs (bag_of passes)) (IsSameBag-append (bag_of passes) (items_of p.heaps) runs runs (λ t. ap (count_by t) (bag_same passes p.heaps.heaps a.bags)) (λ t. refl));
-          slots = ap (λ l. external_slots shown p.body.runs.external.items ++ slots_shown shown l) items_same;
-          items = items_same;
-          size = refl;
-          peak = refl;
-          limited = refl;
-          sizes = refl;
+          pool = omega (arith, rest.held, rest.buffers, rest.pool, count_same);
+          idle = count_same ∙ ap (λ h. h.idle) o.shows;
+          bag = subst (IsSameBag (runs ++ bag_of passes)) all
+              (IsSameBag-trans (runs ++ bag_of passes) (bag_of passes ++ runs) (heaps ++ runs) (IsSameBag-append_comm runs (bag_of passes)) (IsSameBag-append (bag_of passes) heaps runs runs (λ t. ap (count_by t) (bag_same passes p.heaps.heaps a.bags)) (λ t. refl)));
+          slots = slots;
+          items = λ tell. tell_right (external_slots shown p.body.runs.external.items) (slots_shown shown s'.row_seat.hand.items) (subst AllTell (sym slots) tell);
+          size = ap (λ h. h.size) o.shows;
+          peak = ap (λ h. h.peak) o.shows;
+          limited = ap (λ h. h.limited) o.shows;
+          sizes = ap (λ h. h.sizes) o.shows;
         })
+
+module _ {S R : Type 0} (shown : S → Shown) (cmp : R → R → Ordering) (record_of : List ℕ → R) (width : ℕ) (p : QueueParts S R) (q : Holding R) (shows : holding_of shown record_of width p ≡ q) where
+  no_extract : q.in_extract ≡ 0 → p.extract.items ≡ []
+  no_extract e = nothing p.extract.items (ap (λ h. h.in_extract) shows ∙ e)
+
+  -- the free slots and the idle buffers are out
+  pub opens : IsWhole shown cmp record_of width p → q.failed ≡ None → q.in_extract ≡ 0 → (supply : Stock) (s : FirstSeats S R) → supply ≡ bare p.supply → IsFirst shown width p.supply s → IsOpened shown cmp record_of width q (record p { supply = supply }) s
+  opens whole sound empty supply s out first =
+      record {
+        before = p.supply;
+        out = out;
+        first = first;
+        whole = whole;
+        shows = shows;
+        sound = ap (λ h. h.failed) shows ∙ sound;
+        extract = no_extract empty;
+      }
+
+  -- with a supply as it was they make the queue again
+  pub whole_again : IsWhole shown cmp record_of width p → (supply : Stock) → supply ≡ p.supply → IsWhole shown cmp record_of width (record p { supply = supply })
+  whole_again whole supply back = subst (λ (s : Stock). IsWhole shown cmp record_of width (record p { supply = s })) (sym back) whole
+
+  pub shows_again : (supply : Stock) → supply ≡ p.supply → holding_of shown record_of width (record p { supply = supply }) ≡ q
+  shows_again supply back = ap (λ (s : Stock). holding_of shown record_of width (record p { supply = s })) back ∙ shows

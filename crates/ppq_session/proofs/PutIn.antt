@@ -1,9 +1,9 @@
--- A pass that was put in, as a whole: its runs were adopted, or, after a fault, taken apart.
-use Rattle.std.proofs.Common.{◌≡◌, ℕ, ◌+◌, List, [], ◌∷◌, ◌++◌, length, sum_by, All, Bool, Option, Some, None, refl, sym, ap, ◌∙◌, subst, arith, inl, inr}
-use Rattle.std.specs.Prelude.{◌⊎◌, flat_map, count_by, vec_capacity}
+-- Passes that are put in: one as a whole, whose runs are adopted, or, after a fault, taken apart; and one after the other.
+use Rattle.std.proofs.Common.{◌≡◌, ℕ, ◌+◌, List, [], ◌∷◌, ◌++◌, length, sum_by, All, Bool, Option, Some, None, refl, sym, ap, ◌∙◌, subst, arith, inl, inr, append-nil, append_assoc}
+use Rattle.std.specs.Prelude.{◌⊎◌, flat_map, count_by, vec_capacity, None}
 use Rattle.std.specs.Option.{option_or}
 use Rattle.std.specs.declared.cmp.Ordering.{Ordering}
-use Rattle.std.proofs.lemmas.List.Elements.{All-head}
+use Rattle.std.proofs.lemmas.List.Elements.{All-head, All-nil, All-cons}
 use Rattle.std.proofs.lemmas.List.Sums.{sum_by-cons, sum_by-append}
 use Rattle.ppq_pass.specs.ppq_record.Bag.{IsSameBag}
 use Rattle.ppq_pass.proofs.ppq_record.Order.{count_by-append}
@@ -20,7 +20,7 @@ use Rattle.ppq_pass.specs.Passed.{slots_of as pass_slots}
 use Rattle.ppq_queue.specs.Slots.{with_slots}
 use Rattle.ppq_queue.specs.Resting.{slots_of, runs_bag}
 use Rattle.ppq_session.specs.Passes.{IsBrought, pass_of}
-use Rattle.ppq_session.specs.Gathering.{IsGathered, IsGathering, IsSoundSoFar, gathered_bag, Adopted}
+use Rattle.ppq_session.specs.Gathering.{IsGathered, IsGathering, IsSoundSoFar, gathered_bag, Adopted, MayGather, Gathers}
 use Rattle.ppq_session.specs.declared.brought.Brought.{Brought}
 use Rattle.ppq_session.specs.declared.closed.Closed.{Closed}
 use Rattle.ppq_session.proofs.Gathered.{adopted-slots, adopted-buffers, gathering-more, sound-more', count-flat, count-joined}
@@ -157,3 +157,65 @@ module _ {S R : Type 0} (shown : S → Shown) (cmp : R → R → Ordering) (reco
         count_by-append p one.heap.items (internal_items one.body.runs.internal.items ++ flat_map r one.body.runs.external.items),
         count_by-append p (internal_items one.body.runs.internal.items) (flat_map r one.body.runs.external.items),
       )
+
+module _ {S R : Type 0} (shown : S → Shown) (cmp : R → R → Ordering) (record_of : List ℕ → R) (width : ℕ) where
+  abbrev Whole : Brought S R → Type 0
+  Whole one = one.failed ≡ None
+
+  -- none was put in yet
+  gathers-none : (c : Closed S R) → Gathers shown cmp record_of width [] c c
+  gathers-none c =
+      record {
+        gathered = λ slots items rest is. subst (IsGathered shown cmp record_of width slots items c) (append-nil rest) is;
+        bag = λ none rest p. ap (λ l. count_by p (gathered_bag shown cmp record_of width c l)) (sym (append-nil rest));
+        failed = λ none. (none, All-nil Whole);
+        size = λ none. omega arith;
+        sizes = refl;
+        peak = refl;
+        limited = refl;
+      }
+
+  -- one more
+  gathers-more :
+      (one : Brought S R) (came : List (Brought S R)) (old mid new : Closed S R) → Gathers shown cmp record_of width came old mid → Gathers shown cmp record_of width (one ∷ []) mid new
+      → Gathers shown cmp record_of width (one ∷ came) old new
+  gathers-more one came old mid new i j =
+      record {
+        gathered = λ slots items rest is. j.gathered slots items rest (i.gathered slots items (rest ++ one ∷ []) (subst (IsGathered shown cmp record_of width slots items old) (sym (append_assoc rest (one ∷ []) came)) is));
+        bag = λ none rest p. j.bag none rest p ∙ i.bag (j.failed none).0 (rest ++ one ∷ []) p ∙ ap (λ l. count_by p (gathered_bag shown cmp record_of width old l)) (append_assoc rest (one ∷ []) came);
+        failed = λ none. let before = i.failed (j.failed none).0 in (before.0, All-cons Whole one came (let all = (j.failed none).1 in all 0 one (omega arith)) before.1);
+        size = λ none. omega (arith, j.size none, i.size (j.failed none).0, sum_by-cons (λ (x : Brought S R). x.accepted) one came, sum_by-cons (λ (x : Brought S R). x.accepted) one []);
+        sizes = j.sizes ∙ i.sizes;
+        peak = j.peak ∙ i.peak;
+        limited = j.limited ∙ i.limited;
+      }
+
+  -- of all passes these are to come, and the others were put in
+  pub record PutSome (all left : List (Brought S R)) (old new : Closed S R) : Type 0 where
+    pub came : List (Brought S R)
+    pub parts : all ≡ left ++ came
+    pub is : Gathers shown cmp record_of width came old new
+
+  pub put-none : (all : List (Brought S R)) (c : Closed S R) → PutSome all all c c
+  put-none all c = record { came = []; parts = sym (append-nil all); is = gathers-none c }
+
+  module _ (all rest : List (Brought S R)) (one : Brought S R) (old mid : Closed S R) (some : PutSome all (rest ++ one ∷ []) old mid) where
+    -- the next can be put in
+    pub may-put : MayGather shown cmp record_of width all old → MayGather shown cmp record_of width (one ∷ []) mid
+    may-put m =
+        let all_is : m.rest ++ all ≡ ((m.rest ++ rest) ++ one ∷ []) ++ some.came =
+        ap (λ l. m.rest ++ l) some.parts ∙ sym (append_assoc m.rest (rest ++ one ∷ []) some.came) ∙ ap (λ l. l ++ some.came) (sym (append_assoc m.rest rest (one ∷ [])))
+        in
+        record {
+          slots = m.slots;
+          items = m.items;
+          rest = m.rest ++ rest;
+          is = some.is.gathered m.slots m.items ((m.rest ++ rest) ++ one ∷ []) (subst (IsGathered shown cmp record_of width m.slots m.items old) all_is m.is);
+        }
+
+    pub put-more : (new : Closed S R) → Gathers shown cmp record_of width (one ∷ []) mid new → PutSome all rest old new
+    put-more new more = record { came = one ∷ some.came; parts = some.parts ∙ append_assoc rest (one ∷ []) some.came; is = gathers-more one some.came old mid new some.is more }
+
+  -- once none is to come, all were put in
+  pub put-all : (all left : List (Brought S R)) (old new : Closed S R) → PutSome all left old new → left ≡ [] → Gathers shown cmp record_of width all old new
+  put-all all left old new some none = subst (λ l. Gathers shown cmp record_of width l old new) (sym (some.parts ∙ ap (λ l. l ++ some.came) none)) some.is

@@ -35,7 +35,8 @@ use Rattle.ppq_queue.proofs.Odd.{odd_most}
 use Rattle.ppq_queue.proofs.Moves.{none_after-same}
 use Rattle.ppq_queue.proofs.Refilled.{packed-drop, sources-bag}
 use Rattle.ppq_session.specs.declared.parts.BulkParts.{BulkParts}
-use Rattle.ppq_session.specs.FrontState.{lent, with_lent, with_shared, front_slots, front_bag, IsFront, IsSoundFront}
+use Rattle.ppq_session.specs.Apart.{apart_slots, IsOut}
+use Rattle.ppq_session.specs.FrontState.{lent, with_lent, with_shared, front_bag, IsSoundFront}
 use Rattle.ppq_session.proofs.Moved.{lent-length, lent-blocks, told-whole, told-parts, refilled, told-refilled}
 
 one_at_most : (b : Bool) → cond b 1 0 ≤ 1
@@ -63,7 +64,7 @@ module _ {S R : Type 0} (shown : S → Shown) (cmp : R → R → Ordering) (reco
   abbrev pooled : ℕ
   pooled = pool_count q.pool_seat.pool
 
-  module _ (limit : R) (is : IsFront shown width q) (sound : IsSoundFront shown cmp record_of width q limit) where
+  module _ (limit : R) (is : IsOut shown width q) (sound : IsSoundFront shown cmp record_of width q limit) where
     -- what is out fits into what is away
     items_fit : length items ≤ s.slot_room
     items_fit =
@@ -71,7 +72,7 @@ module _ {S R : Type 0} (shown : S → Shown) (cmp : R → R → Ordering) (reco
           arith,
           is.slots,
           is.slot_room,
-          length-append (slots_shown shown items) (slots_of shown a s),
+          length-append (slots_of shown a s) (slots_shown shown items),
           length-append (body_slots shown a) s.kept,
           slots_long shown items,
         )
@@ -122,10 +123,10 @@ module _ {S R : Type 0} (shown : S → Shown) (cmp : R → R → Ordering) (reco
     runs_served = omega (arith, runs_few shown cmp record_of width n (with_lent n a) (with_shared shown items pooled s) sound.rest, sound.few)
 
     module _ (x : Held R) (b : PassBody S R) (t : Stock) (src : Sources R) (kept : BodyKept shown a b s t) (r : Refilled cmp record_of width shown (Some limit) (sources_of a.runs a.lanes.idle s) (sources_of b.runs b.lanes.idle t) x.items) (may : MayFetch shown width n.workers (sources_of b.runs b.lanes.idle t)) (none' : b.lanes.jobs.items ≡ []) (batch : b.lanes.batch ≡ a.lanes.batch) where
-      told_sources : AllTell (front_slots shown q) → SourcesTell shown (sources_of a.runs a.lanes.idle s)
-      told_sources tell = all_left Tells (external_slots shown a.runs.external.items) (job_slots shown a.lanes.jobs.items) (all_left Tells (body_slots shown a) s.kept (all_right Tells (slots_shown shown items) (slots_of shown a s) tell))
+      told_sources : AllTell (apart_slots shown q) → SourcesTell shown (sources_of a.runs a.lanes.idle s)
+      told_sources tell = all_left Tells (external_slots shown a.runs.external.items) (job_slots shown a.lanes.jobs.items) (all_left Tells (body_slots shown a) s.kept (all_left Tells (slots_of shown a s) (slots_shown shown items) tell))
 
-      rises : AllTell (front_slots shown q) → RunsRise record_of width shown cmp (sources_of a.runs a.lanes.idle s)
+      rises : AllTell (apart_slots shown q) → RunsRise record_of width shown cmp (sources_of a.runs a.lanes.idle s)
       rises tell =
           let rise = sound.rest.rise (told-whole shown n items pooled a s tell) in
           record {
@@ -134,7 +135,7 @@ module _ {S R : Type 0} (shown : S → Shown) (cmp : R → R → Ordering) (reco
           }
 
       -- no call of a slot failed
-      pub quiet-refilled : AreQuiet (front_slots shown q) (front_slots shown (refilled shown width q x b t src))
+      pub quiet-refilled : AreQuiet (apart_slots shown q) (apart_slots shown (refilled shown width q x b t src))
       quiet-refilled =
           let f : Shown → ℕ = λ y. y.faults in
           let own = slots_shown shown items in
@@ -143,8 +144,8 @@ module _ {S R : Type 0} (shown : S → Shown) (cmp : R → R → Ordering) (reco
           omega (
             arith,
             r.quiet,
-            sum_by-append f own (slots_of shown a s),
-            sum_by-append f own (slots_of shown b t),
+            sum_by-append f (slots_of shown a s) own,
+            sum_by-append f (slots_of shown b t) own,
             sum_by-append f (body_slots shown a) s.kept,
             sum_by-append f (body_slots shown b) t.kept,
             sum_by-append f before (job_slots shown a.lanes.jobs.items),
@@ -235,7 +236,7 @@ module _ {S R : Type 0} (shown : S → Shown) (cmp : R → R → Ordering) (reco
               under = λ tell. (let was = told-refilled shown width q x b t src kept tell in r.under (told_sources was) (rises was));
             }
 
-        pub bag-refilled : AllTell (front_slots shown q) → IsSameBag (x.items ++ runs_bag shown record_of width b) (front_bag shown record_of width q)
+        pub bag-refilled : AllTell (apart_slots shown q) → IsSameBag (x.items ++ runs_bag shown record_of width b) (front_bag shown record_of width q)
         bag-refilled tell p =
             let taken = r.taken (told_sources tell) (rises tell) in
             omega (
@@ -253,7 +254,7 @@ module _ {S R : Type 0} (shown : S → Shown) (cmp : R → R → Ordering) (reco
         pub ready-refilled :
             IsTotalOrder cmp → (room : ℕ) → 0 < room
             → (SourcesTell shown (sources_of a.runs a.lanes.idle s) → RunsRise record_of width shown cmp (sources_of a.runs a.lanes.idle s) → x.items ≡ front cmp (source_items record_of width shown (sources_of a.runs a.lanes.idle s)) (wanted cmp room (Some limit) (source_items record_of width shown (sources_of a.runs a.lanes.idle s))))
-            → x.items ≡ [] → AllTell (front_slots shown q) → NoneBelow cmp (Some limit) (runs_bag shown record_of width b)
+            → x.items ≡ [] → AllTell (apart_slots shown q) → NoneBelow cmp (Some limit) (runs_bag shown record_of width b)
         ready-refilled o room some first none tell =
             let taken = r.taken (told_sources tell) (rises tell) in
             let old = source_items record_of width shown (sources_of a.runs a.lanes.idle s) in

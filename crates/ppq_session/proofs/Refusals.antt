@@ -1,10 +1,9 @@
 -- For each load there is room or not, and what refuses a load also refuses a greater one, and where a limit session was begun since.
-use Rattle.std.proofs.Common.{◌≡◌, ◌⊎◌, inl, inr, Bool, true, false, ℕ, ◌+◌, ◌-◌, ◌<◌, ◌≤◌, List, refl, arith}
-use Rattle.std.proofs.lemmas.Bool.{cases_lt}
+use Rattle.std.proofs.Common.{◌≡◌, inl, inr, Bool, false, ℕ, ◌+◌, ◌-◌, ◌<◌, ◌≤◌, List, arith}
 use Rattle.std.proofs.lemmas.Nat.{le-div}
 use Rattle.std.proofs.Math.Nat.{div-mul-le_self}
 use Rattle.ppq_pass.specs.ppq_outside.Shown.{Shown}
-use Rattle.ppq_pass.specs.ppq_budget.Sizes.{Numbers, heap_of, blocks_for, room_of}
+use Rattle.ppq_pass.specs.ppq_budget.Sizes.{Numbers, blocks_for, room_of}
 use Rattle.ppq_pass.specs.ppq_array.declared.store_fault.StoreFault.{StoreFault as QueueFault}
 use Rattle.ppq_pass.specs.ppq_array.declared.store_fault.StoreFault.TheVariants.{NoFreeBlock, Device}
 use Rattle.ppq_session.specs.Refusal.{HasRoom, HasNoRoom, IsRefusedBy}
@@ -13,16 +12,6 @@ use Rattle.ppq_session.specs.Refusal.{HasRoom, HasNoRoom, IsRefusedBy}
 pub room-not_none : (sizes : Numbers) (limited : Bool) (load : ℕ) → HasRoom sizes limited load → HasNoRoom sizes limited load → ⊥
 room-not_none sizes limited load (inl heap) none = omega (arith, none.0 heap.0, heap.1)
 room-not_none sizes limited load (inr room) none = omega (arith, room, none.1)
-
--- one of both
-pub room-or_none : (sizes : Numbers) (limited : Bool) (load : ℕ) → HasRoom sizes limited load ⊎ HasNoRoom sizes limited load
-room-or_none sizes limited load = by limited (cases_lt sizes.blocks (room_of sizes load)) (cases_lt (heap_of sizes) load)
-  where
-    by : (limited : Bool) → (sizes.blocks < room_of sizes load) ⊎ (room_of sizes load ≤ sizes.blocks) → (heap_of sizes < load) ⊎ (load ≤ heap_of sizes) → HasRoom sizes limited load ⊎ HasNoRoom sizes limited load
-    by limited (inr room) heap = inl (inr room)
-    by true (inl short) heap = inr ((λ unlimited. absurd (cc)), short)
-    by false (inl short) (inr within) = inl (inl (refl, within))
-    by false (inl short) (inl above) = inr ((λ unlimited. above), short)
 
 -- a greater load wants no fewer blocks
 pub room-more : (sizes : Numbers) (load more : ℕ) → 0 < sizes.block → load ≤ more → room_of sizes load ≤ room_of sizes more

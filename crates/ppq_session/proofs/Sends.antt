@@ -1,6 +1,6 @@
--- A pass of a limit session may go to another thread, if its slots and records may.
+-- What goes to other threads: a pass of a limit session, if its slots and records may, and what a closure takes along.
 use denote.RattleType.{RattleType}
-use denote.Param.Send.{IsSend, IsSync, recorded_send, struct_send, view_send}
+use denote.Param.Send.{IsSend, IsSync, recorded_send, struct_send, view_send, AllSend, param_send, arg_send}
 use denote.Struct.Struct.{Struct}
 use denote.Struct.Declared as declared
 use Rattle.std.specs.declared.cmp.Ord as Ord
@@ -11,6 +11,12 @@ use Rattle.ppq_pass.specs.ppq_outside.declared.slot.Slot as Slot
 use Rattle.ppq_pass.proofs.Sends.{pass_sends}
 use Rattle.ppq_session.specs.contracts.limit_pass.LimitPass as LimitPass
 use Rattle.ppq_session.specs.contracts.limit_pass.LimitPass.TheInside as limit_pass
+use mathlib.Core.List.{[], ◌∷◌}
+use Prim.Native.Nat.{ℕ}
+use mir.Syntax.{Sym, Ty}
+use denote.Exit.{Kept}
+use denote.Param.{param, arg}
+use denote.Struct.Tuple.{TupleAt, type_at}
 
 module _ (S R : RattleType) (slot : Slot.Ghosts S.Denot) (of : Record.Ghosts R.Denot) (ord : Ord.Ghosts R.Denot) (eq : PartialEq.Ghosts R.Denot) (le : PartialOrd.Ghosts R.Denot) (send_S : IsSend S) (sync_S : IsSync S) (send_R : IsSend R) (sync_R : IsSync R) where
   abbrev fields : declared.Declared
@@ -19,3 +25,11 @@ module _ (S R : RattleType) (slot : Slot.Ghosts S.Denot) (of : Record.Ghosts R.D
   pub limit_pass_sends : IsSend (LimitPass.the_row S R slot of ord eq le)
   limit_pass_sends =
       view_send _ _ _ _ _ (recorded_send (Struct (declared.shape fields)) fields.D fields.to fields.to_one (struct_send (declared.shape fields) (pass_sends S R slot of ord eq le send_S sync_S send_R sync_R, (send_R, tt))))
+
+struct_sends : (D : declared.Declared) → AllSend (declared.fields D) → IsSend (declared.row D)
+struct_sends D all = recorded_send (Struct (declared.shape D)) D.D D.to D.to_one (struct_send (declared.shape D) all)
+
+-- five things
+pub five_send :
+    (i : ℕ) (τ : Ty) (k : Kept) (ν : Sym) (A B C D E : RattleType) → IsSend A → IsSend B → IsSend C → IsSend D → IsSend E → IsSend (param i (arg τ k (TupleAt ν (A ∷ B ∷ C ∷ D ∷ E ∷ []))))
+five_send i τ k ν A B C D E a b c d e = param_send i _ (arg_send τ k _ (struct_sends (type_at ν (A ∷ B ∷ C ∷ D ∷ E ∷ [])) (a, (b, (c, (d, (e, tt)))))))

@@ -1,6 +1,6 @@
--- All passes of a session were put into the parts of its queue: what the queue has then.
-use Rattle.std.proofs.Common.{◌≡◌, ℕ, ◌*◌, ◌+◌, ◌<◌, ◌≤◌, true, List, [], ◌++◌, length, max, min, reverse, sum_by, All, None, refl, sym, ap, ◌∙◌, subst, arith, append-nil}
-use Rattle.std.specs.Prelude.{vec_capacity, flat_map, count_by, Option, Some, Result, Ok, Err}
+-- All passes of a session came: its row and pool can be closed, the passes can be put in, and what the queue has then.
+use Rattle.std.proofs.Common.{◌≡◌, ℕ, ◌*◌, ◌+◌, ◌<◌, ◌≤◌, true, List, [], ◌++◌, length, max, reverse, sum_by, All, None, refl, sym, ap, ◌∙◌, subst, arith, append-nil, Option, length-append}
+use Rattle.std.specs.Prelude.{flat_map, count_by, Option, Some, Result, Ok, Err}
 use Rattle.std.specs.List.{Any}
 use Rattle.std.specs.declared.cmp.Ordering.{Ordering}
 use Rattle.std.proofs.lemmas.List.{length-map, length-reverse}
@@ -12,7 +12,7 @@ use Rattle.ppq_pass.proofs.ppq_record.Order.{count_by-append}
 use Rattle.ppq_pass.specs.ppq_outside.Shown.{Shown, AllTell}
 use Rattle.ppq_pass.specs.ppq_heap.Heaps.{items_in}
 use Rattle.ppq_pass.specs.ppq_array.declared.berth.DeviceBlock.{DeviceBlock}
-use Rattle.ppq_pass.specs.ppq_array.Owner.{slots_shown}
+use Rattle.ppq_pass.specs.ppq_array.Owner.{slots_shown, HasSize}
 use Rattle.ppq_pass.specs.ppq_array.Kept.{SameSlots, AreQuiet, all_faults, all_writes}
 use Rattle.ppq_pass.proofs.ppq_spill.SameSlots.{SameSlots-trans}
 use Rattle.ppq_pass.specs.Passed.{PassKey, PassHolding, PassTells}
@@ -25,28 +25,71 @@ use Rattle.ppq_session.specs.declared.fault.SessionEnd.TheVariants.{Whole, Stopp
 use Rattle.ppq_queue.specs.Slots.{SameSums}
 use Rattle.ppq_queue.specs.Resting.{slots_of, runs_bag}
 use Rattle.ppq_queue.proofs.Slots.{slots-sums, tells-sums}
-use Rattle.ppq_session.specs.BulkSession.{bag_of, accepted_of}
-use Rattle.ppq_session.specs.Apart.{IsApart, IsSoundApart, GoesBefore, HasAll, EndsApart, SessionEnded, apart_slots, apart_key}
+use Rattle.ppq_session.specs.Ends.{Staying, HasAll, EndsWith, SessionEnded, bag_of, accepted_of}
+use Rattle.ppq_session.specs.Apart.{IsSoundApart, GoesBefore, CanBring, CanEnd, apart_slots, staying, IsApart}
 use Rattle.ppq_pass.specs.declared.shared.Shared.{Shared}
 use Rattle.ppq_session.specs.declared.parts.BulkParts.{BulkParts}
 use Rattle.ppq_session.specs.Passes.{pass_of}
-use Rattle.ppq_session.specs.Gathering.{IsGathered, gathered_bag, slots_in, accepted_in}
+use Rattle.ppq_session.specs.Gathering.{IsGathered, MayGather, Gathers, IsMade, gathered_bag, slots_in, accepted_in}
 use Rattle.ppq_session.specs.declared.brought.Brought.{Brought}
 use Rattle.ppq_session.specs.declared.closed.Closed.{Closed}
-use Rattle.ppq_session.specs.Bringing.{BroughtAll, IsShareOf}
-use Rattle.ppq_session.specs.Closing.{IsClosed}
+use Rattle.ppq_session.specs.Bringing.{MayBring, BroughtAll}
+use Rattle.ppq_session.specs.Closing.{MayClose, IsClosed}
 use Rattle.ppq_session.proofs.Gathered.{count-flat}
 use Rattle.ppq_session.proofs.Mapped.{sum-mapped}
+use Rattle.ppq_session.proofs.Equipping.{all_turned}
 use Rattle.ppq_session.proofs.FirstGathered.{gathered-first, closed, closed_is, same_now, writes_now, quiet_now, told_now}
-use Rattle.ppq_session.proofs.ShortOfBlocks.{short}
-use Rattle.ppq_session.proofs.Loads.{load_within}
+use Rattle.ppq_session.proofs.ShortOfBlocks.{short, load_within}
+use Rattle.ppq_pass.proofs.ppq_spill.Keeping.{slots_long}
+use Rattle.ppq_pass.specs.ppq_pool.Seats.{count_of}
+use Rattle.ppq_pass.specs.ppq_spill.Body.{body_slots}
+
+module _ {S R : Type 0} (shown : S → Shown) (cmp : R → R → Ordering) (record_of : List ℕ → R) (width : ℕ) (q : BulkParts S R) (failed : Option ℕ) (is : IsApart shown width q failed) (q1 : BulkParts S R) (passes : List (PassHolding S R)) (br : BroughtAll shown record_of width q.sizes cmp passes q q1) where
+  same_supply : q1.supply ≡ q.supply
+  same_supply = ap (λ p. p.supply) br.rest
+
+  same_count : count_of q1.pool_seat.pool ≡ count_of q.pool_seat.pool
+  same_count = ap count_of br.pool
+
+  one_block : q1.supply.block ≡ q.sizes.block
+  one_block = ap (λ s. s.block) same_supply ∙ is.out.block
+
+  slots_few : length q1.row_seat.hand.items ≤ q1.supply.slot_room
+  slots_few =
+      let items = slots_shown shown q.row_seat.hand.items in
+      omega (
+        arith,
+        ap length br.row_items,
+        ap (λ s. s.slot_room) same_supply,
+        is.out.slots,
+        is.out.slot_room,
+        length-append (slots_of shown q.body q.supply) items,
+        length-append (body_slots shown q.body) q.supply.kept,
+        slots_long shown q.row_seat.hand.items,
+      )
+
+  all_bytes : All (HasSize shown (q1.supply.block * width)) q1.row_seat.hand.items
+  all_bytes =
+      subst (λ b. All (HasSize shown (b * width)) q1.row_seat.hand.items) (sym one_block)
+      (subst (All (HasSize shown (q.sizes.block * width))) (sym br.row_items) is.out.home.bytes)
+
+  -- with the shares of all passes the seats have all
+  pub may_close : (shared : Shared S R) → q.row_seat.row ≡ shared.row → q.pool_seat.pool ≡ shared.pool → length br.brought ≡ q.sizes.workers → MayClose shown width q1 shared
+  may_close shared row pool came =
+      record {
+        row = br.row ∙ row;
+        row_shares = br.row_shares ∙ ap (λ k. q.row_seat.hand.shares + k) came ∙ is.out.home.row_shares;
+        few_slots = slots_few;
+        bytes = all_bytes;
+        pool = br.pool ∙ pool;
+        pool_shares = br.pool_shares ∙ ap (λ k. q.pool_seat.hand.shares + k) came ∙ is.out.home.pool_shares;
+        few_buffers = omega (arith, same_count, ap (λ s. s.buffer_room) same_supply, is.fits);
+        shape = λ some. br.pool_shape ∙ is.out.home.shape (omega (arith, some, same_count)) ∙ sym one_block;
+      }
 
 module _ {X : Type 0} where
   any_all : {C : Type 0} (Q : X → Type 0) (xs : List X) → Any Q xs → All (λ x. Q x → C) xs → C
   any_all Q xs any all = all any.0 any.1 any.2 (subst Q (sym any.3) any.4)
-
-  turned : (P : X → Type 0) (xs : List X) → All P xs → All P (reverse xs)
-  turned P xs = All-permutation P xs (reverse xs) (IsPermutation-reverse xs)
 
   turned_back : (P : X → Type 0) (xs : List X) → All P (reverse xs) → All P xs
   turned_back P xs = All-permutation P (reverse xs) xs (IsPermutation-sym xs (reverse xs) (IsPermutation-reverse xs))
@@ -58,61 +101,48 @@ module _ {X R : Type 0} (f : X → List R) where
   flat-turned : (xs : List X) → IsSameBag (flat_map f (reverse xs)) (flat_map f xs)
   flat-turned xs p = count-flat f p (reverse xs) ∙ sum-turned (λ x. count_by p (f x)) xs ∙ sym (count-flat f p xs)
 
--- what a queue shows that was made of the parts into which all passes were put
-pub record IsMade {S R : Type 0} (shown : S → Shown) (cmp : R → R → Ordering) (record_of : List ℕ → R) (width : ℕ) (popped : ℕ) (d : Closed S R) (queue : Holding R) : Type 0 where
-  pub bag : queue.bag ≡ gathered_bag shown cmp record_of width d []
-  pub slots : queue.slots ≡ slots_of shown d.body d.supply
-  pub failed : queue.failed ≡ d.failed
-  pub size : d.failed ≡ None → queue.size ≡ d.count
-  pub peak : queue.peak ≡ max d.peak (min (d.count + popped) (d.sizes.memory + d.sizes.block * d.sizes.blocks))
-  pub sizes : queue.sizes ≡ d.sizes
-  pub limited : queue.limited ≡ d.limited
-
 -- A settling tells a fault that was met before, if there is one. So where it answers Ok, or another fault, there is none
+unlatched : {A : Type 0} (failed : Option ℕ) (r : Result A QueueFault) → ((number : ℕ) → failed ≡ Some number → r ≡ Err (Device number)) → ((number : ℕ) → r ≡ Err (Device number) → ⊥) → failed ≡ None
+unlatched None r told other = refl
+unlatched (Some number) r told other = absurd (other number (told number refl))
+
 module _ {A : Type 0} (failed : Option ℕ) (r : Result A QueueFault) (latched : (number : ℕ) → failed ≡ Some number → r ≡ Err (Device number)) where
   pub unlatched_ok : (x : A) → r ≡ Ok x → failed ≡ None
-  unlatched_ok x is = by_fault failed latched
-    where
-      clash : (number : ℕ) → ◌≡◌ {A = Result A QueueFault} (Ok x) (Err (Device number)) → ⊥
-      clash number e = cc
-
-      by_fault : (f : Option ℕ) → ((number : ℕ) → f ≡ Some number → r ≡ Err (Device number)) → f ≡ None
-      by_fault None told = refl
-      by_fault (Some number) told = absurd (clash number (sym is ∙ told number refl))
+  unlatched_ok x is = unlatched failed r latched (λ number e. (let odd : ◌≡◌ {A = Result A QueueFault} (Ok x) (Err (Device number)) = sym is ∙ e in cc))
 
   pub unlatched_err : (fault : QueueFault) → r ≡ Err fault → fault ≡ NoFreeBlock → failed ≡ None
-  unlatched_err fault is e = by_fault failed latched
-    where
-      clash : (number : ℕ) → ◌≡◌ {A = Result A QueueFault} (Err NoFreeBlock) (Err (Device number)) → ⊥
-      clash number e = cc
+  unlatched_err fault is e = unlatched failed r latched (λ number h. (let odd : ◌≡◌ {A = Result A QueueFault} (Err NoFreeBlock) (Err (Device number)) = ap (λ x. Err x) (sym e) ∙ sym is ∙ h in cc))
 
-      by_fault : (f : Option ℕ) → ((number : ℕ) → f ≡ Some number → r ≡ Err (Device number)) → f ≡ None
-      by_fault None told = refl
-      by_fault (Some number) told = absurd (clash number (ap (λ x. Err x) (sym e) ∙ sym is ∙ told number refl))
+-- all passes of a session can be brought
+pub may_bring :
+    {S R : Type 0} (shown : S → Shown) (width : ℕ) (shared : Shared S R) (q : BulkParts S R) (failed : Option ℕ) (ps : List (PassHolding S R)) → CanBring shown width shared q failed ps → MayBring shared q ps
+may_bring {S} {R} shown width shared q failed ps can =
+    let home = can.apart.out.home in
+    record {
+      row = can.row;
+      pool = can.pool;
+      of = λ k d h.
+          let key = can.of k d h in
+          record {
+            row = ap (λ (x : PassKey S R). x.row) key ∙ can.row;
+            pool = ap (λ (x : PassKey S R). x.pool) key ∙ can.pool;
+            row_share = ap (λ (x : PassKey S R). x.row_shares) key;
+            pool_share = ap (λ (x : PassKey S R). x.pool_shares) key;
+            sizes = ap (λ (x : PassKey S R). x.sizes) key;
+          };
+      room = omega (arith, ap length home.none_brought, can.count, home.brought_room);
+    }
 
-module _ {S R : Type 0} (shown : S → Shown) (cmp : R → R → Ordering) (record_of : List ℕ → R) (width : ℕ) (q : BulkParts S R) (failed : Option ℕ) (is : IsApart shown width q failed) (ps : List (PassHolding S R)) (many : length ps ≡ q.sizes.workers) (of : All (λ (p : PassHolding S R). p.key ≡ apart_key q p.key.begun) ps) where
-  -- each has a share of both seats
-  pub all_shares_of : (shared : Shared S R) → q.row_seat.row ≡ shared.row → q.pool_seat.pool ≡ shared.pool → All (IsShareOf shared q.sizes) ps
-  all_shares_of shared row pool k d h =
-      let key = of k d h in
-      record {
-        row = ap (λ (x : PassKey S R). x.row) key ∙ row;
-        pool = ap (λ (x : PassKey S R). x.pool) key ∙ pool;
-        row_share = ap (λ (x : PassKey S R). x.row_shares) key;
-        pool_share = ap (λ (x : PassKey S R). x.pool_shares) key;
-        sizes = ap (λ (x : PassKey S R). x.sizes) key;
-      }
-
-  -- the list of what passes bring has room for all
-  pub room_for_all : length q.brought.items + length ps ≤ vec_capacity q.brought
-  room_for_all = omega (arith, ap length is.none_brought, many, is.brought_room)
-
+module _ {S R : Type 0} (shown : S → Shown) (cmp : R → R → Ordering) (record_of : List ℕ → R) (width : ℕ) (shared : Shared S R) (q : BulkParts S R) (popped : ℕ) (failed : Option ℕ) (ps : List (PassHolding S R)) (can : CanEnd shown cmp record_of width shared q popped failed ps) where
   module _ (q1 : BulkParts S R) (br : BroughtAll shown record_of width q.sizes cmp (reverse ps) q q1) where
-    -- as many came as there are
-    pub came : length br.brought ≡ q.sizes.workers
-    came = sym (length-map br.brought (pass_of shown record_of width q.sizes)) ∙ ap length br.passes_are ∙ length-reverse ps ∙ many
+    -- as many came as there are, so row and pool can be closed
+    came : length br.brought ≡ q.sizes.workers
+    came = sym (length-map br.brought (pass_of shown record_of width q.sizes)) ∙ ap length br.passes_are ∙ length-reverse ps ∙ can.back.count
 
-    module _ (c : Closed S R) (cl : IsClosed shown q1 failed c) (popped : ℕ) (so : failed ≡ None → IsSoundApart shown cmp record_of width q (sum_by (λ (p : PassHolding S R). p.key.begun) ps) popped) (before : failed ≡ None → All (GoesBefore shown cmp q) ps) where
+    pub can_close : MayClose shown width q1 shared
+    can_close = may_close shown cmp record_of width q failed can.back.apart q1 (reverse ps) br shared can.back.row can.back.pool came
+
+    module _ (c : Closed S R) (cl : IsClosed shown q1 failed c) (brought : List (Brought S R)) (list_is : brought ≡ q1.brought.items) where
       abbrev items : List (DeviceBlock S R)
       items = q.row_seat.hand.items
 
@@ -120,39 +150,42 @@ module _ {S R : Type 0} (shown : S → Shown) (cmp : R → R → Ordering) (reco
       now = slots_of shown q.body c.supply ++ slots_in shown br.brought
 
       count : length (reverse ps) ≡ q.sizes.workers
-      count = length-reverse ps ∙ many
+      count = length-reverse ps ∙ can.back.count
 
       keys : All (λ (p : PassHolding S R). p.key.items ≡ items) (reverse ps)
-      keys = turned (λ (p : PassHolding S R). p.key.items ≡ items) ps (λ k d h. ap (λ (x : PassKey S R). x.items) (of k d h))
+      keys = all_turned (λ (p : PassHolding S R). p.key.items ≡ items) ps (λ k d h. ap (λ (x : PassKey S R). x.items) (can.back.of k d h))
 
       sound_turned : failed ≡ None → IsSoundApart shown cmp record_of width q (sum_by (λ (p : PassHolding S R). p.key.begun) (reverse ps)) popped
-      sound_turned none = subst (λ k. IsSoundApart shown cmp record_of width q k popped) (sym (sum-turned (λ (p : PassHolding S R). p.key.begun) ps)) (so none)
+      sound_turned none = subst (λ k. IsSoundApart shown cmp record_of width q k popped) (sym (sum-turned (λ (p : PassHolding S R). p.key.begun) ps)) (can.sound none)
 
-      brought_is : c.brought.items ≡ br.brought
-      brought_is = ap (λ k. k.brought.items) cl.rest ∙ br.items ∙ ap (λ l. l ++ br.brought) is.none_brought
+      brought_is : brought ≡ br.brought
+      brought_is = list_is ∙ br.items ∙ ap (λ l. l ++ br.brought) can.back.apart.out.home.none_brought
 
-      first_is : c ≡ closed shown cmp record_of width q failed is q1 (reverse ps) br c cl count keys
-      first_is = closed_is shown cmp record_of width q failed is q1 (reverse ps) br c cl count keys
+      first_is : c ≡ closed shown cmp record_of width q failed can.back.apart q1 (reverse ps) br c cl count keys
+      first_is = closed_is shown cmp record_of width q failed can.back.apart q1 (reverse ps) br c cl count keys
 
       same : SameSlots (apart_slots shown q) now
-      same = same_now shown cmp record_of width q failed is q1 (reverse ps) br c cl count keys
+      same = same_now shown cmp record_of width q failed can.back.apart q1 (reverse ps) br c cl count keys
 
       -- the condition of putting all passes in
-      pub first : IsGathered shown cmp record_of width now (slots_shown shown items) c c.brought.items
+      first : IsGathered shown cmp record_of width now (slots_shown shown items) c brought
       first =
           subst (IsGathered shown cmp record_of width now (slots_shown shown items) c) (sym brought_is)
-          (gathered-first shown cmp record_of width q failed is q1 (reverse ps) br c cl count keys popped sound_turned (λ none. turned (GoesBefore shown cmp q) ps (before none)))
+          (gathered-first shown cmp record_of width q failed can.back.apart q1 (reverse ps) br c cl count keys popped sound_turned (λ none. all_turned (GoesBefore shown cmp q) ps (can.before none)))
+
+      pub may_gather : MayGather shown cmp record_of width brought c
+      may_gather = record { slots = now; items = slots_shown shown items; rest = []; is = first }
 
       -- the records of the parts and of the passes
-      bag_first : IsSameBag (gathered_bag shown cmp record_of width c c.brought.items) (q.extract.items ++ runs_bag shown record_of width q.body ++ bag_of ps)
+      bag_first : IsSameBag (gathered_bag shown cmp record_of width c brought) (q.extract.items ++ runs_bag shown record_of width q.body ++ bag_of ps)
       bag_first p =
           let pass = pass_of shown record_of width q.sizes in
           let kept = q.extract.items ++ runs_bag shown record_of width q.body in
           let bag : PassHolding S R → List R = λ x. x.bag in
-          let there : gathered_bag shown cmp record_of width c c.brought.items ≡ kept ++ bag_of (reverse ps) =
+          let there : gathered_bag shown cmp record_of width c brought ≡ kept ++ bag_of (reverse ps) =
           ap (gathered_bag shown cmp record_of width c) brought_is
           ∙ ap (λ k. gathered_bag shown cmp record_of width k br.brought) first_is
-          ∙ ap (λ h. items_in h ++ q.extract.items ++ runs_bag shown record_of width q.body ++ flat_map (λ (one : Brought S R). (pass one).bag) br.brought) is.no_heap
+          ∙ ap (λ h. items_in h ++ q.extract.items ++ runs_bag shown record_of width q.body ++ flat_map (λ (one : Brought S R). (pass one).bag) br.brought) can.back.apart.out.home.no_heap
           ∙ ap (λ l. kept ++ l) (sym (flat_map-map bag pass br.brought) ∙ ap (flat_map bag) br.passes_are)
           in
           omega (arith, ap (count_by p) there, count_by-append p kept (bag_of (reverse ps)), count_by-append p kept (bag_of ps), flat-turned bag ps p)
@@ -163,64 +196,77 @@ module _ {S R : Type 0} (shown : S → Shown) (cmp : R → R → Ordering) (reco
           let accepted : PassHolding S R → ℕ = λ p. p.accepted in
           sym (sum-mapped pass accepted br.brought) ∙ ap (sum_by accepted) br.passes_are ∙ sum-turned accepted ps
 
-      module _ (d : Closed S R) (all : IsGathered shown cmp record_of width now (slots_shown shown items) d []) where
+      -- what putting all passes in did
+      module _ (d : Closed S R) (g : Gathers shown cmp record_of width brought c d) where
+        all : IsGathered shown cmp record_of width now (slots_shown shown items) d []
+        all = g.gathered now (slots_shown shown items) [] first
+
+        pub may_rejoin : (slots : List Shown) × (items : List Shown) × IsGathered shown cmp record_of width slots items d []
+        may_rejoin = (now, slots_shown shown items, all)
+
         last_sums : SameSums now (slots_of shown d.body d.supply)
         last_sums f = sym (all.always.sums f) ∙ ap (sum_by f) (append-nil (slots_of shown d.body d.supply))
 
         -- the slots are those of the parts
-        pub last_slots : SameSlots (apart_slots shown q) (slots_of shown d.body d.supply)
+        last_slots : SameSlots (apart_slots shown q) (slots_of shown d.body d.supply)
         last_slots = SameSlots-trans (apart_slots shown q) now (slots_of shown d.body d.supply) same (slots-sums now (slots_of shown d.body d.supply) last_sums)
 
-        pub last_writes : all_writes (apart_slots shown q) ≤ all_writes (slots_of shown d.body d.supply)
-        last_writes = omega (arith, writes_now shown cmp record_of width q failed is q1 (reverse ps) br c cl count keys, last_sums (λ s. s.writes))
+        last_writes : all_writes (apart_slots shown q) ≤ all_writes (slots_of shown d.body d.supply)
+        last_writes = omega (arith, writes_now shown cmp record_of width q failed can.back.apart q1 (reverse ps) br c cl count keys, last_sums (λ s. s.writes))
 
-        pub last_quiet : All (λ (x : Brought S R). x.failed ≡ None) br.brought → AreQuiet (apart_slots shown q) (slots_of shown d.body d.supply)
-        last_quiet fine = omega (arith, quiet_now shown cmp record_of width q failed is q1 (reverse ps) br c cl count keys fine, last_sums (λ s. s.faults))
+        last_quiet : All (λ (x : Brought S R). x.failed ≡ None) br.brought → AreQuiet (apart_slots shown q) (slots_of shown d.body d.supply)
+        last_quiet fine = omega (arith, quiet_now shown cmp record_of width q failed can.back.apart q1 (reverse ps) br c cl count keys fine, last_sums (λ s. s.faults))
 
-        pub last_tells : AllTell (apart_slots shown q) → All (PassTells shown) ps → AllTell (slots_of shown d.body d.supply)
+        last_tells : AllTell (apart_slots shown q) → All (PassTells shown) ps → AllTell (slots_of shown d.body d.supply)
         last_tells tell each =
-            tells-sums now (slots_of shown d.body d.supply) last_sums (told_now shown cmp record_of width q failed is q1 (reverse ps) br c cl count keys tell (turned (PassTells shown) ps each))
+            tells-sums now (slots_of shown d.body d.supply) last_sums (told_now shown cmp record_of width q failed can.back.apart q1 (reverse ps) br c cl count keys tell (all_turned (PassTells shown) ps each))
 
-        -- what putting all passes in did
-        module _ (whole : d.failed ≡ None → (c.failed ≡ None) × All (λ (x : Brought S R). x.failed ≡ None) c.brought.items) (bag : d.failed ≡ None → IsSameBag (gathered_bag shown cmp record_of width d []) (gathered_bag shown cmp record_of width c c.brought.items)) (more : d.failed ≡ None → d.count ≡ c.count + accepted_in shown c.brought.items) (alike : (d.sizes ≡ c.sizes) × (d.peak ≡ c.peak)) (no_limit : d.limited ≡ c.limited) (queue end : Holding R) (made : IsMade shown cmp record_of width popped d queue) (still : Stays queue end) where
+        module _ (queue end : Holding R) (made : IsMade shown cmp record_of width popped d queue) (still : Stays queue end) where
+          abbrev stay : Staying R
+          stay = staying shown record_of width q popped failed
+
+          limited_is : end.limited ≡ q.limited
+          limited_is = still.keeps.limited ∙ made.limited ∙ g.limited ∙ ap (λ k. k.limited) first_is
+
           -- where no fault was met the queue has all, also after a settling that lost nothing
-          together : queue.failed ≡ None → SameRecords queue end → HasAll shown record_of width q popped failed ps end
+          together : queue.failed ≡ None → SameRecords queue end → HasAll shown stay ps end
           together fine moved =
               let pass = pass_of shown record_of width q.sizes in
               let Whole : PassHolding S R → Type 0 = λ p. p.failed ≡ None in
               let none : d.failed ≡ None = sym made.failed ∙ fine in
-              let begun_whole : failed ≡ None = sym (ap (λ k. k.failed) first_is) ∙ (whole none).0 in
-              let here = subst (All (λ (x : Brought S R). x.failed ≡ None)) brought_is (whole none).1 in
+              let begun_whole : failed ≡ None = sym (ap (λ k. k.failed) first_is) ∙ (g.failed none).0 in
+              let here = subst (All (λ (x : Brought S R). x.failed ≡ None)) brought_is (g.failed none).1 in
               let apart = sound_turned begun_whole in
-              let counted : d.count ≡ q.count + accepted_in shown br.brought = omega (arith, more none, ap (λ k. k.count) first_is, ap (accepted_in shown) brought_is) in
+              let counted : d.count ≡ q.count + accepted_in shown br.brought = omega (arith, g.size none, ap (λ k. k.count) first_is, ap (accepted_in shown) brought_is) in
               let total : end.size ≡ q.count + accepted_in shown br.brought = omega (arith, still.size, made.size none, counted) in
-              let within = load_within shown cmp record_of width q failed is q1 (reverse ps) br c cl popped apart same.length here came in
-              let sizes : d.sizes ≡ q.sizes = alike.0 ∙ ap (λ k. k.sizes) first_is in
+              let within = load_within shown cmp record_of width q failed can.back.apart q1 (reverse ps) br c cl popped apart same.length here came in
+              let sizes : d.sizes ≡ q.sizes = g.sizes ∙ ap (λ k. k.sizes) first_is in
               let limit : d.sizes.memory + d.sizes.block * d.sizes.blocks ≡ q.sizes.memory + q.sizes.block * q.sizes.blocks = ap (λ n. n.memory + n.block * n.blocks) sizes in
-              let high : end.peak ≡ max q.peak (q.count + popped + accepted_of ps) = omega (arith, still.peak, made.peak, alike.1, ap (λ k. k.peak) first_is, counted, within, limit, accepted_here) in
+              let high : end.peak ≡ max q.peak (q.count + popped + accepted_of ps) = omega (arith, still.peak, made.peak, g.peak, ap (λ k. k.peak) first_is, counted, within, limit, accepted_here) in
               record {
-                bag = λ tell each p. omega (arith, moved.bag (subst AllTell (sym made.slots) (last_tells tell each)) p, ap (count_by p) made.bag, bag none p, bag_first p);
+                bag = λ tell each p. omega (arith, moved.bag (subst AllTell (sym made.slots) (last_tells tell each)) p, ap (count_by p) made.bag, g.bag none [] p, bag_first p);
                 size = omega (arith, total, accepted_here);
                 peak = high;
                 sound = moved.sound;
                 quiet = moved.quiet ∙ ap all_faults made.slots ∙ last_quiet here;
+                limited = limited_is;
                 no_fault = (begun_whole, turned_back Whole ps (subst (All Whole) br.passes_are (All-map Whole pass br.brought here)));
                 short = λ any.
                     let Refused : PassHolding S R → Type 0 = λ p. p.refused ≡ true in
                     let Says : PassHolding S R → Type 0 = λ p. p.refused ≡ true → (q.sizes.blocks < room_of q.sizes end.peak) × (heap_of q.sizes ≤ q.count + accepted_in shown br.brought) in
-                    let all_say = short shown cmp record_of width q failed is q1 (reverse ps) br c cl popped apart same.length here end.peak (omega (arith, high, accepted_here)) in
+                    let all_say = short shown cmp record_of width q failed can.back.apart q1 (reverse ps) br c cl popped apart same.length here end.peak (omega (arith, high, accepted_here)) in
                     let says = any_all Refused ps any (turned_back Says ps all_say) in
                     (says.0, omega (arith, says.1, total));
               }
 
           -- what stands where the settling was refused
-          stopped : (fault : QueueFault) → IsRefusal queue end fault → (fault ≡ NoFreeBlock → 8 < end.crowd) → (fault ≡ NoFreeBlock → queue.failed ≡ None) → EndsApart shown record_of width q popped failed ps end (Stopped fault)
+          stopped : (fault : QueueFault) → IsRefusal queue end fault → (fault ≡ NoFreeBlock → 8 < end.crowd) → (fault ≡ NoFreeBlock → queue.failed ≡ None) → EndsWith shown stay ps end (Stopped fault)
           stopped NoFreeBlock refused crowded fine =
               let same : SameRecords queue end = record { quiet = refused.quiet; bag = refused.bag; size = refused.size; sound = refused.sound } in
               (together (fine refl) same, record { crowded = crowded refl; free = refused.free; room = refused.room; above = refused.above })
           stopped (Device number) refused crowded fine = refused
 
-          ended : (how : SessionEnd) → EndsApart shown record_of width q popped failed ps end how → (how ≡ Whole → end.runs ≤ 64) → SessionEnded shown record_of width q popped failed ps end how
+          ended : (how : SessionEnd) → EndsWith shown stay ps end how → (how ≡ Whole → end.runs ≤ 64) → SessionEnded shown stay ps end how
           ended how ends settled =
               record {
                 end_is = ends;
@@ -228,13 +274,13 @@ module _ {S R : Type 0} (shown : S → Shown) (cmp : R → R → Ordering) (reco
                 slots = SameSlots-trans (apart_slots shown q) (slots_of shown d.body d.supply) end.slots last_slots (subst (λ s. SameSlots s end.slots) made.slots still.keeps.slots);
                 tells = λ tell each. still.keeps.tells (subst AllTell (sym made.slots) (last_tells tell each));
                 writes = omega (arith, last_writes, still.keeps.writes, ap all_writes made.slots);
-                sizes = still.keeps.sizes ∙ made.sizes ∙ alike.0 ∙ ap (λ k. k.sizes) cl.rest ∙ ap (λ k. k.sizes) br.rest;
-                limited = still.keeps.limited ∙ made.limited ∙ no_limit ∙ ap (λ k. k.limited) cl.rest ∙ ap (λ k. k.limited) br.rest;
+                sizes = still.keeps.sizes ∙ made.sizes ∙ g.sizes ∙ ap (λ k. k.sizes) first_is;
+                limited = limited_is;
               }
 
           -- the settling went well, or was refused
-          pub ended_whole : queue.failed ≡ None → SameRecords queue end → end.runs ≤ 64 → SessionEnded shown record_of width q popped failed ps end Whole
+          pub ended_whole : queue.failed ≡ None → SameRecords queue end → end.runs ≤ 64 → SessionEnded shown stay ps end Whole
           ended_whole fine moved settled = ended Whole (together fine moved) (λ whole. settled)
 
-          pub ended_stopped : (fault : QueueFault) → IsRefusal queue end fault → (fault ≡ NoFreeBlock → 8 < end.crowd) → (fault ≡ NoFreeBlock → queue.failed ≡ None) → SessionEnded shown record_of width q popped failed ps end (Stopped fault)
+          pub ended_stopped : (fault : QueueFault) → IsRefusal queue end fault → (fault ≡ NoFreeBlock → 8 < end.crowd) → (fault ≡ NoFreeBlock → queue.failed ≡ None) → SessionEnded shown stay ps end (Stopped fault)
           ended_stopped fault refused crowded fine = ended (Stopped fault) (stopped fault refused crowded fine) (λ whole. cc)

@@ -1,5 +1,6 @@
 -- What a front does that answers asks.
-use Rattle.std.specs.Prelude.{◌≡◌, ℕ, ◌+◌, ◌≤◌, List, length, take, Option, None}
+use Rattle.std.specs.Prelude.{◌≡◌, ℕ, ◌+◌, ◌≤◌, Vec, List, [], length, take, Option, None, vec_capacity}
+use Rattle.std.specs.Global.{Global}
 use Rattle.std.specs.declared.cmp.Ordering.{Ordering}
 use Rattle.ppq_pass.specs.ppq_record.Bag.{IsSameBag}
 use Rattle.ppq_pass.specs.ppq_outside.Shown.{AllTell}
@@ -11,17 +12,18 @@ use Rattle.ppq_session.specs.Asks.{answers_to, left_after, pops_in}
 module _ {S R : Type 0} where
   -- what calls of a front keep that give so many records at the most
   pub record KeepsFront (most : ℕ) (old new : FrontHolding S R) : Type 0 where
-    pub limit : new.limit ≡ old.limit
-    pub sizes : new.sizes ≡ old.sizes
-    pub peak : new.peak ≡ old.peak
-    pub row : new.row ≡ old.row
-    pub items : new.items ≡ old.items
-    pub pool : new.pool ≡ old.pool
+    pub rest : new ≡ record old { bag = new.bag; size = new.size; popped = new.popped; slots = new.slots; run_buffers = new.run_buffers; in_extract = new.in_extract; failed = new.failed }
     pub total : new.size + new.popped ≡ old.size + old.popped
     pub popped : new.popped ≤ old.popped + most
     pub slots : SameSlots old.slots new.slots
     pub tells : AllTell old.slots → AllTell new.slots
     pub writes : all_writes old.slots ≤ all_writes new.slots
+
+  -- a front can answer these asks, into an empty list that has room for the answers
+  pub record MayAnswer (asks : List Ask) (answers : Vec (Option R) Global) (front : FrontHolding S R) : Type 0 where
+    pub sound : front.failed ≡ None
+    pub no_answer : answers.items ≡ []
+    pub room : length asks ≤ vec_capacity answers
 
   -- A front answered these asks, up to the first that met a fault
   pub record HasAnswered (cmp : R → R → Ordering) (asks : List Ask) (answers : List (Option R)) (old new : FrontHolding S R) : Type 0 where

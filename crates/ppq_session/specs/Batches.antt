@@ -3,19 +3,16 @@ use Rattle.std.specs.Prelude.{◌≡◌, ◌<◌, ◌^◌, false, List, length, 
 use Rattle.std.specs.declared.cmp.Ordering.{Ordering}
 use Rattle.ppq_pass.specs.ppq_record.Order.{is_before}
 use Rattle.ppq_pass.specs.ppq_outside.Shown.{Shown}
-use Rattle.ppq_pass.specs.Passed.{PassHolding, IsOf}
+use Rattle.ppq_pass.specs.Passed.{IsOf}
 use Rattle.ppq_pass.specs.declared.shared.Shared.{Shared}
 use Rattle.ppq_session.specs.Dealing.{IsGoing, EachAdds, Dealt, records_in, records_for}
 use Rattle.ppq_session.specs.declared.line.Line.{Line}
 use Rattle.ppq_session.specs.Limited.{LimitHolding}
+pub use Rattle.ppq_session.specs.Limited.{passes_of}
 
 -- no record of the lines is below a limit
 abbrev pub AreAbove : {R : Type 0} → (R → R → Ordering) → R → List (Line R) → Type 0
 AreAbove cmp limit lines = All (λ line. is_before cmp line.record limit ≡ false) lines
-
--- the passes alone
-abbrev pub passes_of : {S R : Type 0} → List (LimitHolding S R) → List (PassHolding S R)
-passes_of passes = map (λ p. p.pass) passes
 
 module _ {S R : Type 0} where
   -- lines can be pushed to passes: each names one of them, its record is not below the limit, and no push of a pass was refused

@@ -1,5 +1,5 @@
 -- Passes that come back at the end of a session.
-use Rattle.std.specs.Prelude.{◌≡◌, ℕ, ◌+◌, true, List, ◌++◌, length, map, flat_map, All}
+use Rattle.std.specs.Prelude.{◌≡◌, ℕ, ◌+◌, ◌≤◌, true, List, ◌++◌, length, map, flat_map, All, vec_capacity}
 use Rattle.std.specs.declared.cmp.Ordering.{Ordering}
 use Rattle.ppq_pass.specs.ppq_budget.Sizes.{Numbers}
 use Rattle.ppq_pass.specs.ppq_outside.Shown.{Shown}
@@ -16,6 +16,13 @@ pub record IsShareOf {S R : Type 0} (shared : Shared S R) (n : Numbers) (pass : 
   pub row_share : pass.key.row_shares ≡ 1
   pub pool_share : pass.key.pool_shares ≡ 1
   pub sizes : pass.key.sizes ≡ n
+
+-- passes can be brought: each is of this session, and there is room for what they bring
+pub record MayBring {S R : Type 0} (shared : Shared S R) (q : BulkParts S R) (passes : List (PassHolding S R)) : Type 0 where
+  pub row : q.row_seat.row ≡ shared.row
+  pub pool : q.pool_seat.pool ≡ shared.pool
+  pub of : All (IsShareOf shared q.sizes) passes
+  pub room : length q.brought.items + length passes ≤ vec_capacity q.brought
 
 module _ {S R : Type 0} (shown : S → Shown) (record_of : List ℕ → R) (width : ℕ) (n : Numbers) where
   -- The passes came, the last first. The seats have what theirs had; nothing else changed

@@ -1,21 +1,20 @@
 -- What contracts see of a bulk session.
-use Rattle.std.specs.Prelude.{◌≡◌, ℕ, ◌+◌, ◌*◌, ◌<◌, ◌≤◌, Bool, true, false, Any, List, [], ◌++◌, length, map, max, sum_by, flat_map, None, All}
+use Rattle.std.specs.Prelude.{◌≡◌, ℕ, ◌+◌, ◌*◌, Bool, false, List, [], length, map, sum_by, None, All}
 use Rattle.atomic_table.specs.Seated.{TableId}
 use Rattle.ppq_pass.specs.ppq_record.Bag.{IsSameBag}
 use Rattle.ppq_pass.specs.ppq_outside.Shown.{Shown, AllTell}
-use Rattle.ppq_pass.specs.ppq_budget.Sizes.{Numbers, heap_of, blocks_for, room_of, pool_of}
+use Rattle.ppq_pass.specs.ppq_budget.Sizes.{Numbers, pool_of}
 use Rattle.ppq_pass.specs.ppq_array.declared.berth.DeviceBlock.{DeviceBlock}
-use Rattle.ppq_pass.specs.ppq_array.Kept.{SameSlots, AreQuiet, all_writes}
 use Rattle.ppq_pass.specs.ppq_pool.Seats.{count_of}
-use Rattle.ppq_pass.specs.Passed.{PassKey, PassHolding, PassTells}
+use Rattle.ppq_pass.specs.Passed.{PassKey, PassHolding}
 use Rattle.ppq_pass.specs.declared.shared.Shared.{Shared}
-use Rattle.ppq_queue.specs.Holding.{Holding, IsAbove, FoundNoBlock, HasStopped}
+use Rattle.ppq_queue.specs.Holding.{Holding, FoundNoBlock, HasStopped}
 use Rattle.ppq_queue.specs.Resting.{lane_buffers}
-use Rattle.ppq_pass.specs.ppq_array.declared.store_fault.StoreFault.TheVariants.{NoFreeBlock, Device}
 use Rattle.ppq_session.specs.declared.fault.BeginFault.{BeginFault}
 use Rattle.ppq_session.specs.declared.fault.BeginFault.TheVariants.{Memory, NoFreeBlock as NoBlockAtBegin, Device as DeviceAtBegin}
 use Rattle.ppq_session.specs.declared.fault.SessionEnd.{SessionEnd}
-use Rattle.ppq_session.specs.declared.fault.SessionEnd.TheVariants.{Whole, Stopped}
+use Rattle.ppq_session.specs.Ends.{Staying, HasAll, SessionEnded}
+pub use Rattle.ppq_session.specs.Ends.{bag_of, accepted_of}
 
 -- What the owner of a queue keeps while passes fill it: the bag of the records of its runs, as far as its slots tell; how many records
 -- the queue had when the session began, and how many of them are in the heaps, which the passes have; how many runs in blocks there are;
@@ -59,26 +58,10 @@ module _ {R : Type 0} where
   IsBeginRefusal old new NoBlockAtBegin = FoundNoBlock old new
   IsBeginRefusal old new (DeviceAtBegin number) = HasStopped number new
 
-  -- No block was free for a merge of levels, of which one has more than 8 runs still: the device has fewer blocks than are enough for the peak,
-  -- which is above what one heap holds, unless a limit session was begun
-  pub record HasNoBlock (queue : Holding R) : Type 0 where
-    pub crowded : 8 < queue.crowd
-    pub free : queue.free < max (8 + queue.sizes.workers) (blocks_for queue.sizes queue.size)
-    pub room : queue.sizes.blocks < room_of queue.sizes queue.peak
-    pub above : IsAbove queue.sizes queue.peak queue.limited
-
 module _ {S R : Type 0} where
   -- the keys of passes, which no push changes
   abbrev pub keys_of : List (PassHolding S R) → List (PassKey S R)
   keys_of passes = map (λ p. p.key) passes
-
-  -- the records of passes
-  abbrev pub bag_of : List (PassHolding S R) → List R
-  bag_of passes = flat_map (λ p. p.bag) passes
-
-  -- how many records passes accepted
-  abbrev pub accepted_of : List (PassHolding S R) → ℕ
-  accepted_of passes = sum_by (λ p. p.accepted) passes
 
   -- the key of a pass of the session that began with so many records
   abbrev pub pass_key : BulkHolding S R → ℕ → PassKey S R
@@ -103,31 +86,14 @@ module _ {S R : Type 0} where
     pub refused : pass.refused ≡ false
     pub failed : pass.failed ≡ None
 
-  module _ (shown : S → Shown) where
-    -- The queue has all records of the bulk and of its passes, where their slots tell, and counts them; no call of a slot failed
-    pub record IsTogether (bulk : BulkHolding S R) (passes : List (PassHolding S R)) (queue : Holding R) : Type 0 where
-      pub bag : AllTell bulk.slots → All (PassTells shown) passes → IsSameBag queue.bag (bulk.bag ++ bag_of passes)
-      pub size : queue.size ≡ bulk.size + accepted_of passes
-      pub peak : queue.peak ≡ max bulk.peak queue.size
-      pub sound : queue.failed ≡ None
-      pub quiet : AreQuiet bulk.slots queue.slots
-      pub limited : queue.limited ≡ bulk.limited
-      pub no_fault : All (λ (p : PassHolding S R). p.failed ≡ None) passes
-      -- where a push was refused for want of blocks, the device has fewer than are enough for the peak
-      pub short : Any (λ (p : PassHolding S R). p.refused ≡ true) passes → (bulk.sizes.blocks < room_of bulk.sizes queue.peak) × (heap_of bulk.sizes ≤ queue.size)
+  -- what stays: nothing is popped in a bulk session, and no call of its slots fails
+  abbrev pub of_bulk : BulkHolding S R → Staying R
+  of_bulk bulk = record { bag = bulk.bag; size = bulk.size; popped = 0; sizes = bulk.sizes; peak = bulk.peak; limited = bulk.limited; slots = bulk.slots; failed = None }
 
-  -- how a session ended, and what the queue has then
-  abbrev pub EndsIn : (S → Shown) → BulkHolding S R → List (PassHolding S R) → Holding R → SessionEnd → Type 0
-  EndsIn shown bulk passes queue Whole = IsTogether shown bulk passes queue
-  EndsIn shown bulk passes queue (Stopped NoFreeBlock) = IsTogether shown bulk passes queue × HasNoBlock queue
-  EndsIn shown bulk passes queue (Stopped (Device number)) = HasStopped number queue
+  -- the queue has all records of the bulk and of its passes
+  abbrev pub IsTogether : (S → Shown) → BulkHolding S R → List (PassHolding S R) → Holding R → Type 0
+  IsTogether shown bulk passes queue = HasAll shown (of_bulk bulk) passes queue
 
   -- how a session ended, and what it left of its slots and sizes
-  pub record BulkEnded (shown : S → Shown) (bulk : BulkHolding S R) (passes : List (PassHolding S R)) (queue : Holding R) (end : SessionEnd) : Type 0 where
-    pub end_is : EndsIn shown bulk passes queue end
-    pub settled : end ≡ Whole → queue.runs ≤ 64
-    pub slots : SameSlots bulk.slots queue.slots
-    pub tells : AllTell bulk.slots → All (PassTells shown) passes → AllTell queue.slots
-    pub writes : all_writes bulk.slots ≤ all_writes queue.slots
-    pub sizes : queue.sizes ≡ bulk.sizes
-    pub limited : queue.limited ≡ bulk.limited
+  abbrev pub BulkEnded : (S → Shown) → BulkHolding S R → List (PassHolding S R) → Holding R → SessionEnd → Type 0
+  BulkEnded shown bulk passes queue end = SessionEnded shown (of_bulk bulk) passes queue end

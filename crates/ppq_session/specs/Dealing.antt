@@ -1,11 +1,12 @@
 -- Records that are dealt to passes.
-use Rattle.std.specs.Prelude.{◌≡◌, ◌⊎◌, ◌<◌, ◌≤◌, ◌==◌, ◌+◌, ◌-◌, ℕ, true, false, List, ◌++◌, length, take, get_or, map, All, Some, None}
+use Rattle.std.specs.Prelude.{◌≡◌, ◌⊎◌, ◌<◌, ◌≤◌, ◌==◌, ◌+◌, ◌-◌, ◌^◌, ℕ, true, false, List, ◌++◌, length, take, get_or, map, All, Some, None}
 use Rattle.std.specs.Fork.{slice_chunk}
 use Rattle.std.specs.Int.{div_ceil}
 use Rattle.std.specs.List.{Any, filter}
 use Rattle.ppq_pass.specs.ppq_record.Bag.{IsSameBag}
 use Rattle.ppq_pass.specs.ppq_outside.Shown.{Shown}
-use Rattle.ppq_pass.specs.Passed.{PassHolding, PassTells}
+use Rattle.ppq_pass.specs.Passed.{PassHolding, PassTells, IsOf}
+use Rattle.ppq_pass.specs.declared.shared.Shared.{Shared}
 use Rattle.ppq_session.specs.BulkSession.{keys_of, bag_of, accepted_of}
 use Rattle.ppq_session.specs.declared.line.Line.{Line}
 
@@ -34,6 +35,13 @@ module _ {S R : Type 0} where
   pub record IsGoing (pass : PassHolding S R) : Type 0 where
     pub unrefused : pass.refused ≡ false
     pub sound : pass.failed ≡ None
+
+  -- records can be added to these passes of one session: there are some, and no push of one was refused
+  pub record MayAdd (shared : Shared S R) (passes : List (PassHolding S R)) : Type 0 where
+    pub some : 0 < length passes
+    pub workers : length passes < 2 ^ 32
+    pub of : All (IsOf shared) passes
+    pub going : All IsGoing passes
 
   -- no call of a slot of the pass failed
   abbrev pub HasNoFault : PassHolding S R → Type 0

@@ -1,6 +1,7 @@
 -- Passes that are made of what a queue has.
-use Rattle.std.specs.Prelude.{◌≡◌, ℕ, ◌+◌, ◌*◌, ◌<◌, ◌≤◌, List, [], ◌∷◌, length, map, All}
-use Rattle.ppq_pass.specs.ppq_budget.Sizes.{Numbers, pool_of}
+use Rattle.std.specs.Prelude.{◌≡◌, ℕ, ◌+◌, ◌*◌, ◌/◌, ◌<◌, ◌≤◌, Vec, List, [], ◌∷◌, length, map, reverse, All, vec_capacity}
+use Rattle.std.specs.Global.{Global}
+use Rattle.ppq_pass.specs.ppq_budget.Sizes.{Numbers, heap_of, pool_of}
 use Rattle.ppq_pass.specs.ppq_outside.Shown.{Shown}
 use Rattle.ppq_pass.specs.ppq_block.Block.{Block}
 use Rattle.ppq_pass.specs.ppq_heap.Heap.{Contents}
@@ -8,6 +9,8 @@ use Rattle.ppq_pass.specs.ppq_array.Owner.{HasBlock, HasSize}
 use Rattle.ppq_pass.specs.ppq_pool.Seats.{count_of}
 use Rattle.ppq_pass.specs.Passed.{PassHolding, PassKey}
 use Rattle.ppq_session.specs.BulkSession.{IsFresh}
+use Rattle.ppq_session.specs.Outfits.{IsOutfit}
+use Rattle.ppq_session.specs.declared.outfit.Outfit.{Outfit}
 use Rattle.ppq_session.specs.declared.share.FirstSeats.{FirstSeats}
 
 -- the records of each heap
@@ -62,6 +65,15 @@ module _ {S R : Type 0} where
     pub slots : pass.slots ≡ []
     pub fresh : IsFresh pass
 
+  -- a pass for each of these heaps can be made, with an outfit each, and there is room for them
+  pub record CanEquip (shown : S → Shown) (width : ℕ) (sizes : Numbers) (heaps : List (Contents R)) (outfits : List (Outfit S R)) (idle : List (Block R)) (s : FirstSeats S R) (passes : Vec (PassHolding S R) Global) : Type 0 where
+    pub none : passes.items ≡ []
+    pub room : length heaps ≤ vec_capacity passes
+    pub caps : All (λ (heap : Contents R). heap.cap ≡ heap_of sizes) heaps
+    pub outfits_are : length outfits ≡ length heaps
+    pub each : All (IsOutfit (pool_of sizes / sizes.heap + 1) (sizes.blocks / sizes.heap + 1) (count_of s.pool_seat.pool)) outfits
+    pub may : MayEquip shown width sizes (length heaps) idle s
+
   -- a pass has the records that it began with
   abbrev pub HasBegun : PassHolding S R → Type 0
   HasBegun pass = length pass.bag ≡ pass.key.begun
@@ -83,3 +95,8 @@ module _ {S R : Type 0} where
     pub slots : All (λ (p : PassHolding S R). p.slots ≡ []) passes
     pub whole : All HasBegun passes
     pub fresh : All IsFresh passes
+
+  -- they were made, the last heap's first
+  pub record HasEquipped (sizes : Numbers) (heaps : List (Contents R)) (idle idle' : List (Block R)) (s s' : FirstSeats S R) (passes : List (PassHolding S R)) : Type 0 where
+    pub passes_are : ArePasses sizes (reverse heaps) s passes
+    pub equipped : Equipped sizes (length heaps) idle idle' s s'

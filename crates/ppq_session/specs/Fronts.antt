@@ -1,11 +1,11 @@
 -- What contracts see of a front, and what its calls take of it.
-use Rattle.std.specs.Prelude.{◌≡◌, ◌++◌, ℕ, min, List, Option, Some, None}
+use Rattle.std.specs.Prelude.{◌≡◌, ◌++◌, ◌+◌, ◌≤◌, ℕ, min, List, Option, Some, None}
 use Rattle.std.specs.declared.cmp.Ordering.{Ordering}
 use Rattle.atomic_table.specs.Seated.{TableId}
 use Rattle.ppq_pass.specs.ppq_record.Bag.{IsSameBag, first_of, front, without_front, size_below}
 use Rattle.ppq_pass.specs.ppq_outside.Shown.{Shown, AllTell}
 use Rattle.ppq_pass.specs.ppq_budget.Sizes.{Numbers}
-use Rattle.ppq_pass.specs.ppq_array.Kept.{HasFailed}
+use Rattle.ppq_pass.specs.ppq_array.Kept.{SameSlots, HasFailed, AreQuiet, all_writes}
 use Rattle.ppq_pass.specs.ppq_array.declared.berth.DeviceBlock.{DeviceBlock}
 use Rattle.ppq_pass.specs.ppq_fetch.Taking.{NoneBelow}
 use Rattle.ppq_pass.specs.ppq_array.declared.store_fault.StoreFault.{StoreFault as QueueFault}
@@ -65,3 +65,25 @@ module _ {S R : Type 0} where
   abbrev pub IsFrontRefusal : FrontHolding S R → QueueFault → Type 0
   IsFrontRefusal front NoFreeBlock = ⊥
   IsFrontRefusal front (Device number) = HasFailed number front.slots × (front.failed ≡ Some number)
+
+  -- a front is ready to give its least record: it has what it had, and no call of a slot failed
+  pub record IsReadied (cmp : R → R → Ordering) (old new : FrontHolding S R) : Type 0 where
+    pub bag : AllTell old.slots → IsSameBag new.bag old.bag
+    pub ready : IsReady cmp new
+    pub sound : new.failed ≡ None
+    pub quiet : AreQuiet old.slots new.slots
+
+  -- what stays of a front whose extract buffer was to be refilled, whatever it met
+  pub record RefillKeeps (old new : FrontHolding S R) : Type 0 where
+    pub slots : SameSlots old.slots new.slots
+    pub tells : AllTell old.slots → AllTell new.slots
+    pub writes : all_writes old.slots ≤ all_writes new.slots
+    pub rest : new ≡ record old { bag = new.bag; slots = new.slots; run_buffers = new.run_buffers; in_extract = new.in_extract; failed = new.failed }
+
+  -- its least record below the limit was taken out, if there is one
+  pub record TakesLeast (cmp : R → R → Ordering) (answer : Option R) (old new : FrontHolding S R) : Type 0 where
+    pub answer_is : AllTell old.slots → answer ≡ least_below cmp old.limit old.bag
+    pub left : AllTell old.slots → IsSameBag new.bag (without_least_below cmp old.limit old.bag)
+    pub popped : new.popped ≡ old.popped + number_in answer
+    pub total : new.size + new.popped ≡ old.size + old.popped
+    pub rest : new ≡ record old { bag = new.bag; in_extract = new.in_extract; size = new.size; popped = new.popped }

@@ -1,5 +1,5 @@
 -- Passes that are put into the parts of a queue.
-use Rattle.std.specs.Prelude.{◌≡◌, ◌⊎◌, ℕ, ◌+◌, ◌*◌, ◌<◌, ◌≤◌, List, [], ◌++◌, length, reverse, sum_by, flat_map, Some, None, All, vec_capacity}
+use Rattle.std.specs.Prelude.{◌≡◌, ◌⊎◌, ℕ, ◌+◌, ◌-◌, ◌*◌, ◌^◌, ◌<◌, ◌≤◌, List, [], ◌++◌, length, max, min, reverse, sum_by, flat_map, Some, None, All, vec_capacity}
 use Rattle.std.specs.declared.cmp.Ordering.{Ordering}
 use Rattle.ppq_pass.specs.ppq_outside.Shown.{Shown, AllTell}
 use Rattle.ppq_pass.specs.ppq_budget.Sizes.{AreInRange, fixed_of, heap_of, batch_of, pool_of}
@@ -18,7 +18,8 @@ use Rattle.ppq_queue.specs.Slots.{SameSums, with_slots}
 use Rattle.ppq_queue.specs.Resting.{IsRestingRun, IsRestingArray, AllRise, runs_bag, count_of, lane_buffers, odd_in, slots_of}
 use Rattle.ppq_pass.specs.ppq_record.Order.{Ascends}
 use Rattle.ppq_pass.specs.ppq_fetch.Taking.{NoneAfter}
-use Rattle.ppq_queue.specs.Holding.{IsAbove}
+use Rattle.ppq_pass.specs.ppq_record.Bag.{IsSameBag}
+use Rattle.ppq_queue.specs.Holding.{Holding, IsAbove}
 use Rattle.ppq_session.specs.Passes.{IsBrought, pass_of}
 use Rattle.ppq_session.specs.declared.brought.Brought.{Brought}
 use Rattle.ppq_session.specs.declared.closed.Closed.{Closed}
@@ -28,6 +29,12 @@ pub record GetsBack (slots : List Shown) (old new : Stock) : Type 0 where
   pub slots_are : SameSums (old.kept ++ slots) new.kept
   pub stock : new ≡ with_slots old new.kept new.slot_room
   pub room : new.slot_room + length slots ≡ old.slot_room
+
+-- a body has room for the runs and the idle buffers of another
+pub record CanAdopt {S R : Type 0} (to from : PassBody S R) : Type 0 where
+  pub internal : length to.runs.internal.items + length from.runs.internal.items ≤ vec_capacity to.runs.internal
+  pub external : length to.runs.external.items + length from.runs.external.items ≤ vec_capacity to.runs.external
+  pub few : length to.lanes.idle + length from.lanes.idle < 2 ^ 32 - 1
 
 -- what a body has that took over another's runs and idle buffers
 pub record Adopted {S R : Type 0} (old from new : PassBody S R) : Type 0 where
@@ -119,3 +126,30 @@ module _ {S R : Type 0} (shown : S → Shown) where
     -- the records of the parts and of the passes that are to come
     abbrev pub gathered_bag : Closed S R → List (Brought S R) → List R
     gathered_bag c rest = items_in c.heaps.items ++ c.extract.items ++ runs_bag shown record_of width c.body ++ flat_map (λ (one : Brought S R). (pass_of shown record_of width c.sizes one).bag) rest
+
+    -- these passes can be put in, whichever come later
+    pub record MayGather (put : List (Brought S R)) (c : Closed S R) : Type 0 where
+      pub slots : List Shown
+      pub items : List Shown
+      pub rest : List (Brought S R)
+      pub is : IsGathered slots items c (rest ++ put)
+
+    -- They were put in, whichever come later. Unless the parts name a fault then, none was met, and they have the passes' records
+    pub record Gathers (put : List (Brought S R)) (old new : Closed S R) : Type 0 where
+      pub gathered : (slots items : List Shown) (rest : List (Brought S R)) → IsGathered slots items old (rest ++ put) → IsGathered slots items new rest
+      pub bag : new.failed ≡ None → (rest : List (Brought S R)) → IsSameBag (gathered_bag new rest) (gathered_bag old (rest ++ put))
+      pub failed : new.failed ≡ None → (old.failed ≡ None) × All (λ (one : Brought S R). one.failed ≡ None) put
+      pub size : new.failed ≡ None → new.count ≡ old.count + accepted_in put
+      pub sizes : new.sizes ≡ old.sizes
+      pub peak : new.peak ≡ old.peak
+      pub limited : new.limited ≡ old.limited
+
+    -- What a queue shows that was made of the parts into which all passes were put. So many records were popped, which count in its peak
+    pub record IsMade (popped : ℕ) (c : Closed S R) (queue : Holding R) : Type 0 where
+      pub bag : queue.bag ≡ gathered_bag c []
+      pub slots : queue.slots ≡ slots_of shown c.body c.supply
+      pub failed : queue.failed ≡ c.failed
+      pub size : c.failed ≡ None → queue.size ≡ c.count
+      pub peak : queue.peak ≡ max c.peak (min (c.count + popped) (c.sizes.memory + c.sizes.block * c.sizes.blocks))
+      pub sizes : queue.sizes ≡ c.sizes
+      pub limited : queue.limited ≡ c.limited

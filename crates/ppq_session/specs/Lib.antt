@@ -27,10 +27,12 @@ pub mod BulkSession
 pub mod Closing
 pub mod Dealing
 pub mod Emptied
+pub mod Ends
 pub mod Equipped
 pub mod FrontState
 pub mod Fronts
 pub mod Gathering
+pub mod Given
 pub mod LimitSession
 pub mod LimitSessions
 pub mod Limited

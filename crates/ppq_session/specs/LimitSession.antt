@@ -1,18 +1,17 @@
 -- What contracts see of a limit session.
-use Rattle.std.specs.Prelude.{◌≡◌, ℕ, ◌+◌, ◌<◌, ◌≤◌, true, Any, List, ◌++◌, length, max, sum_by, flat_map, None, All}
+use Rattle.std.specs.Prelude.{◌≡◌, ℕ, ◌≤◌, true, Vec, List, [], length, None, All, vec_capacity}
+use Rattle.std.specs.Global.{Global}
 use Rattle.ppq_pass.specs.ppq_record.Bag.{IsSameBag}
 use Rattle.ppq_pass.specs.ppq_outside.Shown.{Shown, AllTell}
-use Rattle.ppq_pass.specs.ppq_budget.Sizes.{heap_of, room_of}
 use Rattle.ppq_pass.specs.ppq_array.Kept.{SameSlots, AreQuiet, all_writes}
-use Rattle.ppq_pass.specs.Passed.{PassKey, PassTells, IsOf}
+use Rattle.ppq_pass.specs.Passed.{PassKey, PassHolding, IsOf}
 use Rattle.ppq_pass.specs.declared.shared.Shared.{Shared}
-use Rattle.ppq_queue.specs.Holding.{Holding, HasStopped}
-use Rattle.ppq_pass.specs.ppq_array.declared.store_fault.StoreFault.TheVariants.{NoFreeBlock, Device}
-use Rattle.ppq_session.specs.BulkSession.{BulkHolding, IsFresh, HasPool, HasNoBlock}
+use Rattle.ppq_queue.specs.Holding.{Holding}
+use Rattle.ppq_session.specs.BulkSession.{BulkHolding, IsFresh, HasPool}
+use Rattle.ppq_session.specs.Ends.{Staying, HasAll, SessionEnded, bag_of, accepted_of}
 use Rattle.ppq_session.specs.declared.fault.SessionEnd.{SessionEnd}
-use Rattle.ppq_session.specs.declared.fault.SessionEnd.TheVariants.{Whole, Stopped}
 use Rattle.ppq_session.specs.Fronts.{FrontHolding}
-use Rattle.ppq_session.specs.Limited.{LimitHolding, HoldsNothing}
+use Rattle.ppq_session.specs.Limited.{LimitHolding, HoldsNothing, passes_of}
 
 module _ {S R : Type 0} where
   -- the key of each pass of the session: it began without records
@@ -30,65 +29,71 @@ module _ {S R : Type 0} where
     pub keys : All (λ (p : LimitHolding S R). p.pass.key ≡ front_key front) passes
     pub limits : All (λ (p : LimitHolding S R). p.limit ≡ front.limit) passes
 
-  -- The front has what stayed of a queue: the records of its runs, which are all that it had, and its slots
-  pub record IsFrontOf (bulk : BulkHolding S R) (limit : R) (front : FrontHolding S R) : Type 0 where
-    pub bag : front.bag ≡ bulk.bag
-    pub limit_is : front.limit ≡ limit
-    pub size : front.size ≡ bulk.size
-    pub unpopped : front.popped ≡ 0
-    pub sound : front.failed ≡ None
-    pub sizes : front.sizes ≡ bulk.sizes
-    pub peak : front.peak ≡ bulk.peak
-    pub row : front.row ≡ bulk.row
-    pub items : front.items ≡ bulk.items
-    pub pool : front.pool ≡ bulk.pool
-    pub run_buffers : front.run_buffers ≡ bulk.run_buffers
-    pub quiet : AreQuiet bulk.slots front.slots
-    pub slots : SameSlots bulk.slots front.slots
-    pub tells : AllTell bulk.slots → AllTell front.slots
-    pub writes : all_writes bulk.slots ≤ all_writes front.slots
+  -- the front that has what stayed of a queue: the records of its runs, which are all that it had, and its slots
+  abbrev pub front_begun : BulkHolding S R → R → FrontHolding S R
+  front_begun bulk limit =
+      record {
+        bag = bulk.bag;
+        limit = limit;
+        size = bulk.size;
+        popped = 0;
+        sizes = bulk.sizes;
+        peak = bulk.peak;
+        slots = bulk.slots;
+        buffers = bulk.buffers;
+        run_buffers = bulk.run_buffers;
+        in_extract = 0;
+        row = bulk.row;
+        items = bulk.items;
+        pool = bulk.pool;
+        failed = None;
+      }
+
+  -- what stayed of a queue all of whose records are in at most 64 runs, by a limit session
+  pub record IsAllRuns (bulk : BulkHolding S R) : Type 0 where
+    pub none : bulk.begun ≡ 0
+    pub runs : bulk.runs ≤ 64
+    pub limited : bulk.limited ≡ true
 
   -- nothing was added to the pass yet
   pub record IsNew (pass : LimitHolding S R) : Type 0 where
     pub nothing : HoldsNothing pass.pass
     pub fresh : IsFresh pass.pass
 
+  -- these are passes without records, and an empty list has room for them
+  pub record CanLimit (passes : List (PassHolding S R)) (list : Vec (LimitHolding S R) Global) : Type 0 where
+    pub nothing : All HoldsNothing passes
+    pub fresh : All IsFresh passes
+    pub empty : list.items ≡ []
+    pub room : length passes ≤ vec_capacity list
+
+  -- limit passes were made of them, with this limit
+  pub record GotLimit (limit : R) (passes : List (PassHolding S R)) (list : List (LimitHolding S R)) : Type 0 where
+    pub count : length list ≡ length passes
+    pub new : All IsNew list
+    pub limits : All (λ (p : LimitHolding S R). p.limit ≡ limit) list
+    pub keys : (key : PassKey S R) → All (λ (p : PassHolding S R). p.key ≡ key) passes → All (λ (p : LimitHolding S R). p.pass.key ≡ key) list
+
   -- the records of passes
   abbrev pub limited_bag : List (LimitHolding S R) → List R
-  limited_bag passes = flat_map (λ p. p.pass.bag) passes
+  limited_bag passes = bag_of (passes_of passes)
 
   -- how many records passes accepted
   abbrev pub limited_accepted : List (LimitHolding S R) → ℕ
-  limited_accepted passes = sum_by (λ p. p.pass.accepted) passes
+  limited_accepted passes = accepted_of (passes_of passes)
 
-  module _ (shown : S → Shown) where
-    -- The queue has all records of the front and of the passes, where their slots tell, and counts them; no call of a slot failed. A record
-    -- that the front gave counts in the peak
-    pub record IsTogether (front : FrontHolding S R) (passes : List (LimitHolding S R)) (queue : Holding R) : Type 0 where
-      pub bag : AllTell front.slots → All (λ (p : LimitHolding S R). PassTells shown p.pass) passes → IsSameBag queue.bag (front.bag ++ limited_bag passes)
-      pub size : queue.size ≡ front.size + limited_accepted passes
-      pub peak : queue.peak ≡ max front.peak (front.size + front.popped + limited_accepted passes)
-      pub sound : queue.failed ≡ None
-      pub quiet : AreQuiet front.slots queue.slots
-      pub no_fault : (front.failed ≡ None) × All (λ (p : LimitHolding S R). p.pass.failed ≡ None) passes
-      -- where a push was refused for want of blocks, the device has fewer than are enough for the peak
-      pub short : Any (λ (p : LimitHolding S R). p.pass.refused ≡ true) passes → (front.sizes.blocks < room_of front.sizes queue.peak) × (heap_of front.sizes ≤ queue.size)
+  -- what stays
+  abbrev pub of_front : FrontHolding S R → Staying R
+  of_front front =
+      record { bag = front.bag; size = front.size; popped = front.popped; sizes = front.sizes; peak = front.peak; limited = true; slots = front.slots; failed = front.failed }
 
-  -- how a session ended, and what the queue has then
-  abbrev pub EndsIn : (S → Shown) → FrontHolding S R → List (LimitHolding S R) → Holding R → SessionEnd → Type 0
-  EndsIn shown front passes queue Whole = IsTogether shown front passes queue
-  EndsIn shown front passes queue (Stopped NoFreeBlock) = IsTogether shown front passes queue × HasNoBlock queue
-  EndsIn shown front passes queue (Stopped (Device number)) = HasStopped number queue
+  -- the queue has all records of the front and of the passes
+  abbrev pub IsTogether : (S → Shown) → FrontHolding S R → List (LimitHolding S R) → Holding R → Type 0
+  IsTogether shown front passes queue = HasAll shown (of_front front) (passes_of passes) queue
 
   -- how a session ended, and what it left of its slots and sizes
-  pub record LimitEnded (shown : S → Shown) (front : FrontHolding S R) (passes : List (LimitHolding S R)) (queue : Holding R) (end : SessionEnd) : Type 0 where
-    pub end_is : EndsIn shown front passes queue end
-    pub settled : end ≡ Whole → queue.runs ≤ 64
-    pub slots : SameSlots front.slots queue.slots
-    pub tells : AllTell front.slots → All (λ (p : LimitHolding S R). PassTells shown p.pass) passes → AllTell queue.slots
-    pub writes : all_writes front.slots ≤ all_writes queue.slots
-    pub sizes : queue.sizes ≡ front.sizes
-    pub limited : queue.limited ≡ true
+  abbrev pub LimitEnded : (S → Shown) → FrontHolding S R → List (LimitHolding S R) → Holding R → SessionEnd → Type 0
+  LimitEnded shown front passes queue end = SessionEnded shown (of_front front) (passes_of passes) queue end
 
   -- A limit session of a queue began: the front has its records, and the passes have none. All buffers that no run has are in the pool. No call
   -- of a slot failed

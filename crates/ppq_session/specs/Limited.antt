@@ -1,5 +1,5 @@
 -- What contracts see of a pass of a limit session.
-use Rattle.std.specs.Prelude.{◌≡◌, [], Some, None}
+use Rattle.std.specs.Prelude.{◌≡◌, List, [], map, Some, None}
 use Rattle.std.specs.declared.cmp.Ordering.{Ordering}
 use Rattle.ppq_pass.specs.ppq_outside.Shown.{Shown, AllTell}
 use Rattle.ppq_pass.specs.ppq_array.Owner.{slots_shown}
@@ -10,6 +10,10 @@ use Rattle.ppq_pass.specs.Passed.{PassHolding, PassTells}
 pub record LimitHolding (S R : Type 0) : Type 0 where
   pub pass : PassHolding S R
   pub limit : R
+
+-- the passes alone
+abbrev pub passes_of : {S R : Type 0} → List (LimitHolding S R) → List (PassHolding S R)
+passes_of passes = map (λ p. p.pass) passes
 
 module _ {S R : Type 0} where
   abbrev pub limited : PassHolding S R → R → LimitHolding S R

@@ -1,20 +1,17 @@
 -- A session that begins.
-use Rattle.std.specs.Prelude.{◌≡◌, ◌≤◌, ◌*◌, ℕ, [], List, ◌++◌, length, None, All}
+use Rattle.std.specs.Prelude.{◌≡◌, ◌≤◌, ◌*◌, ℕ, [], List, ◌++◌, None, All}
 use Rattle.std.specs.declared.cmp.Ordering.{Ordering}
 use Rattle.ppq_pass.specs.ppq_record.Bag.{IsSameBag}
 use Rattle.ppq_pass.specs.ppq_outside.Shown.{Shown, AllTell}
-use Rattle.ppq_pass.specs.ppq_heap.Heaps.{items_of, share_at}
 use Rattle.ppq_pass.specs.ppq_array.Supply.{Stock}
 use Rattle.ppq_pass.specs.ppq_array.Owner.{slots_shown}
-use Rattle.ppq_pass.specs.ppq_array.Holdings.{external_slots, internal_buffers}
 use Rattle.ppq_pass.specs.ppq_array.Kept.{SameSlots, AreQuiet, all_writes}
 use Rattle.ppq_pass.specs.ppq_budget.Sizes.{pool_of}
 use Rattle.ppq_pass.specs.ppq_pool.Seats.{count_of}
 use Rattle.ppq_pass.specs.Passed.{PassHolding, PassTells, IsOf}
 use Rattle.ppq_pass.specs.declared.shared.Shared.{Shared}
 use Rattle.ppq_queue.specs.Holding.{Holding}
-use Rattle.ppq_queue.specs.Resting.{runs_bag}
-use Rattle.ppq_queue.specs.Handed.{IsWhole}
+use Rattle.ppq_queue.specs.Handed.{IsWhole, holding_of}
 use Rattle.ppq_queue.specs.declared.queue_parts.QueueParts.{QueueParts}
 use Rattle.ppq_session.specs.BulkSession.{BulkHolding, HasBuffers, HasPool, AreOf, IsFresh, keys_of, bag_of, shared_by}
 use Rattle.ppq_session.specs.Equipped.{HasBegun, first_begun}
@@ -28,34 +25,14 @@ module _ {S R : Type 0} where
 
   module _ (shown : S → Shown) where
     -- with the free slots and the idle buffers that the session shares, the parts make a sound queue with an empty extract buffer
-    pub record IsOpened (cmp : R → R → Ordering) (record_of : List ℕ → R) (width : ℕ) (q : QueueParts S R) (s : FirstSeats S R) : Type 0 where
+    pub record IsOpened (cmp : R → R → Ordering) (record_of : List ℕ → R) (width : ℕ) (queue : Holding R) (q : QueueParts S R) (s : FirstSeats S R) : Type 0 where
       pub before : Stock
       pub out : q.supply ≡ bare before
       pub first : IsFirst shown width before s
       pub whole : IsWhole shown cmp record_of width (record q { supply = before })
+      pub shows : holding_of shown record_of width (record q { supply = before }) ≡ queue
       pub sound : q.failed ≡ None
       pub extract : q.extract.items ≡ []
-
-    -- the passes have the records of the heaps, and what stays has those of the runs
-    pub record DealtOut (record_of : List ℕ → R) (width : ℕ) (q : QueueParts S R) (s : FirstSeats S R) (bulk : BulkHolding S R) (shared : Shared S R) (passes : List (PassHolding S R)) : Type 0 where
-      pub of : AreOf bulk (keys_of passes)
-      pub shared_is : shared ≡ shared_by bulk
-      pub fresh : All IsFresh passes
-      pub no_slots : All HoldsNoSlot passes
-      pub whole : All HasBegun passes
-      pub begun : bulk.begun ≡ length (items_of q.heaps)
-      pub first : first_begun passes ≡ length (share_at q.heaps 0)
-      pub runs : bulk.runs ≡ length q.body.runs.external.items
-      pub bag : IsSameBag (bulk.bag ++ bag_of passes) (items_of q.heaps ++ runs_bag shown record_of width q.body)
-      pub slots : bulk.slots ≡ external_slots shown q.body.runs.external.items ++ slots_shown shown s.row_seat.hand.items
-      pub items : bulk.items ≡ s.row_seat.hand.items
-      pub buffers : HasBuffers bulk.sizes bulk.buffers bulk.pool
-      pub run_buffers : bulk.run_buffers ≡ internal_buffers q.body.runs.internal.items
-      pub pool : bulk.pool ≡ s.shared.pool
-      pub size : bulk.size ≡ q.count
-      pub peak : bulk.peak ≡ q.peak
-      pub limited : bulk.limited ≡ q.limited
-      pub sizes : bulk.sizes ≡ q.sizes
 
     -- A queue whose extract buffer is empty was handed out: the passes have the records of its heaps, in their order, and the bulk has the rest
     pub record HandedOut (q : Holding R) (bulk : BulkHolding S R) (shared : Shared S R) (passes : List (PassHolding S R)) : Type 0 where

@@ -1,14 +1,15 @@
 -- An open bulk session, and what stays of a queue whose session did not begin or ended.
-use Rattle.std.specs.Prelude.{◌≡◌, ◌<◌, ◌≤◌, ◌+◌, List, ◌++◌, length, max, All, Any, Result, OnOk, IfErr, IsErrOf, None}
+use Rattle.std.specs.Prelude.{◌≡◌, ◌+◌, List, ◌++◌, length, max, Result, OnOk, IfErr, IsErrOf, None}
 use Rattle.ppq_pass.specs.ppq_record.Bag.{IsSameBag}
 use Rattle.ppq_pass.specs.ppq_outside.Shown.{Shown, AllTell}
-use Rattle.ppq_pass.specs.ppq_array.Kept.{SameSlots, AreQuiet, all_writes}
-use Rattle.ppq_pass.specs.Passed.{PassHolding, PassTells}
+use Rattle.ppq_pass.specs.ppq_array.Kept.{AreQuiet}
+use Rattle.ppq_pass.specs.Passed.{PassHolding}
 use Rattle.ppq_queue.specs.Holding.{Holding, HasStopped}
 use Rattle.ppq_pass.specs.ppq_array.declared.store_fault.StoreFault.{StoreFault as QueueFault}
 use Rattle.ppq_pass.specs.ppq_array.declared.store_fault.StoreFault.TheVariants.{NoFreeBlock, Device}
-use Rattle.ppq_session.specs.BulkSession.{BulkHolding, IsBeginRefusal, IsTogether, bag_of, accepted_of}
-use Rattle.ppq_session.specs.Dealing.{IsGoing, HasNoFault, HasEnded, AddsPart}
+use Rattle.ppq_session.specs.BulkSession.{BulkHolding, IsBeginRefusal, IsTogether, of_bulk, bag_of}
+use Rattle.ppq_session.specs.Dealing.{AddsPart}
+use Rattle.ppq_session.specs.Given.{KeepsQueue, WereGiven}
 use Rattle.ppq_session.specs.Refusal.{Keeps, IsRefusedBy}
 use Rattle.ppq_session.specs.declared.fault.BeginFault.{BeginFault}
 
@@ -24,19 +25,8 @@ with_batch session batch = record session { bulk = record session.bulk { batch =
 -- A session of a queue, which is shown as it was when the session began. These records were given to its passes: as long as none has
 -- stopped, they have all of them, and as long as no call of a slot failed, a part
 pub record InSession {S R : Type 0} (shown : S → Shown) (queue : Holding R) (records : List R) (session : SessionHolding S R) : Type 0 where
-  pub sizes : session.bulk.sizes ≡ queue.sizes
-  pub limited : session.bulk.limited ≡ queue.limited
-  pub peak : session.bulk.peak ≡ queue.peak
-  pub size : session.bulk.size ≡ queue.size
-  pub slots : SameSlots queue.slots session.bulk.slots
-  pub tells : AllTell queue.slots → AllTell session.bulk.slots × All (PassTells shown) session.passes
-  pub writes : all_writes queue.slots ≤ all_writes session.bulk.slots
-  pub quiet : AreQuiet queue.slots session.bulk.slots
-  pub part : All HasNoFault session.passes → AllTell queue.slots → AddsPart records queue.bag (session.bulk.bag ++ bag_of session.passes)
-  pub bag : All IsGoing session.passes → AllTell queue.slots → IsSameBag (session.bulk.bag ++ bag_of session.passes) (records ++ queue.bag)
-  pub accepted : All IsGoing session.passes → accepted_of session.passes ≡ length records
-  pub most : accepted_of session.passes ≤ length records
-  pub fewer : Any HasEnded session.passes → accepted_of session.passes < length records
+  pub keeps : KeepsQueue shown queue (of_bulk session.bulk) session.passes
+  pub given : WereGiven queue.slots records queue.bag (session.bulk.bag ++ bag_of session.passes) session.passes
 
 -- A session of a queue ended, to whose passes these records were given. Where the result is Ok, the queue has them all, and no call of a
 -- slot failed; else there is no room for them, and the queue has a part of them, or a block failed

@@ -1,5 +1,5 @@
 -- What holds of a bulk session while its passes are out.
-use Rattle.std.specs.Prelude.{◌≡◌, ℕ, ◌+◌, ◌-◌, ◌≤◌, List, [], ◌++◌, length, None}
+use Rattle.std.specs.Prelude.{◌≡◌, ℕ, ◌+◌, ◌-◌, ◌≤◌, true, List, [], ◌++◌, length, None}
 use Rattle.std.specs.declared.cmp.Ordering.{Ordering}
 use Rattle.ppq_pass.specs.ppq_outside.Shown.{Shown}
 use Rattle.ppq_pass.specs.ppq_budget.Sizes.{pool_of}
@@ -54,3 +54,10 @@ module _ {S R : Type 0} (shown : S → Shown) where
     pub supply : IsBare q.sizes.block q.sizes.blocks (pool_of q.sizes) q.supply
     pub counted : count_of q.body ≤ q.count
     pub least : q.count ≤ q.peak
+
+  -- the parts of a bulk whose records are all in runs, at most 64 of them in blocks, in a limit session
+  pub record IsAllInRuns (cmp : R → R → Ordering) (record_of : List ℕ → R) (width : ℕ) (q : BulkParts S R) : Type 0 where
+    pub bulk : IsBulk cmp record_of width q
+    pub all : count_of q.body ≡ q.count
+    pub few : length q.body.runs.external.items ≤ 64
+    pub limited : q.limited ≡ true

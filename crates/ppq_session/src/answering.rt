@@ -1,11 +1,11 @@
 //! Asks answered in turn.
-ghost use Rattle.std.specs.Prelude.{◌≡◌, ◌≤◌, [], None, IfOk, IfErr, OnOk, length, vec_capacity};
+ghost use Rattle.std.specs.Prelude.{◌≡◌, None, IfOk, IfErr, OnOk, vec_capacity};
 ghost use Rattle.ppq_pass.specs.ppq_record.Bag.{IsSameBag};
 ghost use Rattle.ppq_pass.specs.ppq_outside.Shown.{AllTell};
 ghost use Rattle.ppq_pass.specs.ppq_array.Kept.{AreQuiet};
 ghost use Rattle.ppq_session.specs.Fronts.{IsFrontRefusal, least_below};
 ghost use Rattle.ppq_session.specs.Asks.{left_by, pops_by};
-ghost use Rattle.ppq_session.specs.Answering.{HasAnswered, KeepsFront};
+ghost use Rattle.ppq_session.specs.Answering.{MayAnswer, HasAnswered, KeepsFront};
 
 use crate::{Ask, Front};
 use ppq_pass::{Gate, Host, QueueFault, Record, Slot, record_laws};
@@ -42,9 +42,7 @@ pub fn answer_all<H: Host, S: Slot + Send + Sync, R: Record + Send + Sync, G: Ga
 )
 where
     H::Dir: Send,
-    requires sound { front.old.failed ≡ None }
-    requires no_answer { answers.old.items ≡ [] }
-    requires room { length asks.now ≤ vec_capacity answers.old }
+    requires { MayAnswer asks.now answers.old front.old }
     ensures answered { HasAnswered R.Ord.cmp asks.now answers.new.items front.old front.new }
     ensures room { vec_capacity answers.new ≡ vec_capacity answers.old }
 {

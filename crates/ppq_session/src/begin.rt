@@ -1,11 +1,11 @@
 //! The beginning of a session.
-ghost use Rattle.std.specs.Prelude.{◌≡◌, ◌≤◌, ◌+◌, ◌/◌, ℕ, [], length, All, Some, None, Err, IfOk, IfErr, vec_capacity};
+ghost use Rattle.std.specs.Prelude.{◌≡◌, ℕ, Some, None, Err, IfOk, IfErr};
 ghost use Rattle.ppq_session.specs.declared.fault.BeginFault.TheVariants.{Memory, Device};
-ghost use Rattle.ppq_session.specs.Opened.{IsOpened, DealtOut, HandedOut, BulkBegan};
+ghost use Rattle.ppq_session.specs.Opened.{IsOpened, HandedOut, BulkBegan};
+ghost use Rattle.ppq_queue.specs.Holding.{Holding};
 ghost use Rattle.ppq_session.specs.Sessions.{IsUnbegun};
-ghost use Rattle.ppq_session.specs.Outfits.{IsOutfit};
+ghost use Rattle.ppq_session.specs.Outfits.{ServeWorkers};
 ghost use Rattle.ppq_pass.specs.ppq_pool.Seats.{count_of};
-ghost use Rattle.ppq_pass.specs.ppq_budget.Sizes.{pool_of};
 
 use crate::brought::Brought;
 use crate::equip::equip;
@@ -89,14 +89,9 @@ fn deal_out<S: Slot + Send + Sync, R: Record + Send + Sync>(
     passes: Vec<Pass<S, R>>,
     brought: Vec<Brought<S, R>>,
 ) -> (Bulk<S, R>, Shared<S, R>, Vec<Pass<S, R>>)
-    requires opened { IsOpened S.shown R.Ord.cmp R.record_of R.WIDTH parts session }
-    requires outfits { length outfits.items ≡ parts.sizes.workers }
-    requires each { All (IsOutfit (pool_of parts.sizes / parts.sizes.heap + 1) (parts.sizes.blocks / parts.sizes.heap + 1) (count_of session.pool_seat.pool)) outfits.items }
-    requires no_pass { passes.items ≡ [] }
-    requires passes_room { parts.sizes.workers ≤ vec_capacity passes }
-    requires none_brought { brought.items ≡ [] }
-    requires brought_room { parts.sizes.workers ≤ vec_capacity brought }
-    ensures { DealtOut S.shown R.record_of R.WIDTH parts session result.0 result.1 result.2.items }
+    requires opened { (q : Holding R) × IsOpened S.shown R.Ord.cmp R.record_of R.WIDTH q parts session }
+    requires serve { ServeWorkers parts.sizes (count_of session.pool_seat.pool) outfits.items passes brought }
+    ensures { (q : Holding R) → IsOpened S.shown R.Ord.cmp R.record_of R.WIDTH q parts session → HandedOut S.shown q result.0 result.1 result.2.items }
 {
     let QueueParts {
         sizes,

@@ -1,11 +1,9 @@
 //! The beginning of a limit session.
-ghost use Rattle.std.specs.Prelude.{◌≡◌, ◌≤◌, ℕ, [], length, true, All, Some, None, Err, IfOk, IfErr, vec_capacity};
-ghost use Rattle.ppq_session.specs.BulkSession.{IsFresh};
+ghost use Rattle.std.specs.Prelude.{◌≡◌, ℕ, Some, Err, IfOk, IfErr};
 ghost use Rattle.ppq_session.specs.declared.fault.BeginFault.TheVariants.{Device};
 ghost use Rattle.ppq_session.specs.Sessions.{IsUnbegun};
 ghost use Rattle.ppq_session.specs.LimitSessions.{begun_in};
-ghost use Rattle.ppq_session.specs.Limited.{HoldsNothing};
-ghost use Rattle.ppq_session.specs.LimitSession.{IsNew, IsFrontOf, LimitBegan};
+ghost use Rattle.ppq_session.specs.LimitSession.{IsAllRuns, front_begun, CanLimit, GotLimit, LimitBegan};
 
 use crate::begin::hand_out;
 use crate::{BeginFault, Bulk, Front, LimitPass};
@@ -58,10 +56,8 @@ fn front_of<S: Slot + Send + Sync, R: Record + Send + Sync>(
     bulk: Bulk<S, R>,
     limit: R,
 ) -> Front<S, R>
-    requires none { bulk.begun ≡ 0 }
-    requires runs { bulk.runs ≤ 64 }
-    requires limited { bulk.limited ≡ true }
-    ensures { IsFrontOf bulk limit result }
+    requires { IsAllRuns bulk }
+    ensures { result ≡ front_begun bulk limit }
 {
     Front::of(bulk.into_parts(), limit)
 }
@@ -72,14 +68,8 @@ fn limit_passes<S: Slot + Send + Sync, R: Record + Send + Sync>(
     list: Vec<LimitPass<S, R>>,
     limit: R,
 ) -> Vec<LimitPass<S, R>>
-    requires nothing { All HoldsNothing passes.items }
-    requires fresh { All IsFresh passes.items }
-    requires none { list.items ≡ [] }
-    requires room { length passes.items ≤ vec_capacity list }
-    ensures count { length result.items ≡ length passes.items }
-    ensures new { All IsNew result.items }
-    ensures limits { All (λ p. p.limit ≡ limit) result.items }
-    ensures keys { (key : _) → All (λ p. p.key ≡ key) passes.items → All (λ p. p.pass.key ≡ key) result.items }
+    requires { CanLimit passes.items list }
+    ensures { GotLimit limit passes.items result.items }
 {
     let mut passes = passes;
     let mut list = list;

@@ -1,6 +1,6 @@
 //! Passes that come back.
-ghost use Rattle.std.specs.Prelude.{◌≡◌, ◌≤◌, ◌<◌, ◌+◌, [], ◌∷◌, length, map, reverse, All, vec_len, vec_capacity};
-ghost use Rattle.ppq_session.specs.Bringing.{BroughtAll, IsShareOf};
+ghost use Rattle.std.specs.Prelude.{◌≡◌, [], ◌∷◌, map, reverse, All, vec_capacity};
+ghost use Rattle.ppq_session.specs.Bringing.{MayBring, BroughtAll};
 ghost use Rattle.ppq_session.specs.SessionPass.{KeepsLimit};
 
 use crate::brought::Brought;
@@ -15,10 +15,7 @@ pub fn bring_all<S: Slot + Send + Sync, R: Record + Send + Sync, P: SessionPass<
     shared: &Shared<S, R>,
     passes: Vec<P>,
 )
-    requires row { parts.old.row_seat.row ≡ shared.now.row }
-    requires pool { parts.old.pool_seat.pool ≡ shared.now.pool }
-    requires of { All (λ p. IsShareOf shared.now parts.old.sizes (P.pass p)) passes.items }
-    requires room { length parts.old.brought.items + length passes.items ≤ vec_capacity parts.old.brought }
+    requires { MayBring shared.now parts.old (map P.pass passes.items) }
     ensures brought { BroughtAll S.shown R.record_of R.WIDTH parts.old.sizes R.Ord.cmp (reverse (map P.pass passes.items)) parts.old parts.new }
     ensures limits { All (λ p. KeepsLimit S.shown R.Ord.cmp (P.limit p) (P.pass p)) passes.items }
 {
@@ -34,10 +31,7 @@ fn bring<S: Slot + Send + Sync, R: Record + Send + Sync>(
     shared: &Shared<S, R>,
     pass: Pass<S, R>,
 )
-    requires row { parts.old.row_seat.row ≡ shared.now.row }
-    requires pool { parts.old.pool_seat.pool ≡ shared.now.pool }
-    requires of { IsShareOf shared.now parts.old.sizes pass }
-    requires room { vec_len parts.old.brought < vec_capacity parts.old.brought }
+    requires { MayBring shared.now parts.old (pass ∷ []) }
     ensures brought { BroughtAll S.shown R.record_of R.WIDTH parts.old.sizes R.Ord.cmp (pass ∷ []) parts.old parts.new }
     ensures capacity { vec_capacity parts.new.brought ≡ vec_capacity parts.old.brought }
 {

@@ -1,6 +1,5 @@
 //! The parts of a queue after its session's row and pool were closed.
 
-use crate::brought::Brought;
 use ppq_pass::{
     Extract, InsertionHeap, MinTree, OwnerLists, PassBody, Record, Sizes, Slot, Sources,
 };
@@ -32,6 +31,4 @@ pub struct Closed<S: Slot + Send + Sync, R: Record + Send + Sync> {
     pub failed: Option<u32>,
     /// The emptied list of the slots that came in.
     pub slots: Vec<S>,
-    /// The passes that are still to be put in.
-    pub brought: Vec<Brought<S, R>>,
 }

@@ -3,7 +3,7 @@ ghost use Rattle.std.specs.Prelude.{◌≡◌, ◌<◌, ◌*◌, ◌+◌, ◌^�
 ghost use Rattle.std.specs.List.{Any};
 ghost use Rattle.std.specs.Fork.{slice_chunk};
 ghost use Rattle.ppq_pass.specs.Passed.{IsOf};
-ghost use Rattle.ppq_session.specs.Dealing.{IsGoing, HasEnded, Adds, EachAdds, Dealt, part_for};
+ghost use Rattle.ppq_session.specs.Dealing.{IsGoing, HasEnded, MayAdd, Adds, EachAdds, Dealt, part_for};
 
 use crate::going::are_going;
 use crate::lines::push_one;
@@ -24,11 +24,8 @@ pub fn deal<H: Host, S: Slot + Send + Sync, R: Record + Send + Sync, G: Gate>(
 ) -> bool
 where
     H::Dir: Send,
-    requires some { 0 < length passes.old }
-    requires workers { length passes.old < 2 ^ 32 }
+    requires may { MayAdd shared.now passes.old }
     requires records { length records.now < 2 ^ 32 }
-    requires of { All (IsOf shared.now) passes.old }
-    requires going { All IsGoing passes.old }
     ensures all { IsTrue result ↔ All IsGoing passes.new }
     ensures ended { result ≡ false → Any HasEnded passes.new }
     ensures dealt { Dealt S.shown records.now passes.old passes.new }

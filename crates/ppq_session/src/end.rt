@@ -2,7 +2,8 @@
 ghost use Rattle.std.specs.Prelude.{◌≡◌, List};
 ghost use Rattle.ppq_pass.specs.Passed.{PassHolding};
 ghost use Rattle.ppq_session.specs.BulkSession.{AreOf, BulkEnded, keys_of, shared_by};
-ghost use Rattle.ppq_session.specs.Apart.{IsJoined, SessionEnded, BulkHeld};
+ghost use Rattle.ppq_session.specs.Apart.{IsJoined, BulkHeld, staying};
+ghost use Rattle.ppq_session.specs.Ends.{SessionEnded};
 
 use crate::bringing::bring_all;
 use crate::close::close;
@@ -56,10 +57,10 @@ pub fn end_joined<H: Host, S: Slot + Send + Sync, R: Record + Send + Sync, G: Ga
 where
     H::Dir: Send,
     requires { (q : BulkHeld S R) × (passes : List (PassHolding S R)) × IsJoined S.shown R.Ord.cmp R.record_of R.WIDTH shared q popped failed passes parts }
-    ensures { (q : BulkHeld S R) (passes : List (PassHolding S R)) → IsJoined S.shown R.Ord.cmp R.record_of R.WIDTH shared q popped failed passes parts → SessionEnded S.shown R.record_of R.WIDTH q popped failed passes result.0 result.1 }
+    ensures { (q : BulkHeld S R) (passes : List (PassHolding S R)) → IsJoined S.shown R.Ord.cmp R.record_of R.WIDTH shared q popped failed passes parts → SessionEnded S.shown (staying S.shown R.record_of R.WIDTH q popped failed) passes result.0 result.1 }
 {
-    let mut closed = close(parts, failed, shared);
-    gather_all(&mut closed);
+    let (mut closed, brought) = close(parts, failed, shared);
+    gather_all(&mut closed, brought);
     let mut queue = rejoin(closed, popped);
     match queue.settle(rt, gate) {
         Ok(()) => (queue, SessionEnd::Whole),

@@ -1,9 +1,9 @@
 //! Passes that are made of what a queue has.
-ghost use Rattle.std.specs.Prelude.{◌≡◌, ◌≤◌, ◌<◌, ◌+◌, ◌-◌, ◌/◌, [], length, reverse, All, vec_capacity};
+ghost use Rattle.std.specs.Prelude.{◌≡◌, ◌≤◌, ◌<◌, ◌+◌, ◌/◌, [], length, All, vec_capacity};
 ghost use Rattle.ppq_pass.specs.ppq_budget.Sizes.{heap_of, pool_of};
 ghost use Rattle.ppq_pass.specs.ppq_array.Owner.{HasBlock};
 ghost use Rattle.ppq_pass.specs.ppq_pool.Seats.{count_of};
-ghost use Rattle.ppq_session.specs.Equipped.{MayEquip, Equipped, IsNewPass, ArePasses};
+ghost use Rattle.ppq_session.specs.Equipped.{MayEquip, CanEquip, Equipped, HasEquipped, IsNewPass};
 ghost use Rattle.ppq_session.specs.Outfits.{IsOutfit};
 
 use crate::outfit::Outfit;
@@ -56,16 +56,10 @@ pub fn equip<S: Slot, R: Record>(
     session: &mut FirstSeats<S, R>,
     passes: &mut Vec<Pass<S, R>>,
 )
-    requires none { passes.old.items ≡ [] }
-    requires room { length heaps.old.items ≤ vec_capacity passes.old }
-    requires caps { All (λ heap. heap.cap ≡ heap_of sizes) heaps.old.items }
-    requires outfits { length outfits.items ≡ length heaps.old.items }
-    requires each { All (IsOutfit (pool_of sizes / sizes.heap + 1) (sizes.blocks / sizes.heap + 1) (count_of session.old.pool_seat.pool)) outfits.items }
-    requires may { MayEquip S.shown R.WIDTH sizes (length heaps.old.items) idle.old session.old }
+    requires { CanEquip S.shown R.WIDTH sizes heaps.old.items outfits.items idle.old session.old passes.old }
     ensures emptied { heaps.new.items ≡ [] }
     ensures capacity { vec_capacity heaps.new ≡ vec_capacity heaps.old }
-    ensures passes { ArePasses sizes (reverse heaps.old.items) session.old passes.new.items }
-    ensures equipped { Equipped sizes (length heaps.old.items) idle.old idle.new session.old session.new }
+    ensures made { HasEquipped sizes heaps.old.items idle.old idle.new session.old session.new passes.new.items }
 {
     let mut outfits = outfits;
     'dealing: while let Some(heap) = heaps.pop() {

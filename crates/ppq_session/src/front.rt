@@ -1,16 +1,15 @@
 //! What the owner of a queue keeps while a limit session is on.
-ghost use Rattle.std.specs.Prelude.{◌≡◌, ◌≤◌, ◌+◌, ◌↔◌, ℕ, length, true, Some, None, IsNone, Err, IfOk, IfErr, OnOk, OnErr};
+ghost use Rattle.std.specs.Prelude.{◌≡◌, ◌≤◌, ◌+◌, ◌↔◌, ℕ, length, Some, None, IsNone, Err, IfOk, IfErr, OnOk, OnErr};
 ghost use Rattle.ppq_pass.specs.ppq_record.Bag.{IsSameBag, size_below};
 ghost use Rattle.ppq_pass.specs.ppq_budget.Sizes.{AreInRange};
 ghost use Rattle.ppq_pass.specs.ppq_outside.Shown.{AllTell};
 ghost use Rattle.ppq_pass.specs.ppq_array.Kept.{SameSlots, HasFailed, AreQuiet, all_writes};
 ghost use Rattle.ppq_pass.specs.ppq_array.Owner.{slots_shown};
-ghost use Rattle.ppq_queue.specs.Resting.{count_of};
 ghost use Rattle.ppq_pass.specs.ppq_array.declared.store_fault.StoreFault.TheVariants.{Device};
 ghost use Rattle.ppq_session.specs.BulkSession.{HasBuffers};
-ghost use Rattle.ppq_session.specs.State.{IsBulk};
-ghost use Rattle.ppq_session.specs.Fronts.{least_below, without_least_below, number_in, IsReady, IsFrontRefusal};
-ghost use Rattle.ppq_session.specs.FrontState.{IsFront, IsTallied, IsSoundFront, front_holding};
+ghost use Rattle.ppq_session.specs.Fronts.{least_below, without_least_below, number_in, IsReady, IsReadied, IsFrontRefusal, RefillKeeps, TakesLeast};
+ghost use Rattle.ppq_session.specs.FrontState.{IsTakenApart, front_holding};
+ghost use Rattle.ppq_session.specs.State.{IsAllInRuns};
 
 use crate::parts::BulkParts;
 use crate::refill::refill_front;
@@ -37,22 +36,20 @@ pub struct Front<S: Slot + Send + Sync, R: Record + Send + Sync> {
 impl<S: Slot + Send + Sync, R: Record + Send + Sync> Model for Front<S, R> {
     ghost use Rattle.std.specs.Prelude.{◌≡◌, None};
     ghost use Rattle.ppq_session.specs.Fronts.{FrontHolding};
-    ghost use Rattle.ppq_session.specs.FrontState.{IsFront, IsTallied, IsSoundFront, front_holding};
+    ghost use Rattle.ppq_session.specs.Apart.{IsOut};
+    ghost use Rattle.ppq_session.specs.FrontState.{IsTallied, IsSoundFront, front_holding};
 
     ghost Value = { FrontHolding S R };
 
     ghost view = { λ f. front_holding S.shown R.record_of R.WIDTH f.parts f.limit f.popped f.failed };
 
-    ghost invariant = { λ f. IsFront S.shown R.WIDTH f.parts × IsTallied S.shown f.parts f.popped f.failed × (f.failed ≡ None → IsSoundFront S.shown R.Ord.cmp R.record_of R.WIDTH f.parts f.limit) };
+    ghost invariant = { λ f. IsOut S.shown R.WIDTH f.parts × IsTallied S.shown f.parts f.popped f.failed × (f.failed ≡ None → IsSoundFront S.shown R.Ord.cmp R.record_of R.WIDTH f.parts f.limit) };
 }
 
 impl<S: Slot + Send + Sync, R: Record + Send + Sync> Front<S, R> {
     // A front of what the owner of a queue keeps, all of whose records are in runs.
     pub(crate) fn of(parts: BulkParts<S, R>, limit: R) -> Self
-        requires bulk { IsBulk S.shown R.Ord.cmp R.record_of R.WIDTH parts }
-        requires all { count_of parts.body ≡ parts.count }
-        requires few { length parts.body.runs.external.items ≤ 64 }
-        requires limited { parts.limited ≡ true }
+        requires { IsAllInRuns S.shown R.Ord.cmp R.record_of R.WIDTH parts }
         ensures { result ≡ front_holding S.shown R.record_of R.WIDTH parts limit 0 None }
     {
         Front {
@@ -121,16 +118,10 @@ impl<S: Slot + Send + Sync, R: Record + Send + Sync> Front<S, R> {
     fn ready<H: Host, G: Gate>(&mut self, rt: &H, gate: &G) -> Result<(), QueueFault>
     where
         H::Dir: Send,
-        ensures bag { OnOk result (AllTell self.old.slots → IsSameBag self.new.bag self.old.bag) }
-        ensures ready { OnOk result (IsReady R.Ord.cmp self.new) }
-        ensures sound { OnOk result (self.new.failed ≡ None) }
+        ensures readied { OnOk result (IsReadied R.Ord.cmp self.old self.new) }
         ensures refused { IfErr result (IsFrontRefusal self.new) }
         ensures latched { (number : ℕ) → self.old.failed ≡ Some number → (result ≡ Err (Device number)) × (self.new ≡ self.old) }
-        ensures quiet { OnOk result (AreQuiet self.old.slots self.new.slots) }
-        ensures slots { SameSlots self.old.slots self.new.slots }
-        ensures tells { AllTell self.old.slots → AllTell self.new.slots }
-        ensures writes { all_writes self.old.slots ≤ all_writes self.new.slots }
-        ensures rest { self.new ≡ record self.old { bag = self.new.bag; slots = self.new.slots; run_buffers = self.new.run_buffers; in_extract = self.new.in_extract; failed = self.new.failed } }
+        ensures kept { RefillKeeps self.old self.new }
     {
         if let Some(number) = self.failed {
             return Err(QueueFault::Device { number });
@@ -163,11 +154,7 @@ impl<S: Slot + Send + Sync, R: Record + Send + Sync> Front<S, R> {
     fn take(&mut self) -> Option<R>
         requires sound { self.old.failed ≡ None }
         requires ready { IsReady R.Ord.cmp self.old }
-        ensures answer { AllTell self.old.slots → result ≡ least_below R.Ord.cmp self.old.limit self.old.bag }
-        ensures left { AllTell self.old.slots → IsSameBag self.new.bag (without_least_below R.Ord.cmp self.old.limit self.old.bag) }
-        ensures popped { self.new.popped ≡ self.old.popped + number_in result }
-        ensures total { self.new.size + self.new.popped ≡ self.old.size + self.old.popped }
-        ensures rest { self.new ≡ record self.old { bag = self.new.bag; in_extract = self.new.in_extract; size = self.new.size; popped = self.new.popped } }
+        ensures { TakesLeast R.Ord.cmp result self.old self.new }
     {
         record_laws::<R>();
         match self.parts.extract.pop() {
@@ -183,10 +170,7 @@ impl<S: Slot + Send + Sync, R: Record + Send + Sync> Front<S, R> {
     // All that it has, for the end of the session: its parts, how many records it gave, and the number of
     // the slot a call of which failed first.
     pub(crate) fn into_parts(self) -> (BulkParts<S, R>, u64, Option<u32>)
-        ensures front { IsFront S.shown R.WIDTH result.0 }
-        ensures tallied { IsTallied S.shown result.0 result.1 result.2 }
-        ensures sound { result.2 ≡ None → IsSoundFront S.shown R.Ord.cmp R.record_of R.WIDTH result.0 self.limit }
-        ensures shows { front_holding S.shown R.record_of R.WIDTH result.0 self.limit result.1 result.2 ≡ self }
+        ensures { IsTakenApart S.shown R.Ord.cmp R.record_of R.WIDTH result.0 result.1 result.2 self }
     {
         (self.parts, self.popped, self.failed)
     }

@@ -1,11 +1,9 @@
 //! Passes that are put into the parts of a queue.
-ghost use Rattle.std.specs.Prelude.{◌≡◌, ◌≤◌, ◌<◌, ◌+◌, ◌-◌, ◌*◌, ◌^◌, ◌++◌, [], ◌∷◌, length, reverse, All, List, None, vec_capacity};
-ghost use Rattle.ppq_pass.specs.ppq_record.Bag.{IsSameBag};
-ghost use Rattle.ppq_pass.specs.ppq_outside.Shown.{Shown};
+ghost use Rattle.std.specs.Prelude.{◌≡◌, ◌≤◌, ◌<◌, ◌+◌, ◌-◌, ◌*◌, ◌^◌, [], ◌∷◌, length, All};
 ghost use Rattle.ppq_pass.specs.ppq_array.Owner.{slots_shown};
 ghost use Rattle.ppq_pass.specs.ppq_array.Holdings.{ArrayHasSize, internal_buffers, external_buffers, external_slots};
 ghost use Rattle.ppq_pass.specs.ppq_array.Run.{buffers_of};
-ghost use Rattle.ppq_session.specs.Gathering.{Adopted, GetsBack, IsGathered, gathered_bag, accepted_in};
+ghost use Rattle.ppq_session.specs.Gathering.{Adopted, CanAdopt, GetsBack, MayGather, Gathers};
 
 use crate::brought::Brought;
 use crate::closed::Closed;
@@ -15,29 +13,23 @@ use ppq_pass::{
 };
 
 /// Puts all passes that came back into the parts of the queue.
-pub fn gather_all<S: Slot + Send + Sync, R: Record + Send + Sync>(c: &mut Closed<S, R>)
-    requires { (slots : List Shown) × (items : List Shown) × IsGathered S.shown R.Ord.cmp R.record_of R.WIDTH slots items c.old c.old.brought.items }
-    ensures gathered { (slots items : List Shown) → IsGathered S.shown R.Ord.cmp R.record_of R.WIDTH slots items c.old c.old.brought.items → IsGathered S.shown R.Ord.cmp R.record_of R.WIDTH slots items c.new [] }
-    ensures bag { c.new.failed ≡ None → IsSameBag (gathered_bag S.shown R.Ord.cmp R.record_of R.WIDTH c.new []) (gathered_bag S.shown R.Ord.cmp R.record_of R.WIDTH c.old c.old.brought.items) }
-    ensures failed { c.new.failed ≡ None → (c.old.failed ≡ None) × All (λ one. one.failed ≡ None) c.old.brought.items }
-    ensures size { c.new.failed ≡ None → c.new.count ≡ c.old.count + accepted_in S.shown c.old.brought.items }
-    ensures same { (c.new.sizes ≡ c.old.sizes) × (c.new.peak ≡ c.old.peak) }
-    ensures limited { c.new.limited ≡ c.old.limited }
+pub fn gather_all<S: Slot + Send + Sync, R: Record + Send + Sync>(
+    c: &mut Closed<S, R>,
+    brought: Vec<Brought<S, R>>,
+)
+    requires { MayGather S.shown R.Ord.cmp R.record_of R.WIDTH brought.items c.old }
+    ensures { Gathers S.shown R.Ord.cmp R.record_of R.WIDTH brought.items c.old c.new }
 {
-    'gathering: while let Some(one) = c.brought.pop() {
+    let mut brought = brought;
+    'gathering: while let Some(one) = brought.pop() {
         gather(c, one);
     }
 }
 
 // Puts a pass into the parts of the queue.
 fn gather<S: Slot + Send + Sync, R: Record + Send + Sync>(c: &mut Closed<S, R>, one: Brought<S, R>)
-    requires { (slots : List Shown) × (items : List Shown) × IsGathered S.shown R.Ord.cmp R.record_of R.WIDTH slots items c.old (c.old.brought.items ++ one ∷ []) }
-    ensures gathered { (slots items : List Shown) → IsGathered S.shown R.Ord.cmp R.record_of R.WIDTH slots items c.old (c.old.brought.items ++ one ∷ []) → IsGathered S.shown R.Ord.cmp R.record_of R.WIDTH slots items c.new c.old.brought.items }
-    ensures bag { c.new.failed ≡ None → IsSameBag (gathered_bag S.shown R.Ord.cmp R.record_of R.WIDTH c.new c.old.brought.items) (gathered_bag S.shown R.Ord.cmp R.record_of R.WIDTH c.old (c.old.brought.items ++ one ∷ [])) }
-    ensures failed { c.new.failed ≡ None → (c.old.failed ≡ None) × (one.failed ≡ None) }
-    ensures size { c.new.failed ≡ None → c.new.count ≡ c.old.count + one.accepted }
-    ensures same { (c.new.sizes ≡ c.old.sizes) × (c.new.peak ≡ c.old.peak) × (c.new.brought ≡ c.old.brought) }
-    ensures limited { c.new.limited ≡ c.old.limited }
+    requires { MayGather S.shown R.Ord.cmp R.record_of R.WIDTH (one ∷ []) c.old }
+    ensures { Gathers S.shown R.Ord.cmp R.record_of R.WIDTH (one ∷ []) c.old c.new }
 {
     let Brought {
         heap,
@@ -62,9 +54,7 @@ fn adopt<S: Slot + Send + Sync, R: Record + Send + Sync>(
     to: &mut PassBody<S, R>,
     from: PassBody<S, R>,
 )
-    requires internal { length to.old.runs.internal.items + length from.runs.internal.items ≤ vec_capacity to.old.runs.internal }
-    requires external { length to.old.runs.external.items + length from.runs.external.items ≤ vec_capacity to.old.runs.external }
-    requires few { length to.old.lanes.idle + length from.lanes.idle < 2 ^ 32 - 1 }
+    requires { CanAdopt to.old from }
     ensures { Adopted to.old from to.new }
 {
     let PassBody { runs, lanes, .. } = from;

@@ -1,9 +1,7 @@
 //! Room for the buffers of the pool, whatever a front did.
-ghost use Rattle.std.specs.Prelude.{◌≡◌, ℕ, ◌<◌, ◌≤◌, ◌+◌, ◌-◌, ◌^◌, length, None};
-ghost use Rattle.ppq_pass.specs.ppq_pool.Seats.{count_of};
+ghost use Rattle.std.specs.Prelude.{◌≡◌, ℕ, ◌<◌, ◌+◌, ◌-◌, ◌^◌, length};
 ghost use Rattle.ppq_queue.specs.Slots.{with_pool};
-ghost use Rattle.ppq_session.specs.FrontState.{IsFront, IsTallied};
-ghost use Rattle.ppq_session.specs.Apart.{IsApart, apart_slots};
+ghost use Rattle.ppq_session.specs.FrontState.{CanMakeRoom, HasMadeRoom};
 ghost use Rattle.ppq_session.specs.Emptied.{emptied};
 
 use crate::parts::BulkParts;
@@ -15,13 +13,8 @@ pub fn with_room<S: Slot + Send + Sync, R: Record + Send + Sync>(
     parts: BulkParts<S, R>,
     failed: Option<u32>,
 ) -> BulkParts<S, R>
-    requires front { IsFront S.shown R.WIDTH parts }
-    requires tallied { (popped : ℕ) × IsTallied S.shown parts popped failed }
-    requires room { failed ≡ None → count_of parts.pool_seat.pool ≤ parts.supply.buffer_room }
-    ensures apart { IsApart S.shown R.WIDTH result failed }
-    ensures same { failed ≡ None → result ≡ parts }
-    ensures slots { apart_slots S.shown result ≡ apart_slots S.shown parts }
-    ensures rest { result ≡ record parts { body = result.body; supply = result.supply } }
+    requires { (popped : ℕ) × CanMakeRoom S.shown R.WIDTH parts popped failed }
+    ensures { HasMadeRoom S.shown R.WIDTH parts failed result }
 {
     match failed {
         None => parts,

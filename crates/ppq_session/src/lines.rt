@@ -1,8 +1,8 @@
 //! Lines pushed to the passes that they name, each pass on a thread of its own.
-ghost use Rattle.std.specs.Prelude.{◌≡◌, ◌<◌, ◌^◌, ◌↔◌, false, length, map, All, IsTrue, [], ◌∷◌};
+ghost use Rattle.std.specs.Prelude.{◌≡◌, ◌<◌, ◌^◌, ◌↔◌, false, length, All, IsTrue, [], ◌∷◌};
 ghost use Rattle.std.specs.List.{Any};
 ghost use Rattle.ppq_pass.specs.Passed.{IsOf};
-ghost use Rattle.ppq_session.specs.Dealing.{IsGoing, HasEnded, Adds, EachAdds, Dealt, records_in, records_for};
+ghost use Rattle.ppq_session.specs.Dealing.{IsGoing, HasEnded, MayAdd, Adds, EachAdds, Dealt, records_in, records_for};
 ghost use Rattle.ppq_session.specs.SessionPass.{Takes, SaysIfGoing};
 ghost use Rattle.ppq_session.specs.Batches.{AreAbove, MayPush, Pushed};
 
@@ -27,11 +27,8 @@ pub fn push_lines<H: Host, S: Slot + Send + Sync, R: Record + Send + Sync, G: Ga
 ) -> bool
 where
     H::Dir: Send,
-    requires some { 0 < length passes.old }
-    requires workers { length passes.old < 2 ^ 32 }
+    requires may { MayAdd shared.now passes.old }
     requires named { All (λ line. line.pass < length passes.old) lines.now }
-    requires of { All (IsOf shared.now) passes.old }
-    requires going { All IsGoing passes.old }
     ensures all { IsTrue result ↔ All IsGoing passes.new }
     ensures ended { result ≡ false → Any HasEnded passes.new }
     ensures dealt { Dealt S.shown (records_in lines.now) passes.old passes.new }

@@ -1,8 +1,7 @@
 //! A queue of the parts into which all passes were put.
-ghost use Rattle.std.specs.Prelude.{◌≡◌, ◌+◌, ◌*◌, ◌≤◌, [], List, None, max, min};
+ghost use Rattle.std.specs.Prelude.{◌≡◌, ◌+◌, ◌*◌, [], List};
 ghost use Rattle.ppq_pass.specs.ppq_outside.Shown.{Shown};
-ghost use Rattle.ppq_queue.specs.Resting.{slots_of};
-ghost use Rattle.ppq_session.specs.Gathering.{IsGathered, gathered_bag};
+ghost use Rattle.ppq_session.specs.Gathering.{IsGathered, IsMade};
 
 use crate::closed::Closed;
 use ppq_pass::{Heaps, Record, Sizes, Slot};
@@ -14,14 +13,7 @@ pub fn rejoin<S: Slot + Send + Sync, R: Record + Send + Sync>(
     popped: u64,
 ) -> Queue<S, R>
     requires { (slots : List Shown) × (items : List Shown) × IsGathered S.shown R.Ord.cmp R.record_of R.WIDTH slots items c [] }
-    ensures bag { result.bag ≡ gathered_bag S.shown R.Ord.cmp R.record_of R.WIDTH c [] }
-    ensures slots { result.slots ≡ slots_of S.shown c.body c.supply }
-    ensures failed { result.failed ≡ c.failed }
-    ensures sizes { result.sizes ≡ c.sizes }
-    ensures size { c.failed ≡ None → result.size ≡ c.count }
-    ensures most { c.failed ≡ None → c.count ≤ c.sizes.memory + c.sizes.block * c.sizes.blocks }
-    ensures peak { result.peak ≡ max c.peak (min (c.count + popped) (c.sizes.memory + c.sizes.block * c.sizes.blocks)) }
-    ensures limited { result.limited ≡ c.limited }
+    ensures { IsMade S.shown R.Ord.cmp R.record_of R.WIDTH popped c result }
 {
     let Closed {
         sizes,
@@ -36,7 +28,6 @@ pub fn rejoin<S: Slot + Send + Sync, R: Record + Send + Sync>(
         limited,
         failed,
         slots,
-        brought: _,
     } = c;
     let most = most_records(&sizes);
     let load = count.saturating_add(popped).min(most);

@@ -1,7 +1,7 @@
 //! A batch of a limit session.
-ghost use Rattle.std.specs.Prelude.{◌≡◌, ◌≤◌, [], length, None, vec_capacity};
+ghost use Rattle.std.specs.Prelude.{◌≡◌, vec_capacity};
 ghost use Rattle.ppq_pass.specs.ppq_record.Pair.{pair_cmp};
-ghost use Rattle.ppq_session.specs.Answering.{HasAnswered};
+ghost use Rattle.ppq_session.specs.Answering.{MayAnswer, HasAnswered};
 ghost use Rattle.ppq_session.specs.Batches.{MayPush, Pushed};
 
 use crate::answering::answer_all;
@@ -24,9 +24,7 @@ pub fn run_both<H: Host, S: Slot + Send + Sync, G: Gate>(
 where
     H::Dir: Send,
     requires may { MayPush pair_cmp shared.now lines.now passes.old }
-    requires sound { front.old.failed ≡ None }
-    requires no_answer { answers.old.items ≡ [] }
-    requires room { length asks.now ≤ vec_capacity answers.old }
+    requires asks { MayAnswer asks.now answers.old front.old }
     ensures pushed { Pushed S.shown lines.now passes.old passes.new }
     ensures answered { HasAnswered pair_cmp asks.now answers.new.items front.old front.new }
     ensures room { vec_capacity answers.new ≡ vec_capacity answers.old }
@@ -36,7 +34,7 @@ where
         ensures { Pushed S.shown lines.entry.now passes.entry.now passes.exit.now }
     { push_limited(rt, gate, shared, lines, passes) };
     let mut answer = ||
-        requires { (front.now.failed ≡ None) × (answers.now.items ≡ []) × (length asks.now ≤ vec_capacity answers.now) }
+        requires { MayAnswer asks.now answers.now front.now }
         ensures { HasAnswered pair_cmp asks.entry.now answers.exit.now.items front.entry.now front.exit.now × (vec_capacity answers.exit.now ≡ vec_capacity answers.entry.now) }
     { answer_all(rt, front, asks, answers, gate) };
     join_mut(rt, &mut push, &mut answer);

@@ -1,11 +1,7 @@
 //! The free slots and the idle buffers of a supply, as a row and a pool.
-ghost use Rattle.std.specs.Prelude.{◌≡◌, ◌≤◌, ◌<◌, ◌+◌, ◌-◌, ◌*◌, ◌^◌, [], length, All, IfOk, OnErr, vec_capacity};
-ghost use Rattle.ppq_pass.specs.ppq_table.Sums.{all_shares};
-ghost use Rattle.ppq_pass.specs.ppq_array.Owner.{HasSize, slots_shown};
-ghost use Rattle.ppq_pass.specs.ppq_row.Seats.{IsSeatOf as IsRowSeat};
-ghost use Rattle.ppq_pass.specs.ppq_pool.Seats.{IsSeatOf as IsPoolSeat, count_of};
+ghost use Rattle.std.specs.Prelude.{◌≡◌, ◌+◌, [], length, IfOk, OnErr, vec_capacity};
 ghost use Rattle.ppq_queue.specs.Slots.{with_slots, with_pool};
-ghost use Rattle.ppq_session.specs.Shares.{bare, IsFirst};
+ghost use Rattle.ppq_session.specs.Shares.{bare, IsRoomFor, IsFirst, IsFirstRow, IsFirstPool};
 
 use crate::slots::{put_buffers, put_slots, take_buffers, take_slots};
 use ppq_pass::{
@@ -32,12 +28,8 @@ pub fn share<S: Slot, R: Record>(
     slots: Vec<Berth<S, R>>,
     buffers: Vec<PoolBuf<R>>,
 ) -> Result<FirstSeats<S, R>, Memory>
-    requires no_slot { slots.items ≡ [] }
-    requires slots_room { length supply.old.kept ≤ vec_capacity slots }
-    requires few_slots { length supply.old.kept < 2 ^ 32 }
-    requires no_buffer { buffers.items ≡ [] }
-    requires buffers_room { supply.old.sure_buffers ≤ vec_capacity buffers }
-    requires few_buffers { supply.old.sure_buffers < 2 ^ 32 }
+    requires slots { IsRoomFor (length supply.old.kept) slots.items (vec_capacity slots) }
+    requires buffers { IsRoomFor supply.old.sure_buffers buffers.items (vec_capacity buffers) }
     ensures session { IfOk result (IsFirst S.shown R.WIDTH supply.old) }
     ensures bare { IfOk result (λ _. supply.new ≡ bare supply.old) }
     ensures back { OnErr result (supply.new ≡ supply.old) }
@@ -63,14 +55,8 @@ fn make_row<S: Slot, R: Record>(
     supply: &mut OwnerLists<S, R>,
     slots: Vec<Berth<S, R>>,
 ) -> Result<(Row<Berth<S, R>>, RowSeat<Berth<S, R>>), Memory>
-    requires none { slots.items ≡ [] }
-    requires room { length supply.old.kept ≤ vec_capacity slots }
-    requires few { length supply.old.kept < 2 ^ 32 }
-    ensures row { IfOk result (λ r. IsRowSeat r.0 r.1) }
-    ensures shares { IfOk result (λ r. r.1.hand.shares ≡ all_shares) }
-    ensures undrawn { IfOk result (λ r. r.1.hand.places ≡ []) }
-    ensures items { IfOk result (λ r. slots_shown S.shown r.1.hand.items ≡ supply.old.kept) }
-    ensures bytes { IfOk result (λ r. All (HasSize S.shown (supply.old.block * R.WIDTH)) r.1.hand.items) }
+    requires { IsRoomFor (length supply.old.kept) slots.items (vec_capacity slots) }
+    ensures made { IfOk result (λ r. IsFirstRow S.shown R.WIDTH supply.old.kept supply.old.block r.0 r.1) }
     ensures out { IfOk result (λ _. supply.new ≡ with_slots supply.old [] (supply.old.slot_room + length supply.old.kept)) }
     ensures back { OnErr result (supply.new ≡ supply.old) }
 {
@@ -91,14 +77,8 @@ fn make_pool<S: Slot, R: Record>(
     supply: &mut OwnerLists<S, R>,
     buffers: Vec<PoolBuf<R>>,
 ) -> Result<(Pool<PoolBuf<R>>, PoolSeat<PoolBuf<R>>), Memory>
-    requires none { buffers.items ≡ [] }
-    requires room { supply.old.sure_buffers ≤ vec_capacity buffers }
-    requires few { supply.old.sure_buffers < 2 ^ 32 }
-    ensures pool { IfOk result (λ r. IsPoolSeat r.0 r.1) }
-    ensures shares { IfOk result (λ r. r.1.hand.shares ≡ all_shares) }
-    ensures untaken { IfOk result (λ r. r.1.hand.numbers ≡ []) }
-    ensures count { IfOk result (λ r. count_of r.0 ≡ supply.old.sure_buffers) }
-    ensures shape { IfOk result (λ r. 0 < count_of r.0 → r.1.hand.shape ≡ supply.old.block) }
+    requires { IsRoomFor supply.old.sure_buffers buffers.items (vec_capacity buffers) }
+    ensures made { IfOk result (λ r. IsFirstPool supply.old.sure_buffers supply.old.block r.0 r.1) }
     ensures out { IfOk result (λ _. supply.new ≡ with_pool supply.old 0 (supply.old.buffer_room + supply.old.sure_buffers)) }
     ensures back { OnErr result (supply.new ≡ supply.old) }
 {

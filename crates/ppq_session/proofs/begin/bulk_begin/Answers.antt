@@ -24,27 +24,28 @@ returns-in-Ok-clause-refused g c =
 pub returns-in-Ok-clause-latched : goal.returns-in-Ok-clause-latched
 returns-in-Ok-clause-latched g c = λ number latched. let said = (c.begin_session.ensures.latched number latched).0 in cc
 
-pub returns-in-Err-NoFreeBlock-clause-refused : goal.returns-in-Err-NoFreeBlock-clause-refused
-returns-in-Err-NoFreeBlock-clause-refused g c =
-    let new = c.begin_session.new.self in
-    let stays = c.begin_session.ensures.stays in
+pub returns-in-Err-NoFreeBlock : goal.returns-in-Err-NoFreeBlock
+returns-in-Err-NoFreeBlock g c =
+    let e = c.begin_session.ensures in
     let arm = c.in-Err-NoFreeBlock in
-    record { why = subst (IsRefusal c.args.q new) arm.field-0-is arm.ensures.refused; kept = stays.keeps; peak = stays.peak }
+    record {
+      begun = tt;
+      refused = record { why = subst (IsRefusal c.args.q c.begin_session.new.self) arm.field-0-is arm.ensures.refused; kept = e.stays.keeps; peak = e.stays.peak };
+      latched = λ number latched. let said = (e.latched number latched).0 in cc;
+    }
 
-pub returns-in-Err-NoFreeBlock-clause-latched : goal.returns-in-Err-NoFreeBlock-clause-latched
-returns-in-Err-NoFreeBlock-clause-latched g c = λ number latched. let said = (c.begin_session.ensures.latched number latched).0 in cc
-
-pub returns-in-Err-Device-clause-refused : goal.returns-in-Err-Device-clause-refused
-returns-in-Err-Device-clause-refused g c =
+pub returns-in-Err-Device : goal.returns-in-Err-Device
+returns-in-Err-Device g c =
     let new = c.begin_session.new.self in
-    let stays = c.begin_session.ensures.stays in
+    let e = c.begin_session.ensures in
     let arm = c.in-Err-Device in
     let stopped : HasStopped arm.number new = subst (IsRefusal c.args.q new) arm.field-0-is arm.ensures.refused in
-    record { why = subst (λ (n : ℕ). HasStopped n new) (sym arm.number-is) stopped; kept = stays.keeps; peak = stays.peak }
-
-pub returns-in-Err-Device-clause-latched : goal.returns-in-Err-Device-clause-latched
-returns-in-Err-Device-clause-latched g c = λ number latched.
-    let said = c.begin_session.ensures.latched number latched in
-    let same : c.in-Err-Device.number ≡ number = cc in
     let refusal : Holding g.row.R.Denot → ℕ → Begins g.row.S.Denot g.row.R.Denot = λ queue n. Err (queue, Device n) in
-    ap₂ refusal said.1 (c.in-Err-Device.number-is ∙ same)
+    record {
+      begun = tt;
+      refused = record { why = subst (λ (n : ℕ). HasStopped n new) (sym arm.number-is) stopped; kept = e.stays.keeps; peak = e.stays.peak };
+      latched = λ number latched.
+          let said = e.latched number latched in
+          let same : arm.number ≡ number = cc in
+          ap₂ refusal said.1 (arm.number-is ∙ same);
+    }

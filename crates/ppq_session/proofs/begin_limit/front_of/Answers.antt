@@ -1,18 +1,17 @@
 use Rattle.std.proofs.Common.{◌∙◌, ap, arith}
-use Rattle.ppq_session.proofs.LimitBegun.{front_is}
+use Rattle.ppq_session.proofs.Fronted.{front_is}
 use Rattle.ppq_session.proofs.begin_limit.front_of.Goals as goal
 
-pub of-requires-clause-all : goal.of-requires-clause-all
-of-requires-clause-all g c κs bounds =
-    let q = c.into_parts.result in
+pub of-requires-after_bounds : goal.of-requires-after_bounds
+of-requires-after_bounds g c κs bounds =
     let is = c.into_parts.ensures in
-    omega (arith, is.whole.counted, ap (λ b. b.begun) is.shows, c.requires.none)
-
-pub of-requires-clause-few : goal.of-requires-clause-few
-of-requires-clause-few g c κs bounds = omega (arith, ap (λ b. b.runs) c.into_parts.ensures.shows, c.requires.runs)
-
-pub of-requires-clause-limited : goal.of-requires-clause-limited
-of-requires-clause-limited g c κs bounds = ap (λ b. b.limited) c.into_parts.ensures.shows ∙ c.requires.limited
+    let r = c.requires in
+    record {
+      bulk = is.whole;
+      all = omega (arith, is.whole.counted, ap (λ b. b.begun) is.shows, r.none);
+      few = omega (arith, ap (λ b. b.runs) is.shows, r.runs);
+      limited = ap (λ b. b.limited) is.shows ∙ r.limited;
+    }
 
 pub returns : goal.returns
 returns g c =

@@ -38,5 +38,7 @@ limiting-preserved g c =
       room = omega (arith, i.room, long, left, c.push_reserved.ensures.capacity);
     }
 
-pub returns-clause-keys : goal.returns-clause-keys
-returns-clause-keys g c = λ key h. (c.limiting.invariant.keys key h).1
+pub returns : goal.returns
+returns g c =
+    let i = c.limiting.invariant in
+    record { count = omega (arith, i.count, c.in_default.ensures.cases); new = i.new; limits = i.limits; keys = λ key h. (i.keys key h).1 }

@@ -1,10 +1,11 @@
 use Rattle.std.proofs.Common.{◌≡◌, ◌++◌, ◌∷◌, ◌∙◌, [], Bool, true, false, ap, ap₂, sym, subst, refl, arith, append-nil}
 use Rattle.std.specs.Prelude.{◌||◌}
-use Rattle.std.proofs.lemmas.List.Elements.{All-nil, All-cons}
+use Rattle.std.proofs.lemmas.List.Elements.{All-nil, All-cons, All-head}
 use Rattle.std.proofs.lemmas.List.Concat.{flat_map-cons}
 use Rattle.ppq_pass.specs.Passed.{holding_of}
 use Rattle.ppq_pass.specs.PassState.{IsPassed, IsSoundPass}
 use Rattle.ppq_session.specs.Passes.{IsBrought}
+use Rattle.ppq_session.specs.Bringing.{IsShareOf}
 use Rattle.ppq_session.specs.declared.brought.Brought.{Brought}
 use Rattle.ppq_session.proofs.bringing.bring.Goals as goal
 
@@ -16,6 +17,16 @@ or_left : (a b : Bool) → a ≡ true → (a || b) ≡ true
 or_left true b e = refl
 or_left false b e = cc
 
+pub join-requires : goal.join-requires
+join-requires g c =
+    let of = All-head (IsShareOf c.args.shared.now c.args.parts.now.sizes) c.args.pass [] c.requires.of in
+    record { row = (c.requires.row, ap (λ p. p.key.row) c.into_parts-heap.ensures.shows ∙ of.row) }
+
+pub join-requires-2 : goal.join-requires-2
+join-requires-2 g c =
+    let of = All-head (IsShareOf c.args.shared.now c.args.parts.now.sizes) c.args.pass [] c.requires.of in
+    record { pool = (c.requires.pool, ap (λ p. p.key.pool) c.into_parts-heap.ensures.shows ∙ of.pool) }
+
 pub returns-clause-brought : goal.returns-clause-brought
 returns-clause-brought g c =
     let shown = g.S.Slot.shown in
@@ -26,7 +37,8 @@ returns-clause-brought g c =
     let held = c.into_parts-heap.result in
     let e = c.into_parts-heap.ensures in
     let kept = c.of-kept.ensures in
-    let sizes = c.requires.of.sizes in
+    let of = All-head (IsShareOf c.args.shared.now n) c.args.pass [] c.requires.of in
+    let sizes = of.sizes in
     let old = c.args.parts.now in
     let one : Brought g.row.S.Denot g.row.R.Denot =
     record { heap = held.heap; body = held.body; stash = held.parts.stash; kept = c.of-kept.result; begun = held.begun; accepted = held.accepted; refused = held.refused; failed = held.failed }
@@ -49,13 +61,13 @@ returns-clause-brought g c =
       each = All-cons (IsBrought shown record_of width n cmp) one [] is (All-nil (IsBrought shown record_of width n cmp));
       row = row.row ∙ sym c.requires.row;
       row_items = ap (λ h. h.items) row.both;
-      row_shares = omega (arith, ap (λ h. h.shares) row.both, ap (λ p. p.key.row_shares) e.shows, c.requires.of.row_share);
+      row_shares = omega (arith, ap (λ h. h.shares) row.both, ap (λ p. p.key.row_shares) e.shows, of.row_share);
       places = ap (λ h. h.places) row.both ∙ ap (λ l. old.row_seat.hand.places ++ l) (ap (λ k. k.row_seat.hand.places) (sym kept) ∙ sym (flat_map-cons (λ (x : Brought g.row.S.Denot g.row.R.Denot). x.kept.value.row_seat.hand.places) one [] ∙ append-nil one.kept.value.row_seat.hand.places));
       noted = All-cons (λ (x : Brought g.row.S.Denot g.row.R.Denot). x.kept.value.row_seat.hand.noted ≡ true → c.join.new.seat.hand.noted ≡ true) one [] (λ noted. ap (λ h. h.noted) row.both ∙ or_right old.row_seat.hand.noted held.parts.row_seat.hand.noted (sym (ap (λ k. k.row_seat.hand.noted) kept) ∙ noted)) (All-nil (λ (x : Brought g.row.S.Denot g.row.R.Denot). x.kept.value.row_seat.hand.noted ≡ true → c.join.new.seat.hand.noted ≡ true));
       noted_still = λ noted. ap (λ h. h.noted) row.both ∙ or_left old.row_seat.hand.noted held.parts.row_seat.hand.noted noted;
       pool = pool.pool ∙ sym c.requires.pool;
       pool_shape = ap (λ h. h.shape) pool.both;
-      pool_shares = omega (arith, ap (λ h. h.shares) pool.both, ap (λ p. p.key.pool_shares) e.shows, c.requires.of.pool_share);
+      pool_shares = omega (arith, ap (λ h. h.shares) pool.both, ap (λ p. p.key.pool_shares) e.shows, of.pool_share);
       numbers = ap (λ h. h.numbers) pool.both ∙ ap (λ l. old.pool_seat.hand.numbers ++ l) (ap (λ k. k.pool_seat.hand.numbers) (sym kept) ∙ sym (flat_map-cons (λ (x : Brought g.row.S.Denot g.row.R.Denot). x.kept.value.pool_seat.hand.numbers) one [] ∙ append-nil one.kept.value.pool_seat.hand.numbers));
       rest = refl;
     }

@@ -1,12 +1,13 @@
 use Rattle.std.proofs.Common.{◌≡◌, ◌++◌, ◌∷◌, ◌∙◌, [], All, length, map, reverse, ap, sym, subst, refl, arith, length-append}
 use Rattle.std.proofs.lemmas.List.{length-map}
-use Rattle.std.proofs.lemmas.List.Elements.{All-head}
+use Rattle.std.proofs.lemmas.List.Elements.{All-nil, All-cons, All-head}
 use Rattle.ppq_pass.proofs.ppq_array.Noted.{all_left, all_right}
 use Rattle.ppq_session.specs.Passes.{pass_of}
 use Rattle.ppq_session.specs.Bringing.{BroughtAll, IsShareOf}
 use Rattle.ppq_session.specs.SessionPass.{KeepsLimit}
 use Rattle.ppq_session.proofs.Brings.{Came, came-none, came-more}
 use Rattle.ppq_session.proofs.Emptying.{nothing as no_list}
+use Rattle.ppq_session.proofs.Mapped.{all_mapped}
 use Rattle.ppq_session.proofs.bringing.bring_all.Goals as goal
 
 pub bringing-init : goal.bringing-init
@@ -16,19 +17,26 @@ bringing-init g c =
     let pass_in = g.P.SessionPass.pass in
     record {
       came = came-none shown g.R.Record.record_of g.R.Record.WIDTH c.args.parts.now.sizes cmp pass_in (λ p. KeepsLimit shown cmp (g.P.SessionPass.limit p) (pass_in p)) c.args.passes.items c.args.parts.now;
-      of = c.requires.of;
+      of = all_mapped pass_in (IsShareOf c.args.shared.now c.args.parts.now.sizes) c.args.passes.items c.requires.of;
       room = refl;
       capacity = refl;
     }
 
-pub bring-requires-clause-of : goal.bring-requires-clause-of
-bring-requires-clause-of g c = λ κs bounds.
+pub bring-requires-after_bounds : goal.bring-requires-after_bounds
+bring-requires-after_bounds g c = λ κs bounds.
     let P = λ (p : g.row.P.Denot). IsShareOf c.args.shared.now c.args.parts.now.sizes (g.P.SessionPass.pass p) in
     let i = c.bringing.invariant in
     let pass = c.in-Some.pass in
     let all = subst (λ l. All P l) c.in-Some.ensures.items i.of in
     let here = All-head P pass [] (all_right P c.pop.new.self.items (pass ∷ []) all) in
-    subst (λ n. IsShareOf c.args.shared.now n c.into_inner.result) (sym (ap (λ q. q.sizes) i.came.is.rest)) (subst (IsShareOf c.args.shared.now c.args.parts.now.sizes) (sym c.into_inner.ensures.pass) here)
+    let its = IsShareOf c.args.shared.now c.bringing.parts.sizes in
+    let is = subst (λ n. IsShareOf c.args.shared.now n c.into_inner.result) (sym (ap (λ q. q.sizes) i.came.is.rest)) (subst (IsShareOf c.args.shared.now c.args.parts.now.sizes) (sym c.into_inner.ensures.pass) here) in
+    record {
+      row = i.came.is.row ∙ c.requires.row;
+      pool = i.came.is.pool ∙ c.requires.pool;
+      of = All-cons its c.into_inner.result [] is (All-nil its);
+      room = omega (arith, i.room, i.capacity, c.requires.room, length-map c.args.passes.items g.P.SessionPass.pass, ap length c.in-Some.ensures.items, length-append c.pop.new.self.items (pass ∷ []));
+    }
 
 pub bringing-preserved : goal.bringing-preserved
 bringing-preserved g c =

@@ -22,8 +22,8 @@ pub put_buffers-requires-clause-shape : goal.put_buffers-requires-clause-shape
 put_buffers-requires-clause-shape g c k d h =
     c.close-2.ensures.shape k d h ∙ c.requires.shape (omega (arith, h, c.close-2.ensures.count, ap (λ p. p.slots) c.requires.pool)) ∙ sym (ap (λ s. s.block) c.put_slots.ensures.stock)
 
-pub returns : goal.returns
-returns g c =
+pub returns-clause-closed : goal.returns-clause-closed
+returns-clause-closed g c =
     let given = length c.close-2.result.items in
     record {
       left = c.close.result.items;

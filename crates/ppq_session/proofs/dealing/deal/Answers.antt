@@ -3,7 +3,7 @@ use denote.Param.Send.{sendable}
 use Rattle.std.specs.Fork.{slice_chunk}
 use Rattle.ppq_pass.proofs.Sends.{pass_sends}
 use Rattle.ppq_session.specs.Dealing.{Adds, part_for}
-use Rattle.ppq_session.proofs.DealtParts.{dealt-parts}
+use Rattle.ppq_session.proofs.Adding.{dealt-parts}
 use Rattle.ppq_session.proofs.dealing.deal.Goals as goal
 
 -- a pass may be sent
@@ -26,4 +26,4 @@ returns-clause-each g c =
     }
 
 pub returns-clause-dealt : goal.returns-clause-dealt
-returns-clause-dealt g c = dealt-parts g.S.Slot.shown c.args.records.now _ _ c.requires.some (returns-clause-each g c)
+returns-clause-dealt g c = dealt-parts g.S.Slot.shown c.args.records.now _ _ c.requires.may.some (returns-clause-each g c)

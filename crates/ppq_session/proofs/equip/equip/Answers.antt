@@ -10,7 +10,8 @@ use Rattle.ppq_session.specs.BulkSession.{IsFresh}
 use Rattle.ppq_session.specs.Outfits.{IsOutfit}
 use Rattle.ppq_session.specs.Equipped.{MayEquip, Equipped, HasBegun, bags_of, bags_in, session_key}
 use Rattle.ppq_session.specs.declared.outfit.Outfit.{Outfit}
-use Rattle.ppq_session.proofs.Equipping.{all_front, all_last, dealt_bags, key_is, may_still, one_more, no_heap}
+use Rattle.ppq_session.proofs.Equipping.{all_front, all_last, dealt_bags, key_is, may_still, one_more}
+use Rattle.ppq_session.proofs.Emptying.{nothing}
 use Rattle.ppq_session.proofs.equip.equip.Goals as goal
 
 pub new_pass-requires-clause-outfit : goal.new_pass-requires-clause-outfit
@@ -64,16 +65,19 @@ dealing-preserved-in-Some-pop g c =
           (one_more sizes c.args.idle.now c.dealing.idle c.new_pass.new.idle begin c.dealing.session c.new_pass.new.session (length passes) i.equipped made.equipped);
     }
 
-pub returns-clause-passes : goal.returns-clause-passes
-returns-clause-passes g c =
+pub returns-clause-made : goal.returns-clause-made
+returns-clause-made g c =
     let i = c.dealing.invariant in
     let none : length c.dealing.heaps.items ≡ 0 = omega (arith, c.in_default.ensures.cases) in
-    let empty = no_heap c.dealing.heaps.items none in
+    let empty = nothing c.dealing.heaps.items none in
     record {
-      count = omega (arith, i.count, none, length-reverse c.args.heaps.now.items);
-      keys = i.keys;
-      bags = sym (append-nil (bags_of c.dealing.passes.items)) ∙ ap (λ l. bags_of c.dealing.passes.items ++ bags_in (reverse l)) (sym empty) ∙ i.bags;
-      slots = i.slots;
-      whole = i.whole;
-      fresh = i.fresh;
+      passes_are = record {
+        count = omega (arith, i.count, none, length-reverse c.args.heaps.now.items);
+        keys = i.keys;
+        bags = sym (append-nil (bags_of c.dealing.passes.items)) ∙ ap (λ l. bags_of c.dealing.passes.items ++ bags_in (reverse l)) (sym empty) ∙ i.bags;
+        slots = i.slots;
+        whole = i.whole;
+        fresh = i.fresh;
+      };
+      equipped = subst (λ n. Equipped c.args.sizes n c.args.idle.now c.dealing.idle c.args.session.now c.dealing.session) (omega (arith, i.count, none)) i.equipped;
     }

@@ -1,4 +1,4 @@
-use Rattle.ppq_session.proofs.Beside.{stand_back}
+use Rattle.ppq_session.proofs.Belows.{stand_back}
 use Rattle.ppq_session.proofs.front_laws.high_records_stand_back.Goals as goal
 
 pub returns : goal.returns

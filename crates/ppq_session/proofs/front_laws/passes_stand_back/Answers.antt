@@ -3,7 +3,7 @@ use Rattle.std.proofs.lemmas.List.{take_all, take_more}
 use Rattle.std.proofs.lemmas.List.Elements.{All-push}
 use Rattle.ppq_session.specs.Limited.{LimitHolding, IsLimited}
 use Rattle.ppq_session.specs.LimitSession.{limited_bag}
-use Rattle.ppq_session.proofs.LimitPassed.{passes-above}
+use Rattle.ppq_session.proofs.LimitSessions.{passes-above}
 use Rattle.ppq_session.proofs.front_laws.passes_stand_back.Goals as goal
 
 pub loop-i-preserved : goal.loop-i-preserved

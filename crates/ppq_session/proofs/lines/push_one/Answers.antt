@@ -1,7 +1,7 @@
 use Rattle.std.proofs.Common.{◌∙◌}
 use Rattle.ppq_session.specs.Dealing.{IsGoing}
 use Rattle.ppq_session.proofs.Adding.{adds-one, adds-refused, refused-ended, says-going, says-ended}
-use Rattle.ppq_session.proofs.LimitPassed.{limited-pushed}
+use Rattle.ppq_session.proofs.LimitSessions.{limited-pushed}
 use Rattle.ppq_session.proofs.lines.push_one.Goals as goal
 
 pub returns-in-Ok : goal.returns-in-Ok

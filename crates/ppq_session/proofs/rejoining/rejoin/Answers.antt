@@ -1,11 +1,11 @@
-use Rattle.std.proofs.Common.{◌≡◌, ◌≤◌, ◌+◌, ◌*◌, ◌∙◌, ℕ, None, All, ap, sym, subst, arith, min, max}
+use Rattle.std.proofs.Common.{◌≡◌, ◌≤◌, ◌+◌, ◌*◌, ◌∙◌, ◌++◌, ℕ, All, ap, sym, subst, arith, min, max, append-nil}
 use Rattle.std.proofs.lemmas.Nat.{mul-le}
 use Rattle.ppq_pass.specs.ppq_heap.Heap.{Contents}
+use Rattle.ppq_pass.specs.ppq_heap.Heaps.{items_in}
 use Rattle.ppq_pass.specs.ppq_budget.Sizes.{Numbers, AreInRange, heap_of}
 use Rattle.ppq_queue.specs.Handed.{IsWhole}
+use Rattle.ppq_queue.specs.Resting.{runs_bag}
 use Rattle.ppq_session.proofs.Rejoined.{cap_first, parts_of, count_all, whole-rejoined}
-use Rattle.ppq_session.proofs.rejoining.rejoin.Given as given
-use Rattle.ppq_session.proofs.rejoining.rejoin.Goals.{After-drop-c}
 use Rattle.ppq_session.proofs.rejoining.rejoin.Goals as goal
 
 pub from_parts-heaps-requires-clause-some : goal.from_parts-heaps-requires-clause-some
@@ -41,23 +41,21 @@ from_parts-requires-after_bounds g c κs within =
     let whole = whole-rejoined shown g.R.Ord.cmp g.R.Record.record_of g.R.Record.WIDTH c.requires.0 c.requires.1 q c.requires.2 heaps c.from_parts-heaps.ensures.heaps (c.from_parts-heaps.ensures.cap ∙ first) c.known.ensures count load c.args.popped least all in
     subst (λ k. IsWhole shown g.R.Ord.cmp g.R.Record.record_of g.R.Record.WIDTH (record (parts_of q heaps count load) { peak = k })) (sym c.max.ensures) whole
 
-counted : (g : given.Over) (c : After-drop-c g) → c.args.c.failed ≡ None → c.min-count.result ≡ c.args.c.count
-counted g c none =
-    let a = c.requires.2.always in
+pub returns : goal.returns
+returns g c =
     let q = c.args.c in
+    let a = c.requires.2.always in
+    let shows = c.from_parts.ensures in
     let first = cap_first q.heaps.items (heap_of q.sizes) (omega (arith, a.heaps, a.range.some_worker)) a.caps in
     let least = c.min-count.ensures ∙ ap (λ k. min q.count k) c.most_records-most.ensures in
     let all = load_is q.sizes a.range (q.count + c.args.popped) c.min-load.result c.most_records-most.result c.most_records-most.ensures c.saturating_add.result (omega (arith, c.saturating_add.ensures)) c.min-load.ensures in
-    count_all g.S.Slot.shown g.R.Ord.cmp g.R.Record.record_of g.R.Record.WIDTH c.requires.0 c.requires.1 q c.requires.2 c.from_parts-heaps.result c.from_parts-heaps.ensures.heaps (c.from_parts-heaps.ensures.cap ∙ first) c.known.ensures c.min-count.result c.min-load.result c.args.popped least all none
-
-pub returns-clause-size : goal.returns-clause-size
-returns-clause-size g c none = ap (λ r. r.size) c.from_parts.ensures ∙ counted g c none
-
-pub returns-clause-most : goal.returns-clause-most
-returns-clause-most g c none = omega (arith, counted g c none, c.min-count.ensures, c.most_records-most.ensures)
-
-pub returns-clause-peak : goal.returns-clause-peak
-returns-clause-peak g c =
-    let q = c.args.c in
-    let all = load_is q.sizes c.requires.2.always.range (q.count + c.args.popped) c.min-load.result c.most_records-most.result c.most_records-most.ensures c.saturating_add.result (omega (arith, c.saturating_add.ensures)) c.min-load.ensures in
-    ap (λ r. r.peak) c.from_parts.ensures ∙ c.max.ensures ∙ ap (λ k. max q.peak k) all
+    let heaps = c.from_parts-heaps in
+    record {
+      bag = ap (λ r. r.bag) shows ∙ ap (λ l. items_in l ++ q.extract.items ++ runs_bag g.S.Slot.shown g.R.Record.record_of g.R.Record.WIDTH q.body) heaps.ensures.heaps ∙ sym (append-nil _);
+      slots = ap (λ r. r.slots) shows;
+      failed = ap (λ r. r.failed) shows;
+      size = λ none. ap (λ r. r.size) shows ∙ count_all g.S.Slot.shown g.R.Ord.cmp g.R.Record.record_of g.R.Record.WIDTH c.requires.0 c.requires.1 q c.requires.2 heaps.result heaps.ensures.heaps (heaps.ensures.cap ∙ first) c.known.ensures c.min-count.result c.min-load.result c.args.popped least all none;
+      peak = ap (λ r. r.peak) shows ∙ c.max.ensures ∙ ap (λ k. max q.peak k) all;
+      sizes = ap (λ r. r.sizes) shows;
+      limited = ap (λ r. r.limited) shows;
+    }

@@ -2,8 +2,7 @@ use denote.Param.Send.{shr_send, shr_slice_send, mut_slice_send}
 use Rattle.ppq_pass.proofs.ppq_record.pair.Pair.TheSendSync as pair
 use Rattle.ppq_session.proofs.line.Line.TheSendSync as line
 use Rattle.ppq_pass.proofs.Sends.{shared_syncs}
-use Rattle.ppq_session.proofs.Sends.{limit_pass_sends}
-use Rattle.ppq_session.proofs.TakenAlong.{five_send}
+use Rattle.ppq_session.proofs.Sends.{limit_pass_sends, five_send}
 use Rattle.ppq_session.proofs.running.run_both.Goals as goal
 
 -- what the thread of the passes takes may be sent: the runtime, the gate, what the passes share, the lines and the passes

@@ -26,7 +26,7 @@ returns-in_default g c =
 pub push_all-requires-clause-lines : goal.push_all-requires-clause-lines
 push_all-requires-clause-lines g c κs within =
     let P : Numbers → Type 0 = λ n. AreLines n.workers InBulk (commands_of c.args.lines.now) in
-    subst P (sym c.in-Ok-begin.ensures.session.sizes) c.requires.lines
+    subst P (sym c.in-Ok-begin.ensures.session.keeps.sizes) c.requires.lines
 
 pub invariant_of-result-in-Ok-begin : goal.invariant_of-result-in-Ok-begin
 invariant_of-result-in-Ok-begin g c =

@@ -32,7 +32,7 @@ run_lines-printed-requires-clause-lines g c κs within =
     let begun = c.in-Ok-begin.ensures.session in
     let P : Numbers → Type 0 = λ n. AreLines n.workers (InLimit c.args.limit) lines in
     let Q : Pair → Type 0 = λ l. AreLines c.in-Ok-begin.session.front.sizes.workers (InLimit l) lines in
-    subst Q (sym begun.limit_is) (subst P (sym begun.sizes) c.requires.lines)
+    subst Q (sym begun.limit_is) (subst P (sym begun.keeps.sizes) c.requires.lines)
 
 pub run_lines-printed-requires-clause-going : goal.run_lines-printed-requires-clause-going
 run_lines-printed-requires-clause-going g c κs within = c.in-Ok-begin.ensures.going

@@ -1,5 +1,5 @@
-use Rattle.std.proofs.Common.{subst, arith, length-append}
-use Rattle.std.proofs.lemmas.List.{get_or_append_left}
+use Rattle.std.proofs.Common.{subst, arith}
+use Rattle.ppq_pass.proofs.ppq_array.Noted.{all_right}
 use Rattle.ppq_pass.specs.ppq_outside.Shown.{AllTell, Tells}
 use Rattle.ppq_pass.specs.ppq_array.Owner.{slots_shown}
 use Rattle.ppq_queue.specs.Resting.{slots_of}
@@ -13,7 +13,7 @@ returns-clause-items g c =
     let put = slots_shown shown parts.row_seat.hand.items in
     let rest = slots_of shown parts.body parts.supply in
     subst (λ f. AllTell f.slots → AllTell (slots_shown shown f.items)) c.self.view_is
-    (λ t k d l. subst Tells (get_or_append_left put rest d k l) (t k d (omega (arith, l, length-append put rest))))
+    (λ t. all_right Tells rest put t)
 
 pub returns-clause-buffers : goal.returns-clause-buffers
 returns-clause-buffers g c =

@@ -10,9 +10,9 @@ returns-clause-answer g c tell =
     let laws = c.record_laws.ensures in
     let old = c.args.self.now in
     let new = c.ready.new.self in
-    c.take.ensures.answer (c.ready.ensures.tells tell)
-    ∙ ap (λ f. least_below g.R.Ord.cmp f.limit new.bag) c.ready.ensures.rest
-    ∙ least_below-same laws.order laws.same old.limit new.bag old.bag (c.in_ok-ready.ensures.bag tell)
+    c.take.ensures.answer_is (c.ready.ensures.kept.tells tell)
+    ∙ ap (λ f. least_below g.R.Ord.cmp f.limit new.bag) c.ready.ensures.kept.rest
+    ∙ least_below-same laws.order laws.same old.limit new.bag old.bag (c.in_ok-ready.ensures.readied.bag tell)
 
 pub returns-clause-none : goal.returns-clause-none
 returns-clause-none g c tell =
@@ -25,6 +25,6 @@ returns-clause-left g c tell p =
     let laws = c.record_laws.ensures in
     let old = c.args.self.now in
     let new = c.ready.new.self in
-    c.take.ensures.left (c.ready.ensures.tells tell) p
-    ∙ ap (λ f. count_by p (without_least_below g.R.Ord.cmp f.limit new.bag)) c.ready.ensures.rest
-    ∙ ap (count_by p) (without_below-same laws.order laws.same old.limit new.bag old.bag (c.in_ok-ready.ensures.bag tell))
+    c.take.ensures.left (c.ready.ensures.kept.tells tell) p
+    ∙ ap (λ f. count_by p (without_least_below g.R.Ord.cmp f.limit new.bag)) c.ready.ensures.kept.rest
+    ∙ ap (count_by p) (without_below-same laws.order laws.same old.limit new.bag old.bag (c.in_ok-ready.ensures.readied.bag tell))

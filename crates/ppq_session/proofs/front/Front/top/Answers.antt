@@ -10,9 +10,9 @@ returns-clause-answer g c tell =
     let laws = c.record_laws.ensures in
     let old = c.args.self.now in
     let new = c.ready.new.self in
-    c.first.ensures.answer (c.ready.ensures.tells tell)
-    ∙ ap (λ f. least_below g.R.Ord.cmp f.limit new.bag) c.ready.ensures.rest
-    ∙ least_below-same laws.order laws.same old.limit new.bag old.bag (c.in_ok-ready.ensures.bag tell)
+    c.first.ensures.answer (c.ready.ensures.kept.tells tell)
+    ∙ ap (λ f. least_below g.R.Ord.cmp f.limit new.bag) c.ready.ensures.kept.rest
+    ∙ least_below-same laws.order laws.same old.limit new.bag old.bag (c.in_ok-ready.ensures.readied.bag tell)
 
 pub returns-clause-none : goal.returns-clause-none
 returns-clause-none g c tell =

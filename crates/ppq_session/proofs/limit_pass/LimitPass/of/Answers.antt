@@ -1,4 +1,4 @@
-use Rattle.ppq_session.proofs.LimitPassed.{limited-first}
+use Rattle.ppq_session.proofs.LimitSessions.{limited-first}
 use Rattle.ppq_session.proofs.limit_pass.LimitPass.of.Goals as goal
 
 pub invariant_of-result : goal.invariant_of-result

@@ -3,7 +3,7 @@ use Rattle.std.specs.Prelude.{OnOk}
 use Rattle.ppq_pass.specs.ppq_record.Bag.{IsSameBag}
 use Rattle.ppq_pass.specs.Passed.{PassTells, KeptSlots}
 use Rattle.ppq_pass.specs.ppq_record.Order.{is_before}
-use Rattle.ppq_session.proofs.LimitPassed.{limited-pushed}
+use Rattle.ppq_session.proofs.LimitSessions.{limited-pushed}
 use Rattle.ppq_session.proofs.limit_pass.LimitPass.push.Goals as goal
 
 pub invariant_of-self : goal.invariant_of-self

@@ -1,6 +1,6 @@
 use Rattle.std.proofs.Common.{◌≡◌, false, sym, subst}
 use Rattle.ppq_pass.specs.ppq_record.Order.{is_before}
-use Rattle.ppq_session.proofs.LimitPassed.{limited-tried}
+use Rattle.ppq_session.proofs.LimitSessions.{limited-tried}
 use Rattle.ppq_session.proofs.limit_pass.LimitPass.try_push.Goals as goal
 
 pub invariant_of-self : goal.invariant_of-self

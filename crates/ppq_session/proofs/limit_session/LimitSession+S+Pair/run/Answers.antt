@@ -5,14 +5,15 @@ use Rattle.ppq_pass.specs.ppq_outside.Shown.{AllTell}
 use Rattle.ppq_pass.specs.Passed.{IsOf}
 use Rattle.ppq_queue.specs.Holding.{Holding}
 use Rattle.ppq_session.specs.Dealing.{IsGoing, EachAdds, Dealt, records_in, records_for}
+use Rattle.ppq_session.proofs.Begun.{limited_of}
 use Rattle.ppq_session.proofs.Sessions.{kept_back}
-use Rattle.ppq_session.specs.Limited.{LimitHolding}
+use Rattle.ppq_session.specs.Limited.{LimitHolding, passes_of}
 use Rattle.ppq_session.specs.LimitSession.{AreLimited, shared_of}
 use Rattle.ppq_session.specs.Asks.{answers_to, left_after, pops_in}
-use Rattle.ppq_session.specs.Batches.{AreAbove, MayPush, passes_of}
+use Rattle.ppq_session.specs.Batches.{AreAbove, MayPush}
 use Rattle.ppq_session.specs.LimitSessions.{AreGoing, InLimits}
 use Rattle.ppq_session.proofs.Mapped.{all_mapped}
-use Rattle.ppq_session.proofs.LimitSessions.{limited-keep, limited-of, shared-keep, session-run, session-answers}
+use Rattle.ppq_session.proofs.LimitSessions.{limited-keep, session-run, session-answers}
 use Rattle.ppq_session.proofs.limit_session.LimitSession+S+Pair.run.Goals as goal
 
 pub run_both-requires-clause-may : goal.run_both-requires-clause-may
@@ -35,13 +36,15 @@ run_both-requires-clause-may g c κs within =
     in
     subst (MayPush pair_cmp inside.shared lines) (sym c.as_mut_slice.ensures.value) may
 
+pub run_both-requires-clause-asks : goal.run_both-requires-clause-asks
+run_both-requires-clause-asks g c κs within = record { sound = ap (λ l. l.front.failed) c.self.view_is ∙ c.requires.going.front; no_answer = c.requires.no_answer; room = c.requires.room }
+
 -- the passes are all of the session still
 pub invariant_of-self : goal.invariant_of-self
 invariant_of-self g c =
     let inside = c.self.inside in
     let olds = inside.passes.items in
     let news = c.run_both.new.passes in
-    let old = inside.front in
     let new = c.run_both.new.front in
     let popped = pops_in c.args.asks.now in
     let value = c.as_mut_slice.ensures.value in
@@ -49,51 +52,49 @@ invariant_of-self g c =
     let kept = c.run_both.ensures.answered.kept in
     let dealt = subst (λ ps. Dealt g.S.Slot.shown (records_in c.args.lines.now) (passes_of ps) (passes_of news)) value c.run_both.ensures.pushed.dealt in
     let limits = subst (λ (ps : List (LimitHolding g.row.S.Denot Pair)). map (λ (p : LimitHolding g.row.S.Denot Pair). p.limit) news ≡ map (λ (p : LimitHolding g.row.S.Denot Pair). p.limit) ps) value c.run_both.ensures.pushed.limits in
-    let of = limited-keep popped old new olds news kept dealt.keys limits c.self.invariant.0 in
-    let shared = shared-keep popped old new inside.shared kept c.self.invariant.1 in
+    let of = limited-keep popped inside.front new olds news kept dealt.keys limits c.self.invariant.0 in
+    let shared = c.self.invariant.1 ∙ sym (ap shared_of kept.rest) in
     subst (λ (ps : List (LimitHolding g.row.S.Denot Pair)). AreLimited new ps × (inside.shared ≡ shared_of new) × All (λ (p : LimitHolding g.row.S.Denot Pair). IsOf inside.shared p.pass) ps) (sym back)
-    (of, shared, limited-of new news inside.shared of shared)
+    (of, shared, limited_of new news inside.shared of shared)
 
-pub returns-clause-session : goal.returns-clause-session
-returns-clause-session g c =
+pub returns : goal.returns
+returns g c =
     let shown = g.S.Slot.shown in
     let inside = c.self.inside in
+    let view = c.self.view_is in
+    let laws = c.record_laws.ensures in
     let olds = inside.passes.items in
+    let old = inside.front in
     let news = c.run_both.new.passes in
     let new = c.run_both.new.front in
     let asks = c.args.asks.now in
+    let answers = c.run_both.new.answers.items in
     let more = records_in c.args.lines.now in
+    let records = λ (pass : ℕ). records_for pass c.args.lines.now in
+    let e = c.run_both.ensures in
+    let value = c.as_mut_slice.ensures.value in
     let after = take inside.passes.len (news ++ drop (length news) olds) in
     let back = kept_back inside.passes.len news (drop (length news) olds) (c.run_both.auto.passes ∙ c.as_mut_slice.ensures.len) in
-    let going = subst (λ l. AreGoing l) (sym c.self.view_is) c.requires.going in
-    let dealt = subst (λ ps. Dealt shown more (passes_of ps) (passes_of news)) c.as_mut_slice.ensures.value c.run_both.ensures.pushed.dealt in
-    subst
-    (λ l. (queue : Holding Pair) (limit : Pair) (given left : List Pair) (popped : ℕ) → InLimits shown queue limit given left popped l
-    → InLimits shown queue limit (given ++ more) (left_after pair_cmp limit left asks) (popped + pops_in asks) (record { front = new; passes = after }))
-    c.self.view_is
-    (λ queue limit given left popped s.
-    subst (λ ps. InLimits shown queue limit (given ++ more) (left_after pair_cmp limit left asks) (popped + pops_in asks) (record { front = new; passes = ps })) (sym back)
-    (session-run shown queue limit given left popped c.record_laws.ensures.order c.record_laws.ensures.same more asks c.run_both.new.answers.items inside.front new olds news going dealt c.run_both.ensures.answered s))
-
-pub returns-clause-answers : goal.returns-clause-answers
-returns-clause-answers g c =
-    let shown = g.S.Slot.shown in
-    let inside = c.self.inside in
-    let asks = c.args.asks.now in
-    let answers = c.run_both.new.answers.items in
-    let going = subst (λ l. AreGoing l) (sym c.self.view_is) c.requires.going in
-    subst (λ l. (queue : Holding Pair) (limit : Pair) (given left : List Pair) (popped : ℕ) → InLimits shown queue limit given left popped l → AllTell queue.slots → answers ≡ take (length answers) (answers_to pair_cmp limit left asks))
-    c.self.view_is
-    (λ queue limit given left popped s t. session-answers shown queue limit given left popped c.record_laws.ensures.order c.record_laws.ensures.same asks answers inside.front c.run_both.new.front inside.passes.items going c.run_both.ensures.answered s t)
-
-pub returns-clause-each : goal.returns-clause-each
-returns-clause-each g c =
-    let shown = g.S.Slot.shown in
-    let inside = c.self.inside in
-    let olds = inside.passes.items in
-    let news = c.run_both.new.passes in
-    let records = λ (pass : ℕ). records_for pass c.args.lines.now in
-    let back = kept_back inside.passes.len news (drop (length news) olds) (c.run_both.auto.passes ∙ c.as_mut_slice.ensures.len) in
-    let each = subst (λ ps. EachAdds shown records (passes_of ps) (passes_of news)) c.as_mut_slice.ensures.value c.run_both.ensures.pushed.each in
-    subst (λ l. EachAdds shown records (passes_of l.passes) (passes_of (take inside.passes.len (news ++ drop (length news) olds)))) c.self.view_is
-    (subst (λ ps. EachAdds shown records (passes_of olds) (passes_of ps)) (sym back) each)
+    let going = subst (λ l. AreGoing l) (sym view) c.requires.going in
+    let dealt = subst (λ ps. Dealt shown more (passes_of ps) (passes_of news)) value e.pushed.dealt in
+    let each = subst (λ ps. EachAdds shown records (passes_of ps) (passes_of news)) value e.pushed.each in
+    record {
+      all = c.is_going.ensures.all;
+      stopped = c.is_going.ensures.stopped;
+      answers = subst (λ l. (queue : Holding Pair) (limit : Pair) (given left : List Pair) (popped : ℕ) → InLimits shown queue limit given left popped l → AllTell queue.slots → answers ≡ take (length answers) (answers_to pair_cmp limit left asks)) view
+          (λ queue limit given left popped s t. session-answers shown queue limit given left popped laws.order laws.same asks answers old new olds going e.answered s t);
+      answered = e.answered.all;
+      fewer = e.answered.fewer;
+      room = e.room;
+      session =
+          subst
+          (λ l. (queue : Holding Pair) (limit : Pair) (given left : List Pair) (popped : ℕ) → InLimits shown queue limit given left popped l
+          → InLimits shown queue limit (given ++ more) (left_after pair_cmp limit left asks) (popped + pops_in asks) (record { front = new; passes = after }))
+          view
+          (λ queue limit given left popped s.
+          subst (λ ps. InLimits shown queue limit (given ++ more) (left_after pair_cmp limit left asks) (popped + pops_in asks) (record { front = new; passes = ps })) (sym back)
+          (session-run shown queue limit given left popped laws.order laws.same more asks answers old new olds news going dealt e.answered s));
+      each = subst (λ l. EachAdds shown records (passes_of l.passes) (passes_of after)) view (subst (λ ps. EachAdds shown records (passes_of olds) (passes_of ps)) (sym back) each);
+      sizes = ap (λ f. f.sizes) e.answered.kept.rest ∙ ap (λ l. l.front.sizes) view;
+      limit = ap (λ f. f.limit) e.answered.kept.rest ∙ ap (λ l. l.front.limit) view;
+    }

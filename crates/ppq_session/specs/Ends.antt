@@ -1,0 +1,71 @@
+-- How a session of either kind ends.
+use Rattle.std.specs.Prelude.{◌≡◌, ℕ, ◌+◌, ◌<◌, ◌≤◌, Bool, true, Any, List, ◌++◌, max, sum_by, flat_map, Option, None, All}
+use Rattle.ppq_pass.specs.ppq_record.Bag.{IsSameBag}
+use Rattle.ppq_pass.specs.ppq_outside.Shown.{Shown, AllTell}
+use Rattle.ppq_pass.specs.ppq_budget.Sizes.{Numbers, heap_of, blocks_for, room_of}
+use Rattle.ppq_pass.specs.ppq_array.Kept.{SameSlots, AreQuiet, all_writes}
+use Rattle.ppq_pass.specs.Passed.{PassHolding, PassTells}
+use Rattle.ppq_queue.specs.Holding.{Holding, IsAbove, HasStopped}
+use Rattle.ppq_pass.specs.ppq_array.declared.store_fault.StoreFault.TheVariants.{NoFreeBlock, Device}
+use Rattle.ppq_session.specs.declared.fault.SessionEnd.{SessionEnd}
+use Rattle.ppq_session.specs.declared.fault.SessionEnd.TheVariants.{Whole, Stopped}
+
+-- What the owner of a queue keeps while a session is on: the bag of its records, as far as its slots tell; how many it counts, and how many
+-- were popped; its sizes; the greatest size when the session began; whether a limit session was begun; all slots; and the number of the slot a
+-- call of which failed first, if any
+pub record Staying (R : Type 0) : Type 0 where
+  pub bag : List R
+  pub size : ℕ
+  pub popped : ℕ
+  pub sizes : Numbers
+  pub peak : ℕ
+  pub limited : Bool
+  pub slots : List Shown
+  pub failed : Option ℕ
+
+-- No block was free for a merge of levels, of which one has more than 8 runs still: the device has fewer blocks than are enough for the peak,
+-- which is above what one heap holds, unless a limit session was begun
+pub record HasNoBlock {R : Type 0} (queue : Holding R) : Type 0 where
+  pub crowded : 8 < queue.crowd
+  pub free : queue.free < max (8 + queue.sizes.workers) (blocks_for queue.sizes queue.size)
+  pub room : queue.sizes.blocks < room_of queue.sizes queue.peak
+  pub above : IsAbove queue.sizes queue.peak queue.limited
+
+module _ {S R : Type 0} where
+  -- the records of passes
+  abbrev pub bag_of : List (PassHolding S R) → List R
+  bag_of passes = flat_map (λ p. p.bag) passes
+
+  -- how many records passes accepted
+  abbrev pub accepted_of : List (PassHolding S R) → ℕ
+  accepted_of passes = sum_by (λ p. p.accepted) passes
+
+  module _ (shown : S → Shown) (stay : Staying R) (passes : List (PassHolding S R)) (queue : Holding R) where
+    -- The queue has all records of what stayed and of its passes, where their slots tell, and counts them; no call of a slot failed. Records
+    -- that were popped count in the peak
+    pub record HasAll : Type 0 where
+      pub bag : AllTell stay.slots → All (PassTells shown) passes → IsSameBag queue.bag (stay.bag ++ bag_of passes)
+      pub size : queue.size ≡ stay.size + accepted_of passes
+      pub peak : queue.peak ≡ max stay.peak (stay.size + stay.popped + accepted_of passes)
+      pub sound : queue.failed ≡ None
+      pub quiet : AreQuiet stay.slots queue.slots
+      pub limited : queue.limited ≡ stay.limited
+      pub no_fault : (stay.failed ≡ None) × All (λ (p : PassHolding S R). p.failed ≡ None) passes
+      -- where a push was refused for want of blocks, the device has fewer than are enough for the peak
+      pub short : Any (λ (p : PassHolding S R). p.refused ≡ true) passes → (stay.sizes.blocks < room_of stay.sizes queue.peak) × (heap_of stay.sizes ≤ queue.size)
+
+    -- how a session ended, and what the queue has then
+    abbrev pub EndsWith : SessionEnd → Type 0
+    EndsWith Whole = HasAll
+    EndsWith (Stopped NoFreeBlock) = HasAll × HasNoBlock queue
+    EndsWith (Stopped (Device number)) = HasStopped number queue
+
+    -- how a session ended, and what it left of its slots and sizes
+    pub record SessionEnded (end : SessionEnd) : Type 0 where
+      pub end_is : EndsWith end
+      pub settled : end ≡ Whole → queue.runs ≤ 64
+      pub slots : SameSlots stay.slots queue.slots
+      pub tells : AllTell stay.slots → All (PassTells shown) passes → AllTell queue.slots
+      pub writes : all_writes stay.slots ≤ all_writes queue.slots
+      pub sizes : queue.sizes ≡ stay.sizes
+      pub limited : queue.limited ≡ stay.limited
