@@ -203,6 +203,9 @@ fn a_failed_call_of_a_block_ends_the_run_and_all_blocks_come_back(rt: HostRuntim
             "",
         ),
         (2, "push 1 0\npush 2 0\npush 3 0\nbulk_pop 3\n", ""),
+        // the same of the store of a heap and of a refill
+        (1, "push 6 0\npush 5 0\npush 4 0\npop\n", ""),
+        (2, "push 1 0\npush 2 0\npush 3 0\npop\n", ""),
         // a read of the front in a limit session
         (
             2,

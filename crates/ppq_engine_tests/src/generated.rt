@@ -1,10 +1,11 @@
 //! Generated scripts over small queues, which do as a sorted list of records does.
 
-use crate::list::{Case, draw, put_line, script};
+use crate::list::{Case, put_line, script};
 use crate::runs::{Outcome, plain};
 use ppq_budget::Sizes;
 use ppq_engine::End;
 use ppq_outside::Host;
+use ppq_testkit::draw;
 use std::alloc::Global;
 use std::process::Abort;
 use std::test::Fail;

@@ -1,20 +1,9 @@
 //! Generated scripts, and what they print of a sorted list of records.
-ghost use Rattle.std.specs.Prelude.{◌<◌, max};
 
 use ppq_record::Pair;
+use ppq_testkit::draw;
 use std::alloc::Global;
 use std::test::Fail;
-
-// The next number of Knuth's MMIX sequence; its upper half below a bound.
-pub(crate) fn draw(seed: &mut u64, below: u64) -> u64
-    ensures { result < max below 1 }
-{
-    let next = seed
-        .wrapping_mul(6364136223846793005)
-        .wrapping_add(1442695040888963407);
-    *seed = next;
-    (next >> 32) % below.max(1)
-}
 
 // Puts the decimal digits of a number behind a text.
 fn put_number(text: &mut Vec<u8>, alloc: Global, number: u64) -> Result<(), Fail> {

@@ -301,12 +301,12 @@ fn a_block_is_written_where_a_heap_is_full(rt: HostRuntime) {
 }
 
 #[test]
-fn two_thousand_equal_records_come_back_one_by_one(rt: HostRuntime) {
+fn two_thousand_equal_records_come_back(rt: HostRuntime) {
     let alloc = rt.alloc();
     let line = "run s --device d --blocks 2200 --workers 2 --block 2 --heap 1 --memory 2372";
-    let script = repeated(&rt, alloc, b"bulk sevens\n", b"pop\n", 2_000);
+    let script = b"bulk sevens\nbulk_pop 2000\n";
     let output = repeated(&rt, alloc, b"", b"7 7\n", 2_000);
-    let mut library = library_of(&rt, alloc, &script, 2_000);
+    let mut library = library_of(&rt, alloc, script, 2_000);
     let (mut rack, mut sink) = (MemRack::new(), sink_in(&rt, alloc));
     ends(
         &rt,
