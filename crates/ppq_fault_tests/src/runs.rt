@@ -1,0 +1,175 @@
+//! A run of a script over memory, of which one call fails.
+ghost use Rattle.std.specs.Prelude.{◌≡◌};
+
+use crate::call::{Call, Faults};
+use crate::cases::{Case, Text};
+use ppq_cli::{End, run_words};
+use ppq_outside::{
+    Host, Library, MemLibrary, MemRack, MemSink, MemSlot, OpenGate, Rack, Sink, Slot,
+};
+use std::alloc::Global;
+use std::process::Abort;
+
+// How much a sink has room for.
+const ROOM: usize = 1_048_576;
+
+// How much a put takes that fails, in bytes.
+const TAKEN: usize = 3;
+
+// A file of two records, `5 1` and `3 9`.
+const TWO: &[u8] = b"\0\0\0\0\0\0\0\x05\0\0\0\0\0\0\0\x01\0\0\0\0\0\0\0\x03\0\0\0\0\0\0\0\x09";
+
+// The words of a line.
+fn words_in(rt: &impl Abort, alloc: Global, line: &str) -> Vec<String> {
+    let mut words = Vec::new(alloc);
+    for word in line.split(' ') {
+        let word = word.to_string(alloc).expect(rt, "memory");
+        words.push(word).expect(rt, "memory");
+    }
+    words
+}
+
+// A library with the script `s` and the file `f` of two records.
+fn library_of(rt: &impl Abort, alloc: Global, script: &[u8], call: Call) -> MemLibrary
+    ensures { ⟦<MemLibrary as Library>⟧.faults result ≡ 0 }
+{
+    let mut library = MemLibrary::new(alloc);
+    library.add(alloc, "s", script).expect(rt, "memory");
+    library.add(alloc, "f", TWO).expect(rt, "memory");
+    if let Call::Library { call } = call {
+        library.fail_call(call).expect(rt, "memory");
+    }
+    library
+}
+
+fn rack_of(rt: &impl Abort, alloc: Global, call: Call) -> MemRack
+    ensures { ⟦<MemRack as Rack>⟧.faults result ≡ 0 }
+{
+    let mut calls = Vec::new(alloc);
+    if let Call::Block { number, call } = call {
+        calls.push((number, call)).expect(rt, "memory");
+    }
+    MemRack::failing(calls, Vec::new(alloc))
+}
+
+fn sink_of(rt: &impl Abort, alloc: Global, call: Call) -> MemSink
+    ensures { ⟦<MemSink as Sink>⟧.faults result ≡ 0 }
+{
+    let mut puts = Vec::new(alloc);
+    if let Call::Put { call } = call {
+        puts.push((call, TAKEN)).expect(rt, "memory");
+    }
+    MemSink::failing(alloc, ROOM, puts).expect(rt, "memory")
+}
+
+/// How a run of a script ended, and what it left.
+#[derive(Drop)]
+pub struct Ran {
+    /// How it ended.
+    pub end: End,
+    /// The blocks that came back.
+    pub blocks: Vec<MemSlot>,
+    /// Whether it wrote a prefix of what the script writes.
+    pub is_prefix: bool,
+    /// How many bytes it wrote.
+    pub written: usize,
+    /// How many calls failed, but for those of blocks.
+    pub faults: Faults,
+}
+
+/// Runs the script of a case, of which a call fails.
+pub fn run<H: Host + Abort>(rt: &H, alloc: Global, case: &Case, text: &Text, call: Call) -> Ran
+where
+    H::Dir: Send,
+{
+    let words = words_in(rt, alloc, case.words);
+    let mut library = library_of(rt, alloc, &text.script, call);
+    let mut rack = rack_of(rt, alloc, call);
+    let mut sink = sink_of(rt, alloc, call);
+    let ended = run_words(
+        rt,
+        alloc,
+        &words,
+        &mut library,
+        &mut rack,
+        &OpenGate,
+        &mut sink,
+    );
+    Ran {
+        end: ended.end,
+        blocks: ended.blocks,
+        is_prefix: text.output.starts_with(sink.bytes()),
+        written: sink.bytes().len(),
+        faults: Faults {
+            blocks: 0,
+            block: 0,
+            library: library.faults(),
+            rack: rack.faults(),
+            sink: sink.faults(),
+        },
+    }
+}
+
+// How many calls of blocks failed, of all and of the one with a number.
+fn block_faults(blocks: &[MemSlot], number: u32) -> (u64, u64) {
+    let (mut all, mut one) = (0u64, 0u64);
+    for block in blocks {
+        all = all.saturating_add(block.faults());
+        if block.number() == number {
+            one = one.saturating_add(block.faults());
+        }
+    }
+    (all, one)
+}
+
+/// What failed in a run.
+pub fn faults_of(ran: &Ran, call: Call) -> Faults {
+    let number = match call {
+        Call::Block { number, call: _ } => number,
+        _ => 0,
+    };
+    let (blocks, block) = block_faults(&ran.blocks, number);
+    Faults {
+        blocks,
+        block,
+        ..ran.faults
+    }
+}
+
+// Marks a number that was not marked yet, and is in range. Whether it was one.
+fn mark(seen: &mut [bool], number: usize) -> bool {
+    if number >= seen.len() || seen[number] {
+        return false;
+    }
+    seen[number] = true;
+    true
+}
+
+/// Whether these are so many blocks, with the numbers from 0 on, each once.
+pub fn are_all(rt: &impl Abort, alloc: Global, blocks: &[MemSlot], count: usize) -> bool {
+    let mut seen = vec![in alloc; false; count].expect(rt, "memory");
+    let mut are_new = true;
+    for block in blocks {
+        are_new &= mark(&mut seen, block.number() as usize);
+    }
+    are_new && blocks.len() == count
+}
+
+// Puts all calls of a block behind a list.
+fn put_calls(rt: &impl Abort, calls: &mut Vec<Call>, block: &MemSlot) {
+    let number = block.number();
+    let count = block.reads().saturating_add(block.writes());
+    for call in 1..=count {
+        let put = calls.push(Call::Block { number, call });
+        put.expect(rt, "memory");
+    }
+}
+
+/// All calls of blocks.
+pub fn calls_of(rt: &impl Abort, alloc: Global, blocks: &[MemSlot]) -> Vec<Call> {
+    let mut calls = Vec::new(alloc);
+    for block in blocks {
+        put_calls(rt, &mut calls, block);
+    }
+    calls
+}

@@ -1,0 +1,139 @@
+//! Each call of the outside fails in turn: 167 calls of blocks, 12 of the library and 8 puts in all, a run each.
+//! Passes go on side by side, so that what they do to which block may differ a little from run to run.
+
+use crate::call::{Call, Faults};
+use crate::cases::{CASES, Case, Text, text_of};
+use crate::runs::{Ran, are_all, calls_of, faults_of, run};
+use ppq_cli::End;
+use ppq_outside::Host;
+use std::alloc::Global;
+use std::process::Abort;
+use std::test::Fail;
+
+// Where blocks are called so many times or more, every tenth of these calls fails in turn, else each.
+const MANY: usize = 200;
+
+const EVERY: usize = 10;
+
+// Whether a run in which a call was to fail ended as it should: with that call's cause where it failed, and then
+// no other call did, and else with all that the script writes.
+fn is_right(ran: &Ran, text: &Text, call: Call, faults: Faults) -> bool {
+    let whole = ran.end == End::Done && ran.written == text.output.len();
+    let failed = ran.end == call.end() && faults == call.faults();
+    ran.is_prefix
+        && if faults == Faults::NONE {
+            whole
+        } else {
+            failed
+        }
+}
+
+// Asserts how the script of a case ends where a call fails. Says whether the call was reached.
+fn fails<H: Host + Abort>(rt: &H, alloc: Global, case: &Case, text: &Text, call: Call) -> bool
+where
+    H::Dir: Send,
+{
+    let ran = run(rt, alloc, case, text, call);
+    let faults = faults_of(&ran, call);
+    let came_back = are_all(rt, alloc, &ran.blocks, case.blocks);
+    assert!(rt; is_right(&ran, text, call, faults), "{call:?}: {faults:?}");
+    assert!(rt;
+        came_back | (faults.library > 0 && ran.blocks.is_empty()),
+        "{call:?}"
+    );
+    faults != Faults::NONE
+}
+
+// The calls of blocks where no call fails.
+fn counted<H: Host + Abort>(rt: &H, alloc: Global, case: &Case, text: &Text) -> Vec<Call>
+where
+    H::Dir: Send,
+{
+    let ran = run(rt, alloc, case, text, Call::No);
+    let faults = faults_of(&ran, Call::No);
+    assert!(rt; is_right(&ran, text, Call::No, faults));
+    calls_of(rt, alloc, &ran.blocks)
+}
+
+// How many calls failed in turn, and how many of them were reached.
+#[derive(Clone, Copy)]
+struct Tally {
+    cases: u64,
+    reached: u64,
+}
+
+impl Tally {
+    fn with(self, is_reached: bool) -> Tally {
+        Tally {
+            cases: self.cases.saturating_add(1),
+            reached: self.reached.saturating_add(u64::from(is_reached)),
+        }
+    }
+}
+
+// Lets each call of each block fail in turn.
+fn each_block<H: Host + Abort>(rt: &H, alloc: Global, case: &Case) -> Tally
+where
+    H::Dir: Send,
+{
+    let text = text_of(rt, alloc, case);
+    let mut tally = Tally {
+        cases: 0,
+        reached: 0,
+    };
+    let calls = counted(rt, alloc, case, &text);
+    for (at, call) in calls.iter().enumerate() {
+        if calls.len() < MANY || at % EVERY == 0 {
+            tally = tally.with(fails(rt, alloc, case, &text, *call));
+        }
+    }
+    tally
+}
+
+// Lets each call of the library fail in turn, up to one that is not reached. How many were.
+fn each_of_library<H: Host + Abort>(rt: &H, alloc: Global, case: &Case) -> u64
+where
+    H::Dir: Send,
+{
+    let text = text_of(rt, alloc, case);
+    for call in 1..1_000 {
+        if !fails(rt, alloc, case, &text, Call::Library { call }) {
+            return call - 1;
+        }
+    }
+    1_000
+}
+
+// Lets each put fail in turn, up to one that is not reached. How many were.
+fn each_put<H: Host + Abort>(rt: &H, alloc: Global, case: &Case) -> u64
+where
+    H::Dir: Send,
+{
+    let text = text_of(rt, alloc, case);
+    for call in 1..1_000 {
+        if !fails(rt, alloc, case, &text, Call::Put { call }) {
+            return call - 1;
+        }
+    }
+    1_000
+}
+
+// Lets each call of the outside fail in turn, for each script.
+fn each_fails<H: Host + Abort>(rt: &H, alloc: Global) -> Result<(), Fail>
+where
+    H::Dir: Send,
+{
+    for case in CASES {
+        let Tally { cases, reached } = each_block(rt, alloc, case);
+        let library = each_of_library(rt, alloc, case);
+        let puts = each_put(rt, alloc, case);
+        assert!(rt; (reached > 0) & (library > 0) & (puts > 0));
+        println!(rt; "blocks {cases}, reached {reached}, library {library}, sink {puts}")?;
+    }
+    Ok(())
+}
+
+#[test]
+fn each_call_that_fails_has_its_end(rt: HostRuntime) -> Result<(), Fail> {
+    each_fails(&rt, rt.alloc())
+}
