@@ -11,8 +11,9 @@ use std::sync::Arc;
 /// One block of a device file, which all slots of the device share. It tells nothing of its contents.
 ///
 /// It reads and writes at its own offset, `number * size` bytes from the beginning of the file. No call
-/// moves a position or takes a lock, so the transfers of several workers go on at once. A short read or
-/// write is a fault, and so is each error of the machine: a full disk, or a file that was cut.
+/// moves a position or takes a lock, so the transfers of several workers go on at once. One that comes short
+/// goes on with the rest; one that moves nothing is a fault, and so is each error of the machine: a full
+/// disk, or a file that was cut.
 #[derive(Drop)]
 pub struct FileSlot {
     // the device file
