@@ -1,5 +1,5 @@
 -- What the clauses of a session's beginning are put together from.
-use Rattle.std.proofs.Common.{◌≡◌, ◌*◌, ◌≤◌, List, ◌++◌, All, sym, ap, ◌∙◌, subst, ◌+◌, [], ◌∷◌, length, sum_by, refl, arith}
+use Rattle.std.proofs.Common.{◌≡◌, ◌*◌, ◌≤◌, List, ◌++◌, All, sym, ap, ◌∙◌, subst, [], ◌∷◌, length, sum_by, refl, arith}
 use Rattle.std.specs.Prelude.{slice_index_or, Vec, Result, Ok, Err, IfOk, IfErr, count_by}
 use Rattle.std.specs.Global.{Global}
 use Rattle.ppq_pass.proofs.ppq_record.Order.{IsSameBag-trans, count_by-append}

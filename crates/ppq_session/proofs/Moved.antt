@@ -1,6 +1,6 @@
 -- What is out, beside what a front has: buffers of passes, slots of the row, buffers of the pool; and what a front has and shows after its
 -- extract buffer was refilled.
-use Rattle.std.proofs.Common.{◌≡◌, ℕ, ◌+◌, ◌-◌, ◌*◌, ◌≤◌, List, [], ◌++◌, length, All, Option, Some, refl, sym, ◌∙◌, arith, length-append, ap, subst, ◌<◌, ◌∷◌, drop, None, length-drop}
+use Rattle.std.proofs.Common.{◌≡◌, ℕ, ◌+◌, ◌*◌, ◌≤◌, List, [], ◌++◌, length, All, Option, Some, refl, sym, ◌∙◌, arith, length-append, ap, subst, ◌<◌, ◌∷◌, drop, None, length-drop}
 use Rattle.std.specs.Prelude.{Result, Ok, Err, IfErr, IsErrOf, count_by}
 use Rattle.ppq_pass.specs.ppq_array.declared.store_fault.StoreFault.{StoreFault as QueueFault}
 use Rattle.ppq_pass.specs.ppq_array.declared.store_fault.StoreFault.TheVariants.{NoFreeBlock, Device}

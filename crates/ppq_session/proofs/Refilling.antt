@@ -1,21 +1,21 @@
 -- A front whose extract buffer is refilled: its runs rest, with all that is out, and nothing below the limit is passed over.
-use Rattle.std.proofs.Common.{◌≡◌, ℕ, ◌+◌, ◌-◌, ◌*◌, ◌<◌, ◌≤◌, Bool, true, false, cond, List, [], ◌∷◌, ◌++◌, length, min, sum_by, Some, All, sym, ap, ◌∙◌, subst, arith, length-append, length-take}
+use Rattle.std.proofs.Common.{◌≡◌, ℕ, ◌+◌, ◌*◌, ◌<◌, ◌≤◌, Bool, true, false, cond, List, [], ◌∷◌, ◌++◌, length, min, sum_by, Some, sym, ap, ◌∙◌, arith, length-append, length-take}
 use Rattle.std.specs.Prelude.{count_by}
 use Rattle.std.specs.declared.cmp.Ordering.{Ordering}
 use Rattle.std.specs.Cmp.{IsTotalOrder}
 use Rattle.std.proofs.lemmas.Nat.{mul-le}
 use Rattle.std.proofs.lemmas.List.Sums.{sum_by-append}
-use Rattle.std.proofs.lemmas.List.Elements.{All-contains, All-from_recursion, recursion_from_All, All-drop}
-use Rattle.ppq_pass.specs.ppq_record.Order.{is_before, Ascends}
+use Rattle.std.proofs.lemmas.List.Elements.{recursion_from_All}
+use Rattle.ppq_pass.specs.ppq_record.Order.{is_before}
 use Rattle.ppq_pass.specs.ppq_record.Bag.{IsSameBag, front, size_below, ascending}
 use Rattle.ppq_pass.proofs.ppq_record.Order.{count_by-append, count_by-cons, each_fails, Each-same_bag, IsSameBag-length, in_order-same_bag}
 use Rattle.ppq_pass.proofs.ppq_record.Fronts.{ranks}
 use Rattle.ppq_pass.specs.ppq_outside.Shown.{Shown, Tells, AllTell}
-use Rattle.ppq_pass.specs.ppq_budget.Sizes.{Numbers, AreInRange, pool_of}
+use Rattle.ppq_pass.specs.ppq_budget.Sizes.{Numbers, pool_of}
 use Rattle.ppq_pass.specs.ppq_pool.Seats.{count_of as pool_count}
 use Rattle.ppq_pass.specs.ppq_array.declared.berth.DeviceBlock.{DeviceBlock}
-use Rattle.ppq_pass.specs.ppq_array.Run.{Run, items_of}
-use Rattle.ppq_pass.specs.ppq_array.External.{External, records_in, IsPacked}
+use Rattle.ppq_pass.specs.ppq_array.Run.{Run}
+use Rattle.ppq_pass.specs.ppq_array.External.{External}
 use Rattle.ppq_pass.specs.ppq_array.Owner.{slots_shown, HasBlock}
 use Rattle.ppq_pass.specs.ppq_array.Holdings.{external_slots, internal_buffers}
 use Rattle.ppq_pass.specs.ppq_array.Supply.{Stock}
@@ -28,12 +28,12 @@ use Rattle.ppq_pass.specs.ppq_extract.declared.sources.Sources.{Sources}
 use Rattle.ppq_pass.specs.ppq_spill.Body.{body_slots, job_slots}
 use Rattle.ppq_pass.proofs.ppq_spill.Keeping.{slots_long}
 use Rattle.ppq_pass.specs.ppq_spill.declared.body.PassBody.{PassBody}
-use Rattle.ppq_queue.specs.Resting.{BodyKept, IsRestingRun, IsRestingArray, AtRest, runs_bag, slots_of}
-use Rattle.ppq_queue.proofs.Bounds.{pool_small, runs_few, idle_most, records_most}
+use Rattle.ppq_queue.specs.Resting.{BodyKept, AtRest, runs_bag, slots_of}
+use Rattle.ppq_queue.proofs.Bounds.{blocks_hold, pool_small, runs_few, idle_most, records_most}
 use Rattle.ppq_queue.proofs.Counts.{fronts_few}
 use Rattle.ppq_queue.proofs.Odd.{odd_most}
 use Rattle.ppq_queue.proofs.Moves.{none_after-same}
-use Rattle.ppq_queue.proofs.Refilled.{packed-drop, sources-bag}
+use Rattle.ppq_queue.proofs.Refilled.{sources-bag, rises-in, rises-out, runs-refilled, arrays-refilled}
 use Rattle.ppq_session.specs.declared.parts.BulkParts.{BulkParts}
 use Rattle.ppq_session.specs.Apart.{apart_slots, IsOut}
 use Rattle.ppq_session.specs.FrontState.{lent, with_lent, with_shared, front_bag, IsSoundFront}
@@ -104,13 +104,10 @@ module _ {S R : Type 0} (shown : S → Shown) (cmp : R → R → Ordering) (reco
             bounded = rest.bounded;
             few_buffers = omega (arith, idle, pool_small n, range.workers, long);
             few_runs = omega (arith, runs_few shown cmp record_of width n whole stock rest, pool_small n, sound.few);
-            few_records = omega (arith, records_most shown cmp record_of width n whole stock rest range is.home.budget 0 0 (omega arith) (omega arith), range.memory, many range);
+            few_records = omega (arith, records_most shown cmp record_of width n whole stock rest range is.home.budget 0 0 (omega arith) (omega arith), range.memory, blocks_hold n range);
           };
           none_lifted = recursion_from_All (λ (x : External S R). x.lifted ≡ []) a.runs.external.items (λ k d h. (rest.external k d h).lifted);
         }
-      where
-        many : AreInRange n → n.block * n.blocks ≤ 4294967296
-        many range = (let most : n.block * n.blocks ≤ 65536 * 65536 = mul-le n.block n.blocks 65536 65536 range.block range.blocks in omega (arith, most))
 
     -- the extract buffer has room for a record
     pub room_some : 0 < q.extract.room
@@ -129,10 +126,7 @@ module _ {S R : Type 0} (shown : S → Shown) (cmp : R → R → Ordering) (reco
       rises : AllTell (apart_slots shown q) → RunsRise record_of width shown cmp (sources_of a.runs a.lanes.idle s)
       rises tell =
           let rise = sound.rest.rise (told-whole shown n items pooled a s tell) in
-          record {
-            internal = recursion_from_All (λ (run : Run R). Ascends cmp (items_of run)) a.runs.internal.items rise.internal;
-            external = recursion_from_All (λ (y : External S R). Ascends cmp (records_in record_of width shown y)) a.runs.external.items rise.external;
-          }
+          rises-in shown cmp record_of width n a s record { internal = rise.internal; external = rise.external }
 
       -- no call of a slot failed
       pub quiet-refilled : AreQuiet (apart_slots shown q) (apart_slots shown (refilled shown width q x b t src))
@@ -156,31 +150,6 @@ module _ {S R : Type 0} (shown : S → Shown) (cmp : R → R → Ordering) (reco
             ap (λ l. sum_by f (job_slots shown l)) none',
           )
 
-      run_rests : All (IsRestingRun t.block) b.runs.internal.items
-      run_rests k d h = record {
-        some = r.some_internal k d h;
-        spent = All-from_recursion (λ (run : Run R). run.spent ≡ []) b.runs.internal.items may.sources.internal_spent k d h;
-        blocks = may.sources.internal k d h;
-        fitting = may.sources.internal_fitting k d h;
-      }
-
-      array_rests : All (IsRestingArray shown width t.block) b.runs.external.items
-      array_rests k d h =
-          let from = r.came_from k d h in
-          let old = All-contains (IsRestingArray shown width s.block) a.runs.external.items from.before sound.rest.external from.there in
-          let went = from.went_on in
-          record {
-            some = r.some_external k d h;
-            level = omega (arith, went.level, old.level);
-            lifted = All-from_recursion (λ (y : External S R). y.lifted ≡ []) b.runs.external.items may.none_lifted k d h;
-            size = may.sources.external k d h;
-            loaded = may.sources.loaded k d h;
-            fitting = may.sources.fitting k d h;
-            spent = All-from_recursion (λ (y : External S R). y.loaded.spent ≡ []) b.runs.external.items may.sources.external_spent k d h;
-            packed = subst (IsPacked t.block) (sym went.stored) (packed-drop t.block went.loads from.before.stored (subst (λ m. IsPacked m from.before.stored) (sym kept.block) old.packed));
-            written = subst (All (λ (d : DeviceBlock S R). 1 ≤ (shown d.slot).writes)) (sym went.stored) (All-drop (λ (d : DeviceBlock S R). 1 ≤ (shown d.slot).writes) went.loads from.before.stored old.written);
-          }
-
       slots_back : length (external_slots shown b.runs.external.items) + length items ≤ t.slot_room
       slots_back = omega (arith, r.kept.slot_room, sound.rest.takes_back.slots, items_fit)
 
@@ -195,8 +164,8 @@ module _ {S R : Type 0} (shown : S → Shown) (cmp : R → R → Ordering) (reco
           record {
             block = kept.block ∙ rest.block;
             idle = lent-blocks n t.block b.lanes.idle (kept.block ∙ rest.block) may.sources.idle;
-            internal = run_rests;
-            external = array_rests;
+            internal = runs-refilled shown cmp record_of width n a b s t r may;
+            external = arrays-refilled shown cmp record_of width n a b s t r may kept.block sound.rest.external;
             takes_back = record { slots = omega (arith, slots_back); buffers = omega (arith, buffers_back) };
             no_job = none';
             batch = ap (λ v. length v.items) batch ∙ rest.batch ∙ ap (λ k. n.workers * k) (sym kept.block);
@@ -212,11 +181,8 @@ module _ {S R : Type 0} (shown : S → Shown) (cmp : R → R → Ordering) (reco
             leaves = omega (arith, rest.leaves, kept.leaves);
             rise = λ tell.
                 let was = told-refilled shown width q x b t src kept (told-parts shown n items pooled b t tell) in
-                let rise = r.rise (told_sources was) (rises was) in
-                record {
-                  internal = All-from_recursion (λ (run : Run R). Ascends cmp (items_of run)) b.runs.internal.items rise.internal;
-                  external = All-from_recursion (λ (y : External S R). Ascends cmp (records_in record_of width shown y)) b.runs.external.items rise.external;
-                };
+                let rise = rises-out shown cmp record_of width n b t (r.rise (told_sources was) (rises was)) in
+                record { internal = rise.internal; external = rise.external };
           }
 
       abbrev sources_now : List R
