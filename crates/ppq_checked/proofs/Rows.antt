@@ -8,7 +8,7 @@ use Rattle.ppq_checked.proofs.Folds.{Each, DifferOnce, fold_good, fold_differs, 
 use Rattle.ppq_checked.proofs.Words.{Small, IsAnother, IsWord, IsAnotherWord, number_keeps, number_parts, word_keeps, word_parts}
 
 abbrev pub IsRow : List (List ℕ) → Type 0
-IsRow row = (length row ≡ 4) × Each IsWord row
+IsRow words = (length words ≡ 4) × Each IsWord words
 
 pub record AllSmall (s : Lanes) : Type 0 where
   pub first : Small s.first
@@ -23,25 +23,25 @@ pub data OneLane (s t : Lanes) : Type 0 where
   InThird : s.first ≡ t.first → s.second ≡ t.second → IsAnother s.third t.third → s.fourth ≡ t.fourth → OneLane s t
   InFourth : s.first ≡ t.first → s.second ≡ t.second → s.third ≡ t.third → IsAnother s.fourth t.fourth → OneLane s t
 
-word_of : (row : List (List ℕ)) (k : ℕ) → k < 4 → IsRow row → IsWord (get_or row k [])
-word_of row k below is =
-    let long : length row ≡ 4 = is.0 in
-    let within : k < length row = omega arith in
-    each-get IsWord [] row k within is.1
+word_of : (words : List (List ℕ)) (k : ℕ) → k < 4 → IsRow words → IsWord (get_or words k [])
+word_of words k below is =
+    let long : length words ≡ 4 = is.0 in
+    let within : k < length words = omega arith in
+    each-get IsWord [] words k within is.1
 
-row_good : (s : Lanes) (row : List (List ℕ)) → AllSmall s → IsRow row → AllSmall (with_row s row)
-row_good s row g is = record {
-  first = step_below s.first (from_le_bytes w64 (get_or row 0 []));
-  second = step_below s.second (from_le_bytes w64 (get_or row 1 []));
-  third = step_below s.third (from_le_bytes w64 (get_or row 2 []));
-  fourth = step_below s.fourth (from_le_bytes w64 (get_or row 3 []));
+row_good : (s : Lanes) (words : List (List ℕ)) → AllSmall s → IsRow words → AllSmall (with_row s words)
+row_good s words g is = record {
+  first = step_below s.first (from_le_bytes w64 (get_or words 0 []));
+  second = step_below s.second (from_le_bytes w64 (get_or words 1 []));
+  third = step_below s.third (from_le_bytes w64 (get_or words 2 []));
+  fourth = step_below s.fourth (from_le_bytes w64 (get_or words 3 []));
 }
 
-row_keeps : (s t : Lanes) (row : List (List ℕ)) → AllSmall s → AllSmall t → IsRow row → OneLane s t → OneLane (with_row s row) (with_row t row)
-row_keeps s t row gs gt is (InFirst a b c d) = InFirst (word_keeps s.first t.first (get_or row 0 []) gs.first gt.first (word_of row 0 (omega arith) is) a) (ap (λ z. with_word z (get_or row 1 [])) b) (ap (λ z. with_word z (get_or row 2 [])) c) (ap (λ z. with_word z (get_or row 3 [])) d)
-row_keeps s t row gs gt is (InSecond a b c d) = InSecond (ap (λ z. with_word z (get_or row 0 [])) a) (word_keeps s.second t.second (get_or row 1 []) gs.second gt.second (word_of row 1 (omega arith) is) b) (ap (λ z. with_word z (get_or row 2 [])) c) (ap (λ z. with_word z (get_or row 3 [])) d)
-row_keeps s t row gs gt is (InThird a b c d) = InThird (ap (λ z. with_word z (get_or row 0 [])) a) (ap (λ z. with_word z (get_or row 1 [])) b) (word_keeps s.third t.third (get_or row 2 []) gs.third gt.third (word_of row 2 (omega arith) is) c) (ap (λ z. with_word z (get_or row 3 [])) d)
-row_keeps s t row gs gt is (InFourth a b c d) = InFourth (ap (λ z. with_word z (get_or row 0 [])) a) (ap (λ z. with_word z (get_or row 1 [])) b) (ap (λ z. with_word z (get_or row 2 [])) c) (word_keeps s.fourth t.fourth (get_or row 3 []) gs.fourth gt.fourth (word_of row 3 (omega arith) is) d)
+row_keeps : (s t : Lanes) (words : List (List ℕ)) → AllSmall s → AllSmall t → IsRow words → OneLane s t → OneLane (with_row s words) (with_row t words)
+row_keeps s t words gs gt is (InFirst a b c d) = InFirst (word_keeps s.first t.first (get_or words 0 []) gs.first gt.first (word_of words 0 (omega arith) is) a) (ap (λ z. with_word z (get_or words 1 [])) b) (ap (λ z. with_word z (get_or words 2 [])) c) (ap (λ z. with_word z (get_or words 3 [])) d)
+row_keeps s t words gs gt is (InSecond a b c d) = InSecond (ap (λ z. with_word z (get_or words 0 [])) a) (word_keeps s.second t.second (get_or words 1 []) gs.second gt.second (word_of words 1 (omega arith) is) b) (ap (λ z. with_word z (get_or words 2 [])) c) (ap (λ z. with_word z (get_or words 3 [])) d)
+row_keeps s t words gs gt is (InThird a b c d) = InThird (ap (λ z. with_word z (get_or words 0 [])) a) (ap (λ z. with_word z (get_or words 1 [])) b) (word_keeps s.third t.third (get_or words 2 []) gs.third gt.third (word_of words 2 (omega arith) is) c) (ap (λ z. with_word z (get_or words 3 [])) d)
+row_keeps s t words gs gt is (InFourth a b c d) = InFourth (ap (λ z. with_word z (get_or words 0 [])) a) (ap (λ z. with_word z (get_or words 1 [])) b) (ap (λ z. with_word z (get_or words 2 [])) c) (word_keeps s.fourth t.fourth (get_or words 3 []) gs.fourth gt.fourth (word_of words 3 (omega arith) is) d)
 
 row_parts_at : (s : Lanes) (x y : List (List ℕ)) (k : ℕ) → AllSmall s → IsRow x → IsRow y → k < 4 → IsAnotherWord (get_or x k []) (get_or y k [])
     → ((j : ℕ) → (j ≡ k → ⊥) → get_or x j [] ≡ get_or y j []) → OneLane (with_row s x) (with_row s y)

@@ -15,11 +15,11 @@ with_word lane word = with_number lane (from_le_bytes w64 word)
 
 -- four lanes with one word more each
 abbrev pub with_row : Lanes → List (List ℕ) → Lanes
-with_row lanes row = record {
-  first = with_word lanes.first (slice_index_or row 0 []);
-  second = with_word lanes.second (slice_index_or row 1 []);
-  third = with_word lanes.third (slice_index_or row 2 []);
-  fourth = with_word lanes.fourth (slice_index_or row 3 []);
+with_row lanes words = record {
+  first = with_word lanes.first (slice_index_or words 0 []);
+  second = with_word lanes.second (slice_index_or words 1 []);
+  third = with_word lanes.third (slice_index_or words 2 []);
+  fourth = with_word lanes.fourth (slice_index_or words 3 []);
 }
 
 -- the lanes of no rows
