@@ -10,6 +10,8 @@ mod heap;
 #[cfg(test)]
 mod heaps;
 #[cfg(test)]
+mod kinds;
+#[cfg(test)]
 mod outside;
 #[cfg(test)]
 mod pairs;

@@ -1,6 +1,11 @@
 pub mod Bag
+pub mod Down
+pub mod Fields
+pub mod FieldsOf
 pub mod Given
+pub mod Numbers
 pub mod Order
 pub mod Pair
 pub mod PairOrder
 pub mod Runs
+pub mod Triple

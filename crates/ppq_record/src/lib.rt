@@ -7,18 +7,25 @@
 
 mod bag;
 mod bytes;
+mod choice;
+mod down;
+mod fields;
 mod least;
 mod listing;
 mod lists;
 mod memory;
 mod pair;
 mod record;
+mod triple;
 
 pub use bag::{one_front, sort};
 pub use bytes::{put_all, take_at, taken_back};
+pub use down::Down;
+pub use fields::{Fields, fields_laws};
 pub use least::is_least;
 pub use listing::Listing;
 pub use lists::Lists;
 pub use memory::Memory;
 pub use pair::{Pair, pair_order};
 pub use record::{Record, record_laws};
+pub use triple::Triple;

@@ -1,10 +1,12 @@
 //! The record of this project: a key and a value, each of eight bytes, the highest byte first.
-ghost use Rattle.std.specs.Prelude.{◌≡◌, ◌+◌, ◌*◌, ◌^◌, ◌≤◌, ◌<◌, List, ℕ, length, refl, if◌then◌else◌};
+ghost use Rattle.std.specs.Prelude.{◌≡◌, ◌+◌, ◌*◌, ◌^◌, ◌≤◌, ◌<◌, List, ℕ, length, false, refl};
 ghost use Rattle.std.proofs.Common.{lit≤};
 ghost use Rattle.ppq_record.specs.Pair.{IsPairValue, pair_bytes, pair_of, pair_take_put, pair_put_take, pair_same};
+ghost use Rattle.ppq_record.specs.FieldsOf.{pair_fields, pair_of_fields, pair_are_fields};
 ghost use Rattle.ppq_record.specs.PairOrder.{IsPairOrder};
 
-use crate::Record;
+use crate::choice::{choose, joined};
+use crate::{Fields, Record};
 
 /// A key and a value. The key decides the order, then the value; so the order of pairs is the order of
 /// their 16 bytes.
@@ -55,7 +57,7 @@ impl Record for Pair {
     fn is_less(&self, other: &Self) -> bool {
         let one = *self;
         let two = *other;
-        joined(one) < joined(two)
+        joined(one.key, one.value) < joined(two.key, two.value)
     }
 
     fn known(&self) {
@@ -74,21 +76,32 @@ impl Record for Pair {
     ghost width = { (lit≤ tt, lit≤ tt) };
 }
 
-// Key and value as one number, which has the order of the pair.
-#[inline]
-fn joined(pair: Pair) -> u128
-    ensures number { result ≡ pair.key * 2 ^ 64 + pair.value }
-    ensures value { pair.value < 2 ^ 64 }
-{
-    u128::from(pair.key) * 18446744073709551616 + u128::from(pair.value)
-}
+impl Fields for Pair {
+    const COUNT: usize = 2;
 
-// One of two numbers, chosen with no branch.
-#[inline]
-fn choose(is_other: bool, one: u64, other: u64) -> u64
-    ensures { result ≡ (if is_other then other else one) }
-{
-    if is_other { other } else { one }
+    const DOWN: bool = false;
+
+    ghost COUNT = { 2 };
+
+    ghost DOWN = { false };
+
+    ghost fields_of = { pair_fields };
+
+    ghost of_fields = { pair_of_fields };
+
+    fn of(fields: &[u64]) -> Self {
+        Pair {
+            key: fields[0],
+            value: fields[1],
+        }
+    }
+
+    #[inline]
+    fn field(&self, i: usize) -> u64 {
+        if i == 0 { self.key } else { self.value }
+    }
+
+    ghost fields = { pair_are_fields };
 }
 
 /// The law of the order of pairs, as a clause for the proof of whoever calls it, and for a reader:
