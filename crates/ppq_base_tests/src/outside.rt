@@ -95,6 +95,28 @@ fn a_planned_call_of_a_block_fails_and_changes_no_bytes(rt: HostRuntime) {
     assert!(rt; had(&slot, 1, 1, 2) & (rack.faults() == 0));
 }
 
+// The block with this number of a device that forges from this number on.
+fn forging<H: Host + Abort>(rt: &H, alloc: Global, seed: u64, number: u32) -> MemSlot
+    ensures { (⟦<MemSlot as Slot>⟧.shown result).size ≡ 2 }
+{
+    let made = MemRack::forging(seed).block(rt, alloc, "ppq.device", number, 2);
+    made.expect(rt, "a block")
+}
+
+// The bytes were made by a program in Python.
+#[test]
+fn a_block_that_forges_keeps_nothing_and_gives_other_bytes_at_each_read(rt: HostRuntime) {
+    let mut slot = forging(&rt, rt.alloc(), 1, 0);
+    assert!(rt; reads(&rt, &mut slot, true, [108, 130]));
+    assert!(rt; fill(&rt, &mut slot, &[1, 2]) & reads(&rt, &mut slot, true, [196, 234]));
+    assert!(rt; had(&slot, 1, 2, 0));
+    let mut other = forging(&rt, rt.alloc(), 1, 3);
+    assert!(rt; reads(&rt, &mut other, true, [117, 187]));
+    // the number of the device and that of the block pass 2^64 together
+    let mut last = forging(&rt, rt.alloc(), u64::MAX, 1);
+    assert!(rt; reads(&rt, &mut last, true, [20, 26]));
+}
+
 // Whether a device makes the block with this number.
 fn makes<H: Host>(rt: &H, alloc: Global, rack: &mut MemRack, number: u32) -> bool {
     rack.block(rt, alloc, "ppq.device", number, 2).is_ok()

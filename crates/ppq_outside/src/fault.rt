@@ -9,7 +9,7 @@ pub struct Failed;
 
 /// The answer of a call of a device or library in memory whose allocation failed.
 ///
-/// It says the same as `ppq_record::Memory`. There are two since this crate uses no other one.
+/// It says the same as `ppq_record::Memory`. There are two, so that a device or library needs no records.
 #[derive(Clone, Copy, Debug, PartialEq, Eq)]
 pub struct Memory;
 

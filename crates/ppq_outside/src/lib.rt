@@ -4,11 +4,12 @@
 //! `Library`, output goes to a `Sink`, and workers pass a `Gate`. The contracts of these traits
 //! have two kinds of clauses. Counts are kept whatever happens: an answer `Failed` always raises
 //! one, and every other answer leaves it. What a call does to bytes is said only where the
-//! implementation tells: those in memory (`MemSlot`, `MemRack`, `MemLibrary`, `MemSink`) tell, and
-//! those over real files do not.
+//! implementation tells: those in memory (`MemSlot`, `MemRack`, `MemLibrary`, `MemSink`) tell, unless a
+//! rack forges or a file was shrunk, and those over real files do not.
 #![tactic(auto)]
 
 mod fault;
+mod forged;
 mod gate;
 mod host;
 mod library;

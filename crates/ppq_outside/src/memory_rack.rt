@@ -1,5 +1,5 @@
 //! A device in memory.
-ghost use Rattle.std.specs.Prelude.{◌≡◌, ◌↔◌, ◌++◌, [], IfOk, IsErrOf, IsTrue};
+ghost use Rattle.std.specs.Prelude.{◌≡◌, ◌↔◌, ◌++◌, [], None, IfOk, IsErrOf, IsTrue};
 ghost use Rattle.ppq_outside.specs.Told.{HasCause};
 ghost use Rattle.ppq_outside.specs.Plan.{calls_of};
 ghost use Rattle.ppq_outside.specs.Made.{made_by};
@@ -18,12 +18,14 @@ struct Plan {
     makes: Vec<u32>,
 }
 
-/// A device in memory. Its slots tell. The making of a block fails exactly where that was planned, and
-/// so do the calls of its blocks.
+/// A device in memory. Its slots tell, unless it forges. The making of a block fails exactly where that was
+/// planned, and so do the calls of its blocks.
 #[derive(Drop)]
 pub struct MemRack {
     // The planned failures, where there are any.
     plan: Option<Plan>,
+    // Where its blocks forge, the number that their bytes begin with.
+    forges: Option<u64>,
     // The numbers of the blocks that it made, in order; no list before the first.
     made: Option<Vec<u32>>,
     // How many calls failed.
@@ -35,11 +37,11 @@ impl Model for MemRack {
 
     ghost Value = { RackState };
 
-    ghost view = { λ r. record { calls = calls_in r.plan; makes = makes_in r.plan; made = numbers_in r.made; faults = r.faults } };
+    ghost view = { λ r. record { calls = calls_in r.plan; makes = makes_in r.plan; forges = r.forges; made = numbers_in r.made; faults = r.faults } };
 }
 
 impl MemRack {
-    ghost use Rattle.ppq_outside.specs.MemoryDevice.{fresh_rack, make_fails};
+    ghost use Rattle.ppq_outside.specs.MemoryDevice.{fresh_rack, forging_rack, make_fails};
 
     /// A device of which nothing is planned to fail.
     pub fn new() -> Self
@@ -47,6 +49,20 @@ impl MemRack {
     {
         MemRack {
             plan: None,
+            forges: None,
+            made: None,
+            faults: 0,
+        }
+    }
+
+    /// A device whose blocks forge, from this number on, and of which nothing fails: a write answers Ok and
+    /// keeps nothing, and a read gives bytes that no write gave it. It does not tell.
+    pub fn forging(seed: u64) -> Self
+        ensures { result ≡ forging_rack seed }
+    {
+        MemRack {
+            plan: None,
+            forges: Some(seed),
             made: None,
             faults: 0,
         }
@@ -60,6 +76,7 @@ impl MemRack {
     {
         MemRack {
             plan: Some(Plan { calls, makes }),
+            forges: None,
             made: None,
             faults: 0,
         }
@@ -130,7 +147,7 @@ impl Rack for MemRack {
 
     ghost use Rattle.ppq_outside.specs.MemoryDevice.{zero_slot, make_fails, after_make};
 
-    ghost tells = { λ _. Unit {0} };
+    ghost tells = { λ r. r.forges ≡ None };
 
     ghost made = { λ r numbers. r.made ≡ numbers };
 
@@ -140,7 +157,7 @@ impl Rack for MemRack {
         self.faults
     }
 
-    /// A slot that holds so many zeros. It fails exactly where that was planned; the only other answer
+    /// A slot that holds so many zeros, or forges as the rack does. It fails exactly where that was planned; the only other answer
     /// is want of memory.
     fn block<H: Host>(
         &mut self,
@@ -150,7 +167,7 @@ impl Rack for MemRack {
         number: u32,
         bytes: usize,
     ) -> Result<MemSlot, OutsideFault>
-        ensures slot { IfOk result (λ slot. slot ≡ zero_slot number bytes (calls_of self.old.calls number)) }
+        ensures slot { IfOk result (λ slot. slot ≡ zero_slot number bytes (calls_of self.old.calls number) self.old.forges) }
         ensures failed { IsErrOf result OutsideFault.Failed ↔ IsTrue (make_fails self.old number) }
         ensures after { self.new ≡ after_make self.old result number }
         ensures cause { HasCause self.old.faults self.new.faults result }
@@ -160,7 +177,7 @@ impl Rack for MemRack {
             return Err(OutsideFault::Failed);
         }
         let plan = self.plan_of(alloc, number)?;
-        let slot = MemSlot::zeros(alloc, number, bytes, plan)?;
+        let slot = MemSlot::zeros(alloc, number, bytes, plan, self.forges)?;
         add_number(alloc, &mut self.made, number)?;
         Ok(slot)
     }
