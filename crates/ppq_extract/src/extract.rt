@@ -120,7 +120,7 @@ impl<R: Record> Extract<R> {
     /// What is loaded ahead is at most a block for each worker, beyond one a run that has something
     /// loaded. Slots, buffers, costs and answers are as `take_least` says: `Device` only if the read of
     /// the slot with that number failed, and nothing else. The buffer is empty then.
-    pub fn refill<H: Host, S: Slot + Sync, P: Supply<S, R>, G: Gate>(
+    pub fn refill<H: Host, S: Slot + Send + Sync, P: Supply<S, R>, G: Gate>(
         &mut self,
         rt: &H,
         runs: &mut Runs<S, R>,
@@ -132,6 +132,7 @@ impl<R: Record> Extract<R> {
     ) -> Result<(), StoreFault>
     where
         R: Send + Sync,
+        H::Dir: Send,
         requires empty { self.old.items ≡ [] }
         requires may { MayFetch S.shown R.WIDTH sources.old.bench.workers (sources_of runs.old lanes.old.idle (P.stock supply.old)) }
         requires serves { ServesFor (length runs.old.internal.items + length runs.old.external.items) sources.old }

@@ -20,7 +20,7 @@ pub(crate) struct Taking<'a, H, G, R: Record> {
 // many blocks are loaded ahead as there are workers.
 pub(crate) fn take_from_runs<
     H: Host,
-    S: Slot + Sync,
+    S: Slot + Send + Sync,
     R: Record + Send + Sync,
     P: Supply<S, R>,
     G: Gate,
@@ -33,6 +33,8 @@ pub(crate) fn take_from_runs<
     supply: &mut P,
     records: &mut [R],
 ) -> Result<usize, StoreFault>
+where
+    H::Dir: Send,
     requires may { MayFetch S.shown R.WIDTH bench.old.workers (sources_of runs.old idle.old (P.stock supply.old)) }
     requires places { length runs.old.internal.items + length runs.old.external.items ≤ length places.old }
     requires bench { length runs.old.internal.items + length runs.old.external.items ≤ length bench.old.places }

@@ -3,7 +3,9 @@ pub use Rattle.ppq_array.proofs.ppq_block as ppq_block
 pub use Rattle.ppq_lane.proofs as ppq_lane
 pub use Rattle.ppq_array.proofs.ppq_outside as ppq_outside
 pub use Rattle.ppq_array.proofs.ppq_record as ppq_record
+pub mod Beside
 pub mod Consuming
+pub mod Landing
 pub mod Listings
 pub mod Loads
 pub mod Marking

@@ -34,7 +34,8 @@ use Rattle.ppq_fetch.specs.Turns.{HasBuffer}
 use Rattle.ppq_fetch.specs.Fetching.{State, state, AreSources, MayFetch, PartsKept, FetchFailed, SourcesTell, WentOn, IsFitting, fronts_in, one_if_some, loaded_lists, blocks_in, slots_in, waiting_items, source_items}
 use Rattle.ppq_fetch.proofs.Parted.{taken_none, taken_same}
 use Rattle.ppq_fetch.proofs.Sums.{one_le, untold_of, untold, none_told, tell_sum, sum_tell, loaded_of, sum_flat_map, sum_all_of, sum_two_of}
-use Rattle.ppq_fetch.proofs.Rounds.{TookTurn, none_below, long_three, zip_set, each_set, on_same}
+use Rattle.ppq_fetch.specs.Rounds.{TookTurn, LostTurn}
+use Rattle.ppq_fetch.proofs.Rounds.{none_below, long_three, zip_set, each_set, on_same}
 
 pub count_fits : (count block width bytes : ℕ) → 1 ≤ width → count * width ≤ bytes → bytes ≡ block * width → count ≤ block
 count_fits count block width bytes w h e = elim (cases_lt block count) as (λ _. count ≤ block) [
@@ -305,11 +306,9 @@ module _ {S R : Type 0} (record_of : List ℕ → R) (width : ℕ) (shown : S �
           let wb : waiting b ≡ b.stored = ap₂ (λ us vs. us ++ vs) (ap (λ (z : External S R). z.lifted) x.array) refl in
           omega (arith, ap length x.items, length-append (items_of a.loaded) x.filled.items, x.count, ap counts wa, ap counts wb, sum_by-cons (λ (k : DeviceBlock S R). k.count) x.block b.stored)
 
-      loaded_may : (ahead : ℕ) → 1 ≤ width → MayFetch shown width ahead before → HasBuffer arrays ahead a → MayFetch shown width ahead after
-      loaded_may ahead w m buffer =
-          let s = m.sources in
+      pub loaded_sources : (ahead : ℕ) → 1 ≤ width → AreSources shown width ahead before → a.lifted ≡ [] → HasBuffer arrays ahead a → AreSources shown width ahead after
+      loaded_sources ahead w s none buffer =
           let n = stock.block in
-          let none = each_at (λ (a : External S R). a.lifted ≡ []) arrays i d h m.none_lifted in
           let idles = subst (All (HasBlock n)) x.taken s.idle in
           let has : x.filled.block ≡ n = x.room ∙ All-head (HasBlock n) x.buf idle' idles in
           let size = All-head (HasSize shown (n * width)) x.block b.stored (subst (All (HasSize shown (n * width))) x.stored (All-get_or (ArrayHasSize shown (n * width)) arrays i d h s.external)) in
@@ -326,10 +325,21 @@ module _ {S R : Type 0} (record_of : List ℕ → R) (width : ℕ) (shown : S �
             | inl e ↦ omega (arith, s.bounded, up, fr, buffers_more, one_front, ap one_if_some e)
             | inr l ↦ omega (arith, l, up, fr, buffers_more, one_front, one_le (items_of a.loaded))
           ] in
-          record {
-            sources = sources_set x.block x.stored lv x.read fewer ahead s (All-tail (HasBlock n) x.buf idle' idles) (put (HasBlock n) has had) (put IsFitting fit fitted) spent (sized none) bounded;
-            none_lifted = each_set (λ (a : External S R). a.lifted ≡ []) arrays i b (ap (λ (z : External S R). z.lifted) x.array) m.none_lifted;
-          }
+          sources_set x.block x.stored lv x.read fewer ahead s (All-tail (HasBlock n) x.buf idle' idles) (put (HasBlock n) has had) (put IsFitting fit fitted) spent (sized none) bounded
+
+      pub loaded_parts : (ahead : ℕ) → AreSources shown width ahead before → PartsKept shown before after
+      loaded_parts ahead s = parts_set x.block x.stored lv x.read fewer s.takes_back.slots
+
+      -- one block more is loaded ahead at most
+      pub loaded_room : (ahead : ℕ) → external_buffers arrays + 2 ≤ fronts_in arrays + ahead → external_buffers (slice_set arrays i b) < fronts_in (slice_set arrays i b) + ahead
+      loaded_room ahead room =
+          omega (arith, room, set_sum (λ (a : External S R). length (buffers_of a.loaded)), set_sum (λ (a : External S R). one_if_some (items_of a.loaded)), buffers_more, one_front, one_le (items_of a.loaded))
+
+      loaded_may : (ahead : ℕ) → 1 ≤ width → MayFetch shown width ahead before → HasBuffer arrays ahead a → MayFetch shown width ahead after
+      loaded_may ahead w m buffer = record {
+        sources = loaded_sources ahead w m.sources (each_at (λ (a : External S R). a.lifted ≡ []) arrays i d h m.none_lifted) buffer;
+        none_lifted = each_set (λ (a : External S R). a.lifted ≡ []) arrays i b (ap (λ (z : External S R). z.lifted) x.array) m.none_lifted;
+      }
 
       pub loaded_turn :
           (cmp : R → R → Ordering) → IsStrictWeakOrder (is_before cmp) → (below : Option R) (ahead : ℕ) → 1 ≤ width → MayFetch shown width ahead before → HasBuffer arrays ahead a → TookTurn cmp record_of width shown below ahead before after []
@@ -376,11 +386,9 @@ module _ {S R : Type 0} (record_of : List ℕ → R) (width : ℕ) (shown : S �
       same_few : length (buffers_of b.loaded) + length idle' ≡ length (buffers_of a.loaded) + length idle
       same_few = omega (arith, ap (λ (r : Run R). length (buffers_of r)) same_loaded, ap length x.taken, ap length x.returned, length-append x.left (x.back ∷ []))
 
-      lost_sources : (ahead : ℕ) → MayFetch shown width ahead before → AreSources shown width ahead after
-      lost_sources ahead m =
-          let s = m.sources in
+      lost_sources : (ahead : ℕ) → AreSources shown width ahead before → a.lifted ≡ [] → AreSources shown width ahead after
+      lost_sources ahead s none =
           let n = stock.block in
-          let none = each_at (λ (a : External S R). a.lifted ≡ []) arrays i d h m.none_lifted in
           let idles = subst (All (HasBlock n)) x.taken s.idle in
           let has : x.back.block ≡ n = x.room ∙ All-head (HasBlock n) x.buf x.left idles in
           let good = subst (All (HasBlock n)) (sym x.returned) (All-append (HasBlock n) x.left (x.back ∷ []) (All-tail (HasBlock n) x.buf x.left idles) (All-cons (HasBlock n) x.back [] has (All-nil (HasBlock n)))) in
@@ -394,15 +402,27 @@ module _ {S R : Type 0} (record_of : List ℕ → R) (width : ℕ) (shown : S �
           (omega (arith, ap counts wa, ap counts wb, ap (λ (r : Run R). length (items_of r)) same_loaded))
           (omega (arith, s.bounded, up, fr, ap (λ (r : Run R). length (buffers_of r)) same_loaded, ap (λ (r : Run R). one_if_some (items_of r)) same_loaded))
 
-      lost_failed : (ahead : ℕ) → MayFetch shown width ahead before → FetchFailed shown number before after
-      lost_failed ahead m =
+      lost_failed : (ahead : ℕ) → AreSources shown width ahead before → FetchFailed shown number before after
+      lost_failed ahead s =
           let kept_now = ap (λ (s : Stock). s.kept) x.read.freed in
           let w = weight_at (λ s. s.faults) number in
           let here : w x.read.slot ≡ x.read.slot.faults = named number x.read.slot (x.named ∙ sym x.read.number) in
           record {
-            parts = parts_set x.block x.stored same_level x.read same_few m.sources.takes_back.slots;
+            parts = parts_set x.block x.stored same_level x.read same_few s.takes_back.slots;
             failed = omega (arith, x.failed, here, ap (sum_by w) kept_now, sum_by_push w stock.kept x.read.slot);
           }
 
-      pub lost_turn : (ahead : ℕ) → MayFetch shown width ahead before → FetchFailed shown number before after × AreSources shown width ahead after
-      lost_turn ahead m = (lost_failed ahead m, lost_sources ahead m)
+      pub lost_turn : (ahead : ℕ) → AreSources shown width ahead before → a.lifted ≡ [] → LostTurn shown width ahead number before after
+      lost_turn ahead s none = record { failed = lost_failed ahead s; sources = lost_sources ahead s none }
+
+      -- the runs keep their buffers and what is loaded of them
+      pub lost_room : (ahead : ℕ) → external_buffers arrays + 2 ≤ fronts_in arrays + ahead → external_buffers (slice_set arrays i b) < fronts_in (slice_set arrays i b) + ahead
+      lost_room ahead room =
+          omega (
+            arith,
+            room,
+            set_sum (λ (a : External S R). length (buffers_of a.loaded)),
+            set_sum (λ (a : External S R). one_if_some (items_of a.loaded)),
+            ap (λ (r : Run R). length (buffers_of r)) same_loaded,
+            ap (λ (r : Run R). one_if_some (items_of r)) same_loaded,
+          )

@@ -50,3 +50,12 @@ module _ {S R : Type 0} where
 
   pub has_buffer : (xs : List (External S R)) (ahead at : ℕ) (d : External S R) → LoadsNext xs ahead at → HasBuffer xs ahead (get_or xs at d)
   has_buffer xs ahead at d load = subst (HasBuffer xs ahead) (sym (get_or_from_slice_get xs at load.array d load.here)) load.buffer
+
+  -- with more blocks ahead a block may be loaded too
+  pub loads_more : (xs : List (External S R)) (most ahead at : ℕ) → most ≤ ahead → LoadsNext xs most at → LoadsNext xs ahead at
+  loads_more xs most ahead at h load = record {
+    array = load.array;
+    here = load.here;
+    stored = load.stored;
+    buffer = elim load.buffer as (λ _. HasBuffer xs ahead load.array) [ inl none ↦ inl none | inr less ↦ inr (omega (arith, less, h)) ];
+  }

@@ -19,7 +19,7 @@ use Rattle.ppq_fetch.proofs.Parted.{taken_none, taken_more, taken_wanted}
 
 module _ {A : Type 0} where
   -- what holds of no items, and of one more pair that is related, holds of lists that are related place by place
-  zip_rec : (P : A → A → Type 0) (M : List A → List A → Type 0) → M [] [] → ((a b : A) (xs ys : List A) → P a b → M xs ys → M (a ∷ xs) (b ∷ ys)) → (xs ys : List A) → AllZip P xs ys → M xs ys
+  pub zip_rec : (P : A → A → Type 0) (M : List A → List A → Type 0) → M [] [] → ((a b : A) (xs ys : List A) → P a b → M xs ys → M (a ∷ xs) (b ∷ ys)) → (xs ys : List A) → AllZip P xs ys → M xs ys
   zip_rec P M none more [] [] z = none
   zip_rec P M none more [] (y ∷ ys) z = absurd z
   zip_rec P M none more (x ∷ xs) [] z = absurd z
@@ -158,6 +158,13 @@ module _ {S R : Type 0} (shown : S → Shown) where
         all_tell = (λ tell. y.all_tell.0 (x.all_tell.0 tell), λ tell. x.all_tell.1 (y.all_tell.1 tell));
       }
 
+  -- slots and buffers were kept on after a read failed
+  pub failed_then : (number : ℕ) (a b c : State S R) → FetchFailed shown number a b → PartsKept shown b c → FetchFailed shown number a c
+  failed_then number a b c x y = record {
+    parts = parts_trans a b c x.parts y;
+    failed = omega (arith, x.failed, ap (sum_by (weight_at (λ s. s.faults) number)) y.stock.kept, sum_by-append (weight_at (λ s. s.faults) number) b.stock.kept y.stock.more);
+  }
+
 module _ {R : Type 0} (cmp : R → R → Ordering) where
   all_below : (limit : Option R) (xs ys : List R) → AllBelow cmp limit xs → AllBelow cmp limit ys → AllBelow cmp limit (xs ++ ys)
   all_below None xs ys h k = tt
@@ -166,12 +173,6 @@ module _ {R : Type 0} (cmp : R → R → Ordering) where
   pub none_below : (limit : Option R) → AllBelow cmp limit []
   none_below None = tt
   none_below (Some l) = tt
-
--- A turn took so many records, or loaded a block and took none
-pub record TookTurn {S R : Type 0} (cmp : R → R → Ordering) (record_of : List ℕ → R) (width : ℕ) (shown : S → Shown) (below : Option R) (ahead : ℕ) (old new : State S R) (out : List R) : Type 0 where
-  pub fetched : Fetched cmp record_of width shown below old new out
-  pub may : MayFetch shown width ahead new
-  pub less : blocks_in new.external < blocks_in old.external + length out
 
 module _ {S R : Type 0} (cmp : R → R → Ordering) (o : IsStrictWeakOrder (is_before cmp)) (record_of : List ℕ → R) (width : ℕ) (shown : S → Shown) (below : Option R) where
   pub Fetched-none : (a : State S R) → Fetched cmp record_of width shown below a a []

@@ -1,5 +1,5 @@
 -- Which block is next; what waits in blocks is not before its first record, so what a turn plans is safe.
-use Rattle.std.proofs.Common.{◌≡◌, inl, inr, ℕ, zero, suc, ◌<◌, ◌≤◌, Bool, true, false, cond, List, [], ◌∷◌, ◌++◌, length, Option, Some, None, refl, sym, subst, arith, ◌≢◌, ◌+◌, not, map, sum_by, All, IsSome, ap, ap₂, ◌∙◌, true≢false}
+use Rattle.std.proofs.Common.{◌≡◌, inl, inr, ℕ, zero, suc, min, ◌<◌, ◌≤◌, Bool, true, false, cond, List, [], ◌∷◌, ◌++◌, length, Option, Some, None, IfSome, get_or, refl, sym, subst, arith, ◌≢◌, ◌+◌, not, map, sum_by, All, IsSome, ap, ap₂, ◌∙◌, true≢false}
 use Rattle.std.specs.List.{slice_get, AllByRecursion as Each}
 use Rattle.std.specs.Cmp.{IsStrictWeakOrder}
 use Rattle.std.specs.declared.cmp.Ordering.{Ordering}
@@ -51,6 +51,21 @@ fronts-le {S} {R} (a ∷ arrays) = omega (arith, fronts-le arrays, one_le (items
 lesser_not : {R : Type 0} (cmp : R → R → Ordering) → IsStrictWeakOrder (is_before cmp) → (x u : R) (m : Option R) → is_before cmp x u ≡ true → NotAfter cmp u m → NotAfter cmp x m
 lesser_not cmp o x u None h k = tt
 lesser_not cmp o x u (Some m) h k = Le-trans (is_before cmp) o x u m (o.one_way x u h) k
+
+pub get_at : {X : Type 0} (xs : List X) (i : ℕ) (d : X) → i < length xs → slice_get xs i ≡ Some (get_or xs i d)
+get_at [] i d h = absurd (omega arith)
+get_at (x ∷ xs) zero d h = refl
+get_at (x ∷ xs) (suc i) d h = get_at xs i d (omega arith)
+
+-- of two blocks the one that is chosen has what each of both has
+pub lesser_one : {R : Type 0} (cmp : R → R → Ordering) (P : ℕ → Type 0) (best : Option (NextBlock R)) (at : ℕ) (m : Option R) → IfSome best (λ (n : NextBlock R). P n.place) → (IsSome m → P at) → IfSome (lesser_block cmp best at m) (λ (n : NextBlock R). P n.place)
+lesser_one cmp P best at None h k = h
+lesser_one cmp P None at (Some m) h k = k refl
+lesser_one {R} cmp P (Some one) at (Some m) h k = chosen (is_before cmp m one.minimum)
+  where
+    chosen : (b : Bool) → IfSome (cond b (Some record { place = at; minimum = m }) (Some one)) (λ (n : NextBlock R). P n.place)
+    chosen true = k refl
+    chosen false = h
 
 pub byte_le : (b : Bool) → bool_byte b ≤ 1
 byte_le true = omega arith
@@ -287,13 +302,27 @@ module _ {S R : Type 0} (cmp : R → R → Ordering) (o : IsStrictWeakOrder (is_
           first_stored [] e labelled tell = absurd (cc)
           first_stored (b ∷ bs) e labelled tell = sym (first_is b bs labelled tell).1 ∙ e
 
-      pub planned_odd : IsOdd arrays next edge safe → (bs : List ℕ) (all : ℕ) → IsMarked cmp Whole (loaded_lists internal arrays) bs all → 0 < room → TakesPart cmp record_of width shown below internal arrays bs room 1
-      planned_odd d bs all w some = record {
-        some = omega arith;
-        few = omega arith;
+      pub planned_odd : IsOdd arrays next edge safe → (bs : List ℕ) (all n : ℕ) → IsMarked cmp Whole (loaded_lists internal arrays) bs all → 0 < room → n ≡ min all room → TakesPart cmp record_of width shown below internal arrays bs room n
+      planned_odd d bs all n w some e = record {
+        some = omega (arith, w.whole refl, some_loaded internal arrays d.block.place d.array d.here d.loaded, some, e);
+        few = omega (arith, e);
         within = w.within;
-        count = omega (arith, w.counted, w.whole refl, some_loaded internal arrays d.block.place d.array d.here d.loaded);
+        count = omega (arith, w.counted, e);
         edge = Whole;
         marked = w.safe;
         safe = λ r. absurd (never_odd d r);
       }
+
+-- all of what is taken is wanted
+pub takes_all :
+    {S R : Type 0} (cmp : R → R → Ordering) (record_of : List ℕ → R) (width : ℕ) (shown : S → Shown) (below : Option R) (internal : List (Run R)) (arrays : List (External S R)) (places : List ℕ) (room n m : ℕ)
+    → m ≡ n → TakesPart cmp record_of width shown below internal arrays places room n → TakesPart cmp record_of width shown below internal arrays places m m
+takes_all cmp record_of width shown below internal arrays places room n m e t = record {
+  some = omega (arith, t.some, e);
+  few = omega arith;
+  within = t.within;
+  count = omega (arith, t.count, e);
+  edge = t.edge;
+  marked = t.marked;
+  safe = t.safe;
+}

@@ -7,7 +7,7 @@ ghost use Rattle.ppq_fetch.specs.Fetching.{state, source_items, AreSources, MayF
 use crate::crew::Crew;
 use crate::load::load_block;
 use crate::plan::plan_turn;
-use crate::take::{consume_taken, merge_parts};
+use crate::prefetch::{ahead_of_merge, take_turn};
 use crate::turn::Turn;
 use ppq_array::{
     BufList, ExternalArray, Gate, Host, InternalArray, Record, Slot, StoreFault, Supply,
@@ -21,19 +21,28 @@ use ppq_merge::Bench;
 /// A loaded record is safe where it is not after the first record of any block that is not loaded. While
 /// fewer safe records are at hand than are wanted, the block with the least first record is loaded into
 /// an idle buffer, where its run has nothing loaded, or where fewer than `ahead` blocks are loaded beyond
-/// one a run. Then the workers of the bench merge all that is safe at once. The slot of a block that was
-/// read goes to the supply, and so do the spent buffers of runs in buffers; those of runs in blocks are
-/// idle again.
+/// one a run. Then the workers of the bench merge all that is safe at once. With four workers or more the
+/// next blocks of two runs are read beside the merge, on a thread of their own, if no more than `ahead` are
+/// loaded ahead with them; so that there is room for them, two fewer are loaded before it. The slot of a
+/// block that was read goes to the supply, and so do the spent buffers of runs in buffers; those of runs in
+/// blocks are idle again.
 ///
 /// `places` has a place for each run; what stands in it has no meaning before and after.
 ///
 /// Each loaded block is read once, and no block is written. It does not allocate. A merge costs what
 /// `merge_workers` says; a turn besides a look at each run, and a binary search in its loaded records.
 ///
-/// `Device` only if the read of the slot with that number failed; the supply keeps that slot. Nothing
-/// else is answered. The records of that block and those that were taken before are lost then, but no
+/// `Device` only if the read of the slot with that number failed; the supply keeps that slot. A read that
+/// fails beside a merge is answered too, also if no record of the block was wanted. Nothing else is
+/// answered. The records of that block and those that were taken before are lost then, but no
 /// slot and no buffer. Over slots that give back other bytes it returns too, with some of the records.
-pub fn take_least<H: Host, S: Slot + Sync, R: Record + Send + Sync, P: Supply<S, R>, G: Gate>(
+pub fn take_least<
+    H: Host,
+    S: Slot + Send + Sync,
+    R: Record + Send + Sync,
+    P: Supply<S, R>,
+    G: Gate,
+>(
     rt: &H,
     internal: &mut [InternalArray<R>],
     external: &mut [ExternalArray<S, R>],
@@ -46,6 +55,8 @@ pub fn take_least<H: Host, S: Slot + Sync, R: Record + Send + Sync, P: Supply<S,
     out: &mut [R],
     gate: &G,
 ) -> Result<usize, StoreFault>
+where
+    H::Dir: Send,
     requires may { MayFetch S.shown R.WIDTH ahead (state internal.old external.old idle.old (P.stock supply.old)) }
     requires places { length places.old ≡ length internal.old + length external.old }
     requires bench { length places.old ≤ length bench.old.places }
@@ -66,10 +77,11 @@ pub fn take_least<H: Host, S: Slot + Sync, R: Record + Send + Sync, P: Supply<S,
     record_laws::<R>();
     straighten(internal);
     let crew = Crew { rt, gate };
+    let most = ahead_of_merge(bench.workers(), ahead);
     let mut to = 0;
     while to < out.len() {
         let room = (out.len() - to) as u64;
-        let turn = plan_turn(&*internal, &*external, places, below, room, ahead);
+        let turn = plan_turn(&*internal, &*external, places, below, room, most);
         match turn {
             Turn::End => return Ok(to),
             Turn::Load(place) => match load_block(rt, &mut external[place], idle, supply) {
@@ -79,9 +91,12 @@ pub fn take_least<H: Host, S: Slot + Sync, R: Record + Send + Sync, P: Supply<S,
             Turn::Take(count) => {
                 let end = to + count as usize;
                 let part = &mut out[to..end];
-                merge_parts(&crew, &*internal, &*external, places, bench, part);
-                consume_taken(internal, external, places, idle, supply);
-                to = end;
+                match take_turn(
+                    internal, external, idle, places, bench, supply, &below, ahead, part, &crew,
+                ) {
+                    None => to = end,
+                    Some(lost) => return Err(StoreFault::Device { number: lost }),
+                }
             }
         }
     }

@@ -12,6 +12,7 @@ mod load;
 mod loaded;
 mod mark;
 mod plan;
+mod prefetch;
 mod take;
 mod turn;
 

@@ -28,8 +28,8 @@ pub(crate) fn plan_turn<S: Slot, R: Record>(
     match choose(external, next, edge, safe, room, ahead) {
         Some(turn) => turn,
         None => {
-            mark_runs(internal, external, &Edge::Whole, places);
-            Turn::Take(1)
+            let all = mark_runs(internal, external, &Edge::Whole, places);
+            Turn::Take(all.min(room))
         }
     }
 }

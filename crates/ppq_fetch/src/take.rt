@@ -24,12 +24,12 @@ use std::thread::Threads;
 // Merges the least of the safe records; `places` say which are safe, and become the places up to which
 // they were taken.
 pub(crate) fn merge_parts<H: Threads + Sync, S: Slot + Sync, R: Record + Send + Sync, G: Gate>(
-    crew: &Crew<H, G>,
     internal: &[InternalArray<R>],
     external: &[ExternalArray<S, R>],
     places: &mut [u64],
     bench: &mut Bench<R>,
     out: &mut [R],
+    crew: &Crew<H, G>,
 )
     requires may { MayMergeParts internal.now external.now places.old bench.old (length out.old) }
     ensures room { SameRoom out.old out.new places.old places.new bench.old bench.new }

@@ -46,7 +46,7 @@ pub(crate) fn next_block<S: Slot, R: Record>(
 }
 
 // The one of two that has the lesser record.
-fn nearer_block<R: Record>(
+pub(crate) fn nearer_block<R: Record>(
     best: Option<NextBlock<R>>,
     place: usize,
     minimum: Option<R>,
@@ -77,7 +77,10 @@ pub(crate) fn first_of<R: Record>(next: Option<NextBlock<R>>) -> Option<R>
 }
 
 // Whether fewer than so many blocks are loaded beyond one a run that has something loaded.
-fn has_room_ahead<S: Slot, R: Record>(external: &[ExternalArray<S, R>], ahead: u32) -> bool
+pub(crate) fn has_room_ahead<S: Slot, R: Record>(
+    external: &[ExternalArray<S, R>],
+    ahead: u32,
+) -> bool
     requires few { length external.now < 2 ^ 32 }
     requires few_buffers { external_buffers external.now < 2 ^ 32 }
     ensures { IsTrue result ↔ (external_buffers external.now < fronts_in external.now + ahead) }

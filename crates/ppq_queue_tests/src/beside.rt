@@ -1,9 +1,11 @@
-//! Levels that are merged with a thread beside: each batch is written while the next one is taken.
+//! Merges with a thread beside: each batch of a level is written while the next one is taken, and of a
+//! refill the next blocks are read while records are taken.
 use ppq_budget::Sizes;
 use ppq_outside::{Host, MemRack, MemSlot, OpenGate, Slot};
 use ppq_queue::{Queue, QueueFault};
 use ppq_record::Pair;
 use ppq_testkit::{opened, pair};
+use std::alloc::Global;
 use std::process::Abort;
 use std::test::Fail;
 
@@ -81,4 +83,81 @@ fn of_a_batch_the_first_failed_block_is_named(rt: HostRuntime) -> Result<(), Fai
     // blocks 9 and 12, and none of the next batch
     assert_eq!(rt; writes_of(&blocks), 2);
     Ok(())
+}
+
+// Four workers, two records a block, eight blocks a heap, and a budget without a buffer. So each heap of
+// 16 records goes to eight blocks, and a refill takes eight records.
+fn long() -> Option<Sizes> {
+    Sizes::new(4, 2, 8, 856, 600)
+}
+
+// Pushes the keys 0, 2 to 30, which go to the blocks 0 to 7, then 1, 3 to 31, which go to 8 to 15, and 32.
+fn push_two_runs<H: Host + Abort>(rt: &H, queue: &mut Queue<MemSlot, Pair>)
+where
+    H::Dir: Send,
+{
+    'pushing: for i in 0..33u64 {
+        let key = if i < 32 { i * 2 % 32 + i / 16 } else { i };
+        assert_eq!(rt; queue.push(rt, pair(key), &OpenGate), Ok(()));
+    }
+}
+
+// How often the block with this number was read.
+fn reads_of(blocks: &[MemSlot], number: u32) -> u64 {
+    let mut reads = 0u64;
+    for slot in blocks {
+        if slot.number() == number {
+            reads = reads.saturating_add(slot.reads());
+        }
+    }
+    reads
+}
+
+#[test]
+fn a_refill_reads_the_next_blocks_beside_its_merge(rt: HostRuntime) -> Result<(), Fail> {
+    let mut queue = opened(&rt, rt.alloc(), &mut MemRack::new(), long())?;
+    push_two_runs(&rt, &mut queue);
+    assert_eq!(rt; queue.pop(&rt, &OpenGate), Ok(Some(pair(0))));
+    let blocks = queue.close();
+    // the keys 0 to 7 are of the blocks 0, 1, 8 and 9
+    assert_eq!(rt; (reads_of(&blocks, 1), reads_of(&blocks, 9)), (1, 1));
+    // the next two, and none after them
+    assert_eq!(rt; (reads_of(&blocks, 2), reads_of(&blocks, 10)), (1, 1));
+    assert_eq!(rt; (reads_of(&blocks, 3), reads_of(&blocks, 11)), (0, 0));
+    Ok(())
+}
+
+#[test]
+fn all_records_come_where_blocks_are_read_beside_merges(rt: HostRuntime) -> Result<(), Fail> {
+    let mut queue = opened(&rt, rt.alloc(), &mut MemRack::new(), long())?;
+    push_two_runs(&rt, &mut queue);
+    'popping: for key in 0..33u64 {
+        assert_eq!(rt; queue.pop(&rt, &OpenGate), Ok(Some(pair(key))));
+    }
+    assert_eq!(rt; queue.close().len(), 600);
+    Ok(())
+}
+
+// Pops where the second call of a block fails, which is its read, and expects that the pop names it.
+fn pop_in_vain<H: Host + Abort>(rt: &H, alloc: Global, number: u32) -> Result<(), Fail>
+where
+    H::Dir: Send,
+{
+    let mut rack = MemRack::failing(vec![in alloc; (number, 2)]?, Vec::new(alloc));
+    let mut queue = opened(rt, alloc, &mut rack, long())?;
+    push_two_runs(rt, &mut queue);
+    assert_eq!(rt;
+        queue.pop(rt, &OpenGate),
+        Err(QueueFault::Device { number })
+    );
+    assert_eq!(rt; queue.close().len(), 600);
+    Ok(())
+}
+
+#[test]
+fn a_read_that_fails_beside_a_merge_is_named_though_the_merge_does_not_want_it(
+    rt: HostRuntime,
+) -> Result<(), Fail> {
+    pop_in_vain(&rt, rt.alloc(), 2)?;
+    pop_in_vain(&rt, rt.alloc(), 10)
 }

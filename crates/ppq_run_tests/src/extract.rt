@@ -90,6 +90,8 @@ fn three_runs<H: Host + Abort>(rt: &H, alloc: Global, broken: bool) -> World
 
 // Empties the buffer and fills it.
 fn refill<H: Host>(rt: &H, w: &mut World, below: Option<Pair>) -> Result<(), StoreFault>
+where
+    H::Dir: Send,
     requires may { MayFetch ⟦<QuietSlot as Slot>⟧.shown 16 w.old.sources.bench.workers (sources_of w.old.runs w.old.lanes.idle w.old.owner) }
     requires serves { ServesFor (length w.old.runs.internal.items + length w.old.runs.external.items) w.old.sources }
     ensures may { OnOk result (MayFetch ⟦<QuietSlot as Slot>⟧.shown 16 w.new.sources.bench.workers (sources_of w.new.runs w.new.lanes.idle w.new.owner)) }
@@ -137,7 +139,10 @@ fn gives_last_two(extract: &mut Extract<Pair>) -> bool {
 }
 
 // Refills twice, and expects the least four records of all runs and then the other two.
-fn refill_twice<H: Host + Abort>(rt: &H, alloc: Global) {
+fn refill_twice<H: Host + Abort>(rt: &H, alloc: Global)
+where
+    H::Dir: Send,
+{
     let mut w = three_runs(rt, alloc, false);
     refill(rt, &mut w, None).expect(rt, "a refill");
     let four = [pair(1), pair(2), pair(3), pair(5)];
@@ -155,7 +160,10 @@ fn a_refill_takes_the_least_records_of_all_runs(rt: HostRuntime) {
 }
 
 // Refills with what is below 3, and expects that all runs stay.
-fn refill_below<H: Host + Abort>(rt: &H, alloc: Global) {
+fn refill_below<H: Host + Abort>(rt: &H, alloc: Global)
+where
+    H::Dir: Send,
+{
     let mut w = three_runs(rt, alloc, false);
     refill(rt, &mut w, Some(pair(3))).expect(rt, "a refill");
     let two = w.extract.rest() == [pair(1), pair(2)].as_slice();
@@ -169,7 +177,10 @@ fn a_limit_gives_only_what_is_below_it(rt: HostRuntime) {
 }
 
 // Refills from a block that cannot be read, and expects its number.
-fn refill_in_vain<H: Host + Abort>(rt: &H, alloc: Global) {
+fn refill_in_vain<H: Host + Abort>(rt: &H, alloc: Global)
+where
+    H::Dir: Send,
+{
     let mut w = three_runs(rt, alloc, true);
     let named = refill(rt, &mut w, None) == Err(StoreFault::Device { number: 4 });
     assert!(rt; named & w.extract.is_empty() & (w.owner.free_slots() == 1));

@@ -212,6 +212,8 @@ fn merge_in_turn<H: Host, S: Slot + Send + Sync, R: Record + Send + Sync, P: Sup
     lanes: &mut Lanes<Berth<S, R>, R>,
     bench: &mut Bench<R>,
 ) -> Result<(), StoreFault>
+where
+    H::Dir: Send,
     requires may { MayMerge S.shown R.WIDTH bench.old.workers (length bench.old.places) (length lanes.old.batch.items) (table_of inputs.old lanes.old making.old (P.stock supply.old)) }
     ensures outcome { MergeEnds R.Ord.cmp R.record_of R.WIDTH bench.old.workers S.shown (table_of inputs.old lanes.old making.old (P.stock supply.old)) (table_of inputs.new lanes.new making.new (P.stock supply.new)) result }
     ensures home { P.home supply.new ≡ P.home supply.old }
@@ -238,6 +240,8 @@ fn merge_batch<H: Host, S: Slot + Send + Sync, R: Record + Send + Sync, P: Suppl
     lanes: &mut Lanes<Berth<S, R>, R>,
     bench: &mut Bench<R>,
 ) -> Result<usize, StoreFault>
+where
+    H::Dir: Send,
     requires may { MayMerge S.shown R.WIDTH bench.old.workers (length bench.old.places) (length lanes.old.batch.items) (table_of inputs.old lanes.old making.old (P.stock supply.old)) }
     ensures outcome { BatchMergeEnds R.Ord.cmp R.record_of R.WIDTH bench.old.workers S.shown (table_of inputs.old lanes.old making.old (P.stock supply.old)) (table_of inputs.new lanes.new making.new (P.stock supply.new)) result }
     ensures home { P.home supply.new ≡ P.home supply.old }
@@ -271,6 +275,8 @@ pub(crate) fn take_batch<
     lanes: &mut Lanes<Berth<S, R>, R>,
     bench: &mut Bench<R>,
 ) -> Result<usize, StoreFault>
+where
+    H::Dir: Send,
     requires eight { length inputs.old ≡ 8 }
     requires may { MayFetch S.shown R.WIDTH bench.old.workers (state [] inputs.old lanes.old.idle (P.stock supply.old)) }
     requires bench { 8 ≤ length bench.old.places }

@@ -163,6 +163,8 @@ fn take_next<H: Host, S: Slot + Send + Sync, R: Record + Send + Sync, P: Supply<
     _below: &Option<R>,
     crew: &Crew<H, G>,
 ) -> Result<usize, StoreFault>
+where
+    H::Dir: Send,
     requires may { MayTake S.shown R.WIDTH bench.old.workers (length bench.old.places) (state [] inputs.old lanes.old.idle (P.stock supply.old)) }
     ensures took { Takes R.Ord.cmp R.record_of R.WIDTH bench.old.workers S.shown (state [] inputs.old lanes.old.idle (P.stock supply.old)) (state [] inputs.new lanes.new.idle (P.stock supply.new)) lanes.new.batch.items result }
     ensures home { P.home supply.new ≡ P.home supply.old }

@@ -1,11 +1,14 @@
-use Rattle.std.proofs.Common.{◌≡◌, ◌+◌, ◌-◌, ◌<◌, ◌≤◌, ℕ, List, [], ◌++◌, length, take, drop, slice_set, inl, inr, refl, sym, ◌∙◌, subst, arith, length-take, length-drop, length-append}
+use Rattle.std.proofs.Common.{◌≡◌, ◌+◌, ◌-◌, ◌<◌, ◌≤◌, ℕ, List, [], ◌++◌, length, take, drop, slice_set, Err, IsErrOf, inl, inr, refl, sym, ◌∙◌, subst, arith, length-take, length-drop, length-append}
 use Rattle.std.proofs.lemmas.Option.{slice_get_within}
 use Rattle.std.proofs.lemmas.Slice.{take-put_mid}
 use Rattle.ppq_array.proofs.ppq_record.Fronts.{ranks, no_tie}
 use Rattle.ppq_fetch.specs.Fetching.{state, MayFetch, Fetched, FetchFailed, loaded_lists}
+use Rattle.ppq_array.specs.declared.store_fault.StoreFault.{StoreFault}
 use Rattle.ppq_fetch.proofs.Loads.{loaded_turn, lost_turn}
 use Rattle.ppq_fetch.proofs.Parted.{within_whole}
-use Rattle.ppq_fetch.proofs.Ready.{may_load, has_buffer}
+use Rattle.ppq_fetch.proofs.Waiting.{takes_all}
+use Rattle.ppq_fetch.proofs.Ready.{may_load, has_buffer, loads_more}
+use Rattle.ppq_fetch.proofs.Beside.{none_there}
 use Rattle.ppq_fetch.proofs.Rounds.{Fetched-none, Fetched-more, Fetched-on, Failed-more, Fetched-front}
 use Rattle.ppq_fetch.proofs.Takes.{taken_turn}
 use Rattle.ppq_fetch.proofs.fetch.take_least.Goals as goal
@@ -13,6 +16,12 @@ use Rattle.ppq_fetch.proofs.fetch.take_least.Goals as goal
 -- a list of which a part was written over is as long as before
 long_written : {X : Type 0} (xs ys : List X) (a k : ℕ) → length ys ≡ k → a + k ≤ length xs → length (take a xs ++ (ys ++ drop k (drop a xs))) ≡ length xs
 long_written xs ys a k e h = omega (arith, length-append (take a xs) (ys ++ drop k (drop a xs)), length-append ys (drop k (drop a xs)), length-take a xs, length-drop k (drop a xs), length-drop a xs)
+
+same_device : {X : Type 0} (m n : ℕ) → IsErrOf {T = X} (Err (StoreFault.Device m)) (StoreFault.Device n) → m ≡ n
+same_device m n e = cc
+
+part_long : {X : Type 0} (xs : List X) (a n : ℕ) → n ≤ length xs - a → a ≤ length xs → length (take (a + n - a) (drop a xs)) ≡ n
+part_long xs a n few within = omega (arith, length-take (a + n - a) (drop a xs), length-drop a xs, few, within)
 
 pub loop-to-init : goal.loop-to-init
 loop-to-init g c =
@@ -40,7 +49,7 @@ offset_bounds-external-place g c = let load = c.in-Load.ensures.plan in omega (a
 pub load_block-requires-clause-may : goal.load_block-requires-clause-may
 load_block-requires-clause-may g c κs within =
     let l = c.loop-to in
-    may_load g.R.Record.record_of g.S.Slot.shown g.R.Record.WIDTH c.args.ahead (state l.internal l.external l.idle (g.P.Supply.stock l.supply)) c.in-Load.place c.index-external-place.result l.invariant.may c.in-Load.ensures.plan
+    may_load g.R.Record.record_of g.S.Slot.shown g.R.Record.WIDTH c.args.ahead (state l.internal l.external l.idle (g.P.Supply.stock l.supply)) c.in-Load.place c.index-external-place.result l.invariant.may (loads_more l.external c.ahead_of_merge-most.result c.args.ahead c.in-Load.place c.ahead_of_merge-most.ensures c.in-Load.ensures.plan)
 
 pub loop-to-preserved-in-None : goal.loop-to-preserved-in-None
 loop-to-preserved-in-None g c =
@@ -48,7 +57,7 @@ loop-to-preserved-in-None g c =
     let i = l.invariant in
     let k = c.load_block.new in
     let p = c.in-Load.place in
-    let load = c.in-Load.ensures.plan in
+    let load = loads_more l.external c.ahead_of_merge-most.result c.args.ahead p c.ahead_of_merge-most.ensures c.in-Load.ensures.plan in
     let o = ranks c.record_laws.ensures.order in
     let stock = g.P.Supply.stock l.supply in
     let old = state c.args.internal.now c.args.external.now c.args.idle.now (g.P.Supply.stock c.args.supply.now) in
@@ -70,7 +79,7 @@ loop-to-smaller-in-None g c =
     let l = c.loop-to in
     let k = c.load_block.new in
     let p = c.in-Load.place in
-    let load = c.in-Load.ensures.plan in
+    let load = loads_more l.external c.ahead_of_merge-most.result c.args.ahead p c.ahead_of_merge-most.ensures c.in-Load.ensures.plan in
     let turn = loaded_turn g.R.Record.record_of g.R.Record.WIDTH g.S.Slot.shown l.internal l.external p c.index-external-place.result k.array l.idle k.idle (g.P.Supply.stock l.supply) (g.P.Supply.stock k.supply) (slice_get_within l.external p load.array load.here) c.in-None.ensures.loaded
     g.R.Ord.cmp (ranks c.record_laws.ensures.order) c.args.below c.args.ahead c.record_laws.ensures.width.0 l.invariant.may (has_buffer l.external c.args.ahead p c.index-external-place.result load) in
     omega (arith, turn.less)
@@ -81,7 +90,7 @@ returns-in-Some-clause-sources g c =
     let k = c.load_block.new in
     let load = c.in-Load.ensures.plan in
     (lost_turn g.R.Record.record_of g.R.Record.WIDTH g.S.Slot.shown l.internal l.external c.in-Load.place c.index-external-place.result k.array l.idle k.idle (g.P.Supply.stock l.supply) (g.P.Supply.stock k.supply) (slice_get_within l.external c.in-Load.place load.array load.here)
-    c.in-Some.number c.in-Some.ensures.lost c.args.ahead l.invariant.may).1
+    c.in-Some.number c.in-Some.ensures.lost c.args.ahead l.invariant.may.sources (none_there l.external l.invariant.may.none_lifted c.in-Load.place c.index-external-place.result (slice_get_within l.external c.in-Load.place load.array load.here))).sources
 
 pub returns-in-Some-clause-device : goal.returns-in-Some-clause-device
 returns-in-Some-clause-device g c number is =
@@ -93,60 +102,65 @@ returns-in-Some-clause-device g c number is =
     let now = state l.internal l.external l.idle stock in
     let next = state l.internal (slice_set l.external c.in-Load.place k.array) k.idle (g.P.Supply.stock k.supply) in
     let lost = lost_turn g.R.Record.record_of g.R.Record.WIDTH g.S.Slot.shown l.internal l.external c.in-Load.place c.index-external-place.result k.array l.idle k.idle stock (g.P.Supply.stock k.supply) (slice_get_within l.external c.in-Load.place load.array load.here)
-    c.in-Some.number c.in-Some.ensures.lost c.args.ahead l.invariant.may in
+    c.in-Some.number c.in-Some.ensures.lost c.args.ahead l.invariant.may.sources (none_there l.external l.invariant.may.none_lifted c.in-Load.place c.index-external-place.result (slice_get_within l.external c.in-Load.place load.array load.here)) in
     let e : c.in-Some.number ≡ number = cc in
-    Failed-more g.R.Ord.cmp (ranks c.record_laws.ensures.order) g.R.Record.record_of g.R.Record.WIDTH g.S.Slot.shown c.args.below number old now next (take l.to l.out) l.invariant.fetched (subst (λ n. FetchFailed g.S.Slot.shown n now next) e lost.0)
+    Failed-more g.R.Ord.cmp (ranks c.record_laws.ensures.order) g.R.Record.record_of g.R.Record.WIDTH g.S.Slot.shown c.args.below number old now next (take l.to l.out) l.invariant.fetched (subst (λ n. FetchFailed g.S.Slot.shown n now next) e lost.failed)
 
-pub consume_taken-requires-clause-within : goal.consume_taken-requires-clause-within
-consume_taken-requires-clause-within g c =
-    let p = c.plan_turn-turn.new.places in
-    within_whole c.merge_parts.new.places p (loaded_lists c.loop-to.internal c.loop-to.external) c.merge_parts.ensures.merged.within c.in-Take.ensures.plan.within
+pub take_turn-requires-clause-plan : goal.take_turn-requires-clause-plan
+take_turn-requires-clause-plan g c κs within =
+    let l = c.loop-to in
+    takes_all g.R.Ord.cmp g.R.Record.record_of g.R.Record.WIDTH g.S.Slot.shown c.args.below l.internal l.external c.plan_turn-turn.new.places (length l.out - l.to) c.in-Take.count _ (part_long l.out l.to c.in-Take.count c.in-Take.ensures.plan.few l.invariant.within) c.in-Take.ensures.plan
 
 pub loop-to-preserved : goal.loop-to-preserved
 loop-to-preserved g c =
     let l = c.loop-to in
     let i = l.invariant in
-    let m = c.merge_parts in
-    let k = c.consume_taken.new in
+    let m = c.take_turn in
     let n = c.in-Take.count in
     let plan = c.in-Take.ensures.plan in
     let o = ranks c.record_laws.ensures.order in
-    let stock = g.P.Supply.stock l.supply in
     let old = state c.args.internal.now c.args.external.now c.args.idle.now (g.P.Supply.stock c.args.supply.now) in
-    let next = state k.internal k.external k.idle (g.P.Supply.stock k.supply) in
+    let next = state m.new.internal m.new.external m.new.idle (g.P.Supply.stock m.new.supply) in
     let few : l.to + n ≤ length l.out = omega (arith, plan.few, i.within) in
     let cut : l.to + n - l.to ≡ n = omega arith in
     let long : n ≡ length m.new.out = omega (arith, m.ensures.room.out, length-take (l.to + n - l.to) (drop l.to l.out), length-drop l.to l.out, few, cut) in
-    let turn = taken_turn g.R.Ord.cmp o g.R.Record.record_of g.R.Record.WIDTH g.S.Slot.shown c.args.below l.internal k.internal l.external k.external l.idle k.idle stock (g.P.Supply.stock k.supply)
-    c.plan_turn-turn.new.places m.new.places (length l.out - l.to) n m.new.out plan m.ensures.merged c.consume_taken.ensures.consumed c.args.ahead i.may long in
+    let turn = c.in-None-take_turn.ensures.took in
     let sums : length (take l.to l.out ++ (m.new.out ++ drop (l.to + n - l.to) (drop l.to l.out))) ≡ length l.out = long_written l.out m.new.out l.to (l.to + n - l.to) (omega (arith, long, cut)) (omega (arith, few, cut)) in
     record {
       within = omega (arith, sums, few);
       out = sums ∙ i.out;
       fetched = subst (Fetched g.R.Ord.cmp g.R.Record.record_of g.R.Record.WIDTH g.S.Slot.shown c.args.below old next) (sym (take-put_mid l.to (l.to + n - l.to) l.out m.new.out (l.to + n) (omega (arith, long)) i.within))
-          (Fetched-more g.R.Ord.cmp o g.R.Record.record_of g.R.Record.WIDTH g.S.Slot.shown c.args.below old (state l.internal l.external l.idle stock) next (take l.to l.out) m.new.out i.fetched turn.fetched);
+          (Fetched-more g.R.Ord.cmp o g.R.Record.record_of g.R.Record.WIDTH g.S.Slot.shown c.args.below old (state l.internal l.external l.idle (g.P.Supply.stock l.supply)) next (take l.to l.out) m.new.out i.fetched turn.fetched);
       may = turn.may;
       places = m.ensures.room.places ∙ (c.plan_turn-turn.ensures.places ∙ i.places);
       bench = m.ensures.room.bench ∙ i.bench;
       workers = m.ensures.room.workers ∙ i.workers;
-      home = c.consume_taken.ensures.home ∙ i.home;
+      home = m.ensures.home ∙ i.home;
     }
 
 pub loop-to-smaller : goal.loop-to-smaller
 loop-to-smaller g c =
     let l = c.loop-to in
     let i = l.invariant in
-    let m = c.merge_parts in
-    let k = c.consume_taken.new in
+    let m = c.take_turn in
     let n = c.in-Take.count in
     let plan = c.in-Take.ensures.plan in
     let few : l.to + n ≤ length l.out = omega (arith, plan.few, i.within) in
     let cut : l.to + n - l.to ≡ n = omega arith in
     let long : n ≡ length m.new.out = omega (arith, m.ensures.room.out, length-take (l.to + n - l.to) (drop l.to l.out), length-drop l.to l.out, few, cut) in
-    let turn = taken_turn g.R.Ord.cmp (ranks c.record_laws.ensures.order) g.R.Record.record_of g.R.Record.WIDTH g.S.Slot.shown c.args.below l.internal k.internal l.external k.external l.idle k.idle (g.P.Supply.stock l.supply) (g.P.Supply.stock k.supply)
-    c.plan_turn-turn.new.places m.new.places (length l.out - l.to) n m.new.out plan m.ensures.merged c.consume_taken.ensures.consumed c.args.ahead i.may long in
+    let turn = c.in-None-take_turn.ensures.took in
     let sums : length (take l.to l.out ++ (m.new.out ++ drop (l.to + n - l.to) (drop l.to l.out))) ≡ length l.out = long_written l.out m.new.out l.to (l.to + n - l.to) (omega (arith, long, cut)) (omega (arith, few, cut)) in
     omega (arith, turn.less, sums, long, few)
+
+pub returns-in-Some-take_turn-clause-device : goal.returns-in-Some-take_turn-clause-device
+returns-in-Some-take_turn-clause-device g c number is =
+    let l = c.loop-to in
+    let m = c.take_turn in
+    let old = state c.args.internal.now c.args.external.now c.args.idle.now (g.P.Supply.stock c.args.supply.now) in
+    let now = state l.internal l.external l.idle (g.P.Supply.stock l.supply) in
+    let next = state m.new.internal m.new.external m.new.idle (g.P.Supply.stock m.new.supply) in
+    let e : c.in-Some-take_turn.lost ≡ number = same_device c.in-Some-take_turn.lost number is in
+    Failed-more g.R.Ord.cmp (ranks c.record_laws.ensures.order) g.R.Record.record_of g.R.Record.WIDTH g.S.Slot.shown c.args.below number old now next (take l.to l.out) l.invariant.fetched (subst (λ n. FetchFailed g.S.Slot.shown n now next) e c.in-Some-take_turn.ensures.lost.failed)
 
 pub returns-in-End-clause-front : goal.returns-in-End-clause-front
 returns-in-End-clause-front g c =
