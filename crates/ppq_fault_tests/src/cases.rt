@@ -72,6 +72,46 @@ pub const CASES: &[Case] = &[
     },
 ];
 
+/// Scripts that write nothing where this call of block 0 fails.
+pub const EARLY: &[(u64, Case)] = &[
+    // the store of the heap before a limit session
+    (
+        1,
+        Case {
+            words: SMALL,
+            blocks: 200,
+            falling: 0,
+            lines: b"push 1 0\npush 4 0\nlimit_begin 4 0\nlimit_top\nlimit_push 1 4 0\nlimit_pop\nlimit_pop\nlimit_end\nbulk_pop 9\n",
+            output: b"1 0\n1 0\nlimit\n4 0\n4 0\n",
+            tops: 0,
+        },
+    ),
+    // the store of a pass's heap
+    (
+        1,
+        Case {
+            words: SMALL,
+            blocks: 200,
+            falling: 0,
+            lines: b"bulk_begin\nbulk_push 1 2 0\nbulk_push 0 1 0\nbulk_push 1 2 0\nbulk_push 1 0 5\nbulk_end\nsize\nbulk_pop 4\n",
+            output: b"4\n0 5\n1 0\n2 0\n2 0\n",
+            tops: 0,
+        },
+    ),
+    // the read of a front
+    (
+        2,
+        Case {
+            words: SMALL,
+            blocks: 200,
+            falling: 0,
+            lines: b"push 1 0\npush 2 0\nlimit_begin 4 0\nlimit_pop\nlimit_end\n",
+            output: b"1 0\n",
+            tops: 0,
+        },
+    ),
+];
+
 // What `top` writes where the greatest record of all is the smallest one.
 const GREATEST: &[u8] = b"18446744073709551615 18446744073709551615\n";
 

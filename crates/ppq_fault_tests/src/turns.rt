@@ -2,7 +2,7 @@
 //! Passes go on side by side, so that what they do to which block may differ a little from run to run.
 
 use crate::call::{Call, Faults};
-use crate::cases::{CASES, Case, Text, text_of};
+use crate::cases::{CASES, Case, EARLY, Text, text_of};
 use crate::runs::{Ran, are_all, calls_of, faults_of, run};
 use ppq_cli::End;
 use ppq_outside::Host;
@@ -131,6 +131,39 @@ where
         println!(rt; "blocks {cases}, reached {reached}, library {library}, sink {puts}")?;
     }
     Ok(())
+}
+
+// Asserts that a script writes nothing where this call of block 0 fails, and that all blocks come back, with that
+// fault alone.
+fn writes_nothing<H: Host + Abort>(rt: &H, alloc: Global, call: u64, case: &Case)
+where
+    H::Dir: Send,
+{
+    let text = text_of(rt, alloc, case);
+    let call = Call::Block { number: 0, call };
+    let ran = run(rt, alloc, case, &text, call);
+    let faults = faults_of(&ran, call);
+    let came_back = are_all(rt, alloc, &ran.blocks, case.blocks);
+    let ended = (ran.end == End::DeviceFault { number: 0 }) & (faults == call.faults());
+    assert!(rt;
+        ended & came_back & (ran.written == 0),
+        "{call:?}: {faults:?}"
+    );
+}
+
+// Each of these scripts writes nothing.
+fn early_write_nothing<H: Host + Abort>(rt: &H, alloc: Global)
+where
+    H::Dir: Send,
+{
+    for (call, case) in EARLY {
+        writes_nothing(rt, alloc, *call, case);
+    }
+}
+
+#[test]
+fn a_fault_before_the_first_answer_writes_nothing(rt: HostRuntime) {
+    early_write_nothing(&rt, rt.alloc());
 }
 
 #[test]

@@ -30,7 +30,7 @@ begin-refused old new is_limited (begin.Device number) refused sizes peak limite
 
 pub begin-back : (old new : Holding Pair) (fault : BeginFault) → IsBeginRefusal old new fault → IsHandedBack old new (begin_fault_of fault)
 begin-back old new begin.Memory refused = refused
-begin-back old new begin.NoFreeBlock refused = record { bag = refused.bag; sound = refused.sound }
+begin-back old new begin.NoFreeBlock refused = record { bag = refused.bag; size = refused.size; sound = refused.sound }
 begin-back old new (begin.Device number) refused = refused
 
 -- a block had failed before

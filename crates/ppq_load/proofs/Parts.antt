@@ -15,6 +15,7 @@ use Rattle.ppq_session.specs.Dealing.{AddsPart}
 use Rattle.ppq_load.specs.declared.fault.LoadFault.{LoadFault}
 use Rattle.ppq_load.specs.declared.fault.LoadFault.TheVariants.{Queue, Read, Memory, Ended}
 use Rattle.ppq_load.specs.Loading.{LoadHolding, IsLoaded, IsLeftBy, IsHandedBack, AreRecordsAt}
+use Rattle.ppq_load.specs.Limits.{LimitsHolding, IsOverBy}
 use Rattle.ppq_load.proofs.FileRecords.{records-add}
 
 module _ (records old new : List Pair) where
@@ -41,15 +42,19 @@ pub ended-part :
     → new.failed ≡ None → AllTell queue.slots → AddsPart records queue.bag new.bag
 ended-part shown session queue new records (Ok value) loaded left sound tells = part-all records queue.bag new.bag (loaded.bag tells)
 ended-part shown session queue new records (Err NoFreeBlock) loaded left sound tells = loaded.part refl tells
-ended-part shown session queue new records (Err (Device number)) loaded left sound tells = let failed = left.kept in absurd (cc)
+ended-part shown session queue new records (Err (Device number)) loaded left sound tells = let failed = left.stopped.kept in absurd (cc)
 
 -- a session did not begin, and no call of a slot failed
 pub unbegun-part : (records : List Pair) (queue back : Holding Pair) (fault : LoadFault) → IsHandedBack queue back fault → back.failed ≡ None → AllTell queue.slots → AddsPart records queue.bag back.bag
 unbegun-part records queue back (Queue NoFreeBlock) intact sound tells = part-none records queue.bag back.bag (intact.bag tells)
-unbegun-part records queue back (Queue (Device number)) stopped sound tells = let failed = stopped.kept in absurd (cc)
+unbegun-part records queue back (Queue (Device number)) met sound tells = let failed = met.kept in absurd (cc)
 unbegun-part records queue back Read never sound tells = absurd never
 unbegun-part records queue back Memory intact sound tells = part-none records queue.bag back.bag (intact.bag tells)
 unbegun-part records queue back (Ended got) never sound tells = absurd never
+
+-- a limit session ended without a free block, so its front met no fault
+pub over-unfaulted : {S T : Type 0} (shown : S → Shown) (session : LimitsHolding S) (new : Holding Pair) (ended : Result T QueueFault) → IfErr ended (IsOverBy shown session new) → ended ≡ Err NoFreeBlock → session.front.failed ≡ None
+over-unfaulted shown session new ended left is = (subst (λ r. IfErr r (IsOverBy shown session new)) is left).no_fault.0
 
 -- the first records of a file were given
 pub file-part :

@@ -9,10 +9,11 @@ use Rattle.ppq_session.specs.ppq_outside.Told.{Reply, bytes_or_none}
 use Rattle.ppq_session.specs.ppq_array.Kept.{AreQuiet}
 use Rattle.ppq_session.specs.ppq_queue.Holding.{Holding}
 use Rattle.ppq_session.specs.ppq_array.declared.store_fault.StoreFault.{StoreFault as QueueFault}
+use Rattle.ppq_session.specs.ppq_array.declared.store_fault.StoreFault.TheVariants.{NoFreeBlock, Device}
 use Rattle.ppq_load.specs.declared.fault.LoadFault.{LoadFault}
 use Rattle.ppq_load.specs.declared.fault.LoadFault.TheVariants.{Queue, Read, Memory, Ended}
 use Rattle.ppq_load.specs.Reading.{HasLength}
-use Rattle.ppq_load.specs.Loading.{LoadHolding, InSession, IsLoaded, HasGiven, LoadStopsFor, LoadEndsIn, LoadCountsFrom, IsByLoad, IsByRead, loaded_of, first_of}
+use Rattle.ppq_load.specs.Loading.{LoadHolding, InSession, IsLoaded, HasGiven, LoadStopsFor, LoadEndsIn, LoadCountsFrom, IsByLoad, IsByRead, IsHandedBack, IsLeftBy, IsStoppedBy, loaded_of, first_of}
 use Rattle.ppq_load.proofs.FileRecords.{file-all}
 
 -- What a load says of the queue. Ok: it has all of `bag`, so many records more, no failed block, and its peak, and no call of a slot failed.
@@ -84,6 +85,37 @@ on_ok-map (Err fault) P Q f holds = tt
 pub if_err-map : {T E : Type 0} (result : Result T E) (P Q : E → Type 0) → ((fault : E) → P fault → Q fault) → IfErr result P → IfErr result Q
 if_err-map (Ok value) P Q f holds = tt
 if_err-map (Err fault) P Q f holds = f fault holds
+
+-- what a load that names a failed block says of its queue
+pub loaded-stopped : {S B : Type 0} (shown : S → Shown) (load : LoadHolding S) (new : Holding Pair) (ended : Result B QueueFault) → IfErr ended (IsLeftBy shown load new) → IfErr (loaded_of ended) (IsStoppedBy new)
+loaded-stopped shown load new (Ok value) left = tt
+loaded-stopped shown load new (Err NoFreeBlock) left = tt
+loaded-stopped shown load new (Err (Device number)) left = left.stopped
+
+read-unstopped : (new : Holding Pair) (fault : LoadFault) → IsByRead fault → IsStoppedBy new fault
+read-unstopped new (Queue fault) by = absurd by
+read-unstopped new Read by = tt
+read-unstopped new Memory by = tt
+read-unstopped new (Ended got) by = tt
+
+pub first-stopped :
+    {S A B : Type 0} (shown : S → Shown) (load : LoadHolding S) (new : Holding Pair) (read : Result A LoadFault) (ended : Result B QueueFault) → IfErr ended (IsLeftBy shown load new) → IfErr read IsByRead
+    → IfErr (first_of read ended) (IsStoppedBy new)
+first-stopped shown load new (Ok value) ended left by = loaded-stopped shown load new ended left
+first-stopped shown load new (Err fault) ended left by = read-unstopped new fault by
+
+pub unbegun-stopped : (queue back : Holding Pair) (fault : LoadFault) → IsHandedBack queue back fault → IsStoppedBy back fault
+unbegun-stopped queue back (Queue NoFreeBlock) intact = tt
+unbegun-stopped queue back (Queue (Device number)) met = record { fault = met.fault; kept = met.kept }
+unbegun-stopped queue back Read never = tt
+unbegun-stopped queue back Memory intact = tt
+unbegun-stopped queue back (Ended got) never = tt
+
+-- a queue that a block had stopped before comes back as it was
+pub back-latched :
+    {A B : Type 0} (old new : Holding Pair) (fault given : LoadFault) → ◌≡◌ {A = Result A (Holding Pair × LoadFault)} (Err (new, fault)) (Err (old, given))
+    → ◌≡◌ {A = Holding Pair × Result B LoadFault} (new, Err fault) (old, Err given)
+back-latched old new fault given said = (let pair : ◌≡◌ {A = Holding Pair × LoadFault} (new, fault) (old, given) = cc in ap (λ p. (p.0, Err p.1)) pair)
 
 -- a session that did not begin read nothing
 pub unread-ends : (told : Option (List ℕ → Option (List ℕ))) (replied : Reply → Type 0) (name : List ℕ) (said : ℕ) (fault : LoadFault) → IsByLoad fault → LoadEndsIn told replied name said fault

@@ -9,7 +9,7 @@ use Rattle.ppq_session.specs.ppq_outside.Told.{Reply, Rose, bytes_or_none}
 use Rattle.ppq_session.specs.ppq_budget.Sizes.{Numbers}
 use Rattle.ppq_session.specs.ppq_array.Kept.{SameSlots, all_writes}
 use Rattle.ppq_session.specs.ppq_pass.Passed.{PassHolding, PassTells}
-use Rattle.ppq_session.specs.ppq_queue.Holding.{Holding, HasStopped}
+use Rattle.ppq_session.specs.ppq_queue.Holding.{Holding, HasStopped, MetFault}
 use Rattle.ppq_session.specs.ppq_array.declared.store_fault.StoreFault.{StoreFault as QueueFault}
 use Rattle.ppq_session.specs.BulkSession.{BulkHolding, IsIntact, IsTogether, bag_of, accepted_of}
 use Rattle.ppq_session.specs.declared.fault.BeginFault.{BeginFault}
@@ -116,10 +116,18 @@ IsByRead (Ended got) = ⊤
 -- a session did not begin: the queue has the records that it had, unless a block failed
 abbrev pub IsHandedBack : Holding Pair → Holding Pair → LoadFault → Type 0
 IsHandedBack old new (Queue queue_fault.NoFreeBlock) = IsIntact old new
-IsHandedBack old new (Queue (queue_fault.Device number)) = HasStopped number new
+IsHandedBack old new (Queue (queue_fault.Device number)) = MetFault number old new
 IsHandedBack old new Read = ⊥
 IsHandedBack old new Memory = IsIntact old new
 IsHandedBack old new (Ended got) = ⊥
+
+-- a load that names a failed block left a queue that this block stopped
+abbrev pub IsStoppedBy : Holding Pair → LoadFault → Type 0
+IsStoppedBy new (Queue queue_fault.NoFreeBlock) = ⊤
+IsStoppedBy new (Queue (queue_fault.Device number)) = HasStopped number new
+IsStoppedBy new Read = ⊤
+IsStoppedBy new Memory = ⊤
+IsStoppedBy new (Ended got) = ⊤
 
 -- the library's count rose where a read failed, and else stayed
 abbrev pub LoadCountsFrom : ℕ → ℕ → LoadFault → Type 0

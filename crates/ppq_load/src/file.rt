@@ -1,5 +1,5 @@
 //! Sessions of the records of a file.
-ghost use Rattle.std.specs.Prelude.{◌≡◌, ◌≤◌, ◌<◌, ◌+◌, ◌*◌, ◌/◌, ◌++◌, [], List, ℕ, Option, Some, None, All, OnOk, OnErr, IfOk, IfErr, length, take, max};
+ghost use Rattle.std.specs.Prelude.{◌≡◌, ◌≤◌, ◌<◌, ◌+◌, ◌*◌, ◌/◌, ◌++◌, [], List, ℕ, Option, Some, None, All, Err, OnOk, OnErr, IfOk, IfErr, length, take, max};
 ghost use Rattle.ppq_session.specs.ppq_record.declared.pair.Pair.{Pair};
 ghost use Rattle.ppq_session.specs.ppq_record.Pair.{pair_of};
 ghost use Rattle.ppq_session.specs.ppq_record.Bag.{IsSameBag};
@@ -9,10 +9,12 @@ ghost use Rattle.ppq_session.specs.ppq_outside.Told.{Remembers, RepliesOnly, byt
 ghost use Rattle.ppq_session.specs.ppq_budget.Sizes.{batch_of};
 ghost use Rattle.ppq_session.specs.ppq_queue.Holding.{Holding};
 ghost use Rattle.ppq_session.specs.ppq_array.Kept.{AreQuiet};
+ghost use Rattle.ppq_session.specs.ppq_array.declared.store_fault.StoreFault.TheVariants.{Device};
 ghost use Rattle.ppq_session.specs.Dealing.{IsGoing, AddsPart};
+ghost use Rattle.ppq_load.specs.declared.fault.LoadFault.TheVariants.{Queue as ByQueue};
 ghost use Rattle.ppq_load.specs.Reading.{IsReadWithin, ReadsFile, CountsBy, HasLength};
 ghost use Rattle.ppq_load.specs.Refusal.{Keeps};
-ghost use Rattle.ppq_load.specs.Loading.{InSession, HasGiven, HasGivenSome, HasDealt, IsPart, IsReadRefusal, LoadStopsFor, LoadCountsFrom, LoadEndsIn, first_of, with_batch};
+ghost use Rattle.ppq_load.specs.Loading.{InSession, HasGiven, HasGivenSome, HasDealt, IsPart, IsReadRefusal, IsStoppedBy, LoadStopsFor, LoadCountsFrom, LoadEndsIn, first_of, with_batch};
 
 use crate::context::Context;
 use crate::fault::{LoadFault, loaded};
@@ -52,6 +54,8 @@ where
     ensures peak { OnOk result.1 (result.0.peak ≡ max queue.peak (queue.size + said / 16)) }
     ensures refused { IfErr result.1 (LoadStopsFor (max queue.peak (queue.size + said / 16)) queue.sizes queue.limited result.0.slots) }
     ensures ended { IfErr result.1 (LoadEndsIn (L.told library.old) (L.replied library.new) name.now said) }
+    ensures stopped { IfErr result.1 (IsStoppedBy result.0) }
+    ensures latched { (number : ℕ) → queue.failed ≡ Some number → result ≡ (queue, Err (ByQueue (Device number))) }
     ensures kept { Keeps queue result.0 }
     ensures remembers { Remembers (L.replied library.old) (L.replied library.new) }
     ensures asks { RepliesOnly (L.replied library.old) (L.replied library.new) (IsReadWithin name.now said) }

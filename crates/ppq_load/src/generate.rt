@@ -1,5 +1,5 @@
 //! Sessions of generated records.
-ghost use Rattle.std.specs.Prelude.{◌≡◌, ◌≤◌, ◌+◌, ◌<◌, ◌^◌, [], All, ◌++◌, OnOk, OnErr, IfErr, max, take, None};
+ghost use Rattle.std.specs.Prelude.{◌≡◌, ◌≤◌, ◌+◌, ◌<◌, ◌^◌, [], All, ◌++◌, OnOk, OnErr, IfErr, max, take, ℕ, Some, None, Err};
 ghost use Rattle.ppq_session.specs.ppq_record.declared.pair.Pair.{Pair};
 ghost use Rattle.ppq_session.specs.ppq_record.Bag.{IsSameBag};
 ghost use Rattle.ppq_session.specs.ppq_record.Given.{next_seed, generated, generated_from};
@@ -7,9 +7,11 @@ ghost use Rattle.ppq_session.specs.ppq_outside.Shown.{AllTell};
 ghost use Rattle.ppq_session.specs.ppq_budget.Sizes.{batch_of};
 ghost use Rattle.ppq_session.specs.ppq_queue.Holding.{Holding};
 ghost use Rattle.ppq_session.specs.ppq_array.Kept.{AreQuiet};
+ghost use Rattle.ppq_session.specs.ppq_array.declared.store_fault.StoreFault.TheVariants.{Device};
 ghost use Rattle.ppq_session.specs.Dealing.{IsGoing, AddsPart};
+ghost use Rattle.ppq_load.specs.declared.fault.LoadFault.TheVariants.{Queue as ByQueue};
 ghost use Rattle.ppq_load.specs.Refusal.{Keeps};
-ghost use Rattle.ppq_load.specs.Loading.{InSession, IsByLoad, LoadStopsFor, seed_after, with_batch};
+ghost use Rattle.ppq_load.specs.Loading.{InSession, IsByLoad, IsStoppedBy, LoadStopsFor, seed_after, with_batch};
 
 use crate::fault::{LoadFault, loaded};
 use crate::load::Load;
@@ -38,6 +40,8 @@ where
     ensures peak { OnOk result.1 (result.0.peak ≡ max queue.peak (queue.size + count)) }
     ensures refused { IfErr result.1 (LoadStopsFor (max queue.peak (queue.size + count)) queue.sizes queue.limited result.0.slots) }
     ensures by_load { IfErr result.1 IsByLoad }
+    ensures stopped { IfErr result.1 (IsStoppedBy result.0) }
+    ensures latched { (number : ℕ) → queue.failed ≡ Some number → result ≡ (queue, Err (ByQueue (Device number))) }
     ensures kept { Keeps queue result.0 }
 {
     queue.known();

@@ -3,19 +3,17 @@ ghost use Rattle.std.specs.Prelude.{◌≡◌, ◌≤◌, ◌<◌, ◌+◌, ◌+
 ghost use Rattle.ppq_session.specs.ppq_record.declared.pair.Pair.{Pair};
 ghost use Rattle.ppq_session.specs.ppq_record.Order.{is_before};
 ghost use Rattle.ppq_session.specs.ppq_record.Pair.{pair_cmp};
-ghost use Rattle.ppq_session.specs.ppq_record.Bag.{IsSameBag};
 ghost use Rattle.ppq_session.specs.ppq_outside.Shown.{AllTell};
-ghost use Rattle.ppq_session.specs.ppq_pass.Passed.{PassTells};
 ghost use Rattle.ppq_session.specs.ppq_queue.Holding.{Holding};
-ghost use Rattle.ppq_session.specs.ppq_array.declared.store_fault.StoreFault.TheVariants.{NoFreeBlock, Device};
+ghost use Rattle.ppq_session.specs.ppq_array.declared.store_fault.StoreFault.TheVariants.{Device};
 ghost use Rattle.ppq_session.specs.Dealing.{EachAdds, records_in, records_for};
 ghost use Rattle.ppq_load.specs.declared.fault.LoadFault.TheVariants.{Queue as ByQueue};
 ghost use Rattle.ppq_load.specs.Loading.{LoadStopsFor, IsByLoad, IsHandedBack};
 ghost use Rattle.ppq_load.specs.Refusal.{Keeps};
-ghost use Rattle.ppq_session.specs.LimitSession.{limited_bag, limited_accepted};
+ghost use Rattle.ppq_session.specs.Ends.{NamesFirst};
 ghost use Rattle.ppq_session.specs.Asks.{answers_to, left_after, pops_in};
 ghost use Rattle.ppq_session.specs.Batches.{passes_of};
-ghost use Rattle.ppq_load.specs.Limits.{AreGoing, HasStopped, InLimits, IsOver, begun_in};
+ghost use Rattle.ppq_load.specs.Limits.{AreGoing, HasStopped, InLimits, IsOver, IsOverBy, begun_in};
 
 use crate::LoadFault;
 use ppq_session::{Ask, Gate, Host, LimitSession, Line, Pair, Queue, QueueFault, Slot};
@@ -109,15 +107,15 @@ impl<S: Slot + Send + Sync> Limits<S> {
     /// accepted. The runs of the passes become runs of the queue, and levels are merged. It allocates nothing.
     ///
     /// `Ok`: the queue has all records that were given. `NoFreeBlock`: a pass or a merge of levels found no
-    /// blocks, and no accepted record is lost. `Device`: the block with that number failed.
+    /// blocks, and no accepted record is lost. `Device`: the block with that number failed; the first pass that
+    /// met a fault is named, else the front, and else a merge of levels.
     pub fn end<H: Host, G: Gate>(self, rt: &H, gate: &G) -> (Queue<S, Pair>, Result<(), QueueFault>)
     where
         H::Dir: Send,
         ensures all { OnOk result.1 (AreGoing self) }
         ensures over { (queue : Holding Pair) (limit : Pair) (given left : List Pair) (popped : ℕ) → InLimits S.shown queue limit given left popped self → IsOver queue given left popped result.0 result.1 }
-        ensures unfaulted { result.1 ≡ Err NoFreeBlock → self.front.failed ≡ None }
-        ensures all_records { result.1 ≡ Err NoFreeBlock → AllTell self.front.slots → All (PassTells S.shown) (passes_of self.passes) → IsSameBag result.0.bag (self.front.bag ++ limited_bag self.passes) }
-        ensures counted { result.1 ≡ Err NoFreeBlock → result.0.size ≡ self.front.size + limited_accepted self.passes }
+        ensures left { IfErr result.1 (IsOverBy S.shown self result.0) }
+        ensures first { NamesFirst (passes_of self.passes) self.front.failed result.1 }
     {
         self.session.end(rt, gate)
     }

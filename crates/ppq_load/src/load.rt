@@ -1,9 +1,10 @@
 //! An open session, as one value.
-ghost use Rattle.std.specs.Prelude.{◌≡◌, ◌<◌, ◌≤◌, ◌++◌, ◌↔◌, [], ℕ, List, All, Any, Some, Err, IsTrue, false, IfOk, IfErr, OnOk, length, take, slice_set};
+ghost use Rattle.std.specs.Prelude.{◌≡◌, ◌<◌, ◌≤◌, ◌++◌, ◌↔◌, [], ℕ, List, All, Any, Some, None, Err, IsTrue, false, IfOk, IfErr, OnOk, length, take, slice_set};
 ghost use Rattle.ppq_session.specs.ppq_record.declared.pair.Pair.{Pair};
 ghost use Rattle.ppq_session.specs.ppq_budget.Sizes.{AreInRange, batch_of};
 ghost use Rattle.ppq_session.specs.ppq_queue.Holding.{Holding};
 ghost use Rattle.ppq_session.specs.ppq_array.declared.store_fault.StoreFault.TheVariants.{Device};
+ghost use Rattle.ppq_session.specs.Ends.{NamesFirst};
 ghost use Rattle.ppq_session.specs.Dealing.{IsGoing, HasEnded, EachAdds, records_in, records_for, part_for};
 ghost use Rattle.ppq_load.specs.Refusal.{Keeps};
 ghost use Rattle.ppq_load.specs.Loading.{InSession, IsLoaded, IsByLoad, IsHandedBack, IsLeftBy, LoadStopsFor, with_batch};
@@ -113,13 +114,14 @@ impl<S: Slot + Send + Sync> Load<S> {
     ///
     /// `Ok`: the queue has all records that were given. `NoFreeBlock`: a pass or a merge of levels found no
     /// blocks, and the queue has all records that were accepted. `Device`: the block with that number failed,
-    /// and records may be lost.
+    /// and records may be lost; the first pass that met a fault is named, and else a merge of levels.
     pub fn end<H: Host, G: Gate>(self, rt: &H, gate: &G) -> (Queue<S, Pair>, Result<(), QueueFault>)
     where
         H::Dir: Send,
         ensures all { OnOk result.1 (All IsGoing self.passes) }
         ensures loaded { (queue : Holding Pair) → (records : List Pair) → InSession S.shown queue records self → IsLoaded queue records result.0 result.1 }
         ensures left { IfErr result.1 (IsLeftBy S.shown self result.0) }
+        ensures first { NamesFirst self.passes None result.1 }
     {
         self.session.end(rt, gate)
     }

@@ -148,4 +148,4 @@ module _ {S R : Type 0} {shown : S → Shown} {cmp : R → R → Ordering} {reco
           )
 
           pub met_fault : MetFault number v (holding_of shown record_of width n heap' b q begun accepted refused (Some number))
-          met_fault = record { kept = refl; fault = fault; accepted = ap (λ v. v.accepted) at.view; refused = ap (λ v. v.refused) at.view }
+          met_fault = record { kept = refl; fault = fault; accepted = ap (λ v. v.accepted) at.view; refused = ap (λ v. v.refused) at.view; in_heap = omega (arith, all, at.full, ap (λ v. v.in_heap) at.view) }

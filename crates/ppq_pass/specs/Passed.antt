@@ -93,12 +93,13 @@ module _ {S R : Type 0} where
     pub slots : SameSlots (old.slots ++ more) new.slots
     pub steps : old.steps ≤ new.steps
 
-  -- a call of the slot with this number failed, which the pass keeps
+  -- a call of the slot with this number failed, now or before, which the pass keeps; it counts what it counted, and its heap has as many records
   pub record MetFault (number : ℕ) (old new : PassHolding S R) : Type 0 where
     pub kept : new.failed ≡ Some number
     pub fault : HasFailed number new.slots
     pub accepted : new.accepted ≡ old.accepted
     pub refused : new.refused ≡ old.refused
+    pub in_heap : new.in_heap ≡ old.in_heap
 
   -- why a push was refused, and what it left
   abbrev pub IsRefusedPush : PassHolding S R → PassHolding S R → StoreFault → Type 0

@@ -137,8 +137,10 @@ impl<S: Slot + Send, R: Record + Send> Pass<S, R> {
     ///
     /// Each refusal hands the record back. `NoFreeBlock`: the bag is as it was; the row is drawn to its
     /// end, and the slots that the pass drew, which stay with it, are too few. A later push tries again.
-    /// `Device`: a call of the slot with that number failed, now or before. Whatever it returns, the pass
-    /// holds the slots that it held and those that it drew, each once.
+    /// `Device`: a call of the slot with that number failed, now or before. From then on each push returns it
+    /// and changes nothing, the heap is full, so that `try_push` returns `Full`, and `accepted` and `refused`
+    /// return what they did. Whatever it returns, the pass holds the slots that it held and those that it
+    /// drew, each once.
     pub fn push<H: Host>(
         &mut self,
         rt: &H,

@@ -106,7 +106,7 @@ module _ {S R : Type 0} (shown : S → Shown) (cmp : R → R → Ordering) (reco
   refused-called : {T : Type 0} (r : Result T StoreFault) → Was None → Sound → (IsErrOf r NoFreeBlock → Above) → IfErr r Refused → IfErr r (IsRefusal from (to count (latched r None)))
   refused-called (Ok v) is sound above p = tt
   refused-called (Err NoFreeBlock) is sound above p = found is sound (above refl) p
-  refused-called (Err (Device number)) is sound above p = record { fault = p; kept = refl }
+  refused-called (Err (Device number)) is sound above p = record { fault = p; kept = refl; size = refl }
 
   same-called : {T : Type 0} (r : Result T StoreFault) → OnOk r Held → OnOk r (SameRecords from (to count (latched r None)))
   same-called (Ok v) holds = record { quiet = holds.quiet; bag = holds.bag; size = refl; sound = refl }
@@ -151,6 +151,7 @@ module _ {S R : Type 0} (shown : S → Shown) (cmp : R → R → Ordering) (reco
           left = λ tell. all.low (kept.body.tells.0 tell);
           ready = λ l has none. omega (arith, all.ready l has (empty_list y.extract.items none), none, sound.counted, took.count, fewer);
           few = took.few;
+          within = omega (arith, took.count, sound.counted);
           count = λ unset. counted (all.all unset);
           sound = refl;
           quiet = took.quiet;

@@ -99,7 +99,7 @@ fault_again T n k e = (let same : n ≡ k = cc in subst (λ m. ◌≡◌ {A = Re
 -- a refusal after a limit session was noted is one of the whole call
 pub refusal-limited : {R : Type 0} (old new : Holding R) (fault : StoreFault) → IsRefusal (record old { limited = true }) new fault → IsRefusal old new fault
 refusal-limited old new NoFreeBlock is = record { bag = is.bag; size = is.size; sound = is.sound; quiet = is.quiet; free = is.free; room = is.room; above = is.above }
-refusal-limited old new (Device number) is = is
+refusal-limited old new (Device number) is = record { fault = is.fault; kept = is.kept; size = is.size }
 
 pub same-limited : {R : Type 0} (old new : Holding R) → SameRecords (record old { limited = true }) new → SameRecords old new
 same-limited old new is = record { quiet = is.quiet; bag = is.bag; size = is.size; sound = is.sound }
@@ -107,7 +107,7 @@ same-limited old new is = record { quiet = is.quiet; bag = is.bag; size = is.siz
 -- so is one after the peak was raised
 pub refusal-raised : {R : Type 0} (old new : Holding R) (peak : ℕ) (fault : StoreFault) → IsRefusal (record old { peak = peak }) new fault → IsRefusal old new fault
 refusal-raised old new peak NoFreeBlock is = record { bag = is.bag; size = is.size; sound = is.sound; quiet = is.quiet; free = is.free; room = is.room; above = is.above }
-refusal-raised old new peak (Device number) is = is
+refusal-raised old new peak (Device number) is = record { fault = is.fault; kept = is.kept; size = is.size }
 
 module _ {R : Type 0} where
   -- what stays where only records came or went
@@ -130,7 +130,7 @@ module _ {R : Type 0} where
 
   -- a queue that a failed block stopped
   pub leaves-stopped : {T : Type 0} (q : Holding R) (number : ℕ) → q.failed ≡ Some number → HasFailed number q.slots → QueueLeaves {T = T} q q (Err (Device number))
-  leaves-stopped {T = T} q number failed fault = record { same = tt; refused = record { fault = fault; kept = failed }; latched = λ k e. (fault_again T number k (sym failed ∙ e), refl); stays = stays-same q }
+  leaves-stopped {T = T} q number failed fault = record { same = tt; refused = record { fault = fault; kept = failed; size = refl }; latched = λ k e. (fault_again T number k (sym failed ∙ e), refl); stays = stays-same q }
 
   pub keeps-more : (a b c : Holding R) → Keeps a b → Keeps b c → Keeps a c
   keeps-more a b c h k =
@@ -153,4 +153,4 @@ module _ {R : Type 0} where
   pub refusal-more : (a b c : Holding R) (fault : StoreFault) → (AllTell a.slots → AllTell b.slots) → SameRecords a b → IsRefusal b c fault → IsRefusal a c fault
   refusal-more a b c NoFreeBlock tells h is =
       record { bag = λ tell p. is.bag (tells tell) p ∙ h.bag tell p; size = is.size ∙ h.size; sound = is.sound; quiet = is.quiet ∙ h.quiet; free = is.free; room = is.room; above = is.above }
-  refusal-more a b c (Device number) tells h is = is
+  refusal-more a b c (Device number) tells h is = record { fault = is.fault; kept = is.kept; size = is.size ∙ h.size }

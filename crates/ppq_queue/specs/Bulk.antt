@@ -101,6 +101,7 @@ module _ {R : Type 0} (cmp : R → R → Ordering) where
     pub left : AllTell old.slots → (length out ≡ most) ⊎ NoneBelow cmp limit new.bag
     pub ready : (l : R) → limit ≡ Some l → new.in_extract ≡ 0 → new.size ≡ new.in_heap
     pub few : length out ≤ most
+    pub within : length out ≤ old.size
     pub count : limit ≡ None → length out ≡ min most old.size
     pub sound : new.failed ≡ None
     pub quiet : AreQuiet old.slots new.slots

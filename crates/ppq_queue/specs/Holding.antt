@@ -130,10 +130,16 @@ module _ {R : Type 0} where
     pub fault : HasFailed number new.slots
     pub kept : new.failed ≡ Some number
 
+  -- a call found that, and the queue counts the records that it counted: none came out, and none was added
+  pub record MetFault (number : ℕ) (old new : Holding R) : Type 0 where
+    pub fault : HasFailed number new.slots
+    pub kept : new.failed ≡ Some number
+    pub size : new.size ≡ old.size
+
   -- what stands after a refusal
   abbrev pub IsRefusal : Holding R → Holding R → StoreFault → Type 0
   IsRefusal old new NoFreeBlock = FoundNoBlock old new
-  IsRefusal old new (Device number) = HasStopped number new
+  IsRefusal old new (Device number) = MetFault number old new
 
   -- a block that failed before is named again, and nothing is done
   abbrev pub NamesAgain : {T : Type 0} → (old new : Holding R) → Result T StoreFault → Type 0

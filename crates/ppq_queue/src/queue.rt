@@ -1,5 +1,5 @@
 //! The queue.
-ghost use Rattle.std.specs.Prelude.{◌≡◌, ◌≤◌, ◌<◌, ◌+◌, ◌*◌, ◌↔◌, ◌∷◌, [], ℕ, length, map, Some, None, IsNone, IsOk, Err, IsErrOf, IfOk, IfErr, OnOk, OnErr, max, min, true, false};
+ghost use Rattle.std.specs.Prelude.{◌≡◌, ◌≤◌, ◌<◌, ◌+◌, ◌*◌, ◌↔◌, ◌∷◌, [], ℕ, length, map, Some, None, IsNone, IsOk, Err, IsErrOf, IfOk, IfErr, OnOk, max, min, true, false};
 ghost use Rattle.ppq_heap.specs.ppq_record.Bag.{IsSameBag, least};
 ghost use Rattle.ppq_extract.specs.ppq_budget.Sizes.{AreInRange, fixed_of, heap_of, heaps_of, batch_of, pool_of};
 ghost use Rattle.ppq_extract.specs.ppq_outside.Shown.{AllTell};
@@ -112,24 +112,24 @@ impl<S: Slot + Send + Sync, R: Record + Send + Sync> Queue<S, R> {
     ///
     /// Each refusal hands the record back. `NoFreeBlock`: the bag is as it was; the device has fewer blocks
     /// than are enough for the peak, and the peak is above what a heap holds, unless a limit session was
-    /// begun. `Device`: a call of the
-    /// block with that number failed, now or before.
+    /// begun. `Device`: a call of the block with that number failed, now or before. From then on the queue is
+    /// stopped: each later call of it returns that number and changes nothing (`store_heaps` notes a limit
+    /// session all the same), while `size`, `resident` and `close` return what they did.
     pub fn push<H: Host, G: Gate>(&mut self, rt: &H, r: R, gate: &G) -> Result<(), (R, QueueFault)>
     where
         H::Dir: Send,
         ensures added { OnOk result (HasAdded r self.old self.new) }
         ensures easy { self.old.failed ≡ None → self.old.in_first < heap_of self.old.sizes → IsOk result × (self.new ≡ with_one self.old self.new.bag) }
         ensures back { IfErr result (λ refused. refused.0 ≡ r) }
-        ensures same_size { OnErr result (self.new.size ≡ self.old.size) }
         ensures refused { IfErr result (λ refused. IsRefusal self.old self.new refused.1) }
-        ensures latched { (number : ℕ) → self.old.failed ≡ Some number → (result ≡ Err (r, Device number)) × (self.new ≡ record self.old { peak = self.new.peak }) }
-        ensures peak { self.new.peak ≡ max self.old.peak (self.old.size + 1) }
+        ensures latched { (number : ℕ) → self.old.failed ≡ Some number → (result ≡ Err (r, Device number)) × (self.new ≡ self.old) }
+        ensures peak { self.old.failed ≡ None → self.new.peak ≡ max self.old.peak (self.old.size + 1) }
         ensures keeps { Keeps self.old self.new }
     {
-        self.raise_peak();
         if let Some(number) = self.failed {
             return Err((r, QueueFault::Device { number }));
         }
+        self.raise_peak();
         match self.make_room(rt, gate) {
             Ok(()) => {
                 self.put(r);
@@ -254,7 +254,6 @@ impl<S: Slot + Send + Sync, R: Record + Send + Sync> Queue<S, R> {
         ensures answer { IfOk result (λ answer. AllTell self.old.slots → answer ≡ least R.Ord.cmp self.old.bag) }
         ensures none { IfOk result (λ answer. IsNone answer ↔ (self.old.size ≡ 0)) }
         ensures taken { OnOk result (HasTaken R.Ord.cmp self.old self.new) }
-        ensures same_size { OnErr result (self.new.size ≡ self.old.size) }
         ensures refused { IfErr result (IsRefusal self.old self.new) }
         ensures latched { (number : ℕ) → self.old.failed ≡ Some number → (result ≡ Err (Device number)) × (self.new ≡ self.old) }
         ensures peak { self.new.peak ≡ self.old.peak }

@@ -134,10 +134,10 @@ module _ {S R : Type 0} {cmp : R → R → Ordering} where
   -- the next ask met a fault
   pub answered-stopped :
       (asks : List Ask) (i : ℕ) (ask : Ask) (answers : List (Option R)) (old mid new : FrontHolding S R) (fault : QueueFault) → i < length asks → ask ≡ get_or asks i Top → SoFar cmp (take i asks) answers old mid
-      → KeepsFront (pops_by ask) mid new → IsFrontRefusal new fault → HasAnswered cmp asks answers old new
+      → KeepsFront (pops_by ask) mid new → IsFrontRefusal mid new fault → HasAnswered cmp asks answers old new
   answered-stopped asks i ask answers old mid new NoFreeBlock l is so_far keeps refused = absurd refused
   answered-stopped asks i ask answers old mid new (Device number) l is so_far keeps refused =
-      let failed = refused.1 in
+      let failed = refused.kept in
       let before = take i asks in
       let more : take (i + 1) asks ≡ before ++ ask ∷ [] = take_more asks i Top l ∙ ap (λ a. before ++ a ∷ []) (sym is) in
       let most : pops_in before + pops_by ask ≤ pops_in asks = omega (arith, pops_in-take (i + 1) asks, ap pops_in more, pops_in-more before ask) in

@@ -47,7 +47,7 @@ module _ {S R : Type 0} (bulk : BulkHolding S R) (passes : List (PassHolding S R
 
 -- a queue that has what it had was handed back for want of memory
 pub unbegun-memory : {R : Type 0} (old begun new : Holding R) → SameRecords old new → Keeps begun new → new.peak ≡ old.peak → IsUnbegun old begun new Memory
-unbegun-memory old begun new same kept peak = record { why = record { bag = same.bag; sound = same.sound }; kept = kept; peak = peak }
+unbegun-memory old begun new same kept peak = record { why = record { bag = same.bag; size = same.size; sound = same.sound }; kept = kept; peak = peak }
 
 -- what a beginning returns
 abbrev pub Begins : Type 0 → Type 0 → Type 0

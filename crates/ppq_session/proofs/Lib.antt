@@ -13,6 +13,7 @@ pub mod Belows
 pub mod Brings
 pub mod Emptying
 pub mod Equipping
+pub mod Faults
 pub mod FirstGathered
 pub mod Fits
 pub mod Fronted

@@ -27,7 +27,7 @@ use Rattle.ppq_session.specs.LimitSession.{AreLimited, IsNew, IsTogether, LimitB
 use Rattle.ppq_session.specs.declared.ask.Ask.{Ask}
 use Rattle.ppq_session.specs.Asks.{answers_to, left_after, pops_in}
 use Rattle.ppq_session.specs.Answering.{KeepsFront, HasAnswered}
-use Rattle.ppq_session.specs.LimitSessions.{AreGoing, InLimits, IsOver, begun_in}
+use Rattle.ppq_session.specs.LimitSessions.{AreGoing, InLimits, IsOver, IsOverBy, begun_in}
 use Rattle.ppq_session.proofs.Answered.{left_after-same, answers_to-same}
 use Rattle.ppq_session.proofs.Sessions.{fresh-going, given-none, given-more, end-keeps, finished-whole, finished-short, finished-stopped}
 use Rattle.ppq_session.proofs.Mapped.{all_mapped}
@@ -142,11 +142,11 @@ module _ {S R : Type 0} where
       }
 
   -- where no block was free, the queue has all records
-  pub unfilled :
-      (shown : S → Shown) (front : FrontHolding S R) (passes : List (LimitHolding S R)) (new : Holding R) (fault : QueueFault) → EndsWith shown (of_front front) (passes_of passes) new (Stopped fault) → fault ≡ NoFreeBlock
-      → IsTogether shown front passes new
-  unfilled shown front passes new NoFreeBlock end e = end.0
-  unfilled shown front passes new (Device number) end e = absurd (cc)
+  pub over-by :
+      (shown : S → Shown) (front : FrontHolding S R) (passes : List (LimitHolding S R)) (new : Holding R) (fault : QueueFault) → EndsWith shown (of_front front) (passes_of passes) new (Stopped fault)
+      → IsOverBy shown (record { front = front; passes = passes }) new fault
+  over-by shown front passes new NoFreeBlock end = end.0
+  over-by shown front passes new (Device number) end = end
 
   module _ (shown : S → Shown) where
     -- a pass without records tells where the slots in the row tell

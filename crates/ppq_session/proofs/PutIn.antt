@@ -170,6 +170,7 @@ module _ {S R : Type 0} (shown : S → Shown) (cmp : R → R → Ordering) (reco
         bag = λ none rest p. ap (λ l. count_by p (gathered_bag shown cmp record_of width c l)) (sym (append-nil rest));
         failed = λ none. (none, All-nil Whole);
         size = λ none. omega arith;
+        counts = λ most few. omega arith;
         sizes = refl;
         peak = refl;
         limited = refl;
@@ -185,6 +186,7 @@ module _ {S R : Type 0} (shown : S → Shown) (cmp : R → R → Ordering) (reco
         bag = λ none rest p. j.bag none rest p ∙ i.bag (j.failed none).0 (rest ++ one ∷ []) p ∙ ap (λ l. count_by p (gathered_bag shown cmp record_of width old l)) (append_assoc rest (one ∷ []) came);
         failed = λ none. let before = i.failed (j.failed none).0 in (before.0, All-cons Whole one came (let all = (j.failed none).1 in all 0 one (omega arith)) before.1);
         size = λ none. omega (arith, j.size none, i.size (j.failed none).0, sum_by-cons (λ (x : Brought S R). x.accepted) one came, sum_by-cons (λ (x : Brought S R). x.accepted) one []);
+        counts = λ most few. omega (arith, j.counts most few, i.counts most few, sum_by-cons (λ (x : Brought S R). x.accepted) one came, sum_by-cons (λ (x : Brought S R). x.accepted) one []);
         sizes = j.sizes ∙ i.sizes;
         peak = j.peak ∙ i.peak;
         limited = j.limited ∙ i.limited;

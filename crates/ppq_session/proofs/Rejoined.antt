@@ -1,6 +1,7 @@
 -- A queue of parts into which all passes were put.
-use Rattle.std.proofs.Common.{◌≡◌, ℕ, ◌+◌, ◌*◌, ◌<◌, ◌≤◌, List, [], ◌∷◌, ◌++◌, length, max, min, sum_by, Some, None, All, sym, ap, ap₂, ◌∙◌, subst, arith, inl, inr, append-nil, length-append}
+use Rattle.std.proofs.Common.{◌≡◌, ℕ, ◌+◌, ◌*◌, ◌<◌, ◌≤◌, List, [], ◌∷◌, ◌++◌, length, max, min, sum_by, Option, Some, None, All, sym, ap, ap₂, ◌∙◌, subst, arith, inl, inr, append-nil, length-append}
 use Rattle.std.specs.Prelude.{◌⊎◌}
+use Rattle.std.specs.Option.{option_or}
 use Rattle.std.specs.declared.cmp.Ordering.{Ordering}
 use Rattle.std.proofs.lemmas.List.Elements.{All-head}
 use Rattle.ppq_pass.specs.ppq_outside.Shown.{Shown, AllTell}
@@ -21,6 +22,7 @@ use Rattle.ppq_pass.specs.ppq_array.Kept.{HasFailed, weight_at}
 use Rattle.ppq_queue.specs.Holding.{IsAbove}
 use Rattle.ppq_session.specs.Gathering.{IsGathered, IsGathering, IsSoundSoFar}
 use Rattle.ppq_session.specs.declared.closed.Closed.{Closed}
+use Rattle.ppq_session.proofs.PutIn.{or_none, or_some}
 
 module _ {R : Type 0} where
   pub cap_first : (heaps : List (Contents R)) (cap : ℕ) → 0 < length heaps → All (λ (h : Contents R). h.cap ≡ cap) heaps → cap_of heaps ≡ cap
@@ -28,9 +30,9 @@ module _ {R : Type 0} where
   cap_first (x ∷ xs) cap some all = All-head (λ (h : Contents R). h.cap ≡ cap) x xs all
 
 -- the parts as a queue's, with these heaps
-abbrev pub parts_of : {S R : Type 0} → Closed S R → Shares R → ℕ → ℕ → QueueParts S R
-parts_of c heaps count load =
-    record { sizes = c.sizes; heaps = heaps; body = c.body; supply = c.supply; extract = c.extract; sources = c.sources; count = count; peak = max c.peak load; limited = c.limited; failed = c.failed; slots = c.slots }
+abbrev pub parts_of : {S R : Type 0} → Closed S R → Shares R → ℕ → ℕ → Option ℕ → QueueParts S R
+parts_of c heaps count load first =
+    record { sizes = c.sizes; heaps = heaps; body = c.body; supply = c.supply; extract = c.extract; sources = c.sources; count = count; peak = max c.peak load; limited = c.limited; failed = option_or first c.failed; slots = c.slots }
 
 module _ {S R : Type 0} (shown : S → Shown) (cmp : R → R → Ordering) (record_of : List ℕ → R) (width : ℕ) (slots items : List Shown) (c : Closed S R) (is : IsGathered shown cmp record_of width slots items c []) (heaps : Shares R) (heaps_are : heaps.heaps ≡ c.heaps.items) (cap : heaps.cap ≡ heap_of c.sizes) (are : AreShares heaps) where
   a : IsGathering shown width slots items c []
@@ -77,13 +79,17 @@ module _ {S R : Type 0} (shown : S → Shown) (cmp : R → R → Ordering) (reco
       let count : length heaps.heaps ≡ c.sizes.workers = omega (arith, ap length heaps_are, a.heaps) in
       subst (λ k. length (items_of heaps) ≤ k) (ap₂ (λ x y. x * y) count cap) (all_within heaps are)
 
-  module _ (count load popped : ℕ) (count_is : count ≡ min c.count (c.sizes.memory + c.sizes.block * c.sizes.blocks)) (load_is : load ≡ min (c.count + popped) (c.sizes.memory + c.sizes.block * c.sizes.blocks)) where
-    fault_here : (number : ℕ) → c.failed ≡ Some number → HasFailed number (slots_of shown c.body c.supply)
+  module _ (first : Option ℕ) (named : (number : ℕ) → first ≡ Some number → HasFailed number slots) (count load popped : ℕ) (count_is : count ≡ min c.count (c.sizes.memory + c.sizes.block * c.sizes.blocks)) (load_is : load ≡ min (c.count + popped) (c.sizes.memory + c.sizes.block * c.sizes.blocks)) where
+    fault_here : (number : ℕ) → option_or first c.failed ≡ Some number → HasFailed number (slots_of shown c.body c.supply)
     fault_here number e =
         let f = weight_at (λ s. s.faults) number in
-        omega (arith, a.fault number e, a.sums f, ap (sum_by f) (append-nil (slots_of shown c.body c.supply)))
+        omega (arith, met (or_some first c.failed number e), a.sums f, ap (sum_by f) (append-nil (slots_of shown c.body c.supply)))
+      where
+        met : (first ≡ Some number) ⊎ (c.failed ≡ Some number) → HasFailed number slots
+        met (inl h) = named number h
+        met (inr h) = a.fault number h
 
-    queue_here : IsQueue shown c.sizes heaps c.extract c.body c.supply count (max c.peak load) c.failed
+    queue_here : IsQueue shown c.sizes heaps c.extract c.body c.supply count (max c.peak load) (option_or first c.failed)
     queue_here =
         record {
           range = a.range;
@@ -131,5 +137,5 @@ module _ {S R : Type 0} (shown : S → Shown) (cmp : R → R → Ordering) (reco
     pub count_all : c.failed ≡ None → count ≡ c.count
     count_all none = omega (arith, (sound_here none).counted, (is.sound none).counted, ap (λ l. length (items_in l)) heaps_are)
 
-    pub whole-rejoined : IsWhole shown cmp record_of width (parts_of c heaps count load)
-    whole-rejoined = record { queue = queue_here; sound = sound_here; no_slot = a.no_slot; slots_room = a.slots_room }
+    pub whole-rejoined : IsWhole shown cmp record_of width (parts_of c heaps count load first)
+    whole-rejoined = record { queue = queue_here; sound = λ none. sound_here (or_none first c.failed none).1; no_slot = a.no_slot; slots_room = a.slots_room }

@@ -1,6 +1,6 @@
 -- Records that are given to the passes of a session of either kind, and its end; and a bulk session, which begins, gets records and ends.
 use Rattle.std.proofs.Common.{◌≡◌, ◌+◌, ◌<◌, List, [], ◌++◌, All, refl, sym, ap, ◌∙◌, arith, length, inl, inr, ℕ, ◌≤◌, true, ◌∷◌, take, max, subst, length-append, get_or}
-use Rattle.std.specs.Prelude.{Any, Result, Ok, Err, Bool, None, count_by}
+use Rattle.std.specs.Prelude.{Any, Result, Ok, Err, Bool, Option, Some, None, count_by}
 use Rattle.ppq_pass.proofs.ppq_record.Order.{count_by-append}
 use Rattle.ppq_pass.specs.ppq_outside.Shown.{Shown, AllTell}
 use Rattle.std.proofs.lemmas.List.{length-map}
@@ -11,10 +11,10 @@ use Rattle.ppq_queue.specs.Holding.{Holding}
 use Rattle.ppq_pass.specs.ppq_array.declared.store_fault.StoreFault.{StoreFault as QueueFault}
 use Rattle.ppq_pass.specs.ppq_array.declared.store_fault.StoreFault.TheVariants.{NoFreeBlock, Device}
 use Rattle.ppq_session.specs.BulkSession.{BulkHolding, AreOf, BulkEnded, IsTogether, keys_of, shared_by, pass_key, bag_of, of_bulk, IsFresh}
-use Rattle.ppq_session.specs.Ends.{EndsWith, Staying, HasAll, HasNoBlock, SessionEnded, bag_of, accepted_of}
+use Rattle.ppq_session.specs.Ends.{EndsWith, Staying, HasAll, HasNoBlock, SessionEnded, NamesFirst, first_fault, bag_of, accepted_of}
 use Rattle.ppq_session.specs.Opened.{BulkBegan}
 use Rattle.ppq_session.specs.declared.fault.SessionEnd.{SessionEnd}
-use Rattle.ppq_session.specs.declared.fault.SessionEnd.TheVariants.{Stopped}
+use Rattle.ppq_session.specs.declared.fault.SessionEnd.TheVariants.{Whole, Stopped}
 use Rattle.ppq_session.specs.Dealing.{IsGoing, HasEnded, MayAdd, Dealt, AddsPart}
 use Rattle.ppq_session.specs.Given.{IsFinished, KeepsQueue, WereGiven}
 use Rattle.ppq_session.specs.Sessions.{SessionHolding, InSession, IsLoaded, IsLeftBy, with_batch}
@@ -166,7 +166,7 @@ module _ {S R : Type 0} where
       finished-stopped {T} NoFreeBlock kept some same end =
           record { kept = kept; bag = tt; low = tt; least = tt; high = tt; sound = tt; quiet = tt; part = λ _. end-part end.0; peak = tt; refused = unmerged-much end.0 some same end.1 }
       finished-stopped {T} (Device number) kept some same end =
-          record { kept = kept; bag = tt; low = tt; least = tt; high = tt; sound = tt; quiet = tt; part = λ e. absurd (device-no_block T number e); peak = tt; refused = end.fault }
+          record { kept = kept; bag = tt; low = tt; least = tt; high = tt; sound = tt; quiet = tt; part = λ e. absurd (device-no_block T number e); peak = tt; refused = end.stopped.fault }
 
 module _ {S R : Type 0} where
   -- records can be added to the passes of a session, which have what it shares
@@ -189,6 +189,17 @@ module _ {S R : Type 0} where
   batch-then old mid new batch had is =
       let at : batch ≡ new.bulk.batch = sym (ap (λ (session : SessionHolding S R). session.bulk.batch) is) in
       is ∙ ap (λ (session : SessionHolding S R). with_batch session batch) had ∙ ap (with_batch old) at
+
+  -- the fault that an end names
+  module _ (passes : List (PassHolding S R)) (other : Option ℕ) (how : SessionEnd) (first : (number : ℕ) → first_fault passes other ≡ Some number → how ≡ Stopped (Device number)) where
+    pub first-whole : {T : Type 0} {result : Result T QueueFault} → how ≡ Whole → NamesFirst passes other result
+    first-whole is number e = absurd (let odd : ◌≡◌ {A = SessionEnd} Whole (Stopped (Device number)) = sym is ∙ first number e in cc)
+
+    pub first-stopped : {T : Type 0} (fault : QueueFault) → how ≡ Stopped fault → NamesFirst {T = T} passes other (Err fault)
+    first-stopped {T} fault is number e =
+        let same : ◌≡◌ {A = SessionEnd} (Stopped fault) (Stopped (Device number)) = sym is ∙ first number e in
+        let fault_is : fault ≡ Device number = cc in
+        ap (λ (f : QueueFault). Err f) fault_is
 
   -- what a stopped end left
   pub left-stopped : (shown : S → Shown) (bulk : BulkHolding S R) (passes : List (PassHolding S R)) (new : Holding R) (fault : QueueFault) → EndsWith shown (of_bulk bulk) passes new (Stopped fault) → IsLeftBy shown (record { bulk = bulk; passes = passes }) new fault

@@ -1,9 +1,12 @@
 -- All passes of a session came: its row and pool can be closed, the passes can be put in, and what the queue has then.
-use Rattle.std.proofs.Common.{◌≡◌, ℕ, ◌*◌, ◌+◌, ◌<◌, ◌≤◌, true, List, [], ◌++◌, length, max, reverse, sum_by, All, None, refl, sym, ap, ◌∙◌, subst, arith, append-nil, Option, length-append}
+use Rattle.std.proofs.Common.{◌≡◌, ℕ, ◌*◌, ◌+◌, ◌<◌, ◌≤◌, true, List, [], ◌++◌, length, map, max, min, reverse, sum_by, All, None, refl, sym, ap, ◌∙◌, subst, arith, append-nil, Option, length-append}
 use Rattle.std.specs.Prelude.{flat_map, count_by, Option, Some, Result, Ok, Err}
 use Rattle.std.specs.List.{Any}
 use Rattle.std.specs.declared.cmp.Ordering.{Ordering}
-use Rattle.std.proofs.lemmas.List.{length-map, length-reverse}
+use Rattle.std.specs.Option.{option_or}
+use Rattle.std.proofs.lemmas.Nat.{mul-le}
+use Rattle.std.proofs.lemmas.List.{length-map, length-reverse, reverse-reverse}
+use Rattle.std.proofs.lemmas.List.Sums.{sum_by-append}
 use Rattle.std.proofs.lemmas.List.Elements.{All-map}
 use Rattle.std.proofs.lemmas.List.Folds.{flat_map-map}
 use Rattle.std.proofs.lemmas.List.Sorted.{All-permutation, IsPermutation-reverse, IsPermutation-sym, sum_by-IsPermutation}
@@ -13,9 +16,9 @@ use Rattle.ppq_pass.specs.ppq_outside.Shown.{Shown, AllTell}
 use Rattle.ppq_pass.specs.ppq_heap.Heaps.{items_in}
 use Rattle.ppq_pass.specs.ppq_array.declared.berth.DeviceBlock.{DeviceBlock}
 use Rattle.ppq_pass.specs.ppq_array.Owner.{slots_shown, HasSize}
-use Rattle.ppq_pass.specs.ppq_array.Kept.{SameSlots, AreQuiet, all_faults, all_writes}
+use Rattle.ppq_pass.specs.ppq_array.Kept.{SameSlots, AreQuiet, HasFailed, weight_at, all_faults, all_writes}
 use Rattle.ppq_pass.proofs.ppq_spill.SameSlots.{SameSlots-trans}
-use Rattle.ppq_pass.specs.Passed.{PassKey, PassHolding, PassTells}
+use Rattle.ppq_pass.specs.Passed.{PassKey, PassHolding, PassTells, slots_of as pass_slots}
 use Rattle.ppq_pass.specs.ppq_budget.Sizes.{heap_of, room_of}
 use Rattle.ppq_queue.specs.Holding.{Holding, IsRefusal, SameRecords, Stays}
 use Rattle.ppq_pass.specs.ppq_array.declared.store_fault.StoreFault.{StoreFault as QueueFault}
@@ -25,7 +28,7 @@ use Rattle.ppq_session.specs.declared.fault.SessionEnd.TheVariants.{Whole, Stopp
 use Rattle.ppq_queue.specs.Slots.{SameSums}
 use Rattle.ppq_queue.specs.Resting.{slots_of, runs_bag}
 use Rattle.ppq_queue.proofs.Slots.{slots-sums, tells-sums}
-use Rattle.ppq_session.specs.Ends.{Staying, HasAll, EndsWith, SessionEnded, bag_of, accepted_of}
+use Rattle.ppq_session.specs.Ends.{Staying, HasAll, EndsWith, SessionEnded, bag_of, accepted_of, first_some, first_fault}
 use Rattle.ppq_session.specs.Apart.{IsSoundApart, GoesBefore, CanBring, CanEnd, apart_slots, staying, IsApart}
 use Rattle.ppq_pass.specs.declared.shared.Shared.{Shared}
 use Rattle.ppq_session.specs.declared.parts.BulkParts.{BulkParts}
@@ -38,6 +41,8 @@ use Rattle.ppq_session.specs.Closing.{MayClose, IsClosed}
 use Rattle.ppq_session.proofs.Gathered.{count-flat}
 use Rattle.ppq_session.proofs.Mapped.{sum-mapped}
 use Rattle.ppq_session.proofs.Equipping.{all_turned}
+use Rattle.ppq_session.proofs.Faults.{first-says, map-turned, part-within}
+use Rattle.ppq_session.proofs.PutIn.{or_none}
 use Rattle.ppq_session.proofs.FirstGathered.{gathered-first, closed, closed_is, same_now, writes_now, quiet_now, told_now}
 use Rattle.ppq_session.proofs.ShortOfBlocks.{short, load_within}
 use Rattle.ppq_pass.proofs.ppq_spill.Keeping.{slots_long}
@@ -112,6 +117,15 @@ module _ {A : Type 0} (failed : Option ℕ) (r : Result A QueueFault) (latched :
 
   pub unlatched_err : (fault : QueueFault) → r ≡ Err fault → fault ≡ NoFreeBlock → failed ≡ None
   unlatched_err fault is e = unlatched failed r latched (λ number h. (let odd : ◌≡◌ {A = Result A QueueFault} (Err NoFreeBlock) (Err (Device number)) = ap (λ x. Err x) (sym e) ∙ sym is ∙ h in cc))
+
+  pub latched_err : (fault : QueueFault) → r ≡ Err fault → (number : ℕ) → failed ≡ Some number → fault ≡ Device number
+  latched_err fault is number h = (let same : ◌≡◌ {A = Result A QueueFault} (Err fault) (Err (Device number)) = sym is ∙ latched number h in cc)
+
+-- the first fault, by the list that the row and pool were closed with
+pub fault_in :
+    {S R : Type 0} (fault : Option ℕ) (slice items brought : List (Brought S R)) (failed : Option ℕ) → fault ≡ first_some (map (λ (x : Brought S R). x.failed) (reverse slice)) failed → slice ≡ items → brought ≡ items
+    → fault ≡ first_some (map (λ (x : Brought S R). x.failed) (reverse brought)) failed
+fault_in {S} {R} fault slice items brought failed is as_slice as_brought = is ∙ ap (λ l. first_some (map (λ (x : Brought S R). x.failed) (reverse l)) failed) (as_slice ∙ sym as_brought)
 
 -- all passes of a session can be brought
 pub may_bring :
@@ -196,13 +210,25 @@ module _ {S R : Type 0} (shown : S → Shown) (cmp : R → R → Ordering) (reco
           let accepted : PassHolding S R → ℕ = λ p. p.accepted in
           sym (sum-mapped pass accepted br.brought) ∙ ap (sum_by accepted) br.passes_are ∙ sum-turned accepted ps
 
+      -- a call of a slot with the number that is named failed
+      named : (fault : Option ℕ) → fault ≡ first_some (map (λ (x : Brought S R). x.failed) (reverse brought)) failed → (number : ℕ) → fault ≡ Some number → HasFailed number now
+      named fault fault_is number e =
+          let w = weight_at (λ s. s.faults) number in
+          let part = λ (x : Brought S R). pass_slots shown x.body x.kept.value in
+          let P : Brought S R → Type 0 = λ x. x.failed ≡ Some number → HasFailed number now in
+          let each : All P br.brought = λ k d h met. omega (arith, ((br.each k d h).always.fault number met).0, part-within w part br.brought k d h, sum_by-append w (slots_of shown q.body c.supply) (slots_in shown br.brought)) in
+          let at : first_some (map (λ (x : Brought S R). x.failed) (reverse br.brought)) failed ≡ Some number = ap (λ l. first_some (map (λ (x : Brought S R). x.failed) (reverse l)) failed) (sym brought_is) ∙ sym fault_is ∙ e in
+          first-says (λ (x : Brought S R). x.failed) number (reverse br.brought) failed (all_turned P br.brought each) (λ met. first.always.fault number (ap (λ k. k.failed) first_is ∙ met)) at
+
       -- what putting all passes in did
       module _ (d : Closed S R) (g : Gathers shown cmp record_of width brought c d) where
         all : IsGathered shown cmp record_of width now (slots_shown shown items) d []
         all = g.gathered now (slots_shown shown items) [] first
 
-        pub may_rejoin : (slots : List Shown) × (items : List Shown) × IsGathered shown cmp record_of width slots items d []
-        may_rejoin = (now, slots_shown shown items, all)
+        pub may_rejoin :
+            (fault : Option ℕ) → fault ≡ first_some (map (λ (x : Brought S R). x.failed) (reverse brought)) failed
+            → (slots : List Shown) × (items : List Shown) × IsGathered shown cmp record_of width slots items d [] × ((number : ℕ) → fault ≡ Some number → HasFailed number slots)
+        may_rejoin fault fault_is = (now, slots_shown shown items, all, named fault fault_is)
 
         last_sums : SameSums now (slots_of shown d.body d.supply)
         last_sums f = sym (all.always.sums f) ∙ ap (sum_by f) (append-nil (slots_of shown d.body d.supply))
@@ -221,19 +247,28 @@ module _ {S R : Type 0} (shown : S → Shown) (cmp : R → R → Ordering) (reco
         last_tells tell each =
             tells-sums now (slots_of shown d.body d.supply) last_sums (told_now shown cmp record_of width q failed can.back.apart q1 (reverse ps) br c cl count keys tell (all_turned (PassTells shown) ps each))
 
-        module _ (queue end : Holding R) (made : IsMade shown cmp record_of width popped d queue) (still : Stays queue end) where
+        module _ (fault : Option ℕ) (fault_is : fault ≡ first_some (map (λ (x : Brought S R). x.failed) (reverse brought)) failed) (queue end : Holding R) (made : IsMade shown cmp record_of width popped fault d queue) (still : Stays queue end) where
           abbrev stay : Staying R
           stay = staying shown record_of width q popped failed
 
           limited_is : end.limited ≡ q.limited
           limited_is = still.keeps.limited ∙ made.limited ∙ g.limited ∙ ap (λ k. k.limited) first_is
 
+          -- the queue counts what stayed and what the passes accepted, as far as there can be so many
+          total_is : end.size ≡ queue.size → end.size ≡ min (q.count + accepted_of ps) (q.sizes.memory + q.sizes.block * q.sizes.blocks)
+          total_is same =
+              let sizes : d.sizes ≡ q.sizes = g.sizes ∙ ap (λ k. k.sizes) first_is in
+              let range = can.back.apart.out.home.range in
+              let product : q.sizes.block * q.sizes.blocks ≤ 65536 * 65536 = mul-le q.sizes.block q.sizes.blocks 65536 65536 range.block range.blocks in
+              let limit : d.sizes.memory + d.sizes.block * d.sizes.blocks ≡ q.sizes.memory + q.sizes.block * q.sizes.blocks = ap (λ n. n.memory + n.block * n.blocks) sizes in
+              omega (arith, same, made.counts, limit, g.counts (q.sizes.memory + q.sizes.block * q.sizes.blocks) (omega (arith, product, range.memory)), ap (λ k. k.count) first_is, ap (accepted_in shown) brought_is, accepted_here)
+
           -- where no fault was met the queue has all, also after a settling that lost nothing
           together : queue.failed ≡ None → SameRecords queue end → HasAll shown stay ps end
           together fine moved =
               let pass = pass_of shown record_of width q.sizes in
               let Whole : PassHolding S R → Type 0 = λ p. p.failed ≡ None in
-              let none : d.failed ≡ None = sym made.failed ∙ fine in
+              let none : d.failed ≡ None = (or_none fault d.failed (sym made.failed ∙ fine)).1 in
               let begun_whole : failed ≡ None = sym (ap (λ k. k.failed) first_is) ∙ (g.failed none).0 in
               let here = subst (All (λ (x : Brought S R). x.failed ≡ None)) brought_is (g.failed none).1 in
               let apart = sound_turned begun_whole in
@@ -264,12 +299,22 @@ module _ {S R : Type 0} (shown : S → Shown) (cmp : R → R → Ordering) (reco
           stopped NoFreeBlock refused crowded fine =
               let same : SameRecords queue end = record { quiet = refused.quiet; bag = refused.bag; size = refused.size; sound = refused.sound } in
               (together (fine refl) same, record { crowded = crowded refl; free = refused.free; room = refused.room; above = refused.above })
-          stopped (Device number) refused crowded fine = refused
+          stopped (Device number) refused crowded fine = record { stopped = record { fault = refused.fault; kept = refused.kept }; size = total_is refused.size }
 
-          ended : (how : SessionEnd) → EndsWith shown stay ps end how → (how ≡ Whole → end.runs ≤ 64) → SessionEnded shown stay ps end how
-          ended how ends settled =
+          -- the number that the queue keeps was met by the first pass in order that met a fault, and else in what stayed
+          first_kept : (number : ℕ) → first_fault ps failed ≡ Some number → queue.failed ≡ Some number
+          first_kept number e =
+              let pass = pass_of shown record_of width q.sizes in
+              let says : PassHolding S R → Option ℕ = λ p. p.failed in
+              let turned = ap (map says) (sym (reverse-reverse ps) ∙ ap reverse (sym br.passes_are)) ∙ map-turned says pass br.brought in
+              let same : first_some (map says ps) failed ≡ fault = ap (λ l. first_some l failed) turned ∙ ap (λ l. first_some (map (λ (x : Brought S R). x.failed) (reverse l)) failed) (sym brought_is) ∙ sym fault_is in
+              made.failed ∙ ap (λ f. option_or f d.failed) (sym same ∙ e)
+
+          ended : (how : SessionEnd) → EndsWith shown stay ps end how → (how ≡ Whole → end.runs ≤ 64) → ((number : ℕ) → queue.failed ≡ Some number → how ≡ Stopped (Device number)) → SessionEnded shown stay ps end how
+          ended how ends settled names =
               record {
                 end_is = ends;
+                first = λ number e. names number (first_kept number e);
                 settled = settled;
                 slots = SameSlots-trans (apart_slots shown q) (slots_of shown d.body d.supply) end.slots last_slots (subst (λ s. SameSlots s end.slots) made.slots still.keeps.slots);
                 tells = λ tell each. still.keeps.tells (subst AllTell (sym made.slots) (last_tells tell each));
@@ -280,7 +325,9 @@ module _ {S R : Type 0} (shown : S → Shown) (cmp : R → R → Ordering) (reco
 
           -- the settling went well, or was refused
           pub ended_whole : queue.failed ≡ None → SameRecords queue end → end.runs ≤ 64 → SessionEnded shown stay ps end Whole
-          ended_whole fine moved settled = ended Whole (together fine moved) (λ whole. settled)
+          ended_whole fine moved settled = ended Whole (together fine moved) (λ whole. settled) (λ number e. absurd (let odd : ◌≡◌ {A = Option ℕ} None (Some number) = sym fine ∙ e in cc))
 
-          pub ended_stopped : (fault : QueueFault) → IsRefusal queue end fault → (fault ≡ NoFreeBlock → 8 < end.crowd) → (fault ≡ NoFreeBlock → queue.failed ≡ None) → SessionEnded shown stay ps end (Stopped fault)
-          ended_stopped fault refused crowded fine = ended (Stopped fault) (stopped fault refused crowded fine) (λ whole. cc)
+          pub ended_stopped :
+              (why : QueueFault) → IsRefusal queue end why → (why ≡ NoFreeBlock → 8 < end.crowd) → (why ≡ NoFreeBlock → queue.failed ≡ None) → ((number : ℕ) → queue.failed ≡ Some number → why ≡ Device number)
+              → SessionEnded shown stay ps end (Stopped why)
+          ended_stopped why refused crowded fine names = ended (Stopped why) (stopped why refused crowded fine) (λ whole. cc) (λ number e. ap (λ f. Stopped f) (names number e))

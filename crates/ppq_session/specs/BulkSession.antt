@@ -8,7 +8,7 @@ use Rattle.ppq_pass.specs.ppq_array.declared.berth.DeviceBlock.{DeviceBlock}
 use Rattle.ppq_pass.specs.ppq_pool.Seats.{count_of}
 use Rattle.ppq_pass.specs.Passed.{PassKey, PassHolding}
 use Rattle.ppq_pass.specs.declared.shared.Shared.{Shared}
-use Rattle.ppq_queue.specs.Holding.{Holding, FoundNoBlock, HasStopped}
+use Rattle.ppq_queue.specs.Holding.{Holding, FoundNoBlock, MetFault}
 use Rattle.ppq_queue.specs.Resting.{lane_buffers}
 use Rattle.ppq_session.specs.declared.fault.BeginFault.{BeginFault}
 use Rattle.ppq_session.specs.declared.fault.BeginFault.TheVariants.{Memory, NoFreeBlock as NoBlockAtBegin, Device as DeviceAtBegin}
@@ -50,13 +50,14 @@ module _ {R : Type 0} where
   -- The queue as it was, in another order at most
   pub record IsIntact (old new : Holding R) : Type 0 where
     pub bag : AllTell old.slots → IsSameBag new.bag old.bag
+    pub size : new.size ≡ old.size
     pub sound : new.failed ≡ None
 
   -- why a session did not begin, and what it left
   abbrev pub IsBeginRefusal : Holding R → Holding R → BeginFault → Type 0
   IsBeginRefusal old new Memory = IsIntact old new
   IsBeginRefusal old new NoBlockAtBegin = FoundNoBlock old new
-  IsBeginRefusal old new (DeviceAtBegin number) = HasStopped number new
+  IsBeginRefusal old new (DeviceAtBegin number) = MetFault number old new
 
 module _ {S R : Type 0} where
   -- the keys of passes, which no push changes

@@ -61,10 +61,18 @@ module _ {S R : Type 0} where
   abbrev pub IsReady : (R → R → Ordering) → FrontHolding S R → Type 0
   IsReady cmp front = front.in_extract ≡ 0 → AllTell front.slots → NoneBelow cmp (Some front.limit) front.bag
 
-  -- A call of the slot with this number failed, now or before, and the front keeps that number. No front wants a free block
-  abbrev pub IsFrontRefusal : FrontHolding S R → QueueFault → Type 0
-  IsFrontRefusal front NoFreeBlock = ⊥
-  IsFrontRefusal front (Device number) = HasFailed number front.slots × (front.failed ≡ Some number)
+  -- A call of the slot with this number failed, now or before, and the front keeps that number. It counts the records that it counted, and none
+  -- was popped
+  pub record FrontStopped (number : ℕ) (old new : FrontHolding S R) : Type 0 where
+    pub fault : HasFailed number new.slots
+    pub kept : new.failed ≡ Some number
+    pub size : new.size ≡ old.size
+    pub popped : new.popped ≡ old.popped
+
+  -- why a call of a front was refused, and what it left; no front wants a free block
+  abbrev pub IsFrontRefusal : FrontHolding S R → FrontHolding S R → QueueFault → Type 0
+  IsFrontRefusal old new NoFreeBlock = ⊥
+  IsFrontRefusal old new (Device number) = FrontStopped number old new
 
   -- a front is ready to give its least record: it has what it had, and no call of a slot failed
   pub record IsReadied (cmp : R → R → Ordering) (old new : FrontHolding S R) : Type 0 where

@@ -1,5 +1,6 @@
 -- Passes that are put into the parts of a queue.
-use Rattle.std.specs.Prelude.{◌≡◌, ◌⊎◌, ℕ, ◌+◌, ◌-◌, ◌*◌, ◌^◌, ◌<◌, ◌≤◌, List, [], ◌++◌, length, max, min, reverse, sum_by, flat_map, Some, None, All, vec_capacity}
+use Rattle.std.specs.Prelude.{◌≡◌, ◌⊎◌, ℕ, ◌+◌, ◌-◌, ◌*◌, ◌^◌, ◌<◌, ◌≤◌, List, [], ◌++◌, length, max, min, reverse, sum_by, flat_map, Option, Some, None, All, vec_capacity}
+use Rattle.std.specs.Option.{option_or}
 use Rattle.std.specs.declared.cmp.Ordering.{Ordering}
 use Rattle.ppq_pass.specs.ppq_outside.Shown.{Shown, AllTell}
 use Rattle.ppq_pass.specs.ppq_budget.Sizes.{AreInRange, fixed_of, heap_of, batch_of, pool_of}
@@ -140,16 +141,19 @@ module _ {S R : Type 0} (shown : S → Shown) where
       pub bag : new.failed ≡ None → (rest : List (Brought S R)) → IsSameBag (gathered_bag new rest) (gathered_bag old (rest ++ put))
       pub failed : new.failed ≡ None → (old.failed ≡ None) × All (λ (one : Brought S R). one.failed ≡ None) put
       pub size : new.failed ≡ None → new.count ≡ old.count + accepted_in put
+      pub counts : (most : ℕ) → most < 2 ^ 64 → min new.count most ≡ min (old.count + accepted_in put) most
       pub sizes : new.sizes ≡ old.sizes
       pub peak : new.peak ≡ old.peak
       pub limited : new.limited ≡ old.limited
 
-    -- What a queue shows that was made of the parts into which all passes were put. So many records were popped, which count in its peak
-    pub record IsMade (popped : ℕ) (c : Closed S R) (queue : Holding R) : Type 0 where
+    -- What a queue shows that was made of the parts into which all passes were put. So many records were popped, which count in its peak; and
+    -- this is the number of the first fault, if one was met
+    pub record IsMade (popped : ℕ) (first : Option ℕ) (c : Closed S R) (queue : Holding R) : Type 0 where
       pub bag : queue.bag ≡ gathered_bag c []
       pub slots : queue.slots ≡ slots_of shown c.body c.supply
-      pub failed : queue.failed ≡ c.failed
+      pub failed : queue.failed ≡ option_or first c.failed
       pub size : c.failed ≡ None → queue.size ≡ c.count
+      pub counts : queue.size ≡ min c.count (c.sizes.memory + c.sizes.block * c.sizes.blocks)
       pub peak : queue.peak ≡ max c.peak (min (c.count + popped) (c.sizes.memory + c.sizes.block * c.sizes.blocks))
       pub sizes : queue.sizes ≡ c.sizes
       pub limited : queue.limited ≡ c.limited

@@ -5,11 +5,13 @@ use Rattle.ppq_pass.specs.ppq_record.Bag.{IsSameBag}
 use Rattle.ppq_pass.specs.ppq_outside.Shown.{Shown, AllTell}
 use Rattle.ppq_queue.specs.Holding.{Holding}
 use Rattle.ppq_pass.specs.ppq_array.declared.store_fault.StoreFault.{StoreFault as QueueFault}
+use Rattle.ppq_pass.specs.ppq_array.declared.store_fault.StoreFault.TheVariants.{NoFreeBlock, Device}
 use Rattle.ppq_session.specs.Dealing.{IsGoing, HasEnded}
 use Rattle.ppq_session.specs.Fronts.{FrontHolding}
 use Rattle.ppq_session.specs.Given.{KeepsQueue, WereGiven, IsFinished}
 use Rattle.ppq_session.specs.Limited.{LimitHolding, passes_of}
-use Rattle.ppq_session.specs.LimitSession.{limited_bag, of_front}
+use Rattle.ppq_session.specs.LimitSession.{limited_bag, of_front, IsTogether}
+use Rattle.ppq_session.specs.Ends.{HasLost}
 
 -- What contracts see of an open limit session: what its owner keeps, and the passes, in the order of their workers
 pub record LimitSessionHolding (S R : Type 0) : Type 0 where
@@ -38,6 +40,11 @@ pub record InLimits {S R : Type 0} (shown : S → Shown) (queue : Holding R) (li
   pub popped_is : session.front.popped ≤ popped
   pub rest : session.front.failed ≡ None → AllTell queue.slots → IsSameBag session.front.bag left
   pub given_are : WereGiven queue.slots given [] (limited_bag session.passes) (passes_of session.passes)
+
+-- a limit session ended with a fault: the queue has all records of its front and its passes, or a block failed, and the queue counts them
+abbrev pub IsOverBy : {S R : Type 0} → (S → Shown) → LimitSessionHolding S R → Holding R → QueueFault → Type 0
+IsOverBy shown session new NoFreeBlock = IsTogether shown session.front session.passes new
+IsOverBy shown session new (Device number) = HasLost (of_front session.front) (passes_of session.passes) number new
 
 -- a limit session of a queue ended
 abbrev pub IsOver : {T R : Type 0} → Holding R → List R → List R → ℕ → Holding R → Result T QueueFault → Type 0

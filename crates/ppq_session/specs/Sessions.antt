@@ -4,11 +4,12 @@ use Rattle.ppq_pass.specs.ppq_record.Bag.{IsSameBag}
 use Rattle.ppq_pass.specs.ppq_outside.Shown.{Shown, AllTell}
 use Rattle.ppq_pass.specs.ppq_array.Kept.{AreQuiet}
 use Rattle.ppq_pass.specs.Passed.{PassHolding}
-use Rattle.ppq_queue.specs.Holding.{Holding, HasStopped}
+use Rattle.ppq_queue.specs.Holding.{Holding}
 use Rattle.ppq_pass.specs.ppq_array.declared.store_fault.StoreFault.{StoreFault as QueueFault}
 use Rattle.ppq_pass.specs.ppq_array.declared.store_fault.StoreFault.TheVariants.{NoFreeBlock, Device}
 use Rattle.ppq_session.specs.BulkSession.{BulkHolding, IsBeginRefusal, IsTogether, of_bulk, bag_of}
 use Rattle.ppq_session.specs.Dealing.{AddsPart}
+use Rattle.ppq_session.specs.Ends.{HasLost}
 use Rattle.ppq_session.specs.Given.{KeepsQueue, WereGiven}
 use Rattle.ppq_session.specs.Refusal.{Keeps, IsRefusedBy}
 use Rattle.ppq_session.specs.declared.fault.BeginFault.{BeginFault}
@@ -46,7 +47,7 @@ pub record IsUnbegun {R : Type 0} (old begun new : Holding R) (fault : BeginFaul
   pub kept : Keeps begun new
   pub peak : new.peak ≡ old.peak
 
--- a session ended with a fault: the queue has all records of the session, or a block failed
+-- a session ended with a fault: the queue has all records of the session, or a block failed, and the queue counts them
 abbrev pub IsLeftBy : {S R : Type 0} → (S → Shown) → SessionHolding S R → Holding R → QueueFault → Type 0
 IsLeftBy shown session new NoFreeBlock = IsTogether shown session.bulk session.passes new
-IsLeftBy shown session new (Device number) = HasStopped number new
+IsLeftBy shown session new (Device number) = HasLost (of_bulk session.bulk) session.passes number new

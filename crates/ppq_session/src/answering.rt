@@ -23,7 +23,7 @@ where
     ensures left { OnOk result (AllTell front.old.slots → IsSameBag front.new.bag (left_by R.Ord.cmp front.old.limit front.old.bag ask)) }
     ensures sound { OnOk result (front.new.failed ≡ None) }
     ensures quiet { OnOk result (AreQuiet front.old.slots front.new.slots) }
-    ensures refused { IfErr result (IsFrontRefusal front.new) }
+    ensures refused { IfErr result (IsFrontRefusal front.old front.new) }
     ensures kept { KeepsFront (pops_by ask) front.old front.new }
 {
     match ask {

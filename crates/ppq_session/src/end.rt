@@ -7,7 +7,7 @@ ghost use Rattle.ppq_session.specs.Ends.{SessionEnded};
 
 use crate::bringing::bring_all;
 use crate::close::close;
-use crate::gather::gather_all;
+use crate::gather::{first_fault, gather_all};
 use crate::parts::BulkParts;
 use crate::rejoining::rejoin;
 use crate::{Bulk, SessionEnd};
@@ -22,7 +22,9 @@ use ppq_queue::Queue;
 ///
 /// `Whole`: the queue has all records, and its levels are settled: at most 64 runs are in blocks.
 /// `Stopped(NoFreeBlock)`: it has all records, but a merge of levels found no blocks. `Stopped(Device)`: a
-/// call of the block with that number failed, in a pass or now; records may be lost, but no slot.
+/// call of the block with that number failed, in a pass or now; records may be lost, but no slot. If several
+/// parts met a fault, the number is that of the first pass in the order of the list that met one, and else
+/// that of the merges.
 pub fn bulk_end<H: Host, S: Slot + Send + Sync, R: Record + Send + Sync, G: Gate>(
     rt: &H,
     b: Bulk<S, R>,
@@ -59,9 +61,10 @@ where
     requires { (q : BulkHeld S R) × (passes : List (PassHolding S R)) × IsJoined S.shown R.Ord.cmp R.record_of R.WIDTH shared q popped failed passes parts }
     ensures { (q : BulkHeld S R) (passes : List (PassHolding S R)) → IsJoined S.shown R.Ord.cmp R.record_of R.WIDTH shared q popped failed passes parts → SessionEnded S.shown (staying S.shown R.record_of R.WIDTH q popped failed) passes result.0 result.1 }
 {
+    let first = first_fault(parts.brought.as_slice(), failed);
     let (mut closed, brought) = close(parts, failed, shared);
     gather_all(&mut closed, brought);
-    let mut queue = rejoin(closed, popped);
+    let mut queue = rejoin(closed, popped, first);
     match queue.settle(rt, gate) {
         Ok(()) => (queue, SessionEnd::Whole),
         Err(fault) => (queue, SessionEnd::Stopped(fault)),

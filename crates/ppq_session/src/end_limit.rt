@@ -18,7 +18,8 @@ use ppq_queue::Queue;
 /// `Whole`: the queue has all records, and its levels are settled: at most 64 runs are in blocks.
 /// `Stopped(NoFreeBlock)`: it has all records, but a merge of levels found no blocks. `Stopped(Device)`: a
 /// call of the block with that number failed, in the front, in a pass or now; records may be lost, but no
-/// slot.
+/// slot. If several parts met a fault, the number is that of the first pass in the order of the list that met
+/// one, and else that of the front, and else that of the merges.
 pub fn limit_end<H: Host, S: Slot + Send + Sync, R: Record + Send + Sync, G: Gate>(
     rt: &H,
     front: Front<S, R>,

@@ -1,5 +1,5 @@
 //! What the owner of a queue keeps while a limit session is on.
-ghost use Rattle.std.specs.Prelude.{◌≡◌, ◌≤◌, ◌+◌, ◌↔◌, ℕ, length, Some, None, IsNone, Err, IfOk, IfErr, OnOk, OnErr};
+ghost use Rattle.std.specs.Prelude.{◌≡◌, ◌≤◌, ◌+◌, ◌↔◌, ℕ, length, Some, None, IsNone, Err, IfOk, IfErr, OnOk};
 ghost use Rattle.ppq_pass.specs.ppq_record.Bag.{IsSameBag, size_below};
 ghost use Rattle.ppq_pass.specs.ppq_budget.Sizes.{AreInRange};
 ghost use Rattle.ppq_pass.specs.ppq_outside.Shown.{AllTell};
@@ -64,8 +64,9 @@ impl<S: Slot + Send + Sync, R: Record + Send + Sync> Front<S, R> {
     /// record is left. Where the extract buffer is empty, it is refilled with the least records of all runs
     /// first, up to a block for each worker, and each block is read at most once.
     ///
-    /// `Device`: a call of the block with that number failed, now or before; every later call says so too.
-    /// `NoFreeBlock` is never returned.
+    /// `Device`: a call of the block with that number failed, now or before. Every later call of the front says
+    /// so too, with that number, and changes nothing; `popped` and `limit` return what they did, and the
+    /// session can be ended. `NoFreeBlock` is never returned.
     pub fn top<H: Host, G: Gate>(&mut self, rt: &H, gate: &G) -> Result<Option<R>, QueueFault>
     where
         H::Dir: Send,
@@ -73,7 +74,7 @@ impl<S: Slot + Send + Sync, R: Record + Send + Sync> Front<S, R> {
         ensures none { IfOk result (λ answer. AllTell self.old.slots → IsNone answer ↔ (size_below R.Ord.cmp self.old.bag self.old.limit ≡ 0)) }
         ensures bag { OnOk result (AllTell self.old.slots → IsSameBag self.new.bag self.old.bag) }
         ensures sound { OnOk result (self.new.failed ≡ None) }
-        ensures refused { IfErr result (IsFrontRefusal self.new) }
+        ensures refused { IfErr result (IsFrontRefusal self.old self.new) }
         ensures latched { (number : ℕ) → self.old.failed ≡ Some number → (result ≡ Err (Device number)) × (self.new ≡ self.old) }
         ensures quiet { OnOk result (AreQuiet self.old.slots self.new.slots) }
         ensures slots { SameSlots self.old.slots self.new.slots }
@@ -98,10 +99,9 @@ impl<S: Slot + Send + Sync, R: Record + Send + Sync> Front<S, R> {
         ensures none { IfOk result (λ answer. AllTell self.old.slots → IsNone answer ↔ (size_below R.Ord.cmp self.old.bag self.old.limit ≡ 0)) }
         ensures left { OnOk result (AllTell self.old.slots → IsSameBag self.new.bag (without_least_below R.Ord.cmp self.old.limit self.old.bag)) }
         ensures popped { IfOk result (λ answer. self.new.popped ≡ self.old.popped + number_in answer) }
-        ensures unpopped { OnErr result (self.new.popped ≡ self.old.popped) }
         ensures total { self.new.size + self.new.popped ≡ self.old.size + self.old.popped }
         ensures sound { OnOk result (self.new.failed ≡ None) }
-        ensures refused { IfErr result (IsFrontRefusal self.new) }
+        ensures refused { IfErr result (IsFrontRefusal self.old self.new) }
         ensures latched { (number : ℕ) → self.old.failed ≡ Some number → (result ≡ Err (Device number)) × (self.new ≡ self.old) }
         ensures quiet { OnOk result (AreQuiet self.old.slots self.new.slots) }
         ensures slots { SameSlots self.old.slots self.new.slots }
@@ -119,7 +119,7 @@ impl<S: Slot + Send + Sync, R: Record + Send + Sync> Front<S, R> {
     where
         H::Dir: Send,
         ensures readied { OnOk result (IsReadied R.Ord.cmp self.old self.new) }
-        ensures refused { IfErr result (IsFrontRefusal self.new) }
+        ensures refused { IfErr result (IsFrontRefusal self.old self.new) }
         ensures latched { (number : ℕ) → self.old.failed ≡ Some number → (result ≡ Err (Device number)) × (self.new ≡ self.old) }
         ensures kept { RefillKeeps self.old self.new }
     {

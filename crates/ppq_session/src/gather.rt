@@ -1,8 +1,9 @@
 //! Passes that are put into the parts of a queue.
-ghost use Rattle.std.specs.Prelude.{◌≡◌, ◌≤◌, ◌<◌, ◌+◌, ◌-◌, ◌*◌, ◌^◌, [], ◌∷◌, length, All};
+ghost use Rattle.std.specs.Prelude.{◌≡◌, ◌≤◌, ◌<◌, ◌+◌, ◌-◌, ◌*◌, ◌^◌, [], ◌∷◌, length, map, reverse, All};
 ghost use Rattle.ppq_pass.specs.ppq_array.Owner.{slots_shown};
 ghost use Rattle.ppq_pass.specs.ppq_array.Holdings.{ArrayHasSize, internal_buffers, external_buffers, external_slots};
 ghost use Rattle.ppq_pass.specs.ppq_array.Run.{buffers_of};
+ghost use Rattle.ppq_session.specs.Ends.{first_some};
 ghost use Rattle.ppq_session.specs.Gathering.{Adopted, CanAdopt, GetsBack, MayGather, Gathers};
 
 use crate::brought::Brought;
@@ -11,6 +12,21 @@ use crate::moving::{free_all, move_all, move_buffers};
 use ppq_pass::{
     BufList, ExternalArray, InternalArray, OwnerLists, PassBody, Record, Slot, free_slot,
 };
+
+/// The number of the slot that failed first in the first pass that met a fault, and else `other`. The first
+/// pass stands last.
+pub fn first_fault<S: Slot + Send + Sync, R: Record + Send + Sync>(
+    brought: &[Brought<S, R>],
+    other: Option<u32>,
+) -> Option<u32>
+    ensures { result ≡ first_some (map (λ one. one.failed) (reverse brought.now)) other }
+{
+    let mut first = other;
+    for one in brought {
+        first = one.failed.or(first);
+    }
+    first
+}
 
 /// Puts all passes that came back into the parts of the queue.
 pub fn gather_all<S: Slot + Send + Sync, R: Record + Send + Sync>(

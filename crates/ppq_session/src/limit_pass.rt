@@ -77,7 +77,8 @@ impl<S: Slot + Send, R: Record + Send> LimitPass<S, R> {
     ///
     /// Each refusal hands the record back. `NoFreeBlock`: the multiset is as it was; the row is drawn to
     /// its end, and the slots that the pass drew, which stay with it, are too few. A later push tries
-    /// again. `Device`: a call of the slot with that number failed, now or before.
+    /// again. `Device`: a call of the slot with that number failed, now or before, and from then on as for
+    /// [`Pass::push`].
     pub fn push<H: Host>(
         &mut self,
         rt: &H,

@@ -2,19 +2,16 @@
 ghost use Rattle.std.specs.Prelude.{◌≡◌, ◌≤◌, ◌<◌, ◌+◌, ◌++◌, ℕ, false, [], List, All, Some, None, Err, IsTrue, IfOk, IfErr, OnOk, length, take, vec_capacity};
 ghost use Rattle.ppq_pass.specs.ppq_record.Order.{is_before};
 ghost use Rattle.ppq_pass.specs.ppq_record.Pair.{pair_cmp};
-ghost use Rattle.ppq_pass.specs.ppq_record.Bag.{IsSameBag};
 ghost use Rattle.ppq_pass.specs.ppq_record.declared.pair.Pair.{Pair};
 ghost use Rattle.ppq_pass.specs.ppq_outside.Shown.{AllTell};
-ghost use Rattle.ppq_pass.specs.Passed.{PassTells};
 ghost use Rattle.ppq_queue.specs.Holding.{Holding};
-ghost use Rattle.ppq_pass.specs.ppq_array.declared.store_fault.StoreFault.TheVariants.{NoFreeBlock};
 ghost use Rattle.ppq_session.specs.declared.fault.BeginFault.TheVariants.{Device};
+ghost use Rattle.ppq_session.specs.Ends.{NamesFirst};
 ghost use Rattle.ppq_session.specs.Dealing.{EachAdds, records_in, records_for};
-ghost use Rattle.ppq_session.specs.LimitSession.{limited_bag, limited_accepted};
 ghost use Rattle.ppq_session.specs.Asks.{answers_to, left_after, pops_in};
 ghost use Rattle.ppq_session.specs.Batches.{passes_of};
 ghost use Rattle.ppq_session.specs.Sessions.{IsUnbegun};
-ghost use Rattle.ppq_session.specs.LimitSessions.{AreGoing, HasStopped, InLimits, IsOver, begun_in};
+ghost use Rattle.ppq_session.specs.LimitSessions.{AreGoing, HasStopped, InLimits, IsOver, IsOverBy, begun_in};
 
 use crate::begin_limit::limit_begin;
 use crate::end_limit::limit_end;
@@ -98,15 +95,15 @@ impl<S: Slot + Send + Sync, R: Record + Send + Sync> LimitSession<S, R> {
     /// accepted. The runs of the passes become runs of the queue, and levels are merged. It allocates nothing.
     ///
     /// `Ok`: the queue has all records that were given. `NoFreeBlock`: a pass or a merge of levels found no
-    /// blocks, and no accepted record is lost. `Device`: the block with that number failed.
+    /// blocks, and no accepted record is lost. `Device`: the block with that number failed; the first pass that
+    /// met a fault is named, else the front, and else a merge of levels.
     pub fn end<H: Host, G: Gate>(self, rt: &H, gate: &G) -> (Queue<S, R>, Result<(), QueueFault>)
     where
         H::Dir: Send,
         ensures all { OnOk result.1 (AreGoing self) }
         ensures over { (queue : Holding R) (limit : R) (given left : List R) (popped : ℕ) → InLimits S.shown queue limit given left popped self → IsOver queue given left popped result.0 result.1 }
-        ensures unfaulted { result.1 ≡ Err NoFreeBlock → self.front.failed ≡ None }
-        ensures all_records { result.1 ≡ Err NoFreeBlock → AllTell self.front.slots → All (PassTells S.shown) (passes_of self.passes) → IsSameBag result.0.bag (self.front.bag ++ limited_bag self.passes) }
-        ensures counted { result.1 ≡ Err NoFreeBlock → result.0.size ≡ self.front.size + limited_accepted self.passes }
+        ensures left { IfErr result.1 (IsOverBy S.shown self result.0) }
+        ensures first { NamesFirst (passes_of self.passes) self.front.failed result.1 }
     {
         self.front.known();
         let all = limited_are_going(self.passes.as_slice());

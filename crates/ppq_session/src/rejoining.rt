@@ -1,6 +1,7 @@
 //! A queue of the parts into which all passes were put.
-ghost use Rattle.std.specs.Prelude.{◌≡◌, ◌+◌, ◌*◌, [], List};
+ghost use Rattle.std.specs.Prelude.{◌≡◌, ◌+◌, ◌*◌, ℕ, [], List, Some};
 ghost use Rattle.ppq_pass.specs.ppq_outside.Shown.{Shown};
+ghost use Rattle.ppq_pass.specs.ppq_array.Kept.{HasFailed};
 ghost use Rattle.ppq_session.specs.Gathering.{IsGathered, IsMade};
 
 use crate::closed::Closed;
@@ -8,12 +9,14 @@ use ppq_pass::{Heaps, Record, Sizes, Slot};
 use ppq_queue::{Queue, QueueParts};
 
 /// The queue of these parts, of a session in which so many records were popped: they count in its peak.
+/// `first` is the number of the first fault that was met before.
 pub fn rejoin<S: Slot + Send + Sync, R: Record + Send + Sync>(
     c: Closed<S, R>,
     popped: u64,
+    first: Option<u32>,
 ) -> Queue<S, R>
-    requires { (slots : List Shown) × (items : List Shown) × IsGathered S.shown R.Ord.cmp R.record_of R.WIDTH slots items c [] }
-    ensures { IsMade S.shown R.Ord.cmp R.record_of R.WIDTH popped c result }
+    requires { (slots : List Shown) × (items : List Shown) × IsGathered S.shown R.Ord.cmp R.record_of R.WIDTH slots items c [] × ((number : ℕ) → first ≡ Some number → HasFailed number slots) }
+    ensures { IsMade S.shown R.Ord.cmp R.record_of R.WIDTH popped first c result }
 {
     let Closed {
         sizes,
@@ -44,7 +47,7 @@ pub fn rejoin<S: Slot + Send + Sync, R: Record + Send + Sync>(
         count,
         peak: peak.max(load),
         limited,
-        failed,
+        failed: first.or(failed),
         slots,
     })
 }

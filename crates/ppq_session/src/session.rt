@@ -1,8 +1,9 @@
 //! An open bulk session, as one value.
-ghost use Rattle.std.specs.Prelude.{◌≡◌, ◌<◌, ◌≤◌, ◌++◌, ◌↔◌, [], ℕ, List, All, Any, Some, Err, IsTrue, false, IfOk, IfErr, OnOk, length, take, slice_set};
+ghost use Rattle.std.specs.Prelude.{◌≡◌, ◌<◌, ◌≤◌, ◌++◌, ◌↔◌, [], ℕ, List, All, Any, Some, None, Err, IsTrue, false, IfOk, IfErr, OnOk, length, take, slice_set};
 ghost use Rattle.ppq_pass.specs.ppq_budget.Sizes.{AreInRange, batch_of};
 ghost use Rattle.ppq_queue.specs.Holding.{Holding};
 ghost use Rattle.ppq_session.specs.declared.fault.BeginFault.TheVariants.{Device};
+ghost use Rattle.ppq_session.specs.Ends.{NamesFirst};
 ghost use Rattle.ppq_session.specs.Dealing.{IsGoing, HasEnded, EachAdds, records_in, records_for, part_for};
 ghost use Rattle.ppq_session.specs.Sessions.{InSession, IsLoaded, IsLeftBy, IsUnbegun, with_batch};
 
@@ -130,13 +131,14 @@ impl<S: Slot + Send + Sync, R: Record + Send + Sync> Session<S, R> {
     ///
     /// `Ok`: the queue has all records that were given. `NoFreeBlock`: a pass or a merge of levels found no
     /// blocks, and the queue has all records that were accepted. `Device`: the block with that number failed,
-    /// and records may be lost.
+    /// and records may be lost; the first pass that met a fault is named, and else a merge of levels.
     pub fn end<H: Host, G: Gate>(self, rt: &H, gate: &G) -> (Queue<S, R>, Result<(), QueueFault>)
     where
         H::Dir: Send,
         ensures all { OnOk result.1 (All IsGoing self.passes) }
         ensures loaded { (queue : Holding R) → (records : List R) → InSession S.shown queue records self → IsLoaded queue records result.0 result.1 }
         ensures left { IfErr result.1 (IsLeftBy S.shown self result.0) }
+        ensures first { NamesFirst self.passes None result.1 }
     {
         let Session {
             bulk,

@@ -24,6 +24,8 @@ pub enum Adding {
     Three,
     /// records to each of three passes until its heap is full, for which it takes three, two and one
     Fill,
+    /// three records to the second of two passes, where block 0 fails, and then to the first, where block 1 does
+    Faulty,
 }
 
 /// What the passes of a session did.
@@ -77,6 +79,7 @@ where
         Adding::Hundreds => push_hundreds(rt, shared, passes),
         Adding::Three => push_to_one(rt, shared, passes),
         Adding::Fill => fill_three(rt, passes),
+        Adding::Faulty => push_to_failed(rt, shared, passes),
     }
 }
 
@@ -164,6 +167,47 @@ fn fill(pass: &mut Pass<MemSlot, Pair>) -> u64
         }
     }
     pass.accepted()
+}
+
+// Two passes meet a failed block each, the second one first.
+fn push_to_failed<H: Host + Abort>(
+    rt: &H,
+    shared: &Shared<MemSlot, Pair>,
+    passes: &mut [Pass<MemSlot, Pair>],
+) -> Done
+where
+    H::Dir: Send,
+    requires { All (IsOf shared.now) passes.old }
+    ensures { keys_of passes.new ≡ keys_of passes.old }
+{
+    assert!(rt; passes.len() == 2);
+    let second = meets_fault(rt, shared, &mut passes[1], 0);
+    let first = meets_fault(rt, shared, &mut passes[0], 1);
+    assert!(rt; first & second);
+    Done {
+        taken: false,
+        accepted: (passes[0].accepted(), passes[1].accepted()),
+    }
+}
+
+// Whether the third record of a pass meets this block, which is named from then on, while the heap stays full.
+fn meets_fault<H: Host + Abort>(
+    rt: &H,
+    shared: &Shared<MemSlot, Pair>,
+    pass: &mut Pass<MemSlot, Pair>,
+    number: u32,
+) -> bool
+where
+    H::Dir: Send,
+    requires { IsOf shared.now pass.old }
+    ensures { pass.new.key ≡ pass.old.key }
+{
+    let fault = QueueFault::Device { number };
+    let tried = (tries(pass, 1), tries(pass, 2), tries(pass, 3));
+    let pushed = pass.push(rt, shared, pair(3)) == Err((pair(3), fault));
+    let again = pass.push(rt, shared, pair(4)) == Err((pair(4), fault));
+    let full = tries(pass, 5) == Err(Full);
+    pushed & again & full & (tried == (Ok(()), Ok(()), Err(Full)))
 }
 
 // Tries a record at a pass.

@@ -4,6 +4,8 @@
 #[cfg(test)]
 mod bulk;
 #[cfg(test)]
+mod faults;
+#[cfg(test)]
 mod generic;
 #[cfg(test)]
 mod laws;

@@ -244,3 +244,33 @@ where
 fn a_full_device_begins_no_session(rt: HostRuntime) -> Result<(), Fail> {
     keeps_all(&rt, rt.alloc())
 }
+
+// A session of four workers, whose front reads blocks beside its merges while the passes, which add more than
+// the pool's four buffers hold, add records on threads of their own.
+fn reads_beside<H: Host + Abort>(rt: &H, alloc: Global) -> Result<(), Fail>
+where
+    H::Dir: Send,
+{
+    let sizes = Sizes::new(4, 2, 8, 864, 600).expect(rt, "sizes in range");
+    let mut before = Vec::new(alloc);
+    for i in 0..200u64 {
+        before
+            .push(pair(i * 77 % 200))
+            .expect(rt, "room for a record");
+    }
+    let queue = queue_of(rt, alloc, sizes, before)?;
+    let adds = keys(rt, alloc, 200, 400);
+    let adds = adds.as_slice();
+    let (queue, given, done) = in_session(rt, alloc, queue, pair(150), adds, Giving::Meanwhile);
+    let kept = popped(rt, alloc, queue);
+    assert!(rt; are_keys(given.as_slice(), 0, 150) & are_keys(kept.as_slice(), 150, 400));
+    assert!(rt; (done.end == SessionEnd::Whole) & (done.accepted == 200) & !done.refused);
+    Ok(())
+}
+
+#[test]
+fn a_front_reads_beside_its_merges_while_passes_hold_all_buffers(
+    rt: HostRuntime,
+) -> Result<(), Fail> {
+    reads_beside(&rt, rt.alloc())
+}

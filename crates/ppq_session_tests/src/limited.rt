@@ -22,6 +22,8 @@ pub enum Giving {
     Meanwhile,
     /// After the first pass has added records, up to one that is refused.
     Then,
+    /// Before that, where block 0 fails.
+    Failing,
 }
 
 /// What a first pass did with the records that it was to add, up to one that was refused.
@@ -108,6 +110,7 @@ where
             None
         }
         Giving::Then => Some(take_turns(rt, front, shared, passes, records, given)),
+        Giving::Failing => Some(fail_first(rt, front, shared, passes, records)),
     }
 }
 
@@ -226,6 +229,28 @@ where
     }
     take_all(rt, front, given);
     added
+}
+
+// Takes a record out of a front, which meets block 0, and adds records to the first pass then.
+fn fail_first<H: Host + Abort>(
+    rt: &H,
+    front: &mut Front<MemSlot, Pair>,
+    shared: &Shared<MemSlot, Pair>,
+    passes: &mut [LimitPass<MemSlot, Pair>],
+    records: &[Pair],
+) -> Added
+where
+    H::Dir: Send,
+    requires { All (λ p. IsOf shared.now p.pass) passes.old }
+    ensures front { front.new ≡ record front.old { bag = front.new.bag; slots = front.new.slots; run_buffers = front.new.run_buffers; in_extract = front.new.in_extract; size = front.new.size; popped = front.new.popped; failed = front.new.failed } }
+    ensures keys { (key : _) → All (λ p. p.pass.key ≡ key) passes.old → All (λ p. p.pass.key ≡ key) passes.new }
+    ensures limits { (limit : _) → All (λ p. p.limit ≡ limit) passes.old → All (λ p. p.limit ≡ limit) passes.new }
+{
+    let fault = Err(QueueFault::Device { number: 0 });
+    let popped = front.pop(rt, &OpenGate) == fault;
+    let top = front.top(rt, &OpenGate) == fault;
+    assert!(rt; popped & top & (front.popped() == 0));
+    add_to_first(rt, shared, passes, records)
 }
 
 // Adds records to the first pass of a session.

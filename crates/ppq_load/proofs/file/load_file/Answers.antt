@@ -8,11 +8,13 @@ use Rattle.ppq_session.specs.ppq_outside.Told.{bytes_or_none}
 use Rattle.ppq_session.proofs.ppq_outside.Replies.{no_replies}
 use Rattle.ppq_session.specs.ppq_queue.Holding.{Holding}
 use Rattle.ppq_session.specs.Dealing.{AddsPart}
-use Rattle.ppq_load.specs.Loading.{InSession, HasGiven, IsByRead, IsReadRefusal, LoadEndsIn, LoadCountsFrom}
+use Rattle.ppq_session.specs.ppq_array.declared.store_fault.StoreFault.TheVariants.{Device}
+use Rattle.ppq_load.specs.declared.fault.LoadFault.TheVariants.{Queue}
+use Rattle.ppq_load.specs.Loading.{InSession, HasGiven, IsByRead, IsReadRefusal, IsStoppedBy, LoadEndsIn, LoadCountsFrom}
 use Rattle.ppq_load.specs.Reading.{IsReadWithin}
 use Rattle.ppq_load.proofs.Refusals.{stop-later}
 use Rattle.ppq_load.proofs.Parts.{ended-part, unbegun-part, file-part}
-use Rattle.ppq_load.proofs.Results.{LoadSays, first-says, first-err, first-ok, on_err, on_ok, on_ok-map, if_err-map, unread-ends, unread-counts}
+use Rattle.ppq_load.proofs.Results.{LoadSays, first-says, first-err, first-ok, on_err, on_ok, on_ok-map, if_err-map, unread-ends, unread-counts, first-stopped, unbegun-stopped, back-latched}
 use Rattle.ppq_load.proofs.file.load_file.Given as over
 use Rattle.ppq_load.proofs.file.load_file.Goals.{After-first_fault}
 use Rattle.ppq_load.proofs.file.load_file.Goals as goal
@@ -105,3 +107,20 @@ returns-in-Err-clause-asks g c = no_replies (g.L.Library.replied c.args.library.
 
 pub returns-in-Err-clause-cause : goal.returns-in-Err-clause-cause
 returns-in-Err-clause-cause g c = unread-counts (g.L.Library.faults c.args.library.now) c.in-Err.fault c.in-Err.ensures.by_load
+
+pub returns-in-Ok-clause-stopped : goal.returns-in-Ok-clause-stopped
+returns-in-Ok-clause-stopped g c =
+    let told = g.L.Library.told c.args.library.now in
+    let read = c.deal_file-read in
+    let new = c.end-queue.result.0 in
+    let by_file = if_err-map read.result (IsReadRefusal told (g.L.Library.replied read.new.library) c.args.name.now c.args.said) IsByRead (λ fault refused. refused.by_file) read.ensures.refused in
+    subst (λ r. IfErr r (IsStoppedBy new)) (sym c.first_fault.ensures) (first-stopped g.S.Slot.shown read.new.load new read.result c.end-queue.result.1 c.end-queue.ensures.left by_file)
+
+pub returns-in-Err-clause-stopped : goal.returns-in-Err-clause-stopped
+returns-in-Err-clause-stopped g c = unbegun-stopped c.args.queue c.in-Err.queue c.in-Err.fault c.in-Err.ensures.intact
+
+pub returns-in-Ok-clause-latched : goal.returns-in-Ok-clause-latched
+returns-in-Ok-clause-latched g c = λ number failed. let back = c.in-Ok.ensures.latched number failed in absurd (cc)
+
+pub returns-in-Err-clause-latched : goal.returns-in-Err-clause-latched
+returns-in-Err-clause-latched g c = λ number failed. back-latched c.args.queue c.in-Err.queue c.in-Err.fault (Queue (Device number)) (c.in-Err.ensures.latched number failed)

@@ -4,11 +4,13 @@ use Rattle.ppq_session.specs.ppq_record.Bag.{IsSameBag}
 use Rattle.ppq_session.specs.ppq_record.Given.{generated}
 use Rattle.ppq_session.specs.ppq_outside.Shown.{AllTell}
 use Rattle.ppq_session.specs.Dealing.{AddsPart}
-use Rattle.ppq_load.specs.Loading.{IsLoaded, IsByLoad}
+use Rattle.ppq_session.specs.ppq_array.declared.store_fault.StoreFault.TheVariants.{Device}
+use Rattle.ppq_load.specs.declared.fault.LoadFault.TheVariants.{Queue}
+use Rattle.ppq_load.specs.Loading.{IsLoaded, IsByLoad, IsStoppedBy}
 use Rattle.ppq_load.proofs.Generated.{length-generated}
 use Rattle.ppq_load.proofs.Refusals.{stop-later}
 use Rattle.ppq_load.proofs.Parts.{ended-part, unbegun-part}
-use Rattle.ppq_load.proofs.Results.{LoadSays, loaded-says, loaded-by, on_err}
+use Rattle.ppq_load.proofs.Results.{LoadSays, loaded-says, loaded-by, on_err, loaded-stopped, unbegun-stopped, back-latched}
 use Rattle.ppq_load.proofs.generate.load_generated.Given as over
 use Rattle.ppq_load.proofs.generate.load_generated.Goals.{After-end-queue, After-loaded}
 use Rattle.ppq_load.proofs.generate.load_generated.Goals as goal
@@ -67,3 +69,15 @@ pub returns-in-Err-clause-refused : goal.returns-in-Err-clause-refused
 returns-in-Err-clause-refused g c =
     let q = c.args.queue in
     stop-later q.sizes q.limited q.limited q.peak (max q.peak (q.size + c.args.count)) (omega (arith, c.known.ensures.range.two_records)) (λ same. same) (omega arith) c.in-Err.queue.slots c.in-Err.fault c.in-Err.ensures.refused
+
+pub returns-in-Ok-clause-stopped : goal.returns-in-Ok-clause-stopped
+returns-in-Ok-clause-stopped g c = subst (λ r. IfErr r (IsStoppedBy c.end-queue.result.0)) (sym c.loaded.ensures) (loaded-stopped g.S.Slot.shown c.deal_generated.new.load c.end-queue.result.0 c.end-queue.result.1 c.end-queue.ensures.left)
+
+pub returns-in-Err-clause-stopped : goal.returns-in-Err-clause-stopped
+returns-in-Err-clause-stopped g c = unbegun-stopped c.args.queue c.in-Err.queue c.in-Err.fault c.in-Err.ensures.intact
+
+pub returns-in-Ok-clause-latched : goal.returns-in-Ok-clause-latched
+returns-in-Ok-clause-latched g c = λ number failed. let back = c.in-Ok.ensures.latched number failed in absurd (cc)
+
+pub returns-in-Err-clause-latched : goal.returns-in-Err-clause-latched
+returns-in-Err-clause-latched g c = λ number failed. back-latched c.args.queue c.in-Err.queue c.in-Err.fault (Queue (Device number)) (c.in-Err.ensures.latched number failed)

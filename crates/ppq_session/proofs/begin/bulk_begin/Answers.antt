@@ -1,5 +1,5 @@
 use Rattle.std.proofs.Common.{◌≡◌, ℕ, Err, refl, sym, ap₂, ◌∙◌, subst}
-use Rattle.ppq_queue.specs.Holding.{Holding, HasStopped, IsRefusal}
+use Rattle.ppq_queue.specs.Holding.{Holding, MetFault, IsRefusal}
 use Rattle.ppq_session.specs.Opened.{BulkBegan}
 use Rattle.ppq_session.specs.Sessions.{IsUnbegun}
 use Rattle.ppq_session.specs.declared.fault.BeginFault.TheVariants.{Device}
@@ -39,11 +39,11 @@ returns-in-Err-Device g c =
     let new = c.begin_session.new.self in
     let e = c.begin_session.ensures in
     let arm = c.in-Err-Device in
-    let stopped : HasStopped arm.number new = subst (IsRefusal c.args.q new) arm.field-0-is arm.ensures.refused in
+    let stopped : MetFault arm.number c.args.q new = subst (IsRefusal c.args.q new) arm.field-0-is arm.ensures.refused in
     let refusal : Holding g.row.R.Denot → ℕ → Begins g.row.S.Denot g.row.R.Denot = λ queue n. Err (queue, Device n) in
     record {
       begun = tt;
-      refused = record { why = subst (λ (n : ℕ). HasStopped n new) (sym arm.number-is) stopped; kept = e.stays.keeps; peak = e.stays.peak };
+      refused = record { why = subst (λ (n : ℕ). MetFault n c.args.q new) (sym arm.number-is) stopped; kept = e.stays.keeps; peak = e.stays.peak };
       latched = λ number latched.
           let said = e.latched number latched in
           let same : arm.number ≡ number = cc in

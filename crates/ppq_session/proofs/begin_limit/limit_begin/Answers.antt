@@ -1,6 +1,6 @@
 use Rattle.std.proofs.Common.{◌≡◌, ℕ, ◌∙◌, ap₂, sym, subst, arith}
 use Rattle.std.specs.Prelude.{Err}
-use Rattle.ppq_queue.specs.Holding.{HasStopped, IsRefusal}
+use Rattle.ppq_queue.specs.Holding.{MetFault, IsRefusal}
 use Rattle.ppq_session.specs.Sessions.{IsUnbegun}
 use Rattle.ppq_session.specs.LimitSessions.{begun_in}
 use Rattle.ppq_session.specs.declared.fault.BeginFault.TheVariants.{Device}
@@ -65,10 +65,10 @@ returns-in-Err-Device g c =
     let new = c.store_heaps.new.self in
     let e = c.store_heaps.ensures in
     let arm = c.in-Err-Device in
-    let stopped : HasStopped arm.number new = subst (IsRefusal c.args.q new) arm.field-0-is arm.ensures.refused in
+    let stopped : MetFault arm.number c.args.q new = subst (IsRefusal c.args.q new) arm.field-0-is arm.ensures.refused in
     record {
       begun = tt;
-      refused = record { why = subst (λ (n : ℕ). HasStopped n new) (sym arm.number-is) stopped; kept = e.stays.keeps; peak = e.stays.peak };
+      refused = record { why = subst (λ (n : ℕ). MetFault n c.args.q new) (sym arm.number-is) stopped; kept = e.stays.keeps; peak = e.stays.peak };
       latched = λ number latched.
           let both = e.latched number latched in
           let said = both.0 in

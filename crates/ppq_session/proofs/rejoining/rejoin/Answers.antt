@@ -38,8 +38,9 @@ from_parts-requires-after_bounds g c κs within =
     let load = c.min-load.result in
     let least = c.min-count.ensures ∙ ap (λ k. min q.count k) c.most_records-most.ensures in
     let all = load_is q.sizes a.range (q.count + c.args.popped) load c.most_records-most.result c.most_records-most.ensures c.saturating_add.result (omega (arith, c.saturating_add.ensures)) c.min-load.ensures in
-    let whole = whole-rejoined shown g.R.Ord.cmp g.R.Record.record_of g.R.Record.WIDTH c.requires.0 c.requires.1 q c.requires.2 heaps c.from_parts-heaps.ensures.heaps (c.from_parts-heaps.ensures.cap ∙ first) c.known.ensures count load c.args.popped least all in
-    subst (λ k. IsWhole shown g.R.Ord.cmp g.R.Record.record_of g.R.Record.WIDTH (record (parts_of q heaps count load) { peak = k })) (sym c.max.ensures) whole
+    let whole = whole-rejoined shown g.R.Ord.cmp g.R.Record.record_of g.R.Record.WIDTH c.requires.0 c.requires.1 q c.requires.2 heaps c.from_parts-heaps.ensures.heaps (c.from_parts-heaps.ensures.cap ∙ first) c.known.ensures c.args.first c.requires.3 count load c.args.popped least all in
+    let raised = subst (λ k. IsWhole shown g.R.Ord.cmp g.R.Record.record_of g.R.Record.WIDTH (record (parts_of q heaps count load c.args.first) { peak = k })) (sym c.max.ensures) whole in
+    subst (λ k. IsWhole shown g.R.Ord.cmp g.R.Record.record_of g.R.Record.WIDTH (record (parts_of q heaps count load c.args.first) { peak = c.max.result; failed = k })) (sym c.or.ensures) raised
 
 pub returns : goal.returns
 returns g c =
@@ -53,8 +54,9 @@ returns g c =
     record {
       bag = ap (λ r. r.bag) shows ∙ ap (λ l. items_in l ++ q.extract.items ++ runs_bag g.S.Slot.shown g.R.Record.record_of g.R.Record.WIDTH q.body) heaps.ensures.heaps ∙ sym (append-nil _);
       slots = ap (λ r. r.slots) shows;
-      failed = ap (λ r. r.failed) shows;
-      size = λ none. ap (λ r. r.size) shows ∙ count_all g.S.Slot.shown g.R.Ord.cmp g.R.Record.record_of g.R.Record.WIDTH c.requires.0 c.requires.1 q c.requires.2 heaps.result heaps.ensures.heaps (heaps.ensures.cap ∙ first) c.known.ensures c.min-count.result c.min-load.result c.args.popped least all none;
+      failed = ap (λ r. r.failed) shows ∙ c.or.ensures;
+      size = λ none. ap (λ r. r.size) shows ∙ count_all g.S.Slot.shown g.R.Ord.cmp g.R.Record.record_of g.R.Record.WIDTH c.requires.0 c.requires.1 q c.requires.2 heaps.result heaps.ensures.heaps (heaps.ensures.cap ∙ first) c.known.ensures c.args.first c.requires.3 c.min-count.result c.min-load.result c.args.popped least all none;
+      counts = ap (λ r. r.size) shows ∙ least;
       peak = ap (λ r. r.peak) shows ∙ c.max.ensures ∙ ap (λ k. max q.peak k) all;
       sizes = ap (λ r. r.sizes) shows;
       limited = ap (λ r. r.limited) shows;

@@ -7,7 +7,7 @@ use Rattle.ppq_queue.proofs.Flushed.{keeps-slots, keeps-more}
 use Rattle.ppq_queue.proofs.queue.Queue.pop.Goals as goal
 
 pub returns-in_err-ready : goal.returns-in_err-ready
-returns-in_err-ready g c = record { answer = grind arith; none = grind arith; taken = grind arith; same_size = grind arith; refused = grind arith; latched = grind arith; peak = assumption; keeps = assumption }
+returns-in_err-ready g c = record { answer = grind arith; none = grind arith; taken = grind arith; refused = grind arith; latched = grind arith; peak = assumption; keeps = assumption }
 
 pub take_least-requires-after_bounds : goal.take_least-requires-after_bounds
 take_least-requires-after_bounds g c = grind arith
@@ -29,7 +29,6 @@ returns g c =
         sound = ap (λ q. q.failed) took.fields ∙ same.sound;
         quiet = ap (λ q. all_faults q.slots) took.fields ∙ same.quiet;
       };
-      same_size = tt;
       refused = tt;
       latched = grind arith;
       peak = ap (λ q. q.peak) took.fields ∙ stays.peak;

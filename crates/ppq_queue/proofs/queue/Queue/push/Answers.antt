@@ -1,29 +1,29 @@
 use Rattle.std.proofs.Common.{◌+◌, ◌<◌, ◌∙◌, ap, sym, subst, refl, arith}
-use Rattle.std.specs.Prelude.{count_by}
+use Rattle.std.specs.Prelude.{count_by, ⊤}
 use Rattle.ppq_extract.specs.ppq_outside.Shown.{AllTell}
 use Rattle.ppq_extract.specs.ppq_budget.Sizes.{heap_of}
 use Rattle.ppq_extract.specs.ppq_array.Kept.{all_faults}
 use Rattle.ppq_heap.proofs.ppq_record.Order.{count_by-cons}
 use Rattle.ppq_queue.specs.Holding.{Holding, IsRefusal}
+use Rattle.ppq_queue.proofs.Calls.{stopped}
 use Rattle.ppq_queue.proofs.Flushed.{refusal-raised, keeps-slots, keeps-more}
 use Rattle.ppq_queue.proofs.queue.Queue.push.Goals as goal
 
 pub returns-in-Some : goal.returns-in-Some
 returns-in-Some g c =
-    let raised = c.raise_peak.ensures in
+    let left = stopped c.self.invariant.0 c.self.view_is {T = ⊤} c.in-Some.is in
     record {
       added = tt;
       easy = grind arith;
       back = assumption;
-      same_size = grind arith;
-      refused = grind arith;
+      refused = left.refused;
       latched = grind arith;
       peak = grind arith;
-      keeps = keeps-slots c.args.self.now c.raise_peak.new.self (ap (λ q. q.sizes) raised) (ap (λ q. q.limited) raised) (ap (λ q. q.slots) raised);
+      keeps = left.stays.keeps;
     }
 
 pub make_room-requires-clause-sound : goal.make_room-requires-clause-sound
-make_room-requires-clause-sound g c κs within = grind arith
+make_room-requires-clause-sound g c κs within = ap (λ q. q.failed) c.raise_peak.ensures ∙ sym (ap (λ q. q.failed) c.self.view_is) ∙ c.in_default.is
 
 pub make_room-requires-clause-peak : goal.make_room-requires-clause-peak
 make_room-requires-clause-peak g c κs within = grind arith
@@ -43,7 +43,6 @@ returns-in-Err g c =
       added = tt;
       easy = grind arith;
       back = assumption;
-      same_size = grind arith;
       refused = refusal-raised c.args.self.now now _ c.in-Err.fault (subst (λ q. IsRefusal q now c.in-Err.fault) raised c.in-Err.ensures.leaves.refused);
       latched = grind arith;
       peak = grind arith;
@@ -73,7 +72,6 @@ returns-in-Ok g c =
       };
       easy = λ none room. (refl, rest ∙ ap more ((c.make_room.ensures.easy (subst (λ q. q.in_first < heap_of q.sizes) (sym raised) room)).1 ∙ raised));
       back = tt;
-      same_size = tt;
       refused = tt;
       latched = grind arith;
       peak = grind arith;

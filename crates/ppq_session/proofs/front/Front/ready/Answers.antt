@@ -68,4 +68,14 @@ invariant_of-self-in-Err-Device g c =
     )
 
 pub returns-in-Err-Device-clause-refused : goal.returns-in-Err-Device-clause-refused
-returns-in-Err-Device-clause-refused g c = (fault g c, refl)
+returns-in-Err-Device-clause-refused g c = record { fault = fault g c; kept = refl; size = ap (λ f. f.size) (returns-in-Err-Device-clause-kept g c).rest; popped = ap (λ f. f.popped) (returns-in-Err-Device-clause-kept g c).rest }
+
+pub returns-in-Some-clause-refused : goal.returns-in-Some-clause-refused
+returns-in-Some-clause-refused g c =
+    let number = c.in-Some.number in
+    record {
+      fault = subst (λ f. HasFailed number f.slots) c.self.view_is (c.self.invariant.1.fault number c.in-Some.is);
+      kept = sym (ap (λ f. f.failed) c.self.view_is) ∙ c.in-Some.is;
+      size = refl;
+      popped = refl;
+    }

@@ -1,17 +1,15 @@
-use Rattle.std.proofs.Common.{◌≡◌, ◌+◌, ◌++◌, List, All, subst, arith}
-use Rattle.std.specs.Prelude.{Any, None, Ok, Err, ⊤, ℕ}
+use Rattle.std.proofs.Common.{List, All, subst, arith}
+use Rattle.std.specs.Prelude.{Any, Ok, Err, ⊤, ℕ}
 use Rattle.std.proofs.lemmas.List.Elements.{All-map}
-use Rattle.ppq_pass.specs.ppq_record.Bag.{IsSameBag}
-use Rattle.ppq_pass.specs.ppq_outside.Shown.{AllTell}
-use Rattle.ppq_pass.specs.Passed.{PassTells}
 use Rattle.ppq_queue.specs.Holding.{Holding}
 use Rattle.ppq_pass.specs.ppq_array.declared.store_fault.StoreFault.TheVariants.{NoFreeBlock}
 use Rattle.ppq_session.specs.Dealing.{IsGoing, HasEnded}
-use Rattle.ppq_session.specs.Ends.{EndsWith}
+use Rattle.ppq_session.specs.Ends.{EndsWith, NamesFirst}
 use Rattle.ppq_session.specs.Limited.{LimitHolding, passes_of}
-use Rattle.ppq_session.specs.LimitSession.{limited_bag, limited_accepted, of_front}
-use Rattle.ppq_session.specs.LimitSessions.{InLimits, IsOver, AreGoing}
-use Rattle.ppq_session.proofs.LimitSessions.{over-whole, over-short, over-stopped, unfilled}
+use Rattle.ppq_session.specs.LimitSession.{of_front}
+use Rattle.ppq_session.specs.LimitSessions.{InLimits, IsOver, IsOverBy, AreGoing}
+use Rattle.ppq_session.proofs.LimitSessions.{over-whole, over-short, over-stopped, over-by}
+use Rattle.ppq_session.proofs.Sessions.{first-whole, first-stopped}
 use Rattle.ppq_session.proofs.Mapped.{any_mapped}
 use Rattle.ppq_session.proofs.limit_session.LimitSession.end.Goals as goal
 
@@ -28,11 +26,8 @@ returns-in-Stopped g c =
       all = tt;
       over = subst (λ old. (queue : Holding g.row.R.Denot) (limit : g.row.R.Denot) (given left : List g.row.R.Denot) (popped : ℕ) → InLimits shown queue limit given left popped old → IsOver {T = ⊤} queue given left popped new (Err fault)) c.self.view_is
           (λ queue limit given left popped i. over-stopped shown queue limit given left popped s.front passes i new c.limit_end-queue.result.1 e fault end (omega (arith, c.known.ensures.range.two_records)));
-      unfaulted = λ err. let same : fault ≡ NoFreeBlock = cc in subst (λ l. l.front.failed ≡ None) c.self.view_is (unfilled shown s.front passes new fault end same).no_fault.0;
-      all_records = λ err.
-          let same : fault ≡ NoFreeBlock = cc in
-          subst (λ l. AllTell l.front.slots → All (PassTells shown) (passes_of l.passes) → IsSameBag new.bag (l.front.bag ++ limited_bag l.passes)) c.self.view_is (unfilled shown s.front passes new fault end same).bag;
-      counted = λ err. let same : fault ≡ NoFreeBlock = cc in subst (λ l. new.size ≡ l.front.size + limited_accepted l.passes) c.self.view_is (unfilled shown s.front passes new fault end same).size;
+      left = subst (λ old. IsOverBy shown old new fault) c.self.view_is (over-by shown s.front passes new fault end);
+      first = subst (λ old. NamesFirst {T = ⊤} (passes_of old.passes) old.front.failed (Err fault)) c.self.view_is (first-stopped (passes_of passes) s.front.failed c.limit_end-queue.result.1 e.first fault c.in-Stopped.is);
     }
 
 pub returns-in-Whole : goal.returns-in-Whole
@@ -49,9 +44,8 @@ returns-in-Whole g c =
       all = subst (λ old. AreGoing old) c.self.view_is (record { passes = going; front = end.no_fault.0 });
       over = subst (λ old. (queue : Holding g.row.R.Denot) (limit : g.row.R.Denot) (given left : List g.row.R.Denot) (popped : ℕ) → InLimits shown queue limit given left popped old → IsOver queue given left popped new (Ok tt)) c.self.view_is
           (λ queue limit given left popped i. over-whole shown queue limit given left popped s.front passes i new c.limit_end-queue.result.1 e tt end going);
-      unfaulted = λ err. absurd (cc);
-      all_records = λ err. absurd (cc);
-      counted = λ err. absurd (cc);
+      left = tt;
+      first = subst (λ old. NamesFirst (passes_of old.passes) old.front.failed (Ok tt)) c.self.view_is (first-whole (passes_of passes) s.front.failed c.limit_end-queue.result.1 e.first c.in-Whole.is);
     }
 
 pub returns-in-Whole-2 : goal.returns-in-Whole-2
@@ -68,7 +62,6 @@ returns-in-Whole-2 g c =
       all = tt;
       over = subst (λ old. (queue : Holding g.row.R.Denot) (limit : g.row.R.Denot) (given left : List g.row.R.Denot) (popped : ℕ) → InLimits shown queue limit given left popped old → IsOver {T = ⊤} queue given left popped new (Err NoFreeBlock)) c.self.view_is
           (λ queue limit given left popped i. over-short shown queue limit given left popped s.front passes i new c.limit_end-queue.result.1 e end (omega (arith, c.known.ensures.range.two_records)) ended);
-      unfaulted = λ err. subst (λ l. l.front.failed ≡ None) c.self.view_is end.no_fault.0;
-      all_records = λ err. subst (λ l. AllTell l.front.slots → All (PassTells shown) (passes_of l.passes) → IsSameBag new.bag (l.front.bag ++ limited_bag l.passes)) c.self.view_is end.bag;
-      counted = λ err. subst (λ l. new.size ≡ l.front.size + limited_accepted l.passes) c.self.view_is end.size;
+      left = subst (λ old. IsOverBy shown old new NoFreeBlock) c.self.view_is end;
+      first = subst (λ old. NamesFirst {T = ⊤} (passes_of old.passes) old.front.failed (Err NoFreeBlock)) c.self.view_is (first-whole (passes_of passes) s.front.failed c.limit_end-queue.result.1 e.first c.in-Whole-2.is);
     }
