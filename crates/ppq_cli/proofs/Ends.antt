@@ -13,7 +13,9 @@ use Rattle.ppq_words.specs.ppq_script.declared.numbered.Numbered.{Numbered}
 use Rattle.ppq_words.specs.ppq_script.Files.{name_at, is_usable}
 use Rattle.ppq_words.specs.ppq_script.Lines.{names_of, numbered_of, first_bad_by}
 use Rattle.ppq_words.specs.ppq_script.Checking.{with_sizes}
+use Rattle.ppq_words.specs.ppq_script.declared.form.Form.{Form}
 use Rattle.ppq_words.specs.ppq_script.Reading.{Reading, command_list}
+use Rattle.ppq_words.specs.Reading.{Reading as Arguments}
 use Rattle.ppq_engine.specs.Loads.{begins_limit}
 use Rattle.ppq_engine.specs.Refusal.{HasRoom, HasNoRoom}
 use Rattle.ppq_engine.specs.Output.{AreFilesOf, KeepsLengths, given_of}
@@ -27,21 +29,21 @@ use Rattle.ppq_cli.proofs.Given.{script_remembered}
 use Rattle.ppq_cli.specs.declared.load.LoadFault.{LoadFault}
 use Rattle.ppq_cli.specs.declared.load.LoadFault.TheVariants as load
 use Rattle.ppq_cli.specs.Load.{load_end, script_kinds}
-use Rattle.ppq_cli.specs.RunWords.{Files, refusal_of_bad, refusal_of_file, script_commands, script_given, IsTried, IsGivenUp, MayWrite, IsAnswer, IsTriedOrRefusal, OfFile, IsTooLarge, EndsWell}
+use Rattle.ppq_cli.specs.RunWords.{Files, refusal_of_budget, refusal_of_bad, refusal_of_file, script_commands, script_given, IsTried, IsGivenUp, MayWrite, IsAnswer, IsTriedOrRefusal, OfFile, IsTooLarge, EndsWell}
 use Rattle.ppq_cli.specs.RunOver.{RunWrites}
 use Rattle.ppq_cli.specs.Device.{IsSurelyRun, AreBlocks}
-use Rattle.ppq_cli.specs.Replies.{IsScript, OfGood, RefusalIsRight, RunIsRight, HasRunToFile, HasRunToLoad, FaultToFile}
+use Rattle.ppq_cli.specs.Replies.{need_of, IsScript, OfGood, RefusalIsRight, RunIsRight, HasRunToFile, HasRunToLoad, FaultToFile}
 
 -- the three ways of a script that was loaded: its budget is too small, it was tried, or memory was wanting
-abbrev Ways : Numbers → End → Type 0
-Ways sizes end = ((sizes.memory < fixed_of sizes) × (end ≡ BudgetTooSmall (fixed_of sizes))) ⊎ (((fixed_of sizes ≤ sizes.memory) × IsTried end) ⊎ (end ≡ Memory))
+abbrev Ways : Arguments → End → Type 0
+Ways r end = ((r.sizes.memory < fixed_of r.sizes) × (end ≡ BudgetTooSmall (need_of r))) ⊎ (((fixed_of r.sizes ≤ r.sizes.memory) × IsTried end) ⊎ (end ≡ Memory))
 
-ways_by : (small : Bool) (sizes : Numbers) (end : End) → (small ≡ true → sizes.memory < fixed_of sizes) → (small ≡ false → fixed_of sizes ≤ sizes.memory)
-    → MatchOption (if small then Some (BudgetTooSmall (fixed_of sizes)) else None) (IsTried end) (λ e. end ≡ e) ⊎ (end ≡ Memory) → Ways sizes end
-ways_by true sizes end below enough (inl is) = inl (below refl, is)
-ways_by true sizes end below enough (inr memory) = inr (inr memory)
-ways_by false sizes end below enough (inl tried) = inr (inl (enough refl, tried))
-ways_by false sizes end below enough (inr memory) = inr (inr memory)
+ways_by : (small : Bool) (r : Arguments) (end : End) → (small ≡ true → r.sizes.memory < fixed_of r.sizes) → (small ≡ false → fixed_of r.sizes ≤ r.sizes.memory)
+    → MatchOption (if small then Some (BudgetTooSmall (need_of r)) else None) (IsTried end) (λ e. end ≡ e) ⊎ (end ≡ Memory) → Ways r end
+ways_by true r end below enough (inl is) = inl (below refl, is)
+ways_by true r end below enough (inr memory) = inr (inr memory)
+ways_by false r end below enough (inl tried) = inr (inl (enough refl, tried))
+ways_by false r end below enough (inr memory) = inr (inr memory)
 
 ltb_false : (a b : ℕ) → nat_lt a b ≡ false → b ≤ a
 ltb_false a b is = elim (cases_lt a b) as (λ _. b ≤ a) [
@@ -55,17 +57,17 @@ ltb_true a b is = elim (cases_lt a b) as (λ _. a < b) [
   | inr h ↦ let e : false ≡ true = sym (le-ltb a b h) ∙ is in cc
 ]
 
-ways : (sizes : Numbers) (end : End) → IsTriedOrRefusal (budget_refusal sizes) end → Ways sizes end
-ways sizes end answer = ways_by (nat_lt sizes.memory (fixed_of sizes)) sizes end (ltb_true sizes.memory (fixed_of sizes)) (ltb_false sizes.memory (fixed_of sizes)) answer
+ways : (r : Arguments) (end : End) → IsTriedOrRefusal (refusal_of_budget r) end → Ways r end
+ways r end answer = ways_by (nat_lt r.sizes.memory (fixed_of r.sizes)) r end (ltb_true r.sizes.memory (fixed_of r.sizes)) (ltb_false r.sizes.memory (fixed_of r.sizes)) answer
 
 -- a script that was run has a budget that is large enough
-reaches : (sizes : Numbers) (end : End) → BeganCommands end → Ways sizes end → fixed_of sizes ≤ sizes.memory
-reaches sizes end run (inl (h, is)) = absurd (subst BeganCommands is run)
-reaches sizes end run (inr (inl (h, tried))) = h
-reaches sizes end run (inr (inr is)) = absurd (subst BeganCommands is run)
+reaches : (r : Arguments) (end : End) → BeganCommands end → Ways r end → fixed_of r.sizes ≤ r.sizes.memory
+reaches r end run (inl (h, is)) = absurd (subst BeganCommands is run)
+reaches r end run (inr (inl (h, tried))) = h
+reaches r end run (inr (inr is)) = absurd (subst BeganCommands is run)
 
-module _ (told : Option (List ℕ → Option (List ℕ))) (replied : Reply → Type 0) (name : List ℕ) (sizes : Numbers) where
-  run_refuses : (end : End) → BeganCommands end → ((line said got : ℕ) → end ≡ FileChanged line said got → RefusalIsRight told replied name sizes (FileChanged line said got)) → RefusalIsRight told replied name sizes end
+module _ (told : Option (List ℕ → Option (List ℕ))) (replied : Reply → Type 0) (r : Arguments) where
+  run_refuses : (end : End) → BeganCommands end → ((line said got : ℕ) → end ≡ FileChanged line said got → RefusalIsRight told replied r (FileChanged line said got)) → RefusalIsRight told replied r end
   run_refuses Done run changed = tt
   run_refuses (BadLine line) run changed = absurd run
   run_refuses Usage run changed = absurd run
@@ -82,12 +84,12 @@ module _ (told : Option (List ℕ → Option (List ℕ))) (replied : Reply → T
 
   -- a script that was loaded is refused for its budget, its device, or a file that had changed
   pub loaded_refusal :
-      (script : Reading) (end : End) → IsScript told replied name sizes.workers script → IsTriedOrRefusal (budget_refusal sizes) end
-      → ((line said got : ℕ) → end ≡ FileChanged line said got → HasChanged told replied script line said got) → RefusalIsRight told replied name sizes end
+      (script : Reading) (end : End) → IsScript told replied r.script r.sizes.workers script → IsTriedOrRefusal (refusal_of_budget r) end
+      → ((line said got : ℕ) → end ≡ FileChanged line said got → HasChanged told replied script line said got) → RefusalIsRight told replied r end
   loaded_refusal script end is answer changed =
-      let good : OfGood told replied name sizes (λ script. Unit {0}) = (script, (is, tt)) in
-      let P : End → Type 0 = λ e. RefusalIsRight told replied name sizes e in
-      elim (ways sizes end answer) as (λ _. RefusalIsRight told replied name sizes end) [
+      let good : OfGood told replied r (λ script. Unit {0}) = (script, (is, tt)) in
+      let P : End → Type 0 = λ e. RefusalIsRight told replied r e in
+      elim (ways r end answer) as (λ _. RefusalIsRight told replied r end) [
         | inl (h, e) ↦ subst P (sym e) ((h, refl), good)
         | inr (inl (h, inl run)) ↦ run_refuses end run (λ line said got e. inr (h, (script, (is, changed line said got e))))
         | inr (inl (h, inr e)) ↦ subst P (sym e) (h, good)
@@ -97,72 +99,72 @@ module _ (told : Option (List ℕ → Option (List ℕ))) (replied : Reply → T
   -- how a script that was loaded was run
   pub loaded_run :
       (tells : Type 0) (script : Reading) (before now : Option (List ℕ)) (blocks : List Shown) (end : End)
-      → IsScript told replied name sizes.workers script → IsTriedOrRefusal (budget_refusal sizes) end → RunWrites tells told before now sizes script blocks end → RunIsRight tells told replied name sizes before now blocks end
-  loaded_run tells script before now blocks Done is answer w = (reaches sizes Done tt (ways sizes Done answer), (script, (is, w.done refl)))
+      → IsScript told replied r.script r.sizes.workers script → IsTriedOrRefusal (refusal_of_budget r) end → RunWrites tells told before now r script blocks end → RunIsRight tells told replied r before now blocks end
+  loaded_run tells script before now blocks Done is answer w = (reaches r Done tt (ways r Done answer), (script, (is, w.done refl)))
   loaded_run tells script before now blocks (BadLine line) is answer w = tt
   loaded_run tells script before now blocks Usage is answer w = tt
-  loaded_run tells script before now blocks ReadFault is answer w = inr (reaches sizes ReadFault tt (ways sizes ReadFault answer), (script, (is, w.file)))
-  loaded_run tells script before now blocks WriteFault is answer w = (reaches sizes WriteFault tt (ways sizes WriteFault answer), (script, (is, w.part)))
-  loaded_run tells script before now blocks (DeviceFault number) is answer w = (reaches sizes (DeviceFault number) tt (ways sizes (DeviceFault number) answer), (script, (is, w.part)))
-  loaded_run tells script before now blocks NoFreeBlock is answer w = (reaches sizes NoFreeBlock tt (ways sizes NoFreeBlock answer), (script, (is, w.full refl)))
+  loaded_run tells script before now blocks ReadFault is answer w = inr (reaches r ReadFault tt (ways r ReadFault answer), (script, (is, w.file)))
+  loaded_run tells script before now blocks WriteFault is answer w = (reaches r WriteFault tt (ways r WriteFault answer), (script, (is, w.part)))
+  loaded_run tells script before now blocks (DeviceFault number) is answer w = (reaches r (DeviceFault number) tt (ways r (DeviceFault number) answer), (script, (is, w.part)))
+  loaded_run tells script before now blocks NoFreeBlock is answer w = (reaches r NoFreeBlock tt (ways r NoFreeBlock answer), (script, (is, w.full refl)))
   loaded_run tells script before now blocks (BudgetTooSmall need) is answer w = tt
   loaded_run tells script before now blocks Memory is answer w =
-      elim (w.memory refl) as (λ _. (now ≡ before) ⊎ OfGood told replied name sizes (HasRunToLoad tells told before now)) [ inl same ↦ inl same | inr ran ↦ inr (script, (is, ran)) ]
-  loaded_run tells script before now blocks (FileChanged line said got) is answer w = inr (reaches sizes (FileChanged line said got) tt (ways sizes (FileChanged line said got) answer), (script, (is, w.file)))
+      elim (w.memory refl) as (λ _. (now ≡ before) ⊎ OfGood told replied r (HasRunToLoad r.form tells told before now)) [ inl same ↦ inl same | inr ran ↦ inr (script, (is, ran)) ]
+  loaded_run tells script before now blocks (FileChanged line said got) is answer w = inr (reaches r (FileChanged line said got) tt (ways r (FileChanged line said got) answer), (script, (is, w.file)))
   loaded_run tells script before now blocks NoDevice is answer w = tt
   loaded_run tells script before now blocks NoScript is answer w = tt
   loaded_run tells script before now blocks ScriptTooLong is answer w = tt
 
 -- the same where the library is asked later, and tells the same
 pub later_run :
-    (told later : Option (List ℕ → Option (List ℕ))) (first replied : Reply → Type 0) (name : List ℕ) (sizes : Numbers) (workers : ℕ) (tells : Type 0) (script : Reading) (before now : Option (List ℕ)) (blocks : List Shown) (end : End)
-    → later ≡ told → workers ≡ sizes.workers → Remembers first replied → IsScript told first name workers script → IsTriedOrRefusal (budget_refusal sizes) end → RunWrites tells later before now sizes script blocks end
-    → RunIsRight tells told replied name sizes before now blocks end
-later_run told later first replied name sizes workers tells script before now blocks end kept same remembers is answer w =
-    let P : Option (List ℕ → Option (List ℕ)) → Type 0 = λ t. RunIsRight tells t replied name sizes before now blocks end in
-    let Q : Option (List ℕ → Option (List ℕ)) → Type 0 = λ t. IsScript t replied name sizes.workers script in
-    let W : ℕ → Type 0 = λ w. IsScript told replied name w script in
-    let now_is : IsScript told replied name sizes.workers script = subst W same (script_remembered told first replied name workers script remembers is) in
-    subst P kept (loaded_run later replied name sizes tells script before now blocks end (subst Q (sym kept) now_is) answer w)
+    (told later : Option (List ℕ → Option (List ℕ))) (first replied : Reply → Type 0) (r : Arguments) (workers : ℕ) (tells : Type 0) (script : Reading) (before now : Option (List ℕ)) (blocks : List Shown) (end : End)
+    → later ≡ told → workers ≡ r.sizes.workers → Remembers first replied → IsScript told first r.script workers script → IsTriedOrRefusal (refusal_of_budget r) end → RunWrites tells later before now r script blocks end
+    → RunIsRight tells told replied r before now blocks end
+later_run told later first replied r workers tells script before now blocks end kept same remembers is answer w =
+    let P : Option (List ℕ → Option (List ℕ)) → Type 0 = λ t. RunIsRight tells t replied r before now blocks end in
+    let Q : Option (List ℕ → Option (List ℕ)) → Type 0 = λ t. IsScript t replied r.script r.sizes.workers script in
+    let W : ℕ → Type 0 = λ w. IsScript told replied r.script w script in
+    let now_is : IsScript told replied r.script r.sizes.workers script = subst W same (script_remembered told first replied r.script workers script remembers is) in
+    subst P kept (loaded_run later replied r tells script before now blocks end (subst Q (sym kept) now_is) answer w)
 
 pub later_refusal :
-    (told later : Option (List ℕ → Option (List ℕ))) (first replied : Reply → Type 0) (name : List ℕ) (sizes : Numbers) (workers : ℕ) (script : Reading) (end : End)
-    → later ≡ told → workers ≡ sizes.workers → Remembers first replied → IsScript told first name workers script → IsTriedOrRefusal (budget_refusal sizes) end
-    → ((line said got : ℕ) → end ≡ FileChanged line said got → HasChanged later replied script line said got) → RefusalIsRight told replied name sizes end
-later_refusal told later first replied name sizes workers script end kept same remembers is answer changed =
-    let P : Option (List ℕ → Option (List ℕ)) → Type 0 = λ t. RefusalIsRight t replied name sizes end in
-    let Q : Option (List ℕ → Option (List ℕ)) → Type 0 = λ t. IsScript t replied name sizes.workers script in
-    let W : ℕ → Type 0 = λ w. IsScript told replied name w script in
-    let now_is : IsScript told replied name sizes.workers script = subst W same (script_remembered told first replied name workers script remembers is) in
-    subst P kept (loaded_refusal later replied name sizes script end (subst Q (sym kept) now_is) answer changed)
+    (told later : Option (List ℕ → Option (List ℕ))) (first replied : Reply → Type 0) (r : Arguments) (workers : ℕ) (script : Reading) (end : End)
+    → later ≡ told → workers ≡ r.sizes.workers → Remembers first replied → IsScript told first r.script workers script → IsTriedOrRefusal (refusal_of_budget r) end
+    → ((line said got : ℕ) → end ≡ FileChanged line said got → HasChanged later replied script line said got) → RefusalIsRight told replied r end
+later_refusal told later first replied r workers script end kept same remembers is answer changed =
+    let P : Option (List ℕ → Option (List ℕ)) → Type 0 = λ t. RefusalIsRight t replied r end in
+    let Q : Option (List ℕ → Option (List ℕ)) → Type 0 = λ t. IsScript t replied r.script r.sizes.workers script in
+    let W : ℕ → Type 0 = λ w. IsScript told replied r.script w script in
+    let now_is : IsScript told replied r.script r.sizes.workers script = subst W same (script_remembered told first replied r.script workers script remembers is) in
+    subst P kept (loaded_refusal later replied r script end (subst Q (sym kept) now_is) answer changed)
 
 -- the output of the commands before one that reads a file, where blocks tell
-to_file : (tells : Type 0) (told : Option (List ℕ → Option (List ℕ))) (script : Reading) (first : List Shown) (before now : Option (List ℕ)) → (tells → AllTell first)
-    → TakesBeforeFile told script first before now → HasRunToFile tells told before now script
-to_file tells told script first before now blocks ran = record { done = ran.done; file = ran.file; size = ran.size; here = ran.here; took = λ t files are. ran.took (blocks t) files are }
+to_file : (form : Form) (tells : Type 0) (told : Option (List ℕ → Option (List ℕ))) (script : Reading) (first : List Shown) (before now : Option (List ℕ)) → (tells → AllTell first)
+    → TakesBeforeFile form told script first before now → HasRunToFile form tells told before now script
+to_file form tells told script first before now blocks ran = record { done = ran.done; file = ran.file; size = ran.size; here = ran.here; took = λ t files are. ran.took (blocks t) files are }
 
 -- or before one that begins a session
-pub ran_to_load : (tells : Type 0) (told : Option (List ℕ → Option (List ℕ))) (script : Reading) (first : List Shown) (before now : Option (List ℕ)) → (tells → AllTell first)
-    → (now ≡ before) ⊎ TakesBeforeLoad told script first before now → (now ≡ before) ⊎ HasRunToLoad tells told before now script
-ran_to_load tells told script first before now blocks (inl same) = inl same
-ran_to_load tells told script first before now blocks (inr ran) = inr (record { done = ran.done; command = ran.command; here = ran.here; loads = ran.loads; took = λ t files are. ran.took (blocks t) files are })
+pub ran_to_load : (form : Form) (tells : Type 0) (told : Option (List ℕ → Option (List ℕ))) (script : Reading) (first : List Shown) (before now : Option (List ℕ)) → (tells → AllTell first)
+    → (now ≡ before) ⊎ TakesBeforeLoad form told script first before now → (now ≡ before) ⊎ HasRunToLoad form tells told before now script
+ran_to_load form tells told script first before now blocks (inl same) = inl same
+ran_to_load form tells told script first before now blocks (inr ran) = inr (record { done = ran.done; command = ran.command; here = ran.here; loads = ran.loads; took = λ t files are. ran.took (blocks t) files are })
 
 -- where a file could not be read, or had changed, by the end of a run
-pub fault_to_file : (tells : Type 0) (told : Option (List ℕ → Option (List ℕ))) (script : Reading) (first : List Shown) (before now : Option (List ℕ)) (end : End) → (tells → AllTell first)
-    → FaultBeforeFile told script first before now end → FaultToFile tells told before now script end
-fault_to_file tells told script first before now Done blocks ran = tt
-fault_to_file tells told script first before now (BadLine line) blocks ran = tt
-fault_to_file tells told script first before now Usage blocks ran = tt
-fault_to_file tells told script first before now ReadFault blocks ran = to_file tells told script first before now blocks ran
-fault_to_file tells told script first before now WriteFault blocks ran = tt
-fault_to_file tells told script first before now (DeviceFault number) blocks ran = tt
-fault_to_file tells told script first before now NoFreeBlock blocks ran = tt
-fault_to_file tells told script first before now (BudgetTooSmall need) blocks ran = tt
-fault_to_file tells told script first before now Memory blocks ran = tt
-fault_to_file tells told script first before now (FileChanged line said got) blocks ran = to_file tells told script first before now blocks ran
-fault_to_file tells told script first before now NoDevice blocks ran = tt
-fault_to_file tells told script first before now NoScript blocks ran = tt
-fault_to_file tells told script first before now ScriptTooLong blocks ran = tt
+pub fault_to_file : (form : Form) (tells : Type 0) (told : Option (List ℕ → Option (List ℕ))) (script : Reading) (first : List Shown) (before now : Option (List ℕ)) (end : End) → (tells → AllTell first)
+    → FaultBeforeFile form told script first before now end → FaultToFile form tells told before now script end
+fault_to_file form tells told script first before now Done blocks ran = tt
+fault_to_file form tells told script first before now (BadLine line) blocks ran = tt
+fault_to_file form tells told script first before now Usage blocks ran = tt
+fault_to_file form tells told script first before now ReadFault blocks ran = to_file form tells told script first before now blocks ran
+fault_to_file form tells told script first before now WriteFault blocks ran = tt
+fault_to_file form tells told script first before now (DeviceFault number) blocks ran = tt
+fault_to_file form tells told script first before now NoFreeBlock blocks ran = tt
+fault_to_file form tells told script first before now (BudgetTooSmall need) blocks ran = tt
+fault_to_file form tells told script first before now Memory blocks ran = tt
+fault_to_file form tells told script first before now (FileChanged line said got) blocks ran = to_file form tells told script first before now blocks ran
+fault_to_file form tells told script first before now NoDevice blocks ran = tt
+fault_to_file form tells told script first before now NoScript blocks ran = tt
+fault_to_file form tells told script first before now ScriptTooLong blocks ran = tt
 
 nothing_by : (X : Type 0) (small : Bool) (need : ℕ) (end : End) → MatchOption (if small then Some (BudgetTooSmall need) else None) (BeganCommands end) (λ e. end ≡ e) ⊎ (end ≡ Memory) → ((n : ℕ) → end ≡ BudgetTooSmall n → X) → MayWrite end ⊎ X
 nothing_by X true need end (inl is) nothing = inr (nothing need is)
@@ -209,33 +211,33 @@ of_files files replied name workers script P is holds =
     subst R is.lengths (subst Q is.names holds)
 
 pub of_commands :
-    (told later : Option Files) (replied : Reply → Type 0) (name : List ℕ) (workers : ℕ) (script : Reading) (sizes : Numbers) (P : Numbers → (ℕ → List Pair) → List Command → Type 0)
-    → later ≡ told → workers ≡ sizes.workers → IsScript told replied name workers script → ((files : Files) → AreFilesOf later script files → P sizes (given_of files script) (command_list script))
-    → OfFile told name sizes P
-of_commands None later replied name workers script sizes P kept same is holds = tt
-of_commands (Some files) later replied name workers script sizes P kept same is holds =
-    let Q : Option (List ℕ) → Type 0 = λ o. IfSome o (λ bytes. P sizes (script_given files bytes sizes.workers) (script_commands files bytes sizes.workers)) in
-    let W : ℕ → Type 0 = λ w. IsScript (Some files) replied name w script in
-    let of_sizes : IsScript (Some files) replied name sizes.workers script = subst W same is in
-    subst Q (sym of_sizes.loaded) (of_files files replied name sizes.workers script (P sizes) of_sizes (holds files (inl kept)))
+    (told later : Option Files) (replied : Reply → Type 0) (workers : ℕ) (script : Reading) (r : Arguments) (P : Arguments → (ℕ → List Pair) → List Command → Type 0)
+    → later ≡ told → workers ≡ r.sizes.workers → IsScript told replied r.script workers script → ((files : Files) → AreFilesOf later script files → P r (given_of files script) (command_list script))
+    → OfFile told r P
+of_commands None later replied workers script r P kept same is holds = tt
+of_commands (Some files) later replied workers script r P kept same is holds =
+    let Q : Option (List ℕ) → Type 0 = λ o. IfSome o (λ bytes. P r (script_given files bytes r.sizes.workers) (script_commands files bytes r.sizes.workers)) in
+    let W : ℕ → Type 0 = λ w. IsScript (Some files) replied r.script w script in
+    let of_sizes : IsScript (Some files) replied r.script r.sizes.workers script = subst W same is in
+    subst Q (sym of_sizes.loaded) (of_files files replied r.script r.sizes.workers script (P r) of_sizes (holds files (inl kept)))
 
 -- the refusal of a file
 module _ (files : List ℕ → Option (List ℕ)) where
-  good_file : (bytes : List ℕ) (sizes : Numbers) → length bytes ≤ 1048576 → first_bad_by (is_usable files) 1 (script_kinds bytes sizes.workers) ≡ None → refusal_of_file files (Some bytes) sizes ≡ budget_refusal sizes
-  good_file bytes sizes short good =
-      ap (λ b. if b then Some ScriptTooLong else refusal_of_bad (first_bad_by (is_usable files) 1 (script_kinds bytes sizes.workers)) sizes) (le-ltb 1048576 (length bytes) short) ∙ ap (λ (b : Option ℕ). refusal_of_bad b sizes) good
+  good_file : (bytes : List ℕ) (r : Arguments) → length bytes ≤ 1048576 → first_bad_by (is_usable files) 1 (script_kinds bytes r.sizes.workers) ≡ None → refusal_of_file files (Some bytes) r ≡ refusal_of_budget r
+  good_file bytes r short good =
+      ap (λ b. if b then Some ScriptTooLong else refusal_of_bad (first_bad_by (is_usable files) 1 (script_kinds bytes r.sizes.workers)) r) (le-ltb 1048576 (length bytes) short) ∙ ap (λ (b : Option ℕ). refusal_of_bad b r) good
 
 -- the answer for a script that was loaded
 pub loaded_answer :
-    (told : Option (List ℕ → Option (List ℕ))) (replied : Reply → Type 0) (name : List ℕ) (workers : ℕ) (script : Reading) (sizes : Numbers) (end : End)
-    → workers ≡ sizes.workers → IsScript told replied name workers script → IsTriedOrRefusal (budget_refusal sizes) end → IfSome told (λ files. IsAnswer (refusal_of_file files (files name) sizes) end)
-loaded_answer None replied name workers script sizes end same_workers is answer = tt
-loaded_answer (Some files) replied name workers script sizes end same_workers is answer =
-    let W : ℕ → Type 0 = λ w. IsScript (Some files) replied name w script in
-    let of_sizes : IsScript (Some files) replied name sizes.workers script = subst W same_workers is in
-    let same : refusal_of_file files (files name) sizes ≡ budget_refusal sizes = ap (λ (f : Option (List ℕ)). refusal_of_file files f sizes) of_sizes.loaded ∙ good_file files of_sizes.bytes sizes of_sizes.short of_sizes.usable in
-    let P : Option End → Type 0 = λ r. IsAnswer r end in
-    subst P (sym same) (elim answer as (λ _. IsAnswer (budget_refusal sizes) end) [ inl is ↦ inl is | inr memory ↦ inr (inl memory) ])
+    (told : Option (List ℕ → Option (List ℕ))) (replied : Reply → Type 0) (workers : ℕ) (script : Reading) (r : Arguments) (end : End)
+    → workers ≡ r.sizes.workers → IsScript told replied r.script workers script → IsTriedOrRefusal (refusal_of_budget r) end → IfSome told (λ files. IsAnswer (refusal_of_file files (files r.script) r) end)
+loaded_answer None replied workers script r end same_workers is answer = tt
+loaded_answer (Some files) replied workers script r end same_workers is answer =
+    let W : ℕ → Type 0 = λ w. IsScript (Some files) replied r.script w script in
+    let of_sizes : IsScript (Some files) replied r.script r.sizes.workers script = subst W same_workers is in
+    let same : refusal_of_file files (files r.script) r ≡ refusal_of_budget r = ap (λ (f : Option (List ℕ)). refusal_of_file files f r) of_sizes.loaded ∙ good_file files of_sizes.bytes r of_sizes.short of_sizes.usable in
+    let P : Option End → Type 0 = λ e. IsAnswer e end in
+    subst P (sym same) (elim answer as (λ _. IsAnswer (refusal_of_budget r) end) [ inl is ↦ inl is | inr memory ↦ inr (inl memory) ])
 
 untried : (end : End) → (BeganCommands end → ⊥) → (end ≡ NoDevice → ⊥) → (end ≡ Memory → ⊥) → (end ≡ ReadFault → ⊥) → IsTried end ⊎ IsGivenUp end → ⊥
 untried end run device memory read (inl (inl h)) = run h
@@ -264,19 +266,19 @@ completed files sizes limited load NoScript tried changed above fault room = abs
 completed files sizes limited load ScriptTooLong tried changed above fault room = absurd (untried ScriptTooLong (λ h. h) (λ e. cc) (λ e. cc) (λ e. cc) tried)
 
 file_completed :
-    (files : Files) (file : Option (List ℕ)) (sizes : Numbers) (load : (ℕ → List Pair) → List Command → ℕ) (end : End)
-    → IsAnswer (refusal_of_file files file sizes) end → ((line said got : ℕ) → end ≡ FileChanged line said got → Some files ≡ None)
-    → (end ≡ NoFreeBlock → IfSome file (λ bytes. IsTooLarge load sizes (script_given files bytes sizes.workers) (script_commands files bytes sizes.workers))) → NoFault end
-    → IfSome file (λ bytes. EndsWell load sizes files bytes end)
-file_completed files None sizes load end answer changed above fault = tt
-file_completed files (Some bytes) sizes load end answer changed above fault = λ good room.
-    let P : Option End → Type 0 = λ r. IsAnswer r end in
-    completed files sizes (begins_limit (script_commands files bytes sizes.workers)) (load (script_given files bytes sizes.workers) (script_commands files bytes sizes.workers)) end (subst P good answer) changed above fault room
+    (files : Files) (file : Option (List ℕ)) (r : Arguments) (load : (ℕ → List Pair) → List Command → ℕ) (end : End)
+    → IsAnswer (refusal_of_file files file r) end → ((line said got : ℕ) → end ≡ FileChanged line said got → Some files ≡ None)
+    → (end ≡ NoFreeBlock → IfSome file (λ bytes. IsTooLarge load r (script_given files bytes r.sizes.workers) (script_commands files bytes r.sizes.workers))) → NoFault end
+    → IfSome file (λ bytes. EndsWell load r files bytes end)
+file_completed files None r load end answer changed above fault = tt
+file_completed files (Some bytes) r load end answer changed above fault = λ good room.
+    let P : Option End → Type 0 = λ e. IsAnswer e end in
+    completed files r.sizes (begins_limit (script_commands files bytes r.sizes.workers)) (load (script_given files bytes r.sizes.workers) (script_commands files bytes r.sizes.workers)) end (subst P good answer) changed above fault room
 
 pub named_completed :
-    (told : Option Files) (name : List ℕ) (sizes : Numbers) (load : (ℕ → List Pair) → List Command → ℕ) (end : End)
-    → IfSome told (λ files. IsAnswer (refusal_of_file files (files name) sizes) end) → ((line said got : ℕ) → end ≡ FileChanged line said got → told ≡ None)
-    → (end ≡ NoFreeBlock → OfFile told name sizes (IsTooLarge load)) → NoFault end
-    → IfSome told (λ files. IfSome (files name) (λ bytes. EndsWell load sizes files bytes end))
-named_completed None name sizes load end answer changed above fault = tt
-named_completed (Some files) name sizes load end answer changed above fault = file_completed files (files name) sizes load end answer changed above fault
+    (told : Option Files) (r : Arguments) (load : (ℕ → List Pair) → List Command → ℕ) (end : End)
+    → IfSome told (λ files. IsAnswer (refusal_of_file files (files r.script) r) end) → ((line said got : ℕ) → end ≡ FileChanged line said got → told ≡ None)
+    → (end ≡ NoFreeBlock → OfFile told r (IsTooLarge load)) → NoFault end
+    → IfSome told (λ files. IfSome (files r.script) (λ bytes. EndsWell load r files bytes end))
+named_completed None r load end answer changed above fault = tt
+named_completed (Some files) r load end answer changed above fault = file_completed files (files r.script) r load end answer changed above fault

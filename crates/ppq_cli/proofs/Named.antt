@@ -4,7 +4,6 @@ use Rattle.std.specs.Prelude.{IfSome, option_map, String}
 use Rattle.std.specs.declared.alloc.Global.{Global}
 use Rattle.ppq_words.specs.ppq_record.declared.pair.Pair.{Pair}
 use Rattle.ppq_words.specs.ppq_outside.Told.{Reply}
-use Rattle.ppq_words.specs.ppq_budget.Sizes.{Numbers}
 use Rattle.ppq_words.specs.ppq_script.declared.command.Command.{Command}
 use Rattle.ppq_words.specs.ppq_script.Reading.{Reading as Script, command_list}
 use Rattle.ppq_words.specs.Reading.{Reading, as_reading}
@@ -25,16 +24,16 @@ of_words words found arguments P is read holds =
 
 -- the same of the script that the words name
 pub of_named :
-    (words : List (String Global)) (found : Option RunArguments) (arguments : RunArguments) (told later : Option Files) (replied : Reply → Type 0) (workers : ℕ) (script : Script) (P : Numbers → (ℕ → List Pair) → List Command → Type 0)
+    (words : List (String Global)) (found : Option RunArguments) (arguments : RunArguments) (told later : Option Files) (replied : Reply → Type 0) (workers : ℕ) (script : Script) (P : Reading → (ℕ → List Pair) → List Command → Type 0)
     → found ≡ Some arguments → option_map as_reading found ≡ reading words → later ≡ told → workers ≡ arguments.sizes.workers → IsScript told replied arguments.script.now workers script
-    → ((files : Files) → AreFilesOf later script files → P arguments.sizes (given_of files script) (command_list script)) → OfWords words (λ r. OfFile told r.script r.sizes P)
+    → ((files : Files) → AreFilesOf later script files → P (as_reading arguments) (given_of files script) (command_list script)) → OfWords words (λ r. OfFile told r P)
 of_named words found arguments told later replied workers script P is read kept same loaded holds =
-    of_words words found arguments (λ r. OfFile told r.script r.sizes P) is read (of_commands told later replied arguments.script.now workers script arguments.sizes P kept same loaded holds)
+    of_words words found arguments (λ r. OfFile told r P) is read (of_commands told later replied workers script (as_reading arguments) P kept same loaded holds)
 
 -- what is the answer to the arguments is the answer to the words
 pub named_answer :
     (words : List (String Global)) (found : Option RunArguments) (arguments : RunArguments) (told : Option Files) (end : End) → found ≡ Some arguments → option_map as_reading found ≡ reading words
-    → IfSome told (λ files. IsAnswer (refusal_of_file files (files arguments.script.now) arguments.sizes) end) → IfSome told (λ files. IsAnswer (refusal_of (reading words) files) end)
+    → IfSome told (λ files. IsAnswer (refusal_of_file files (files arguments.script.now) (as_reading arguments)) end) → IfSome told (λ files. IsAnswer (refusal_of (reading words) files) end)
 named_answer words found arguments told end is read answer =
     let Q : Option Reading → Type 0 = λ o. IfSome told (λ files. IsAnswer (refusal_of o files) end) in
     subst Q (sym (ap (option_map as_reading) is) ∙ read) answer

@@ -11,14 +11,15 @@ use Rattle.ppq_words.specs.ppq_outside.Shown.{Shown}
 use Rattle.ppq_words.specs.ppq_outside.Told.{Reply, TakesPart}
 use Rattle.ppq_words.specs.ppq_budget.Sizes.{Numbers, fixed_of}
 use Rattle.ppq_words.specs.ppq_script.Reading.{Reading}
+use Rattle.ppq_words.specs.Reading.{Reading as Arguments}
 use Rattle.ppq_words.proofs.ppq_outside.Replies.{no_replies}
 use Rattle.ppq_engine.specs.Ends.{BeganCommands, BeganOrRefused, budget_refusal}
 use Rattle.ppq_engine.specs.declared.end.End.{End}
 use Rattle.ppq_engine.specs.declared.end.End.TheVariants.{Done, ReadFault, WriteFault, NoFreeBlock, BudgetTooSmall, Memory, NoDevice}
 use Rattle.ppq_cli.specs.Device.{AreBlocks, HasReason, IsSurelyRun, make_end}
-use Rattle.ppq_cli.specs.Replies.{LibraryKeeps, FaultToFile}
+use Rattle.ppq_cli.specs.Replies.{need_of, LibraryKeeps, FaultToFile}
 use Rattle.ppq_cli.specs.RunOver.{RunWrites, RunEnds, RunCounts, RunFaults}
-use Rattle.ppq_cli.specs.RunWords.{IsTriedOrRefusal}
+use Rattle.ppq_cli.specs.RunWords.{refusal_of_budget, IsTriedOrRefusal}
 
 -- nothing is a part of each text
 takes_none : (told : Option (List ℕ)) (text : List ℕ) → TakesPart told told text
@@ -27,39 +28,39 @@ takes_none (Some had) text = (0, omega arith, ap (λ (t : List ℕ). Some t) (sy
 
 -- nothing was written, and the end is that of no run
 pub wrote_nothing :
-    (tells : Type 0) (told : Option (List ℕ → Option (List ℕ))) (took : Option (List ℕ)) (sizes : Numbers) (script : Reading) (blocks : List Shown) (end : End)
-    → (end ≡ Done → ⊥) → (end ≡ NoFreeBlock → ⊥) → FaultToFile tells told took took script end → RunWrites tells told took took sizes script blocks end
-wrote_nothing tells told took sizes script blocks end done full file =
+    (tells : Type 0) (told : Option (List ℕ → Option (List ℕ))) (took : Option (List ℕ)) (r : Arguments) (script : Reading) (blocks : List Shown) (end : End)
+    → (end ≡ Done → ⊥) → (end ≡ NoFreeBlock → ⊥) → FaultToFile r.form tells told took took script end → RunWrites tells told took took r script blocks end
+wrote_nothing tells told took r script blocks end done full file =
     record { done = λ is. absurd (done is); full = λ is. absurd (full is); part = λ t files are. takes_none took _; memory = λ is. inl refl; file = file; nothing = inr refl }
 
 -- as where the device could not be made
-pub unmade_wrote : (tells : Type 0) (told : Option (List ℕ → Option (List ℕ))) (took : Option (List ℕ)) (sizes : Numbers) (script : Reading) (blocks : List Shown) (fault : OutsideFault) → RunWrites tells told took took sizes script blocks (make_end fault)
-unmade_wrote tells told took sizes script blocks outside.Failed = wrote_nothing tells told took sizes script blocks NoDevice (λ is. cc) (λ is. cc) tt
-unmade_wrote tells told took sizes script blocks outside.Memory = wrote_nothing tells told took sizes script blocks Memory (λ is. cc) (λ is. cc) tt
+pub unmade_wrote : (tells : Type 0) (told : Option (List ℕ → Option (List ℕ))) (took : Option (List ℕ)) (r : Arguments) (script : Reading) (blocks : List Shown) (fault : OutsideFault) → RunWrites tells told took took r script blocks (make_end fault)
+unmade_wrote tells told took r script blocks outside.Failed = wrote_nothing tells told took r script blocks NoDevice (λ is. cc) (λ is. cc) tt
+unmade_wrote tells told took r script blocks outside.Memory = wrote_nothing tells told took r script blocks Memory (λ is. cc) (λ is. cc) tt
 
 -- nothing was asked of the library
 pub asked_nothing : {L : Type 0} (files : L → Option (List ℕ → Option (List ℕ))) (replied : L → Reply → Type 0) (kind : Reply → Type 0) (library : L) → LibraryKeeps files replied kind library library
 asked_nothing files replied kind library = record { told = refl; remembers = λ reply had. had; asks = no_replies (replied library) kind }
 
 -- the budget is too small
-module _ (sizes : Numbers) (small : sizes.memory < fixed_of sizes) where
-  pub small_ends : (told : Option (List ℕ → Option (List ℕ))) (replied : Reply → Type 0) (script : Reading) (blocks : List Shown) → RunEnds told replied sizes script blocks (BudgetTooSmall (fixed_of sizes))
+module _ (r : Arguments) (small : r.sizes.memory < fixed_of r.sizes) where
+  pub small_ends : (told : Option (List ℕ → Option (List ℕ))) (replied : Reply → Type 0) (script : Reading) (blocks : List Shown) → RunEnds told replied r script blocks (BudgetTooSmall (need_of r))
   small_ends told replied script blocks = record {
     answer =
-        let P : Bool → Type 0 = λ b. MatchOption (if b then Some (BudgetTooSmall (fixed_of sizes)) else None) (BeganCommands (BudgetTooSmall (fixed_of sizes)) ⊎ (BudgetTooSmall (fixed_of sizes) ≡ NoDevice)) (λ e. BudgetTooSmall (fixed_of sizes) ≡ e) in
-        inl (subst P (sym (lt-ltb sizes.memory (fixed_of sizes) small)) refl);
+        let P : Bool → Type 0 = λ b. MatchOption (if b then Some (BudgetTooSmall (need_of r)) else None) (BeganCommands (BudgetTooSmall (need_of r)) ⊎ (BudgetTooSmall (need_of r) ≡ NoDevice)) (λ e. BudgetTooSmall (need_of r) ≡ e) in
+        inl (subst P (sym (lt-ltb r.sizes.memory (fixed_of r.sizes) small)) refl);
     failed = λ number is. cc;
     changed = λ line said got is. cc;
   }
 
 -- the device was not made
-module _ (sizes : Numbers) (enough : fixed_of sizes ≤ sizes.memory) where
-  no_device : IsTriedOrRefusal (budget_refusal sizes) NoDevice
+module _ (r : Arguments) (enough : fixed_of r.sizes ≤ r.sizes.memory) where
+  no_device : IsTriedOrRefusal (refusal_of_budget r) NoDevice
   no_device =
-      let P : Bool → Type 0 = λ b. MatchOption (if b then Some (BudgetTooSmall (fixed_of sizes)) else None) (BeganCommands NoDevice ⊎ (NoDevice ≡ NoDevice)) (λ e. NoDevice ≡ e) in
-      inl (subst P (sym (le-ltb sizes.memory (fixed_of sizes) enough)) (inr refl))
+      let P : Bool → Type 0 = λ b. MatchOption (if b then Some (BudgetTooSmall (need_of r)) else None) (BeganCommands NoDevice ⊎ (NoDevice ≡ NoDevice)) (λ e. NoDevice ≡ e) in
+      inl (subst P (sym (le-ltb r.sizes.memory (fixed_of r.sizes) enough)) (inr refl))
 
-  pub unmade_ends : (told : Option (List ℕ → Option (List ℕ))) (replied : Reply → Type 0) (script : Reading) (blocks : List Shown) (fault : OutsideFault) → RunEnds told replied sizes script blocks (make_end fault)
+  pub unmade_ends : (told : Option (List ℕ → Option (List ℕ))) (replied : Reply → Type 0) (script : Reading) (blocks : List Shown) (fault : OutsideFault) → RunEnds told replied r script blocks (make_end fault)
   unmade_ends told replied script blocks outside.Failed = record { answer = no_device; failed = λ number is. cc; changed = λ line said got is. cc }
   unmade_ends told replied script blocks outside.Memory = record { answer = inr refl; failed = λ number is. cc; changed = λ line said got is. cc }
 
@@ -69,8 +70,13 @@ tried None end (inl run) = inl (inl run)
 tried (Some e) end (inl is) = inl is
 tried refusal end (inr memory) = inr memory
 
-pub begun_ends : (sizes : Numbers) (end : End) → BeganOrRefused (budget_refusal sizes) end → IsTriedOrRefusal (budget_refusal sizes) end
-begun_ends sizes end answer = tried (budget_refusal sizes) end answer
+-- so it was tried where the budget is large enough
+pub begun_ends : (r : Arguments) (end : End) → fixed_of r.sizes ≤ r.sizes.memory → BeganOrRefused (budget_refusal r.sizes) end → IsTriedOrRefusal (refusal_of_budget r) end
+begun_ends r end enough answer =
+    let large = le-ltb r.sizes.memory (fixed_of r.sizes) enough in
+    let P : Bool → Type 0 = λ b. BeganOrRefused (if b then Some (BudgetTooSmall (fixed_of r.sizes)) else None) end in
+    let Q : Bool → Type 0 = λ b. IsTriedOrRefusal (if b then Some (BudgetTooSmall (need_of r)) else None) end in
+    subst Q (sym large) (tried None end (subst P large answer))
 
 device_made : (refusal : Bool) (need : ℕ) → MatchOption (if refusal then Some (BudgetTooSmall need) else None) (BeganCommands NoDevice) (λ e. NoDevice ≡ e) ⊎ (NoDevice ≡ Memory) → ⊥
 device_made true need (inl is) = cc

@@ -3,7 +3,6 @@ use Rattle.std.proofs.Common.{◌≡◌, ℕ, ◌+◌, Bool, true, false, cond, 
 use Rattle.std.specs.Prelude.{IfSome, if◌then◌else◌, nat_lt, length, map}
 use Rattle.ppq_words.specs.ppq_record.Given.{records_of}
 use Rattle.ppq_words.specs.ppq_outside.Told.{TakesAll, bytes_or_none}
-use Rattle.ppq_words.specs.ppq_budget.Sizes.{Numbers}
 use Rattle.ppq_words.specs.ppq_script.declared.command.Command.{Command}
 use Rattle.ppq_words.specs.ppq_script.declared.session.Session.{Session}
 use Rattle.ppq_words.specs.ppq_script.declared.session.Session.TheVariants.{Outside}
@@ -12,6 +11,7 @@ use Rattle.ppq_words.specs.ppq_script.Lines.{Kind, Skipped, Plain, OfFile as Nam
 use Rattle.ppq_words.specs.ppq_script.declared.numbered.Numbered.{Numbered}
 use Rattle.ppq_words.specs.ppq_script.Checking.{with_sizes}
 use Rattle.ppq_words.specs.ppq_script.Files.{is_usable, name_at}
+use Rattle.ppq_words.specs.ppq_script.declared.form.Form.{Form}
 use Rattle.ppq_words.specs.Reading.{Reading}
 use Rattle.ppq_engine.specs.declared.end.End.TheVariants.{Done, ScriptTooLong}
 use Rattle.ppq_engine.specs.Output.{output_of}
@@ -58,63 +58,65 @@ same_from usable workers others session n (l ∷ ls) e f =
     ap₂ (λ (k : Kind) (ks : List Kind). k ∷ ks) both.0 (same_from usable workers others behind (n + 1) ls both.1.0 both.1.1)
 
 -- what a script of these bytes for so many workers writes
-abbrev script_output : Files → List ℕ → ℕ → List ℕ
-script_output files bytes workers = output_of (script_given files bytes workers) (script_commands files bytes workers)
+abbrev script_output : Form → Files → List ℕ → ℕ → List ℕ
+script_output form files bytes workers = output_of form (script_given files bytes workers) (script_commands files bytes workers)
 
 -- where no line is bad, it is the same for others
 same_output :
-    (files : Files) (bytes : List ℕ) (workers others : ℕ) → first_bad_by (is_usable files) 1 (script_kinds bytes workers) ≡ None → first_bad_by (is_usable files) 1 (script_kinds bytes others) ≡ None
-    → script_output files bytes workers ≡ script_output files bytes others
-same_output files bytes workers others good other_good =
-    ap (λ (kinds : List Kind). output_of (λ (file : ℕ). records_of (bytes_or_none (files (name_at (names_of kinds) file)))) (map (λ (n : Numbered). n.command) (with_sizes files (names_of kinds) (numbered_of 1 kinds))))
+    (form : Form) (files : Files) (bytes : List ℕ) (workers others : ℕ) → first_bad_by (is_usable files) 1 (script_kinds bytes workers) ≡ None → first_bad_by (is_usable files) 1 (script_kinds bytes others) ≡ None
+    → script_output form files bytes workers ≡ script_output form files bytes others
+same_output form files bytes workers others good other_good =
+    ap (λ (kinds : List Kind). output_of form (λ (file : ℕ). records_of (bytes_or_none (files (name_at (names_of kinds) file)))) (map (λ (n : Numbered). n.command) (with_sizes files (names_of kinds) (numbered_of 1 kinds))))
     (same_from (is_usable files) workers others Outside 1 (lines_of bytes) good other_good)
 
 -- a file that was run to its end, and what the sink took
-record Written (files : List ℕ → Option (List ℕ)) (file : Option (List ℕ)) (workers : ℕ) (before now : Option (List ℕ)) : Type 0 where
+record Written (form : Form) (files : List ℕ → Option (List ℕ)) (file : Option (List ℕ)) (workers : ℕ) (before now : Option (List ℕ)) : Type 0 where
   bytes : List ℕ
   is : file ≡ Some bytes
   good : first_bad_by (is_usable files) 1 (script_kinds bytes workers) ≡ None
-  took : TakesAll before now (script_output files bytes workers)
+  took : TakesAll before now (script_output form files bytes workers)
 
 -- a script that is done has no bad line
-good_by : (long : Bool) (bad : Option ℕ) (sizes : Numbers) → IsAnswer (if long then Some ScriptTooLong else refusal_of_bad bad sizes) Done → bad ≡ None
-good_by long None sizes answer = refl
-good_by true (Some line) sizes (inl e) = cc
-good_by true (Some line) sizes (inr (inl e)) = cc
-good_by true (Some line) sizes (inr (inr e)) = cc
-good_by false (Some line) sizes (inl e) = cc
-good_by false (Some line) sizes (inr (inl e)) = cc
-good_by false (Some line) sizes (inr (inr e)) = cc
+good_by : (long : Bool) (bad : Option ℕ) (r : Reading) → IsAnswer (if long then Some ScriptTooLong else refusal_of_bad bad r) Done → bad ≡ None
+good_by long None r answer = refl
+good_by true (Some line) r (inl e) = cc
+good_by true (Some line) r (inr (inl e)) = cc
+good_by true (Some line) r (inr (inr e)) = cc
+good_by false (Some line) r (inl e) = cc
+good_by false (Some line) r (inr (inl e)) = cc
+good_by false (Some line) r (inr (inr e)) = cc
 
 written :
-    (files : List ℕ → Option (List ℕ)) (file : Option (List ℕ)) (sizes : Numbers) (before now : Option (List ℕ))
-    → IsAnswer (refusal_of_file files file sizes) Done → IfSome file (λ bytes. TakesAll before now (script_output files bytes sizes.workers)) → Written files file sizes.workers before now
-written files None sizes before now (inl e) took = cc
-written files None sizes before now (inr (inl e)) took = cc
-written files None sizes before now (inr (inr e)) took = cc
-written files (Some bytes) sizes before now answer took =
-    record { bytes = bytes; is = refl; good = good_by (nat_lt 1048576 (length bytes)) (first_bad_by (is_usable files) 1 (script_kinds bytes sizes.workers)) sizes answer; took = took }
+    (files : List ℕ → Option (List ℕ)) (file : Option (List ℕ)) (r : Reading) (before now : Option (List ℕ))
+    → IsAnswer (refusal_of_file files file r) Done → IfSome file (λ bytes. TakesAll before now (script_output r.form files bytes r.sizes.workers)) → Written r.form files file r.sizes.workers before now
+written files None r before now (inl e) took = cc
+written files None r before now (inr (inl e)) took = cc
+written files None r before now (inr (inr e)) took = cc
+written files (Some bytes) r before now answer took =
+    record { bytes = bytes; is = refl; good = good_by (nat_lt 1048576 (length bytes)) (first_bad_by (is_usable files) 1 (script_kinds bytes r.sizes.workers)) r answer; took = took }
 
 same_file :
-    (files : List ℕ → Option (List ℕ)) (file : Option (List ℕ)) (workers others : ℕ) (before now other_before other_now : Option (List ℕ))
-    → Written files file workers before now → Written files file others other_before other_now → WriteTheSame before now other_before other_now
-same_file files file workers others before now other_before other_now one other =
+    (form : Form) (files : List ℕ → Option (List ℕ)) (file : Option (List ℕ)) (workers others : ℕ) (before now other_before other_now : Option (List ℕ))
+    → Written form files file workers before now → Written form files file others other_before other_now → WriteTheSame before now other_before other_now
+same_file form files file workers others before now other_before other_now one other =
     let e : other.bytes ≡ one.bytes = cc (one.is, other.is) in
-    let P : List ℕ → Type 0 = λ b. TakesAll other_before other_now (script_output files b others) in
+    let P : List ℕ → Type 0 = λ b. TakesAll other_before other_now (script_output form files b others) in
     let Q : List ℕ → Type 0 = λ b. first_bad_by (is_usable files) 1 (script_kinds b others) ≡ None in
-    let same : script_output files one.bytes others ≡ script_output files one.bytes workers = same_output files one.bytes others workers (subst Q e other.good) one.good in
-    (script_output files one.bytes workers, (one.took, subst (TakesAll other_before other_now) same (subst P e other.took)))
+    let same : script_output form files one.bytes others ≡ script_output form files one.bytes workers = same_output form files one.bytes others workers (subst Q e other.good) one.good in
+    (script_output form files one.bytes workers, (one.took, subst (TakesAll other_before other_now) same (subst P e other.took)))
 
 pub write_the_same :
     (told : Option (List ℕ → Option (List ℕ))) (reading other : Option Reading) (before now other_before other_now : Option (List ℕ)) → NameOneScript reading other
-    → IfSome told (λ files. IsAnswer (refusal_of reading files) Done) → IfSome reading (λ r. OfFile told r.script r.sizes (λ sizes given commands. TakesAll before now (output_of given commands)))
-    → IfSome told (λ files. IsAnswer (refusal_of other files) Done) → IfSome other (λ r. OfFile told r.script r.sizes (λ sizes given commands. TakesAll other_before other_now (output_of given commands)))
+    → IfSome told (λ files. IsAnswer (refusal_of reading files) Done) → IfSome reading (λ r. OfFile told r (λ r given commands. TakesAll before now (output_of r.form given commands)))
+    → IfSome told (λ files. IsAnswer (refusal_of other files) Done) → IfSome other (λ r. OfFile told r (λ r given commands. TakesAll other_before other_now (output_of r.form given commands)))
     → IfSome told (λ files. WriteTheSame before now other_before other_now)
 write_the_same None reading other before now other_before other_now one answer took other_answer other_took = tt
 write_the_same (Some files) None other before now other_before other_now one answer took other_answer other_took = absurd one
 write_the_same (Some files) (Some reading) None before now other_before other_now one answer took other_answer other_took = absurd one
 write_the_same (Some files) (Some reading) (Some other) before now other_before other_now one answer took other_answer other_took =
-    let P : List ℕ → Type 0 = λ n. IsAnswer (refusal_of_file files (files n) other.sizes) Done in
-    let Q : List ℕ → Type 0 = λ n. IfSome (files n) (λ bytes. TakesAll other_before other_now (script_output files bytes other.sizes.workers)) in
-    same_file files (files reading.script) reading.sizes.workers other.sizes.workers before now other_before other_now (written files (files reading.script) reading.sizes before now answer took)
-    (written files (files reading.script) other.sizes other_before other_now (subst P (sym one) other_answer) (subst Q (sym one) other_took))
+    let first = files reading.script in
+    let P : List ℕ → Type 0 = λ n. IsAnswer (refusal_of_file files (files n) other) Done in
+    let Q : List ℕ → Type 0 = λ n. IfSome (files n) (λ bytes. TakesAll other_before other_now (script_output other.form files bytes other.sizes.workers)) in
+    let W : Form → Type 0 = λ f. Written f files first other.sizes.workers other_before other_now in
+    same_file reading.form files first reading.sizes.workers other.sizes.workers before now other_before other_now (written files first reading before now answer took)
+    (subst W (sym one.1) (written files first other other_before other_now (subst P (sym one.0) other_answer) (subst Q (sym one.0) other_took)))

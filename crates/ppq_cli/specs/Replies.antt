@@ -10,7 +10,9 @@ use Rattle.ppq_words.specs.ppq_script.declared.command.Command.TheVariants.{Bulk
 use Rattle.ppq_words.specs.ppq_script.Lines.{numbered_of, names_of, first_bad, first_bad_by}
 use Rattle.ppq_words.specs.ppq_script.Files.{is_usable, IsBadLine}
 use Rattle.ppq_words.specs.ppq_script.Checking.{IsAsked, with_sizes}
+use Rattle.ppq_words.specs.ppq_script.declared.form.Form.{Form}
 use Rattle.ppq_words.specs.ppq_script.Reading.{Reading, command_list}
+use Rattle.ppq_words.specs.Reading.{Reading as Arguments, in_unit}
 use Rattle.ppq_engine.specs.Loads.{most_of, least_of, begins_limit, FitsWritten, IsLoad}
 use Rattle.ppq_engine.specs.Output.{AreFilesOf, given_of, output_of, load_of, crest_of, TakesWithin}
 use Rattle.ppq_engine.specs.Reading.{EndsAt}
@@ -110,34 +112,37 @@ pub record IsScript (told : Option (List ℕ → Option (List ℕ))) (replied : 
   pub ready : IsTrue script.checked
   pub same_workers : script.workers ≡ workers
 
--- the fact holds of a script as which the library gave this file
-abbrev pub OfGood : Option (List ℕ → Option (List ℕ)) → (Reply → Type 0) → List ℕ → Numbers → (Reading → Type 0) → Type 0
-OfGood told replied name sizes P = (script : Reading) × (IsScript told replied name sizes.workers script × P script)
+-- the fact holds of a script as which the library gave the file that the arguments name
+abbrev pub OfGood : Option (List ℕ → Option (List ℕ)) → (Reply → Type 0) → Arguments → (Reading → Type 0) → Type 0
+OfGood told replied r P = (script : Reading) × (IsScript told replied r.script r.sizes.workers script × P script)
 
 -- and the budget is no less than its fixed part
-abbrev pub OfRun : Option (List ℕ → Option (List ℕ)) → (Reply → Type 0) → List ℕ → Numbers → (Reading → Type 0) → Type 0
-OfRun told replied name sizes P = (fixed_of sizes ≤ sizes.memory) × OfGood told replied name sizes P
+abbrev pub OfRun : Option (List ℕ → Option (List ℕ)) → (Reply → Type 0) → Arguments → (Reading → Type 0) → Type 0
+OfRun told replied r P = (fixed_of r.sizes ≤ r.sizes.memory) × OfGood told replied r P
 
--- the budget is below its fixed part, which is so many records
-abbrev pub IsTooSmall : Numbers → ℕ → Type 0
-IsTooSmall sizes need = (sizes.memory < fixed_of sizes) × (need ≡ fixed_of sizes)
+-- the fixed part of the budget, in the unit in which the budget is given
+abbrev pub need_of : Arguments → ℕ
+need_of r = in_unit r.unit (fixed_of r.sizes)
+
+-- the budget is below its fixed part, which is so much
+abbrev pub IsTooSmall : Arguments → ℕ → Type 0
+IsTooSmall r need = (r.sizes.memory < fixed_of r.sizes) × (need ≡ need_of r)
 
 -- if the end refuses the script, that rests on what the library replied of it and its files
-abbrev pub RefusalIsRight : Option (List ℕ → Option (List ℕ)) → (Reply → Type 0) → List ℕ → Numbers → End → Type 0
-RefusalIsRight told replied name sizes Done = ⊤
-RefusalIsRight told replied name sizes (BadLine line) = IsBadAt replied name sizes.workers line
-RefusalIsRight told replied name sizes Usage = ⊥
-RefusalIsRight told replied name sizes ReadFault = ⊤
-RefusalIsRight told replied name sizes WriteFault = ⊤
-RefusalIsRight told replied name sizes (DeviceFault number) = ⊤
-RefusalIsRight told replied name sizes NoFreeBlock = ⊤
-RefusalIsRight told replied name sizes (BudgetTooSmall need) = IsTooSmall sizes need × OfGood told replied name sizes (λ script. ⊤)
-RefusalIsRight told replied name sizes Memory = ⊤
-RefusalIsRight told replied name sizes (FileChanged line said got) =
-    IsCutShort told replied name line said got ⊎ OfRun told replied name sizes (λ script. HasChanged told replied script line said got)
-RefusalIsRight told replied name sizes NoDevice = OfRun told replied name sizes (λ script. ⊤)
-RefusalIsRight told replied name sizes NoScript = replied (OfLength name None)
-RefusalIsRight told replied name sizes ScriptTooLong = IsTooLong replied name
+abbrev pub RefusalIsRight : Option (List ℕ → Option (List ℕ)) → (Reply → Type 0) → Arguments → End → Type 0
+RefusalIsRight told replied r Done = ⊤
+RefusalIsRight told replied r (BadLine line) = IsBadAt replied r.script r.sizes.workers line
+RefusalIsRight told replied r Usage = ⊥
+RefusalIsRight told replied r ReadFault = ⊤
+RefusalIsRight told replied r WriteFault = ⊤
+RefusalIsRight told replied r (DeviceFault number) = ⊤
+RefusalIsRight told replied r NoFreeBlock = ⊤
+RefusalIsRight told replied r (BudgetTooSmall need) = IsTooSmall r need × OfGood told replied r (λ script. ⊤)
+RefusalIsRight told replied r Memory = ⊤
+RefusalIsRight told replied r (FileChanged line said got) = IsCutShort told replied r.script line said got ⊎ OfRun told replied r (λ script. HasChanged told replied script line said got)
+RefusalIsRight told replied r NoDevice = OfRun told replied r (λ script. ⊤)
+RefusalIsRight told replied r NoScript = replied (OfLength r.script None)
+RefusalIsRight told replied r ScriptTooLong = IsTooLong replied r.script
 
 -- What follows is of a script that was run: where blocks and sink tell, and for all files that the library tells, or any where the
 -- script reads none.
@@ -146,77 +151,77 @@ RefusalIsRight told replied name sizes ScriptTooLong = IsTooLong replied name
 abbrev pub ForFiles : Type 0 → Option (List ℕ → Option (List ℕ)) → Reading → ((ℕ → List Pair) → List Command → Type 0) → Type 0
 ForFiles tells told script P = tells → (files : List ℕ → Option (List ℕ)) → AreFilesOf told script files → P (given_of files script) (command_list script)
 
--- the same of a script that was loaded, with its sizes
-abbrev pub OfLoaded : {K L : Type 0} → (K → Type 0) → K → (L → Option (List ℕ → Option (List ℕ))) → L → Reading → Numbers → (Numbers → (ℕ → List Pair) → List Command → Type 0) → Type 0
-OfLoaded tells rack told library script sizes P = ForFiles (tells rack) (told library) script (P sizes)
+-- the same of a script that was loaded, with its arguments
+abbrev pub OfLoaded : {K L : Type 0} → (K → Type 0) → K → (L → Option (List ℕ → Option (List ℕ))) → L → Reading → Arguments → (Arguments → (ℕ → List Pair) → List Command → Type 0) → Type 0
+OfLoaded tells rack told library script r P = ForFiles (tells rack) (told library) script (P r)
 
 -- The sink took all of the output. The device was used: no more records than the budget and a block for each write were ever held.
-pub record HasRunWhole (tells : Type 0) (told : Option (List ℕ → Option (List ℕ))) (sizes : Numbers) (before now : Option (List ℕ)) (blocks : List Shown) (script : Reading) : Type 0 where
-  pub took : ForFiles tells told script (λ given commands. TakesAll before now (output_of given commands))
+pub record HasRunWhole (form : Form) (tells : Type 0) (told : Option (List ℕ → Option (List ℕ))) (sizes : Numbers) (before now : Option (List ℕ)) (blocks : List Shown) (script : Reading) : Type 0 where
+  pub took : ForFiles tells told script (λ given commands. TakesAll before now (output_of form given commands))
   pub crest : ForFiles tells told script (λ given commands. FitsWritten (crest_of given commands) sizes blocks)
   pub least : FitsWritten (least_of (command_list script)) sizes blocks
 
 -- the sink took a prefix of the output
-abbrev pub HasRunPart : Type 0 → Option (List ℕ → Option (List ℕ)) → Option (List ℕ) → Option (List ℕ) → Reading → Type 0
-HasRunPart tells told before now script = ForFiles tells told script (λ given commands. TakesPart before now (output_of given commands))
+abbrev pub HasRunPart : Form → Type 0 → Option (List ℕ → Option (List ℕ)) → Option (List ℕ) → Option (List ℕ) → Reading → Type 0
+HasRunPart form tells told before now script = ForFiles tells told script (λ given commands. TakesPart before now (output_of form given commands))
 
 -- the device has too few blocks for the load, which is above one heap, unless a limit session begins; the sink took what is printed before
 -- that, and no more than a prefix of the output
-pub record HasRunFull (tells : Type 0) (told : Option (List ℕ → Option (List ℕ))) (sizes : Numbers) (before now : Option (List ℕ)) (script : Reading) : Type 0 where
-  pub part : HasRunPart tells told before now script
-  pub within : ForFiles tells told script (λ given commands. TakesWithin given before now sizes commands)
+pub record HasRunFull (form : Form) (tells : Type 0) (told : Option (List ℕ → Option (List ℕ))) (sizes : Numbers) (before now : Option (List ℕ)) (script : Reading) : Type 0 where
+  pub part : HasRunPart form tells told before now script
+  pub within : ForFiles tells told script (λ given commands. TakesWithin form given before now sizes commands)
   pub above : ForFiles tells told script (λ given commands. HasNoRoom sizes (begins_limit commands) (load_of given commands))
   pub above_any : HasNoRoom sizes (begins_limit (command_list script)) (most_of (command_list script))
 
 -- the sink took the output of the commands before one that reads a file
-pub record HasRunToFile (tells : Type 0) (told : Option (List ℕ → Option (List ℕ))) (before now : Option (List ℕ)) (script : Reading) : Type 0 where
+pub record HasRunToFile (form : Form) (tells : Type 0) (told : Option (List ℕ → Option (List ℕ))) (before now : Option (List ℕ)) (script : Reading) : Type 0 where
   pub done : ℕ
   pub file : ℕ
   pub size : ℕ
   pub here : slice_get (command_list script) done ≡ Some (Bulk file size)
-  pub took : ForFiles tells told script (λ given commands. TakesAll before now (output_of given (take done commands)))
+  pub took : ForFiles tells told script (λ given commands. TakesAll before now (output_of form given (take done commands)))
 
 -- the sink took the output of the commands before one that begins a session: `bulk`, `gen`, `bulk_begin` or `limit_begin`
-pub record HasRunToLoad (tells : Type 0) (told : Option (List ℕ → Option (List ℕ))) (before now : Option (List ℕ)) (script : Reading) : Type 0 where
+pub record HasRunToLoad (form : Form) (tells : Type 0) (told : Option (List ℕ → Option (List ℕ))) (before now : Option (List ℕ)) (script : Reading) : Type 0 where
   pub done : ℕ
   pub command : Command
   pub here : slice_get (command_list script) done ≡ Some command
   pub loads : IsLoad command
-  pub took : ForFiles tells told script (λ given commands. TakesAll before now (output_of given (take done commands)))
+  pub took : ForFiles tells told script (λ given commands. TakesAll before now (output_of form given (take done commands)))
 
 -- where memory was wanting: nothing was written, or the output of the commands before one that begins a session
-abbrev pub RanToLoad : Type 0 → Option (List ℕ → Option (List ℕ)) → Option (List ℕ) → Option (List ℕ) → Reading → Type 0
-RanToLoad tells told before now script = (now ≡ before) ⊎ HasRunToLoad tells told before now script
+abbrev pub RanToLoad : Form → Type 0 → Option (List ℕ → Option (List ℕ)) → Option (List ℕ) → Option (List ℕ) → Reading → Type 0
+RanToLoad form tells told before now script = (now ≡ before) ⊎ HasRunToLoad form tells told before now script
 
 -- where a file could not be read, or had changed, the sink took the output of the commands before one that reads a file
-abbrev pub FaultToFile : Type 0 → Option (List ℕ → Option (List ℕ)) → Option (List ℕ) → Option (List ℕ) → Reading → End → Type 0
-FaultToFile tells told before now script Done = ⊤
-FaultToFile tells told before now script (BadLine line) = ⊤
-FaultToFile tells told before now script Usage = ⊤
-FaultToFile tells told before now script ReadFault = HasRunToFile tells told before now script
-FaultToFile tells told before now script WriteFault = ⊤
-FaultToFile tells told before now script (DeviceFault number) = ⊤
-FaultToFile tells told before now script NoFreeBlock = ⊤
-FaultToFile tells told before now script (BudgetTooSmall need) = ⊤
-FaultToFile tells told before now script Memory = ⊤
-FaultToFile tells told before now script (FileChanged line said got) = HasRunToFile tells told before now script
-FaultToFile tells told before now script NoDevice = ⊤
-FaultToFile tells told before now script NoScript = ⊤
-FaultToFile tells told before now script ScriptTooLong = ⊤
+abbrev pub FaultToFile : Form → Type 0 → Option (List ℕ → Option (List ℕ)) → Option (List ℕ) → Option (List ℕ) → Reading → End → Type 0
+FaultToFile form tells told before now script Done = ⊤
+FaultToFile form tells told before now script (BadLine line) = ⊤
+FaultToFile form tells told before now script Usage = ⊤
+FaultToFile form tells told before now script ReadFault = HasRunToFile form tells told before now script
+FaultToFile form tells told before now script WriteFault = ⊤
+FaultToFile form tells told before now script (DeviceFault number) = ⊤
+FaultToFile form tells told before now script NoFreeBlock = ⊤
+FaultToFile form tells told before now script (BudgetTooSmall need) = ⊤
+FaultToFile form tells told before now script Memory = ⊤
+FaultToFile form tells told before now script (FileChanged line said got) = HasRunToFile form tells told before now script
+FaultToFile form tells told before now script NoDevice = ⊤
+FaultToFile form tells told before now script NoScript = ⊤
+FaultToFile form tells told before now script ScriptTooLong = ⊤
 
 -- If the end is that of a run, it is one of the script as the library gave it. After `ReadFault` and `FileChanged` nothing was written,
 -- or the script reads a file and was run as far as that; after `Memory`, or it begins a session and was run as far as that.
-abbrev pub RunIsRight : Type 0 → Option (List ℕ → Option (List ℕ)) → (Reply → Type 0) → List ℕ → Numbers → Option (List ℕ) → Option (List ℕ) → List Shown → End → Type 0
-RunIsRight tells told replied name sizes before now blocks Done = OfRun told replied name sizes (HasRunWhole tells told sizes before now blocks)
-RunIsRight tells told replied name sizes before now blocks (BadLine line) = ⊤
-RunIsRight tells told replied name sizes before now blocks Usage = ⊤
-RunIsRight tells told replied name sizes before now blocks ReadFault = (now ≡ before) ⊎ OfRun told replied name sizes (HasRunToFile tells told before now)
-RunIsRight tells told replied name sizes before now blocks WriteFault = OfRun told replied name sizes (HasRunPart tells told before now)
-RunIsRight tells told replied name sizes before now blocks (DeviceFault number) = OfRun told replied name sizes (HasRunPart tells told before now)
-RunIsRight tells told replied name sizes before now blocks NoFreeBlock = OfRun told replied name sizes (HasRunFull tells told sizes before now)
-RunIsRight tells told replied name sizes before now blocks (BudgetTooSmall need) = ⊤
-RunIsRight tells told replied name sizes before now blocks Memory = (now ≡ before) ⊎ OfGood told replied name sizes (HasRunToLoad tells told before now)
-RunIsRight tells told replied name sizes before now blocks (FileChanged line said got) = (now ≡ before) ⊎ OfRun told replied name sizes (HasRunToFile tells told before now)
-RunIsRight tells told replied name sizes before now blocks NoDevice = ⊤
-RunIsRight tells told replied name sizes before now blocks NoScript = ⊤
-RunIsRight tells told replied name sizes before now blocks ScriptTooLong = ⊤
+abbrev pub RunIsRight : Type 0 → Option (List ℕ → Option (List ℕ)) → (Reply → Type 0) → Arguments → Option (List ℕ) → Option (List ℕ) → List Shown → End → Type 0
+RunIsRight tells told replied r before now blocks Done = OfRun told replied r (HasRunWhole r.form tells told r.sizes before now blocks)
+RunIsRight tells told replied r before now blocks (BadLine line) = ⊤
+RunIsRight tells told replied r before now blocks Usage = ⊤
+RunIsRight tells told replied r before now blocks ReadFault = (now ≡ before) ⊎ OfRun told replied r (HasRunToFile r.form tells told before now)
+RunIsRight tells told replied r before now blocks WriteFault = OfRun told replied r (HasRunPart r.form tells told before now)
+RunIsRight tells told replied r before now blocks (DeviceFault number) = OfRun told replied r (HasRunPart r.form tells told before now)
+RunIsRight tells told replied r before now blocks NoFreeBlock = OfRun told replied r (HasRunFull r.form tells told r.sizes before now)
+RunIsRight tells told replied r before now blocks (BudgetTooSmall need) = ⊤
+RunIsRight tells told replied r before now blocks Memory = (now ≡ before) ⊎ OfGood told replied r (HasRunToLoad r.form tells told before now)
+RunIsRight tells told replied r before now blocks (FileChanged line said got) = (now ≡ before) ⊎ OfRun told replied r (HasRunToFile r.form tells told before now)
+RunIsRight tells told replied r before now blocks NoDevice = ⊤
+RunIsRight tells told replied r before now blocks NoScript = ⊤
+RunIsRight tells told replied r before now blocks ScriptTooLong = ⊤

@@ -12,7 +12,7 @@ changed_text line said got = (codes "ppq: line " ++ decimal line ++ codes ": fil
 abbrev pub report_of : End → List ℕ
 report_of Done = []
 report_of (BadLine line) = codes "ppq: line " ++ decimal line ++ codes ": bad line\n"
-report_of Usage = codes "ppq: usage: ppq run SCRIPT --device FILE --blocks D --workers P --block B --heap H --memory M\n"
+report_of Usage = codes "ppq: usage: ppq run SCRIPT --device FILE --blocks D --workers P --block B --heap H (--memory M | --memory-bytes N) [--form text|bytes]\n"
 report_of ReadFault = codes "ppq: cannot read\n"
 report_of WriteFault = codes "ppq: cannot write\n"
 report_of (DeviceFault number) = codes "ppq: device block " ++ decimal number ++ codes " failed\n"

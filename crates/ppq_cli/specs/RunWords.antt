@@ -9,7 +9,7 @@ use Rattle.ppq_words.specs.ppq_outside.Told.{Reply, Remembers, TakesAll, TakesPa
 use Rattle.ppq_words.specs.ppq_outside.declared.library.Library.{Ghosts as LibraryShows}
 use Rattle.ppq_words.specs.ppq_outside.declared.rack.Rack.{Ghosts as RackShows}
 use Rattle.ppq_words.specs.ppq_outside.declared.sink.Sink.{Ghosts as SinkShows}
-use Rattle.ppq_words.specs.ppq_budget.Sizes.{Numbers}
+use Rattle.ppq_words.specs.ppq_budget.Sizes.{fixed_of}
 use Rattle.ppq_words.specs.ppq_script.declared.command.Command.{Command}
 use Rattle.ppq_words.specs.ppq_script.Lines.{numbered_of, names_of, first_bad_by}
 use Rattle.ppq_words.specs.ppq_script.Files.{name_at, is_usable}
@@ -17,16 +17,16 @@ use Rattle.ppq_words.specs.ppq_script.Checking.{with_sizes}
 use Rattle.ppq_words.specs.Reading.{Reading, reading_of, texts_of}
 use Rattle.ppq_words.specs.Strays.{may_run}
 use Rattle.ppq_engine.specs.declared.end.End.{End}
-use Rattle.ppq_engine.specs.declared.end.End.TheVariants.{Done, BadLine, Usage, ReadFault, WriteFault, DeviceFault, NoFreeBlock, Memory, NoDevice, NoScript, ScriptTooLong}
+use Rattle.ppq_engine.specs.declared.end.End.TheVariants.{Done, BadLine, Usage, ReadFault, WriteFault, DeviceFault, NoFreeBlock, BudgetTooSmall, Memory, NoDevice, NoScript, ScriptTooLong}
 use Rattle.ppq_engine.specs.declared.end.Ended.{Ended}
 use Rattle.ppq_engine.specs.ppq_array.Kept.{HasFailed}
 use Rattle.ppq_engine.specs.Output.{output_of, load_of, crest_of, TakesWithin}
 use Rattle.ppq_engine.specs.Loads.{most_of, least_of, begins_limit, FitsWritten}
 use Rattle.ppq_engine.specs.Refusal.{HasRoom, HasNoRoom}
-use Rattle.ppq_engine.specs.Ends.{BeganCommands, NoFault, budget_refusal}
+use Rattle.ppq_engine.specs.Ends.{BeganCommands, NoFault}
 use Rattle.ppq_cli.specs.Device.{AreBlocks}
 use Rattle.ppq_cli.specs.Load.{script_kinds}
-use Rattle.ppq_cli.specs.Replies.{RefusalIsRight, RunIsRight, ReadsWithin}
+use Rattle.ppq_cli.specs.Replies.{need_of, RefusalIsRight, RunIsRight, ReadsWithin}
 
 -- The script that the words name.
 
@@ -50,27 +50,27 @@ script_commands files bytes workers = map (λ n. n.command) (with_sizes files (n
 abbrev pub script_given : Files → List ℕ → ℕ → ℕ → List Pair
 script_given files bytes workers file = records_of (bytes_or_none (files (name_at (names_of (script_kinds bytes workers)) file)))
 
--- the fact holds of the sizes, of the records of the script's files and of its commands, where the library tells and has a script of this name
-abbrev pub OfFile : Option Files → List ℕ → Numbers → (Numbers → (ℕ → List Pair) → List Command → Type 0) → Type 0
-OfFile told name sizes P = IfSome told (λ files. IfSome (files name) (λ bytes. P sizes (script_given files bytes sizes.workers) (script_commands files bytes sizes.workers)))
+-- the fact holds of the arguments, of the records of the script's files and of its commands, where the library tells and has the script
+abbrev pub OfFile : Option Files → Reading → (Reading → (ℕ → List Pair) → List Command → Type 0) → Type 0
+OfFile told r P = IfSome told (λ files. IfSome (files r.script) (λ bytes. P r (script_given files bytes r.sizes.workers) (script_commands files bytes r.sizes.workers)))
 
 -- the same of the script that the words name
-abbrev pub OfScript : {L : Type 0} → (L → Option Files) → L → List (String Global) → (Numbers → (ℕ → List Pair) → List Command → Type 0) → Type 0
-OfScript told library words P = OfWords words (λ r. OfFile (told library) r.script r.sizes P)
+abbrev pub OfScript : {L : Type 0} → (L → Option Files) → L → List (String Global) → (Reading → (ℕ → List Pair) → List Command → Type 0) → Type 0
+OfScript told library words P = OfWords words (λ r. OfFile (told library) r P)
 
 -- What is written: by what a sink tells before and now.
 
--- all that the commands print
-abbrev pub WritesAll : {S : Type 0} → (S → Option (List ℕ)) → S → S → Numbers → (ℕ → List Pair) → List Command → Type 0
-WritesAll told before now sizes given commands = TakesAll (told before) (told now) (output_of given commands)
+-- all that the commands print, in the form that the arguments say
+abbrev pub WritesAll : {S : Type 0} → (S → Option (List ℕ)) → S → S → Reading → (ℕ → List Pair) → List Command → Type 0
+WritesAll told before now r given commands = TakesAll (told before) (told now) (output_of r.form given commands)
 
 -- a prefix of it
-abbrev pub WritesPart : {S : Type 0} → (S → Option (List ℕ)) → S → S → Numbers → (ℕ → List Pair) → List Command → Type 0
-WritesPart told before now sizes given commands = TakesPart (told before) (told now) (output_of given commands)
+abbrev pub WritesPart : {S : Type 0} → (S → Option (List ℕ)) → S → S → Reading → (ℕ → List Pair) → List Command → Type 0
+WritesPart told before now r given commands = TakesPart (told before) (told now) (output_of r.form given commands)
 
 -- at least what the first commands print, as long as there is room for their load
-abbrev pub WritesRoom : {S : Type 0} → (S → Option (List ℕ)) → S → S → Numbers → (ℕ → List Pair) → List Command → Type 0
-WritesRoom told before now sizes given commands = TakesWithin given (told before) (told now) sizes commands
+abbrev pub WritesRoom : {S : Type 0} → (S → Option (List ℕ)) → S → S → Reading → (ℕ → List Pair) → List Command → Type 0
+WritesRoom told before now r given commands = TakesWithin r.form given (told before) (told now) r.sizes commands
 
 -- the ends after which something may have been written
 abbrev pub MayWrite : End → Type 0
@@ -80,7 +80,7 @@ MayWrite end = BeganCommands end ⊎ (end ≡ Memory)
 abbrev pub IfRan :
     {K L O S : Type 0} → List (String Global) → (K → Type 0) → K → (L → Option Files) → L → (L → Reply → Type 0) → L
     → (O → Option (List ℕ)) → O → O → (S → Shown) → Ended S → Type 0
-IfRan words tells rack told library replied later sink before now shown ended = OfWords words (λ r. RunIsRight (tells rack) (told library) (replied later) r.script r.sizes (sink before) (sink now) (map shown ended.blocks.items) ended.end)
+IfRan words tells rack told library replied later sink before now shown ended = OfWords words (λ r. RunIsRight (tells rack) (told library) (replied later) r (sink before) (sink now) (map shown ended.blocks.items) ended.end)
 
 -- bounds of a script's load by its commands alone: for `load_of` and `crest_of`, which know what its files give
 abbrev pub most_by : (ℕ → List Pair) → List Command → ℕ
@@ -90,25 +90,28 @@ abbrev pub least_by : (ℕ → List Pair) → List Command → ℕ
 least_by given commands = least_of commands
 
 -- the device was used: the load is no more than the budget and a block of records for each write of these blocks
-abbrev pub UsesDevice : {S : Type 0} → ((ℕ → List Pair) → List Command → ℕ) → (S → Shown) → Ended S → Numbers → (ℕ → List Pair) → List Command → Type 0
-UsesDevice load shown ended sizes given commands = FitsWritten (load given commands) sizes (map shown ended.blocks.items)
+abbrev pub UsesDevice : {S : Type 0} → ((ℕ → List Pair) → List Command → ℕ) → (S → Shown) → Ended S → Reading → (ℕ → List Pair) → List Command → Type 0
+UsesDevice load shown ended r given commands = FitsWritten (load given commands) r.sizes (map shown ended.blocks.items)
 
 -- When each outcome comes.
 
 -- the answer that refuses a script before its device is made, and none to another: first that it is not there, then that it is too
 -- long, then its first line that is bad or names a file that cannot be used, then that the budget is too small
-abbrev pub refusal_of_bad : Option ℕ → Numbers → Option End
-refusal_of_bad None sizes = budget_refusal sizes
-refusal_of_bad (Some line) sizes = Some (BadLine line)
+abbrev pub refusal_of_budget : Reading → Option End
+refusal_of_budget r = if nat_lt r.sizes.memory (fixed_of r.sizes) then Some (BudgetTooSmall (need_of r)) else None
 
-abbrev pub refusal_of_file : Files → Option (List ℕ) → Numbers → Option End
-refusal_of_file files None sizes = Some NoScript
-refusal_of_file files (Some bytes) sizes = if nat_lt 1048576 (length bytes) then Some ScriptTooLong else refusal_of_bad (first_bad_by (is_usable files) 1 (script_kinds bytes sizes.workers)) sizes
+abbrev pub refusal_of_bad : Option ℕ → Reading → Option End
+refusal_of_bad None r = refusal_of_budget r
+refusal_of_bad (Some line) r = Some (BadLine line)
+
+abbrev pub refusal_of_file : Files → Option (List ℕ) → Reading → Option End
+refusal_of_file files None r = Some NoScript
+refusal_of_file files (Some bytes) r = if nat_lt 1048576 (length bytes) then Some ScriptTooLong else refusal_of_bad (first_bad_by (is_usable files) 1 (script_kinds bytes r.sizes.workers)) r
 
 -- before all of them, that the words have no reading
 abbrev pub refusal_of : Option Reading → Files → Option End
 refusal_of None files = Some Usage
-refusal_of (Some r) files = refusal_of_file files (files r.script) r.sizes
+refusal_of (Some r) files = refusal_of_file files (files r.script) r
 
 -- the script was run, or its device could not be made
 abbrev pub IsTried : End → Type 0
@@ -127,22 +130,22 @@ abbrev pub IsTriedOrRefusal : Option End → End → Type 0
 IsTriedOrRefusal refusal end = MatchOption refusal (IsTried end) (λ e. end ≡ e) ⊎ (end ≡ Memory)
 
 -- the device has too few blocks for the load, which is above one heap, unless a limit session begins
-abbrev pub IsTooLarge : ((ℕ → List Pair) → List Command → ℕ) → Numbers → (ℕ → List Pair) → List Command → Type 0
-IsTooLarge load sizes given commands = HasNoRoom sizes (begins_limit commands) (load given commands)
+abbrev pub IsTooLarge : ((ℕ → List Pair) → List Command → ℕ) → Reading → (ℕ → List Pair) → List Command → Type 0
+IsTooLarge load r given commands = HasNoRoom r.sizes (begins_limit commands) (load given commands)
 
 -- the contrary: the load is no more than one heap and no limit session begins, or the device has blocks enough for it
-abbrev pub HasRoomFor : ((ℕ → List Pair) → List Command → ℕ) → Numbers → (ℕ → List Pair) → List Command → Type 0
-HasRoomFor load sizes given commands = HasRoom sizes (begins_limit commands) (load given commands)
+abbrev pub HasRoomFor : ((ℕ → List Pair) → List Command → ℕ) → Reading → (ℕ → List Pair) → List Command → Type 0
+HasRoomFor load r given commands = HasRoom r.sizes (begins_limit commands) (load given commands)
 
 -- Completeness.
 
 -- a script of these bytes that is not refused, and for whose load there is room, is done, or memory was wanting
-abbrev pub EndsWell : ((ℕ → List Pair) → List Command → ℕ) → Numbers → Files → List ℕ → End → Type 0
-EndsWell load sizes files bytes end = refusal_of_file files (Some bytes) sizes ≡ None → HasRoomFor load sizes (script_given files bytes sizes.workers) (script_commands files bytes sizes.workers) → (end ≡ Done) ⊎ (end ≡ Memory)
+abbrev pub EndsWell : ((ℕ → List Pair) → List Command → ℕ) → Reading → Files → List ℕ → End → Type 0
+EndsWell load r files bytes end = refusal_of_file files (Some bytes) r ≡ None → HasRoomFor load r (script_given files bytes r.sizes.workers) (script_commands files bytes r.sizes.workers) → (end ≡ Done) ⊎ (end ≡ Memory)
 
 -- the same of the script that the words name, where the library tells and has it
 abbrev pub Completes : {L : Type 0} → ((ℕ → List Pair) → List Command → ℕ) → (L → Option Files) → L → List (String Global) → End → Type 0
-Completes load told library words end = OfWords words (λ r. IfSome (told library) (λ files. IfSome (files r.script) (λ bytes. EndsWell load r.sizes files bytes end)))
+Completes load told library words end = OfWords words (λ r. IfSome (told library) (λ files. IfSome (files r.script) (λ bytes. EndsWell load r files bytes end)))
 
 -- The clauses of `run_words` as one, under their names, for an outcome with its blocks: by what library, rack, sink and blocks show, before
 -- the call and after it.
@@ -168,7 +171,7 @@ pub record RunsWords
   pub no_reading : reading words ≡ None → (ended.end ≡ Usage) ⊎ (ended.end ≡ Memory)
   pub early : reading words ≡ None → may_run (texts_of words) ≡ false → ended.end ≡ Usage
   pub answer : IfSome (library.told old_library) (λ files. IsAnswer (refusal_of (reading words) files) ended.end)
-  pub refused : OfWords words (λ r. RefusalIsRight (library.told old_library) (library.replied new_library) r.script r.sizes ended.end)
+  pub refused : OfWords words (λ r. RefusalIsRight (library.told old_library) (library.replied new_library) r ended.end)
   pub read : ended.end ≡ ReadFault → library.faults old_library < library.faults new_library
   pub write : ended.end ≡ WriteFault → sink.faults old_out < sink.faults new_out
   pub device : ended.end ≡ NoDevice → rack.faults old_rack < rack.faults new_rack

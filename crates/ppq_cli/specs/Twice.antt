@@ -26,8 +26,8 @@ EndInTurn {L} first second idle end = (left : L) × ((first left Done × second 
 abbrev pub WriteTheSame : Option (List ℕ) → Option (List ℕ) → Option (List ℕ) → Option (List ℕ) → Type 0
 WriteTheSame before now other_before other_now = (written : List ℕ) × (TakesAll before now written × TakesAll other_before other_now written)
 
--- both readings name the same script, maybe with other sizes
+-- both readings name the same script and the same form, maybe with other sizes
 abbrev pub NameOneScript : Option Reading → Option Reading → Type 0
 NameOneScript None other = ⊥
 NameOneScript (Some reading) None = ⊥
-NameOneScript (Some reading) (Some other) = reading.script ≡ other.script
+NameOneScript (Some reading) (Some other) = (reading.script ≡ other.script) × (reading.form ≡ other.form)

@@ -19,7 +19,7 @@ pub fn report<H: Host, O: Sink>(rt: &H, end: &End, out: &mut O) -> Result<(), Fa
         End::BadLine { line } => put_number(rt, b"ppq: line ", *line as u64, b": bad line\n", out),
         End::Usage => out.put(
             rt,
-            b"ppq: usage: ppq run SCRIPT --device FILE --blocks D --workers P --block B --heap H --memory M\n",
+            b"ppq: usage: ppq run SCRIPT --device FILE --blocks D --workers P --block B --heap H (--memory M | --memory-bytes N) [--form text|bytes]\n",
         ),
         End::ReadFault => out.put(rt, b"ppq: cannot read\n"),
         End::WriteFault => out.put(rt, b"ppq: cannot write\n"),

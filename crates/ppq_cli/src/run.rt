@@ -5,6 +5,7 @@ ghost use Rattle.ppq_engine.specs.Files.{IsReadInScript};
 ghost use Rattle.ppq_cli.specs.Replies.{LibraryKeeps};
 ghost use Rattle.ppq_cli.specs.RunOver.{RunWrites, RunBlocks, RunEnds, RunFaults};
 ghost use Rattle.ppq_cli.specs.Device.{make_end};
+ghost use Rattle.ppq_words.specs.Reading.{as_reading};
 
 use crate::device::make_blocks;
 use crate::place::Place;
@@ -33,8 +34,8 @@ fn end_of_making(fault: OutsideFault) -> End
     }
 }
 
-/// Makes the device and runs a checked script over it, unless the budget is below its fixed part. All
-/// blocks that were made come back.
+/// Makes the device and runs a checked script over it, unless the budget is below its fixed part; the
+/// outcome then has that part in the unit of the budget. All blocks that were made come back.
 pub fn run_over<H: Host, L: Library, K: Rack, O: Sink, G: Gate>(
     place: &Place<H, G>,
     script: &Script,
@@ -52,15 +53,16 @@ where
 
     // What is written and when each end comes, by the files that the library tells, or any where the script reads none. All blocks
     // that were made come back, files are only read, and a count of faults rises only with an end that names a fault.
-    ensures written { RunWrites (K.tells rack.old) (L.told library.old) (O.told out.old) (O.told out.new) arguments.now.sizes script.now (map K.Slot.shown result.blocks.items) result.end }
+    ensures written { RunWrites (K.tells rack.old) (L.told library.old) (O.told out.old) (O.told out.new) (as_reading arguments.now) script.now (map K.Slot.shown result.blocks.items) result.end }
     ensures blocks { RunBlocks K.Slot.shown (K.tells rack.old) (K.tells rack.new) (K.made rack.old) (K.made rack.new) arguments.now.sizes result }
     ensures library { LibraryKeeps L.told L.replied (IsReadInScript script.now) library.old library.new }
-    ensures ends { RunEnds (L.told library.old) (L.replied library.new) arguments.now.sizes script.now (map K.Slot.shown result.blocks.items) result.end }
+    ensures ends { RunEnds (L.told library.old) (L.replied library.new) (as_reading arguments.now) script.now (map K.Slot.shown result.blocks.items) result.end }
     ensures faults { RunFaults (L.faults library.old) (L.faults library.new) (K.faults rack.old) (K.faults rack.new) (O.faults out.old) (O.faults out.new) result.end }
 {
     let sizes = arguments.sizes;
     let need = sizes.fixed();
     if sizes.memory() < need {
+        let need = arguments.unit.amount(need);
         return without_blocks(place.alloc, End::BudgetTooSmall { need });
     }
     match make_blocks(place.rt, place.alloc, rack, arguments.device, sizes) {
@@ -73,6 +75,7 @@ where
             library,
             out,
             place.gate,
+            arguments.form,
         ),
         Err((blocks, fault)) => Ended {
             end: end_of_making(fault),

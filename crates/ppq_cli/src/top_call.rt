@@ -24,8 +24,9 @@ use std::alloc::Global;
 /// Does all that the program does, with the outside handed in: reads the arguments, loads the script
 /// that they name and checks it and its files, makes the device, and executes the script over it.
 ///
-/// After `Done` the sink took exactly the script's output, which is that of one multiset ordered by
-/// whole records, whatever the sizes; after every other outcome it took a prefix of it. All blocks that
+/// After `Done` the sink took exactly the script's output in the form that the arguments say, which is
+/// that of one multiset ordered by whole records, whatever the sizes; after every other outcome it took a
+/// prefix of it. All blocks that
 /// the rack made come back, each once, and after `Done` what the budget cannot hold was written to
 /// them, and no call of a block failed; files are only read, and never past a length that the library
 /// said. Each outcome comes only for its cause, and `Usage`, `NoScript`, `ScriptTooLong`, `BadLine` and
@@ -43,7 +44,8 @@ use std::alloc::Global;
 /// - `NoScript`, `ScriptTooLong`: there is no such script, or it is longer than 1,048,576 bytes.
 /// - `BadLine`: the first line that is bad, or names a file that is absent, is not of whole records,
 ///   or is longer than 68,719,476,736 bytes.
-/// - `BudgetTooSmall`: the budget is below its fixed part, `need`.
+/// - `BudgetTooSmall`: the budget is below its fixed part, `need`, in records or in bytes as the budget
+///   is given.
 /// - `NoDevice`, `ReadFault`, `WriteFault`: the count of faults of the rack, the library or the sink
 ///   rose in this call.
 /// - `DeviceFault`: the block with that number, which comes back, failed.
@@ -93,7 +95,7 @@ where
     ensures no_reading { reading words.now ≡ None → (result.end ≡ Usage) ⊎ (result.end ≡ ends.Memory) }
     ensures early { reading words.now ≡ None → may_run (texts_of words.now) ≡ false → result.end ≡ Usage }
     ensures answer { IfSome (L.told library.old) (λ files. IsAnswer (refusal_of (reading words.now) files) result.end) }
-    ensures refused { OfWords words.now (λ r. RefusalIsRight (L.told library.old) (L.replied library.new) r.script r.sizes result.end) }
+    ensures refused { OfWords words.now (λ r. RefusalIsRight (L.told library.old) (L.replied library.new) r result.end) }
     ensures read { result.end ≡ ReadFault → L.faults library.old < L.faults library.new }
     ensures write { result.end ≡ WriteFault → O.faults out.old < O.faults out.new }
     ensures device { result.end ≡ NoDevice → K.faults rack.old < K.faults rack.new }

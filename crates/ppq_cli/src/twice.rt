@@ -13,8 +13,8 @@ use std::alloc::Global;
 /// Runs two lists of words over one library, each with a rack, a gate and a sink of its own, and
 /// gives the end of the first run that was not done, or `Done`.
 ///
-/// It is here for its contract: two runs of one script that both end `Done` write the same bytes,
-/// with any sizes of their own, and whatever their gates do. What the second run asks of the library
+/// It is here for its contract: two runs of one script in one form that both end `Done` write the same
+/// bytes, with any sizes of their own, and whatever their gates do. What the second run asks of the library
 /// follows from how the first one ended.
 pub fn run_twice<
     H: Host,

@@ -3,6 +3,7 @@ use Rattle.std.proofs.Common.{◌≡◌, ℕ, suc, ◌+◌, ◌<◌, Bool, true,
 use Rattle.std.specs.Prelude.{◌||◌}
 use Rattle.std.proofs.Math.Seq.{take-append_seam}
 use Rattle.std.proofs.Math.Bool.{or_assoc, or-false, or-true}
+use Rattle.ppq_script.specs.declared.form.Form.{Form}
 use Rattle.ppq_script.specs.ppq_record.declared.pair.Pair.{Pair}
 use Rattle.ppq_script.specs.ppq_outside.Shown.{Shown, AllTell}
 use Rattle.ppq_script.specs.ppq_outside.Told.{TakesPart}
@@ -53,47 +54,47 @@ Keeps-behind a b c cs part h k = record {
 }
 
 -- one command
-module _ (first : List Shown) (before now : Option (List ℕ)) (had has : List ℕ) (bag : List Pair) (size peak : ℕ) (sizes : Numbers) (limited : Bool) (slots : List Shown) (workers : ℕ) (c : Command) (is : IsLine workers Outside c) where
-  pub lone-stops : (stop : Stop) → (AllTell first → WritesPart before now had (text_of (outside bag) c) has stop) → StopsFor (max peak (size_after none_go size c)) sizes limited slots stop
-      → PartStops first before now had bag size peak (c ∷ []) sizes (limited || begins_limit (c ∷ [])) slots has stop
-  lone-stops Sink wrote why = λ tells given. let P : List ℕ → Type 0 = λ t. TakesPart before now (had ++ t) in subst P (sym (append-nil (text_of (outside bag) c))) (wrote tells)
+module _ (form : Form) (first : List Shown) (before now : Option (List ℕ)) (had has : List ℕ) (bag : List Pair) (size peak : ℕ) (sizes : Numbers) (limited : Bool) (slots : List Shown) (workers : ℕ) (c : Command) (is : IsLine workers Outside c) where
+  pub lone-stops : (stop : Stop) → (AllTell first → WritesPart before now had (text_of form (outside bag) c) has stop) → StopsFor (max peak (size_after none_go size c)) sizes limited slots stop
+      → PartStops form first before now had bag size peak (c ∷ []) sizes (limited || begins_limit (c ∷ [])) slots has stop
+  lone-stops Sink wrote why = λ tells given. let P : List ℕ → Type 0 = λ t. TakesPart before now (had ++ t) in subst P (sym (append-nil (text_of form (outside bag) c))) (wrote tells)
   lone-stops (Queue fault) wrote why =
       let P : Bool → Type 0 = λ l. IsRefusedBy (max peak (size_after none_go size c)) sizes l slots fault in
       record {
         done = 0;
         within = omega arith;
-        cut = λ tells given. let g = wrote tells in record { text = g.part; rest = g.rest; all = append-nil (text_of (outside bag) c) ∙ g.all; gathers = g.gathers };
+        cut = λ tells given. let g = wrote tells in record { text = g.part; rest = g.rest; all = append-nil (text_of form (outside bag) c) ∙ g.all; gathers = g.gathers };
         cause = subst P (none-flag limited (c ∷ []) (lone-begins workers c is)) why;
       }
   lone-stops _ wrote why = wrote
 
 -- all is gathered up to a command, and nothing of those behind it
 cut-at :
-    (given : ℕ → List Pair) (before now : Option (List ℕ)) (had has : List ℕ) (bag : List Pair) (part : List Command) (done : ℕ)
-    → Gathers before now had (output_from given (outside bag) (take (done + 1) part)) has → CutAt given before now had bag part done has
-cut-at given before now had has bag part done all =
+    (form : Form) (given : ℕ → List Pair) (before now : Option (List ℕ)) (had has : List ℕ) (bag : List Pair) (part : List Command) (done : ℕ)
+    → Gathers before now had (output_from form given (outside bag) (take (done + 1) part)) has → CutAt form given before now had bag part done has
+cut-at form given before now had has bag part done all =
     let first = take done part in
     let next = take 1 (drop done part) in
-    let text = output_from given (state_from given (outside bag) first) next in
-    let rest = output_from given (state_from given (outside bag) (take (done + 1) part)) (drop (done + 1) part) in
-    let up : output_from given (outside bag) (take (done + 1) part) ≡ output_from given (outside bag) first ++ text =
-    ap (output_from given (outside bag)) (take-add done 1 part) ∙ output_from-append given (outside bag) first next in
+    let text = output_from form given (state_from given (outside bag) first) next in
+    let rest = output_from form given (state_from given (outside bag) (take (done + 1) part)) (drop (done + 1) part) in
+    let up : output_from form given (outside bag) (take (done + 1) part) ≡ output_from form given (outside bag) first ++ text =
+    ap (output_from form given (outside bag)) (take-add done 1 part) ∙ output_from-append form given (outside bag) first next in
     let P : List ℕ → Type 0 = λ t. Gathers before now had t has in
     record {
       text = text;
       rest = rest;
       all =
-          ap (output_from given (outside bag)) (sym (take-append-drop (done + 1) part)) ∙ output_from-append given (outside bag) (take (done + 1) part) (drop (done + 1) part)
+          ap (output_from form given (outside bag)) (sym (take-append-drop (done + 1) part)) ∙ output_from-append form given (outside bag) (take (done + 1) part) (drop (done + 1) part)
           ∙ ap (λ (t : List ℕ). t ++ rest) up;
       gathers = subst P up all;
     }
 
 -- a session was refused behind its first lines, and what they print is gathered
 pub lines-refused :
-    (first : List Shown) (before now : Option (List ℕ)) (had has : List ℕ) (bag : List Pair) (size peak : ℕ) (sizes : Numbers) (limited : Bool) (slots : List Shown) (fault : QueueFault) (begin : Command) (lines rest : List Command)
-    → 0 < length rest → (AllTell first → (given : ℕ → List Pair) → Gathers before now had (output_from given (outside bag) (begin ∷ lines)) has) → IsRefusedBy (max peak (size_from none_go size (begin ∷ lines))) sizes limited slots fault
-    → RefusedAt first before now had bag size peak (begin ∷ (lines ++ rest)) sizes limited slots has fault
-lines-refused first before now had has bag size peak sizes limited slots fault begin lines rest some gathers cause =
+    (form : Form) (first : List Shown) (before now : Option (List ℕ)) (had has : List ℕ) (bag : List Pair) (size peak : ℕ) (sizes : Numbers) (limited : Bool) (slots : List Shown) (fault : QueueFault) (begin : Command) (lines rest : List Command)
+    → 0 < length rest → (AllTell first → (given : ℕ → List Pair) → Gathers before now had (output_from form given (outside bag) (begin ∷ lines)) has) → IsRefusedBy (max peak (size_from none_go size (begin ∷ lines))) sizes limited slots fault
+    → RefusedAt form first before now had bag size peak (begin ∷ (lines ++ rest)) sizes limited slots has fault
+lines-refused form first before now had has bag size peak sizes limited slots fault begin lines rest some gathers cause =
     let next : length lines + 1 ≡ suc (length lines) = omega arith in
     let up : take (length lines + 1) (begin ∷ (lines ++ rest)) ≡ begin ∷ lines =
     ap (λ (n : ℕ). take n (begin ∷ (lines ++ rest))) next ∙ ap (λ (xs : List Command). begin ∷ xs) (take-append_seam lines rest) in
@@ -103,24 +104,24 @@ lines-refused first before now had has bag size peak sizes limited slots fault b
       within = omega (arith, some, length-append lines rest);
       cut =
           λ tells given.
-          let Q : List Command → Type 0 = λ cs. Gathers before now had (output_from given (outside bag) cs) has in
-          cut-at given before now had has bag (begin ∷ (lines ++ rest)) (length lines) (subst Q (sym up) (gathers tells given));
+          let Q : List Command → Type 0 = λ cs. Gathers before now had (output_from form given (outside bag) cs) has in
+          cut-at form given before now had has bag (begin ∷ (lines ++ rest)) (length lines) (subst Q (sym up) (gathers tells given));
       cause = subst P (sym up) cause;
     }
 
 -- a bulk session
 pub bulk-stops :
-    (first : List Shown) (told : Option (List ℕ)) (had : List ℕ) (bag : List Pair) (size peak : ℕ) (sizes : Numbers) (limited : Bool) (slots : List Shown) (workers : ℕ) (lines : List Command) (are : AreLines workers InBulk lines) (stop : Stop)
-    → IsBySession stop → StopsFor (max peak (size + length (pushed_in lines))) sizes limited slots stop → PartStops first told told had bag size peak (bulk_part lines) sizes (limited || begins_limit (bulk_part lines)) slots had stop
-bulk-stops first told had bag size peak sizes limited slots workers lines are (Queue fault) by why =
+    (form : Form) (first : List Shown) (told : Option (List ℕ)) (had : List ℕ) (bag : List Pair) (size peak : ℕ) (sizes : Numbers) (limited : Bool) (slots : List Shown) (workers : ℕ) (lines : List Command) (are : AreLines workers InBulk lines) (stop : Stop)
+    → IsBySession stop → StopsFor (max peak (size + length (pushed_in lines))) sizes limited slots stop → PartStops form first told told had bag size peak (bulk_part lines) sizes (limited || begins_limit (bulk_part lines)) slots had stop
+bulk-stops form first told had bag size peak sizes limited slots workers lines are (Queue fault) by why =
     let P : Bool → Type 0 = λ l. IsRefusedBy (max peak (size + length (pushed_in lines))) sizes l slots fault in
     let Q : ℕ → Type 0 = λ n. IsRefusedBy (max peak n) sizes (limited || begins_limit (bulk_part lines)) slots fault in
     let R : List ℕ → Type 0 = λ t. Gathers told told had t had in
-    lines-refused first told told had had bag size peak sizes (limited || begins_limit (bulk_part lines)) slots fault BulkBegin lines (BulkEnd ∷ []) (omega arith)
-    (λ tells given. subst R (sym (bulk-quiet given workers (after given (outside bag) BulkBegin) lines are)) (gathers-nothing told had))
+    lines-refused form first told told had had bag size peak sizes (limited || begins_limit (bulk_part lines)) slots fault BulkBegin lines (BulkEnd ∷ []) (omega arith)
+    (λ tells given. subst R (sym (bulk-quiet given form workers (after given (outside bag) BulkBegin) lines are)) (gathers-nothing told had))
     (subst Q (sym (bulk-size none_go workers size lines are)) (subst P (none-flag limited (bulk_part lines) (bulk-begins workers lines are)) why))
-bulk-stops first told had bag size peak sizes limited slots workers lines are Memory by why = λ tells. gathers-nothing told had
-bulk-stops first told had bag size peak sizes limited slots workers lines are _ by why = absurd by
+bulk-stops form first told had bag size peak sizes limited slots workers lines are Memory by why = λ tells. gathers-nothing told had
+bulk-stops form first told had bag size peak sizes limited slots workers lines are _ by why = absurd by
 
 -- a command of no session that adds no file and no generated records needs none
 pub lends : (workers : ℕ) (c : Command) → IsLine workers Outside c → ((file size : ℕ) → c ≡ Bulk file size → ⊥) → ((seed count : ℕ) → c ≡ Gen seed count → ⊥) → LendsQueue c

@@ -3,6 +3,7 @@ use Rattle.std.proofs.Common.{◌≡◌, ℕ, suc, ◌+◌, ◌-◌, ◌≤◌, 
 use Rattle.std.specs.Prelude.{count_by}
 use Rattle.std.proofs.lemmas.Bool.{and_parts, not-true}
 use Rattle.std.proofs.lemmas.List.Elements.{All-nil, All-cons, All-append}
+use Rattle.ppq_script.specs.declared.form.Form.{Form}
 use Rattle.ppq_script.specs.ppq_record.declared.pair.Pair.{Pair}
 use Rattle.ppq_script.specs.ppq_record.Pair.{pair_cmp}
 use Rattle.ppq_script.specs.ppq_record.Order.{is_before}
@@ -90,18 +91,18 @@ module _ (workers : ℕ) (limit : Pair) where
   module _ (given : ℕ → List Pair) where
     -- lines print the answers to what they ask, whatever they push
     pub lines-output :
-        (added left bag : List Pair) (popped : ℕ) (cs : List Command) → AreLines workers (InLimit limit) cs → NoneBelow limit added → IsSameBag bag (added ++ left)
-        → output_from given (inside limit bag popped) cs ≡ answers_text (answers_to pair_cmp limit left (asks_in cs))
-    lines-output added left bag popped [] are none same = refl
-    lines-output added left bag popped (LimitPush pass item ∷ cs) are none same =
-        lines-output (added ++ item ∷ []) left (item ∷ bag) popped cs are.1 (push-none pass item added are.0.stands none) (push-same item added left bag same)
-    lines-output added left bag popped (LimitTop ∷ cs) are none same =
-        ap₂ (λ (t u : List ℕ). t ++ u) (ap limited_text (least-beside limit bag added left none same)) (lines-output added left bag popped cs are.1 none same)
-    lines-output added left bag popped (LimitPop ∷ cs) are none same =
+        (form : Form) (added left bag : List Pair) (popped : ℕ) (cs : List Command) → AreLines workers (InLimit limit) cs → NoneBelow limit added → IsSameBag bag (added ++ left)
+        → output_from form given (inside limit bag popped) cs ≡ answers_text form (answers_to pair_cmp limit left (asks_in cs))
+    lines-output form added left bag popped [] are none same = refl
+    lines-output form added left bag popped (LimitPush pass item ∷ cs) are none same =
+        lines-output form (added ++ item ∷ []) left (item ∷ bag) popped cs are.1 (push-none pass item added are.0.stands none) (push-same item added left bag same)
+    lines-output form added left bag popped (LimitTop ∷ cs) are none same =
+        ap₂ (λ (t u : List ℕ). t ++ u) (ap (limited_text form) (least-beside limit bag added left none same)) (lines-output form added left bag popped cs are.1 none same)
+    lines-output form added left bag popped (LimitPop ∷ cs) are none same =
         let n = limited_count bag limit 1 in
-        ap₂ (λ (t u : List ℕ). t ++ u) (ap limited_text (least-beside limit bag added left none same))
-        (lines-output added (left_by pair_cmp limit left ask.Pop) (without_front pair_cmp bag n) (popped + n) cs are.1 none (left-beside limit bag added left none same))
-    lines-output added left bag popped (_ ∷ cs) are none same = let h = are.0.stands in let k = are.0.stays in cc
+        ap₂ (λ (t u : List ℕ). t ++ u) (ap (limited_text form) (least-beside limit bag added left none same))
+        (lines-output form added (left_by pair_cmp limit left ask.Pop) (without_front pair_cmp bag n) (popped + n) cs are.1 none (left-beside limit bag added left none same))
+    lines-output form added left bag popped (_ ∷ cs) are none same = let h = are.0.stands in let k = are.0.stays in cc
 
     -- and they leave what they push beside what the asks leave
     pub lines-bag :

@@ -1,11 +1,12 @@
 -- What is pushed in a session may join the bag at once or at the session's end: the two definitions agree.
 use Rattle.std.proofs.Common.{◌≡◌, ℕ, zero, suc, ◌+◌, ◌<◌, ◌≤◌, Bool, true, false, cond, List, [], ◌∷◌, ◌++◌, length, length-append, take, drop, refl, sym, ap, ap₂, ◌∙◌, subst, arith, inl, inr}
-use Rattle.std.specs.Prelude.{⊤, count_by, not, ◌&&◌, nat_le, codes, if◌then◌else◌, max, unwrap_or}
+use Rattle.std.specs.Prelude.{⊤, count_by, not, ◌&&◌, nat_le, if◌then◌else◌, max, unwrap_or}
 use Rattle.std.proofs.Math.Seq.{take-length}
 use Rattle.std.proofs.lemmas.Bool.{cases_Bool, cases_lt, le-leb, leb-true}
 use Rattle.std.proofs.lemmas.List.{take-take, length-take}
 use Rattle.std.proofs.lemmas.List.Filters.{sum_by-filter_both}
 use Rattle.std.proofs.lemmas.List.Sums.{length-filter}
+use Rattle.ppq_script.specs.declared.form.Form.{Form}
 use Rattle.ppq_script.specs.ppq_record.declared.pair.Pair.{Pair}
 use Rattle.ppq_script.specs.ppq_record.Pair.{pair_cmp, pair_same}
 use Rattle.ppq_script.specs.ppq_record.Order.{is_before}
@@ -18,14 +19,14 @@ use Rattle.ppq_script.specs.declared.command.Command.TheVariants.{Push, Pop, Top
 use Rattle.ppq_script.specs.declared.session.Session.{Session}
 use Rattle.ppq_script.specs.declared.session.Session.TheVariants.{Outside, InBulk, InLimit}
 use Rattle.ppq_script.specs.Sessions.{turn_of, is_outside, is_in_bulk, is_in_limit, is_at_limit, may_stand, are_in_place}
-use Rattle.ppq_engine.specs.Output.{State, lines_text, least_text, size_text, summary_text, limited_text, limited_count, mark_text, popped_in, outside, text_of, after, output_from, counted_in, load_from, crest_from}
+use Rattle.ppq_engine.specs.Output.{State, records_text, all_text, more_text, least_text, size_text, summary_text, limited_text, limited_count, mark_text, popped_in, outside, text_of, after, output_from, counted_in, load_from, crest_from}
 use Rattle.ppq_engine.specs.Deferred.{Deferred, begun, below, not_below, without_below, least_in, without_least, left_text, text_deferred, after_deferred, output_deferred_from, counted_deferred, load_deferred_from, crest_deferred_from, DefinitionsAgree}
 use Rattle.ppq_engine.proofs.Pairs.{pair_total}
 use Rattle.ppq_engine.proofs.Below.{NoneBelow, front-beside, size-beside}
 
 -- `all` stands where no record below the limit is left
-abbrev mark : Bool → List ℕ
-mark b = if b then codes "all\n" else codes "more\n"
+abbrev mark : Form → Bool → List ℕ
+mark form b = if b then all_text form else more_text form
 
 more_left : (m n : ℕ) → n < m → nat_le m n ≡ false
 more_left m n h = elim (cases_Bool (nat_le m n)) as (λ _. nat_le m n ≡ false) [ inl t ↦ absurd (omega (arith, leb-true m n t)) | inr f ↦ f ]
@@ -36,11 +37,11 @@ nat_le-suc m n = elim (cases_lt n m) as (λ _. nat_le m n ≡ nat_le (suc m) (su
   | inr h ↦ le-leb m n h ∙ sym (le-leb (suc m) (suc n) (omega arith))
 ]
 
-mark-left : (xs : List Pair) (n : ℕ) → left_text (drop n xs) ≡ mark (nat_le (length xs) n)
-mark-left [] zero = refl
-mark-left [] (suc n) = ap mark (sym (le-leb 0 (suc n) (omega arith)))
-mark-left (x ∷ xs) zero = ap mark (sym (more_left (suc (length xs)) 0 (omega arith)))
-mark-left (x ∷ xs) (suc n) = mark-left xs n ∙ ap mark (nat_le-suc (length xs) n)
+mark-left : (form : Form) (xs : List Pair) (n : ℕ) → left_text form (drop n xs) ≡ mark form (nat_le (length xs) n)
+mark-left form [] zero = refl
+mark-left form [] (suc n) = ap (mark form) (sym (le-leb 0 (suc n) (omega arith)))
+mark-left form (x ∷ xs) zero = ap (mark form) (sym (more_left (suc (length xs)) 0 (omega arith)))
+mark-left form (x ∷ xs) (suc n) = mark-left form xs n ∙ ap (mark form) (nat_le-suc (length xs) n)
 
 same_order : (bag : List Pair) → IsSameBag (ascending pair_cmp bag) bag
 same_order bag p = in_order-same_bag (is_before pair_cmp) (ranks pair_total) bag p
@@ -101,8 +102,8 @@ module _ (limit : Pair) where
         let k = limited_count whole limit n in
         omega (arith, ap (λ (xs : List Pair). count_by p xs) (front-below n), front-parts pair_total whole k p, front-parts pair_total left n p, count_by-append p (front pair_cmp whole k) (without_front pair_cmp whole k), count_by-append p (front pair_cmp left n) (without_front pair_cmp left n), same_parts p, count_by-append p added left, count_by-append p pushed (not_below limit bag), count_by-append p pushed (without_below limit bag n), count_by-append p (not_below limit bag) (without_front pair_cmp left n))
 
-    pub mark-below : (n : ℕ) → left_text (without_front pair_cmp left n) ≡ mark_text whole limit n
-    mark-below n = mark-left (ascending pair_cmp left) n ∙ ap (λ (m : ℕ). mark (nat_le m n)) (sorted ∙ sym size-left)
+    pub mark-below : (form : Form) (n : ℕ) → left_text form (without_front pair_cmp left n) ≡ mark_text form whole limit n
+    mark-below form n = mark-left form (ascending pair_cmp left) n ∙ ap (λ (m : ℕ). mark form (nat_le m n)) (sorted ∙ sym size-left)
 
 -- what may be kept apart: nothing outside sessions, anything in a bulk session, and nothing below the limit in a limit session
 abbrev MayWait : Session → List Pair → Type 0
@@ -237,18 +238,18 @@ module _ (given : ℕ → List Pair) (workers : ℕ) where
   step state other LimitEnd is h = ends state other is
   step state other _ is h = is
 
-  text : (state : State) (other : Deferred) (command : Command) → AreAlike state other → may_stand workers state.session command ≡ true → text_deferred other command ≡ text_of state command
-  text state other Pop is h = prints state other is h (λ xs. least_text (first_of (take 1 xs)))
-  text state other Top is h = prints state other is h (λ xs. least_text (first_of (take 1 xs)))
-  text state other Size is h = ap size_text (sym (IsSameBag-length state.bag other.bag (bag-is state other is h)))
-  text state other (BulkPop count) is h = prints state other is h (λ xs. lines_text (take count xs))
-  text state other (BulkPopLimit limit count) is h =
+  text : (form : Form) (state : State) (other : Deferred) (command : Command) → AreAlike state other → may_stand workers state.session command ≡ true → text_deferred form other command ≡ text_of form state command
+  text form state other Pop is h = prints state other is h (λ xs. least_text form (first_of (take 1 xs)))
+  text form state other Top is h = prints state other is h (λ xs. least_text form (first_of (take 1 xs)))
+  text form state other Size is h = ap (size_text form) (sym (IsSameBag-length state.bag other.bag (bag-is state other is h)))
+  text form state other (BulkPop count) is h = prints state other is h (λ xs. records_text form (take count xs))
+  text form state other (BulkPopLimit limit count) is h =
       let same = bag-is state other is h in
-      ap₂ (λ (a b : List ℕ). a ++ b) (ap lines_text (sym (front-below limit state.bag [] other.bag tt same count))) (mark-below limit state.bag [] other.bag tt same count)
-  text state other (Drain count) is h = prints state other is h (λ xs. summary_text (take count xs))
-  text state other LimitTop is h = ap (λ (s : Session). limited_text (first_of (least_in s other.bag))) is.session ∙ ap limited_text (least-is state.bag other.pushed other.bag is.bag state.session h is.waits)
-  text state other LimitPop is h = ap (λ (s : Session). limited_text (first_of (least_in s other.bag))) is.session ∙ ap limited_text (least-is state.bag other.pushed other.bag is.bag state.session h is.waits)
-  text state other _ is h = refl
+      ap₂ (λ (a b : List ℕ). a ++ b) (ap (records_text form) (sym (front-below limit state.bag [] other.bag tt same count))) (mark-below limit state.bag [] other.bag tt same form count)
+  text form state other (Drain count) is h = prints state other is h (λ xs. summary_text form (take count xs))
+  text form state other LimitTop is h = ap (λ (s : Session). limited_text form (first_of (least_in s other.bag))) is.session ∙ ap (limited_text form) (least-is state.bag other.pushed other.bag is.bag state.session h is.waits)
+  text form state other LimitPop is h = ap (λ (s : Session). limited_text form (first_of (least_in s other.bag))) is.session ∙ ap (limited_text form) (least-is state.bag other.pushed other.bag is.bag state.session h is.waits)
+  text form state other _ is h = refl
 
   counts : (state : State) (other : Deferred) → AreAlike state other → counted_deferred given other ≡ counted_in given state
   counts state other is = omega (arith, IsSameBag-length state.bag (other.pushed ++ other.bag) is.bag, length-append other.pushed other.bag, is.popped)
@@ -262,12 +263,12 @@ module _ (given : ℕ → List Pair) (workers : ℕ) where
 
   -- both definitions agree from here on
   record AgreesFrom (state : State) (other : Deferred) (commands : List Command) : Type 0 where
-    output : output_deferred_from given other commands ≡ output_from given state commands
+    output : (form : Form) → output_deferred_from form given other commands ≡ output_from form given state commands
     load : load_deferred_from given other commands ≡ load_from given state commands
     crest : crest_deferred_from given other commands ≡ crest_from given state commands
 
   agrees-none : (state : State) (other : Deferred) → AgreesFrom state other []
-  agrees-none state other = record { output = refl; load = refl; crest = refl }
+  agrees-none state other = record { output = λ form. refl; load = refl; crest = refl }
 
   agrees-from : (k : ℕ) (commands : List Command) (state : State) (other : Deferred) → AreAlike state other → are_in_place workers state.session commands ≡ true → AgreesFrom state other (take k commands)
   agrees-from zero commands state other is place = agrees-none state other
@@ -279,7 +280,7 @@ module _ (given : ℕ → List Pair) (workers : ℕ) where
       let alike : AreAlike new next = step state other command is split.0 in
       let more = agrees-from k commands new next alike (subst (λ (s : Session). are_in_place workers s commands ≡ true) (turns state command) split.1) in
       record {
-        output = ap₂ (λ (a b : List ℕ). a ++ b) (text state other command is split.0) more.output;
+        output = λ form. ap₂ (λ (a b : List ℕ). a ++ b) (text form state other command is split.0) (more.output form);
         load = ap₂ (λ (a b : ℕ). max a b) (counts new next alike) more.load;
         crest = ap₂ (λ (a b : ℕ). max a b) (crests new next alike) more.crest;
       }

@@ -1,5 +1,6 @@
 -- What follows from what the end of a run says, for each end.
 use Rattle.std.proofs.Common.{◌≡◌, ℕ, ◌≤◌, List, Bool, Option, Some, None, All, ap, refl, sym, ◌∙◌, subst, arith, inl, inr}
+use Rattle.ppq_script.specs.declared.form.Form.{Form}
 use Rattle.ppq_script.specs.ppq_outside.Shown.{Shown, AllTell}
 use Rattle.ppq_script.specs.ppq_outside.Told.{Reply, TakesAll, Rose}
 use Rattle.std.specs.Prelude.{if◌then◌else◌}
@@ -12,7 +13,7 @@ use Rattle.ppq_load.specs.Refusal.{HasRoom, HasNoRoom}
 use Rattle.ppq_load.proofs.Refusals.{room-not_none}
 use Rattle.ppq_engine.specs.Loads.{most_of, least_of, begins_limit, FitsWritten}
 use Rattle.ppq_engine.specs.Output.{AreFilesOf, given_of, output_of, load_of, crest_of, TakesWithin}
-use Rattle.ppq_engine.specs.Outcome.{EndSays}
+use Rattle.ppq_engine.specs.Outcome.{EndSays, TakesBeforeLoad}
 use Rattle.ppq_engine.specs.Ends.{budget_refusal, BeganOrRefused, IsQuiet, NoneFailed, IsCompleted}
 use Rattle.ppq_engine.specs.declared.end.End.{End}
 use Rattle.ppq_engine.specs.declared.end.End.TheVariants.{Done, BadLine, Usage, ReadFault, WriteFault, DeviceFault, NoFreeBlock, BudgetTooSmall, Memory, FileChanged, NoDevice, NoScript, ScriptTooLong}
@@ -27,16 +28,16 @@ not_quiet before now rose quiet = omega (arith, rose, quiet.0, quiet.1)
 pub same_blocks : (first held slots later : List Shown) → held ≡ first → SameSlots held slots → SameSums slots later → SameSlots first later
 same_blocks first held slots later is same sums = let P : List Shown → Type 0 = λ f. SameSlots f later in subst P is (SameSlots-trans held slots later same (SameSums-slots slots later sums))
 
-module _ (told : Option (List ℕ → Option (List ℕ))) (replied : Reply → Type 0) (script : Reading) (first : List Shown) (sizes : Numbers) (before now : Option (List ℕ)) (sink sink_now library library_now : ℕ) where
+module _ (form : Form) (told : Option (List ℕ → Option (List ℕ))) (replied : Reply → Type 0) (script : Reading) (first : List Shown) (sizes : Numbers) (before now : Option (List ℕ)) (sink sink_now library library_now : ℕ) where
   -- what an end says of these slots
   abbrev pub Says : List Shown → End → Type 0
-  Says slots end = EndSays told replied script first slots sizes before now sink sink_now library library_now end
+  Says slots end = EndSays form told replied script first slots sizes before now sink sink_now library library_now end
 
   -- the blocks that a queue began with are those that were handed in, and its sizes are those of the run
-  pub says-first : (held : List Shown) (own : Numbers) (slots : List Shown) (end : End) → held ≡ first → own ≡ sizes → EndSays told replied script held slots own before now sink sink_now library library_now end → Says slots end
+  pub says-first : (held : List Shown) (own : Numbers) (slots : List Shown) (end : End) → held ≡ first → own ≡ sizes → EndSays form told replied script held slots own before now sink sink_now library library_now end → Says slots end
   says-first held own slots end is_first is_own says =
-      let P : List Shown → Type 0 = λ f. EndSays told replied script f slots own before now sink sink_now library library_now end in
-      let Q : Numbers → Type 0 = λ o. EndSays told replied script first slots o before now sink sink_now library library_now end in
+      let P : List Shown → Type 0 = λ f. EndSays form told replied script f slots own before now sink sink_now library library_now end in
+      let Q : Numbers → Type 0 = λ o. EndSays form told replied script first slots o before now sink sink_now library library_now end in
       subst Q is_own (subst P is_first says)
 
   -- the same slots as they come back
@@ -55,7 +56,7 @@ module _ (told : Option (List ℕ → Option (List ℕ))) (replied : Reply → T
     says-is : (wanted : End) → end ≡ wanted → Says later wanted
     says-is wanted is = subst (λ e. Says later e) is (says-later slots later end sums says)
 
-    pub end-done : end ≡ Done → AllTell first → (files : List ℕ → Option (List ℕ)) → AreFilesOf told script files → TakesAll before now (output_of (given_of files script) (command_list script))
+    pub end-done : end ≡ Done → AllTell first → (files : List ℕ → Option (List ℕ)) → AreFilesOf told script files → TakesAll before now (output_of form (given_of files script) (command_list script))
     end-done is tells files are = ((says-is Done is).0 tells files are).took
 
     pub end-used : end ≡ Done → AllTell first → (files : List ℕ → Option (List ℕ)) → AreFilesOf told script files → FitsWritten (crest_of (given_of files script) (command_list script)) sizes later
@@ -68,11 +69,15 @@ module _ (told : Option (List ℕ → Option (List ℕ))) (replied : Reply → T
     pub end-unfailed : (bytes : ℕ) → All (IsNewSlot bytes) first → end ≡ Done → All (λ (s : Shown). s.faults ≡ 0) later
     end-unfailed bytes fresh is = none-failed later ((says-is Done is).3 ∙ new-unfailed bytes first fresh)
 
-    pub end-within : end ≡ NoFreeBlock → AllTell first → (files : List ℕ → Option (List ℕ)) → AreFilesOf told script files → TakesWithin (given_of files script) before now sizes (command_list script)
+    pub end-within : end ≡ NoFreeBlock → AllTell first → (files : List ℕ → Option (List ℕ)) → AreFilesOf told script files → TakesWithin form (given_of files script) before now sizes (command_list script)
     end-within is tells files are = ((says-is NoFreeBlock is).0 tells files are).within
 
     pub end-above : end ≡ NoFreeBlock → AllTell first → (files : List ℕ → Option (List ℕ)) → AreFilesOf told script files → HasNoRoom sizes (begins_limit (command_list script)) (load_of (given_of files script) (command_list script))
     end-above is tells files are = ((says-is NoFreeBlock is).0 tells files are).above
+
+    -- memory was wanting where a command begins a session
+    pub end-memory : end ≡ Memory → TakesBeforeLoad form told script first before now
+    end-memory is = (says-is Memory is).0
 
     pub end-failed : (number : ℕ) → end ≡ DeviceFault number → HasFailed number later
     end-failed number is = says-is (DeviceFault number) is

@@ -2,6 +2,7 @@
 use Rattle.std.proofs.Common.{◌≡◌, ℕ, suc, ◌+◌, ◌-◌, ◌<◌, ◌≤◌, true, List, [], ◌∷◌, ◌++◌, length, take, drop, max, Option, None, refl, sym, ap, ◌∙◌, subst, arith, inl, inr, append_assoc, append-nil, length-append, take-add, take-append-drop}
 use Rattle.std.specs.Prelude.{count_by, Result, Ok, Err, OnOk, OnErr, IfOk, IfErr, ⊤}
 use Rattle.std.proofs.lemmas.List.Concat.{flat_map-append}
+use Rattle.ppq_script.specs.declared.form.Form.{Form}
 use Rattle.ppq_script.specs.ppq_record.declared.pair.Pair.{Pair}
 use Rattle.ppq_script.specs.ppq_record.Pair.{pair_cmp}
 use Rattle.ppq_script.specs.ppq_record.Bag.{IsSameBag}
@@ -41,15 +42,15 @@ use Rattle.ppq_engine.proofs.Running.{output_from-append, state_from-append}
 
 module _ (workers : ℕ) (limit : Pair) (lines : List Command) (are : AreLines workers (InLimit limit) lines) where
   -- its first lines, whatever comes behind them
-  pub first-output : (given : ℕ → List Pair) (bag : List Pair) → output_from given (outside bag) (LimitBegin limit ∷ lines) ≡ answers_of limit bag lines
-  first-output given bag = lines-output workers limit given [] bag bag 0 lines are tt (λ p. refl)
+  pub first-output : (form : Form) (given : ℕ → List Pair) (bag : List Pair) → output_from form given (outside bag) (LimitBegin limit ∷ lines) ≡ answers_of form limit bag lines
+  first-output form given bag = lines-output workers limit given form [] bag bag 0 lines are tt (λ p. refl)
 
   pub first-size : (size : ℕ) → size_from none_go size (LimitBegin limit ∷ lines) ≡ size + length (pushed_in lines)
   first-size size = lines-high workers limit size lines are
 
   -- the whole session
-  pub whole-output : (given : ℕ → List Pair) (bag : List Pair) → output_from given (outside bag) (limit_part limit lines) ≡ answers_of limit bag lines
-  whole-output given bag = output_from-append given (inside limit bag 0) lines (LimitEnd ∷ []) ∙ append-nil (output_from given (inside limit bag 0) lines) ∙ first-output given bag
+  pub whole-output : (form : Form) (given : ℕ → List Pair) (bag : List Pair) → output_from form given (outside bag) (limit_part limit lines) ≡ answers_of form limit bag lines
+  whole-output form given bag = output_from-append form given (inside limit bag 0) lines (LimitEnd ∷ []) ∙ append-nil (output_from form given (inside limit bag 0) lines) ∙ first-output form given bag
 
   pub whole-bag : (given : ℕ → List Pair) (bag : List Pair) → IsSameBag (state_from given (outside bag) (limit_part limit lines)).bag (pushed_in lines ++ left_after pair_cmp limit bag (asks_in lines))
   whole-bag given bag p =
@@ -62,7 +63,7 @@ module _ (workers : ℕ) (limit : Pair) (lines : List Command) (are : AreLines w
   whole-low size = omega (arith, size_from-append all_go size lines (LimitEnd ∷ []), lines-low workers limit size lines are)
 
 module _
-    {S : Type 0} (shown : S → Shown) (queue : Holding Pair) (before now : Option (List ℕ)) (had has : List ℕ) (mid : LimitsHolding S)
+    {S : Type 0} (shown : S → Shown) (form : Form) (queue : Holding Pair) (before now : Option (List ℕ)) (had has : List ℕ) (mid : LimitsHolding S)
     (workers : ℕ) (limit : Pair) (body : List Command) (are : AreLines workers (InLimit limit) body)
   where
     abbrev part : List Command
@@ -71,8 +72,8 @@ module _
     -- how the session ended
     pub record SessionRan (old : LimitsHolding S) (new : Holding Pair) (printed : Result ⊤ Failed) (ended : Result ⊤ QueueFault) : Type 0 where
       pub begun : HasBegun shown queue limit old
-      pub lines : OnOk printed (RunsLines shown body before now had has old mid)
-      pub broken : OnErr printed (BreaksOff shown body before now had old mid)
+      pub lines : OnOk printed (RunsLines shown form body before now had has old mid)
+      pub broken : OnErr printed (BreaksOff shown form body before now had old mid)
       pub going : OnOk ended (AreGoing mid)
       pub over : (given left : List Pair) (popped : ℕ) → InLimits shown queue limit given left popped mid → IsOver queue given left popped new ended
       pub unfaulted : ended ≡ Err NoFreeBlock → mid.front.failed ≡ None
@@ -80,7 +81,7 @@ module _
     -- these lines were run, and their answers are gathered
     record LinesRan (new : Holding Pair) (ended : Result ⊤ QueueFault) (lines : List Command) : Type 0 where
       over : IsOver queue (pushed_in lines) (left_after pair_cmp limit queue.bag (asks_in lines)) (pops_in (asks_in lines)) new ended
-      text : mid.front.failed ≡ None → AllTell queue.slots → Gathers before now had (answers_of limit queue.bag lines) has
+      text : mid.front.failed ≡ None → AllTell queue.slots → Gathers before now had (answers_of form limit queue.bag lines) has
 
     module _ (old : LimitsHolding S) (new : Holding Pair) where
       lines-ran : (v : ⊤) (ended : Result ⊤ QueueFault) (run : SessionRan old new (Ok v) ended) → LinesRan new ended run.lines.lines
@@ -90,11 +91,11 @@ module _
       }
 
       -- what stands where all was run, whatever files a library has
-      runs-part : (script : Reading) (v : ⊤) → LinesRan new (Ok v) body → mid.front.failed ≡ None → (told : Option (List ℕ → Option (List ℕ))) → RunsPart told script queue new before now had has part
+      runs-part : (script : Reading) (v : ⊤) → LinesRan new (Ok v) body → mid.front.failed ≡ None → (told : Option (List ℕ → Option (List ℕ))) → RunsPart form told script queue new before now had has part
       runs-part script v w sound told =
           let most = whole-high workers limit body are queue.size in
           record {
-            text = λ tells given. let P : List ℕ → Type 0 = λ t. Gathers before now had t has in subst P (sym (whole-output workers limit body are given queue.bag)) (w.text sound tells);
+            text = λ tells given. let P : List ℕ → Type 0 = λ t. Gathers before now had t has in subst P (sym (whole-output workers limit body are form given queue.bag)) (w.text sound tells);
             bag = λ tells files known p. w.over.bag tells p ∙ sym (whole-bag workers limit body are (given_of files script) queue.bag p);
             low = omega (arith, whole-low workers limit body are queue.size, w.over.low, w.over.least);
             high = omega (arith, most, w.over.high);
@@ -104,7 +105,7 @@ module _
             kept = Keeps-begun queue new limit body w.over.kept;
           }
 
-      ran : (script : Reading) (printed : Result ⊤ Failed) (ended : Result ⊤ QueueFault) → SessionRan old new printed ended → OnOk (session_end printed ended) ((told : Option (List ℕ → Option (List ℕ))) → RunsPart told script queue new before now had has part)
+      ran : (script : Reading) (printed : Result ⊤ Failed) (ended : Result ⊤ QueueFault) → SessionRan old new printed ended → OnOk (session_end printed ended) ((told : Option (List ℕ → Option (List ℕ))) → RunsPart form told script queue new before now had has part)
       ran script (Ok v) (Ok w) run =
           let all : run.lines.lines ≡ body = sym (run.lines.all ∙ ap (λ (cs : List Command). run.lines.lines ++ cs) (run.lines.end run.going) ∙ append-nil run.lines.lines) in
           runs-part script w (subst (LinesRan new (Ok w)) all (lines-ran v (Ok w) run)) run.going.front
@@ -112,19 +113,19 @@ module _
       ran script (Err failed) ended run = tt
 
       -- the queue refused: up to the last line that was run all is gathered, or what was answered before a call of a slot failed
-      refused : (v : ⊤) (fault : QueueFault) → SessionRan old new (Ok v) (Err fault) → RefusedAt queue.slots before now had queue.bag queue.size queue.peak part queue.sizes true new.slots has fault
+      refused : (v : ⊤) (fault : QueueFault) → SessionRan old new (Ok v) (Err fault) → RefusedAt form queue.slots before now had queue.bag queue.size queue.peak part queue.sizes true new.slots has fault
       refused v NoFreeBlock run =
           let lines = run.lines.lines in
           let rest = run.lines.rest ++ LimitEnd ∷ [] in
           let w = lines-ran v (Err NoFreeBlock) run in
           let lines_are = (lines-split workers (InLimit limit) lines run.lines.rest body run.lines.all are).0 in
           let same : lines ++ rest ≡ body ++ LimitEnd ∷ [] = sym (append_assoc lines run.lines.rest (LimitEnd ∷ [])) ∙ ap (λ (cs : List Command). cs ++ LimitEnd ∷ []) (sym run.lines.all) in
-          let P : List Command → Type 0 = λ cs. RefusedAt queue.slots before now had queue.bag queue.size queue.peak (LimitBegin limit ∷ cs) queue.sizes true new.slots has NoFreeBlock in
+          let P : List Command → Type 0 = λ cs. RefusedAt form queue.slots before now had queue.bag queue.size queue.peak (LimitBegin limit ∷ cs) queue.sizes true new.slots has NoFreeBlock in
           let Q : List ℕ → Type 0 = λ t. Gathers before now had t has in
           let R : ℕ → Type 0 = λ n. IsRefusedBy (max queue.peak n) queue.sizes true new.slots NoFreeBlock in
           subst P same
-          (lines-refused queue.slots before now had has queue.bag queue.size queue.peak queue.sizes true new.slots NoFreeBlock (LimitBegin limit) lines rest (omega (arith, length-append run.lines.rest (LimitEnd ∷ [])))
-          (λ tells given. subst Q (sym (first-output workers limit lines lines_are given queue.bag)) (w.text (run.unfaulted refl) tells))
+          (lines-refused form queue.slots before now had has queue.bag queue.size queue.peak queue.sizes true new.slots NoFreeBlock (LimitBegin limit) lines rest (omega (arith, length-append run.lines.rest (LimitEnd ∷ [])))
+          (λ tells given. subst Q (sym (first-output workers limit lines lines_are form given queue.bag)) (w.text (run.unfaulted refl) tells))
           (subst R (sym (first-size workers limit lines lines_are queue.size)) w.over.refused))
       refused v (Device number) run = record {
         done = 0;
@@ -134,29 +135,29 @@ module _
             let lines = run.lines.lines in
             let had_part = run.lines.part queue limit run.begun tells in
             let lines_are = (lines-split workers (InLimit limit) lines run.lines.rest body run.lines.all are).0 in
-            let more = output_from given (state_from given (outside queue.bag) (LimitBegin limit ∷ lines)) (run.lines.rest ++ LimitEnd ∷ []) in
+            let more = output_from form given (state_from given (outside queue.bag) (LimitBegin limit ∷ lines)) (run.lines.rest ++ LimitEnd ∷ []) in
             record {
               text = had_part.part;
               rest = had_part.rest ++ more;
               all =
-                  ap (λ (cs : List Command). output_from given (outside queue.bag) (LimitBegin limit ∷ (cs ++ LimitEnd ∷ []))) run.lines.all
-                  ∙ ap (λ (cs : List Command). output_from given (outside queue.bag) (LimitBegin limit ∷ cs)) (append_assoc lines run.lines.rest (LimitEnd ∷ []))
-                  ∙ output_from-append given (outside queue.bag) (LimitBegin limit ∷ lines) (run.lines.rest ++ LimitEnd ∷ [])
-                  ∙ ap (λ (t : List ℕ). t ++ more) (first-output workers limit lines lines_are given queue.bag ∙ had_part.all) ∙ append_assoc had_part.part had_part.rest more;
+                  ap (λ (cs : List Command). output_from form given (outside queue.bag) (LimitBegin limit ∷ (cs ++ LimitEnd ∷ []))) run.lines.all
+                  ∙ ap (λ (cs : List Command). output_from form given (outside queue.bag) (LimitBegin limit ∷ cs)) (append_assoc lines run.lines.rest (LimitEnd ∷ []))
+                  ∙ output_from-append form given (outside queue.bag) (LimitBegin limit ∷ lines) (run.lines.rest ++ LimitEnd ∷ [])
+                  ∙ ap (λ (t : List ℕ). t ++ more) (first-output workers limit lines lines_are form given queue.bag ∙ had_part.all) ∙ append_assoc had_part.part had_part.rest more;
               gathers = had_part.gathers;
             };
         cause = (lines-ran v (Err (Device number)) run).over.refused;
       }
 
       abbrev Stops : Stop → Type 0
-      Stops stop = PartStops queue.slots before now had queue.bag queue.size queue.peak part queue.sizes true new.slots has stop
+      Stops stop = PartStops form queue.slots before now had queue.bag queue.size queue.peak part queue.sizes true new.slots has stop
 
       stopped : (printed : Result ⊤ Failed) (ended : Result ⊤ QueueFault) → SessionRan old new printed ended → IfErr (session_end printed ended) Stops
       stopped (Ok v) (Ok w) run = tt
       stopped (Ok v) (Err fault) run = refused v fault run
       stopped (Err failed) ended run = λ tells given.
           let P : List ℕ → Type 0 = λ t. TakesPart before now (had ++ t) in
-          subst P (sym (whole-output workers limit body are given queue.bag)) (run.broken.text queue limit run.begun tells)
+          subst P (sym (whole-output workers limit body are form given queue.bag)) (run.broken.text queue limit run.begun tells)
 
       -- what its end keeps
       pub ended-kept : (printed : Result ⊤ Failed) (ended : Result ⊤ QueueFault) → SessionRan old new printed ended → Keeps (record queue { limited = true }) new
@@ -166,24 +167,24 @@ module _
           (run.over (pushed_in some.0) (left_after pair_cmp limit queue.bag (asks_in some.0)) (pops_in (asks_in some.0)) some.1).kept
 
       module _ (printed : Result ⊤ Failed) (ended : Result ⊤ QueueFault) (s : Result ⊤ Stop) (e : s ≡ session_end printed ended) (run : SessionRan old new printed ended) where
-        pub ended-runs : (script : Reading) → OnOk s ((told : Option (List ℕ → Option (List ℕ))) → RunsPart told script queue new before now had has part)
-        ended-runs script = let P : Result ⊤ Stop → Type 0 = λ x. OnOk x ((told : Option (List ℕ → Option (List ℕ))) → RunsPart told script queue new before now had has part) in subst P (sym e) (ran script printed ended run)
+        pub ended-runs : (script : Reading) → OnOk s ((told : Option (List ℕ → Option (List ℕ))) → RunsPart form told script queue new before now had has part)
+        ended-runs script = let P : Result ⊤ Stop → Type 0 = λ x. OnOk x ((told : Option (List ℕ → Option (List ℕ))) → RunsPart form told script queue new before now had has part) in subst P (sym e) (ran script printed ended run)
 
         pub ended-stopped : IfErr s Stops
         ended-stopped = let P : Result ⊤ Stop → Type 0 = λ x. IfErr x Stops in subst P (sym e) (stopped printed ended run)
 
 -- a session did not begin
 pub begin-stopped :
-    (told : Option (List ℕ)) (had : List ℕ) (queue : Holding Pair) (slots : List Shown) (limit : Pair) (body : List Command) (stop : Stop) → 0 < queue.sizes.block → StopsFor queue.peak queue.sizes true slots stop → IsBySession stop
-    → PartStops queue.slots told told had queue.bag queue.size queue.peak (limit_part limit body) queue.sizes true slots had stop
-begin-stopped told had queue slots limit body Sink some cause by = absurd by
-begin-stopped told had queue slots limit body (Queue fault) some cause by = record {
+    (form : Form) (told : Option (List ℕ)) (had : List ℕ) (queue : Holding Pair) (slots : List Shown) (limit : Pair) (body : List Command) (stop : Stop) → 0 < queue.sizes.block → StopsFor queue.peak queue.sizes true slots stop → IsBySession stop
+    → PartStops form queue.slots told told had queue.bag queue.size queue.peak (limit_part limit body) queue.sizes true slots had stop
+begin-stopped form told had queue slots limit body Sink some cause by = absurd by
+begin-stopped form told had queue slots limit body (Queue fault) some cause by = record {
   done = 0;
   within = omega arith;
-  cut = λ tells given. record { text = []; rest = output_from given (outside queue.bag) (limit_part limit body); all = refl; gathers = gathers-nothing told had };
+  cut = λ tells given. record { text = []; rest = output_from form given (outside queue.bag) (limit_part limit body); all = refl; gathers = gathers-nothing told had };
   cause = cause-later queue.sizes true true queue.peak (max queue.peak queue.size) some (λ same. same) (omega arith) slots fault cause;
 }
-begin-stopped told had queue slots limit body _ some cause by = λ tells. gathers-nothing told had
+begin-stopped form told had queue slots limit body _ some cause by = λ tells. gathers-nothing told had
 
 -- that it was neither a file nor the library, and what the sink counts
 ended_counts : (was is : ℕ) (printed : Result ⊤ Failed) (ended : Result ⊤ QueueFault) → HasOneCause was is printed → SinkCounts was is (session_end printed ended)

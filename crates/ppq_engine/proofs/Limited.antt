@@ -2,6 +2,7 @@
 use Rattle.std.proofs.Common.{◌≡◌, ℕ, ◌+◌, ◌≤◌, List, [], ◌++◌, length, take, drop, Option, None, refl, sym, ap, ◌∙◌, subst, arith, inl, inr, append_assoc, append-nil, take-append-drop}
 use Rattle.std.proofs.Math.Seq.{take-length}
 use Rattle.std.proofs.lemmas.List.Concat.{flat_map-append}
+use Rattle.ppq_script.specs.declared.form.Form.{Form}
 use Rattle.ppq_script.specs.ppq_record.declared.pair.Pair.{Pair}
 use Rattle.ppq_script.specs.ppq_record.Pair.{pair_cmp}
 use Rattle.ppq_script.specs.ppq_outside.Shown.{Shown, AllTell}
@@ -36,10 +37,10 @@ going-not_stopped {S} session going (inl any) =
 going-not_stopped session going (inr failed) = let a = going.front in let b = failed.1 in cc
 
 -- the answers to asks behind others
-pub answers-append : (limit : Pair) (bag : List Pair) (cs ds : List Command) → answers_of limit bag (cs ++ ds) ≡ answers_of limit bag cs ++ answers_of limit (left_after pair_cmp limit bag (asks_in cs)) ds
-answers-append limit bag cs ds =
-    ap (λ (asks : List Ask). answers_text (answers_to pair_cmp limit bag asks)) (flat_map-append ask_by cs ds) ∙ ap answers_text (answers_to-append limit bag (asks_in cs) (asks_in ds))
-    ∙ flat_map-append limited_text (answers_to pair_cmp limit bag (asks_in cs)) (answers_to pair_cmp limit (left_after pair_cmp limit bag (asks_in cs)) (asks_in ds))
+pub answers-append : (form : Form) (limit : Pair) (bag : List Pair) (cs ds : List Command) → answers_of form limit bag (cs ++ ds) ≡ answers_of form limit bag cs ++ answers_of form limit (left_after pair_cmp limit bag (asks_in cs)) ds
+answers-append form limit bag cs ds =
+    ap (λ (asks : List Ask). answers_text form (answers_to pair_cmp limit bag asks)) (flat_map-append ask_by cs ds) ∙ ap (answers_text form) (answers_to-append limit bag (asks_in cs) (asks_in ds))
+    ∙ flat_map-append (limited_text form) (answers_to pair_cmp limit bag (asks_in cs)) (answers_to pair_cmp limit (left_after pair_cmp limit bag (asks_in cs)) (asks_in ds))
 
 -- what was gathered, and then a part of it and of what comes behind it, is a part of a longer text
 sink-part : (before mid now : Option (List ℕ)) (had between text more rest : List ℕ) → Gathers before mid had text between → TakesPart mid now (between ++ more) → TakesPart before now (had ++ (text ++ (more ++ rest)))
@@ -66,14 +67,14 @@ done-more shown queue limit cs ds lines asks new lines_are asks_are all =
     let R : ℕ → Type 0 = λ n. InLimits shown queue limit (pushed_in (cs ++ ds)) (left_after pair_cmp limit queue.bag (asks_in (cs ++ ds))) n new in
     subst R popped (subst Q left_is (subst P given all))
 
-module _ {S : Type 0} (shown : S → Shown) (whole : List Command) (before : Option (List ℕ)) (had : List ℕ) (old : LimitsHolding S) where
+module _ {S : Type 0} (shown : S → Shown) (form : Form) (whole : List Command) (before : Option (List ℕ)) (had : List ℕ) (old : LimitsHolding S) where
   -- of the lines these are left, and all answers of the others are gathered
   pub record IsGoingOn (rest : List Command) (now : Option (List ℕ)) (has : List ℕ) (new : LimitsHolding S) : Type 0 where
     pub done : List Command
     pub all : whole ≡ done ++ rest
     pub going : AreGoing new
     pub session : (queue : Holding Pair) (limit : Pair) → HasBegun shown queue limit old → HasDone shown queue limit done new
-    pub text : (queue : Holding Pair) (limit : Pair) → HasBegun shown queue limit old → AllTell queue.slots → Gathers before now had (answers_of limit queue.bag done) has
+    pub text : (queue : Holding Pair) (limit : Pair) → HasBegun shown queue limit old → AllTell queue.slots → Gathers before now had (answers_of form limit queue.bag done) has
 
   pub going-begin : AreGoing old → IsGoingOn whole before had old
   going-begin going = record {
@@ -85,13 +86,13 @@ module _ {S : Type 0} (shown : S → Shown) (whole : List Command) (before : Opt
   }
 
   -- all lines were run
-  pub runs-all : (now : Option (List ℕ)) (has : List ℕ) (new : LimitsHolding S) → IsGoingOn [] now has new → RunsLines shown whole before now had has old new
+  pub runs-all : (now : Option (List ℕ)) (has : List ℕ) (new : LimitsHolding S) → IsGoingOn [] now has new → RunsLines shown form whole before now had has old new
   runs-all now has new on = record {
     lines = on.done;
     rest = [];
     all = on.all;
     session = on.session;
-    part = λ queue limit begun tells. let text = answers_of limit queue.bag on.done in record { part = text; rest = []; all = sym (append-nil text); gathers = on.text queue limit begun tells };
+    part = λ queue limit begun tells. let text = answers_of form limit queue.bag on.done in record { part = text; rest = []; all = sym (append-nil text); gathers = on.text queue limit begun tells };
     text = λ sound. on.text;
     end = λ going. refl;
   }
@@ -113,32 +114,32 @@ module _ {S : Type 0} (shown : S → Shown) (whole : List Command) (before : Opt
       -- the text of the answers of the batch, and of those that are missing
       answered_to :
           (queue : Holding Pair) (limit : Pair) → HasBegun shown queue limit old → AllTell queue.slots
-          → (missing : List (Option Pair)) × (answers_of limit queue.bag (cs ++ first) ≡ answers_of limit queue.bag cs ++ (answers_text answers ++ answers_text missing))
+          → (missing : List (Option Pair)) × (answers_of form limit queue.bag (cs ++ first) ≡ answers_of form limit queue.bag cs ++ (answers_text form answers ++ answers_text form missing))
       answered_to queue limit begun tells =
           let all = answers_to pair_cmp limit (left_after pair_cmp limit queue.bag (asks_in cs)) (asks_in first) in
           let n = length answers in
           let are : answers ≡ take n all = ran.answers_are queue limit cs (on.session queue limit begun) tells in (
             drop n all,
-            answers-append limit queue.bag cs first ∙ ap (λ (xs : List (Option Pair)). answers_of limit queue.bag cs ++ answers_text xs) (sym (take-append-drop n all))
-                ∙ ap (λ (t : List ℕ). answers_of limit queue.bag cs ++ t) (flat_map-append limited_text (take n all) (drop n all) ∙ ap (λ (xs : List (Option Pair)). answers_text xs ++ answers_text (drop n all)) (sym are)),
+            answers-append form limit queue.bag cs first ∙ ap (λ (xs : List (Option Pair)). answers_of form limit queue.bag cs ++ answers_text form xs) (sym (take-append-drop n all))
+                ∙ ap (λ (t : List ℕ). answers_of form limit queue.bag cs ++ t) (flat_map-append (limited_text form) (take n all) (drop n all) ∙ ap (λ (xs : List (Option Pair)). answers_text form xs ++ answers_text form (drop n all)) (sym are)),
           )
 
       -- all of them unless a call of a slot failed
       answered_all :
           (queue : Holding Pair) (limit : Pair) → HasBegun shown queue limit old → AllTell queue.slots → new.front.failed ≡ None
-          → answers_of limit queue.bag (cs ++ first) ≡ answers_of limit queue.bag cs ++ answers_text answers
+          → answers_of form limit queue.bag (cs ++ first) ≡ answers_of form limit queue.bag cs ++ answers_text form answers
       answered_all queue limit begun tells sound =
           let left = left_after pair_cmp limit queue.bag (asks_in cs) in
           let all = answers_to pair_cmp limit left (asks_in first) in
           let full : length answers ≡ length all = ran.answered sound ∙ sym (length-answers_to limit left (asks_in first)) in
           let are : answers ≡ all = ran.answers_are queue limit cs (on.session queue limit begun) tells ∙ ap (λ (n : ℕ). take n all) full ∙ take-length all in
-          answers-append limit queue.bag cs first ∙ ap (λ (xs : List (Option Pair)). answers_of limit queue.bag cs ++ answers_text xs) (sym are)
+          answers-append form limit queue.bag cs first ∙ ap (λ (xs : List (Option Pair)). answers_of form limit queue.bag cs ++ answers_text form xs) (sym are)
 
-      module _ (printed : Gathers mid_told now mid_has (answers_text answers) has) where
-        gathered : (queue : Holding Pair) (limit : Pair) → HasBegun shown queue limit old → AllTell queue.slots → Gathers before now had (answers_of limit queue.bag cs ++ answers_text answers) has
-        gathered queue limit begun tells = gathers-more before mid_told now had mid_has has (answers_of limit queue.bag cs) (answers_text answers) (on.text queue limit begun tells) printed
+      module _ (printed : Gathers mid_told now mid_has (answers_text form answers) has) where
+        gathered : (queue : Holding Pair) (limit : Pair) → HasBegun shown queue limit old → AllTell queue.slots → Gathers before now had (answers_of form limit queue.bag cs ++ answers_text form answers) has
+        gathered queue limit begun tells = gathers-more before mid_told now had mid_has has (answers_of form limit queue.bag cs) (answers_text form answers) (on.text queue limit begun tells) printed
 
-        gathered_all : new.front.failed ≡ None → (queue : Holding Pair) (limit : Pair) → HasBegun shown queue limit old → AllTell queue.slots → Gathers before now had (answers_of limit queue.bag (cs ++ first)) has
+        gathered_all : new.front.failed ≡ None → (queue : Holding Pair) (limit : Pair) → HasBegun shown queue limit old → AllTell queue.slots → Gathers before now had (answers_of form limit queue.bag (cs ++ first)) has
         gathered_all sound queue limit begun tells =
             let P : List ℕ → Type 0 = λ t. Gathers before now had t has in
             subst P (sym (answered_all queue limit begun tells sound)) (gathered queue limit begun tells)
@@ -152,7 +153,7 @@ module _ {S : Type 0} (shown : S → Shown) (whole : List Command) (before : Opt
           text = gathered_all going.front;
         }
 
-        pub runs-stopped : HasStopped new → RunsLines shown whole before now had has old new
+        pub runs-stopped : HasStopped new → RunsLines shown form whole before now had has old new
         runs-stopped stopped = record {
           lines = cs ++ first;
           rest = behind;
@@ -162,26 +163,26 @@ module _ {S : Type 0} (shown : S → Shown) (whole : List Command) (before : Opt
               λ queue limit begun tells.
               let a = answered_to queue limit begun tells in
               record {
-                part = answers_of limit queue.bag cs ++ answers_text answers;
-                rest = answers_text a.0;
-                all = a.1 ∙ sym (append_assoc (answers_of limit queue.bag cs) (answers_text answers) (answers_text a.0));
+                part = answers_of form limit queue.bag cs ++ answers_text form answers;
+                rest = answers_text form a.0;
+                all = a.1 ∙ sym (append_assoc (answers_of form limit queue.bag cs) (answers_text form answers) (answers_text form a.0));
                 gathers = gathered queue limit begun tells;
               };
           text = gathered_all;
           end = λ going. absurd (going-not_stopped new going stopped);
         }
 
-      pub breaks-off : TakesPart mid_told now (mid_has ++ answers_text answers) → BreaksOff shown whole before now had old new
+      pub breaks-off : TakesPart mid_told now (mid_has ++ answers_text form answers) → BreaksOff shown form whole before now had old new
       breaks-off took = record {
         session = λ queue limit begun. (cs ++ first, session_to queue limit begun);
         text =
             λ queue limit begun tells.
             let a = answered_to queue limit begun tells in
-            let done = answers_of limit queue.bag cs in
-            let later = answers_of limit (left_after pair_cmp limit queue.bag (asks_in (cs ++ first))) behind in
+            let done = answers_of form limit queue.bag cs in
+            let later = answers_of form limit (left_after pair_cmp limit queue.bag (asks_in (cs ++ first))) behind in
             let P : List ℕ → Type 0 = λ t. TakesPart before now (had ++ t) in
-            let all : answers_of limit queue.bag whole ≡ done ++ (answers_text answers ++ (answers_text a.0 ++ later)) =
-            ap (answers_of limit queue.bag) all_to ∙ answers-append limit queue.bag (cs ++ first) behind ∙ ap (λ (t : List ℕ). t ++ later) a.1
-            ∙ append_assoc done (answers_text answers ++ answers_text a.0) later ∙ ap (λ (t : List ℕ). done ++ t) (append_assoc (answers_text answers) (answers_text a.0) later) in
-            subst P (sym all) (sink-part before mid_told now had mid_has done (answers_text answers) (answers_text a.0 ++ later) (on.text queue limit begun tells) took);
+            let all : answers_of form limit queue.bag whole ≡ done ++ (answers_text form answers ++ (answers_text form a.0 ++ later)) =
+            ap (answers_of form limit queue.bag) all_to ∙ answers-append form limit queue.bag (cs ++ first) behind ∙ ap (λ (t : List ℕ). t ++ later) a.1
+            ∙ append_assoc done (answers_text form answers ++ answers_text form a.0) later ∙ ap (λ (t : List ℕ). done ++ t) (append_assoc (answers_text form answers) (answers_text form a.0) later) in
+            subst P (sym all) (sink-part before mid_told now had mid_has done (answers_text form answers) (answers_text form a.0 ++ later) (on.text queue limit begun tells) took);
       }

@@ -5,6 +5,7 @@ use Rattle.std.proofs.Math.Bool.{or_assoc}
 use Rattle.std.proofs.Math.Seq.{take-nil}
 use Rattle.std.proofs.lemmas.Bool.{or_parts}
 use Rattle.std.proofs.lemmas.List.Sums.{count_by-le-length}
+use Rattle.ppq_script.specs.declared.form.Form.{Form}
 use Rattle.ppq_script.specs.ppq_record.declared.pair.Pair.{Pair}
 use Rattle.ppq_script.specs.ppq_record.Pair.{pair_cmp}
 use Rattle.ppq_script.specs.ppq_record.Order.{is_before}
@@ -229,10 +230,10 @@ module _ (given : ℕ → List Pair) where
       omega (arith, lines-grow workers (InLimit limit) refl LimitEnd (λ n. refl) (in_limit limit bag) (length bag) m (commands_of lines.now) are refl (omega arith))
 
   -- a bulk session prints nothing, and the bag gains what it pushes
-  pub bulk-quiet : (workers : ℕ) (state : State) (cs : List Command) → AreLines workers InBulk cs → output_from given state cs ≡ []
-  bulk-quiet workers state [] are = refl
-  bulk-quiet workers state (BulkPush pass item ∷ cs) are = bulk-quiet workers (after given state (BulkPush pass item)) cs are.1
-  bulk-quiet workers state (_ ∷ cs) are = let h = are.0.stands in let k = are.0.stays in cc
+  pub bulk-quiet : (form : Form) (workers : ℕ) (state : State) (cs : List Command) → AreLines workers InBulk cs → output_from form given state cs ≡ []
+  bulk-quiet form workers state [] are = refl
+  bulk-quiet form workers state (BulkPush pass item ∷ cs) are = bulk-quiet form workers (after given state (BulkPush pass item)) cs are.1
+  bulk-quiet form workers state (_ ∷ cs) are = let h = are.0.stands in let k = are.0.stays in cc
 
   bulk-lines_bag : (workers : ℕ) (bag : List Pair) (cs : List Command) → AreLines workers InBulk cs → IsSameBag (state_from given (in_bulk bag) cs).bag (pushed_in cs ++ bag)
   bulk-lines_bag workers bag [] are p = refl
@@ -244,5 +245,5 @@ module _ (given : ℕ → List Pair) where
   pub bulk-bag : (workers : ℕ) (bag : List Pair) (cs : List Command) → AreLines workers InBulk cs → IsSameBag (state_from given (outside bag) (bulk_part cs)).bag (pushed_in cs ++ bag)
   bulk-bag workers bag cs are p = ap (λ (s : State). count_by p s.bag) (state_from-append given (in_bulk bag) cs (BulkEnd ∷ [])) ∙ bulk-lines_bag workers bag cs are p
 
-  pub bulk-silent : (workers : ℕ) (bag : List Pair) (cs : List Command) → AreLines workers InBulk cs → output_from given (outside bag) (bulk_part cs) ≡ []
-  bulk-silent workers bag cs are = output_from-append given (in_bulk bag) cs (BulkEnd ∷ []) ∙ ap (λ (t : List ℕ). t ++ []) (bulk-quiet workers (in_bulk bag) cs are)
+  pub bulk-silent : (form : Form) (workers : ℕ) (bag : List Pair) (cs : List Command) → AreLines workers InBulk cs → output_from form given (outside bag) (bulk_part cs) ≡ []
+  bulk-silent form workers bag cs are = output_from-append form given (in_bulk bag) cs (BulkEnd ∷ []) ∙ ap (λ (t : List ℕ). t ++ []) (bulk-quiet form workers (in_bulk bag) cs are)

@@ -1,6 +1,6 @@
 -- Records that were popped round by round: the first of the bag's ascending list.
 use Rattle.std.proofs.Common.{◌≡◌, ℕ, zero, length, min, suc, ◌+◌, ◌-◌, ◌%◌, ◌^◌, ◌<◌, ◌≤◌, Bool, true, false, cond, List, [], ◌∷◌, ◌++◌, take, drop, Option, Some, None, refl, sym, ap, ◌∙◌, subst, arith, inl, inr, append-nil, length-append, take-add, append_assoc}
-use Rattle.std.specs.Prelude.{count_by, sum_by, nat_le, codes, if◌then◌else◌, Result, IsErrAnd}
+use Rattle.std.specs.Prelude.{count_by, sum_by, nat_le, if◌then◌else◌, Result, IsErrAnd}
 use Rattle.std.specs.List.{AllByRecursion as Each}
 use Rattle.std.specs.Cmp.{IsStrictWeakOrder}
 use Rattle.std.proofs.lemmas.Bool.{cases_Bool, cases_lt, le-leb, leb-true}
@@ -9,6 +9,7 @@ use Rattle.std.proofs.Math.Seq.{take-length}
 use Rattle.std.proofs.lemmas.List.Sums.{sum_by-append}
 use Rattle.std.proofs.lemmas.List.Concat.{flat_map-append}
 use Rattle.std.proofs.Math.Nat.{mod-add-mod, mul-le-mul_left}
+use Rattle.ppq_script.specs.declared.form.Form.{Form}
 use Rattle.ppq_script.specs.ppq_record.declared.pair.Pair.{Pair}
 use Rattle.ppq_script.specs.ppq_record.Pair.{pair_cmp, pair_same}
 use Rattle.ppq_script.specs.ppq_record.Order.{is_before, Le, Rising}
@@ -19,7 +20,7 @@ use Rattle.ppq_load.specs.ppq_budget.Sizes.{Numbers, AreInRange, batch_of}
 use Rattle.ppq_script.specs.ppq_outside.Shown.{Shown, AllTell}
 use Rattle.ppq_script.specs.ppq_outside.Told.{TakesPart}
 use Rattle.ppq_script.proofs.ppq_outside.Takes.{takes_two, takes_and_part, takes_nothing, part_of_more}
-use Rattle.ppq_engine.specs.Output.{line_of, lines_text, last_of, limited_count, mark_text}
+use Rattle.ppq_engine.specs.Output.{record_text, records_text, all_text, more_text, last_of, limited_count, mark_text}
 use Rattle.ppq_engine.specs.Gathers.{Gathers, IsSummary}
 use Rattle.ppq_engine.specs.Calls.{Prints}
 use Rattle.ppq_engine.specs.Running.{GathersPart, WritesPart}
@@ -88,8 +89,8 @@ next_at bag old i below x same is =
     let here : first_of (take 1 (drop i asc)) ≡ Some x = ap (λ (xs : List Pair). first_of (take 1 xs)) (sym (left_is bag old i same)) ∙ passing_some below (least pair_cmp bag) x is in
     first_take (drop i asc) x here ∙ ap (λ (xs : List Pair). x ∷ xs) (drop-drop 1 i asc)
 
-pub lines-more : (items : List Pair) (item : Pair) → lines_text (items ++ item ∷ []) ≡ lines_text items ++ line_of item
-lines-more items item = flat_map-append line_of items (item ∷ []) ∙ ap (λ (t : List ℕ). lines_text items ++ t) (append-nil (line_of item))
+pub lines-more : (form : Form) (items : List Pair) (item : Pair) → records_text form (items ++ item ∷ []) ≡ records_text form items ++ record_text form item
+lines-more form items item = flat_map-append (record_text form) items (item ∷ []) ∙ ap (λ (t : List ℕ). records_text form items ++ t) (append-nil (record_text form item))
 
 -- where nothing is left, more takes and drops nothing more
 abbrev no_pair : List Pair
@@ -214,16 +215,16 @@ popped-all (Some limit) bag old i count same none l =
     (ap (λ (n : ℕ). take n asc) (sym here), λ p. same p ∙ ap (λ (n : ℕ). count_by p (drop n asc)) here)
 
 -- whether a record below the limit is left
-mark_at : (bag old : List Pair) (limit : Pair) (count : ℕ) (next : Option Pair) → IsSameBag bag (drop (limited_count old limit count) (ascending pair_cmp old)) → next_of (Some limit) bag ≡ next → left_mark next ≡ mark_text old limit count
-mark_at bag old limit count None same is =
+mark_at : (form : Form) (bag old : List Pair) (limit : Pair) (count : ℕ) (next : Option Pair) → IsSameBag bag (drop (limited_count old limit count) (ascending pair_cmp old)) → next_of (Some limit) bag ≡ next → left_mark form next ≡ mark_text form old limit count
+mark_at form bag old limit count None same is =
     let few : size_below pair_cmp old limit ≤ count = omega (arith, at_most_below bag old (limited_count old limit count) limit (least pair_cmp bag) same refl is) in
-    ap (λ (b : Bool). if b then codes "all\n" else codes "more\n") (sym (le-leb (size_below pair_cmp old limit) count few))
-mark_at bag old limit count (Some x) same is =
+    ap (λ (b : Bool). if b then all_text form else more_text form) (sym (le-leb (size_below pair_cmp old limit) count few))
+mark_at form bag old limit count (Some x) same is =
     let many : count < size_below pair_cmp old limit = omega (arith, more_below bag old (limited_count old limit count) limit x same is) in
-    ap (λ (b : Bool). if b then codes "all\n" else codes "more\n") (sym (not_le (size_below pair_cmp old limit) count many))
+    ap (λ (b : Bool). if b then all_text form else more_text form) (sym (not_le (size_below pair_cmp old limit) count many))
 
-pub mark-is : (bag old : List Pair) (limit : Pair) (count : ℕ) → IsSameBag bag (without_front pair_cmp old (limited_count old limit count)) → left_mark (next_of (Some limit) bag) ≡ mark_text old limit count
-mark-is bag old limit count same = mark_at bag old limit count (next_of (Some limit) bag) same refl
+pub mark-is : (form : Form) (bag old : List Pair) (limit : Pair) (count : ℕ) → IsSameBag bag (without_front pair_cmp old (limited_count old limit count)) → left_mark form (next_of (Some limit) bag) ≡ mark_text form old limit count
+mark-is form bag old limit count same = mark_at form bag old limit count (next_of (Some limit) bag) same refl
 
 -- drained records, one more
 last_push : (items : List Pair) (item : Pair) → last_of (items ++ item ∷ []) ≡ Some item
@@ -321,9 +322,9 @@ round-taken bag next old items i count below same round =
     take-add i (length items) asc ∙ ap (λ (xs : List Pair). take i asc ++ xs) (ap (λ (xs : List Pair). take (length items) xs) (sym (left_is bag old i same)) ∙ sym round.first)
 
 pub round-lines :
-    (bag next old items : List Pair) (i count : ℕ) (below : Option Pair) → IsSameBag bag (drop i (ascending pair_cmp old)) → IsRound below count bag next items
-    → lines_text (take (i + length items) (ascending pair_cmp old)) ≡ lines_text (take i (ascending pair_cmp old)) ++ lines_text items
-round-lines bag next old items i count below same round = ap lines_text (round-taken bag next old items i count below same round) ∙ flat_map-append line_of (take i (ascending pair_cmp old)) items
+    (form : Form) (bag next old items : List Pair) (i count : ℕ) (below : Option Pair) → IsSameBag bag (drop i (ascending pair_cmp old)) → IsRound below count bag next items
+    → records_text form (take (i + length items) (ascending pair_cmp old)) ≡ records_text form (take i (ascending pair_cmp old)) ++ records_text form items
+round-lines form bag next old items i count below same round = ap (records_text form) (round-taken bag next old items i count below same round) ∙ flat_map-append (record_text form) (take i (ascending pair_cmp old)) items
 
 -- below a limit are the first of an ascending list, so without some of them so many fewer
 module _ {X : Type 0} (lt : X → X → Bool) (o : IsStrictWeakOrder lt) (limit : X) where
@@ -389,36 +390,36 @@ takes-part before mid now had between text more first took =
     subst P all (part_of_more before now (first.put ++ between) more (takes_and_part before mid now first.put between first.took took))
 
 -- the lines of the first records are those of fewer, and then the others'
-lines-around : (xs : List Pair) (i n : ℕ) → i ≤ n → lines_text (take n xs) ≡ lines_text (take i xs) ++ lines_text (take (n - i) (drop i xs))
-lines-around xs i n h =
+lines-around : (form : Form) (xs : List Pair) (i n : ℕ) → i ≤ n → records_text form (take n xs) ≡ records_text form (take i xs) ++ records_text form (take (n - i) (drop i xs))
+lines-around form xs i n h =
     let sum : i + (n - i) ≡ n = omega arith in
-    ap (λ (m : ℕ). lines_text (take m xs)) (sym sum) ∙ ap lines_text (take-add i (n - i) xs) ∙ flat_map-append line_of (take i xs) (take (n - i) (drop i xs))
+    ap (λ (m : ℕ). records_text form (take m xs)) (sym sum) ∙ ap (records_text form) (take-add i (n - i) xs) ∙ flat_map-append (record_text form) (take i xs) (take (n - i) (drop i xs))
 
-pub popped-part : (before now : Option (List ℕ)) (had has : List ℕ) (xs : List Pair) (i n : ℕ) → i ≤ n → Gathers before now had (lines_text (take i xs)) has → GathersPart before now had (lines_text (take n xs)) has
-popped-part before now had has xs i n h step = record { part = lines_text (take i xs); rest = lines_text (take (n - i) (drop i xs)); all = lines-around xs i n h; gathers = step }
+pub popped-part : (form : Form) (before now : Option (List ℕ)) (had has : List ℕ) (xs : List Pair) (i n : ℕ) → i ≤ n → Gathers before now had (records_text form (take i xs)) has → GathersPart before now had (records_text form (take n xs)) has
+popped-part form before now had has xs i n h step = record { part = records_text form (take i xs); rest = records_text form (take (n - i) (drop i xs)); all = lines-around form xs i n h; gathers = step }
 
 -- what was gathered and then a part of what it is with a round's lines
 pub round-put :
-    (before mid now : Option (List ℕ)) (had between : List ℕ) (xs items : List Pair) (i n : ℕ) → i + length items ≤ n → take (i + length items) xs ≡ take i xs ++ items → Gathers before mid had (lines_text (take i xs)) between
-    → TakesPart mid now (between ++ lines_text items) → TakesPart before now (had ++ lines_text (take n xs))
-round-put before mid now had between xs items i n h e step took =
+    (form : Form) (before mid now : Option (List ℕ)) (had between : List ℕ) (xs items : List Pair) (i n : ℕ) → i + length items ≤ n → take (i + length items) xs ≡ take i xs ++ items → Gathers before mid had (records_text form (take i xs)) between
+    → TakesPart mid now (between ++ records_text form items) → TakesPart before now (had ++ records_text form (take n xs))
+round-put form before mid now had between xs items i n h e step took =
     let P : List ℕ → Type 0 = λ t. TakesPart before now t in
-    let text = lines_text (take i xs) in
-    let lines = lines_text items in
-    let rest = lines_text (take (n - (i + length items)) (drop (i + length items) xs)) in
-    let both : lines_text (take (i + length items) xs) ≡ text ++ lines = ap lines_text e ∙ flat_map-append line_of (take i xs) items in
-    let all : (step.put ++ (between ++ lines)) ++ rest ≡ had ++ lines_text (take n xs) =
+    let text = records_text form (take i xs) in
+    let lines = records_text form items in
+    let rest = records_text form (take (n - (i + length items)) (drop (i + length items) xs)) in
+    let both : records_text form (take (i + length items) xs) ≡ text ++ lines = ap (records_text form) e ∙ flat_map-append (record_text form) (take i xs) items in
+    let all : (step.put ++ (between ++ lines)) ++ rest ≡ had ++ records_text form (take n xs) =
     ap (λ (t : List ℕ). t ++ rest) (sym (append_assoc step.put between lines) ∙ ap (λ (t : List ℕ). t ++ lines) (sym step.kept) ∙ append_assoc had text lines ∙ ap (λ (t : List ℕ). had ++ t) (sym both))
-    ∙ append_assoc had (lines_text (take (i + length items) xs)) rest ∙ ap (λ (t : List ℕ). had ++ t) (sym (lines-around xs (i + length items) n h)) in
+    ∙ append_assoc had (records_text form (take (i + length items) xs)) rest ∙ ap (λ (t : List ℕ). had ++ t) (sym (lines-around form xs (i + length items) n h)) in
     subst P all (part_of_more before now (step.put ++ (between ++ lines)) rest (takes_and_part before mid now step.put (between ++ lines) step.took took))
 
 -- a part of what was gathered is one of what it is with more lines
-pub lines-put : (before mid now : Option (List ℕ)) (had between : List ℕ) (items : List Pair) (i : ℕ) → i ≤ length items → Gathers before mid had (lines_text (take i items)) between → TakesPart mid now between → TakesPart before now (had ++ lines_text items)
-lines-put before mid now had between items i h step took =
-    let P : List Pair → Type 0 = λ xs. TakesPart before now (had ++ lines_text xs) in
+pub lines-put : (form : Form) (before mid now : Option (List ℕ)) (had between : List ℕ) (items : List Pair) (i : ℕ) → i ≤ length items → Gathers before mid had (records_text form (take i items)) between → TakesPart mid now between → TakesPart before now (had ++ records_text form items)
+lines-put form before mid now had between items i h step took =
+    let P : List Pair → Type 0 = λ xs. TakesPart before now (had ++ records_text form xs) in
     let Q : List ℕ → Type 0 = λ t. TakesPart before now (had ++ t) in
     subst P (take-length items)
-    (subst Q (sym (lines-around items i (length items) h)) (takes-part before mid now had between (lines_text (take i items)) (lines_text (take (length items - i) (drop i items))) step took))
+    (subst Q (sym (lines-around form items i (length items) h)) (takes-part before mid now had between (records_text form (take i items)) (records_text form (take (length items - i) (drop i items))) step took))
 
 -- a part of a text is a part of a longer one
 pub writes-more : (before now : Option (List ℕ)) (had text more has : List ℕ) (stop : Stop) → NotByFile stop → WritesPart before now had text has stop → WritesPart before now had (text ++ more) has stop

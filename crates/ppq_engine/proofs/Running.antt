@@ -1,7 +1,8 @@
 -- What a run has written, what it has gathered, and how its bag and its load grow with each command.
 use Rattle.std.proofs.Common.{◌≡◌, ℕ, ◌+◌, ◌-◌, ◌<◌, ◌≤◌, List, [], ◌∷◌, ◌++◌, length, take, drop, min, max, Option, Some, None, refl, sym, ap, ap₂, ◌∙◌, subst, arith, append_assoc, suc, drop-cons, take-add, take-append-drop}
-use Rattle.std.specs.Prelude.{slice_get, count_by, nat_le, codes, if◌then◌else◌}
+use Rattle.std.specs.Prelude.{slice_get, count_by, nat_le, if◌then◌else◌}
 use Rattle.std.proofs.lemmas.Option.{get_or_from_slice_get}
+use Rattle.ppq_script.specs.declared.form.Form.{Form}
 use Rattle.ppq_script.specs.ppq_record.declared.pair.Pair.{Pair}
 use Rattle.ppq_script.specs.ppq_record.Pair.{pair_cmp, pair_same}
 use Rattle.ppq_script.specs.ppq_record.Order.{is_before}
@@ -15,7 +16,7 @@ use Rattle.ppq_script.specs.declared.command.Command.{Command}
 use Rattle.ppq_script.specs.declared.command.Command.TheVariants.{Push, Pop, Top, Size, Bulk, Gen, BulkPop, BulkPopLimit, Drain, BulkBegin, BulkPush, BulkEnd, LimitBegin, LimitPush, LimitTop, LimitPop, LimitEnd}
 use Rattle.ppq_script.specs.declared.session.Session.{Session}
 use Rattle.ppq_script.specs.declared.session.Session.TheVariants.{Outside, InBulk, InLimit}
-use Rattle.ppq_engine.specs.Output.{State, outside, least_text, size_text, lines_text, summary_text, limited_count, limited_text, popped_in, text_of, after, state_from, output_from, load_from, crest_from, bag_of, load_of, TakesAtLeast}
+use Rattle.ppq_engine.specs.Output.{State, outside, least_text, size_text, records_text, all_text, more_text, summary_text, limited_count, limited_text, popped_in, text_of, after, state_from, output_from, load_from, crest_from, bag_of, load_of, TakesAtLeast}
 use Rattle.ppq_engine.specs.Gathers.{Gathers}
 use Rattle.ppq_engine.specs.Running.{IsGathered}
 use Rattle.ppq_engine.proofs.Pairs.{pair_total}
@@ -45,23 +46,23 @@ popped-same : (one other : State) → IsSameState one other → popped_in one.se
 popped-same one other same = ap (λ (s : Session). popped_in s one.bag) same.session ∙ same_popped other.session one.bag other.bag same.bag
 
 -- what a limit session answers of the least record
-limited-same : (one other : State) → IsSameState one other → limited_text (first_of (front pair_cmp one.bag (popped_in one.session one.bag))) ≡ limited_text (first_of (front pair_cmp other.bag (popped_in other.session other.bag)))
-limited-same one other same = ap₂ (λ (n : ℕ) (q : List Pair). limited_text (first_of (take n q))) (popped-same one other same) (same_order one.bag other.bag same.bag)
+limited-same : (form : Form) (one other : State) → IsSameState one other → limited_text form (first_of (front pair_cmp one.bag (popped_in one.session one.bag))) ≡ limited_text form (first_of (front pair_cmp other.bag (popped_in other.session other.bag)))
+limited-same form one other same = ap₂ (λ (n : ℕ) (q : List Pair). limited_text form (first_of (take n q))) (popped-same one other same) (same_order one.bag other.bag same.bag)
 
 -- they print the same, and stay the same
-text-same : (one other : State) (command : Command) → IsSameState one other → text_of one command ≡ text_of other command
-text-same one other Pop same = ap (λ (q : List Pair). least_text (first_of (take 1 q))) (same_order one.bag other.bag same.bag)
-text-same one other Top same = ap (λ (q : List Pair). least_text (first_of (take 1 q))) (same_order one.bag other.bag same.bag)
-text-same one other Size same = ap size_text (IsSameBag-length one.bag other.bag same.bag)
-text-same one other (BulkPop count) same = ap (λ (q : List Pair). lines_text (take count q)) (same_order one.bag other.bag same.bag)
-text-same one other (BulkPopLimit limit count) same =
+text-same : (form : Form) (one other : State) (command : Command) → IsSameState one other → text_of form one command ≡ text_of form other command
+text-same form one other Pop same = ap (λ (q : List Pair). least_text form (first_of (take 1 q))) (same_order one.bag other.bag same.bag)
+text-same form one other Top same = ap (λ (q : List Pair). least_text form (first_of (take 1 q))) (same_order one.bag other.bag same.bag)
+text-same form one other Size same = ap (size_text form) (IsSameBag-length one.bag other.bag same.bag)
+text-same form one other (BulkPop count) same = ap (λ (q : List Pair). records_text form (take count q)) (same_order one.bag other.bag same.bag)
+text-same form one other (BulkPopLimit limit count) same =
     ap₂ (λ (t u : List ℕ). t ++ u)
-    (ap₂ (λ (n : ℕ) (q : List Pair). lines_text (take n q)) (same_count one.bag other.bag limit count same.bag) (same_order one.bag other.bag same.bag))
-    (ap (λ (n : ℕ). if nat_le n count then codes "all\n" else codes "more\n") (same.bag (λ x. is_before pair_cmp x limit)))
-text-same one other (Drain count) same = ap (λ (q : List Pair). summary_text (take count q)) (same_order one.bag other.bag same.bag)
-text-same one other LimitTop same = limited-same one other same
-text-same one other LimitPop same = limited-same one other same
-text-same one other _ same = refl
+    (ap₂ (λ (n : ℕ) (q : List Pair). records_text form (take n q)) (same_count one.bag other.bag limit count same.bag) (same_order one.bag other.bag same.bag))
+    (ap (λ (n : ℕ). if nat_le n count then all_text form else more_text form) (same.bag (λ x. is_before pair_cmp x limit)))
+text-same form one other (Drain count) same = ap (λ (q : List Pair). summary_text form (take count q)) (same_order one.bag other.bag same.bag)
+text-same form one other LimitTop same = limited-same form one other same
+text-same form one other LimitPop same = limited-same form one other same
+text-same form one other _ same = refl
 
 dropped_same : (one other : List Pair) (n m : ℕ) → n ≡ m → IsSameBag one other → IsSameBag (drop n (ascending pair_cmp one)) (drop m (ascending pair_cmp other))
 dropped_same one other n m e same p = ap₂ (λ (k : ℕ) (q : List Pair). count_by p (drop k q)) e (same_order one other same)
@@ -95,10 +96,6 @@ module _ (given : ℕ → List Pair) where
   after-same one other _ same = same
 
   -- the same of several commands
-  pub output_from-same : (one other : State) (cs : List Command) → IsSameState one other → output_from given one cs ≡ output_from given other cs
-  output_from-same one other [] same = refl
-  output_from-same one other (c ∷ cs) same = ap₂ (λ (t u : List ℕ). t ++ u) (text-same one other c same) (output_from-same (after given one c) (after given other c) cs (after-same one other c same))
-
   pub state_from-same : (one other : State) (cs : List Command) → IsSameState one other → IsSameState (state_from given one cs) (state_from given other cs)
   state_from-same one other [] same = same
   state_from-same one other (c ∷ cs) same = state_from-same (after given one c) (after given other c) cs (after-same one other c same)
@@ -107,11 +104,6 @@ module _ (given : ℕ → List Pair) where
   pub state_from-append : (state : State) (cs ds : List Command) → state_from given state (cs ++ ds) ≡ state_from given (state_from given state cs) ds
   state_from-append state [] ds = refl
   state_from-append state (c ∷ cs) ds = state_from-append (after given state c) cs ds
-
-  pub output_from-append : (state : State) (cs ds : List Command) → output_from given state (cs ++ ds) ≡ output_from given state cs ++ output_from given (state_from given state cs) ds
-  output_from-append state [] ds = refl
-  output_from-append state (c ∷ cs) ds =
-      ap (λ (t : List ℕ). text_of state c ++ t) (output_from-append (after given state c) cs ds) ∙ sym (append_assoc (text_of state c) (output_from given (after given state c) cs) (output_from given (state_from given (after given state c) cs) ds))
 
   pub load_from-append : (state : State) (cs ds : List Command) → load_from given state (cs ++ ds) ≡ max (load_from given state cs) (load_from given (state_from given state cs) ds)
   load_from-append state [] ds = omega arith
@@ -128,6 +120,18 @@ module _ (given : ℕ → List Pair) where
 
   pub bag_of-le : (cs : List Command) → length (bag_of given cs) ≤ load_of given cs
   bag_of-le cs = let nil : length {A = Pair} [] ≡ 0 = refl in omega (arith, bag-le-load (outside []) cs, nil)
+
+module _ (form : Form) (given : ℕ → List Pair) where
+  -- equal states print the same
+  pub output_from-same : (one other : State) (cs : List Command) → IsSameState one other → output_from form given one cs ≡ output_from form given other cs
+  output_from-same one other [] same = refl
+  output_from-same one other (c ∷ cs) same = ap₂ (λ (t u : List ℕ). t ++ u) (text-same form one other c same) (output_from-same (after given one c) (after given other c) cs (after-same given one other c same))
+
+  -- commands behind others
+  pub output_from-append : (state : State) (cs ds : List Command) → output_from form given state (cs ++ ds) ≡ output_from form given state cs ++ output_from form given (state_from given state cs) ds
+  output_from-append state [] ds = refl
+  output_from-append state (c ∷ cs) ds =
+      ap (λ (t : List ℕ). text_of form state c ++ t) (output_from-append (after given state c) cs ds) ∙ sym (append_assoc (text_of form state c) (output_from form given (after given state c) cs) (output_from form given (state_from given (after given state c) cs) ds))
 
 -- of the first commands, fewer and the rest of them
 pub take-fewer : (k j : ℕ) (cs : List Command) → k ≤ j → take j cs ≡ take k cs ++ take (j - k) (drop k cs)

@@ -2,6 +2,7 @@
 use Rattle.std.proofs.Common.{◌≡◌, ℕ, ◌≤◌, List, [], ◌++◌, length, take, max, Option, refl, sym, ap, ◌∙◌, subst, arith, append_assoc}
 use Rattle.std.specs.Prelude.{count_by}
 use Rattle.std.proofs.Math.Seq.{take-length}
+use Rattle.ppq_script.specs.declared.form.Form.{Form}
 use Rattle.ppq_script.specs.ppq_record.declared.pair.Pair.{Pair}
 use Rattle.ppq_script.specs.ppq_record.Bag.{IsSameBag}
 use Rattle.ppq_script.proofs.ppq_record.Order.{IsSameBag-length}
@@ -24,10 +25,10 @@ regroup : (out text part rest behind : List ℕ) → text ≡ part ++ rest → (
 regroup out text part rest behind e =
     ap (λ (t : List ℕ). (out ++ t) ++ behind) e ∙ ap (λ (t : List ℕ). t ++ behind) (sym (append_assoc out part rest)) ∙ append_assoc (out ++ part) rest behind
 
-module _ (given : ℕ → List Pair) (before : Option (List ℕ)) where
+module _ (form : Form) (given : ℕ → List Pair) (before : Option (List ℕ)) where
   pub run-begin :
       (gathered : List ℕ) (bag : List Pair) (size peak : ℕ) (sizes : Numbers) (slots : List Shown) (commands : List Command)
-      → gathered ≡ [] → bag ≡ [] → size ≡ 0 → peak ≡ 0 → HasRun given before before gathered bag size peak sizes slots (take 0 commands)
+      → gathered ≡ [] → bag ≡ [] → size ≡ 0 → peak ≡ 0 → HasRun form given before before gathered bag size peak sizes slots (take 0 commands)
   run-begin gathered bag size peak sizes slots commands e f s h = record {
     closed = refl;
     output = record { written = []; told = takes_nothing before; all = sym e };
@@ -37,16 +38,16 @@ module _ (given : ℕ → List Pair) (before : Option (List ℕ)) where
     crest = omega arith;
   }
 
-  module _ (mid : Option (List ℕ)) (had : List ℕ) (bag : List Pair) (size peak : ℕ) (sizes : Numbers) (slots : List Shown) (cs : List Command) (run : HasRun given before mid had bag size peak sizes slots cs) where
+  module _ (mid : Option (List ℕ)) (had : List ℕ) (bag : List Pair) (size peak : ℕ) (sizes : Numbers) (slots : List Shown) (cs : List Command) (run : HasRun form given before mid had bag size peak sizes slots cs) where
     -- commands behind them do to the bag of the queue what they do to the bag of the commands
     state-behind : (xs : List Command) → state_of given (cs ++ xs) ≡ state_from given (outside (bag_of given cs)) xs
     state-behind xs = state_from-append given (outside []) cs xs ∙ ap (λ (s : State). state_from given s xs) run.closed
 
-    pub output-behind : (xs : List Command) → output_of given (cs ++ xs) ≡ output_of given cs ++ output_from given (outside bag) xs
+    pub output-behind : (xs : List Command) → output_of form given (cs ++ xs) ≡ output_of form given cs ++ output_from form given (outside bag) xs
     output-behind xs =
         let same = outside-same bag (bag_of given cs) run.holds in
-        output_from-append given (outside []) cs xs
-        ∙ ap (λ (t : List ℕ). output_of given cs ++ t) (ap (λ (s : State). output_from given s xs) run.closed ∙ sym (output_from-same given (outside bag) (outside (bag_of given cs)) xs same))
+        output_from-append form given (outside []) cs xs
+        ∙ ap (λ (t : List ℕ). output_of form given cs ++ t) (ap (λ (s : State). output_from form given s xs) run.closed ∙ sym (output_from-same form given (outside bag) (outside (bag_of given cs)) xs same))
 
     load-behind : (xs : List Command) → load_of given (cs ++ xs) ≡ max (load_of given cs) (load_from given (outside (bag_of given cs)) xs)
     load-behind xs = load_from-append given (outside []) cs xs ∙ ap (λ (s : State). max (load_of given cs) (load_from given s xs)) run.closed
@@ -68,9 +69,9 @@ module _ (given : ℕ → List Pair) (before : Option (List ℕ)) where
       -- a part more was run
       pub run-part :
           (now : Option (List ℕ)) (has : List ℕ) (next : List Pair) (new_size higher : ℕ) (later : List Shown)
-          → Gathers mid now had (output_from given (outside bag) part) has → IsSameBag next (state_from given (outside bag) part).bag → length next ≡ new_size
+          → Gathers mid now had (output_from form given (outside bag) part) has → IsSameBag next (state_from given (outside bag) part).bag → length next ≡ new_size
           → higher ≤ max peak (size_from none_go size part) → FitsWritten new_size sizes later → all_writes slots ≤ all_writes later
-          → HasRun given before now has next new_size higher sizes later (cs ++ part)
+          → HasRun form given before now has next new_size higher sizes later (cs ++ part)
       run-part now has next new_size higher later step same sized up fits more =
           let P : List ℕ → Type 0 = λ t. IsGathered before now has t in
           let all = bag_of given cs in
@@ -83,7 +84,7 @@ module _ (given : ℕ → List Pair) (before : Option (List ℕ)) where
           let Load : List Command → Type 0 = λ xs. higher ≤ load_of given (cs ++ xs) in
           record {
             closed = behind ∙ part-closed given all p workers is ∙ ap (λ (s : State). outside s.bag) (sym behind);
-            output = subst P (sym (output-behind part)) (gathered-more before mid now had has (output_of given cs) (output_from given (outside bag) part) run.output step);
+            output = subst P (sym (output-behind part)) (gathered-more before mid now had has (output_of form given cs) (output_from form given (outside bag) part) run.output step);
             holds = λ q. holds q ∙ ap (λ (s : State). count_by q s.bag) (sym behind);
             counted = here ∙ ap (λ (s : State). length s.bag) (sym behind);
             highest = subst Load whole (peak-run higher (length part) (subst Up (sym whole) up));
@@ -94,19 +95,19 @@ module _ (given : ℕ → List Pair) (before : Option (List ℕ)) where
     pub run-cut :
         (now : Option (List ℕ)) (has : List ℕ) (commands part first behind : List Command) (done : ℕ) (text rest : List ℕ)
         → commands ≡ (cs ++ part) ++ behind → take done commands ≡ cs ++ first
-        → output_from given (outside bag) part ≡ (output_from given (outside bag) first ++ text) ++ rest → Gathers mid now had (output_from given (outside bag) first ++ text) has
-        → IsCut given before now has commands done text
+        → output_from form given (outside bag) part ≡ (output_from form given (outside bag) first ++ text) ++ rest → Gathers mid now had (output_from form given (outside bag) first ++ text) has
+        → IsCut form given before now has commands done text
     run-cut now has commands part first behind done text rest split fewer all step =
         let P : List ℕ → Type 0 = λ t. IsGathered before now has t in
-        let out = output_of given cs in
-        let printed = output_from given (outside bag) first in
-        let more = output_from given (state_of given (cs ++ part)) behind in
-        let here : output_of given (take done commands) ≡ out ++ printed = ap (output_of given) fewer ∙ output-behind first in
-        let there : out ++ (printed ++ text) ≡ output_of given (take done commands) ++ text = sym (append_assoc out printed text) ∙ ap (λ (t : List ℕ). t ++ text) (sym here) in
+        let out = output_of form given cs in
+        let printed = output_from form given (outside bag) first in
+        let more = output_from form given (state_of given (cs ++ part)) behind in
+        let here : output_of form given (take done commands) ≡ out ++ printed = ap (output_of form given) fewer ∙ output-behind first in
+        let there : out ++ (printed ++ text) ≡ output_of form given (take done commands) ++ text = sym (append_assoc out printed text) ∙ ap (λ (t : List ℕ). t ++ text) (sym here) in
         record {
           output = subst P there (gathered-more before mid now had has out (printed ++ text) run.output step);
           rest = rest ++ more;
           all =
-              ap (output_of given) split ∙ output_from-append given (outside []) (cs ++ part) behind ∙ ap (λ (t : List ℕ). t ++ more) (output-behind part)
-              ∙ regroup out (output_from given (outside bag) part) (printed ++ text) rest more all ∙ ap (λ (t : List ℕ). t ++ (rest ++ more)) there;
+              ap (output_of form given) split ∙ output_from-append form given (outside []) (cs ++ part) behind ∙ ap (λ (t : List ℕ). t ++ more) (output-behind part)
+              ∙ regroup out (output_from form given (outside bag) part) (printed ++ text) rest more all ∙ ap (λ (t : List ℕ). t ++ (rest ++ more)) there;
         }

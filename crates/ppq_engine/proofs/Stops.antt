@@ -2,6 +2,7 @@
 use Rattle.std.proofs.Common.{◌≡◌, ℕ, ◌+◌, ◌-◌, ◌<◌, ◌≤◌, Bool, List, [], ◌++◌, length, take, drop, max, Option, Some, refl, sym, ap, ap₂, ◌∙◌, subst, arith, inl, inr, append_assoc, append-nil, take-append-drop}
 use Rattle.std.specs.Prelude.{slice_get, ◌||◌}
 use Rattle.std.proofs.lemmas.Bool.{cases_lt}
+use Rattle.ppq_script.specs.declared.form.Form.{Form}
 use Rattle.ppq_script.specs.ppq_record.declared.pair.Pair.{Pair}
 use Rattle.ppq_script.specs.ppq_outside.Shown.{Shown, AllTell}
 use Rattle.ppq_script.specs.ppq_outside.Told.{Reply, TakesAll, TakesPart}
@@ -35,35 +36,35 @@ use Rattle.ppq_engine.proofs.Sizes.{peak-part, greatest-take_all}
 use Rattle.ppq_engine.proofs.Steps.{peak-run, output-behind, run-cut}
 
 -- a cut output: what is put of it is a part of all, or the output of the first commands
-pub cut-part : (given : ℕ → List Pair) (before mid now : Option (List ℕ)) (had : List ℕ) (commands : List Command) (done : ℕ) (part : List ℕ) → IsCut given before mid had commands done part → TakesPart mid now had → TakesPart before now (output_of given commands)
-cut-part given before mid now had commands done part cut took =
+pub cut-part : (form : Form) (given : ℕ → List Pair) (before mid now : Option (List ℕ)) (had : List ℕ) (commands : List Command) (done : ℕ) (part : List ℕ) → IsCut form given before mid had commands done part → TakesPart mid now had → TakesPart before now (output_of form given commands)
+cut-part form given before mid now had commands done part cut took =
     let P : List ℕ → Type 0 = λ t. TakesPart before now t in
-    subst P (sym cut.all) (part_of_more before now (output_of given (take done commands) ++ part) cut.rest (gathered-part before mid now had (output_of given (take done commands) ++ part) cut.output took))
+    subst P (sym cut.all) (part_of_more before now (output_of form given (take done commands) ++ part) cut.rest (gathered-part before mid now had (output_of form given (take done commands) ++ part) cut.output took))
 
-cut-all : (given : ℕ → List Pair) (before mid now : Option (List ℕ)) (had : List ℕ) (commands : List Command) (done : ℕ) → IsCut given before mid had commands done [] → TakesAll mid now had → TakesAll before now (output_of given (take done commands))
-cut-all given before mid now had commands done cut took =
+cut-all : (form : Form) (given : ℕ → List Pair) (before mid now : Option (List ℕ)) (had : List ℕ) (commands : List Command) (done : ℕ) → IsCut form given before mid had commands done [] → TakesAll mid now had → TakesAll before now (output_of form given (take done commands))
+cut-all form given before mid now had commands done cut took =
     let P : List ℕ → Type 0 = λ t. TakesAll before now t in
-    subst P (append-nil (output_of given (take done commands))) (gathered-all before mid now had (output_of given (take done commands) ++ []) cut.output took)
+    subst P (append-nil (output_of form given (take done commands))) (gathered-all before mid now had (output_of form given (take done commands) ++ []) cut.output took)
 
 fewer-at_least :
-    (given : ℕ → List Pair) (before now : Option (List ℕ)) (commands : List Command) (k i : ℕ) (part : List ℕ) → k ≤ i → TakesAll before now (output_of given (take i commands) ++ part)
-    → TakesAtLeast before now (output_of given (take k commands))
-fewer-at_least given before now commands k i part h took =
+    (form : Form) (given : ℕ → List Pair) (before now : Option (List ℕ)) (commands : List Command) (k i : ℕ) (part : List ℕ) → k ≤ i → TakesAll before now (output_of form given (take i commands) ++ part)
+    → TakesAtLeast before now (output_of form given (take k commands))
+fewer-at_least form given before now commands k i part h took =
     let P : List ℕ → Type 0 = λ t. TakesAll before now t in
-    let more = output_from given (state_of given (take k commands)) (take (i - k) (drop k commands)) in
-    let all : output_of given (take i commands) ++ part ≡ output_of given (take k commands) ++ (more ++ part) =
-    ap (λ (t : List ℕ). t ++ part) (ap (output_of given) (take-fewer k i commands h) ∙ output_from-append given (outside []) (take k commands) (take (i - k) (drop k commands))) ∙ append_assoc (output_of given (take k commands)) more part in
-    at_least before now (output_of given (take k commands)) (more ++ part) (subst P all took)
+    let more = output_from form given (state_of given (take k commands)) (take (i - k) (drop k commands)) in
+    let all : output_of form given (take i commands) ++ part ≡ output_of form given (take k commands) ++ (more ++ part) =
+    ap (λ (t : List ℕ). t ++ part) (ap (output_of form given) (take-fewer k i commands h) ∙ output_from-append form given (outside []) (take k commands) (take (i - k) (drop k commands))) ∙ append_assoc (output_of form given (take k commands)) more part in
+    at_least before now (output_of form given (take k commands)) (more ++ part) (subst P all took)
 
 cut-within :
-    (given : ℕ → List Pair) (before mid now : Option (List ℕ)) (had : List ℕ) (sizes : Numbers) (commands : List Command) (done : ℕ) (part : List ℕ)
-    → 0 < sizes.block → IsCut given before mid had commands done part → TakesAll mid now had → HasNoRoom sizes (begins_limit (take (done + 1) commands)) (load_of given (take (done + 1) commands)) → TakesWithin given before now sizes commands
-cut-within given before mid now had sizes commands done part some cut took none = λ k room.
-    let all = gathered-all before mid now had (output_of given (take done commands) ++ part) cut.output took in
+    (form : Form) (given : ℕ → List Pair) (before mid now : Option (List ℕ)) (had : List ℕ) (sizes : Numbers) (commands : List Command) (done : ℕ) (part : List ℕ)
+    → 0 < sizes.block → IsCut form given before mid had commands done part → TakesAll mid now had → HasNoRoom sizes (begins_limit (take (done + 1) commands)) (load_of given (take (done + 1) commands)) → TakesWithin form given before now sizes commands
+cut-within form given before mid now had sizes commands done part some cut took none = λ k room.
+    let all = gathered-all before mid now had (output_of form given (take done commands) ++ part) cut.output took in
     let begun : ℕ → Bool = λ n. begins_limit (take n commands) in
     let load : ℕ → ℕ = λ n. load_of given (take n commands) in
-    elim (cases_lt done k) as (λ _. TakesAtLeast before now (output_of given (take k commands))) [
-      | inr h ↦ fewer-at_least given before now commands k done part h all
+    elim (cases_lt done k) as (λ _. TakesAtLeast before now (output_of form given (take k commands))) [
+      | inr h ↦ fewer-at_least form given before now commands k done part h all
       | inl h ↦
           let more : done + 1 ≤ k = omega (arith, h) in
           absurd (room-not_none sizes (begun k) (load k) room (no_room-later sizes (begun (done + 1)) (begun k) (load (done + 1)) (load k) some (begins-take (done + 1) k commands more) (load-take given (done + 1) k commands more) none))
@@ -72,13 +73,13 @@ cut-within given before mid now had sizes commands done part some cut took none 
 around : (commands : List Command) (i : ℕ) (part : List Command) → take (i + length part) commands ≡ take i commands ++ part → commands ≡ (take i commands ++ part) ++ drop (i + length part) commands
 around commands i part split = sym (take-append-drop (i + length part) commands) ∙ ap (λ (cs : List Command). cs ++ drop (i + length part) commands) split
 
-module _ (told : Option (List ℕ → Option (List ℕ))) (script : Reading) (first : List Shown) (before : Option (List ℕ)) where
+module _ (form : Form) (told : Option (List ℕ → Option (List ℕ))) (script : Reading) (first : List Shown) (before : Option (List ℕ)) where
   -- a part at a place that did not run to its end
   module _
       (mid now : Option (List ℕ)) (had has : List ℕ) (bag : List Pair) (size peak : ℕ) (sizes : Numbers) (slots held later : List Shown) (limited : Bool) (i : ℕ) (p : Part) (here : IsPartAt script i p) (block : 0 < sizes.block)
       (tell : AllTell first → AllTell held) (begun : limited ≡ begins_limit (take i (command_list script)))
       (long : (files : List ℕ → Option (List ℕ)) → AreFilesOf told script files → HasLength (given_of files script) (first_in p))
-      (run : AllTell first → (files : List ℕ → Option (List ℕ)) → AreFilesOf told script files → HasRun (given_of files script) before mid had bag size peak sizes slots (take i (command_list script)))
+      (run : AllTell first → (files : List ℕ → Option (List ℕ)) → AreFilesOf told script files → HasRun form (given_of files script) before mid had bag size peak sizes slots (take i (command_list script)))
       (sized : HasSizes size peak sizes slots (take i (command_list script))) where
     abbrev part : List Command
     part = commands_in p
@@ -87,12 +88,12 @@ module _ (told : Option (List ℕ → Option (List ℕ))) (script : Reading) (fi
     split = take-part (command_list script) i part here.whole
 
     -- nothing of it is gathered
-    before-part : (given : ℕ → List Pair) → HasRun given before mid had bag size peak sizes slots (take i (command_list script)) → Gathers mid now had [] has → IsCut given before now has (command_list script) i []
+    before-part : (given : ℕ → List Pair) → HasRun form given before mid had bag size peak sizes slots (take i (command_list script)) → Gathers mid now had [] has → IsCut form given before now has (command_list script) i []
     before-part given ran step =
         let commands = command_list script in
-        run-cut given before mid had bag size peak sizes slots (take i commands) ran now has commands part [] (drop (i + length part) commands) i [] (output_from given (outside bag) part) (around commands i part split) (sym (append-nil (take i commands))) refl step
+        run-cut form given before mid had bag size peak sizes slots (take i commands) ran now has commands part [] (drop (i + length part) commands) i [] (output_from form given (outside bag) part) (around commands i part split) (sym (append-nil (take i commands))) refl step
 
-    module _ (fault : QueueFault) (refused : RefusedAt held mid now had bag size peak part sizes (limited || begins_limit part) later has fault) where
+    module _ (fault : QueueFault) (refused : RefusedAt form held mid now had bag size peak part sizes (limited || begins_limit part) later has fault) where
       abbrev done : ℕ
       done = i + refused.done
 
@@ -115,7 +116,7 @@ module _ (told : Option (List ℕ → Option (List ℕ))) (script : Reading) (fi
           cause-later sizes (limited || begins_limit part) (begins_limit (take (done + 1) (command_list script))) higher (count (take (done + 1) (command_list script))) block (λ none. flag ∙ none)
           (subst (λ (xs : List Command). higher ≤ count xs) (sym next) up) later fault refused.cause
 
-      refused-part : IsRefused told script first before now has sizes later fault
+      refused-part : IsRefused form told script first before now has sizes later fault
       refused-part =
           let commands = command_list script in
           let cs = take i commands in
@@ -128,14 +129,14 @@ module _ (told : Option (List ℕ → Option (List ℕ))) (script : Reading) (fi
                 let given = given_of files script in
                 let c = refused.cut (tell tells) given in (
                   c.text,
-                  run-cut given before mid had bag size peak sizes slots cs (run tells files are) now has commands part (take n part) (drop (i + length part) commands) done c.text c.rest
+                  run-cut form given before mid had bag size peak sizes slots cs (run tells files are) now has commands part (take n part) (drop (i + length part) commands) done c.text c.rest
                       (around commands i part split) (take-part_of commands i part here.whole n (omega (arith, refused.within))) c.all c.gathers,
                 );
-            cause = λ tells files are. let given = given_of files script in cause-with (load_of given) (peak-run given before mid had bag size peak sizes slots cs (run tells files are) p script.workers here.lines (long files are) higher (n + 1) (omega arith));
+            cause = λ tells files are. let given = given_of files script in cause-with (load_of given) (peak-run form given before mid had bag size peak sizes slots cs (run tells files are) p script.workers here.lines (long files are) higher (n + 1) (omega arith));
             any = cause-with most_of (peak-part size peak higher sizes slots cs (take (n + 1) part) sized (omega arith));
           }
 
-    pub stopped-part : (stop : Stop) → PartStops held mid now had bag size peak part sizes (limited || begins_limit part) later has stop → IsOfFile (first_in p) stop → HasStopped told script first before now has sizes later stop
+    pub stopped-part : (stop : Stop) → PartStops form held mid now had bag size peak part sizes (limited || begins_limit part) later has stop → IsOfFile (first_in p) stop → HasStopped form told script first before now has sizes later stop
     stopped-part Sink stops of_file = λ tells files are.
         let given = given_of files script in
         let commands = command_list script in
@@ -143,10 +144,10 @@ module _ (told : Option (List ℕ → Option (List ℕ))) (script : Reading) (fi
         let ran = run tells files are in
         let P : List ℕ → Type 0 = λ t. TakesPart before now t in
         let behind = drop (i + length part) commands in
-        let more = output_from given (state_of given (cs ++ part)) behind in
-        let all : output_of given commands ≡ (output_of given cs ++ output_from given (outside bag) part) ++ more =
-        ap (output_of given) (around commands i part split) ∙ output_from-append given (outside []) (cs ++ part) behind ∙ ap (λ (t : List ℕ). t ++ more) (output-behind given before mid had bag size peak sizes slots cs ran part) in
-        subst P (sym all) (part_of_more before now (output_of given cs ++ output_from given (outside bag) part) more (part-behind before mid now had (output_of given cs) (output_from given (outside bag) part) ran.output (stops (tell tells) given)))
+        let more = output_from form given (state_of given (cs ++ part)) behind in
+        let all : output_of form given commands ≡ (output_of form given cs ++ output_from form given (outside bag) part) ++ more =
+        ap (output_of form given) (around commands i part split) ∙ output_from-append form given (outside []) (cs ++ part) behind ∙ ap (λ (t : List ℕ). t ++ more) (output-behind form given before mid had bag size peak sizes slots cs ran part) in
+        subst P (sym all) (part_of_more before now (output_of form given cs ++ output_from form given (outside bag) part) more (part-behind before mid now had (output_of form given cs) (output_from form given (outside bag) part) ran.output (stops (tell tells) given)))
     stopped-part (Queue fault) stops of_file = refused-part fault stops
     stopped-part Read stops of_file = record {
       done = i;
@@ -173,16 +174,16 @@ module _ (told : Option (List ℕ → Option (List ℕ))) (script : Reading) (fi
   -- what was put is a part of the output
   rest-part :
       (mid now : Option (List ℕ)) (sink sink_now : ℕ) (had : List ℕ) (stopped over : End) (given : ℕ → List Pair) (done : ℕ) (part : List ℕ)
-      → PutsRest mid now sink sink_now had stopped over → IsCut given before mid had (command_list script) done part → TakesPart before now (output_of given (command_list script))
-  rest-part mid now sink sink_now had stopped over given done part (inl puts) cut = cut-part given before mid now had (command_list script) done part cut (all_is_part mid now had puts.0)
-  rest-part mid now sink sink_now had stopped over given done part (inr puts) cut = cut-part given before mid now had (command_list script) done part cut puts.0
+      → PutsRest mid now sink sink_now had stopped over → IsCut form given before mid had (command_list script) done part → TakesPart before now (output_of form given (command_list script))
+  rest-part mid now sink sink_now had stopped over given done part (inl puts) cut = cut-part form given before mid now had (command_list script) done part cut (all_is_part mid now had puts.0)
+  rest-part mid now sink sink_now had stopped over given done part (inr puts) cut = cut-part form given before mid now had (command_list script) done part cut puts.0
 
   pub part-stopped :
       (stop : Stop) (mid now : Option (List ℕ)) (sink sink_now : ℕ) (had : List ℕ) (sizes : Numbers) (slots : List Shown) (over : End)
-      → HasStopped told script first before mid had sizes slots stop → PutsStopped mid now sink sink_now had over stop
-      → AllTell first → (files : List ℕ → Option (List ℕ)) → AreFilesOf told script files → TakesPart before now (output_of (given_of files script) (command_list script))
+      → HasStopped form told script first before mid had sizes slots stop → PutsStopped mid now sink sink_now had over stop
+      → AllTell first → (files : List ℕ → Option (List ℕ)) → AreFilesOf told script files → TakesPart before now (output_of form (given_of files script) (command_list script))
   part-stopped Sink mid now sink sink_now had sizes slots over stopped puts = λ tells files is.
-      let P : Option (List ℕ) → Type 0 = λ n. TakesPart before n (output_of (given_of files script) (command_list script)) in
+      let P : Option (List ℕ) → Type 0 = λ n. TakesPart before n (output_of form (given_of files script) (command_list script)) in
       subst P (sym puts.0) (stopped tells files is)
   part-stopped (Queue fault) mid now sink sink_now had sizes slots over stopped puts = λ tells files is.
       let cut = stopped.cut tells files is in
@@ -193,40 +194,40 @@ module _ (told : Option (List ℕ → Option (List ℕ))) (script : Reading) (fi
       λ tells files is. rest-part mid now sink sink_now had (end.FileChanged line said got) over (given_of files script) stopped.done [] puts (stopped.cut tells files is)
 
   -- what was put is the output of the commands before one that adds many records
-  before-load : (mid now : Option (List ℕ)) (had : List ℕ) → IsBeforeLoad told script first before mid had → TakesAll mid now had → TakesBeforeLoad told script first before now
+  before-load : (mid now : Option (List ℕ)) (had : List ℕ) → IsBeforeLoad form told script first before mid had → TakesAll mid now had → TakesBeforeLoad form told script first before now
   before-load mid now had stopped took = record {
     done = stopped.done;
     command = stopped.command;
     here = stopped.here;
     loads = stopped.loads;
-    took = λ tells files is. cut-all (given_of files script) before mid now had (command_list script) stopped.done (stopped.cut tells files is) took;
+    took = λ tells files is. cut-all form (given_of files script) before mid now had (command_list script) stopped.done (stopped.cut tells files is) took;
   }
 
   -- what was put is the output of the commands before one that reads a file
-  before-file : (mid now : Option (List ℕ)) (had : List ℕ) → IsBeforeFile told script first before mid had → TakesAll mid now had → TakesBeforeFile told script first before now
+  before-file : (mid now : Option (List ℕ)) (had : List ℕ) → IsBeforeFile form told script first before mid had → TakesAll mid now had → TakesBeforeFile form told script first before now
   before-file mid now had stopped took = record {
     done = stopped.done;
     file = stopped.file;
     size = stopped.size;
     here = stopped.here;
-    took = λ tells files is. cut-all (given_of files script) before mid now had (command_list script) stopped.done (stopped.cut tells files is) took;
+    took = λ tells files is. cut-all form (given_of files script) before mid now had (command_list script) stopped.done (stopped.cut tells files is) took;
   }
 
   rest-before :
       (mid now : Option (List ℕ)) (sink sink_now : ℕ) (had : List ℕ) (stopped over : End)
-      → PutsRest mid now sink sink_now had stopped over → (TakesAll mid now had → FaultBeforeFile told script first before now stopped) → FaultBeforeFile told script first before now over
+      → PutsRest mid now sink sink_now had stopped over → (TakesAll mid now had → FaultBeforeFile form told script first before now stopped) → FaultBeforeFile form told script first before now over
   rest-before mid now sink sink_now had stopped over (inl puts) all =
-      let P : End → Type 0 = λ e. FaultBeforeFile told script first before now e in
+      let P : End → Type 0 = λ e. FaultBeforeFile form told script first before now e in
       subst P (sym puts.1) (all puts.0)
   rest-before mid now sink sink_now had stopped over (inr puts) all =
-      let P : End → Type 0 = λ e. FaultBeforeFile told script first before now e in
+      let P : End → Type 0 = λ e. FaultBeforeFile form told script first before now e in
       subst P (sym puts.1) tt
 
   pub before-stopped :
       (stop : Stop) (mid now : Option (List ℕ)) (sink sink_now : ℕ) (had : List ℕ) (sizes : Numbers) (slots : List Shown) (over : End)
-      → HasStopped told script first before mid had sizes slots stop → PutsStopped mid now sink sink_now had over stop → FaultBeforeFile told script first before now over
+      → HasStopped form told script first before mid had sizes slots stop → PutsStopped mid now sink sink_now had over stop → FaultBeforeFile form told script first before now over
   before-stopped Sink mid now sink sink_now had sizes slots over stopped puts =
-      let P : End → Type 0 = λ e. FaultBeforeFile told script first before now e in
+      let P : End → Type 0 = λ e. FaultBeforeFile form told script first before now e in
       subst P (sym puts.1) tt
   before-stopped (Queue NoFreeBlock) mid now sink sink_now had sizes slots over stopped puts = rest-before mid now sink sink_now had end.NoFreeBlock over puts (λ took. tt)
   before-stopped (Queue (Device number)) mid now sink sink_now had sizes slots over stopped puts = rest-before mid now sink sink_now had (end.DeviceFault number) over puts (λ took. tt)
@@ -238,22 +239,22 @@ module _ (told : Option (List ℕ → Option (List ℕ))) (script : Reading) (fi
   rest-says :
       (replied : Reply → Type 0) (slots : List Shown) (sizes : Numbers) (mid now : Option (List ℕ)) (sink sink_mid sink_now library library_now : ℕ) (had : List ℕ) (stopped over : End)
       → PutsRest mid now sink_mid sink_now had stopped over → sink_mid ≡ sink
-      → (TakesAll mid now had → sink_now ≡ sink → EndSays told replied script first slots sizes before now sink sink_now library library_now stopped)
-      → EndSays told replied script first slots sizes before now sink sink_now library library_now over
+      → (TakesAll mid now had → sink_now ≡ sink → EndSays form told replied script first slots sizes before now sink sink_now library library_now stopped)
+      → EndSays form told replied script first slots sizes before now sink sink_now library library_now over
   rest-says replied slots sizes mid now sink sink_mid sink_now library library_now had stopped over (inl puts) same says =
-      let P : End → Type 0 = λ e. EndSays told replied script first slots sizes before now sink sink_now library library_now e in
+      let P : End → Type 0 = λ e. EndSays form told replied script first slots sizes before now sink sink_now library library_now e in
       subst P (sym puts.1) (says puts.0 (puts.2 ∙ same))
   rest-says replied slots sizes mid now sink sink_mid sink_now library library_now had stopped over (inr puts) same says =
-      let P : End → Type 0 = λ e. EndSays told replied script first slots sizes before now sink sink_now library library_now e in
+      let P : End → Type 0 = λ e. EndSays form told replied script first slots sizes before now sink sink_now library library_now e in
       subst P (sym puts.1) (omega (arith, puts.2, same))
 
   pub says-stopped :
       (stop : Stop) (replied : Reply → Type 0) (slots : List Shown) (sizes : Numbers) (mid now : Option (List ℕ)) (sink sink_mid sink_now library library_now : ℕ) (had : List ℕ) (over : End)
-      → 0 < sizes.block → HasStopped told script first before mid had sizes slots stop → ChangedIn told replied script stop → SinkAfter sink sink_mid stop → LibraryAfter library library_now stop
+      → 0 < sizes.block → HasStopped form told script first before mid had sizes slots stop → ChangedIn told replied script stop → SinkAfter sink sink_mid stop → LibraryAfter library library_now stop
       → PutsStopped mid now sink_mid sink_now had over stop
-      → EndSays told replied script first slots sizes before now sink sink_now library library_now over
+      → EndSays form told replied script first slots sizes before now sink sink_now library library_now over
   says-stopped Sink replied slots sizes mid now sink sink_mid sink_now library library_now had over some stopped changed after library_after puts =
-      let P : End → Type 0 = λ e. EndSays told replied script first slots sizes before now sink sink_now library library_now e in
+      let P : End → Type 0 = λ e. EndSays form told replied script first slots sizes before now sink sink_now library library_now e in
       subst P (sym puts.1) (omega (arith, puts.2, after))
   says-stopped (Queue NoFreeBlock) replied slots sizes mid now sink sink_mid sink_now library library_now had over some stopped changed after library_after puts =
       rest-says replied slots sizes mid now sink sink_mid sink_now library library_now had end.NoFreeBlock over puts after
@@ -261,7 +262,7 @@ module _ (told : Option (List ℕ → Option (List ℕ))) (script : Reading) (fi
         λ tells files is.
             let cut = stopped.cut tells files is in
             record {
-              within = cut-within (given_of files script) before mid now had sizes (command_list script) stopped.done cut.0 some cut.1 took (stopped.cause tells files is);
+              within = cut-within form (given_of files script) before mid now had sizes (command_list script) stopped.done cut.0 some cut.1 took (stopped.cause tells files is);
               above =
                   let last = take (stopped.done + 1) (command_list script) in
                   no_room-later sizes (begins_limit last) (begins_limit (command_list script)) (load_of (given_of files script) last) (load_of (given_of files script) (command_list script)) some
@@ -279,7 +280,7 @@ module _ (told : Option (List ℕ → Option (List ℕ))) (script : Reading) (fi
   says-stopped Memory replied slots sizes mid now sink sink_mid sink_now library library_now had over some stopped changed after library_after puts =
       rest-says replied slots sizes mid now sink sink_mid sink_now library library_now had end.Memory over puts after
       (λ took same. (
-        inr (before-load mid now had stopped took),
+        before-load mid now had stopped took,
         record { sink_same = same; library_same = library_after },
       ))
   says-stopped (Changed line said got) replied slots sizes mid now sink sink_mid sink_now library library_now had over some stopped changed after library_after puts =

@@ -2,6 +2,7 @@
 use Rattle.std.proofs.Common.{◌≡◌, ℕ, Bool, true, List, [], ◌∷◌, ◌+◌, ◌<◌, ◌≤◌, Option, length, max, refl, sym, ap, ◌∙◌, subst, arith, append-nil}
 use Rattle.std.specs.Prelude.{Result, Ok, Err, IfErr, OnOk, ⊤, ◌||◌}
 use Rattle.std.proofs.Math.Bool.{or-true}
+use Rattle.ppq_script.specs.declared.form.Form.{Form}
 use Rattle.ppq_script.specs.ppq_record.declared.pair.Pair.{Pair}
 use Rattle.ppq_script.specs.ppq_record.Bag.{IsSameBag}
 use Rattle.ppq_script.specs.ppq_outside.Shown.{Shown, AllTell}
@@ -38,17 +39,17 @@ use Rattle.ppq_engine.proofs.Stops.{file_unput, limit_unasked, limit_of_file, li
 
 -- one command that runs together with no other
 module _
-    (told : Option (List ℕ → Option (List ℕ))) (script : Reading) (workers : ℕ) (c : Command) (is : IsLine workers Outside c) (old new : Holding Pair) (before now : Option (List ℕ)) (had has : List ℕ) (r : Result ⊤ Stop)
-    (prints : Prints old.slots before now had (text_of (outside old.bag) c) has r)
+    (form : Form) (told : Option (List ℕ → Option (List ℕ))) (script : Reading) (workers : ℕ) (c : Command) (is : IsLine workers Outside c) (old new : Holding Pair) (before now : Option (List ℕ)) (had has : List ℕ) (r : Result ⊤ Stop)
+    (prints : Prints old.slots before now had (text_of form (outside old.bag) c) has r)
   where
-    pub turn-goes : Keeps old new → OnOk r (RunsStep told script old new c) → IfErr r (StopsStep old new c) → Goes told script c (c ∷ []) before now old new had has r
+    pub turn-goes : Keeps old new → OnOk r (RunsStep told script old new c) → IfErr r (StopsStep old new c) → Goes form told script c (c ∷ []) before now old new had has r
     turn-goes kept runs stops =
-        let text = text_of (outside old.bag) c in
+        let text = text_of form (outside old.bag) c in
         let Text : Type 0 = AllTell old.slots → Gathers before now had text has in
         let Wrote : Stop → Type 0 = λ stop. AllTell old.slots → WritesPart before now had text has stop in
         record {
           runs =
-              on-ok-map r (RunsStep told script old new c × Text) (RunsPart told script old new before now had has (c ∷ []))
+              on-ok-map r (RunsStep told script old new c × Text) (RunsPart form told script old new before now had has (c ∷ []))
               (λ both. let ran = both.0 in record {
                 text = λ tells given. let P : List ℕ → Type 0 = λ t. Gathers before now had t has in subst P (sym (append-nil text)) (both.1 tells);
                 bag = ran.bag;
@@ -60,9 +61,9 @@ module _
                 kept = Keeps-none old new (c ∷ []) (lone-begins workers c is) kept;
               }) (on-ok-both r (RunsStep told script old new c) Text runs prints.text);
           stopped =
-              if-err-map r (λ stop. StopsStep old new c stop × Wrote stop) (StopsPart old new before now had has c (c ∷ []))
+              if-err-map r (λ stop. StopsStep old new c stop × Wrote stop) (StopsPart form old new before now had has c (c ∷ []))
               (λ stop both. record {
-                wrote = lone-stops old.slots before now had has old.bag old.size old.peak old.sizes old.limited new.slots workers c is stop both.1 both.0.refused;
+                wrote = lone-stops form old.slots before now had has old.bag old.size old.peak old.sizes old.limited new.slots workers c is stop both.1 both.0.refused;
                 of_file = both.0.of_file;
               }) (if-err-both r (StopsStep old new c) Wrote stops prints.part);
           slots = kept.slots;
@@ -76,9 +77,9 @@ module _ (script : Reading) (workers : ℕ) (body : List Command) (are : AreLine
       let least = bulk-part_size all_go workers old.size body are in
       let most = bulk-part_size none_go workers old.size body are in
       record {
-        goes = λ files put. record {
+        goes = λ form files put. record {
           runs = record {
-            text = λ tells given. let P : List ℕ → Type 0 = λ t. Gathers put put had t had in subst P (sym (bulk-silent given workers old.bag body are)) (gathers-nothing put had);
+            text = λ tells given. let P : List ℕ → Type 0 = λ t. Gathers put put had t had in subst P (sym (bulk-silent given form workers old.bag body are)) (gathers-nothing put had);
             bag = λ tells files known p. loaded.bag tells p ∙ sym (bulk-bag (given_of files script) workers old.bag body are p);
             low = omega (arith, loaded.size, least);
             high = omega (arith, loaded.size, most);
@@ -96,9 +97,9 @@ module _ (script : Reading) (workers : ℕ) (body : List Command) (are : AreLine
   -- it did not, or did not begin
   pub bulk-stopped : (stop : Stop) → IsBySession stop → StopsFor (max old.peak (old.size + length (pushed_in body))) old.sizes old.limited new.slots stop → Keeps old new → GoesAlone script BulkBegin (bulk_part body) old new had had (Err stop)
   bulk-stopped stop by why kept = record {
-    goes = λ files put. record {
+    goes = λ form files put. record {
       runs = tt;
-      stopped = record { wrote = bulk-stops old.slots put had old.bag old.size old.peak old.sizes old.limited new.slots workers body are stop by why; of_file = limit_of_file BulkBegin stop tt (session-by_limit stop by) };
+      stopped = record { wrote = bulk-stops form old.slots put had old.bag old.size old.peak old.sizes old.limited new.slots workers body are stop by why; of_file = limit_of_file BulkBegin stop tt (session-by_limit stop by) };
       slots = kept.slots;
     };
     by_session = by;
@@ -117,17 +118,17 @@ module _ (script : Reading) (workers : ℕ) (body : List Command) (are : AreLine
 
 -- a limit session
 pub limit-goes :
-    (script : Reading) (limit : Pair) (body : List Command) (old new : Holding Pair) (before now : Option (List ℕ)) (had has : List ℕ) (s : Result ⊤ Stop)
-    → OnOk s ((files : Option (List ℕ → Option (List ℕ))) → RunsPart files script old new before now had has (limit_part limit body)) → IfErr s IsByLimit
-    → IfErr s (PartStops old.slots before now had old.bag old.size old.peak (limit_part limit body) old.sizes true new.slots has) → SameSlots old.slots new.slots
-    → (files : Option (List ℕ → Option (List ℕ))) → Goes files script (LimitBegin limit) (limit_part limit body) before now old new had has s
-limit-goes script limit body old new before now had has s runs by stops slots files =
+    (form : Form) (script : Reading) (limit : Pair) (body : List Command) (old new : Holding Pair) (before now : Option (List ℕ)) (had has : List ℕ) (s : Result ⊤ Stop)
+    → OnOk s ((files : Option (List ℕ → Option (List ℕ))) → RunsPart form files script old new before now had has (limit_part limit body)) → IfErr s IsByLimit
+    → IfErr s (PartStops form old.slots before now had old.bag old.size old.peak (limit_part limit body) old.sizes true new.slots has) → SameSlots old.slots new.slots
+    → (files : Option (List ℕ → Option (List ℕ))) → Goes form files script (LimitBegin limit) (limit_part limit body) before now old new had has s
+limit-goes form script limit body old new before now had has s runs by stops slots files =
     let part = limit_part limit body in
-    let Wrote : Bool → Stop → Type 0 = λ l stop. PartStops old.slots before now had old.bag old.size old.peak part old.sizes l new.slots has stop in
+    let Wrote : Bool → Stop → Type 0 = λ l stop. PartStops form old.slots before now had old.bag old.size old.peak part old.sizes l new.slots has stop in
     record {
-      runs = on-ok-map s ((told : Option (List ℕ → Option (List ℕ))) → RunsPart told script old new before now had has part) (RunsPart files script old new before now had has part) (λ all. all files) runs;
+      runs = on-ok-map s ((told : Option (List ℕ → Option (List ℕ))) → RunsPart form told script old new before now had has part) (RunsPart form files script old new before now had has part) (λ all. all files) runs;
       stopped =
-          if-err-map s (λ stop. IsByLimit stop × Wrote true stop) (StopsPart old new before now had has (LimitBegin limit) part)
+          if-err-map s (λ stop. IsByLimit stop × Wrote true stop) (StopsPart form old new before now had has (LimitBegin limit) part)
           (λ stop why. record { wrote = let P : Bool → Type 0 = λ l. Wrote l stop in subst P (sym (or-true old.limited)) why.1; of_file = limit_of_file (LimitBegin limit) stop tt why.0 })
           (if-err-both s IsByLimit (Wrote true) by stops);
       slots = slots;

@@ -6,6 +6,7 @@ use Rattle.ppq_script.specs.ppq_outside.Shown.{Shown, AllTell}
 use Rattle.ppq_script.specs.ppq_outside.declared.slot.Slot.{Ghosts}
 use Rattle.ppq_script.specs.ppq_outside.Told.{Reply, Remembers, RepliesOnly, TakesPart, HasOneCause}
 use Rattle.ppq_load.specs.ppq_array.Kept.{SameSlots, AreQuiet}
+use Rattle.ppq_script.specs.declared.form.Form.{Form}
 use Rattle.ppq_script.specs.declared.command.Command.{Command}
 use Rattle.ppq_script.specs.declared.part.Part.{Part}
 use Rattle.ppq_script.specs.Files.{NamesFile, HasRecords}
@@ -123,8 +124,8 @@ pub record StopsStep (old new : Holding Pair) (command : Command) (stop : Stop) 
   pub of_file : IsOfFile command stop
 
 -- what commands that run together printed and did to the queue where they ran to their end
-pub record RunsPart (told : Option (List ℕ → Option (List ℕ))) (script : Reading) (old new : Holding Pair) (before now : Option (List ℕ)) (had has : List ℕ) (part : List Command) : Type 0 where
-  pub text : AllTell old.slots → (given : ℕ → List Pair) → Gathers before now had (output_from given (outside old.bag) part) has
+pub record RunsPart (form : Form) (told : Option (List ℕ → Option (List ℕ))) (script : Reading) (old new : Holding Pair) (before now : Option (List ℕ)) (had has : List ℕ) (part : List Command) : Type 0 where
+  pub text : AllTell old.slots → (given : ℕ → List Pair) → Gathers before now had (output_from form given (outside old.bag) part) has
   pub bag : AllTell old.slots → (files : List ℕ → Option (List ℕ)) → AreFilesOf told script files → IsSameBag new.bag (state_from (given_of files script) (outside old.bag) part).bag
   pub low : size_from all_go old.size part ≤ new.size
   pub high : new.size ≤ size_from none_go old.size part
@@ -134,13 +135,13 @@ pub record RunsPart (told : Option (List ℕ → Option (List ℕ))) (script : R
   pub kept : Keeps (behind_part old part) new
 
 -- why they did not, and what they printed before
-pub record StopsPart (old new : Holding Pair) (before now : Option (List ℕ)) (had has : List ℕ) (command : Command) (part : List Command) (stop : Stop) : Type 0 where
-  pub wrote : PartStops old.slots before now had old.bag old.size old.peak part old.sizes (old.limited || begins_limit part) new.slots has stop
+pub record StopsPart (form : Form) (old new : Holding Pair) (before now : Option (List ℕ)) (had has : List ℕ) (command : Command) (part : List Command) (stop : Stop) : Type 0 where
+  pub wrote : PartStops form old.slots before now had old.bag old.size old.peak part old.sizes (old.limited || begins_limit part) new.slots has stop
   pub of_file : IsOfFile command stop
 
 -- a command that lends the queue, whatever it answers: what it printed, what it left, and why it stopped
-pub record Lends {S : Type 0} {slot : Ghosts S} (before now : Option (List ℕ)) (sink sink_now : ℕ) (old new : Machine S slot) (command : Command) (result : Result ⊤ Stop) : Type 0 where
-  pub prints : Prints old.queue.slots before now old.desk.gathered (text_of (outside old.queue.bag) command) new.desk.gathered result
+pub record Lends {S : Type 0} {slot : Ghosts S} (form : Form) (before now : Option (List ℕ)) (sink sink_now : ℕ) (old new : Machine S slot) (command : Command) (result : Result ⊤ Stop) : Type 0 where
+  pub prints : Prints old.queue.slots before now old.desk.gathered (text_of form (outside old.queue.bag) command) new.desk.gathered result
   pub counts : SinkCounts sink sink_now result
   pub left :
       OnOk result
@@ -148,14 +149,14 @@ pub record Lends {S : Type 0} {slot : Ghosts S} (before now : Option (List ℕ))
   pub lent : IsLent old.queue new.queue (max old.queue.peak (size_after none_go old.queue.size command)) result
 
 -- commands that run together, of which this is the first, whatever is answered: what they did, or why they stopped
-pub record Goes (files : Option (List ℕ → Option (List ℕ))) (script : Reading) (first : Command) (part : List Command) (before now : Option (List ℕ)) (old new : Holding Pair) (had has : List ℕ) (result : Result ⊤ Stop) : Type 0 where
-  pub runs : OnOk result (RunsPart files script old new before now had has part)
-  pub stopped : IfErr result (StopsPart old new before now had has first part)
+pub record Goes (form : Form) (files : Option (List ℕ → Option (List ℕ))) (script : Reading) (first : Command) (part : List Command) (before now : Option (List ℕ)) (old new : Holding Pair) (had has : List ℕ) (result : Result ⊤ Stop) : Type 0 where
+  pub runs : OnOk result (RunsPart form files script old new before now had has part)
+  pub stopped : IfErr result (StopsPart form old new before now had has first part)
   pub slots : SameSlots old.slots new.slots
 
 -- the same of commands that need no file and print nothing
 pub record GoesAlone (script : Reading) (first : Command) (part : List Command) (old new : Holding Pair) (had has : List ℕ) (result : Result ⊤ Stop) : Type 0 where
-  pub goes : (files : Option (List ℕ → Option (List ℕ))) (put : Option (List ℕ)) → Goes files script first part put put old new had has result
+  pub goes : (form : Form) (files : Option (List ℕ → Option (List ℕ))) (put : Option (List ℕ)) → Goes form files script first part put put old new had has result
   pub by_session : IfErr result IsBySession
 
 -- a checked script of whose files the library tells the lengths that it keeps, and a queue for its workers that nothing was done with
@@ -170,14 +171,14 @@ pub record MayRun (files : Option (List ℕ → Option (List ℕ))) (script : Re
   pub unlimited : queue.limited ≡ false
 
 -- all commands of a script were run
-pub record RunsAll (told : Option (List ℕ → Option (List ℕ))) (script : Reading) (old new : Holding Pair) (before now : Option (List ℕ)) (has : List ℕ) : Type 0 where
-  pub all : AllTell old.slots → (files : List ℕ → Option (List ℕ)) → AreFilesOf told script files → IsGathered before now has (output_of (given_of files script) (command_list script))
+pub record RunsAll (form : Form) (told : Option (List ℕ → Option (List ℕ))) (script : Reading) (old new : Holding Pair) (before now : Option (List ℕ)) (has : List ℕ) : Type 0 where
+  pub all : AllTell old.slots → (files : List ℕ → Option (List ℕ)) → AreFilesOf told script files → IsGathered before now has (output_of form (given_of files script) (command_list script))
   pub crest : AllTell old.slots → (files : List ℕ → Option (List ℕ)) → AreFilesOf told script files → FitsWritten (crest_of (given_of files script) (command_list script)) old.sizes new.slots
   pub least : FitsWritten (least_of (command_list script)) old.sizes new.slots
   pub quiet : AreQuiet old.slots new.slots
 
 -- how a run on a queue ended: what was put is a part of the script's output; what the end says; and what was put if a file ended the run
-pub record EndsRun (told : Option (List ℕ → Option (List ℕ))) (replied : Reply → Type 0) (script : Reading) (old new : Holding Pair) (before now : Option (List ℕ)) (sink sink_now library library_now : ℕ) (end : End) : Type 0 where
-  pub part : AllTell old.slots → (files : List ℕ → Option (List ℕ)) → AreFilesOf told script files → TakesPart before now (output_of (given_of files script) (command_list script))
-  pub says : EndSays told replied script old.slots new.slots old.sizes before now sink sink_now library library_now end
-  pub file : FaultBeforeFile told script old.slots before now end
+pub record EndsRun (form : Form) (told : Option (List ℕ → Option (List ℕ))) (replied : Reply → Type 0) (script : Reading) (old new : Holding Pair) (before now : Option (List ℕ)) (sink sink_now library library_now : ℕ) (end : End) : Type 0 where
+  pub part : AllTell old.slots → (files : List ℕ → Option (List ℕ)) → AreFilesOf told script files → TakesPart before now (output_of form (given_of files script) (command_list script))
+  pub says : EndSays form told replied script old.slots new.slots old.sizes before now sink sink_now library library_now end
+  pub file : FaultBeforeFile form told script old.slots before now end

@@ -1,5 +1,5 @@
 -- What a script prints, by a second definition: what is pushed in a session is kept apart from the bag until the session ends.
-use Rattle.std.specs.Prelude.{◌≡◌, ℕ, true, not, List, [], ◌∷◌, ◌++◌, length, filter, max, codes, if◌then◌else◌, ◌+◌}
+use Rattle.std.specs.Prelude.{◌≡◌, ℕ, true, not, List, [], ◌∷◌, ◌++◌, length, filter, max, if◌then◌else◌, ◌+◌}
 use Rattle.ppq_script.specs.ppq_record.declared.pair.Pair.{Pair}
 use Rattle.ppq_script.specs.ppq_record.Order.{is_before}
 use Rattle.ppq_script.specs.ppq_record.Pair.{pair_cmp}
@@ -7,10 +7,11 @@ use Rattle.ppq_script.specs.ppq_record.Bag.{least, front, without_front, first_o
 use Rattle.ppq_script.specs.ppq_record.Given.{generated}
 use Rattle.ppq_script.specs.declared.command.Command.{Command}
 use Rattle.ppq_script.specs.declared.command.Command.TheVariants.{Push, Pop, Top, Size, Bulk, Gen, BulkPop, BulkPopLimit, Drain, BulkBegin, BulkPush, BulkEnd, LimitBegin, LimitPush, LimitTop, LimitPop, LimitEnd}
+use Rattle.ppq_script.specs.declared.form.Form.{Form}
 use Rattle.ppq_script.specs.declared.session.Session.{Session}
 use Rattle.ppq_script.specs.declared.session.Session.TheVariants.{Outside, InBulk, InLimit}
 use Rattle.ppq_script.specs.Sessions.{is_outside, are_in_place}
-use Rattle.ppq_engine.specs.Output.{lines_text, least_text, size_text, summary_text, limited_text, output_of, load_of, crest_of}
+use Rattle.ppq_engine.specs.Output.{records_text, least_text, all_text, more_text, size_text, summary_text, limited_text, output_of, load_of, crest_of}
 
 -- what there is between commands: the bag, the session that is open, what was pushed in it, and how many records were popped in it
 pub record Deferred : Type 0 where
@@ -48,29 +49,29 @@ without_least InBulk bag = bag
 without_least (InLimit limit) bag = without_below limit bag 1
 
 -- what `bulk_pop_limit` writes behind the lines, where these records below the limit are left
-abbrev pub left_text : List Pair → List ℕ
-left_text [] = codes "all\n"
-left_text (x ∷ xs) = codes "more\n"
+abbrev pub left_text : Form → List Pair → List ℕ
+left_text form [] = all_text form
+left_text form (x ∷ xs) = more_text form
 
 -- what a command writes
-abbrev pub text_deferred : Deferred → Command → List ℕ
-text_deferred state (Push item) = []
-text_deferred state Pop = least_text (least pair_cmp state.bag)
-text_deferred state Top = least_text (least pair_cmp state.bag)
-text_deferred state Size = size_text (length state.bag)
-text_deferred state (Bulk file size) = []
-text_deferred state (Gen seed count) = []
-text_deferred state (BulkPop count) = lines_text (front pair_cmp state.bag count)
-text_deferred state (BulkPopLimit limit count) = lines_text (front pair_cmp (below limit state.bag) count) ++ left_text (without_front pair_cmp (below limit state.bag) count)
-text_deferred state (Drain count) = summary_text (front pair_cmp state.bag count)
-text_deferred state BulkBegin = []
-text_deferred state (BulkPush pass item) = []
-text_deferred state BulkEnd = []
-text_deferred state (LimitBegin limit) = []
-text_deferred state (LimitPush pass item) = []
-text_deferred state LimitTop = limited_text (first_of (least_in state.session state.bag))
-text_deferred state LimitPop = limited_text (first_of (least_in state.session state.bag))
-text_deferred state LimitEnd = []
+abbrev pub text_deferred : Form → Deferred → Command → List ℕ
+text_deferred form state (Push item) = []
+text_deferred form state Pop = least_text form (least pair_cmp state.bag)
+text_deferred form state Top = least_text form (least pair_cmp state.bag)
+text_deferred form state Size = size_text form (length state.bag)
+text_deferred form state (Bulk file size) = []
+text_deferred form state (Gen seed count) = []
+text_deferred form state (BulkPop count) = records_text form (front pair_cmp state.bag count)
+text_deferred form state (BulkPopLimit limit count) = records_text form (front pair_cmp (below limit state.bag) count) ++ left_text form (without_front pair_cmp (below limit state.bag) count)
+text_deferred form state (Drain count) = summary_text form (front pair_cmp state.bag count)
+text_deferred form state BulkBegin = []
+text_deferred form state (BulkPush pass item) = []
+text_deferred form state BulkEnd = []
+text_deferred form state (LimitBegin limit) = []
+text_deferred form state (LimitPush pass item) = []
+text_deferred form state LimitTop = limited_text form (first_of (least_in state.session state.bag))
+text_deferred form state LimitPop = limited_text form (first_of (least_in state.session state.bag))
+text_deferred form state LimitEnd = []
 
 -- what follows, where files are given as these records
 module _ (given : ℕ → List Pair) where
@@ -100,11 +101,6 @@ module _ (given : ℕ → List Pair) where
       }
   after_deferred state LimitEnd = begun Outside (state.bag ++ state.pushed)
 
-  -- the texts of commands, one after the other
-  abbrev pub output_deferred_from : Deferred → List Command → List ℕ
-  output_deferred_from state [] = []
-  output_deferred_from state (command ∷ commands) = text_deferred state command ++ output_deferred_from (after_deferred state command) commands
-
   -- how many records count: those of the bag, those that were pushed in the session that is open, and those that were popped in it
   abbrev pub counted_deferred : Deferred → ℕ
   counted_deferred state = length state.bag + length state.pushed + state.popped
@@ -121,10 +117,6 @@ module _ (given : ℕ → List Pair) where
       let behind = after_deferred state command in
       max (if is_outside behind.session then length behind.bag else 0) (crest_deferred_from behind commands)
 
-  -- what the commands of a script write, from the empty bag on
-  abbrev pub output_deferred : List Command → List ℕ
-  output_deferred commands = output_deferred_from (begun Outside []) commands
-
   -- the load of a script
   abbrev pub load_deferred : List Command → ℕ
   load_deferred commands = load_deferred_from (begun Outside []) commands
@@ -133,9 +125,19 @@ module _ (given : ℕ → List Pair) where
   abbrev pub crest_deferred : List Command → ℕ
   crest_deferred commands = crest_deferred_from (begun Outside []) commands
 
+module _ (form : Form) (given : ℕ → List Pair) where
+  -- the texts of commands, one after the other
+  abbrev pub output_deferred_from : Deferred → List Command → List ℕ
+  output_deferred_from state [] = []
+  output_deferred_from state (command ∷ commands) = text_deferred form state command ++ output_deferred_from (after_deferred given state command) commands
+
+  -- what the commands of a script write, from the empty bag on
+  abbrev pub output_deferred : List Command → List ℕ
+  output_deferred commands = output_deferred_from (begun Outside []) commands
+
 -- both definitions say the same of these commands
 pub record DefinitionsAgree (given : ℕ → List Pair) (commands : List Command) : Type 0 where
-  pub output : output_deferred given commands ≡ output_of given commands
+  pub output : (form : Form) → output_deferred form given commands ≡ output_of form given commands
   pub load : load_deferred given commands ≡ load_of given commands
   pub crest : crest_deferred given commands ≡ crest_of given commands
 

@@ -1,23 +1,24 @@
--- Output that is gathered before it is put.
-use Rattle.std.specs.Prelude.{◌≡◌, ℕ, List, [], ◌++◌, length, Option, codes}
+-- The text of an answer in each form, and output that is gathered before it is put.
+use Rattle.std.specs.Prelude.{◌≡◌, ℕ, List, [], ◌++◌, length, Option, None}
 use Rattle.ppq_script.specs.ppq_record.declared.pair.Pair.{Pair}
 use Rattle.ppq_script.specs.ppq_record.Bag.{first_of}
 use Rattle.ppq_script.specs.ppq_outside.Told.{TakesAll}
-use Rattle.ppq_engine.specs.Output.{line_of, size_text, drained_text, last_of, key_sum}
+use Rattle.ppq_script.specs.declared.form.Form.{Form}
+use Rattle.ppq_engine.specs.Output.{record_text, empty_text, size_text, all_text, more_text, limited_text, drained_text, last_of, key_sum}
 use Rattle.ppq_engine.specs.declared.answer.Answer.{Answer}
 use Rattle.ppq_engine.specs.declared.answer.Answer.TheVariants as answer
 use Rattle.ppq_engine.specs.declared.answer.Drained.{Drained}
 
 -- the text of an answer
-abbrev pub answer_text : Answer → List ℕ
-answer_text answer.Nothing = []
-answer_text answer.Empty = codes "empty\n"
-answer_text (answer.Record item) = line_of item
-answer_text (answer.Size records) = size_text records
-answer_text answer.All = codes "all\n"
-answer_text answer.More = codes "more\n"
-answer_text answer.Limit = codes "limit\n"
-answer_text (answer.Drained drained) = drained_text drained.count drained.first drained.last drained.sum
+abbrev pub answer_text : Form → Answer → List ℕ
+answer_text form answer.Nothing = []
+answer_text form answer.Empty = empty_text form
+answer_text form (answer.Record item) = record_text form item
+answer_text form (answer.Size records) = size_text form records
+answer_text form answer.All = all_text form
+answer_text form answer.More = more_text form
+answer_text form answer.Limit = limited_text form None
+answer_text form (answer.Drained drained) = drained_text form drained.count drained.first drained.last drained.sum
 
 -- what is known of drained records
 pub record IsSummary (items : List Pair) (drained : Drained) : Type 0 where

@@ -5,6 +5,7 @@ use Rattle.ppq_script.specs.ppq_record.Pair.{pair_cmp}
 use Rattle.ppq_script.specs.ppq_outside.Shown.{Shown, AllTell}
 use Rattle.ppq_script.specs.ppq_outside.Told.{TakesPart}
 use Rattle.ppq_script.specs.ppq_outside.declared.fault.Failed.{Failed}
+use Rattle.ppq_script.specs.declared.form.Form.{Form}
 use Rattle.ppq_script.specs.declared.command.Command.{Command}
 use Rattle.ppq_script.specs.declared.command.Command.TheVariants.{Push, Pop, Top, Size, Bulk, Gen, BulkPop, BulkPopLimit, Drain, BulkBegin, BulkPush, BulkEnd, LimitBegin, LimitPush, LimitTop, LimitPop, LimitEnd}
 use Rattle.ppq_load.specs.ppq_queue.Holding.{Holding}
@@ -45,12 +46,12 @@ abbrev pub asks_in : List Command → List Ask
 asks_in commands = flat_map ask_by commands
 
 -- the texts of answers, one after the other
-abbrev pub answers_text : List (Option Pair) → List ℕ
-answers_text answers = flat_map limited_text answers
+abbrev pub answers_text : Form → List (Option Pair) → List ℕ
+answers_text form answers = flat_map (limited_text form) answers
 
 -- the texts of the answers to what these lines ask, where there are these records in the beginning
-abbrev pub answers_of : Pair → List Pair → List Command → List ℕ
-answers_of limit bag lines = answers_text (answers_to pair_cmp limit bag (asks_in lines))
+abbrev pub answers_of : Form → Pair → List Pair → List Command → List ℕ
+answers_of form limit bag lines = answers_text form (answers_to pair_cmp limit bag (asks_in lines))
 
 module _ {S : Type 0} (shown : S → Shown) where
   -- of a session with this limit, of this queue, these lines were run
@@ -72,19 +73,19 @@ module _ {S : Type 0} (shown : S → Shown) where
     pub limit_is : new.front.limit ≡ old.front.limit
 
   -- Of the lines of a session all were run or the first, and the answers are gathered, all of them unless a call of a slot of the front failed
-  pub record RunsLines (whole : List Command) (before now : Option (List ℕ)) (had has : List ℕ) (old new : LimitsHolding S) : Type 0 where
+  pub record RunsLines (form : Form) (whole : List Command) (before now : Option (List ℕ)) (had has : List ℕ) (old new : LimitsHolding S) : Type 0 where
     pub lines : List Command
     pub rest : List Command
     pub all : whole ≡ lines ++ rest
     pub session : (queue : Holding Pair) (limit : Pair) → HasBegun queue limit old → HasDone queue limit lines new
-    pub part : (queue : Holding Pair) (limit : Pair) → HasBegun queue limit old → AllTell queue.slots → GathersPart before now had (answers_of limit queue.bag lines) has
-    pub text : new.front.failed ≡ None → (queue : Holding Pair) (limit : Pair) → HasBegun queue limit old → AllTell queue.slots → Gathers before now had (answers_of limit queue.bag lines) has
+    pub part : (queue : Holding Pair) (limit : Pair) → HasBegun queue limit old → AllTell queue.slots → GathersPart before now had (answers_of form limit queue.bag lines) has
+    pub text : new.front.failed ≡ None → (queue : Holding Pair) (limit : Pair) → HasBegun queue limit old → AllTell queue.slots → Gathers before now had (answers_of form limit queue.bag lines) has
     pub end : AreGoing new → rest ≡ []
 
   -- the sink failed before all lines were run: it took a part of the answers
-  pub record BreaksOff (whole : List Command) (before now : Option (List ℕ)) (had : List ℕ) (old new : LimitsHolding S) : Type 0 where
+  pub record BreaksOff (form : Form) (whole : List Command) (before now : Option (List ℕ)) (had : List ℕ) (old new : LimitsHolding S) : Type 0 where
     pub session : (queue : Holding Pair) (limit : Pair) → HasBegun queue limit old → (lines : List Command) × HasDone queue limit lines new
-    pub text : (queue : Holding Pair) (limit : Pair) → HasBegun queue limit old → AllTell queue.slots → TakesPart before now (had ++ answers_of limit queue.bag whole)
+    pub text : (queue : Holding Pair) (limit : Pair) → HasBegun queue limit old → AllTell queue.slots → TakesPart before now (had ++ answers_of form limit queue.bag whole)
 
 -- how a session ended, by what was printed and what its end answered
 abbrev pub session_end : Result ⊤ Failed → Result ⊤ QueueFault → Result ⊤ Stop

@@ -5,6 +5,7 @@ use Rattle.ppq_script.specs.ppq_outside.Shown.{Shown, AllTell}
 use Rattle.ppq_script.specs.ppq_outside.Told.{Reply, TakesAll, TakesPart, Rose}
 use Rattle.ppq_load.specs.ppq_budget.Sizes.{Numbers}
 use Rattle.ppq_load.specs.ppq_array.Kept.{HasFailed, AreQuiet}
+use Rattle.ppq_script.specs.declared.form.Form.{Form}
 use Rattle.ppq_script.specs.declared.command.Command.{Command}
 use Rattle.ppq_script.specs.declared.command.Command.TheVariants.{Bulk}
 use Rattle.ppq_script.specs.Reading.{Reading, command_list}
@@ -18,49 +19,49 @@ use Rattle.ppq_engine.specs.declared.stop.Stop.{Stop}
 use Rattle.ppq_engine.specs.declared.stop.Stop.TheVariants as stop
 
 -- the sink took the output of the commands before one that reads a file
-pub record TakesBeforeFile (told : Option (List ℕ → Option (List ℕ))) (script : Reading) (first : List Shown) (before now : Option (List ℕ)) : Type 0 where
+pub record TakesBeforeFile (form : Form) (told : Option (List ℕ → Option (List ℕ))) (script : Reading) (first : List Shown) (before now : Option (List ℕ)) : Type 0 where
   pub done : ℕ
   pub file : ℕ
   pub size : ℕ
   pub here : slice_get (command_list script) done ≡ Some (Bulk file size)
   pub took :
       AllTell first → (files : List ℕ → Option (List ℕ)) → AreFilesOf told script files
-      → TakesAll before now (output_of (given_of files script) (take done (command_list script)))
+      → TakesAll before now (output_of form (given_of files script) (take done (command_list script)))
 
 -- the sink took the output of the commands before one that adds many records
-pub record TakesBeforeLoad (told : Option (List ℕ → Option (List ℕ))) (script : Reading) (first : List Shown) (before now : Option (List ℕ)) : Type 0 where
+pub record TakesBeforeLoad (form : Form) (told : Option (List ℕ → Option (List ℕ))) (script : Reading) (first : List Shown) (before now : Option (List ℕ)) : Type 0 where
   pub done : ℕ
   pub command : Command
   pub here : slice_get (command_list script) done ≡ Some command
   pub loads : IsLoad command
   pub took :
       AllTell first → (files : List ℕ → Option (List ℕ)) → AreFilesOf told script files
-      → TakesAll before now (output_of (given_of files script) (take done (command_list script)))
+      → TakesAll before now (output_of form (given_of files script) (take done (command_list script)))
 
 -- where a file could not be read, or had changed, the sink took the output of the commands before one that reads a file
-abbrev pub FaultBeforeFile : Option (List ℕ → Option (List ℕ)) → Reading → List Shown → Option (List ℕ) → Option (List ℕ) → End → Type 0
-FaultBeforeFile told script first before now Done = ⊤
-FaultBeforeFile told script first before now (BadLine line) = ⊤
-FaultBeforeFile told script first before now Usage = ⊤
-FaultBeforeFile told script first before now ReadFault = TakesBeforeFile told script first before now
-FaultBeforeFile told script first before now WriteFault = ⊤
-FaultBeforeFile told script first before now (DeviceFault number) = ⊤
-FaultBeforeFile told script first before now NoFreeBlock = ⊤
-FaultBeforeFile told script first before now (BudgetTooSmall need) = ⊤
-FaultBeforeFile told script first before now Memory = ⊤
-FaultBeforeFile told script first before now (FileChanged line said got) = TakesBeforeFile told script first before now
-FaultBeforeFile told script first before now NoDevice = ⊤
-FaultBeforeFile told script first before now NoScript = ⊤
-FaultBeforeFile told script first before now ScriptTooLong = ⊤
+abbrev pub FaultBeforeFile : Form → Option (List ℕ → Option (List ℕ)) → Reading → List Shown → Option (List ℕ) → Option (List ℕ) → End → Type 0
+FaultBeforeFile form told script first before now Done = ⊤
+FaultBeforeFile form told script first before now (BadLine line) = ⊤
+FaultBeforeFile form told script first before now Usage = ⊤
+FaultBeforeFile form told script first before now ReadFault = TakesBeforeFile form told script first before now
+FaultBeforeFile form told script first before now WriteFault = ⊤
+FaultBeforeFile form told script first before now (DeviceFault number) = ⊤
+FaultBeforeFile form told script first before now NoFreeBlock = ⊤
+FaultBeforeFile form told script first before now (BudgetTooSmall need) = ⊤
+FaultBeforeFile form told script first before now Memory = ⊤
+FaultBeforeFile form told script first before now (FileChanged line said got) = TakesBeforeFile form told script first before now
+FaultBeforeFile form told script first before now NoDevice = ⊤
+FaultBeforeFile form told script first before now NoScript = ⊤
+FaultBeforeFile form told script first before now ScriptTooLong = ⊤
 
 -- the sink took all output, and the greatest bag fits into the budget and what was written
-pub record IsWhole (given : ℕ → List Pair) (script : Reading) (before now : Option (List ℕ)) (sizes : Numbers) (slots : List Shown) : Type 0 where
-  pub took : TakesAll before now (output_of given (command_list script))
+pub record IsWhole (form : Form) (given : ℕ → List Pair) (script : Reading) (before now : Option (List ℕ)) (sizes : Numbers) (slots : List Shown) : Type 0 where
+  pub took : TakesAll before now (output_of form given (command_list script))
   pub crest : FitsWritten (crest_of given (command_list script)) sizes slots
 
 -- the sink took what there was room for, and the load has none
-pub record IsFull (given : ℕ → List Pair) (script : Reading) (before now : Option (List ℕ)) (sizes : Numbers) : Type 0 where
-  pub within : TakesWithin given before now sizes (command_list script)
+pub record IsFull (form : Form) (given : ℕ → List Pair) (script : Reading) (before now : Option (List ℕ)) (sizes : Numbers) : Type 0 where
+  pub within : TakesWithin form given before now sizes (command_list script)
   pub above : HasNoRoom sizes (begins_limit (command_list script)) (load_of given (command_list script))
 
 -- neither the count of the sink nor that of the library rose
@@ -70,29 +71,29 @@ pub record CountsStay (sink sink_now library library_now : ℕ) : Type 0 where
 
 -- what an end says: of the files that the library tells, what it replied, the script, the blocks first and now, the output before and now,
 -- and the counts of sink and library
-abbrev pub EndSays : Option (List ℕ → Option (List ℕ)) → (Reply → Type 0) → Reading → List Shown → List Shown → Numbers → Option (List ℕ) → Option (List ℕ) → ℕ → ℕ → ℕ → ℕ → End → Type 0
-EndSays told replied script first slots sizes before now sink sink_now library library_now Done =
-    (AllTell first → (files : List ℕ → Option (List ℕ)) → AreFilesOf told script files → IsWhole (given_of files script) script before now sizes slots)
+abbrev pub EndSays : Form → Option (List ℕ → Option (List ℕ)) → (Reply → Type 0) → Reading → List Shown → List Shown → Numbers → Option (List ℕ) → Option (List ℕ) → ℕ → ℕ → ℕ → ℕ → End → Type 0
+EndSays form told replied script first slots sizes before now sink sink_now library library_now Done =
+    (AllTell first → (files : List ℕ → Option (List ℕ)) → AreFilesOf told script files → IsWhole form (given_of files script) script before now sizes slots)
     × FitsWritten (least_of (command_list script)) sizes slots
     × CountsStay sink sink_now library library_now
     × AreQuiet first slots
-EndSays told replied script first slots sizes before now sink sink_now library library_now (BadLine line) = ⊥
-EndSays told replied script first slots sizes before now sink sink_now library library_now Usage = ⊥
-EndSays told replied script first slots sizes before now sink sink_now library library_now ReadFault = Rose library library_now
-EndSays told replied script first slots sizes before now sink sink_now library library_now WriteFault = Rose sink sink_now
-EndSays told replied script first slots sizes before now sink sink_now library library_now (DeviceFault number) = HasFailed number slots
-EndSays told replied script first slots sizes before now sink sink_now library library_now NoFreeBlock =
-    (AllTell first → (files : List ℕ → Option (List ℕ)) → AreFilesOf told script files → IsFull (given_of files script) script before now sizes)
+EndSays form told replied script first slots sizes before now sink sink_now library library_now (BadLine line) = ⊥
+EndSays form told replied script first slots sizes before now sink sink_now library library_now Usage = ⊥
+EndSays form told replied script first slots sizes before now sink sink_now library library_now ReadFault = Rose library library_now
+EndSays form told replied script first slots sizes before now sink sink_now library library_now WriteFault = Rose sink sink_now
+EndSays form told replied script first slots sizes before now sink sink_now library library_now (DeviceFault number) = HasFailed number slots
+EndSays form told replied script first slots sizes before now sink sink_now library library_now NoFreeBlock =
+    (AllTell first → (files : List ℕ → Option (List ℕ)) → AreFilesOf told script files → IsFull form (given_of files script) script before now sizes)
     × HasNoRoom sizes (begins_limit (command_list script)) (most_of (command_list script))
     × CountsStay sink sink_now library library_now
-EndSays told replied script first slots sizes before now sink sink_now library library_now (BudgetTooSmall need) = ⊥
-EndSays told replied script first slots sizes before now sink sink_now library library_now Memory =
-    ((now ≡ before) ⊎ TakesBeforeLoad told script first before now) × CountsStay sink sink_now library library_now
-EndSays told replied script first slots sizes before now sink sink_now library library_now (FileChanged line said got) =
+EndSays form told replied script first slots sizes before now sink sink_now library library_now (BudgetTooSmall need) = ⊥
+EndSays form told replied script first slots sizes before now sink sink_now library library_now Memory =
+    TakesBeforeLoad form told script first before now × CountsStay sink sink_now library library_now
+EndSays form told replied script first slots sizes before now sink sink_now library library_now (FileChanged line said got) =
     HasChanged told replied script line said got × CountsStay sink sink_now library library_now
-EndSays told replied script first slots sizes before now sink sink_now library library_now NoDevice = ⊥
-EndSays told replied script first slots sizes before now sink sink_now library library_now NoScript = ⊥
-EndSays told replied script first slots sizes before now sink sink_now library library_now ScriptTooLong = ⊥
+EndSays form told replied script first slots sizes before now sink sink_now library library_now NoDevice = ⊥
+EndSays form told replied script first slots sizes before now sink sink_now library library_now NoScript = ⊥
+EndSays form told replied script first slots sizes before now sink sink_now library library_now ScriptTooLong = ⊥
 
 -- what was gathered was put: all of it, and the end is that of the stop; or a part, and the sink failed
 abbrev pub PutsRest : Option (List ℕ) → Option (List ℕ) → ℕ → ℕ → List ℕ → End → End → Type 0

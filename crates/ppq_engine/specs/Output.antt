@@ -1,13 +1,16 @@
--- What a script writes, and how many records its bag comes to hold.
+-- What a script writes, in each form, and how many records its bag comes to hold.
 use Rattle.std.specs.Prelude.{◌≡◌, ◌⊎◌, ◌%◌, ◌^◌, ℕ, List, [], ◌∷◌, ◌++◌, length, take, min, max, Option, Some, None, codes, decimal, flat_map, sum_by, nat_le, if◌then◌else◌, ◌+◌, slice_get}
 use Rattle.ppq_script.specs.ppq_record.declared.pair.Pair.{Pair}
-use Rattle.ppq_script.specs.ppq_record.Pair.{pair_cmp}
+use Rattle.std.specs.Int.{w32, w64, to_be_bytes}
+use Rattle.ppq_script.specs.ppq_record.Pair.{pair_cmp, pair_bytes}
 use Rattle.ppq_script.specs.ppq_record.Bag.{least, front, without_front, first_of, size_below}
 use Rattle.ppq_script.specs.ppq_record.Given.{records_of, generated}
 use Rattle.ppq_script.specs.ppq_outside.Told.{bytes_or_none}
 use Rattle.ppq_load.specs.ppq_budget.Sizes.{Numbers}
 use Rattle.ppq_script.specs.declared.command.Command.{Command}
 use Rattle.ppq_script.specs.declared.command.Command.TheVariants.{Push, Pop, Top, Size, Bulk, Gen, BulkPop, BulkPopLimit, Drain, BulkBegin, BulkPush, BulkEnd, LimitBegin, LimitPush, LimitTop, LimitPop, LimitEnd}
+use Rattle.ppq_script.specs.declared.form.Form.{Form}
+use Rattle.ppq_script.specs.declared.form.Form.TheVariants.{Text, Bytes}
 use Rattle.ppq_script.specs.declared.session.Session.{Session}
 use Rattle.ppq_script.specs.declared.session.Session.TheVariants.{Outside, InBulk, InLimit}
 use Rattle.ppq_script.specs.Sessions.{is_outside}
@@ -16,26 +19,39 @@ use Rattle.ppq_script.specs.Files.{name_at}
 use Rattle.ppq_load.specs.Refusal.{HasRoom}
 use Rattle.ppq_engine.specs.Loads.{begins_limit}
 
+-- a frame: how many bytes follow, in four bytes with the highest first, and these bytes
+abbrev pub frame : List ℕ → List ℕ
+frame bytes = to_be_bytes w32 (length bytes) ++ bytes
+
+-- an answer in its form: its line, or the frame of its bytes
+abbrev pub written : Form → List ℕ → List ℕ → List ℕ
+written Text line bytes = line
+written Bytes line bytes = frame bytes
+
 -- a record's key and value in decimal
 abbrev pub pair_text : Pair → List ℕ
 pair_text item = decimal item.key ++ codes " " ++ decimal item.value
 
--- a record's line
-abbrev pub line_of : Pair → List ℕ
-line_of item = pair_text item ++ codes "\n"
+-- a record
+abbrev pub record_text : Form → Pair → List ℕ
+record_text form item = written form (pair_text item ++ codes "\n") (pair_bytes item)
 
--- the lines of records
-abbrev pub lines_text : List Pair → List ℕ
-lines_text items = flat_map line_of items
+-- records, one after the other
+abbrev pub records_text : Form → List Pair → List ℕ
+records_text form items = flat_map (record_text form) items
+
+-- that there is no record
+abbrev pub empty_text : Form → List ℕ
+empty_text form = written form (codes "empty\n") (codes "e")
 
 -- what `pop` and `top` write, where this is the least record or none
-abbrev pub least_text : Option Pair → List ℕ
-least_text None = codes "empty\n"
-least_text (Some item) = line_of item
+abbrev pub least_text : Form → Option Pair → List ℕ
+least_text form None = empty_text form
+least_text form (Some item) = record_text form item
 
 -- what `size` writes of a bag of so many records
-abbrev pub size_text : ℕ → List ℕ
-size_text records = decimal records ++ codes "\n"
+abbrev pub size_text : Form → ℕ → List ℕ
+size_text form records = written form (decimal records ++ codes "\n") (to_be_bytes w64 records)
 
 -- the last of a list
 abbrev pub last_of : {X : Type 0} → List X → Option X
@@ -48,23 +64,40 @@ abbrev pub key_sum : List Pair → ℕ
 key_sum items = sum_by (λ item. item.key) items % 2 ^ 64
 
 -- what `drain` writes of so many records, of the first and the last of them, and of the sum of their keys
-abbrev pub drained_text : ℕ → Option Pair → Option Pair → ℕ → List ℕ
-drained_text count None last sum = codes "count 0\n"
-drained_text count (Some first) None sum = codes "count 0\n"
-drained_text count (Some first) (Some last) sum =
+abbrev pub drained_line : ℕ → Pair → Pair → ℕ → List ℕ
+drained_line count first last sum =
     codes "count " ++ decimal count ++ codes " first " ++ pair_text first ++ codes " last " ++ pair_text last ++ codes " sum " ++ decimal sum ++ codes "\n"
 
+abbrev pub drained_bytes : ℕ → Pair → Pair → ℕ → List ℕ
+drained_bytes count first last sum = to_be_bytes w64 count ++ pair_bytes first ++ pair_bytes last ++ to_be_bytes w64 sum
+
+-- that none was removed
+abbrev pub undrained_text : Form → List ℕ
+undrained_text form = written form (codes "count 0\n") (to_be_bytes w64 0)
+
+abbrev pub drained_text : Form → ℕ → Option Pair → Option Pair → ℕ → List ℕ
+drained_text form count None last sum = undrained_text form
+drained_text form count (Some first) None sum = undrained_text form
+drained_text form count (Some first) (Some last) sum = written form (drained_line count first last sum) (drained_bytes count first last sum)
+
 -- what `drain` writes of the records that it removed
-abbrev pub summary_text : List Pair → List ℕ
-summary_text items = drained_text (length items) (first_of items) (last_of items) (key_sum items)
+abbrev pub summary_text : Form → List Pair → List ℕ
+summary_text form items = drained_text form (length items) (first_of items) (last_of items) (key_sum items)
 
 -- how many records `bulk_pop_limit` removes: those below the limit, and no more than so many
 abbrev pub limited_count : List Pair → Pair → ℕ → ℕ
 limited_count bag limit count = min count (size_below pair_cmp bag limit)
 
--- what it writes behind their lines: whether all below the limit were removed
-abbrev pub mark_text : List Pair → Pair → ℕ → List ℕ
-mark_text bag limit count = if nat_le (size_below pair_cmp bag limit) count then codes "all\n" else codes "more\n"
+-- that no record below the limit is left, or that one is
+abbrev pub all_text : Form → List ℕ
+all_text form = written form (codes "all\n") (codes "a")
+
+abbrev pub more_text : Form → List ℕ
+more_text form = written form (codes "more\n") (codes "m")
+
+-- what it writes behind the records: whether all below the limit were removed
+abbrev pub mark_text : Form → List Pair → Pair → ℕ → List ℕ
+mark_text form bag limit count = if nat_le (size_below pair_cmp bag limit) count then all_text form else more_text form
 
 -- what there is between commands: the bag, the session that is open, and how many records were popped in it
 pub record State : Type 0 where
@@ -83,29 +116,29 @@ popped_in InBulk bag = 0
 popped_in (InLimit limit) bag = limited_count bag limit 1
 
 -- what `limit_top` and `limit_pop` write, where this is the least record below the limit, or none is below it
-abbrev pub limited_text : Option Pair → List ℕ
-limited_text None = codes "limit\n"
-limited_text (Some item) = line_of item
+abbrev pub limited_text : Form → Option Pair → List ℕ
+limited_text form None = written form (codes "limit\n") (codes "l")
+limited_text form (Some item) = record_text form item
 
 -- what a command writes
-abbrev pub text_of : State → Command → List ℕ
-text_of state (Push item) = []
-text_of state Pop = least_text (least pair_cmp state.bag)
-text_of state Top = least_text (least pair_cmp state.bag)
-text_of state Size = size_text (length state.bag)
-text_of state (Bulk file size) = []
-text_of state (Gen seed count) = []
-text_of state (BulkPop count) = lines_text (front pair_cmp state.bag count)
-text_of state (BulkPopLimit limit count) = lines_text (front pair_cmp state.bag (limited_count state.bag limit count)) ++ mark_text state.bag limit count
-text_of state (Drain count) = summary_text (front pair_cmp state.bag count)
-text_of state BulkBegin = []
-text_of state (BulkPush pass item) = []
-text_of state BulkEnd = []
-text_of state (LimitBegin limit) = []
-text_of state (LimitPush pass item) = []
-text_of state LimitTop = limited_text (first_of (front pair_cmp state.bag (popped_in state.session state.bag)))
-text_of state LimitPop = limited_text (first_of (front pair_cmp state.bag (popped_in state.session state.bag)))
-text_of state LimitEnd = []
+abbrev pub text_of : Form → State → Command → List ℕ
+text_of form state (Push item) = []
+text_of form state Pop = least_text form (least pair_cmp state.bag)
+text_of form state Top = least_text form (least pair_cmp state.bag)
+text_of form state Size = size_text form (length state.bag)
+text_of form state (Bulk file size) = []
+text_of form state (Gen seed count) = []
+text_of form state (BulkPop count) = records_text form (front pair_cmp state.bag count)
+text_of form state (BulkPopLimit limit count) = records_text form (front pair_cmp state.bag (limited_count state.bag limit count)) ++ mark_text form state.bag limit count
+text_of form state (Drain count) = summary_text form (front pair_cmp state.bag count)
+text_of form state BulkBegin = []
+text_of form state (BulkPush pass item) = []
+text_of form state BulkEnd = []
+text_of form state (LimitBegin limit) = []
+text_of form state (LimitPush pass item) = []
+text_of form state LimitTop = limited_text form (first_of (front pair_cmp state.bag (popped_in state.session state.bag)))
+text_of form state LimitPop = limited_text form (first_of (front pair_cmp state.bag (popped_in state.session state.bag)))
+text_of form state LimitEnd = []
 
 -- the records of a file of the script
 abbrev pub given_of : (List ℕ → Option (List ℕ)) → Reading → ℕ → List Pair
@@ -159,11 +192,6 @@ module _ (given : ℕ → List Pair) where
   state_from state [] = state
   state_from state (command ∷ commands) = state_from (after state command) commands
 
-  -- the texts of commands, one after the other
-  abbrev pub output_from : State → List Command → List ℕ
-  output_from state [] = []
-  output_from state (command ∷ commands) = text_of state command ++ output_from (after state command) commands
-
   -- how many records count: those of the bag, and those that were popped in the session that is open
   abbrev pub counted_in : State → ℕ
   counted_in state = length state.bag + state.popped
@@ -179,10 +207,6 @@ module _ (given : ℕ → List Pair) where
   crest_from state (command ∷ commands) =
       let behind = after state command in
       max (if is_outside behind.session then length behind.bag else 0) (crest_from behind commands)
-
-  -- what the commands of a script write, from the empty bag on
-  abbrev pub output_of : List Command → List ℕ
-  output_of commands = output_from (outside []) commands
 
   -- what they leave
   abbrev pub state_of : List Command → State
@@ -200,11 +224,21 @@ module _ (given : ℕ → List Pair) where
   abbrev pub crest_of : List Command → ℕ
   crest_of commands = crest_from (outside []) commands
 
+module _ (form : Form) (given : ℕ → List Pair) where
+  -- the texts of commands, one after the other
+  abbrev pub output_from : State → List Command → List ℕ
+  output_from state [] = []
+  output_from state (command ∷ commands) = text_of form state command ++ output_from (after given state command) commands
+
+  -- what the commands of a script write, from the empty bag on
+  abbrev pub output_of : List Command → List ℕ
+  output_of commands = output_from (outside []) commands
+
 -- where the sink tells, it took at least this piece
 abbrev pub TakesAtLeast : Option (List ℕ) → Option (List ℕ) → List ℕ → Type 0
 TakesAtLeast None new piece = new ≡ None
 TakesAtLeast (Some had) new piece = (more : List ℕ) × (new ≡ Some (had ++ (piece ++ more)))
 
 -- the sink took what the first commands write, as long as there is room for their load
-abbrev pub TakesWithin : (ℕ → List Pair) → Option (List ℕ) → Option (List ℕ) → Numbers → List Command → Type 0
-TakesWithin given before now sizes commands = (k : ℕ) → HasRoom sizes (begins_limit (take k commands)) (load_of given (take k commands)) → TakesAtLeast before now (output_of given (take k commands))
+abbrev pub TakesWithin : Form → (ℕ → List Pair) → Option (List ℕ) → Option (List ℕ) → Numbers → List Command → Type 0
+TakesWithin form given before now sizes commands = (k : ℕ) → HasRoom sizes (begins_limit (take k commands)) (load_of given (take k commands)) → TakesAtLeast before now (output_of form given (take k commands))

@@ -1,10 +1,11 @@
 -- Records that are popped one after the other, all or those below a limit.
-use Rattle.std.specs.Prelude.{◌≡◌, ◌≤◌, ◌-◌, ℕ, List, [], length, take, drop, Option, Some, None, if◌then◌else◌, codes, ⊤}
+use Rattle.std.specs.Prelude.{◌≡◌, ◌≤◌, ◌-◌, ℕ, List, [], length, take, drop, Option, Some, None, if◌then◌else◌, ⊤}
 use Rattle.ppq_script.specs.ppq_record.declared.pair.Pair.{Pair}
 use Rattle.ppq_script.specs.ppq_record.Pair.{pair_cmp}
 use Rattle.ppq_script.specs.ppq_record.Order.{is_before}
 use Rattle.ppq_script.specs.ppq_record.Bag.{IsSameBag, ascending, least}
-use Rattle.ppq_engine.specs.Output.{limited_count}
+use Rattle.ppq_script.specs.declared.form.Form.{Form}
+use Rattle.ppq_engine.specs.Output.{limited_count, all_text, more_text}
 use Rattle.ppq_engine.specs.declared.stop.Stop.{Stop}
 use Rattle.ppq_engine.specs.declared.stop.Stop.TheVariants.{Sink, Queue, Read, Memory, Changed}
 
@@ -19,9 +20,9 @@ abbrev pub next_of : Option Pair → List Pair → Option Pair
 next_of below bag = passing below (least pair_cmp bag)
 
 -- whether a record below the limit is left, where this is the least of them or none
-abbrev pub left_mark : Option Pair → List ℕ
-left_mark None = codes "all\n"
-left_mark (Some item) = codes "more\n"
+abbrev pub left_mark : Form → Option Pair → List ℕ
+left_mark form None = all_text form
+left_mark form (Some item) = more_text form
 
 -- how many records are popped at the most: so many, and none that is not below the limit
 abbrev pub popped_count : Option Pair → List Pair → ℕ → ℕ

@@ -5,6 +5,7 @@ use Rattle.ppq_script.specs.ppq_record.Bag.{IsSameBag}
 use Rattle.ppq_script.specs.ppq_outside.Shown.{Shown, AllTell}
 use Rattle.ppq_script.specs.ppq_outside.Told.{Reply, TakesAll, TakesPart, Rose}
 use Rattle.ppq_load.specs.ppq_budget.Sizes.{Numbers}
+use Rattle.ppq_script.specs.declared.form.Form.{Form}
 use Rattle.ppq_script.specs.declared.command.Command.{Command}
 use Rattle.ppq_script.specs.declared.command.Command.TheVariants.{Push, Pop, Top, Size, Bulk, Gen, BulkPop, BulkPopLimit, Drain, BulkBegin, BulkPush, BulkEnd, LimitBegin, LimitPush, LimitTop, LimitPop, LimitEnd}
 use Rattle.ppq_script.specs.Files.{name_at}
@@ -79,9 +80,9 @@ pub record GathersPart (before now : Option (List ℕ)) (had text has : List ℕ
 
 -- these commands were run, with files that are given as these records, and no session is open: their output is gathered, the queue holds
 -- their bag, had no more records than their load, and their crest fits into the budget and what was written
-pub record HasRun (given : ℕ → List Pair) (before now : Option (List ℕ)) (gathered : List ℕ) (bag : List Pair) (size peak : ℕ) (sizes : Numbers) (slots : List Shown) (commands : List Command) : Type 0 where
+pub record HasRun (form : Form) (given : ℕ → List Pair) (before now : Option (List ℕ)) (gathered : List ℕ) (bag : List Pair) (size peak : ℕ) (sizes : Numbers) (slots : List Shown) (commands : List Command) : Type 0 where
   pub closed : state_of given commands ≡ outside (bag_of given commands)
-  pub output : IsGathered before now gathered (output_of given commands)
+  pub output : IsGathered before now gathered (output_of form given commands)
   pub holds : IsSameBag bag (bag_of given commands)
   pub counted : size ≡ length (bag_of given commands)
   pub highest : peak ≤ load_of given commands
@@ -95,41 +96,41 @@ pub record HasSizes (size peak : ℕ) (sizes : Numbers) (slots : List Shown) (co
   pub crest : FitsWritten (least_of commands) sizes slots
 
 -- the first commands were run, the next wrote this text in part, and what is to come is open
-pub record IsCut (given : ℕ → List Pair) (before now : Option (List ℕ)) (gathered : List ℕ) (commands : List Command) (done : ℕ) (part : List ℕ) : Type 0 where
-  pub output : IsGathered before now gathered (output_of given (take done commands) ++ part)
+pub record IsCut (form : Form) (given : ℕ → List Pair) (before now : Option (List ℕ)) (gathered : List ℕ) (commands : List Command) (done : ℕ) (part : List ℕ) : Type 0 where
+  pub output : IsGathered before now gathered (output_of form given (take done commands) ++ part)
   pub rest : List ℕ
-  pub all : output_of given commands ≡ (output_of given (take done commands) ++ part) ++ rest
+  pub all : output_of form given commands ≡ (output_of form given (take done commands) ++ part) ++ rest
 
 -- the queue refused a command
-pub record IsRefused (told : Option (List ℕ → Option (List ℕ))) (script : Reading) (first : List Shown) (before now : Option (List ℕ)) (gathered : List ℕ) (sizes : Numbers) (slots : List Shown) (fault : QueueFault) : Type 0 where
+pub record IsRefused (form : Form) (told : Option (List ℕ → Option (List ℕ))) (script : Reading) (first : List Shown) (before now : Option (List ℕ)) (gathered : List ℕ) (sizes : Numbers) (slots : List Shown) (fault : QueueFault) : Type 0 where
   pub done : ℕ
   pub cut :
       AllTell first → (files : List ℕ → Option (List ℕ)) → AreFilesOf told script files
-      → (part : List ℕ) × IsCut (given_of files script) before now gathered (command_list script) done part
+      → (part : List ℕ) × IsCut form (given_of files script) before now gathered (command_list script) done part
   pub cause :
       AllTell first → (files : List ℕ → Option (List ℕ)) → AreFilesOf told script files
       → IsRefusedBy (load_of (given_of files script) (take (done + 1) (command_list script))) sizes (begins_limit (take (done + 1) (command_list script))) slots fault
   pub any : IsRefusedBy (most_of (take (done + 1) (command_list script))) sizes (begins_limit (take (done + 1) (command_list script))) slots fault
 
 -- a command that reads a file was not run: the output of those before it is gathered
-pub record IsBeforeFile (told : Option (List ℕ → Option (List ℕ))) (script : Reading) (first : List Shown) (before now : Option (List ℕ)) (gathered : List ℕ) : Type 0 where
+pub record IsBeforeFile (form : Form) (told : Option (List ℕ → Option (List ℕ))) (script : Reading) (first : List Shown) (before now : Option (List ℕ)) (gathered : List ℕ) : Type 0 where
   pub done : ℕ
   pub file : ℕ
   pub size : ℕ
   pub here : slice_get (command_list script) done ≡ Some (Bulk file size)
   pub cut :
       AllTell first → (files : List ℕ → Option (List ℕ)) → AreFilesOf told script files
-      → IsCut (given_of files script) before now gathered (command_list script) done []
+      → IsCut form (given_of files script) before now gathered (command_list script) done []
 
 -- a command that adds many records was not run: the output of those before it is gathered
-pub record IsBeforeLoad (told : Option (List ℕ → Option (List ℕ))) (script : Reading) (first : List Shown) (before now : Option (List ℕ)) (gathered : List ℕ) : Type 0 where
+pub record IsBeforeLoad (form : Form) (told : Option (List ℕ → Option (List ℕ))) (script : Reading) (first : List Shown) (before now : Option (List ℕ)) (gathered : List ℕ) : Type 0 where
   pub done : ℕ
   pub command : Command
   pub here : slice_get (command_list script) done ≡ Some command
   pub loads : IsLoad command
   pub cut :
       AllTell first → (files : List ℕ → Option (List ℕ)) → AreFilesOf told script files
-      → IsCut (given_of files script) before now gathered (command_list script) done []
+      → IsCut form (given_of files script) before now gathered (command_list script) done []
 
 -- the file of the command on this line ended before the length that was said of it; the library does not tell
 pub record HasChanged (told : Option (List ℕ → Option (List ℕ))) (replied : Reply → Type 0) (script : Reading) (line said got : ℕ) : Type 0 where
@@ -142,13 +143,13 @@ pub record HasChanged (told : Option (List ℕ → Option (List ℕ))) (replied 
   pub untold : told ≡ None
 
 -- what stands where the commands did not all run
-abbrev pub HasStopped : Option (List ℕ → Option (List ℕ)) → Reading → List Shown → Option (List ℕ) → Option (List ℕ) → List ℕ → Numbers → List Shown → Stop → Type 0
-HasStopped told script first before now gathered sizes slots Sink =
-    AllTell first → (files : List ℕ → Option (List ℕ)) → AreFilesOf told script files → TakesPart before now (output_of (given_of files script) (command_list script))
-HasStopped told script first before now gathered sizes slots (Queue fault) = IsRefused told script first before now gathered sizes slots fault
-HasStopped told script first before now gathered sizes slots Read = IsBeforeFile told script first before now gathered
-HasStopped told script first before now gathered sizes slots Memory = IsBeforeLoad told script first before now gathered
-HasStopped told script first before now gathered sizes slots (Changed line said got) = IsBeforeFile told script first before now gathered
+abbrev pub HasStopped : Form → Option (List ℕ → Option (List ℕ)) → Reading → List Shown → Option (List ℕ) → Option (List ℕ) → List ℕ → Numbers → List Shown → Stop → Type 0
+HasStopped form told script first before now gathered sizes slots Sink =
+    AllTell first → (files : List ℕ → Option (List ℕ)) → AreFilesOf told script files → TakesPart before now (output_of form (given_of files script) (command_list script))
+HasStopped form told script first before now gathered sizes slots (Queue fault) = IsRefused form told script first before now gathered sizes slots fault
+HasStopped form told script first before now gathered sizes slots Read = IsBeforeFile form told script first before now gathered
+HasStopped form told script first before now gathered sizes slots Memory = IsBeforeLoad form told script first before now gathered
+HasStopped form told script first before now gathered sizes slots (Changed line said got) = IsBeforeFile form told script first before now gathered
 
 -- what one command wrote that did not run to its end: the sink took a part; or a part is gathered, and none of a command that adds many records
 abbrev pub WritesPart : Option (List ℕ) → Option (List ℕ) → List ℕ → List ℕ → List ℕ → Stop → Type 0
@@ -160,27 +161,27 @@ WritesPart before now had text has (Changed line said got) = Gathers before now 
 
 -- Of commands that run together from a bag on, the first so many were run and the next stopped: all that they print is gathered, and of what
 -- the others print the beginning
-pub record CutAt (given : ℕ → List Pair) (before now : Option (List ℕ)) (had : List ℕ) (bag : List Pair) (part : List Command) (done : ℕ) (has : List ℕ) : Type 0 where
+pub record CutAt (form : Form) (given : ℕ → List Pair) (before now : Option (List ℕ)) (had : List ℕ) (bag : List Pair) (part : List Command) (done : ℕ) (has : List ℕ) : Type 0 where
   pub text : List ℕ
   pub rest : List ℕ
-  pub all : output_from given (outside bag) part ≡ (output_from given (outside bag) (take done part) ++ text) ++ rest
-  pub gathers : Gathers before now had (output_from given (outside bag) (take done part) ++ text) has
+  pub all : output_from form given (outside bag) part ≡ (output_from form given (outside bag) (take done part) ++ text) ++ rest
+  pub gathers : Gathers before now had (output_from form given (outside bag) (take done part) ++ text) has
 
 -- The queue refused one of them: there is no room for the records up to it, or a block failed
-pub record RefusedAt (first : List Shown) (before now : Option (List ℕ)) (had : List ℕ) (bag : List Pair) (size peak : ℕ) (part : List Command) (sizes : Numbers) (limited : Bool) (slots : List Shown) (has : List ℕ) (fault : QueueFault) : Type 0 where
+pub record RefusedAt (form : Form) (first : List Shown) (before now : Option (List ℕ)) (had : List ℕ) (bag : List Pair) (size peak : ℕ) (part : List Command) (sizes : Numbers) (limited : Bool) (slots : List Shown) (has : List ℕ) (fault : QueueFault) : Type 0 where
   pub done : ℕ
   pub within : done < length part
-  pub cut : AllTell first → (given : ℕ → List Pair) → CutAt given before now had bag part done has
+  pub cut : AllTell first → (given : ℕ → List Pair) → CutAt form given before now had bag part done has
   pub cause : IsRefusedBy (max peak (size_from none_go size (take (done + 1) part))) sizes limited slots fault
 
 -- What commands that run together wrote where they did not all run: the sink took a part; or the beginning is gathered, up to the one that was
 -- refused; or nothing is, where a file or memory was wanting
-abbrev pub PartStops : List Shown → Option (List ℕ) → Option (List ℕ) → List ℕ → List Pair → ℕ → ℕ → List Command → Numbers → Bool → List Shown → List ℕ → Stop → Type 0
-PartStops first before now had bag size peak part sizes limited slots has Sink = AllTell first → (given : ℕ → List Pair) → TakesPart before now (had ++ output_from given (outside bag) part)
-PartStops first before now had bag size peak part sizes limited slots has (Queue fault) = RefusedAt first before now had bag size peak part sizes limited slots has fault
-PartStops first before now had bag size peak part sizes limited slots has Read = AllTell first → Gathers before now had [] has
-PartStops first before now had bag size peak part sizes limited slots has Memory = AllTell first → Gathers before now had [] has
-PartStops first before now had bag size peak part sizes limited slots has (Changed line said got) = AllTell first → Gathers before now had [] has
+abbrev pub PartStops : Form → List Shown → Option (List ℕ) → Option (List ℕ) → List ℕ → List Pair → ℕ → ℕ → List Command → Numbers → Bool → List Shown → List ℕ → Stop → Type 0
+PartStops form first before now had bag size peak part sizes limited slots has Sink = AllTell first → (given : ℕ → List Pair) → TakesPart before now (had ++ output_from form given (outside bag) part)
+PartStops form first before now had bag size peak part sizes limited slots has (Queue fault) = RefusedAt form first before now had bag size peak part sizes limited slots has fault
+PartStops form first before now had bag size peak part sizes limited slots has Read = AllTell first → Gathers before now had [] has
+PartStops form first before now had bag size peak part sizes limited slots has Memory = AllTell first → Gathers before now had [] has
+PartStops form first before now had bag size peak part sizes limited slots has (Changed line said got) = AllTell first → Gathers before now had [] has
 
 -- a stop by a file comes from a command that reads one, and want of memory from a command that adds many records
 abbrev pub IsOfFile : Command → Stop → Type 0

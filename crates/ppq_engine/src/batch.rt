@@ -2,6 +2,7 @@
 ghost use Rattle.std.specs.Prelude.{◌≡◌, ◌≤◌, ◌<◌, ◌+◌, ◌++◌, false, length, Some, IsTrue, slice_get, vec_len, vec_capacity, IfOk};
 ghost use Rattle.ppq_script.specs.ppq_record.declared.pair.Pair.{Pair};
 ghost use Rattle.ppq_script.specs.Parts.{AreLines, commands_of};
+ghost use Rattle.ppq_script.specs.declared.form.Form.{Form};
 ghost use Rattle.ppq_script.specs.declared.session.Session.TheVariants.{InLimit};
 ghost use Rattle.ppq_load.specs.Limits.{AreGoing, HasStopped};
 ghost use Rattle.ppq_engine.specs.Calls.{GathersAll};
@@ -13,7 +14,7 @@ use crate::Answer;
 use crate::collected::Collected;
 use crate::gathered::Gathered;
 use ppq_load::{Ask, Limits};
-use ppq_script::{Command, Failed, Gate, Host, Memory, Numbered, Pair, Sink, Slot};
+use ppq_script::{Command, Failed, Form, Gate, Host, Memory, Numbered, Pair, Sink, Slot};
 use std::alloc::Global;
 
 // The first of these lines, at most so many, and those behind them.
@@ -116,13 +117,14 @@ impl Batch {
     pub fn print<H: Host, O: Sink>(
         &self,
         rt: &H,
+        form: Form,
         gathered: &mut Gathered,
         out: &mut O,
     ) -> Result<(), Failed>
-        ensures { GathersAll (O.told out.old) (O.told out.new) (O.faults out.old) (O.faults out.new) gathered.old (answers_text self.now.answers.items) gathered.new result }
+        ensures { GathersAll (O.told out.old) (O.told out.new) (O.faults out.old) (O.faults out.new) gathered.old (answers_text form self.now.answers.items) gathered.new result }
     {
         for i in 0..self.answers.len() {
-            gathered.print(rt, answer_of(answer_at(&self.answers, i)), out)?;
+            gathered.print(rt, form, answer_of(answer_at(&self.answers, i)), out)?;
         }
         Ok(())
     }
@@ -139,7 +141,7 @@ fn answer_at(answers: &[Option<Pair>], i: usize) -> Option<Pair>
 
 // What was answered to an ask.
 fn answer_of(item: Option<Pair>) -> Answer
-    ensures { answer_text result ≡ limited_text item }
+    ensures { (form : Form) → answer_text form result ≡ limited_text form item }
 {
     match item {
         Some(item) => Answer::Record { item },

@@ -1,12 +1,14 @@
 //! Output that is gathered before it is put.
-ghost use Rattle.std.specs.Prelude.{◌≡◌, ◌≤◌, ◌+◌, ◌++◌, [], length, IfOk, OnOk, OnErr, decimal};
+ghost use Rattle.std.specs.Prelude.{◌≡◌, ◌≤◌, ◌<◌, ◌+◌, ◌^◌, ◌++◌, [], length, IfOk, OnOk, OnErr, decimal};
+ghost use Rattle.std.specs.Int.{w32, w64, to_be_bytes};
 ghost use Rattle.ppq_script.specs.ppq_outside.Told.{HasOneCause, TakesAll, TakesPart};
-ghost use Rattle.ppq_engine.specs.Output.{pair_text, drained_text};
+ghost use Rattle.ppq_script.specs.ppq_record.Pair.{pair_bytes};
+ghost use Rattle.ppq_engine.specs.Output.{written, pair_text, record_text, size_text, frame, drained_line, drained_bytes, drained_text};
 ghost use Rattle.ppq_engine.specs.Gathers.{answer_text, Gathers};
 
 use crate::{Answer, Drained};
 use itoa::Buffer;
-use ppq_script::{Failed, Host, Memory, Pair, Sink};
+use ppq_script::{Failed, Form, Host, Memory, Pair, Record, Sink};
 use std::alloc::Global;
 use std::marker::Model;
 
@@ -43,22 +45,24 @@ impl Gathered {
         Ok(Gathered { bytes })
     }
 
-    // Gathers an answer's text, and puts what was gathered before where there is no room for it.
+    // Gathers an answer's text in this form, and puts what was gathered before where there is no room for
+    // it.
     #[inline]
     pub fn print<H: Host, O: Sink>(
         &mut self,
         rt: &H,
+        form: Form,
         answer: Answer,
         out: &mut O,
     ) -> Result<(), Failed>
-        ensures ok { OnOk result (Gathers (O.told out.old) (O.told out.new) self.old (answer_text answer) self.new) }
+        ensures ok { OnOk result (Gathers (O.told out.old) (O.told out.new) self.old (answer_text form answer) self.new) }
         ensures part { OnErr result (TakesPart (O.told out.old) (O.told out.new) self.old) }
         ensures cause { HasOneCause (O.faults out.old) (O.faults out.new) result }
     {
         if self.bytes.len() > ROOM - LONGEST {
             self.put(rt, out)?;
         }
-        self.append(answer);
+        self.append(form, answer);
         Ok(())
     }
 
@@ -74,47 +78,113 @@ impl Gathered {
         Ok(())
     }
 
-    fn append(&mut self, answer: Answer)
+    fn append(&mut self, form: Form, answer: Answer)
         requires { length self.old + 160 ≤ 65536 }
-        ensures { self.new ≡ self.old ++ answer_text answer }
+        ensures { self.new ≡ self.old ++ answer_text form answer }
     {
         match answer {
             Answer::Nothing => {}
-            Answer::Empty => self.text(b"empty\n"),
-            Answer::Record { item } => {
+            Answer::Empty => self.written(form, b"empty\n", b"e"),
+            Answer::Record { item } => self.record(form, item),
+            Answer::Size { records } => self.size(form, records),
+            Answer::All => self.written(form, b"all\n", b"a"),
+            Answer::More => self.written(form, b"more\n", b"m"),
+            Answer::Limit => self.written(form, b"limit\n", b"l"),
+            Answer::Drained { drained } => self.drained(form, drained),
+        }
+    }
+
+    // A line, or the frame of these bytes.
+    fn written(&mut self, form: Form, line: &[u8], bytes: &[u8])
+        requires line { length self.old + length line.now ≤ 65536 }
+        requires frame { length self.old + length bytes.now + 4 ≤ 65536 }
+        requires short { length bytes.now < 2 ^ 32 }
+        ensures { self.new ≡ self.old ++ written form line.now bytes.now }
+    {
+        match form {
+            Form::Text => self.text(line),
+            Form::Bytes => {
+                self.head(bytes.len() as u32);
+                self.text(bytes);
+            }
+        }
+    }
+
+    // A record.
+    #[inline]
+    fn record(&mut self, form: Form, item: Pair)
+        requires { length self.old + 42 ≤ 65536 }
+        ensures { self.new ≡ self.old ++ record_text form item }
+    {
+        match form {
+            Form::Text => {
                 self.pair(item);
                 self.text(b"\n");
             }
-            Answer::Size { records } => {
+            Form::Bytes => {
+                self.head(Pair::WIDTH as u32);
+                self.pair_bytes(item);
+            }
+        }
+    }
+
+    // How many records there are.
+    fn size(&mut self, form: Form, records: u64)
+        requires { length self.old + 21 ≤ 65536 }
+        ensures { self.new ≡ self.old ++ size_text form records }
+    {
+        match form {
+            Form::Text => {
                 self.number(records);
                 self.text(b"\n");
             }
-            Answer::All => self.text(b"all\n"),
-            Answer::More => self.text(b"more\n"),
-            Answer::Limit => self.text(b"limit\n"),
-            Answer::Drained { drained } => self.drained(drained),
+            Form::Bytes => {
+                self.head(8);
+                self.word(records);
+            }
+        }
+    }
+
+    // What was drained.
+    fn drained(&mut self, form: Form, drained: Drained)
+        requires { length self.old + 160 ≤ 65536 }
+        ensures { self.new ≡ self.old ++ drained_text form drained.count drained.first drained.last drained.sum }
+    {
+        match (drained.first, drained.last) {
+            (Some(first), Some(last)) => match form {
+                Form::Text => self.drained_line(drained.count, first, last, drained.sum),
+                Form::Bytes => self.drained_frame(drained.count, first, last, drained.sum),
+            },
+            _ => self.written(form, b"count 0\n", &[0; 8]),
         }
     }
 
     // What was drained, as a line.
-    fn drained(&mut self, drained: Drained)
+    fn drained_line(&mut self, count: u64, first: Pair, last: Pair, sum: u64)
         requires { length self.old + 160 ≤ 65536 }
-        ensures { self.new ≡ self.old ++ drained_text drained.count drained.first drained.last drained.sum }
+        ensures { self.new ≡ self.old ++ drained_line count first last sum }
     {
-        match (drained.first, drained.last) {
-            (Some(first), Some(last)) => {
-                self.text(b"count ");
-                self.number(drained.count);
-                self.text(b" first ");
-                self.pair(first);
-                self.text(b" last ");
-                self.pair(last);
-                self.text(b" sum ");
-                self.number(drained.sum);
-                self.text(b"\n");
-            }
-            _ => self.text(b"count 0\n"),
-        }
+        self.text(b"count ");
+        self.number(count);
+        self.text(b" first ");
+        self.pair(first);
+        self.text(b" last ");
+        self.pair(last);
+        self.text(b" sum ");
+        self.number(sum);
+        self.text(b"\n");
+    }
+
+    // What was drained, as a frame.
+    fn drained_frame(&mut self, count: u64, first: Pair, last: Pair, sum: u64)
+        requires { length self.old + 160 ≤ 65536 }
+        ensures { self.new ≡ self.old ++ frame (drained_bytes count first last sum) }
+    {
+        self.head(2 * Pair::WIDTH as u32 + 16);
+        self.word(count);
+        self.pair_bytes(first);
+        self.pair_bytes(last);
+        self.word(sum);
     }
 
     // A key and a value.
@@ -135,6 +205,34 @@ impl Gathered {
     {
         let mut digits = Buffer::new();
         self.text(digits.format(number).as_bytes());
+    }
+
+    // The head of a frame: so many bytes follow.
+    fn head(&mut self, bytes: u32)
+        requires { length self.old + 4 ≤ 65536 }
+        ensures text { self.new ≡ self.old ++ to_be_bytes w32 bytes }
+        ensures length { length self.new ≡ length self.old + 4 }
+    {
+        self.text(&bytes.to_be_bytes());
+    }
+
+    // The bytes of a record.
+    fn pair_bytes(&mut self, item: Pair)
+        requires { length self.old + 16 ≤ 65536 }
+        ensures text { self.new ≡ self.old ++ pair_bytes item }
+        ensures length { length self.new ≡ length self.old + 16 }
+    {
+        self.word(item.key);
+        self.word(item.value);
+    }
+
+    // The eight bytes of a number.
+    fn word(&mut self, number: u64)
+        requires { length self.old + 8 ≤ 65536 }
+        ensures text { self.new ≡ self.old ++ to_be_bytes w64 number }
+        ensures length { length self.new ≡ length self.old + 8 }
+    {
+        self.text(&number.to_be_bytes());
     }
 
     fn text(&mut self, text: &[u8])

@@ -1,6 +1,7 @@
 //! Laws over every script, each the contract of a call that does nothing and costs nothing. They are for
 //! the proof of whoever calls them, and for a reader.
 ghost use Rattle.std.specs.Prelude.{◌≡◌, ℕ, take};
+ghost use Rattle.ppq_script.specs.declared.form.Form.{Form};
 ghost use Rattle.ppq_engine.specs.Output.{output_of, load_of, crest_of};
 ghost use Rattle.ppq_engine.specs.Deferred.{output_deferred, load_deferred, crest_deferred, DefinitionsAgree, HoldsInPlace};
 
@@ -9,7 +10,7 @@ ghost use Rattle.ppq_engine.specs.Deferred.{output_deferred, load_deferred, cres
 /// and crest. So has each prefix of it, also one that ends within a session (`prefixes`).
 #[inline]
 pub fn session_laws()
-    ensures output { HoldsInPlace (λ given commands. output_deferred given commands ≡ output_of given commands) }
+    ensures output { HoldsInPlace (λ given commands. (form : Form) → output_deferred form given commands ≡ output_of form given commands) }
     ensures load { HoldsInPlace (λ given commands. load_deferred given commands ≡ load_of given commands) }
     ensures crest { HoldsInPlace (λ given commands. crest_deferred given commands ≡ crest_of given commands) }
     ensures prefixes { HoldsInPlace (λ given commands. (k : ℕ) → DefinitionsAgree given (take k commands)) }

@@ -21,5 +21,5 @@ mod world;
 pub use answer::{Answer, Drained};
 pub use end::{End, Ended};
 pub use laws::session_laws;
-pub use ppq_script::{Script, check_files, read};
+pub use ppq_script::{Form, Script, check_files, read};
 pub use run::run_script;

@@ -33,15 +33,15 @@ where
     H::Dir: Send,
     requires lines { AreLines session.old.front.sizes.workers (InLimit session.old.front.limit) (commands_of lines.now) }
     requires going { AreGoing session.old }
-    ensures ran { OnOk result (RunsLines S.shown (commands_of lines.now) (O.told out.old) (O.told out.new) gathered.old gathered.new session.old session.new) }
-    ensures broken { OnErr result (BreaksOff S.shown (commands_of lines.now) (O.told out.old) (O.told out.new) gathered.old session.old session.new) }
+    ensures ran { OnOk result (RunsLines S.shown world.now.form (commands_of lines.now) (O.told out.old) (O.told out.new) gathered.old gathered.new session.old session.new) }
+    ensures broken { OnErr result (BreaksOff S.shown world.now.form (commands_of lines.now) (O.told out.old) (O.told out.new) gathered.old session.old session.new) }
     ensures cause { HasOneCause (O.faults out.old) (O.faults out.new) result }
 {
     let mut rest = lines;
     'batches: while !rest.is_empty() {
         let (first, behind) = cut(rest, batch.lines.most);
         let all = batch.run(world.rt, session, first, world.gate);
-        batch.print(world.rt, gathered, out)?;
+        batch.print(world.rt, world.form, gathered, out)?;
         if !all {
             return Ok(());
         }
@@ -64,7 +64,7 @@ impl<S: Slot + Send + Sync> Machine<S> {
     where
         H::Dir: Send,
         requires lines { AreLines self.queue.sizes.workers (InLimit limit) (commands_of lines.now) }
-        ensures goes { (files : Option (List ℕ → Option (List ℕ))) → Goes files world.now.script.now (LimitBegin limit) (limit_part limit (commands_of lines.now)) (O.told out.old) (O.told out.new) self.queue result.0.queue self.desk.gathered result.0.desk.gathered result.1 }
+        ensures goes { (files : Option (List ℕ → Option (List ℕ))) → Goes world.now.form files world.now.script.now (LimitBegin limit) (limit_part limit (commands_of lines.now)) (O.told out.old) (O.told out.new) self.queue result.0.queue self.desk.gathered result.0.desk.gathered result.1 }
         ensures by_limit { IfErr result.1 IsByLimit }
         ensures sink { SinkCounts (O.faults out.old) (O.faults out.new) result.1 }
     {

@@ -65,7 +65,7 @@ impl<S: Slot + Send + Sync> Machine<S> {
         H::Dir: Send,
         requires turn { IsTurn world.now.script.now self.queue place (One (Bulk file said)) }
         requires lengths { TellsLengths (L.told library.old) world.now.script.now }
-        ensures goes { (put : Option (List ℕ)) → Goes (L.told library.old) world.now.script.now (Bulk file said) (Bulk file said ∷ []) put put self.queue result.0.queue self.desk.gathered result.0.desk.gathered result.1 }
+        ensures goes { (put : Option (List ℕ)) → Goes world.now.form (L.told library.old) world.now.script.now (Bulk file said) (Bulk file said ∷ []) put put self.queue result.0.queue self.desk.gathered result.0.desk.gathered result.1 }
         ensures by_file { IfErr result.1 IsByFile }
         ensures library { LibraryCounts (L.told library.old) (L.told library.new) (L.replied library.old) (L.replied library.new) world.now.script.now (L.faults library.old) (L.faults library.new) result.1 }
     {

@@ -5,7 +5,7 @@ ghost use Rattle.ppq_script.specs.ppq_record.Bag.{front, without_front};
 ghost use Rattle.ppq_script.specs.ppq_record.Pair.{pair_cmp};
 ghost use Rattle.ppq_script.specs.ppq_outside.Shown.{AllTell};
 ghost use Rattle.ppq_script.specs.declared.command.Command.TheVariants.{BulkPopLimit};
-ghost use Rattle.ppq_engine.specs.Output.{lines_text};
+ghost use Rattle.ppq_engine.specs.Output.{records_text};
 ghost use Rattle.ppq_engine.specs.Gathers.{answer_text, IsSummary};
 ghost use Rattle.ppq_engine.specs.Calls.{IsCalled, IsLent, Leaves, Lends, PopsRound, GathersAll, Prints, SinkCounts};
 ghost use Rattle.ppq_engine.specs.Popping.{next_of, popped_count, left_at_most, left_mark};
@@ -16,7 +16,7 @@ use crate::stop::Stop;
 use crate::world::World;
 use crate::{Answer, Drained};
 use ppq_load::QueueFault;
-use ppq_script::{Failed, Gate, Host, Pair, Record, Sink, Slot};
+use ppq_script::{Failed, Form, Gate, Host, Pair, Record, Sink, Slot};
 
 impl Drained {
     /// No record.
@@ -68,18 +68,19 @@ fn add_all(before: Drained, items: &[Pair]) -> Drained
     drained
 }
 
-// Prints the lines of these records.
+// Prints these records.
 fn print_all<H: Host, O: Sink>(
     rt: &H,
+    form: Form,
     items: &[Pair],
     gathered: &mut Gathered,
     out: &mut O,
 ) -> Result<(), Failed>
-    ensures { GathersAll (O.told out.old) (O.told out.new) (O.faults out.old) (O.faults out.new) gathered.old (lines_text items.now) gathered.new result }
+    ensures { GathersAll (O.told out.old) (O.told out.new) (O.faults out.old) (O.faults out.new) gathered.old (records_text form items.now) gathered.new result }
 {
     for i in 0..items.len() {
         let item = record_at(items, i);
-        gathered.print(rt, Answer::Record { item }, out)?;
+        gathered.print(rt, form, Answer::Record { item }, out)?;
     }
     Ok(())
 }
@@ -143,7 +144,7 @@ impl<S: Slot + Send + Sync> Machine<S> {
     }
 
     // Removes up to so many least records, only those below the limit where there is one, and prints
-    // their lines.
+    // them.
     pub fn print_popped<H: Host, O: Sink, G: Gate>(
         &mut self,
         world: &World<'_, H, G>,
@@ -154,7 +155,7 @@ impl<S: Slot + Send + Sync> Machine<S> {
     where
         H::Dir: Send,
         requires { self.old.queue.failed ≡ None }
-        ensures prints { Prints self.old.queue.slots (O.told out.old) (O.told out.new) self.old.desk.gathered (lines_text (front pair_cmp self.old.queue.bag (popped_count below self.old.queue.bag count))) self.new.desk.gathered result }
+        ensures prints { Prints self.old.queue.slots (O.told out.old) (O.told out.new) self.old.desk.gathered (records_text world.now.form (front pair_cmp self.old.queue.bag (popped_count below self.old.queue.bag count))) self.new.desk.gathered result }
         ensures sink { SinkCounts (O.faults out.old) (O.faults out.new) result }
         ensures left { OnOk result (Leaves self.old.queue self.new.queue (without_front pair_cmp self.old.queue.bag (popped_count below self.old.queue.bag count)) (self.old.queue.size - count) (left_at_most below self.old.queue.size count)) }
         ensures lent { IsLent self.old.queue self.new.queue self.old.queue.peak result }
@@ -166,7 +167,13 @@ impl<S: Slot + Send + Sync> Machine<S> {
                 return Ok(());
             }
             let desk = &mut self.desk;
-            print_all(world.rt, desk.list.as_slice(), &mut desk.gathered, out)?;
+            print_all(
+                world.rt,
+                world.form,
+                desk.list.as_slice(),
+                &mut desk.gathered,
+                out,
+            )?;
             done += u64::from(self.desk.list.len());
         }
         Ok(())
@@ -180,7 +187,7 @@ impl<S: Slot + Send + Sync> Machine<S> {
     ) -> Result<Answer, QueueFault>
     where
         H::Dir: Send,
-        ensures text { IfOk result (λ answer. AllTell self.old.queue.slots → answer_text answer ≡ left_mark (next_of (Some limit) self.old.queue.bag)) }
+        ensures text { IfOk result (λ answer. AllTell self.old.queue.slots → answer_text world.now.form answer ≡ left_mark world.now.form (next_of (Some limit) self.old.queue.bag)) }
         ensures left { OnOk result (Leaves self.old.queue self.new.queue self.old.queue.bag self.old.queue.size self.old.queue.size) }
         ensures called { IsCalled self.old self.new self.old.queue.peak result }
     {
@@ -196,8 +203,8 @@ impl<S: Slot + Send + Sync> Machine<S> {
         }
     }
 
-    // Removes up to so many least records that are below the limit, and prints their lines, and then
-    // whether none below it is left.
+    // Removes up to so many least records that are below the limit, and prints them, and then whether none
+    // below it is left.
     pub fn print_limited<H: Host, O: Sink, G: Gate>(
         &mut self,
         world: &World<'_, H, G>,
@@ -208,11 +215,11 @@ impl<S: Slot + Send + Sync> Machine<S> {
     where
         H::Dir: Send,
         requires { self.old.queue.failed ≡ None }
-        ensures { Lends (O.told out.old) (O.told out.new) (O.faults out.old) (O.faults out.new) self.old self.new (BulkPopLimit limit count) result }
+        ensures { Lends world.now.form (O.told out.old) (O.told out.new) (O.faults out.old) (O.faults out.new) self.old self.new (BulkPopLimit limit count) result }
     {
         self.print_popped(world, Some(limit), count, out)?;
         let mark = self.mark_of(world, limit)?;
-        self.desk.gathered.print(world.rt, mark, out)?;
+        self.desk.gathered.print(world.rt, world.form, mark, out)?;
         Ok(())
     }
 }

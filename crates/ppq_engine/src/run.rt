@@ -2,7 +2,7 @@
 ghost use Rattle.std.specs.Prelude.{◌≡◌, ◌≤◌, ◌<◌, ◌⊎◌, List, ℕ, Option, [], Some, All, OnOk, IfErr, IsTrue, length, map};
 ghost use Rattle.ppq_script.specs.ppq_outside.Shown.{AllTell};
 ghost use Rattle.ppq_script.specs.ppq_outside.Told.{TakesAll, TakesPart, Rose, Remembers, RepliesOnly};
-ghost use Rattle.ppq_load.specs.ppq_budget.Sizes.{fixed_of};
+ghost use Rattle.ppq_load.specs.ppq_budget.Sizes.{batch_of, fixed_of};
 ghost use Rattle.ppq_load.specs.ppq_array.Kept.{SameSlots, HasFailed};
 ghost use Rattle.ppq_script.specs.Reading.{command_list};
 ghost use Rattle.ppq_load.specs.ppq_queue.Holding.{AreNewSlots};
@@ -23,7 +23,7 @@ use crate::stop::Stop;
 use crate::world::World;
 use crate::{End, Ended};
 use ppq_load::{OpenFault, Queue, QueueFault, Sizes};
-use ppq_script::{Failed, Gate, Host, Library, Pair, Script, Sink, Slot};
+use ppq_script::{Failed, Form, Gate, Host, Library, Pair, Script, Sink, Slot};
 use std::alloc::Global;
 
 impl<S: Slot + Send + Sync> Machine<S> {
@@ -40,8 +40,8 @@ impl<S: Slot + Send + Sync> Machine<S> {
         requires may { MayRun (L.told library.old) world.now.script.now self.queue }
         requires block { 0 < self.queue.sizes.block }
         requires gathered { self.desk.gathered ≡ [] }
-        ensures runs { OnOk result.1 (RunsAll (L.told library.old) world.now.script.now self.queue result.0.queue (O.told out.old) (O.told out.new) result.0.desk.gathered) }
-        ensures stopped { IfErr result.1 (HasStopped (L.told library.old) world.now.script.now self.queue.slots (O.told out.old) (O.told out.new) result.0.desk.gathered self.queue.sizes result.0.queue.slots) }
+        ensures runs { OnOk result.1 (RunsAll world.now.form (L.told library.old) world.now.script.now self.queue result.0.queue (O.told out.old) (O.told out.new) result.0.desk.gathered) }
+        ensures stopped { IfErr result.1 (HasStopped world.now.form (L.told library.old) world.now.script.now self.queue.slots (O.told out.old) (O.told out.new) result.0.desk.gathered self.queue.sizes result.0.queue.slots) }
         ensures slots { SameSlots self.queue.slots result.0.queue.slots }
         ensures library { LibraryCounts (L.told library.old) (L.told library.new) (L.replied library.old) (L.replied library.new) world.now.script.now (L.faults library.old) (L.faults library.new) result.1 }
         ensures sink { SinkCounts (O.faults out.old) (O.faults out.new) result.1 }
@@ -112,12 +112,11 @@ fn put_stopped<H: Host, O: Sink>(rt: &H, stop: Stop, gathered: &mut Gathered, ou
     }
 }
 
-// Takes the memory for output, for rounds of popped records and for pieces of files, runs the commands on
-// an empty queue, and puts all that was gathered, also where they stop, unless it is the sink that stops
-// them.
+// Runs the commands on an empty queue with this desk, and puts all that was gathered, also where they stop,
+// unless it is the sink that stops them. It takes no memory but for commands that begin a session.
 fn run_opened<H: Host, S: Slot + Send + Sync, L: Library, O: Sink, G: Gate>(
     world: &World<'_, H, G>,
-    sizes: Sizes,
+    desk: Desk,
     queue: Queue<S, Pair>,
     library: &mut L,
     out: &mut O,
@@ -125,16 +124,15 @@ fn run_opened<H: Host, S: Slot + Send + Sync, L: Library, O: Sink, G: Gate>(
 where
     H::Dir: Send,
     requires may { MayRun (L.told library.old) world.now.script.now queue }
-    requires sizes { queue.sizes ≡ sizes }
-    ensures ends { EndsRun (L.told library.old) (L.replied library.new) world.now.script.now queue result.0 (O.told out.old) (O.told out.new) (O.faults out.old) (O.faults out.new) (L.faults library.old) (L.faults library.new) result.1 }
+    requires gathered { desk.gathered ≡ [] }
+    requires round { desk.list.room ≡ batch_of queue.sizes }
+    requires piece { 16 ≤ length desk.room.items }
+    ensures ends { EndsRun world.now.form (L.told library.old) (L.replied library.new) world.now.script.now queue result.0 (O.told out.old) (O.told out.new) (O.faults out.old) (O.faults out.new) (L.faults library.old) (L.faults library.new) result.1 }
     ensures slots { SameSlots queue.slots result.0.slots }
     ensures library { LibraryStays (L.told library.old) (L.told library.new) (L.replied library.old) (L.replied library.new) world.now.script.now (L.faults library.old) (L.faults library.new) }
     ensures later { O.faults out.old ≤ O.faults out.new }
 {
     queue.known();
-    let Ok(desk) = Desk::new(world.alloc, &sizes) else {
-        return (queue, End::Memory);
-    };
     let machine = Machine { queue, desk };
     let (machine, result) = machine.run(world, library, out);
     let Machine { queue, desk } = machine;
@@ -149,8 +147,9 @@ where
 }
 
 /// Runs a checked script on a queue of these sizes over these blocks, which all come back. Its output
-/// goes to the sink, gathered into pieces of tens of kilobytes. Its files are read by pieces of as many
-/// records as each worker has a block, into memory that is allocated before the first command.
+/// goes to the sink in this form, gathered into pieces of tens of kilobytes. Its files are read by
+/// pieces of as many records as each worker has a block. The memory for both is allocated before the
+/// queue is opened.
 ///
 /// `Done`: the sink took the script's output, and no call of a block failed. `WriteFault`: the sink
 /// failed; it took a prefix of it. `ReadFault`: the library failed. `DeviceFault`: the block with that
@@ -175,6 +174,7 @@ pub fn run_script<H: Host, S: Slot + Send + Sync, L: Library, O: Sink, G: Gate>(
     library: &mut L,
     out: &mut O,
     gate: &G,
+    form: Form,
 ) -> Ended<S>
 where
     H::Dir: Send,
@@ -184,11 +184,11 @@ where
     requires lengths { (files : List ℕ → Option (List ℕ)) → L.told library.old ≡ Some files → KeepsLengths files script.now }
 
     // What is written, where slots and library tell.
-    ensures done { result.end ≡ Done → AllTell (map S.shown slots.items) → (files : List ℕ → Option (List ℕ)) → AreFilesOf (L.told library.old) script.now files → TakesAll (O.told out.old) (O.told out.new) (output_of (given_of files script.now) (command_list script.now)) }
-    ensures part { AllTell (map S.shown slots.items) → (files : List ℕ → Option (List ℕ)) → AreFilesOf (L.told library.old) script.now files → TakesPart (O.told out.old) (O.told out.new) (output_of (given_of files script.now) (command_list script.now)) }
-    ensures within { result.end ≡ NoFreeBlock → AllTell (map S.shown slots.items) → (files : List ℕ → Option (List ℕ)) → AreFilesOf (L.told library.old) script.now files → TakesWithin (given_of files script.now) (O.told out.old) (O.told out.new) sizes (command_list script.now) }
-    ensures memory { result.end ≡ Memory → (O.told out.new ≡ O.told out.old) ⊎ TakesBeforeLoad (L.told library.old) script.now (map S.shown slots.items) (O.told out.old) (O.told out.new) }
-    ensures file { FaultBeforeFile (L.told library.old) script.now (map S.shown slots.items) (O.told out.old) (O.told out.new) result.end }
+    ensures done { result.end ≡ Done → AllTell (map S.shown slots.items) → (files : List ℕ → Option (List ℕ)) → AreFilesOf (L.told library.old) script.now files → TakesAll (O.told out.old) (O.told out.new) (output_of form (given_of files script.now) (command_list script.now)) }
+    ensures part { AllTell (map S.shown slots.items) → (files : List ℕ → Option (List ℕ)) → AreFilesOf (L.told library.old) script.now files → TakesPart (O.told out.old) (O.told out.new) (output_of form (given_of files script.now) (command_list script.now)) }
+    ensures within { result.end ≡ NoFreeBlock → AllTell (map S.shown slots.items) → (files : List ℕ → Option (List ℕ)) → AreFilesOf (L.told library.old) script.now files → TakesWithin form (given_of files script.now) (O.told out.old) (O.told out.new) sizes (command_list script.now) }
+    ensures memory { result.end ≡ Memory → (O.told out.new ≡ O.told out.old) ⊎ TakesBeforeLoad form (L.told library.old) script.now (map S.shown slots.items) (O.told out.old) (O.told out.new) }
+    ensures file { FaultBeforeFile form (L.told library.old) script.now (map S.shown slots.items) (O.told out.old) (O.told out.new) result.end }
     ensures nothing { (need : ℕ) → result.end ≡ BudgetTooSmall need → O.told out.new ≡ O.told out.old }
 
     // When each end comes.
@@ -222,6 +222,12 @@ where
     ensures library_later { L.faults library.old ≤ L.faults library.new }
     ensures library_stays { NoFault result.end → L.faults library.new ≡ L.faults library.old }
 {
+    let Ok(desk) = Desk::new(alloc, &sizes) else {
+        return Ended {
+            end: End::Memory,
+            blocks: slots,
+        };
+    };
     let queue: Queue<S, Pair> = match Queue::open(alloc, sizes, slots) {
         Ok(queue) => queue,
         Err((blocks, fault)) => {
@@ -236,8 +242,9 @@ where
         alloc,
         script,
         gate,
+        form,
     };
-    let (queue, end) = run_opened(&world, sizes, queue, library, out);
+    let (queue, end) = run_opened(&world, desk, queue, library, out);
     Ended {
         end,
         blocks: queue.close(),

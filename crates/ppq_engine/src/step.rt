@@ -3,6 +3,7 @@ ghost use Rattle.std.specs.Prelude.{◌≡◌, List, ℕ, None, OnOk, IfOk, max}
 ghost use Rattle.ppq_script.specs.ppq_record.declared.pair.Pair.{Pair};
 ghost use Rattle.ppq_script.specs.ppq_outside.Shown.{AllTell};
 ghost use Rattle.ppq_script.specs.Parts.{commands_in, first_in};
+ghost use Rattle.ppq_script.specs.declared.form.Form.{Form};
 ghost use Rattle.ppq_engine.specs.Calls.{IsCalled, Leaves, Lends, SinkCounts, LibraryCounts, IsTurn, Goes};
 ghost use Rattle.ppq_engine.specs.Loads.{none_go, size_after};
 ghost use Rattle.ppq_engine.specs.Output.{least_text, outside, text_of, after, TellsLengths};
@@ -18,7 +19,7 @@ use ppq_script::{Command, Gate, Host, Library, Pair, Part, Sink, Slot};
 
 // What is printed of the least record.
 fn answer_of(item: Option<Pair>) -> Answer
-    ensures { answer_text result ≡ least_text item }
+    ensures { (form : Form) → answer_text form result ≡ least_text form item }
 {
     match item {
         Some(item) => Answer::Record { item },
@@ -37,7 +38,7 @@ impl<S: Slot + Send + Sync> Machine<S> {
         H::Dir: Send,
         requires sound { self.old.queue.failed ≡ None }
         requires plain { IsPlain command }
-        ensures text { IfOk result (λ answer. AllTell self.old.queue.slots → answer_text answer ≡ text_of (outside self.old.queue.bag) command) }
+        ensures text { IfOk result (λ answer. AllTell self.old.queue.slots → answer_text world.now.form answer ≡ text_of world.now.form (outside self.old.queue.bag) command) }
         ensures left { OnOk result ((given : ℕ → List Pair) (leaves : ℕ → ℕ → ℕ) → Leaves self.old.queue self.new.queue (after given (outside self.old.queue.bag) command).bag (size_after leaves self.old.queue.size command) (size_after leaves self.old.queue.size command)) }
         ensures called { IsCalled self.old self.new (max self.old.queue.peak (size_after none_go self.old.queue.size command)) result }
     {
@@ -84,7 +85,7 @@ impl<S: Slot + Send + Sync> Machine<S> {
         H::Dir: Send,
         requires sound { self.old.queue.failed ≡ None }
         requires lends { LendsQueue command }
-        ensures { Lends (O.told out.old) (O.told out.new) (O.faults out.old) (O.faults out.new) self.old self.new command result }
+        ensures { Lends world.now.form (O.told out.old) (O.told out.new) (O.faults out.old) (O.faults out.new) self.old self.new command result }
     {
         match command {
             Command::BulkPop { count } => self.print_popped(world, None, count, out),
@@ -93,7 +94,7 @@ impl<S: Slot + Send + Sync> Machine<S> {
             }
             _ => {
                 let answer = self.act(world, command)?;
-                self.desk.gathered.print(world.rt, answer, out)?;
+                self.desk.gathered.print(world.rt, world.form, answer, out)?;
                 Ok(())
             }
         }
@@ -112,7 +113,7 @@ impl<S: Slot + Send + Sync> Machine<S> {
         H::Dir: Send,
         requires turn { IsTurn world.now.script.now self.queue place part }
         requires lengths { TellsLengths (L.told library.old) world.now.script.now }
-        ensures goes { Goes (L.told library.old) world.now.script.now (first_in part.entry) (commands_in part.entry) (O.told out.old) (O.told out.new) self.queue result.0.queue self.desk.gathered result.0.desk.gathered result.1 }
+        ensures goes { Goes world.now.form (L.told library.old) world.now.script.now (first_in part.entry) (commands_in part.entry) (O.told out.old) (O.told out.new) self.queue result.0.queue self.desk.gathered result.0.desk.gathered result.1 }
         ensures library { LibraryCounts (L.told library.old) (L.told library.new) (L.replied library.old) (L.replied library.new) world.now.script.now (L.faults library.old) (L.faults library.new) result.1 }
         ensures sink { SinkCounts (O.faults out.old) (O.faults out.new) result.1 }
     {

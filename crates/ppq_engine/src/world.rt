@@ -1,13 +1,15 @@
 //! What each command is handed.
 
-use ppq_script::Script;
+use ppq_script::{Form, Script};
 use std::alloc::Global;
 
-// The runtime, the allocator, the script that is executed, and the gate that each worker enters.
+// The runtime, the allocator, the script that is executed, the gate that each worker enters, and the form
+// in which answers are written.
 #[derive(Drop)]
 pub struct World<'a, H, G> {
     pub rt: &'a H,
     pub alloc: Global,
     pub script: &'a Script,
     pub gate: &'a G,
+    pub form: Form,
 }

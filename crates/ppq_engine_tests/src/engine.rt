@@ -1,8 +1,8 @@
 //! Runs of small scripts over small queues, and what they print.
 
-use crate::runs::{File, NEVER, Outcome, outcome_of, plain};
+use crate::runs::{File, NEVER, Outcome, outcome_in, outcome_of, plain};
 use ppq_budget::Sizes;
-use ppq_engine::End;
+use ppq_engine::{End, Form};
 use ppq_outside::{Host, OpenGate};
 use ppq_testkit::PairGate;
 use std::alloc::Global;
@@ -224,6 +224,54 @@ fn a_failed_call_of_a_block_ends_the_run_and_all_blocks_come_back(rt: HostRuntim
         let ran = outcome_of(&rt, rt.alloc(), text, small(), File::of(0), call, &OpenGate);
         assert!(rt; ran.blocks == 200 && ran.faults == 1);
         is_as(&rt, ran, script, End::DeviceFault { number: 0 }, wants);
+    }
+}
+
+// Scripts, and the frames that each of them writes.
+const FRAMES: &[(&str, &[u8])] = &[
+    ("push 1 2\nbulk_begin\nbulk_end\n", b""),
+    ("pop\n", b"\0\0\0\x01e"),
+    (
+        "size\npush 1 2\nsize\n",
+        b"\0\0\0\x08\0\0\0\0\0\0\0\0\0\0\0\x08\0\0\0\0\0\0\0\x01",
+    ),
+    (
+        "push 258 18446744073709551615\ntop\n",
+        b"\0\0\0\x10\0\0\0\0\0\0\x01\x02\xff\xff\xff\xff\xff\xff\xff\xff",
+    ),
+    (
+        "push 2 3\npush 1 4\nbulk_pop_limit 2 0 9\nbulk_pop_limit 9 9 0\n",
+        b"\0\0\0\x10\0\0\0\0\0\0\0\x01\0\0\0\0\0\0\0\x04\0\0\0\x01a\0\0\0\x01m",
+    ),
+    (
+        "push 1 4\nlimit_begin 2 0\nlimit_top\nlimit_pop\nlimit_pop\nlimit_end\n",
+        b"\0\0\0\x10\0\0\0\0\0\0\0\x01\0\0\0\0\0\0\0\x04\0\0\0\x10\0\0\0\0\0\0\0\x01\0\0\0\0\0\0\0\x04\0\0\0\x01l",
+    ),
+    ("drain 5\n", b"\0\0\0\x08\0\0\0\0\0\0\0\0"),
+    // 2 records, of which the first is 2 7 and the last 18446744073709551615 1, and their sum is 1
+    (
+        "push 18446744073709551615 1\npush 2 7\ndrain 5\n",
+        b"\0\0\0\x30\0\0\0\0\0\0\0\x02\0\0\0\0\0\0\0\x02\0\0\0\0\0\0\0\x07\xff\xff\xff\xff\xff\xff\xff\xff\0\0\0\0\0\0\0\x01\0\0\0\0\0\0\0\x01",
+    ),
+];
+
+#[test]
+fn in_the_form_of_bytes_each_answer_is_a_frame(rt: HostRuntime) {
+    for (script, wants) in FRAMES {
+        let text = script.as_bytes();
+        let file = File::of(0);
+        let ran = outcome_in(
+            &rt,
+            rt.alloc(),
+            text,
+            small(),
+            file,
+            NEVER,
+            &OpenGate,
+            Form::Bytes,
+        );
+        assert!(rt; ran.end == End::Done, "{script}");
+        assert_eq!(rt; ran.wrote.as_slice(), *wants, "{script}");
     }
 }
 

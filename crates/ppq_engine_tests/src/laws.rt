@@ -4,14 +4,14 @@ ghost use Rattle.ppq_engine.specs.Output.{output_of, load_of, crest_of};
 ghost use Rattle.ppq_engine.specs.Deferred.{output_deferred, load_deferred, crest_deferred};
 ghost use Rattle.ppq_engine.specs.Examples.{worked_commands, worked_output};
 
-use ppq_engine::session_laws;
+use ppq_engine::{Form, session_laws};
 
 // What was computed by hand of a worked script.
 fn worked_row()
-    ensures output { output_of (λ file. []) worked_commands ≡ worked_output }
+    ensures output { output_of Form.Text (λ file. []) worked_commands ≡ worked_output }
     ensures load { load_of (λ file. []) worked_commands ≡ 5 }
     ensures crest { crest_of (λ file. []) worked_commands ≡ 4 }
-    ensures output_deferred { output_deferred (λ file. []) worked_commands ≡ worked_output }
+    ensures output_deferred { output_deferred Form.Text (λ file. []) worked_commands ≡ worked_output }
     ensures load_deferred { load_deferred (λ file. []) worked_commands ≡ 5 }
     ensures crest_deferred { crest_deferred (λ file. []) worked_commands ≡ 4 }
 {}

@@ -3,7 +3,7 @@ ghost use Rattle.std.specs.Prelude.{◌≡◌, List, ℕ, Option, Some, IsTrue};
 ghost use Rattle.ppq_engine.specs.Output.{KeepsLengths};
 
 use ppq_budget::Sizes;
-use ppq_engine::{End, Ended, Script, check_files, read, run_script};
+use ppq_engine::{End, Ended, Form, Script, check_files, read, run_script};
 use ppq_outside::{Gate, Host, Library, MemLibrary, MemRack, MemSink, MemSlot, OpenGate, Slot};
 use ppq_testkit::blocks_of;
 use std::alloc::Global;
@@ -117,8 +117,8 @@ fn library_of<H: Host + Abort>(rt: &H, alloc: Global, file: File) -> MemLibrary 
 }
 
 // A run of a text on a queue of these sizes, with such a file, on a device on which the call of block 0 with this
-// number fails, where workers pass this gate.
-pub(crate) fn outcome_of<H: Host + Abort, G: Gate>(
+// number fails, where workers pass this gate. What it prints is in this form.
+pub(crate) fn outcome_in<H: Host + Abort, G: Gate>(
     rt: &H,
     alloc: Global,
     text: &[u8],
@@ -126,6 +126,7 @@ pub(crate) fn outcome_of<H: Host + Abort, G: Gate>(
     file: File,
     call: u64,
     gate: &G,
+    form: Form,
 ) -> Outcome
 where
     H::Dir: Send,
@@ -147,6 +148,7 @@ where
         &mut library,
         &mut sink,
         gate,
+        form,
     );
     Outcome {
         end,
@@ -155,6 +157,22 @@ where
         faults: faults_of(&blocks),
         writes: writes_of(&blocks),
     }
+}
+
+// The same in the form of text.
+pub(crate) fn outcome_of<H: Host + Abort, G: Gate>(
+    rt: &H,
+    alloc: Global,
+    text: &[u8],
+    sizes: Option<Sizes>,
+    file: File,
+    call: u64,
+    gate: &G,
+) -> Outcome
+where
+    H::Dir: Send,
+{
+    outcome_in(rt, alloc, text, sizes, file, call, gate, Form::Text)
 }
 
 // A run of a text that reads no file, on a device that never fails.

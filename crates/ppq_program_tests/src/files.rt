@@ -138,7 +138,7 @@ const WORDS: &[(&str, Outcome<'static>)] = &[
         (
             2,
             b"",
-            b"ppq: usage: ppq run SCRIPT --device FILE --blocks D --workers P --block B --heap H --memory M\n",
+            b"ppq: usage: ppq run SCRIPT --device FILE --blocks D --workers P --block B --heap H (--memory M | --memory-bytes N) [--form text|bytes]\n",
         ),
     ),
     // a script that is not there, and one that is a folder

@@ -6,6 +6,8 @@ mod faults;
 #[cfg(test)]
 mod files;
 #[cfg(test)]
+mod forging;
+#[cfg(test)]
 mod memory;
 #[cfg(test)]
 mod report;

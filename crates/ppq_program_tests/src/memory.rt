@@ -68,8 +68,8 @@ pub fn sink_in(rt: &impl Abort, alloc: Global) -> MemSink
     MemSink::new(alloc, ROOM).expect(rt, "memory")
 }
 
-// How a line of words ends, over a library, a rack and a sink.
-fn run<H: Host + Abort, L: Library>(
+/// How a line of words ends, over a library, a rack and a sink.
+pub fn run<H: Host + Abort, L: Library>(
     rt: &H,
     alloc: Global,
     line: &str,

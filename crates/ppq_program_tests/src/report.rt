@@ -61,7 +61,7 @@ const REPORTS: &[(End, u8, &[u8])] = &[
     (
         End::Usage,
         2,
-        b"ppq: usage: ppq run SCRIPT --device FILE --blocks D --workers P --block B --heap H --memory M\n",
+        b"ppq: usage: ppq run SCRIPT --device FILE --blocks D --workers P --block B --heap H (--memory M | --memory-bytes N) [--form text|bytes]\n",
     ),
     (End::ReadFault, 3, b"ppq: cannot read\n"),
     (End::WriteFault, 4, b"ppq: cannot write\n"),

@@ -167,6 +167,11 @@ const REFUSED: &[&str] = &[
     "run s --device d --heap -1 --blocks 200 --workers 2 --block 2 --memory 372",
     "run s --device -d --heap 1 --blocks 200 --workers 2 --block 2 --memory 372",
     "run s --device=-d --heap 1 --blocks 200 --workers 2 --block 2 --memory 372",
+    // the budget twice, or not at all, and another form
+    "run s --device d --blocks 200 --workers 2 --block 2 --heap 1 --memory 372 --memory-bytes 5952",
+    "run s --device d --blocks 200 --workers 2 --block 2 --heap 1",
+    "run s --device d --blocks 200 --workers 2 --block 2 --heap 1 --memory 372 --form hex",
+    "run s --device d --blocks 200 --workers 2 --block 2 --heap 1 --memory 372 --form text --form text",
     // no value
     "run s --device d --heap= --blocks 200 --workers 2 --block 2 --memory 372",
     "run  --device d --heap 1 --blocks 200 --workers 2 --block 2 --memory 372",
@@ -183,6 +188,9 @@ fn words_without_a_reading_are_usage_and_make_no_block(rt: HostRuntime) {
 
 // A script that pushes by pass 2, which is the third.
 const PASSES: &[u8] = b"push 6 0\nbulk_begin\nbulk_push 2 5 5\nbulk_push 0 7 7\nbulk_end\npop\n";
+
+// A script of four records, of which three are popped.
+const FOUR: &[u8] = b"push 5 1\npush 3 9\npush 5 1\npush 3 2\nbulk_pop 3\nsize\n";
 
 // A script of which the third record is not in memory.
 const THREE: &[u8] = b"push 6 0\npush 5 0\nsize\npush 4 0\npop\n";
@@ -210,6 +218,20 @@ const RUNS: &[(&str, &[u8], End, &[u8])] = &[
         b"push 3 9\npop\n",
         End::Done,
         b"3 9\n",
+    ),
+    // a budget in bytes
+    (
+        "run s --device d --blocks 200 --workers 2 --block 2 --heap 1 --memory-bytes 5952",
+        FOUR,
+        End::Done,
+        b"3 2\n3 9\n5 1\n1\n",
+    ),
+    // the same answers as frames: three records and a size, 72 bytes
+    (
+        "run s --device d --blocks 200 --workers 2 --block 2 --heap 1 --memory 372 --form bytes",
+        FOUR,
+        End::Done,
+        b"\0\0\0\x10\0\0\0\0\0\0\0\x03\0\0\0\0\0\0\0\x02\0\0\0\x10\0\0\0\0\0\0\0\x03\0\0\0\0\0\0\0\x09\0\0\0\x10\0\0\0\0\0\0\0\x05\0\0\0\0\0\0\0\x01\0\0\0\x08\0\0\0\0\0\0\0\x01",
     ),
     // a pass is one of the workers
     (
@@ -246,6 +268,10 @@ fn a_script_is_executed_with_the_sizes_of_the_words(rt: HostRuntime) {
 fn a_budget_below_its_fixed_part_makes_no_block(rt: HostRuntime) {
     let line = "run --memory=371 --heap=1 --block=2 s --workers 2 --device d --blocks 200";
     let end = End::BudgetTooSmall { need: 372 };
+    let used = gives(&rt, rt.alloc(), line, b"pop\n", end, b"");
+    assert_eq!(rt; used.made, 0);
+    let line = "run --memory-bytes=5951 --heap=1 --block=2 s --workers 2 --device d --blocks 200";
+    let end = End::BudgetTooSmall { need: 5952 };
     let used = gives(&rt, rt.alloc(), line, b"pop\n", end, b"");
     assert_eq!(rt; used.made, 0);
 }

@@ -1,5 +1,5 @@
 //! Words with a reading, and words without.
-use ppq_words::{RunArguments, Sizes, read_words, words_mean};
+use ppq_words::{BudgetUnit, Form, RunArguments, Sizes, read_words, words_mean};
 use std::alloc::Global;
 use std::process::Abort;
 
@@ -15,7 +15,33 @@ fn words_of(rt: &impl Abort, alloc: Global, parts: &[&str]) -> Vec<String> {
     words
 }
 
-// Asserts that a line reads as these names and numbers, which are in range.
+// Asserts that a line reads as these names, script and device, with these sizes, this unit and this form.
+fn reads<'a>(
+    rt: &impl Abort,
+    alloc: Global,
+    parts: &[&str],
+    (script, device): (&'a str, &'a str),
+    sizes: Sizes,
+    unit: BudgetUnit,
+    form: Form,
+) {
+    let words = words_of(rt, alloc, parts);
+    let arguments = RunArguments {
+        script,
+        device,
+        sizes,
+        unit,
+        form,
+    };
+    let is_read = match read_words(alloc, &words) {
+        Ok(found) => found == Some(arguments),
+        Err(_) => false,
+    };
+    assert!(rt; is_read, "{parts:?}");
+}
+
+// Asserts that a line reads as these names and numbers, which are in range, with a budget in records and the form
+// of text.
 fn reads_as<'a>(
     rt: &impl Abort,
     alloc: Global,
@@ -25,17 +51,8 @@ fn reads_as<'a>(
     (workers, block, heap, memory, blocks): (u32, u32, u32, u64, u32),
 ) {
     let sizes = Sizes::new(workers, block, heap, memory, blocks).expect(rt, "numbers in range");
-    let words = words_of(rt, alloc, parts);
-    let arguments = RunArguments {
-        script,
-        device,
-        sizes,
-    };
-    let is_read = match read_words(alloc, &words) {
-        Ok(found) => found == Some(arguments),
-        Err(_) => false,
-    };
-    assert!(rt; is_read, "{parts:?}");
+    let (unit, form) = (BudgetUnit::Records, Form::Text);
+    reads(rt, alloc, parts, (script, device), sizes, unit, form);
 }
 
 // Asserts that a line has no reading.
@@ -136,6 +153,84 @@ fn each_range_has_its_two_ends(rt: HostRuntime) {
     }
 }
 
+// Ways to say the budget and the form, with the budget in records, its unit, and the form.
+const BUDGETS: &[(&str, u64, BudgetUnit, Form)] = &[
+    ("--memory 372", 372, BudgetUnit::Records, Form::Text),
+    (
+        "--memory 372 --form text",
+        372,
+        BudgetUnit::Records,
+        Form::Text,
+    ),
+    (
+        "--form=bytes --memory=372",
+        372,
+        BudgetUnit::Records,
+        Form::Bytes,
+    ),
+    ("--memory-bytes 5952", 372, BudgetUnit::Bytes, Form::Text),
+    // a record has 16 bytes, and what is left does not count
+    (
+        "--memory-bytes=5967 --form bytes",
+        372,
+        BudgetUnit::Bytes,
+        Form::Bytes,
+    ),
+    (
+        "--form text --memory-bytes 5951",
+        371,
+        BudgetUnit::Bytes,
+        Form::Text,
+    ),
+    ("--memory-bytes 15", 0, BudgetUnit::Bytes, Form::Text),
+    (
+        "--memory-bytes 4294967296",
+        268_435_456,
+        BudgetUnit::Bytes,
+        Form::Text,
+    ),
+];
+
+// Of these none is one.
+const NO_BUDGETS: &[&str] = &[
+    "",
+    "--form text",
+    "--memory 372 --memory-bytes 5952",
+    "--memory-bytes=5952 --memory=372",
+    "--memory-bytes 5952 --memory-bytes 5952",
+    "--memory-bytes 4294967297",
+    "--memory-bytes 4294967311",
+    "--memory-bytes 5952k",
+    "--memory-byte 5952",
+    "--memory 372 --form hex",
+    "--memory 372 --form=",
+    "--memory 372 --form Text",
+    "--memory 372 --form",
+    "--memory 372 --form text --form text",
+    "--memory 372 --form=bytes --form=text",
+    "--memory 372 --forms text",
+];
+
+#[test]
+fn the_budget_is_in_records_or_in_bytes_and_the_form_may_be_said(rt: HostRuntime) {
+    let front = "run s --device d --blocks 200 --workers 2 --block 2 --heap 1";
+    for (back, memory, unit, form) in BUDGETS {
+        let sizes = Sizes::new(2, 2, 1, *memory, 200).expect(&rt, "numbers in range");
+        reads(
+            &rt,
+            rt.alloc(),
+            &[front, back],
+            ("s", "d"),
+            sizes,
+            *unit,
+            *form,
+        );
+    }
+    for back in NO_BUDGETS {
+        is_refused(&rt, rt.alloc(), &[front, back]);
+    }
+}
+
 // Values that are no number, each apart from its option and joined.
 const NO_NUMBERS: &[&str] = &[
     "--memory ",
@@ -226,7 +321,7 @@ const FRONTS: &[&str] = &[
     "run s --device d -",
     "run s --device d -h",
     "run s --device d --help",
-    "run s --device d --form text",
+    "run s --device d --shape text",
     "run -s --device d",
     "run - --device d",
     "run s --device -d",

@@ -1,5 +1,5 @@
 -- The reading of words, against what they mean to a reader.
-use Rattle.std.proofs.Common.{◌≡◌, ◌∙◌, ◌↔◌, ◌≤◌, ℕ, Bool, true, false, not, cond, ◌||◌, nat_le, refl, sym, ap, ap₂, subst, arith, List, [], ◌∷◌, map, flat_map, length, Option, Some, None, codes, bytes_eq, Contains, inl, inr}
+use Rattle.std.proofs.Common.{◌≡◌, ◌∙◌, ◌↔◌, ◌≤◌, ℕ, Bool, true, false, not, cond, ◌||◌, nat_le, ◌/◌, refl, sym, ap, ap₂, subst, arith, List, [], ◌∷◌, ◌++◌, map, flat_map, length, Option, Some, None, codes, bytes_eq, Contains, inl, inr, option_map}
 use Rattle.std.specs.List.{list_any, AllByRecursion as Each}
 use Rattle.std.specs.Option.{option_and_then}
 use Rattle.std.proofs.lemmas.Bool.{and_parts, and_from, or_parts, or_cases, or_right, leb-true, le-leb, not-true, not_from_false}
@@ -7,9 +7,13 @@ use Rattle.std.proofs.lemmas.Slice.Eq.{bytes_eq-Decides}
 use Rattle.ppq_budget.specs.Sizes.{Numbers, numbers, AreInRange}
 use Rattle.ppq_script.specs.Number.{number_of}
 use Rattle.ppq_script.specs.Meaning.{Spells}
+use Rattle.ppq_script.specs.declared.form.Form.{Form}
+use Rattle.ppq_script.specs.declared.form.Form.TheVariants as form
+use Rattle.ppq_words.specs.declared.budget_unit.BudgetUnit.{BudgetUnit}
+use Rattle.ppq_words.specs.declared.budget_unit.BudgetUnit.TheVariants as unit
 use Rattle.ppq_words.specs.Uses.{Text, Use, alone, is_option, uses_of, names_differ, value_under}
-use Rattle.ppq_words.specs.Reading.{Reading, option_names, not_empty, number_in, are_in_range, in_range, sizes_of, reading_from, reading_by, reading_of_uses, reading_of}
-use Rattle.ppq_words.specs.Meaning.{Argument, bare, apart, joined, spelled_as, HasNumber, Reads, scripts_in, values_of, options, IsUsageOf}
+use Rattle.ppq_words.specs.Reading.{Reading, option_names, not_empty, number_in, are_in_range, in_range, sizes_of, record_bytes, in_records, budget_of, form_of, reading_from, reading_by, reading_of_uses, reading_of}
+use Rattle.ppq_words.specs.Meaning.{Argument, bare, apart, joined, spelled_as, IsNamed, IsPlain, value_in, HasNumber, HasBudget, HasForm, Reads, scripts_in, values_of, options, IsBudgetUsage, IsFormUsage, IsUsageOf}
 use Rattle.ppq_words.proofs.Names.{names_are}
 use Rattle.ppq_words.proofs.Arguments.{use_of, IsKnown, values_under, is_option-Contains, all_known, all_named, values_under-scripts_in, values_under-values_of, Spells-IsPlain}
 use Rattle.ppq_words.proofs.Spelled.{AreUses, uses_mean}
@@ -42,14 +46,17 @@ range_from n r =
     and_from _ _ (le-leb 1 n.workers r.some_worker) (and_from _ _ (le-leb n.workers 64 r.workers) (and_from _ _ (le-leb 2 n.block r.two_records) (and_from _ _ (le-leb n.block 65536 r.block)
     (and_from _ _ (le-leb 1 n.heap r.some_heap) (and_from _ _ (le-leb n.heap 64 r.heap) (and_from _ _ (le-leb n.memory 268435456 r.memory) (le-leb n.blocks 65536 r.blocks)))))))
 
-reading_parts : (a b : Option Text) (c : Option Numbers) (r : Reading) → reading_from a b c ≡ Some r → (a ≡ Some r.script) × (b ≡ Some r.device) × (c ≡ Some r.sizes)
-reading_parts None b c r e = cc
-reading_parts (Some s) None c r e = cc
-reading_parts (Some s) (Some d) None r e = cc
-reading_parts (Some s) (Some d) (Some n) r e =
-    let made : Reading = record { script = s; device = d; sizes = n } in
+reading_parts : (a b : Option Text) (c : Option Numbers) (u : Option BudgetUnit) (f : Option Form) (r : Reading) → reading_from a b c u f ≡ Some r
+    → (a ≡ Some r.script) × (b ≡ Some r.device) × (c ≡ Some r.sizes) × (u ≡ Some r.unit) × (f ≡ Some r.form)
+reading_parts None b c u f r e = cc
+reading_parts (Some s) None c u f r e = cc
+reading_parts (Some s) (Some d) None u f r e = cc
+reading_parts (Some s) (Some d) (Some n) None f r e = cc
+reading_parts (Some s) (Some d) (Some n) (Some v) None r e = cc
+reading_parts (Some s) (Some d) (Some n) (Some v) (Some g) r e =
+    let made : Reading = record { script = s; device = d; sizes = n; unit = v; form = g } in
     let same : made ≡ r = cc in
-    (ap (λ (z : Reading). Some z.script) same, ap (λ (z : Reading). Some z.device) same, ap (λ (z : Reading). Some z.sizes) same)
+    (ap (λ (z : Reading). Some z.script) same, ap (λ (z : Reading). Some z.device) same, ap (λ (z : Reading). Some z.sizes) same, ap (λ (z : Reading). Some z.unit) same, ap (λ (z : Reading). Some z.form) same)
 
 name_parts : (t : Option Text) (s : Text) → option_and_then not_empty t ≡ Some s → (t ≡ Some s) × (1 ≤ length s)
 name_parts None s e = cc
@@ -119,6 +126,23 @@ value_once name v (u ∷ us) h = go (bytes_eq u.0 name) h (value_once name v us)
     go : (b : Bool) → cond b (u.1 ∷ values_under name us) (values_under name us) ≡ v ∷ [] → (StandsOnce us name v → value_under name us ≡ Some v) → cond b (Some u.1) (value_under name us) ≡ Some v
     go true h ih = let same : u.1 ≡ v = cc in ap (λ (z : Text). Some z) same
     go false h ih = ih h
+
+-- a name under which nothing is kept
+absent_under : (name : Text) (us : List Use) → value_under name us ≡ None → values_under name us ≡ []
+absent_under name [] e = refl
+absent_under name (u ∷ us) e = go (bytes_eq u.0 name) e (absent_under name us)
+  where
+    go : (b : Bool) → cond b (Some u.1) (value_under name us) ≡ None → (value_under name us ≡ None → values_under name us ≡ []) → cond b (u.1 ∷ values_under name us) (values_under name us) ≡ []
+    go true e ih = cc
+    go false e ih = ih e
+
+value_absent : (name : Text) (us : List Use) → values_under name us ≡ [] → value_under name us ≡ None
+value_absent name [] e = refl
+value_absent name (u ∷ us) e = go (bytes_eq u.0 name) e (value_absent name us)
+  where
+    go : (b : Bool) → cond b (u.1 ∷ values_under name us) (values_under name us) ≡ [] → (values_under name us ≡ [] → value_under name us ≡ None) → cond b (Some u.1) (value_under name us) ≡ None
+    go true e ih = cc
+    go false e ih = ih e
 
 -- SCRIPT and the options, by the names under which they are kept
 abbrev keys : List Text
@@ -196,14 +220,95 @@ number_once law words us h name n other differ e = go (value_under name us) refl
       spelled = (law digits n).0 e;
     }
 
+-- an option that does not stand
+option_absent : (words : List Text) (us : List Use) (h : AreUses option_names words us) (name : Text) → bytes_eq alone name ≡ false → value_under name us ≡ None → values_of name h.arguments ≡ []
+option_absent words us h name other e = sym (values_under-values_of name other h.arguments) ∙ (ap (values_under name) h.values ∙ absent_under name us e)
+
+-- a number of bytes in its range
+fit_parts : (bytes records : ℕ) → in_records bytes ≡ Some records → (bytes ≤ 4294967296) × (records ≡ bytes / record_bytes)
+fit_parts bytes records e = go (nat_le bytes 4294967296) refl e
+  where
+    go : (b : Bool) → nat_le bytes 4294967296 ≡ b → cond b (Some (bytes / record_bytes)) None ≡ Some records → (bytes ≤ 4294967296) × (records ≡ bytes / record_bytes)
+    go true is e = let same : bytes / record_bytes ≡ records = cc in (leb-true bytes 4294967296 is, sym same)
+    go false is e = cc
+
+module _ (law : NumberLaw) (words : List Text) (us : List Use) (h : AreUses option_names words us) (differ : names_differ us ≡ true) where
+  -- the budget stands in just one unit
+  budget_once : (b : ℕ × BudgetUnit) → budget_of (value_under (codes "--memory") us) (value_under (codes "--memory-bytes") us) ≡ Some b → HasBudget h.arguments b.0 b.1
+  budget_once b e = go (value_under (codes "--memory") us) (value_under (codes "--memory-bytes") us) refl refl e
+    where
+      in_bytes : (digits : Text) (bytes : ℕ) (o : Option ℕ) → value_under (codes "--memory-bytes") us ≡ Some digits → value_under (codes "--memory") us ≡ None → number_of digits ≡ Some bytes → in_records bytes ≡ o
+          → option_map (λ (n : ℕ). (n, unit.Bytes)) o ≡ Some b → HasBudget h.arguments b.0 b.1
+      in_bytes digits bytes None at other is fits e = cc
+      in_bytes digits bytes (Some records) at other is fits e =
+          let same : (records, unit.Bytes) ≡ b = cc in
+          let parts = fit_parts bytes records fits in
+          subst (λ (z : ℕ × BudgetUnit). HasBudget h.arguments z.0 z.1) same
+          (record {
+            bytes = bytes;
+            given = record { digits = digits; once = option_once words us h (codes "--memory-bytes") digits refl (once_under (codes "--memory-bytes") digits us differ at); spelled = (law digits bytes).0 is };
+            most = parts.0;
+            fit = parts.1;
+            alone = option_absent words us h (codes "--memory") refl other;
+          })
+
+      bytes_given : (digits : Text) (o : Option ℕ) → value_under (codes "--memory-bytes") us ≡ Some digits → value_under (codes "--memory") us ≡ None → number_of digits ≡ o
+          → option_map (λ (n : ℕ). (n, unit.Bytes)) (option_and_then in_records o) ≡ Some b → HasBudget h.arguments b.0 b.1
+      bytes_given digits None at other is e = cc
+      bytes_given digits (Some bytes) at other is e = in_bytes digits bytes (in_records bytes) at other is refl e
+
+      records_given : (digits : Text) (o : Option ℕ) → value_under (codes "--memory") us ≡ Some digits → value_under (codes "--memory-bytes") us ≡ None → number_of digits ≡ o
+          → option_map (λ (n : ℕ). (n, unit.Records)) o ≡ Some b → HasBudget h.arguments b.0 b.1
+      records_given digits None at other is e = cc
+      records_given digits (Some records) at other is e =
+          let same : (records, unit.Records) ≡ b = cc in
+          subst (λ (z : ℕ × BudgetUnit). HasBudget h.arguments z.0 z.1) same
+          (record {
+            given = record { digits = digits; once = option_once words us h (codes "--memory") digits refl (once_under (codes "--memory") digits us differ at); spelled = (law digits records).0 is };
+            alone = option_absent words us h (codes "--memory-bytes") refl other;
+          })
+
+      go : (x y : Option Text) → value_under (codes "--memory") us ≡ x → value_under (codes "--memory-bytes") us ≡ y → budget_of x y ≡ Some b → HasBudget h.arguments b.0 b.1
+      go None None p q e = cc
+      go (Some records) None p q e = records_given records (number_of records) p q refl e
+      go None (Some bytes) p q e = bytes_given bytes (number_of bytes) q p refl e
+      go (Some records) (Some bytes) p q e = cc
+
+  -- the form stands once by its name, or does not stand
+  form_once : (f : Form) → form_of (value_under (codes "--form") us) ≡ Some f → HasForm h.arguments f
+  form_once f e = go (value_under (codes "--form") us) refl e
+    where
+      named : (name : Text) (is_text is_bytes : Bool) → value_under (codes "--form") us ≡ Some name → bytes_eq name (codes "text") ≡ is_text → bytes_eq name (codes "bytes") ≡ is_bytes
+          → cond is_text (Some form.Text) (cond is_bytes (Some form.Bytes) None) ≡ Some f → HasForm h.arguments f
+      named name true is_bytes at t b e =
+          let same : form.Text ≡ f = cc in
+          let once = option_once words us h (codes "--form") name refl (once_under (codes "--form") name us differ at) in
+          subst (λ (z : Form). HasForm h.arguments z) same (inr (once ∙ ap (λ (z : Text). z ∷ []) ((bytes_eq-Decides name (codes "text")).0 t)))
+      named name false true at t b e =
+          let same : form.Bytes ≡ f = cc in
+          let once = option_once words us h (codes "--form") name refl (once_under (codes "--form") name us differ at) in
+          subst (λ (z : Form). HasForm h.arguments z) same (once ∙ ap (λ (z : Text). z ∷ []) ((bytes_eq-Decides name (codes "bytes")).0 b))
+      named name false false at t b e = cc
+
+      go : (o : Option Text) → value_under (codes "--form") us ≡ o → form_of o ≡ Some f → HasForm h.arguments f
+      go None at e = let same : form.Text ≡ f = cc in subst (λ (z : Form). HasForm h.arguments z) same (inl (option_absent words us h (codes "--form") refl at))
+      go (Some name) at e = named name (bytes_eq name (codes "text")) (bytes_eq name (codes "bytes")) at refl refl e
+
+-- the parts of a budget
+budget_parts : (o : Option (ℕ × BudgetUnit)) (n : ℕ) (u : BudgetUnit) → option_map (λ (b : ℕ × BudgetUnit). b.0) o ≡ Some n → option_map (λ (b : ℕ × BudgetUnit). b.1) o ≡ Some u → o ≡ Some (n, u)
+budget_parts None n u e f = cc
+budget_parts (Some b) n u e f = let first : b.0 ≡ n = cc in let second : b.1 ≡ u = cc in ap₂ (λ (x : ℕ) (y : BudgetUnit). Some (x, y)) first second
+
 uses_read : NumberLaw → (rest : List Text) (us : List Use) (r : Reading) → uses_of option_names None rest ≡ Some us → names_differ us ≡ true → reading_by (λ name. value_under name us) ≡ Some r → Reads (codes "run" ∷ rest) r
 uses_read law rest us r is differ e =
     let f : Text → Option Text = λ name. value_under name us in
-    let three = reading_parts (option_and_then not_empty (f alone)) (option_and_then not_empty (f (codes "--device")))
-    (sizes_of (number_in (f (codes "--blocks"))) (number_in (f (codes "--workers"))) (number_in (f (codes "--block"))) (number_in (f (codes "--heap"))) (number_in (f (codes "--memory")))) r e in
-    let s = name_parts (f alone) r.script three.0 in
-    let d = name_parts (f (codes "--device")) r.device three.1 in
-    let n = sizes_parts (number_in (f (codes "--blocks"))) (number_in (f (codes "--workers"))) (number_in (f (codes "--block"))) (number_in (f (codes "--heap"))) (number_in (f (codes "--memory"))) r.sizes three.2 in
+    let budget = budget_of (f (codes "--memory")) (f (codes "--memory-bytes")) in
+    let memory = option_map (λ (b : ℕ × BudgetUnit). b.0) budget in
+    let parts = reading_parts (option_and_then not_empty (f alone)) (option_and_then not_empty (f (codes "--device")))
+    (sizes_of (number_in (f (codes "--blocks"))) (number_in (f (codes "--workers"))) (number_in (f (codes "--block"))) (number_in (f (codes "--heap"))) memory) (option_map (λ (b : ℕ × BudgetUnit). b.1) budget) (form_of (f (codes "--form"))) r e in
+    let s = name_parts (f alone) r.script parts.0 in
+    let d = name_parts (f (codes "--device")) r.device parts.1 in
+    let n = sizes_parts (number_in (f (codes "--blocks"))) (number_in (f (codes "--workers"))) (number_in (f (codes "--block"))) (number_in (f (codes "--heap"))) memory r.sizes parts.2 in
     let h = (uses_mean option_names names_are rest us).0 is in
     record {
       arguments = h.arguments;
@@ -218,7 +323,8 @@ uses_read law rest us r is differ e =
       workers = number_once law rest us h (codes "--workers") r.sizes.workers refl differ n.1;
       block = number_once law rest us h (codes "--block") r.sizes.block refl differ n.2;
       heap = number_once law rest us h (codes "--heap") r.sizes.heap refl differ n.3;
-      memory = number_once law rest us h (codes "--memory") r.sizes.memory refl differ n.4;
+      budget = budget_once law rest us h differ (r.sizes.memory, r.unit) (budget_parts budget r.sizes.memory r.unit n.4 parts.3);
+      form = form_once law rest us h differ r.form parts.4;
       in_range = range_is r.sizes n.5;
     }
 
@@ -256,6 +362,43 @@ at_most us name v h = let one = ap length h in omega (arith, one)
 at_most_number : (args : List Argument) (name : Text) (n : ℕ) → bytes_eq alone name ≡ false → HasNumber args name n → length (values_under name (map use_of args)) ≤ 1
 at_most_number args name n other h = at_most (map use_of args) name h.digits (under_option name args h.digits other h.once)
 
+at_most_none : (args : List Argument) (name : Text) → bytes_eq alone name ≡ false → values_of name args ≡ [] → length (values_under name (map use_of args)) ≤ 1
+at_most_none args name other e = let none = ap (λ (z : List Text). length z) (values_under-values_of name other args ∙ e) in omega (arith, none)
+
+-- each of both options of a budget stands once at the most
+at_most_budget : (args : List Argument) (n : ℕ) (u : BudgetUnit) → HasBudget args n u → (length (values_under (codes "--memory") (map use_of args)) ≤ 1) × (length (values_under (codes "--memory-bytes") (map use_of args)) ≤ 1)
+at_most_budget args n unit.Records h = (at_most_number args (codes "--memory") n refl h.given, at_most_none args (codes "--memory-bytes") refl h.alone)
+at_most_budget args n unit.Bytes h = (at_most_none args (codes "--memory") refl h.alone, at_most_number args (codes "--memory-bytes") h.bytes refl h.given)
+
+at_most_form : (args : List Argument) (f : Form) → HasForm args f → length (values_under (codes "--form") (map use_of args)) ≤ 1
+at_most_form args form.Text (inl none) = at_most_none args (codes "--form") refl none
+at_most_form args form.Text (inr once) = at_most (map use_of args) (codes "--form") (codes "text") (under_option (codes "--form") args (codes "text") refl once)
+at_most_form args form.Bytes once = at_most (map use_of args) (codes "--form") (codes "bytes") (under_option (codes "--form") args (codes "bytes") refl once)
+
+-- an option that does not stand has no value
+absent_is : (args : List Argument) (name : Text) → bytes_eq alone name ≡ false → values_of name args ≡ [] → value_under name (map use_of args) ≡ None
+absent_is args name other e = value_absent name (map use_of args) (values_under-values_of name other args ∙ e)
+
+value_is : (args : List Argument) (name v : Text) → bytes_eq alone name ≡ false → values_of name args ≡ v ∷ [] → value_under name (map use_of args) ≡ Some v
+value_is args name v other e = value_once name v (map use_of args) (under_option name args v other e)
+
+fit_is : (bytes : ℕ) → bytes ≤ 4294967296 → in_records bytes ≡ Some (bytes / record_bytes)
+fit_is bytes h = ap (λ (b : Bool). cond b (Some (bytes / record_bytes)) None) (le-leb bytes 4294967296 h)
+
+budget_is : NumberLaw → (args : List Argument) (n : ℕ) (u : BudgetUnit) → HasBudget args n u → budget_of (value_under (codes "--memory") (map use_of args)) (value_under (codes "--memory-bytes") (map use_of args)) ≡ Some (n, u)
+budget_is law args n unit.Records h =
+    ap₂ budget_of (value_is args (codes "--memory") h.given.digits refl h.given.once) (absent_is args (codes "--memory-bytes") refl h.alone)
+    ∙ ap (option_map (λ (m : ℕ). (m, unit.Records))) ((law h.given.digits n).1 h.given.spelled)
+budget_is law args n unit.Bytes h =
+    ap₂ budget_of (absent_is args (codes "--memory") refl h.alone) (value_is args (codes "--memory-bytes") h.given.digits refl h.given.once)
+    ∙ ap (λ (o : Option ℕ). option_map (λ (m : ℕ). (m, unit.Bytes)) (option_and_then in_records o)) ((law h.given.digits h.bytes).1 h.given.spelled)
+    ∙ ap (option_map (λ (m : ℕ). (m, unit.Bytes))) (fit_is h.bytes h.most) ∙ ap (λ (m : ℕ). Some (m, unit.Bytes)) (sym h.fit)
+
+form_is : (args : List Argument) (f : Form) → HasForm args f → form_of (value_under (codes "--form") (map use_of args)) ≡ Some f
+form_is args form.Text (inl none) = ap form_of (absent_is args (codes "--form") refl none)
+form_is args form.Text (inr once) = ap form_of (value_is args (codes "--form") (codes "text") refl once)
+form_is args form.Bytes once = ap form_of (value_is args (codes "--form") (codes "bytes") refl once)
+
 scripts_under : (words : List Text) (r : Reading) (h : Reads words r) → StandsOnce (map use_of h.arguments) alone r.script
 scripts_under words r h = values_under-scripts_in option_names names_are h.arguments (all_known h.arguments h.named) ∙ h.script
 
@@ -269,8 +412,9 @@ uses_once words r h name key =
     let workers = at_most_number args (codes "--workers") r.sizes.workers refl h.workers in
     let block = at_most_number args (codes "--block") r.sizes.block refl h.block in
     let heap = at_most_number args (codes "--heap") r.sizes.heap refl h.heap in
-    let memory = at_most_number args (codes "--memory") r.sizes.memory refl h.memory in
-    among keys name (λ z. length (values_under z (map use_of args)) ≤ 1) key (s, (d, (blocks, (workers, (block, (heap, (memory, tt)))))))
+    let budget = at_most_budget args r.sizes.memory r.unit h.budget in
+    let form = at_most_form args r.form h.form in
+    among keys name (λ z. length (values_under z (map use_of args)) ≤ 1) key (s, (d, (blocks, (workers, (block, (heap, (budget.0, (budget.1, (form, tt)))))))))
 
 -- and the other way round
 pub Reads-reading : NumberLaw → (words : List Text) (r : Reading) → Reads words r → reading_of words ≡ Some r
@@ -284,9 +428,11 @@ Reads-reading law words r h =
     let s = name_once us alone r.script (scripts_under words r h) h.some_script in
     let d = name_once us (codes "--device") r.device (under_option (codes "--device") args r.device refl h.device) h.some_device in
     let sizes : in_range r.sizes ≡ Some r.sizes = ap (λ (b : Bool). cond b (Some r.sizes) None) (range_from r.sizes h.in_range) in
-    let n : sizes_of (number_in (value_under (codes "--blocks") us)) (number_in (value_under (codes "--workers") us)) (number_in (value_under (codes "--block") us)) (number_in (value_under (codes "--heap") us)) (number_in (value_under (codes "--memory") us)) ≡ Some r.sizes =
-    rw (number_is law args (codes "--blocks") r.sizes.blocks refl h.blocks, number_is law args (codes "--workers") r.sizes.workers refl h.workers, number_is law args (codes "--block") r.sizes.block refl h.block, number_is law args (codes "--heap") r.sizes.heap refl h.heap, number_is law args (codes "--memory") r.sizes.memory refl h.memory) sizes in
-    let read : reading_by (λ name. value_under name us) ≡ Some r = rw (s, d, n) refl in
+    let n : sizes_of (number_in (value_under (codes "--blocks") us)) (number_in (value_under (codes "--workers") us)) (number_in (value_under (codes "--block") us)) (number_in (value_under (codes "--heap") us)) (Some r.sizes.memory) ≡ Some r.sizes =
+    rw (number_is law args (codes "--blocks") r.sizes.blocks refl h.blocks, number_is law args (codes "--workers") r.sizes.workers refl h.workers, number_is law args (codes "--block") r.sizes.block refl h.block, number_is law args (codes "--heap") r.sizes.heap refl h.heap) sizes in
+    let budget = budget_is law args r.sizes.memory r.unit h.budget in
+    let form = form_is args r.form h.form in
+    let read : reading_by (λ name. value_under name us) ≡ Some r = rw (s, d, budget, n, form) refl in
     ap reading_of h.spelled ∙ (ap (option_and_then reading_of_uses) uses ∙ (ap (λ (b : Bool). cond b (reading_by (λ name. value_under name us)) None) differ ∙ read))
 
 -- words have no reading where nothing can be read from them
@@ -308,32 +454,138 @@ one_reading law words r s h k = let both : Some r ≡ Some s = sym (Reads-readin
 option_is : (name : Text) → is_option option_names name ≡ true → Contains options name
 option_is name e = is_option-Contains option_names name e
 
+-- the options that stand last in the usage line
+abbrev last_names : List Text
+last_names = codes "memory" ∷ codes "memory-bytes" ∷ codes "form" ∷ []
+
+-- arguments that are of these options alone, and their words
+record AreLast (last : List Argument) (words : List Text) : Type 0 where
+  spelled : words ≡ flat_map spelled_as last
+  named : Each IsNamed last
+  plain : Each (λ a. IsPlain (value_in a)) last
+  scripts : scripts_in last ≡ []
+  others : (name : Text) → is_option last_names name ≡ false → values_of name last ≡ []
+
+none_last : AreLast [] []
+none_last = record { spelled = refl; named = tt; plain = tt; scripts = refl; others = λ name other. refl }
+
+option_last :
+    (name value : Text) (last : List Argument) (words : List Text) → Contains options name → ((n : Text) → is_option last_names n ≡ false → bytes_eq name n ≡ false) → IsPlain value
+    → AreLast last words → AreLast (apart name value ∷ last) (name ∷ value ∷ words)
+option_last name value last words known other plain are = record {
+  spelled = ap (λ (z : List Text). name ∷ value ∷ z) are.spelled;
+  named = (known, are.named);
+  plain = (plain, are.plain);
+  scripts = are.scripts;
+  others = λ n is. ap (λ (b : Bool). cond b (value ∷ values_of n last) (values_of n last)) (other n is) ∙ are.others n is;
+}
+
+-- a name that is none of these
+not_memory : (n : Text) → is_option last_names n ≡ false → bytes_eq (codes "--memory") n ≡ false
+not_memory n e = (or_parts (bytes_eq (codes "--memory") n) (is_option (codes "memory-bytes" ∷ codes "form" ∷ []) n) e).0
+
+not_rest : (n : Text) → is_option last_names n ≡ false → (bytes_eq (codes "--memory-bytes") n ≡ false) × (is_option (codes "form" ∷ []) n ≡ false)
+not_rest n e = or_parts (bytes_eq (codes "--memory-bytes") n) (is_option (codes "form" ∷ []) n) (or_parts (bytes_eq (codes "--memory") n) (is_option (codes "memory-bytes" ∷ codes "form" ∷ []) n) e).1
+
+not_form : (n : Text) → is_option last_names n ≡ false → bytes_eq (codes "--form") n ≡ false
+not_form n e = (or_parts (bytes_eq (codes "--form") n) false (not_rest n e).1).0
+
+-- the form alone
+record AreOfForm (last : List Argument) (words : List Text) (f : Form) : Type 0 where
+  last_are : AreLast last words
+  memory : values_of (codes "--memory") last ≡ []
+  bytes : values_of (codes "--memory-bytes") last ≡ []
+  form : HasForm last f
+
+named_form : (value : Text) (f : Form) (words : List Text) → words ≡ codes "--form" ∷ value ∷ [] → IsPlain value → HasForm (apart (codes "--form") value ∷ []) f → AreOfForm (apart (codes "--form") value ∷ []) words f
+named_form value f words is plain has = record {
+  last_are = subst (AreLast (apart (codes "--form") value ∷ [])) (sym is) (option_last (codes "--form") value [] [] (option_is (codes "--form") refl) not_form plain none_last);
+  memory = refl;
+  bytes = refl;
+  form = has;
+}
+
+form_last : (words : List Text) (f : Form) → IsFormUsage words f → (last : List Argument) × AreOfForm last words f
+form_last words form.Text (inl none) = ([], record { last_are = subst (AreLast []) (sym none) none_last; memory = refl; bytes = refl; form = inl refl })
+form_last words form.Text (inr is) = (apart (codes "--form") (codes "text") ∷ [], named_form (codes "text") form.Text words is refl (inr refl))
+form_last words form.Bytes is = (apart (codes "--form") (codes "bytes") ∷ [], named_form (codes "bytes") form.Bytes words is refl refl)
+
+-- the budget and the form
+record AreOfBudget (last : List Argument) (words : List Text) (n : ℕ) (u : BudgetUnit) (f : Form) : Type 0 where
+  last_are : AreLast last words
+  budget : HasBudget last n u
+  form : HasForm last f
+
+form_behind : (name value : Text) (last : List Argument) (f : Form) → bytes_eq name (codes "--form") ≡ false → HasForm last f → HasForm (apart name value ∷ last) f
+form_behind name value last form.Text other (inl none) = inl (ap (λ (b : Bool). cond b (value ∷ values_of (codes "--form") last) (values_of (codes "--form") last)) other ∙ none)
+form_behind name value last form.Text other (inr once) = inr (ap (λ (b : Bool). cond b (value ∷ values_of (codes "--form") last) (values_of (codes "--form") last)) other ∙ once)
+form_behind name value last form.Bytes other once = ap (λ (b : Bool). cond b (value ∷ values_of (codes "--form") last) (values_of (codes "--form") last)) other ∙ once
+
+budget_last : (budget more : List Text) (n : ℕ) (u : BudgetUnit) (f : Form) (last : List Argument) → AreOfForm last more f → IsBudgetUsage budget n u → (all : List Argument) × AreOfBudget all (budget ++ more) n u f
+budget_last budget more n unit.Records f last are is =
+    let digits = is.0 in
+    let name = codes "--memory" in (
+      apart name digits ∷ last,
+      record {
+        last_are = subst (λ (z : List Text). AreLast (apart name digits ∷ last) (z ++ more)) (sym is.1.0) (option_last name digits last more (option_is name refl) not_memory (Spells-IsPlain digits n is.1.1) are.last_are);
+        budget = record { given = record { digits = digits; once = ap (λ (z : List Text). digits ∷ z) are.memory; spelled = is.1.1 }; alone = are.bytes };
+        form = form_behind name digits last f refl are.form;
+      },
+    )
+budget_last budget more n unit.Bytes f last are is =
+    let digits = is.0 in
+    let bytes = is.1.0 in
+    let spells = is.1.1.1.0 in
+    let name = codes "--memory-bytes" in (
+      apart name digits ∷ last,
+      record {
+        last_are = subst (λ (z : List Text). AreLast (apart name digits ∷ last) (z ++ more)) (sym is.1.1.0) (option_last name digits last more (option_is name refl) (λ m e. (not_rest m e).0) (Spells-IsPlain digits bytes spells) are.last_are);
+        budget = record { bytes = bytes; given = record { digits = digits; once = ap (λ (z : List Text). digits ∷ z) are.bytes; spelled = spells }; most = is.1.1.1.1.0; fit = is.1.1.1.1.1; alone = are.memory };
+        form = form_behind name digits last f refl are.form;
+      },
+    )
+
+-- all arguments of the usage line: the script, the device and four sizes, and then the last
+abbrev all_of : Text → Text → Text → Text → Text → Text → List Argument → List Argument
+all_of script device blocks workers block heap last =
+    bare script ∷ apart (codes "--device") device ∷ apart (codes "--blocks") blocks ∷ apart (codes "--workers") workers ∷ apart (codes "--block") block ∷ apart (codes "--heap") heap ∷ last
+
+module _ (script device blocks workers block heap : Text) (last : List Argument) where
+  budget_of_all : (n : ℕ) (u : BudgetUnit) → HasBudget last n u → HasBudget (all_of script device blocks workers block heap last) n u
+  budget_of_all n unit.Records h = record { given = record { digits = h.given.digits; once = h.given.once; spelled = h.given.spelled }; alone = h.alone }
+  budget_of_all n unit.Bytes h = record { bytes = h.bytes; given = record { digits = h.given.digits; once = h.given.once; spelled = h.given.spelled }; most = h.most; fit = h.fit; alone = h.alone }
+
+  form_of_all : (f : Form) → HasForm last f → HasForm (all_of script device blocks workers block heap last) f
+  form_of_all form.Text h = h
+  form_of_all form.Bytes h = h
+
 pub usage_read : (words : List Text) (r : Reading) → IsUsageOf words r → Reads words r
 usage_read words r h =
-    let device = option_is (codes "--device") refl in
-    let blocks = option_is (codes "--blocks") refl in
-    let workers = option_is (codes "--workers") refl in
-    let block = option_is (codes "--block") refl in
-    let heap = option_is (codes "--heap") refl in
-    let memory = option_is (codes "--memory") refl in
+    let with_form = form_last h.form r.form h.form_is in
+    let with_budget = budget_last h.budget h.form r.sizes.memory r.unit r.form with_form.0 with_form.1 h.budget_is in
+    let last = with_budget.0 in
+    let are = with_budget.1.last_are in
+    let number : (name digits : Text) → is_option last_names name ≡ false → digits ∷ values_of name last ≡ digits ∷ [] = λ name digits other. ap (λ (z : List Text). digits ∷ z) (are.others name other) in
     let plain_blocks = Spells-IsPlain h.blocks r.sizes.blocks h.spelled_blocks in
     let plain_workers = Spells-IsPlain h.workers r.sizes.workers h.spelled_workers in
     let plain_block = Spells-IsPlain h.block r.sizes.block h.spelled_block in
     let plain_heap = Spells-IsPlain h.heap r.sizes.heap h.spelled_heap in
-    let plain_memory = Spells-IsPlain h.memory r.sizes.memory h.spelled_memory in
     record {
-      arguments = bare r.script ∷ apart (codes "--device") r.device ∷ apart (codes "--blocks") h.blocks ∷ apart (codes "--workers") h.workers ∷ apart (codes "--block") h.block ∷ apart (codes "--heap") h.heap ∷ apart (codes "--memory") h.memory ∷ [];
-      spelled = h.spelled;
-      named = (tt, (device, (blocks, (workers, (block, (heap, (memory, tt)))))));
-      plain = (h.script.1, (h.device.1, (plain_blocks, (plain_workers, (plain_block, (plain_heap, (plain_memory, tt)))))));
-      script = refl;
+      arguments = all_of r.script r.device h.blocks h.workers h.block h.heap last;
+      spelled =
+          h.spelled
+          ∙ ap (λ (z : List Text). codes "run" ∷ r.script ∷ codes "--device" ∷ r.device ∷ codes "--blocks" ∷ h.blocks ∷ codes "--workers" ∷ h.workers ∷ codes "--block" ∷ h.block ∷ codes "--heap" ∷ h.heap ∷ z) are.spelled;
+      named = (tt, (option_is (codes "--device") refl, (option_is (codes "--blocks") refl, (option_is (codes "--workers") refl, (option_is (codes "--block") refl, (option_is (codes "--heap") refl, are.named))))));
+      plain = (h.script.1, (h.device.1, (plain_blocks, (plain_workers, (plain_block, (plain_heap, are.plain))))));
+      script = ap (λ (z : List Text). r.script ∷ z) are.scripts;
       some_script = h.script.0;
-      device = refl;
+      device = number (codes "--device") r.device refl;
       some_device = h.device.0;
-      blocks = record { digits = h.blocks; once = refl; spelled = h.spelled_blocks };
-      workers = record { digits = h.workers; once = refl; spelled = h.spelled_workers };
-      block = record { digits = h.block; once = refl; spelled = h.spelled_block };
-      heap = record { digits = h.heap; once = refl; spelled = h.spelled_heap };
-      memory = record { digits = h.memory; once = refl; spelled = h.spelled_memory };
+      blocks = record { digits = h.blocks; once = number (codes "--blocks") h.blocks refl; spelled = h.spelled_blocks };
+      workers = record { digits = h.workers; once = number (codes "--workers") h.workers refl; spelled = h.spelled_workers };
+      block = record { digits = h.block; once = number (codes "--block") h.block refl; spelled = h.spelled_block };
+      heap = record { digits = h.heap; once = number (codes "--heap") h.heap refl; spelled = h.spelled_heap };
+      budget = budget_of_all r.script r.device h.blocks h.workers h.block h.heap last r.sizes.memory r.unit with_budget.1.budget;
+      form = form_of_all r.script r.device h.blocks h.workers h.block h.heap last r.form with_budget.1.form;
       in_range = h.in_range;
     }

@@ -82,6 +82,6 @@ names_from : (ns : List Text) → list_all can_be_name ns ≡ true → AreNames 
 names_from [] e = tt
 names_from (n ∷ ns) e = let parts = and_parts (can_be_name n) (list_all can_be_name ns) e in (name_from n parts.0, names_from ns parts.1)
 
--- the six options
+-- the eight options
 pub names_are : AreNames option_names
 names_are = names_from option_names refl

@@ -37,7 +37,7 @@ reading_ok first rest m run few has e =
     let value : (id : Text) → first_value (found_of m) id ≡ value_under id parse.0 =
     λ id. first_value-rows (found_of m) id ∙ (ap (first_of id) (has simple_is).0 ∙ parse.3 id) in
     let same : reading_by (first_value (found_of m)) ≡ reading_by (λ name. value_under name parse.0) =
-    rw (value alone, value (codes "--device"), value (codes "--blocks"), value (codes "--workers"), value (codes "--block"), value (codes "--heap"), value (codes "--memory")) refl in
+    rw (value alone, value (codes "--device"), value (codes "--blocks"), value (codes "--workers"), value (codes "--block"), value (codes "--heap"), value (codes "--memory"), value (codes "--memory-bytes"), value (codes "--form")) refl in
     same ∙ sym (ap (λ (b : Bool). cond b (option_and_then reading_of_uses (uses_of option_names None rest)) None) run
     ∙ (ap (option_and_then reading_of_uses) parse.1 ∙ ap (λ (b : Bool). cond b (reading_by (λ name. value_under name parse.0)) None) parse.2))
 

@@ -1,10 +1,14 @@
 -- What the words of the command line mean to a reader: a relation above the definition that computes.
-use Rattle.std.specs.Prelude.{◌≡◌, ℕ, ⊤, ◌≤◌, length, bytes_eq, if◌then◌else◌, false, List, [], ◌∷◌, ◌++◌, map, flat_map, codes, Contains}
+use Rattle.std.specs.Prelude.{◌≡◌, ◌⊎◌, ℕ, ⊤, ◌≤◌, ◌/◌, length, bytes_eq, if◌then◌else◌, false, List, [], ◌∷◌, ◌++◌, map, flat_map, codes, Contains}
 use Rattle.std.specs.List.{AllByRecursion as Each}
 use Rattle.ppq_budget.specs.Sizes.{AreInRange}
 use Rattle.ppq_script.specs.Meaning.{Spells}
+use Rattle.ppq_script.specs.declared.form.Form.{Form}
+use Rattle.ppq_script.specs.declared.form.Form.TheVariants as form
+use Rattle.ppq_words.specs.declared.budget_unit.BudgetUnit.{BudgetUnit}
+use Rattle.ppq_words.specs.declared.budget_unit.BudgetUnit.TheVariants as unit
 use Rattle.ppq_words.specs.Uses.{Text, begins_with_hyphen}
-use Rattle.ppq_words.specs.Reading.{Reading, option_names}
+use Rattle.ppq_words.specs.Reading.{Reading, option_names, record_bytes}
 
 -- the script's name, or an option with its value: in the next word, as `--heap 1`, or after `=`, as `--heap=1`
 pub data Argument : Type 0 where
@@ -18,7 +22,7 @@ spelled_as (bare value) = value ∷ []
 spelled_as (apart name value) = name ∷ value ∷ []
 spelled_as (joined name value) = (name ++ codes "=" ++ value) ∷ []
 
--- `--device`, `--blocks`, `--workers`, `--block`, `--heap`, `--memory`
+-- `--device`, `--blocks`, `--workers`, `--block`, `--heap`, `--memory`, `--memory-bytes`, `--form`
 abbrev pub options : List Text
 options = map (λ n. codes "--" ++ n) option_names
 
@@ -58,8 +62,31 @@ pub record HasNumber (arguments : List Argument) (name : Text) (n : ℕ) : Type 
   pub once : values_of name arguments ≡ digits ∷ []
   pub spelled : Spells digits n
 
--- The words are `run` and, in any order, the script's name and the six options, each once. No value begins with `-`, no name is
--- empty, and each number is in its range.
+-- the budget is given in records alone
+pub record IsInRecords (arguments : List Argument) (records : ℕ) : Type 0 where
+  pub given : HasNumber arguments (codes "--memory") records
+  pub alone : values_of (codes "--memory-bytes") arguments ≡ []
+
+-- the budget is given in bytes alone, in their range: as many records as fit
+pub record IsInBytes (arguments : List Argument) (records : ℕ) : Type 0 where
+  pub bytes : ℕ
+  pub given : HasNumber arguments (codes "--memory-bytes") bytes
+  pub most : bytes ≤ 4294967296
+  pub fit : records ≡ bytes / record_bytes
+  pub alone : values_of (codes "--memory") arguments ≡ []
+
+-- a budget of so many records is given in this unit, and not in the other too
+abbrev pub HasBudget : List Argument → ℕ → BudgetUnit → Type 0
+HasBudget arguments records unit.Records = IsInRecords arguments records
+HasBudget arguments records unit.Bytes = IsInBytes arguments records
+
+-- `--form` stands once with the name of this form; or it does not stand, and the form is text
+abbrev pub HasForm : List Argument → Form → Type 0
+HasForm arguments form.Text = (values_of (codes "--form") arguments ≡ []) ⊎ (values_of (codes "--form") arguments ≡ codes "text" ∷ [])
+HasForm arguments form.Bytes = values_of (codes "--form") arguments ≡ codes "bytes" ∷ []
+
+-- The words are `run` and, in any order, the script's name and the options, each once, but for those of the budget and of the form. No
+-- value begins with `-`, no name is empty, and each number is in its range.
 pub record Reads (words : List Text) (r : Reading) : Type 0 where
   pub arguments : List Argument
   pub spelled : words ≡ codes "run" ∷ flat_map spelled_as arguments
@@ -73,27 +100,42 @@ pub record Reads (words : List Text) (r : Reading) : Type 0 where
   pub workers : HasNumber arguments (codes "--workers") r.sizes.workers
   pub block : HasNumber arguments (codes "--block") r.sizes.block
   pub heap : HasNumber arguments (codes "--heap") r.sizes.heap
-  pub memory : HasNumber arguments (codes "--memory") r.sizes.memory
+  pub budget : HasBudget arguments r.sizes.memory r.unit
+  pub form : HasForm arguments r.form
   pub in_range : AreInRange r.sizes
 
 -- a name that words can say: it is not empty and does not begin with `-`
 abbrev pub IsName : Text → Type 0
 IsName name = (1 ≤ length name) × IsPlain name
 
--- `run SCRIPT --device FILE --blocks D --workers P --block B --heap H --memory M`, with the names and numbers of this reading
+-- `--memory M`, or `--memory-bytes N` of which so many records fit
+abbrev pub IsBudgetUsage : List Text → ℕ → BudgetUnit → Type 0
+IsBudgetUsage words records unit.Records = (digits : Text) × ((words ≡ codes "--memory" ∷ digits ∷ []) × Spells digits records)
+IsBudgetUsage words records unit.Bytes =
+    (digits : Text) × ((bytes : ℕ) × ((words ≡ codes "--memory-bytes" ∷ digits ∷ []) × (Spells digits bytes × ((bytes ≤ 4294967296) × (records ≡ bytes / record_bytes)))))
+
+-- `--form text` or nothing, or `--form bytes`
+abbrev pub IsFormUsage : List Text → Form → Type 0
+IsFormUsage words form.Text = (words ≡ []) ⊎ (words ≡ codes "--form" ∷ codes "text" ∷ [])
+IsFormUsage words form.Bytes = words ≡ codes "--form" ∷ codes "bytes" ∷ []
+
+-- `run SCRIPT --device FILE --blocks D --workers P --block B --heap H (--memory M | --memory-bytes N) [--form text|bytes]`, with the names
+-- and numbers of this reading
 pub record IsUsageOf (words : List Text) (r : Reading) : Type 0 where
   pub blocks : Text
   pub workers : Text
   pub block : Text
   pub heap : Text
-  pub memory : Text
+  pub budget : List Text
+  pub form : List Text
   pub spelled : words ≡ codes "run" ∷ r.script ∷ codes "--device" ∷ r.device ∷ codes "--blocks" ∷ blocks ∷ codes "--workers" ∷ workers
-      ∷ codes "--block" ∷ block ∷ codes "--heap" ∷ heap ∷ codes "--memory" ∷ memory ∷ []
+      ∷ codes "--block" ∷ block ∷ codes "--heap" ∷ heap ∷ budget ++ form
   pub script : IsName r.script
   pub device : IsName r.device
   pub spelled_blocks : Spells blocks r.sizes.blocks
   pub spelled_workers : Spells workers r.sizes.workers
   pub spelled_block : Spells block r.sizes.block
   pub spelled_heap : Spells heap r.sizes.heap
-  pub spelled_memory : Spells memory r.sizes.memory
+  pub budget_is : IsBudgetUsage budget r.sizes.memory r.unit
+  pub form_is : IsFormUsage form r.form
   pub in_range : AreInRange r.sizes

@@ -14,7 +14,7 @@ fn option<'a>(alloc: Global, id: &'a str, name: &'a str) -> Arg<'a>
     Arg::new(alloc, id).long(name)
 }
 
-// The script's name and the six options. The word `run` stands for the program's name.
+// The script's name and the eight options. The word `run` stands for the program's name.
 // `clap` is not told what is required: that is seen after the parse.
 pub(crate) fn command<'a>(alloc: Global) -> Result<Command<'a>, AllocError>
     ensures { IfOk result (λ c. app_of c ≡ command_app) }
@@ -27,5 +27,7 @@ pub(crate) fn command<'a>(alloc: Global) -> Result<Command<'a>, AllocError>
         .arg(option(alloc, "--workers", "workers"))?
         .arg(option(alloc, "--block", "block"))?
         .arg(option(alloc, "--heap", "heap"))?
-        .arg(option(alloc, "--memory", "memory"))
+        .arg(option(alloc, "--memory", "memory"))?
+        .arg(option(alloc, "--memory-bytes", "memory-bytes"))?
+        .arg(option(alloc, "--form", "form"))
 }

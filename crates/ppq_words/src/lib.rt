@@ -1,12 +1,13 @@
 //! The arguments of the command line, read with `clap`.
 //!
-//! `run SCRIPT --device FILE --blocks D --workers P --block B --heap H --memory M`: the word `run`
-//! and, in any order, the script's name and six options, each once. An option's value is the next
-//! word (`--heap 1`), or follows `=` in the same word (`--heap=1`). There is no help and no version
-//! option. The crate looks for `run` and for stray hyphens first, `clap` then splits the words into
+//! `run SCRIPT --device FILE --blocks D --workers P --block B --heap H (--memory M | --memory-bytes N)
+//! [--form text|bytes]`: the word `run` and, in any order, the script's name and the options, none
+//! twice. An option's value is the next word (`--heap 1`), or follows `=` in the same word
+//! (`--heap=1`). There is no help and no version option. The crate looks for `run` and for stray hyphens first, `clap` then splits the words into
 //! names and values, and the crate reads the numbers by the grammar of scripts.
 #![tactic(auto)]
 
+mod budget_unit;
 mod command;
 mod laws;
 mod run_arguments;
@@ -14,11 +15,12 @@ mod strays;
 mod values;
 mod words;
 
+pub use budget_unit::BudgetUnit;
 pub use laws::words_mean;
 pub use ppq_budget::Sizes;
 pub use ppq_script::{
-    CheckFault, Failed, Gate, Host, Library, Memory, OpenGate, OutsideFault, Pair, Rack, Record,
-    Script, Sink, Slot, check_files, read,
+    CheckFault, Failed, Form, Gate, Host, Library, Memory, OpenGate, OutsideFault, Pair, Rack,
+    Record, Script, Sink, Slot, check_files, read,
 };
 pub use run_arguments::RunArguments;
 pub use words::read_words;

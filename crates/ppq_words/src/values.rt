@@ -1,13 +1,16 @@
 //! What the values of a parse say.
-ghost use Rattle.std.specs.Prelude.{◌≡◌, option_map, option_and_then, codes};
+ghost use Rattle.std.specs.Prelude.{◌≡◌, Some, option_map, option_and_then, codes};
 ghost use Rattle.clap.specs.Words.{first_value, found_of};
 ghost use Rattle.ppq_budget.specs.Sizes.{numbers};
-ghost use Rattle.ppq_words.specs.Reading.{as_reading, not_empty, number_in, sizes_of, in_range, reading_by};
+ghost use Rattle.ppq_words.specs.Reading.{as_reading, not_empty, number_in, in_records, budget_of, sizes_of, in_range, form_of, reading_by};
 
-use crate::RunArguments;
+use crate::{BudgetUnit, RunArguments};
 use clap::ArgMatches;
 use ppq_budget::Sizes;
-use ppq_script::number;
+use ppq_script::{Form, Pair, Record, number};
+
+// The largest budget in bytes: that of the largest in records.
+const LARGEST: u64 = 4_294_967_296;
 
 // The value under a name, where it is not empty.
 fn name_under<'a>(matches: &ArgMatches<'a>, id: &str) -> Option<&'a str>
@@ -35,30 +38,74 @@ fn sizes_in(workers: u64, block: u64, heap: u64, memory: u64, blocks: u64) -> Op
     Sizes::new(workers, block, heap, memory, blocks)
 }
 
-// The sizes that the values say.
-fn sizes_of(matches: &ArgMatches<'_>) -> Option<Sizes>
+// A budget of so many bytes in records, where it is in its range.
+fn in_records(bytes: u64) -> Option<u64>
+    ensures { result ≡ in_records bytes }
+{
+    if bytes <= LARGEST {
+        Some(bytes / Pair::WIDTH as u64)
+    } else {
+        None
+    }
+}
+
+// The budget in records, and the unit in which it is given, where just one of both is.
+fn budget_of(matches: &ArgMatches<'_>) -> Option<(u64, BudgetUnit)>
     ensures { let value = first_value (found_of matches.now) in
-        result ≡ sizes_of (number_in (value (codes "--blocks"))) (number_in (value (codes "--workers"))) (number_in (value (codes "--block"))) (number_in (value (codes "--heap"))) (number_in (value (codes "--memory"))) }
+        result ≡ budget_of (value (codes "--memory")) (value (codes "--memory-bytes")) }
+{
+    match (
+        matches.get_str("--memory"),
+        matches.get_str("--memory-bytes"),
+    ) {
+        (Some(records), None) => Some((number(records.as_bytes())?, BudgetUnit::Records)),
+        (None, Some(bytes)) => {
+            let records = in_records(number(bytes.as_bytes())?)?;
+            Some((records, BudgetUnit::Bytes))
+        }
+        _ => None,
+    }
+}
+
+// The form of the output: text where nothing is said.
+fn form_of(matches: &ArgMatches<'_>) -> Option<Form>
+    ensures { result ≡ form_of (first_value (found_of matches.now) (codes "--form")) }
+{
+    match matches.get_str("--form") {
+        None => Some(Form::Text),
+        Some("text") => Some(Form::Text),
+        Some("bytes") => Some(Form::Bytes),
+        Some(_) => None,
+    }
+}
+
+// The sizes that the values say, with this budget in records.
+fn sizes_of(matches: &ArgMatches<'_>, memory: u64) -> Option<Sizes>
+    ensures { let value = first_value (found_of matches.now) in
+        result ≡ sizes_of (number_in (value (codes "--blocks"))) (number_in (value (codes "--workers"))) (number_in (value (codes "--block"))) (number_in (value (codes "--heap"))) (Some memory) }
 {
     let blocks = number_under(matches, "--blocks")?;
     let workers = number_under(matches, "--workers")?;
     let block = number_under(matches, "--block")?;
     let heap = number_under(matches, "--heap")?;
-    let memory = number_under(matches, "--memory")?;
     sizes_in(workers, block, heap, memory, blocks)
 }
 
-// What the values of a parse say, where none is missing, no name is empty, and each number is
-// spelled and in its range.
+// What the values of a parse say, where none is missing, no name is empty, each number is spelled and
+// in its range, and the form has a name.
 pub(crate) fn arguments_of<'a>(matches: &ArgMatches<'a>) -> Option<RunArguments<'a>>
     ensures { option_map as_reading result ≡ reading_by (first_value (found_of matches.now)) }
 {
     let script = name_under(matches, "SCRIPT")?;
     let device = name_under(matches, "--device")?;
-    let sizes = sizes_of(matches)?;
+    let (memory, unit) = budget_of(matches)?;
+    let sizes = sizes_of(matches, memory)?;
+    let form = form_of(matches)?;
     Some(RunArguments {
         script,
         device,
         sizes,
+        unit,
+        form,
     })
 }

@@ -1,5 +1,6 @@
 use Rattle.std.proofs.Common.{◌≡◌, ◌∙◌, inl, length, map, ap, sym, subst, arith}
 use Rattle.std.proofs.lemmas.List.{length-map}
+use Rattle.ppq_words.specs.Reading.{as_reading, in_unit}
 use Rattle.ppq_engine.specs.declared.end.End.{End}
 use Rattle.ppq_engine.specs.declared.end.End.TheVariants.{BudgetTooSmall}
 use Rattle.ppq_cli.specs.RunOver.{RunWrites, RunEnds, RunFaults}
@@ -13,8 +14,8 @@ use Rattle.ppq_cli.proofs.run.run_over.Goals as goal
 
 pub returns-then-memory-need-clause-written : goal.returns-then-memory-need-clause-written
 returns-then-memory-need-clause-written g c =
-    subst (λ (e : End). RunWrites (g.K.Rack.tells c.args.rack.now) (g.L.Library.told c.args.library.now) (g.O.Sink.told c.args.out.now) (g.O.Sink.told c.args.out.now) c.args.arguments.now.sizes c.args.script.now (map g.K.Slot.Slot.shown c.without_blocks.result.blocks.items) e)
-    (sym c.without_blocks.ensures.end) (wrote_nothing _ _ _ c.args.arguments.now.sizes c.args.script.now _ _ (λ is. cc) (λ is. cc) tt)
+    subst (λ (e : End). RunWrites (g.K.Rack.tells c.args.rack.now) (g.L.Library.told c.args.library.now) (g.O.Sink.told c.args.out.now) (g.O.Sink.told c.args.out.now) (as_reading c.args.arguments.now) c.args.script.now (map g.K.Slot.Slot.shown c.without_blocks.result.blocks.items) e)
+    (sym c.without_blocks.ensures.end) (wrote_nothing _ _ _ (as_reading c.args.arguments.now) c.args.script.now _ _ (λ is. cc) (λ is. cc) tt)
 
 pub returns-then-memory-need-clause-blocks : goal.returns-then-memory-need-clause-blocks
 returns-then-memory-need-clause-blocks g c =
@@ -33,8 +34,8 @@ returns-then-memory-need-clause-library g c = asked_nothing g.L.Library.told g.L
 pub returns-then-memory-need-clause-ends : goal.returns-then-memory-need-clause-ends
 returns-then-memory-need-clause-ends g c =
     let r = c.without_blocks in
-    let Ends : End → Type 0 = λ e. RunEnds (g.L.Library.told c.args.library.now) (g.L.Library.replied c.args.library.now) c.args.arguments.now.sizes c.args.script.now (map g.K.Slot.Slot.shown r.result.blocks.items) e in
-    subst Ends (sym (r.ensures.end ∙ ap BudgetTooSmall c.fixed-need.ensures)) (small_ends c.args.arguments.now.sizes (omega arith) _ _ c.args.script.now _)
+    let Ends : End → Type 0 = λ e. RunEnds (g.L.Library.told c.args.library.now) (g.L.Library.replied c.args.library.now) (as_reading c.args.arguments.now) c.args.script.now (map g.K.Slot.Slot.shown r.result.blocks.items) e in
+    subst Ends (sym (r.ensures.end ∙ ap BudgetTooSmall (c.amount-need.ensures ∙ ap (in_unit c.args.arguments.now.unit) c.fixed-need.ensures))) (small_ends (as_reading c.args.arguments.now) (omega arith) _ _ c.args.script.now _)
 
 pub returns-then-memory-need-clause-faults : goal.returns-then-memory-need-clause-faults
 returns-then-memory-need-clause-faults g c =
@@ -58,8 +59,8 @@ returns-in-Ok-clause-written g c =
       done = λ is. record { took = λ t. r.ensures.done is (tell t); crest = λ t. r.ensures.used is (tell t); least = r.ensures.used_any is };
       full = λ is. record { part = λ t. r.ensures.part (tell t); within = λ t. r.ensures.within is (tell t); above = λ t. r.ensures.above is (tell t); above_any = r.ensures.above_any is };
       part = λ t. r.ensures.part (tell t);
-      memory = λ is. ran_to_load tells told c.args.script.now slots before now tell (r.ensures.memory is);
-      file = fault_to_file tells told c.args.script.now slots before now r.result.end tell r.ensures.file;
+      memory = λ is. ran_to_load c.args.arguments.now.form tells told c.args.script.now slots before now tell (r.ensures.memory is);
+      file = fault_to_file c.args.arguments.now.form tells told c.args.script.now slots before now r.result.end tell r.ensures.file;
       nothing = may_write _ c.args.arguments.now.sizes r.result.end r.ensures.answer r.ensures.nothing;
     }
 
@@ -82,7 +83,7 @@ pub returns-in-Ok-clause-library : goal.returns-in-Ok-clause-library
 returns-in-Ok-clause-library g c = let e = c.run_script.ensures in record { told = e.files; remembers = e.remembers; asks = e.asks }
 
 pub returns-in-Ok-clause-ends : goal.returns-in-Ok-clause-ends
-returns-in-Ok-clause-ends g c = let e = c.run_script.ensures in record { answer = begun_ends c.args.arguments.now.sizes c.run_script.result.end e.answer; failed = e.failed; changed = e.changed }
+returns-in-Ok-clause-ends g c = let e = c.run_script.ensures in record { answer = begun_ends (as_reading c.args.arguments.now) c.run_script.result.end (omega (arith, c.fixed-need.ensures, c.memory.ensures.same)) e.answer; failed = e.failed; changed = e.changed }
 
 pub returns-in-Ok-clause-faults : goal.returns-in-Ok-clause-faults
 returns-in-Ok-clause-faults g c =
@@ -97,8 +98,8 @@ returns-in-Ok-clause-faults g c =
 
 pub returns-in-Err-clause-written : goal.returns-in-Err-clause-written
 returns-in-Err-clause-written g c =
-    subst (λ (e : End). RunWrites (g.K.Rack.tells c.args.rack.now) (g.L.Library.told c.args.library.now) (g.O.Sink.told c.args.out.now) (g.O.Sink.told c.args.out.now) c.args.arguments.now.sizes c.args.script.now (map g.K.Slot.Slot.shown c.in-Err.blocks.items) e)
-    (sym c.end_of_making.ensures) (unmade_wrote _ _ _ c.args.arguments.now.sizes c.args.script.now _ c.in-Err.fault)
+    subst (λ (e : End). RunWrites (g.K.Rack.tells c.args.rack.now) (g.L.Library.told c.args.library.now) (g.O.Sink.told c.args.out.now) (g.O.Sink.told c.args.out.now) (as_reading c.args.arguments.now) c.args.script.now (map g.K.Slot.Slot.shown c.in-Err.blocks.items) e)
+    (sym c.end_of_making.ensures) (unmade_wrote _ _ _ (as_reading c.args.arguments.now) c.args.script.now _ c.in-Err.fault)
 
 pub returns-in-Err-clause-blocks : goal.returns-in-Err-clause-blocks
 returns-in-Err-clause-blocks g c =
@@ -118,8 +119,8 @@ returns-in-Err-clause-library g c = asked_nothing g.L.Library.told g.L.Library.r
 
 pub returns-in-Err-clause-ends : goal.returns-in-Err-clause-ends
 returns-in-Err-clause-ends g c =
-    let Ends : End → Type 0 = λ e. RunEnds (g.L.Library.told c.args.library.now) (g.L.Library.replied c.args.library.now) c.args.arguments.now.sizes c.args.script.now (map g.K.Slot.Slot.shown c.in-Err.blocks.items) e in
-    subst Ends (sym c.end_of_making.ensures) (unmade_ends c.args.arguments.now.sizes (omega arith) _ _ c.args.script.now _ c.in-Err.fault)
+    let Ends : End → Type 0 = λ e. RunEnds (g.L.Library.told c.args.library.now) (g.L.Library.replied c.args.library.now) (as_reading c.args.arguments.now) c.args.script.now (map g.K.Slot.Slot.shown c.in-Err.blocks.items) e in
+    subst Ends (sym c.end_of_making.ensures) (unmade_ends (as_reading c.args.arguments.now) (omega arith) _ _ c.args.script.now _ c.in-Err.fault)
 
 pub returns-in-Err-clause-faults : goal.returns-in-Err-clause-faults
 returns-in-Err-clause-faults g c =

@@ -1,5 +1,6 @@
 use Rattle.std.proofs.Common.{◌≡◌, ◌∙◌, sym, map}
 use Rattle.std.specs.Prelude.{IfSome}
+use Rattle.ppq_words.specs.Reading.{as_reading}
 use Rattle.ppq_engine.specs.Output.{load_of, crest_of}
 use Rattle.ppq_cli.specs.Device.{AreBlocks}
 use Rattle.ppq_cli.specs.Replies.{RefusalIsRight, RunIsRight}
@@ -42,7 +43,7 @@ returns-in-Ok-load_script-clause-used_any g c = λ is. of_named c.args.words.now
 
 pub returns-in-Ok-load_script-clause-answer : goal.returns-in-Ok-load_script-clause-answer
 returns-in-Ok-load_script-clause-answer g c =
-    named_answer c.args.words.now _ c.in-Some.arguments _ c.run_over.result.end c.in-Some.is c.in-Ok.ensures.reading (loaded_answer _ _ _ _ _ c.in-Some.arguments.sizes c.run_over.result.end c.workers.ensures.same c.in-Ok-load_script.ensures.script c.run_over.ensures.ends.answer)
+    named_answer c.args.words.now _ c.in-Some.arguments _ c.run_over.result.end c.in-Some.is c.in-Ok.ensures.reading (loaded_answer _ _ _ _ (as_reading c.in-Some.arguments) c.run_over.result.end c.workers.ensures.same c.in-Ok-load_script.ensures.script c.run_over.ensures.ends.answer)
 
 pub run_over-requires-clause-lengths : goal.run_over-requires-clause-lengths
 run_over-requires-clause-lengths g c = λ lifetimes outlives files is.
@@ -54,8 +55,8 @@ returns-in-Ok-load_script-clause-refused g c =
     let replied = g.L.Library.replied c.run_over.new.library in
     let arguments = c.in-Some.arguments in
     let workers : c.workers.result ≡ arguments.sizes.workers = c.workers.ensures.same in
-    of_words c.args.words.now _ arguments (λ r. RefusalIsRight told replied r.script r.sizes c.run_over.result.end) c.in-Some.is c.in-Ok.ensures.reading
-    (later_refusal told (g.L.Library.told c.load_script.new.library) (g.L.Library.replied c.load_script.new.library) replied arguments.script.now arguments.sizes c.workers.result c.in-Ok-load_script.script c.run_over.result.end
+    of_words c.args.words.now _ arguments (λ r. RefusalIsRight told replied r c.run_over.result.end) c.in-Some.is c.in-Ok.ensures.reading
+    (later_refusal told (g.L.Library.told c.load_script.new.library) (g.L.Library.replied c.load_script.new.library) replied (as_reading arguments) c.workers.result c.in-Ok-load_script.script c.run_over.result.end
     c.load_script.ensures.library.told workers c.run_over.ensures.library.remembers c.in-Ok-load_script.ensures.script c.run_over.ensures.ends.answer c.run_over.ensures.ends.changed)
 
 pub returns-in-Ok-load_script-clause-ran : goal.returns-in-Ok-load_script-clause-ran
@@ -69,8 +70,8 @@ returns-in-Ok-load_script-clause-ran g c =
     let end = c.run_over.result.end in
     let arguments = c.in-Some.arguments in
     let workers : c.workers.result ≡ arguments.sizes.workers = c.workers.ensures.same in
-    of_words c.args.words.now _ arguments (λ r. RunIsRight tells told replied r.script r.sizes before now blocks end) c.in-Some.is c.in-Ok.ensures.reading
-    (later_run told (g.L.Library.told c.load_script.new.library) (g.L.Library.replied c.load_script.new.library) replied arguments.script.now arguments.sizes c.workers.result tells c.in-Ok-load_script.script before now blocks end
+    of_words c.args.words.now _ arguments (λ r. RunIsRight tells told replied r before now blocks end) c.in-Some.is c.in-Ok.ensures.reading
+    (later_run told (g.L.Library.told c.load_script.new.library) (g.L.Library.replied c.load_script.new.library) replied (as_reading arguments) c.workers.result tells c.in-Ok-load_script.script before now blocks end
     c.load_script.ensures.library.told workers c.run_over.ensures.library.remembers c.in-Ok-load_script.ensures.script c.run_over.ensures.ends.answer
     c.run_over.ensures.written)
 
@@ -86,24 +87,22 @@ returns-in-Ok-load_script-clause-complete g c = λ t fault.
     let told = g.L.Library.told c.args.library.now in
     let end = c.run_over.result.end in
     let arguments = c.in-Some.arguments in
-    let name = arguments.script.now in
-    let sizes = arguments.sizes in
-    of_words c.args.words.now _ arguments (λ r. IfSome told (λ files. IfSome (files r.script) (λ bytes. EndsWell load_of r.sizes files bytes end))) c.in-Some.is c.in-Ok.ensures.reading
-    (named_completed told name sizes load_of end (loaded_answer told _ _ _ _ sizes end c.workers.ensures.same c.in-Ok-load_script.ensures.script c.run_over.ensures.ends.answer)
+    let r = as_reading arguments in
+    of_words c.args.words.now _ arguments (λ r. IfSome told (λ files. IfSome (files r.script) (λ bytes. EndsWell load_of r files bytes end))) c.in-Some.is c.in-Ok.ensures.reading
+    (named_completed told r load_of end (loaded_answer told _ _ _ r end c.workers.ensures.same c.in-Ok-load_script.ensures.script c.run_over.ensures.ends.answer)
     (λ line said got is. sym c.load_script.ensures.library.told ∙ (c.run_over.ensures.ends.changed line said got is).untold)
-    (λ is. of_commands told (g.L.Library.told c.load_script.new.library) _ name _ _ sizes (IsTooLarge load_of) c.load_script.ensures.library.told c.workers.ensures.same c.in-Ok-load_script.ensures.script ((c.run_over.ensures.written.full is).above t)) fault)
+    (λ is. of_commands told (g.L.Library.told c.load_script.new.library) _ _ _ r (IsTooLarge load_of) c.load_script.ensures.library.told c.workers.ensures.same c.in-Ok-load_script.ensures.script ((c.run_over.ensures.written.full is).above t)) fault)
 
 pub returns-in-Ok-load_script-clause-complete_any : goal.returns-in-Ok-load_script-clause-complete_any
 returns-in-Ok-load_script-clause-complete_any g c = λ fault.
     let told = g.L.Library.told c.args.library.now in
     let end = c.run_over.result.end in
     let arguments = c.in-Some.arguments in
-    let name = arguments.script.now in
-    let sizes = arguments.sizes in
-    of_words c.args.words.now _ arguments (λ r. IfSome told (λ files. IfSome (files r.script) (λ bytes. EndsWell most_by r.sizes files bytes end))) c.in-Some.is c.in-Ok.ensures.reading
-    (named_completed told name sizes most_by end (loaded_answer told _ _ _ _ sizes end c.workers.ensures.same c.in-Ok-load_script.ensures.script c.run_over.ensures.ends.answer)
+    let r = as_reading arguments in
+    of_words c.args.words.now _ arguments (λ r. IfSome told (λ files. IfSome (files r.script) (λ bytes. EndsWell most_by r files bytes end))) c.in-Some.is c.in-Ok.ensures.reading
+    (named_completed told r most_by end (loaded_answer told _ _ _ r end c.workers.ensures.same c.in-Ok-load_script.ensures.script c.run_over.ensures.ends.answer)
     (λ line said got is. sym c.load_script.ensures.library.told ∙ (c.run_over.ensures.ends.changed line said got is).untold)
-    (λ is. of_commands told (g.L.Library.told c.load_script.new.library) _ name _ _ sizes (IsTooLarge most_by) c.load_script.ensures.library.told c.workers.ensures.same c.in-Ok-load_script.ensures.script (λ files are. (c.run_over.ensures.written.full is).above_any)) fault)
+    (λ is. of_commands told (g.L.Library.told c.load_script.new.library) _ _ _ r (IsTooLarge most_by) c.load_script.ensures.library.told c.workers.ensures.same c.in-Ok-load_script.ensures.script (λ files are. (c.run_over.ensures.written.full is).above_any)) fault)
 
 pub returns-in-Ok-load_script-clause-reads : goal.returns-in-Ok-load_script-clause-reads
 returns-in-Ok-load_script-clause-reads g c =

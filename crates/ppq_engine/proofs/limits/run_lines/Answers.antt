@@ -13,7 +13,7 @@ use Rattle.ppq_engine.proofs.limits.run_lines.Goals as goal
 
 pub batches-init : goal.batches-init
 batches-init g c = record {
-  on = going-begin g.S.Slot.shown (commands_of c.args.lines.now) (g.O.Sink.told c.args.out.now) c.args.gathered.now c.args.session.now c.requires.going;
+  on = going-begin g.S.Slot.shown c.args.world.now.form (commands_of c.args.lines.now) (g.O.Sink.told c.args.out.now) c.args.gathered.now c.args.session.now c.requires.going;
   lines = c.requires.lines;
   stays = refl;
 }
@@ -33,14 +33,14 @@ returns-in_err-print-clause-broken g c =
     let lines = commands_of c.args.lines.now in
     let old = c.args.session.now in
     let new = c.run-all.new.session in
-    on-err c.from_residual.result (BreaksOff shown lines (told c.args.out.now) (told c.print.new.out) c.args.gathered.now old new)
-    (breaks-off shown lines (told c.args.out.now) c.args.gathered.now old (commands_of c.batches.rest.now) (commands_of c.cut.result.0.now) (commands_of c.cut.result.1.now) (told c.batches.out) (told c.print.new.out) c.batches.gathered c.print.new.gathered
+    on-err c.from_residual.result (BreaksOff shown c.args.world.now.form lines (told c.args.out.now) (told c.print.new.out) c.args.gathered.now old new)
+    (breaks-off shown c.args.world.now.form lines (told c.args.out.now) c.args.gathered.now old (commands_of c.batches.rest.now) (commands_of c.cut.result.0.now) (commands_of c.cut.result.1.now) (told c.batches.out) (told c.print.new.out) c.batches.gathered c.print.new.gathered
     c.batches.session new c.run-all.new.self.answers.items c.batches.invariant.on c.cut.ensures.all c.run-all.ensures.ran c.in_err-print.ensures.part)
 
 pub returns-then-not-all-clause-ran : goal.returns-then-not-all-clause-ran
 returns-then-not-all-clause-ran g c =
     let told = g.O.Sink.told in
-    runs-stopped g.S.Slot.shown (commands_of c.args.lines.now) (told c.args.out.now) c.args.gathered.now c.args.session.now (commands_of c.batches.rest.now) (commands_of c.cut.result.0.now) (commands_of c.cut.result.1.now)
+    runs-stopped g.S.Slot.shown c.args.world.now.form (commands_of c.args.lines.now) (told c.args.out.now) c.args.gathered.now c.args.session.now (commands_of c.batches.rest.now) (commands_of c.cut.result.0.now) (commands_of c.cut.result.1.now)
     (told c.batches.out) (told c.print.new.out) c.batches.gathered c.print.new.gathered c.batches.session c.run-all.new.session c.run-all.new.self.answers.items
     c.batches.invariant.on c.cut.ensures.all c.run-all.ensures.ran c.in_ok-print.ensures.text (c.run-all.ensures.stopped c.if-not-all.true)
 
@@ -55,7 +55,7 @@ batches-preserved g c =
     let Q : Pair → Type 0 = λ l. AreLines c.run-all.new.session.front.sizes.workers (InLimit l) behind in
     record {
       on =
-          going-more g.S.Slot.shown (commands_of c.args.lines.now) (told c.args.out.now) c.args.gathered.now c.args.session.now rest first behind
+          going-more g.S.Slot.shown c.args.world.now.form (commands_of c.args.lines.now) (told c.args.out.now) c.args.gathered.now c.args.session.now rest first behind
           (told c.batches.out) (told c.print.new.out) c.batches.gathered c.print.new.gathered c.batches.session c.run-all.new.session c.run-all.new.self.answers.items
           c.batches.invariant.on c.cut.ensures.all c.run-all.ensures.ran c.in_ok-print.ensures.text (c.run-all.ensures.all c.if-not-all.false);
       lines =
@@ -69,5 +69,5 @@ returns-clause-ran g c =
     let told = g.O.Sink.told in
     let lines = commands_of c.args.lines.now in
     let none : c.batches.rest.now ≡ [] = nil_from_length c.batches.rest.now (search rules) in
-    let P : List Numbered → Type 0 = λ ls. IsGoingOn g.S.Slot.shown lines (told c.args.out.now) c.args.gathered.now c.args.session.now (commands_of ls) (told c.batches.out) c.batches.gathered c.batches.session in
-    runs-all g.S.Slot.shown lines (told c.args.out.now) c.args.gathered.now c.args.session.now (told c.batches.out) c.batches.gathered c.batches.session (subst P none c.batches.invariant.on)
+    let P : List Numbered → Type 0 = λ ls. IsGoingOn g.S.Slot.shown c.args.world.now.form lines (told c.args.out.now) c.args.gathered.now c.args.session.now (commands_of ls) (told c.batches.out) c.batches.gathered c.batches.session in
+    runs-all g.S.Slot.shown c.args.world.now.form lines (told c.args.out.now) c.args.gathered.now c.args.session.now (told c.batches.out) c.batches.gathered c.batches.session (subst P none c.batches.invariant.on)

@@ -6,7 +6,7 @@ use Rattle.ppq_engine.proofs.limits.run_lines.Given as goal
 
 abbrev pub invariant-batches : goal.invariant-batches
 invariant-batches g l = record {
-  on : IsGoingOn g.S.Slot.shown (commands_of l.lines) (g.O.Sink.told l.fn.out) l.fn.gathered l.fn.session (commands_of l.rest) (g.O.Sink.told l.out) l.gathered l.session;
+  on : IsGoingOn g.S.Slot.shown l.world.form (commands_of l.lines) (g.O.Sink.told l.fn.out) l.fn.gathered l.fn.session (commands_of l.rest) (g.O.Sink.told l.out) l.gathered l.session;
   lines : AreLines l.session.front.sizes.workers (InLimit l.session.front.limit) (commands_of l.rest);
   stays : g.O.Sink.faults l.out ≡ g.O.Sink.faults l.fn.out;
 }

@@ -1,59 +1,62 @@
-use Rattle.std.proofs.Common.{ℕ, ◌*◌, List, Option, map, subst}
+use Rattle.std.proofs.Common.{ℕ, ◌*◌, List, Option, map, subst, inr}
 use Rattle.ppq_script.specs.ppq_outside.Shown.{Shown, AllTell}
 use Rattle.ppq_script.specs.ppq_outside.Told.{TakesPart}
 use Rattle.ppq_script.specs.Reading.{command_list}
 use Rattle.ppq_engine.specs.Output.{AreFilesOf, given_of, output_of}
 use Rattle.ppq_engine.specs.Outcome.{EndSays, FaultBeforeFile}
-use Rattle.ppq_engine.proofs.Ending.{says-first, says-began, same_blocks, end-done, end-used, end-used_any, end-unfailed, end-within, end-above, end-failed, end-complete, end-complete_any}
+use Rattle.ppq_engine.proofs.Ending.{says-first, says-began, same_blocks, end-done, end-used, end-used_any, end-unfailed, end-within, end-memory, end-above, end-failed, end-complete, end-complete_any}
 use Rattle.ppq_engine.proofs.run.run_script.Given as given
 use Rattle.ppq_engine.proofs.run.run_script.Goals as goal
 
 -- what the end says, of the blocks and sizes that were handed in
 says :
     (g : given.Over) (c : goal.After-close g)
-    → EndSays (g.L.Library.told c.args.library.now) (g.L.Library.replied c.run_opened-queue.new.library) c.args.script.now (map g.S.Slot.shown c.args.slots.items) c.run_opened-queue.result.0.slots c.args.sizes (g.O.Sink.told c.args.out.now) (g.O.Sink.told c.run_opened-queue.new.out) (g.O.Sink.faults c.args.out.now) (g.O.Sink.faults c.run_opened-queue.new.out) (g.L.Library.faults c.args.library.now) (g.L.Library.faults c.run_opened-queue.new.library) c.run_opened-queue.result.1
-says g c = says-first (g.L.Library.told c.args.library.now) (g.L.Library.replied c.run_opened-queue.new.library) c.args.script.now (map g.S.Slot.shown c.args.slots.items) c.args.sizes (g.O.Sink.told c.args.out.now) (g.O.Sink.told c.run_opened-queue.new.out) (g.O.Sink.faults c.args.out.now) (g.O.Sink.faults c.run_opened-queue.new.out) (g.L.Library.faults c.args.library.now) (g.L.Library.faults c.run_opened-queue.new.library) c.in-Ok.queue.slots c.in-Ok.queue.sizes c.run_opened-queue.result.0.slots c.run_opened-queue.result.1 c.in-Ok.ensures.slots c.in-Ok.ensures.sizes c.run_opened-queue.ensures.ends.says
+    → EndSays c.args.form (g.L.Library.told c.args.library.now) (g.L.Library.replied c.run_opened-queue.new.library) c.args.script.now (map g.S.Slot.shown c.args.slots.items) c.run_opened-queue.result.0.slots c.args.sizes (g.O.Sink.told c.args.out.now) (g.O.Sink.told c.run_opened-queue.new.out) (g.O.Sink.faults c.args.out.now) (g.O.Sink.faults c.run_opened-queue.new.out) (g.L.Library.faults c.args.library.now) (g.L.Library.faults c.run_opened-queue.new.library) c.run_opened-queue.result.1
+says g c = says-first c.args.form (g.L.Library.told c.args.library.now) (g.L.Library.replied c.run_opened-queue.new.library) c.args.script.now (map g.S.Slot.shown c.args.slots.items) c.args.sizes (g.O.Sink.told c.args.out.now) (g.O.Sink.told c.run_opened-queue.new.out) (g.O.Sink.faults c.args.out.now) (g.O.Sink.faults c.run_opened-queue.new.out) (g.L.Library.faults c.args.library.now) (g.L.Library.faults c.run_opened-queue.new.library) c.in-Ok-open.queue.slots c.in-Ok-open.queue.sizes c.run_opened-queue.result.0.slots c.run_opened-queue.result.1 c.in-Ok-open.ensures.slots c.in-Ok-open.ensures.sizes c.run_opened-queue.ensures.ends.says
 
 pub returns-clause-answer : goal.returns-clause-answer
-returns-clause-answer g c = says-began (g.L.Library.told c.args.library.now) (g.L.Library.replied c.run_opened-queue.new.library) c.args.script.now (map g.S.Slot.shown c.args.slots.items) c.args.sizes (g.O.Sink.told c.args.out.now) (g.O.Sink.told c.run_opened-queue.new.out) (g.O.Sink.faults c.args.out.now) (g.O.Sink.faults c.run_opened-queue.new.out) (g.L.Library.faults c.args.library.now) (g.L.Library.faults c.run_opened-queue.new.library) c.run_opened-queue.result.0.slots c.run_opened-queue.result.1 (says g c) c.in-Ok.ensures.budget
+returns-clause-answer g c = says-began c.args.form (g.L.Library.told c.args.library.now) (g.L.Library.replied c.run_opened-queue.new.library) c.args.script.now (map g.S.Slot.shown c.args.slots.items) c.args.sizes (g.O.Sink.told c.args.out.now) (g.O.Sink.told c.run_opened-queue.new.out) (g.O.Sink.faults c.args.out.now) (g.O.Sink.faults c.run_opened-queue.new.out) (g.L.Library.faults c.args.library.now) (g.L.Library.faults c.run_opened-queue.new.library) c.run_opened-queue.result.0.slots c.run_opened-queue.result.1 (says g c) c.in-Ok-open.ensures.budget
 
 pub returns-clause-done : goal.returns-clause-done
-returns-clause-done g c = end-done (g.L.Library.told c.args.library.now) (g.L.Library.replied c.run_opened-queue.new.library) c.args.script.now (map g.S.Slot.shown c.args.slots.items) c.args.sizes (g.O.Sink.told c.args.out.now) (g.O.Sink.told c.run_opened-queue.new.out) (g.O.Sink.faults c.args.out.now) (g.O.Sink.faults c.run_opened-queue.new.out) (g.L.Library.faults c.args.library.now) (g.L.Library.faults c.run_opened-queue.new.library) c.run_opened-queue.result.0.slots (map g.S.Slot.shown c.close.result.items) c.run_opened-queue.result.1 c.close.ensures (says g c)
+returns-clause-done g c = end-done c.args.form (g.L.Library.told c.args.library.now) (g.L.Library.replied c.run_opened-queue.new.library) c.args.script.now (map g.S.Slot.shown c.args.slots.items) c.args.sizes (g.O.Sink.told c.args.out.now) (g.O.Sink.told c.run_opened-queue.new.out) (g.O.Sink.faults c.args.out.now) (g.O.Sink.faults c.run_opened-queue.new.out) (g.L.Library.faults c.args.library.now) (g.L.Library.faults c.run_opened-queue.new.library) c.run_opened-queue.result.0.slots (map g.S.Slot.shown c.close.result.items) c.run_opened-queue.result.1 c.close.ensures (says g c)
 
 pub returns-clause-within : goal.returns-clause-within
-returns-clause-within g c = end-within (g.L.Library.told c.args.library.now) (g.L.Library.replied c.run_opened-queue.new.library) c.args.script.now (map g.S.Slot.shown c.args.slots.items) c.args.sizes (g.O.Sink.told c.args.out.now) (g.O.Sink.told c.run_opened-queue.new.out) (g.O.Sink.faults c.args.out.now) (g.O.Sink.faults c.run_opened-queue.new.out) (g.L.Library.faults c.args.library.now) (g.L.Library.faults c.run_opened-queue.new.library) c.run_opened-queue.result.0.slots (map g.S.Slot.shown c.close.result.items) c.run_opened-queue.result.1 c.close.ensures (says g c)
+returns-clause-within g c = end-within c.args.form (g.L.Library.told c.args.library.now) (g.L.Library.replied c.run_opened-queue.new.library) c.args.script.now (map g.S.Slot.shown c.args.slots.items) c.args.sizes (g.O.Sink.told c.args.out.now) (g.O.Sink.told c.run_opened-queue.new.out) (g.O.Sink.faults c.args.out.now) (g.O.Sink.faults c.run_opened-queue.new.out) (g.L.Library.faults c.args.library.now) (g.L.Library.faults c.run_opened-queue.new.library) c.run_opened-queue.result.0.slots (map g.S.Slot.shown c.close.result.items) c.run_opened-queue.result.1 c.close.ensures (says g c)
+
+pub returns-clause-memory : goal.returns-clause-memory
+returns-clause-memory g c = λ is. inr (end-memory c.args.form (g.L.Library.told c.args.library.now) (g.L.Library.replied c.run_opened-queue.new.library) c.args.script.now (map g.S.Slot.shown c.args.slots.items) c.args.sizes (g.O.Sink.told c.args.out.now) (g.O.Sink.told c.run_opened-queue.new.out) (g.O.Sink.faults c.args.out.now) (g.O.Sink.faults c.run_opened-queue.new.out) (g.L.Library.faults c.args.library.now) (g.L.Library.faults c.run_opened-queue.new.library) c.run_opened-queue.result.0.slots (map g.S.Slot.shown c.close.result.items) c.run_opened-queue.result.1 c.close.ensures (says g c) is)
 
 pub returns-clause-failed : goal.returns-clause-failed
-returns-clause-failed g c = end-failed (g.L.Library.told c.args.library.now) (g.L.Library.replied c.run_opened-queue.new.library) c.args.script.now (map g.S.Slot.shown c.args.slots.items) c.args.sizes (g.O.Sink.told c.args.out.now) (g.O.Sink.told c.run_opened-queue.new.out) (g.O.Sink.faults c.args.out.now) (g.O.Sink.faults c.run_opened-queue.new.out) (g.L.Library.faults c.args.library.now) (g.L.Library.faults c.run_opened-queue.new.library) c.run_opened-queue.result.0.slots (map g.S.Slot.shown c.close.result.items) c.run_opened-queue.result.1 c.close.ensures (says g c)
+returns-clause-failed g c = end-failed c.args.form (g.L.Library.told c.args.library.now) (g.L.Library.replied c.run_opened-queue.new.library) c.args.script.now (map g.S.Slot.shown c.args.slots.items) c.args.sizes (g.O.Sink.told c.args.out.now) (g.O.Sink.told c.run_opened-queue.new.out) (g.O.Sink.faults c.args.out.now) (g.O.Sink.faults c.run_opened-queue.new.out) (g.L.Library.faults c.args.library.now) (g.L.Library.faults c.run_opened-queue.new.library) c.run_opened-queue.result.0.slots (map g.S.Slot.shown c.close.result.items) c.run_opened-queue.result.1 c.close.ensures (says g c)
 
 pub returns-clause-above : goal.returns-clause-above
-returns-clause-above g c = end-above (g.L.Library.told c.args.library.now) (g.L.Library.replied c.run_opened-queue.new.library) c.args.script.now (map g.S.Slot.shown c.args.slots.items) c.args.sizes (g.O.Sink.told c.args.out.now) (g.O.Sink.told c.run_opened-queue.new.out) (g.O.Sink.faults c.args.out.now) (g.O.Sink.faults c.run_opened-queue.new.out) (g.L.Library.faults c.args.library.now) (g.L.Library.faults c.run_opened-queue.new.library) c.run_opened-queue.result.0.slots (map g.S.Slot.shown c.close.result.items) c.run_opened-queue.result.1 c.close.ensures (says g c)
+returns-clause-above g c = end-above c.args.form (g.L.Library.told c.args.library.now) (g.L.Library.replied c.run_opened-queue.new.library) c.args.script.now (map g.S.Slot.shown c.args.slots.items) c.args.sizes (g.O.Sink.told c.args.out.now) (g.O.Sink.told c.run_opened-queue.new.out) (g.O.Sink.faults c.args.out.now) (g.O.Sink.faults c.run_opened-queue.new.out) (g.L.Library.faults c.args.library.now) (g.L.Library.faults c.run_opened-queue.new.library) c.run_opened-queue.result.0.slots (map g.S.Slot.shown c.close.result.items) c.run_opened-queue.result.1 c.close.ensures (says g c)
 
 pub returns-clause-used : goal.returns-clause-used
-returns-clause-used g c = end-used (g.L.Library.told c.args.library.now) (g.L.Library.replied c.run_opened-queue.new.library) c.args.script.now (map g.S.Slot.shown c.args.slots.items) c.args.sizes (g.O.Sink.told c.args.out.now) (g.O.Sink.told c.run_opened-queue.new.out) (g.O.Sink.faults c.args.out.now) (g.O.Sink.faults c.run_opened-queue.new.out) (g.L.Library.faults c.args.library.now) (g.L.Library.faults c.run_opened-queue.new.library) c.run_opened-queue.result.0.slots (map g.S.Slot.shown c.close.result.items) c.run_opened-queue.result.1 c.close.ensures (says g c)
+returns-clause-used g c = end-used c.args.form (g.L.Library.told c.args.library.now) (g.L.Library.replied c.run_opened-queue.new.library) c.args.script.now (map g.S.Slot.shown c.args.slots.items) c.args.sizes (g.O.Sink.told c.args.out.now) (g.O.Sink.told c.run_opened-queue.new.out) (g.O.Sink.faults c.args.out.now) (g.O.Sink.faults c.run_opened-queue.new.out) (g.L.Library.faults c.args.library.now) (g.L.Library.faults c.run_opened-queue.new.library) c.run_opened-queue.result.0.slots (map g.S.Slot.shown c.close.result.items) c.run_opened-queue.result.1 c.close.ensures (says g c)
 
 pub returns-clause-used_any : goal.returns-clause-used_any
-returns-clause-used_any g c = end-used_any (g.L.Library.told c.args.library.now) (g.L.Library.replied c.run_opened-queue.new.library) c.args.script.now (map g.S.Slot.shown c.args.slots.items) c.args.sizes (g.O.Sink.told c.args.out.now) (g.O.Sink.told c.run_opened-queue.new.out) (g.O.Sink.faults c.args.out.now) (g.O.Sink.faults c.run_opened-queue.new.out) (g.L.Library.faults c.args.library.now) (g.L.Library.faults c.run_opened-queue.new.library) c.run_opened-queue.result.0.slots (map g.S.Slot.shown c.close.result.items) c.run_opened-queue.result.1 c.close.ensures (says g c)
+returns-clause-used_any g c = end-used_any c.args.form (g.L.Library.told c.args.library.now) (g.L.Library.replied c.run_opened-queue.new.library) c.args.script.now (map g.S.Slot.shown c.args.slots.items) c.args.sizes (g.O.Sink.told c.args.out.now) (g.O.Sink.told c.run_opened-queue.new.out) (g.O.Sink.faults c.args.out.now) (g.O.Sink.faults c.run_opened-queue.new.out) (g.L.Library.faults c.args.library.now) (g.L.Library.faults c.run_opened-queue.new.library) c.run_opened-queue.result.0.slots (map g.S.Slot.shown c.close.result.items) c.run_opened-queue.result.1 c.close.ensures (says g c)
 
 pub returns-clause-unfailed : goal.returns-clause-unfailed
-returns-clause-unfailed g c = end-unfailed (g.L.Library.told c.args.library.now) (g.L.Library.replied c.run_opened-queue.new.library) c.args.script.now (map g.S.Slot.shown c.args.slots.items) c.args.sizes (g.O.Sink.told c.args.out.now) (g.O.Sink.told c.run_opened-queue.new.out) (g.O.Sink.faults c.args.out.now) (g.O.Sink.faults c.run_opened-queue.new.out) (g.L.Library.faults c.args.library.now) (g.L.Library.faults c.run_opened-queue.new.library) c.run_opened-queue.result.0.slots (map g.S.Slot.shown c.close.result.items) c.run_opened-queue.result.1 c.close.ensures (says g c) (c.args.sizes.block * 16) c.requires.slots.fresh
+returns-clause-unfailed g c = end-unfailed c.args.form (g.L.Library.told c.args.library.now) (g.L.Library.replied c.run_opened-queue.new.library) c.args.script.now (map g.S.Slot.shown c.args.slots.items) c.args.sizes (g.O.Sink.told c.args.out.now) (g.O.Sink.told c.run_opened-queue.new.out) (g.O.Sink.faults c.args.out.now) (g.O.Sink.faults c.run_opened-queue.new.out) (g.L.Library.faults c.args.library.now) (g.L.Library.faults c.run_opened-queue.new.library) c.run_opened-queue.result.0.slots (map g.S.Slot.shown c.close.result.items) c.run_opened-queue.result.1 c.close.ensures (says g c) (c.args.sizes.block * 16) c.requires.slots.fresh
 
 pub returns-clause-complete : goal.returns-clause-complete
-returns-clause-complete g c = λ fixed. end-complete (g.L.Library.told c.args.library.now) (g.L.Library.replied c.run_opened-queue.new.library) c.args.script.now (map g.S.Slot.shown c.args.slots.items) c.args.sizes (g.O.Sink.told c.args.out.now) (g.O.Sink.told c.run_opened-queue.new.out) (g.O.Sink.faults c.args.out.now) (g.O.Sink.faults c.run_opened-queue.new.out) (g.L.Library.faults c.args.library.now) (g.L.Library.faults c.run_opened-queue.new.library) c.run_opened-queue.result.0.slots (map g.S.Slot.shown c.close.result.items) c.run_opened-queue.result.1 c.close.ensures (says g c)
+returns-clause-complete g c = λ fixed. end-complete c.args.form (g.L.Library.told c.args.library.now) (g.L.Library.replied c.run_opened-queue.new.library) c.args.script.now (map g.S.Slot.shown c.args.slots.items) c.args.sizes (g.O.Sink.told c.args.out.now) (g.O.Sink.told c.run_opened-queue.new.out) (g.O.Sink.faults c.args.out.now) (g.O.Sink.faults c.run_opened-queue.new.out) (g.L.Library.faults c.args.library.now) (g.L.Library.faults c.run_opened-queue.new.library) c.run_opened-queue.result.0.slots (map g.S.Slot.shown c.close.result.items) c.run_opened-queue.result.1 c.close.ensures (says g c)
 
 pub returns-clause-complete_any : goal.returns-clause-complete_any
-returns-clause-complete_any g c = λ fixed. end-complete_any (g.L.Library.told c.args.library.now) (g.L.Library.replied c.run_opened-queue.new.library) c.args.script.now (map g.S.Slot.shown c.args.slots.items) c.args.sizes (g.O.Sink.told c.args.out.now) (g.O.Sink.told c.run_opened-queue.new.out) (g.O.Sink.faults c.args.out.now) (g.O.Sink.faults c.run_opened-queue.new.out) (g.L.Library.faults c.args.library.now) (g.L.Library.faults c.run_opened-queue.new.library) c.run_opened-queue.result.0.slots (map g.S.Slot.shown c.close.result.items) c.run_opened-queue.result.1 c.close.ensures (says g c)
+returns-clause-complete_any g c = λ fixed. end-complete_any c.args.form (g.L.Library.told c.args.library.now) (g.L.Library.replied c.run_opened-queue.new.library) c.args.script.now (map g.S.Slot.shown c.args.slots.items) c.args.sizes (g.O.Sink.told c.args.out.now) (g.O.Sink.told c.run_opened-queue.new.out) (g.O.Sink.faults c.args.out.now) (g.O.Sink.faults c.run_opened-queue.new.out) (g.L.Library.faults c.args.library.now) (g.L.Library.faults c.run_opened-queue.new.library) c.run_opened-queue.result.0.slots (map g.S.Slot.shown c.close.result.items) c.run_opened-queue.result.1 c.close.ensures (says g c)
 
 pub returns-clause-part : goal.returns-clause-part
 returns-clause-part g c =
     let P : List Shown → Type 0 =
-    λ f. AllTell f → (files : List ℕ → Option (List ℕ)) → AreFilesOf (g.L.Library.told c.args.library.now) c.args.script.now files → TakesPart (g.O.Sink.told c.args.out.now) (g.O.Sink.told c.run_opened-queue.new.out) (output_of (given_of files c.args.script.now) (command_list c.args.script.now)) in
-    subst P c.in-Ok.ensures.slots c.run_opened-queue.ensures.ends.part
+    λ f. AllTell f → (files : List ℕ → Option (List ℕ)) → AreFilesOf (g.L.Library.told c.args.library.now) c.args.script.now files → TakesPart (g.O.Sink.told c.args.out.now) (g.O.Sink.told c.run_opened-queue.new.out) (output_of c.args.form (given_of files c.args.script.now) (command_list c.args.script.now)) in
+    subst P c.in-Ok-open.ensures.slots c.run_opened-queue.ensures.ends.part
 
 pub returns-clause-file : goal.returns-clause-file
 returns-clause-file g c =
-    let P : List Shown → Type 0 = λ f. FaultBeforeFile (g.L.Library.told c.args.library.now) c.args.script.now f (g.O.Sink.told c.args.out.now) (g.O.Sink.told c.run_opened-queue.new.out) c.run_opened-queue.result.1 in
-    subst P c.in-Ok.ensures.slots c.run_opened-queue.ensures.ends.file
+    let P : List Shown → Type 0 = λ f. FaultBeforeFile c.args.form (g.L.Library.told c.args.library.now) c.args.script.now f (g.O.Sink.told c.args.out.now) (g.O.Sink.told c.run_opened-queue.new.out) c.run_opened-queue.result.1 in
+    subst P c.in-Ok-open.ensures.slots c.run_opened-queue.ensures.ends.file
 
 pub returns-clause-blocks : goal.returns-clause-blocks
-returns-clause-blocks g c = same_blocks (map g.S.Slot.shown c.args.slots.items) c.in-Ok.queue.slots c.run_opened-queue.result.0.slots (map g.S.Slot.shown c.close.result.items) c.in-Ok.ensures.slots c.run_opened-queue.ensures.slots c.close.ensures
+returns-clause-blocks g c = same_blocks (map g.S.Slot.shown c.args.slots.items) c.in-Ok-open.queue.slots c.run_opened-queue.result.0.slots (map g.S.Slot.shown c.close.result.items) c.in-Ok-open.ensures.slots c.run_opened-queue.ensures.slots c.close.ensures

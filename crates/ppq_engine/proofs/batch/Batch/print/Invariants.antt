@@ -5,6 +5,6 @@ use Rattle.ppq_engine.proofs.batch.Batch.print.Given as goal
 
 abbrev pub invariant-loop-i : goal.invariant-loop-i
 invariant-loop-i g l = record {
-  text : Gathers (g.O.Sink.told l.fn.out) (g.O.Sink.told l.out) l.fn.gathered (answers_text (take l.i l.self.answers.items)) l.gathered;
+  text : Gathers (g.O.Sink.told l.fn.out) (g.O.Sink.told l.out) l.fn.gathered (answers_text l.form (take l.i l.self.answers.items)) l.gathered;
   stays : g.O.Sink.faults l.out ≡ g.O.Sink.faults l.fn.out;
 }

@@ -34,9 +34,9 @@ returns-in-Bulk g c =
     let new = c.run_bulk.result.0 in
     let r = c.run_bulk.result.1 in
     let b = c.run_bulk.ensures in
-    let Going : Part → Type 0 = λ p. Goes files script (first_in p) (commands_in p) put put c.args.self.queue new.queue c.args.self.desk.gathered new.desk.gathered r in
+    let Going : Part → Type 0 = λ p. Goes c.args.world.now.form files script (first_in p) (commands_in p) put put c.args.self.queue new.queue c.args.self.desk.gathered new.desk.gathered r in
     record {
-      goes = subst Going (sym c.in-Bulk.is) (b.goes files put);
+      goes = subst Going (sym c.in-Bulk.is) (b.goes c.args.world.now.form files put);
       library = library-unasked files replied script (g.L.Library.faults c.args.library.now) r (if-err-map r IsBySession IsByLimit session-by_limit b.by_session);
       sink = adds-sink (g.O.Sink.faults c.args.out.now) r (if-err-map r IsBySession IsByFile session_by_file b.by_session);
     }
@@ -50,7 +50,7 @@ returns-in-Limit g c =
     let new = c.run_limit.result.0 in
     let r = c.run_limit.result.1 in
     let b = c.run_limit.ensures in
-    let Going : Part → Type 0 = λ p. Goes files script (first_in p) (commands_in p) (told c.args.out.now) (told c.run_limit.new.out) c.args.self.queue new.queue c.args.self.desk.gathered new.desk.gathered r in
+    let Going : Part → Type 0 = λ p. Goes c.args.world.now.form files script (first_in p) (commands_in p) (told c.args.out.now) (told c.run_limit.new.out) c.args.self.queue new.queue c.args.self.desk.gathered new.desk.gathered r in
     record {
       goes = subst Going (sym c.in-Limit.is) (b.goes files);
       library = library-unasked files replied script (g.L.Library.faults c.args.library.now) r b.by_limit;
@@ -68,8 +68,8 @@ returns-in-Bulk-command g c =
     let new = c.push_file.result.0 in
     let r = c.push_file.result.1 in
     let b = c.push_file.ensures in
-    let Going : Command → Type 0 = λ k. Goes files script k (k ∷ []) put put c.args.self.queue new.queue c.args.self.desk.gathered new.desk.gathered r in
-    let Whole : Part → Type 0 = λ p. Goes files script (first_in p) (commands_in p) put put c.args.self.queue new.queue c.args.self.desk.gathered new.desk.gathered r in
+    let Going : Command → Type 0 = λ k. Goes c.args.world.now.form files script k (k ∷ []) put put c.args.self.queue new.queue c.args.self.desk.gathered new.desk.gathered r in
+    let Whole : Part → Type 0 = λ p. Goes c.args.world.now.form files script (first_in p) (commands_in p) put put c.args.self.queue new.queue c.args.self.desk.gathered new.desk.gathered r in
     record { goes = subst Whole (sym c.in-One.is) (subst Going (sym c.in-Bulk-command.is) (b.goes put)); library = b.library; sink = adds-sink (g.O.Sink.faults c.args.out.now) r b.by_file }
 
 pub returns-in-Gen : goal.returns-in-Gen
@@ -81,10 +81,10 @@ returns-in-Gen g c =
     let new = c.push_generated.result.0 in
     let r = c.push_generated.result.1 in
     let b = c.push_generated.ensures in
-    let Going : Command → Type 0 = λ k. Goes files script k (k ∷ []) put put c.args.self.queue new.queue c.args.self.desk.gathered new.desk.gathered r in
-    let Whole : Part → Type 0 = λ p. Goes files script (first_in p) (commands_in p) put put c.args.self.queue new.queue c.args.self.desk.gathered new.desk.gathered r in
+    let Going : Command → Type 0 = λ k. Goes c.args.world.now.form files script k (k ∷ []) put put c.args.self.queue new.queue c.args.self.desk.gathered new.desk.gathered r in
+    let Whole : Part → Type 0 = λ p. Goes c.args.world.now.form files script (first_in p) (commands_in p) put put c.args.self.queue new.queue c.args.self.desk.gathered new.desk.gathered r in
     record {
-      goes = subst Whole (sym c.in-One.is) (subst Going (sym c.in-Gen.is) (b.goes files put));
+      goes = subst Whole (sym c.in-One.is) (subst Going (sym c.in-Gen.is) (b.goes c.args.world.now.form files put));
       library = library-unasked files replied script (g.L.Library.faults c.args.library.now) r (if-err-map r IsBySession IsByLimit session-by_limit b.by_session);
       sink = adds-sink (g.O.Sink.faults c.args.out.now) r (if-err-map r IsBySession IsByFile session_by_file b.by_session);
     }
@@ -123,9 +123,9 @@ returns-in_default g c =
       of_file = not_of_file k stop why.1;
     }) (if-err-both r (StopsFor new.peak new.sizes new.limited new.slots) NotByFile a.lent.refused a.lent.no_file) in
     let is = subst (HasItsLines old.sizes.workers) c.in-One.is c.requires.turn.lines in
-    let Whole : Part → Type 0 = λ p. Goes files script (first_in p) (commands_in p) (told c.args.out.now) (told c.lend-done.new.out) old new had has r in
+    let Whole : Part → Type 0 = λ p. Goes c.args.world.now.form files script (first_in p) (commands_in p) (told c.args.out.now) (told c.lend-done.new.out) old new had has r in
     record {
-      goes = subst Whole (sym c.in-One.is) (turn-goes files script old.sizes.workers k is old new (told c.args.out.now) (told c.lend-done.new.out) had has r a.prints a.lent.kept ran stops);
+      goes = subst Whole (sym c.in-One.is) (turn-goes c.args.world.now.form files script old.sizes.workers k is old new (told c.args.out.now) (told c.lend-done.new.out) had has r a.prints a.lent.kept ran stops);
       library = library-unasked files replied script (g.L.Library.faults c.args.library.now) r (if-err-map r NotByFile IsByLimit not-by_limit a.lent.no_file);
       sink = a.counts;
     }

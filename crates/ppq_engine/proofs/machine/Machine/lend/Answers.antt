@@ -24,7 +24,7 @@ returns-in-BulkPop g c =
     let new = p.new.self in
     let count = c.in-BulkPop.count in
     let k = BulkPop count in
-    let Done : Command → Type 0 = λ k. Lends (told c.args.out.now) (told p.new.out) (faults c.args.out.now) (faults p.new.out) old new k p.result in
+    let Done : Command → Type 0 = λ k. Lends c.args.world.now.form (told c.args.out.now) (told p.new.out) (faults c.args.out.now) (faults p.new.out) old new k p.result in
     let Popped : Type 0 = Leaves old.queue new.queue (without_front pair_cmp old.queue.bag count) (old.queue.size - count) (old.queue.size - count) in
     let Left : Type 0 = (given : ℕ → List Pair) → Leaves old.queue new.queue (after given (outside old.queue.bag) k).bag (size_after all_go old.queue.size k) (size_after none_go old.queue.size k) in
     subst Done (sym c.in-BulkPop.is) (record { prints = p.ensures.prints; counts = p.ensures.sink; left = on-ok-map p.result Popped Left (λ left given. left) p.ensures.left; lent = lent-more p.ensures.lent (omega arith) })
@@ -34,7 +34,7 @@ returns-in-BulkPopLimit g c =
     let told = g.O.Sink.told in
     let faults = g.O.Sink.faults in
     let p = c.print_limited in
-    let Done : Command → Type 0 = λ k. Lends (told c.args.out.now) (told p.new.out) (faults c.args.out.now) (faults p.new.out) c.args.self.now p.new.self k p.result in
+    let Done : Command → Type 0 = λ k. Lends c.args.world.now.form (told c.args.out.now) (told p.new.out) (faults c.args.out.now) (faults p.new.out) c.args.self.now p.new.self k p.result in
     subst Done (sym c.in-BulkPopLimit.is) p.ensures
 
 pub returns-in_err-answer-in_default : goal.returns-in_err-answer-in_default
@@ -43,7 +43,7 @@ returns-in_err-answer-in_default g c =
     let faults = g.O.Sink.faults c.args.out.now in
     let old = c.args.self.now in
     let new = c.act.new.self in
-    let text = text_of (outside old.queue.bag) c.args.command in
+    let text = text_of c.args.world.now.form (outside old.queue.bag) c.args.command in
     let r = c.from_residual.result in
     let stop = Queue c.in_err-answer-in_default.field-0.0 in
     let is = c.from_residual.ensures.1 in
@@ -61,7 +61,7 @@ returns-in_err-print-in_default g c =
     let faults = g.O.Sink.faults in
     let old = c.args.self.now in
     let new = c.act.new.self in
-    let text = text_of (outside old.queue.bag) c.args.command in
+    let text = text_of c.args.world.now.form (outside old.queue.bag) c.args.command in
     let r = c.from_residual-in_err-print-in_default.result in
     let is = c.from_residual-in_err-print-in_default.ensures.1 in
     let a = c.act.ensures.called in

@@ -3,7 +3,7 @@ use Rattle.ppq_script.specs.ppq_record.Pair.{pair_cmp}
 use Rattle.ppq_script.specs.ppq_record.Bag.{front}
 use Rattle.ppq_script.specs.declared.command.Command.TheVariants.{BulkPopLimit}
 use Rattle.ppq_engine.specs.Loads.{none_go, size_after}
-use Rattle.ppq_engine.specs.Output.{lines_text, mark_text, limited_count}
+use Rattle.ppq_engine.specs.Output.{records_text, mark_text, limited_count}
 use Rattle.ppq_engine.specs.declared.stop.Stop.TheVariants.{Sink, Queue}
 use Rattle.ppq_engine.proofs.Popped.{mark-is, gathers-as, gathers-kept, gathers-more, takes-part, writes-more, prints-stop}
 use Rattle.ppq_engine.proofs.Kept.{Keeps-refl, Keeps-trans, lent-stop, sink-stop}
@@ -15,8 +15,8 @@ returns-in_err-print_popped g c =
     let told = g.O.Sink.told in
     let old = c.args.self.now in
     let new = c.print_popped.new.self in
-    let lines = lines_text (front pair_cmp old.queue.bag (limited_count old.queue.bag c.args.limit c.args.count)) in
-    let mark = mark_text old.queue.bag c.args.limit c.args.count in
+    let lines = records_text c.args.world.now.form (front pair_cmp old.queue.bag (limited_count old.queue.bag c.args.limit c.args.count)) in
+    let mark = mark_text c.args.world.now.form old.queue.bag c.args.limit c.args.count in
     let most = max old.queue.peak (size_after none_go old.queue.size (BulkPopLimit c.args.limit c.args.count)) in
     let r = c.from_residual.result in
     let stop = c.in_err-print_popped.field-0.0 in
@@ -37,8 +37,8 @@ returns-in_err-mark g c =
     let old = c.args.self.now in
     let mid = c.print_popped.new.self in
     let new = c.mark_of.new.self in
-    let lines = lines_text (front pair_cmp old.queue.bag (limited_count old.queue.bag c.args.limit c.args.count)) in
-    let mark = mark_text old.queue.bag c.args.limit c.args.count in
+    let lines = records_text c.args.world.now.form (front pair_cmp old.queue.bag (limited_count old.queue.bag c.args.limit c.args.count)) in
+    let mark = mark_text c.args.world.now.form old.queue.bag c.args.limit c.args.count in
     let most = max old.queue.peak (size_after none_go old.queue.size (BulkPopLimit c.args.limit c.args.count)) in
     let r = c.from_residual-in_err-mark.result in
     let stop = Queue c.in_err-mark.field-0.0 in
@@ -60,8 +60,8 @@ returns-in_err-print g c =
     let old = c.args.self.now in
     let mid = c.print_popped.new.self in
     let new = c.mark_of.new.self in
-    let lines = lines_text (front pair_cmp old.queue.bag (limited_count old.queue.bag c.args.limit c.args.count)) in
-    let mark = mark_text old.queue.bag c.args.limit c.args.count in
+    let lines = records_text c.args.world.now.form (front pair_cmp old.queue.bag (limited_count old.queue.bag c.args.limit c.args.count)) in
+    let mark = mark_text c.args.world.now.form old.queue.bag c.args.limit c.args.count in
     let most = max old.queue.peak (size_after none_go old.queue.size (BulkPopLimit c.args.limit c.args.count)) in
     let r = c.from_residual-in_err-print.result in
     let is = c.from_residual-in_err-print.ensures.1 in
@@ -83,8 +83,8 @@ returns g c =
     let old = c.args.self.now in
     let mid = c.print_popped.new.self in
     let new = c.mark_of.new.self in
-    let lines = lines_text (front pair_cmp old.queue.bag (limited_count old.queue.bag c.args.limit c.args.count)) in
-    let mark = mark_text old.queue.bag c.args.limit c.args.count in
+    let lines = records_text c.args.world.now.form (front pair_cmp old.queue.bag (limited_count old.queue.bag c.args.limit c.args.count)) in
+    let mark = mark_text c.args.world.now.form old.queue.bag c.args.limit c.args.count in
     let p = c.in_ok-print_popped.ensures in
     let called = c.mark_of.ensures.called in
     let m = c.in_ok-mark.ensures in
@@ -92,7 +92,7 @@ returns g c =
       prints = record {
         text =
             λ tells.
-            let is = m.text (p.lent.kept.tells tells) ∙ mark-is mid.queue.bag old.queue.bag c.args.limit c.args.count (p.left.bag tells) in
+            let is = m.text (p.lent.kept.tells tells) ∙ mark-is c.args.world.now.form mid.queue.bag old.queue.bag c.args.limit c.args.count (p.left.bag tells) in
             gathers-more (told c.args.out.now) (told c.print_popped.new.out) (told c.print.new.out) old.desk.gathered mid.desk.gathered c.print.new.self lines mark (p.prints.text tells) (gathers-as called.gathered is c.in_ok-print.ensures.ok);
         part = tt;
       };

@@ -3,7 +3,7 @@ use Rattle.ppq_script.specs.ppq_record.declared.pair.Pair.{Pair}
 use Rattle.ppq_script.specs.ppq_record.Pair.{pair_cmp}
 use Rattle.ppq_script.specs.ppq_record.Bag.{IsSameBag, ascending}
 use Rattle.ppq_script.specs.ppq_outside.Told.{TakesPart}
-use Rattle.ppq_engine.specs.Output.{lines_text}
+use Rattle.ppq_engine.specs.Output.{records_text}
 use Rattle.ppq_engine.specs.Gathers.{Gathers}
 use Rattle.ppq_engine.specs.Popping.{popped_count}
 use Rattle.ppq_engine.specs.declared.stop.Stop.TheVariants.{Sink, Queue}
@@ -30,8 +30,8 @@ returns-in_err-pop_round-clause-prints g c =
     let told = g.O.Sink.told in
     let asc = ascending pair_cmp c.args.self.now.queue.bag in
     let count = popped_count c.args.below c.args.self.now.queue.bag c.args.count in
-    prints-stop c.args.self.now.queue.slots (told c.args.out.now) (told c.rounds.out) c.args.self.now.desk.gathered (lines_text (take count asc)) c.pop_round.new.self.desk.gathered c.from_residual.result (Queue c.in_err-pop_round.field-0.0) c.from_residual.ensures.1
-    (λ tells. popped-part (told c.args.out.now) (told c.rounds.out) c.args.self.now.desk.gathered c.pop_round.new.self.desk.gathered asc c.rounds.done count (c.rounds.invariant.passed tells) (gathers-kept c.pop_round.ensures.called.gathered (c.rounds.invariant.text tells)))
+    prints-stop c.args.self.now.queue.slots (told c.args.out.now) (told c.rounds.out) c.args.self.now.desk.gathered (records_text c.args.world.now.form (take count asc)) c.pop_round.new.self.desk.gathered c.from_residual.result (Queue c.in_err-pop_round.field-0.0) c.from_residual.ensures.1
+    (λ tells. popped-part c.args.world.now.form (told c.args.out.now) (told c.rounds.out) c.args.self.now.desk.gathered c.pop_round.new.self.desk.gathered asc c.rounds.done count (c.rounds.invariant.passed tells) (gathers-kept c.pop_round.ensures.called.gathered (c.rounds.invariant.text tells)))
 
 pub returns-in_err-pop_round-clause-lent : goal.returns-in_err-pop_round-clause-lent
 returns-in_err-pop_round-clause-lent g c =
@@ -45,7 +45,7 @@ returns-then-is_empty-clause-prints g c =
       text =
           λ tells.
           let all = round-ends c.args.below c.rounds.self.queue.bag c.pop_round.new.self.queue.bag c.args.self.now.queue.bag c.pop_round.new.self.desk.list.items c.rounds.done c.args.count (c.args.count - c.rounds.done) (c.if-is_empty.ensures.0 refl) (c.rounds.invariant.left tells) (c.in_ok-pop_round.ensures.popped.round (c.rounds.invariant.kept.tells tells)) (c.rounds.invariant.passed tells) in
-          let P : List Pair → Type 0 = λ items. Gathers (told c.args.out.now) (told c.rounds.out) c.args.self.now.desk.gathered (lines_text items) c.pop_round.new.self.desk.gathered in
+          let P : List Pair → Type 0 = λ items. Gathers (told c.args.out.now) (told c.rounds.out) c.args.self.now.desk.gathered (records_text c.args.world.now.form items) c.pop_round.new.self.desk.gathered in
           subst P (sym all.0) (gathers-kept c.pop_round.ensures.called.gathered (c.rounds.invariant.text tells));
       part = tt;
     }
@@ -80,12 +80,12 @@ returns-in_err-print_all-clause-prints g c =
     let asc = ascending pair_cmp old in
     let items = c.pop_round.new.self.desk.list.items in
     let count = popped_count c.args.below old c.args.count in
-    let Q : List Pair → Type 0 = λ xs. TakesPart (told c.rounds.out) (told c.print_all.new.out) (c.pop_round.new.self.desk.gathered ++ lines_text xs) in
-    prints-stop c.args.self.now.queue.slots (told c.args.out.now) (told c.print_all.new.out) c.args.self.now.desk.gathered (lines_text (take count asc)) c.print_all.new.gathered c.from_residual-in_err-print_all.result Sink c.from_residual-in_err-print_all.ensures.1
+    let Q : List Pair → Type 0 = λ xs. TakesPart (told c.rounds.out) (told c.print_all.new.out) (c.pop_round.new.self.desk.gathered ++ records_text c.args.world.now.form xs) in
+    prints-stop c.args.self.now.queue.slots (told c.args.out.now) (told c.print_all.new.out) c.args.self.now.desk.gathered (records_text c.args.world.now.form (take count asc)) c.print_all.new.gathered c.from_residual-in_err-print_all.result Sink c.from_residual-in_err-print_all.ensures.1
     (λ tells.
     let round = c.in_ok-pop_round.ensures.popped.round (c.rounds.invariant.kept.tells tells) in
     let same = c.rounds.invariant.left tells in
-    round-put (told c.args.out.now) (told c.rounds.out) (told c.print_all.new.out) c.args.self.now.desk.gathered c.pop_round.new.self.desk.gathered asc items c.rounds.done count
+    round-put c.args.world.now.form (told c.args.out.now) (told c.rounds.out) (told c.print_all.new.out) c.args.self.now.desk.gathered c.pop_round.new.self.desk.gathered asc items c.rounds.done count
     (round-passed c.rounds.self.queue.bag c.pop_round.new.self.queue.bag old items c.rounds.done c.args.count c.args.below same round c.rounds.invariant.within (c.rounds.invariant.passed tells))
     (round-taken c.rounds.self.queue.bag c.pop_round.new.self.queue.bag old items c.rounds.done (c.args.count - c.rounds.done) c.args.below same round)
     (gathers-kept c.pop_round.ensures.called.gathered (c.rounds.invariant.text tells)) (subst Q c.as_slice.ensures c.in_err-print_all.ensures.part))
@@ -118,12 +118,12 @@ rounds-preserved g c =
           omega (arith, sum, round-passed bag next old items done c.args.count c.args.below (v.left tells) (popped.round (v.kept.tells tells)) v.within (v.passed tells));
       text =
           λ tells.
-          let P : ℕ → Type 0 = λ n. Gathers (told c.args.out.now) (told c.print_all.new.out) c.args.self.now.desk.gathered (lines_text (take n asc)) c.print_all.new.gathered in
-          let Q : List Pair → Type 0 = λ xs. Gathers (told c.rounds.out) (told c.print_all.new.out) c.pop_round.new.self.desk.gathered (lines_text xs) c.print_all.new.gathered in
+          let P : ℕ → Type 0 = λ n. Gathers (told c.args.out.now) (told c.print_all.new.out) c.args.self.now.desk.gathered (records_text c.args.world.now.form (take n asc)) c.print_all.new.gathered in
+          let Q : List Pair → Type 0 = λ xs. Gathers (told c.rounds.out) (told c.print_all.new.out) c.pop_round.new.self.desk.gathered (records_text c.args.world.now.form xs) c.print_all.new.gathered in
           let R : List ℕ → Type 0 = λ t. Gathers (told c.args.out.now) (told c.print_all.new.out) c.args.self.now.desk.gathered t c.print_all.new.gathered in
           subst P sum
-          (subst R (sym (round-lines bag next old items done left c.args.below (v.left tells) (popped.round (v.kept.tells tells))))
-          (gathers-more (told c.args.out.now) (told c.rounds.out) (told c.print_all.new.out) c.args.self.now.desk.gathered c.pop_round.new.self.desk.gathered c.print_all.new.gathered (lines_text (take done asc)) (lines_text items) (gathers-kept c.pop_round.ensures.called.gathered (v.text tells)) (subst Q c.as_slice.ensures c.in_ok-print_all.ensures.text)));
+          (subst R (sym (round-lines c.args.world.now.form bag next old items done left c.args.below (v.left tells) (popped.round (v.kept.tells tells))))
+          (gathers-more (told c.args.out.now) (told c.rounds.out) (told c.print_all.new.out) c.args.self.now.desk.gathered c.pop_round.new.self.desk.gathered c.print_all.new.gathered (records_text c.args.world.now.form (take done asc)) (records_text c.args.world.now.form items) (gathers-kept c.pop_round.ensures.called.gathered (v.text tells)) (subst Q c.as_slice.ensures c.in_ok-print_all.ensures.text)));
       within = omega (arith, sum, popped.few, v.within);
       size = omega (arith, sum, popped.size, v.size);
       sound = popped.sound;
@@ -137,7 +137,7 @@ pub returns-clause-prints : goal.returns-clause-prints
 returns-clause-prints g c =
     let told = g.O.Sink.told in
     let old = c.args.self.now.queue.bag in
-    let P : ℕ → Type 0 = λ n. Gathers (told c.args.out.now) (told c.rounds.out) c.args.self.now.desk.gathered (lines_text (take n (ascending pair_cmp old))) c.rounds.self.desk.gathered in
+    let P : ℕ → Type 0 = λ n. Gathers (told c.args.out.now) (told c.rounds.out) c.args.self.now.desk.gathered (records_text c.args.world.now.form (take n (ascending pair_cmp old))) c.rounds.self.desk.gathered in
     record {
       text = λ tells. let all : c.rounds.done ≡ popped_count c.args.below old c.args.count = omega (arith, c.rounds.invariant.passed tells, popped-le c.args.below old c.args.count, c.rounds-test.false) in subst P all (c.rounds.invariant.text tells);
       part = tt;

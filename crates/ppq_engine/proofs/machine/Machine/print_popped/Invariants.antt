@@ -2,7 +2,7 @@ use Rattle.std.proofs.Common.{◌≡◌, ◌≤◌, ◌-◌, None, take, drop}
 use Rattle.ppq_script.specs.ppq_record.Pair.{pair_cmp}
 use Rattle.ppq_script.specs.ppq_record.Bag.{IsSameBag, ascending}
 use Rattle.ppq_script.specs.ppq_outside.Shown.{AllTell}
-use Rattle.ppq_engine.specs.Output.{lines_text}
+use Rattle.ppq_engine.specs.Output.{records_text}
 use Rattle.ppq_engine.specs.Gathers.{Gathers}
 use Rattle.ppq_engine.specs.Popping.{popped_count}
 use Rattle.ppq_load.specs.ppq_array.Kept.{AreQuiet}
@@ -13,7 +13,7 @@ abbrev pub invariant-rounds : goal.invariant-rounds
 invariant-rounds g l = record {
   left : AllTell l.fn.self.queue.slots → IsSameBag l.self.queue.bag (drop l.done (ascending pair_cmp l.fn.self.queue.bag));
   passed : AllTell l.fn.self.queue.slots → l.done ≤ popped_count l.below l.fn.self.queue.bag l.count;
-  text : AllTell l.fn.self.queue.slots → Gathers (g.O.Sink.told l.fn.out) (g.O.Sink.told l.out) l.fn.self.desk.gathered (lines_text (take l.done (ascending pair_cmp l.fn.self.queue.bag))) l.self.desk.gathered;
+  text : AllTell l.fn.self.queue.slots → Gathers (g.O.Sink.told l.fn.out) (g.O.Sink.told l.out) l.fn.self.desk.gathered (records_text l.world.form (take l.done (ascending pair_cmp l.fn.self.queue.bag))) l.self.desk.gathered;
   within : l.done ≤ l.count;
   size : l.self.queue.size ≡ l.fn.self.queue.size - l.done;
   sound : l.self.queue.failed ≡ None;

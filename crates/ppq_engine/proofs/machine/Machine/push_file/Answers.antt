@@ -53,7 +53,7 @@ returns g c =
     record {
       goes =
           λ put.
-          turn-goes told script queue.sizes.workers k (record { stands = refl; stays = refl }) queue new put put had had r (adds-prints queue.slots put had [] r refl by) q.ensures.kept
+          turn-goes c.args.world.now.form told script queue.sizes.workers k (record { stands = refl; stays = refl }) queue new put put had had r (adds-prints queue.slots put had [] r refl by) q.ensures.kept
           (on-ok-map r (Loaded × Adds') (RunsStep told script queue new k)
           (λ both. adds-runs k (λ leaves. refl) (λ tells. file-bag told script place file said k name queue.bag new.bag here refl c.name-name.ensures (both.0 tells)) both.1) adds)
           (if-err-map r Why (StopsStep queue new k) (λ stop why. record { refused = why; of_file = file_of_file file said stop }) refused);

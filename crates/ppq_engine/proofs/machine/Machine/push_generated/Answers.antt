@@ -31,8 +31,8 @@ returns g c =
     let why = if-err-both r Why IsBySession (loaded-refused 0 0 q.result.1 r same (max queue.peak (queue.size + count)) queue.sizes queue.limited new.slots q.ensures.refused) by in
     record {
       goes =
-          λ files put.
-          turn-goes files script queue.sizes.workers k (record { stands = refl; stays = refl }) queue new put put had had r (adds-prints queue.slots put had [] r refl (if-err-map r IsBySession IsByFile session_by_file by)) q.ensures.kept
+          λ form files put.
+          turn-goes form files script queue.sizes.workers k (record { stands = refl; stays = refl }) queue new put put had had r (adds-prints queue.slots put had [] r refl (if-err-map r IsBySession IsByFile session_by_file by)) q.ensures.kept
           (on-ok-map r (Loaded × Adds queue new count) (RunsStep files script queue new k) (λ both. adds-runs k (λ leaves. refl) (λ tells given are. both.0 tells) both.1) adds)
           (if-err-map r (λ stop. Why stop × IsBySession stop) (StopsStep queue new k)
           (λ stop both. record { refused = both.0; of_file = limit_of_file k stop tt (session-by_limit stop both.1) }) why);

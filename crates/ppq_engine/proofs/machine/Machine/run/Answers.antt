@@ -39,7 +39,7 @@ commands-init g c =
     record {
       run =
           λ tells files are.
-          run-begin (given_of files c.args.world.now.script.now) (g.O.Sink.told c.args.out.now) c.args.self.desk.gathered queue.bag queue.size queue.peak queue.sizes queue.slots (command_list c.args.world.now.script.now) c.requires.gathered c.requires.may.bag c.requires.may.size c.requires.may.peak;
+          run-begin c.args.world.now.form (given_of files c.args.world.now.script.now) (g.O.Sink.told c.args.out.now) c.args.self.desk.gathered queue.bag queue.size queue.peak queue.sizes queue.slots (command_list c.args.world.now.script.now) c.requires.gathered c.requires.may.bag c.requires.may.size c.requires.may.peak;
       has = sizes-begin queue.size queue.peak queue.sizes queue.slots (command_list c.args.world.now.script.now) c.requires.may.size c.requires.may.peak;
       closed = refl {a = Outside};
       within = omega arith;
@@ -82,10 +82,10 @@ returns-in-Err-clause-stopped g c =
     let is = c.part-part.ensures.part in
     let v = c.commands.invariant in
     let begun : queue.limited ≡ begins_limit (take i commands) = v.kept.limited ∙ ap (λ l. l || begins_limit (take i commands)) c.requires.may.unlimited ∙ false-or (begins_limit (take i commands)) in
-    let why = at-err c.advance-back.result.1 stop (StopsPart queue c.advance-back.result.0.queue (sink c.commands.out) (sink c.advance-back.new.out) c.commands.machine.desk.gathered c.advance-back.result.0.desk.gathered (first_in p) (commands_in p)) c.in-Err.is c.advance-back.ensures.goes.stopped in
+    let why = at-err c.advance-back.result.1 stop (StopsPart c.args.world.now.form queue c.advance-back.result.0.queue (sink c.commands.out) (sink c.advance-back.new.out) c.commands.machine.desk.gathered c.advance-back.result.0.desk.gathered (first_in p) (commands_in p)) c.in-Err.is c.advance-back.ensures.goes.stopped in
     let Why : Numbers → Type 0 =
-    λ n. PartStops queue.slots (sink c.commands.out) (sink c.advance-back.new.out) c.commands.machine.desk.gathered queue.bag queue.size queue.peak (commands_in p) n (queue.limited || begins_limit (commands_in p)) later c.advance-back.result.0.desk.gathered stop in
-    stopped-part told script c.args.self.queue.slots (sink c.args.out.now) (sink c.commands.out) (sink c.advance-back.new.out) c.commands.machine.desk.gathered c.advance-back.result.0.desk.gathered queue.bag queue.size queue.peak sizes queue.slots queue.slots later queue.limited i p
+    λ n. PartStops c.args.world.now.form queue.slots (sink c.commands.out) (sink c.advance-back.new.out) c.commands.machine.desk.gathered queue.bag queue.size queue.peak (commands_in p) n (queue.limited || begins_limit (commands_in p)) later c.advance-back.result.0.desk.gathered stop in
+    stopped-part c.args.world.now.form told script c.args.self.queue.slots (sink c.args.out.now) (sink c.commands.out) (sink c.advance-back.new.out) c.commands.machine.desk.gathered c.advance-back.result.0.desk.gathered queue.bag queue.size queue.peak sizes queue.slots queue.slots later queue.limited i p
     is c.requires.block v.kept.tells begun (λ files are. has_length told script files i (first_in p) is.first c.requires.may.lengths are)
     v.run v.has stop (subst Why v.kept.sizes why.wrote) why.of_file
 
@@ -144,7 +144,7 @@ commands-preserved g c =
     let next : i + c.count-place.result ≡ i + length part = ap (λ (n : ℕ). i + n) c.count-place.ensures in
     let split : take (i + c.count-place.result) commands ≡ take i commands ++ part = ap (λ (n : ℕ). take n commands) next ∙ take-part commands i part is.whole in
     let ok : (A : Type 0) → OnOk c.advance-back.result.1 A → A = λ A h. at-ok c.advance-back.result.1 tt A c.in-Ok.is h in
-    let runs = ok (RunsPart (told c.commands.library) script queue new (sink c.commands.out) (sink c.advance-back.new.out) c.commands.machine.desk.gathered c.advance-back.result.0.desk.gathered part) a.goes.runs in
+    let runs = ok (RunsPart c.args.world.now.form (told c.commands.library) script queue new (sink c.commands.out) (sink c.advance-back.new.out) c.commands.machine.desk.gathered c.advance-back.result.0.desk.gathered part) a.goes.runs in
     let kept = Keeps-behind c.args.self.queue queue new (take i commands) part v.kept runs.kept in
     let Fits : Numbers → Type 0 = λ s. FitsWritten new.size s new.slots in
     let fits = subst Fits kept.sizes (c.known.ensures.written runs.sound) in
@@ -157,10 +157,10 @@ commands-preserved g c =
           let now = v.kept.tells tells in
           let given = given_of files script in
           let Files : Option (List ℕ → Option (List ℕ)) → Type 0 = λ t. AreFilesOf t script files in
-          let Run : List Command → Type 0 = λ cs. HasRun given (sink c.args.out.now) (sink c.advance-back.new.out) c.advance-back.result.0.desk.gathered new.bag new.size new.peak sizes new.slots cs in
+          let Run : List Command → Type 0 = λ cs. HasRun c.args.world.now.form given (sink c.args.out.now) (sink c.advance-back.new.out) c.advance-back.result.0.desk.gathered new.bag new.size new.peak sizes new.slots cs in
           let long = has_length (told c.args.library.now) script files i (first_in p) is.first c.requires.may.lengths are in
           subst Run (sym split)
-          (run-part given (sink c.args.out.now) (sink c.commands.out) c.commands.machine.desk.gathered queue.bag queue.size queue.peak sizes queue.slots (take i commands) (v.run tells files are) p script.workers is.lines long
+          (run-part c.args.world.now.form given (sink c.args.out.now) (sink c.commands.out) c.commands.machine.desk.gathered queue.bag queue.size queue.peak sizes queue.slots (take i commands) (v.run tells files are) p script.workers is.lines long
           (sink c.advance-back.new.out) c.advance-back.result.0.desk.gathered new.bag new.size new.peak new.slots
           (runs.text now given) (runs.bag now files (subst Files (sym v.library.told) are)) (c.known.ensures.counted runs.sound (kept.tells tells)) runs.peak fits runs.kept.writes);
       has =
@@ -189,7 +189,7 @@ returns-clause-runs g c =
     let slots = c.commands.machine.queue.slots in
     let v = c.commands.invariant in
     let all = all_run script c.commands.place (omega (arith, c.commands-test.false, c.len.ensures)) in
-    let Out : (ℕ → List Pair) → List Command → Type 0 = λ given cs. IsGathered (g.O.Sink.told c.args.out.now) (g.O.Sink.told c.commands.out) c.commands.machine.desk.gathered (output_of given cs) in
+    let Out : (ℕ → List Pair) → List Command → Type 0 = λ given cs. IsGathered (g.O.Sink.told c.args.out.now) (g.O.Sink.told c.commands.out) c.commands.machine.desk.gathered (output_of c.args.world.now.form given cs) in
     let Crest : (ℕ → List Pair) → List Command → Type 0 = λ given cs. FitsWritten (crest_of given cs) sizes slots in
     let Least : List Command → Type 0 = λ cs. FitsWritten (least_of cs) sizes slots in
     record {

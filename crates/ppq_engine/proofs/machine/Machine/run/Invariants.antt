@@ -15,7 +15,7 @@ abbrev pub invariant-commands : goal.invariant-commands
 invariant-commands g l = record {
   run :
       AllTell l.fn.self.queue.slots → (files : List ℕ → Option (List ℕ)) → AreFilesOf (g.L.Library.told l.fn.library) l.script files
-      → HasRun (given_of files l.script) (g.O.Sink.told l.fn.out) (g.O.Sink.told l.out) l.machine.desk.gathered l.machine.queue.bag l.machine.queue.size l.machine.queue.peak l.fn.self.queue.sizes l.machine.queue.slots (take l.place (command_list l.script));
+      → HasRun l.world.form (given_of files l.script) (g.O.Sink.told l.fn.out) (g.O.Sink.told l.out) l.machine.desk.gathered l.machine.queue.bag l.machine.queue.size l.machine.queue.peak l.fn.self.queue.sizes l.machine.queue.slots (take l.place (command_list l.script));
   has : HasSizes l.machine.queue.size l.machine.queue.peak l.fn.self.queue.sizes l.machine.queue.slots (take l.place (command_list l.script));
   closed : session_from Outside (take l.place (command_list l.script)) ≡ Outside;
   within : l.place ≤ length l.script.commands;

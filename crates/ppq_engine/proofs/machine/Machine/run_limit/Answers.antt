@@ -3,6 +3,7 @@ use Rattle.ppq_script.specs.ppq_record.declared.pair.Pair.{Pair}
 use Rattle.ppq_script.specs.declared.session.Session.TheVariants.{InLimit}
 use Rattle.ppq_script.specs.Parts.{AreLines, limit_part, commands_of}
 use Rattle.ppq_load.specs.ppq_budget.Sizes.{Numbers, batch_of}
+use Rattle.ppq_load.proofs.Parts.{over-unfaulted}
 use Rattle.ppq_engine.specs.Files.{load_stop}
 use Rattle.ppq_engine.specs.Popping.{IsByLimit}
 use Rattle.ppq_engine.specs.Running.{PartStops, SinkAfter}
@@ -21,7 +22,7 @@ returns-in_default g c =
     let told = g.O.Sink.told c.args.out.now in
     let had = c.args.self.desk.gathered in
     record {
-      goes = limit-goes c.args.world.now.script.now c.args.limit (commands_of c.args.lines.now) queue queue told told had had _ tt tt (λ tells. gathers-nothing told had) (SameSlots-refl queue.slots);
+      goes = limit-goes c.args.world.now.form c.args.world.now.script.now c.args.limit (commands_of c.args.lines.now) queue queue told told had had _ tt tt (λ tells. gathers-nothing told had) (SameSlots-refl queue.slots);
       by_limit = tt;
       sink = record { later = omega arith; stays = tt; cause = refl };
     }
@@ -46,15 +47,15 @@ invariant_of-result-in-Ok-begin g c =
     let has = c.run_lines-printed.new.gathered in
     let lines = commands_of c.args.lines.now in
     let end = c.end-queue in
-    let run : SessionRan g.S.Slot.shown queue before now had has c.run_lines-printed.new.session queue.sizes.workers c.args.limit lines c.requires.lines c.in-Ok-begin.session end.result.0 c.run_lines-printed.result end.result.1 = record {
+    let run : SessionRan g.S.Slot.shown c.args.world.now.form queue before now had has c.run_lines-printed.new.session queue.sizes.workers c.args.limit lines c.requires.lines c.in-Ok-begin.session end.result.0 c.run_lines-printed.result end.result.1 = record {
       begun = c.in-Ok-begin.ensures.session;
       lines = c.run_lines-printed.ensures.ran;
       broken = c.run_lines-printed.ensures.broken;
       going = end.ensures.all;
       over = λ given left popped il. end.ensures.over queue c.args.limit given left popped il;
-      unfaulted = end.ensures.unfaulted;
+      unfaulted = over-unfaulted g.S.Slot.shown c.run_lines-printed.new.session end.result.0 end.result.1 end.ensures.left;
     } in
-    record { round = c.args.self.round ∙ ap batch_of (sym (ended-kept g.S.Slot.shown queue before now had has c.run_lines-printed.new.session queue.sizes.workers c.args.limit lines c.requires.lines c.in-Ok-begin.session end.result.0 c.run_lines-printed.result end.result.1 run).sizes); piece = c.args.self.piece }
+    record { round = c.args.self.round ∙ ap batch_of (sym (ended-kept g.S.Slot.shown c.args.world.now.form queue before now had has c.run_lines-printed.new.session queue.sizes.workers c.args.limit lines c.requires.lines c.in-Ok-begin.session end.result.0 c.run_lines-printed.result end.result.1 run).sizes); piece = c.args.self.piece }
 
 pub returns-in-Ok-begin : goal.returns-in-Ok-begin
 returns-in-Ok-begin g c =
@@ -75,18 +76,18 @@ returns-in-Ok-begin g c =
     let over = c.end-queue.result.1 in
     let s = c.ended.result in
     let e = c.ended.ensures in
-    let run : SessionRan shown queue before now had has mid queue.sizes.workers limit lines are old new printed over = record {
+    let run : SessionRan shown c.args.world.now.form queue before now had has mid queue.sizes.workers limit lines are old new printed over = record {
       begun = c.in-Ok-begin.ensures.session;
       lines = c.run_lines-printed.ensures.ran;
       broken = c.run_lines-printed.ensures.broken;
       going = c.end-queue.ensures.all;
       over = λ given left popped il. c.end-queue.ensures.over queue limit given left popped il;
-      unfaulted = c.end-queue.ensures.unfaulted;
+      unfaulted = over-unfaulted shown mid new over c.end-queue.ensures.left;
     } in
     record {
       goes =
-          limit-goes script limit lines queue new before now had has s (ended-runs shown queue before now had has mid queue.sizes.workers limit lines are old new printed over s e run script) (ended-by_limit printed over s e)
-          (ended-stopped shown queue before now had has mid queue.sizes.workers limit lines are old new printed over s e run) (ended-kept shown queue before now had has mid queue.sizes.workers limit lines are old new printed over run).slots;
+          limit-goes c.args.world.now.form script limit lines queue new before now had has s (ended-runs shown c.args.world.now.form queue before now had has mid queue.sizes.workers limit lines are old new printed over s e run script) (ended-by_limit printed over s e)
+          (ended-stopped shown c.args.world.now.form queue before now had has mid queue.sizes.workers limit lines are old new printed over s e run) (ended-kept shown c.args.world.now.form queue before now had has mid queue.sizes.workers limit lines are old new printed over run).slots;
       by_limit = ended-by_limit printed over s e;
       sink = ended-counts printed over s e (g.O.Sink.faults c.args.out.now) (g.O.Sink.faults c.run_lines-printed.new.out) c.run_lines-printed.ensures.cause;
     }
@@ -102,12 +103,12 @@ returns g c =
     let stop = load_stop 0 0 c.in-Err.fault in
     let same = sym c.stop_of.ensures in
     let by = stop-by_session 0 0 c.in-Err.fault c.in-Err.ensures.by_load in
-    let P : Stop → Type 0 = λ s. PartStops queue.slots told told had queue.bag queue.size queue.peak (limit_part c.args.limit body) queue.sizes true new.slots had s in
+    let P : Stop → Type 0 = λ s. PartStops c.args.world.now.form queue.slots told told had queue.bag queue.size queue.peak (limit_part c.args.limit body) queue.sizes true new.slots had s in
     let Q : Stop → Type 0 = λ s. SinkAfter faults faults s in
     let by_limit = subst IsByLimit same (session-by_limit stop by) in
-    let stopped = subst P same (begin-stopped told had queue new.slots c.args.limit body stop (omega (arith, c.known.ensures.range.two_records)) (stop-refused queue.peak queue.sizes true new.slots 0 0 c.in-Err.fault c.in-Err.ensures.refused) by) in
+    let stopped = subst P same (begin-stopped c.args.world.now.form told had queue new.slots c.args.limit body stop (omega (arith, c.known.ensures.range.two_records)) (stop-refused queue.peak queue.sizes true new.slots 0 0 c.in-Err.fault c.in-Err.ensures.refused) by) in
     record {
-      goes = limit-goes c.args.world.now.script.now c.args.limit body queue new told told had had _ tt by_limit stopped c.in-Err.ensures.kept.slots;
+      goes = limit-goes c.args.world.now.form c.args.world.now.script.now c.args.limit body queue new told told had had _ tt by_limit stopped c.in-Err.ensures.kept.slots;
       by_limit = by_limit;
       sink = record { later = omega arith; stays = tt; cause = subst Q same (file_unput faults stop (session_by_file stop by)) };
     }

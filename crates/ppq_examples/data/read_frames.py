@@ -1,0 +1,21 @@
+#!/usr/bin/env python3
+"""Reads the frames that `ppq run .. --form bytes` writes from a pipe, and prints what each says.
+
+A size of 0 and a `drain` of no record are one frame, 8 zero bytes: a program knows which one it asked for."""
+import struct
+import sys
+
+WORDS = {b"e": "empty", b"l": "limit", b"a": "all", b"m": "more"}
+NUMBERS = {8: "{}", 16: "{} {}", 48: "count {} first {} {} last {} {} sum {}"}
+
+
+def frames(stream):
+    while head := stream.read(4):
+        yield stream.read(int.from_bytes(head, "big"))
+
+
+for frame in frames(sys.stdin.buffer):
+    if frame in WORDS:
+        print(WORDS[frame])
+    else:
+        print(NUMBERS[len(frame)].format(*struct.unpack(f">{len(frame) // 8}Q", frame)))
