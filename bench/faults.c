@@ -1,11 +1,11 @@
-// Calls that fail, for bench/faults: loaded by LD_PRELOAD, it counts the calls of one kind that a program makes of the
-// C library, and lets one of them fail. It needs no root and no other file system.
+// Calls that fail, for bench/faults and bench/refuse: loaded by LD_PRELOAD, it counts the calls of one kind that a program
+// makes of the C library, and lets one of them fail. It needs no root and no other file system.
 //
-// Environment: FAULTS_CALL is the name of the call; FAULTS_NTH which one of its calls is to fail, from 1, or 0; FAULTS_HOW
-// how: `fail` with the number FAULTS_ERROR as errno, `half` does half of what was asked, `none` does nothing and gives 0,
-// `bit` reads of the device another bit than was written; FAULTS_DEVICE is the path of the device as the program is given
-// it; FAULTS_NOTES a file with four numbers of 64 bits: how many calls there were, how many failed, and of the one that
-// did on what it was (`enum place`) and at which offset.
+// Environment: FAULTS_CALL is the name of the call, or `memory` for malloc and realloc, numbered together; FAULTS_NTH which
+// one of its calls is to fail, from 1, or 0; FAULTS_HOW how: `fail` with the number FAULTS_ERROR as errno, `half` does half
+// of what was asked, `none` does nothing and gives 0, `bit` reads of the device another bit than was written; FAULTS_DEVICE
+// is the path of the device as the program is given it; FAULTS_NOTES a file with four numbers of 64 bits: how many calls
+// there were, how many failed, and of the one that did on what it was (`enum place`) and at which offset.
 //
 // Only the program's own calls count, and not those that the C library makes of itself. Calls that a program makes
 // without the C library pass by unseen: then the numbers stay 0.
@@ -192,9 +192,14 @@ int close(int file) {
     return -1;
 }
 
-void *malloc(size_t size) { return is_it("malloc", FROM, ELSEWHERE, 0) ? NULL : __libc_malloc(size); }
+// Whether an allocation is the one that fails, among those of its call or among all.
+static int is_refused(const char *call, void *from) {
+    return is_it(strcmp(chosen, "memory") == 0 ? chosen : call, from, ELSEWHERE, 0);
+}
 
-void *realloc(void *old, size_t size) { return is_it("realloc", FROM, ELSEWHERE, 0) ? NULL : __libc_realloc(old, size); }
+void *malloc(size_t size) { return is_refused("malloc", FROM) ? NULL : __libc_malloc(size); }
+
+void *realloc(void *old, size_t size) { return is_refused("realloc", FROM) ? NULL : __libc_realloc(old, size); }
 
 int pthread_create(pthread_t *restrict thread, const pthread_attr_t *restrict attributes, void *(*work)(void *),
                    void *restrict given) {
