@@ -1,16 +1,37 @@
 #!/usr/bin/env python3
-"""Prints what a program of this repository prints, from a sorted list of Python in place of the queue.
+"""Prints what a program of this repository prints, from a heap of Python in place of the queue.
 
+    bench/expected.py machines        # crates/ppq_example: a simulator of machines
     bench/expected.py script FILE     # a script of examples/, one that has pairs
 
 `docs/check` compares this with the output that the gate wants of these programs.
 """
 import bisect
+import heapq
 import os
 import struct
 import sys
 
 WORD = (1 << 64) - 1
+MIX = 0x9E3779B97F4A7C15
+
+
+def machines():
+    count, pieces = 120_000, 600_000
+
+    def event(time, target, word):
+        mixed = (time ^ (target << 20)) * MIX & WORD
+        return (min(time + 1 + (mixed >> 44), WORD), target, word)
+
+    events = [event(0, number, 1) for number in range(count)]
+    heapq.heapify(events)
+    clock = most = order = 0
+    for _ in range(pieces):
+        clock, target, word = events[0]
+        most = max(most, word)
+        order = (order * 31 + target) & WORD
+        heapq.heapreplace(events, event(clock, target, word + 1))
+    print(f"{pieces} pieces at {clock}, at most {most} of one machine, order {order}, {len(events)} waiting, device used: true")
 
 
 def pairs_of(file):
@@ -81,7 +102,7 @@ def script(file):
         print(answer)
 
 
-PROGRAMS = {"script": script}
+PROGRAMS = {"machines": machines, "script": script}
 
 if __name__ == "__main__":
     PROGRAMS[sys.argv[1]](*sys.argv[2:])

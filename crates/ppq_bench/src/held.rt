@@ -1,9 +1,8 @@
 //! Records that are held in a queue over a device file, while others come and go.
 use crate::load::out_of_memory;
-use crate::slots::make_slots;
 use ppq_checked::{Checked, CheckedRack};
+use ppq_device::{Host, OpenGate, OutsideFault, Pair, Queue, QueueFault, Sizes, make_blocks};
 use ppq_edge::{FileRack, FileSlot};
-use ppq_queue::{Host, OpenGate, Pair, Queue, QueueFault, Sizes};
 use std::alloc::Global;
 use std::io;
 use std::io::ErrorKind;
@@ -173,6 +172,14 @@ where
     turn_over(rt, queue, number, task.count)
 }
 
+// A block that was not made, as an error.
+fn not_made(fault: OutsideFault) -> io::Error {
+    match fault {
+        OutsideFault::Failed => io::Error::from(ErrorKind::Other),
+        OutsideFault::Memory => out_of_memory(),
+    }
+}
+
 // An empty queue over a device file.
 fn open<H: Host>(
     rt: &H,
@@ -180,14 +187,11 @@ fn open<H: Host>(
     device: &str,
     sizes: Sizes,
 ) -> io::Result<Queue<Checked<FileSlot>, Pair>> {
-    let slots = make_slots(
-        rt,
-        alloc,
-        &mut CheckedRack::new(FileRack::new()),
-        device,
-        sizes,
-    )?;
-    Queue::open(alloc, sizes, slots).map_err(|_| out_of_memory())
+    let mut rack = CheckedRack::new(FileRack::new());
+    match make_blocks::<Pair, _, _>(rt, alloc, &mut rack, device, sizes) {
+        Ok(blocks) => Queue::open(alloc, sizes, blocks).map_err(|_| out_of_memory()),
+        Err(fault) => Err(not_made(fault)),
+    }
 }
 
 // Holds records in a queue over a device file, and turns them over once.

@@ -14,12 +14,11 @@
 mod held;
 mod load;
 mod merges;
-mod slots;
 
 use held::{Removed, Shape, Task, hold};
 use load::{Load, out_of_memory};
 use merges::{as_sorted, picoseconds};
-use ppq_queue::Host;
+use ppq_device::Host;
 use std::alloc::Global;
 use std::io::ErrorKind;
 use std::rt::Clock;

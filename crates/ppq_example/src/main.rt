@@ -1,26 +1,28 @@
 //! A simulator of machines: each makes one piece after the other, and the queue holds the time at which
-//! each of them is done. There are more machines than the budget has room for, so most of these events
-//! lie in the blocks of a device file.
+//! each of them is done. There are 120,000 machines, and the budget has room for 32,768 records, so most of these
+//! events lie in the blocks of a device file.
+//!
+//! `bench/expected.py machines` makes the same pieces with a heap of Python, and prints the same.
 #![tactic(auto)]
 
-ghost use Rattle.std.specs.Prelude.{map, IfOk};
-ghost use Rattle.ppq_queue.specs.Holding.{AreNewSlots};
-
 use ppq_checked::{Checked, CheckedRack};
-use ppq_edge::{FileRack, FileSlot};
-use ppq_queue::{
-    Host, OpenFault, OpenGate, OutsideFault, Pair, Queue, QueueFault, Rack, Record, Sizes, Slot,
+use ppq_device::{
+    Host, OpenFault, OpenGate, OutsideFault, Queue, QueueFault, Sizes, Slot, Triple, make_blocks,
 };
+use ppq_edge::{FileRack, FileSlot};
 use std::alloc::Global;
 use std::process::ExitCode;
 
 // How many machines there are, and how many pieces they make.
-const MACHINES: u64 = 2000;
+const MACHINES: u64 = 120_000;
 
-const PIECES: u64 = 20000;
+const PIECES: u64 = 600_000;
 
-// The time at which a machine is done, and its number.
-type Events = Queue<Checked<FileSlot>, Pair>;
+// The device file.
+const DEVICE: &str = "ppq_example.device";
+
+// The time at which a machine is done, its number, and how many pieces it will have made then.
+type Events = Queue<Checked<FileSlot>, Triple>;
 
 // Why the simulation stopped early.
 #[derive(Debug, Drop)]
@@ -31,71 +33,84 @@ enum Fault {
     Print,
 }
 
-// Makes the blocks of a device.
-fn make_blocks<H: Host, K: Rack>(
-    rt: &H,
-    alloc: Global,
-    rack: &mut K,
-    sizes: Sizes,
-) -> Result<Vec<K::Slot>, OutsideFault>
-    ensures { IfOk result (λ blocks. AreNewSlots sizes 16 (map K.Slot.shown blocks.items)) }
-{
-    let mut blocks = Vec::with_capacity(alloc, sizes.blocks() as usize)?;
-    let bytes = sizes.block() as usize * Pair::WIDTH;
-    for number in 0..sizes.blocks() {
-        let block = rack.block(rt, alloc, "ppq_example.device", number, bytes)?;
-        blocks.push_reserved(block);
-    }
-    Ok(blocks)
+// What the machines did.
+#[derive(Clone, Copy)]
+struct Made {
+    // When the last piece was done.
+    clock: u64,
+    // The most pieces of one machine.
+    most: u64,
+    // The numbers of the machines in the order of the pieces, as one number.
+    order: u64,
 }
 
 // Opens a queue over the blocks of a device file.
 fn open<H: Host>(rt: &H, alloc: Global) -> Result<Events, Fault> {
-    let sizes = Sizes::new(2, 16, 1, 2048, 330).unwrap();
+    let sizes = Sizes::new(2, 256, 4, 32768, 1024).unwrap();
     let mut rack = CheckedRack::new(FileRack::new());
-    let blocks = make_blocks(rt, alloc, &mut rack, sizes).map_err(Fault::Device)?;
+    let blocks = make_blocks::<Triple, _, _>(rt, alloc, &mut rack, DEVICE, sizes);
+    let blocks = blocks.map_err(Fault::Device)?;
     Queue::open(alloc, sizes, blocks).map_err(|refused| Fault::Open(refused.1))
 }
 
-// Lets the machine of this number begin a piece at this time; it takes 1 to 256 ticks.
-fn begin<H: Host>(rt: &H, events: &mut Events, time: u64, number: u64) -> Result<(), QueueFault>
+// Lets the machine that is done with a piece begin its next one, which takes 1 to 1,048,576 ticks.
+fn begin<H: Host>(rt: &H, events: &mut Events, done: Triple) -> Result<(), QueueFault>
 where
     H::Dir: Send,
 {
-    let ticks = 1 + ((time ^ number).wrapping_mul(0x9E37_79B9_7F4A_7C15) >> 56);
-    let key = time.saturating_add(ticks);
-    let pushed = events.push(rt, Pair { key, value: number }, &OpenGate);
-    pushed.map_err(|refused| refused.1)
+    let mixed = (done.time ^ (done.target << 20)).wrapping_mul(0x9E37_79B9_7F4A_7C15);
+    let next = Triple {
+        time: done.time.saturating_add(1 + (mixed >> 44)),
+        target: done.target,
+        word: done.word.saturating_add(1),
+    };
+    events
+        .push(rt, next, &OpenGate)
+        .map_err(|refused| refused.1)
 }
 
-// Runs the machines until so many pieces are made, and says when that was.
-fn make_pieces<H: Host>(rt: &H, events: &mut Events) -> Result<u64, QueueFault>
+// Runs the machines until so many pieces are made.
+fn make_pieces<H: Host>(rt: &H, events: &mut Events) -> Result<Made, QueueFault>
 where
     H::Dir: Send,
 {
     for number in 0..MACHINES {
-        begin(rt, events, 0, number)?;
+        let ready = Triple {
+            time: 0,
+            target: number,
+            word: 0,
+        };
+        begin(rt, events, ready)?;
     }
-    let mut clock = 0;
+    let mut made = Made {
+        clock: 0,
+        most: 0,
+        order: 0,
+    };
     for _piece in 0..PIECES {
         if let Some(done) = events.pop(rt, &OpenGate)? {
-            clock = done.key;
-            begin(rt, events, clock, done.value)?;
+            made.clock = done.time;
+            made.most = made.most.max(done.word);
+            made.order = made.order.wrapping_mul(31).wrapping_add(done.target);
+            begin(rt, events, done)?;
         }
     }
-    Ok(clock)
+    Ok(made)
 }
 
-// Runs the simulation over a queue that is closed whatever came, and prints its end.
+// Runs the simulation over a queue that is closed whatever came, and prints what was made.
 fn simulate<H: Host>(rt: &H, alloc: Global) -> Result<(), Fault>
 where
     H::Dir: Send,
 {
     let mut events = open(rt, alloc)?;
     let ended = make_pieces(rt, &mut events);
+    let waiting = events.size();
     let written = events.close().iter().any(|block| block.writes() > 0);
-    let clock = ended.map_err(Fault::Queue)?;
-    let said = println!(rt; "{PIECES} pieces at {clock}, device used: {written}");
+    let Made { clock, most, order } = ended.map_err(Fault::Queue)?;
+    let said = println!(rt;
+        "{PIECES} pieces at {clock}, at most {most} of one machine, order {order}, {waiting} waiting, device used: {written}"
+    );
     said.map_err(|_| Fault::Print)
 }
 
