@@ -1,11 +1,11 @@
 -- Rounds, one after the other: two keep slots and buffers as one does, and take as one does.
-use Rattle.std.proofs.Common.{◌≡◌, ℕ, zero, suc, ◌+◌, ◌<◌, ◌≤◌, List, [], ◌∷◌, ◌++◌, length, drop, get_or, slice_set, flat_map, sum_by, refl, sym, ap, ap₂, ◌∙◌, arith, length-drop, ◌⊎◌, inl, inr, ◌-◌, true, Option, Some, None, subst, length-append, append-nil, append_assoc}
+use Rattle.std.proofs.Common.{◌≡◌, ℕ, zero, suc, ◌+◌, ◌≤◌, List, [], ◌∷◌, ◌++◌, length, drop, get_or, slice_set, flat_map, sum_by, refl, sym, ap, ap₂, ◌∙◌, arith, length-drop, ◌⊎◌, inl, inr, ◌-◌, true, Option, Some, None, subst, length-append, append-nil, append_assoc}
 use Rattle.std.specs.List.{AllByRecursion as Each, AllZip}
 use Rattle.std.proofs.lemmas.List.{drop-drop}
 use Rattle.std.proofs.lemmas.List.Sums.{sum_by-cons, sum_by-append}
 use Rattle.std.proofs.lemmas.List.Concat.{flat_map-cons}
 use Rattle.ppq_array.specs.External.{External}
-use Rattle.ppq_fetch.specs.Fetching.{WentOn, blocks_in, State, MayFetch, Fetched, PartsKept, StockWentOn, held_in, source_items, SourcesTell, RunsRise, FetchFailed}
+use Rattle.ppq_fetch.specs.Fetching.{WentOn, blocks_in, State, Fetched, PartsKept, StockWentOn, held_in, source_items, SourcesTell, RunsRise, FetchFailed}
 use Rattle.std.specs.Cmp.{IsStrictWeakOrder}
 use Rattle.std.specs.declared.cmp.Ordering.{Ordering}
 use Rattle.ppq_array.specs.ppq_record.Order.{is_before, Le}
