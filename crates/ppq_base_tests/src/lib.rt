@@ -10,6 +10,8 @@ mod heap;
 #[cfg(test)]
 mod heaps;
 #[cfg(test)]
+mod hints;
+#[cfg(test)]
 mod kinds;
 #[cfg(test)]
 mod outside;

@@ -50,6 +50,7 @@ module _ {S R : Type 0} (cmp : R → R → Ordering) (record_of : List ℕ → R
         quiet = same (λ s. s.faults) ∙ f.quiet;
         counted = omega (arith, f.counted, thin_count mi ni me ne li le);
         internal = omega (arith, p.internal, length_lost IsEmptyRun mi ni li);
+        in_memory = omega (arith, p.in_memory, sum_at_most IsEmptyRun mi ni li (λ (run : Run R). length (items_of run)));
         external = omega (arith, length_all_zip WentOn old.external me p.went_on, length_lost IsEmptyArray me ne le);
         some_internal = some_internal;
         some_external = some_external;

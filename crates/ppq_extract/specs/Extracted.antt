@@ -52,6 +52,8 @@ module _ {S R : Type 0} where
       pub all_tell : AllTell (slots_in shown old) ↔ AllTell (slots_in shown new)
       pub counted : length out + count_in new.internal new.external ≡ count_in old.internal old.external
       pub internal : length new.internal ≤ length old.internal
+      -- no more records are in buffers
+      pub in_memory : sum_by (λ run. length (items_of run)) new.internal ≤ sum_by (λ run. length (items_of run)) old.internal
       pub external : length new.external ≤ length old.external
       pub some_internal : All (λ (run : Run R). 0 < length (items_of run)) new.internal
       pub some_external : All (λ (a : External S R). 0 < size_of a) new.external

@@ -1,6 +1,5 @@
 -- The next blocks of two runs are lifted, read beside a merge, and taken.
 use Rattle.std.proofs.Common.{◌≡◌, ◌≢◌, ℕ, zero, suc, ◌+◌, ◌*◌, ◌-◌, ◌<◌, ◌≤◌, ◌^◌, List, [], ◌∷◌, ◌++◌, length, map, take, get_or, slice_set, Option, Some, None, IfNone, IfSome, refl, sym, ap, ap₂, ◌∙◌, subst, arith, inr, All, length-set, length-append, append-nil, append_assoc}
-use Rattle.std.specs.Prelude.{sum_by}
 use Rattle.std.specs.List.{AllByRecursion as Each, AllZip}
 use Rattle.std.specs.Cmp.{IsStrictWeakOrder}
 use Rattle.std.specs.declared.cmp.Ordering.{Ordering}
@@ -13,7 +12,7 @@ use Rattle.ppq_array.specs.ppq_block.Block.{Block}
 use Rattle.ppq_array.specs.ppq_outside.Shown.{Shown}
 use Rattle.ppq_array.specs.declared.berth.DeviceBlock.{DeviceBlock}
 use Rattle.ppq_array.specs.Run.{Run, items_of, buffers_of}
-use Rattle.ppq_array.specs.External.{External, external, size_of, waiting, counts}
+use Rattle.ppq_array.specs.External.{External, size_of, waiting, counts}
 use Rattle.ppq_array.specs.Supply.{Stock}
 use Rattle.ppq_array.specs.Owner.{HasBlock, HasSize}
 use Rattle.ppq_array.specs.Holdings.{external_buffers, ArrayHasSize}
@@ -27,7 +26,7 @@ use Rattle.ppq_fetch.specs.Fetching.{State, state, AreSources, MayFetch, PartsKe
 use Rattle.ppq_fetch.specs.Rounds.{TookTurn, LostTurn}
 use Rattle.ppq_fetch.proofs.Sums.{loaded_of}
 use Rattle.ppq_fetch.proofs.Waiting.{fronts-le}
-use Rattle.ppq_fetch.proofs.Rounds.{zip_rec, zip_same, zip_set, Fetched-on, Failed-more, failed_then}
+use Rattle.ppq_fetch.proofs.Rounds.{zip_rec, zip_set, Fetched-on, Failed-more, failed_then}
 use Rattle.ppq_fetch.proofs.Loads.{slots_long, loaded_turn, loaded_sources, loaded_parts, loaded_room, lost_turn, lost_room}
 use Rattle.ppq_fetch.proofs.Landing.{may_read, may_land, landed_is, failed_is}
 

@@ -5,6 +5,7 @@ pub use Rattle.ppq_array.proofs.ppq_outside as ppq_outside
 pub use Rattle.ppq_array.proofs.ppq_record as ppq_record
 pub mod Beside
 pub mod Consuming
+pub mod Hints
 pub mod Landing
 pub mod Listings
 pub mod Loads

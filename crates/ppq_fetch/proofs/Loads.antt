@@ -220,8 +220,8 @@ module _ {S R : Type 0} (record_of : List ℕ → R) (width : ℕ) (shown : S �
       quiet_set : read.slot.faults ≡ (shown block.slot).faults → AreQuiet (slots_in shown before) (slots_in shown after)
       quiet_set e = omega (arith, both_set (λ s. s.faults), e)
 
-      pub parts_set : length (external_slots shown arrays) ≤ stock.slot_room → PartsKept shown before after
-      parts_set room =
+      pub parts_set : length (external_slots shown arrays) ≤ stock.slot_room → size_of b ≤ size_of a → PartsKept shown before after
+      parts_set room size =
           let n1 = slots_long arrays in
           let n2 = slots_long (slice_set arrays i b) in
           record {
@@ -238,8 +238,9 @@ module _ {S R : Type 0} (record_of : List ℕ → R) (width : ℕ) (shown : S �
               block = ap (λ (s : Stock). s.block) read.freed;
             };
             internal = refl;
+            in_memory = omega arith;
             buffers = omega (arith, few, set_sum (λ (a : External S R). length (buffers_of a.loaded)));
-            went_on = zip_set WentOn on_same arrays i d b record { level = level; loads = 1; within = omega (arith, ap length stored); stored = sym (ap (drop 1) stored) };
+            went_on = zip_set WentOn on_same arrays i d b record { level = level; loads = 1; within = omega (arith, ap length stored); stored = sym (ap (drop 1) stored); size = size };
             stock = record {
               more = read.slot ∷ [];
               kept = kept;
@@ -327,8 +328,22 @@ module _ {S R : Type 0} (record_of : List ℕ → R) (width : ℕ) (shown : S �
           ] in
           sources_set x.block x.stored lv x.read fewer ahead s (All-tail (HasBlock n) x.buf idle' idles) (put (HasBlock n) has had) (put IsFitting fit fitted) spent (sized none) bounded
 
+      no_larger : size_of b ≤ size_of a
+      no_larger =
+          let wb : waiting b ≡ b.stored = ap (λ (z : External S R). z.lifted ++ b.stored) x.array in
+          omega (
+            arith,
+            ap length x.items,
+            length-append (items_of a.loaded) x.filled.items,
+            x.count,
+            sum_by-append (λ (k : DeviceBlock S R). k.count) a.lifted a.stored,
+            ap counts x.stored,
+            ap counts wb,
+            sum_by-cons (λ (k : DeviceBlock S R). k.count) x.block b.stored,
+          )
+
       pub loaded_parts : (ahead : ℕ) → AreSources shown width ahead before → PartsKept shown before after
-      loaded_parts ahead s = parts_set x.block x.stored lv x.read fewer s.takes_back.slots
+      loaded_parts ahead s = parts_set x.block x.stored lv x.read fewer s.takes_back.slots no_larger
 
       -- one block more is loaded ahead at most
       pub loaded_room : (ahead : ℕ) → external_buffers arrays + 2 ≤ fronts_in arrays + ahead → external_buffers (slice_set arrays i b) < fronts_in (slice_set arrays i b) + ahead
@@ -360,7 +375,7 @@ module _ {S R : Type 0} (record_of : List ℕ → R) (width : ℕ) (shown : S �
           ) in
           record {
             fetched = record {
-              parts = parts_set x.block x.stored lv x.read fewer m.sources.takes_back.slots;
+              parts = loaded_parts ahead m.sources;
               quiet = quiet_set x.block x.stored lv x.read fewer x.quiet;
               counted = omega (arith, sized none, set_sum (λ (a : External S R). size_of a));
               tell = λ t. sum_tell (external_slots shown (slice_set arrays i b)) (omega (arith, slots_set x.block x.stored lv x.read fewer untold, tell_sum (external_slots shown arrays) t));
@@ -386,6 +401,11 @@ module _ {S R : Type 0} (record_of : List ℕ → R) (width : ℕ) (shown : S �
       same_few : length (buffers_of b.loaded) + length idle' ≡ length (buffers_of a.loaded) + length idle
       same_few = omega (arith, ap (λ (r : Run R). length (buffers_of r)) same_loaded, ap length x.taken, ap length x.returned, length-append x.left (x.back ∷ []))
 
+      no_larger_lost : size_of b ≤ size_of a
+      no_larger_lost =
+          let wb : waiting b ≡ x.block ∷ b.stored = ap (λ (z : External S R). z.lifted ++ b.stored) x.array in
+          omega (arith, ap (λ (r : Run R). length (items_of r)) same_loaded, sum_by-append (λ (k : DeviceBlock S R). k.count) a.lifted a.stored, ap counts x.stored, ap counts wb)
+
       lost_sources : (ahead : ℕ) → AreSources shown width ahead before → a.lifted ≡ [] → AreSources shown width ahead after
       lost_sources ahead s none =
           let n = stock.block in
@@ -408,7 +428,7 @@ module _ {S R : Type 0} (record_of : List ℕ → R) (width : ℕ) (shown : S �
           let w = weight_at (λ s. s.faults) number in
           let here : w x.read.slot ≡ x.read.slot.faults = named number x.read.slot (x.named ∙ sym x.read.number) in
           record {
-            parts = parts_set x.block x.stored same_level x.read same_few s.takes_back.slots;
+            parts = parts_set x.block x.stored same_level x.read same_few s.takes_back.slots no_larger_lost;
             failed = omega (arith, x.failed, here, ap (sum_by w) kept_now, sum_by_push w stock.kept x.read.slot);
           }
 

@@ -1,11 +1,11 @@
 -- Rounds, one after the other: two keep slots and buffers as one does, and take as one does.
-use Rattle.std.proofs.Common.{◌≡◌, ℕ, zero, suc, ◌+◌, ◌<◌, ◌≤◌, List, [], ◌∷◌, ◌++◌, length, drop, get_or, slice_set, flat_map, sum_by, refl, sym, ap, ap₂, ◌∙◌, arith, length-drop, ◌⊎◌, inl, inr, ◌-◌, true, Option, Some, None, subst, length-append, append-nil, append_assoc}
+use Rattle.std.proofs.Common.{◌≡◌, ℕ, zero, suc, ◌+◌, ◌≤◌, List, [], ◌∷◌, ◌++◌, length, drop, get_or, slice_set, flat_map, sum_by, refl, sym, ap, ap₂, ◌∙◌, arith, length-drop, ◌⊎◌, inl, inr, ◌-◌, true, Option, Some, None, subst, length-append, append-nil, append_assoc}
 use Rattle.std.specs.List.{AllByRecursion as Each, AllZip}
 use Rattle.std.proofs.lemmas.List.{drop-drop}
 use Rattle.std.proofs.lemmas.List.Sums.{sum_by-cons, sum_by-append}
 use Rattle.std.proofs.lemmas.List.Concat.{flat_map-cons}
 use Rattle.ppq_array.specs.External.{External}
-use Rattle.ppq_fetch.specs.Fetching.{WentOn, blocks_in, State, MayFetch, Fetched, PartsKept, StockWentOn, held_in, source_items, SourcesTell, RunsRise, FetchFailed}
+use Rattle.ppq_fetch.specs.Fetching.{WentOn, blocks_in, State, Fetched, PartsKept, StockWentOn, held_in, source_items, SourcesTell, RunsRise, FetchFailed}
 use Rattle.std.specs.Cmp.{IsStrictWeakOrder}
 use Rattle.std.specs.declared.cmp.Ordering.{Ordering}
 use Rattle.ppq_array.specs.ppq_record.Order.{is_before, Le}
@@ -34,9 +34,6 @@ module _ {A : Type 0} where
   pub zip_flat : {X : Type 0} (P : A → A → Type 0) (f : A → List X) → ((a b : A) → P a b → f b ≡ f a) → (xs ys : List A) → AllZip P xs ys → flat_map f ys ≡ flat_map f xs
   zip_flat P f e = zip_rec P (λ xs ys. flat_map f ys ≡ flat_map f xs) refl (λ a b xs ys p k. flat_map-cons f b ys ∙ (ap₂ (λ us vs. us ++ vs) (e a b p) k ∙ sym (flat_map-cons f a xs)))
 
-  pub zip_weaker : (P Q : A → A → Type 0) → ((a b : A) → P a b → Q a b) → (xs ys : List A) → AllZip P xs ys → AllZip Q xs ys
-  zip_weaker P Q f = zip_rec P (AllZip Q) tt (λ a b xs ys p k. (f a b p, k))
-
   pub zip_trans : (P : A → A → Type 0) → ((a b c : A) → P a b → P b c → P a c) → (xs ys zs : List A) → AllZip P xs ys → AllZip P ys zs → AllZip P xs zs
   zip_trans P t [] [] [] z w = tt
   zip_trans P t [] [] (c ∷ cs) z w = absurd w
@@ -61,7 +58,7 @@ module _ {A : Type 0} where
 
 module _ {S R : Type 0} where
   pub on_same : (a : External S R) → WentOn a a
-  on_same a = record { level = refl; loads = 0; within = omega arith; stored = refl }
+  on_same a = record { level = refl; loads = 0; within = omega arith; stored = refl; size = omega arith }
 
   pub on_trans : (a b c : External S R) → WentOn a b → WentOn b c → WentOn a c
   on_trans a b c x y = record {
@@ -69,6 +66,7 @@ module _ {S R : Type 0} where
     loads = x.loads + y.loads;
     within = omega (arith, x.within, y.within, ap length x.stored, length-drop x.loads a.stored);
     stored = y.stored ∙ (ap (drop y.loads) x.stored ∙ drop-drop y.loads x.loads a.stored);
+    size = omega (arith, x.size, y.size);
   }
 
   pub on_fewer : (xs ys : List (External S R)) → AllZip WentOn xs ys → blocks_in ys ≤ blocks_in xs
@@ -137,6 +135,7 @@ module _ {S R : Type 0} (shown : S → Shown) where
   parts_same a = record {
     kept = Kept-refl a.stock (held_in shown a);
     internal = refl;
+    in_memory = omega arith;
     buffers = refl;
     went_on = zip_same WentOn on_same a.external;
     stock = stock_same (blocks_in a.external) a.stock;
@@ -151,6 +150,7 @@ module _ {S R : Type 0} (shown : S → Shown) where
       record {
         kept = Kept-trans a.stock b.stock c.stock (held_in shown a) (held_in shown b) (held_in shown c) x.kept y.kept;
         internal = y.internal ∙ x.internal;
+        in_memory = omega (arith, x.in_memory, y.in_memory);
         buffers = y.buffers ∙ x.buffers;
         went_on = zip_trans WentOn on_trans a.external b.external c.external x.went_on y.went_on;
         stock = stock_trans (blocks_in a.external - blocks_in b.external) (blocks_in b.external - blocks_in c.external) (blocks_in a.external - blocks_in c.external) a.stock b.stock c.stock (omega (arith, p, q)) x.stock y.stock;

@@ -1,10 +1,11 @@
 -- A turn that takes safe records.
-use Rattle.std.proofs.Common.{◌≡◌, ℕ, ◌+◌, ◌*◌, refl, true, false, not, List, [], ◌∷◌, ◌++◌, length, map, take, drop, flat_map, sum_by, All, Option, sym, ap, ap₂, ◌∙◌, subst, arith, append-nil, append_assoc, take-append-drop}
+use Rattle.std.proofs.Common.{◌≡◌, ℕ, ◌+◌, ◌*◌, ◌≤◌, refl, true, false, not, List, [], ◌∷◌, ◌++◌, length, map, take, drop, flat_map, sum_by, All, Option, sym, ap, ap₂, ◌∙◌, subst, arith, length-drop, append-nil, append_assoc, take-append-drop}
 use Rattle.std.specs.Prelude.{count_by}
 use Rattle.std.specs.List.{AllByRecursion as Each, AllZip}
 use Rattle.std.specs.Cmp.{IsStrictWeakOrder}
 use Rattle.std.specs.declared.cmp.Ordering.{Ordering}
 use Rattle.std.proofs.lemmas.List.{length-map}
+use Rattle.std.proofs.lemmas.List.Sums.{sum_by-cons}
 use Rattle.std.proofs.lemmas.Bool.{not-false}
 use Rattle.std.proofs.lemmas.List.Elements.{All-from_recursion, recursion_from_All, length_all_zip}
 use Rattle.ppq_array.specs.ppq_record.Order.{is_before, Ascends}
@@ -15,7 +16,7 @@ use Rattle.ppq_array.specs.ppq_block.Block.{Block}
 use Rattle.ppq_array.specs.ppq_outside.Shown.{Shown, AllTell}
 use Rattle.ppq_array.specs.Run.{Run, items_of, buffers_of}
 use Rattle.ppq_array.specs.declared.berth.DeviceBlock.{DeviceBlock}
-use Rattle.ppq_array.specs.External.{External, waiting, records_in, blocks_items}
+use Rattle.ppq_array.specs.External.{External, waiting, records_in, blocks_items, counts}
 use Rattle.ppq_array.specs.Supply.{Stock}
 use Rattle.ppq_array.specs.Owner.{HasBlock, HasSize, slots_shown}
 use Rattle.ppq_array.specs.Kept.{SameSlots, AreQuiet}
@@ -34,7 +35,7 @@ use Rattle.ppq_fetch.proofs.Consuming.{given_block}
 use Rattle.ppq_fetch.proofs.Loads.{slots_long}
 use Rattle.ppq_fetch.proofs.Parted.{taken_same, merge_step, within_whole, each_before, firsts_rise, rests_parts, all_of-rests, all_pass_first, Rising-right}
 use Rattle.ppq_fetch.specs.Rounds.{TookTurn}
-use Rattle.ppq_fetch.proofs.Rounds.{Fetched-none, parts_trans, on_fewer, same_slots, zip_each, zip_flat, zip_weaker}
+use Rattle.ppq_fetch.proofs.Rounds.{Fetched-none, parts_trans, on_fewer, same_slots, zip_each, zip_flat}
 use Rattle.ppq_fetch.proofs.Marking.{edge_downward}
 use Rattle.ppq_fetch.proofs.Waiting.{lists_rise}
 
@@ -66,6 +67,23 @@ rests_rise cmp [] (q ∷ qs) w h = absurd w
 rests_rise cmp (c ∷ cs) [] w h = absurd w
 rests_rise cmp (c ∷ cs) (q ∷ qs) w h = (Rising-right (is_before cmp) (take c q) (drop c q) (subst (Ascends cmp) (sym (take-append-drop c q)) h.0), rests_rise cmp cs qs w.1 h.1)
 
+-- records were taken of each run in buffers
+runs_fewer : {R : Type 0} (cs : List ℕ) (os ns : List (Run R)) → map items_of ns ≡ rests cs (map items_of os) → sum_by (λ (run : Run R). length (items_of run)) ns ≤ sum_by (λ (run : Run R). length (items_of run)) os
+runs_fewer cs os [] e = omega arith
+runs_fewer [] os (n ∷ ns) e = absurd (omega (arith, ap length e))
+runs_fewer (c ∷ cs) [] (n ∷ ns) e = absurd (omega (arith, ap length e))
+runs_fewer {R} (c ∷ cs) (o ∷ os) (n ∷ ns) e =
+    let head : items_of n ≡ drop c (items_of o) = cc in
+    let tail : map items_of ns ≡ rests cs (map items_of os) = cc in
+    omega (
+      arith,
+      sum_by-cons (λ (run : Run R). length (items_of run)) n ns,
+      sum_by-cons (λ (run : Run R). length (items_of run)) o os,
+      ap length head,
+      length-drop c (items_of o),
+      runs_fewer cs os ns tail,
+    )
+
 module _ {S R : Type 0} where
   same_waiting : (a b : External S R) → SameBlocks a b → waiting b ≡ waiting a
   same_waiting a b e = ap (λ (z : External S R). waiting z) e
@@ -76,8 +94,26 @@ module _ {S R : Type 0} where
   same_lifted : (a b : External S R) → SameBlocks a b → b.lifted ≡ a.lifted
   same_lifted a b e = ap (λ (z : External S R). z.lifted) e
 
-  went : (a b : External S R) → SameBlocks a b → WentOn a b
-  went a b e = record { level = ap (λ (z : External S R). z.level) e; loads = 0; within = omega arith; stored = same_stored a b e }
+  went : (a b : External S R) (c : ℕ) → SameBlocks a b → items_of b.loaded ≡ drop c (items_of a.loaded) → WentOn a b
+  went a b c e items =
+      record {
+        level = ap (λ (z : External S R). z.level) e;
+        loads = 0;
+        within = omega arith;
+        stored = same_stored a b e;
+        size = omega (arith, ap length items, length-drop c (items_of a.loaded), ap counts (same_waiting a b e));
+      }
+
+  -- records were taken of each run, and no block of it
+  arrays_went : (cs : List ℕ) (os ns : List (External S R)) → AllZip SameBlocks os ns → map (λ (a : External S R). items_of a.loaded) ns ≡ rests cs (map (λ (a : External S R). items_of a.loaded) os) → AllZip WentOn os ns
+  arrays_went cs [] [] z e = tt
+  arrays_went cs [] (b ∷ ns) z e = absurd z
+  arrays_went cs (a ∷ os) [] z e = absurd z
+  arrays_went [] (a ∷ os) (b ∷ ns) z e = absurd (omega (arith, ap length e))
+  arrays_went (c ∷ cs) (a ∷ os) (b ∷ ns) z e =
+      let head : items_of b.loaded ≡ drop c (items_of a.loaded) = cc in
+      let tail : map (λ (a : External S R). items_of a.loaded) ns ≡ rests cs (map (λ (a : External S R). items_of a.loaded) os) = cc in
+      (went a b c z.0 head, arrays_went cs os ns z.1 tail)
 
   module _ (cmp : R → R → Ordering) (o : IsStrictWeakOrder (is_before cmp)) (record_of : List ℕ → R) (width : ℕ) (shown : S → Shown) where
     arrays_rise :
@@ -137,8 +173,9 @@ module _ {S R : Type 0} where
               block = given_block stock stock' gone.runs.given;
             };
             internal = gone.runs.long;
+            in_memory = runs_fewer (take (length internal) ps) internal internal' gone.runs.items;
             buffers = omega (arith, gone.arrays.buffers);
-            went_on = zip_weaker SameBlocks WentOn went arrays arrays' gone.arrays.rest;
+            went_on = arrays_went (drop (length internal) ps) arrays arrays' gone.arrays.rest gone.arrays.items;
             stock = record {
               more = [];
               kept = ap (λ (s : Stock). s.kept) e ∙ sym (append-nil stock.kept);

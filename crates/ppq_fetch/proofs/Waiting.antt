@@ -1,5 +1,5 @@
--- Which block is next; what waits in blocks is not before its first record, so what a turn plans is safe.
-use Rattle.std.proofs.Common.{◌≡◌, inl, inr, ℕ, zero, suc, min, ◌<◌, ◌≤◌, Bool, true, false, cond, List, [], ◌∷◌, ◌++◌, length, Option, Some, None, IfSome, get_or, refl, sym, subst, arith, ◌≢◌, ◌+◌, not, map, sum_by, All, IsSome, ap, ap₂, ◌∙◌, true≢false}
+-- What waits in blocks is not before the first record of the block that is next, so what a turn plans is safe.
+use Rattle.std.proofs.Common.{◌≡◌, inl, inr, ℕ, zero, suc, min, ◌<◌, ◌≤◌, Bool, true, false, cond, List, [], ◌∷◌, ◌++◌, length, Option, Some, None, refl, sym, subst, arith, ◌≢◌, not, map, sum_by, All, IsSome, ap, ap₂, ◌∙◌, true≢false}
 use Rattle.std.specs.List.{slice_get, AllByRecursion as Each}
 use Rattle.std.specs.Cmp.{IsStrictWeakOrder}
 use Rattle.std.specs.declared.cmp.Ordering.{Ordering}
@@ -8,12 +8,11 @@ use Rattle.std.proofs.lemmas.List.Sums.{sum_by-cons}
 use mir.Val.{bool_byte}
 use Rattle.ppq_array.specs.ppq_record.Order.{is_before, Ascends, Le, Rising}
 use Rattle.ppq_array.proofs.ppq_record.Order.{Each-weaker, Each-append, Le-refl, Le-trans, Each-append_left, Each-append_right, each_fails}
-use Rattle.ppq_array.proofs.ppq_block.Lists.{found-left}
 use Rattle.ppq_array.specs.Run.{items_of, Run}
 use Rattle.ppq_array.specs.External.{External, next_of, waiting, counts, block_items, blocks_items, records_in, IsLabelled}
 use Rattle.ppq_array.specs.declared.berth.DeviceBlock.{DeviceBlock}
 use Rattle.ppq_fetch.proofs.Sums.{one_le, loaded_of, loaded_long, some_loaded}
-use Rattle.ppq_fetch.specs.Turns.{NotAfter, IsNext, lesser_block, IsLeastNext, IsOdd, IsTurn, minimum_of}
+use Rattle.ppq_fetch.specs.Turns.{NotAfter, IsNext, IsLeastNext, IsOdd, IsTurn, minimum_of}
 use Rattle.ppq_fetch.specs.Fetching.{fronts_in, one_if_some, loaded_lists, waiting_items, count_in}
 use Rattle.ppq_fetch.specs.declared.turn.NextBlock.{NextBlock}
 use Rattle.std.proofs.lemmas.List.Concat.{flat_map-cons}
@@ -36,11 +35,7 @@ use Rattle.ppq_fetch.specs.declared.turn.Turn.TheVariants.{End, Load, Take}
 use Rattle.ppq_fetch.proofs.Marking.{each_get}
 use Rattle.ppq_fetch.proofs.Parted.{Rising-right}
 
-get_end : {X : Type 0} (xs : List X) (a : X) → slice_get (xs ++ a ∷ []) (length xs) ≡ Some a
-get_end [] a = refl
-get_end (x ∷ xs) a = get_end xs a
-
-some_stored : {S R : Type 0} (bs : List (DeviceBlock S R)) (x : R) → Some x ≡ next_of bs → 0 < length bs
+pub some_stored : {S R : Type 0} (bs : List (DeviceBlock S R)) (x : R) → Some x ≡ next_of bs → 0 < length bs
 some_stored [] x e = absurd (cc)
 some_stored (b ∷ bs) x e = omega arith
 
@@ -48,66 +43,9 @@ pub fronts-le : {S R : Type 0} (arrays : List (External S R)) → fronts_in arra
 fronts-le [] = omega arith
 fronts-le {S} {R} (a ∷ arrays) = omega (arith, fronts-le arrays, one_le (items_of a.loaded), sum_by-cons (λ (a : External S R). one_if_some (items_of a.loaded)) a arrays)
 
-lesser_not : {R : Type 0} (cmp : R → R → Ordering) → IsStrictWeakOrder (is_before cmp) → (x u : R) (m : Option R) → is_before cmp x u ≡ true → NotAfter cmp u m → NotAfter cmp x m
-lesser_not cmp o x u None h k = tt
-lesser_not cmp o x u (Some m) h k = Le-trans (is_before cmp) o x u m (o.one_way x u h) k
-
-pub get_at : {X : Type 0} (xs : List X) (i : ℕ) (d : X) → i < length xs → slice_get xs i ≡ Some (get_or xs i d)
-get_at [] i d h = absurd (omega arith)
-get_at (x ∷ xs) zero d h = refl
-get_at (x ∷ xs) (suc i) d h = get_at xs i d (omega arith)
-
--- of two blocks the one that is chosen has what each of both has
-pub lesser_one : {R : Type 0} (cmp : R → R → Ordering) (P : ℕ → Type 0) (best : Option (NextBlock R)) (at : ℕ) (m : Option R) → IfSome best (λ (n : NextBlock R). P n.place) → (IsSome m → P at) → IfSome (lesser_block cmp best at m) (λ (n : NextBlock R). P n.place)
-lesser_one cmp P best at None h k = h
-lesser_one cmp P None at (Some m) h k = k refl
-lesser_one {R} cmp P (Some one) at (Some m) h k = chosen (is_before cmp m one.minimum)
-  where
-    chosen : (b : Bool) → IfSome (cond b (Some record { place = at; minimum = m }) (Some one)) (λ (n : NextBlock R). P n.place)
-    chosen true = k refl
-    chosen false = h
-
 pub byte_le : (b : Bool) → bool_byte b ≤ 1
 byte_le true = omega arith
 byte_le false = omega arith
-
-module _ {S R : Type 0} (cmp : R → R → Ordering) (o : IsStrictWeakOrder (is_before cmp)) where
-  -- one more array
-  pub next_more : (xs : List (External S R)) (a : External S R) (best : Option (NextBlock R)) (m : Option R) → m ≡ next_of a.stored → (m ≡ None → a.stored ≡ []) → IsNext cmp xs best → IsNext cmp (xs ++ a ∷ []) (lesser_block cmp best (length xs) m)
-  next_more xs a None None e none is = Each-append (λ (a : External S R). a.stored ≡ []) xs (a ∷ []) is (none refl, tt)
-  next_more xs a None (Some x) e none is = record {
-    array = a;
-    here = get_end xs a;
-    minimum = sym e;
-    stored = some_stored a.stored x e;
-    least = Each-append (λ (a : External S R). NotAfter cmp x (next_of a.stored)) xs (a ∷ []) (Each-weaker (λ (a : External S R). a.stored ≡ []) (λ (a : External S R). NotAfter cmp x (next_of a.stored)) (λ b h. subst (λ bs. NotAfter cmp x (next_of bs)) (sym h) tt) xs is)
-        (subst (λ m. NotAfter cmp x m) e (Le-refl (is_before cmp) o x), tt);
-  }
-  next_more xs a (Some b) None e none is = record {
-    array = is.array;
-    here = found-left xs (a ∷ []) b.place is.array is.here;
-    minimum = is.minimum;
-    stored = is.stored;
-    least = Each-append (λ (a : External S R). NotAfter cmp b.minimum (next_of a.stored)) xs (a ∷ []) is.least (subst (λ m. NotAfter cmp b.minimum m) e tt, tt);
-  }
-  next_more xs a (Some b) (Some x) e none is =
-      elim (cases_Bool (is_before cmp x b.minimum)) as (λ _. IsNext cmp (xs ++ a ∷ []) (cond (is_before cmp x b.minimum) (Some record { place = length xs; minimum = x }) (Some b))) [
-        | inl t ↦ subst (λ v. IsNext cmp (xs ++ a ∷ []) (cond v (Some record { place = length xs; minimum = x }) (Some b))) (sym t) (record {
-          array = a;
-          here = get_end xs a;
-          minimum = sym e;
-          stored = some_stored a.stored x e;
-          least = Each-append (λ (a : External S R). NotAfter cmp x (next_of a.stored)) xs (a ∷ []) (Each-weaker (λ (a : External S R). NotAfter cmp b.minimum (next_of a.stored)) (λ (a : External S R). NotAfter cmp x (next_of a.stored)) (λ c h. lesser_not cmp o x b.minimum (next_of c.stored) t h) xs is.least)
-              (subst (λ m. NotAfter cmp x m) e (Le-refl (is_before cmp) o x), tt);
-        })
-        | inr f ↦ subst (λ v. IsNext cmp (xs ++ a ∷ []) (cond v (Some record { place = length xs; minimum = x }) (Some b))) (sym f) (record {
-          array = is.array;
-          here = found-left xs (a ∷ []) b.place is.array is.here;
-          minimum = is.minimum;
-          stored = is.stored;
-          least = Each-append (λ (a : External S R). NotAfter cmp b.minimum (next_of a.stored)) xs (a ∷ []) is.least (subst (λ m. NotAfter cmp b.minimum m) e f, tt);
-        })
-      ]
 
 Rising-left : {X : Type 0} (lt : X → X → Bool) (xs ys : List X) → Rising lt (xs ++ ys) → Rising lt xs
 Rising-left lt [] ys r = tt

@@ -68,12 +68,14 @@ module _ {S R : Type 0} where
   abbrev pub blocks_in : List (External S R) → ℕ
   blocks_in arrays = sum_by (λ a. length a.stored) arrays
 
-  -- Blocks of the run were loaded: its level is the same, and the blocks that are stored now are the last of those that were
+  -- Blocks of the run were loaded: its level is the same, the blocks that are stored now are the last of those that were, and it has no more
+  -- records than it had
   pub record WentOn (old new : External S R) : Type 0 where
     pub level : new.level ≡ old.level
     pub loads : ℕ
     pub within : loads ≤ length old.stored
     pub stored : new.stored ≡ drop loads old.stored
+    pub size : size_of new ≤ size_of old
 
   module _ (record_of : List ℕ → R) (width : ℕ) (shown : S → Shown) where
     -- the records of the blocks that are not loaded
@@ -131,6 +133,8 @@ module _ {S R : Type 0} where
       pub kept : Kept old.stock new.stock (held_in old) (held_in new)
       pub all_tell : AllTell (slots_in old) ↔ AllTell (slots_in new)
       pub internal : length new.internal ≡ length old.internal
+      -- no more records are in buffers
+      pub in_memory : sum_by (λ run. length (items_of run)) new.internal ≤ sum_by (λ run. length (items_of run)) old.internal
       -- as many buffers are idle and loaded
       pub buffers : length new.idle + external_buffers new.external ≡ length old.idle + external_buffers old.external
       pub went_on : AllZip WentOn old.external new.external

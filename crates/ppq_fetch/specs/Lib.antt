@@ -7,6 +7,7 @@ pub use Rattle.ppq_merge.specs.ppq_tree as ppq_tree
 pub mod Beside
 pub mod Edges
 pub mod Fetching
+pub mod Hints
 pub mod Parts
 pub mod Plan
 pub mod Rounds

@@ -32,7 +32,7 @@ module _ {R : Type 0} where
     pub least : Each (Ascends cmp) (firsts bounds lists) → out ≡ front cmp (all_of (firsts bounds lists)) (length out)
 
   -- the lists that a merge writes over have the lengths that they had, and the bench its workers
-  pub record SameRoom (xs ys : List R) (ps qs : List ℕ) (before now : Cuts) : Type 0 where
+  pub record SameRoom (xs ys : List R) (ps qs : List ℕ) (before now : Cuts R) : Type 0 where
     pub out : length ys ≡ length xs
     pub places : length qs ≡ length ps
     pub bench : length now.places ≡ length before.places
@@ -75,7 +75,7 @@ module _ {S R : Type 0} where
     pub few : length (buffers_of a.loaded) < 2 ^ 32 - 1
 
   -- the places say which records may be merged, as many as there are to be, and the numbers fit
-  pub record MayMergeParts (internal : List (Run R)) (external : List (External S R)) (places : List ℕ) (bench : Cuts) (wanted : ℕ) : Type 0 where
+  pub record MayMergeParts (internal : List (Run R)) (external : List (External S R)) (places : List ℕ) (bench : Cuts R) (wanted : ℕ) : Type 0 where
     pub few_runs : length internal + length external < 2 ^ 32
     pub few_records : count_in internal external < 2 ^ 64
     pub within : AreWithin places (loaded_lists internal external)

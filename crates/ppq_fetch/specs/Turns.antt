@@ -1,5 +1,5 @@
 -- One turn of a refill: which block is next, and what is to be done.
-use Rattle.std.specs.Prelude.{◌≡◌, ◌≢◌, ◌⊎◌, ℕ, ◌+◌, ◌<◌, ⊤, ◌==◌, if◌then◌else◌, cond, min, List, [], length, Option, Some, None, slice_get}
+use Rattle.std.specs.Prelude.{◌≡◌, ◌≢◌, ◌⊎◌, ℕ, ◌+◌, ◌<◌, ⊤, ◌==◌, if◌then◌else◌, min, List, [], length, Option, Some, None, slice_get}
 use Rattle.std.specs.declared.cmp.Ordering.{Ordering}
 use Rattle.std.specs.List.{AllByRecursion as Each}
 use Rattle.ppq_array.specs.ppq_record.Order.{Le, is_before}
@@ -20,12 +20,6 @@ NotAfter cmp u (Some m) = Le (is_before cmp) u m
 abbrev pub minimum_of : {R : Type 0} → Option (NextBlock R) → Option R
 minimum_of None = None
 minimum_of (Some next) = Some next.minimum
-
--- of a block and the next block of another array the one with the lesser record
-abbrev pub lesser_block : {R : Type 0} → (R → R → Ordering) → Option (NextBlock R) → ℕ → Option R → Option (NextBlock R)
-lesser_block cmp best at None = best
-lesser_block cmp None at (Some m) = Some record { place = at; minimum = m }
-lesser_block cmp (Some one) at (Some m) = cond (is_before cmp m one.minimum) (Some record { place = at; minimum = m }) (Some one)
 
 -- what is taken where nothing can be loaded
 abbrev pub rest_turn : ℕ → Turn

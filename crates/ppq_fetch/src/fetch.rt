@@ -5,6 +5,7 @@ ghost use Rattle.ppq_fetch.specs.Taking.{wanted};
 ghost use Rattle.ppq_fetch.specs.Fetching.{state, source_items, AreSources, MayFetch, Fetched, FetchFailed, SourcesTell, RunsRise, count_in};
 
 use crate::crew::Crew;
+use crate::hint::tell_all;
 use crate::load::load_block;
 use crate::plan::plan_turn;
 use crate::prefetch::{ahead_of_merge, take_turn};
@@ -30,7 +31,8 @@ use ppq_merge::Bench;
 /// `places` has a place for each run; what stands in it has no meaning before and after.
 ///
 /// Each loaded block is read once, and no block is written. It does not allocate. A merge costs what
-/// `merge_workers` says; a turn besides a look at each run, and a binary search in its loaded records.
+/// `merge_workers` says; a turn besides a binary search in the loaded records of each run. Which block is next the
+/// hints of the bench say, which are made at the beginning.
 ///
 /// `Device` only if the read of the slot with that number failed; the supply keeps that slot. A read that
 /// fails beside a merge is answered too, also if no record of the block was wanted. Nothing else is
@@ -76,16 +78,17 @@ where
 {
     record_laws::<R>();
     straighten(internal);
+    tell_all(&*external, bench);
     let crew = Crew { rt, gate };
     let most = ahead_of_merge(bench.workers(), ahead);
     let mut to = 0;
     while to < out.len() {
         let room = (out.len() - to) as u64;
-        let turn = plan_turn(&*internal, &*external, places, below, room, most);
+        let turn = plan_turn(&*internal, &*external, places, &*bench, below, room, most);
         match turn {
             Turn::End => return Ok(to),
             Turn::Load(place) => match load_block(rt, &mut external[place], idle, supply) {
-                None => {}
+                None => bench.hint(place as u32, external[place].next_to_lift()),
                 Some(number) => return Err(StoreFault::Device { number }),
             },
             Turn::Take(count) => {

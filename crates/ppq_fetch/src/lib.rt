@@ -8,6 +8,7 @@
 mod crew;
 mod edge;
 mod fetch;
+mod hint;
 mod load;
 mod loaded;
 mod mark;

@@ -1,5 +1,5 @@
 //! Taking records while the next blocks are read.
-ghost use Rattle.std.specs.Prelude.{◌≡◌, ◌≢◌, ◌≤◌, ◌<◌, ◌+◌, ◌^◌, [], ◌∷◌, length, All, IfSome, IfNone};
+ghost use Rattle.std.specs.Prelude.{◌≡◌, ◌≤◌, ◌<◌, ◌+◌, ◌^◌, [], ◌∷◌, length, All, IfSome, IfNone};
 ghost use Rattle.std.specs.List.{AllZip};
 ghost use Rattle.ppq_array.specs.Holdings.{external_buffers};
 ghost use Rattle.ppq_lane.specs.Jobs.{MayRun, IsDone};
@@ -7,12 +7,14 @@ ghost use Rattle.ppq_fetch.specs.Steps.{SameRoom, MayMergeParts, MergesSafe};
 ghost use Rattle.ppq_fetch.specs.Fetching.{state, loaded_lists, MayFetch};
 ghost use Rattle.ppq_fetch.specs.Rounds.{TookTurn, LostTurn};
 ghost use Rattle.ppq_fetch.specs.Plan.{TakesPart};
-ghost use Rattle.ppq_fetch.specs.Beside.{HasStored, MayReadTwo};
+ghost use Rattle.ppq_fetch.specs.Beside.{MayReadTwo};
+ghost use Rattle.ppq_fetch.specs.Hints.{AreHints, NextsBut};
 
 use crate::crew::Crew;
+use crate::hint::tell_two;
 use crate::load::{land_block, lift_block};
 use crate::take::{consume_taken, merge_parts};
-use crate::turn::{NextBlock, has_room_ahead, nearer_block, next_block};
+use crate::turn::has_room_ahead;
 use ppq_array::{
     Berth, BufList, ExternalArray, Gate, Host, InternalArray, Record, Slot, Supply, record_laws,
 };
@@ -74,21 +76,27 @@ where
     requires plan { TakesPart R.Ord.cmp R.record_of R.WIDTH S.shown below.now internal.old external.old places.old (length out.old) (length out.old) }
     requires places { length places.old ≡ length internal.old + length external.old }
     requires bench { length places.old ≤ length bench.old.places }
+    requires hints { AreHints R.record_of R.WIDTH S.shown external.old bench.old.hints }
     ensures took { IfNone result (TookTurn R.Ord.cmp R.record_of R.WIDTH S.shown below.now ahead (state internal.old external.old idle.old (P.stock supply.old)) (state internal.new external.new idle.new (P.stock supply.new)) out.new) }
     ensures lost { IfSome result (λ number. LostTurn S.shown R.WIDTH ahead number (state internal.old external.old idle.old (P.stock supply.old)) (state internal.new external.new idle.new (P.stock supply.new))) }
+    ensures hints { IfNone result (AreHints R.record_of R.WIDTH S.shown external.new bench.new.hints) }
     ensures room { SameRoom out.old out.new places.old places.new bench.old bench.new }
     ensures home { P.home supply.new ≡ P.home supply.old }
 {
     record_laws::<R>();
-    match next_two(external, bench.workers(), ahead) {
+    match next_two(&*external, bench, ahead) {
         None => {
             merge_parts(&*internal, &*external, places, bench, out, crew);
             consume_taken(internal, external, places, idle, supply);
             None
         }
-        Some(two) => take_ahead(
-            internal, external, idle, places, bench, supply, below, ahead, out, two, crew,
-        ),
+        Some(two) => {
+            let lost = take_ahead(
+                internal, external, idle, places, bench, supply, below, ahead, out, two, crew,
+            );
+            tell_two(&*external, bench, two.first, two.second);
+            lost
+        }
     }
 }
 
@@ -115,6 +123,9 @@ where
     requires two { MayReadTwo external.old ahead two.first two.second }
     ensures took { IfNone result (TookTurn R.Ord.cmp R.record_of R.WIDTH S.shown below.now ahead (state internal.old external.old idle.old (P.stock supply.old)) (state internal.new external.new idle.new (P.stock supply.new)) out.new) }
     ensures lost { IfSome result (λ number. LostTurn S.shown R.WIDTH ahead number (state internal.old external.old idle.old (P.stock supply.old)) (state internal.new external.new idle.new (P.stock supply.new))) }
+    ensures nexts { IfNone result (NextsBut two.first two.second external.old external.new) }
+    ensures long { length external.new ≡ length external.old }
+    ensures hints { bench.new.hints ≡ bench.old.hints }
     ensures room { SameRoom out.old out.new places.old places.new bench.old bench.new }
     ensures home { P.home supply.new ≡ P.home supply.old }
 {
@@ -165,11 +176,13 @@ where
     requires may { MayMergeParts internal.now external.now places.old bench.old (length out.old) }
     ensures jobs { AllZip (IsDone R.bytes_of R.record_of R.WIDTH (λ b. S.shown b.slot)) jobs.old jobs.new }
     ensures room { SameRoom out.old out.new places.old places.new bench.old bench.new }
+    ensures hints { bench.new.hints ≡ bench.old.hints }
     ensures merged { MergesSafe R.Ord.cmp places.old (loaded_lists internal.now external.now) places.new out.new }
 {
     let mut merge = ||
         requires { MayMergeParts internal.now external.now places.now bench.now (length out.now) }
         ensures room { SameRoom out.entry.now out.exit.now places.entry.now places.exit.now bench.entry.now bench.exit.now }
+        ensures hints { bench.exit.now.hints ≡ bench.entry.now.hints }
         ensures merged { MergesSafe R.Ord.cmp places.entry.now (loaded_lists internal.entry.now external.entry.now) places.exit.now out.exit.now }
     { merge_parts(internal, external, places, bench, out, crew) };
     overlap_mut(crew.rt, jobs, &mut merge);
@@ -179,40 +192,29 @@ where
 // a merge, and both may be loaded ahead.
 fn next_two<S: Slot, R: Record>(
     external: &[ExternalArray<S, R>],
-    workers: u32,
+    bench: &mut Bench<R>,
     ahead: u32,
 ) -> Option<NextTwo>
+    requires hints { AreHints R.record_of R.WIDTH S.shown external.now bench.old.hints }
     requires few { length external.now < 2 ^ 32 }
     requires few_buffers { external_buffers external.now < 2 ^ 32 }
-    ensures { IfSome result (λ two. MayReadTwo external.now ahead two.first two.second) }
+    ensures two { IfSome result (λ two. MayReadTwo external.now ahead two.first two.second) }
+    ensures bench { bench.new ≡ bench.old }
 {
-    if workers < LEAST_WORKERS || ahead < 2 || !has_room_ahead(external, ahead - 1) {
+    if bench.workers() < LEAST_WORKERS || ahead < 2 || !has_room_ahead(external, ahead - 1) {
         return None;
     }
-    let Some(first) = next_block(external) else {
+    let Some(first) = bench.least_hint() else {
         return None;
     };
-    match next_but(external, first.place) {
+    bench.hint(first.0, None);
+    let next = bench.least_hint();
+    bench.hint(first.0, Some(first.1));
+    match next {
         None => None,
         Some(second) => Some(NextTwo {
-            first: first.place,
-            second: second.place,
+            first: first.0 as usize,
+            second: second.0 as usize,
         }),
     }
-}
-
-// Of the blocks that are next in the runs other than this one, one with the least first record.
-fn next_but<S: Slot, R: Record>(
-    external: &[ExternalArray<S, R>],
-    but: usize,
-) -> Option<NextBlock<R>>
-    ensures { IfSome result (λ next. (next.place ≢ but) × HasStored external.now next.place) }
-{
-    let mut best = None;
-    for i in 0..external.len() {
-        if i != but {
-            best = nearer_block(best, i, external[i].next_to_lift());
-        }
-    }
-    best
 }

@@ -33,6 +33,7 @@ pub(crate) fn merge_parts<H: Threads + Sync, S: Slot + Sync, R: Record + Send + 
 )
     requires may { MayMergeParts internal.now external.now places.old bench.old (length out.old) }
     ensures room { SameRoom out.old out.new places.old places.new bench.old bench.new }
+    ensures hints { bench.new.hints ≡ bench.old.hints }
     ensures merged { MergesSafe R.Ord.cmp places.old (loaded_lists internal.now external.now) places.new out.new }
 {
     let parts = SafeParts::new(internal, external, places);
@@ -55,6 +56,7 @@ fn merge_shown<
     ensures length { length out.new ≡ length out.old }
     ensures workers { bench.new.workers ≡ bench.old.workers }
     ensures bench { length bench.new.places ≡ length bench.old.places }
+    ensures hints { bench.new.hints ≡ bench.old.hints }
     ensures within { AreWithin (places_for (⟦<SafeParts<'a, R, I, E> as Listing<R>>⟧.lists parts.now) bench.new.places) (⟦<SafeParts<'a, R, I, E> as Listing<R>>⟧.lists parts.now) }
     ensures bag { IsSameBag out.new (before (places_for (⟦<SafeParts<'a, R, I, E> as Listing<R>>⟧.lists parts.now) bench.new.places) (⟦<SafeParts<'a, R, I, E> as Listing<R>>⟧.lists parts.now)) }
     ensures front { Each (Ascends R.Ord.cmp) (⟦<SafeParts<'a, R, I, E> as Listing<R>>⟧.lists parts.now) → out.new ≡ front R.Ord.cmp (all_of (⟦<SafeParts<'a, R, I, E> as Listing<R>>⟧.lists parts.now)) (length out.old) }

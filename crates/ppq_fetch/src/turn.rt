@@ -1,14 +1,14 @@
 //! What is done next.
-ghost use Rattle.std.specs.Prelude.{◌≡◌, ◌+◌, ◌<◌, ◌≤◌, ◌^◌, ◌↔◌, length, Some, All, IsTrue};
-ghost use Rattle.std.specs.List.{AllByRecursion as Each};
-ghost use Rattle.ppq_array.specs.External.{IsLabelled};
+ghost use Rattle.std.specs.Prelude.{◌≡◌, ◌+◌, ◌<◌, ◌≤◌, ◌^◌, ◌↔◌, length, Some, IsTrue};
 ghost use Rattle.ppq_array.specs.Holdings.{external_buffers};
 ghost use Rattle.ppq_fetch.specs.Fetching.{fronts_in};
 ghost use Rattle.ppq_fetch.specs.Edges.{edge_of};
-ghost use Rattle.ppq_fetch.specs.Turns.{IsNext, IsTurn, minimum_of, lesser_block, rest_turn};
+ghost use Rattle.ppq_fetch.specs.Hints.{AreHints};
+ghost use Rattle.ppq_fetch.specs.Turns.{IsNext, IsTurn, minimum_of, rest_turn};
 
 use crate::edge::Edge;
-use ppq_array::{ExternalArray, Record, Slot, record_laws};
+use ppq_array::{ExternalArray, Record, Slot};
+use ppq_merge::Bench;
 
 // The first block of a run that is not loaded.
 #[derive(Clone, Copy)]
@@ -30,39 +30,20 @@ pub(crate) enum Turn {
     Take(u64),
 }
 
-// Of the blocks that are next in their runs, one with the least first record.
+// Of the blocks that are next in their runs, one with the least first record, as the hints say.
 pub(crate) fn next_block<S: Slot, R: Record>(
-    external: &[ExternalArray<S, R>],
+    _external: &[ExternalArray<S, R>],
+    bench: &Bench<R>,
 ) -> Option<NextBlock<R>>
-    ensures next { IsNext R.Ord.cmp external.now result }
-    ensures labelled { Each (λ a. All (IsLabelled R.record_of R.WIDTH S.shown) a.stored) external.now }
+    requires { AreHints R.record_of R.WIDTH S.shown _external.now bench.now.hints }
+    ensures { IsNext R.Ord.cmp _external.now result }
 {
-    record_laws::<R>();
-    let mut best = None;
-    for i in 0..external.len() {
-        best = nearer_block(best, i, external[i].next_to_lift());
-    }
-    best
-}
-
-// The one of two that has the lesser record.
-pub(crate) fn nearer_block<R: Record>(
-    best: Option<NextBlock<R>>,
-    place: usize,
-    minimum: Option<R>,
-) -> Option<NextBlock<R>>
-    ensures { result ≡ lesser_block R.Ord.cmp best place minimum }
-{
-    match (best, minimum) {
-        (_, None) => best,
-        (None, Some(minimum)) => Some(NextBlock { place, minimum }),
-        (Some(one), Some(minimum)) => {
-            if minimum.cmp(&one.minimum).is_lt() {
-                Some(NextBlock { place, minimum })
-            } else {
-                best
-            }
-        }
+    match bench.least_hint() {
+        None => None,
+        Some(least) => Some(NextBlock {
+            place: least.0 as usize,
+            minimum: least.1,
+        }),
     }
 }
 

@@ -47,6 +47,7 @@ module _ {S R : Type 0} (shown : S → Shown) (width ahead : ℕ) where
         kept = record { slots = is.kept.slots; slot_room = is.kept.slot_room; buffers = omega (arith, is.kept.buffers, before, now); block = is.kept.block };
         all_tell = is.all_tell;
         internal = is.internal;
+        in_memory = is.in_memory;
         buffers = omega (arith, is.buffers, before, now);
         went_on = is.went_on;
         stock = is.stock;

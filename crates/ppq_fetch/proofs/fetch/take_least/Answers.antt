@@ -1,16 +1,18 @@
-use Rattle.std.proofs.Common.{◌≡◌, ◌+◌, ◌-◌, ◌<◌, ◌≤◌, ℕ, List, [], ◌++◌, length, take, drop, slice_set, Err, IsErrOf, inl, inr, refl, sym, ◌∙◌, subst, arith, length-take, length-drop, length-append}
+use Rattle.std.proofs.Common.{◌≡◌, ◌+◌, ◌-◌, ◌≤◌, ℕ, List, [], ◌++◌, length, take, drop, slice_set, Err, IsErrOf, inl, inr, refl, sym, ap, ◌∙◌, subst, arith, length-take, length-drop, length-append}
+use Rattle.std.proofs.lemmas.List.{get_or-set_same}
 use Rattle.std.proofs.lemmas.Option.{slice_get_within}
 use Rattle.std.proofs.lemmas.Slice.{take-put_mid}
 use Rattle.ppq_array.proofs.ppq_record.Fronts.{ranks, no_tie}
-use Rattle.ppq_fetch.specs.Fetching.{state, MayFetch, Fetched, FetchFailed, loaded_lists}
+use Rattle.ppq_fetch.specs.Fetching.{state, MayFetch, Fetched, FetchFailed}
 use Rattle.ppq_array.specs.declared.store_fault.StoreFault.{StoreFault}
+use Rattle.ppq_array.specs.External.{External, next_of}
+use Rattle.ppq_merge.specs.Bench.{Cuts}
+use Rattle.ppq_fetch.proofs.Hints.{hints_on, nexts-set}
 use Rattle.ppq_fetch.proofs.Loads.{loaded_turn, lost_turn}
-use Rattle.ppq_fetch.proofs.Parted.{within_whole}
 use Rattle.ppq_fetch.proofs.Waiting.{takes_all}
 use Rattle.ppq_fetch.proofs.Ready.{may_load, has_buffer, loads_more}
 use Rattle.ppq_fetch.proofs.Beside.{none_there}
 use Rattle.ppq_fetch.proofs.Rounds.{Fetched-none, Fetched-more, Fetched-on, Failed-more, Fetched-front}
-use Rattle.ppq_fetch.proofs.Takes.{taken_turn}
 use Rattle.ppq_fetch.proofs.fetch.take_least.Goals as goal
 
 -- a list of which a part was written over is as long as before
@@ -34,9 +36,10 @@ loop-to-init g c =
       fetched = subst (λ xs. Fetched g.R.Ord.cmp g.R.Record.record_of g.R.Record.WIDTH g.S.Slot.shown c.args.below old (state xs c.args.external.now c.args.idle.now stock) []) (sym e)
           (Fetched-none g.R.Ord.cmp (ranks c.record_laws.ensures.order) g.R.Record.record_of g.R.Record.WIDTH g.S.Slot.shown c.args.below old);
       may = subst (λ xs. MayFetch g.S.Slot.shown g.R.Record.WIDTH c.args.ahead (state xs c.args.external.now c.args.idle.now stock)) (sym e) c.requires.may;
+      hints = c.tell_all.ensures.hints;
       places = refl;
-      bench = refl;
-      workers = refl;
+      bench = ap (λ (b : Cuts g.row.R.Denot). length b.places) c.tell_all.ensures.rest;
+      workers = ap (λ (b : Cuts g.row.R.Denot). b.workers) c.tell_all.ensures.rest;
       home = refl;
     }
 
@@ -68,9 +71,11 @@ loop-to-preserved-in-None g c =
       out = i.out;
       fetched = Fetched-on g.R.Ord.cmp o g.R.Record.record_of g.R.Record.WIDTH g.S.Slot.shown c.args.below old (state l.internal l.external l.idle stock) (state l.internal (slice_set l.external p k.array) k.idle (g.P.Supply.stock k.supply)) (take l.to l.out) i.fetched turn.fetched;
       may = turn.may;
+      hints = hints_on g.R.Record.record_of g.R.Record.WIDTH g.S.Slot.shown l.external (slice_set l.external p k.array) l.bench.hints c.hint.new.self.hints i.hints turn.fetched.parts.went_on
+          (c.hint.ensures.hints ∙ (ap (λ m. slice_set l.bench.hints p m) (c.next_to_lift.ensures.minimum ∙ ap (λ (a : External g.row.S.Denot g.row.R.Denot). next_of a.stored) (get_or-set_same l.external p k.array c.index-external-place-in-None.result (slice_get_within l.external p load.array load.here))) ∙ nexts-set l.external l.bench.hints p k.array i.hints.nexts));
       places = c.plan_turn-turn.ensures.places ∙ i.places;
-      bench = i.bench;
-      workers = i.workers;
+      bench = ap (λ (b : Cuts g.row.R.Denot). length b.places) c.hint.ensures.rest ∙ i.bench;
+      workers = ap (λ (b : Cuts g.row.R.Denot). b.workers) c.hint.ensures.rest ∙ i.workers;
       home = c.load_block.ensures.home ∙ i.home;
     }
 
@@ -132,6 +137,7 @@ loop-to-preserved g c =
       fetched = subst (Fetched g.R.Ord.cmp g.R.Record.record_of g.R.Record.WIDTH g.S.Slot.shown c.args.below old next) (sym (take-put_mid l.to (l.to + n - l.to) l.out m.new.out (l.to + n) (omega (arith, long)) i.within))
           (Fetched-more g.R.Ord.cmp o g.R.Record.record_of g.R.Record.WIDTH g.S.Slot.shown c.args.below old (state l.internal l.external l.idle (g.P.Supply.stock l.supply)) next (take l.to l.out) m.new.out i.fetched turn.fetched);
       may = turn.may;
+      hints = c.in-None-take_turn.ensures.hints;
       places = m.ensures.room.places ∙ (c.plan_turn-turn.ensures.places ∙ i.places);
       bench = m.ensures.room.bench ∙ i.bench;
       workers = m.ensures.room.workers ∙ i.workers;

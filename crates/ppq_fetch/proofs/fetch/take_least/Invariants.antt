@@ -1,5 +1,6 @@
 use Rattle.std.proofs.Common.{◌≡◌, ◌+◌, ◌-◌, ◌≤◌, length, take}
 use Rattle.ppq_fetch.specs.Fetching.{state, MayFetch, Fetched, blocks_in}
+use Rattle.ppq_fetch.specs.Hints.{AreHints}
 use Rattle.ppq_fetch.proofs.fetch.take_least.Given as goal
 
 abbrev pub invariant-loop-to : goal.invariant-loop-to
@@ -11,6 +12,7 @@ invariant-loop-to g l =
       out : length l.out ≡ length l.fn.out;
       fetched : Fetched g.R.Ord.cmp g.R.Record.record_of g.R.Record.WIDTH g.S.Slot.shown l.below old now (take l.to l.out);
       may : MayFetch g.S.Slot.shown g.R.Record.WIDTH l.ahead now;
+      hints : AreHints g.R.Record.record_of g.R.Record.WIDTH g.S.Slot.shown l.external l.bench.hints;
       places : length l.places ≡ length l.fn.places;
       bench : length l.bench.places ≡ length l.fn.bench.places;
       workers : l.bench.workers ≡ l.fn.bench.workers;

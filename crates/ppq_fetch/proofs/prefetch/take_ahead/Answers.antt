@@ -1,16 +1,17 @@
-use Rattle.std.proofs.Common.{◌≡◌, ◌≢◌, ◌*◌, ◌<◌, ◌^◌, ◌∷◌, [], ◌++◌, All, length, get_or, slice_set, Some, IfNone, IfSome, refl, sym, ap, ◌∙◌, subst, arith, length-set}
+use Rattle.std.proofs.Common.{◌≡◌, ◌∷◌, [], ◌++◌, All, length, get_or, slice_set, Some, IfNone, IfSome, sym, ap, ◌∙◌, subst, arith, length-set}
 use Rattle.std.specs.List.{AllZip}
-use Rattle.std.proofs.lemmas.List.Elements.{All-nil, All-cons, All-head, All-tail}
+use Rattle.std.proofs.lemmas.List.Elements.{All-nil, All-cons, All-head, All-tail, length_all_zip}
 use Rattle.ppq_array.specs.declared.berth.DeviceBlock.{DeviceBlock}
 use Rattle.ppq_array.specs.Owner.{HasBlock}
 use Rattle.ppq_array.proofs.ppq_record.Fronts.{ranks}
 use Rattle.ppq_merge.specs.ppq_split.Cut.{AreWithin}
 use Rattle.ppq_lane.specs.Jobs.{MayRun, IsDone}
-use Rattle.ppq_fetch.specs.Steps.{MergesSafe}
+use Rattle.ppq_fetch.specs.Steps.{MergesSafe, SameBlocks}
 use Rattle.ppq_fetch.specs.Beside.{MayLand, BlockLanded, BlockFailed}
-use Rattle.ppq_fetch.specs.Fetching.{state, loaded_lists, count_in}
+use Rattle.ppq_fetch.specs.Fetching.{state}
+use Rattle.ppq_fetch.proofs.Hints.{four_nexts, long_four}
 use Rattle.ppq_fetch.proofs.Takes.{merged_within, taken_later}
-use Rattle.ppq_fetch.proofs.Beside.{two_idle, second_stored, lift_as, none_there, stored_at, stored_within, lifted_lists, lifted_count, may_read_at, may_land_at, first_at, second_at, taken_first, may_land_second, few_idle_second, lost_first, lost_second, both_fetched, both_may, both_before}
+use Rattle.ppq_fetch.proofs.Beside.{two_idle, second_stored, lift_as, none_there, stored_within, lifted_lists, lifted_count, may_read_at, may_land_at, first_at, second_at, taken_first, may_land_second, few_idle_second, lost_first, lost_second, both_fetched, both_may, both_before}
 use Rattle.ppq_fetch.proofs.prefetch.take_ahead.Goals as goal
 
 pub lift_block-one-requires-clause-idle : goal.lift_block-one-requires-clause-idle
@@ -299,3 +300,23 @@ returns-in-Some-default-clause-lost g c =
     let failed1 = subst (λ r. IfSome r (λ number. BlockFailed g.S.Slot.shown number k1 (g.P.Supply.stock a.supply.now) t × ((x ≡ old1) × (f.new.idle ≡ o.new.idle ++ k1.buf ∷ [])))) c.in-Some-default.is-0 f.ensures.failed in
     let first = taken_first g.R.Record.bytes_of g.R.Record.record_of g.R.Record.WIDTH g.S.Slot.shown c.record_laws.ensures.width.0 a.internal.now a.external.now a.idle.now (g.P.Supply.stock a.supply.now) a.ahead a.two.first a.two.second c.requires.may c.requires.two c.index-external-two.result c.index-external-two-2.result l.new.array o.new.array l.new.idle o.new.idle l.result o.result k1 k2 l.ensures.lifted o.ensures.lifted zip.0 zip.1.0 old1 x is1 f.new.idle t (Some n) landed1 failed1 in
     lost_first g.R.Record.bytes_of g.R.Record.record_of g.R.Record.WIDTH g.S.Slot.shown c.record_laws.ensures.width.0 a.internal.now a.external.now a.idle.now (g.P.Supply.stock a.supply.now) a.ahead a.two.first a.two.second c.requires.may c.requires.two c.index-external-two.result c.index-external-two-2.result l.new.array o.new.array l.new.idle o.new.idle l.result o.result k1 k2 l.ensures.lifted o.ensures.lifted zip.0 zip.1.0 old1 x is1 f.new.idle t old2 y is2 v.new.idle u n v.result first v.ensures.landed v.ensures.failed
+
+pub returns-in-None-None-clause-nexts : goal.returns-in-None-None-clause-nexts
+returns-in-None-None-clause-nexts g c =
+    let a = c.args in
+    four_nexts a.external.now c.consume_taken.new.external a.two.first a.two.second c.lift_block-one.new.array c.lift_block-other.new.array c.land_block-failed.new.array c.land_block-failed_too.new.array c.requires.two.apart c.consume_taken.ensures.consumed.arrays.rest
+
+pub returns-in-None-None-clause-long : goal.returns-in-None-None-clause-long
+returns-in-None-None-clause-long g c =
+    let a = c.args in
+    omega (
+      arith,
+      length_all_zip SameBlocks (slice_set (slice_set (slice_set (slice_set a.external.now a.two.first c.lift_block-one.new.array) a.two.second c.lift_block-other.new.array) a.two.first c.land_block-failed.new.array) a.two.second c.land_block-failed_too.new.array) c.consume_taken.new.external c.consume_taken.ensures.consumed.arrays.rest,
+      long_four a.external.now a.two.first a.two.second c.lift_block-one.new.array c.lift_block-other.new.array c.land_block-failed.new.array c.land_block-failed_too.new.array,
+    )
+
+pub returns-in-None-Some-clause-long : goal.returns-in-None-Some-clause-long
+returns-in-None-Some-clause-long g c = long_four c.args.external.now c.args.two.first c.args.two.second c.lift_block-one.new.array c.lift_block-other.new.array c.land_block-failed.new.array c.land_block-failed_too.new.array
+
+pub returns-in-Some-default-clause-long : goal.returns-in-Some-default-clause-long
+returns-in-Some-default-clause-long g c = long_four c.args.external.now c.args.two.first c.args.two.second c.lift_block-one.new.array c.lift_block-other.new.array c.land_block-failed.new.array c.land_block-failed_too.new.array

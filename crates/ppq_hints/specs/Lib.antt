@@ -1,0 +1,1 @@
+pub use Rattle.ppq_tree.specs as ppq_tree
