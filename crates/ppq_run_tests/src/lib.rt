@@ -6,6 +6,8 @@ mod array;
 #[cfg(test)]
 mod block;
 #[cfg(test)]
+mod counts;
+#[cfg(test)]
 mod device;
 #[cfg(test)]
 mod extract;

@@ -18,7 +18,7 @@ use Rattle.ppq_fetch.proofs.ppq_array.Noted.{all_left}
 use Rattle.ppq_spill.specs.declared.body.PassBody.{PassBody}
 use Rattle.ppq_spill.specs.Body.{body_slots, job_slots}
 use Rattle.ppq_spill.specs.Moves.{DrewSlots, FoundScant}
-use Rattle.ppq_spill.specs.Storing.{RunsAscend, BlocksStored, IsStored, StoreLeaves, StoreEnds, NoSlots, NoneFree, SameScant, TooFew}
+use Rattle.ppq_spill.specs.Storing.{RunsAscend, BlocksStored, IsStored, StoreLeaves, StoreEnds, NoSlots, NoneFree, SameScant, TooFew, IsShortOfBuffers}
 use Rattle.ppq_spill.specs.Writing.{Writing, left_in}
 use Rattle.ppq_spill.proofs.Keeping.{slots_more, slots_long}
 use Rattle.ppq_spill.proofs.Going.{quiet_kept}
@@ -28,6 +28,14 @@ use Rattle.ppq_spill.proofs.Telling.{tell_sum, sum_tell, tell_moved}
 nothing : {X : Type 0} (xs : List X) → length xs ≡ 0 → xs ≡ []
 nothing [] e = refl
 nothing (x ∷ xs) e = absurd (omega (arith, e))
+
+-- a call that was short of buffers is so still when it has stored in blocks
+pub short_after : (n : ℕ) (o m r : Stock) → FoundScant n o m → SameScant m r → IsShortOfBuffers n o r
+short_after n o m r found same = record {
+  counted = subst (λ k. Rose o.scant k) (sym same.scant) found.short.counted;
+  unsure = found.short.unsure;
+  few = subst (λ k. TooFew (k - o.buffer_room) o.block n) (sym same.room) found.short.few;
+}
 
 module _ {S R : Type 0} (cmp : R → R → Ordering) (record_of : List ℕ → R) (width block : ℕ) (shown : S → Shown) where
   pub blocks_stored :
@@ -83,11 +91,7 @@ module _ {S R : Type 0} (cmp : R → R → Ordering) (record_of : List ℕ → R
   stored_after sorted old new o m r found same blocks =
       let at = subst (λ s. BlocksStored cmp record_of width shown sorted old new s r) found.stock blocks in
       inr record {
-        short = record {
-          counted = subst (λ n. Rose o.scant n) (sym same.scant) found.short.counted;
-          unsure = found.short.unsure;
-          few = subst (λ n. TooFew (n - o.buffer_room) o.block (length sorted)) (sym same.room) found.short.few;
-        };
+        short = short_after (length sorted) o m r found same;
         blocks = record {
           array = at.array;
           quiet = at.quiet;
@@ -142,10 +146,6 @@ pub none_after :
 none_after n old new o m r found same is =
     let at = subst (λ s. NoSlots n old new s r) found.stock is in
     record {
-      short = record {
-        counted = subst (λ n. Rose o.scant n) (sym same.scant) found.short.counted;
-        unsure = found.short.unsure;
-        few = subst (λ k. TooFew (k - o.buffer_room) o.block n) (sym same.room) found.short.few;
-      };
+      short = short_after n o m r found same;
       slots = record { untouched = at.untouched; dry = at.dry; unsure = at.unsure; still = at.still; still_few = at.still_few; internal = at.internal; external = at.external; idle = at.idle; buffers = at.buffers };
     }

@@ -22,7 +22,7 @@ use Rattle.ppq_fetch.specs.ppq_array.Run.{run_of, items_of, buffers_of}
 use Rattle.ppq_fetch.specs.ppq_array.External.{External, external, size_of, counts, records_in, waiting, blocks_items, IsPacked}
 use Rattle.ppq_fetch.specs.ppq_array.Supply.{Stock}
 use Rattle.ppq_fetch.specs.ppq_array.Owner.{slots_shown, HasBlock, HasSize}
-use Rattle.ppq_fetch.specs.ppq_array.Kept.{Kept, HasFailed, SameSlots, AreQuiet, weight_at, all_faults}
+use Rattle.ppq_fetch.specs.ppq_array.Kept.{Kept, HasFailed, SameSlots, AreQuiet, weight_at, all_faults, all_writes}
 use Rattle.ppq_fetch.specs.ppq_array.Holdings.{external_slots, external_buffers, RunHasBlock, ArrayHasSize}
 use Rattle.ppq_fetch.proofs.ppq_array.Noted.{all_left}
 use Rattle.ppq_fetch.specs.Fetching.{state, source_items, waiting_items, IsFitting, blocks_in, one_if_some}
@@ -232,15 +232,23 @@ module _ {S R : Type 0} (shown : S → Shown) (width level : ℕ) (old new other
   blocks_long : length t.hand.made.stored ≡ length is.merging.blocks
   blocks_long = omega (arith, ap (λ a. length a.stored) is.merging.made, length-append o.hand.made.stored is.merging.blocks, ap length is.none_made)
 
+  -- no more blocks were written than were made or went on, and they are no more than the records of the 8 take
+  pub level_writes : all_writes (arrays_after shown new stock now) ≤ all_writes (arrays_before shown old stock now) + (length is.merging.blocks + is.later)
+  level_writes = nil_went.calls.written
+
+  pub level_few : (length is.merging.blocks + is.later) * stock.block < records_count o.inputs + stock.block
+  level_few =
+      let block : o.hand.stock.block ≡ stock.block = ap (λ s. s.block) is.drew.stock in
+      subst (λ b. (length is.merging.blocks + is.later) * b < records_count o.inputs + b) block (subst (λ k. (k + is.later) * o.hand.stock.block < records_count o.inputs + o.hand.stock.block) blocks_long (omega (arith, is.merging.few, is.none_size)))
+
   pub level_calls : LevelCalls shown level old new stock now
   level_calls =
-      let block : o.hand.stock.block ≡ stock.block = ap (λ s. s.block) is.drew.stock in
       record {
         inputs = o.inputs;
         others = others;
         of = is.of;
         blocks = length is.merging.blocks + is.later;
-        few = subst (λ b. (length is.merging.blocks + is.later) * b < records_count o.inputs + b) block (subst (λ k. (k + is.later) * o.hand.stock.block < records_count o.inputs + o.hand.stock.block) blocks_long (omega (arith, is.merging.few, is.none_size)));
+        few = level_few;
         calls = record { written = nil_went.calls.written; stay = nil_went.calls.stay; read = omega (arith, nil_went.calls.read) };
       }
 
@@ -286,7 +294,7 @@ module _ {S R : Type 0} (shown : S → Shown) (width level : ℕ) (old new other
     sum_old : (f : External S R → ℕ) → sum_by f old ≡ sum_by f others + sum_by f o.inputs
     sum_old f = eight_sum level old o.inputs others is.of f
 
-    size_made : size_of t.hand.made ≡ records_count o.inputs
+    pub size_made : size_of t.hand.made ≡ records_count o.inputs
     size_made = omega (arith, same, is.none_size, count_none t.inputs emptied ready.may.none_lifted)
 
     level_buffers : external_buffers new ≡ external_buffers others
@@ -563,6 +571,10 @@ module _ {S R : Type 0} (shown : S → Shown) (width workers level : ℕ) (old n
   went_plain =
       subst (λ (xs : List Shown). Went 0 0 (xs ++ stock.kept ++ now.drawn) (arrays_after shown new stock now)) (append-nil (external_slots shown old))
       (subst (λ (xs : List Shown). Went 0 0 (external_slots shown old ++ [] ++ stock.kept ++ now.drawn) (xs ++ now.kept ++ stock.drawn)) (append-nil (external_slots shown new)) (went_none []))
+
+  -- none was written
+  pub none_writes : all_writes (arrays_after shown new stock now) ≤ all_writes (arrays_before shown old stock now)
+  none_writes = omega (arith, went_plain.calls.written)
 
   pub none_tells : LevelTells shown old new stock now
   none_tells = went_plain.tells

@@ -2,6 +2,7 @@ pub mod Batches
 pub mod Blocks
 pub mod Idle
 pub mod Choosing
+pub mod Costing
 pub mod Counted
 pub mod Fetches
 pub mod Filled

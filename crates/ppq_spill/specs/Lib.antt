@@ -1,5 +1,6 @@
 pub mod Body
 pub mod Choosing
+pub mod Costing
 pub mod Grouping
 pub mod Leveling
 pub mod Making

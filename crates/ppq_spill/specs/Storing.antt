@@ -169,6 +169,11 @@ module _ {S R : Type 0} where
   abbrev pub DeviceFailed : (S → Shown) → ℕ → PassBody S R → Stock → Type 0
   DeviceFailed shown number body stock = HasFailed number (body_slots shown body ++ stock.kept)
 
+  -- the same, and the call was short of buffers: else it calls no slot
+  pub record StoreFailed (shown : S → Shown) (number n : ℕ) (body : PassBody S R) (before now : Stock) : Type 0 where
+    pub short : IsShortOfBuffers n before now
+    pub failed : DeviceFailed shown number body now
+
   -- what storing runs in blocks leaves, whatever the answer
   pub record StoreLeaves (shown : S → Shown) (width n : ℕ) (old new : PassBody S R) (before now : Stock) : Type 0 where
     pub kept : Kept before now (held_by shown old) (held_by shown new)

@@ -4,6 +4,7 @@ ghost use Rattle.ppq_fetch.specs.ppq_array.External.{External, size_of};
 ghost use Rattle.ppq_fetch.specs.ppq_array.Kept.{Kept};
 ghost use Rattle.ppq_fetch.specs.ppq_array.Holdings.{external_buffers};
 ghost use Rattle.ppq_fetch.specs.Fetching.{state, count_in, MayFetch, AreSources, Fetched, PartsKept};
+ghost use Rattle.ppq_spill.specs.Costing.{LevelPays};
 ghost use Rattle.ppq_spill.specs.Moves.{DrewSlots, FoundFewSlots};
 ghost use Rattle.ppq_spill.specs.Making.{table_of, last_eight, all_but_eight, MayMerge, SameTools, IsFaultOf, BatchMergeEnds, MergeEnds, LastEnds, HasNothing};
 ghost use Rattle.ppq_spill.specs.Leveling.{held_in, count_level, MayLevel, AreOneSize, LanesStay, LevelCalls, LevelMerged, NoneForLevel, ArraysAscend, LevelFailed, LevelTells};
@@ -67,6 +68,7 @@ where
     ensures kept { Kept (P.stock supply.old) (P.stock supply.new) (held_in S.shown arrays.old.items lanes.old) (held_in S.shown arrays.new.items lanes.new) }
     ensures tells { LevelTells S.shown arrays.old.items arrays.new.items (P.stock supply.old) (P.stock supply.new) }
     ensures calls { LevelCalls S.shown level arrays.old.items arrays.new.items (P.stock supply.old) (P.stock supply.new) }
+    ensures counted { LevelPays S.shown result arrays.old.items arrays.new.items (P.stock supply.old) (P.stock supply.new) }
     ensures home { P.home supply.new ≡ P.home supply.old }
     ensures merged { OnOk result (LevelMerged R.Ord.cmp R.record_of R.WIDTH S.shown level arrays.old.items arrays.new.items (P.stock supply.old) (P.stock supply.new)) }
     ensures none_free { IsErrOf result StoreFault.NoFreeBlock → NoneForLevel S.shown level bench.old.workers arrays.old.items arrays.new.items lanes.old lanes.new (P.stock supply.old) (P.stock supply.new) }

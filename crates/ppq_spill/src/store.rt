@@ -3,7 +3,8 @@ ghost use Rattle.std.specs.Prelude.{◌≡◌, ◌+◌, ◌^◌, ◌<◌, [], On
 ghost use Rattle.ppq_fetch.specs.ppq_array.Kept.{Kept};
 ghost use Rattle.ppq_fetch.specs.ppq_array.Holdings.{CanTakeBack, internal_items};
 ghost use Rattle.ppq_spill.specs.Body.{held_by};
-ghost use Rattle.ppq_spill.specs.Storing.{in_buffers, MayStore, WritesFew, HasOneSize, RoomsRest, LanesRest, IsStored, BlocksStored, NoneFree, NoSlots, RunsAscend, DeviceFailed, SameScant, StillTell, StillUntold, StoreLeaves, StoreEnds};
+ghost use Rattle.ppq_spill.specs.Costing.{StorePays};
+ghost use Rattle.ppq_spill.specs.Storing.{in_buffers, MayStore, WritesFew, HasOneSize, RoomsRest, LanesRest, IsStored, BlocksStored, NoneFree, NoSlots, RunsAscend, DeviceFailed, StoreFailed, SameScant, StillTell, StillUntold, StoreLeaves, StoreEnds};
 
 use crate::PassBody;
 use crate::buffers::{blocks_for, store_in_buffers};
@@ -29,9 +30,11 @@ use ppq_fetch::{ExternalArray, Host, InternalArray, Record, Slot, StoreFault, Su
 /// slots than the blocks need. No slot was called then, and nothing has changed but the supply's counts
 /// and slots and the order of its buffers: slots that were drawn are kept by the supply.
 ///
-/// `Device` only if a write of the slot with that number failed; the supply keeps that slot. Where several
-/// of a group failed, it is the first of them in the order of the run. Records may be lost then, but no slot
-/// and no buffer.
+/// `Device` only if buffers were short and a write of the slot with that number failed; the supply keeps
+/// that slot. Where several of a group failed, it is the first of them in the order of the run. Records may
+/// be lost then, but no slot and no buffer.
+///
+/// What it writes is bounded by an account of the runs, which every later merge of levels is paid from.
 pub fn store_sorted<H: Host, S: Slot + Send, R: Record + Send, P: Supply<S, R>>(
     rt: &H,
     body: &mut PassBody<S, R>,
@@ -50,8 +53,9 @@ where
     ensures home { P.home supply.new ≡ P.home supply.old }
     ensures stored { OnOk result (IsStored R.Ord.cmp R.record_of R.WIDTH S.shown sorted.now body.old body.new (P.stock supply.old) (P.stock supply.new)) }
     ensures none_free { IsErrOf result StoreFault.NoFreeBlock → NoneFree (length sorted.now) body.old body.new (P.stock supply.old) (P.stock supply.new) }
-    ensures device { (number : ℕ) → IsErrOf result (StoreFault.Device number) → DeviceFailed S.shown number body.new (P.stock supply.new) }
+    ensures device { (number : ℕ) → IsErrOf result (StoreFault.Device number) → StoreFailed S.shown number (length sorted.now) body.new (P.stock supply.old) (P.stock supply.new) }
     ensures writes { WritesFew S.shown (length sorted.now) body.old body.new (P.stock supply.old) (P.stock supply.new) }
+    ensures counted { StorePays S.shown result (length sorted.now) body.old body.new (P.stock supply.old) (P.stock supply.new) }
     ensures lanes { LanesRest body.old.lanes body.new.lanes }
     ensures size { HasOneSize S.shown R.WIDTH body.new (P.stock supply.new) }
     ensures rooms { RoomsRest body.old body.new }
@@ -89,6 +93,7 @@ where
     ensures none_free { IsErrOf result StoreFault.NoFreeBlock → NoSlots 0 body.old body.new (P.stock supply.old) (P.stock supply.new) }
     ensures device { (number : ℕ) → IsErrOf result (StoreFault.Device number) → DeviceFailed S.shown number body.new (P.stock supply.new) }
     ensures writes { WritesFew S.shown 0 body.old body.new (P.stock supply.old) (P.stock supply.new) }
+    ensures counted { StorePays S.shown result 0 body.old body.new (P.stock supply.old) (P.stock supply.new) }
     ensures lanes { LanesRest body.old.lanes body.new.lanes }
     ensures size { HasOneSize S.shown R.WIDTH body.new (P.stock supply.new) }
     ensures rooms { RoomsRest body.old body.new }

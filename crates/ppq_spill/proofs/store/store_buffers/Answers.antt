@@ -1,5 +1,6 @@
 use Rattle.std.proofs.Common.{[]}
 use Rattle.ppq_spill.proofs.InBlocks.{ends_stored}
+use Rattle.ppq_spill.proofs.Costing.{blocks_counted}
 use Rattle.ppq_spill.proofs.store.store_buffers.Goals as goal
 
 pub returns-clause-kept : goal.returns-clause-kept
@@ -34,3 +35,8 @@ returns-clause-none_free g c = λ e. rw e at c.store_in_blocks.ensures.outcome
 
 pub returns-clause-device : goal.returns-clause-device
 returns-clause-device g c = λ number e. rw e at c.store_in_blocks.ensures.outcome
+
+pub returns-clause-counted : goal.returns-clause-counted
+returns-clause-counted g c =
+    let e = c.store_in_blocks.ensures in
+    blocks_counted g.S.Slot.shown c.args.body.now c.store_in_blocks.new.body (g.P.Supply.stock c.args.supply.now) (g.P.Supply.stock c.store_in_blocks.new.supply) g.R.Ord.cmp g.R.Record.record_of g.R.Record.WIDTH [] c.requires.room.no_job e.leaves c.store_in_blocks.result e.outcome

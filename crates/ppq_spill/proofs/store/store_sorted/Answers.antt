@@ -1,12 +1,13 @@
-use Rattle.std.proofs.Common.{◌≡◌, ◌*◌, length, All, sym, ap, subst, arith}
+use Rattle.std.proofs.Common.{◌≡◌, ◌*◌, length, All, refl, sym, ap, subst, arith}
 use Rattle.std.proofs.lemmas.List.Elements.{All-push}
 use Rattle.ppq_fetch.specs.ppq_array.Holdings.{RunHasBlock}
 use Rattle.ppq_spill.proofs.Storings.{sizes_after}
 use Rattle.std.proofs.lemmas.Result.{on_ok_weaker}
-use Rattle.ppq_spill.specs.Storing.{BlocksStored}
+use Rattle.ppq_spill.specs.Storing.{BlocksStored, slots_before, slots_after}
 use Rattle.ppq_spill.specs.Body.{body_slots}
 use Rattle.ppq_spill.proofs.Going.{went_untouched, more_writes}
-use Rattle.ppq_spill.proofs.InBlocks.{stored_after, ascend_still, leaves_still, ends_stored, none_after}
+use Rattle.ppq_spill.proofs.InBlocks.{stored_after, ascend_still, leaves_still, ends_stored, none_after, short_after}
+use Rattle.ppq_spill.proofs.Costing.{store_counted, buffers_counted}
 use Rattle.ppq_spill.proofs.store.store_sorted.Goals as goal
 
 pub store_in_blocks-requires-clause-ascend : goal.store_in_blocks-requires-clause-ascend
@@ -84,4 +85,24 @@ returns-in-None-clause-none_free g c =
     λ e. none_after (length c.args.sorted.now) c.args.body.now c.store_in_blocks.new.body (g.P.Supply.stock c.args.supply.now) (g.P.Supply.stock c.store_in_buffers.new.supply) (g.P.Supply.stock c.store_in_blocks.new.supply) c.in-None.ensures.scant c.store_in_blocks.ensures.scant (rw e at c.store_in_blocks.ensures.outcome)
 
 pub returns-in-None-clause-device : goal.returns-in-None-clause-device
-returns-in-None-clause-device g c = λ number e. rw e at c.store_in_blocks.ensures.outcome
+returns-in-None-clause-device g c = λ number e.
+    record {
+      short = short_after (length c.args.sorted.now) (g.P.Supply.stock c.args.supply.now) (g.P.Supply.stock c.store_in_buffers.new.supply) (g.P.Supply.stock c.store_in_blocks.new.supply) c.in-None.ensures.scant c.store_in_blocks.ensures.scant;
+      failed = rw e at c.store_in_blocks.ensures.outcome;
+    }
+
+pub returns-in-None-clause-counted : goal.returns-in-None-clause-counted
+returns-in-None-clause-counted g c =
+    let e = c.store_in_blocks.ensures in
+    store_counted g.S.Slot.shown g.R.Ord.cmp g.R.Record.record_of g.R.Record.WIDTH c.args.sorted.now c.args.body.now c.store_in_blocks.new.body (g.P.Supply.stock c.args.supply.now) (g.P.Supply.stock c.store_in_buffers.new.supply) (g.P.Supply.stock c.store_in_blocks.new.supply) c.in-None.ensures.scant c.requires.room.no_job e.leaves
+    c.store_in_blocks.result e.outcome
+
+pub returns-in-Some-clause-counted : goal.returns-in-Some-clause-counted
+returns-in-Some-clause-counted g c =
+    let o = g.P.Supply.stock c.args.supply.now in
+    let n = g.P.Supply.stock c.store_in_buffers.new.supply in
+    let is = c.in-Some.ensures.stored in
+    let went = (went_untouched (body_slots g.S.Slot.shown c.args.body.now) o n (ap (λ s. s.kept) is.stock) (ap (λ s. s.drawn) is.stock)).went in
+    let body = c.args.body.now in
+    let b = record body { runs = record body.runs { internal = c.push_reserved.new.self } } in
+    buffers_counted g.S.Slot.shown tt c.args.sorted.now c.in-Some.run' body b o n (more_writes 0 (slots_before g.S.Slot.shown body o n) (slots_after g.S.Slot.shown b o n) went) is.items c.push_reserved.ensures.items refl

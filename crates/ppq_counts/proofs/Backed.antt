@@ -1,0 +1,34 @@
+-- Stores of full heaps are backed by accepted records.
+use Rattle.std.proofs.Common.{◌≡◌, ℕ, ◌+◌, ◌*◌, ◌≤◌, min, ap, ◌∙◌, arith}
+use Rattle.std.proofs.Math.Nat.{mul-le-mul_left}
+use Rattle.ppq_counts.specs.Tally.{Tally, last, accepting, storing, beginning, joined, IsCounting, IsBacked}
+
+module _ (heap before : ℕ) where
+  -- a record was accepted into a heap
+  pub backed-accepting : (h n : ℕ) (t : Tally) → t.accepted + n ≤ last → IsBacked heap before h t → IsBacked heap before (h + n) (accepting n t)
+  backed-accepting h n t few is =
+      let e : min (t.accepted + n) last ≡ t.accepted + n = omega (arith, few) in
+      record { within = omega (arith, is.within, e) }
+
+  -- a store of a full heap was begun. The heaps have no other records than before, without those of that heap, whatever the answer
+  pub backed-storing : (h rest : ℕ) (t : Tally) → rest + heap ≤ h → IsBacked heap before h t → IsBacked heap before rest (storing t)
+  backed-storing h rest t fewer is =
+      let e : min (t.stores + 1) last ≤ t.stores + 1 = omega arith in
+      let product : heap * min (t.stores + 1) last ≤ heap * (t.stores + 1) = mul-le-mul_left heap e in
+      record { within = omega (arith, is.within, product, fewer) }
+
+  -- records left the heaps, or a session was begun
+  pub backed-fewer : (h h' : ℕ) (t : Tally) → h' ≤ h → IsBacked heap before h t → IsBacked heap before h' t
+  backed-fewer h h' t fewer is = record { within = omega (arith, is.within, fewer) }
+
+  pub backed-beginning : (h : ℕ) (t : Tally) → IsBacked heap before h t → IsBacked heap before h (beginning t)
+  backed-beginning h t is = record { within = is.within }
+
+-- A pass came back: it began with so many records, which the parts had before
+pub backed-joined :
+    (heap begun h i : ℕ) (t u : Tally) → IsCounting (joined t u) → IsBacked heap 0 (h + begun) t → IsBacked heap begun i u → IsBacked heap 0 (h + i) (joined t u)
+backed-joined heap begun h i t u counting one two =
+    let a : min (t.accepted + u.accepted) last ≡ t.accepted + u.accepted = omega (arith, counting.accepted) in
+    let b : min (t.stores + u.stores) last ≡ t.stores + u.stores = omega (arith, counting.stores) in
+    let product : heap * min (t.stores + u.stores) last ≡ heap * t.stores + heap * u.stores = ap (λ k. heap * k) b ∙ (omega arith) in
+    record { within = omega (arith, one.within, two.within, a, product) }
