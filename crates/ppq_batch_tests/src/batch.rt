@@ -299,3 +299,19 @@ fn a_failed_block_ends_the_asks(rt: HostRuntime) {
     );
     ended(&rt, &told, false, Err(QueueFault::Device { number: 4 }));
 }
+
+#[test]
+fn the_size_counts_pops_and_pushes_over_blocks_that_forge(rt: HostRuntime) {
+    let keys = [6, 5, 4, 3, 2, 1];
+    let mut rack = MemRack::forging(1);
+    let queue = queue_of(&rt, rt.alloc(), &mut rack, 372, 200, &keys);
+    let lines = [line(0, u64::MAX), line(1, u64::MAX), line(0, u64::MAX)];
+    let asks = [Ask::Pop, Ask::Top, Ask::Pop];
+    let told = in_one(&rt, rt.alloc(), queue, u64::MAX, &lines, &asks, &OpenGate);
+    // Each of the three answers is a record, of which the pops removed two: 6 - 2 + 3.
+    ended(&rt, &told, true, Ok(()));
+    for answer in &told.first {
+        assert!(rt; answer.is_some());
+    }
+    assert!(rt; (told.first.len() == 3) & (told.size == 7));
+}

@@ -28,7 +28,7 @@ use Rattle.ppq_session.specs.declared.ask.Ask.{Ask}
 use Rattle.ppq_session.specs.Asks.{answers_to, left_after, pops_in}
 use Rattle.ppq_session.specs.Answering.{KeepsFront, HasAnswered}
 use Rattle.ppq_session.specs.LimitSessions.{AreGoing, InLimits, IsOver, IsOverBy, begun_in}
-use Rattle.ppq_session.proofs.Answered.{left_after-same, answers_to-same}
+use Rattle.ppq_session.proofs.Answered.{left_after-same, answers_to-same, removed_in-most}
 use Rattle.ppq_session.proofs.Sessions.{fresh-going, given-none, given-more, end-keeps, finished-whole, finished-short, finished-stopped}
 use Rattle.ppq_session.proofs.Mapped.{all_mapped}
 use Rattle.std.specs.List.{AllByRecursion as Each}
@@ -198,7 +198,7 @@ module _ {S R : Type 0} where
               quiet = λ sound. answered.quiet sound ∙ k.quiet going.front;
             };
             limit_is = ap (λ (f : FrontHolding S R). f.limit) kept.rest ∙ s.limit_is;
-            popped_is = omega (arith, kept.popped, s.popped_is);
+            popped_is = omega (arith, kept.popped, s.popped_is, removed_in-most asks answers);
             rest = λ sound t.
                 IsSameBag-trans new.bag (left_after cmp limit old.bag asks) (left_after cmp limit left asks)
                 (subst (λ l. IsSameBag new.bag (left_after cmp l old.bag asks)) s.limit_is (answered.left sound (k.tells t).0))

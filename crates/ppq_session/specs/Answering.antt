@@ -7,14 +7,14 @@ use Rattle.ppq_pass.specs.ppq_outside.Shown.{AllTell}
 use Rattle.ppq_pass.specs.ppq_array.Kept.{SameSlots, AreQuiet, all_writes}
 use Rattle.ppq_session.specs.Fronts.{FrontHolding}
 use Rattle.ppq_session.specs.declared.ask.Ask.{Ask}
-use Rattle.ppq_session.specs.Asks.{answers_to, left_after, pops_in}
+use Rattle.ppq_session.specs.Asks.{answers_to, left_after, removed_in}
 
 module _ {S R : Type 0} where
-  -- what calls of a front keep that give so many records at the most
-  pub record KeepsFront (most : ℕ) (old new : FrontHolding S R) : Type 0 where
+  -- what calls of a front keep that remove so many records
+  pub record KeepsFront (gone : ℕ) (old new : FrontHolding S R) : Type 0 where
     pub rest : new ≡ record old { bag = new.bag; size = new.size; popped = new.popped; slots = new.slots; run_buffers = new.run_buffers; in_extract = new.in_extract; failed = new.failed }
     pub total : new.size + new.popped ≡ old.size + old.popped
-    pub popped : new.popped ≤ old.popped + most
+    pub popped : new.popped ≡ old.popped + gone
     pub slots : SameSlots old.slots new.slots
     pub tells : AllTell old.slots → AllTell new.slots
     pub writes : all_writes old.slots ≤ all_writes new.slots
@@ -27,7 +27,7 @@ module _ {S R : Type 0} where
 
   -- A front answered these asks, up to the first that met a fault
   pub record HasAnswered (cmp : R → R → Ordering) (asks : List Ask) (answers : List (Option R)) (old new : FrontHolding S R) : Type 0 where
-    pub kept : KeepsFront (pops_in asks) old new
+    pub kept : KeepsFront (removed_in asks answers) old new
     pub quiet : new.failed ≡ None → AreQuiet old.slots new.slots
     pub fewer : length answers ≤ length asks
     pub all : new.failed ≡ None → length answers ≡ length asks

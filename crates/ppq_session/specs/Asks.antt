@@ -1,7 +1,7 @@
 -- Asks of the owner in a limit session, and their answers.
-use Rattle.std.specs.Prelude.{ℕ, ◌+◌, List, [], ◌∷◌, Option}
+use Rattle.std.specs.Prelude.{ℕ, ◌+◌, List, [], ◌∷◌, Option, Result, Ok, Err}
 use Rattle.std.specs.declared.cmp.Ordering.{Ordering}
-use Rattle.ppq_session.specs.Fronts.{least_below, without_least_below}
+use Rattle.ppq_session.specs.Fronts.{least_below, without_least_below, number_in}
 use Rattle.ppq_session.specs.declared.ask.Ask.{Ask}
 use Rattle.ppq_session.specs.declared.ask.Ask.TheVariants.{Top, Pop}
 
@@ -14,6 +14,22 @@ pops_by Pop = 1
 abbrev pub pops_in : List Ask → ℕ
 pops_in [] = 0
 pops_in (ask ∷ asks) = pops_by ask + pops_in asks
+
+-- how many records an ask removed that was answered so: one, if it was for a pop and the answer is a record
+abbrev pub removed_by : {R : Type 0} → Ask → Option R → ℕ
+removed_by Top answer = 0
+removed_by Pop answer = number_in answer
+
+-- the same of several asks, of which the first ones have these answers
+abbrev pub removed_in : {R : Type 0} → List Ask → List (Option R) → ℕ
+removed_in [] answers = 0
+removed_in (ask ∷ asks) [] = 0
+removed_in (ask ∷ asks) (answer ∷ answers) = removed_by ask answer + removed_in asks answers
+
+-- the same of an ask that may have been refused
+abbrev pub removed_with : {R E : Type 0} → Ask → Result (Option R) E → ℕ
+removed_with ask (Ok answer) = removed_by ask answer
+removed_with ask (Err fault) = 0
 
 module _ {R : Type 0} (cmp : R → R → Ordering) (limit : R) where
   -- what an ask leaves of a bag

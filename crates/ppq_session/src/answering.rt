@@ -4,7 +4,7 @@ ghost use Rattle.ppq_pass.specs.ppq_record.Bag.{IsSameBag};
 ghost use Rattle.ppq_pass.specs.ppq_outside.Shown.{AllTell};
 ghost use Rattle.ppq_pass.specs.ppq_array.Kept.{AreQuiet};
 ghost use Rattle.ppq_session.specs.Fronts.{IsFrontRefusal, least_below};
-ghost use Rattle.ppq_session.specs.Asks.{left_by, pops_by};
+ghost use Rattle.ppq_session.specs.Asks.{left_by, removed_with};
 ghost use Rattle.ppq_session.specs.Answering.{MayAnswer, HasAnswered, KeepsFront};
 
 use crate::{Ask, Front};
@@ -24,7 +24,7 @@ where
     ensures sound { OnOk result (front.new.failed ≡ None) }
     ensures quiet { OnOk result (AreQuiet front.old.slots front.new.slots) }
     ensures refused { IfErr result (IsFrontRefusal front.old front.new) }
-    ensures kept { KeepsFront (pops_by ask) front.old front.new }
+    ensures kept { KeepsFront (removed_with ask result) front.old front.new }
 {
     match ask {
         Ask::Top => front.top(rt, gate),

@@ -12,14 +12,14 @@ loop-i-preserved g c =
     let new = c.answer_one.new.front in
     let ok = c.in-Ok.ensures in
     record {
-      so_far = answered-more c.record_laws.ensures.order c.record_laws.ensures.same c.args.asks.now c.loop-i.i _ c.loop-i.answers.items c.push_reserved.new.self.items c.in-Ok.answer old c.loop-i.front new c.push_reserved.ensures.items (omega arith) refl i.so_far c.answer_one.ensures.kept ok.quiet ok.sound ok.answer ok.left;
+      so_far = answered-more c.record_laws.ensures.order c.record_laws.ensures.same c.args.asks.now c.loop-i.i _ c.loop-i.answers.items c.push_reserved.new.self.items c.in-Ok.answer old c.loop-i.front new c.push_reserved.ensures.items (omega arith) refl i.so_far ok.kept ok.quiet ok.sound ok.answer ok.left;
       room = omega (arith, c.push_reserved.ensures.capacity, i.room);
     }
 
 pub returns-in-Err-clause-answered : goal.returns-in-Err-clause-answered
 returns-in-Err-clause-answered g c =
     let i = c.loop-i.invariant in
-    answered-stopped c.args.asks.now c.loop-i.i _ c.loop-i.answers.items c.args.front.now c.loop-i.front c.answer_one.new.front c.in-Err.field-0 (omega arith) refl i.so_far c.answer_one.ensures.kept c.in-Err.ensures.refused
+    answered-stopped c.args.asks.now c.loop-i.i c.loop-i.answers.items c.args.front.now c.loop-i.front c.answer_one.new.front c.in-Err.field-0 (omega arith) i.so_far c.in-Err.ensures.kept c.in-Err.ensures.refused
 
 pub returns-clause-answered : goal.returns-clause-answered
 returns-clause-answered g c = answered-all c.args.asks.now c.loop-i.i c.loop-i.answers.items c.args.front.now c.loop-i.front (omega arith) c.loop-i.invariant.so_far

@@ -9,7 +9,7 @@ use Rattle.ppq_session.proofs.Begun.{limited_of}
 use Rattle.ppq_session.proofs.Sessions.{kept_back}
 use Rattle.ppq_session.specs.Limited.{LimitHolding, passes_of}
 use Rattle.ppq_session.specs.LimitSession.{AreLimited, shared_of}
-use Rattle.ppq_session.specs.Asks.{answers_to, left_after, pops_in}
+use Rattle.ppq_session.specs.Asks.{answers_to, left_after, removed_in, pops_in}
 use Rattle.ppq_session.specs.Batches.{AreAbove, MayPush}
 use Rattle.ppq_session.specs.LimitSessions.{AreGoing, InLimits}
 use Rattle.ppq_session.proofs.Mapped.{all_mapped}
@@ -46,7 +46,7 @@ invariant_of-self g c =
     let olds = inside.passes.items in
     let news = c.run_both.new.passes in
     let new = c.run_both.new.front in
-    let popped = pops_in c.args.asks.now in
+    let popped = removed_in c.args.asks.now c.run_both.new.answers.items in
     let value = c.as_mut_slice.ensures.value in
     let back = kept_back inside.passes.len news (drop (length news) olds) (c.run_both.auto.passes ∙ c.as_mut_slice.ensures.len) in
     let kept = c.run_both.ensures.answered.kept in
@@ -85,6 +85,7 @@ returns g c =
           (λ queue limit given left popped s t. session-answers shown queue limit given left popped laws.order laws.same asks answers old new olds going e.answered s t);
       answered = e.answered.all;
       fewer = e.answered.fewer;
+      popped = subst (λ l. new.popped ≡ l.front.popped + removed_in asks answers) view e.answered.kept.popped;
       room = e.room;
       session =
           subst

@@ -1,10 +1,10 @@
-use Rattle.std.proofs.Common.{List, All, subst, arith}
+use Rattle.std.proofs.Common.{◌≡◌, ◌+◌, List, All, subst, arith}
 use Rattle.std.specs.Prelude.{Any, Ok, Err, ⊤, ℕ}
 use Rattle.std.proofs.lemmas.List.Elements.{All-map}
 use Rattle.ppq_queue.specs.Holding.{Holding}
 use Rattle.ppq_pass.specs.ppq_array.declared.store_fault.StoreFault.TheVariants.{NoFreeBlock}
 use Rattle.ppq_session.specs.Dealing.{IsGoing, HasEnded}
-use Rattle.ppq_session.specs.Ends.{EndsWith, NamesFirst}
+use Rattle.ppq_session.specs.Ends.{EndsWith, NamesFirst, accepted_of}
 use Rattle.ppq_session.specs.Limited.{LimitHolding, passes_of}
 use Rattle.ppq_session.specs.LimitSession.{of_front}
 use Rattle.ppq_session.specs.LimitSessions.{InLimits, IsOver, IsOverBy, AreGoing}
@@ -26,6 +26,7 @@ returns-in-Stopped g c =
       all = tt;
       over = subst (λ old. (queue : Holding g.row.R.Denot) (limit : g.row.R.Denot) (given left : List g.row.R.Denot) (popped : ℕ) → InLimits shown queue limit given left popped old → IsOver {T = ⊤} queue given left popped new (Err fault)) c.self.view_is
           (λ queue limit given left popped i. over-stopped shown queue limit given left popped s.front passes i new c.limit_end-queue.result.1 e fault end (omega (arith, c.known.ensures.range.two_records)));
+      size = tt;
       left = subst (λ old. IsOverBy shown old new fault) c.self.view_is (over-by shown s.front passes new fault end);
       first = subst (λ old. NamesFirst {T = ⊤} (passes_of old.passes) old.front.failed (Err fault)) c.self.view_is (first-stopped (passes_of passes) s.front.failed c.limit_end-queue.result.1 e.first fault c.in-Stopped.is);
     }
@@ -44,6 +45,7 @@ returns-in-Whole g c =
       all = subst (λ old. AreGoing old) c.self.view_is (record { passes = going; front = end.no_fault.0 });
       over = subst (λ old. (queue : Holding g.row.R.Denot) (limit : g.row.R.Denot) (given left : List g.row.R.Denot) (popped : ℕ) → InLimits shown queue limit given left popped old → IsOver queue given left popped new (Ok tt)) c.self.view_is
           (λ queue limit given left popped i. over-whole shown queue limit given left popped s.front passes i new c.limit_end-queue.result.1 e tt end going);
+      size = subst (λ old. new.size ≡ old.front.size + accepted_of (passes_of old.passes)) c.self.view_is end.size;
       left = tt;
       first = subst (λ old. NamesFirst (passes_of old.passes) old.front.failed (Ok tt)) c.self.view_is (first-whole (passes_of passes) s.front.failed c.limit_end-queue.result.1 e.first c.in-Whole.is);
     }
@@ -62,6 +64,7 @@ returns-in-Whole-2 g c =
       all = tt;
       over = subst (λ old. (queue : Holding g.row.R.Denot) (limit : g.row.R.Denot) (given left : List g.row.R.Denot) (popped : ℕ) → InLimits shown queue limit given left popped old → IsOver {T = ⊤} queue given left popped new (Err NoFreeBlock)) c.self.view_is
           (λ queue limit given left popped i. over-short shown queue limit given left popped s.front passes i new c.limit_end-queue.result.1 e end (omega (arith, c.known.ensures.range.two_records)) ended);
+      size = tt;
       left = subst (λ old. IsOverBy shown old new NoFreeBlock) c.self.view_is end;
       first = subst (λ old. NamesFirst {T = ⊤} (passes_of old.passes) old.front.failed (Err NoFreeBlock)) c.self.view_is (first-whole (passes_of passes) s.front.failed c.limit_end-queue.result.1 e.first c.in-Whole-2.is);
     }
