@@ -2,6 +2,7 @@
 """Prints what a program of this repository prints, from a heap of Python in place of the queue.
 
     bench/expected.py machines        # crates/ppq_example: a simulator of machines
+    bench/expected.py threads         # crates/ppq_threads: records that threads push
     bench/expected.py script FILE     # a script of examples/, one that has pairs
 
 `docs/check` compares this with the output that the gate wants of these programs.
@@ -32,6 +33,31 @@ def machines():
         order = (order * 31 + target) & WORD
         heapq.heapreplace(events, event(clock, target, word + 1))
     print(f"{pieces} pieces at {clock}, at most {most} of one machine, order {order}, {len(events)} waiting, device used: true")
+
+
+def threads():
+    each, workers, horizon = 50_000, 4, 1 << 39
+
+    def seen(events):
+        order = 0
+        for _, number in events:
+            order = (order * 31 + number) & WORD
+        return f"{len(events)} events, in order: true, their numbers {order}"
+
+    def event(number):
+        mixed = number * MIX & WORD
+        return ((mixed ^ mixed >> 29) >> 24, number)
+
+    events = [event(number) for number in range(workers * each)]
+    heapq.heapify(events)
+    print(f"{len(events)} events by 4 threads")
+    taken = []
+    while events[0] < (horizon, 0):
+        key, number = events[0]
+        taken.append((key, number))
+        heapq.heapreplace(events, (key + horizon, number))
+    print(f"below {horizon}: {seen(taken)}")
+    print(f"after it: {seen([heapq.heappop(events) for _ in range(len(events))])}, device used: true")
 
 
 def pairs_of(file):
@@ -102,7 +128,7 @@ def script(file):
         print(answer)
 
 
-PROGRAMS = {"machines": machines, "script": script}
+PROGRAMS = {"machines": machines, "threads": threads, "script": script}
 
 if __name__ == "__main__":
     PROGRAMS[sys.argv[1]](*sys.argv[2:])

@@ -45,6 +45,11 @@ const EXAMPLES: &[Example] = &[
         most: 100,
     },
     Example {
+        words: "run sort.ppq --device a.device --blocks 200 --workers 2 --block 2 --heap 1 --memory 372",
+        least: 16,
+        most: 160,
+    },
+    Example {
         words: "run sessions.ppq --device a.device --blocks 2048 --workers 4 --block 4096 --heap 8 --memory 1048576",
         least: 0,
         most: 0,
