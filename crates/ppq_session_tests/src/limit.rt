@@ -246,24 +246,28 @@ fn a_full_device_begins_no_session(rt: HostRuntime) -> Result<(), Fail> {
 }
 
 // A session of four workers, whose front reads blocks beside its merges while the passes, which add more than
-// the pool's four buffers hold, add records on threads of their own.
-fn reads_beside<H: Host + Abort>(rt: &H, alloc: Global) -> Result<(), Fail>
+// the pool's four buffers hold, add records on threads of their own. So many records were popped before it, and
+// where there were some, blocks are loaded ahead when it begins.
+fn reads_beside<H: Host + Abort>(rt: &H, alloc: Global, before: u64) -> Result<(), Fail>
 where
     H::Dir: Send,
 {
     let sizes = Sizes::new(4, 2, 8, 864, 600).expect(rt, "sizes in range");
-    let mut before = Vec::new(alloc);
+    let mut records = Vec::new(alloc);
     for i in 0..200u64 {
-        before
+        records
             .push(pair(i * 77 % 200))
             .expect(rt, "room for a record");
     }
-    let queue = queue_of(rt, alloc, sizes, before)?;
+    let mut queue = queue_of(rt, alloc, sizes, records)?;
+    'popping: for key in 0..before {
+        assert!(rt; queue.pop(rt, &OpenGate) == Ok(Some(pair(key))));
+    }
     let adds = keys(rt, alloc, 200, 400);
     let adds = adds.as_slice();
     let (queue, given, done) = in_session(rt, alloc, queue, pair(150), adds, Giving::Meanwhile);
     let kept = popped(rt, alloc, queue);
-    assert!(rt; are_keys(given.as_slice(), 0, 150) & are_keys(kept.as_slice(), 150, 400));
+    assert!(rt; are_keys(given.as_slice(), before, 150) & are_keys(kept.as_slice(), 150, 400));
     assert!(rt; (done.end == SessionEnd::Whole) & (done.accepted == 200) & !done.refused);
     Ok(())
 }
@@ -272,5 +276,12 @@ where
 fn a_front_reads_beside_its_merges_while_passes_hold_all_buffers(
     rt: HostRuntime,
 ) -> Result<(), Fail> {
-    reads_beside(&rt, rt.alloc())
+    reads_beside(&rt, rt.alloc(), 0)
+}
+
+#[test]
+fn blocks_that_were_read_ahead_are_there_when_a_session_begins(
+    rt: HostRuntime,
+) -> Result<(), Fail> {
+    reads_beside(&rt, rt.alloc(), 3)
 }
