@@ -1,7 +1,9 @@
-"""Draws bench/times.svg from the table of bench/README.md: nanoseconds a record by the number of records that are drained."""
+"""Draws bench/times.svg from the table of bench/README.md: nanoseconds a record by the number of records that are drained.
+It refuses a table in which a program has two rows for one load, and one that does not say when and where it was measured."""
 
 import math
 import pathlib
+import sys
 
 BENCH = pathlib.Path(__file__).resolve().parent
 COLOURS = {
@@ -12,17 +14,34 @@ COLOURS = {
     "ppq, 4": "#0072b2",
 }
 NAMES = {"ppq, 1": "ppq, 1 worker", "ppq, 4": "ppq, 4 workers", "external sort": "external sort (no queue)"}
-LEFT, RIGHT, TOP, BOTTOM, WIDTH, HEIGHT = 64, 190, 40, 48, 720, 400
+LEFT, RIGHT, TOP, BOTTOM, WIDTH, HEIGHT = 64, 190, 52, 48, 720, 400
 STEP = 100  # nanoseconds between two lines of the grid
 ROOM = 16  # pixels between two names
 
 
-def points():
+def table():
+    """The lines between `<!-- device -->` and `<!-- end -->`."""
+    lines = (BENCH / "README.md").read_text().partition("<!-- device -->\n")[2].partition("<!-- end -->\n")[0].splitlines()
+    return lines or sys.exit("bench/plot.py: bench/README.md has no lines <!-- device --> and <!-- end -->")
+
+
+def measured(lines):
+    """When and on which machine the table was measured."""
+    said = [line.removeprefix("Measured on ").rstrip(".") for line in lines if line.startswith("Measured on ")]
+    return said[0] if len(said) == 1 else sys.exit("bench/plot.py: the table wants one line 'Measured on DAY, MACHINE.'")
+
+
+def points(lines):
     """For each program the nanoseconds a record by the millions of records."""
-    found = {name: {} for name in COLOURS}
-    for line in (BENCH / "README.md").read_text().splitlines():
+    found, rows = {name: {} for name in COLOURS}, set()
+    for line in lines:
         cells = [cell.strip() for cell in line.split("|")[1:-1]]
-        if len(cells) == 10 and cells[0].endswith("M drained") and cells[1] in found:
+        if len(cells) != 10:
+            continue
+        if (row := (cells[0], cells[1])) in rows:
+            sys.exit(f"bench/plot.py: two rows of {row[1]} for {row[0]}")
+        rows.add(row)
+        if cells[0].endswith("M drained") and cells[1] in found:
             found[cells[1]][int(cells[0].split("M")[0])] = float(cells[4])
     return {name: times for name, times in found.items() if times}
 
@@ -35,7 +54,7 @@ def spread(places):
     return moved
 
 
-def drawing(found):
+def drawing(found, said):
     sizes = sorted({size for times in found.values() for size in times})
     most = math.ceil(max(max(times.values()) for times in found.values()) / STEP) * STEP
 
@@ -48,6 +67,7 @@ def drawing(found):
     yield f'<svg xmlns="http://www.w3.org/2000/svg" viewBox="0 0 {WIDTH} {HEIGHT}" font-family="sans-serif" font-size="13">'
     yield f'<rect width="{WIDTH}" height="{HEIGHT}" fill="white"/>'
     yield f'<text x="{LEFT}" y="22" font-weight="bold">Nanoseconds a record that is added and removed</text>'
+    yield f'<text x="{LEFT}" y="36" font-size="11" fill="#666666">{said}</text>'
     for time in range(0, most + 1, STEP):
         yield f'<line x1="{LEFT}" x2="{WIDTH - RIGHT}" y1="{up(time):.1f}" y2="{up(time):.1f}" stroke="#dddddd"/>'
         yield f'<text x="{LEFT - 8}" y="{up(time) + 4:.1f}" text-anchor="end">{time}</text>'
@@ -65,4 +85,10 @@ def drawing(found):
     yield "</svg>"
 
 
-(BENCH / "times.svg").write_text("\n".join(drawing(points())) + "\n")
+def main():
+    lines = table()
+    (BENCH / "times.svg").write_text("\n".join(drawing(points(lines), measured(lines))) + "\n")
+
+
+if __name__ == "__main__":
+    main()
