@@ -4,7 +4,7 @@ use Rattle.ppq_session.specs.ppq_pass.ppq_record.Pair.{pair_cmp}
 use Rattle.ppq_threads.proofs.horizon.followers.Given as goal
 
 abbrev pub invariant-following : goal.invariant-following
-invariant-following g l = record {
+invariant-following l = record {
   named : All (λ line. line.pass < 4) l.lines.items;
   above : All (λ line. is_before pair_cmp line.record l.limit ≡ false) l.lines.items;
 }
