@@ -33,7 +33,7 @@ fn takes(rt: &impl Abort, heaps: &mut Heaps<Pair>, keys: &[u64])
     }
 }
 
-// Whether the pair with this key is the least.
+// Whether the pair with this key is the smallest.
 fn has_least(heaps: &Heaps<Pair>, key: u64) -> bool {
     heaps.min() == Some(pair(key))
 }

@@ -14,13 +14,13 @@ fn hints_of(rt: &impl Abort, alloc: Global, arrays: u32) -> Hints<Pair>
     Hints::new(alloc, arrays).expect(rt, "memory")
 }
 
-// The array whose next block has the least minimum is this one, with the pair of this key; or none is.
+// The array whose next block has the smallest minimum is this one, with the pair of this key; or none is.
 fn names(rt: &impl Abort, hints: &Hints<Pair>, least: Option<(u32, u64)>) {
     let want = least.map(|(array, key)| (array, pair(key)));
     assert!(rt; hints.least() == want);
 }
 
-// An array gets a first block, and then this one is the least.
+// An array gets a first block, and then this one is the smallest.
 fn add(rt: &impl Abort, hints: &mut Hints<Pair>, array: u32, key: u64, least: (u32, u64))
     requires { array < length hints.old.items }
     ensures items { length hints.new.items ≡ length hints.old.items }
@@ -30,7 +30,7 @@ fn add(rt: &impl Abort, hints: &mut Hints<Pair>, array: u32, key: u64, least: (u
     names(rt, hints, Some(least));
 }
 
-// The next block of an array is loaded, and then this one is the least.
+// The next block of an array is loaded, and then this one is the smallest.
 fn advance(
     rt: &impl Abort,
     hints: &mut Hints<Pair>,

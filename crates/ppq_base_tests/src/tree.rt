@@ -192,7 +192,7 @@ fn a_hundred_random_sets_agree_with_a_scan(rt: HostRuntime) {
     }
 }
 
-// The least item with the lowest leaf that has it, by a look at each leaf.
+// The smallest item with the lowest leaf that has it, by a look at each leaf.
 fn scanned(tree: &MinTree<Pair>) -> Option<(u32, Pair)> {
     let mut best: Option<(u32, Pair)> = None;
     for leaf in 0..tree.leaves() {

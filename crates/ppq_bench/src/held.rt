@@ -81,7 +81,7 @@ where
     }
 }
 
-// Removes the least record of a queue that is not empty.
+// Removes the smallest record of a queue that is not empty.
 fn pop<H: Host>(rt: &H, queue: &mut Queue<Checked<FileSlot>, Pair>) -> io::Result<Pair>
 where
     H::Dir: Send,
@@ -119,7 +119,7 @@ where
     Ok(number)
 }
 
-// So many times removes the least record and adds one whose key is greater by a number below 2^40.
+// So many times removes the smallest record and adds one whose key is greater by a number below 2^40.
 fn turn_over<H: Host>(
     rt: &H,
     queue: &mut Queue<Checked<FileSlot>, Pair>,

@@ -6,7 +6,7 @@
 //! four. `bench/merge` runs it beside a loser tree in C++ over the same records.
 //!
 //! With the arguments `hold SEED COUNT WORKERS DEVICE` it holds so many records in a queue over a device
-//! file, and COUNT times removes the least and adds one with a greater key. It prints the count, the first
+//! file, and COUNT times removes the smallest and adds one with a greater key. It prints the count, the first
 //! and the last of what was removed and the sum of the keys, and no time: `bench/device` runs it beside
 //! other queues.
 #![tactic(auto)]

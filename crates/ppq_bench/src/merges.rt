@@ -7,7 +7,7 @@ use std::rt::Clock;
 use std::thread::Threads;
 use std::time::Instant;
 
-// How many records are merged in all to time one merge, again and again; the least time counts.
+// How many records are merged in all to time one merge, again and again; the smallest time counts.
 const MERGED: u64 = 67108864;
 
 // A bench for the runs of a load.
@@ -66,7 +66,7 @@ pub(crate) fn as_sorted<H: Threads + Sync>(
     Ok(is_whole & (out.as_slice() == all.as_slice()))
 }
 
-// The least time that a merge of a load takes with a bench, in picoseconds a record.
+// The smallest time that a merge of a load takes with a bench, in picoseconds a record.
 fn least_time<H: Threads + Sync + Clock>(
     rt: &H,
     load: &Load,
@@ -83,7 +83,7 @@ fn least_time<H: Threads + Sync + Clock>(
     Ok(best.saturating_mul(1000) / load.size.max(1))
 }
 
-// The least time that merging a load by so many workers took, in picoseconds a record.
+// The smallest time that merging a load by so many workers took, in picoseconds a record.
 pub(crate) fn picoseconds<H: Threads + Sync + Clock>(
     rt: &H,
     alloc: Global,

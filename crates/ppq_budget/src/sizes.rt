@@ -149,7 +149,7 @@ impl Sizes {
         Ok(buffers.min(65_536) as u32)
     }
 
-    /// How many blocks so many records fill, the last perhaps in part: the least number of blocks that
+    /// How many blocks so many records fill, the last perhaps in part: the smallest number of blocks that
     /// hold them.
     #[inline]
     pub fn blocks_for(&self, load: u64) -> u64

@@ -3,6 +3,6 @@
 /// The budget does not reach for the fixed part of a queue.
 #[derive(Clone, Copy, Debug, PartialEq, Eq)]
 pub struct TooSmall {
-    /// The least budget that does, in records.
+    /// The smallest budget that does, in records.
     pub need: u64,
 }

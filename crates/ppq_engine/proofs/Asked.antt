@@ -1,4 +1,4 @@
--- Lines of a limit session, one after the other: what they print, the bag that they leave, and sizes.
+-- Lines of a limit session, one after the other: what they print, the multiset that they leave, and sizes.
 use Rattle.std.proofs.Common.{◌≡◌, ℕ, suc, ◌+◌, ◌-◌, ◌≤◌, true, false, not, nat_lt, List, [], ◌∷◌, ◌++◌, All, length, Option, refl, sym, ap, ap₂, ◌∙◌, arith, append_assoc, append-nil}
 use Rattle.std.specs.Prelude.{count_by}
 use Rattle.std.proofs.lemmas.Bool.{and_parts, not-true}
@@ -80,7 +80,7 @@ module _ (workers : ℕ) (limit : Pair) where
   lines-low n (LimitPop ∷ cs) are = omega (arith, lines-low (n - 1) cs are.1)
   lines-low n (_ ∷ cs) are = let h = are.0.stands in let k = are.0.stays in cc
 
-  -- what was pushed before, none of it below the limit, stands in the bag beside what the asks see
+  -- what was pushed before, none of it below the limit, stands in the multiset beside what the asks see
   push-none : (pass : ℕ) (item : Pair) (added : List Pair) → may_stand workers (InLimit limit) (LimitPush pass item) ≡ true → NoneBelow limit added → NoneBelow limit (added ++ item ∷ [])
   push-none pass item added stands none = Each-append (λ (x : Pair). is_before pair_cmp x limit ≡ false) added (item ∷ []) none (not_below pass item stands, tt)
 

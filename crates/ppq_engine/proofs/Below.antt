@@ -1,4 +1,4 @@
--- The least records below a limit, of a bag that has others beside them which are not below it.
+-- The smallest records below a limit, of a multiset that has others beside them which are not below it.
 use Rattle.std.proofs.Common.{◌≡◌, ℕ, zero, suc, ◌+◌, ◌≤◌, Bool, true, false, cond, List, [], ◌∷◌, ◌++◌, length, take, drop, min, sym, ap, ◌∙◌, arith, inl, inr, take-append-drop}
 use Rattle.std.specs.Prelude.{count_by}
 use Rattle.std.specs.List.{AllByRecursion as Each}
@@ -86,7 +86,7 @@ module _ (limit : Pair) where
       omega (arith, count_by-append p (take n asc) (ascending pair_cmp rest), same_order rest p, count_by-append p added (drop n asc), count_by-append p (take n asc) (drop n asc), ap (λ (xs : List Pair). count_by p xs) (take-append-drop n asc), same_order left p, count_by-append p added left) in
       sym (ascending_is pair_total pair_same (added ++ left) out up same)
 
-  -- the front of such a bag, up to the limit, is the front without the others
+  -- the front of such a multiset, up to the limit, is the front without the others
   pub front-beside : (bag added left : List Pair) (k : ℕ) → NoneBelow added → IsSameBag bag (added ++ left) → k ≤ size_below pair_cmp left limit → front pair_cmp bag k ≡ front pair_cmp left k
   front-beside bag added left k none same h =
       let n = size_below pair_cmp left limit in
@@ -99,7 +99,7 @@ module _ (limit : Pair) where
   pub size-beside : (bag added left : List Pair) → NoneBelow added → IsSameBag bag (added ++ left) → size_below pair_cmp bag limit ≡ size_below pair_cmp left limit
   size-beside bag added left none same = omega (arith, same below, count_by-append below added left, none_pass below added none)
 
-  -- the least record below the limit, and what it leaves
+  -- the smallest record below the limit, and what it leaves
   pub least-beside : (bag added left : List Pair) → NoneBelow added → IsSameBag bag (added ++ left) → first_of (front pair_cmp bag (limited_count bag limit 1)) ≡ least_below pair_cmp limit left
   least-beside bag added left none same =
       ap (λ (n : ℕ). first_of (front pair_cmp bag (min 1 n))) (size-beside bag added left none same) ∙ ap (λ (xs : List Pair). first_of xs) (front-beside bag added left (min 1 (size_below pair_cmp left limit)) none same (omega arith))

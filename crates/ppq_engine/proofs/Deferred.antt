@@ -1,4 +1,4 @@
--- What is pushed in a session may join the bag at once or at the session's end: the two definitions agree.
+-- What is pushed in a session may join the multiset at once or at the session's end: the two definitions agree.
 use Rattle.std.proofs.Common.{◌≡◌, ℕ, zero, suc, ◌+◌, ◌<◌, ◌≤◌, Bool, true, false, cond, List, [], ◌∷◌, ◌++◌, length, length-append, take, drop, refl, sym, ap, ap₂, ◌∙◌, subst, arith, inl, inr}
 use Rattle.std.specs.Prelude.{⊤, count_by, not, ◌&&◌, nat_le, if◌then◌else◌, max, unwrap_or}
 use Rattle.std.proofs.Math.Seq.{take-length}
@@ -46,8 +46,8 @@ mark-left form (x ∷ xs) (suc n) = mark-left form xs n ∙ ap (mark form) (nat_
 same_order : (bag : List Pair) → IsSameBag (ascending pair_cmp bag) bag
 same_order bag p = in_order-same_bag (is_before pair_cmp) (ranks pair_total) bag p
 
--- A bag is what is below a limit and what is not. Pops below the limit see the first alone, also where what was pushed in the session, none
--- of it below the limit, stands in the bag already
+-- A multiset is what is below a limit and what is not. Pops below the limit see the first alone, also where what was pushed in the session, none
+-- of it below the limit, stands in the multiset already
 module _ (limit : Pair) where
   abbrev low : Pair → Bool
   low x = is_before pair_cmp x limit
@@ -111,7 +111,7 @@ MayWait Outside pushed = pushed ≡ []
 MayWait InBulk pushed = ⊤
 MayWait (InLimit limit) pushed = NoneBelow limit pushed
 
--- a state of each definition: the bags differ by what is kept apart, and nothing else does
+-- a state of each definition: the multisets differ by what is kept apart, and nothing else does
 record AreAlike (state : State) (other : Deferred) : Type 0 where
   session : other.session ≡ state.session
   popped : other.popped ≡ state.popped
@@ -197,7 +197,7 @@ module _ (state : State) (other : Deferred) (is : AreAlike state other) (free : 
   prints : (f : List Pair → List ℕ) → f (ascending pair_cmp other.bag) ≡ f (ascending pair_cmp state.bag)
   prints f = ap f order-is
 
--- in a session what is pushed is kept apart, and joins the bag at its end
+-- in a session what is pushed is kept apart, and joins the multiset at its end
 module _ (state : State) (other : Deferred) (is : AreAlike state other) where
   defers : (item : Pair) → MayWait state.session (other.pushed ++ item ∷ []) → AreAlike (record state { bag = item ∷ state.bag }) (record other { pushed = other.pushed ++ item ∷ [] })
   defers item waits = record {

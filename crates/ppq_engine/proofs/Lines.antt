@@ -1,4 +1,4 @@
--- What the commands that run together do: how the bag grows with them, what counts, and what they print.
+-- What the commands that run together do: how the multiset grows with them, what counts, and what they print.
 use Rattle.std.proofs.Common.{◌≡◌, ℕ, zero, suc, ◌+◌, ◌-◌, ◌/◌, ◌≤◌, Bool, true, false, List, [], ◌∷◌, ◌++◌, length, take, drop, max, Option, None, refl, sym, ap, ap₂, ◌∙◌, subst, arith, length-append, length-drop, take-append-drop}
 use Rattle.std.specs.Prelude.{if◌then◌else◌, unwrap_or, ◌||◌, count_by}
 use Rattle.std.proofs.Math.Bool.{or_assoc}
@@ -146,7 +146,7 @@ popped-counts : (limit : Pair) (bag : List Pair) → length (without_front pair_
 popped-counts limit bag = omega (arith, length-drop (limited_count bag limit 1) (ascending pair_cmp bag), length-ascending bag, count_by-le-length (λ x. is_before pair_cmp x limit) bag)
 
 module _ (given : ℕ → List Pair) where
-  -- behind a part only the bag is left
+  -- behind a part only the multiset is left
   closed-by : (state : State) (bag : List Pair) → state ≡ outside bag → state ≡ outside state.bag
   closed-by state bag e = e ∙ ap (λ (s : State). outside s.bag) (sym e)
 
@@ -172,7 +172,7 @@ module _ (given : ℕ → List Pair) where
   stays : (workers : ℕ) (session : Session) (state : State) (c : Command) → IsLine workers session c → state.session ≡ session → (after given state c).session ≡ session
   stays workers session state c is same = turns state c ∙ ap (λ (t : Option Session). unwrap_or t state.session) is.stays ∙ same
 
-  -- no bag outside a session is above the last
+  -- no multiset outside a session is above the last
   lines-crest : (workers : ℕ) (session : Session) (state : State) (cs : List Command) → is_outside session ≡ false → AreLines workers session cs → state.session ≡ session → crest_from given state cs ≡ 0
   lines-crest workers session state [] opened are same = refl
   lines-crest workers session state (c ∷ cs) opened are same =
@@ -229,7 +229,7 @@ module _ (given : ℕ → List Pair) where
   part-grows bag (suc m) (part.Limit limit lines) workers are long =
       omega (arith, lines-grow workers (InLimit limit) refl LimitEnd (λ n. refl) (in_limit limit bag) (length bag) m (commands_of lines.now) are refl (omega arith))
 
-  -- a bulk session prints nothing, and the bag gains what it pushes
+  -- a bulk session prints nothing, and the multiset gains what it pushes
   pub bulk-quiet : (form : Form) (workers : ℕ) (state : State) (cs : List Command) → AreLines workers InBulk cs → output_from form given state cs ≡ []
   bulk-quiet form workers state [] are = refl
   bulk-quiet form workers state (BulkPush pass item ∷ cs) are = bulk-quiet form workers (after given state (BulkPush pass item)) cs are.1

@@ -1,4 +1,4 @@
--- Records that were popped round by round: the first of the bag's ascending list.
+-- Records that were popped round by round: the first of the multiset's ascending list.
 use Rattle.std.proofs.Common.{◌≡◌, ℕ, zero, length, min, suc, ◌+◌, ◌-◌, ◌%◌, ◌^◌, ◌<◌, ◌≤◌, Bool, true, false, cond, List, [], ◌∷◌, ◌++◌, take, drop, Option, Some, None, refl, sym, ap, ◌∙◌, subst, arith, inl, inr, append-nil, length-append, take-add, append_assoc}
 use Rattle.std.specs.Prelude.{count_by, sum_by, nat_le, if◌then◌else◌, Result, IsErrAnd}
 use Rattle.std.specs.List.{AllByRecursion as Each}
@@ -170,7 +170,7 @@ module _ {X : Type 0} (lt : X → X → Bool) (o : IsStrictWeakOrder lt) (limit 
   short_below [] (suc i) e = let none : count_by (λ y. lt y limit) [] ≡ 0 = refl in omega (arith, none)
   short_below (y ∷ ys) (suc i) e = let p : X → Bool = λ z. lt z limit in omega (arith, short_below ys i e, count_by-cons p y ys, one_at_most (p y))
 
--- so many records are below a limit in a bag as in its ascending list
+-- so many records are below a limit in a multiset as in its ascending list
 below_same : (bag : List Pair) (limit : Pair) → count_by (λ x. is_before pair_cmp x limit) (ascending pair_cmp bag) ≡ size_below pair_cmp bag limit
 below_same bag limit = in_order-same_bag (is_before pair_cmp) (ranks pair_total) bag (λ x. is_before pair_cmp x limit)
 
@@ -188,7 +188,7 @@ more_below : (bag old : List Pair) (i : ℕ) (limit x : Pair) → IsSameBag bag 
 more_below bag old i limit x same is =
     omega (arith, below_at (is_before pair_cmp) (ranks pair_total) limit (ascending pair_cmp old) i x (drop (i + 1) (ascending pair_cmp old)) (rising old) (next_at bag old i (Some limit) x same is) (passing_below limit x (least pair_cmp bag) is), below_same old limit)
 
--- the first records of a bag, popped as long as they pass
+-- the first records of a multiset, popped as long as they pass
 pub popped-le : (below : Option Pair) (bag : List Pair) (count : ℕ) → popped_count below bag count ≤ count
 popped-le None bag count = omega arith
 popped-le (Some limit) bag count = omega arith
@@ -271,7 +271,7 @@ none_taken zero xs some e = absurd (omega (arith, some))
 none_taken (suc m) [] some e = refl
 none_taken (suc m) (x ∷ xs) some e = cc
 
--- where none of a bag is below a limit, its least record does not pass
+-- where none of a multiset is below a limit, its smallest record does not pass
 none_passes : (limit : Pair) (xs : List Pair) → count_by (λ x. is_before pair_cmp x limit) xs ≡ 0 → passing (Some limit) (first_of (take 1 xs)) ≡ None
 none_passes limit [] none = refl
 none_passes limit (x ∷ xs) none =

@@ -1,4 +1,4 @@
--- What a run has written, what it has gathered, and how its bag and its load grow with each command.
+-- What a run has written, what it has gathered, and how its multiset and its load grow with each command.
 use Rattle.std.proofs.Common.{◌≡◌, ℕ, ◌+◌, ◌-◌, ◌<◌, ◌≤◌, List, [], ◌∷◌, ◌++◌, length, take, drop, min, max, Option, Some, None, refl, sym, ap, ap₂, ◌∙◌, subst, arith, append_assoc, suc, drop-cons, take-add, take-append-drop}
 use Rattle.std.specs.Prelude.{slice_get, count_by, nat_le, if◌then◌else◌}
 use Rattle.std.proofs.lemmas.Option.{get_or_from_slice_get}
@@ -21,14 +21,14 @@ use Rattle.ppq_engine.specs.Gathers.{Gathers}
 use Rattle.ppq_engine.specs.Running.{IsGathered}
 use Rattle.ppq_engine.proofs.Pairs.{pair_total}
 
--- equal bags have one ascending list, and as many records below a limit
+-- equal multisets have one ascending list, and as many records below a limit
 same_order : (one other : List Pair) → IsSameBag one other → ascending pair_cmp one ≡ ascending pair_cmp other
 same_order one other same = ascending-same_bag pair_total pair_same one other same
 
 same_count : (one other : List Pair) (limit : Pair) (count : ℕ) → IsSameBag one other → limited_count one limit count ≡ limited_count other limit count
 same_count one other limit count same = ap (λ (n : ℕ). min count n) (same (λ x. is_before pair_cmp x limit))
 
--- two states with equal bags, in one session, of which as many records were popped
+-- two states with equal multisets, in one session, of which as many records were popped
 pub record IsSameState (one other : State) : Type 0 where
   pub bag : IsSameBag one.bag other.bag
   pub session : one.session ≡ other.session
@@ -45,7 +45,7 @@ same_popped (InLimit limit) one other same = same_count one other limit 1 same
 popped-same : (one other : State) → IsSameState one other → popped_in one.session one.bag ≡ popped_in other.session other.bag
 popped-same one other same = ap (λ (s : Session). popped_in s one.bag) same.session ∙ same_popped other.session one.bag other.bag same.bag
 
--- what a limit session answers of the least record
+-- what a limit session answers of the smallest record
 limited-same : (form : Form) (one other : State) → IsSameState one other → limited_text form (first_of (front pair_cmp one.bag (popped_in one.session one.bag))) ≡ limited_text form (first_of (front pair_cmp other.bag (popped_in other.session other.bag)))
 limited-same form one other same = ap₂ (λ (n : ℕ) (q : List Pair). limited_text form (first_of (take n q))) (popped-same one other same) (same_order one.bag other.bag same.bag)
 
@@ -113,7 +113,7 @@ module _ (given : ℕ → List Pair) where
   crest_from-append state [] ds = omega arith
   crest_from-append state (c ∷ cs) ds = omega (arith, crest_from-append (after given state c) cs ds)
 
-  -- a bag is no larger than the load, or than the bag before
+  -- a multiset is no larger than the load, or than the multiset before
   bag-le-load : (state : State) (cs : List Command) → length (state_from given state cs).bag ≤ max (length state.bag) (load_from given state cs)
   bag-le-load state [] = omega arith
   bag-le-load state (c ∷ cs) = omega (arith, bag-le-load (after given state c) cs)

@@ -1,4 +1,4 @@
--- How the size of a bag, its greatest size, and whether a limit session was begun follow from commands.
+-- How the size of a multiset, its greatest size, and whether a limit session was begun follow from commands.
 use Rattle.std.proofs.Common.{◌≡◌, ℕ, ◌-◌, ◌≤◌, false, List, [], ◌∷◌, ◌++◌, take, drop, max, refl, sym, ap, ◌∙◌, arith, take-append-drop}
 use Rattle.std.specs.Prelude.{◌||◌, unwrap_or}
 use Rattle.std.proofs.Math.Bool.{or_assoc}

@@ -39,7 +39,7 @@ module _ (form : Form) (given : ℕ → List Pair) (before : Option (List ℕ)) 
   }
 
   module _ (mid : Option (List ℕ)) (had : List ℕ) (bag : List Pair) (size peak : ℕ) (sizes : Numbers) (slots : List Shown) (cs : List Command) (run : HasRun form given before mid had bag size peak sizes slots cs) where
-    -- commands behind them do to the bag of the queue what they do to the bag of the commands
+    -- commands behind them do to the multiset of the queue what they do to the multiset of the commands
     state-behind : (xs : List Command) → state_of given (cs ++ xs) ≡ state_from given (outside (bag_of given cs)) xs
     state-behind xs = state_from-append given (outside []) cs xs ∙ ap (λ (s : State). state_from given s xs) run.closed
 

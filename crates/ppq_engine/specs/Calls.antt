@@ -41,7 +41,7 @@ pub record IsLent {T : Type 0} (old new : Holding Pair) (most : ℕ) (result : R
   pub refused : IfErr result (StopsFor new.peak new.sizes new.limited new.slots)
   pub no_file : IfErr result NotByFile
 
--- what a queue has after a call that ran to its end: this bag if its slots tell, at least and at most so many records, and no failed slot
+-- what a queue has after a call that ran to its end: this multiset if its slots tell, at least and at most so many records, and no failed slot
 pub record Leaves (old new : Holding Pair) (left : List Pair) (least most : ℕ) : Type 0 where
   pub bag : AllTell old.slots → IsSameBag new.bag left
   pub low : least ≤ new.size

@@ -1,4 +1,4 @@
--- What a script prints, by a second definition: what is pushed in a session is kept apart from the bag until the session ends.
+-- What a script prints, by a second definition: what is pushed in a session is kept apart from the multiset until the session ends.
 use Rattle.std.specs.Prelude.{◌≡◌, ℕ, true, not, List, [], ◌∷◌, ◌++◌, length, filter, max, if◌then◌else◌, ◌+◌}
 use Rattle.ppq_script.specs.ppq_record.declared.pair.Pair.{Pair}
 use Rattle.ppq_script.specs.ppq_record.Order.{is_before}
@@ -13,18 +13,18 @@ use Rattle.ppq_script.specs.declared.session.Session.TheVariants.{Outside, InBul
 use Rattle.ppq_script.specs.Sessions.{is_outside, are_in_place}
 use Rattle.ppq_engine.specs.Output.{records_text, least_text, all_text, more_text, size_text, summary_text, limited_text, output_of, load_of, crest_of}
 
--- what there is between commands: the bag, the session that is open, what was pushed in it, and how many records were popped in it
+-- what there is between commands: the multiset, the session that is open, what was pushed in it, and how many records were popped in it
 pub record Deferred : Type 0 where
   pub bag : List Pair
   pub session : Session
   pub pushed : List Pair
   pub popped : ℕ
 
--- a bag where a session begins, or where none is open
+-- a multiset where a session begins, or where none is open
 abbrev pub begun : Session → List Pair → Deferred
 begun session bag = record { bag = bag; session = session; pushed = []; popped = 0 }
 
--- the records of a bag that are below a limit
+-- the records of a multiset that are below a limit
 abbrev pub below : Pair → List Pair → List Pair
 below limit bag = filter (λ x. is_before pair_cmp x limit) bag
 
@@ -32,17 +32,17 @@ below limit bag = filter (λ x. is_before pair_cmp x limit) bag
 abbrev pub not_below : Pair → List Pair → List Pair
 not_below limit bag = filter (λ x. not (is_before pair_cmp x limit)) bag
 
--- a bag without the least of its records below a limit, so many or all
+-- a multiset without the smallest of its records below a limit, so many or all
 abbrev pub without_below : Pair → List Pair → ℕ → List Pair
 without_below limit bag count = not_below limit bag ++ without_front pair_cmp (below limit bag) count
 
--- the least record of a bag that is below the limit of a session, if one is
+-- the smallest record of a multiset that is below the limit of a session, if one is
 abbrev pub least_in : Session → List Pair → List Pair
 least_in Outside bag = []
 least_in InBulk bag = []
 least_in (InLimit limit) bag = front pair_cmp (below limit bag) 1
 
--- the bag without it
+-- the multiset without it
 abbrev pub without_least : Session → List Pair → List Pair
 without_least Outside bag = bag
 without_least InBulk bag = bag
@@ -101,7 +101,7 @@ module _ (given : ℕ → List Pair) where
       }
   after_deferred state LimitEnd = begun Outside (state.bag ++ state.pushed)
 
-  -- how many records count: those of the bag, those that were pushed in the session that is open, and those that were popped in it
+  -- how many records count: those of the multiset, those that were pushed in the session that is open, and those that were popped in it
   abbrev pub counted_deferred : Deferred → ℕ
   counted_deferred state = length state.bag + length state.pushed + state.popped
 
@@ -110,7 +110,7 @@ module _ (given : ℕ → List Pair) where
   load_deferred_from state [] = 0
   load_deferred_from state (command ∷ commands) = max (counted_deferred (after_deferred state command)) (load_deferred_from (after_deferred state command) commands)
 
-  -- the greatest size of the bag after any of the commands behind which no session is open, 0 for none
+  -- the greatest size of the multiset after any of the commands behind which no session is open, 0 for none
   abbrev pub crest_deferred_from : Deferred → List Command → ℕ
   crest_deferred_from state [] = 0
   crest_deferred_from state (command ∷ commands) =
@@ -131,7 +131,7 @@ module _ (form : Form) (given : ℕ → List Pair) where
   output_deferred_from state [] = []
   output_deferred_from state (command ∷ commands) = text_deferred form state command ++ output_deferred_from (after_deferred given state command) commands
 
-  -- what the commands of a script write, from the empty bag on
+  -- what the commands of a script write, from the empty multiset on
   abbrev pub output_deferred : List Command → List ℕ
   output_deferred commands = output_deferred_from (begun Outside []) commands
 

@@ -36,7 +36,7 @@ none_go size count = size
 abbrev pub all_go : ℕ → ℕ → ℕ
 all_go size count = size - count
 
--- what follows for a bag of which pops below a limit leave so many
+-- what follows for a multiset of which pops below a limit leave so many
 module _ (leaves : ℕ → ℕ → ℕ) where
   -- the size after a command
   abbrev pub size_after : ℕ → Command → ℕ
@@ -75,11 +75,11 @@ module _ (leaves : ℕ → ℕ → ℕ) where
       let behind = unwrap_or (turn_of command) session in
       max (if is_outside behind then size_after size command else 0) (settled_from (size_after size command) behind commands)
 
--- the greatest size that the bag of a script can have after a command
+-- the greatest size that the multiset of a script can have after a command
 abbrev pub most_of : List Command → ℕ
 most_of commands = greatest_from none_go 0 commands
 
--- a size that the bag of a script has after some command outside a session, or passes
+-- a size that the multiset of a script has after some command outside a session, or passes
 abbrev pub least_of : List Command → ℕ
 least_of commands = settled_from all_go 0 Outside commands
 

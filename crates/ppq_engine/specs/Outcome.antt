@@ -54,7 +54,7 @@ FaultBeforeFile form told script first before now NoDevice = ⊤
 FaultBeforeFile form told script first before now NoScript = ⊤
 FaultBeforeFile form told script first before now ScriptTooLong = ⊤
 
--- the sink took all output, and the greatest bag fits into the budget and what was written
+-- the sink took all output, and the greatest multiset fits into the budget and what was written
 pub record IsWhole (form : Form) (given : ℕ → List Pair) (script : Reading) (before now : Option (List ℕ)) (sizes : Numbers) (slots : List Shown) : Type 0 where
   pub took : TakesAll before now (output_of form given (command_list script))
   pub crest : FitsWritten (crest_of given (command_list script)) sizes slots

@@ -1,4 +1,4 @@
--- What a script writes, in each form, and how many records its bag comes to hold.
+-- What a script writes, in each form, and how many records its multiset comes to hold.
 use Rattle.std.specs.Prelude.{◌≡◌, ◌⊎◌, ◌%◌, ◌^◌, ℕ, List, [], ◌∷◌, ◌++◌, length, take, min, max, Option, Some, None, codes, decimal, flat_map, sum_by, nat_le, if◌then◌else◌, ◌+◌, slice_get}
 use Rattle.ppq_script.specs.ppq_record.declared.pair.Pair.{Pair}
 use Rattle.std.specs.Int.{w32, w64, to_be_bytes}
@@ -44,12 +44,12 @@ records_text form items = flat_map (record_text form) items
 abbrev pub empty_text : Form → List ℕ
 empty_text form = written form (codes "empty\n") (codes "e")
 
--- what `pop` and `top` write, where this is the least record or none
+-- what `pop` and `top` write, where this is the smallest record or none
 abbrev pub least_text : Form → Option Pair → List ℕ
 least_text form None = empty_text form
 least_text form (Some item) = record_text form item
 
--- what `size` writes of a bag of so many records
+-- what `size` writes of a multiset of so many records
 abbrev pub size_text : Form → ℕ → List ℕ
 size_text form records = written form (decimal records ++ codes "\n") (to_be_bytes w64 records)
 
@@ -99,23 +99,23 @@ more_text form = written form (codes "more\n") (codes "m")
 abbrev pub mark_text : Form → List Pair → Pair → ℕ → List ℕ
 mark_text form bag limit count = if nat_le (size_below pair_cmp bag limit) count then all_text form else more_text form
 
--- what there is between commands: the bag, the session that is open, and how many records were popped in it
+-- what there is between commands: the multiset, the session that is open, and how many records were popped in it
 pub record State : Type 0 where
   pub bag : List Pair
   pub session : Session
   pub popped : ℕ
 
--- a bag where no session is open
+-- a multiset where no session is open
 abbrev pub outside : List Pair → State
 outside bag = record { bag = bag; session = Outside; popped = 0 }
 
--- how many records `limit_pop` removes in a session: one, if the least is below the limit
+-- how many records `limit_pop` removes in a session: one, if the smallest is below the limit
 abbrev pub popped_in : Session → List Pair → ℕ
 popped_in Outside bag = 0
 popped_in InBulk bag = 0
 popped_in (InLimit limit) bag = limited_count bag limit 1
 
--- what `limit_top` and `limit_pop` write, where this is the least record below the limit, or none is below it
+-- what `limit_top` and `limit_pop` write, where this is the smallest record below the limit, or none is below it
 abbrev pub limited_text : Form → Option Pair → List ℕ
 limited_text form None = written form (codes "limit\n") (codes "l")
 limited_text form (Some item) = record_text form item
@@ -192,7 +192,7 @@ module _ (given : ℕ → List Pair) where
   state_from state [] = state
   state_from state (command ∷ commands) = state_from (after state command) commands
 
-  -- how many records count: those of the bag, and those that were popped in the session that is open
+  -- how many records count: those of the multiset, and those that were popped in the session that is open
   abbrev pub counted_in : State → ℕ
   counted_in state = length state.bag + state.popped
 
@@ -201,7 +201,7 @@ module _ (given : ℕ → List Pair) where
   load_from state [] = 0
   load_from state (command ∷ commands) = max (counted_in (after state command)) (load_from (after state command) commands)
 
-  -- the greatest size of the bag after any of the commands behind which no session is open, 0 for none
+  -- the greatest size of the multiset after any of the commands behind which no session is open, 0 for none
   abbrev pub crest_from : State → List Command → ℕ
   crest_from state [] = 0
   crest_from state (command ∷ commands) =
@@ -212,7 +212,7 @@ module _ (given : ℕ → List Pair) where
   abbrev pub state_of : List Command → State
   state_of commands = state_from (outside []) commands
 
-  -- the bag that they leave
+  -- the multiset that they leave
   abbrev pub bag_of : List Command → List Pair
   bag_of commands = (state_of commands).bag
 
@@ -220,7 +220,7 @@ module _ (given : ℕ → List Pair) where
   abbrev pub load_of : List Command → ℕ
   load_of commands = load_from (outside []) commands
 
-  -- the crest of a script: the greatest size of its bag after a command outside a session
+  -- the crest of a script: the greatest size of its multiset after a command outside a session
   abbrev pub crest_of : List Command → ℕ
   crest_of commands = crest_from (outside []) commands
 
@@ -230,7 +230,7 @@ module _ (form : Form) (given : ℕ → List Pair) where
   output_from state [] = []
   output_from state (command ∷ commands) = text_of form state command ++ output_from (after given state command) commands
 
-  -- what the commands of a script write, from the empty bag on
+  -- what the commands of a script write, from the empty multiset on
   abbrev pub output_of : List Command → List ℕ
   output_of commands = output_from (outside []) commands
 

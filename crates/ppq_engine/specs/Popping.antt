@@ -15,11 +15,11 @@ passing None item = item
 passing (Some limit) None = None
 passing (Some limit) (Some item) = if is_before pair_cmp item limit then Some item else None
 
--- the least record of a bag, where it is below the limit
+-- the smallest record of a multiset, where it is below the limit
 abbrev pub next_of : Option Pair → List Pair → Option Pair
 next_of below bag = passing below (least pair_cmp bag)
 
--- whether a record below the limit is left, where this is the least of them or none
+-- whether a record below the limit is left, where this is the smallest of them or none
 abbrev pub left_mark : Form → Option Pair → List ℕ
 left_mark form None = all_text form
 left_mark form (Some item) = more_text form
@@ -34,7 +34,7 @@ abbrev pub left_at_most : Option Pair → ℕ → ℕ → ℕ
 left_at_most None size count = size - count
 left_at_most (Some limit) size count = size
 
--- of a bag the least records were popped, as many as these, so many at the most, and none that is not below the limit; where there are
+-- of a multiset the smallest records were popped, as many as these, so many at the most, and none that is not below the limit; where there are
 -- none of these, none passes
 pub record IsRound (below : Option Pair) (count : ℕ) (bag rest items : List Pair) : Type 0 where
   pub first : items ≡ take (length items) (ascending pair_cmp bag)

@@ -79,7 +79,7 @@ pub record GathersPart (before now : Option (List ℕ)) (had text has : List ℕ
   pub gathers : Gathers before now had part has
 
 -- these commands were run, with files that are given as these records, and no session is open: their output is gathered, the queue holds
--- their bag, had no more records than their load, and their crest fits into the budget and what was written
+-- their multiset, had no more records than their load, and their crest fits into the budget and what was written
 pub record HasRun (form : Form) (given : ℕ → List Pair) (before now : Option (List ℕ)) (gathered : List ℕ) (bag : List Pair) (size peak : ℕ) (sizes : Numbers) (slots : List Shown) (commands : List Command) : Type 0 where
   pub closed : state_of given commands ≡ outside (bag_of given commands)
   pub output : IsGathered before now gathered (output_of form given commands)
@@ -159,7 +159,7 @@ WritesPart before now had text has Read = Gathers before now had [] has
 WritesPart before now had text has Memory = Gathers before now had [] has
 WritesPart before now had text has (Changed line said got) = Gathers before now had [] has
 
--- Of commands that run together from a bag on, the first so many were run and the next stopped: all that they print is gathered, and of what
+-- Of commands that run together from a multiset on, the first so many were run and the next stopped: all that they print is gathered, and of what
 -- the others print the beginning
 pub record CutAt (form : Form) (given : ℕ → List Pair) (before now : Option (List ℕ)) (had : List ℕ) (bag : List Pair) (part : List Command) (done : ℕ) (has : List ℕ) : Type 0 where
   pub text : List ℕ

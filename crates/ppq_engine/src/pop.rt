@@ -86,7 +86,7 @@ fn print_all<H: Host, O: Sink>(
 }
 
 impl<S: Slot + Send + Sync> Machine<S> {
-    // Removes a round of the least records, as many as the list has room for, and at most so many, and only
+    // Removes a round of the smallest records, as many as the list has room for, and at most so many, and only
     // those below the limit where there is one. They are in the list.
     fn pop_round<H: Host, G: Gate>(
         &mut self,
@@ -117,7 +117,7 @@ impl<S: Slot + Send + Sync> Machine<S> {
         }
     }
 
-    // Removes up to so many least records, and says what they add up to.
+    // Removes up to so many smallest records, and says what they add up to.
     pub fn drain<H: Host, G: Gate>(
         &mut self,
         world: &World<'_, H, G>,
@@ -143,7 +143,7 @@ impl<S: Slot + Send + Sync> Machine<S> {
         Ok(drained)
     }
 
-    // Removes up to so many least records, only those below the limit where there is one, and prints
+    // Removes up to so many smallest records, only those below the limit where there is one, and prints
     // them.
     pub fn print_popped<H: Host, O: Sink, G: Gate>(
         &mut self,
@@ -203,7 +203,7 @@ impl<S: Slot + Send + Sync> Machine<S> {
         }
     }
 
-    // Removes up to so many least records that are below the limit, and prints them, and then whether none
+    // Removes up to so many smallest records that are below the limit, and prints them, and then whether none
     // below it is left.
     pub fn print_limited<H: Host, O: Sink, G: Gate>(
         &mut self,

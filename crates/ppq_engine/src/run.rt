@@ -208,7 +208,7 @@ where
     ensures complete_any { fixed_of sizes ≤ sizes.memory → HasRoom sizes (begins_limit (command_list script.now)) (most_of (command_list script.now)) → IsQuiet (O.faults out.old) (O.faults out.new) → IsQuiet (L.faults library.old) (L.faults library.new) → NoneFailed (map S.shown result.blocks.items) → IsCompleted (L.told library.old) result.end }
 
     // All blocks come back, each once, and no count of a block falls; after `Done` no call of a block failed. The
-    // device was used: each record above the budget, when the bag was greatest outside sessions, was written.
+    // device was used: each record above the budget, when the multiset was greatest outside sessions, was written.
     ensures blocks { SameSlots (map S.shown slots.items) (map S.shown result.blocks.items) }
     ensures unfailed { result.end ≡ Done → All (λ s. s.faults ≡ 0) (map S.shown result.blocks.items) }
     ensures used { result.end ≡ Done → AllTell (map S.shown slots.items) → (files : List ℕ → Option (List ℕ)) → AreFilesOf (L.told library.old) script.now files → FitsWritten (crest_of (given_of files script.now) (command_list script.now)) sizes (map S.shown result.blocks.items) }

@@ -17,7 +17,7 @@ use crate::world::World;
 use ppq_load::QueueFault;
 use ppq_script::{Command, Gate, Host, Library, Pair, Part, Sink, Slot};
 
-// What is printed of the least record.
+// What is printed of the smallest record.
 fn answer_of(item: Option<Pair>) -> Answer
     ensures { (form : Form) → answer_text form result ≡ least_text form item }
 {

@@ -80,7 +80,7 @@ fn scripts_print_what_they_should(rt: HostRuntime) {
             "push 18446744073709551615 0\npush 2 0\ndrain 9\ndrain 1\n",
             "count 2 first 2 0 last 18446744073709551615 0 sum 1\ncount 0\n",
         ),
-        // records of bulk sessions join the bag
+        // records of bulk sessions join the multiset
         ("bulk_begin\nbulk_end\nsize\n", "0\n"),
         (
             "push 5 0\nbulk_begin\nbulk_push 1 3 0\nbulk_push 0 4 0\nbulk_end\nsize\nbulk_pop 9\n",

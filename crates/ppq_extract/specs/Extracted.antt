@@ -45,7 +45,7 @@ module _ {S R : Type 0} where
 
   module _ (cmp : R → R → Ordering) (record_of : List ℕ → R) (width : ℕ) (shown : S → Shown) where
     -- From old to new, out was taken of the sources, no call of a slot failed, and the runs that had no record left are gone; the order of the
-    -- others is free. Where slots tell and runs ascend, these are the records that are least, all below the limit
+    -- others is free. Where slots tell and runs ascend, these are the records that are smallest, all below the limit
     pub record Refilled (below : Option R) (old new : State S R) (out : List R) : Type 0 where
       pub kept : Kept old.stock new.stock (held_in shown old) (held_in shown new)
       pub quiet : AreQuiet (slots_in shown old) (slots_in shown new)

@@ -113,7 +113,7 @@ impl<R: Record> Extract<R> {
         self.from = self.to;
     }
 
-    /// Takes the least records of all runs into the buffer, as many as there is room for, or all there
+    /// Takes the smallest records of all runs into the buffer, as many as there is room for, or all there
     /// are; with a limit only those below it. Then runs with no record left are taken out of the lists,
     /// in which the order changes.
     ///

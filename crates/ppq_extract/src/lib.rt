@@ -1,7 +1,7 @@
-//! The extract buffer of a queue: the least records of its stored runs, in order.
+//! The extract buffer of a queue: the smallest records of its stored runs, in order.
 //!
 //! An [`Extract`] is a list with a place in it. Records leave at its front; once it is empty, a refill
-//! takes the least records of all runs into it. [`Sources`] has what refills need besides.
+//! takes the smallest records of all runs into it. [`Sources`] has what refills need besides.
 #![tactic(auto)]
 
 mod emptied;

@@ -1,4 +1,4 @@
-//! Taking the least records of the runs of one owner.
+//! Taking the smallest records of the runs of one owner.
 ghost use Rattle.std.specs.Prelude.{◌≡◌, ◌+◌, ◌≤◌, ℕ, min, length, take, vec_capacity, None, IfOk, OnOk, IsErrOf};
 ghost use Rattle.ppq_fetch.specs.ppq_record.Bag.{front};
 ghost use Rattle.ppq_fetch.specs.Taking.{wanted};

@@ -161,7 +161,7 @@ module _ {S R : Type 0} where
     pub hints_none : (cmp : R → R → Ordering) (arrays : List (External S R)) (hints : List (Option R)) → AreHints record_of width shown arrays hints → HasNoItems hints → IsNext cmp arrays None
     hints_none cmp arrays hints h none = none_next arrays (subst HasNoItems h.nexts none) h.labelled
 
-    -- the least of the hints is of the block that is next
+    -- the smallest of the hints is of the block that is next
     pub hints_least : (cmp : R → R → Ordering) (arrays : List (External S R)) (hints : List (Option R)) (i : ℕ) (x : R) → AreHints record_of width shown arrays hints → IsLeastLeaf cmp hints i x → IsNext cmp arrays (Some record { place = i; minimum = x })
     hints_least cmp arrays hints i x h is = least_next cmp arrays i x (subst (λ hs. IsLeastLeaf cmp hs i x) h.nexts is)
 

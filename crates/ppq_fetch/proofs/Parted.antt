@@ -1,4 +1,4 @@
--- Taking the least records of a bag in rounds; and of the safe parts of runs, by a merge.
+-- Taking the smallest records of a multiset in rounds; and of the safe parts of runs, by a merge.
 use Rattle.std.proofs.Common.{◌≡◌, ◌⊎◌, inl, inr, ℕ, ◌+◌, ◌≤◌, Bool, true, cond, List, [], ◌∷◌, ◌++◌, length, take, drop, min, Option, Some, None, refl, sym, ap, ◌∙◌, subst, arith, append_assoc, length-append, take-append-drop, zero, suc, false, length-take, true≢false}
 use Rattle.std.specs.Prelude.{count_by}
 use Rattle.std.specs.List.{AllByRecursion as Each}
@@ -225,7 +225,7 @@ module _ {R : Type 0} (cmp : R → R → Ordering) (o : IsStrictWeakOrder (is_be
   rests_rise (c ∷ cs) [] up = tt
   rests_rise (c ∷ cs) (q ∷ qs) up = (Rising-right (is_before cmp) (take c q) (drop c q) (subst (λ xs. Rising (is_before cmp) xs) (sym (take-append-drop c q)) up.0), rests_rise cs qs up.1)
 
-  -- A merge of the least n of the safe loaded records takes the least of all records, loaded or waiting; the cut's places cs are what each
+  -- A merge of the smallest n of the safe loaded records takes the smallest of all records, loaded or waiting; the cut's places cs are what each
   -- run loses
   pub merge_step :
       (p : R → Bool) (qs : List (List R)) (waiting out : List R) (n : ℕ) (cs : List ℕ)

@@ -1,4 +1,4 @@
--- Runs as the sources of records, and what taking their least records does to them.
+-- Runs as the sources of records, and what taking their smallest records does to them.
 use Rattle.std.specs.Prelude.{◌≡◌, ◌↔◌, ℕ, ◌+◌, ◌-◌, ◌*◌, ◌<◌, ◌≤◌, ◌^◌, List, [], ◌∷◌, ◌++◌, length, map, drop, flat_map, sum_by, All, Option}
 use Rattle.std.specs.declared.cmp.Ordering.{Ordering}
 use Rattle.std.specs.List.{AllByRecursion as Each, AllZip}
@@ -143,7 +143,7 @@ module _ {S R : Type 0} where
 
   module _ (cmp : R → R → Ordering) (record_of : List ℕ → R) (width : ℕ) (shown : S → Shown) where
     -- From old to new, out was taken of the sources, and no call of a slot failed; where slots tell and runs ascend, the records that are
-    -- least, all below the limit
+    -- smallest, all below the limit
     pub record Fetched (below : Option R) (old new : State S R) (out : List R) : Type 0 where
       pub parts : PartsKept shown old new
       pub quiet : AreQuiet (slots_in shown old) (slots_in shown new)

@@ -25,7 +25,7 @@ pub record BuffersGiven (old new : Stock) : Type 0 where
   pub sure : old.sure_buffers ≤ new.sure_buffers
 
 module _ {R : Type 0} where
-  -- The least records of those in front of the bounds were merged, of each run those up to its place
+  -- The smallest records of those in front of the bounds were merged, of each run those up to its place
   pub record MergesSafe (cmp : R → R → Ordering) (bounds : List ℕ) (lists : List (List R)) (places : List ℕ) (out : List R) : Type 0 where
     pub within : AreWithin places (firsts bounds lists)
     pub bag : IsSameBag out (before places (firsts bounds lists))

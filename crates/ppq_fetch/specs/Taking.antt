@@ -1,4 +1,4 @@
--- Taking the least records of a bag, in rounds.
+-- Taking the smallest records of a multiset, in rounds.
 use Rattle.std.specs.Prelude.{◌≡◌, ℕ, Bool, true, false, min, List, [], ◌++◌, Option, Some, None, ⊤}
 use Rattle.std.specs.declared.cmp.Ordering.{Ordering}
 use Rattle.std.specs.List.{AllByRecursion as Each}
@@ -10,13 +10,13 @@ module _ {R : Type 0} (cmp : R → R → Ordering) where
   abbrev pub NoneAfter : List R → List R → Type 0
   NoneAfter xs ys = Each (λ x. Each (Le (is_before cmp) x) ys) xs
 
-  -- out was taken of the bag, in ascending order, and what is left of it has none that is before one of out
+  -- out was taken of the multiset, in ascending order, and what is left of it has none that is before one of out
   pub record IsTaken (bag out left : List R) : Type 0 where
     pub moved : IsSameBag bag (out ++ left)
     pub ascends : Ascends cmp out
     pub least : NoneAfter out left
 
-  -- how many records are wanted: at most so many, and of a bag with a limit no more than stand below it
+  -- how many records are wanted: at most so many, and of a multiset with a limit no more than stand below it
   abbrev pub wanted : ℕ → Option R → List R → ℕ
   wanted most None bag = most
   wanted most (Some l) bag = min most (size_below cmp bag l)

@@ -1,4 +1,4 @@
-//! Taking the least records of runs.
+//! Taking the smallest records of runs.
 ghost use Rattle.std.specs.Prelude.{◌≡◌, ◌+◌, ◌<◌, ◌≤◌, ℕ, min, length, take, None, IfOk, OnOk, IsErrOf};
 ghost use Rattle.ppq_array.specs.ppq_record.Bag.{front};
 ghost use Rattle.ppq_fetch.specs.Taking.{wanted};
@@ -16,11 +16,11 @@ use ppq_array::{
 };
 use ppq_merge::Bench;
 
-/// Takes the least records of all runs, as many as `out` has room for, or all there are; with a limit
+/// Takes the smallest records of all runs, as many as `out` has room for, or all there are; with a limit
 /// only those below it. They stand at the beginning of `out` in ascending order, and it gives how many.
 ///
 /// A loaded record is safe where it is not after the first record of any block that is not loaded. While
-/// fewer safe records are at hand than are wanted, the block with the least first record is loaded into
+/// fewer safe records are at hand than are wanted, the block with the smallest first record is loaded into
 /// an idle buffer, where its run has nothing loaded, or where fewer than `ahead` blocks are loaded beyond
 /// one a run. Then the workers of the bench merge all that is safe at once. With four workers or more the
 /// next blocks of two runs are read beside the merge, on a thread of their own, if no more than `ahead` are

@@ -1,6 +1,6 @@
-//! Taking the least records of stored runs.
+//! Taking the smallest records of stored runs.
 //!
-//! [`take_least`] merges the least records of runs in buffers and runs in blocks into a slice. It loads the
+//! [`take_least`] merges the smallest records of runs in buffers and runs in blocks into a slice. It loads the
 //! blocks that it needs, and its workers merge all that is safe at once. A refill of the extract buffer
 //! and a merge of runs in blocks are made of it.
 #![tactic(auto)]

@@ -46,7 +46,7 @@ pub(crate) struct NextTwo {
     pub(crate) second: usize,
 }
 
-// Takes the least of the safe records; `places` say which are safe. Where it pays, the next blocks of two
+// Takes the smallest of the safe records; `places` say which are safe. Where it pays, the next blocks of two
 // runs are read meanwhile. Where a read fails, it gives the slot's number, also if the merge did not need
 // the block; the records are not taken then.
 //
@@ -100,7 +100,7 @@ where
     }
 }
 
-// Takes the least of the safe records while the next blocks of two runs are read.
+// Takes the smallest of the safe records while the next blocks of two runs are read.
 fn take_ahead<H: Host, S: Slot + Send + Sync, R: Record + Send + Sync, P: Supply<S, R>, G: Gate>(
     internal: &mut [InternalArray<R>],
     external: &mut [ExternalArray<S, R>],
@@ -159,7 +159,7 @@ fn apart<S: Slot, R: Record>(
     (one, other)
 }
 
-// Merges the least of the safe records while jobs are run.
+// Merges the smallest of the safe records while jobs are run.
 fn merge_beside<H: Host, S: Slot + Send + Sync, R: Record + Send + Sync, G: Gate>(
     jobs: &mut [Job<Berth<S, R>, R>],
     internal: &[InternalArray<R>],

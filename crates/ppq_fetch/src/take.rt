@@ -21,7 +21,7 @@ use ppq_array::{
 use ppq_merge::{Bench, merge_workers};
 use std::thread::Threads;
 
-// Merges the least of the safe records; `places` say which are safe, and become the places up to which
+// Merges the smallest of the safe records; `places` say which are safe, and become the places up to which
 // they were taken.
 pub(crate) fn merge_parts<H: Threads + Sync, S: Slot + Sync, R: Record + Send + Sync, G: Gate>(
     internal: &[InternalArray<R>],
@@ -41,7 +41,7 @@ pub(crate) fn merge_parts<H: Threads + Sync, S: Slot + Sync, R: Record + Send + 
     copy_cuts(bench, places);
 }
 
-// Merges the least of the records that are shown.
+// Merges the smallest of the records that are shown.
 fn merge_shown<
     'a,
     H: Threads + Sync,

@@ -30,7 +30,7 @@ pub(crate) enum Turn {
     Take(u64),
 }
 
-// Of the blocks that are next in their runs, one with the least first record, as the hints say.
+// Of the blocks that are next in their runs, one with the smallest first record, as the hints say.
 pub(crate) fn next_block<S: Slot, R: Record>(
     _external: &[ExternalArray<S, R>],
     bench: &Bench<R>,

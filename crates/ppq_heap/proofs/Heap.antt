@@ -1,4 +1,4 @@
--- The order of a binary heap: how a hole moves through it, and that its root is the least.
+-- The order of a binary heap: how a hole moves through it, and that its root is the smallest.
 use Rattle.std.proofs.Common.{◌≡◌, ◌≢◌, ℕ, zero, suc, ◌+◌, ◌-◌, ◌/◌, ◌<◌, ◌≤◌, Bool, true, cond, List, [], ◌∷◌, ◌++◌, length, get_or, set, take, drop, Some, None, refl, sym, ap, ap₂, subst, inl, inr, ◌∙◌, arith}
 use Rattle.std.specs.Prelude.{count_by, slice_get}
 use Rattle.std.specs.List.{AllByRecursion as Each}
@@ -11,7 +11,7 @@ use Rattle.ppq_tree.specs.ppq_record.Bag.{IsSameBag, first_of}
 use Rattle.ppq_tree.proofs.ppq_record.Order.{Le-trans, Le-refl, front_is, IsSameBag-append_comm}
 use Rattle.ppq_heap.specs.Heap.{IsMinHeap, IsHeapRound}
 
--- of what stays in a bag
+-- of what stays in a multiset
 module _ {X : Type 0} where
   count_by-set : (p : X → Bool) (xs : List X) (i : ℕ) (y d : X) → i < length xs → count_by p (set xs i y) + cond (p (get_or xs i d)) 1 0 ≡ count_by p xs + cond (p y) 1 0
   count_by-set p xs i y d l = sum_by-set (λ x. cond (p x) 1 0) xs i y d l
@@ -203,7 +203,7 @@ module _ {X : Type 0} (lt : X → X → Bool) (o : IsStrictWeakOrder lt) where
   root_least : (x : X) (xs : List X) → IsMinHeap lt (x ∷ xs) → Each (Le lt x) xs
   root_least x xs h = each_from lt (Le lt x) xs (λ k d l. up_to (x ∷ xs) h (suc k) (suc k) d (omega arith) (omega arith))
 
-  -- so the first record of a heap is the least, and is that too where the last ones are cut off
+  -- so the first record of a heap is the smallest, and is that too where the last ones are cut off
   pub first_is_least :
       ((a b : X) → Le lt a b → Le lt b a → a ≡ b) → (xs ys : List X) (x : X) → IsMinHeap lt (xs ++ ys) → slice_get xs 0 ≡ Some x → Some x ≡ first_of (take 1 (in_order lt (xs ++ ys)))
   first_is_least anti [] ys x h e = cc
@@ -215,7 +215,7 @@ module _ {X : Type 0} (lt : X → X → Bool) (o : IsStrictWeakOrder lt) where
   first_of_heap anti [] h = refl
   first_of_heap anti (x ∷ xs) h = ap first_of (front_is lt o anti (x ∷ xs) (x ∷ []) xs (tt, tt) (λ p. refl) (root_least x xs h, tt))
 
--- the least of a bag of one record, and of none
+-- the smallest of a multiset of one record, and of none
 module _ {X : Type 0} (lt : X → X → Bool) where
   pub least_of_one : (x : X) (xs : List X) → xs ≡ x ∷ [] → Some x ≡ first_of (take 1 (in_order lt xs))
   unfolding in_order put_in_order

@@ -1,4 +1,4 @@
--- The heaps of several workers: one is replaced, what all of them have, and the least of all.
+-- The heaps of several workers: one is replaced, what all of them have, and the smallest of all.
 use Rattle.std.proofs.Common.{◌≡◌, ◌≢◌, inl, inr, ℕ, zero, suc, ◌+◌, ◌*◌, ◌<◌, ◌≤◌, ◌^◌, true, false, Bool, List, [], ◌∷◌, ◌++◌, All, length, take, get_or, set, map, if◌then◌else◌, replicate, Option, Some, None, refl, sym, ap, ap₂, ◌∙◌, subst, arith, length-append}
 use Rattle.std.specs.Prelude.{count_by}
 use Rattle.std.specs.declared.cmp.Ordering.{Ordering}
@@ -164,7 +164,7 @@ module _ {R : Type 0} where
       omega (arith, counts-set p heaps place new old l, bag p, read, count_by-cons p x new.items, count_by-cons p x (items_in (set heaps place new)))
 
 module _ {X : Type 0} (lt : X → X → Bool) (o : IsStrictWeakOrder lt) (anti : (a b : X) → Le lt a b → Le lt b a → a ≡ b) where
-  -- a record of the bag that is not after any of them
+  -- a record of the multiset that is not after any of them
   pub record IsLeastOf (bag : List X) (x : X) : Type 0 where
     pub rest : List X
     pub same : IsSameBag (x ∷ rest) bag
@@ -196,7 +196,7 @@ module _ {X : Type 0} (lt : X → X → Bool) (o : IsStrictWeakOrder lt) (anti :
   pub least_none : (bag : List X) → first_of (take 1 (in_order lt bag)) ≡ None → bag ≡ []
   least_none bag e = none_parts (in_order lt bag) bag (in_order-same_bag lt o bag) e
 
-  -- a record comes to a bag: it is the least where it is before the least so far, or is alone
+  -- a record comes to a multiset: it is the smallest where it is before the smallest so far, or is alone
   pub least_with_less : (old new : List X) (y x : X) → first_of (take 1 (in_order lt old)) ≡ Some y → IsSameBag new (x ∷ old) → lt x y ≡ true → first_of (take 1 (in_order lt new)) ≡ Some x
   least_with_less old new y x e s less =
       let parts = least_parts old y e in
@@ -224,7 +224,7 @@ module _ {R : Type 0} (cmp : R → R → Ordering) (o : IsStrictWeakOrder (is_be
   all_low x (heap ∷ heaps) h =
       Each-append (Le (is_before cmp) x) heap.items (items_in heaps) (share_low x heap.items (least cmp heap.items) refl (h 0)) (all_low x heaps (λ i. h (suc i)))
 
-  -- a record comes to the bag, and it was asked whether it is before the least so far
+  -- a record comes to the multiset, and it was asked whether it is before the smallest so far
   pub pushed_none : (old new : List R) (x : R) (b : Bool) → least cmp old ≡ None → IsSameBag new (x ∷ old) → b ≡ true → least cmp new ≡ (if b then Some x else least cmp old)
   pushed_none old new x b e s t =
       let alone : IsSameBag new (x ∷ []) = λ p. s p ∙ ap (λ xs. count_by p (x ∷ xs)) (least_none (is_before cmp) o anti old e) in
@@ -234,7 +234,7 @@ module _ {R : Type 0} (cmp : R → R → Ordering) (o : IsStrictWeakOrder (is_be
   pushed_some old new x y true e s t = least_with_less (is_before cmp) o anti old new y x e s (sym t)
   pushed_some old new x y false e s t = least_with_more (is_before cmp) o anti old new y x e s (sym t) ∙ sym e
 
-  -- the heap that won has the least of all records
+  -- the heap that won has the smallest of all records
   pub winner_share :
       (heaps : List (Contents R)) (leaves : List (Option R)) (leaf : ℕ) (x : R) (d : Contents R) → HasLeasts cmp heaps leaves → leaf < length leaves → IsLeastLeaf cmp leaves leaf x
       → least cmp (get_or heaps leaf d).items ≡ Some x
@@ -281,7 +281,7 @@ module _ {R : Type 0} (cmp : R → R → Ordering) where
   leasts-new zero cap = refl
   leasts-new (suc n) cap = ap (λ ls. None ∷ ls) (leasts-new n cap)
 
-  -- one more leaf has the least record of its heap
+  -- one more leaf has the smallest record of its heap
   pub leasts_more :
       (heaps : List (Contents R)) (leaves : List (Option R)) (leaf : ℕ) (heap : Contents R) (first : Option R) → length leaves ≡ length heaps → leaf < length heaps → heap ≡ get_or heaps leaf heap → first ≡ least cmp heap.items
       → take leaf leaves ≡ map (λ (h : Contents R). least cmp h.items) (take leaf heaps)
@@ -298,12 +298,12 @@ module _ {R : Type 0} (cmp : R → R → Ordering) where
   leasts_all heaps leaves leaf long l e =
       sym (take_all leaf leaves (omega arith)) ∙ (e ∙ ap (map (λ (h : Contents R). least cmp h.items)) (take_all leaf heaps l))
 
-  -- a heap in place of another, and its least record in the leaf
+  -- a heap in place of another, and its smallest record in the leaf
   pub leasts-set : (heaps : List (Contents R)) (leaves : List (Option R)) (place : ℕ) (heap : Contents R) (first : Option R) → HasLeasts cmp heaps leaves → first ≡ least cmp heap.items → HasLeasts cmp (set heaps place heap) (set leaves place first)
   unfolding HasLeasts
   leasts-set heaps leaves place heap first h e = ap₂ (λ (ls : List (Option R)) (f : Option R). set ls place f) h e ∙ sym (map-set (λ (h : Contents R). least cmp h.items) heaps place heap)
 
-  -- a heap in place of another with the same least record
+  -- a heap in place of another with the same smallest record
   pub leasts-set_same : (heaps : List (Contents R)) (leaves : List (Option R)) (place : ℕ) (heap d : Contents R) → HasLeasts cmp heaps leaves → least cmp heap.items ≡ least cmp (get_or heaps place d).items → HasLeasts cmp (set heaps place heap) leaves
   unfolding HasLeasts
   leasts-set_same heaps leaves place heap d h e = h ∙ sym (map-set_same (λ (h : Contents R). least cmp h.items) heaps place heap d e)

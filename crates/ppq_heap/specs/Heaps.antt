@@ -39,7 +39,7 @@ pub record AreShares {R : Type 0} (shares : Shares R) : Type 0 where
   pub caps : All (λ (heap : Contents R). heap.cap ≡ shares.cap) shares.heaps
   pub within : All (λ (heap : Contents R). length heap.items ≤ shares.cap) shares.heaps
 
--- each leaf has the least record of its heap
+-- each leaf has the smallest record of its heap
 unfoldable pub HasLeasts : {R : Type 0} → (R → R → Ordering) → List (Contents R) → List (Option R) → Type 0
 HasLeasts cmp heaps leaves = leaves ≡ map (λ heap. least cmp heap.items) heaps
 

@@ -10,15 +10,15 @@ use ppq_tree::{Memory, MinTree, Record, record_laws};
 use std::alloc::Global;
 use std::marker::Model;
 
-/// The insertion heaps of a queue, one for each worker, and a tree of their least records.
+/// The insertion heaps of a queue, one for each worker, and a tree of their smallest records.
 ///
-/// A push goes to the first heap; in a bulk session each worker fills its own. The least of all records
+/// A push goes to the first heap; in a bulk session each worker fills its own. The smallest of all records
 /// is at hand. Contracts see the heaps in order, `heaps`, and how many records each has room for, `cap`.
 #[derive(Drop)]
 pub struct Heaps<R: Record> {
     // A heap for each worker, all of them with the same room.
     heaps: Vec<InsertionHeap<R>>,
-    // A leaf for each heap, with its least record.
+    // A leaf for each heap, with its smallest record.
     tree: MinTree<R>,
 }
 
@@ -81,7 +81,7 @@ impl<R: Record> Heaps<R> {
 
     /// Adds a record to the first heap. `Err` hands that very record back; it comes exactly where the first
     /// heap is full, and nothing has changed then. It costs what a push to a heap costs and one comparison
-    /// more, and a match on each level of the tree where the record is the heap's new least.
+    /// more, and a match on each level of the tree where the record is the heap's new smallest.
     #[inline]
     pub fn try_push(&mut self, item: R) -> Result<(), R>
         ensures full { IsErr result ↔ (length (share_at self.old 0) ≡ self.old.cap) }
@@ -102,7 +102,7 @@ impl<R: Record> Heaps<R> {
         }
     }
 
-    /// The least record of all heaps; `None` exactly where there is none. It makes no comparison.
+    /// The smallest record of all heaps; `None` exactly where there is none. It makes no comparison.
     #[inline]
     pub fn min(&self) -> Option<R>
         ensures value { result ≡ least R.Ord.cmp (items_of self.now) }
@@ -115,7 +115,7 @@ impl<R: Record> Heaps<R> {
         }
     }
 
-    /// Takes the least record of all heaps out of its heap; `None` exactly where there is none. It costs a
+    /// Takes the smallest record of all heaps out of its heap; `None` exactly where there is none. It costs a
     /// pop of that heap and a match on each level of the tree.
     pub fn pop(&mut self) -> Option<R>
         ensures value { result ≡ least R.Ord.cmp (items_of self.old) }
@@ -179,7 +179,7 @@ impl<R: Record> Heaps<R> {
     }
 
     /// Puts heaps together, at least one, all with the same room, with a tree of as many leaves, which get
-    /// the heaps' least records anew. It takes no memory and costs a match on each level of the tree for
+    /// the heaps' smallest records anew. It takes no memory and costs a match on each level of the tree for
     /// each heap.
     pub fn from_parts(heaps: Vec<InsertionHeap<R>>, tree: MinTree<R>) -> Self
         requires some { 0 < length heaps.items }
@@ -242,7 +242,7 @@ fn push<R: Record>(heap: &mut InsertionHeap<R>, item: R) -> Result<bool, R>
     }
 }
 
-// Takes the least record out of a heap, and returns the next one.
+// Takes the smallest record out of a heap, and returns the next one.
 #[inline]
 fn take_least<R: Record>(heap: &mut InsertionHeap<R>) -> Option<R>
     ensures next { result ≡ least R.Ord.cmp heap.new.items }
@@ -253,7 +253,7 @@ fn take_least<R: Record>(heap: &mut InsertionHeap<R>) -> Option<R>
     heap.min()
 }
 
-// Gives each leaf of a tree the least record of its heap.
+// Gives each leaf of a tree the smallest record of its heap.
 fn write_leasts<R: Record>(heaps: &[InsertionHeap<R>], tree: &mut MinTree<R>)
     requires { length tree.old.items ≡ length heaps.now }
     ensures leasts { HasLeasts R.Ord.cmp heaps.now tree.new.items }
@@ -266,7 +266,7 @@ fn write_leasts<R: Record>(heaps: &[InsertionHeap<R>], tree: &mut MinTree<R>)
     }
 }
 
-// The least record of a heap, and that it has no more records than there is room for.
+// The smallest record of a heap, and that it has no more records than there is room for.
 #[inline]
 fn least_of<R: Record>(heap: &InsertionHeap<R>) -> Option<R>
     ensures value { result ≡ least R.Ord.cmp heap.now.items }

@@ -8,7 +8,7 @@ use ppq_tree::{Memory, Record, record_laws, sort};
 use std::alloc::Global;
 use std::marker::Model;
 
-/// A bag of at most `cap` records, the least of which is at hand.
+/// A multiset of at most `cap` records, the smallest of which is at hand.
 ///
 /// Contracts see the records in the order in which they lie, `items`, and `cap`. The order is that
 /// of a binary heap: no record is after its children.
@@ -103,7 +103,7 @@ impl<R: Record> InsertionHeap<R> {
         Ok(())
     }
 
-    /// The least record, without a comparison; `None` exactly where there is none.
+    /// The smallest record, without a comparison; `None` exactly where there is none.
     #[inline]
     pub fn min(&self) -> Option<R>
         ensures value { result ≡ least R.Ord.cmp self.now.items }
@@ -113,7 +113,7 @@ impl<R: Record> InsertionHeap<R> {
         self.records.first().copied()
     }
 
-    /// Takes the least record out; `None` exactly where there is none. It costs about the binary
+    /// Takes the smallest record out; `None` exactly where there is none. It costs about the binary
     /// logarithm of the number of records in comparisons.
     pub fn pop(&mut self) -> Option<R>
         ensures value { result ≡ least R.Ord.cmp self.old.items }

@@ -1,5 +1,5 @@
-//! The insertion heap: a binary heap of a fixed number of records, the least first; and the insertion
-//! heaps of several workers, the least of all of them first.
+//! The insertion heap: a binary heap of a fixed number of records, the smallest first; and the insertion
+//! heaps of several workers, the smallest of all of them first.
 //!
 //! `try_push` and `pop` cost about the binary logarithm of the number of records in comparisons, `min`
 //! none. The memory is taken once, by `new`. A full heap is sorted in place, read as a slice and

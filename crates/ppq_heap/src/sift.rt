@@ -73,7 +73,7 @@ fn lesser_child<R: Record>(items: &[R], parent: usize) -> usize
     }
 }
 
-// Takes the root, the least record, out of a heap and puts another record into it.
+// Takes the root, the smallest record, out of a heap and puts another record into it.
 pub(crate) fn replace_root<R: Record>(items: &mut [R], item: R) -> R
     requires some { 0 < length items.old }
     requires heap { IsMinHeap (is_before R.Ord.cmp) items.old }

@@ -76,7 +76,7 @@ impl<R: Record> Hints<R> {
         self.tree.clear(arrays);
     }
 
-    /// The array whose next block has the least minimum, with that minimum; the lowest array among equals.
+    /// The array whose next block has the smallest minimum, with that minimum; the lowest array among equals.
     /// `None` if and only if no array has a block. It compares nothing.
     #[inline]
     pub fn least(&self) -> Option<(u32, R)>

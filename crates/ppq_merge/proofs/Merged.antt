@@ -23,7 +23,7 @@ use Rattle.ppq_merge.proofs.Between.{AreWithin-start, AreParts-ends, between-end
 use Rattle.ppq_merge.proofs.Planned.{AreWithin-zeros, IsCut-zeros, gap_total, made_bag, made_front, total_zeros}
 
 module _ {R : Type 0} (qs : List (List R)) where
-  -- the records in front of the places, where the others make up the bag with them
+  -- the records in front of the places, where the others make up the multiset with them
   same_before :
       (cs : List ℕ) (out : List R) → AreWithin cs qs → IsSameBag (out ++ after cs qs) (all_of qs) → IsSameBag out (before cs qs)
   same_before cs out within all p = omega (arith, all p, count_by-append p out (after cs qs), count_by-before_after p cs qs within)

@@ -130,7 +130,7 @@ module _ {R : Type 0} (lt : R → R → Bool) (o : IsStrictWeakOrder lt) where
       let e3 = Each_le-same_bag lt o (between f (to_of qs s) qs) (between (to_of qs s) t qs) p.0 p.1 (λ q. sym (m.bag q)) (λ q. sym (r.0 q)) e2 in
       subst (Rising lt) (sym p.2) (Rising-append lt o p.0 p.1 (m.order up) later e3)
 
-  -- the pieces of a chain from the beginning to a cut are the least records
+  -- the pieces of a chain from the beginning to a cut are the smallest records
   pub chain_front :
       (anti : (a b : R) → Le lt a b → Le lt b a → a ≡ b)
       (qs : List (List R)) (f : List ℕ) (ss : List (Seat R)) (t : List ℕ) (out : List R)

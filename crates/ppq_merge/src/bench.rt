@@ -124,7 +124,7 @@ impl<R: Record> Bench<R> {
         self.hints.advance(run, next);
     }
 
-    /// The run whose next block has the least minimum, with that minimum, the lowest run among equals.
+    /// The run whose next block has the smallest minimum, with that minimum, the lowest run among equals.
     /// `None` if and only if no run has a block.
     #[inline]
     pub fn least_hint(&self) -> Option<(u32, R)>

@@ -21,7 +21,7 @@ abbrev pub at_most : Option ℕ → ℕ → ℕ
 at_most None count = count
 at_most (Some most) count = min most count
 
--- the least of the numbers that the plan gives for a put, where least is what its earlier part gave
+-- the smallest of the numbers that the plan gives for a put, where smallest is what its earlier part gave
 abbrev pub limit_from : Option ℕ → List (ℕ × ℕ) → ℕ → Option ℕ
 limit_from least [] put = least
 limit_from least (failure ∷ plan) put = limit_from (if failure.0 == put then Some (at_most least failure.1) else least) plan put

@@ -67,7 +67,7 @@ of_shared {S = S} {R = R} p shared row pool = ap₂ made row pool
     made : TableId → TableId → Shared S R
     made r l = record { row = r; pool = l }
 
--- two holdings with the same numbers differ in bag, slots, stash, draws, numbers of buffers, note, steps and refusal alone
+-- two holdings with the same numbers differ in multiset, slots, stash, draws, numbers of buffers, note, steps and refusal alone
 pub refused_holding :
     {S R : Type 0} (old new : PassHolding S R) → new.key ≡ old.key → new.size ≡ old.size → new.in_heap ≡ old.in_heap → new.in_buffers ≡ old.in_buffers → new.buffers ≡ old.buffers → new.noted ≡ true → new.accepted ≡ old.accepted → new.refused ≡ true → new.failed ≡ old.failed
     → new ≡ record old { bag = new.bag; slots = new.slots; stash = new.stash; drawn = new.drawn; numbers = new.numbers; noted = true; steps = new.steps; refused = true }

@@ -36,7 +36,7 @@ pub record PassKey (S R : Type 0) : Type 0 where
   pub sizes : Numbers
   pub begun : ℕ
 
--- Its key. The bag of its records, in its heap and in its runs, as far as its slots tell; how many they are, how many of them are in the
+-- Its key. The multiset of its records, in its heap and in its runs, as far as its slots tell; how many they are, how many of them are in the
 -- heap, and how many in runs in buffers. All slots that it holds, in its runs and its stash, and how many the stash has; all that it drew,
 -- as they were put into the row. How many buffers of a block it holds, in its runs and two that are idle, and the numbers that its seat of
 -- the pool holds. Whether it knows that the row is drawn to its end, and how many steps it took at what is shared. How many of its pushes

@@ -24,7 +24,7 @@ use std::marker::Model;
 /// run, in buffers of the shared pool if there are enough, and else together with all runs in buffers
 /// in slots of the stash and the shared row. No call takes memory.
 ///
-/// Contracts see its key, which no call changes; the bag of its records, as far as slots tell, and how
+/// Contracts see its key, which no call changes; the multiset of its records, as far as slots tell, and how
 /// many they are; all slots and how many buffers it holds; how many steps it took at the row and the
 /// pool, which it shares with others; how many pushes were accepted, and whether one was refused for
 /// want of blocks; and the slot that failed.
@@ -135,7 +135,7 @@ impl<S: Slot + Send, R: Record + Send> Pass<S, R> {
     /// Where the heap is full, it is sorted first and stored as a run: `h` takes of buffers, or else a draw
     /// and a write for each block of the heap and of all runs in buffers. The heap has one record then.
     ///
-    /// Each refusal hands the record back. `NoFreeBlock`: the bag is as it was; the row is drawn to its
+    /// Each refusal hands the record back. `NoFreeBlock`: the multiset is as it was; the row is drawn to its
     /// end, and the slots that the pass drew, which stay with it, are too few. A later push tries again.
     /// `Device`: a call of the slot with that number failed, now or before. From then on each push returns it
     /// and changes nothing, the heap is full, so that `try_push` returns `Full`, and `accepted` and `refused`

@@ -28,12 +28,12 @@ module _ {R : Type 0} {cmp : R → R → Ordering} (o : IsTotalOrder cmp) (same 
       let one : ◌≡◌ {A = ℕ} (cond (p z) 1 0) 1 = ap (λ (w : R). cond (is_before cmp w l) 1 0) is ∙ ap (λ b. cond b 1 0) t in
       omega (arith, parts p, count_by-cons p z (zs ++ rest), one)
 
-  -- the least record is below the limit
+  -- the smallest record is below the limit
   pub some_below : (l x : R) (bag : List R) (answer : Option R) → answer ≡ least cmp bag → kept_below cmp answer (Some l) ≡ Some x → 0 < size_below cmp bag l
   some_below l x bag None e kept = cc
   some_below l x bag (Some y) e kept = counts_one l y (front cmp bag 1) (without_front cmp bag 1) bag (sym e) (front-parts o bag 1) (kept_is cmp (Some l) y x kept).1.0
 
-  -- the least record is not below the limit, or there is none
+  -- the smallest record is not below the limit, or there is none
   pub none_below : (l : R) (bag : List R) (answer : Option R) → answer ≡ least cmp bag → kept_below cmp answer (Some l) ≡ None → size_below cmp bag l ≡ 0
   none_below l bag None e kept = ap (λ (xs : List R). size_below cmp xs l) (least-none o same bag (sym e))
   none_below l bag (Some y) e kept =

@@ -1,4 +1,4 @@
--- The least record of a bag, of a part that is known to be least, and of two bags together.
+-- The smallest record of a multiset, of a part that is known to be smallest, and of two multisets together.
 use Rattle.std.proofs.Common.{◌≡◌, ℕ, Bool, true, false, cond, not, List, [], ◌∷◌, ◌++◌, length, take, drop, Option, Some, None, refl, sym, ap, ◌∙◌, subst, append-nil, inl, inr, arith, Ordering}
 use Rattle.std.specs.Prelude.{count_by, IfSome}
 use Rattle.std.specs.declared.cmp.Ordering.TheVariants.{Equal}
@@ -12,7 +12,7 @@ use Rattle.ppq_heap.proofs.ppq_record.Fronts.{ranks, no_tie, ascending-same_bag}
 use Rattle.ppq_queue.specs.Choice.{goes_first}
 
 module _ {R : Type 0} {cmp : R → R → Ordering} (o : IsTotalOrder cmp) (same : (x y : R) → cmp x y ≡ Equal → x ≡ y) where
-  -- a record that is not after any other is the least
+  -- a record that is not after any other is the smallest
   pub least_is : (x : R) (rest all : List R) → IsSameBag (x ∷ rest) all → Each (Le (is_before cmp) x) rest → least cmp all ≡ Some x
   least_is x rest all bag each = ap first_of (sym (front_is (is_before cmp) (ranks o) (no_tie o same) all (x ∷ []) rest (tt, tt) bag (each, tt)))
 
@@ -22,7 +22,7 @@ module _ {R : Type 0} {cmp : R → R → Ordering} (o : IsTotalOrder cmp) (same 
       let is : z ≡ x = cc in
       Each-same_bag (λ y. is_before cmp y x) (z ∷ zs) all bag (subst (λ (w : R). Each (Le (is_before cmp) w) (z ∷ zs)) is (Le-refl (is_before cmp) (ranks o) z, rise.0))
 
-  -- no record is before the least
+  -- no record is before the smallest
   pub least-le : (x : R) (all : List R) → least cmp all ≡ Some x → Each (Le (is_before cmp) x) all
   least-le x all e = from_order x (ascending cmp all) all (in_order-same_bag (is_before cmp) (ranks o) all) (Rising-in_order (is_before cmp) (ranks o) all) e
 
@@ -31,7 +31,7 @@ module _ {R : Type 0} {cmp : R → R → Ordering} (o : IsTotalOrder cmp) (same 
   none_left [] (y ∷ ys) bag e = absurd (omega (arith, IsSameBag-length [] (y ∷ ys) bag))
   none_left (z ∷ zs) all bag e = cc
 
-  -- a bag without a least record is empty
+  -- a multiset without a smallest record is empty
   pub least-none : (all : List R) → least cmp all ≡ None → all ≡ []
   least-none all e = none_left (ascending cmp all) all (in_order-same_bag (is_before cmp) (ranks o) all) e
 
@@ -42,7 +42,7 @@ module _ {R : Type 0} {cmp : R → R → Ordering} (o : IsTotalOrder cmp) (same 
       let head : ◌≡◌ {A = ℕ} (cond (p z) 1 0) (cond (p x) 1 0) = ap (λ (w : R). cond (p w) 1 0) is in
       omega (arith, head, bag p, count_by-cons p z zs, count_by-cons p x rest)
 
-  -- what is left where the least record is taken
+  -- what is left where the smallest record is taken
   pub without_least : (x : R) (rest all : List R) → least cmp all ≡ Some x → IsSameBag all (x ∷ rest) → IsSameBag rest (without_front cmp all 1)
   without_least x rest all e bag = rest_of x rest (ascending cmp all) (λ p. in_order-same_bag (is_before cmp) (ranks o) all p ∙ bag p) e
 
@@ -60,7 +60,7 @@ module _ {R : Type 0} {cmp : R → R → Ordering} (o : IsTotalOrder cmp) (same 
   le_from : (x y : R) (ys : List R) → Le (is_before cmp) x y → Each (Le (is_before cmp) y) ys → Each (Le (is_before cmp) x) ys
   le_from x y ys h each = Each-weaker (Le (is_before cmp) y) (Le (is_before cmp) x) (λ z k. Le-trans (is_before cmp) (ranks o) x y z h k) ys each
 
-  -- of two bags, the one whose least record goes first has the least record of both
+  -- of two multisets, the one whose smallest record goes first has the smallest record of both
   first_is_least : (x : R) (xs ys : List R) → least cmp xs ≡ Some x → Each (Le (is_before cmp) x) ys → least cmp (xs ++ ys) ≡ Some x
   first_is_least x xs ys e each = by_order (ascending cmp xs) (in_order-same_bag (is_before cmp) (ranks o) xs) e
     where
@@ -83,7 +83,7 @@ module _ {R : Type 0} {cmp : R → R → Ordering} (o : IsTotalOrder cmp) (same 
   none_with : (xs ys : List R) → least cmp ys ≡ None → least cmp (xs ++ ys) ≡ least cmp xs
   none_with xs ys e = ap (λ (l : List R). least cmp (xs ++ l)) (least-none ys e) ∙ ap (least cmp) (append-nil xs)
 
-  -- the least record of two bags is that of the one that goes first
+  -- the smallest record of two multisets is that of the one that goes first
   pub least_of_two : (xs ys : List R) (one other : Option R) (choice : Bool) → one ≡ least cmp xs → other ≡ least cmp ys → choice ≡ goes_first cmp one other → least cmp (xs ++ ys) ≡ cond choice one other
   least_of_two xs ys None other choice e f c =
       let empty = least-none xs (sym e) in

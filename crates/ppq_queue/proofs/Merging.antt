@@ -180,7 +180,7 @@ module _ {R : Type 0} {cmp : R → R → Ordering} (o : IsTotalOrder cmp) (same 
   extract_le y h None e first = subst (λ (l : List R). Each (Le (is_before cmp) y) l) (sym (least-none o same h (sym e))) tt
   extract_le y h (Some z) e first = le_all o y z h ((ranks o).one_way y z (not_false (is_before cmp y z) first)) (least-le o same z h (sym e))
 
-  -- the heaps' least record went
+  -- the heaps' smallest record went
   pub heap_moved :
       (h h' e out : List R) (one popped : Option R) (next : R)
       → one ≡ least cmp h → popped ≡ least cmp h → IfSome popped (λ x. IsSameBag h (x ∷ h')) → goes_first cmp one (first_of e) ≡ true → kept_below cmp one limit ≡ Some next → (e ≡ [] → more ≡ false)
@@ -202,7 +202,7 @@ module _ {R : Type 0} {cmp : R → R → Ordering} (o : IsTotalOrder cmp) (same 
       let keep = kept_is cmp limit y next kept in
       subst (λ (x : R). Merged cmp more limit h h (y ∷ ys) ys out (out ++ x ∷ [])) keep.0 (move_extract y h ys out (extract_le y h one is first) keep.1)
 
-  -- the heaps' least record is the least of all, and it is not below the limit
+  -- the heaps' smallest record is the smallest of all, and it is not below the limit
   pub heap_ended :
       (bound : Option R) (h e : List R) (one : Option R) → one ≡ least cmp h → goes_first cmp one (first_of e) ≡ true → kept_below cmp one bound ≡ None → (e ≡ [] → more ≡ false) → Exhausted cmp more bound h e
   heap_ended bound h e None is first kept whole = cc
@@ -219,7 +219,7 @@ module _ {R : Type 0} {cmp : R → R → Ordering} (o : IsTotalOrder cmp) (same 
   nothing None h e whole = record { whole = whole; all = λ n. ap (λ (l : List R). l ++ []) e; low = λ u. ap (λ (l : List R). l ++ []) e }
   nothing (Some l) h e whole = record { whole = whole; all = λ n. ap (λ (xs : List R). xs ++ []) e; low = λ u. subst (λ (xs : List R). Each (Le (is_before cmp) l) (xs ++ [])) (sym e) tt }
 
-  -- the extract buffer's record is the least, and it is not below the limit; or all are empty
+  -- the extract buffer's record is the smallest, and it is not below the limit; or all are empty
   pub extract_ended :
       (bound : Option R) (h e : List R) (one : Option R) → one ≡ least cmp h → goes_first cmp one (first_of e) ≡ false → kept_below cmp (first_of e) bound ≡ None → (e ≡ [] → more ≡ false) → Exhausted cmp more bound h e
   extract_ended bound h [] None is first kept whole = nothing bound h (least-none o same h (sym is)) whole

@@ -1,4 +1,4 @@
--- A heap beside an extract buffer that is ready: which of both has the least record, and what is left without it.
+-- A heap beside an extract buffer that is ready: which of both has the smallest record, and what is left without it.
 use Rattle.std.proofs.Common.{◌≡◌, ℕ, zero, suc, inl, inr, ◌+◌, ◌-◌, ◌<◌, ◌≤◌, Bool, true, false, cond, not, List, [], ◌∷◌, ◌++◌, length, drop, Option, Some, None, refl, sym, ap, ◌∙◌, subst, arith, append_assoc, length-drop, Ordering}
 use Rattle.std.specs.Prelude.{count_by, ◌⊎◌, ◌↔◌, IfSome, IsNone, Result, Ok, Err, IsErr, OnOk}
 use Rattle.std.specs.declared.cmp.Ordering.TheVariants.{Equal}
@@ -76,12 +76,12 @@ module _ {R : Type 0} {cmp : R → R → Ordering} (o : IsTotalOrder cmp) (same 
       by_one (Some x) e f = cc
   second_empty heap (x ∷ xs) f z = absurd (omega arith)
 
-  -- the first record of a buffer that is ready is the least of it and the runs
+  -- the first record of a buffer that is ready is the smallest of it and the runs
   stored_least : (extract runs : List R) → Ascends cmp extract → NoneAfter cmp extract runs → (length extract ≡ 0 → length runs ≡ 0) → first_of extract ≡ least cmp (extract ++ runs)
   stored_least [] runs up order ready = sym (least_of_empty o same runs (ready refl))
   stored_least (x ∷ xs) runs up order ready = sym (least_is o same x (xs ++ runs) (x ∷ (xs ++ runs)) (λ p. refl) (Each-append (Le (is_before cmp) x) xs runs up.0 order.0))
 
-  -- the one that goes first is the least record of all
+  -- the one that goes first is the smallest record of all
   pub first_least :
       (heap extract runs : List R) → Ascends cmp extract → NoneAfter cmp extract runs → (length extract ≡ 0 → length runs ≡ 0) → first_of_two cmp (least cmp heap) (first_of extract) ≡ least cmp (heap ++ extract ++ runs)
   first_least heap extract runs up order ready =
@@ -113,7 +113,7 @@ module _ {R : Type 0} {cmp : R → R → Ordering} (o : IsTotalOrder cmp) (same 
   popped_one heap left None some is taken = absurd (omega (arith, some, ap length (least-none o same heap (sym is))))
   popped_one heap left (Some x) some is taken = omega (arith, IsSameBag-length heap (x ∷ left) taken)
 
-  -- the heap's least record left, which goes first
+  -- the heap's smallest record left, which goes first
   pub took_heap : (heap left extract : List R) (answer : Option R) → answer ≡ least cmp heap → IfSome answer (λ x. IsSameBag heap (x ∷ left)) → goes_first cmp (least cmp heap) (first_of extract) ≡ true → TookFirst cmp heap left extract extract answer
   took_heap heap left extract answer is taken first =
       let some = first_some heap (first_of extract) first in

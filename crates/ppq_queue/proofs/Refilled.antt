@@ -1,4 +1,4 @@
--- What a refill leaves: the least records in the extract buffer, and runs at rest.
+-- What a refill leaves: the smallest records in the extract buffer, and runs at rest.
 use Rattle.std.proofs.Common.{◌≡◌, ℕ, Bool, ◌+◌, ◌-◌, ◌<◌, ◌≤◌, List, [], ◌∷◌, ◌++◌, length, min, take, drop, get_or, map, Option, None, All, refl, sym, ap, ◌∙◌, subst, arith, append-nil, length-drop}
 use Rattle.std.specs.Prelude.{◌↔◌, flat_map, vec_capacity, count_by}
 use Rattle.std.specs.declared.cmp.Ordering.{Ordering}

@@ -53,7 +53,7 @@ module _ {R : Type 0} (cmp : R → R → Ordering) where
   kept_below (Some x) None = Some x
   kept_below (Some x) (Some l) = cond (is_before cmp x l) (Some x) None
 
-  -- From heaps and an extract buffer the least records went to the end of a list, in order; if `more`, runs stand behind the
+  -- From heaps and an extract buffer the smallest records went to the end of a list, in order; if `more`, runs stand behind the
   -- extract buffer, none of whose records is before one of its
   pub record Merged (more : Bool) (limit : Option R) (heap heap' extract extract' out out' : List R) : Type 0 where
     pub count : length out' + length heap' + length extract' ≡ length out + length heap + length extract
@@ -75,7 +75,7 @@ module _ {R : Type 0} (cmp : R → R → Ordering) where
     pub all : limit ≡ None → heap ++ extract ≡ []
     pub low : Ascends cmp extract → NoneBelow cmp limit (heap ++ extract)
 
-  -- The least record of heaps and an extract buffer went to the end of a list, and the answer says whether one did; if none did, nothing that is
+  -- The smallest record of heaps and an extract buffer went to the end of a list, and the answer says whether one did; if none did, nothing that is
   -- wanted is left
   pub record MovesNext (more : Bool) (limit : Option R) (before after : Shares R) (extract extract' : Held R) (out out' : Listed R) (answer : Bool) : Type 0 where
     pub moves : Moves more limit before after extract extract' out out'
@@ -93,7 +93,7 @@ module _ {R : Type 0} (cmp : R → R → Ordering) where
     pub few : length out'.items ≤ most
     pub ended : HasEnded most more limit (items_of after) extract'.items out'.items
 
-  -- The least records of a queue were taken, at most so many, all below the limit, if there is one. With a limit the extract buffer is ready for
+  -- The smallest records of a queue were taken, at most so many, all below the limit, if there is one. With a limit the extract buffer is ready for
   -- a look at the least record that is left
   pub record TookFront (limit : Option R) (most : ℕ) (old new : Holding R) (out : List R) : Type 0 where
     pub front : AllTell old.slots → out ≡ front cmp old.bag (wanted cmp most limit old.bag)
@@ -106,7 +106,7 @@ module _ {R : Type 0} (cmp : R → R → Ordering) where
     pub sound : new.failed ≡ None
     pub quiet : AreQuiet old.slots new.slots
 
-  -- What a bulk pop leaves of a queue and of its list: the least records were taken if it is Ok; none is returned if it is not, and what a refusal
+  -- What a bulk pop leaves of a queue and of its list: the smallest records were taken if it is Ok; none is returned if it is not, and what a refusal
   -- means; the queue counts as many fewer as are in the list; and what stays whatever is returned
   pub record BulkLeaves {T : Type 0} (limit : Option R) (most : ℕ) (old new : Holding R) (was now : Listed R) (r : Result T StoreFault) : Type 0 where
     pub took : OnOk r (TookFront limit most old new now.items)
@@ -119,7 +119,7 @@ module _ {R : Type 0} (cmp : R → R → Ordering) where
     pub keeps : Keeps old new
 
 module _ {S R : Type 0} (shown : S → Shown) (cmp : R → R → Ordering) (record_of : List ℕ → R) (width : ℕ) where
-  -- Out of heaps and a store the least records were taken, at most so many, all below the limit, if there is one. The store may work on
+  -- Out of heaps and a store the smallest records were taken, at most so many, all below the limit, if there is one. The store may work on
   pub record TookOut (limit : Option R) (most : ℕ) (heap heap' : List R) (old new : Store S R) (out : List R) : Type 0 where
     pub works : MayWork shown cmp record_of width new
     pub quiet : AreQuiet (slots_in shown old) (slots_in shown new)
@@ -130,7 +130,7 @@ module _ {S R : Type 0} (shown : S → Shown) (cmp : R → R → Ordering) (reco
     pub under : AllTell (slots_in shown old) → AllBelow cmp limit out
 
   -- All that was wanted was taken: as many as could be, or nothing that is wanted is left. With a limit the extract buffer is ready for a look
-  -- at the least record that is left
+  -- at the smallest record that is left
   pub record TookAll (limit : Option R) (most : ℕ) (heap heap' : List R) (old new : Store S R) (out : List R) : Type 0 where
     pub took : TookOut limit most heap heap' old new out
     pub all : limit ≡ None → (length out ≡ most) ⊎ (length heap' + stored new ≡ 0)

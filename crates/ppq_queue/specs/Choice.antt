@@ -1,4 +1,4 @@
--- Which of two least records goes first.
+-- Which of two smallest records goes first.
 use Rattle.std.specs.Prelude.{◌≡◌, ◌+◌, ◌-◌, ◌≤◌, Bool, true, false, not, cond, List, ◌++◌, length, Option, Some, None}
 use Rattle.std.specs.declared.cmp.Ordering.{Ordering}
 use Rattle.ppq_heap.specs.ppq_record.Order.{is_before, Ascends}
@@ -14,11 +14,11 @@ goes_first cmp None other = false
 goes_first cmp (Some x) None = true
 goes_first cmp (Some x) (Some y) = not (is_before cmp y x)
 
--- the one of two least records that goes first
+-- the one of two smallest records that goes first
 abbrev pub first_of_two : {R : Type 0} → (R → R → Ordering) → Option R → Option R → Option R
 first_of_two cmp one other = cond (goes_first cmp one other) one other
 
--- The least record of a heap, or the first of an extract buffer, left them, if there was one: the one that goes first. If it is the least of both and of
+-- The smallest record of a heap, or the first of an extract buffer, left them, if there was one: the one that goes first. If it is the smallest of both and of
 -- runs, the others are left
 pub record TookFirst {R : Type 0} (cmp : R → R → Ordering) (heap heap' extract extract' : List R) (answer : Option R) : Type 0 where
   pub value : answer ≡ first_of_two cmp (least cmp heap) (first_of extract)

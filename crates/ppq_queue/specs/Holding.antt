@@ -10,7 +10,7 @@ use Rattle.ppq_extract.specs.ppq_array.declared.store_fault.StoreFault.TheVarian
 use Rattle.ppq_queue.specs.declared.fault.OpenFault.{OpenFault}
 use Rattle.ppq_queue.specs.declared.fault.OpenFault.TheVariants.{TooSmall, Memory}
 
--- The bag of its records, as far as its slots tell; how many records it counts; its sizes; the greatest size that it had or was to get
+-- The multiset of its records, as far as its slots tell; how many records it counts; its sizes; the greatest size that it had or was to get
 -- by a push; all its slots, in some order, and how many of them are free; the number of the slot a call of which failed first, if any;
 -- how many records its heaps have, how many the first of them, and how many its extract buffer; how many runs in blocks there are, and
 -- how many of them a level has at the most; how many buffers of a block each, and how many of those of the pool no run has; and whether
@@ -107,14 +107,14 @@ module _ {R : Type 0} where
     pub sound : new.failed ≡ None
     pub quiet : AreQuiet old.slots new.slots
 
-  -- the least record left the queue, if there was one; no call failed
+  -- the smallest record left the queue, if there was one; no call failed
   pub record HasTaken (cmp : R → R → Ordering) (old new : Holding R) : Type 0 where
     pub bag : AllTell old.slots → IsSameBag new.bag (without_front cmp old.bag 1)
     pub size : new.size ≡ old.size - 1
     pub sound : new.failed ≡ None
     pub quiet : AreQuiet old.slots new.slots
 
-  -- No block was free: the bag is as it was, where slots tell, and no call failed. Fewer slots are free than a merge or a store may want; the
+  -- No block was free: the multiset is as it was, where slots tell, and no call failed. Fewer slots are free than a merge or a store may want; the
   -- device has fewer blocks than are enough for the peak; and the peak is above what one heap holds, unless a limit session was begun
   pub record FoundNoBlock (old new : Holding R) : Type 0 where
     pub bag : AllTell old.slots → IsSameBag new.bag old.bag
@@ -171,12 +171,12 @@ module _ {R : Type 0} where
     pub heaps : q.in_heap ≡ 0
     pub settled : q.runs ≤ 64
 
-  -- the least record, if there is one
+  -- the smallest record, if there is one
   pub record IsLeast (cmp : R → R → Ordering) (q : Holding R) (one : Option R) : Type 0 where
     pub answer : AllTell q.slots → one ≡ least cmp q.bag
     pub none : IsNone one ↔ (q.size ≡ 0)
 
-  -- the least record, if there is one, left the queue; no slot and no run in blocks has changed
+  -- the smallest record, if there is one, left the queue; no slot and no run in blocks has changed
   pub record TookLeast (cmp : R → R → Ordering) (old new : Holding R) (one : Option R) : Type 0 where
     pub least : IsLeast cmp old one
     pub rest : AllTell old.slots → IsSameBag new.bag (without_front cmp old.bag 1)

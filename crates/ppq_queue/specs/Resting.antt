@@ -136,7 +136,7 @@ module _ {S R : Type 0} where
         pub moved : Moved sizes [] old new before now
         pub short : length now.kept * sizes.block < n + count_of old
 
-      -- The extract buffer has the least records of what it and the runs held, in order, and is empty only if no run is left
+      -- The extract buffer has the smallest records of what it and the runs held, in order, and is empty only if no run is left
       pub record Readied (sizes : Numbers) (extract extract' : List R) (old new : PassBody S R) (before now : Stock) : Type 0 where
         pub rest : AtRest sizes new now
         pub quiet : AreQuiet (slots_of old before) (slots_of new now)

@@ -1,4 +1,4 @@
-//! Many records that are taken out at once: the least of the heaps and of an extract buffer go into a list,
+//! Many records that are taken out at once: the smallest of the heaps and of an extract buffer go into a list,
 //! and the extract buffer is refilled on the way.
 ghost use Rattle.std.specs.Prelude.{◌≡◌, ◌≤◌, ◌<◌, ◌⊎◌, true, false, [], length, Some, None};
 ghost use Rattle.ppq_queue.specs.Resting.{count_of};
@@ -14,7 +14,7 @@ use ppq_extract::{Extract, Gate, Host, Slot};
 use ppq_heap::{Heaps, Record, record_laws};
 
 impl<S: Slot + Send + Sync, R: Record + Send + Sync> Store<S, R> {
-    // Takes the least records out of heaps and the store into an empty list: at most so many, and with a
+    // Takes the smallest records out of heaps and the store into an empty list: at most so many, and with a
     // limit only those below it. Levels of runs are merged first; only that finds too few free blocks, with
     // nothing taken. A record of a heap costs a sift there, so the heaps are not sorted. With a limit the
     // extract buffer is ready afterwards for a look at what is left.
@@ -48,7 +48,7 @@ impl<S: Slot + Send + Sync, R: Record + Send + Sync> Store<S, R> {
         wanted.most == 0 && (wanted.limit.is_none() || !self.extract.is_empty())
     }
 
-    // Takes the least records of heaps and the store into an empty list.
+    // Takes the smallest records of heaps and the store into an empty list.
     fn gather<H: Host, G: Gate>(
         &mut self,
         rt: &H,
@@ -103,7 +103,7 @@ impl<S: Slot + Send + Sync, R: Record + Send + Sync> Store<S, R> {
     }
 }
 
-// Moves the least records of heaps and an extract buffer to the end of a list, until it has so many, or
+// Moves the smallest records of heaps and an extract buffer to the end of a list, until it has so many, or
 // the extract buffer is empty and there is more behind it, or nothing below the limit is left.
 fn merge<R: Record>(
     heaps: &mut Heaps<R>,
@@ -136,7 +136,7 @@ fn goes_on<R: Record>(extract: &Extract<R>, more: bool, most: u32, out: &Out<R>)
     out.len() < most && !(more && extract.is_empty())
 }
 
-// Moves the least record of heaps and an extract buffer to the end of a list, and says whether it did:
+// Moves the smallest record of heaps and an extract buffer to the end of a list, and says whether it did:
 // `false` exactly where no record is below the limit.
 #[inline]
 fn move_next<R: Record>(

@@ -1,9 +1,9 @@
 //! The queue of one owner, which goes on where its records outgrow memory: insertion heaps, an extract
 //! buffer, sorted runs in buffers, and sorted runs in the blocks of a device.
 //!
-//! Each call is one change of one bag. A push costs one sift into the first heap; every `H` pushes
+//! Each call is one change of one multiset. A push costs one sift into the first heap; every `H` pushes
 //! that heap is sorted and stored as a run, and runs in blocks are merged by eights. A pop compares the
-//! heaps' least record with the first of the extract buffer, which is refilled from all runs. A bulk pop
+//! heaps' smallest record with the first of the extract buffer, which is refilled from all runs. A bulk pop
 //! does so up to a block of records for each worker a call. A bulk session takes the queue apart
 //! (`Queue::into_parts`), so that each worker fills a heap of its own. All memory is taken by
 //! `Queue::open` and `Out::new`.

@@ -22,10 +22,10 @@ use ppq_heap::{Heaps, Record, record_laws};
 use std::alloc::Global;
 use std::marker::Model;
 
-/// A priority queue of one owner, the least record first, within a budget in records, with the blocks of
+/// A priority queue of one owner, the smallest record first, within a budget in records, with the blocks of
 /// a device behind it.
 ///
-/// Contracts see the bag of its records as far as its slots tell, how many there are, its sizes, the
+/// Contracts see the multiset of its records as far as its slots tell, how many there are, its sizes, the
 /// greatest size that it had, was to get by a push, or counted in a session, and all its slots.
 #[derive(Drop)]
 pub struct Queue<S: Slot + Send + Sync, R: Record + Send + Sync> {
@@ -110,7 +110,7 @@ impl<S: Slot + Send + Sync, R: Record + Send + Sync> Queue<S, R> {
     /// and no `NoFreeBlock` comes; where it is full, the rest of the extract buffer and the sorted heap are
     /// stored as runs first, and levels of runs are merged.
     ///
-    /// Each refusal hands the record back. `NoFreeBlock`: the bag is as it was; the device has fewer blocks
+    /// Each refusal hands the record back. `NoFreeBlock`: the multiset is as it was; the device has fewer blocks
     /// than are enough for the peak, and the peak is above what a heap holds, unless a limit session was
     /// begun. `Device`: a call of the block with that number failed, now or before. From then on the queue is
     /// stopped: each later call of it returns that number and changes nothing (`store_heaps` notes a limit
@@ -205,7 +205,7 @@ impl<S: Slot + Send + Sync, R: Record + Send + Sync> Queue<S, R> {
         answer
     }
 
-    // The least record of a queue whose extract buffer is ready.
+    // The smallest record of a queue whose extract buffer is ready.
     fn least(&self) -> Option<R>
         requires { IsReady self.now }
         ensures { IsLeast R.Ord.cmp self.now result }
@@ -214,7 +214,7 @@ impl<S: Slot + Send + Sync, R: Record + Send + Sync> Queue<S, R> {
         first_of_two(self.heaps.min(), self.store.extract.front())
     }
 
-    // Takes the least record out of a queue whose extract buffer is ready.
+    // Takes the smallest record out of a queue whose extract buffer is ready.
     fn take_least(&mut self) -> Option<R>
         requires { IsReady self.old }
         ensures { TookLeast R.Ord.cmp self.old self.new result }
@@ -224,7 +224,7 @@ impl<S: Slot + Send + Sync, R: Record + Send + Sync> Queue<S, R> {
         take_first(&mut self.heaps, &mut self.store.extract)
     }
 
-    /// The least record, left in the queue; none exactly where the queue is empty. It costs one comparison.
+    /// The smallest record, left in the queue; none exactly where the queue is empty. It costs one comparison.
     /// Where the extract buffer is empty and there are runs, it is refilled first.
     ///
     /// `NoFreeBlock` and `Device` come as from `push`.
@@ -243,7 +243,7 @@ impl<S: Slot + Send + Sync, R: Record + Send + Sync> Queue<S, R> {
         Ok(self.least())
     }
 
-    /// The least record, removed; none exactly where the queue is empty. It costs one sift of a heap, or
+    /// The smallest record, removed; none exactly where the queue is empty. It costs one sift of a heap, or
     /// a step in the extract buffer. Where the extract buffer is empty and there are runs, it is refilled
     /// first.
     ///
@@ -264,7 +264,7 @@ impl<S: Slot + Send + Sync, R: Record + Send + Sync> Queue<S, R> {
         Ok(self.take_least())
     }
 
-    /// Takes the least records out into a list, at most `k` of them and at most as many as it has room for,
+    /// Takes the smallest records out into a list, at most `k` of them and at most as many as it has room for,
     /// in ascending order, and returns how many. What the list had before is gone. A record of a heap costs a
     /// sift there, and one of the extract buffer, which is refilled from all runs while it is empty and more
     /// is wanted, about a comparison.
@@ -290,7 +290,7 @@ impl<S: Slot + Send + Sync, R: Record + Send + Sync> Queue<S, R> {
         Ok(u64::from(out.len()))
     }
 
-    /// Takes the least records out that are strictly below `l`, into a list: at most `n` of them and at most
+    /// Takes the smallest records out that are strictly below `l`, into a list: at most `n` of them and at most
     /// as many as it has room for, in ascending order. What the list had before is gone. It says how it
     /// ended: `All`, if none below `l` is left; `More`, if one is left and `n` were returned; `Round`, if one
     /// is left and the list is full with fewer. The costs are those of `bulk_pop`.
@@ -317,7 +317,7 @@ impl<S: Slot + Send + Sync, R: Record + Send + Sync> Queue<S, R> {
         Ok(self.limit_end(l, n, room))
     }
 
-    // Takes the least records out into a list, at most so many; with a limit only those below it, and the
+    // Takes the smallest records out into a list, at most so many; with a limit only those below it, and the
     // extract buffer is ready afterwards.
     fn bulk<H: Host, G: Gate>(
         &mut self,
@@ -345,7 +345,7 @@ impl<S: Slot + Send + Sync, R: Record + Send + Sync> Queue<S, R> {
         answer
     }
 
-    // Why a bulk pop ended of so many records below a limit, with so much room, by the least record that is
+    // Why a bulk pop ended of so many records below a limit, with so much room, by the smallest record that is
     // left; the extract buffer is ready.
     fn limit_end(&self, l: R, n: u64, room: u64) -> LimitEnd
         requires ready { IsReady self.now }
@@ -557,7 +557,7 @@ impl<S: Slot + Send + Sync, R: Record + Send + Sync> Queue<S, R> {
     /// What holds of every queue, as clauses for the proof of whoever calls it. It does nothing.
     #[inline]
     pub fn known(&self)
-        // Unless a block failed, the bag has as many records as are counted, where slots tell.
+        // Unless a block failed, the multiset has as many records as are counted, where slots tell.
         ensures counted { self.now.failed ≡ None → AllTell self.now.slots → length self.now.bag ≡ self.now.size }
         ensures peak { self.now.size ≤ self.now.peak }
         ensures heap { self.now.in_first ≤ heap_of self.now.sizes }

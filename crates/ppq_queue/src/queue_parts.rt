@@ -17,7 +17,7 @@ pub struct QueueParts<S: Slot + Send + Sync, R: Record + Send + Sync> {
     pub body: PassBody<S, R>,
     /// The free slots, and the buffers that no run uses.
     pub supply: OwnerLists<S, R>,
-    /// The least records of the runs, as they were when it was last refilled.
+    /// The smallest records of the runs, as they were when it was last refilled.
     pub extract: Extract<R>,
     /// What refills and merges need.
     pub sources: Sources<R>,

@@ -9,7 +9,7 @@ use ppq_extract::{Gate, Host, Slot};
 use ppq_heap::Record;
 
 impl<S: Slot + Send + Sync, R: Record + Send + Sync> Store<S, R> {
-    // Takes the least records of the runs into the extract buffer, where it is empty and there is a run.
+    // Takes the smallest records of the runs into the extract buffer, where it is empty and there is a run.
     // Before that, levels of runs are merged.
     pub fn make_ready<H: Host, G: Gate>(&mut self, rt: &H, gate: &G) -> Result<(), QueueFault>
     where

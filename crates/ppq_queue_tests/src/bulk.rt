@@ -72,7 +72,7 @@ fn an_out_list_begins_empty(rt: HostRuntime) {
     assert!(rt; out.is_empty() & counts & (out.as_slice().len() == 0));
 }
 
-// Whether a queue of four records gives them in bulk, the least first.
+// Whether a queue of four records gives them in bulk, the smallest first.
 fn gives_the_least<H: Host + Abort>(rt: &H, alloc: Global) -> bool
 where
     H::Dir: Send,

@@ -8,7 +8,7 @@ use ppq_testkit::{PairGate, pair};
 use std::alloc::Global;
 use std::process::Abort;
 
-// Pushes the keys from 0 to 9,900 in a mixed order, and pops the least one, each through a gate of its own.
+// Pushes the keys from 0 to 9,900 in a mixed order, and pops the smallest one, each through a gate of its own.
 fn push_and_pop<H: Host + Abort>(
     rt: &H,
     queue: &mut Queue<MemSlot, Pair>,

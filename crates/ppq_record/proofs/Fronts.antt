@@ -1,4 +1,4 @@
--- Bags and fronts by the order of a record.
+-- Multisets and fronts by the order of a record.
 use Rattle.std.proofs.Common.{◌≡◌, ◌+◌, ℕ, ◌-◌, ◌<◌, true, false, cond, List, [], ◌∷◌, length, get_or, add-one, suc, min, refl, sym, ap, ap₂, ◌∙◌, arith, Ordering, IsPermutation, IsSorted, true≢false, ◌++◌, take-append-drop}
 use Rattle.std.specs.Prelude.{count_by}
 use Rattle.std.specs.declared.cmp.Ordering.TheVariants.{Less, Equal, Greater}
@@ -51,20 +51,20 @@ IsFront-is {R} {cmp} o same_is bag k out is =
     let the = IsFront-front o bag k in
     same_counts (is_before cmp) (ranks o) (no_tie o same_is) out (front cmp bag k) is.ascends the.ascends (λ r. sym (count-same o out r) ∙ is.counts r ∙ sym (the.counts r) ∙ count-same o (front cmp bag k) r)
 
--- bags with the same counts are the same by every test
+-- multisets with the same counts are the same by every test
 pub IsSameBag-counts : {R : Type 0} {cmp : R → R → Ordering} → IsTotalOrder cmp → ((x y : R) → cmp x y ≡ Equal → x ≡ y) → (one other : List R) → ((r : R) → count cmp one r ≡ count cmp other r) → IsSameBag one other
 IsSameBag-counts {R} {cmp} o same_is one other e p =
     let lt = is_before cmp in
     let up : ascending cmp one ≡ ascending cmp other = same_counts lt (ranks o) (no_tie o same_is) (ascending cmp one) (ascending cmp other) (Rising-in_order lt (ranks o) one) (Rising-in_order lt (ranks o) other) (λ r. in_order-same_bag lt (ranks o) one (same lt r) ∙ sym (count-same o one r) ∙ e r ∙ count-same o other r ∙ sym (in_order-same_bag lt (ranks o) other (same lt r))) in
     sym (in_order-same_bag lt (ranks o) one p) ∙ ap (count_by p) up ∙ in_order-same_bag lt (ranks o) other p
 
--- equal bags have one ascending list
+-- equal multisets have one ascending list
 pub ascending-same_bag : {R : Type 0} {cmp : R → R → Ordering} → IsTotalOrder cmp → ((x y : R) → cmp x y ≡ Equal → x ≡ y) → (one other : List R) → IsSameBag one other → ascending cmp one ≡ ascending cmp other
 ascending-same_bag {R} {cmp} o same_is one other e =
     let lt = is_before cmp in
     same_rising lt (ranks o) (no_tie o same_is) (ascending cmp one) (ascending cmp other) (Rising-in_order lt (ranks o) one) (Rising-in_order lt (ranks o) other) (λ p. in_order-same_bag lt (ranks o) one p ∙ e p ∙ sym (in_order-same_bag lt (ranks o) other p))
 
--- an ascending list of a bag is its ascending list
+-- an ascending list of a multiset is its ascending list
 pub ascending_is : {R : Type 0} {cmp : R → R → Ordering} → IsTotalOrder cmp → ((x y : R) → cmp x y ≡ Equal → x ≡ y) → (bag out : List R) → Ascends cmp out → IsSameBag out bag → out ≡ ascending cmp bag
 ascending_is {R} {cmp} o same_is bag out up e =
     let lt = is_before cmp in
@@ -90,6 +90,6 @@ sorted_is o same_is xs ys moved up = ascending_is o same_is xs ys (Ascends-sorte
 pub Ascends-adjacent : {R : Type 0} {cmp : R → R → Ordering} → IsTotalOrder cmp → (xs : List R) → ((k : ℕ) (d : R) → k + 1 < length xs → Le (is_before cmp) (get_or xs k d) (get_or xs (k + 1) d)) → Ascends cmp xs
 Ascends-adjacent o xs each = Ascends-sorted o xs (λ k d low h. each k d h)
 
--- the front and the rest are the bag
+-- the front and the rest are the multiset
 pub front-parts : {R : Type 0} {cmp : R → R → Ordering} → IsTotalOrder cmp → (bag : List R) (k : ℕ) → IsSameBag (front cmp bag k ++ without_front cmp bag k) bag
 front-parts {R} {cmp} o bag k p = ap (count_by p) (take-append-drop k (ascending cmp bag)) ∙ in_order-same_bag (is_before cmp) (ranks o) bag p

@@ -1,4 +1,4 @@
--- The theory of ascending lists and bags, over a strict weak order `lt` and with no trait in it.
+-- The theory of ascending lists and multisets, over a strict weak order `lt` and with no trait in it.
 use Rattle.std.proofs.Common.{◌≡◌, ℕ, zero, suc, ◌+◌, ◌-◌, ◌<◌, Bool, true, false, cond, List, [], ◌∷◌, ◌++◌, length, take, min, refl, sym, ap, ap₂, inl, inr, ◌∙◌, arith, IsPermutation, true≢false}
 use Rattle.std.specs.Prelude.{count_by}
 use Rattle.std.specs.List.{AllByRecursion as Each}
@@ -46,7 +46,7 @@ module _ {X : Type 0} where
   pub IsSameBag-append_comm : (xs ys : List X) → IsSameBag (xs ++ ys) (ys ++ xs)
   IsSameBag-append_comm xs ys p = omega (arith, count_by-append p xs ys, count_by-append p ys xs)
 
-  -- what exchanges reach is the same bag
+  -- what exchanges reach is the same multiset
   pub IsSameBag-permutation : (xs ys : List X) → IsPermutation xs ys → IsSameBag xs ys
   IsSameBag-permutation xs ys moved p = sym (sum_by-IsPermutation (λ z. cond (p z) 1 0) xs ys moved)
 
@@ -63,7 +63,7 @@ module _ {X : Type 0} where
         | inr e ↦ (e, each_fails p xs (let k : 0 + count_by p xs ≡ 0 = sym (count_by-cons p x xs ∙ ap (λ b. cond b 1 0 + count_by p xs) e) ∙ h in omega arith))
       ]
 
-  -- a bag's records pass what an equal bag's records pass
+  -- a multiset's records pass what an equal multiset's records pass
   pub Each-same_bag : (p : X → Bool) (xs ys : List X) → IsSameBag xs ys → Each (λ x. p x ≡ false) xs → Each (λ x. p x ≡ false) ys
   Each-same_bag p xs ys h e = each_fails p ys (sym (h p) ∙ none_pass p xs e)
 
@@ -96,7 +96,7 @@ module _ {X : Type 0} (lt : X → X → Bool) (o : IsStrictWeakOrder lt) where
   pub Le-trans : (a b c : X) → Le lt a b → Le lt b c → Le lt a c
   Le-trans a b c h k = o.chain c b a k h
 
-  -- bags whose records all are in order stay so when they are rearranged
+  -- multisets whose records all are in order stay so when they are rearranged
   pub Each_le-same_bag : (xs ys us vs : List X) → IsSameBag xs us → IsSameBag ys vs → Each (λ a. Each (Le lt a) ys) xs → Each (λ a. Each (Le lt a) vs) us
   Each_le-same_bag xs ys us vs h k e =
       let e1 = Each-weaker (λ a. Each (Le lt a) ys) (λ a. Each (Le lt a) vs) (λ a f. Each-same_bag (λ b. lt b a) ys vs k f) xs e in
@@ -153,7 +153,7 @@ module _ {X : Type 0} (lt : X → X → Bool) (o : IsStrictWeakOrder lt) where
       let rest : (r : X) → count_by (same lt r) xs ≡ count_by (same lt r) ys = λ r. (let q : ◌≡◌ {A = ℕ} (cond (same lt r x) 1 0) (cond (same lt r y) 1 0) = ap (λ z. cond (same lt r z) 1 0) e in omega (arith, count_by-cons (same lt r) x xs, count_by-cons (same lt r) y ys, b r, q)) in
       ap₂ ◌∷◌ e (same_counts anti xs ys h.1 k.1 rest)
 
-  -- two ascending lists of the same bag are one list
+  -- two ascending lists of the same multiset are one list
   pub same_rising :
       ((a b : X) → Le lt a b → Le lt b a → a ≡ b)
       → (xs ys : List X) → Rising lt xs → Rising lt ys → IsSameBag xs ys → xs ≡ ys

@@ -1,12 +1,12 @@
-//! Bags of records and their fronts.
+//! Multisets of records and their fronts.
 ghost use Rattle.std.specs.Prelude.{◌≡◌, OnOk};
 ghost use Rattle.ppq_record.specs.Bag.{ascending, HasOneFront};
 
 use crate::{Record, record_laws};
 
-/// The law of fronts, as a clause for the proof of whoever calls it, and for a reader: each bag has
-/// exactly one front of each size, the front and the rest are the bag, and bags in which each record
-/// stands as often are the same bag. It does nothing.
+/// The law of fronts, as a clause for the proof of whoever calls it, and for a reader: each multiset has
+/// exactly one front of each size, the front and the rest are the multiset, and multisets in which each record
+/// stands as often are the same multiset. It does nothing.
 #[inline]
 pub fn one_front<R: Record>()
     ensures { HasOneFront R.Ord.cmp }

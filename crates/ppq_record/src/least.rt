@@ -6,7 +6,7 @@ ghost use Rattle.ppq_record.specs.Bag.{count, size_below, front, counted_test};
 
 use crate::{Record, record_laws};
 
-/// Whether `out` is the list of the least `min(k, all.len())` records of `all` in ascending order.
+/// Whether `out` is the list of the smallest `min(k, all.len())` records of `all` in ascending order.
 ///
 /// It is decided by counting alone, without a sort or an allocation, so that it can judge code that
 /// sorts and merges. It costs about `(m + n)²` comparisons for `m` and `n` records.

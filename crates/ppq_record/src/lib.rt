@@ -1,7 +1,7 @@
-//! Records of a fixed width, their order, and bags and fronts of records.
+//! Records of a fixed width, their order, and multisets and fronts of records.
 //!
-//! A record is a small value with bytes and a total order. A bag is a list of records of which
-//! only the counts matter; its front of size `k` is the one ascending list of its least `k`
+//! A record is a small value with bytes and a total order. A multiset is a list of records of which
+//! only the counts matter; its front of size `k` is the one ascending list of its smallest `k`
 //! records. Everything that the queue promises is said in these words.
 #![tactic(auto)]
 

@@ -138,7 +138,7 @@ fn gives_last_two(extract: &mut Extract<Pair>) -> bool {
     two & seven & nine & extract.pop().is_none()
 }
 
-// Refills twice, and expects the least four records of all runs and then the other two.
+// Refills twice, and expects the smallest four records of all runs and then the other two.
 fn refill_twice<H: Host + Abort>(rt: &H, alloc: Global)
 where
     H::Dir: Send,

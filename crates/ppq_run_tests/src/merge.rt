@@ -318,7 +318,7 @@ fn gives_what_it_took<H: Threads + Sync + Abort>(
     (made.out.as_slice() == same.as_slice()) & (made.out.len() as u64 == count)
 }
 
-// Generated runs, each with its records from the greatest to the least.
+// Generated runs, each with its records from the greatest to the smallest.
 fn falling(rt: &impl Abort, alloc: Global) -> Vec<Vec<Pair>> {
     let mut many = generated(rt, alloc, &mut 3, 4, 2000);
     for list in &mut many {

@@ -203,7 +203,7 @@ IsOpen lines = (session : Session) × (IsSession lines (length lines + 1) sessio
 abbrev pub IsOneLine : List ℕ → Type 0
 IsOneLine bytes = Each (λ byte. byte ≢ 10) bytes
 
--- the least number of a bad line, or the one after the last line where no line is bad and a session is open there
+-- the smallest number of a bad line, or the one after the last line where no line is bad and a session is open there
 pub record IsFirstBad (usable : List ℕ → Bool) (workers : ℕ) (lines : List (List ℕ)) (n : ℕ) : Type 0 where
   pub from_one : 1 ≤ n
   pub bad : ((n ≤ length lines) × IsBad usable workers lines n) ⊎ ((n ≡ length lines + 1) × IsOpen lines)

@@ -12,9 +12,9 @@ use ppq_record::Pair;
 pub enum Command {
     /// `push K V`: adds the record with that key and value.
     Push { item: Pair },
-    /// `pop`: removes the least record, if there is one, and prints it.
+    /// `pop`: removes the smallest record, if there is one, and prints it.
     Pop,
-    /// `top`: prints the least record, if there is one, and leaves it in the multiset.
+    /// `top`: prints the smallest record, if there is one, and leaves it in the multiset.
     Top,
     /// `size`: prints how many records are in the multiset.
     Size,
@@ -23,12 +23,12 @@ pub enum Command {
     Bulk { file: u32, length: u64 },
     /// `gen SEED N`: adds the first so many records that come of a seed.
     Gen { seed: u64, count: u64 },
-    /// `bulk_pop N`: removes the least so many records, or all, and prints them.
+    /// `bulk_pop N`: removes the smallest so many records, or all, and prints them.
     BulkPop { count: u64 },
-    /// `bulk_pop_limit K V N`: removes the least records before this one, at most so many, prints
+    /// `bulk_pop_limit K V N`: removes the smallest records before this one, at most so many, prints
     /// them, and whether any before it are left.
     BulkPopLimit { limit: Pair, count: u64 },
-    /// `drain N`: removes the least so many records, or all, and prints what they sum up to.
+    /// `drain N`: removes the smallest so many records, or all, and prints what they sum up to.
     Drain { count: u64 },
     /// `bulk_begin`: begins a bulk session. Until its end only `bulk_push` may stand.
     BulkBegin,
@@ -44,10 +44,10 @@ pub enum Command {
     /// of workers, takes the record, which is not below the limit; it joins the multiset when the session
     /// ends.
     LimitPush { pass: u32, item: Pair },
-    /// `limit_top`: in a limit session, prints the least record of the multiset if it is below the limit,
+    /// `limit_top`: in a limit session, prints the smallest record of the multiset if it is below the limit,
     /// and leaves it there.
     LimitTop,
-    /// `limit_pop`: in a limit session, removes the least record of the multiset if it is below the
+    /// `limit_pop`: in a limit session, removes the smallest record of the multiset if it is below the
     /// limit, and prints it.
     LimitPop,
     /// `limit_end`: ends the limit session; the multiset gains all records that were pushed in it.

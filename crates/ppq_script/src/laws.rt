@@ -8,7 +8,7 @@ ghost use Rattle.ppq_script.specs.Meaning.{LinesMean};
 /// command exactly where it is spelled as that command. The session before a line is told by the last
 /// line before it that begins or ends one, and each line has just one; a command may stand in some
 /// sessions alone, with a pass number below the workers, and a record that is not below the limit. The
-/// first bad line is the least number of a line that is none of these, or that names a file that
+/// first bad line is the smallest number of a line that is none of these, or that names a file that
 /// cannot be used; or the number after the last line where a session is open there. The commands are
 /// those of the lines before the first that is bad whatever the files are, in order. It does nothing.
 #[inline]

@@ -26,7 +26,7 @@ module _ {R : Type 0} where
   pub part-none : (old new : List R) → IsSameBag new old → AddsPart [] old new
   part-none old new same = record { part = []; left = []; all = λ p. refl; bag = same }
 
-  -- two parts: what one bag got more, and another, a third one got
+  -- two parts: what one multiset got more, and another, a third one got
   pub part-both :
       (xs ys a b c d old new : List R) → ((p : R → Bool) → count_by p new + (count_by p a + count_by p c) ≡ count_by p old + (count_by p b + count_by p d))
       → AddsPart xs a b → AddsPart ys c d → AddsPart (xs ++ ys) old new
@@ -69,7 +69,7 @@ module _ {R : Type 0} where
         bag = is.bag;
       }
 
-  -- the same records and the same bags, in another order
+  -- the same records and the same multisets, in another order
   pub part-same : (xs ys old old' new new' : List R) → IsSameBag xs ys → ((p : R → Bool) → count_by p new' + count_by p old ≡ count_by p new + count_by p old') → AddsPart xs old new → AddsPart ys old' new'
   part-same xs ys old old' new new' same sum is =
       record {

@@ -1,4 +1,4 @@
--- Asks that a front answers in turn: of equal bags the answers are the same, and one ask more.
+-- Asks that a front answers in turn: of equal multisets the answers are the same, and one ask more.
 use Rattle.std.proofs.Common.{◌≡◌, ℕ, zero, suc, ◌+◌, ◌<◌, ◌≤◌, List, [], ◌∷◌, ◌++◌, length, take, get_or, Option, Some, None, refl, sym, ap, ap₂, ◌∙◌, subst, arith, length-append, length-take, Ordering}
 use Rattle.std.specs.declared.cmp.Ordering.TheVariants.{Equal}
 use Rattle.std.specs.Cmp.{IsTotalOrder}
@@ -19,7 +19,7 @@ use Rattle.ppq_session.specs.Asks.{pops_by, pops_in, removed_by, removed_in, rem
 use Rattle.ppq_session.specs.Answering.{KeepsFront, HasAnswered}
 
 module _ {R : Type 0} {cmp : R → R → Ordering} (o : IsTotalOrder cmp) (equal : (x y : R) → cmp x y ≡ Equal → x ≡ y) (limit : R) where
-  -- of equal bags what an ask leaves is equal
+  -- of equal multisets what an ask leaves is equal
   left_by-same : (one other : List R) (ask : Ask) → IsSameBag one other → IsSameBag (left_by cmp limit one ask) (left_by cmp limit other ask)
   left_by-same one other Top same = same
   left_by-same one other Pop same = λ p. ap (count_by p) (without_below-same o equal limit one other same)

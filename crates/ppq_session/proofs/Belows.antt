@@ -1,4 +1,4 @@
--- The least record of a bag that is below a limit, also where records that are not below it are added.
+-- The smallest record of a multiset that is below a limit, also where records that are not below it are added.
 use Rattle.std.proofs.Common.{◌≡◌, ℕ, zero, suc, Bool, true, cond, List, [], ◌∷◌, ◌++◌, length, take, drop, min, Option, Some, None, refl, sym, ap, ap₂, ◌∙◌, subst, arith, Ordering, ◌<◌, false, inl, inr}
 use Rattle.std.specs.Prelude.{count_by, ◌↔◌, IsNone}
 use Rattle.std.specs.declared.cmp.Ordering.TheVariants.{Equal}
@@ -14,7 +14,7 @@ use Rattle.std.specs.List.{AllByRecursion as Each}
 use Rattle.std.proofs.lemmas.Bool.{cases_Bool}
 
 module _ {R : Type 0} {cmp : R → R → Ordering} (o : IsTotalOrder cmp) (same : (x y : R) → cmp x y ≡ Equal → x ≡ y) (limit : R) where
-  -- equal bags have one such record, and one rest
+  -- equal multisets have one such record, and one rest
   pub least_below-same : (a b : List R) → IsSameBag a b → least_below cmp limit a ≡ least_below cmp limit b
   least_below-same a b s = ap₂ (λ (k : ℕ) (l : List R). first_of (take (min 1 k) l)) (s (λ x. is_before cmp x limit)) (ascending-same_bag o same a b s)
 
@@ -72,7 +72,7 @@ module _ {R : Type 0} {cmp : R → R → Ordering} (o : IsTotalOrder cmp) (same 
   size_below-high : (bag others : List R) → NoneBelow cmp (Some limit) others → size_below cmp (bag ++ others) limit ≡ size_below cmp bag limit
   size_below-high bag others high = omega (arith, count_by-append (λ x. is_before cmp x limit) bag others, none_pass (λ x. is_before cmp x limit) others high)
 
-  -- the first record of a bag is the first of all, if it is below the limit
+  -- the first record of a multiset is the first of all, if it is below the limit
   front-first : (x : R) (rest bag others : List R) → IsSameBag (x ∷ rest) bag → Each (Le (is_before cmp) x) rest → Each (Le (is_before cmp) x) others → front cmp (bag ++ others) 1 ≡ front cmp bag 1
   front-first x rest bag others is each high =
       let lt = is_before cmp in
@@ -91,7 +91,7 @@ module _ {R : Type 0} {cmp : R → R → Ordering} (o : IsTotalOrder cmp) (same 
             absurd (omega (arith, is (λ y. lt y limit), none, some))
       ]
 
-  -- the least record below the limit is that of the bag
+  -- the smallest record below the limit is that of the multiset
   front-high : (bag others : List R) (k : ℕ) → size_below cmp bag limit ≡ k → NoneBelow cmp (Some limit) others → front cmp (bag ++ others) (min 1 k) ≡ front cmp bag (min 1 k)
   front-high bag others zero e high = refl
   front-high bag others (suc k) e high =

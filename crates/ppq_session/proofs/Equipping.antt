@@ -49,7 +49,7 @@ module _ {S R : Type 0} where
       let last : bags_in (reverse (rest ++ heap ∷ [])) ≡ x.bag ∷ others = ap bags_in (reverse-append rest (heap ∷ [])) ∙ ap (λ b. b ∷ others) (sym e) in
       ap (λ l. l ++ others) (map-append bag passes (x ∷ [])) ∙ append_assoc (map bag passes) (x.bag ∷ []) others ∙ ap (λ l. map bag passes ++ l) (sym last) ∙ h
 
-  -- passes with the bags of heaps have their records, and began with as many
+  -- passes with the multisets of heaps have their records, and began with as many
   pub bag_same : (passes : List (PassHolding S R)) (heaps : List (Contents R)) → bags_of passes ≡ bags_in heaps → bag_of passes ≡ items_in heaps
   bag_same passes heaps e = sym (flat_map-map (λ (l : List R). l) bag passes) ∙ ap (flat_map (λ (l : List R). l)) e ∙ flat_map-map (λ (l : List R). l) (λ (heap : Contents R). heap.items) heaps
 

@@ -32,7 +32,7 @@ removed_with ask (Ok answer) = removed_by ask answer
 removed_with ask (Err fault) = 0
 
 module _ {R : Type 0} (cmp : R → R → Ordering) (limit : R) where
-  -- what an ask leaves of a bag
+  -- what an ask leaves of a multiset
   abbrev pub left_by : List R → Ask → List R
   left_by bag Top = bag
   left_by bag Pop = without_least_below cmp limit bag
@@ -42,7 +42,7 @@ module _ {R : Type 0} (cmp : R → R → Ordering) (limit : R) where
   left_after bag [] = bag
   left_after bag (ask ∷ asks) = left_after (left_by bag ask) asks
 
-  -- the answers to them: each time the least record that is below the limit, and none where none is below it
+  -- the answers to them: each time the smallest record that is below the limit, and none where none is below it
   abbrev pub answers_to : List R → List Ask → List (Option R)
   answers_to bag [] = []
   answers_to bag (ask ∷ asks) = least_below cmp limit bag ∷ answers_to (left_by bag ask) asks

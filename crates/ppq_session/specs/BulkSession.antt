@@ -16,7 +16,7 @@ use Rattle.ppq_session.specs.declared.fault.SessionEnd.{SessionEnd}
 use Rattle.ppq_session.specs.Ends.{Staying, HasAll, SessionEnded}
 pub use Rattle.ppq_session.specs.Ends.{bag_of, accepted_of}
 
--- What the owner of a queue keeps while passes fill it: the bag of the records of its runs, as far as its slots tell; how many records
+-- What the owner of a queue keeps while passes fill it: the multiset of the records of its runs, as far as its slots tell; how many records
 -- the queue had when the session began, and how many of them are in the heaps, which the passes have; how many runs in blocks there are;
 -- its sizes; the greatest size so far; whether a limit session was begun; all slots of the queue, those of the runs and those that were
 -- put into the row; how many buffers of a block it has, and how many of them its runs in buffers; the row with those slots, and the pool;

@@ -23,7 +23,7 @@ module _ {R : Type 0} where
   abbrev pub part_for : ℕ → List R → ℕ → List R
   part_for passes records pass = slice_chunk records (div_ceil (length records) passes) pass
 
-  -- a bag got a part of these records, each once, and no other
+  -- a multiset got a part of these records, each once, and no other
   pub record AddsPart (records old new : List R) : Type 0 where
     pub part : List R
     pub left : List R

@@ -12,7 +12,7 @@ use Rattle.ppq_pass.specs.ppq_array.declared.store_fault.StoreFault.TheVariants.
 use Rattle.ppq_session.specs.declared.fault.SessionEnd.{SessionEnd}
 use Rattle.ppq_session.specs.declared.fault.SessionEnd.TheVariants.{Whole, Stopped}
 
--- What the owner of a queue keeps while a session is on: the bag of its records, as far as its slots tell; how many it counts, and how many
+-- What the owner of a queue keeps while a session is on: the multiset of its records, as far as its slots tell; how many it counts, and how many
 -- were popped; its sizes; the greatest size when the session began; whether a limit session was begun; all slots; and the number of the slot a
 -- call of which failed first, if any
 pub record Staying (R : Type 0) : Type 0 where

@@ -11,7 +11,7 @@ use Rattle.ppq_pass.specs.ppq_fetch.Taking.{NoneBelow}
 use Rattle.ppq_pass.specs.ppq_array.declared.store_fault.StoreFault.{StoreFault as QueueFault}
 use Rattle.ppq_pass.specs.ppq_array.declared.store_fault.StoreFault.TheVariants.{NoFreeBlock, Device}
 
--- The bag of its records, as far as its slots tell, and the limit; how many records it counts, and how many it gave; its sizes; the greatest
+-- The multiset of its records, as far as its slots tell, and the limit; how many records it counts, and how many it gave; its sizes; the greatest
 -- size of the queue when the session began; all slots, those of its runs, those that it freed and those that were put into the row; how many
 -- buffers of a block it has, idle ones too, and how many of them its runs in buffers; how many records its extract buffer has; the row with the
 -- slots that were put into it, and the pool; and the number of the slot a call of which failed first, if any
@@ -32,22 +32,22 @@ pub record FrontHolding (S R : Type 0) : Type 0 where
   pub failed : Option ℕ
 
 module _ {R : Type 0} (cmp : R → R → Ordering) (limit : R) where
-  -- the least record of a bag that is below the limit, and none where none is below it
+  -- the smallest record of a multiset that is below the limit, and none where none is below it
   abbrev pub least_below : List R → Option R
   least_below bag = first_of (front cmp bag (min 1 (size_below cmp bag limit)))
 
-  -- the bag without that record
+  -- the multiset without that record
   abbrev pub without_least_below : List R → List R
   without_least_below bag = without_front cmp bag (min 1 (size_below cmp bag limit))
 
-  -- Other records stand back beside a bag: of all together the least record below the limit is that of the bag, without it the others stay,
-  -- and as many are below the limit as are in the bag
+  -- Other records stand back beside a multiset: of all together the smallest record below the limit is that of the multiset, without it the others stay,
+  -- and as many are below the limit as are in the multiset
   pub record StandBack (bag others : List R) : Type 0 where
     pub least : least_below (bag ++ others) ≡ least_below bag
     pub left : IsSameBag (without_least_below (bag ++ others)) (without_least_below bag ++ others)
     pub size : size_below cmp (bag ++ others) limit ≡ size_below cmp bag limit
 
--- records that are not below a limit stand back beside any bag
+-- records that are not below a limit stand back beside any multiset
 abbrev pub HighStandBack : {R : Type 0} → (R → R → Ordering) → Type 0
 HighStandBack {R} cmp = (limit : R) (bag others : List R) → NoneBelow cmp (Some limit) others → StandBack cmp limit bag others
 
@@ -74,7 +74,7 @@ module _ {S R : Type 0} where
   IsFrontRefusal old new NoFreeBlock = ⊥
   IsFrontRefusal old new (Device number) = FrontStopped number old new
 
-  -- a front is ready to give its least record: it has what it had, and no call of a slot failed
+  -- a front is ready to give its smallest record: it has what it had, and no call of a slot failed
   pub record IsReadied (cmp : R → R → Ordering) (old new : FrontHolding S R) : Type 0 where
     pub bag : AllTell old.slots → IsSameBag new.bag old.bag
     pub ready : IsReady cmp new
@@ -88,7 +88,7 @@ module _ {S R : Type 0} where
     pub writes : all_writes old.slots ≤ all_writes new.slots
     pub rest : new ≡ record old { bag = new.bag; slots = new.slots; run_buffers = new.run_buffers; in_extract = new.in_extract; failed = new.failed }
 
-  -- its least record below the limit was taken out, if there is one
+  -- its smallest record below the limit was taken out, if there is one
   pub record TakesLeast (cmp : R → R → Ordering) (answer : Option R) (old new : FrontHolding S R) : Type 0 where
     pub answer_is : AllTell old.slots → answer ≡ least_below cmp old.limit old.bag
     pub left : AllTell old.slots → IsSameBag new.bag (without_least_below cmp old.limit old.bag)

@@ -22,7 +22,7 @@ pub record KeepsQueue {S R : Type 0} (shown : S → Shown) (queue : Holding R) (
   pub writes : all_writes queue.slots ≤ all_writes stay.slots
   pub quiet : stay.failed ≡ None → AreQuiet queue.slots stay.slots
 
--- These records were given to passes, which makes of a first bag what is held now: as long as none has stopped, all of them, and as long as
+-- These records were given to passes, which makes of a first multiset what is held now: as long as none has stopped, all of them, and as long as
 -- no call of a slot failed, a part
 pub record WereGiven {S R : Type 0} (slots : List Shown) (records first held : List R) (passes : List (PassHolding S R)) : Type 0 where
   pub part : All HasNoFault passes → AllTell slots → AddsPart records first held

@@ -11,7 +11,7 @@ pub struct Closed<S: Slot + Send + Sync, R: Record + Send + Sync> {
     pub sizes: Sizes,
     /// The heaps of the passes that were put in.
     pub heaps: Vec<InsertionHeap<R>>,
-    /// The tree of the heaps' least records, which counts for nothing meanwhile.
+    /// The tree of the heaps' smallest records, which counts for nothing meanwhile.
     pub tree: MinTree<R>,
     /// The runs, with those of the passes that were put in, and the lanes with their buffers.
     pub body: PassBody<S, R>,

@@ -60,8 +60,8 @@ impl<S: Slot + Send + Sync, R: Record + Send + Sync> Front<S, R> {
         }
     }
 
-    /// The least record of the front that is below the limit. None is returned if and only if no such
-    /// record is left. Where the extract buffer is empty, it is refilled with the least records of all runs
+    /// The smallest record of the front that is below the limit. None is returned if and only if no such
+    /// record is left. Where the extract buffer is empty, it is refilled with the smallest records of all runs
     /// first, up to a block for each worker, and each block is read at most once.
     ///
     /// `Device`: a call of the block with that number failed, now or before. Every later call of the front says
@@ -87,7 +87,7 @@ impl<S: Slot + Send + Sync, R: Record + Send + Sync> Front<S, R> {
         Ok(self.first())
     }
 
-    /// The least record of the front that is below the limit, removed. None is returned if and only if no
+    /// The smallest record of the front that is below the limit, removed. None is returned if and only if no
     /// such record is left. It costs a step in the extract buffer; where that is empty, it is refilled as
     /// for `top`.
     ///

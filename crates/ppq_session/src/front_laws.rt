@@ -1,4 +1,4 @@
-//! Why what a front returns is the least of all records of its session: those of the passes stand back.
+//! Why what a front returns is the smallest of all records of its session: those of the passes stand back.
 ghost use Rattle.std.specs.Prelude.{◌≡◌, None, All};
 ghost use Rattle.ppq_pass.specs.ppq_outside.Shown.{AllTell};
 ghost use Rattle.ppq_session.specs.Fronts.{StandBack, HighStandBack};

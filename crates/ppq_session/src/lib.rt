@@ -7,10 +7,10 @@
 //! the batch from which records are dealt ([`deal`]) or to which lines are pushed ([`push_lines`]).
 //! [`bulk_end`] puts all together again. All memory is taken by `bulk_begin`.
 //!
-//! In a limit session the owner takes the records below a limit out, the least first, while passes add
+//! In a limit session the owner takes the records below a limit out, the smallest first, while passes add
 //! records that are not below it. [`limit_begin`] gives a [`Front`], which is the runs that the queue had and an
 //! extract buffer that is refilled with records below the limit alone, and a [`LimitPass`] for each worker.
-//! No pass has a record below the limit, so what the front gives is the least of all records there are
+//! No pass has a record below the limit, so what the front gives is the smallest of all records there are
 //! ([`passes_stand_back`]). [`run_both`] pushes lines while it answers [`Ask`]s. [`limit_end`] makes the
 //! queue again, with what the front has left and what the passes accepted.
 //!

@@ -23,7 +23,7 @@ use std::marker::Model;
 pub struct LimitPass<S: Slot, R: Record> {
     // The pass.
     pass: Pass<S, R>,
-    // The least record that may be added.
+    // The smallest record that may be added.
     limit: R,
 }
 

@@ -13,7 +13,7 @@ pub struct BulkParts<S: Slot + Send + Sync, R: Record + Send + Sync> {
     pub sizes: Sizes,
     /// The emptied list of the heaps.
     pub heaps: Vec<InsertionHeap<R>>,
-    /// The tree of the heaps' least records, which counts for nothing meanwhile.
+    /// The tree of the heaps' smallest records, which counts for nothing meanwhile.
     pub tree: MinTree<R>,
     /// The runs, and the lanes without two idle buffers for each pass.
     pub body: PassBody<S, R>,

@@ -6,7 +6,7 @@ ghost use Rattle.ppq_session.specs.FrontState.{CanRefill, FrontRefilled, IsRefil
 use crate::parts::BulkParts;
 use ppq_pass::{Gate, Host, Record, Slot, StoreFault, record_laws};
 
-/// Takes the least records of the runs that are below a limit into the empty extract buffer, as many as
+/// Takes the smallest records of the runs that are below a limit into the empty extract buffer, as many as
 /// it has room for. The slots and buffers that get free go to the front's own lists. What stays empty
 /// says that no record of a run is below the limit.
 pub fn refill_front<H: Host, S: Slot + Send + Sync, R: Record + Send + Sync, G: Gate>(

@@ -1,4 +1,4 @@
--- Choosing the least of first records, and taking it.
+-- Choosing the smallest of first records, and taking it.
 use Rattle.std.proofs.Common.{◌≡◌, ℕ, zero, suc, ◌<◌, List, [], ◌∷◌, ◌++◌, length, drop, map, All, Option, Some, None, slice_index_or, slice_set, refl, sym, ap, ap₂, ◌∙◌, subst, arith, length-append}
 use Rattle.std.specs.Prelude.{count_by}
 use Rattle.std.specs.List.{AllByRecursion as Each, slice_get}
@@ -98,7 +98,7 @@ module _ {R : Type 0} (cmp : R → R → Ordering) (o : IsStrictWeakOrder (is_be
       moved : (a b : List R) (r : R) → IsSameBag (a ++ r ∷ b) (r ∷ (a ++ b))
       moved a b r p = omega (arith, count_by-append p a (r ∷ b), count_by-cons p r b, count_by-cons p r (a ++ b), count_by-append p a b)
 
-  -- the least record is taken out of a run
+  -- the smallest record is taken out of a run
   pub took_run :
       (runs : List (Run R)) (rest : List R) (from : ℕ) (best : Option R) (r : R) (runs' : List (Run R)) → IsBest cmp runs (first_of rest) from best → best ≡ Some r → SetsRun runs r runs' → MergedOut cmp 1 runs runs' rest rest (r ∷ [])
   took_run runs rest from best r runs' is e sets =
@@ -117,7 +117,7 @@ module _ {R : Type 0} (cmp : R → R → Ordering) (o : IsStrictWeakOrder (is_be
         );
       }
 
-  -- the least record is taken out of the list
+  -- the smallest record is taken out of the list
   pub took_rest :
       (runs : List (Run R)) (rest rest' : List R) (from : ℕ) (best : Option R) (r : R) → IsBest cmp runs (first_of rest) from best → best ≡ Some r → rest ≡ r ∷ rest' → MergedOut cmp 1 runs runs rest rest' (r ∷ [])
   took_rest runs rest rest' from best r is e split =

@@ -1,4 +1,4 @@
--- What taking the least records does to arrays: blocks are loaded, and their slots freed.
+-- What taking the smallest records does to arrays: blocks are loaded, and their slots freed.
 use Rattle.std.proofs.Common.{◌≡◌, ℕ, ◌+◌, ◌-◌, ◌*◌, ◌≤◌, List, [], ◌∷◌, ◌++◌, length, take, drop, sum_by, All, refl, sym, ap, ◌∙◌, subst, arith, length-append, take-append-drop}
 use Rattle.std.specs.List.{AllByRecursion as Each, AllZip}
 use Rattle.std.proofs.Math.Nat.{add-mul}

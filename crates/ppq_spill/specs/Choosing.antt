@@ -1,4 +1,4 @@
--- The first records of runs and of a list, in a tree of minima, and the least of them.
+-- The first records of runs and of a list, in a tree of minima, and the smallest of them.
 use Rattle.std.specs.Prelude.{◌≡◌, ◌⊎◌, ℕ, zero, suc, ◌<◌, ◌≤◌, ⊤, List, [], ◌∷◌, length, drop, get_or, Option, Some, None, IsSome, slice_index_or, All}
 use Rattle.std.specs.declared.cmp.Ordering.{Ordering}
 use Rattle.ppq_fetch.specs.ppq_record.Order.{Le, is_before}

@@ -23,7 +23,7 @@ module _ {R : Type 0} (cmp : R → R → Ordering) (block : ℕ) where
   MergedInto (b ∷ bs) runs rest runs' rest' = (mid : List (Run R)) × (over : List R) × (b ≡ holding block b.items) × MergedOut cmp block runs mid rest over b.items × MergedInto bs mid over runs' rest'
 
 module _ {S R : Type 0} where
-  -- so many idle buffers of a body may be filled with the least records of its runs and of a list from a place on
+  -- so many idle buffers of a body may be filled with the smallest records of its runs and of a list from a place on
   pub record MayFillGroup (count : ℕ) (sorted : List R) (at : ℕ) (body : PassBody S R) : Type 0 where
     pub idle : count ≤ length body.lanes.idle
     pub few : length body.lanes.idle < 2 ^ 32 - 1
@@ -35,7 +35,7 @@ module _ {S R : Type 0} where
     pub jobs : new.lanes.jobs ≡ old.lanes.jobs
     pub batch : new.lanes.batch ≡ old.lanes.batch
 
-  -- So many idle buffers were filled with the least records, in order. Whatever the block size that the idle ones have, it is that of the
+  -- So many idle buffers were filled with the smallest records, in order. Whatever the block size that the idle ones have, it is that of the
   -- filled ones
   pub record FilledGroup (cmp : R → R → Ordering) (count : ℕ) (sorted : List R) (at at' : ℕ) (old new : PassBody S R) (filled : List (Block R)) : Type 0 where
     pub count_is : length filled ≡ count

@@ -45,7 +45,7 @@ module _ {R : Type 0} where
     pub long : length new ≡ length old
     pub blocks : All (HasBlock block) new
 
-  -- so many records were merged out of runs and a list; where all of it ascends, the least
+  -- so many records were merged out of runs and a list; where all of it ascends, the smallest
   pub record MergedOut (cmp : R → R → Ordering) (most : ℕ) (runs runs' : List (Run R)) (rest rest' out : List R) : Type 0 where
     pub count : length out ≡ min most (length (left_in runs rest))
     pub bag : IsSameBag (left_in runs rest) (out ++ left_in runs' rest')

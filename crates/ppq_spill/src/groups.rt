@@ -119,7 +119,7 @@ where
     None
 }
 
-// Runs jobs while so many idle buffers are filled with the least records. Where none is to be filled, no
+// Runs jobs while so many idle buffers are filled with the smallest records. Where none is to be filled, no
 // thread is started.
 fn write_beside<H: Host, S: Slot + Send, R: Record + Send>(
     rt: &H,
@@ -147,7 +147,7 @@ where
     overlap_mut(rt, jobs, &mut fill)
 }
 
-// Fills so many idle buffers with the least records of runs and of a list from a place on, in order.
+// Fills so many idle buffers with the smallest records of runs and of a list from a place on, in order.
 fn fill_group<S: Slot, R: Record>(
     body: &mut PassBody<S, R>,
     sorted: &[R],

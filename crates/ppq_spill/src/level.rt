@@ -232,7 +232,7 @@ where
     Ok(())
 }
 
-// Merges the least records of 8 arrays, a batch of them, and writes them as the next blocks of a new
+// Merges the smallest records of 8 arrays, a batch of them, and writes them as the next blocks of a new
 // array. It returns how many they were.
 fn merge_batch<H: Host, S: Slot + Send + Sync, R: Record + Send + Sync, P: Supply<S, R>, G: Gate>(
     crew: &Crew<H, G>,
@@ -262,7 +262,7 @@ where
     }
 }
 
-// Takes the least records of 8 arrays into the batch, as many as it has room for, or all there are. It
+// Takes the smallest records of 8 arrays into the batch, as many as it has room for, or all there are. It
 // returns how many.
 pub(crate) fn take_batch<
     H: Host,

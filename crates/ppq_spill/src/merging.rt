@@ -49,7 +49,7 @@ fn write_head<R: Record>(tree: &mut MinTree<R>, leaf: u32, first: Option<R>)
     tree.put(leaf, first);
 }
 
-// Fills an empty buffer with the least records of runs and of a list from a place on. A record costs a
+// Fills an empty buffer with the smallest records of runs and of a list from a place on. A record costs a
 // match on each level of the tree.
 pub(crate) fn merge_least<R: Record>(
     tree: &mut MinTree<R>,
@@ -75,7 +75,7 @@ pub(crate) fn merge_least<R: Record>(
     }
 }
 
-// Takes the least of all records; none where there is none.
+// Takes the smallest of all records; none where there is none.
 fn take_least<R: Record>(
     tree: &mut MinTree<R>,
     internal: &mut Vec<InternalArray<R>>,

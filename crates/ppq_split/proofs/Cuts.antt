@@ -131,7 +131,7 @@ module _ {X : Type 0} (lt : X → X → Bool) where
   IsCut-only qs r cs ds c d =
       same_places cs ds (AreWithin-length cs qs c.within ∙ sym (AreWithin-length ds qs d.within)) (λ i k. omega (arith, IsCut-rises qs r r cs ds c d (omega arith) i, IsCut-rises qs r r ds cs d c (omega arith) i))
 
-  -- the cuts of the least rank and of the greatest
+  -- the cuts of the smallest rank and of the greatest
   pub starts-cut : (qs : List (List X)) → IsCutBy lt qs 0 (starts qs)
   starts-cut qs = record {
     within = starts-within qs;

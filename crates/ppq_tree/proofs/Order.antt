@@ -1,4 +1,4 @@
--- The root's winner is the least: no leaf is ahead of it.
+-- The root's winner is the smallest: no leaf is ahead of it.
 use Rattle.std.proofs.Common.{◌≡◌, ℕ, zero, suc, ◌+◌, ◌*◌, ◌/◌, ◌<◌, ◌≤◌, true, false, cond, List, length, get_or, Option, Some, None, refl, sym, ap, subst, inl, inr, ◌∙◌, arith, true≢false}
 use Rattle.std.specs.Prelude.{⊤}
 use Rattle.std.specs.declared.cmp.Ordering.{Ordering}

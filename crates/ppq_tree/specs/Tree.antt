@@ -12,7 +12,7 @@ pub record Leaves (X : Type 0) : Type 0 where
 abbrev pub HasItem : {X : Type 0} → List (Option X) → ℕ → X → Type 0
 HasItem items leaf x = get_or items leaf None ≡ Some x
 
--- the leaf has the least of the items, and no lower leaf has its equal
+-- the leaf has the smallest of the items, and no lower leaf has its equal
 pub record IsLeastLeaf {X : Type 0} (cmp : X → X → Ordering) (items : List (Option X)) (leaf : ℕ) (x : X) : Type 0 where
   pub there : HasItem items leaf x
   pub least : (other : ℕ) (y : X) → HasItem items other y → is_lt (cmp y x) ≡ false

@@ -1,4 +1,4 @@
-//! The tree of minima: the least of a fixed number of leaves, each of which has a record or none.
+//! The tree of minima: the smallest of a fixed number of leaves, each of which has a record or none.
 //!
 //! A tournament tree after Knuth (The Art of Computer Programming, volume 3): each
 //! inner node is a match between its two children and knows the leaf that won. A leaf that changes

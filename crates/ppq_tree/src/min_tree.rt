@@ -12,7 +12,7 @@ use std::alloc::Global;
 use std::marker::{Brand, Model};
 use std::sync::ledger::{Blank, Ledger};
 
-/// The least of some leaves, each of which has a record or none.
+/// The smallest of some leaves, each of which has a record or none.
 ///
 /// Its memory is taken once, for `room` leaves; then it can be made a tree of any number of leaves up
 /// to that. Contracts see `items`, the list of the leaves' items, and `room`.
@@ -171,7 +171,7 @@ impl<R: Record> MinTree<R> {
         self.put_all(&NoHeads { leaves });
     }
 
-    /// The least item with its leaf, the lowest leaf among equals; `None` if and only if no leaf
+    /// The smallest item with its leaf, the lowest leaf among equals; `None` if and only if no leaf
     /// has an item. It plays no match.
     #[inline]
     pub fn winner(&self) -> Option<(u32, R)>
