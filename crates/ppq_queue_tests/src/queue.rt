@@ -361,12 +361,14 @@ where
     is_same & (queue.size() == 0)
 }
 
-// The sizes of a generated case.
+// The sizes of a generated case. With four workers and no buffer in the pool, blocks are read beside each
+// merge of a refill.
 fn sizes_of(case: u64) -> Option<Sizes> {
-    match case % 3 {
+    match case % 4 {
         0 => small(),
         1 => Sizes::new(1, 4, 2, 512, 180),
-        _ => Sizes::new(3, 3, 1, 500, 200),
+        2 => Sizes::new(3, 3, 1, 500, 200),
+        _ => Sizes::new(4, 2, 4, 824, 200),
     }
 }
 
