@@ -258,6 +258,14 @@ part_is xs place part =
           | inr long ↦ ap (λ n. take n ys) (omega arith)
         ]
 
+-- what is behind so many records, where the count goes no further than they do
+pub drop_within : {X : Type 0} (xs : List X) (n place : ℕ) → n ≡ min (length xs) place → drop n xs ≡ drop place xs
+drop_within xs n place is =
+    elim (cases_lt (length xs) place) as (λ _. drop n xs ≡ drop place xs) [
+      | inl past ↦ (drop_all n xs (omega (arith, is)) ∙ sym (drop_all place xs (omega arith)))
+      | inr within ↦ ap (λ m. drop m xs) (omega (arith, is))
+    ]
+
 module _ {S R : Type 0} where
   module _ (shown : S → Shown) where
     adds-most : (records : List R) (old new : PassHolding S R) → Adds shown records old new → new.accepted ≤ old.accepted + length records

@@ -4,7 +4,8 @@
 //! A bulk session is begun by [`bulk_begin`], which takes a queue apart. The free slots become a row and the
 //! idle buffers a pool, which all passes share ([`Shared`]); each [`Pass`] gets a heap of the queue, two
 //! buffers of its lanes, and a seat of row and pool. What stays is a [`Bulk`]: the runs that were there, and
-//! the batch from which records are dealt ([`deal`]) or to which lines are pushed ([`push_lines`]).
+//! the batch from which records are dealt ([`deal`]). Lines are pushed without it ([`push_lines`]), and a
+//! [`Maker`] makes each record where it is added ([`deal_made`]).
 //! [`bulk_end`] puts all together again. All memory is taken by `bulk_begin`.
 //!
 //! In a limit session the owner takes the records below a limit out, the smallest first, while passes add
@@ -43,6 +44,8 @@ mod limit_room;
 mod limit_session;
 mod line;
 mod lines;
+mod maker;
+mod making;
 mod moving;
 mod outfit;
 mod parts;
@@ -71,6 +74,8 @@ pub use limit_pass::LimitPass;
 pub use limit_session::LimitSession;
 pub use line::Line;
 pub use lines::push_lines;
+pub use maker::Maker;
+pub use making::deal_made;
 pub use ppq_pass::{
     Full, Gate, Host, Library, OutsideFault, Pair, Pass, PoolBuf, Record, Shared, Sizes, Slot,
     StoreFault, StoreFault as QueueFault,

@@ -1,8 +1,6 @@
 //! An open limit session as one value.
 ghost use Rattle.std.specs.Prelude.{◌≡◌, ◌≤◌, ◌<◌, ◌+◌, ◌++◌, ℕ, false, [], List, All, Some, None, Err, IsTrue, IfOk, IfErr, OnOk, length, take, vec_capacity};
 ghost use Rattle.ppq_pass.specs.ppq_record.Order.{is_before};
-ghost use Rattle.ppq_pass.specs.ppq_record.Pair.{pair_cmp};
-ghost use Rattle.ppq_pass.specs.ppq_record.declared.pair.Pair.{Pair};
 ghost use Rattle.ppq_pass.specs.ppq_outside.Shown.{AllTell};
 ghost use Rattle.ppq_queue.specs.Holding.{Holding};
 ghost use Rattle.ppq_session.specs.declared.fault.BeginFault.TheVariants.{Device};
@@ -18,7 +16,7 @@ use crate::end_limit::limit_end;
 use crate::going::limited_are_going;
 use crate::running::run_both;
 use crate::{Ask, BeginFault, Front, LimitPass, Line, SessionEnd, Shared};
-use ppq_pass::{Gate, Host, Pair, QueueFault, Record, Slot, record_laws};
+use ppq_pass::{Gate, Host, QueueFault, Record, Slot, record_laws};
 use ppq_queue::Queue;
 use std::alloc::Global;
 use std::marker::Model;
@@ -91,6 +89,62 @@ impl<S: Slot + Send + Sync, R: Record + Send + Sync> LimitSession<S, R> {
         }
     }
 
+    /// Runs a batch: each pass adds the records of the lines that name it, in their order, on a thread of
+    /// its own, after its worker has entered the gate, also where no line names it; beside them the asks are
+    /// answered in their order. Whether all was done. It costs a thread for each pass, and each pass looks at
+    /// all lines.
+    ///
+    /// The answers do not depend on the lines, since no record of a line is below the limit. A pass stops at
+    /// its first record that is refused, and the others go on. The asks end at the first that meets a fault
+    /// of a block. The number of the front's pops rises by one for each ask for a pop whose answer is a
+    /// record, and by nothing else.
+    pub fn run<H: Host, G: Gate>(
+        &mut self,
+        rt: &H,
+        lines: &[Line<R>],
+        asks: &[Ask],
+        answers: &mut Vec<Option<R>>,
+        gate: &G,
+    ) -> bool
+    where
+        H::Dir: Send,
+        requires named { All (λ line. line.pass < self.old.front.sizes.workers) lines.now }
+        requires above { All (λ line. is_before R.Ord.cmp line.record self.old.front.limit ≡ false) lines.now }
+        requires going { AreGoing self.old }
+        requires no_answer { answers.old.items ≡ [] }
+        requires room { length asks.now ≤ vec_capacity answers.old }
+        ensures all { IsTrue result → AreGoing self.new }
+        ensures stopped { result ≡ false → HasStopped self.new }
+        ensures answers { (queue : Holding R) (limit : R) (given left : List R) (popped : ℕ) → InLimits S.shown queue limit given left popped self.old → AllTell queue.slots → answers.new.items ≡ take (length answers.new.items) (answers_to R.Ord.cmp limit left asks.now) }
+        ensures answered { self.new.front.failed ≡ None → length answers.new.items ≡ length asks.now }
+        ensures fewer { length answers.new.items ≤ length asks.now }
+        ensures popped { self.new.front.popped ≡ self.old.front.popped + removed_in asks.now answers.new.items }
+        ensures room { vec_capacity answers.new ≡ vec_capacity answers.old }
+        ensures session { (queue : Holding R) (limit : R) (given left : List R) (popped : ℕ) → InLimits S.shown queue limit given left popped self.old → InLimits S.shown queue limit (given ++ records_in lines.now) (left_after R.Ord.cmp limit left asks.now) (popped + pops_in asks.now) self.new }
+        ensures each { EachAdds S.shown (λ pass. records_for pass lines.now) (passes_of self.old.passes) (passes_of self.new.passes) }
+        ensures sizes { self.new.front.sizes ≡ self.old.front.sizes }
+        ensures limit { self.new.front.limit ≡ self.old.front.limit }
+    {
+        let LimitSession {
+            front,
+            shared,
+            passes,
+        } = self;
+        record_laws::<R>();
+        front.known();
+        run_both(
+            rt,
+            front,
+            shared,
+            passes.as_mut_slice(),
+            lines,
+            asks,
+            answers,
+            gate,
+        );
+        self.is_going()
+    }
+
     /// Ends the session: the queue with the records that are left of what it had and those that its passes
     /// accepted. The runs of the passes become runs of the queue, and levels are merged. It allocates nothing.
     ///
@@ -115,63 +169,5 @@ impl<S: Slot + Send + Sync, R: Record + Send + Sync> LimitSession<S, R> {
             SessionEnd::Whole if all => (queue, Ok(())),
             SessionEnd::Whole => (queue, Err(QueueFault::NoFreeBlock)),
         }
-    }
-}
-
-impl<S: Slot + Send + Sync> LimitSession<S, Pair> {
-    /// Runs a batch: each pass adds the records of the lines that name it, in their order, on a thread of
-    /// its own, after its worker has entered the gate, also where no line names it; beside them the asks are
-    /// answered in their order. Whether all was done. It costs a thread for each pass, and each pass looks at
-    /// all lines.
-    ///
-    /// The answers do not depend on the lines, since no record of a line is below the limit. A pass stops at
-    /// its first record that is refused, and the others go on. The asks end at the first that meets a fault
-    /// of a block. The number of the front's pops rises by one for each ask for a pop whose answer is a
-    /// record, and by nothing else.
-    pub fn run<H: Host, G: Gate>(
-        &mut self,
-        rt: &H,
-        lines: &[Line<Pair>],
-        asks: &[Ask],
-        answers: &mut Vec<Option<Pair>>,
-        gate: &G,
-    ) -> bool
-    where
-        H::Dir: Send,
-        requires named { All (λ line. line.pass < self.old.front.sizes.workers) lines.now }
-        requires above { All (λ line. is_before pair_cmp line.record self.old.front.limit ≡ false) lines.now }
-        requires going { AreGoing self.old }
-        requires no_answer { answers.old.items ≡ [] }
-        requires room { length asks.now ≤ vec_capacity answers.old }
-        ensures all { IsTrue result → AreGoing self.new }
-        ensures stopped { result ≡ false → HasStopped self.new }
-        ensures answers { (queue : Holding Pair) (limit : Pair) (given left : List Pair) (popped : ℕ) → InLimits S.shown queue limit given left popped self.old → AllTell queue.slots → answers.new.items ≡ take (length answers.new.items) (answers_to pair_cmp limit left asks.now) }
-        ensures answered { self.new.front.failed ≡ None → length answers.new.items ≡ length asks.now }
-        ensures fewer { length answers.new.items ≤ length asks.now }
-        ensures popped { self.new.front.popped ≡ self.old.front.popped + removed_in asks.now answers.new.items }
-        ensures room { vec_capacity answers.new ≡ vec_capacity answers.old }
-        ensures session { (queue : Holding Pair) (limit : Pair) (given left : List Pair) (popped : ℕ) → InLimits S.shown queue limit given left popped self.old → InLimits S.shown queue limit (given ++ records_in lines.now) (left_after pair_cmp limit left asks.now) (popped + pops_in asks.now) self.new }
-        ensures each { EachAdds S.shown (λ pass. records_for pass lines.now) (passes_of self.old.passes) (passes_of self.new.passes) }
-        ensures sizes { self.new.front.sizes ≡ self.old.front.sizes }
-        ensures limit { self.new.front.limit ≡ self.old.front.limit }
-    {
-        let LimitSession {
-            front,
-            shared,
-            passes,
-        } = self;
-        record_laws::<Pair>();
-        front.known();
-        run_both(
-            rt,
-            front,
-            shared,
-            passes.as_mut_slice(),
-            lines,
-            asks,
-            answers,
-            gate,
-        );
-        self.is_going()
     }
 }

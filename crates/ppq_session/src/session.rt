@@ -12,7 +12,8 @@ use crate::dealing::deal;
 use crate::end::bulk_end;
 use crate::going::are_going;
 use crate::lines::push_lines;
-use crate::{BeginFault, Bulk, Line, Pass, SessionEnd, Shared};
+use crate::making::deal_made;
+use crate::{BeginFault, Bulk, Line, Maker, Pass, SessionEnd, Shared};
 use ppq_pass::{Gate, Host, QueueFault, Record, Slot};
 use ppq_queue::Queue;
 use std::alloc::Global;
@@ -107,6 +108,27 @@ impl<S: Slot + Send + Sync, R: Record + Send + Sync> Session<S, R> {
         self.bulk.known();
         let records = &self.bulk.batch()[..count as usize];
         deal(rt, gate, &self.shared, records, self.passes.as_mut_slice())
+    }
+
+    /// Adds all records of a maker: each pass gets an equal part, which its worker makes and adds on a thread of
+    /// its own. Whether all were added.
+    pub fn deal_made<H: Host, M: Maker<R> + Sync, G: Gate>(
+        &mut self,
+        rt: &H,
+        maker: &M,
+        gate: &G,
+    ) -> bool
+    where
+        H::Dir: Send,
+        requires going { All IsGoing self.old.passes }
+        ensures all { IsTrue result ↔ All IsGoing self.new.passes }
+        ensures ended { result ≡ false → Any HasEnded self.new.passes }
+        ensures session { (queue : Holding R) → (records : List R) → InSession S.shown queue records self.old → InSession S.shown queue (records ++ M.rest maker.now) self.new }
+        ensures each { EachAdds S.shown (part_for (length self.old.passes) (M.rest maker.now)) self.old.passes self.new.passes }
+        ensures bulk { self.new.bulk ≡ self.old.bulk }
+    {
+        self.bulk.known();
+        deal_made(rt, gate, &self.shared, maker, self.passes.as_mut_slice())
     }
 
     /// Adds the records of lines: each worker takes those with its number, in their order. Whether all were

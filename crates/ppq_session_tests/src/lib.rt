@@ -8,6 +8,8 @@ mod faults;
 #[cfg(test)]
 mod generic;
 #[cfg(test)]
+mod kinds;
+#[cfg(test)]
 mod laws;
 #[cfg(test)]
 mod limit;

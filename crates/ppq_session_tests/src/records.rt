@@ -2,7 +2,7 @@
 ghost use Rattle.std.specs.Prelude.{◌≡◌, Some, IfOk};
 
 use ppq_outside::{MemRack, MemSlot, OpenGate};
-use ppq_session::{Host, Pair, Queue, Sizes};
+use ppq_session::{Host, Pair, Queue, Record, Sizes};
 use ppq_testkit::{opened, pair, pushed};
 use std::alloc::Global;
 use std::process::Abort;
@@ -38,7 +38,11 @@ where
 }
 
 /// All records of a queue, of which it has at most 400, in the order in which it pops them.
-pub fn popped<H: Host + Abort>(rt: &H, alloc: Global, queue: Queue<MemSlot, Pair>) -> Vec<Pair>
+pub fn popped<H: Host + Abort, R: Record + Send + Sync>(
+    rt: &H,
+    alloc: Global,
+    queue: Queue<MemSlot, R>,
+) -> Vec<R>
 where
     H::Dir: Send,
 {
