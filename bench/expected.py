@@ -3,7 +3,7 @@
 
     bench/expected.py machines        # crates/ppq_example: a simulator of machines
     bench/expected.py threads         # crates/ppq_threads: records that threads push
-    bench/expected.py script FILE     # a script of examples/, one that has pairs
+    bench/expected.py script FILE     # a script of examples/
 
 `docs/check` compares this with the output that the gate wants of these programs.
 """
@@ -60,71 +60,101 @@ def threads():
     print(f"after it: {seen([heapq.heappop(events) for _ in range(len(events))])}, device used: true")
 
 
-def pairs_of(file):
-    """Returns the records of a record file."""
-    with open(file, "rb") as it:
-        return list(struct.iter_unpack(">QQ", it.read()))
+class Records:
+    """Records in the order of a script's head: each a tuple of its fields, negative ones in the order down."""
+
+    def __init__(self, head):
+        self.count = 3 if head[2:3] == ["triple"] else 2
+        self.sign = -1 if head[3:4] == ["down"] else 1
+        self.items = []
+
+    def record(self, fields):
+        return tuple(self.sign * it for it in fields)
+
+    def line(self, record):
+        return " ".join(str(self.sign * it) for it in record)
+
+    def add(self, records):
+        self.items = sorted(self.items + [self.record(it) for it in records])
+
+    def add_file(self, file):
+        """Adds the records of a record file."""
+        with open(file, "rb") as it:
+            self.add(struct.iter_unpack(">" + "Q" * self.count, it.read()))
+
+    def add_generated(self, seed, count):
+        """Adds the records of `gen`."""
+        records, word = [], seed
+        for number in range(count):
+            word = (word * 6364136223846793005 + 1442695040888963407) & WORD
+            records.append((word, number, seed)[: self.count])
+        self.add(records)
+
+    def below(self, limit):
+        """Returns how many records there are before a limit, or at all."""
+        return bisect.bisect_left(self.items, self.record(limit)) if limit else len(self.items)
+
+    def removed(self, count):
+        """Takes the first so many records out, and returns them."""
+        first = self.items[:count]
+        del self.items[:count]
+        return first
+
+    def lines(self, count):
+        return [self.line(it) for it in self.removed(count)]
 
 
-def generated(seed, count):
-    """Returns the records that `gen` adds."""
-    records = []
-    for value in range(count):
-        seed = (seed * 6364136223846793005 + 1442695040888963407) & WORD
-        records.append((seed, value))
-    return records
+def summary(records, count):
+    """Returns the line of `drain`."""
+    out = records.removed(count)
+    if not out:
+        return "count 0"
+    total = sum(records.sign * it[0] for it in out) & WORD
+    return f"count {len(out)} first {records.line(out[0])} last {records.line(out[-1])} sum {total}"
 
 
-def removed(records, count):
-    """Takes the first so many records out of a list in order, and returns them."""
-    first = records[:count]
-    del records[:count]
-    return first
-
-
-def answers(lines, folder):
+def answers(head, lines, folder):
     """Yields the lines that a script prints, over one list of records in order."""
-    records, limit = [], None
+    records, limit = Records(head), None
     for line in lines:
         word, *rest = line.split()
         numbers = [int(it) for it in rest if it.isdigit()]
-        below = bisect.bisect_left(records, limit) if limit else len(records)
-        empty = "limit" if limit else "empty"
+        below, empty = records.below(limit), "limit" if limit else "empty"
         if word in ("push", "bulk_push", "limit_push"):
-            bisect.insort(records, tuple(numbers[-2:]))
+            bisect.insort(records.items, records.record(numbers[-records.count :]))
         elif word in ("pop", "limit_pop"):
-            yield "{} {}".format(*removed(records, 1)[0]) if below else empty
+            yield records.lines(1)[0] if below else empty
         elif word in ("top", "limit_top"):
-            yield "{} {}".format(*records[0]) if below else empty
+            yield records.line(records.items[0]) if below else empty
         elif word == "size":
-            yield str(len(records))
+            yield str(len(records.items))
         elif word == "bulk":
-            records = sorted(records + pairs_of(f"{folder}/{rest[0]}"))
+            records.add_file(f"{folder}/{rest[0]}")
         elif word == "gen":
-            records = sorted(records + generated(*numbers))
+            records.add_generated(*numbers)
         elif word == "bulk_pop":
-            yield from ("{} {}".format(*it) for it in removed(records, *numbers))
+            yield from records.lines(*numbers)
         elif word == "bulk_pop_limit":
             *bound, most = numbers
-            count = bisect.bisect_left(records, tuple(bound))
-            yield from ("{} {}".format(*it) for it in removed(records, min(count, most)))
+            count = records.below(bound)
+            yield from records.lines(min(count, most))
             yield "all" if count <= most else "more"
         elif word == "drain":
-            out = removed(records, *numbers)
-            last = " first {} {} last {} {} sum {}".format(*out[0], *out[-1], sum(it[0] for it in out) & WORD) if out else ""
-            yield f"count {len(out)}{last}"
+            yield summary(records, *numbers)
         elif word == "limit_begin":
-            limit = tuple(numbers)
+            limit = numbers
         elif word == "limit_end":
             limit = None
         elif word not in ("bulk_begin", "bulk_end"):
-            raise ValueError(f"no command of pairs: {line}")
+            raise ValueError(f"no command: {line}")
 
 
 def script(file):
     with open(file, encoding="utf-8") as it:
         lines = [line.strip() for line in it]
-    for answer in answers([it for it in lines if it and not it.startswith("#")], os.path.dirname(file) or "."):
+    head = lines[0].split() if lines and lines[0].startswith("ppq ") else []
+    lines = [it for it in lines[1 if head else 0 :] if it and not it.startswith("#")]
+    for answer in answers(head, lines, os.path.dirname(file) or "."):
         print(answer)
 
 

@@ -88,7 +88,7 @@ fn begun<H: Host + Abort>(
     alloc: Global,
     queue: Queue<MemSlot, Pair>,
     limit: Pair,
-) -> Limits<MemSlot>
+) -> Limits<MemSlot, Pair>
 where
     H::Dir: Send,
     requires { queue.sizes.workers ≡ 2 }
@@ -106,7 +106,7 @@ where
 fn ran<H: Host + Abort, G: Gate>(
     rt: &H,
     alloc: Global,
-    session: &mut Limits<MemSlot>,
+    session: &mut Limits<MemSlot, Pair>,
     limit: Pair,
     batch: Batch<'_>,
     gate: &G,
@@ -131,7 +131,7 @@ where
 fn both<H: Host + Abort, G: Gate>(
     rt: &H,
     alloc: Global,
-    session: &mut Limits<MemSlot>,
+    session: &mut Limits<MemSlot, Pair>,
     limit: Pair,
     batches: [Batch<'_>; 2],
     gate: &G,

@@ -4,6 +4,8 @@
 #[cfg(test)]
 mod batch;
 #[cfg(test)]
+mod kinds;
+#[cfg(test)]
 mod load;
 #[cfg(test)]
 mod queues;

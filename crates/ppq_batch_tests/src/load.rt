@@ -118,13 +118,13 @@ fn records_of_a_file_come_back_and_one_that_ended_early_says_where(rt: HostRunti
 }
 
 #[test]
-fn generated_records_go_to_the_passes_in_batches(rt: HostRuntime) {
+fn a_worker_enters_once_for_all_generated_records(rt: HostRuntime) {
     let sizes = Sizes::new(2, 4, 8, 2_000, 200);
     let queue = filled(&rt, rt.alloc(), &mut MemRack::new(), sizes, &[]);
     let gate = PairGate::new();
     let (queue, answer) = load_generated(&rt, rt.alloc(), queue, 7, 20, &gate);
     assert!(rt; answer == Ok(()) && queue.size() == 20);
-    // a batch is a block of 4 records for each of 2 workers, so there are 3, and each worker enters once a batch
-    assert_eq!(rt; gate.entered(), 2 * 3);
+    // each of the two workers enters once, and not once a batch
+    assert_eq!(rt; gate.entered(), 2);
     let _slots = queue.close();
 }

@@ -7,6 +7,7 @@ use Rattle.std.proofs.Math.Seq.{take-append-add}
 use borrow.Rule.Slice.PartMut.{put_mid, post_of}
 use Rattle.ppq_words.specs.ppq_outside.Told.{Reply, OfLength, OfRead, Remembers}
 use Rattle.std.specs.List.{AllZip}
+use Rattle.ppq_words.specs.ppq_script.Words.{Words}
 use Rattle.ppq_words.specs.ppq_script.declared.command.Command.{Command}
 use Rattle.ppq_words.specs.ppq_script.declared.numbered.Numbered.{Numbered}
 use Rattle.ppq_words.specs.ppq_script.Lines.{names_of, numbered_of}
@@ -14,7 +15,7 @@ use Rattle.ppq_words.specs.ppq_script.Files.{file_in, name_at}
 use Rattle.ppq_words.specs.ppq_script.Checking.{IsAskedFile, IsAsked}
 use Rattle.ppq_words.specs.ppq_script.Reading.{Reading}
 use Rattle.ppq_cli.specs.Load.{script_kinds}
-use Rattle.ppq_cli.specs.Replies.{AreGiven, IsGiven, IsReplied, IsScript}
+use Rattle.ppq_cli.specs.Replies.{Files, AreGiven, IsGiven, IsReplied, IsLoadedAs, IsScript}
 
 -- the beginning of a list with a piece written into it
 take-put : (a k n : ℕ) (xs ys : List ℕ) → a ≤ length xs → n ≤ length ys → take (a + n) (put_mid a k xs ys) ≡ take a xs ++ take n ys
@@ -43,16 +44,16 @@ given_more before now name old into got count k h l kept reply so_far =
       all = concat-append so_far.pieces (take count into ∷ []) ∙ ap₂ (λ (x y : List ℕ). x ++ y) so_far.all (append-nil (take count into)) ∙ sym (take-put got k count old into h l);
     }
 
-asked_remembered : (before now : Reply → Type 0) (names : List (List ℕ)) (file : Option (ℕ × ℕ)) (old new : Command) → Remembers before now → IsAskedFile before names file old new → IsAskedFile now names file old new
-asked_remembered before now names None old new kept asked = asked
-asked_remembered before now names (Some file) old new kept (length, (is, (reply, records))) = (length, (is, (kept (OfLength (name_at names file.0) (Some length)) reply, records)))
+asked_remembered : {R : Type 0} (words : Words R) (before now : Reply → Type 0) (names : List (List ℕ)) (file : Option (ℕ × ℕ)) (old new : Command R) → Remembers before now → IsAskedFile words before names file old new → IsAskedFile words now names file old new
+asked_remembered words before now names None old new kept asked = asked
+asked_remembered words before now names (Some file) old new kept (length, (is, (reply, records))) = (length, (is, (kept (OfLength (name_at names file.0) (Some length)) reply, records)))
 
-all_asked_remembered : (before now : Reply → Type 0) (names : List (List ℕ)) (old new : List Numbered) → Remembers before now → AllZip (IsAsked before names) old new → AllZip (IsAsked now names) old new
-all_asked_remembered before now names [] [] kept asked = tt
-all_asked_remembered before now names [] (y ∷ ys) kept asked = absurd asked
-all_asked_remembered before now names (x ∷ xs) [] kept asked = absurd asked
-all_asked_remembered before now names (x ∷ xs) (y ∷ ys) kept (one, rest) =
-    (record { line = one.line; command = asked_remembered before now names (file_in x.command) x.command y.command kept one.command }, all_asked_remembered before now names xs ys kept rest)
+all_asked_remembered : {R : Type 0} (words : Words R) (before now : Reply → Type 0) (names : List (List ℕ)) (old new : List (Numbered R)) → Remembers before now → AllZip (IsAsked words before names) old new → AllZip (IsAsked words now names) old new
+all_asked_remembered words before now names [] [] kept asked = tt
+all_asked_remembered words before now names [] (y ∷ ys) kept asked = absurd asked
+all_asked_remembered words before now names (x ∷ xs) [] kept asked = absurd asked
+all_asked_remembered words before now names (x ∷ xs) (y ∷ ys) kept (one, rest) =
+    (record { line = one.line; command = asked_remembered words before now names (file_in x.command) x.command y.command kept one.command }, all_asked_remembered words before now names xs ys kept rest)
 
 -- bytes that were given stay given while nothing is forgotten
 pub replied_remembered : (before now : Reply → Type 0) (name bytes : List ℕ) → Remembers before now → IsReplied before name bytes → IsReplied now name bytes
@@ -61,18 +62,18 @@ replied_remembered before now name bytes kept is = record {
   gave = record { pieces = is.gave.pieces; given = AreGiven-remembered before now name 0 is.gave.pieces kept is.gave.given; all = is.gave.all };
 }
 
--- a script that was loaded stays one while nothing is forgotten
+-- so does the file as which they were loaded
+pub loaded_remembered : (told : Option Files) (before now : Reply → Type 0) (name bytes : List ℕ) → Remembers before now → IsLoadedAs told before name bytes → IsLoadedAs told now name bytes
+loaded_remembered told before now name bytes kept is = record { short = is.short; loaded = is.loaded; given = replied_remembered before now name bytes kept is.given }
+
+-- a script that was read stays one while nothing is forgotten
 pub script_remembered :
-    (told : Option (List ℕ → Option (List ℕ))) (before now : Reply → Type 0) (name : List ℕ) (workers : ℕ) (script : Reading)
-    → Remembers before now → IsScript told before name workers script → IsScript told now name workers script
-script_remembered told before now name workers script kept is = record {
-  bytes = is.bytes;
-  short = is.short;
-  loaded = is.loaded;
-  given = replied_remembered before now name is.bytes kept is.given;
+    {R : Type 0} (words : Words R) (told : Option Files) (before now : Reply → Type 0) (bytes : List ℕ) (workers : ℕ) (script : Reading R)
+    → Remembers before now → IsScript words told before bytes workers script → IsScript words told now bytes workers script
+script_remembered words told before now bytes workers script kept is = record {
   good = is.good;
   names = is.names;
-  asked = all_asked_remembered before now (names_of (script_kinds is.bytes workers)) (numbered_of 1 (script_kinds is.bytes workers)) script.commands kept is.asked;
+  asked = all_asked_remembered words before now (names_of (script_kinds words bytes workers)) (numbered_of 1 (script_kinds words bytes workers)) script.commands kept is.asked;
   usable = is.usable;
   lengths = is.lengths;
   ready = is.ready;

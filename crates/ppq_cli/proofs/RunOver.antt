@@ -1,68 +1,67 @@
 -- What `run_over` says where no command was run, and how its end follows from the device's and the script's.
-use Rattle.std.proofs.Common.{◌≡◌, inl, inr, ℕ, ◌<◌, ◌≤◌, List, [], map, length, Option, Some, None, refl, sym, ap, subst, arith, append-nil}
+use Rattle.std.proofs.Common.{◌≡◌, inl, inr, ℕ, ◌<◌, ◌≤◌, List, map, length, Option, Some, None, refl, sym, ap, subst, arith, append-nil}
 use Rattle.std.specs.Prelude.{◌⊎◌, Bool, true, false, if◌then◌else◌, nat_lt, MatchOption}
 use Rattle.std.specs.List.{range_with_len}
 use Rattle.std.specs.List.Sorted.{IsPermutation}
 use Rattle.std.proofs.lemmas.Bool.{lt-ltb, le-ltb}
-use Rattle.std.proofs.lemmas.List.Sorted.{IsPermutation-refl}
 use Rattle.ppq_words.specs.ppq_outside.declared.fault.OutsideFault.{OutsideFault}
 use Rattle.ppq_words.specs.ppq_outside.declared.fault.OutsideFault.TheVariants as outside
 use Rattle.ppq_words.specs.ppq_outside.Shown.{Shown}
 use Rattle.ppq_words.specs.ppq_outside.Told.{Reply, TakesPart}
 use Rattle.ppq_words.specs.ppq_budget.Sizes.{Numbers, fixed_of}
+use Rattle.ppq_words.specs.ppq_script.Words.{Words}
 use Rattle.ppq_words.specs.ppq_script.Reading.{Reading}
-use Rattle.ppq_words.specs.Reading.{Reading as Arguments}
+use Rattle.ppq_words.specs.Reading.{Reading as Arguments, sizes_at}
 use Rattle.ppq_words.proofs.ppq_outside.Replies.{no_replies}
 use Rattle.ppq_engine.specs.Ends.{BeganCommands, BeganOrRefused, budget_refusal}
 use Rattle.ppq_engine.specs.declared.end.End.{End}
 use Rattle.ppq_engine.specs.declared.end.End.TheVariants.{Done, ReadFault, WriteFault, NoFreeBlock, BudgetTooSmall, Memory, NoDevice}
 use Rattle.ppq_cli.specs.Device.{AreBlocks, HasReason, IsSurelyRun, make_end}
-use Rattle.ppq_cli.specs.Replies.{need_of, LibraryKeeps, FaultToFile}
+use Rattle.ppq_cli.specs.Replies.{Files, need_of, LibraryKeeps, FaultToFile}
 use Rattle.ppq_cli.specs.RunOver.{RunWrites, RunEnds, RunCounts, RunFaults}
 use Rattle.ppq_cli.specs.RunWords.{refusal_of_budget, IsTriedOrRefusal}
 
 -- nothing is a part of each text
-takes_none : (told : Option (List ℕ)) (text : List ℕ) → TakesPart told told text
+pub takes_none : (told : Option (List ℕ)) (text : List ℕ) → TakesPart told told text
 takes_none None text = refl
 takes_none (Some had) text = (0, omega arith, ap (λ (t : List ℕ). Some t) (sym (append-nil had)))
 
 -- nothing was written, and the end is that of no run
 pub wrote_nothing :
-    (tells : Type 0) (told : Option (List ℕ → Option (List ℕ))) (took : Option (List ℕ)) (r : Arguments) (script : Reading) (blocks : List Shown) (end : End)
-    → (end ≡ Done → ⊥) → (end ≡ NoFreeBlock → ⊥) → FaultToFile r.form tells told took took script end → RunWrites tells told took took r script blocks end
-wrote_nothing tells told took r script blocks end done full file =
+    {R : Type 0} (words : Words R) (tells : Type 0) (told : Option Files) (took : Option (List ℕ)) (r : Arguments) (script : Reading R) (blocks : List Shown) (end : End)
+    → (end ≡ Done → ⊥) → (end ≡ NoFreeBlock → ⊥) → FaultToFile words r.form tells told took took script end → RunWrites words tells told took took r script blocks end
+wrote_nothing words tells told took r script blocks end done full file =
     record { done = λ is. absurd (done is); full = λ is. absurd (full is); part = λ t files are. takes_none took _; memory = λ is. inl refl; file = file; nothing = inr refl }
 
 -- as where the device could not be made
-pub unmade_wrote : (tells : Type 0) (told : Option (List ℕ → Option (List ℕ))) (took : Option (List ℕ)) (r : Arguments) (script : Reading) (blocks : List Shown) (fault : OutsideFault) → RunWrites tells told took took r script blocks (make_end fault)
-unmade_wrote tells told took r script blocks outside.Failed = wrote_nothing tells told took r script blocks NoDevice (λ is. cc) (λ is. cc) tt
-unmade_wrote tells told took r script blocks outside.Memory = wrote_nothing tells told took r script blocks Memory (λ is. cc) (λ is. cc) tt
+pub unmade_wrote : {R : Type 0} (words : Words R) (tells : Type 0) (told : Option Files) (took : Option (List ℕ)) (r : Arguments) (script : Reading R) (blocks : List Shown) (fault : OutsideFault) → RunWrites words tells told took took r script blocks (make_end fault)
+unmade_wrote words tells told took r script blocks outside.Failed = wrote_nothing words tells told took r script blocks NoDevice (λ is. cc) (λ is. cc) tt
+unmade_wrote words tells told took r script blocks outside.Memory = wrote_nothing words tells told took r script blocks Memory (λ is. cc) (λ is. cc) tt
 
 -- nothing was asked of the library
 pub asked_nothing : {L : Type 0} (files : L → Option (List ℕ → Option (List ℕ))) (replied : L → Reply → Type 0) (kind : Reply → Type 0) (library : L) → LibraryKeeps files replied kind library library
 asked_nothing files replied kind library = record { told = refl; remembers = λ reply had. had; asks = no_replies (replied library) kind }
 
--- the budget is too small
-module _ (r : Arguments) (small : r.sizes.memory < fixed_of r.sizes) where
-  pub small_ends : (told : Option (List ℕ → Option (List ℕ))) (replied : Reply → Type 0) (script : Reading) (blocks : List Shown) → RunEnds told replied r script blocks (BudgetTooSmall (need_of r))
-  small_ends told replied script blocks = record {
+module _ {R : Type 0} (words : Words R) (r : Arguments) where
+  -- the budget is too small
+  pub small_ends : (sizes_at words.WIDTH r).memory < fixed_of (sizes_at words.WIDTH r) → (told : Option Files) (replied : Reply → Type 0) (script : Reading R) (blocks : List Shown) → RunEnds words told replied r script blocks (BudgetTooSmall (need_of words r))
+  small_ends small told replied script blocks = record {
     answer =
-        let P : Bool → Type 0 = λ b. MatchOption (if b then Some (BudgetTooSmall (need_of r)) else None) (BeganCommands (BudgetTooSmall (need_of r)) ⊎ (BudgetTooSmall (need_of r) ≡ NoDevice)) (λ e. BudgetTooSmall (need_of r) ≡ e) in
-        inl (subst P (sym (lt-ltb r.sizes.memory (fixed_of r.sizes) small)) refl);
+        let P : Bool → Type 0 = λ b. MatchOption (if b then Some (BudgetTooSmall (need_of words r)) else None) (BeganCommands (BudgetTooSmall (need_of words r)) ⊎ (BudgetTooSmall (need_of words r) ≡ NoDevice)) (λ e. BudgetTooSmall (need_of words r) ≡ e) in
+        inl (subst P (sym (lt-ltb (sizes_at words.WIDTH r).memory (fixed_of (sizes_at words.WIDTH r)) small)) refl);
     failed = λ number is. cc;
     changed = λ line said got is. cc;
   }
 
--- the device was not made
-module _ (r : Arguments) (enough : fixed_of r.sizes ≤ r.sizes.memory) where
-  no_device : IsTriedOrRefusal (refusal_of_budget r) NoDevice
-  no_device =
-      let P : Bool → Type 0 = λ b. MatchOption (if b then Some (BudgetTooSmall (need_of r)) else None) (BeganCommands NoDevice ⊎ (NoDevice ≡ NoDevice)) (λ e. NoDevice ≡ e) in
-      inl (subst P (sym (le-ltb r.sizes.memory (fixed_of r.sizes) enough)) (inr refl))
+  -- the device was not made
+  no_device : fixed_of (sizes_at words.WIDTH r) ≤ (sizes_at words.WIDTH r).memory → IsTriedOrRefusal (refusal_of_budget words r) NoDevice
+  no_device enough =
+      let P : Bool → Type 0 = λ b. MatchOption (if b then Some (BudgetTooSmall (need_of words r)) else None) (BeganCommands NoDevice ⊎ (NoDevice ≡ NoDevice)) (λ e. NoDevice ≡ e) in
+      inl (subst P (sym (le-ltb (sizes_at words.WIDTH r).memory (fixed_of (sizes_at words.WIDTH r)) enough)) (inr refl))
 
-  pub unmade_ends : (told : Option (List ℕ → Option (List ℕ))) (replied : Reply → Type 0) (script : Reading) (blocks : List Shown) (fault : OutsideFault) → RunEnds told replied r script blocks (make_end fault)
-  unmade_ends told replied script blocks outside.Failed = record { answer = no_device; failed = λ number is. cc; changed = λ line said got is. cc }
-  unmade_ends told replied script blocks outside.Memory = record { answer = inr refl; failed = λ number is. cc; changed = λ line said got is. cc }
+  pub unmade_ends : fixed_of (sizes_at words.WIDTH r) ≤ (sizes_at words.WIDTH r).memory → (told : Option Files) (replied : Reply → Type 0) (script : Reading R) (blocks : List Shown) (fault : OutsideFault) → RunEnds words told replied r script blocks (make_end fault)
+  unmade_ends enough told replied script blocks outside.Failed = record { answer = no_device enough; failed = λ number is. cc; changed = λ line said got is. cc }
+  unmade_ends enough told replied script blocks outside.Memory = record { answer = inr refl; failed = λ number is. cc; changed = λ line said got is. cc }
 
 -- a script that was begun, or whose budget is too small, was tried or refused
 tried : (refusal : Option End) (end : End) → BeganOrRefused refusal end → IsTriedOrRefusal refusal end
@@ -71,11 +70,13 @@ tried (Some e) end (inl is) = inl is
 tried refusal end (inr memory) = inr memory
 
 -- so it was tried where the budget is large enough
-pub begun_ends : (r : Arguments) (end : End) → fixed_of r.sizes ≤ r.sizes.memory → BeganOrRefused (budget_refusal r.sizes) end → IsTriedOrRefusal (refusal_of_budget r) end
-begun_ends r end enough answer =
-    let large = le-ltb r.sizes.memory (fixed_of r.sizes) enough in
-    let P : Bool → Type 0 = λ b. BeganOrRefused (if b then Some (BudgetTooSmall (fixed_of r.sizes)) else None) end in
-    let Q : Bool → Type 0 = λ b. IsTriedOrRefusal (if b then Some (BudgetTooSmall (need_of r)) else None) end in
+pub begun_ends :
+    {R : Type 0} (words : Words R) (r : Arguments) (end : End) → fixed_of (sizes_at words.WIDTH r) ≤ (sizes_at words.WIDTH r).memory → BeganOrRefused (budget_refusal (sizes_at words.WIDTH r)) end → IsTriedOrRefusal (refusal_of_budget words r) end
+begun_ends words r end enough answer =
+    let sizes = sizes_at words.WIDTH r in
+    let large = le-ltb sizes.memory (fixed_of sizes) enough in
+    let P : Bool → Type 0 = λ b. BeganOrRefused (if b then Some (BudgetTooSmall (fixed_of sizes)) else None) end in
+    let Q : Bool → Type 0 = λ b. IsTriedOrRefusal (if b then Some (BudgetTooSmall (need_of words r)) else None) end in
     subst Q (sym large) (tried None end (subst P large answer))
 
 device_made : (refusal : Bool) (need : ℕ) → MatchOption (if refusal then Some (BudgetTooSmall need) else None) (BeganCommands NoDevice) (λ e. NoDevice ≡ e) ⊎ (NoDevice ≡ Memory) → ⊥
@@ -85,7 +86,7 @@ device_made true need (inr is) = cc
 device_made false need (inr is) = cc
 
 -- a count that stays, with an end that does not name its fault
-same_count : (fault end : End) (count : ℕ) → (end ≡ fault → ⊥) → RunCounts fault count count end
+pub same_count : (fault end : End) (count : ℕ) → (end ≡ fault → ⊥) → RunCounts fault count count end
 same_count fault end count never = record { later = omega arith; stays = λ quiet. refl; rose = λ is. absurd (never is) }
 
 pub small_faults : (library rack sink need : ℕ) → RunFaults library library rack rack sink sink (BudgetTooSmall need)
@@ -129,11 +130,5 @@ early_not_begun outside.Failed run = run
 early_not_begun outside.Memory run = run
 
 -- the blocks that were made before one that could not be
-pub unmade_blocks : (sizes : Numbers) (slots : List Shown) (fault : OutsideFault) → IsPermutation (map (λ s. s.number) slots) (range_with_len 0 (length slots)) → length slots ≤ sizes.blocks → AreBlocks sizes (make_end fault) slots
-unmade_blocks sizes slots fault numbers most = record { numbers = numbers; most = most; all = λ run. absurd (early_not_run fault run); all_or_none = λ run. absurd (early_not_begun fault run) }
-
--- no block was made
-pub no_device_blocks : (sizes : Numbers) (slots : List Shown) (need : ℕ) → slots ≡ [] → AreBlocks sizes (BudgetTooSmall need) slots
-no_device_blocks sizes slots need none =
-    let P : List Shown → Type 0 = λ s. AreBlocks sizes (BudgetTooSmall need) s in
-    subst P (sym none) (record { numbers = IsPermutation-refl []; most = omega arith; all = λ run. absurd run; all_or_none = λ run. absurd run })
+pub unmade_blocks : (most : ℕ) (slots : List Shown) (fault : OutsideFault) → IsPermutation (map (λ s. s.number) slots) (range_with_len 0 (length slots)) → length slots ≤ most → AreBlocks most (make_end fault) slots
+unmade_blocks most slots fault numbers within = record { numbers = numbers; most = within; all = λ run. absurd (early_not_run fault run); all_or_none = λ run. absurd (early_not_begun fault run) }

@@ -34,8 +34,8 @@ loaded (Some files) replied name bytes true is =
     (let P : List ℕ → Type 0 = λ b. b ≡ take (length b) (bytes_or_none (files name)) in subst P is.gave.all (pieces_are files replied name 0 is.gave.pieces true is.gave.given))
 
 -- the same where its length was said, and reads gave it up to there
-pub loaded_as : (told : Option (List ℕ → Option (List ℕ))) (replied : Reply → Type 0) (name bytes : List ℕ) (size got : ℕ) → AreTrue told replied → replied (OfLength name (Some size)) → length bytes ≡ size → size ≤ got → IsGiven replied name (take got bytes) → IsLoadedAs told replied name bytes
-loaded_as told replied name bytes size got true said long all given =
+pub loaded_as : (told : Option (List ℕ → Option (List ℕ))) (replied : Reply → Type 0) (name bytes : List ℕ) (size got : ℕ) → AreTrue told replied → size ≤ 1048576 → replied (OfLength name (Some size)) → length bytes ≡ size → size ≤ got → IsGiven replied name (take got bytes) → IsLoadedAs told replied name bytes
+loaded_as told replied name bytes size got true short said long all given =
     let P : ℕ → Type 0 = λ n. replied (OfLength name (Some n)) in
     let is : IsReplied replied name bytes = record { said = subst P (sym long) said; gave = subst (IsGiven replied name) (take_all got bytes (omega (arith, long))) given } in
-    record { loaded = loaded told replied name bytes true is; given = is }
+    record { short = omega (arith, long, short); loaded = loaded told replied name bytes true is; given = is }

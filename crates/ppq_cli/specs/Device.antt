@@ -1,5 +1,5 @@
 -- The blocks of a device.
-use Rattle.std.specs.Prelude.{◌≡◌, ◌≤◌, ◌⊎◌, ◌*◌, ⊤, ℕ, List, length, map, All, Vec, Result, Ok, Err, OnOk, IfErr}
+use Rattle.std.specs.Prelude.{◌≡◌, ◌≤◌, ◌⊎◌, ⊤, ℕ, List, length, map, All, Vec, Result, Ok, Err, OnOk, IfErr}
 use Rattle.std.specs.List.{range_with_len}
 use Rattle.std.specs.List.Sorted.{IsPermutation}
 use Rattle.std.specs.declared.alloc.Global.{Global}
@@ -7,7 +7,6 @@ use Rattle.ppq_words.specs.ppq_outside.declared.fault.OutsideFault.{OutsideFault
 use Rattle.ppq_words.specs.ppq_outside.declared.fault.OutsideFault.TheVariants.{Failed, Memory}
 use Rattle.ppq_words.specs.ppq_outside.Told.{Rose}
 use Rattle.ppq_words.specs.ppq_outside.Shown.{Shown, AllTell}
-use Rattle.ppq_words.specs.ppq_budget.Sizes.{Numbers}
 use Rattle.ppq_engine.specs.ppq_queue.Holding.{IsNewSlot}
 use Rattle.ppq_engine.specs.Ends.{BeganCommands}
 use Rattle.ppq_engine.specs.declared.end.End.{End}
@@ -34,10 +33,10 @@ pub record RackCounts {S : Type 0} (before now : ℕ) (result : Result (Vec S Gl
   pub stays : OnOk result (now ≡ before)
   pub reason : IfErr result (λ refused. HasReason before now refused.1)
 
--- new blocks for a device of these sizes, no more than it has; where the rack tells, they do
-pub record AreMade {S : Type 0} (shown : S → Shown) (tells : Type 0) (sizes : Numbers) (blocks : List S) : Type 0 where
-  pub most : length blocks ≤ sizes.blocks
-  pub new : AreNew (sizes.block * 16) (map shown blocks)
+-- new blocks of so many bytes, no more than a device has; where the rack tells, they do
+pub record AreMade {S : Type 0} (shown : S → Shown) (tells : Type 0) (most_blocks bytes : ℕ) (blocks : List S) : Type 0 where
+  pub most : length blocks ≤ most_blocks
+  pub new : AreNew bytes (map shown blocks)
   pub tell : tells → AllTell (map shown blocks)
 
 -- why not all blocks were made, as an end
@@ -61,10 +60,10 @@ IsSurelyRun end.NoDevice = ⊥
 IsSurelyRun end.NoScript = ⊥
 IsSurelyRun end.ScriptTooLong = ⊥
 
--- the blocks that come back with an end: their numbers are those from 0 on, each once; no more than the device has, and all of them
+-- the blocks that come back with an end, of a device that has so many: their numbers are those from 0 on, each once; all of them
 -- where the script was run; none where it could not be loaded
-pub record AreBlocks (sizes : Numbers) (answer : End) (slots : List Shown) : Type 0 where
+pub record AreBlocks (blocks : ℕ) (answer : End) (slots : List Shown) : Type 0 where
   pub numbers : IsPermutation (map (λ s. s.number) slots) (range_with_len 0 (length slots))
-  pub most : length slots ≤ sizes.blocks
-  pub all : IsSurelyRun answer → length slots ≡ sizes.blocks
-  pub all_or_none : BeganCommands answer → (length slots ≡ sizes.blocks) ⊎ (length slots ≡ 0)
+  pub most : length slots ≤ blocks
+  pub all : IsSurelyRun answer → length slots ≡ blocks
+  pub all_or_none : BeganCommands answer → (length slots ≡ blocks) ⊎ (length slots ≡ 0)

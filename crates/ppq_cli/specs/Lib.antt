@@ -6,3 +6,4 @@ pub mod RunOver
 pub mod RunWords
 pub mod Status
 pub mod Twice
+pub mod Types

@@ -1,8 +1,7 @@
 -- The words of the contract of `run_words`, in the order of its clauses. `run_over`, `run_and_report` and `run_twice` use them too.
 use Rattle.std.specs.Prelude.{◌≡◌, ◌⊎◌, ℕ, ◌<◌, ◌≤◌, List, [], length, false, Option, Some, None, if◌then◌else◌, IfSome, nat_lt, MatchOption, map, String, All}
 use Rattle.std.specs.declared.alloc.Global.{Global}
-use Rattle.ppq_words.specs.ppq_record.declared.pair.Pair.{Pair}
-use Rattle.ppq_words.specs.ppq_record.Given.{records_of}
+use Rattle.ppq_engine.specs.ppq_load.Given.{records_of}
 use Rattle.ppq_words.specs.ppq_outside.Made.{HasMadeJust}
 use Rattle.ppq_words.specs.ppq_outside.Shown.{Shown}
 use Rattle.ppq_words.specs.ppq_outside.Told.{Reply, Remembers, TakesAll, TakesPart, bytes_or_none}
@@ -10,11 +9,12 @@ use Rattle.ppq_words.specs.ppq_outside.declared.library.Library.{Ghosts as Libra
 use Rattle.ppq_words.specs.ppq_outside.declared.rack.Rack.{Ghosts as RackShows}
 use Rattle.ppq_words.specs.ppq_outside.declared.sink.Sink.{Ghosts as SinkShows}
 use Rattle.ppq_words.specs.ppq_budget.Sizes.{fixed_of}
+use Rattle.ppq_words.specs.ppq_script.Words.{Words}
 use Rattle.ppq_words.specs.ppq_script.declared.command.Command.{Command}
 use Rattle.ppq_words.specs.ppq_script.Lines.{numbered_of, names_of, first_bad_by}
 use Rattle.ppq_words.specs.ppq_script.Files.{name_at, is_usable}
 use Rattle.ppq_words.specs.ppq_script.Checking.{with_sizes}
-use Rattle.ppq_words.specs.Reading.{Reading, reading_of, texts_of}
+use Rattle.ppq_words.specs.Reading.{Reading, reading_of, texts_of, sizes_at}
 use Rattle.ppq_words.specs.Strays.{may_run}
 use Rattle.ppq_engine.specs.declared.end.End.{End}
 use Rattle.ppq_engine.specs.declared.end.End.TheVariants.{Done, BadLine, Usage, ReadFault, WriteFault, DeviceFault, NoFreeBlock, BudgetTooSmall, Memory, NoDevice, NoScript, ScriptTooLong}
@@ -26,13 +26,10 @@ use Rattle.ppq_engine.specs.Refusal.{HasRoom, HasNoRoom}
 use Rattle.ppq_engine.specs.Ends.{BeganCommands, NoFault}
 use Rattle.ppq_cli.specs.Device.{AreBlocks}
 use Rattle.ppq_cli.specs.Load.{script_kinds}
-use Rattle.ppq_cli.specs.Replies.{need_of, RefusalIsRight, RunIsRight, ReadsWithin}
+use Rattle.ppq_cli.specs.Replies.{Files, need_of, RefusalIsRight, RunIsRight, ReadsWithin}
+use Rattle.ppq_cli.specs.Types.{RecordType, type_of}
 
 -- The script that the words name.
-
--- the files that a library tells: the bytes under each name, none where there is no file
-abbrev pub Files : Type 0
-Files = List ℕ → Option (List ℕ)
 
 -- what the words say, where they have a reading
 abbrev pub reading : List (String Global) → Option Reading
@@ -43,34 +40,42 @@ abbrev pub OfWords : List (String Global) → (Reading → Type 0) → Type 0
 OfWords words P = IfSome (reading words) P
 
 -- the commands of a script of these bytes for so many workers, where these are the files: each that reads one has its length
-abbrev pub script_commands : Files → List ℕ → ℕ → List Command
-script_commands files bytes workers = map (λ n. n.command) (with_sizes files (names_of (script_kinds bytes workers)) (numbered_of 1 (script_kinds bytes workers)))
+abbrev pub script_commands : {R : Type 0} → Words R → Files → List ℕ → ℕ → List (Command R)
+script_commands words files bytes workers = map (λ n. n.command) (with_sizes files (names_of (script_kinds words bytes workers)) (numbered_of 1 (script_kinds words bytes workers)))
 
 -- the records of its file with this number
-abbrev pub script_given : Files → List ℕ → ℕ → ℕ → List Pair
-script_given files bytes workers file = records_of (bytes_or_none (files (name_at (names_of (script_kinds bytes workers)) file)))
+abbrev pub script_given : {R : Type 0} → Words R → Files → List ℕ → ℕ → ℕ → List R
+script_given words files bytes workers file = records_of words.record_of words.WIDTH (bytes_or_none (files (name_at (names_of (script_kinds words bytes workers)) file)))
 
--- the fact holds of the arguments, of the records of the script's files and of its commands, where the library tells and has the script
-abbrev pub OfFile : Option Files → Reading → (Reading → (ℕ → List Pair) → List Command → Type 0) → Type 0
-OfFile told r P = IfSome told (λ files. IfSome (files r.script) (λ bytes. P r (script_given files bytes r.sizes.workers) (script_commands files bytes r.sizes.workers)))
+-- a fact about a script: about the type of its records, the arguments, the records of its files and its commands
+abbrev pub About : Type 1
+About = (type : RecordType) → Reading → (ℕ → List type.R) → List (Command type.R) → Type 0
+
+-- the fact holds of a script of these bytes with records of this type, where the library tells
+abbrev pub OfBytes : Option Files → RecordType → Reading → List ℕ → About → Type 0
+OfBytes told type r bytes P = IfSome told (λ files. P type r (script_given type.words files bytes r.given.numbers.workers) (script_commands type.words files bytes r.given.numbers.workers))
+
+-- the fact holds of the script that the arguments name, with records of the type that its head names, where the library tells and has it
+abbrev pub OfFile : Option Files → Reading → About → Type 0
+OfFile told r P = IfSome told (λ files. IfSome (files r.script) (λ bytes. OfBytes (Some files) (type_of bytes) r bytes P))
 
 -- the same of the script that the words name
-abbrev pub OfScript : {L : Type 0} → (L → Option Files) → L → List (String Global) → (Reading → (ℕ → List Pair) → List Command → Type 0) → Type 0
+abbrev pub OfScript : {L : Type 0} → (L → Option Files) → L → List (String Global) → About → Type 0
 OfScript told library words P = OfWords words (λ r. OfFile (told library) r P)
 
 -- What is written: by what a sink tells before and now.
 
 -- all that the commands print, in the form that the arguments say
-abbrev pub WritesAll : {S : Type 0} → (S → Option (List ℕ)) → S → S → Reading → (ℕ → List Pair) → List Command → Type 0
-WritesAll told before now r given commands = TakesAll (told before) (told now) (output_of r.form given commands)
+abbrev pub WritesAll : {S : Type 0} → (S → Option (List ℕ)) → S → S → About
+WritesAll told before now type r given commands = TakesAll (told before) (told now) (output_of type.words r.form given commands)
 
 -- a prefix of it
-abbrev pub WritesPart : {S : Type 0} → (S → Option (List ℕ)) → S → S → Reading → (ℕ → List Pair) → List Command → Type 0
-WritesPart told before now r given commands = TakesPart (told before) (told now) (output_of r.form given commands)
+abbrev pub WritesPart : {S : Type 0} → (S → Option (List ℕ)) → S → S → About
+WritesPart told before now type r given commands = TakesPart (told before) (told now) (output_of type.words r.form given commands)
 
 -- at least what the first commands print, as long as there is room for their load
-abbrev pub WritesRoom : {S : Type 0} → (S → Option (List ℕ)) → S → S → Reading → (ℕ → List Pair) → List Command → Type 0
-WritesRoom told before now r given commands = TakesWithin r.form given (told before) (told now) r.sizes commands
+abbrev pub WritesRoom : {S : Type 0} → (S → Option (List ℕ)) → S → S → About
+WritesRoom told before now type r given commands = TakesWithin type.words r.form given (told before) (told now) (sizes_at type.words.WIDTH r) commands
 
 -- the ends after which something may have been written
 abbrev pub MayWrite : End → Type 0
@@ -82,31 +87,45 @@ abbrev pub IfRan :
     → (O → Option (List ℕ)) → O → O → (S → Shown) → Ended S → Type 0
 IfRan words tells rack told library replied later sink before now shown ended = OfWords words (λ r. RunIsRight (tells rack) (told library) (replied later) r (sink before) (sink now) (map shown ended.blocks.items) ended.end)
 
--- bounds of a script's load by its commands alone: for `load_of` and `crest_of`, which know what its files give
-abbrev pub most_by : (ℕ → List Pair) → List Command → ℕ
-most_by given commands = most_of commands
+-- a number of a script: of the type of its records, the records of its files and its commands
+abbrev pub Measure : Type 1
+Measure = (type : RecordType) → (ℕ → List type.R) → List (Command type.R) → ℕ
 
-abbrev pub least_by : (ℕ → List Pair) → List Command → ℕ
-least_by given commands = least_of commands
+-- its load, the greatest count of records, and its crest, the greatest multiset outside sessions
+abbrev pub load_by : Measure
+load_by type given commands = load_of type.words given commands
 
--- the device was used: the load is no more than the budget and a block of records for each write of these blocks
-abbrev pub UsesDevice : {S : Type 0} → ((ℕ → List Pair) → List Command → ℕ) → (S → Shown) → Ended S → Reading → (ℕ → List Pair) → List Command → Type 0
-UsesDevice load shown ended r given commands = FitsWritten (load given commands) r.sizes (map shown ended.blocks.items)
+abbrev pub crest_by : Measure
+crest_by type given commands = crest_of type.words given commands
+
+-- bounds of them by its commands alone
+abbrev pub most_by : Measure
+most_by type given commands = most_of type.words commands
+
+abbrev pub least_by : Measure
+least_by type given commands = least_of type.words commands
+
+-- the device was used: so many records are no more than the budget and a block of records for each write of these blocks
+abbrev pub UsesDevice : {S : Type 0} → Measure → (S → Shown) → Ended S → About
+UsesDevice measure shown ended type r given commands = FitsWritten (measure type given commands) (sizes_at type.words.WIDTH r) (map shown ended.blocks.items)
 
 -- When each outcome comes.
 
 -- the answer that refuses a script before its device is made, and none to another: first that it is not there, then that it is too
 -- long, then its first line that is bad or names a file that cannot be used, then that the budget is too small
-abbrev pub refusal_of_budget : Reading → Option End
-refusal_of_budget r = if nat_lt r.sizes.memory (fixed_of r.sizes) then Some (BudgetTooSmall (need_of r)) else None
+abbrev pub refusal_of_budget : {R : Type 0} → Words R → Reading → Option End
+refusal_of_budget words r = if nat_lt (sizes_at words.WIDTH r).memory (fixed_of (sizes_at words.WIDTH r)) then Some (BudgetTooSmall (need_of words r)) else None
 
-abbrev pub refusal_of_bad : Option ℕ → Reading → Option End
-refusal_of_bad None r = refusal_of_budget r
-refusal_of_bad (Some line) r = Some (BadLine line)
+abbrev pub refusal_of_bad : {R : Type 0} → Words R → Option ℕ → Reading → Option End
+refusal_of_bad words None r = refusal_of_budget words r
+refusal_of_bad words (Some line) r = Some (BadLine line)
+
+abbrev pub refusal_of_bytes : {R : Type 0} → Words R → Files → List ℕ → Reading → Option End
+refusal_of_bytes words files bytes r = refusal_of_bad words (first_bad_by (is_usable words files) 1 (script_kinds words bytes r.given.numbers.workers)) r
 
 abbrev pub refusal_of_file : Files → Option (List ℕ) → Reading → Option End
 refusal_of_file files None r = Some NoScript
-refusal_of_file files (Some bytes) r = if nat_lt 1048576 (length bytes) then Some ScriptTooLong else refusal_of_bad (first_bad_by (is_usable files) 1 (script_kinds bytes r.sizes.workers)) r
+refusal_of_file files (Some bytes) r = if nat_lt 1048576 (length bytes) then Some ScriptTooLong else refusal_of_bytes (type_of bytes).words files bytes r
 
 -- before all of them, that the words have no reading
 abbrev pub refusal_of : Option Reading → Files → Option End
@@ -129,23 +148,23 @@ IsAnswer refusal end = MatchOption refusal (IsTried end) (λ e. end ≡ e) ⊎ I
 abbrev pub IsTriedOrRefusal : Option End → End → Type 0
 IsTriedOrRefusal refusal end = MatchOption refusal (IsTried end) (λ e. end ≡ e) ⊎ (end ≡ Memory)
 
--- the device has too few blocks for the load, which is above one heap, unless a limit session begins
-abbrev pub IsTooLarge : ((ℕ → List Pair) → List Command → ℕ) → Reading → (ℕ → List Pair) → List Command → Type 0
-IsTooLarge load r given commands = HasNoRoom r.sizes (begins_limit commands) (load given commands)
+-- the device has too few blocks for so many records, which are above one heap, unless a limit session begins
+abbrev pub IsTooLarge : Measure → About
+IsTooLarge measure type r given commands = HasNoRoom (sizes_at type.words.WIDTH r) (begins_limit commands) (measure type given commands)
 
--- the contrary: the load is no more than one heap and no limit session begins, or the device has blocks enough for it
-abbrev pub HasRoomFor : ((ℕ → List Pair) → List Command → ℕ) → Reading → (ℕ → List Pair) → List Command → Type 0
-HasRoomFor load r given commands = HasRoom r.sizes (begins_limit commands) (load given commands)
+-- the contrary: they are no more than one heap and no limit session begins, or the device has blocks enough for them
+abbrev pub HasRoomFor : Measure → About
+HasRoomFor measure type r given commands = HasRoom (sizes_at type.words.WIDTH r) (begins_limit commands) (measure type given commands)
 
 -- Completeness.
 
--- a script of these bytes that is not refused, and for whose load there is room, is done, or memory was wanting
-abbrev pub EndsWell : ((ℕ → List Pair) → List Command → ℕ) → Reading → Files → List ℕ → End → Type 0
-EndsWell load r files bytes end = refusal_of_file files (Some bytes) r ≡ None → HasRoomFor load r (script_given files bytes r.sizes.workers) (script_commands files bytes r.sizes.workers) → (end ≡ Done) ⊎ (end ≡ Memory)
+-- a script of these bytes that is not refused, and for which there is room, is done, or memory was wanting
+abbrev pub EndsWell : Measure → Reading → Files → List ℕ → End → Type 0
+EndsWell measure r files bytes end = refusal_of_file files (Some bytes) r ≡ None → OfBytes (Some files) (type_of bytes) r bytes (HasRoomFor measure) → (end ≡ Done) ⊎ (end ≡ Memory)
 
 -- the same of the script that the words name, where the library tells and has it
-abbrev pub Completes : {L : Type 0} → ((ℕ → List Pair) → List Command → ℕ) → (L → Option Files) → L → List (String Global) → End → Type 0
-Completes load told library words end = OfWords words (λ r. IfSome (told library) (λ files. IfSome (files r.script) (λ bytes. EndsWell load r files bytes end)))
+abbrev pub Completes : {L : Type 0} → Measure → (L → Option Files) → L → List (String Global) → End → Type 0
+Completes measure told library words end = OfWords words (λ r. IfSome (told library) (λ files. IfSome (files r.script) (λ bytes. EndsWell measure r files bytes end)))
 
 -- The clauses of `run_words` as one, under their names, for an outcome with its blocks: by what library, rack, sink and blocks show, before
 -- the call and after it.
@@ -157,10 +176,10 @@ pub record RunsWords
   pub room : ended.end ≡ NoFreeBlock → rack.tells old_rack → OfScript library.told old_library words (WritesRoom sink.told old_out new_out)
   pub nothing : MayWrite ended.end ⊎ (sink.told new_out ≡ sink.told old_out)
   pub ran : IfRan words rack.tells old_rack library.told old_library library.replied new_library sink.told old_out new_out shown ended
-  pub used : ended.end ≡ Done → rack.tells old_rack → OfScript library.told old_library words (UsesDevice crest_of shown ended)
+  pub used : ended.end ≡ Done → rack.tells old_rack → OfScript library.told old_library words (UsesDevice crest_by shown ended)
   pub used_any : ended.end ≡ Done → OfScript library.told old_library words (UsesDevice least_by shown ended)
   pub made : HasMadeJust (rack.made old_rack) (rack.made new_rack) (map (λ slot. (shown slot).number) ended.blocks.items)
-  pub blocks : OfWords words (λ r. AreBlocks r.sizes ended.end (map shown ended.blocks.items))
+  pub blocks : OfWords words (λ r. AreBlocks r.given.numbers.blocks ended.end (map shown ended.blocks.items))
   pub unfailed : ended.end ≡ Done → All (λ (s : Shown). s.faults ≡ 0) (map shown ended.blocks.items)
   pub none : reading words ≡ None → ended.blocks.items ≡ []
   pub rack_tells : rack.tells old_rack → rack.tells new_rack
@@ -176,7 +195,7 @@ pub record RunsWords
   pub write : ended.end ≡ WriteFault → sink.faults old_out < sink.faults new_out
   pub device : ended.end ≡ NoDevice → rack.faults old_rack < rack.faults new_rack
   pub failed : (number : ℕ) → ended.end ≡ DeviceFault number → HasFailed number (map shown ended.blocks.items)
-  pub above : ended.end ≡ NoFreeBlock → rack.tells old_rack → OfScript library.told old_library words (IsTooLarge load_of)
+  pub above : ended.end ≡ NoFreeBlock → rack.tells old_rack → OfScript library.told old_library words (IsTooLarge load_by)
   pub above_any : ended.end ≡ NoFreeBlock → OfScript library.told old_library words (IsTooLarge most_by)
   pub library_later : library.faults old_library ≤ library.faults new_library
   pub library_stays : NoFault ended.end → library.faults new_library ≡ library.faults old_library
@@ -184,5 +203,5 @@ pub record RunsWords
   pub rack_stays : NoFault ended.end → rack.faults new_rack ≡ rack.faults old_rack
   pub sink_later : sink.faults old_out ≤ sink.faults new_out
   pub sink_stays : NoFault ended.end → sink.faults new_out ≡ sink.faults old_out
-  pub complete : rack.tells old_rack → NoFault ended.end → Completes load_of library.told old_library words ended.end
+  pub complete : rack.tells old_rack → NoFault ended.end → Completes load_by library.told old_library words ended.end
   pub complete_any : NoFault ended.end → Completes most_by library.told old_library words ended.end

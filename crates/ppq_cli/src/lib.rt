@@ -6,9 +6,11 @@
 
 mod arguments;
 mod device;
+mod kinds;
 mod load;
 mod place;
 mod program;
+mod reading;
 mod reports;
 mod run;
 mod statuses;

@@ -1,13 +1,13 @@
-//! Loads a script from a library.
-ghost use Rattle.std.specs.Prelude.{◌≡◌, ◌≤◌, ◌<◌, ℕ, length, IfOk, IfErr, vec_len};
+//! Loads the bytes of a script from a library.
+ghost use Rattle.std.specs.Prelude.{◌≡◌, ◌≤◌, ◌<◌, length, IfOk, IfErr, vec_len};
 ghost use Rattle.ppq_words.specs.ppq_outside.Told.{HasCause};
 ghost use Rattle.ppq_cli.specs.Load.{IsNotLoaded, LoadCounts, load_end};
 ghost use Rattle.ppq_engine.specs.Reading.{IsReadWithin};
 ghost use Rattle.ppq_words.specs.ppq_script.Files.{IsLength};
-ghost use Rattle.ppq_cli.specs.Replies.{GivesMore, IsScriptLength, IsLoadedAs, IsUnloaded, IsScript, IsInLength, LibraryKeeps};
+ghost use Rattle.ppq_cli.specs.Replies.{GivesMore, IsScriptLength, IsLoadedAs, IsUnloaded, IsInLength, LibraryKeeps};
 
 use ppq_engine::End;
-use ppq_words::{CheckFault, Host, Library, OutsideFault, Script, check_files, read};
+use ppq_words::{Host, Library, OutsideFault};
 use std::alloc::Global;
 
 // The longest script, in bytes.
@@ -26,8 +26,6 @@ pub enum LoadFault {
     ScriptTooLong,
     /// It said a length, and a read at `got` gave nothing.
     FileChanged { said: u64, got: u64 },
-    /// Its first bad line.
-    BadLine { line: u32 },
 }
 
 impl From<OutsideFault> for LoadFault {
@@ -70,8 +68,8 @@ fn length_of_script<H: Host, L: Library>(
     name: &str,
 ) -> Result<usize, LoadFault>
     ensures length { IfOk result (IsScriptLength (L.replied library.new) name.now) }
-    ensures not { IfErr result (λ fault. (workers : ℕ) → IsNotLoaded (L.told library.old) name.now workers fault) }
-    ensures refused { IfErr result (λ fault. (workers : ℕ) → IsUnloaded (L.told library.old) (L.replied library.new) name.now workers fault) }
+    ensures not { IfErr result (IsNotLoaded (L.told library.old) name.now) }
+    ensures refused { IfErr result (λ fault. IsUnloaded (L.told library.old) (L.replied library.new) name.now (load_end fault)) }
     ensures library { LibraryKeeps L.told L.replied IsLength library.old library.new }
     ensures counts { LoadCounts (L.faults library.old) (L.faults library.new) result }
 {
@@ -97,8 +95,8 @@ pub fn load<H: Host, L: Library>(
 ) -> Result<Vec<u8>, LoadFault>
     ensures short { IfOk result (λ bytes. vec_len bytes ≤ 1_048_576) }
     ensures loaded { IfOk result (λ bytes. IsLoadedAs (L.told library.old) (L.replied library.new) name.now bytes.items) }
-    ensures not { IfErr result (λ fault. (workers : ℕ) → IsNotLoaded (L.told library.old) name.now workers fault) }
-    ensures refused { IfErr result (λ fault. (workers : ℕ) → IsUnloaded (L.told library.old) (L.replied library.new) name.now workers fault) }
+    ensures not { IfErr result (IsNotLoaded (L.told library.old) name.now) }
+    ensures refused { IfErr result (λ fault. IsUnloaded (L.told library.old) (L.replied library.new) name.now (load_end fault)) }
     ensures library { LibraryKeeps L.told L.replied (IsInLength (L.replied library.new)) library.old library.new }
     ensures counts { LoadCounts (L.faults library.old) (L.faults library.new) result }
 {
@@ -125,48 +123,6 @@ pub fn load<H: Host, L: Library>(
     Ok(bytes)
 }
 
-impl From<CheckFault> for LoadFault {
-    ghost use Rattle.ppq_cli.specs.Load.{check_fault_load};
-
-    ghost from_gives = { λ fault given. given ≡ check_fault_load fault };
-
-    fn from(fault: CheckFault) -> LoadFault {
-        match fault {
-            CheckFault::BadLine { line } => LoadFault::BadLine { line },
-            CheckFault::ReadFault => LoadFault::ReadFault,
-            CheckFault::Memory => LoadFault::Memory,
-        }
-    }
-}
-
-/// Loads a script, reads it whole, and asks the length of each file that it names. A script of which
-/// some line is bad, or names a file that cannot be used, is refused with the first such line.
-pub fn load_script<H: Host, L: Library>(
-    rt: &H,
-    alloc: Global,
-    library: &mut L,
-    name: &str,
-    workers: u32,
-) -> Result<Script, LoadFault>
-    ensures script { IfOk result (IsScript (L.told library.old) (L.replied library.new) name.now workers) }
-    ensures not { IfErr result (IsNotLoaded (L.told library.old) name.now workers) }
-    ensures refused { IfErr result (IsUnloaded (L.told library.old) (L.replied library.new) name.now workers) }
-    ensures library { LibraryKeeps L.told L.replied (IsInLength (L.replied library.new)) library.old library.new }
-    ensures counts { LoadCounts (L.faults library.old) (L.faults library.new) result }
-{
-    let bytes = match load(rt, alloc, library, name) {
-        Ok(bytes) => bytes,
-        Err(fault) => return Err(fault),
-    };
-    let Ok(mut script) = read(alloc, &bytes, workers) else {
-        return Err(LoadFault::Memory);
-    };
-    match check_files(rt, alloc, &mut script, library) {
-        Ok(()) => Ok(script),
-        Err(fault) => Err(LoadFault::from(fault)),
-    }
-}
-
 /// A fault of loading as an end.
 pub fn end_of(fault: LoadFault) -> End
     ensures { result ≡ load_end fault }
@@ -177,6 +133,5 @@ pub fn end_of(fault: LoadFault) -> End
         LoadFault::NoScript => End::NoScript,
         LoadFault::ScriptTooLong => End::ScriptTooLong,
         LoadFault::FileChanged { said, got } => End::FileChanged { line: 0, said, got },
-        LoadFault::BadLine { line } => End::BadLine { line },
     }
 }

@@ -2,8 +2,7 @@
 ghost use Rattle.std.specs.Prelude.{◌≡◌, ◌≤◌, ◌<◌, ◌^◌, IsTrue};
 ghost use Rattle.ppq_cli.specs.Report.{report_of, TakesLine};
 ghost use Rattle.ppq_cli.specs.Status.{status_of, writes_nothing, IsReported};
-ghost use Rattle.ppq_engine.specs.Output.{load_of};
-ghost use Rattle.ppq_cli.specs.RunWords.{OfScript, WritesAll, WritesPart, IsTooLarge, RunsWords};
+ghost use Rattle.ppq_cli.specs.RunWords.{OfScript, WritesAll, WritesPart, IsTooLarge, load_by, RunsWords};
 
 use crate::place::Place;
 use crate::reports::report;
@@ -55,7 +54,7 @@ where
     ensures done { result ≡ 0 → K.tells rack.old → OfScript L.told library.old words.now (WritesAll O.told out.old out.new) }
     ensures part { K.tells rack.old → OfScript L.told library.old words.now (WritesPart O.told out.old out.new) }
     ensures nothing { IsTrue (writes_nothing result) → O.told out.new ≡ O.told out.old }
-    ensures above { result ≡ 6 → K.tells rack.old → OfScript L.told library.old words.now (IsTooLarge load_of) }
+    ensures above { result ≡ 6 → K.tells rack.old → OfScript L.told library.old words.now (IsTooLarge load_by) }
     ensures errors_later { E.faults errors.old ≤ E.faults errors.new }
 {
     let place = Place { rt, alloc, gate };

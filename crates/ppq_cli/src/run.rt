@@ -1,5 +1,5 @@
-//! Runs a script over a device.
-ghost use Rattle.std.specs.Prelude.{◌≡◌, ℕ, List, Option, [], Some, IsTrue, map};
+//! Executes a script over a device.
+ghost use Rattle.std.specs.Prelude.{◌≡◌, ◌≤◌, ℕ, List, Option, [], Some, IsTrue, map};
 ghost use Rattle.ppq_engine.specs.Output.{KeepsLengths};
 ghost use Rattle.ppq_engine.specs.Files.{IsReadInScript};
 ghost use Rattle.ppq_cli.specs.Replies.{LibraryKeeps};
@@ -10,7 +10,10 @@ ghost use Rattle.ppq_words.specs.Reading.{as_reading};
 use crate::device::make_blocks;
 use crate::place::Place;
 use ppq_engine::{End, Ended, run_script};
-use ppq_words::{Gate, Host, Library, OutsideFault, Rack, RunArguments, Script, Sink, Slot};
+use ppq_record::record_laws;
+use ppq_words::{
+    Fields, Gate, Host, Library, OutsideFault, Rack, RunArguments, Script, Sink, Slot,
+};
 use std::alloc::Global;
 
 /// An end before a block was made.
@@ -34,11 +37,12 @@ fn end_of_making(fault: OutsideFault) -> End
     }
 }
 
-/// Makes the device and runs a checked script over it, unless the budget is below its fixed part; the
-/// outcome then has that part in the unit of the budget. All blocks that were made come back.
-pub fn run_over<H: Host, L: Library, K: Rack, O: Sink, G: Gate>(
+/// Makes the device, with blocks for the script's records, and executes a checked script over it, unless the
+/// budget is below its fixed part; the outcome then has that part in the unit of the budget. A record has at
+/// least 16 bytes, so a budget in bytes stays in its range. All blocks that were made come back.
+pub fn run_over<R: Fields + Send + Sync, H: Host, L: Library, K: Rack, O: Sink, G: Gate>(
     place: &Place<H, G>,
-    script: &Script,
+    script: &Script<R>,
     arguments: &RunArguments,
     library: &mut L,
     rack: &mut K,
@@ -47,25 +51,35 @@ pub fn run_over<H: Host, L: Library, K: Rack, O: Sink, G: Gate>(
 where
     H::Dir: Send,
     K::Slot: Send + Sync,
+    requires width { 16 ≤ R.WIDTH }
     requires checked { IsTrue script.now.checked }
-    requires workers { script.now.workers ≡ arguments.now.sizes.workers }
+    requires workers { script.now.workers ≡ arguments.now.given.numbers.workers }
     requires lengths { (files : List ℕ → Option (List ℕ)) → L.told library.old ≡ Some files → KeepsLengths files script.now }
 
     // What is written and when each end comes, by the files that the library tells, or any where the script reads none. All blocks
     // that were made come back, files are only read, and a count of faults rises only with an end that names a fault.
-    ensures written { RunWrites (K.tells rack.old) (L.told library.old) (O.told out.old) (O.told out.new) (as_reading arguments.now) script.now (map K.Slot.shown result.blocks.items) result.end }
-    ensures blocks { RunBlocks K.Slot.shown (K.tells rack.old) (K.tells rack.new) (K.made rack.old) (K.made rack.new) arguments.now.sizes result }
+    ensures written { RunWrites R.Fields (K.tells rack.old) (L.told library.old) (O.told out.old) (O.told out.new) (as_reading arguments.now) script.now (map K.Slot.shown result.blocks.items) result.end }
+    ensures blocks { RunBlocks K.Slot.shown (K.tells rack.old) (K.tells rack.new) (K.made rack.old) (K.made rack.new) arguments.now.given.numbers.blocks result }
     ensures library { LibraryKeeps L.told L.replied (IsReadInScript script.now) library.old library.new }
-    ensures ends { RunEnds (L.told library.old) (L.replied library.new) (as_reading arguments.now) script.now (map K.Slot.shown result.blocks.items) result.end }
+    ensures ends { RunEnds R.Fields (L.told library.old) (L.replied library.new) (as_reading arguments.now) script.now (map K.Slot.shown result.blocks.items) result.end }
     ensures faults { RunFaults (L.faults library.old) (L.faults library.new) (K.faults rack.old) (K.faults rack.new) (O.faults out.old) (O.faults out.new) result.end }
 {
-    let sizes = arguments.sizes;
+    record_laws::<R>();
+    let sizes = arguments.given.for_width(R::WIDTH as u64);
     let need = sizes.fixed();
     if sizes.memory() < need {
-        let need = arguments.unit.amount(need);
+        let need = arguments.given.unit().amount(need, R::WIDTH as u64);
         return without_blocks(place.alloc, End::BudgetTooSmall { need });
     }
-    match make_blocks(place.rt, place.alloc, rack, arguments.device, sizes) {
+    let bytes = sizes.block() as usize * R::WIDTH;
+    match make_blocks(
+        place.rt,
+        place.alloc,
+        rack,
+        arguments.device,
+        sizes.blocks(),
+        bytes,
+    ) {
         Ok(slots) => run_script(
             place.rt,
             place.alloc,

@@ -5,30 +5,31 @@ ghost use Rattle.ppq_words.specs.ppq_outside.Told.{Remembers};
 ghost use Rattle.ppq_words.specs.ppq_outside.Made.{HasMadeJust};
 ghost use Rattle.ppq_words.specs.Reading.{texts_of};
 ghost use Rattle.ppq_words.specs.Strays.{may_run};
-ghost use Rattle.ppq_engine.specs.Output.{load_of, crest_of};
 ghost use Rattle.ppq_engine.specs.Ends.{NoFault};
 ghost use Rattle.ppq_engine.specs.declared.end.End.TheVariants as ends;
 ghost use Rattle.ppq_engine.specs.declared.end.End.TheVariants.{Done, Usage, ReadFault, WriteFault, DeviceFault, NoFreeBlock, NoDevice};
 ghost use Rattle.ppq_cli.specs.Device.{AreBlocks};
 ghost use Rattle.ppq_cli.specs.Replies.{RefusalIsRight, ReadsWithin};
 ghost use Rattle.ppq_cli.specs.RunWords.{reading, OfWords, OfScript, WritesAll, WritesPart, WritesRoom, MayWrite, IfRan, UsesDevice};
-ghost use Rattle.ppq_cli.specs.RunWords.{most_by, least_by, refusal_of, IsAnswer, IsTooLarge, Completes};
+ghost use Rattle.ppq_cli.specs.RunWords.{load_by, crest_by, most_by, least_by, refusal_of, IsAnswer, IsTooLarge, Completes};
 
-use crate::load::{end_of, load_script};
+use crate::kinds::run_bytes;
+use crate::load::{end_of, load};
 use crate::place::Place;
-use crate::run::{run_over, without_blocks};
+use crate::run::without_blocks;
 use ppq_engine::{End, Ended};
 use ppq_words::{Gate, Host, Library, Memory, Rack, Sink, read_words};
 use std::alloc::Global;
 
 /// Does all that the program does, with the outside handed in: reads the arguments, loads the script
-/// that they name and checks it and its files, makes the device, and executes the script over it.
+/// that they name and checks it and its files, makes the device, and executes the script over it. The
+/// records are those that the script's head names: blocks and record files are made of them, and of a
+/// budget in bytes as many of them count as fit.
 ///
 /// After `Done` the sink took exactly the script's output in the form that the arguments say, which is
-/// that of one multiset ordered by whole records, whatever the sizes; after every other outcome it took a
-/// prefix of it. All blocks that
-/// the rack made come back, each once, and after `Done` what the budget cannot hold was written to
-/// them, and no call of a block failed; files are only read, and never past a length that the library
+/// that of one multiset, ordered by whole records and as the head says, whatever the sizes; after every other
+/// outcome it took a prefix of it. All blocks that the rack made come back, each once, and after `Done` what
+/// the budget cannot hold was written to them, and no call of a block failed; files are only read, and never past a length that the library
 /// said. Each outcome comes only for its cause, and `Usage`, `NoScript`, `ScriptTooLong`, `BadLine` and
 /// `BudgetTooSmall` if and only if they are due, in this order, unless an allocation or a read failed.
 /// No count of faults falls, and none rises unless the outcome names a fault, so the same outside can
@@ -43,7 +44,7 @@ use std::alloc::Global;
 /// - `Usage`: the arguments have no reading.
 /// - `NoScript`, `ScriptTooLong`: there is no such script, or it is longer than 1,048,576 bytes.
 /// - `BadLine`: the first line that is bad, or names a file that is absent, is not of whole records,
-///   or is longer than 68,719,476,736 bytes.
+///   or has more than 4,294,967,296.
 /// - `BudgetTooSmall`: the budget is below its fixed part, `need`, in records or in bytes as the budget
 ///   is given.
 /// - `NoDevice`, `ReadFault`, `WriteFault`: the count of faults of the rack, the library or the sink
@@ -79,10 +80,10 @@ where
     ensures room { result.end ≡ NoFreeBlock → K.tells rack.old → OfScript L.told library.old words.now (WritesRoom O.told out.old out.new) }
     ensures nothing { MayWrite result.end ⊎ (O.told out.new ≡ O.told out.old) }
     ensures ran { IfRan words.now K.tells rack.old L.told library.old L.replied library.new O.told out.old out.new K.Slot.shown result }
-    ensures used { result.end ≡ Done → K.tells rack.old → OfScript L.told library.old words.now (UsesDevice crest_of K.Slot.shown result) }
+    ensures used { result.end ≡ Done → K.tells rack.old → OfScript L.told library.old words.now (UsesDevice crest_by K.Slot.shown result) }
     ensures used_any { result.end ≡ Done → OfScript L.told library.old words.now (UsesDevice least_by K.Slot.shown result) }
     ensures made { HasMadeJust (K.made rack.old) (K.made rack.new) (map (λ slot. (K.Slot.shown slot).number) result.blocks.items) }
-    ensures blocks { OfWords words.now (λ r. AreBlocks r.sizes result.end (map K.Slot.shown result.blocks.items)) }
+    ensures blocks { OfWords words.now (λ r. AreBlocks r.given.numbers.blocks result.end (map K.Slot.shown result.blocks.items)) }
     ensures unfailed { result.end ≡ Done → All (λ s. s.faults ≡ 0) (map K.Slot.shown result.blocks.items) }
     ensures none { reading words.now ≡ None → result.blocks.items ≡ [] }
     ensures rack_tells { K.tells rack.old → K.tells rack.new }
@@ -100,7 +101,7 @@ where
     ensures write { result.end ≡ WriteFault → O.faults out.old < O.faults out.new }
     ensures device { result.end ≡ NoDevice → K.faults rack.old < K.faults rack.new }
     ensures failed { (number : ℕ) → result.end ≡ DeviceFault number → HasFailed number (map K.Slot.shown result.blocks.items) }
-    ensures above { result.end ≡ NoFreeBlock → K.tells rack.old → OfScript L.told library.old words.now (IsTooLarge load_of) }
+    ensures above { result.end ≡ NoFreeBlock → K.tells rack.old → OfScript L.told library.old words.now (IsTooLarge load_by) }
     ensures above_any { result.end ≡ NoFreeBlock → OfScript L.told library.old words.now (IsTooLarge most_by) }
     ensures library_later { L.faults library.old ≤ L.faults library.new }
     ensures library_stays { NoFault result.end → L.faults library.new ≡ L.faults library.old }
@@ -110,7 +111,7 @@ where
     ensures sink_stays { NoFault result.end → O.faults out.new ≡ O.faults out.old }
 
     // Completeness: a script that is not refused, with room for its load, is done, unless memory was wanting or the outside failed.
-    ensures complete { K.tells rack.old → NoFault result.end → Completes load_of L.told library.old words.now result.end }
+    ensures complete { K.tells rack.old → NoFault result.end → Completes load_by L.told library.old words.now result.end }
     ensures complete_any { NoFault result.end → Completes most_by L.told library.old words.now result.end }
 {
     let found = match read_words(alloc, words) {
@@ -121,14 +122,8 @@ where
         return without_blocks(alloc, End::Usage);
     };
     let place = Place { rt, alloc, gate };
-    match load_script(
-        rt,
-        alloc,
-        library,
-        arguments.script,
-        arguments.sizes.workers(),
-    ) {
-        Ok(script) => run_over(&place, &script, &arguments, library, rack, out),
+    match load(rt, alloc, library, arguments.script) {
+        Ok(bytes) => run_bytes(&place, &bytes, &arguments, library, rack, out),
         Err(fault) => without_blocks(alloc, end_of(fault)),
     }
 }

@@ -6,15 +6,14 @@ use Rattle.std.specs.Cmp.{IsStrictWeakOrder}
 use Rattle.std.proofs.lemmas.Bool.{cases_Bool}
 use Rattle.std.proofs.lemmas.List.Sums.{count_by-le-length}
 use Rattle.std.proofs.lemmas.List.{take-append-le, take-take, length-take}
-use Rattle.ppq_script.specs.ppq_record.declared.pair.Pair.{Pair}
-use Rattle.ppq_script.specs.ppq_record.Pair.{pair_cmp, pair_same}
+use Rattle.ppq_script.specs.Words.{Words}
+use Rattle.ppq_engine.proofs.Orders.{HasLaws}
 use Rattle.ppq_script.specs.ppq_record.Order.{is_before, Le, Rising}
 use Rattle.ppq_script.specs.ppq_record.Bag.{IsSameBag, ascending, front, without_front, first_of, size_below}
 use Rattle.ppq_script.proofs.ppq_record.Order.{count_by-cons, count_by-append, none_pass, each_fails, Each-weaker, Rising-take, Rising-append, Rising-in_order, in_order-same_bag}
 use Rattle.ppq_script.proofs.ppq_record.Fronts.{ranks, ascending_is, ascending-same_bag, front-parts}
 use Rattle.ppq_load.specs.ppq_session.Fronts.{least_below, without_least_below}
 use Rattle.ppq_engine.specs.Output.{limited_count}
-use Rattle.ppq_engine.proofs.Pairs.{pair_total}
 
 abbrev number : Bool → ℕ
 number b = cond b 1 0
@@ -54,60 +53,60 @@ module _ {X : Type 0} (lt : X → X → Bool) (o : IsStrictWeakOrder lt) (limit 
   in_front : (xs ys : List X) → Each (λ x. low x ≡ true) xs → Each (λ y. low y ≡ false) ys → Each (λ x. Each (Le lt x) ys) xs
   in_front xs ys h k = Each-weaker (λ x. low x ≡ true) (λ x. Each (Le lt x) ys) (λ x b. Each-weaker (λ y. low y ≡ false) (Le lt x) (λ y n. o.chain y limit x n (o.one_way x limit b)) ys k) xs h
 
-module _ (limit : Pair) where
-  abbrev below : Pair → Bool
-  below x = is_before pair_cmp x limit
+module _ {R : Type 0} (w : Words R) (laws : HasLaws w) (limit : R) where
+  abbrev below : R → Bool
+  below x = is_before w.cmp x limit
 
   -- none of these records is below the limit
-  abbrev pub NoneBelow : List Pair → Type 0
-  NoneBelow added = Each (λ x. is_before pair_cmp x limit ≡ false) added
+  abbrev pub NoneBelow : List R → Type 0
+  NoneBelow added = Each (λ x. is_before w.cmp x limit ≡ false) added
 
-  rises : (bag : List Pair) → Rising (is_before pair_cmp) (ascending pair_cmp bag)
-  rises bag = Rising-in_order (is_before pair_cmp) (ranks pair_total) bag
+  rises : (bag : List R) → Rising (is_before w.cmp) (ascending w.cmp bag)
+  rises bag = Rising-in_order (is_before w.cmp) (ranks laws.order) bag
 
-  same_order : (bag : List Pair) → IsSameBag (ascending pair_cmp bag) bag
-  same_order bag p = in_order-same_bag (is_before pair_cmp) (ranks pair_total) bag p
+  same_order : (bag : List R) → IsSameBag (ascending w.cmp bag) bag
+  same_order bag p = in_order-same_bag (is_before w.cmp) (ranks laws.order) bag p
 
-  beside : (added left : List Pair) → NoneBelow added → let n = size_below pair_cmp left limit in ascending pair_cmp (added ++ left) ≡ take n (ascending pair_cmp left) ++ ascending pair_cmp (added ++ drop n (ascending pair_cmp left))
+  beside : (added left : List R) → NoneBelow added → let n = size_below w.cmp left limit in ascending w.cmp (added ++ left) ≡ take n (ascending w.cmp left) ++ ascending w.cmp (added ++ drop n (ascending w.cmp left))
   beside added left none =
-      let lt = is_before pair_cmp in
-      let o = ranks pair_total in
-      let n = size_below pair_cmp left limit in
-      let asc = ascending pair_cmp left in
+      let lt = is_before w.cmp in
+      let o = ranks laws.order in
+      let n = size_below w.cmp left limit in
+      let asc = ascending w.cmp left in
       let rest = added ++ drop n asc in
-      let out = take n asc ++ ascending pair_cmp rest in
+      let out = take n asc ++ ascending w.cmp rest in
       let counted : n ≡ count_by below asc = sym (same_order left below) in
-      let high : count_by below (ascending pair_cmp rest) ≡ 0 =
+      let high : count_by below (ascending w.cmp rest) ≡ 0 =
       same_order rest below ∙ omega (arith, count_by-append below added (drop n asc), none_pass below added none, none_pass below (drop n asc) (rest-not_low lt o limit asc n (rises left) counted)) in
       let up : Rising lt out =
-      Rising-append lt o (take n asc) (ascending pair_cmp rest) (Rising-take lt o n asc (rises left)) (rises rest)
-      (in_front lt o limit (take n asc) (ascending pair_cmp rest) (first-low lt o limit asc n (rises left) counted) (each_fails below (ascending pair_cmp rest) high)) in
+      Rising-append lt o (take n asc) (ascending w.cmp rest) (Rising-take lt o n asc (rises left)) (rises rest)
+      (in_front lt o limit (take n asc) (ascending w.cmp rest) (first-low lt o limit asc n (rises left) counted) (each_fails below (ascending w.cmp rest) high)) in
       let same : IsSameBag out (added ++ left) = λ p.
-      omega (arith, count_by-append p (take n asc) (ascending pair_cmp rest), same_order rest p, count_by-append p added (drop n asc), count_by-append p (take n asc) (drop n asc), ap (λ (xs : List Pair). count_by p xs) (take-append-drop n asc), same_order left p, count_by-append p added left) in
-      sym (ascending_is pair_total pair_same (added ++ left) out up same)
+      omega (arith, count_by-append p (take n asc) (ascending w.cmp rest), same_order rest p, count_by-append p added (drop n asc), count_by-append p (take n asc) (drop n asc), ap (λ (xs : List R). count_by p xs) (take-append-drop n asc), same_order left p, count_by-append p added left) in
+      sym (ascending_is laws.order laws.same (added ++ left) out up same)
 
   -- the front of such a multiset, up to the limit, is the front without the others
-  pub front-beside : (bag added left : List Pair) (k : ℕ) → NoneBelow added → IsSameBag bag (added ++ left) → k ≤ size_below pair_cmp left limit → front pair_cmp bag k ≡ front pair_cmp left k
+  pub front-beside : (bag added left : List R) (k : ℕ) → NoneBelow added → IsSameBag bag (added ++ left) → k ≤ size_below w.cmp left limit → front w.cmp bag k ≡ front w.cmp left k
   front-beside bag added left k none same h =
-      let n = size_below pair_cmp left limit in
-      let asc = ascending pair_cmp left in
-      let rest = ascending pair_cmp (added ++ drop n asc) in
+      let n = size_below w.cmp left limit in
+      let asc = ascending w.cmp left in
+      let rest = ascending w.cmp (added ++ drop n asc) in
       let fits : n ≤ length asc = omega (arith, count_by-le-length below asc, same_order left below) in
       let long : k ≤ length (take n asc) = omega (arith, length-take n asc) in
-      ap (λ (xs : List Pair). take k xs) (ascending-same_bag pair_total pair_same bag (added ++ left) same ∙ beside added left none) ∙ take-append-le k (take n asc) rest long ∙ take-take k n asc h
+      ap (λ (xs : List R). take k xs) (ascending-same_bag laws.order laws.same bag (added ++ left) same ∙ beside added left none) ∙ take-append-le k (take n asc) rest long ∙ take-take k n asc h
 
-  pub size-beside : (bag added left : List Pair) → NoneBelow added → IsSameBag bag (added ++ left) → size_below pair_cmp bag limit ≡ size_below pair_cmp left limit
+  pub size-beside : (bag added left : List R) → NoneBelow added → IsSameBag bag (added ++ left) → size_below w.cmp bag limit ≡ size_below w.cmp left limit
   size-beside bag added left none same = omega (arith, same below, count_by-append below added left, none_pass below added none)
 
   -- the smallest record below the limit, and what it leaves
-  pub least-beside : (bag added left : List Pair) → NoneBelow added → IsSameBag bag (added ++ left) → first_of (front pair_cmp bag (limited_count bag limit 1)) ≡ least_below pair_cmp limit left
+  pub least-beside : (bag added left : List R) → NoneBelow added → IsSameBag bag (added ++ left) → first_of (front w.cmp bag (limited_count w bag limit 1)) ≡ least_below w.cmp limit left
   least-beside bag added left none same =
-      ap (λ (n : ℕ). first_of (front pair_cmp bag (min 1 n))) (size-beside bag added left none same) ∙ ap (λ (xs : List Pair). first_of xs) (front-beside bag added left (min 1 (size_below pair_cmp left limit)) none same (omega arith))
+      ap (λ (n : ℕ). first_of (front w.cmp bag (min 1 n))) (size-beside bag added left none same) ∙ ap (λ (xs : List R). first_of xs) (front-beside bag added left (min 1 (size_below w.cmp left limit)) none same (omega arith))
 
-  pub left-beside : (bag added left : List Pair) → NoneBelow added → IsSameBag bag (added ++ left) → IsSameBag (without_front pair_cmp bag (limited_count bag limit 1)) (added ++ without_least_below pair_cmp limit left)
+  pub left-beside : (bag added left : List R) → NoneBelow added → IsSameBag bag (added ++ left) → IsSameBag (without_front w.cmp bag (limited_count w bag limit 1)) (added ++ without_least_below w.cmp limit left)
   left-beside bag added left none same p =
-      let k = min 1 (size_below pair_cmp left limit) in
-      let fewer : k ≤ size_below pair_cmp left limit = omega arith in
-      let here : count_by p (without_front pair_cmp bag (limited_count bag limit 1)) ≡ count_by p (without_front pair_cmp bag k) = ap (λ (n : ℕ). count_by p (without_front pair_cmp bag (min 1 n))) (size-beside bag added left none same) in
-      let one : count_by p (front pair_cmp bag k) ≡ count_by p (front pair_cmp left k) = ap (λ (xs : List Pair). count_by p xs) (front-beside bag added left k none same fewer) in
-      omega (arith, here, one, same p, front-parts pair_total bag k p, front-parts pair_total left k p, count_by-append p (front pair_cmp bag k) (without_front pair_cmp bag k), count_by-append p (front pair_cmp left k) (without_front pair_cmp left k), count_by-append p added left, count_by-append p added (without_front pair_cmp left k))
+      let k = min 1 (size_below w.cmp left limit) in
+      let fewer : k ≤ size_below w.cmp left limit = omega arith in
+      let here : count_by p (without_front w.cmp bag (limited_count w bag limit 1)) ≡ count_by p (without_front w.cmp bag k) = ap (λ (n : ℕ). count_by p (without_front w.cmp bag (min 1 n))) (size-beside bag added left none same) in
+      let one : count_by p (front w.cmp bag k) ≡ count_by p (front w.cmp left k) = ap (λ (xs : List R). count_by p xs) (front-beside bag added left k none same fewer) in
+      omega (arith, here, one, same p, front-parts laws.order bag k p, front-parts laws.order left k p, count_by-append p (front w.cmp bag k) (without_front w.cmp bag k), count_by-append p (front w.cmp left k) (without_front w.cmp left k), count_by-append p added left, count_by-append p added (without_front w.cmp left k))

@@ -5,6 +5,7 @@ use Rattle.ppq_script.specs.ppq_outside.Shown.{Shown, AllTell}
 use Rattle.ppq_script.specs.ppq_outside.Told.{Reply, TakesAll, Rose}
 use Rattle.std.specs.Prelude.{if◌then◌else◌}
 use Rattle.std.proofs.lemmas.Bool.{le-ltb}
+use Rattle.ppq_script.specs.Words.{Words}
 use Rattle.ppq_load.specs.ppq_budget.Sizes.{Numbers, fixed_of}
 use Rattle.ppq_load.specs.ppq_array.Kept.{SameSlots, SameSums, HasFailed, weight_at, all_writes}
 use Rattle.ppq_load.specs.ppq_queue.Holding.{IsNewSlot}
@@ -28,24 +29,24 @@ not_quiet before now rose quiet = omega (arith, rose, quiet.0, quiet.1)
 pub same_blocks : (first held slots later : List Shown) → held ≡ first → SameSlots held slots → SameSums slots later → SameSlots first later
 same_blocks first held slots later is same sums = let P : List Shown → Type 0 = λ f. SameSlots f later in subst P is (SameSlots-trans held slots later same (SameSums-slots slots later sums))
 
-module _ (form : Form) (told : Option (List ℕ → Option (List ℕ))) (replied : Reply → Type 0) (script : Reading) (first : List Shown) (sizes : Numbers) (before now : Option (List ℕ)) (sink sink_now library library_now : ℕ) where
+module _ {R : Type 0} (w : Words R) (form : Form) (told : Option (List ℕ → Option (List ℕ))) (replied : Reply → Type 0) (script : Reading R) (first : List Shown) (sizes : Numbers) (before now : Option (List ℕ)) (sink sink_now library library_now : ℕ) where
   -- what an end says of these slots
   abbrev pub Says : List Shown → End → Type 0
-  Says slots end = EndSays form told replied script first slots sizes before now sink sink_now library library_now end
+  Says slots end = EndSays w form told replied script first slots sizes before now sink sink_now library library_now end
 
   -- the blocks that a queue began with are those that were handed in, and its sizes are those of the run
-  pub says-first : (held : List Shown) (own : Numbers) (slots : List Shown) (end : End) → held ≡ first → own ≡ sizes → EndSays form told replied script held slots own before now sink sink_now library library_now end → Says slots end
+  pub says-first : (held : List Shown) (own : Numbers) (slots : List Shown) (end : End) → held ≡ first → own ≡ sizes → EndSays w form told replied script held slots own before now sink sink_now library library_now end → Says slots end
   says-first held own slots end is_first is_own says =
-      let P : List Shown → Type 0 = λ f. EndSays form told replied script f slots own before now sink sink_now library library_now end in
-      let Q : Numbers → Type 0 = λ o. EndSays form told replied script first slots o before now sink sink_now library library_now end in
+      let P : List Shown → Type 0 = λ f. EndSays w form told replied script f slots own before now sink sink_now library library_now end in
+      let Q : Numbers → Type 0 = λ o. EndSays w form told replied script first slots o before now sink sink_now library library_now end in
       subst Q is_own (subst P is_first says)
 
   -- the same slots as they come back
   says-later : (slots later : List Shown) (end : End) → SameSums slots later → Says slots end → Says later end
   says-later slots later Done sums says =
       let more : all_writes slots ≤ all_writes later = omega (arith, sums (λ s. s.writes)) in (
-        λ tells files is. record { took = (says.0 tells files is).took; crest = fits-more (crest_of (given_of files script) (command_list script)) sizes slots later (says.0 tells files is).crest more },
-        fits-more (least_of (command_list script)) sizes slots later says.1 more,
+        λ tells files is. record { took = (says.0 tells files is).took; crest = fits-more (crest_of w (given_of w files script) (command_list script)) sizes slots later (says.0 tells files is).crest more },
+        fits-more (least_of w (command_list script)) sizes slots later says.1 more,
         says.2,
         sym (sums (λ s. s.faults)) ∙ says.3,
       )
@@ -56,27 +57,27 @@ module _ (form : Form) (told : Option (List ℕ → Option (List ℕ))) (replied
     says-is : (wanted : End) → end ≡ wanted → Says later wanted
     says-is wanted is = subst (λ e. Says later e) is (says-later slots later end sums says)
 
-    pub end-done : end ≡ Done → AllTell first → (files : List ℕ → Option (List ℕ)) → AreFilesOf told script files → TakesAll before now (output_of form (given_of files script) (command_list script))
+    pub end-done : end ≡ Done → AllTell first → (files : List ℕ → Option (List ℕ)) → AreFilesOf told script files → TakesAll before now (output_of w form (given_of w files script) (command_list script))
     end-done is tells files are = ((says-is Done is).0 tells files are).took
 
-    pub end-used : end ≡ Done → AllTell first → (files : List ℕ → Option (List ℕ)) → AreFilesOf told script files → FitsWritten (crest_of (given_of files script) (command_list script)) sizes later
+    pub end-used : end ≡ Done → AllTell first → (files : List ℕ → Option (List ℕ)) → AreFilesOf told script files → FitsWritten (crest_of w (given_of w files script) (command_list script)) sizes later
     end-used is tells files are = ((says-is Done is).0 tells files are).crest
 
-    pub end-used_any : end ≡ Done → FitsWritten (least_of (command_list script)) sizes later
+    pub end-used_any : end ≡ Done → FitsWritten (least_of w (command_list script)) sizes later
     end-used_any is = (says-is Done is).1
 
     -- no call of a block failed
     pub end-unfailed : (bytes : ℕ) → All (IsNewSlot bytes) first → end ≡ Done → All (λ (s : Shown). s.faults ≡ 0) later
     end-unfailed bytes fresh is = none-failed later ((says-is Done is).3 ∙ new-unfailed bytes first fresh)
 
-    pub end-within : end ≡ NoFreeBlock → AllTell first → (files : List ℕ → Option (List ℕ)) → AreFilesOf told script files → TakesWithin form (given_of files script) before now sizes (command_list script)
+    pub end-within : end ≡ NoFreeBlock → AllTell first → (files : List ℕ → Option (List ℕ)) → AreFilesOf told script files → TakesWithin w form (given_of w files script) before now sizes (command_list script)
     end-within is tells files are = ((says-is NoFreeBlock is).0 tells files are).within
 
-    pub end-above : end ≡ NoFreeBlock → AllTell first → (files : List ℕ → Option (List ℕ)) → AreFilesOf told script files → HasNoRoom sizes (begins_limit (command_list script)) (load_of (given_of files script) (command_list script))
+    pub end-above : end ≡ NoFreeBlock → AllTell first → (files : List ℕ → Option (List ℕ)) → AreFilesOf told script files → HasNoRoom sizes (begins_limit (command_list script)) (load_of w (given_of w files script) (command_list script))
     end-above is tells files are = ((says-is NoFreeBlock is).0 tells files are).above
 
     -- memory was wanting where a command begins a session
-    pub end-memory : end ≡ Memory → TakesBeforeLoad form told script first before now
+    pub end-memory : end ≡ Memory → TakesBeforeLoad w form told script first before now
     end-memory is = (says-is Memory is).0
 
     pub end-failed : (number : ℕ) → end ≡ DeviceFault number → HasFailed number later
@@ -114,13 +115,13 @@ module _ (form : Form) (told : Option (List ℕ → Option (List ℕ))) (replied
 
   module _ (slots later : List Shown) (end : End) (sums : SameSums slots later) (says : Says slots end) where
     pub end-complete :
-        AllTell first → (files : List ℕ → Option (List ℕ)) → AreFilesOf told script files → HasRoom sizes (begins_limit (command_list script)) (load_of (given_of files script) (command_list script))
+        AllTell first → (files : List ℕ → Option (List ℕ)) → AreFilesOf told script files → HasRoom sizes (begins_limit (command_list script)) (load_of w (given_of w files script) (command_list script))
         → IsQuiet sink sink_now → IsQuiet library library_now → NoneFailed later → IsCompleted told end
     end-complete tells files are room s l none =
         says-completed later end (says-later slots later end sums says) s l none
-        (λ is. room-not_none sizes (begins_limit (command_list script)) (load_of (given_of files script) (command_list script)) room (end-above slots later end sums says is tells files are))
+        (λ is. room-not_none sizes (begins_limit (command_list script)) (load_of w (given_of w files script) (command_list script)) room (end-above slots later end sums says is tells files are))
 
-    pub end-complete_any : HasRoom sizes (begins_limit (command_list script)) (most_of (command_list script)) → IsQuiet sink sink_now → IsQuiet library library_now → NoneFailed later → IsCompleted told end
+    pub end-complete_any : HasRoom sizes (begins_limit (command_list script)) (most_of w (command_list script)) → IsQuiet sink sink_now → IsQuiet library library_now → NoneFailed later → IsCompleted told end
     end-complete_any room s l none =
         says-completed later end (says-later slots later end sums says) s l none
-        (λ is. room-not_none sizes (begins_limit (command_list script)) (most_of (command_list script)) room (says-is slots later end sums says NoFreeBlock is).1)
+        (λ is. room-not_none sizes (begins_limit (command_list script)) (most_of w (command_list script)) room (says-is slots later end sums says NoFreeBlock is).1)

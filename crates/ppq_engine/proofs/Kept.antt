@@ -1,7 +1,6 @@
 -- What calls of the queue keep, one after the other.
 use Rattle.std.proofs.Common.{◌≡◌, ◌≤◌, ℕ, refl, ◌∙◌, arith}
 use Rattle.std.specs.Prelude.{Result, IsErrAnd}
-use Rattle.ppq_script.specs.ppq_record.declared.pair.Pair.{Pair}
 use Rattle.ppq_load.specs.ppq_queue.Holding.{Holding}
 use Rattle.ppq_load.specs.Refusal.{Keeps}
 use Rattle.ppq_engine.specs.Calls.{IsLent, SinkCounts}
@@ -11,10 +10,10 @@ use Rattle.ppq_engine.specs.declared.stop.Stop.{Stop}
 use Rattle.ppq_engine.proofs.Results.{if-err, not-ok}
 use Rattle.ppq_engine.proofs.Slots.{SameSlots-refl, SameSlots-trans}
 
-pub Keeps-refl : (q : Holding Pair) → Keeps q q
+pub Keeps-refl : {R : Type 0} (q : Holding R) → Keeps q q
 Keeps-refl q = record { sizes = refl; limited = refl; slots = SameSlots-refl q.slots; tells = λ t. t; writes = omega arith }
 
-pub Keeps-trans : (a b c : Holding Pair) → Keeps a b → Keeps b c → Keeps a c
+pub Keeps-trans : {R : Type 0} (a b c : Holding R) → Keeps a b → Keeps b c → Keeps a c
 Keeps-trans a b c h k = record {
   sizes = k.sizes ∙ h.sizes;
   limited = k.limited ∙ h.limited;
@@ -25,12 +24,12 @@ Keeps-trans a b c h k = record {
 
 -- what a command that stopped says of the queue, and of the sink
 module _ {T : Type 0} (r : Result T Stop) (stop : Stop) (is : IsErrAnd r (λ x. x ≡ stop)) where
-  pub lent-stop : (a b c : Holding Pair) (most : ℕ) → Keeps a b → Keeps b c → c.peak ≤ most → StopsFor c.peak c.sizes c.limited c.slots stop → NotByFile stop → IsLent a c most r
+  pub lent-stop : {R : Type 0} (a b c : Holding R) (most : ℕ) → Keeps a b → Keeps b c → c.peak ≤ most → StopsFor c.peak c.sizes c.limited c.slots stop → NotByFile stop → IsLent a c most r
   lent-stop a b c most h k peak why by = record { kept = Keeps-trans a b c h k; peak = peak; refused = if-err r stop (StopsFor c.peak c.sizes c.limited c.slots) is why; no_file = if-err r stop NotByFile is by }
 
   pub sink-stop : (before now : ℕ) → before ≤ now → SinkAfter before now stop → SinkCounts before now r
   sink-stop before now later why = record { later = later; stays = not-ok r (λ x. x ≡ stop) (now ≡ before) is; cause = if-err r stop (SinkAfter before now) is why }
 
 -- a peak that may be higher
-pub lent-more : {T : Type 0} {a b : Holding Pair} {most more : ℕ} {r : Result T Stop} → IsLent a b most r → most ≤ more → IsLent a b more r
+pub lent-more : {R : Type 0} {T : Type 0} {a b : Holding R} {most more : ℕ} {r : Result T Stop} → IsLent a b most r → most ≤ more → IsLent a b more r
 lent-more l h = record { kept = l.kept; peak = omega (arith, l.peak, h); refused = l.refused; no_file = l.no_file }

@@ -11,7 +11,7 @@ pub mod LimitParts
 pub mod Limited
 pub mod Lines
 pub mod Loads
-pub mod Pairs
+pub mod Orders
 pub mod Parts
 pub mod Popped
 pub mod Pushes
@@ -21,4 +21,5 @@ pub mod Sizes
 pub mod Slots
 pub mod Steps
 pub mod Stops
+pub mod Texts
 pub mod Turns

@@ -11,16 +11,16 @@ use Rattle.ppq_engine.specs.declared.stop.Stop.{Stop}
 use Rattle.ppq_engine.proofs.Results.{at-err}
 
 -- it was not asked
-pub library-none : (told : Option (List ℕ → Option (List ℕ))) (replied : Reply → Type 0) (script : Reading) (count : ℕ) → LibraryStays told told replied replied script count count
+pub library-none : {R : Type 0} (told : Option (List ℕ → Option (List ℕ))) (replied : Reply → Type 0) (script : Reading R) (count : ℕ) → LibraryStays told told replied replied script count count
 library-none told replied script count = record { told = refl; remembers = λ reply had. had; asks = no_replies replied (IsReadInScript script); later = omega arith }
 
 -- whatever a command answers
 pub library-stays :
-    {T : Type 0} {told now : Option (List ℕ → Option (List ℕ))} {replied replied_now : Reply → Type 0} {script : Reading} {before after : ℕ} {r : Result T Stop}
+    {R : Type 0} {T : Type 0} {told now : Option (List ℕ → Option (List ℕ))} {replied replied_now : Reply → Type 0} {script : Reading R} {before after : ℕ} {r : Result T Stop}
     → LibraryCounts told now replied replied_now script before after r → LibraryStays told now replied replied_now script before after
 library-stays c = record { told = c.told; remembers = c.remembers; asks = c.asks; later = c.later }
 
-module _ {told mid now : Option (List ℕ → Option (List ℕ))} {replied replied_mid replied_now : Reply → Type 0} {script : Reading} {before between after : ℕ} where
+module _ {R : Type 0} {told mid now : Option (List ℕ → Option (List ℕ))} {replied replied_mid replied_now : Reply → Type 0} {script : Reading R} {before between after : ℕ} where
   pub library-then : LibraryStays told mid replied replied_mid script before between → LibraryStays mid now replied_mid replied_now script between after → LibraryStays told now replied replied_now script before after
   library-then h k = record {
     told = k.told ∙ h.told;

@@ -3,7 +3,6 @@ use Rattle.std.proofs.Common.{◌≡◌, ℕ, ◌+◌, Bool, List, Option, None,
 use Rattle.std.specs.Prelude.{Result, Ok, Err, IfErr, OnOk}
 use Rattle.ppq_script.specs.ppq_outside.Shown.{Shown}
 use Rattle.ppq_script.specs.ppq_outside.Told.{Reply}
-use Rattle.ppq_script.specs.ppq_record.declared.pair.Pair.{Pair}
 use Rattle.ppq_load.specs.ppq_budget.Sizes.{Numbers}
 use Rattle.ppq_load.specs.ppq_array.Kept.{AreQuiet}
 use Rattle.ppq_load.specs.ppq_queue.Holding.{Holding}
@@ -62,11 +61,11 @@ module _ {T : Type 0} (line said : ℕ) (r : Result T LoadFault) (s : Result T S
   pub loaded-ok : (A : Type 0) → OnOk r A → OnOk s A
   loaded-ok A h = let P : Result T Stop → Type 0 = λ x. OnOk x A in subst P (sym same) (result-ok A r h)
 
-  result-adds : (old new : Holding Pair) (count : ℕ) (q : Result T LoadFault) → OnOk q (new.size ≡ old.size + count) → OnOk q (new.failed ≡ None) → OnOk q (AreQuiet old.slots new.slots) → OnOk q (new.peak ≡ max old.peak (old.size + count)) → OnOk (load_result line said q) (Adds old new count)
+  result-adds : {R : Type 0} (old new : Holding R) (count : ℕ) (q : Result T LoadFault) → OnOk q (new.size ≡ old.size + count) → OnOk q (new.failed ≡ None) → OnOk q (AreQuiet old.slots new.slots) → OnOk q (new.peak ≡ max old.peak (old.size + count)) → OnOk (load_result line said q) (Adds old new count)
   result-adds old new count (Ok v) size sound quiet peak = record { size = size; sound = sound; quiet = quiet; peak = omega (arith, peak) }
   result-adds old new count (Err f) size sound quiet peak = tt
 
-  pub loaded-adds : (old new : Holding Pair) (count : ℕ) → OnOk r (new.size ≡ old.size + count) → OnOk r (new.failed ≡ None) → OnOk r (AreQuiet old.slots new.slots) → OnOk r (new.peak ≡ max old.peak (old.size + count)) → OnOk s (Adds old new count)
+  pub loaded-adds : {R : Type 0} (old new : Holding R) (count : ℕ) → OnOk r (new.size ≡ old.size + count) → OnOk r (new.failed ≡ None) → OnOk r (AreQuiet old.slots new.slots) → OnOk r (new.peak ≡ max old.peak (old.size + count)) → OnOk s (Adds old new count)
   loaded-adds old new count size sound quiet peak = let P : Result T Stop → Type 0 = λ x. OnOk x (Adds old new count) in subst P (sym same) (result-adds old new count r size sound quiet peak)
 
   pub loaded-refused : (peak : ℕ) (sizes : Numbers) (limited : Bool) (slots : List Shown) → IfErr r (LoadStopsFor peak sizes limited slots) → IfErr s (StopsFor peak sizes limited slots)

@@ -9,9 +9,9 @@ use Rattle.std.proofs.Math.Seq.{take-length}
 use Rattle.std.proofs.lemmas.List.Sums.{sum_by-append}
 use Rattle.std.proofs.lemmas.List.Concat.{flat_map-append}
 use Rattle.std.proofs.Math.Nat.{mod-add-mod, mul-le-mul_left}
+use Rattle.ppq_script.specs.Words.{Words}
+use Rattle.ppq_engine.proofs.Orders.{HasLaws}
 use Rattle.ppq_script.specs.declared.form.Form.{Form}
-use Rattle.ppq_script.specs.ppq_record.declared.pair.Pair.{Pair}
-use Rattle.ppq_script.specs.ppq_record.Pair.{pair_cmp, pair_same}
 use Rattle.ppq_script.specs.ppq_record.Order.{is_before, Le, Rising}
 use Rattle.ppq_script.specs.ppq_record.Bag.{IsSameBag, ascending, without_front, least, first_of, size_below}
 use Rattle.ppq_script.proofs.ppq_record.Order.{count_by-cons, none_pass, Rising-in_order, in_order-same_bag}
@@ -20,7 +20,7 @@ use Rattle.ppq_load.specs.ppq_budget.Sizes.{Numbers, AreInRange, batch_of}
 use Rattle.ppq_script.specs.ppq_outside.Shown.{Shown, AllTell}
 use Rattle.ppq_script.specs.ppq_outside.Told.{TakesPart}
 use Rattle.ppq_script.proofs.ppq_outside.Takes.{takes_two, takes_and_part, takes_nothing, part_of_more}
-use Rattle.ppq_engine.specs.Output.{record_text, records_text, all_text, more_text, last_of, limited_count, mark_text}
+use Rattle.ppq_engine.specs.Output.{first_field, record_text, records_text, all_text, more_text, last_of, limited_count, mark_text}
 use Rattle.ppq_engine.specs.Gathers.{Gathers, IsSummary}
 use Rattle.ppq_engine.specs.Calls.{Prints}
 use Rattle.ppq_engine.specs.Running.{GathersPart, WritesPart}
@@ -29,7 +29,6 @@ use Rattle.ppq_engine.specs.Popping.{passing, next_of, popped_count, left_at_mos
 use Rattle.ppq_engine.specs.declared.answer.Drained.{Drained}
 use Rattle.ppq_engine.specs.declared.stop.Stop.{Stop}
 use Rattle.ppq_engine.specs.declared.stop.Stop.TheVariants.{Sink, Queue}
-use Rattle.ppq_engine.proofs.Pairs.{pair_total}
 use Rattle.ppq_engine.proofs.Results.{if-err, not-ok}
 
 -- what is left of an ascending list ascends
@@ -38,15 +37,15 @@ Rising-drop lt zero xs r = r
 Rising-drop lt (suc k) [] r = tt
 Rising-drop lt (suc k) (x ∷ xs) r = Rising-drop lt k xs r.1
 
-rising : (bag : List Pair) → Rising (is_before pair_cmp) (ascending pair_cmp bag)
-rising bag = Rising-in_order (is_before pair_cmp) (ranks pair_total) bag
+rising : {R : Type 0} (w : Words R) (laws : HasLaws w) (bag : List R) → Rising (is_before w.cmp) (ascending w.cmp bag)
+rising w laws bag = Rising-in_order (is_before w.cmp) (ranks laws.order) bag
 
 -- what is left of the ascending list is the ascending list of what is left
-pub left_is : (bag old : List Pair) (i : ℕ) → IsSameBag bag (drop i (ascending pair_cmp old)) → ascending pair_cmp bag ≡ drop i (ascending pair_cmp old)
-left_is bag old i same = sym (ascending_is pair_total pair_same bag (drop i (ascending pair_cmp old)) (Rising-drop (is_before pair_cmp) i (ascending pair_cmp old) (rising old)) (λ p. sym (same p)))
+pub left_is : {R : Type 0} (w : Words R) (laws : HasLaws w) (bag old : List R) (i : ℕ) → IsSameBag bag (drop i (ascending w.cmp old)) → ascending w.cmp bag ≡ drop i (ascending w.cmp old)
+left_is w laws bag old i same = sym (ascending_is laws.order laws.same bag (drop i (ascending w.cmp old)) (Rising-drop (is_before w.cmp) i (ascending w.cmp old) (rising w laws old)) (λ p. sym (same p)))
 
-pub left-begin : (bag : List Pair) → IsSameBag bag (drop 0 (ascending pair_cmp bag))
-left-begin bag p = sym (in_order-same_bag (is_before pair_cmp) (ranks pair_total) bag p)
+pub left-begin : {R : Type 0} (w : Words R) (laws : HasLaws w) (bag : List R) → IsSameBag bag (drop 0 (ascending w.cmp bag))
+left-begin w laws bag p = sym (in_order-same_bag (is_before w.cmp) (ranks laws.order) bag p)
 
 -- the first of a list
 first_take : {X : Type 0} (xs : List X) (x : X) → first_of (take 1 xs) ≡ Some x → xs ≡ x ∷ drop 1 xs
@@ -58,62 +57,62 @@ none_take [] e = refl
 none_take (y ∷ ys) e = cc
 
 -- a record that passes is there, and is below the limit
-passing_some : (below item : Option Pair) (x : Pair) → passing below item ≡ Some x → item ≡ Some x
-passing_some None item x e = e
-passing_some (Some limit) None x e = cc
-passing_some (Some limit) (Some y) x e =
-    elim (cases_Bool (is_before pair_cmp y limit)) as (λ _. Some y ≡ Some x) [
+passing_some : {R : Type 0} (w : Words R) (below item : Option R) (x : R) → passing w below item ≡ Some x → item ≡ Some x
+passing_some w None item x e = e
+passing_some w (Some limit) None x e = cc
+passing_some w (Some limit) (Some y) x e =
+    elim (cases_Bool (is_before w.cmp y limit)) as (λ _. Some y ≡ Some x) [
       | inl h ↦ sym (ap (λ (b : Bool). cond b (Some y) None) h) ∙ e
       | inr h ↦ let z : None ≡ Some x = sym (ap (λ (b : Bool). cond b (Some y) None) h) ∙ e in cc
     ]
 
-passing_below : (limit x : Pair) (item : Option Pair) → passing (Some limit) item ≡ Some x → is_before pair_cmp x limit ≡ true
-passing_below limit x None e = cc
-passing_below limit x (Some y) e =
-    elim (cases_Bool (is_before pair_cmp y limit)) as (λ _. is_before pair_cmp x limit ≡ true) [
-      | inl h ↦ let z : Some y ≡ Some x = sym (ap (λ (b : Bool). cond b (Some y) None) h) ∙ e in let same : y ≡ x = cc in ap (λ (p : Pair). is_before pair_cmp p limit) (sym same) ∙ h
+passing_below : {R : Type 0} (w : Words R) (limit x : R) (item : Option R) → passing w (Some limit) item ≡ Some x → is_before w.cmp x limit ≡ true
+passing_below w limit x None e = cc
+passing_below {R} w limit x (Some y) e =
+    elim (cases_Bool (is_before w.cmp y limit)) as (λ _. is_before w.cmp x limit ≡ true) [
+      | inl h ↦ let z : Some y ≡ Some x = sym (ap (λ (b : Bool). cond b (Some y) None) h) ∙ e in let same : y ≡ x = cc in ap (λ (p : R). is_before w.cmp p limit) (sym same) ∙ h
       | inr h ↦ let z : None ≡ Some x = sym (ap (λ (b : Bool). cond b (Some y) None) h) ∙ e in cc
     ]
 
-passing_none : (limit x : Pair) → passing (Some limit) (Some x) ≡ None → is_before pair_cmp x limit ≡ false
-passing_none limit x e =
-    elim (cases_Bool (is_before pair_cmp x limit)) as (λ _. is_before pair_cmp x limit ≡ false) [
+passing_none : {R : Type 0} (w : Words R) (limit x : R) → passing w (Some limit) (Some x) ≡ None → is_before w.cmp x limit ≡ false
+passing_none w limit x e =
+    elim (cases_Bool (is_before w.cmp x limit)) as (λ _. is_before w.cmp x limit ≡ false) [
       | inl h ↦ let z : Some x ≡ None = sym (ap (λ (b : Bool). cond b (Some x) None) h) ∙ e in cc
       | inr h ↦ h
     ]
 
 -- the next record stands at its place in the ascending list
-pub next_at : (bag old : List Pair) (i : ℕ) (below : Option Pair) (x : Pair) → IsSameBag bag (drop i (ascending pair_cmp old)) → next_of below bag ≡ Some x → drop i (ascending pair_cmp old) ≡ x ∷ drop (i + 1) (ascending pair_cmp old)
-next_at bag old i below x same is =
-    let asc = ascending pair_cmp old in
-    let here : first_of (take 1 (drop i asc)) ≡ Some x = ap (λ (xs : List Pair). first_of (take 1 xs)) (sym (left_is bag old i same)) ∙ passing_some below (least pair_cmp bag) x is in
-    first_take (drop i asc) x here ∙ ap (λ (xs : List Pair). x ∷ xs) (drop-drop 1 i asc)
+pub next_at : {R : Type 0} (w : Words R) (laws : HasLaws w) (bag old : List R) (i : ℕ) (below : Option R) (x : R) → IsSameBag bag (drop i (ascending w.cmp old)) → next_of w below bag ≡ Some x → drop i (ascending w.cmp old) ≡ x ∷ drop (i + 1) (ascending w.cmp old)
+next_at {R} w laws bag old i below x same is =
+    let asc = ascending w.cmp old in
+    let here : first_of (take 1 (drop i asc)) ≡ Some x = ap (λ (xs : List R). first_of (take 1 xs)) (sym (left_is w laws bag old i same)) ∙ passing_some w below (least w.cmp bag) x is in
+    first_take (drop i asc) x here ∙ ap (λ (xs : List R). x ∷ xs) (drop-drop 1 i asc)
 
-pub lines-more : (form : Form) (items : List Pair) (item : Pair) → records_text form (items ++ item ∷ []) ≡ records_text form items ++ record_text form item
-lines-more form items item = flat_map-append (record_text form) items (item ∷ []) ∙ ap (λ (t : List ℕ). records_text form items ++ t) (append-nil (record_text form item))
+pub lines-more : {R : Type 0} (w : Words R) (form : Form) (items : List R) (item : R) → records_text w form (items ++ item ∷ []) ≡ records_text w form items ++ record_text w form item
+lines-more w form items item = flat_map-append (record_text w form) items (item ∷ []) ∙ ap (λ (t : List ℕ). records_text w form items ++ t) (append-nil (record_text w form item))
 
 -- where nothing is left, more takes and drops nothing more
-abbrev no_pair : List Pair
-no_pair = []
+abbrev none_of : (R : Type 0) → List R
+none_of R = []
 
-take_empty : (n : ℕ) → take n no_pair ≡ no_pair
-take_empty zero = refl
-take_empty (suc n) = refl
+take_empty : (R : Type 0) (n : ℕ) → take n (none_of R) ≡ none_of R
+take_empty R zero = refl
+take_empty R (suc n) = refl
 
-drop_empty : (n : ℕ) → drop n no_pair ≡ no_pair
-drop_empty zero = refl
-drop_empty (suc n) = refl
+drop_empty : (R : Type 0) (n : ℕ) → drop n (none_of R) ≡ none_of R
+drop_empty R zero = refl
+drop_empty R (suc n) = refl
 
-all_taken : (xs : List Pair) (i count : ℕ) → drop i xs ≡ [] → i ≤ count → take count xs ≡ take i xs
-all_taken xs i count e h =
+all_taken : {R : Type 0} (xs : List R) (i count : ℕ) → drop i xs ≡ [] → i ≤ count → take count xs ≡ take i xs
+all_taken {R} xs i count e h =
     let sum : i + (count - i) ≡ count = omega arith in
-    let nothing : take (count - i) (drop i xs) ≡ [] = ap (take (count - i)) e ∙ take_empty (count - i) in
-    ap (λ (n : ℕ). take n xs) (sym sum) ∙ take-add i (count - i) xs ∙ ap (λ (ys : List Pair). take i xs ++ ys) nothing ∙ append-nil (take i xs)
+    let nothing : take (count - i) (drop i xs) ≡ [] = ap (take (count - i)) e ∙ take_empty R (count - i) in
+    ap (λ (n : ℕ). take n xs) (sym sum) ∙ take-add i (count - i) xs ∙ ap (λ (ys : List R). take i xs ++ ys) nothing ∙ append-nil (take i xs)
 
-all_dropped : (xs : List Pair) (i count : ℕ) → drop i xs ≡ [] → i ≤ count → drop count xs ≡ drop i xs
-all_dropped xs i count e h =
+all_dropped : {R : Type 0} (xs : List R) (i count : ℕ) → drop i xs ≡ [] → i ≤ count → drop count xs ≡ drop i xs
+all_dropped {R} xs i count e h =
     let sum : i + (count - i) ≡ count = omega arith in
-    ap (λ (n : ℕ). drop n xs) (sym sum) ∙ sym (drop-drop (count - i) i xs) ∙ ap (drop (count - i)) e ∙ drop_empty (count - i) ∙ sym e
+    ap (λ (n : ℕ). drop n xs) (sym sum) ∙ sym (drop-drop (count - i) i xs) ∙ ap (drop (count - i)) e ∙ drop_empty R (count - i) ∙ sym e
 
 abbrev num : Bool → ℕ
 num b = cond b 1 0
@@ -171,81 +170,82 @@ module _ {X : Type 0} (lt : X → X → Bool) (o : IsStrictWeakOrder lt) (limit 
   short_below (y ∷ ys) (suc i) e = let p : X → Bool = λ z. lt z limit in omega (arith, short_below ys i e, count_by-cons p y ys, one_at_most (p y))
 
 -- so many records are below a limit in a multiset as in its ascending list
-below_same : (bag : List Pair) (limit : Pair) → count_by (λ x. is_before pair_cmp x limit) (ascending pair_cmp bag) ≡ size_below pair_cmp bag limit
-below_same bag limit = in_order-same_bag (is_before pair_cmp) (ranks pair_total) bag (λ x. is_before pair_cmp x limit)
+below_same : {R : Type 0} (w : Words R) (laws : HasLaws w) (bag : List R) (limit : R) → count_by (λ x. is_before w.cmp x limit) (ascending w.cmp bag) ≡ size_below w.cmp bag limit
+below_same w laws bag limit = in_order-same_bag (is_before w.cmp) (ranks laws.order) bag (λ x. is_before w.cmp x limit)
 
-at_most_below : (bag old : List Pair) (i : ℕ) (limit : Pair) (item : Option Pair) → IsSameBag bag (drop i (ascending pair_cmp old)) → least pair_cmp bag ≡ item → passing (Some limit) item ≡ None → size_below pair_cmp old limit ≤ i
-at_most_below bag old i limit None same e none =
-    let asc = ascending pair_cmp old in
-    let left : drop i asc ≡ [] = none_take (drop i asc) (ap (λ (xs : List Pair). first_of (take 1 xs)) (sym (left_is bag old i same)) ∙ e) in
-    omega (arith, short_below (is_before pair_cmp) (ranks pair_total) limit asc i left, below_same old limit)
-at_most_below bag old i limit (Some x) same e none =
-    let asc = ascending pair_cmp old in
-    let left : drop i asc ≡ x ∷ drop 1 (drop i asc) = first_take (drop i asc) x (ap (λ (xs : List Pair). first_of (take 1 xs)) (sym (left_is bag old i same)) ∙ e) in
-    omega (arith, none_below (is_before pair_cmp) (ranks pair_total) limit asc i x (drop 1 (drop i asc)) (rising old) left (passing_none limit x none), below_same old limit)
+at_most_below : {R : Type 0} (w : Words R) (laws : HasLaws w) (bag old : List R) (i : ℕ) (limit : R) (item : Option R) → IsSameBag bag (drop i (ascending w.cmp old)) → least w.cmp bag ≡ item → passing w (Some limit) item ≡ None → size_below w.cmp old limit ≤ i
+at_most_below {R} w laws bag old i limit None same e none =
+    let asc = ascending w.cmp old in
+    let left : drop i asc ≡ [] = none_take (drop i asc) (ap (λ (xs : List R). first_of (take 1 xs)) (sym (left_is w laws bag old i same)) ∙ e) in
+    omega (arith, short_below (is_before w.cmp) (ranks laws.order) limit asc i left, below_same w laws old limit)
+at_most_below {R} w laws bag old i limit (Some x) same e none =
+    let asc = ascending w.cmp old in
+    let left : drop i asc ≡ x ∷ drop 1 (drop i asc) = first_take (drop i asc) x (ap (λ (xs : List R). first_of (take 1 xs)) (sym (left_is w laws bag old i same)) ∙ e) in
+    omega (arith, none_below (is_before w.cmp) (ranks laws.order) limit asc i x (drop 1 (drop i asc)) (rising w laws old) left (passing_none w limit x none), below_same w laws old limit)
 
-more_below : (bag old : List Pair) (i : ℕ) (limit x : Pair) → IsSameBag bag (drop i (ascending pair_cmp old)) → next_of (Some limit) bag ≡ Some x → i + 1 ≤ size_below pair_cmp old limit
-more_below bag old i limit x same is =
-    omega (arith, below_at (is_before pair_cmp) (ranks pair_total) limit (ascending pair_cmp old) i x (drop (i + 1) (ascending pair_cmp old)) (rising old) (next_at bag old i (Some limit) x same is) (passing_below limit x (least pair_cmp bag) is), below_same old limit)
+more_below : {R : Type 0} (w : Words R) (laws : HasLaws w) (bag old : List R) (i : ℕ) (limit x : R) → IsSameBag bag (drop i (ascending w.cmp old)) → next_of w (Some limit) bag ≡ Some x → i + 1 ≤ size_below w.cmp old limit
+more_below w laws bag old i limit x same is =
+    omega (arith, below_at (is_before w.cmp) (ranks laws.order) limit (ascending w.cmp old) i x (drop (i + 1) (ascending w.cmp old)) (rising w laws old) (next_at w laws bag old i (Some limit) x same is) (passing_below w limit x (least w.cmp bag) is), below_same w laws old limit)
 
 -- the first records of a multiset, popped as long as they pass
-pub popped-le : (below : Option Pair) (bag : List Pair) (count : ℕ) → popped_count below bag count ≤ count
-popped-le None bag count = omega arith
-popped-le (Some limit) bag count = omega arith
+pub popped-le : {R : Type 0} (w : Words R) (below : Option R) (bag : List R) (count : ℕ) → popped_count w below bag count ≤ count
+popped-le w None bag count = omega arith
+popped-le w (Some limit) bag count = omega arith
 
 -- how many are left
-pub left-most : (below : Option Pair) (size count left : ℕ) → left ≤ size → (below ≡ None → left ≤ size - count) → left ≤ left_at_most below size count
+pub left-most : {R : Type 0} (below : Option R) (size count left : ℕ) → left ≤ size → (below ≡ None → left ≤ size - count) → left ≤ left_at_most below size count
 left-most None size count left few all = all refl
 left-most (Some limit) size count left few all = few
 
 -- where none passes, all were popped
-none_left : (bag old : List Pair) (i : ℕ) → IsSameBag bag (drop i (ascending pair_cmp old)) → least pair_cmp bag ≡ None → drop i (ascending pair_cmp old) ≡ []
-none_left bag old i same e = none_take (drop i (ascending pair_cmp old)) (ap (λ (xs : List Pair). first_of (take 1 xs)) (sym (left_is bag old i same)) ∙ e)
+none_left : {R : Type 0} (w : Words R) (laws : HasLaws w) (bag old : List R) (i : ℕ) → IsSameBag bag (drop i (ascending w.cmp old)) → least w.cmp bag ≡ None → drop i (ascending w.cmp old) ≡ []
+none_left {R} w laws bag old i same e = none_take (drop i (ascending w.cmp old)) (ap (λ (xs : List R). first_of (take 1 xs)) (sym (left_is w laws bag old i same)) ∙ e)
 
 pub popped-all :
-    (below : Option Pair) (bag old : List Pair) (i count : ℕ) → IsSameBag bag (drop i (ascending pair_cmp old)) → next_of below bag ≡ None → i ≤ popped_count below old count
-    → (take (popped_count below old count) (ascending pair_cmp old) ≡ take i (ascending pair_cmp old)) × IsSameBag bag (drop (popped_count below old count) (ascending pair_cmp old))
-popped-all None bag old i count same none l =
-    let asc = ascending pair_cmp old in
-    let left = none_left bag old i same none in
+    {R : Type 0} (w : Words R) (laws : HasLaws w) (below : Option R) (bag old : List R) (i count : ℕ) → IsSameBag bag (drop i (ascending w.cmp old)) → next_of w below bag ≡ None → i ≤ popped_count w below old count
+    → (take (popped_count w below old count) (ascending w.cmp old) ≡ take i (ascending w.cmp old)) × IsSameBag bag (drop (popped_count w below old count) (ascending w.cmp old))
+popped-all w laws None bag old i count same none l =
+    let asc = ascending w.cmp old in
+    let left = none_left w laws bag old i same none in
     (all_taken asc i count left l, λ p. same p ∙ ap (count_by p) (sym (all_dropped asc i count left l)))
-popped-all (Some limit) bag old i count same none l =
-    let asc = ascending pair_cmp old in
-    let here : i ≡ popped_count (Some limit) old count = omega (arith, at_most_below bag old i limit (least pair_cmp bag) same refl none) in
+popped-all w laws (Some limit) bag old i count same none l =
+    let asc = ascending w.cmp old in
+    let here : i ≡ popped_count w (Some limit) old count = omega (arith, at_most_below w laws bag old i limit (least w.cmp bag) same refl none) in
     (ap (λ (n : ℕ). take n asc) (sym here), λ p. same p ∙ ap (λ (n : ℕ). count_by p (drop n asc)) here)
 
 -- whether a record below the limit is left
-mark_at : (form : Form) (bag old : List Pair) (limit : Pair) (count : ℕ) (next : Option Pair) → IsSameBag bag (drop (limited_count old limit count) (ascending pair_cmp old)) → next_of (Some limit) bag ≡ next → left_mark form next ≡ mark_text form old limit count
-mark_at form bag old limit count None same is =
-    let few : size_below pair_cmp old limit ≤ count = omega (arith, at_most_below bag old (limited_count old limit count) limit (least pair_cmp bag) same refl is) in
-    ap (λ (b : Bool). if b then all_text form else more_text form) (sym (le-leb (size_below pair_cmp old limit) count few))
-mark_at form bag old limit count (Some x) same is =
-    let many : count < size_below pair_cmp old limit = omega (arith, more_below bag old (limited_count old limit count) limit x same is) in
-    ap (λ (b : Bool). if b then all_text form else more_text form) (sym (not_le (size_below pair_cmp old limit) count many))
+mark_at : {R : Type 0} (w : Words R) (laws : HasLaws w) (form : Form) (bag old : List R) (limit : R) (count : ℕ) (next : Option R) → IsSameBag bag (drop (limited_count w old limit count) (ascending w.cmp old)) → next_of w (Some limit) bag ≡ next → left_mark form next ≡ mark_text w form old limit count
+mark_at w laws form bag old limit count None same is =
+    let few : size_below w.cmp old limit ≤ count = omega (arith, at_most_below w laws bag old (limited_count w old limit count) limit (least w.cmp bag) same refl is) in
+    ap (λ (b : Bool). if b then all_text form else more_text form) (sym (le-leb (size_below w.cmp old limit) count few))
+mark_at w laws form bag old limit count (Some x) same is =
+    let many : count < size_below w.cmp old limit = omega (arith, more_below w laws bag old (limited_count w old limit count) limit x same is) in
+    ap (λ (b : Bool). if b then all_text form else more_text form) (sym (not_le (size_below w.cmp old limit) count many))
 
-pub mark-is : (form : Form) (bag old : List Pair) (limit : Pair) (count : ℕ) → IsSameBag bag (without_front pair_cmp old (limited_count old limit count)) → left_mark form (next_of (Some limit) bag) ≡ mark_text form old limit count
-mark-is form bag old limit count same = mark_at form bag old limit count (next_of (Some limit) bag) same refl
+pub mark-is : {R : Type 0} (w : Words R) (laws : HasLaws w) (form : Form) (bag old : List R) (limit : R) (count : ℕ) → IsSameBag bag (without_front w.cmp old (limited_count w old limit count)) → left_mark form (next_of w (Some limit) bag) ≡ mark_text w form old limit count
+mark-is w laws form bag old limit count same = mark_at w laws form bag old limit count (next_of w (Some limit) bag) same refl
 
 -- drained records, one more
-last_push : (items : List Pair) (item : Pair) → last_of (items ++ item ∷ []) ≡ Some item
+last_push : {R : Type 0} (items : List R) (item : R) → last_of (items ++ item ∷ []) ≡ Some item
 last_push [] item = refl
 last_push (x ∷ []) item = refl
 last_push (x ∷ y ∷ ys) item = last_push (y ∷ ys) item
 
-first_push : (items : List Pair) (item x : Pair) (first : Option Pair) → first ≡ first_of items → (first ≡ None → x ≡ item) → ((y : Pair) → first ≡ Some y → x ≡ y) → Some x ≡ first_of (items ++ item ∷ [])
-first_push [] item x first e none some = ap (λ (p : Pair). Some p) (none e)
-first_push (y ∷ ys) item x first e none some = ap (λ (p : Pair). Some p) (some y e)
+first_push : {R : Type 0} (items : List R) (item x : R) (first : Option R) → first ≡ first_of items → (first ≡ None → x ≡ item) → ((y : R) → first ≡ Some y → x ≡ y) → Some x ≡ first_of (items ++ item ∷ [])
+first_push {R} [] item x first e none some = ap (λ (p : R). Some p) (none e)
+first_push {R} (y ∷ ys) item x first e none some = ap (λ (p : R). Some p) (some y e)
 
 pub summary-more :
-    (items : List Pair) (item : Pair) (had has : Drained) (x : Pair) → IsSummary items had → has.count ≡ had.count + 1 → has.first ≡ Some x → (had.first ≡ None → x ≡ item) → ((y : Pair) → had.first ≡ Some y → x ≡ y)
-    → has.last ≡ Some item → has.sum ≡ (had.sum + item.key) % 2 ^ 64 → IsSummary (items ++ item ∷ []) has
-summary-more items item had has x is count first none some last sum = record {
+    {R : Type 0} (w : Words R) (items : List R) (item : R) (had has : Drained R) (x : R) → IsSummary w items had → has.count ≡ had.count + 1 → has.first ≡ Some x → (had.first ≡ None → x ≡ item) → ((y : R) → had.first ≡ Some y → x ≡ y)
+    → has.last ≡ Some item → has.sum ≡ (had.sum + first_field w item) % 2 ^ 64 → IsSummary w (items ++ item ∷ []) has
+summary-more w items item had has x is count first none some last sum = record {
   count = omega (arith, count, is.count, length-append items (item ∷ []));
   first = first ∙ first_push items item x had.first is.first none some;
   last = last ∙ sym (last_push items item);
   sum =
-      let all : sum_by (λ r. r.key) (items ++ item ∷ []) ≡ sum_by (λ r. r.key) items + item.key = sum_by-append (λ (r : Pair). r.key) items (item ∷ []) ∙ ap (λ (n : ℕ). sum_by (λ r. r.key) items + n) (omega arith) in
-      sum ∙ ap (λ (n : ℕ). (n + item.key) % 2 ^ 64) is.sum ∙ mod-add-mod (sum_by (λ r. r.key) items) (2 ^ 64) item.key ∙ ap (λ (n : ℕ). n % 2 ^ 64) (sym all);
+      let field = first_field w item in
+      let all : sum_by (first_field w) (items ++ item ∷ []) ≡ sum_by (first_field w) items + field = sum_by-append (first_field w) items (item ∷ []) ∙ ap (λ (n : ℕ). sum_by (first_field w) items + n) (omega arith) in
+      sum ∙ ap (λ (n : ℕ). (n + field) % 2 ^ 64) is.sum ∙ mod-add-mod (sum_by (first_field w) items) (2 ^ 64) field ∙ ap (λ (n : ℕ). n % 2 ^ 64) (sym all);
 }
 
 -- a round has room for a record
@@ -253,78 +253,78 @@ pub some_room : (sizes : Numbers) → AreInRange sizes → 0 < batch_of sizes
 some_room sizes range = omega (arith, range.some_worker, mul-le-mul_left sizes.workers range.two_records)
 
 -- a round of records: as many as these, and as many are left
-take_few : (m : ℕ) (xs : List Pair) → take (length (take m xs)) xs ≡ take m xs
+take_few : {R : Type 0} (m : ℕ) (xs : List R) → take (length (take m xs)) xs ≡ take m xs
 take_few zero xs = refl
 take_few (suc m) [] = refl
-take_few (suc m) (x ∷ xs) = ap (λ (ys : List Pair). x ∷ ys) (take_few m xs)
+take_few {R} (suc m) (x ∷ xs) = ap (λ (ys : List R). x ∷ ys) (take_few m xs)
 
-drop_few : (m : ℕ) (xs : List Pair) → drop (length (take m xs)) xs ≡ drop m xs
+drop_few : {R : Type 0} (m : ℕ) (xs : List R) → drop (length (take m xs)) xs ≡ drop m xs
 drop_few zero xs = refl
 drop_few (suc m) [] = refl
 drop_few (suc m) (x ∷ xs) = drop_few m xs
 
-few_taken : (m : ℕ) (xs : List Pair) → length (take m xs) ≤ m
+few_taken : {R : Type 0} (m : ℕ) (xs : List R) → length (take m xs) ≤ m
 few_taken m xs = omega (arith, length-take m xs)
 
-none_taken : (m : ℕ) (xs : List Pair) → 0 < m → take m xs ≡ [] → xs ≡ []
+none_taken : {R : Type 0} (m : ℕ) (xs : List R) → 0 < m → take m xs ≡ [] → xs ≡ []
 none_taken zero xs some e = absurd (omega (arith, some))
 none_taken (suc m) [] some e = refl
 none_taken (suc m) (x ∷ xs) some e = cc
 
 -- where none of a multiset is below a limit, its smallest record does not pass
-none_passes : (limit : Pair) (xs : List Pair) → count_by (λ x. is_before pair_cmp x limit) xs ≡ 0 → passing (Some limit) (first_of (take 1 xs)) ≡ None
-none_passes limit [] none = refl
-none_passes limit (x ∷ xs) none =
-    let p : Pair → Bool = λ y. is_before pair_cmp y limit in
-    elim (cases_Bool (p x)) as (λ _. passing (Some limit) (Some x) ≡ None) [
+none_passes : {R : Type 0} (w : Words R) (limit : R) (xs : List R) → count_by (λ x. is_before w.cmp x limit) xs ≡ 0 → passing w (Some limit) (first_of (take 1 xs)) ≡ None
+none_passes w limit [] none = refl
+none_passes {R} w limit (x ∷ xs) none =
+    let p : R → Bool = λ y. is_before w.cmp y limit in
+    elim (cases_Bool (p x)) as (λ _. passing w (Some limit) (Some x) ≡ None) [
       | inl h ↦ (let one : cond (p x) 1 0 ≡ 1 = ap (λ (b : Bool). num b) h in absurd (omega (arith, none, count_by-cons p x xs, one)))
       | inr h ↦ ap (λ (b : Bool). cond b (Some x) None) h
     ]
 
-round_of : (below : Option Pair) (count m : ℕ) (bag rest items : List Pair) → items ≡ take m (ascending pair_cmp bag) → IsSameBag rest (drop m (ascending pair_cmp bag)) → m ≤ popped_count below bag count → (items ≡ [] → next_of below bag ≡ None) → IsRound below count bag rest items
-round_of below count m bag rest items is left few end =
-    let asc = ascending pair_cmp bag in
+round_of : {R : Type 0} (w : Words R) (below : Option R) (count m : ℕ) (bag rest items : List R) → items ≡ take m (ascending w.cmp bag) → IsSameBag rest (drop m (ascending w.cmp bag)) → m ≤ popped_count w below bag count → (items ≡ [] → next_of w below bag ≡ None) → IsRound w below count bag rest items
+round_of {R} w below count m bag rest items is left few end =
+    let asc = ascending w.cmp bag in
     record {
-      first = is ∙ sym (take_few m asc) ∙ ap (λ (xs : List Pair). take (length xs) asc) (sym is);
-      rest_is = λ p. left p ∙ ap (count_by p) (sym (drop_few m asc)) ∙ ap (λ (xs : List Pair). count_by p (drop (length xs) asc)) (sym is);
-      few = omega (arith, few, few_taken m asc, ap (λ (xs : List Pair). length xs) is);
+      first = is ∙ sym (take_few m asc) ∙ ap (λ (xs : List R). take (length xs) asc) (sym is);
+      rest_is = λ p. left p ∙ ap (count_by p) (sym (drop_few m asc)) ∙ ap (λ (xs : List R). count_by p (drop (length xs) asc)) (sym is);
+      few = omega (arith, few, few_taken m asc, ap (λ (xs : List R). length xs) is);
       end = end;
     }
 
 pub round-all :
-    (bag rest items : List Pair) (count batch : ℕ) → 0 < count → 0 < batch → items ≡ take (min count batch) (ascending pair_cmp bag) → IsSameBag rest (drop (min count batch) (ascending pair_cmp bag)) → IsRound None count bag rest items
-round-all bag rest items count batch some room is left =
-    round_of None count (min count batch) bag rest items is left (omega arith) (λ none. ap (λ (xs : List Pair). first_of (take 1 xs)) (none_taken (min count batch) (ascending pair_cmp bag) (omega (arith, some, room)) (sym is ∙ none)))
+    {R : Type 0} (w : Words R) (bag rest items : List R) (count batch : ℕ) → 0 < count → 0 < batch → items ≡ take (min count batch) (ascending w.cmp bag) → IsSameBag rest (drop (min count batch) (ascending w.cmp bag)) → IsRound w None count bag rest items
+round-all {R} w bag rest items count batch some room is left =
+    round_of w None count (min count batch) bag rest items is left (omega arith) (λ none. ap (λ (xs : List R). first_of (take 1 xs)) (none_taken (min count batch) (ascending w.cmp bag) (omega (arith, some, room)) (sym is ∙ none)))
 
 pub round-low :
-    (bag rest items : List Pair) (limit : Pair) (count batch : ℕ) → 0 < count → 0 < batch → items ≡ take (min (min count batch) (size_below pair_cmp bag limit)) (ascending pair_cmp bag)
-    → IsSameBag rest (drop (min (min count batch) (size_below pair_cmp bag limit)) (ascending pair_cmp bag)) → IsRound (Some limit) count bag rest items
-round-low bag rest items limit count batch some room is left =
-    let asc = ascending pair_cmp bag in
-    let m = min (min count batch) (size_below pair_cmp bag limit) in
-    let p : Pair → Bool = λ y. is_before pair_cmp y limit in
-    round_of (Some limit) count m bag rest items is left (omega arith)
-    (λ none. none_passes limit asc (elim (cases_lt 0 m) as (λ _. count_by p asc ≡ 0) [
+    {R : Type 0} (w : Words R) (laws : HasLaws w) (bag rest items : List R) (limit : R) (count batch : ℕ) → 0 < count → 0 < batch → items ≡ take (min (min count batch) (size_below w.cmp bag limit)) (ascending w.cmp bag)
+    → IsSameBag rest (drop (min (min count batch) (size_below w.cmp bag limit)) (ascending w.cmp bag)) → IsRound w (Some limit) count bag rest items
+round-low {R} w laws bag rest items limit count batch some room is left =
+    let asc = ascending w.cmp bag in
+    let m = min (min count batch) (size_below w.cmp bag limit) in
+    let p : R → Bool = λ y. is_before w.cmp y limit in
+    round_of w (Some limit) count m bag rest items is left (omega arith)
+    (λ none. none_passes w limit asc (elim (cases_lt 0 m) as (λ _. count_by p asc ≡ 0) [
       | inl h ↦ ap (count_by p) (none_taken m asc h (sym is ∙ none))
-      | inr h ↦ omega (arith, h, some, room, below_same bag limit)
+      | inr h ↦ omega (arith, h, some, room, below_same w laws bag limit)
     ]))
 
 -- the round stands at its place in the ascending list
-pub round-left : (bag next old items : List Pair) (i count : ℕ) (below : Option Pair) → IsSameBag bag (drop i (ascending pair_cmp old)) → IsRound below count bag next items → IsSameBag next (drop (i + length items) (ascending pair_cmp old))
-round-left bag next old items i count below same round = λ p.
-    round.rest_is p ∙ ap (λ (xs : List Pair). count_by p (drop (length items) xs)) (left_is bag old i same) ∙ ap (count_by p) (drop-drop (length items) i (ascending pair_cmp old))
+pub round-left : {R : Type 0} (w : Words R) (laws : HasLaws w) (bag next old items : List R) (i count : ℕ) (below : Option R) → IsSameBag bag (drop i (ascending w.cmp old)) → IsRound w below count bag next items → IsSameBag next (drop (i + length items) (ascending w.cmp old))
+round-left {R} w laws bag next old items i count below same round = λ p.
+    round.rest_is p ∙ ap (λ (xs : List R). count_by p (drop (length items) xs)) (left_is w laws bag old i same) ∙ ap (count_by p) (drop-drop (length items) i (ascending w.cmp old))
 
 pub round-taken :
-    (bag next old items : List Pair) (i count : ℕ) (below : Option Pair) → IsSameBag bag (drop i (ascending pair_cmp old)) → IsRound below count bag next items
-    → take (i + length items) (ascending pair_cmp old) ≡ take i (ascending pair_cmp old) ++ items
-round-taken bag next old items i count below same round =
-    let asc = ascending pair_cmp old in
-    take-add i (length items) asc ∙ ap (λ (xs : List Pair). take i asc ++ xs) (ap (λ (xs : List Pair). take (length items) xs) (sym (left_is bag old i same)) ∙ sym round.first)
+    {R : Type 0} (w : Words R) (laws : HasLaws w) (bag next old items : List R) (i count : ℕ) (below : Option R) → IsSameBag bag (drop i (ascending w.cmp old)) → IsRound w below count bag next items
+    → take (i + length items) (ascending w.cmp old) ≡ take i (ascending w.cmp old) ++ items
+round-taken {R} w laws bag next old items i count below same round =
+    let asc = ascending w.cmp old in
+    take-add i (length items) asc ∙ ap (λ (xs : List R). take i asc ++ xs) (ap (λ (xs : List R). take (length items) xs) (sym (left_is w laws bag old i same)) ∙ sym round.first)
 
 pub round-lines :
-    (form : Form) (bag next old items : List Pair) (i count : ℕ) (below : Option Pair) → IsSameBag bag (drop i (ascending pair_cmp old)) → IsRound below count bag next items
-    → records_text form (take (i + length items) (ascending pair_cmp old)) ≡ records_text form (take i (ascending pair_cmp old)) ++ records_text form items
-round-lines form bag next old items i count below same round = ap (records_text form) (round-taken bag next old items i count below same round) ∙ flat_map-append (record_text form) (take i (ascending pair_cmp old)) items
+    {R : Type 0} (w : Words R) (laws : HasLaws w) (form : Form) (bag next old items : List R) (i count : ℕ) (below : Option R) → IsSameBag bag (drop i (ascending w.cmp old)) → IsRound w below count bag next items
+    → records_text w form (take (i + length items) (ascending w.cmp old)) ≡ records_text w form (take i (ascending w.cmp old)) ++ records_text w form items
+round-lines w laws form bag next old items i count below same round = ap (records_text w form) (round-taken w laws bag next old items i count below same round) ∙ flat_map-append (record_text w form) (take i (ascending w.cmp old)) items
 
 -- below a limit are the first of an ascending list, so without some of them so many fewer
 module _ {X : Type 0} (lt : X → X → Bool) (o : IsStrictWeakOrder lt) (limit : X) where
@@ -339,24 +339,24 @@ module _ {X : Type 0} (lt : X → X → Bool) (o : IsStrictWeakOrder lt) (limit 
       ]
 
 pub round-passed :
-    (bag next old items : List Pair) (i count : ℕ) (below : Option Pair) → IsSameBag bag (drop i (ascending pair_cmp old)) → IsRound below (count - i) bag next items → i ≤ count → i ≤ popped_count below old count
-    → i + length items ≤ popped_count below old count
-round-passed bag next old items i count None same round h l = omega (arith, round.few, h)
-round-passed bag next old items i count (Some limit) same round h l =
-    let p : Pair → Bool = λ y. is_before pair_cmp y limit in
-    let asc = ascending pair_cmp old in
-    let less : i + count_by p (drop i asc) ≡ count_by p asc = fewer_below (is_before pair_cmp) (ranks pair_total) limit asc i (rising old) (omega (arith, l, below_same old limit)) in
-    omega (arith, round.few, h, l, less, same p, below_same old limit)
+    {R : Type 0} (w : Words R) (laws : HasLaws w) (bag next old items : List R) (i count : ℕ) (below : Option R) → IsSameBag bag (drop i (ascending w.cmp old)) → IsRound w below (count - i) bag next items → i ≤ count → i ≤ popped_count w below old count
+    → i + length items ≤ popped_count w below old count
+round-passed w laws bag next old items i count None same round h l = omega (arith, round.few, h)
+round-passed {R} w laws bag next old items i count (Some limit) same round h l =
+    let p : R → Bool = λ y. is_before w.cmp y limit in
+    let asc = ascending w.cmp old in
+    let less : i + count_by p (drop i asc) ≡ count_by p asc = fewer_below (is_before w.cmp) (ranks laws.order) limit asc i (rising w laws old) (omega (arith, l, below_same w laws old limit)) in
+    omega (arith, round.few, h, l, less, same p, below_same w laws old limit)
 
 -- a round of no record: nothing passes any more
 pub round-ends :
-    (below : Option Pair) (bag next old items : List Pair) (i count left : ℕ) → items ≡ [] → IsSameBag bag (drop i (ascending pair_cmp old)) → IsRound below left bag next items → i ≤ popped_count below old count
-    → (take (popped_count below old count) (ascending pair_cmp old) ≡ take i (ascending pair_cmp old)) × IsSameBag next (without_front pair_cmp old (popped_count below old count))
-round-ends below bag next old items i count left none same round l =
-    let asc = ascending pair_cmp old in
-    let all = popped-all below bag old i count same (round.end none) l in
-    let here : i + length items ≡ i = ap (λ (xs : List Pair). i + length xs) none ∙ omega arith in
-    (all.0, λ p. round-left bag next old items i left below same round p ∙ ap (λ (n : ℕ). count_by p (drop n asc)) here ∙ sym (same p) ∙ all.1 p)
+    {R : Type 0} (w : Words R) (laws : HasLaws w) (below : Option R) (bag next old items : List R) (i count left : ℕ) → items ≡ [] → IsSameBag bag (drop i (ascending w.cmp old)) → IsRound w below left bag next items → i ≤ popped_count w below old count
+    → (take (popped_count w below old count) (ascending w.cmp old) ≡ take i (ascending w.cmp old)) × IsSameBag next (without_front w.cmp old (popped_count w below old count))
+round-ends {R} w laws below bag next old items i count left none same round l =
+    let asc = ascending w.cmp old in
+    let all = popped-all w laws below bag old i count same (round.end none) l in
+    let here : i + length items ≡ i = ap (λ (xs : List R). i + length xs) none ∙ omega arith in
+    (all.0, λ p. round-left w laws bag next old items i left below same round p ∙ ap (λ (n : ℕ). count_by p (drop n asc)) here ∙ sym (same p) ∙ all.1 p)
 
 -- one text more behind what was gathered
 pub gathers-more : (before mid now : Option (List ℕ)) (had between has text more : List ℕ) → Gathers before mid had text between → Gathers mid now between more has → Gathers before now had (text ++ more) has
@@ -390,36 +390,36 @@ takes-part before mid now had between text more first took =
     subst P all (part_of_more before now (first.put ++ between) more (takes_and_part before mid now first.put between first.took took))
 
 -- the lines of the first records are those of fewer, and then the others'
-lines-around : (form : Form) (xs : List Pair) (i n : ℕ) → i ≤ n → records_text form (take n xs) ≡ records_text form (take i xs) ++ records_text form (take (n - i) (drop i xs))
-lines-around form xs i n h =
+lines-around : {R : Type 0} (w : Words R) (form : Form) (xs : List R) (i n : ℕ) → i ≤ n → records_text w form (take n xs) ≡ records_text w form (take i xs) ++ records_text w form (take (n - i) (drop i xs))
+lines-around w form xs i n h =
     let sum : i + (n - i) ≡ n = omega arith in
-    ap (λ (m : ℕ). records_text form (take m xs)) (sym sum) ∙ ap (records_text form) (take-add i (n - i) xs) ∙ flat_map-append (record_text form) (take i xs) (take (n - i) (drop i xs))
+    ap (λ (m : ℕ). records_text w form (take m xs)) (sym sum) ∙ ap (records_text w form) (take-add i (n - i) xs) ∙ flat_map-append (record_text w form) (take i xs) (take (n - i) (drop i xs))
 
-pub popped-part : (form : Form) (before now : Option (List ℕ)) (had has : List ℕ) (xs : List Pair) (i n : ℕ) → i ≤ n → Gathers before now had (records_text form (take i xs)) has → GathersPart before now had (records_text form (take n xs)) has
-popped-part form before now had has xs i n h step = record { part = records_text form (take i xs); rest = records_text form (take (n - i) (drop i xs)); all = lines-around form xs i n h; gathers = step }
+pub popped-part : {R : Type 0} (w : Words R) (form : Form) (before now : Option (List ℕ)) (had has : List ℕ) (xs : List R) (i n : ℕ) → i ≤ n → Gathers before now had (records_text w form (take i xs)) has → GathersPart before now had (records_text w form (take n xs)) has
+popped-part w form before now had has xs i n h step = record { part = records_text w form (take i xs); rest = records_text w form (take (n - i) (drop i xs)); all = lines-around w form xs i n h; gathers = step }
 
 -- what was gathered and then a part of what it is with a round's lines
 pub round-put :
-    (form : Form) (before mid now : Option (List ℕ)) (had between : List ℕ) (xs items : List Pair) (i n : ℕ) → i + length items ≤ n → take (i + length items) xs ≡ take i xs ++ items → Gathers before mid had (records_text form (take i xs)) between
-    → TakesPart mid now (between ++ records_text form items) → TakesPart before now (had ++ records_text form (take n xs))
-round-put form before mid now had between xs items i n h e step took =
+    {R : Type 0} (w : Words R) (form : Form) (before mid now : Option (List ℕ)) (had between : List ℕ) (xs items : List R) (i n : ℕ) → i + length items ≤ n → take (i + length items) xs ≡ take i xs ++ items → Gathers before mid had (records_text w form (take i xs)) between
+    → TakesPart mid now (between ++ records_text w form items) → TakesPart before now (had ++ records_text w form (take n xs))
+round-put w form before mid now had between xs items i n h e step took =
     let P : List ℕ → Type 0 = λ t. TakesPart before now t in
-    let text = records_text form (take i xs) in
-    let lines = records_text form items in
-    let rest = records_text form (take (n - (i + length items)) (drop (i + length items) xs)) in
-    let both : records_text form (take (i + length items) xs) ≡ text ++ lines = ap (records_text form) e ∙ flat_map-append (record_text form) (take i xs) items in
-    let all : (step.put ++ (between ++ lines)) ++ rest ≡ had ++ records_text form (take n xs) =
+    let text = records_text w form (take i xs) in
+    let lines = records_text w form items in
+    let rest = records_text w form (take (n - (i + length items)) (drop (i + length items) xs)) in
+    let both : records_text w form (take (i + length items) xs) ≡ text ++ lines = ap (records_text w form) e ∙ flat_map-append (record_text w form) (take i xs) items in
+    let all : (step.put ++ (between ++ lines)) ++ rest ≡ had ++ records_text w form (take n xs) =
     ap (λ (t : List ℕ). t ++ rest) (sym (append_assoc step.put between lines) ∙ ap (λ (t : List ℕ). t ++ lines) (sym step.kept) ∙ append_assoc had text lines ∙ ap (λ (t : List ℕ). had ++ t) (sym both))
-    ∙ append_assoc had (records_text form (take (i + length items) xs)) rest ∙ ap (λ (t : List ℕ). had ++ t) (sym (lines-around form xs (i + length items) n h)) in
+    ∙ append_assoc had (records_text w form (take (i + length items) xs)) rest ∙ ap (λ (t : List ℕ). had ++ t) (sym (lines-around w form xs (i + length items) n h)) in
     subst P all (part_of_more before now (step.put ++ (between ++ lines)) rest (takes_and_part before mid now step.put (between ++ lines) step.took took))
 
 -- a part of what was gathered is one of what it is with more lines
-pub lines-put : (form : Form) (before mid now : Option (List ℕ)) (had between : List ℕ) (items : List Pair) (i : ℕ) → i ≤ length items → Gathers before mid had (records_text form (take i items)) between → TakesPart mid now between → TakesPart before now (had ++ records_text form items)
-lines-put form before mid now had between items i h step took =
-    let P : List Pair → Type 0 = λ xs. TakesPart before now (had ++ records_text form xs) in
+pub lines-put : {R : Type 0} (w : Words R) (form : Form) (before mid now : Option (List ℕ)) (had between : List ℕ) (items : List R) (i : ℕ) → i ≤ length items → Gathers before mid had (records_text w form (take i items)) between → TakesPart mid now between → TakesPart before now (had ++ records_text w form items)
+lines-put {R} w form before mid now had between items i h step took =
+    let P : List R → Type 0 = λ xs. TakesPart before now (had ++ records_text w form xs) in
     let Q : List ℕ → Type 0 = λ t. TakesPart before now (had ++ t) in
     subst P (take-length items)
-    (subst Q (sym (lines-around form items i (length items) h)) (takes-part before mid now had between (records_text form (take i items)) (records_text form (take (length items - i) (drop i items))) step took))
+    (subst Q (sym (lines-around w form items i (length items) h)) (takes-part before mid now had between (records_text w form (take i items)) (records_text w form (take (length items - i) (drop i items))) step took))
 
 -- a part of a text is a part of a longer one
 pub writes-more : (before now : Option (List ℕ)) (had text more has : List ℕ) (stop : Stop) → NotByFile stop → WritesPart before now had text has stop → WritesPart before now had (text ++ more) has stop

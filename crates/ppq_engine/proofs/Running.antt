@@ -2,13 +2,13 @@
 use Rattle.std.proofs.Common.{◌≡◌, ℕ, ◌+◌, ◌-◌, ◌<◌, ◌≤◌, List, [], ◌∷◌, ◌++◌, length, take, drop, min, max, Option, Some, None, refl, sym, ap, ap₂, ◌∙◌, subst, arith, append_assoc, suc, drop-cons, take-add, take-append-drop}
 use Rattle.std.specs.Prelude.{slice_get, count_by, nat_le, if◌then◌else◌}
 use Rattle.std.proofs.lemmas.Option.{get_or_from_slice_get}
+use Rattle.ppq_script.specs.Words.{Words}
+use Rattle.ppq_engine.proofs.Orders.{HasLaws}
 use Rattle.ppq_script.specs.declared.form.Form.{Form}
-use Rattle.ppq_script.specs.ppq_record.declared.pair.Pair.{Pair}
-use Rattle.ppq_script.specs.ppq_record.Pair.{pair_cmp, pair_same}
 use Rattle.ppq_script.specs.ppq_record.Order.{is_before}
 use Rattle.ppq_script.specs.ppq_record.Bag.{IsSameBag, ascending, front, first_of}
 use Rattle.ppq_script.proofs.ppq_record.Order.{IsSameBag-cons, IsSameBag-append, IsSameBag-length}
-use Rattle.ppq_script.specs.ppq_record.Given.{generated}
+use Rattle.ppq_load.specs.Given.{generated_by}
 use Rattle.ppq_script.proofs.ppq_record.Fronts.{ascending-same_bag}
 use Rattle.ppq_script.specs.ppq_outside.Told.{TakesAll, TakesPart}
 use Rattle.ppq_script.proofs.ppq_outside.Takes.{takes_two, takes_and_part}
@@ -19,122 +19,121 @@ use Rattle.ppq_script.specs.declared.session.Session.TheVariants.{Outside, InBul
 use Rattle.ppq_engine.specs.Output.{State, outside, least_text, size_text, records_text, all_text, more_text, summary_text, limited_count, limited_text, popped_in, text_of, after, state_from, output_from, load_from, crest_from, bag_of, load_of, TakesAtLeast}
 use Rattle.ppq_engine.specs.Gathers.{Gathers}
 use Rattle.ppq_engine.specs.Running.{IsGathered}
-use Rattle.ppq_engine.proofs.Pairs.{pair_total}
 
 -- equal multisets have one ascending list, and as many records below a limit
-same_order : (one other : List Pair) → IsSameBag one other → ascending pair_cmp one ≡ ascending pair_cmp other
-same_order one other same = ascending-same_bag pair_total pair_same one other same
+same_order : {R : Type 0} (w : Words R) (laws : HasLaws w) (one other : List R) → IsSameBag one other → ascending w.cmp one ≡ ascending w.cmp other
+same_order w laws one other same = ascending-same_bag laws.order laws.same one other same
 
-same_count : (one other : List Pair) (limit : Pair) (count : ℕ) → IsSameBag one other → limited_count one limit count ≡ limited_count other limit count
-same_count one other limit count same = ap (λ (n : ℕ). min count n) (same (λ x. is_before pair_cmp x limit))
+same_count : {R : Type 0} (w : Words R) (one other : List R) (limit : R) (count : ℕ) → IsSameBag one other → limited_count w one limit count ≡ limited_count w other limit count
+same_count w one other limit count same = ap (λ (n : ℕ). min count n) (same (λ x. is_before w.cmp x limit))
 
 -- two states with equal multisets, in one session, of which as many records were popped
-pub record IsSameState (one other : State) : Type 0 where
+pub record IsSameState {R : Type 0} (one other : State R) : Type 0 where
   pub bag : IsSameBag one.bag other.bag
   pub session : one.session ≡ other.session
   pub popped : one.popped ≡ other.popped
 
-pub outside-same : (one other : List Pair) → IsSameBag one other → IsSameState (outside one) (outside other)
+pub outside-same : {R : Type 0} (one other : List R) → IsSameBag one other → IsSameState (outside one) (outside other)
 outside-same one other same = record { bag = same; session = refl; popped = refl }
 
-same_popped : (session : Session) (one other : List Pair) → IsSameBag one other → popped_in session one ≡ popped_in session other
-same_popped Outside one other same = refl
-same_popped InBulk one other same = refl
-same_popped (InLimit limit) one other same = same_count one other limit 1 same
+same_popped : {R : Type 0} (w : Words R) (session : Session R) (one other : List R) → IsSameBag one other → popped_in w session one ≡ popped_in w session other
+same_popped w Outside one other same = refl
+same_popped w InBulk one other same = refl
+same_popped w (InLimit limit) one other same = same_count w one other limit 1 same
 
-popped-same : (one other : State) → IsSameState one other → popped_in one.session one.bag ≡ popped_in other.session other.bag
-popped-same one other same = ap (λ (s : Session). popped_in s one.bag) same.session ∙ same_popped other.session one.bag other.bag same.bag
+popped-same : {R : Type 0} (w : Words R) (one other : State R) → IsSameState one other → popped_in w one.session one.bag ≡ popped_in w other.session other.bag
+popped-same {R} w one other same = ap (λ (s : Session R). popped_in w s one.bag) same.session ∙ same_popped w other.session one.bag other.bag same.bag
 
 -- what a limit session answers of the smallest record
-limited-same : (form : Form) (one other : State) → IsSameState one other → limited_text form (first_of (front pair_cmp one.bag (popped_in one.session one.bag))) ≡ limited_text form (first_of (front pair_cmp other.bag (popped_in other.session other.bag)))
-limited-same form one other same = ap₂ (λ (n : ℕ) (q : List Pair). limited_text form (first_of (take n q))) (popped-same one other same) (same_order one.bag other.bag same.bag)
+limited-same : {R : Type 0} (w : Words R) (laws : HasLaws w) (form : Form) (one other : State R) → IsSameState one other → limited_text w form (first_of (front w.cmp one.bag (popped_in w one.session one.bag))) ≡ limited_text w form (first_of (front w.cmp other.bag (popped_in w other.session other.bag)))
+limited-same {R} w laws form one other same = ap₂ (λ (n : ℕ) (q : List R). limited_text w form (first_of (take n q))) (popped-same w one other same) (same_order w laws one.bag other.bag same.bag)
 
 -- they print the same, and stay the same
-text-same : (form : Form) (one other : State) (command : Command) → IsSameState one other → text_of form one command ≡ text_of form other command
-text-same form one other Pop same = ap (λ (q : List Pair). least_text form (first_of (take 1 q))) (same_order one.bag other.bag same.bag)
-text-same form one other Top same = ap (λ (q : List Pair). least_text form (first_of (take 1 q))) (same_order one.bag other.bag same.bag)
-text-same form one other Size same = ap (size_text form) (IsSameBag-length one.bag other.bag same.bag)
-text-same form one other (BulkPop count) same = ap (λ (q : List Pair). records_text form (take count q)) (same_order one.bag other.bag same.bag)
-text-same form one other (BulkPopLimit limit count) same =
+text-same : {R : Type 0} (w : Words R) (laws : HasLaws w) (form : Form) (one other : State R) (command : Command R) → IsSameState one other → text_of w form one command ≡ text_of w form other command
+text-same {R} w laws form one other Pop same = ap (λ (q : List R). least_text w form (first_of (take 1 q))) (same_order w laws one.bag other.bag same.bag)
+text-same {R} w laws form one other Top same = ap (λ (q : List R). least_text w form (first_of (take 1 q))) (same_order w laws one.bag other.bag same.bag)
+text-same w laws form one other Size same = ap (size_text form) (IsSameBag-length one.bag other.bag same.bag)
+text-same {R} w laws form one other (BulkPop count) same = ap (λ (q : List R). records_text w form (take count q)) (same_order w laws one.bag other.bag same.bag)
+text-same {R} w laws form one other (BulkPopLimit limit count) same =
     ap₂ (λ (t u : List ℕ). t ++ u)
-    (ap₂ (λ (n : ℕ) (q : List Pair). records_text form (take n q)) (same_count one.bag other.bag limit count same.bag) (same_order one.bag other.bag same.bag))
-    (ap (λ (n : ℕ). if nat_le n count then all_text form else more_text form) (same.bag (λ x. is_before pair_cmp x limit)))
-text-same form one other (Drain count) same = ap (λ (q : List Pair). summary_text form (take count q)) (same_order one.bag other.bag same.bag)
-text-same form one other LimitTop same = limited-same form one other same
-text-same form one other LimitPop same = limited-same form one other same
-text-same form one other _ same = refl
+    (ap₂ (λ (n : ℕ) (q : List R). records_text w form (take n q)) (same_count w one.bag other.bag limit count same.bag) (same_order w laws one.bag other.bag same.bag))
+    (ap (λ (n : ℕ). if nat_le n count then all_text form else more_text form) (same.bag (λ x. is_before w.cmp x limit)))
+text-same {R} w laws form one other (Drain count) same = ap (λ (q : List R). summary_text w form (take count q)) (same_order w laws one.bag other.bag same.bag)
+text-same w laws form one other LimitTop same = limited-same w laws form one other same
+text-same w laws form one other LimitPop same = limited-same w laws form one other same
+text-same w laws form one other _ same = refl
 
-dropped_same : (one other : List Pair) (n m : ℕ) → n ≡ m → IsSameBag one other → IsSameBag (drop n (ascending pair_cmp one)) (drop m (ascending pair_cmp other))
-dropped_same one other n m e same p = ap₂ (λ (k : ℕ) (q : List Pair). count_by p (drop k q)) e (same_order one other same)
+dropped_same : {R : Type 0} (w : Words R) (laws : HasLaws w) (one other : List R) (n m : ℕ) → n ≡ m → IsSameBag one other → IsSameBag (drop n (ascending w.cmp one)) (drop m (ascending w.cmp other))
+dropped_same {R} w laws one other n m e same p = ap₂ (λ (k : ℕ) (q : List R). count_by p (drop k q)) e (same_order w laws one other same)
 
-with-bag : (one other : State) (b c : List Pair) → IsSameState one other → IsSameBag b c → IsSameState (record one { bag = b }) (record other { bag = c })
+with-bag : {R : Type 0} (one other : State R) (b c : List R) → IsSameState one other → IsSameBag b c → IsSameState (record one { bag = b }) (record other { bag = c })
 with-bag one other b c same bags = record { bag = bags; session = same.session; popped = same.popped }
 
-module _ (given : ℕ → List Pair) where
-  after-same : (one other : State) (command : Command) → IsSameState one other → IsSameState (after given one command) (after given other command)
+module _ {R : Type 0} (w : Words R) (laws : HasLaws w) (given : ℕ → List R) where
+  after-same : (one other : State R) (command : Command R) → IsSameState one other → IsSameState (after w given one command) (after w given other command)
   after-same one other (Push item) same = with-bag one other (item ∷ one.bag) (item ∷ other.bag) same (IsSameBag-cons item one.bag other.bag same.bag)
-  after-same one other Pop same = with-bag one other (drop 1 (ascending pair_cmp one.bag)) (drop 1 (ascending pair_cmp other.bag)) same (dropped_same one.bag other.bag 1 1 refl same.bag)
+  after-same one other Pop same = with-bag one other (drop 1 (ascending w.cmp one.bag)) (drop 1 (ascending w.cmp other.bag)) same (dropped_same w laws one.bag other.bag 1 1 refl same.bag)
   after-same one other (Bulk file size) same = with-bag one other (given file ++ one.bag) (given file ++ other.bag) same (IsSameBag-append (given file) (given file) one.bag other.bag (λ p. refl) same.bag)
   after-same one other (Gen seed count) same =
-      with-bag one other (generated seed count ++ one.bag) (generated seed count ++ other.bag) same (IsSameBag-append (generated seed count) (generated seed count) one.bag other.bag (λ p. refl) same.bag)
-  after-same one other (BulkPop count) same = with-bag one other (drop count (ascending pair_cmp one.bag)) (drop count (ascending pair_cmp other.bag)) same (dropped_same one.bag other.bag count count refl same.bag)
+      with-bag one other (generated_by w.COUNT w.of_fields seed count ++ one.bag) (generated_by w.COUNT w.of_fields seed count ++ other.bag) same (IsSameBag-append (generated_by w.COUNT w.of_fields seed count) (generated_by w.COUNT w.of_fields seed count) one.bag other.bag (λ p. refl) same.bag)
+  after-same one other (BulkPop count) same = with-bag one other (drop count (ascending w.cmp one.bag)) (drop count (ascending w.cmp other.bag)) same (dropped_same w laws one.bag other.bag count count refl same.bag)
   after-same one other (BulkPopLimit limit count) same =
-      let n = limited_count one.bag limit count in
-      let m = limited_count other.bag limit count in
-      with-bag one other (drop n (ascending pair_cmp one.bag)) (drop m (ascending pair_cmp other.bag)) same (dropped_same one.bag other.bag n m (same_count one.bag other.bag limit count same.bag) same.bag)
-  after-same one other (Drain count) same = with-bag one other (drop count (ascending pair_cmp one.bag)) (drop count (ascending pair_cmp other.bag)) same (dropped_same one.bag other.bag count count refl same.bag)
+      let n = limited_count w one.bag limit count in
+      let m = limited_count w other.bag limit count in
+      with-bag one other (drop n (ascending w.cmp one.bag)) (drop m (ascending w.cmp other.bag)) same (dropped_same w laws one.bag other.bag n m (same_count w one.bag other.bag limit count same.bag) same.bag)
+  after-same one other (Drain count) same = with-bag one other (drop count (ascending w.cmp one.bag)) (drop count (ascending w.cmp other.bag)) same (dropped_same w laws one.bag other.bag count count refl same.bag)
   after-same one other BulkBegin same = record { bag = same.bag; session = refl; popped = refl }
   after-same one other (BulkPush pass item) same = with-bag one other (item ∷ one.bag) (item ∷ other.bag) same (IsSameBag-cons item one.bag other.bag same.bag)
   after-same one other BulkEnd same = outside-same one.bag other.bag same.bag
   after-same one other (LimitBegin limit) same = record { bag = same.bag; session = refl; popped = refl }
   after-same one other (LimitPush pass item) same = with-bag one other (item ∷ one.bag) (item ∷ other.bag) same (IsSameBag-cons item one.bag other.bag same.bag)
   after-same one other LimitPop same =
-      let n = popped_in one.session one.bag in
-      let m = popped_in other.session other.bag in
-      record { bag = dropped_same one.bag other.bag n m (popped-same one other same) same.bag; session = same.session; popped = omega (arith, same.popped, popped-same one other same) }
+      let n = popped_in w one.session one.bag in
+      let m = popped_in w other.session other.bag in
+      record { bag = dropped_same w laws one.bag other.bag n m (popped-same w one other same) same.bag; session = same.session; popped = omega (arith, same.popped, popped-same w one other same) }
   after-same one other LimitEnd same = outside-same one.bag other.bag same.bag
   after-same one other _ same = same
 
   -- the same of several commands
-  pub state_from-same : (one other : State) (cs : List Command) → IsSameState one other → IsSameState (state_from given one cs) (state_from given other cs)
+  pub state_from-same : (one other : State R) (cs : List (Command R)) → IsSameState one other → IsSameState (state_from w given one cs) (state_from w given other cs)
   state_from-same one other [] same = same
-  state_from-same one other (c ∷ cs) same = state_from-same (after given one c) (after given other c) cs (after-same one other c same)
+  state_from-same one other (c ∷ cs) same = state_from-same (after w given one c) (after w given other c) cs (after-same one other c same)
 
   -- commands behind others
-  pub state_from-append : (state : State) (cs ds : List Command) → state_from given state (cs ++ ds) ≡ state_from given (state_from given state cs) ds
+  pub state_from-append : (state : State R) (cs ds : List (Command R)) → state_from w given state (cs ++ ds) ≡ state_from w given (state_from w given state cs) ds
   state_from-append state [] ds = refl
-  state_from-append state (c ∷ cs) ds = state_from-append (after given state c) cs ds
+  state_from-append state (c ∷ cs) ds = state_from-append (after w given state c) cs ds
 
-  pub load_from-append : (state : State) (cs ds : List Command) → load_from given state (cs ++ ds) ≡ max (load_from given state cs) (load_from given (state_from given state cs) ds)
+  pub load_from-append : (state : State R) (cs ds : List (Command R)) → load_from w given state (cs ++ ds) ≡ max (load_from w given state cs) (load_from w given (state_from w given state cs) ds)
   load_from-append state [] ds = omega arith
-  load_from-append state (c ∷ cs) ds = omega (arith, load_from-append (after given state c) cs ds)
+  load_from-append state (c ∷ cs) ds = omega (arith, load_from-append (after w given state c) cs ds)
 
-  pub crest_from-append : (state : State) (cs ds : List Command) → crest_from given state (cs ++ ds) ≡ max (crest_from given state cs) (crest_from given (state_from given state cs) ds)
+  pub crest_from-append : (state : State R) (cs ds : List (Command R)) → crest_from w given state (cs ++ ds) ≡ max (crest_from w given state cs) (crest_from w given (state_from w given state cs) ds)
   crest_from-append state [] ds = omega arith
-  crest_from-append state (c ∷ cs) ds = omega (arith, crest_from-append (after given state c) cs ds)
+  crest_from-append state (c ∷ cs) ds = omega (arith, crest_from-append (after w given state c) cs ds)
 
   -- a multiset is no larger than the load, or than the multiset before
-  bag-le-load : (state : State) (cs : List Command) → length (state_from given state cs).bag ≤ max (length state.bag) (load_from given state cs)
+  bag-le-load : (state : State R) (cs : List (Command R)) → length (state_from w given state cs).bag ≤ max (length state.bag) (load_from w given state cs)
   bag-le-load state [] = omega arith
-  bag-le-load state (c ∷ cs) = omega (arith, bag-le-load (after given state c) cs)
+  bag-le-load state (c ∷ cs) = omega (arith, bag-le-load (after w given state c) cs)
 
-  pub bag_of-le : (cs : List Command) → length (bag_of given cs) ≤ load_of given cs
-  bag_of-le cs = let nil : length {A = Pair} [] ≡ 0 = refl in omega (arith, bag-le-load (outside []) cs, nil)
+  pub bag_of-le : (cs : List (Command R)) → length (bag_of w given cs) ≤ load_of w given cs
+  bag_of-le cs = let nil : length {A = R} [] ≡ 0 = refl in omega (arith, bag-le-load (outside []) cs, nil)
 
-module _ (form : Form) (given : ℕ → List Pair) where
+module _ {R : Type 0} (w : Words R) (laws : HasLaws w) (form : Form) (given : ℕ → List R) where
   -- equal states print the same
-  pub output_from-same : (one other : State) (cs : List Command) → IsSameState one other → output_from form given one cs ≡ output_from form given other cs
+  pub output_from-same : (one other : State R) (cs : List (Command R)) → IsSameState one other → output_from w form given one cs ≡ output_from w form given other cs
   output_from-same one other [] same = refl
-  output_from-same one other (c ∷ cs) same = ap₂ (λ (t u : List ℕ). t ++ u) (text-same form one other c same) (output_from-same (after given one c) (after given other c) cs (after-same given one other c same))
+  output_from-same one other (c ∷ cs) same = ap₂ (λ (t u : List ℕ). t ++ u) (text-same w laws form one other c same) (output_from-same (after w given one c) (after w given other c) cs (after-same w laws given one other c same))
 
   -- commands behind others
-  pub output_from-append : (state : State) (cs ds : List Command) → output_from form given state (cs ++ ds) ≡ output_from form given state cs ++ output_from form given (state_from given state cs) ds
+  pub output_from-append : (state : State R) (cs ds : List (Command R)) → output_from w form given state (cs ++ ds) ≡ output_from w form given state cs ++ output_from w form given (state_from w given state cs) ds
   output_from-append state [] ds = refl
   output_from-append state (c ∷ cs) ds =
-      ap (λ (t : List ℕ). text_of form state c ++ t) (output_from-append (after given state c) cs ds) ∙ sym (append_assoc (text_of form state c) (output_from form given (after given state c) cs) (output_from form given (state_from given (after given state c) cs) ds))
+      ap (λ (t : List ℕ). text_of w form state c ++ t) (output_from-append (after w given state c) cs ds) ∙ sym (append_assoc (text_of w form state c) (output_from w form given (after w given state c) cs) (output_from w form given (state_from w given (after w given state c) cs) ds))
 
 -- of the first commands, fewer and the rest of them
-pub take-fewer : (k j : ℕ) (cs : List Command) → k ≤ j → take j cs ≡ take k cs ++ take (j - k) (drop k cs)
+pub take-fewer : {R : Type 0} (k j : ℕ) (cs : List (Command R)) → k ≤ j → take j cs ≡ take k cs ++ take (j - k) (drop k cs)
 take-fewer k j cs h = let e : k + (j - k) ≡ j = omega arith in ap (λ n. take n cs) (sym e) ∙ take-add k (j - k) cs
 
 -- the first of a list and the next
@@ -143,12 +142,12 @@ take-next {X} items i item h e =
     let next : drop i items ≡ item ∷ drop (suc i) items = drop-cons items i item h ∙ ap (λ (x : X). x ∷ drop (suc i) items) (get_or_from_slice_get items i item item e) in
     take-add i 1 items ∙ ap (λ (xs : List X). take i items ++ take 1 xs) next
 
-module _ (given : ℕ → List Pair) where
-  pub load-take : (k j : ℕ) (cs : List Command) → k ≤ j → load_of given (take k cs) ≤ load_of given (take j cs)
-  load-take k j cs h = omega (arith, ap (load_of given) (take-fewer k j cs h), load_from-append given (outside []) (take k cs) (take (j - k) (drop k cs)))
+module _ {R : Type 0} (w : Words R) (laws : HasLaws w) (given : ℕ → List R) where
+  pub load-take : (k j : ℕ) (cs : List (Command R)) → k ≤ j → load_of w given (take k cs) ≤ load_of w given (take j cs)
+  load-take k j cs h = omega (arith, ap (load_of w given) (take-fewer k j cs h), load_from-append w laws given (outside []) (take k cs) (take (j - k) (drop k cs)))
 
-  pub load-take_all : (k : ℕ) (cs : List Command) → load_of given (take k cs) ≤ load_of given cs
-  load-take_all k cs = omega (arith, ap (load_of given) (take-append-drop k cs), load_from-append given (outside []) (take k cs) (drop k cs))
+  pub load-take_all : (k : ℕ) (cs : List (Command R)) → load_of w given (take k cs) ≤ load_of w given cs
+  load-take_all k cs = omega (arith, ap (load_of w given) (take-append-drop k cs), load_from-append w laws given (outside []) (take k cs) (drop k cs))
 
 -- one text more
 pub gathered-more :

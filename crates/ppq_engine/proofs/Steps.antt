@@ -2,8 +2,9 @@
 use Rattle.std.proofs.Common.{◌≡◌, ℕ, ◌≤◌, List, [], ◌++◌, length, take, max, Option, refl, sym, ap, ◌∙◌, subst, arith, append_assoc}
 use Rattle.std.specs.Prelude.{count_by}
 use Rattle.std.proofs.Math.Seq.{take-length}
+use Rattle.ppq_script.specs.Words.{Words}
+use Rattle.ppq_engine.proofs.Orders.{HasLaws}
 use Rattle.ppq_script.specs.declared.form.Form.{Form}
-use Rattle.ppq_script.specs.ppq_record.declared.pair.Pair.{Pair}
 use Rattle.ppq_script.specs.ppq_record.Bag.{IsSameBag}
 use Rattle.ppq_script.proofs.ppq_record.Order.{IsSameBag-length}
 use Rattle.ppq_script.specs.ppq_outside.Shown.{Shown}
@@ -25,10 +26,10 @@ regroup : (out text part rest behind : List ℕ) → text ≡ part ++ rest → (
 regroup out text part rest behind e =
     ap (λ (t : List ℕ). (out ++ t) ++ behind) e ∙ ap (λ (t : List ℕ). t ++ behind) (sym (append_assoc out part rest)) ∙ append_assoc (out ++ part) rest behind
 
-module _ (form : Form) (given : ℕ → List Pair) (before : Option (List ℕ)) where
+module _ {R : Type 0} (w : Words R) (laws : HasLaws w) (form : Form) (given : ℕ → List R) (before : Option (List ℕ)) where
   pub run-begin :
-      (gathered : List ℕ) (bag : List Pair) (size peak : ℕ) (sizes : Numbers) (slots : List Shown) (commands : List Command)
-      → gathered ≡ [] → bag ≡ [] → size ≡ 0 → peak ≡ 0 → HasRun form given before before gathered bag size peak sizes slots (take 0 commands)
+      (gathered : List ℕ) (bag : List R) (size peak : ℕ) (sizes : Numbers) (slots : List Shown) (commands : List (Command R))
+      → gathered ≡ [] → bag ≡ [] → size ≡ 0 → peak ≡ 0 → HasRun w form given before before gathered bag size peak sizes slots (take 0 commands)
   run-begin gathered bag size peak sizes slots commands e f s h = record {
     closed = refl;
     output = record { written = []; told = takes_nothing before; all = sym e };
@@ -38,76 +39,76 @@ module _ (form : Form) (given : ℕ → List Pair) (before : Option (List ℕ)) 
     crest = omega arith;
   }
 
-  module _ (mid : Option (List ℕ)) (had : List ℕ) (bag : List Pair) (size peak : ℕ) (sizes : Numbers) (slots : List Shown) (cs : List Command) (run : HasRun form given before mid had bag size peak sizes slots cs) where
+  module _ (mid : Option (List ℕ)) (had : List ℕ) (bag : List R) (size peak : ℕ) (sizes : Numbers) (slots : List Shown) (cs : List (Command R)) (run : HasRun w form given before mid had bag size peak sizes slots cs) where
     -- commands behind them do to the multiset of the queue what they do to the multiset of the commands
-    state-behind : (xs : List Command) → state_of given (cs ++ xs) ≡ state_from given (outside (bag_of given cs)) xs
-    state-behind xs = state_from-append given (outside []) cs xs ∙ ap (λ (s : State). state_from given s xs) run.closed
+    state-behind : (xs : List (Command R)) → state_of w given (cs ++ xs) ≡ state_from w given (outside (bag_of w given cs)) xs
+    state-behind xs = state_from-append w laws given (outside []) cs xs ∙ ap (λ (s : State R). state_from w given s xs) run.closed
 
-    pub output-behind : (xs : List Command) → output_of form given (cs ++ xs) ≡ output_of form given cs ++ output_from form given (outside bag) xs
+    pub output-behind : (xs : List (Command R)) → output_of w form given (cs ++ xs) ≡ output_of w form given cs ++ output_from w form given (outside bag) xs
     output-behind xs =
-        let same = outside-same bag (bag_of given cs) run.holds in
-        output_from-append form given (outside []) cs xs
-        ∙ ap (λ (t : List ℕ). output_of form given cs ++ t) (ap (λ (s : State). output_from form given s xs) run.closed ∙ sym (output_from-same form given (outside bag) (outside (bag_of given cs)) xs same))
+        let same = outside-same bag (bag_of w given cs) run.holds in
+        output_from-append w laws form given (outside []) cs xs
+        ∙ ap (λ (t : List ℕ). output_of w form given cs ++ t) (ap (λ (s : State R). output_from w form given s xs) run.closed ∙ sym (output_from-same w laws form given (outside bag) (outside (bag_of w given cs)) xs same))
 
-    load-behind : (xs : List Command) → load_of given (cs ++ xs) ≡ max (load_of given cs) (load_from given (outside (bag_of given cs)) xs)
-    load-behind xs = load_from-append given (outside []) cs xs ∙ ap (λ (s : State). max (load_of given cs) (load_from given s xs)) run.closed
+    load-behind : (xs : List (Command R)) → load_of w given (cs ++ xs) ≡ max (load_of w given cs) (load_from w given (outside (bag_of w given cs)) xs)
+    load-behind xs = load_from-append w laws given (outside []) cs xs ∙ ap (λ (s : State R). max (load_of w given cs) (load_from w given s xs)) run.closed
 
-    crest-behind : (xs : List Command) → crest_of given (cs ++ xs) ≡ max (crest_of given cs) (crest_from given (outside (bag_of given cs)) xs)
-    crest-behind xs = crest_from-append given (outside []) cs xs ∙ ap (λ (s : State). max (crest_of given cs) (crest_from given s xs)) run.closed
+    crest-behind : (xs : List (Command R)) → crest_of w given (cs ++ xs) ≡ max (crest_of w given cs) (crest_from w given (outside (bag_of w given cs)) xs)
+    crest-behind xs = crest_from-append w laws given (outside []) cs xs ∙ ap (λ (s : State R). max (crest_of w given cs) (crest_from w given s xs)) run.closed
 
-    module _ (p : Part) (workers : ℕ) (is : HasItsLines workers p) (long : HasLength given (first_in p)) where
-      abbrev part : List Command
+    module _ (p : Part R) (workers : ℕ) (is : HasItsLines w workers p) (long : HasLength w given (first_in p)) where
+      abbrev part : List (Command R)
       part = commands_in p
 
       -- the peak that the first commands of a part are to reach is no more than the load with them
-      pub peak-run : (higher n : ℕ) → higher ≤ max peak (size_from none_go size (take n part)) → higher ≤ load_of given (cs ++ take n part)
+      pub peak-run : (higher n : ℕ) → higher ≤ max peak (size_from w none_go size (take n part)) → higher ≤ load_of w given (cs ++ take n part)
       peak-run higher n up =
           let xs = take n part in
-          let all = bag_of given cs in
-          omega (arith, up, ap (λ (m : ℕ). size_from none_go m xs) run.counted, run.highest, part-grows given all n p workers is long, bag_of-le given cs, load-behind xs)
+          let all = bag_of w given cs in
+          omega (arith, up, ap (λ (m : ℕ). size_from w none_go m xs) run.counted, run.highest, part-grows w laws given all n p workers is long, bag_of-le w laws given cs, load-behind xs)
 
       -- a part more was run
       pub run-part :
-          (now : Option (List ℕ)) (has : List ℕ) (next : List Pair) (new_size higher : ℕ) (later : List Shown)
-          → Gathers mid now had (output_from form given (outside bag) part) has → IsSameBag next (state_from given (outside bag) part).bag → length next ≡ new_size
-          → higher ≤ max peak (size_from none_go size part) → FitsWritten new_size sizes later → all_writes slots ≤ all_writes later
-          → HasRun form given before now has next new_size higher sizes later (cs ++ part)
+          (now : Option (List ℕ)) (has : List ℕ) (next : List R) (new_size higher : ℕ) (later : List Shown)
+          → Gathers mid now had (output_from w form given (outside bag) part) has → IsSameBag next (state_from w given (outside bag) part).bag → length next ≡ new_size
+          → higher ≤ max peak (size_from w none_go size part) → FitsWritten new_size sizes later → all_writes slots ≤ all_writes later
+          → HasRun w form given before now has next new_size higher sizes later (cs ++ part)
       run-part now has next new_size higher later step same sized up fits more =
           let P : List ℕ → Type 0 = λ t. IsGathered before now has t in
-          let all = bag_of given cs in
+          let all = bag_of w given cs in
           let behind = state-behind part in
-          let moved = state_from-same given (outside bag) (outside all) part (outside-same bag all run.holds) in
-          let holds : IsSameBag next (state_from given (outside all) part).bag = λ q. same q ∙ moved.bag q in
-          let here : new_size ≡ length (state_from given (outside all) part).bag = sym sized ∙ IsSameBag-length next (state_from given (outside all) part).bag holds in
+          let moved = state_from-same w laws given (outside bag) (outside all) part (outside-same bag all run.holds) in
+          let holds : IsSameBag next (state_from w given (outside all) part).bag = λ q. same q ∙ moved.bag q in
+          let here : new_size ≡ length (state_from w given (outside all) part).bag = sym sized ∙ IsSameBag-length next (state_from w given (outside all) part).bag holds in
           let whole : take (length part) part ≡ part = take-length part in
-          let Up : List Command → Type 0 = λ xs. higher ≤ max peak (size_from none_go size xs) in
-          let Load : List Command → Type 0 = λ xs. higher ≤ load_of given (cs ++ xs) in
+          let Up : List (Command R) → Type 0 = λ xs. higher ≤ max peak (size_from w none_go size xs) in
+          let Load : List (Command R) → Type 0 = λ xs. higher ≤ load_of w given (cs ++ xs) in
           record {
-            closed = behind ∙ part-closed given all p workers is ∙ ap (λ (s : State). outside s.bag) (sym behind);
-            output = subst P (sym (output-behind part)) (gathered-more before mid now had has (output_of form given cs) (output_from form given (outside bag) part) run.output step);
-            holds = λ q. holds q ∙ ap (λ (s : State). count_by q s.bag) (sym behind);
-            counted = here ∙ ap (λ (s : State). length s.bag) (sym behind);
+            closed = behind ∙ part-closed w laws given all p workers is ∙ ap (λ (s : State R). outside s.bag) (sym behind);
+            output = subst P (sym (output-behind part)) (gathered-more before mid now had has (output_of w form given cs) (output_from w form given (outside bag) part) run.output step);
+            holds = λ q. holds q ∙ ap (λ (s : State R). count_by q s.bag) (sym behind);
+            counted = here ∙ ap (λ (s : State R). length s.bag) (sym behind);
             highest = subst Load whole (peak-run higher (length part) (subst Up (sym whole) up));
-            crest = omega (arith, fits, here, part-crest given all p workers is, fits-more (crest_of given cs) sizes slots later run.crest more, crest-behind part);
+            crest = omega (arith, fits, here, part-crest w laws given all p workers is, fits-more (crest_of w given cs) sizes slots later run.crest more, crest-behind part);
           }
 
     -- the first commands of a part were run, and of what they and the rest print the beginning is gathered
     pub run-cut :
-        (now : Option (List ℕ)) (has : List ℕ) (commands part first behind : List Command) (done : ℕ) (text rest : List ℕ)
+        (now : Option (List ℕ)) (has : List ℕ) (commands part first behind : List (Command R)) (done : ℕ) (text rest : List ℕ)
         → commands ≡ (cs ++ part) ++ behind → take done commands ≡ cs ++ first
-        → output_from form given (outside bag) part ≡ (output_from form given (outside bag) first ++ text) ++ rest → Gathers mid now had (output_from form given (outside bag) first ++ text) has
-        → IsCut form given before now has commands done text
+        → output_from w form given (outside bag) part ≡ (output_from w form given (outside bag) first ++ text) ++ rest → Gathers mid now had (output_from w form given (outside bag) first ++ text) has
+        → IsCut w form given before now has commands done text
     run-cut now has commands part first behind done text rest split fewer all step =
         let P : List ℕ → Type 0 = λ t. IsGathered before now has t in
-        let out = output_of form given cs in
-        let printed = output_from form given (outside bag) first in
-        let more = output_from form given (state_of given (cs ++ part)) behind in
-        let here : output_of form given (take done commands) ≡ out ++ printed = ap (output_of form given) fewer ∙ output-behind first in
-        let there : out ++ (printed ++ text) ≡ output_of form given (take done commands) ++ text = sym (append_assoc out printed text) ∙ ap (λ (t : List ℕ). t ++ text) (sym here) in
+        let out = output_of w form given cs in
+        let printed = output_from w form given (outside bag) first in
+        let more = output_from w form given (state_of w given (cs ++ part)) behind in
+        let here : output_of w form given (take done commands) ≡ out ++ printed = ap (output_of w form given) fewer ∙ output-behind first in
+        let there : out ++ (printed ++ text) ≡ output_of w form given (take done commands) ++ text = sym (append_assoc out printed text) ∙ ap (λ (t : List ℕ). t ++ text) (sym here) in
         record {
           output = subst P there (gathered-more before mid now had has out (printed ++ text) run.output step);
           rest = rest ++ more;
           all =
-              ap (output_of form given) split ∙ output_from-append form given (outside []) (cs ++ part) behind ∙ ap (λ (t : List ℕ). t ++ more) (output-behind part)
-              ∙ regroup out (output_from form given (outside bag) part) (printed ++ text) rest more all ∙ ap (λ (t : List ℕ). t ++ (rest ++ more)) there;
+              ap (output_of w form given) split ∙ output_from-append w laws form given (outside []) (cs ++ part) behind ∙ ap (λ (t : List ℕ). t ++ more) (output-behind part)
+              ∙ regroup out (output_from w form given (outside bag) part) (printed ++ text) rest more all ∙ ap (λ (t : List ℕ). t ++ (rest ++ more)) there;
         }

@@ -2,8 +2,9 @@
 use Rattle.std.proofs.Common.{◌≡◌, ℕ, ◌+◌, ◌-◌, ◌<◌, ◌≤◌, Bool, List, [], ◌++◌, length, take, drop, max, Option, Some, refl, sym, ap, ap₂, ◌∙◌, subst, arith, inl, inr, append_assoc, append-nil, take-append-drop}
 use Rattle.std.specs.Prelude.{slice_get, ◌||◌}
 use Rattle.std.proofs.lemmas.Bool.{cases_lt}
+use Rattle.ppq_script.specs.Words.{Words}
+use Rattle.ppq_engine.proofs.Orders.{HasLaws}
 use Rattle.ppq_script.specs.declared.form.Form.{Form}
-use Rattle.ppq_script.specs.ppq_record.declared.pair.Pair.{Pair}
 use Rattle.ppq_script.specs.ppq_outside.Shown.{Shown, AllTell}
 use Rattle.ppq_script.specs.ppq_outside.Told.{Reply, TakesAll, TakesPart}
 use Rattle.ppq_script.proofs.ppq_outside.Takes.{part_of_more, all_is_part}
@@ -36,64 +37,64 @@ use Rattle.ppq_engine.proofs.Sizes.{peak-part, greatest-take_all}
 use Rattle.ppq_engine.proofs.Steps.{peak-run, output-behind, run-cut}
 
 -- a cut output: what is put of it is a part of all, or the output of the first commands
-pub cut-part : (form : Form) (given : ℕ → List Pair) (before mid now : Option (List ℕ)) (had : List ℕ) (commands : List Command) (done : ℕ) (part : List ℕ) → IsCut form given before mid had commands done part → TakesPart mid now had → TakesPart before now (output_of form given commands)
-cut-part form given before mid now had commands done part cut took =
+pub cut-part : {R : Type 0} (w : Words R) (form : Form) (given : ℕ → List R) (before mid now : Option (List ℕ)) (had : List ℕ) (commands : List (Command R)) (done : ℕ) (part : List ℕ) → IsCut w form given before mid had commands done part → TakesPart mid now had → TakesPart before now (output_of w form given commands)
+cut-part w form given before mid now had commands done part cut took =
     let P : List ℕ → Type 0 = λ t. TakesPart before now t in
-    subst P (sym cut.all) (part_of_more before now (output_of form given (take done commands) ++ part) cut.rest (gathered-part before mid now had (output_of form given (take done commands) ++ part) cut.output took))
+    subst P (sym cut.all) (part_of_more before now (output_of w form given (take done commands) ++ part) cut.rest (gathered-part before mid now had (output_of w form given (take done commands) ++ part) cut.output took))
 
-cut-all : (form : Form) (given : ℕ → List Pair) (before mid now : Option (List ℕ)) (had : List ℕ) (commands : List Command) (done : ℕ) → IsCut form given before mid had commands done [] → TakesAll mid now had → TakesAll before now (output_of form given (take done commands))
-cut-all form given before mid now had commands done cut took =
+cut-all : {R : Type 0} (w : Words R) (form : Form) (given : ℕ → List R) (before mid now : Option (List ℕ)) (had : List ℕ) (commands : List (Command R)) (done : ℕ) → IsCut w form given before mid had commands done [] → TakesAll mid now had → TakesAll before now (output_of w form given (take done commands))
+cut-all w form given before mid now had commands done cut took =
     let P : List ℕ → Type 0 = λ t. TakesAll before now t in
-    subst P (append-nil (output_of form given (take done commands))) (gathered-all before mid now had (output_of form given (take done commands) ++ []) cut.output took)
+    subst P (append-nil (output_of w form given (take done commands))) (gathered-all before mid now had (output_of w form given (take done commands) ++ []) cut.output took)
 
 fewer-at_least :
-    (form : Form) (given : ℕ → List Pair) (before now : Option (List ℕ)) (commands : List Command) (k i : ℕ) (part : List ℕ) → k ≤ i → TakesAll before now (output_of form given (take i commands) ++ part)
-    → TakesAtLeast before now (output_of form given (take k commands))
-fewer-at_least form given before now commands k i part h took =
+    {R : Type 0} (w : Words R) (laws : HasLaws w) (form : Form) (given : ℕ → List R) (before now : Option (List ℕ)) (commands : List (Command R)) (k i : ℕ) (part : List ℕ) → k ≤ i → TakesAll before now (output_of w form given (take i commands) ++ part)
+    → TakesAtLeast before now (output_of w form given (take k commands))
+fewer-at_least w laws form given before now commands k i part h took =
     let P : List ℕ → Type 0 = λ t. TakesAll before now t in
-    let more = output_from form given (state_of given (take k commands)) (take (i - k) (drop k commands)) in
-    let all : output_of form given (take i commands) ++ part ≡ output_of form given (take k commands) ++ (more ++ part) =
-    ap (λ (t : List ℕ). t ++ part) (ap (output_of form given) (take-fewer k i commands h) ∙ output_from-append form given (outside []) (take k commands) (take (i - k) (drop k commands))) ∙ append_assoc (output_of form given (take k commands)) more part in
-    at_least before now (output_of form given (take k commands)) (more ++ part) (subst P all took)
+    let more = output_from w form given (state_of w given (take k commands)) (take (i - k) (drop k commands)) in
+    let all : output_of w form given (take i commands) ++ part ≡ output_of w form given (take k commands) ++ (more ++ part) =
+    ap (λ (t : List ℕ). t ++ part) (ap (output_of w form given) (take-fewer k i commands h) ∙ output_from-append w laws form given (outside []) (take k commands) (take (i - k) (drop k commands))) ∙ append_assoc (output_of w form given (take k commands)) more part in
+    at_least before now (output_of w form given (take k commands)) (more ++ part) (subst P all took)
 
 cut-within :
-    (form : Form) (given : ℕ → List Pair) (before mid now : Option (List ℕ)) (had : List ℕ) (sizes : Numbers) (commands : List Command) (done : ℕ) (part : List ℕ)
-    → 0 < sizes.block → IsCut form given before mid had commands done part → TakesAll mid now had → HasNoRoom sizes (begins_limit (take (done + 1) commands)) (load_of given (take (done + 1) commands)) → TakesWithin form given before now sizes commands
-cut-within form given before mid now had sizes commands done part some cut took none = λ k room.
-    let all = gathered-all before mid now had (output_of form given (take done commands) ++ part) cut.output took in
+    {R : Type 0} (w : Words R) (laws : HasLaws w) (form : Form) (given : ℕ → List R) (before mid now : Option (List ℕ)) (had : List ℕ) (sizes : Numbers) (commands : List (Command R)) (done : ℕ) (part : List ℕ)
+    → 0 < sizes.block → IsCut w form given before mid had commands done part → TakesAll mid now had → HasNoRoom sizes (begins_limit (take (done + 1) commands)) (load_of w given (take (done + 1) commands)) → TakesWithin w form given before now sizes commands
+cut-within w laws form given before mid now had sizes commands done part some cut took none = λ k room.
+    let all = gathered-all before mid now had (output_of w form given (take done commands) ++ part) cut.output took in
     let begun : ℕ → Bool = λ n. begins_limit (take n commands) in
-    let load : ℕ → ℕ = λ n. load_of given (take n commands) in
-    elim (cases_lt done k) as (λ _. TakesAtLeast before now (output_of form given (take k commands))) [
-      | inr h ↦ fewer-at_least form given before now commands k done part h all
+    let load : ℕ → ℕ = λ n. load_of w given (take n commands) in
+    elim (cases_lt done k) as (λ _. TakesAtLeast before now (output_of w form given (take k commands))) [
+      | inr h ↦ fewer-at_least w laws form given before now commands k done part h all
       | inl h ↦
           let more : done + 1 ≤ k = omega (arith, h) in
-          absurd (room-not_none sizes (begun k) (load k) room (no_room-later sizes (begun (done + 1)) (begun k) (load (done + 1)) (load k) some (begins-take (done + 1) k commands more) (load-take given (done + 1) k commands more) none))
+          absurd (room-not_none sizes (begun k) (load k) room (no_room-later sizes (begun (done + 1)) (begun k) (load (done + 1)) (load k) some (begins-take (done + 1) k commands more) (load-take w laws given (done + 1) k commands more) none))
     ]
 
-around : (commands : List Command) (i : ℕ) (part : List Command) → take (i + length part) commands ≡ take i commands ++ part → commands ≡ (take i commands ++ part) ++ drop (i + length part) commands
-around commands i part split = sym (take-append-drop (i + length part) commands) ∙ ap (λ (cs : List Command). cs ++ drop (i + length part) commands) split
+around : {R : Type 0} (commands : List (Command R)) (i : ℕ) (part : List (Command R)) → take (i + length part) commands ≡ take i commands ++ part → commands ≡ (take i commands ++ part) ++ drop (i + length part) commands
+around {R} commands i part split = sym (take-append-drop (i + length part) commands) ∙ ap (λ (cs : List (Command R)). cs ++ drop (i + length part) commands) split
 
-module _ (form : Form) (told : Option (List ℕ → Option (List ℕ))) (script : Reading) (first : List Shown) (before : Option (List ℕ)) where
+module _ {R : Type 0} (w : Words R) (laws : HasLaws w) (form : Form) (told : Option (List ℕ → Option (List ℕ))) (script : Reading R) (first : List Shown) (before : Option (List ℕ)) where
   -- a part at a place that did not run to its end
   module _
-      (mid now : Option (List ℕ)) (had has : List ℕ) (bag : List Pair) (size peak : ℕ) (sizes : Numbers) (slots held later : List Shown) (limited : Bool) (i : ℕ) (p : Part) (here : IsPartAt script i p) (block : 0 < sizes.block)
+      (mid now : Option (List ℕ)) (had has : List ℕ) (bag : List R) (size peak : ℕ) (sizes : Numbers) (slots held later : List Shown) (limited : Bool) (i : ℕ) (p : Part R) (here : IsPartAt w script i p) (block : 0 < sizes.block)
       (tell : AllTell first → AllTell held) (begun : limited ≡ begins_limit (take i (command_list script)))
-      (long : (files : List ℕ → Option (List ℕ)) → AreFilesOf told script files → HasLength (given_of files script) (first_in p))
-      (run : AllTell first → (files : List ℕ → Option (List ℕ)) → AreFilesOf told script files → HasRun form (given_of files script) before mid had bag size peak sizes slots (take i (command_list script)))
-      (sized : HasSizes size peak sizes slots (take i (command_list script))) where
-    abbrev part : List Command
+      (long : (files : List ℕ → Option (List ℕ)) → AreFilesOf told script files → HasLength w (given_of w files script) (first_in p))
+      (run : AllTell first → (files : List ℕ → Option (List ℕ)) → AreFilesOf told script files → HasRun w form (given_of w files script) before mid had bag size peak sizes slots (take i (command_list script)))
+      (sized : HasSizes w size peak sizes slots (take i (command_list script))) where
+    abbrev part : List (Command R)
     part = commands_in p
 
     split : take (i + length part) (command_list script) ≡ take i (command_list script) ++ part
     split = take-part (command_list script) i part here.whole
 
     -- nothing of it is gathered
-    before-part : (given : ℕ → List Pair) → HasRun form given before mid had bag size peak sizes slots (take i (command_list script)) → Gathers mid now had [] has → IsCut form given before now has (command_list script) i []
+    before-part : (given : ℕ → List R) → HasRun w form given before mid had bag size peak sizes slots (take i (command_list script)) → Gathers mid now had [] has → IsCut w form given before now has (command_list script) i []
     before-part given ran step =
         let commands = command_list script in
-        run-cut form given before mid had bag size peak sizes slots (take i commands) ran now has commands part [] (drop (i + length part) commands) i [] (output_from form given (outside bag) part) (around commands i part split) (sym (append-nil (take i commands))) refl step
+        run-cut w laws form given before mid had bag size peak sizes slots (take i commands) ran now has commands part [] (drop (i + length part) commands) i [] (output_from w form given (outside bag) part) (around commands i part split) (sym (append-nil (take i commands))) refl step
 
-    module _ (fault : QueueFault) (refused : RefusedAt form held mid now had bag size peak part sizes (limited || begins_limit part) later has fault) where
+    module _ (fault : QueueFault) (refused : RefusedAt w form held mid now had bag size peak part sizes (limited || begins_limit part) later has fault) where
       abbrev done : ℕ
       done = i + refused.done
 
@@ -107,127 +108,127 @@ module _ (form : Form) (told : Option (List ℕ → Option (List ℕ))) (script 
       flag =
           let cs = take i (command_list script) in
           let xs = take (refused.done + 1) part in
-          ap₂ (λ (a b : Bool). a || b) begun (sym (part-begins refused.done p script.workers here.lines)) ∙ sym (begins-append cs xs) ∙ ap begins_limit (sym next)
+          ap₂ (λ (a b : Bool). a || b) begun (sym (part-begins w refused.done p script.workers here.lines)) ∙ sym (begins-append cs xs) ∙ ap begins_limit (sym next)
 
-      cause-with : (count : List Command → ℕ) → max peak (size_from none_go size (take (refused.done + 1) part)) ≤ count (take i (command_list script) ++ take (refused.done + 1) part)
+      cause-with : (count : List (Command R) → ℕ) → max peak (size_from w none_go size (take (refused.done + 1) part)) ≤ count (take i (command_list script) ++ take (refused.done + 1) part)
           → IsRefusedBy (count (take (done + 1) (command_list script))) sizes (begins_limit (take (done + 1) (command_list script))) later fault
       cause-with count up =
-          let higher = max peak (size_from none_go size (take (refused.done + 1) part)) in
+          let higher = max peak (size_from w none_go size (take (refused.done + 1) part)) in
           cause-later sizes (limited || begins_limit part) (begins_limit (take (done + 1) (command_list script))) higher (count (take (done + 1) (command_list script))) block (λ none. flag ∙ none)
-          (subst (λ (xs : List Command). higher ≤ count xs) (sym next) up) later fault refused.cause
+          (subst (λ (xs : List (Command R)). higher ≤ count xs) (sym next) up) later fault refused.cause
 
-      refused-part : IsRefused form told script first before now has sizes later fault
+      refused-part : IsRefused w form told script first before now has sizes later fault
       refused-part =
           let commands = command_list script in
           let cs = take i commands in
           let n = refused.done in
-          let higher = max peak (size_from none_go size (take (n + 1) part)) in
+          let higher = max peak (size_from w none_go size (take (n + 1) part)) in
           record {
             done = done;
             cut =
                 λ tells files are.
-                let given = given_of files script in
+                let given = given_of w files script in
                 let c = refused.cut (tell tells) given in (
                   c.text,
-                  run-cut form given before mid had bag size peak sizes slots cs (run tells files are) now has commands part (take n part) (drop (i + length part) commands) done c.text c.rest
+                  run-cut w laws form given before mid had bag size peak sizes slots cs (run tells files are) now has commands part (take n part) (drop (i + length part) commands) done c.text c.rest
                       (around commands i part split) (take-part_of commands i part here.whole n (omega (arith, refused.within))) c.all c.gathers,
                 );
-            cause = λ tells files are. let given = given_of files script in cause-with (load_of given) (peak-run form given before mid had bag size peak sizes slots cs (run tells files are) p script.workers here.lines (long files are) higher (n + 1) (omega arith));
-            any = cause-with most_of (peak-part size peak higher sizes slots cs (take (n + 1) part) sized (omega arith));
+            cause = λ tells files are. let given = given_of w files script in cause-with (load_of w given) (peak-run w laws form given before mid had bag size peak sizes slots cs (run tells files are) p script.workers here.lines (long files are) higher (n + 1) (omega arith));
+            any = cause-with (most_of w) (peak-part w size peak higher sizes slots cs (take (n + 1) part) sized (omega arith));
           }
 
-    pub stopped-part : (stop : Stop) → PartStops form held mid now had bag size peak part sizes (limited || begins_limit part) later has stop → IsOfFile (first_in p) stop → HasStopped form told script first before now has sizes later stop
+    pub stopped-part : (stop : Stop) → PartStops w form held mid now had bag size peak part sizes (limited || begins_limit part) later has stop → IsOfFile (first_in p) stop → HasStopped w form told script first before now has sizes later stop
     stopped-part Sink stops of_file = λ tells files are.
-        let given = given_of files script in
+        let given = given_of w files script in
         let commands = command_list script in
         let cs = take i commands in
         let ran = run tells files are in
         let P : List ℕ → Type 0 = λ t. TakesPart before now t in
         let behind = drop (i + length part) commands in
-        let more = output_from form given (state_of given (cs ++ part)) behind in
-        let all : output_of form given commands ≡ (output_of form given cs ++ output_from form given (outside bag) part) ++ more =
-        ap (output_of form given) (around commands i part split) ∙ output_from-append form given (outside []) (cs ++ part) behind ∙ ap (λ (t : List ℕ). t ++ more) (output-behind form given before mid had bag size peak sizes slots cs ran part) in
-        subst P (sym all) (part_of_more before now (output_of form given cs ++ output_from form given (outside bag) part) more (part-behind before mid now had (output_of form given cs) (output_from form given (outside bag) part) ran.output (stops (tell tells) given)))
+        let more = output_from w form given (state_of w given (cs ++ part)) behind in
+        let all : output_of w form given commands ≡ (output_of w form given cs ++ output_from w form given (outside bag) part) ++ more =
+        ap (output_of w form given) (around commands i part split) ∙ output_from-append w laws form given (outside []) (cs ++ part) behind ∙ ap (λ (t : List ℕ). t ++ more) (output-behind w laws form given before mid had bag size peak sizes slots cs ran part) in
+        subst P (sym all) (part_of_more before now (output_of w form given cs ++ output_from w form given (outside bag) part) more (part-behind before mid now had (output_of w form given cs) (output_from w form given (outside bag) part) ran.output (stops (tell tells) given)))
     stopped-part (Queue fault) stops of_file = refused-part fault stops
     stopped-part Read stops of_file = record {
       done = i;
       file = of_file.0;
       size = of_file.1.0;
-      here = here.first ∙ ap (λ (c : Command). Some c) of_file.1.1;
-      cut = λ tells files are. before-part (given_of files script) (run tells files are) (stops (tell tells));
+      here = here.first ∙ ap (λ (c : Command R). Some c) of_file.1.1;
+      cut = λ tells files are. before-part (given_of w files script) (run tells files are) (stops (tell tells));
     }
     stopped-part Memory stops of_file = record {
       done = i;
       command = first_in p;
       here = here.first;
       loads = of_file;
-      cut = λ tells files are. before-part (given_of files script) (run tells files are) (stops (tell tells));
+      cut = λ tells files are. before-part (given_of w files script) (run tells files are) (stops (tell tells));
     }
     stopped-part (Changed line said got) stops of_file = record {
       done = i;
       file = of_file.0;
       size = of_file.1.0;
-      here = here.first ∙ ap (λ (c : Command). Some c) of_file.1.1;
-      cut = λ tells files are. before-part (given_of files script) (run tells files are) (stops (tell tells));
+      here = here.first ∙ ap (λ (c : Command R). Some c) of_file.1.1;
+      cut = λ tells files are. before-part (given_of w files script) (run tells files are) (stops (tell tells));
     }
 
   -- what was put is a part of the output
   rest-part :
-      (mid now : Option (List ℕ)) (sink sink_now : ℕ) (had : List ℕ) (stopped over : End) (given : ℕ → List Pair) (done : ℕ) (part : List ℕ)
-      → PutsRest mid now sink sink_now had stopped over → IsCut form given before mid had (command_list script) done part → TakesPart before now (output_of form given (command_list script))
-  rest-part mid now sink sink_now had stopped over given done part (inl puts) cut = cut-part form given before mid now had (command_list script) done part cut (all_is_part mid now had puts.0)
-  rest-part mid now sink sink_now had stopped over given done part (inr puts) cut = cut-part form given before mid now had (command_list script) done part cut puts.0
+      (mid now : Option (List ℕ)) (sink sink_now : ℕ) (had : List ℕ) (stopped over : End) (given : ℕ → List R) (done : ℕ) (part : List ℕ)
+      → PutsRest mid now sink sink_now had stopped over → IsCut w form given before mid had (command_list script) done part → TakesPart before now (output_of w form given (command_list script))
+  rest-part mid now sink sink_now had stopped over given done part (inl puts) cut = cut-part w form given before mid now had (command_list script) done part cut (all_is_part mid now had puts.0)
+  rest-part mid now sink sink_now had stopped over given done part (inr puts) cut = cut-part w form given before mid now had (command_list script) done part cut puts.0
 
   pub part-stopped :
       (stop : Stop) (mid now : Option (List ℕ)) (sink sink_now : ℕ) (had : List ℕ) (sizes : Numbers) (slots : List Shown) (over : End)
-      → HasStopped form told script first before mid had sizes slots stop → PutsStopped mid now sink sink_now had over stop
-      → AllTell first → (files : List ℕ → Option (List ℕ)) → AreFilesOf told script files → TakesPart before now (output_of form (given_of files script) (command_list script))
+      → HasStopped w form told script first before mid had sizes slots stop → PutsStopped mid now sink sink_now had over stop
+      → AllTell first → (files : List ℕ → Option (List ℕ)) → AreFilesOf told script files → TakesPart before now (output_of w form (given_of w files script) (command_list script))
   part-stopped Sink mid now sink sink_now had sizes slots over stopped puts = λ tells files is.
-      let P : Option (List ℕ) → Type 0 = λ n. TakesPart before n (output_of form (given_of files script) (command_list script)) in
+      let P : Option (List ℕ) → Type 0 = λ n. TakesPart before n (output_of w form (given_of w files script) (command_list script)) in
       subst P (sym puts.0) (stopped tells files is)
   part-stopped (Queue fault) mid now sink sink_now had sizes slots over stopped puts = λ tells files is.
       let cut = stopped.cut tells files is in
-      rest-part mid now sink sink_now had (queue_end fault) over (given_of files script) stopped.done cut.0 puts cut.1
-  part-stopped Read mid now sink sink_now had sizes slots over stopped puts = λ tells files is. rest-part mid now sink sink_now had end.ReadFault over (given_of files script) stopped.done [] puts (stopped.cut tells files is)
-  part-stopped Memory mid now sink sink_now had sizes slots over stopped puts = λ tells files is. rest-part mid now sink sink_now had end.Memory over (given_of files script) stopped.done [] puts (stopped.cut tells files is)
+      rest-part mid now sink sink_now had (queue_end fault) over (given_of w files script) stopped.done cut.0 puts cut.1
+  part-stopped Read mid now sink sink_now had sizes slots over stopped puts = λ tells files is. rest-part mid now sink sink_now had end.ReadFault over (given_of w files script) stopped.done [] puts (stopped.cut tells files is)
+  part-stopped Memory mid now sink sink_now had sizes slots over stopped puts = λ tells files is. rest-part mid now sink sink_now had end.Memory over (given_of w files script) stopped.done [] puts (stopped.cut tells files is)
   part-stopped (Changed line said got) mid now sink sink_now had sizes slots over stopped puts =
-      λ tells files is. rest-part mid now sink sink_now had (end.FileChanged line said got) over (given_of files script) stopped.done [] puts (stopped.cut tells files is)
+      λ tells files is. rest-part mid now sink sink_now had (end.FileChanged line said got) over (given_of w files script) stopped.done [] puts (stopped.cut tells files is)
 
   -- what was put is the output of the commands before one that adds many records
-  before-load : (mid now : Option (List ℕ)) (had : List ℕ) → IsBeforeLoad form told script first before mid had → TakesAll mid now had → TakesBeforeLoad form told script first before now
+  before-load : (mid now : Option (List ℕ)) (had : List ℕ) → IsBeforeLoad w form told script first before mid had → TakesAll mid now had → TakesBeforeLoad w form told script first before now
   before-load mid now had stopped took = record {
     done = stopped.done;
     command = stopped.command;
     here = stopped.here;
     loads = stopped.loads;
-    took = λ tells files is. cut-all form (given_of files script) before mid now had (command_list script) stopped.done (stopped.cut tells files is) took;
+    took = λ tells files is. cut-all w form (given_of w files script) before mid now had (command_list script) stopped.done (stopped.cut tells files is) took;
   }
 
   -- what was put is the output of the commands before one that reads a file
-  before-file : (mid now : Option (List ℕ)) (had : List ℕ) → IsBeforeFile form told script first before mid had → TakesAll mid now had → TakesBeforeFile form told script first before now
+  before-file : (mid now : Option (List ℕ)) (had : List ℕ) → IsBeforeFile w form told script first before mid had → TakesAll mid now had → TakesBeforeFile w form told script first before now
   before-file mid now had stopped took = record {
     done = stopped.done;
     file = stopped.file;
     size = stopped.size;
     here = stopped.here;
-    took = λ tells files is. cut-all form (given_of files script) before mid now had (command_list script) stopped.done (stopped.cut tells files is) took;
+    took = λ tells files is. cut-all w form (given_of w files script) before mid now had (command_list script) stopped.done (stopped.cut tells files is) took;
   }
 
   rest-before :
       (mid now : Option (List ℕ)) (sink sink_now : ℕ) (had : List ℕ) (stopped over : End)
-      → PutsRest mid now sink sink_now had stopped over → (TakesAll mid now had → FaultBeforeFile form told script first before now stopped) → FaultBeforeFile form told script first before now over
+      → PutsRest mid now sink sink_now had stopped over → (TakesAll mid now had → FaultBeforeFile w form told script first before now stopped) → FaultBeforeFile w form told script first before now over
   rest-before mid now sink sink_now had stopped over (inl puts) all =
-      let P : End → Type 0 = λ e. FaultBeforeFile form told script first before now e in
+      let P : End → Type 0 = λ e. FaultBeforeFile w form told script first before now e in
       subst P (sym puts.1) (all puts.0)
   rest-before mid now sink sink_now had stopped over (inr puts) all =
-      let P : End → Type 0 = λ e. FaultBeforeFile form told script first before now e in
+      let P : End → Type 0 = λ e. FaultBeforeFile w form told script first before now e in
       subst P (sym puts.1) tt
 
   pub before-stopped :
       (stop : Stop) (mid now : Option (List ℕ)) (sink sink_now : ℕ) (had : List ℕ) (sizes : Numbers) (slots : List Shown) (over : End)
-      → HasStopped form told script first before mid had sizes slots stop → PutsStopped mid now sink sink_now had over stop → FaultBeforeFile form told script first before now over
+      → HasStopped w form told script first before mid had sizes slots stop → PutsStopped mid now sink sink_now had over stop → FaultBeforeFile w form told script first before now over
   before-stopped Sink mid now sink sink_now had sizes slots over stopped puts =
-      let P : End → Type 0 = λ e. FaultBeforeFile form told script first before now e in
+      let P : End → Type 0 = λ e. FaultBeforeFile w form told script first before now e in
       subst P (sym puts.1) tt
   before-stopped (Queue NoFreeBlock) mid now sink sink_now had sizes slots over stopped puts = rest-before mid now sink sink_now had end.NoFreeBlock over puts (λ took. tt)
   before-stopped (Queue (Device number)) mid now sink sink_now had sizes slots over stopped puts = rest-before mid now sink sink_now had (end.DeviceFault number) over puts (λ took. tt)
@@ -239,22 +240,22 @@ module _ (form : Form) (told : Option (List ℕ → Option (List ℕ))) (script 
   rest-says :
       (replied : Reply → Type 0) (slots : List Shown) (sizes : Numbers) (mid now : Option (List ℕ)) (sink sink_mid sink_now library library_now : ℕ) (had : List ℕ) (stopped over : End)
       → PutsRest mid now sink_mid sink_now had stopped over → sink_mid ≡ sink
-      → (TakesAll mid now had → sink_now ≡ sink → EndSays form told replied script first slots sizes before now sink sink_now library library_now stopped)
-      → EndSays form told replied script first slots sizes before now sink sink_now library library_now over
+      → (TakesAll mid now had → sink_now ≡ sink → EndSays w form told replied script first slots sizes before now sink sink_now library library_now stopped)
+      → EndSays w form told replied script first slots sizes before now sink sink_now library library_now over
   rest-says replied slots sizes mid now sink sink_mid sink_now library library_now had stopped over (inl puts) same says =
-      let P : End → Type 0 = λ e. EndSays form told replied script first slots sizes before now sink sink_now library library_now e in
+      let P : End → Type 0 = λ e. EndSays w form told replied script first slots sizes before now sink sink_now library library_now e in
       subst P (sym puts.1) (says puts.0 (puts.2 ∙ same))
   rest-says replied slots sizes mid now sink sink_mid sink_now library library_now had stopped over (inr puts) same says =
-      let P : End → Type 0 = λ e. EndSays form told replied script first slots sizes before now sink sink_now library library_now e in
+      let P : End → Type 0 = λ e. EndSays w form told replied script first slots sizes before now sink sink_now library library_now e in
       subst P (sym puts.1) (omega (arith, puts.2, same))
 
   pub says-stopped :
       (stop : Stop) (replied : Reply → Type 0) (slots : List Shown) (sizes : Numbers) (mid now : Option (List ℕ)) (sink sink_mid sink_now library library_now : ℕ) (had : List ℕ) (over : End)
-      → 0 < sizes.block → HasStopped form told script first before mid had sizes slots stop → ChangedIn told replied script stop → SinkAfter sink sink_mid stop → LibraryAfter library library_now stop
+      → 0 < sizes.block → HasStopped w form told script first before mid had sizes slots stop → ChangedIn told replied script stop → SinkAfter sink sink_mid stop → LibraryAfter library library_now stop
       → PutsStopped mid now sink_mid sink_now had over stop
-      → EndSays form told replied script first slots sizes before now sink sink_now library library_now over
+      → EndSays w form told replied script first slots sizes before now sink sink_now library library_now over
   says-stopped Sink replied slots sizes mid now sink sink_mid sink_now library library_now had over some stopped changed after library_after puts =
-      let P : End → Type 0 = λ e. EndSays form told replied script first slots sizes before now sink sink_now library library_now e in
+      let P : End → Type 0 = λ e. EndSays w form told replied script first slots sizes before now sink sink_now library library_now e in
       subst P (sym puts.1) (omega (arith, puts.2, after))
   says-stopped (Queue NoFreeBlock) replied slots sizes mid now sink sink_mid sink_now library library_now had over some stopped changed after library_after puts =
       rest-says replied slots sizes mid now sink sink_mid sink_now library library_now had end.NoFreeBlock over puts after
@@ -262,15 +263,15 @@ module _ (form : Form) (told : Option (List ℕ → Option (List ℕ))) (script 
         λ tells files is.
             let cut = stopped.cut tells files is in
             record {
-              within = cut-within form (given_of files script) before mid now had sizes (command_list script) stopped.done cut.0 some cut.1 took (stopped.cause tells files is);
+              within = cut-within w laws form (given_of w files script) before mid now had sizes (command_list script) stopped.done cut.0 some cut.1 took (stopped.cause tells files is);
               above =
                   let last = take (stopped.done + 1) (command_list script) in
-                  no_room-later sizes (begins_limit last) (begins_limit (command_list script)) (load_of (given_of files script) last) (load_of (given_of files script) (command_list script)) some
-                  (begins-take_all (stopped.done + 1) (command_list script)) (load-take_all (given_of files script) (stopped.done + 1) (command_list script)) (stopped.cause tells files is);
+                  no_room-later sizes (begins_limit last) (begins_limit (command_list script)) (load_of w (given_of w files script) last) (load_of w (given_of w files script) (command_list script)) some
+                  (begins-take_all (stopped.done + 1) (command_list script)) (load-take_all w laws (given_of w files script) (stopped.done + 1) (command_list script)) (stopped.cause tells files is);
             },
         let last = take (stopped.done + 1) (command_list script) in
-            no_room-later sizes (begins_limit last) (begins_limit (command_list script)) (most_of last) (most_of (command_list script)) some
-            (begins-take_all (stopped.done + 1) (command_list script)) (greatest-take_all none_go (stopped.done + 1) (command_list script)) stopped.any,
+            no_room-later sizes (begins_limit last) (begins_limit (command_list script)) (most_of w last) (most_of w (command_list script)) some
+            (begins-take_all (stopped.done + 1) (command_list script)) (greatest-take_all w none_go (stopped.done + 1) (command_list script)) stopped.any,
         record { sink_same = same; library_same = library_after },
       ))
   says-stopped (Queue (Device number)) replied slots sizes mid now sink sink_mid sink_now library library_now had over some stopped changed after library_after puts =
@@ -287,7 +288,7 @@ module _ (form : Form) (told : Option (List ℕ → Option (List ℕ))) (script 
       rest-says replied slots sizes mid now sink sink_mid sink_now library library_now had (end.FileChanged line said got) over puts after (λ took same. (changed, record { sink_same = same; library_same = library_after }))
 
 -- a stop by sink or queue says nothing of files
-pub not_of_file : (command : Command) (stop : Stop) → NotByFile stop → IsOfFile command stop
+pub not_of_file : {R : Type 0} (command : Command R) (stop : Stop) → NotByFile stop → IsOfFile command stop
 not_of_file command Sink by = tt
 not_of_file command (Queue fault) by = tt
 not_of_file command _ by = absurd by
@@ -308,13 +309,13 @@ session-by_limit Memory by = tt
 session-by_limit _ by = absurd by
 
 -- a stop by a limit session says nothing of files, and asks no library
-pub limit_of_file : (command : Command) (stop : Stop) → IsLoad command → IsByLimit stop → IsOfFile command stop
+pub limit_of_file : {R : Type 0} (command : Command R) (stop : Stop) → IsLoad command → IsByLimit stop → IsOfFile command stop
 limit_of_file command Sink loads by = tt
 limit_of_file command (Queue fault) loads by = tt
 limit_of_file command Memory loads by = loads
 limit_of_file command _ loads by = absurd by
 
-pub limit_not_changed : (told : Option (List ℕ → Option (List ℕ))) (replied : Reply → Type 0) (script : Reading) (stop : Stop) → IsByLimit stop → ChangedIn told replied script stop
+pub limit_not_changed : {R : Type 0} (told : Option (List ℕ → Option (List ℕ))) (replied : Reply → Type 0) (script : Reading R) (stop : Stop) → IsByLimit stop → ChangedIn told replied script stop
 limit_not_changed told replied script Read by = absurd by
 limit_not_changed told replied script (Changed line said got) by = absurd by
 limit_not_changed told replied script _ by = tt
@@ -325,17 +326,17 @@ limit_unasked count (Changed line said got) by = absurd by
 limit_unasked count _ by = refl
 
 -- a stop by reading a file comes of the command that reads it, and leaves the sink alone
-pub file_of_file : (file size : ℕ) (stop : Stop) → IsOfFile (Bulk file size) stop
-file_of_file file size Read = (file, (size, refl))
-file_of_file file size (Changed line said got) = (file, (size, refl))
-file_of_file file size _ = tt
+pub file_of_file : (R : Type 0) (file size : ℕ) (stop : Stop) → IsOfFile {R = R} (Bulk file size) stop
+file_of_file R file size Read = (file, (size, refl))
+file_of_file R file size (Changed line said got) = (file, (size, refl))
+file_of_file R file size _ = tt
 
 pub file_unput : (count : ℕ) (stop : Stop) → IsByFile stop → SinkAfter count count stop
 file_unput count Sink by = absurd by
 file_unput count _ by = refl
 
 pub file_changed :
-    (told : Option (List ℕ → Option (List ℕ))) (replied : Reply → Type 0) (script : Reading) (at file said line : ℕ) (stop : Stop) → slice_get (command_list script) at ≡ Some (Bulk file said) → slice_get (line_list script) at ≡ Some line
+    {R : Type 0} (told : Option (List ℕ → Option (List ℕ))) (replied : Reply → Type 0) (script : Reading R) (at file said line : ℕ) (stop : Stop) → slice_get (command_list script) at ≡ Some (Bulk file said) → slice_get (line_list script) at ≡ Some line
     → EndsEarly told replied (name_at script.names file) line said stop → ChangedIn told replied script stop
 file_changed told replied script at file said line (Changed one size got) here there ends =
     let early = ends.1.1 in

@@ -1,13 +1,13 @@
 -- What one command says, as what it says of the commands that run together.
-use Rattle.std.proofs.Common.{◌≡◌, ℕ, Bool, true, List, [], ◌∷◌, ◌+◌, ◌<◌, ◌≤◌, Option, length, max, refl, sym, ap, ◌∙◌, subst, arith, append-nil}
-use Rattle.std.specs.Prelude.{Result, Ok, Err, IfErr, OnOk, ⊤, ◌||◌}
+use Rattle.std.proofs.Common.{◌≡◌, ℕ, Bool, true, List, [], ◌∷◌, ◌+◌, ◌<◌, ◌≤◌, Option, length, max, refl, sym, ◌∙◌, subst, arith, append-nil}
+use Rattle.std.specs.Prelude.{Result, Ok, Err, IfErr, OnOk, ⊤}
 use Rattle.std.proofs.Math.Bool.{or-true}
+use Rattle.ppq_script.specs.Words.{Words}
+use Rattle.ppq_engine.proofs.Orders.{HasLaws}
 use Rattle.ppq_script.specs.declared.form.Form.{Form}
-use Rattle.ppq_script.specs.ppq_record.declared.pair.Pair.{Pair}
 use Rattle.ppq_script.specs.ppq_record.Bag.{IsSameBag}
 use Rattle.ppq_script.specs.ppq_outside.Shown.{Shown, AllTell}
 use Rattle.ppq_script.specs.ppq_outside.Told.{Reply}
-use Rattle.ppq_script.specs.ppq_outside.declared.fault.Failed.{Failed}
 use Rattle.ppq_script.proofs.ppq_outside.Replies.{no_replies}
 use Rattle.ppq_script.specs.declared.command.Command.{Command}
 use Rattle.ppq_script.specs.declared.command.Command.TheVariants.{BulkBegin, LimitBegin}
@@ -38,18 +38,18 @@ use Rattle.ppq_engine.proofs.Results.{on-ok, on-ok-map, on-ok-both, if-err-map, 
 use Rattle.ppq_engine.proofs.Stops.{file_unput, limit_unasked, limit_of_file, limit_not_changed, session-by_limit}
 
 -- one command that runs together with no other
-module _
-    (form : Form) (told : Option (List ℕ → Option (List ℕ))) (script : Reading) (workers : ℕ) (c : Command) (is : IsLine workers Outside c) (old new : Holding Pair) (before now : Option (List ℕ)) (had has : List ℕ) (r : Result ⊤ Stop)
-    (prints : Prints old.slots before now had (text_of form (outside old.bag) c) has r)
+module _ {R : Type 0} (w : Words R)
+    (form : Form) (told : Option (List ℕ → Option (List ℕ))) (script : Reading R) (workers : ℕ) (c : Command R) (is : IsLine w workers Outside c) (old new : Holding R) (before now : Option (List ℕ)) (had has : List ℕ) (r : Result ⊤ Stop)
+    (prints : Prints old.slots before now had (text_of w form (outside old.bag) c) has r)
   where
-    pub turn-goes : Keeps old new → OnOk r (RunsStep told script old new c) → IfErr r (StopsStep old new c) → Goes form told script c (c ∷ []) before now old new had has r
+    pub turn-goes : Keeps old new → OnOk r (RunsStep w told script old new c) → IfErr r (StopsStep w old new c) → Goes w form told script c (c ∷ []) before now old new had has r
     turn-goes kept runs stops =
-        let text = text_of form (outside old.bag) c in
+        let text = text_of w form (outside old.bag) c in
         let Text : Type 0 = AllTell old.slots → Gathers before now had text has in
         let Wrote : Stop → Type 0 = λ stop. AllTell old.slots → WritesPart before now had text has stop in
         record {
           runs =
-              on-ok-map r (RunsStep told script old new c × Text) (RunsPart form told script old new before now had has (c ∷ []))
+              on-ok-map r (RunsStep w told script old new c × Text) (RunsPart w form told script old new before now had has (c ∷ []))
               (λ both. let ran = both.0 in record {
                 text = λ tells given. let P : List ℕ → Type 0 = λ t. Gathers before now had t has in subst P (sym (append-nil text)) (both.1 tells);
                 bag = ran.bag;
@@ -58,35 +58,35 @@ module _
                 sound = ran.sound;
                 quiet = ran.quiet;
                 peak = ran.peak;
-                kept = Keeps-none old new (c ∷ []) (lone-begins workers c is) kept;
-              }) (on-ok-both r (RunsStep told script old new c) Text runs prints.text);
+                kept = Keeps-none old new (c ∷ []) (lone-begins w workers c is) kept;
+              }) (on-ok-both r (RunsStep w told script old new c) Text runs prints.text);
           stopped =
-              if-err-map r (λ stop. StopsStep old new c stop × Wrote stop) (StopsPart form old new before now had has c (c ∷ []))
+              if-err-map r (λ stop. StopsStep w old new c stop × Wrote stop) (StopsPart w form old new before now had has c (c ∷ []))
               (λ stop both. record {
-                wrote = lone-stops form old.slots before now had has old.bag old.size old.peak old.sizes old.limited new.slots workers c is stop both.1 both.0.refused;
+                wrote = lone-stops w form old.slots before now had has old.bag old.size old.peak old.sizes old.limited new.slots workers c is stop both.1 both.0.refused;
                 of_file = both.0.of_file;
-              }) (if-err-both r (StopsStep old new c) Wrote stops prints.part);
+              }) (if-err-both r (StopsStep w old new c) Wrote stops prints.part);
           slots = kept.slots;
         }
 
 -- a bulk session
-module _ (script : Reading) (workers : ℕ) (body : List Command) (are : AreLines workers InBulk body) (old new : Holding Pair) (had : List ℕ) where
+module _ {R : Type 0} (w : Words R) (laws : HasLaws w) (script : Reading R) (workers : ℕ) (body : List (Command R)) (are : AreLines w workers InBulk body) (old new : Holding R) (had : List ℕ) where
   -- it ran to its end
-  bulk-ran : (v : ⊤) → IsLoaded old (pushed_in body) new (Ok v) → GoesAlone script BulkBegin (bulk_part body) old new had had (Ok v)
+  bulk-ran : (v : ⊤) → IsLoaded old (pushed_in body) new (Ok v) → GoesAlone w script BulkBegin (bulk_part body) old new had had (Ok v)
   bulk-ran v loaded =
-      let least = bulk-part_size all_go workers old.size body are in
-      let most = bulk-part_size none_go workers old.size body are in
+      let least = bulk-part_size w all_go workers old.size body are in
+      let most = bulk-part_size w none_go workers old.size body are in
       record {
         goes = λ form files put. record {
           runs = record {
-            text = λ tells given. let P : List ℕ → Type 0 = λ t. Gathers put put had t had in subst P (sym (bulk-silent given form workers old.bag body are)) (gathers-nothing put had);
-            bag = λ tells files known p. loaded.bag tells p ∙ sym (bulk-bag (given_of files script) workers old.bag body are p);
+            text = λ tells given. let P : List ℕ → Type 0 = λ t. Gathers put put had t had in subst P (sym (bulk-silent w laws given form workers old.bag body are)) (gathers-nothing put had);
+            bag = λ tells files known p. loaded.bag tells p ∙ sym (bulk-bag w laws (given_of w files script) workers old.bag body are p);
             low = omega (arith, loaded.size, least);
             high = omega (arith, loaded.size, most);
             sound = loaded.sound;
             quiet = loaded.quiet;
             peak = omega (arith, loaded.peak, most);
-            kept = Keeps-none old new (bulk_part body) (bulk-begins workers body are) loaded.kept;
+            kept = Keeps-none old new (bulk_part body) (bulk-begins w workers body are) loaded.kept;
           };
           stopped = tt;
           slots = loaded.kept.slots;
@@ -95,11 +95,11 @@ module _ (script : Reading) (workers : ℕ) (body : List Command) (are : AreLine
       }
 
   -- it did not, or did not begin
-  pub bulk-stopped : (stop : Stop) → IsBySession stop → StopsFor (max old.peak (old.size + length (pushed_in body))) old.sizes old.limited new.slots stop → Keeps old new → GoesAlone script BulkBegin (bulk_part body) old new had had (Err stop)
+  pub bulk-stopped : (stop : Stop) → IsBySession stop → StopsFor (max old.peak (old.size + length (pushed_in body))) old.sizes old.limited new.slots stop → Keeps old new → GoesAlone w script BulkBegin (bulk_part body) old new had had (Err stop)
   bulk-stopped stop by why kept = record {
     goes = λ form files put. record {
       runs = tt;
-      stopped = record { wrote = bulk-stops form old.slots put had old.bag old.size old.peak old.sizes old.limited new.slots workers body are stop by why; of_file = limit_of_file BulkBegin stop tt (session-by_limit stop by) };
+      stopped = record { wrote = bulk-stops w laws form old.slots put had old.bag old.size old.peak old.sizes old.limited new.slots workers body are stop by why; of_file = limit_of_file BulkBegin stop tt (session-by_limit stop by) };
       slots = kept.slots;
     };
     by_session = by;
@@ -108,36 +108,36 @@ module _ (script : Reading) (workers : ℕ) (body : List Command) (are : AreLine
   -- what its end answered: where no pass has stopped, all its records were given
   pub bulk-ended :
       (printed : ⊤) (over : Result ⊤ QueueFault) (s : Result ⊤ Stop) → s ≡ session_end (Ok printed) over → OnOk over (IsLoaded old (pushed_in body) new over)
-      → (given : List Pair) → length given ≤ length (pushed_in body) → 0 < old.sizes.block → IsLoaded old given new over → GoesAlone script BulkBegin (bulk_part body) old new had had s
-  bulk-ended printed (Ok v) s e all given fewer block loaded = subst (GoesAlone script BulkBegin (bulk_part body) old new had had) (sym e) (bulk-ran v all)
+      → (given : List R) → length given ≤ length (pushed_in body) → 0 < old.sizes.block → IsLoaded old given new over → GoesAlone w script BulkBegin (bulk_part body) old new had had s
+  bulk-ended printed (Ok v) s e all given fewer block loaded = subst (GoesAlone w script BulkBegin (bulk_part body) old new had had) (sym e) (bulk-ran v all)
   bulk-ended printed (Err fault) s e all given fewer block loaded =
       let few = max old.peak (old.size + length given) in
       let most = max old.peak (old.size + length (pushed_in body)) in
-      subst (GoesAlone script BulkBegin (bulk_part body) old new had had) (sym e)
+      subst (GoesAlone w script BulkBegin (bulk_part body) old new had had) (sym e)
       (bulk-stopped (Queue fault) tt (cause-later old.sizes old.limited old.limited few most block (λ same. same) (omega (arith, fewer)) new.slots fault loaded.refused) loaded.kept)
 
 -- a limit session
 pub limit-goes :
-    (form : Form) (script : Reading) (limit : Pair) (body : List Command) (old new : Holding Pair) (before now : Option (List ℕ)) (had has : List ℕ) (s : Result ⊤ Stop)
-    → OnOk s ((files : Option (List ℕ → Option (List ℕ))) → RunsPart form files script old new before now had has (limit_part limit body)) → IfErr s IsByLimit
-    → IfErr s (PartStops form old.slots before now had old.bag old.size old.peak (limit_part limit body) old.sizes true new.slots has) → SameSlots old.slots new.slots
-    → (files : Option (List ℕ → Option (List ℕ))) → Goes form files script (LimitBegin limit) (limit_part limit body) before now old new had has s
-limit-goes form script limit body old new before now had has s runs by stops slots files =
+    {R : Type 0} (w : Words R) (form : Form) (script : Reading R) (limit : R) (body : List (Command R)) (old new : Holding R) (before now : Option (List ℕ)) (had has : List ℕ) (s : Result ⊤ Stop)
+    → OnOk s ((files : Option (List ℕ → Option (List ℕ))) → RunsPart w form files script old new before now had has (limit_part limit body)) → IfErr s IsByLimit
+    → IfErr s (PartStops w form old.slots before now had old.bag old.size old.peak (limit_part limit body) old.sizes true new.slots has) → SameSlots old.slots new.slots
+    → (files : Option (List ℕ → Option (List ℕ))) → Goes w form files script (LimitBegin limit) (limit_part limit body) before now old new had has s
+limit-goes w form script limit body old new before now had has s runs by stops slots files =
     let part = limit_part limit body in
-    let Wrote : Bool → Stop → Type 0 = λ l stop. PartStops form old.slots before now had old.bag old.size old.peak part old.sizes l new.slots has stop in
+    let Wrote : Bool → Stop → Type 0 = λ l stop. PartStops w form old.slots before now had old.bag old.size old.peak part old.sizes l new.slots has stop in
     record {
-      runs = on-ok-map s ((told : Option (List ℕ → Option (List ℕ))) → RunsPart form told script old new before now had has part) (RunsPart form files script old new before now had has part) (λ all. all files) runs;
+      runs = on-ok-map s ((told : Option (List ℕ → Option (List ℕ))) → RunsPart w form told script old new before now had has part) (RunsPart w form files script old new before now had has part) (λ all. all files) runs;
       stopped =
-          if-err-map s (λ stop. IsByLimit stop × Wrote true stop) (StopsPart form old new before now had has (LimitBegin limit) part)
+          if-err-map s (λ stop. IsByLimit stop × Wrote true stop) (StopsPart w form old new before now had has (LimitBegin limit) part)
           (λ stop why. record { wrote = let P : Bool → Type 0 = λ l. Wrote l stop in subst P (sym (or-true old.limited)) why.1; of_file = limit_of_file (LimitBegin limit) stop tt why.0 })
           (if-err-both s IsByLimit (Wrote true) by stops);
       slots = slots;
     }
 
 -- a command that adds records and prints nothing
-module _ {told : Option (List ℕ → Option (List ℕ))} {script : Reading} {old new : Holding Pair} {more : ℕ} (k : Command) (size : (leaves : ℕ → ℕ → ℕ) → size_after leaves old.size k ≡ old.size + more) where
+module _ {R : Type 0} (w : Words R) {told : Option (List ℕ → Option (List ℕ))} {script : Reading R} {old new : Holding R} {more : ℕ} (k : Command R) (size : (leaves : ℕ → ℕ → ℕ) → size_after w leaves old.size k ≡ old.size + more) where
   pub adds-runs :
-      (AllTell old.slots → (files : List ℕ → Option (List ℕ)) → AreFilesOf told script files → IsSameBag new.bag (after (given_of files script) (outside old.bag) k).bag) → Adds old new more → RunsStep told script old new k
+      (AllTell old.slots → (files : List ℕ → Option (List ℕ)) → AreFilesOf told script files → IsSameBag new.bag (after w (given_of w files script) (outside old.bag) k).bag) → Adds old new more → RunsStep w told script old new k
   adds-runs bag adds = record { bag = bag; low = omega (arith, adds.size, size all_go); high = omega (arith, adds.size, size none_go); sound = adds.sound; quiet = adds.quiet; peak = omega (arith, adds.peak, size none_go) }
 
 pub adds-prints : (first : List Shown) (told : Option (List ℕ)) (had text : List ℕ) (r : Result ⊤ Stop) → text ≡ [] → IfErr r IsByFile → Prints first told told had text had r
@@ -152,7 +152,7 @@ pub adds-sink : {T : Type 0} (count : ℕ) (r : Result T Stop) → IfErr r IsByF
 adds-sink count r by = record { later = omega arith; stays = on-ok r (count ≡ count) refl; cause = if-err-map r IsByFile (SinkAfter count count) (file_unput count) by }
 
 -- a command that asks the library for nothing
-pub library-unasked : {T : Type 0} (told : Option (List ℕ → Option (List ℕ))) (replied : Reply → Type 0) (script : Reading) (count : ℕ) (r : Result T Stop) → IfErr r IsByLimit → LibraryCounts told told replied replied script count count r
+pub library-unasked : {R : Type 0} {T : Type 0} (told : Option (List ℕ → Option (List ℕ))) (replied : Reply → Type 0) (script : Reading R) (count : ℕ) (r : Result T Stop) → IfErr r IsByLimit → LibraryCounts told told replied replied script count count r
 library-unasked told replied script count r by = record {
   told = refl;
   remembers = λ reply had. had;

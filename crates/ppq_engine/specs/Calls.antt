@@ -1,9 +1,8 @@
 -- What one call of the engine did to the queue, the sink and the library.
-use Rattle.std.specs.Prelude.{◌≡◌, ◌≤◌, ◌<◌, ◌+◌, ◌-◌, ◌^◌, ◌++◌, ◌||◌, ℕ, true, false, length, drop, List, [], max, slice_get, Option, Some, None, Result, OnOk, OnErr, IfOk, IfErr, IsTrue, ⊤}
-use Rattle.ppq_script.specs.ppq_record.declared.pair.Pair.{Pair}
+use Rattle.std.specs.Prelude.{◌≡◌, ◌≤◌, ◌<◌, ◌+◌, ◌-◌, ◌++◌, ◌||◌, ℕ, false, length, List, [], max, slice_get, Option, Some, None, Result, OnOk, OnErr, IfErr, IsTrue, ⊤}
+use Rattle.ppq_script.specs.Words.{Words}
 use Rattle.ppq_script.specs.ppq_record.Bag.{IsSameBag}
 use Rattle.ppq_script.specs.ppq_outside.Shown.{Shown, AllTell}
-use Rattle.ppq_script.specs.ppq_outside.declared.slot.Slot.{Ghosts}
 use Rattle.ppq_script.specs.ppq_outside.Told.{Reply, Remembers, RepliesOnly, TakesPart, HasOneCause}
 use Rattle.ppq_load.specs.ppq_array.Kept.{SameSlots, AreQuiet}
 use Rattle.ppq_script.specs.declared.form.Form.{Form}
@@ -23,26 +22,25 @@ use Rattle.ppq_engine.specs.Outcome.{EndSays, FaultBeforeFile}
 use Rattle.ppq_engine.specs.Popping.{NotByFile, IsRound}
 use Rattle.ppq_engine.specs.Running.{IsGathered, WritesPart, StopsFor, PartStops, behind_part, IsOfFile, ChangedIn, SinkAfter, LibraryAfter}
 use Rattle.ppq_engine.specs.declared.end.End.{End}
-use Rattle.ppq_engine.specs.declared.machine.Machine.{Machine}
 use Rattle.ppq_engine.specs.declared.stop.Stop.{Stop}
 
 -- a call that the machine makes of its queue, whatever it answers: what the queue keeps, that nothing was printed, that the peak is no more
 -- than this, and why it was refused
-pub record IsCalled {S T : Type 0} {slot : Ghosts S} (old new : Machine S slot) (most : ℕ) (result : Result T QueueFault) : Type 0 where
-  pub kept : Keeps old.queue new.queue
-  pub gathered : new.desk.gathered ≡ old.desk.gathered
-  pub peak : new.queue.peak ≤ most
-  pub refused : IfErr result (IsRefusedBy new.queue.peak new.queue.sizes new.queue.limited new.queue.slots)
+pub record IsCalled {R T : Type 0} (old new : Holding R) (had has : List ℕ) (most : ℕ) (result : Result T QueueFault) : Type 0 where
+  pub kept : Keeps old new
+  pub gathered : has ≡ had
+  pub peak : new.peak ≤ most
+  pub refused : IfErr result (IsRefusedBy new.peak new.sizes new.limited new.slots)
 
 -- a command that calls the queue: what it keeps, that the peak is no more than this, and why it stopped; no file stopped it
-pub record IsLent {T : Type 0} (old new : Holding Pair) (most : ℕ) (result : Result T Stop) : Type 0 where
+pub record IsLent {R : Type 0} {T : Type 0} (old new : Holding R) (most : ℕ) (result : Result T Stop) : Type 0 where
   pub kept : Keeps old new
   pub peak : new.peak ≤ most
   pub refused : IfErr result (StopsFor new.peak new.sizes new.limited new.slots)
   pub no_file : IfErr result NotByFile
 
 -- what a queue has after a call that ran to its end: this multiset if its slots tell, at least and at most so many records, and no failed slot
-pub record Leaves (old new : Holding Pair) (left : List Pair) (least most : ℕ) : Type 0 where
+pub record Leaves {R : Type 0} (old new : Holding R) (left : List R) (least most : ℕ) : Type 0 where
   pub bag : AllTell old.slots → IsSameBag new.bag left
   pub low : least ≤ new.size
   pub high : new.size ≤ most
@@ -50,8 +48,8 @@ pub record Leaves (old new : Holding Pair) (left : List Pair) (least most : ℕ)
   pub quiet : AreQuiet old.slots new.slots
 
 -- a round of records was popped
-pub record PopsRound (below : Option Pair) (count : ℕ) (old new : Holding Pair) (items : List Pair) : Type 0 where
-  pub round : AllTell old.slots → IsRound below count old.bag new.bag items
+pub record PopsRound {R : Type 0} (w : Words R) (below : Option R) (count : ℕ) (old new : Holding R) (items : List R) : Type 0 where
+  pub round : AllTell old.slots → IsRound w below count old.bag new.bag items
   pub few : length items ≤ count
   pub end : below ≡ None → items ≡ [] → old.size ≡ 0
   pub size : new.size ≡ old.size - length items
@@ -59,7 +57,7 @@ pub record PopsRound (below : Option Pair) (count : ℕ) (old new : Holding Pair
   pub quiet : AreQuiet old.slots new.slots
 
 -- so many records were added: the size, no failed slot, and the peak
-pub record Adds (old new : Holding Pair) (count : ℕ) : Type 0 where
+pub record Adds {R : Type 0} (old new : Holding R) (count : ℕ) : Type 0 where
   pub size : new.size ≡ old.size + count
   pub sound : new.failed ≡ None
   pub quiet : AreQuiet old.slots new.slots
@@ -83,14 +81,14 @@ pub record SinkCounts {T : Type 0} (before now : ℕ) (result : Result T Stop) :
   pub cause : IfErr result (SinkAfter before now)
 
 -- the library has the files that it had; it was asked for files of the script alone, and its count of faults did not fall
-pub record LibraryStays (files files_now : Option (List ℕ → Option (List ℕ))) (replied replied_now : Reply → Type 0) (script : Reading) (before now : ℕ) : Type 0 where
+pub record LibraryStays {R : Type 0} (files files_now : Option (List ℕ → Option (List ℕ))) (replied replied_now : Reply → Type 0) (script : Reading R) (before now : ℕ) : Type 0 where
   pub told : files_now ≡ files
   pub remembers : Remembers replied replied_now
   pub asks : RepliesOnly replied replied_now (IsReadInScript script)
   pub later : before ≤ now
 
 -- the same; and the count rose if the library stopped the command, and else stayed; if a file had changed, which
-pub record LibraryCounts {T : Type 0} (files files_now : Option (List ℕ → Option (List ℕ))) (replied replied_now : Reply → Type 0) (script : Reading) (before now : ℕ) (result : Result T Stop) : Type 0 where
+pub record LibraryCounts {R : Type 0} {T : Type 0} (files files_now : Option (List ℕ → Option (List ℕ))) (replied replied_now : Reply → Type 0) (script : Reading R) (before now : ℕ) (result : Result T Stop) : Type 0 where
   pub told : files_now ≡ files
   pub remembers : Remembers replied replied_now
   pub asks : RepliesOnly replied replied_now (IsReadInScript script)
@@ -101,66 +99,64 @@ pub record LibraryCounts {T : Type 0} (files files_now : Option (List ℕ → Op
 
 -- a part that begins at this place of a script, where no session is open, and a queue that may run it: of the script's workers, and no call
 -- of a slot of it failed
-pub record IsTurn (script : Reading) (queue : Holding Pair) (place : ℕ) (part : Part) : Type 0 where
+pub record IsTurn {R : Type 0} (w : Words R) (script : Reading R) (queue : Holding R) (place : ℕ) (part : Part R) : Type 0 where
   pub place_is : place < length script.commands
   pub first : slice_get (command_list script) place ≡ Some (first_in part)
-  pub lines : HasItsLines queue.sizes.workers part
+  pub lines : HasItsLines w queue.sizes.workers part
   pub file : NamesFile (length script.names) (first_in part)
-  pub records : HasRecords (first_in part)
+  pub records : HasRecords w (first_in part)
   pub sound : queue.failed ≡ None
 
 -- what one command did to the queue where it ran to its end
-pub record RunsStep (told : Option (List ℕ → Option (List ℕ))) (script : Reading) (old new : Holding Pair) (command : Command) : Type 0 where
-  pub bag : AllTell old.slots → (files : List ℕ → Option (List ℕ)) → AreFilesOf told script files → IsSameBag new.bag (after (given_of files script) (outside old.bag) command).bag
-  pub low : size_after all_go old.size command ≤ new.size
-  pub high : new.size ≤ size_after none_go old.size command
+pub record RunsStep {R : Type 0} (w : Words R) (told : Option (List ℕ → Option (List ℕ))) (script : Reading R) (old new : Holding R) (command : Command R) : Type 0 where
+  pub bag : AllTell old.slots → (files : List ℕ → Option (List ℕ)) → AreFilesOf told script files → IsSameBag new.bag (after w (given_of w files script) (outside old.bag) command).bag
+  pub low : size_after w all_go old.size command ≤ new.size
+  pub high : new.size ≤ size_after w none_go old.size command
   pub sound : new.failed ≡ None
   pub quiet : AreQuiet old.slots new.slots
-  pub peak : new.peak ≤ max old.peak (size_after none_go old.size command)
+  pub peak : new.peak ≤ max old.peak (size_after w none_go old.size command)
 
 -- why it did not: the queue refused, or a file or an allocation that this command needs
-pub record StopsStep (old new : Holding Pair) (command : Command) (stop : Stop) : Type 0 where
-  pub refused : StopsFor (max old.peak (size_after none_go old.size command)) old.sizes old.limited new.slots stop
+pub record StopsStep {R : Type 0} (w : Words R) (old new : Holding R) (command : Command R) (stop : Stop) : Type 0 where
+  pub refused : StopsFor (max old.peak (size_after w none_go old.size command)) old.sizes old.limited new.slots stop
   pub of_file : IsOfFile command stop
 
 -- what commands that run together printed and did to the queue where they ran to their end
-pub record RunsPart (form : Form) (told : Option (List ℕ → Option (List ℕ))) (script : Reading) (old new : Holding Pair) (before now : Option (List ℕ)) (had has : List ℕ) (part : List Command) : Type 0 where
-  pub text : AllTell old.slots → (given : ℕ → List Pair) → Gathers before now had (output_from form given (outside old.bag) part) has
-  pub bag : AllTell old.slots → (files : List ℕ → Option (List ℕ)) → AreFilesOf told script files → IsSameBag new.bag (state_from (given_of files script) (outside old.bag) part).bag
-  pub low : size_from all_go old.size part ≤ new.size
-  pub high : new.size ≤ size_from none_go old.size part
+pub record RunsPart {R : Type 0} (w : Words R) (form : Form) (told : Option (List ℕ → Option (List ℕ))) (script : Reading R) (old new : Holding R) (before now : Option (List ℕ)) (had has : List ℕ) (part : List (Command R)) : Type 0 where
+  pub text : AllTell old.slots → (given : ℕ → List R) → Gathers before now had (output_from w form given (outside old.bag) part) has
+  pub bag : AllTell old.slots → (files : List ℕ → Option (List ℕ)) → AreFilesOf told script files → IsSameBag new.bag (state_from w (given_of w files script) (outside old.bag) part).bag
+  pub low : size_from w all_go old.size part ≤ new.size
+  pub high : new.size ≤ size_from w none_go old.size part
   pub sound : new.failed ≡ None
   pub quiet : AreQuiet old.slots new.slots
-  pub peak : new.peak ≤ max old.peak (size_from none_go old.size part)
+  pub peak : new.peak ≤ max old.peak (size_from w none_go old.size part)
   pub kept : Keeps (behind_part old part) new
 
 -- why they did not, and what they printed before
-pub record StopsPart (form : Form) (old new : Holding Pair) (before now : Option (List ℕ)) (had has : List ℕ) (command : Command) (part : List Command) (stop : Stop) : Type 0 where
-  pub wrote : PartStops form old.slots before now had old.bag old.size old.peak part old.sizes (old.limited || begins_limit part) new.slots has stop
+pub record StopsPart {R : Type 0} (w : Words R) (form : Form) (old new : Holding R) (before now : Option (List ℕ)) (had has : List ℕ) (command : Command R) (part : List (Command R)) (stop : Stop) : Type 0 where
+  pub wrote : PartStops w form old.slots before now had old.bag old.size old.peak part old.sizes (old.limited || begins_limit part) new.slots has stop
   pub of_file : IsOfFile command stop
 
 -- a command that lends the queue, whatever it answers: what it printed, what it left, and why it stopped
-pub record Lends {S : Type 0} {slot : Ghosts S} (form : Form) (before now : Option (List ℕ)) (sink sink_now : ℕ) (old new : Machine S slot) (command : Command) (result : Result ⊤ Stop) : Type 0 where
-  pub prints : Prints old.queue.slots before now old.desk.gathered (text_of form (outside old.queue.bag) command) new.desk.gathered result
+pub record Lends {R : Type 0} (w : Words R) (form : Form) (before now : Option (List ℕ)) (sink sink_now : ℕ) (old new : Holding R) (had has : List ℕ) (command : Command R) (result : Result ⊤ Stop) : Type 0 where
+  pub prints : Prints old.slots before now had (text_of w form (outside old.bag) command) has result
   pub counts : SinkCounts sink sink_now result
-  pub left :
-      OnOk result
-      ((given : ℕ → List Pair) → Leaves old.queue new.queue (after given (outside old.queue.bag) command).bag (size_after all_go old.queue.size command) (size_after none_go old.queue.size command))
-  pub lent : IsLent old.queue new.queue (max old.queue.peak (size_after none_go old.queue.size command)) result
+  pub left : OnOk result ((given : ℕ → List R) → Leaves old new (after w given (outside old.bag) command).bag (size_after w all_go old.size command) (size_after w none_go old.size command))
+  pub lent : IsLent old new (max old.peak (size_after w none_go old.size command)) result
 
 -- commands that run together, of which this is the first, whatever is answered: what they did, or why they stopped
-pub record Goes (form : Form) (files : Option (List ℕ → Option (List ℕ))) (script : Reading) (first : Command) (part : List Command) (before now : Option (List ℕ)) (old new : Holding Pair) (had has : List ℕ) (result : Result ⊤ Stop) : Type 0 where
-  pub runs : OnOk result (RunsPart form files script old new before now had has part)
-  pub stopped : IfErr result (StopsPart form old new before now had has first part)
+pub record Goes {R : Type 0} (w : Words R) (form : Form) (files : Option (List ℕ → Option (List ℕ))) (script : Reading R) (first : Command R) (part : List (Command R)) (before now : Option (List ℕ)) (old new : Holding R) (had has : List ℕ) (result : Result ⊤ Stop) : Type 0 where
+  pub runs : OnOk result (RunsPart w form files script old new before now had has part)
+  pub stopped : IfErr result (StopsPart w form old new before now had has first part)
   pub slots : SameSlots old.slots new.slots
 
 -- the same of commands that need no file and print nothing
-pub record GoesAlone (script : Reading) (first : Command) (part : List Command) (old new : Holding Pair) (had has : List ℕ) (result : Result ⊤ Stop) : Type 0 where
-  pub goes : (form : Form) (files : Option (List ℕ → Option (List ℕ))) (put : Option (List ℕ)) → Goes form files script first part put put old new had has result
+pub record GoesAlone {R : Type 0} (w : Words R) (script : Reading R) (first : Command R) (part : List (Command R)) (old new : Holding R) (had has : List ℕ) (result : Result ⊤ Stop) : Type 0 where
+  pub goes : (form : Form) (files : Option (List ℕ → Option (List ℕ))) (put : Option (List ℕ)) → Goes w form files script first part put put old new had has result
   pub by_session : IfErr result IsBySession
 
 -- a checked script of whose files the library tells the lengths that it keeps, and a queue for its workers that nothing was done with
-pub record MayRun (files : Option (List ℕ → Option (List ℕ))) (script : Reading) (queue : Holding Pair) : Type 0 where
+pub record MayRun {R : Type 0} (files : Option (List ℕ → Option (List ℕ))) (script : Reading R) (queue : Holding R) : Type 0 where
   pub checked : IsTrue script.checked
   pub lengths : TellsLengths files script
   pub workers : script.workers ≡ queue.sizes.workers
@@ -171,14 +167,14 @@ pub record MayRun (files : Option (List ℕ → Option (List ℕ))) (script : Re
   pub unlimited : queue.limited ≡ false
 
 -- all commands of a script were run
-pub record RunsAll (form : Form) (told : Option (List ℕ → Option (List ℕ))) (script : Reading) (old new : Holding Pair) (before now : Option (List ℕ)) (has : List ℕ) : Type 0 where
-  pub all : AllTell old.slots → (files : List ℕ → Option (List ℕ)) → AreFilesOf told script files → IsGathered before now has (output_of form (given_of files script) (command_list script))
-  pub crest : AllTell old.slots → (files : List ℕ → Option (List ℕ)) → AreFilesOf told script files → FitsWritten (crest_of (given_of files script) (command_list script)) old.sizes new.slots
-  pub least : FitsWritten (least_of (command_list script)) old.sizes new.slots
+pub record RunsAll {R : Type 0} (w : Words R) (form : Form) (told : Option (List ℕ → Option (List ℕ))) (script : Reading R) (old new : Holding R) (before now : Option (List ℕ)) (has : List ℕ) : Type 0 where
+  pub all : AllTell old.slots → (files : List ℕ → Option (List ℕ)) → AreFilesOf told script files → IsGathered before now has (output_of w form (given_of w files script) (command_list script))
+  pub crest : AllTell old.slots → (files : List ℕ → Option (List ℕ)) → AreFilesOf told script files → FitsWritten (crest_of w (given_of w files script) (command_list script)) old.sizes new.slots
+  pub least : FitsWritten (least_of w (command_list script)) old.sizes new.slots
   pub quiet : AreQuiet old.slots new.slots
 
 -- how a run on a queue ended: what was put is a part of the script's output; what the end says; and what was put if a file ended the run
-pub record EndsRun (form : Form) (told : Option (List ℕ → Option (List ℕ))) (replied : Reply → Type 0) (script : Reading) (old new : Holding Pair) (before now : Option (List ℕ)) (sink sink_now library library_now : ℕ) (end : End) : Type 0 where
-  pub part : AllTell old.slots → (files : List ℕ → Option (List ℕ)) → AreFilesOf told script files → TakesPart before now (output_of form (given_of files script) (command_list script))
-  pub says : EndSays form told replied script old.slots new.slots old.sizes before now sink sink_now library library_now end
-  pub file : FaultBeforeFile form told script old.slots before now end
+pub record EndsRun {R : Type 0} (w : Words R) (form : Form) (told : Option (List ℕ → Option (List ℕ))) (replied : Reply → Type 0) (script : Reading R) (old new : Holding R) (before now : Option (List ℕ)) (sink sink_now library library_now : ℕ) (end : End) : Type 0 where
+  pub part : AllTell old.slots → (files : List ℕ → Option (List ℕ)) → AreFilesOf told script files → TakesPart before now (output_of w form (given_of w files script) (command_list script))
+  pub says : EndSays w form told replied script old.slots new.slots old.sizes before now sink sink_now library library_now end
+  pub file : FaultBeforeFile w form told script old.slots before now end

@@ -9,7 +9,7 @@ abbrev pub keyed : ℕ → Pair
 keyed key = record { key = key; value = 0 }
 
 -- a limit session below the key 4, in which two records are pushed and two popped, and a bulk session, in which one is pushed
-abbrev pub worked_commands : List Command
+abbrev pub worked_commands : List (Command Pair)
 worked_commands =
     Push (keyed 1) ∷ Push (keyed 3) ∷ Push (keyed 6) ∷ LimitBegin (keyed 4) ∷ LimitPush 0 (keyed 5) ∷ LimitTop ∷ LimitPop ∷ LimitPush 1 (keyed 4) ∷ LimitPop ∷ LimitPop ∷ LimitEnd ∷ Size
     ∷ BulkBegin ∷ BulkPush 0 (keyed 2) ∷ BulkEnd ∷ BulkPopLimit (keyed 5) 1 ∷ BulkPop 3 ∷ []

@@ -12,7 +12,7 @@ use Rattle.ppq_engine.specs.declared.stop.Stop.{Stop}
 use Rattle.ppq_engine.specs.declared.stop.Stop.TheVariants as stop
 
 -- a reply to a read of a file that a command of the script names, which ends at or before the length that the command keeps
-pub record IsReadInScript (script : Reading) (reply : Reply) : Type 0 where
+pub record IsReadInScript {R : Type 0} (script : Reading R) (reply : Reply) : Type 0 where
   pub at : ℕ
   pub file : ℕ
   pub said : ℕ

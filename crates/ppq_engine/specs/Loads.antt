@@ -1,5 +1,6 @@
 -- How many records a script may bring, told by its commands alone, and whether they fit.
 use Rattle.std.specs.Prelude.{⊤, Bool, true, false, ◌||◌, if◌then◌else◌, unwrap_or, ◌≤◌, ◌+◌, ◌-◌, ◌*◌, ◌/◌, ℕ, List, [], ◌∷◌, max}
+use Rattle.ppq_script.specs.Words.{Words}
 use Rattle.ppq_script.specs.ppq_outside.Shown.{Shown}
 use Rattle.ppq_load.specs.ppq_budget.Sizes.{Numbers}
 use Rattle.ppq_load.specs.ppq_array.Kept.{all_writes}
@@ -10,7 +11,7 @@ use Rattle.ppq_script.specs.declared.session.Session.TheVariants.{Outside}
 use Rattle.ppq_script.specs.Sessions.{turn_of, is_outside}
 
 -- a command that begins a session: `bulk`, `gen`, or the first of a session of lines
-abbrev pub IsLoad : Command → Type 0
+abbrev pub IsLoad : {R : Type 0} → Command R → Type 0
 IsLoad (Push item) = ⊥
 IsLoad Pop = ⊥
 IsLoad Top = ⊥
@@ -37,14 +38,14 @@ abbrev pub all_go : ℕ → ℕ → ℕ
 all_go size count = size - count
 
 -- what follows for a multiset of which pops below a limit leave so many
-module _ (leaves : ℕ → ℕ → ℕ) where
+module _ {R : Type 0} (w : Words R) (leaves : ℕ → ℕ → ℕ) where
   -- the size after a command
-  abbrev pub size_after : ℕ → Command → ℕ
+  abbrev pub size_after : ℕ → Command R → ℕ
   size_after size (Push item) = size + 1
   size_after size Pop = size - 1
   size_after size Top = size
   size_after size Size = size
-  size_after size (Bulk file bytes) = size + bytes / 16
+  size_after size (Bulk file bytes) = size + bytes / w.WIDTH
   size_after size (Gen seed count) = size + count
   size_after size (BulkPop count) = size - count
   size_after size (BulkPopLimit limit count) = leaves size count
@@ -59,32 +60,32 @@ module _ (leaves : ℕ → ℕ → ℕ) where
   size_after size LimitEnd = size
 
   -- the size after commands
-  abbrev pub size_from : ℕ → List Command → ℕ
+  abbrev pub size_from : ℕ → List (Command R) → ℕ
   size_from size [] = size
   size_from size (command ∷ commands) = size_from (size_after size command) commands
 
   -- the greatest size after any of the commands, 0 for none
-  abbrev pub greatest_from : ℕ → List Command → ℕ
+  abbrev pub greatest_from : ℕ → List (Command R) → ℕ
   greatest_from size [] = 0
   greatest_from size (command ∷ commands) = max (size_after size command) (greatest_from (size_after size command) commands)
 
   -- the greatest size after any of the commands behind which no session is open, the first in this session; 0 for none
-  abbrev pub settled_from : ℕ → Session → List Command → ℕ
+  abbrev pub settled_from : ℕ → Session R → List (Command R) → ℕ
   settled_from size session [] = 0
   settled_from size session (command ∷ commands) =
       let behind = unwrap_or (turn_of command) session in
       max (if is_outside behind then size_after size command else 0) (settled_from (size_after size command) behind commands)
 
 -- the greatest size that the multiset of a script can have after a command
-abbrev pub most_of : List Command → ℕ
-most_of commands = greatest_from none_go 0 commands
+abbrev pub most_of : {R : Type 0} → Words R → List (Command R) → ℕ
+most_of w commands = greatest_from w none_go 0 commands
 
 -- a size that the multiset of a script has after some command outside a session, or passes
-abbrev pub least_of : List Command → ℕ
-least_of commands = settled_from all_go 0 Outside commands
+abbrev pub least_of : {R : Type 0} → Words R → List (Command R) → ℕ
+least_of w commands = settled_from w all_go 0 Outside commands
 
 -- whether a command begins a limit session
-abbrev pub is_limit_begin : Command → Bool
+abbrev pub is_limit_begin : {R : Type 0} → Command R → Bool
 is_limit_begin (Push item) = false
 is_limit_begin Pop = false
 is_limit_begin Top = false
@@ -104,7 +105,7 @@ is_limit_begin LimitPop = false
 is_limit_begin LimitEnd = false
 
 -- whether one of the commands does
-abbrev pub begins_limit : List Command → Bool
+abbrev pub begins_limit : {R : Type 0} → List (Command R) → Bool
 begins_limit [] = false
 begins_limit (command ∷ commands) = is_limit_begin command || begins_limit commands
 

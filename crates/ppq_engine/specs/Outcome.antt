@@ -1,6 +1,6 @@
 -- What the end of a run says of its output, its blocks and its faults.
 use Rattle.std.specs.Prelude.{◌≡◌, ◌⊎◌, ⊤, ℕ, List, take, slice_get, Option, Some}
-use Rattle.ppq_script.specs.ppq_record.declared.pair.Pair.{Pair}
+use Rattle.ppq_script.specs.Words.{Words}
 use Rattle.ppq_script.specs.ppq_outside.Shown.{Shown, AllTell}
 use Rattle.ppq_script.specs.ppq_outside.Told.{Reply, TakesAll, TakesPart, Rose}
 use Rattle.ppq_load.specs.ppq_budget.Sizes.{Numbers}
@@ -19,50 +19,50 @@ use Rattle.ppq_engine.specs.declared.stop.Stop.{Stop}
 use Rattle.ppq_engine.specs.declared.stop.Stop.TheVariants as stop
 
 -- the sink took the output of the commands before one that reads a file
-pub record TakesBeforeFile (form : Form) (told : Option (List ℕ → Option (List ℕ))) (script : Reading) (first : List Shown) (before now : Option (List ℕ)) : Type 0 where
+pub record TakesBeforeFile {R : Type 0} (w : Words R) (form : Form) (told : Option (List ℕ → Option (List ℕ))) (script : Reading R) (first : List Shown) (before now : Option (List ℕ)) : Type 0 where
   pub done : ℕ
   pub file : ℕ
   pub size : ℕ
   pub here : slice_get (command_list script) done ≡ Some (Bulk file size)
   pub took :
       AllTell first → (files : List ℕ → Option (List ℕ)) → AreFilesOf told script files
-      → TakesAll before now (output_of form (given_of files script) (take done (command_list script)))
+      → TakesAll before now (output_of w form (given_of w files script) (take done (command_list script)))
 
 -- the sink took the output of the commands before one that adds many records
-pub record TakesBeforeLoad (form : Form) (told : Option (List ℕ → Option (List ℕ))) (script : Reading) (first : List Shown) (before now : Option (List ℕ)) : Type 0 where
+pub record TakesBeforeLoad {R : Type 0} (w : Words R) (form : Form) (told : Option (List ℕ → Option (List ℕ))) (script : Reading R) (first : List Shown) (before now : Option (List ℕ)) : Type 0 where
   pub done : ℕ
-  pub command : Command
+  pub command : Command R
   pub here : slice_get (command_list script) done ≡ Some command
   pub loads : IsLoad command
   pub took :
       AllTell first → (files : List ℕ → Option (List ℕ)) → AreFilesOf told script files
-      → TakesAll before now (output_of form (given_of files script) (take done (command_list script)))
+      → TakesAll before now (output_of w form (given_of w files script) (take done (command_list script)))
 
 -- where a file could not be read, or had changed, the sink took the output of the commands before one that reads a file
-abbrev pub FaultBeforeFile : Form → Option (List ℕ → Option (List ℕ)) → Reading → List Shown → Option (List ℕ) → Option (List ℕ) → End → Type 0
-FaultBeforeFile form told script first before now Done = ⊤
-FaultBeforeFile form told script first before now (BadLine line) = ⊤
-FaultBeforeFile form told script first before now Usage = ⊤
-FaultBeforeFile form told script first before now ReadFault = TakesBeforeFile form told script first before now
-FaultBeforeFile form told script first before now WriteFault = ⊤
-FaultBeforeFile form told script first before now (DeviceFault number) = ⊤
-FaultBeforeFile form told script first before now NoFreeBlock = ⊤
-FaultBeforeFile form told script first before now (BudgetTooSmall need) = ⊤
-FaultBeforeFile form told script first before now Memory = ⊤
-FaultBeforeFile form told script first before now (FileChanged line said got) = TakesBeforeFile form told script first before now
-FaultBeforeFile form told script first before now NoDevice = ⊤
-FaultBeforeFile form told script first before now NoScript = ⊤
-FaultBeforeFile form told script first before now ScriptTooLong = ⊤
+abbrev pub FaultBeforeFile : {R : Type 0} → Words R → Form → Option (List ℕ → Option (List ℕ)) → Reading R → List Shown → Option (List ℕ) → Option (List ℕ) → End → Type 0
+FaultBeforeFile w form told script first before now Done = ⊤
+FaultBeforeFile w form told script first before now (BadLine line) = ⊤
+FaultBeforeFile w form told script first before now Usage = ⊤
+FaultBeforeFile w form told script first before now ReadFault = TakesBeforeFile w form told script first before now
+FaultBeforeFile w form told script first before now WriteFault = ⊤
+FaultBeforeFile w form told script first before now (DeviceFault number) = ⊤
+FaultBeforeFile w form told script first before now NoFreeBlock = ⊤
+FaultBeforeFile w form told script first before now (BudgetTooSmall need) = ⊤
+FaultBeforeFile w form told script first before now Memory = ⊤
+FaultBeforeFile w form told script first before now (FileChanged line said got) = TakesBeforeFile w form told script first before now
+FaultBeforeFile w form told script first before now NoDevice = ⊤
+FaultBeforeFile w form told script first before now NoScript = ⊤
+FaultBeforeFile w form told script first before now ScriptTooLong = ⊤
 
 -- the sink took all output, and the greatest multiset fits into the budget and what was written
-pub record IsWhole (form : Form) (given : ℕ → List Pair) (script : Reading) (before now : Option (List ℕ)) (sizes : Numbers) (slots : List Shown) : Type 0 where
-  pub took : TakesAll before now (output_of form given (command_list script))
-  pub crest : FitsWritten (crest_of given (command_list script)) sizes slots
+pub record IsWhole {R : Type 0} (w : Words R) (form : Form) (given : ℕ → List R) (script : Reading R) (before now : Option (List ℕ)) (sizes : Numbers) (slots : List Shown) : Type 0 where
+  pub took : TakesAll before now (output_of w form given (command_list script))
+  pub crest : FitsWritten (crest_of w given (command_list script)) sizes slots
 
 -- the sink took what there was room for, and the load has none
-pub record IsFull (form : Form) (given : ℕ → List Pair) (script : Reading) (before now : Option (List ℕ)) (sizes : Numbers) : Type 0 where
-  pub within : TakesWithin form given before now sizes (command_list script)
-  pub above : HasNoRoom sizes (begins_limit (command_list script)) (load_of given (command_list script))
+pub record IsFull {R : Type 0} (w : Words R) (form : Form) (given : ℕ → List R) (script : Reading R) (before now : Option (List ℕ)) (sizes : Numbers) : Type 0 where
+  pub within : TakesWithin w form given before now sizes (command_list script)
+  pub above : HasNoRoom sizes (begins_limit (command_list script)) (load_of w given (command_list script))
 
 -- neither the count of the sink nor that of the library rose
 pub record CountsStay (sink sink_now library library_now : ℕ) : Type 0 where
@@ -71,29 +71,29 @@ pub record CountsStay (sink sink_now library library_now : ℕ) : Type 0 where
 
 -- what an end says: of the files that the library tells, what it replied, the script, the blocks first and now, the output before and now,
 -- and the counts of sink and library
-abbrev pub EndSays : Form → Option (List ℕ → Option (List ℕ)) → (Reply → Type 0) → Reading → List Shown → List Shown → Numbers → Option (List ℕ) → Option (List ℕ) → ℕ → ℕ → ℕ → ℕ → End → Type 0
-EndSays form told replied script first slots sizes before now sink sink_now library library_now Done =
-    (AllTell first → (files : List ℕ → Option (List ℕ)) → AreFilesOf told script files → IsWhole form (given_of files script) script before now sizes slots)
-    × FitsWritten (least_of (command_list script)) sizes slots
+abbrev pub EndSays : {R : Type 0} → Words R → Form → Option (List ℕ → Option (List ℕ)) → (Reply → Type 0) → Reading R → List Shown → List Shown → Numbers → Option (List ℕ) → Option (List ℕ) → ℕ → ℕ → ℕ → ℕ → End → Type 0
+EndSays w form told replied script first slots sizes before now sink sink_now library library_now Done =
+    (AllTell first → (files : List ℕ → Option (List ℕ)) → AreFilesOf told script files → IsWhole w form (given_of w files script) script before now sizes slots)
+    × FitsWritten (least_of w (command_list script)) sizes slots
     × CountsStay sink sink_now library library_now
     × AreQuiet first slots
-EndSays form told replied script first slots sizes before now sink sink_now library library_now (BadLine line) = ⊥
-EndSays form told replied script first slots sizes before now sink sink_now library library_now Usage = ⊥
-EndSays form told replied script first slots sizes before now sink sink_now library library_now ReadFault = Rose library library_now
-EndSays form told replied script first slots sizes before now sink sink_now library library_now WriteFault = Rose sink sink_now
-EndSays form told replied script first slots sizes before now sink sink_now library library_now (DeviceFault number) = HasFailed number slots
-EndSays form told replied script first slots sizes before now sink sink_now library library_now NoFreeBlock =
-    (AllTell first → (files : List ℕ → Option (List ℕ)) → AreFilesOf told script files → IsFull form (given_of files script) script before now sizes)
-    × HasNoRoom sizes (begins_limit (command_list script)) (most_of (command_list script))
+EndSays w form told replied script first slots sizes before now sink sink_now library library_now (BadLine line) = ⊥
+EndSays w form told replied script first slots sizes before now sink sink_now library library_now Usage = ⊥
+EndSays w form told replied script first slots sizes before now sink sink_now library library_now ReadFault = Rose library library_now
+EndSays w form told replied script first slots sizes before now sink sink_now library library_now WriteFault = Rose sink sink_now
+EndSays w form told replied script first slots sizes before now sink sink_now library library_now (DeviceFault number) = HasFailed number slots
+EndSays w form told replied script first slots sizes before now sink sink_now library library_now NoFreeBlock =
+    (AllTell first → (files : List ℕ → Option (List ℕ)) → AreFilesOf told script files → IsFull w form (given_of w files script) script before now sizes)
+    × HasNoRoom sizes (begins_limit (command_list script)) (most_of w (command_list script))
     × CountsStay sink sink_now library library_now
-EndSays form told replied script first slots sizes before now sink sink_now library library_now (BudgetTooSmall need) = ⊥
-EndSays form told replied script first slots sizes before now sink sink_now library library_now Memory =
-    TakesBeforeLoad form told script first before now × CountsStay sink sink_now library library_now
-EndSays form told replied script first slots sizes before now sink sink_now library library_now (FileChanged line said got) =
+EndSays w form told replied script first slots sizes before now sink sink_now library library_now (BudgetTooSmall need) = ⊥
+EndSays w form told replied script first slots sizes before now sink sink_now library library_now Memory =
+    TakesBeforeLoad w form told script first before now × CountsStay sink sink_now library library_now
+EndSays w form told replied script first slots sizes before now sink sink_now library library_now (FileChanged line said got) =
     HasChanged told replied script line said got × CountsStay sink sink_now library library_now
-EndSays form told replied script first slots sizes before now sink sink_now library library_now NoDevice = ⊥
-EndSays form told replied script first slots sizes before now sink sink_now library library_now NoScript = ⊥
-EndSays form told replied script first slots sizes before now sink sink_now library library_now ScriptTooLong = ⊥
+EndSays w form told replied script first slots sizes before now sink sink_now library library_now NoDevice = ⊥
+EndSays w form told replied script first slots sizes before now sink sink_now library library_now NoScript = ⊥
+EndSays w form told replied script first slots sizes before now sink sink_now library library_now ScriptTooLong = ⊥
 
 -- what was gathered was put: all of it, and the end is that of the stop; or a part, and the sink failed
 abbrev pub PutsRest : Option (List ℕ) → Option (List ℕ) → ℕ → ℕ → List ℕ → End → End → Type 0

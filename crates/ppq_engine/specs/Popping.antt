@@ -1,7 +1,6 @@
 -- Records that are popped one after the other, all or those below a limit.
 use Rattle.std.specs.Prelude.{◌≡◌, ◌≤◌, ◌-◌, ℕ, List, [], length, take, drop, Option, Some, None, if◌then◌else◌, ⊤}
-use Rattle.ppq_script.specs.ppq_record.declared.pair.Pair.{Pair}
-use Rattle.ppq_script.specs.ppq_record.Pair.{pair_cmp}
+use Rattle.ppq_script.specs.Words.{Words}
 use Rattle.ppq_script.specs.ppq_record.Order.{is_before}
 use Rattle.ppq_script.specs.ppq_record.Bag.{IsSameBag, ascending, least}
 use Rattle.ppq_script.specs.declared.form.Form.{Form}
@@ -10,37 +9,37 @@ use Rattle.ppq_engine.specs.declared.stop.Stop.{Stop}
 use Rattle.ppq_engine.specs.declared.stop.Stop.TheVariants.{Sink, Queue, Read, Memory, Changed}
 
 -- a record, where there is one and it is below the limit, if there is one
-abbrev pub passing : Option Pair → Option Pair → Option Pair
-passing None item = item
-passing (Some limit) None = None
-passing (Some limit) (Some item) = if is_before pair_cmp item limit then Some item else None
+abbrev pub passing : {R : Type 0} → Words R → Option R → Option R → Option R
+passing w None item = item
+passing w (Some limit) None = None
+passing w (Some limit) (Some item) = if is_before w.cmp item limit then Some item else None
 
 -- the smallest record of a multiset, where it is below the limit
-abbrev pub next_of : Option Pair → List Pair → Option Pair
-next_of below bag = passing below (least pair_cmp bag)
+abbrev pub next_of : {R : Type 0} → Words R → Option R → List R → Option R
+next_of w below bag = passing w below (least w.cmp bag)
 
 -- whether a record below the limit is left, where this is the smallest of them or none
-abbrev pub left_mark : Form → Option Pair → List ℕ
+abbrev pub left_mark : {R : Type 0} → Form → Option R → List ℕ
 left_mark form None = all_text form
 left_mark form (Some item) = more_text form
 
 -- how many records are popped at the most: so many, and none that is not below the limit
-abbrev pub popped_count : Option Pair → List Pair → ℕ → ℕ
-popped_count None bag count = count
-popped_count (Some limit) bag count = limited_count bag limit count
+abbrev pub popped_count : {R : Type 0} → Words R → Option R → List R → ℕ → ℕ
+popped_count w None bag count = count
+popped_count w (Some limit) bag count = limited_count w bag limit count
 
 -- how many of so many records are left at the most, where up to `count` are popped
-abbrev pub left_at_most : Option Pair → ℕ → ℕ → ℕ
+abbrev pub left_at_most : {R : Type 0} → Option R → ℕ → ℕ → ℕ
 left_at_most None size count = size - count
 left_at_most (Some limit) size count = size
 
 -- of a multiset the smallest records were popped, as many as these, so many at the most, and none that is not below the limit; where there are
 -- none of these, none passes
-pub record IsRound (below : Option Pair) (count : ℕ) (bag rest items : List Pair) : Type 0 where
-  pub first : items ≡ take (length items) (ascending pair_cmp bag)
-  pub rest_is : IsSameBag rest (drop (length items) (ascending pair_cmp bag))
-  pub few : length items ≤ popped_count below bag count
-  pub end : items ≡ [] → next_of below bag ≡ None
+pub record IsRound {R : Type 0} (w : Words R) (below : Option R) (count : ℕ) (bag rest items : List R) : Type 0 where
+  pub first : items ≡ take (length items) (ascending w.cmp bag)
+  pub rest_is : IsSameBag rest (drop (length items) (ascending w.cmp bag))
+  pub few : length items ≤ popped_count w below bag count
+  pub end : items ≡ [] → next_of w below bag ≡ None
 
 -- it was the sink or the queue that stopped
 abbrev pub NotByFile : Stop → Type 0

@@ -1,6 +1,5 @@
 -- What the lines of a session push, and how they are given to the passes of a bulk session.
 use Rattle.std.specs.Prelude.{◌≡◌, List, [], ◌∷◌, ◌++◌, flat_map, All}
-use Rattle.ppq_script.specs.ppq_record.declared.pair.Pair.{Pair}
 use Rattle.ppq_script.specs.ppq_outside.Shown.{Shown}
 use Rattle.ppq_script.specs.declared.command.Command.{Command}
 use Rattle.ppq_script.specs.declared.command.Command.TheVariants.{Push, Pop, Top, Size, Bulk, Gen, BulkPop, BulkPopLimit, Drain, BulkBegin, BulkPush, BulkEnd, LimitBegin, LimitPush, LimitTop, LimitPop, LimitEnd}
@@ -10,7 +9,7 @@ use Rattle.ppq_load.specs.ppq_session.Dealing.{IsGoing, records_in}
 use Rattle.ppq_load.specs.Loading.{LoadHolding, InSession}
 
 -- the line of a pass that a command of a session is
-abbrev pub line_by : Command → List (Line Pair)
+abbrev pub line_by : {R : Type 0} → Command R → List (Line R)
 line_by (Push item) = []
 line_by Pop = []
 line_by Top = []
@@ -30,21 +29,21 @@ line_by LimitPop = []
 line_by LimitEnd = []
 
 -- the same of commands
-abbrev pub lines_in : List Command → List (Line Pair)
+abbrev pub lines_in : {R : Type 0} → List (Command R) → List (Line R)
 lines_in commands = flat_map line_by commands
 
 -- the records that they push
-abbrev pub pushed_in : List Command → List Pair
+abbrev pub pushed_in : {R : Type 0} → List (Command R) → List R
 pushed_in commands = records_in (lines_in commands)
 
 -- of the lines of a bulk session these are left, and the records of the others were given to its passes
-pub record IsPushing {S : Type 0} (shown : S → Shown) (lines rest : List Command) (old new : LoadHolding S) : Type 0 where
-  pub given : List Command
+pub record IsPushing {R : Type 0} {S : Type 0} (shown : S → Shown) (lines rest : List (Command R)) (old new : LoadHolding S R) : Type 0 where
+  pub given : List (Command R)
   pub all : lines ≡ given ++ rest
-  pub session : (queue : Holding Pair) → InSession shown queue [] old → InSession shown queue (pushed_in given) new
+  pub session : (queue : Holding R) → InSession shown queue [] old → InSession shown queue (pushed_in given) new
 
 -- the records of the first lines were given to them, and those of all if no pass stopped
-pub record GivesLines {S : Type 0} (shown : S → Shown) (lines : List Command) (old new : LoadHolding S) : Type 0 where
-  pub rest : List Command
+pub record GivesLines {R : Type 0} {S : Type 0} (shown : S → Shown) (lines : List (Command R)) (old new : LoadHolding S R) : Type 0 where
+  pub rest : List (Command R)
   pub pushing : IsPushing shown lines rest old new
   pub whole : All IsGoing new.passes → rest ≡ []

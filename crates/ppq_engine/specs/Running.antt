@@ -1,6 +1,6 @@
 -- What stands while the commands of a script are run.
 use Rattle.std.specs.Prelude.{◌≡◌, ◌≤◌, ◌<◌, ◌+◌, ℕ, Bool, ◌||◌, List, [], ◌++◌, take, length, max, slice_get, Option, Some, None, ⊤}
-use Rattle.ppq_script.specs.ppq_record.declared.pair.Pair.{Pair}
+use Rattle.ppq_script.specs.Words.{Words}
 use Rattle.ppq_script.specs.ppq_record.Bag.{IsSameBag}
 use Rattle.ppq_script.specs.ppq_outside.Shown.{Shown, AllTell}
 use Rattle.ppq_script.specs.ppq_outside.Told.{Reply, TakesAll, TakesPart, Rose}
@@ -26,7 +26,7 @@ use Rattle.ppq_engine.specs.declared.stop.Stop.{Stop}
 use Rattle.ppq_engine.specs.declared.stop.Stop.TheVariants.{Sink, Queue, Read, Memory, Changed}
 
 -- a command that needs no session and prints one answer
-abbrev pub IsPlain : Command → Type 0
+abbrev pub IsPlain : {R : Type 0} → Command R → Type 0
 IsPlain (Push item) = ⊤
 IsPlain Pop = ⊤
 IsPlain Top = ⊤
@@ -46,7 +46,7 @@ IsPlain LimitPop = ⊥
 IsPlain LimitEnd = ⊥
 
 -- a command that needs no session
-abbrev pub LendsQueue : Command → Type 0
+abbrev pub LendsQueue : {R : Type 0} → Command R → Type 0
 LendsQueue (Push item) = ⊤
 LendsQueue Pop = ⊤
 LendsQueue Top = ⊤
@@ -80,60 +80,60 @@ pub record GathersPart (before now : Option (List ℕ)) (had text has : List ℕ
 
 -- these commands were run, with files that are given as these records, and no session is open: their output is gathered, the queue holds
 -- their multiset, had no more records than their load, and their crest fits into the budget and what was written
-pub record HasRun (form : Form) (given : ℕ → List Pair) (before now : Option (List ℕ)) (gathered : List ℕ) (bag : List Pair) (size peak : ℕ) (sizes : Numbers) (slots : List Shown) (commands : List Command) : Type 0 where
-  pub closed : state_of given commands ≡ outside (bag_of given commands)
-  pub output : IsGathered before now gathered (output_of form given commands)
-  pub holds : IsSameBag bag (bag_of given commands)
-  pub counted : size ≡ length (bag_of given commands)
-  pub highest : peak ≤ load_of given commands
-  pub crest : FitsWritten (crest_of given commands) sizes slots
+pub record HasRun {R : Type 0} (w : Words R) (form : Form) (given : ℕ → List R) (before now : Option (List ℕ)) (gathered : List ℕ) (bag : List R) (size peak : ℕ) (sizes : Numbers) (slots : List Shown) (commands : List (Command R)) : Type 0 where
+  pub closed : state_of w given commands ≡ outside (bag_of w given commands)
+  pub output : IsGathered before now gathered (output_of w form given commands)
+  pub holds : IsSameBag bag (bag_of w given commands)
+  pub counted : size ≡ length (bag_of w given commands)
+  pub highest : peak ≤ load_of w given commands
+  pub crest : FitsWritten (crest_of w given commands) sizes slots
 
 -- the same of any files and slots, as far as the commands tell it
-pub record HasSizes (size peak : ℕ) (sizes : Numbers) (slots : List Shown) (commands : List Command) : Type 0 where
-  pub low : size_from all_go 0 commands ≤ size
-  pub high : size ≤ size_from none_go 0 commands
-  pub highest : peak ≤ most_of commands
-  pub crest : FitsWritten (least_of commands) sizes slots
+pub record HasSizes {R : Type 0} (w : Words R) (size peak : ℕ) (sizes : Numbers) (slots : List Shown) (commands : List (Command R)) : Type 0 where
+  pub low : size_from w all_go 0 commands ≤ size
+  pub high : size ≤ size_from w none_go 0 commands
+  pub highest : peak ≤ most_of w commands
+  pub crest : FitsWritten (least_of w commands) sizes slots
 
 -- the first commands were run, the next wrote this text in part, and what is to come is open
-pub record IsCut (form : Form) (given : ℕ → List Pair) (before now : Option (List ℕ)) (gathered : List ℕ) (commands : List Command) (done : ℕ) (part : List ℕ) : Type 0 where
-  pub output : IsGathered before now gathered (output_of form given (take done commands) ++ part)
+pub record IsCut {R : Type 0} (w : Words R) (form : Form) (given : ℕ → List R) (before now : Option (List ℕ)) (gathered : List ℕ) (commands : List (Command R)) (done : ℕ) (part : List ℕ) : Type 0 where
+  pub output : IsGathered before now gathered (output_of w form given (take done commands) ++ part)
   pub rest : List ℕ
-  pub all : output_of form given commands ≡ (output_of form given (take done commands) ++ part) ++ rest
+  pub all : output_of w form given commands ≡ (output_of w form given (take done commands) ++ part) ++ rest
 
 -- the queue refused a command
-pub record IsRefused (form : Form) (told : Option (List ℕ → Option (List ℕ))) (script : Reading) (first : List Shown) (before now : Option (List ℕ)) (gathered : List ℕ) (sizes : Numbers) (slots : List Shown) (fault : QueueFault) : Type 0 where
+pub record IsRefused {R : Type 0} (w : Words R) (form : Form) (told : Option (List ℕ → Option (List ℕ))) (script : Reading R) (first : List Shown) (before now : Option (List ℕ)) (gathered : List ℕ) (sizes : Numbers) (slots : List Shown) (fault : QueueFault) : Type 0 where
   pub done : ℕ
   pub cut :
       AllTell first → (files : List ℕ → Option (List ℕ)) → AreFilesOf told script files
-      → (part : List ℕ) × IsCut form (given_of files script) before now gathered (command_list script) done part
+      → (part : List ℕ) × IsCut w form (given_of w files script) before now gathered (command_list script) done part
   pub cause :
       AllTell first → (files : List ℕ → Option (List ℕ)) → AreFilesOf told script files
-      → IsRefusedBy (load_of (given_of files script) (take (done + 1) (command_list script))) sizes (begins_limit (take (done + 1) (command_list script))) slots fault
-  pub any : IsRefusedBy (most_of (take (done + 1) (command_list script))) sizes (begins_limit (take (done + 1) (command_list script))) slots fault
+      → IsRefusedBy (load_of w (given_of w files script) (take (done + 1) (command_list script))) sizes (begins_limit (take (done + 1) (command_list script))) slots fault
+  pub any : IsRefusedBy (most_of w (take (done + 1) (command_list script))) sizes (begins_limit (take (done + 1) (command_list script))) slots fault
 
 -- a command that reads a file was not run: the output of those before it is gathered
-pub record IsBeforeFile (form : Form) (told : Option (List ℕ → Option (List ℕ))) (script : Reading) (first : List Shown) (before now : Option (List ℕ)) (gathered : List ℕ) : Type 0 where
+pub record IsBeforeFile {R : Type 0} (w : Words R) (form : Form) (told : Option (List ℕ → Option (List ℕ))) (script : Reading R) (first : List Shown) (before now : Option (List ℕ)) (gathered : List ℕ) : Type 0 where
   pub done : ℕ
   pub file : ℕ
   pub size : ℕ
   pub here : slice_get (command_list script) done ≡ Some (Bulk file size)
   pub cut :
       AllTell first → (files : List ℕ → Option (List ℕ)) → AreFilesOf told script files
-      → IsCut form (given_of files script) before now gathered (command_list script) done []
+      → IsCut w form (given_of w files script) before now gathered (command_list script) done []
 
 -- a command that adds many records was not run: the output of those before it is gathered
-pub record IsBeforeLoad (form : Form) (told : Option (List ℕ → Option (List ℕ))) (script : Reading) (first : List Shown) (before now : Option (List ℕ)) (gathered : List ℕ) : Type 0 where
+pub record IsBeforeLoad {R : Type 0} (w : Words R) (form : Form) (told : Option (List ℕ → Option (List ℕ))) (script : Reading R) (first : List Shown) (before now : Option (List ℕ)) (gathered : List ℕ) : Type 0 where
   pub done : ℕ
-  pub command : Command
+  pub command : Command R
   pub here : slice_get (command_list script) done ≡ Some command
   pub loads : IsLoad command
   pub cut :
       AllTell first → (files : List ℕ → Option (List ℕ)) → AreFilesOf told script files
-      → IsCut form (given_of files script) before now gathered (command_list script) done []
+      → IsCut w form (given_of w files script) before now gathered (command_list script) done []
 
 -- the file of the command on this line ended before the length that was said of it; the library does not tell
-pub record HasChanged (told : Option (List ℕ → Option (List ℕ))) (replied : Reply → Type 0) (script : Reading) (line said got : ℕ) : Type 0 where
+pub record HasChanged {R : Type 0} (told : Option (List ℕ → Option (List ℕ))) (replied : Reply → Type 0) (script : Reading R) (line said got : ℕ) : Type 0 where
   pub at : ℕ
   pub file : ℕ
   pub here : slice_get (command_list script) at ≡ Some (Bulk file said)
@@ -143,13 +143,13 @@ pub record HasChanged (told : Option (List ℕ → Option (List ℕ))) (replied 
   pub untold : told ≡ None
 
 -- what stands where the commands did not all run
-abbrev pub HasStopped : Form → Option (List ℕ → Option (List ℕ)) → Reading → List Shown → Option (List ℕ) → Option (List ℕ) → List ℕ → Numbers → List Shown → Stop → Type 0
-HasStopped form told script first before now gathered sizes slots Sink =
-    AllTell first → (files : List ℕ → Option (List ℕ)) → AreFilesOf told script files → TakesPart before now (output_of form (given_of files script) (command_list script))
-HasStopped form told script first before now gathered sizes slots (Queue fault) = IsRefused form told script first before now gathered sizes slots fault
-HasStopped form told script first before now gathered sizes slots Read = IsBeforeFile form told script first before now gathered
-HasStopped form told script first before now gathered sizes slots Memory = IsBeforeLoad form told script first before now gathered
-HasStopped form told script first before now gathered sizes slots (Changed line said got) = IsBeforeFile form told script first before now gathered
+abbrev pub HasStopped : {R : Type 0} → Words R → Form → Option (List ℕ → Option (List ℕ)) → Reading R → List Shown → Option (List ℕ) → Option (List ℕ) → List ℕ → Numbers → List Shown → Stop → Type 0
+HasStopped w form told script first before now gathered sizes slots Sink =
+    AllTell first → (files : List ℕ → Option (List ℕ)) → AreFilesOf told script files → TakesPart before now (output_of w form (given_of w files script) (command_list script))
+HasStopped w form told script first before now gathered sizes slots (Queue fault) = IsRefused w form told script first before now gathered sizes slots fault
+HasStopped w form told script first before now gathered sizes slots Read = IsBeforeFile w form told script first before now gathered
+HasStopped w form told script first before now gathered sizes slots Memory = IsBeforeLoad w form told script first before now gathered
+HasStopped w form told script first before now gathered sizes slots (Changed line said got) = IsBeforeFile w form told script first before now gathered
 
 -- what one command wrote that did not run to its end: the sink took a part; or a part is gathered, and none of a command that adds many records
 abbrev pub WritesPart : Option (List ℕ) → Option (List ℕ) → List ℕ → List ℕ → List ℕ → Stop → Type 0
@@ -161,30 +161,30 @@ WritesPart before now had text has (Changed line said got) = Gathers before now 
 
 -- Of commands that run together from a multiset on, the first so many were run and the next stopped: all that they print is gathered, and of what
 -- the others print the beginning
-pub record CutAt (form : Form) (given : ℕ → List Pair) (before now : Option (List ℕ)) (had : List ℕ) (bag : List Pair) (part : List Command) (done : ℕ) (has : List ℕ) : Type 0 where
+pub record CutAt {R : Type 0} (w : Words R) (form : Form) (given : ℕ → List R) (before now : Option (List ℕ)) (had : List ℕ) (bag : List R) (part : List (Command R)) (done : ℕ) (has : List ℕ) : Type 0 where
   pub text : List ℕ
   pub rest : List ℕ
-  pub all : output_from form given (outside bag) part ≡ (output_from form given (outside bag) (take done part) ++ text) ++ rest
-  pub gathers : Gathers before now had (output_from form given (outside bag) (take done part) ++ text) has
+  pub all : output_from w form given (outside bag) part ≡ (output_from w form given (outside bag) (take done part) ++ text) ++ rest
+  pub gathers : Gathers before now had (output_from w form given (outside bag) (take done part) ++ text) has
 
 -- The queue refused one of them: there is no room for the records up to it, or a block failed
-pub record RefusedAt (form : Form) (first : List Shown) (before now : Option (List ℕ)) (had : List ℕ) (bag : List Pair) (size peak : ℕ) (part : List Command) (sizes : Numbers) (limited : Bool) (slots : List Shown) (has : List ℕ) (fault : QueueFault) : Type 0 where
+pub record RefusedAt {R : Type 0} (w : Words R) (form : Form) (first : List Shown) (before now : Option (List ℕ)) (had : List ℕ) (bag : List R) (size peak : ℕ) (part : List (Command R)) (sizes : Numbers) (limited : Bool) (slots : List Shown) (has : List ℕ) (fault : QueueFault) : Type 0 where
   pub done : ℕ
   pub within : done < length part
-  pub cut : AllTell first → (given : ℕ → List Pair) → CutAt form given before now had bag part done has
-  pub cause : IsRefusedBy (max peak (size_from none_go size (take (done + 1) part))) sizes limited slots fault
+  pub cut : AllTell first → (given : ℕ → List R) → CutAt w form given before now had bag part done has
+  pub cause : IsRefusedBy (max peak (size_from w none_go size (take (done + 1) part))) sizes limited slots fault
 
 -- What commands that run together wrote where they did not all run: the sink took a part; or the beginning is gathered, up to the one that was
 -- refused; or nothing is, where a file or memory was wanting
-abbrev pub PartStops : Form → List Shown → Option (List ℕ) → Option (List ℕ) → List ℕ → List Pair → ℕ → ℕ → List Command → Numbers → Bool → List Shown → List ℕ → Stop → Type 0
-PartStops form first before now had bag size peak part sizes limited slots has Sink = AllTell first → (given : ℕ → List Pair) → TakesPart before now (had ++ output_from form given (outside bag) part)
-PartStops form first before now had bag size peak part sizes limited slots has (Queue fault) = RefusedAt form first before now had bag size peak part sizes limited slots has fault
-PartStops form first before now had bag size peak part sizes limited slots has Read = AllTell first → Gathers before now had [] has
-PartStops form first before now had bag size peak part sizes limited slots has Memory = AllTell first → Gathers before now had [] has
-PartStops form first before now had bag size peak part sizes limited slots has (Changed line said got) = AllTell first → Gathers before now had [] has
+abbrev pub PartStops : {R : Type 0} → Words R → Form → List Shown → Option (List ℕ) → Option (List ℕ) → List ℕ → List R → ℕ → ℕ → List (Command R) → Numbers → Bool → List Shown → List ℕ → Stop → Type 0
+PartStops {R} w form first before now had bag size peak part sizes limited slots has Sink = AllTell first → (given : ℕ → List R) → TakesPart before now (had ++ output_from w form given (outside bag) part)
+PartStops w form first before now had bag size peak part sizes limited slots has (Queue fault) = RefusedAt w form first before now had bag size peak part sizes limited slots has fault
+PartStops w form first before now had bag size peak part sizes limited slots has Read = AllTell first → Gathers before now had [] has
+PartStops w form first before now had bag size peak part sizes limited slots has Memory = AllTell first → Gathers before now had [] has
+PartStops w form first before now had bag size peak part sizes limited slots has (Changed line said got) = AllTell first → Gathers before now had [] has
 
 -- a stop by a file comes from a command that reads one, and want of memory from a command that adds many records
-abbrev pub IsOfFile : Command → Stop → Type 0
+abbrev pub IsOfFile : {R : Type 0} → Command R → Stop → Type 0
 IsOfFile command Sink = ⊤
 IsOfFile command (Queue fault) = ⊤
 IsOfFile command Read = (file : ℕ) × ((size : ℕ) × (command ≡ Bulk file size))
@@ -192,7 +192,7 @@ IsOfFile command Memory = IsLoad command
 IsOfFile command (Changed line said got) = (file : ℕ) × ((size : ℕ) × (command ≡ Bulk file size))
 
 -- a queue behind commands that run together: whether a limit session was begun is known of it
-abbrev pub behind_part : Holding Pair → List Command → Holding Pair
+abbrev pub behind_part : {R : Type 0} → Holding R → List (Command R) → Holding R
 behind_part queue part = record queue { limited = queue.limited || begins_limit part }
 
 -- where it was the queue, it says why
@@ -204,7 +204,7 @@ StopsFor peak sizes limited slots Memory = ⊤
 StopsFor peak sizes limited slots (Changed line said got) = ⊤
 
 -- where a file had changed, it says which
-abbrev pub ChangedIn : Option (List ℕ → Option (List ℕ)) → (Reply → Type 0) → Reading → Stop → Type 0
+abbrev pub ChangedIn : {R : Type 0} → Option (List ℕ → Option (List ℕ)) → (Reply → Type 0) → Reading R → Stop → Type 0
 ChangedIn told replied script Sink = ⊤
 ChangedIn told replied script (Queue fault) = ⊤
 ChangedIn told replied script Read = ⊤

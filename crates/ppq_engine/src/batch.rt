@@ -1,6 +1,5 @@
 //! A batch of lines of a session.
 ghost use Rattle.std.specs.Prelude.{◌≡◌, ◌≤◌, ◌<◌, ◌+◌, ◌++◌, false, length, Some, IsTrue, slice_get, vec_len, vec_capacity, IfOk};
-ghost use Rattle.ppq_script.specs.ppq_record.declared.pair.Pair.{Pair};
 ghost use Rattle.ppq_script.specs.Parts.{AreLines, commands_of};
 ghost use Rattle.ppq_script.specs.declared.form.Form.{Form};
 ghost use Rattle.ppq_script.specs.declared.session.Session.TheVariants.{InLimit};
@@ -14,11 +13,12 @@ use crate::Answer;
 use crate::collected::Collected;
 use crate::gathered::Gathered;
 use ppq_load::{Ask, Limits};
-use ppq_script::{Command, Failed, Form, Gate, Host, Memory, Numbered, Pair, Sink, Slot};
+use ppq_record::record_laws;
+use ppq_script::{Command, Failed, Fields, Form, Gate, Host, Memory, Numbered, Sink, Slot};
 use std::alloc::Global;
 
 // The first of these lines, at most so many, and those behind them.
-pub fn cut(lines: &[Numbered], most: usize) -> (&[Numbered], &[Numbered])
+pub fn cut<R: Fields>(lines: &[Numbered<R>], most: usize) -> (&[Numbered<R>], &[Numbered<R>])
     requires { 0 < most }
     ensures all { commands_of lines.now ≡ commands_of result.0.now ++ commands_of result.1.now }
     ensures few { length result.0.now ≤ most }
@@ -34,19 +34,19 @@ pub fn cut(lines: &[Numbered], most: usize) -> (&[Numbered], &[Numbered])
 // What the lines of a batch of a limit session push, what they ask, and what was answered. The memory for
 // as many lines as a batch may have is taken once.
 #[derive(Drop)]
-pub struct Batch {
-    pub lines: Collected,
+pub struct Batch<R: Fields> {
+    pub lines: Collected<R>,
     asks: Vec<Ask>,
-    pub answers: Vec<Option<Pair>>,
+    pub answers: Vec<Option<R>>,
 
     ghost few: { vec_len asks ≤ lines.most },
     ghost for_asks: { lines.most ≤ vec_capacity asks },
     ghost for_answers: { lines.most ≤ vec_capacity answers },
 }
 
-impl Batch {
+impl<R: Fields + Send + Sync> Batch<R> {
     // No line, with memory for so many.
-    pub fn new(alloc: Global, most: u32) -> Result<Batch, Memory>
+    pub fn new(alloc: Global, most: u32) -> Result<Batch<R>, Memory>
         requires { 0 < most }
         ensures { IfOk result (λ batch. batch.lines.most ≡ most) }
     {
@@ -61,7 +61,7 @@ impl Batch {
     }
 
     // Takes what these lines ask in place of what was asked.
-    fn fill(&mut self, lines: &[Numbered])
+    fn fill(&mut self, lines: &[Numbered<R>])
         requires { length lines.now ≤ self.old.lines.most }
         ensures asks { self.new.asks.items ≡ asks_in (commands_of lines.now) }
         ensures lines { self.new.lines ≡ self.old.lines }
@@ -73,7 +73,7 @@ impl Batch {
     }
 
     // Takes what a command asks of the front.
-    fn take(&mut self, command: Command)
+    fn take(&mut self, command: Command<R>)
         requires { vec_len self.old.asks < self.old.lines.most }
         ensures asks { self.new.asks.items ≡ self.old.asks.items ++ ask_by command }
         ensures few { vec_len self.new.asks ≤ vec_len self.old.asks + 1 }
@@ -94,19 +94,20 @@ impl Batch {
     pub fn run<H: Host, S: Slot + Send + Sync, G: Gate>(
         &mut self,
         rt: &H,
-        session: &mut Limits<S>,
-        lines: &[Numbered],
+        session: &mut Limits<S, R>,
+        lines: &[Numbered<R>],
         gate: &G,
     ) -> bool
     where
         H::Dir: Send,
         requires few { length lines.now ≤ self.old.lines.most }
-        requires lines { AreLines session.old.front.sizes.workers (InLimit session.old.front.limit) (commands_of lines.now) }
+        requires lines { AreLines R.Fields session.old.front.sizes.workers (InLimit session.old.front.limit) (commands_of lines.now) }
         requires going { AreGoing session.old }
         ensures all { IsTrue result → AreGoing session.new }
         ensures stopped { result ≡ false → HasStopped session.new }
-        ensures ran { RunsBatch S.shown (commands_of lines.now) self.new.answers.items session.old session.new }
+        ensures ran { RunsBatch R.Fields S.shown (commands_of lines.now) self.new.answers.items session.old session.new }
     {
+        record_laws::<R>();
         self.lines.fill(lines);
         self.fill(lines);
         self.answers.clear();
@@ -121,7 +122,7 @@ impl Batch {
         gathered: &mut Gathered,
         out: &mut O,
     ) -> Result<(), Failed>
-        ensures { GathersAll (O.told out.old) (O.told out.new) (O.faults out.old) (O.faults out.new) gathered.old (answers_text form self.now.answers.items) gathered.new result }
+        ensures { GathersAll (O.told out.old) (O.told out.new) (O.faults out.old) (O.faults out.new) gathered.old (answers_text R.Fields form self.now.answers.items) gathered.new result }
     {
         for i in 0..self.answers.len() {
             gathered.print(rt, form, answer_of(answer_at(&self.answers, i)), out)?;
@@ -132,7 +133,7 @@ impl Batch {
 
 // The answer at this place.
 #[inline]
-fn answer_at(answers: &[Option<Pair>], i: usize) -> Option<Pair>
+fn answer_at<R: Fields>(answers: &[Option<R>], i: usize) -> Option<R>
     requires { i < length answers.now }
     ensures { slice_get answers.now i ≡ Some result }
 {
@@ -140,8 +141,8 @@ fn answer_at(answers: &[Option<Pair>], i: usize) -> Option<Pair>
 }
 
 // What was answered to an ask.
-fn answer_of(item: Option<Pair>) -> Answer
-    ensures { (form : Form) → answer_text form result ≡ limited_text form item }
+fn answer_of<R: Fields>(item: Option<R>) -> Answer<R>
+    ensures { (form : Form) → answer_text R.Fields form result ≡ limited_text R.Fields form item }
 {
     match item {
         Some(item) => Answer::Record { item },

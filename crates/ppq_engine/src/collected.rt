@@ -4,13 +4,13 @@ ghost use Rattle.ppq_script.specs.Parts.{commands_of};
 ghost use Rattle.ppq_engine.specs.Pushes.{line_by, lines_in};
 
 use ppq_load::Line;
-use ppq_script::{Command, Memory, Numbered, Pair};
+use ppq_script::{Command, Fields, Memory, Numbered};
 use std::alloc::Global;
 
 // The lines of a batch. The memory for as many as may be is taken once.
 #[derive(Drop)]
-pub struct Collected {
-    pub items: Vec<Line<Pair>>,
+pub struct Collected<R: Fields> {
+    pub items: Vec<Line<R>>,
     // How many lines there may be.
     pub most: usize,
 
@@ -19,9 +19,9 @@ pub struct Collected {
     ghost capacity: { most ≤ vec_capacity items },
 }
 
-impl Collected {
+impl<R: Fields> Collected<R> {
     // No line, with memory for so many.
-    pub fn new(alloc: Global, most: u32) -> Result<Collected, Memory>
+    pub fn new(alloc: Global, most: u32) -> Result<Collected<R>, Memory>
         requires { 0 < most }
         ensures most { IfOk result (λ lines. lines.most ≡ most) }
         ensures none { IfOk result (λ lines. lines.items.items ≡ []) }
@@ -32,7 +32,7 @@ impl Collected {
     }
 
     // Takes these lines in place of those that it had.
-    pub fn fill(&mut self, lines: &[Numbered])
+    pub fn fill(&mut self, lines: &[Numbered<R>])
         requires { length lines.now ≤ self.old.most }
         ensures lines { self.new.items.items ≡ lines_in (commands_of lines.now) }
         ensures most { self.new.most ≡ self.old.most }
@@ -44,7 +44,7 @@ impl Collected {
     }
 
     // Takes what a command pushes in a session.
-    fn take(&mut self, command: Command)
+    fn take(&mut self, command: Command<R>)
         requires { vec_len self.old.items < self.old.most }
         ensures lines { self.new.items.items ≡ self.old.items.items ++ line_by command }
         ensures few { vec_len self.new.items ≤ vec_len self.old.items + 1 }

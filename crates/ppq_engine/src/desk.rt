@@ -4,30 +4,32 @@ ghost use Rattle.ppq_load.specs.ppq_budget.Sizes.{batch_of};
 
 use crate::gathered::Gathered;
 use ppq_load::{Out, Sizes};
-use ppq_script::{Memory, Pair};
+use ppq_record::record_laws;
+use ppq_script::{Fields, Memory};
 use std::alloc::Global;
 
 // What commands work with beside the queue. The memory for all of it is taken once.
 #[derive(Drop)]
-pub struct Desk {
+pub struct Desk<R: Fields> {
     // The records of a round of a pop.
-    pub list: Out<Pair>,
+    pub list: Out<R>,
     // What was printed and not yet put.
     pub gathered: Gathered,
     // A piece of a file.
     pub room: Vec<u8>,
 }
 
-impl Desk {
+impl<R: Fields> Desk<R> {
     // An empty desk, for a queue of these sizes.
-    pub fn new(alloc: Global, sizes: &Sizes) -> Result<Desk, Memory>
+    pub fn new(alloc: Global, sizes: &Sizes) -> Result<Desk<R>, Memory>
         ensures gathered { IfOk result (λ desk. desk.gathered ≡ []) }
         ensures list { IfOk result (λ desk. desk.list.room ≡ batch_of sizes.now) }
-        ensures room { IfOk result (λ desk. 16 ≤ length desk.room.items) }
+        ensures room { IfOk result (λ desk. R.WIDTH ≤ length desk.room.items) }
     {
+        record_laws::<R>();
         let gathered = Gathered::new(alloc)?;
         let list = Out::new(alloc, sizes)?;
-        let bytes = sizes.batch() as usize * 16;
+        let bytes = sizes.batch() as usize * R::WIDTH;
         let room = vec![in alloc; 0u8; bytes]?;
         Ok(Desk {
             list,

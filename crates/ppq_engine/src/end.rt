@@ -1,9 +1,9 @@
-//! How a run ends.
+//! How the execution of a script ends.
 
 /// How a run of a script ends. Each end but `Memory` has a cause that the caller can see.
 #[derive(Clone, Copy, Debug, PartialEq, Eq)]
 pub enum End {
-    /// The whole script was run, and all its output was taken.
+    /// The whole script was executed, and all its output was taken.
     Done,
     /// The script's first bad line.
     BadLine { line: u32 },
@@ -17,7 +17,8 @@ pub enum End {
     DeviceFault { number: u32 },
     /// A run of records found no free block.
     NoFreeBlock,
-    /// The budget is below its fixed part, which is `need` records.
+    /// The budget is below its fixed part, `need`: in records from `run_script`, and from the program in the
+    /// unit in which the budget was given.
     BudgetTooSmall { need: u64 },
     /// An allocation failed.
     Memory,
@@ -31,9 +32,11 @@ pub enum End {
     ScriptTooLong,
 }
 
-/// How a run ended, and the blocks that it made, each once.
+/// How an execution ended, and the blocks that were made for it.
 #[derive(Drop)]
 pub struct Ended<S> {
+    /// How it ended.
     pub end: End,
+    /// The blocks, each once.
     pub blocks: Vec<S>,
 }

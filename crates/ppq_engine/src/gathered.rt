@@ -2,13 +2,13 @@
 ghost use Rattle.std.specs.Prelude.{◌≡◌, ◌≤◌, ◌<◌, ◌+◌, ◌^◌, ◌++◌, [], length, IfOk, OnOk, OnErr, decimal};
 ghost use Rattle.std.specs.Int.{w32, w64, to_be_bytes};
 ghost use Rattle.ppq_script.specs.ppq_outside.Told.{HasOneCause, TakesAll, TakesPart};
-ghost use Rattle.ppq_script.specs.ppq_record.Pair.{pair_bytes};
-ghost use Rattle.ppq_engine.specs.Output.{written, pair_text, record_text, size_text, frame, drained_line, drained_bytes, drained_text};
+ghost use Rattle.ppq_engine.specs.Output.{written, fields_text, record_text, size_text, frame, drained_line, drained_bytes, drained_text};
 ghost use Rattle.ppq_engine.specs.Gathers.{answer_text, Gathers};
 
 use crate::{Answer, Drained};
 use itoa::Buffer;
-use ppq_script::{Failed, Form, Host, Memory, Pair, Record, Sink};
+use ppq_record::{fields_laws, record_laws};
+use ppq_script::{Failed, Fields, Form, Host, Memory, Sink};
 use std::alloc::Global;
 use std::marker::Model;
 
@@ -16,9 +16,9 @@ use std::marker::Model;
 // beside its cost per byte.
 const ROOM: usize = 65_536;
 
-// A length in bytes that no text of an answer passes: six numbers of 20 digits and 27 letters and signs
-// more.
-const LONGEST: usize = 160;
+// A length in bytes that no text of an answer passes: two records of at most eight fields and two numbers
+// more, each of at most 20 digits, and 39 letters and signs.
+const LONGEST: usize = 400;
 
 // The bytes that were printed and not yet put. The memory for them is taken once.
 #[derive(Drop)]
@@ -48,14 +48,14 @@ impl Gathered {
     // Gathers an answer's text in this form, and puts what was gathered before where there is no room for
     // it.
     #[inline]
-    pub fn print<H: Host, O: Sink>(
+    pub fn print<H: Host, R: Fields, O: Sink>(
         &mut self,
         rt: &H,
         form: Form,
-        answer: Answer,
+        answer: Answer<R>,
         out: &mut O,
     ) -> Result<(), Failed>
-        ensures ok { OnOk result (Gathers (O.told out.old) (O.told out.new) self.old (answer_text form answer) self.new) }
+        ensures ok { OnOk result (Gathers (O.told out.old) (O.told out.new) self.old (answer_text R.Fields form answer) self.new) }
         ensures part { OnErr result (TakesPart (O.told out.old) (O.told out.new) self.old) }
         ensures cause { HasOneCause (O.faults out.old) (O.faults out.new) result }
     {
@@ -78,9 +78,9 @@ impl Gathered {
         Ok(())
     }
 
-    fn append(&mut self, form: Form, answer: Answer)
-        requires { length self.old + 160 ≤ 65536 }
-        ensures { self.new ≡ self.old ++ answer_text form answer }
+    fn append<R: Fields>(&mut self, form: Form, answer: Answer<R>)
+        requires { length self.old + 400 ≤ 65536 }
+        ensures { self.new ≡ self.old ++ answer_text R.Fields form answer }
     {
         match answer {
             Answer::Nothing => {}
@@ -112,18 +112,20 @@ impl Gathered {
 
     // A record.
     #[inline]
-    fn record(&mut self, form: Form, item: Pair)
-        requires { length self.old + 42 ≤ 65536 }
-        ensures { self.new ≡ self.old ++ record_text form item }
+    fn record<R: Fields>(&mut self, form: Form, item: R)
+        requires { length self.old + 168 ≤ 65536 }
+        ensures { self.new ≡ self.old ++ record_text R.Fields form item }
     {
+        record_laws::<R>();
+        fields_laws::<R>();
         match form {
             Form::Text => {
-                self.pair(item);
+                self.fields(item);
                 self.text(b"\n");
             }
             Form::Bytes => {
-                self.head(Pair::WIDTH as u32);
-                self.pair_bytes(item);
+                self.head(R::WIDTH as u32);
+                self.record_bytes(item);
             }
         }
     }
@@ -146,9 +148,9 @@ impl Gathered {
     }
 
     // What was drained.
-    fn drained(&mut self, form: Form, drained: Drained)
-        requires { length self.old + 160 ≤ 65536 }
-        ensures { self.new ≡ self.old ++ drained_text form drained.count drained.first drained.last drained.sum }
+    fn drained<R: Fields>(&mut self, form: Form, drained: Drained<R>)
+        requires { length self.old + 400 ≤ 65536 }
+        ensures { self.new ≡ self.old ++ drained_text R.Fields form drained.count drained.first drained.last drained.sum }
     {
         match (drained.first, drained.last) {
             (Some(first), Some(last)) => match form {
@@ -160,42 +162,48 @@ impl Gathered {
     }
 
     // What was drained, as a line.
-    fn drained_line(&mut self, count: u64, first: Pair, last: Pair, sum: u64)
-        requires { length self.old + 160 ≤ 65536 }
-        ensures { self.new ≡ self.old ++ drained_line count first last sum }
+    fn drained_line<R: Fields>(&mut self, count: u64, first: R, last: R, sum: u64)
+        requires { length self.old + 400 ≤ 65536 }
+        ensures { self.new ≡ self.old ++ drained_line R.Fields count first last sum }
     {
         self.text(b"count ");
         self.number(count);
         self.text(b" first ");
-        self.pair(first);
+        self.fields(first);
         self.text(b" last ");
-        self.pair(last);
+        self.fields(last);
         self.text(b" sum ");
         self.number(sum);
         self.text(b"\n");
     }
 
     // What was drained, as a frame.
-    fn drained_frame(&mut self, count: u64, first: Pair, last: Pair, sum: u64)
-        requires { length self.old + 160 ≤ 65536 }
-        ensures { self.new ≡ self.old ++ frame (drained_bytes count first last sum) }
+    fn drained_frame<R: Fields>(&mut self, count: u64, first: R, last: R, sum: u64)
+        requires { length self.old + 400 ≤ 65536 }
+        ensures { self.new ≡ self.old ++ frame (drained_bytes R.Fields count first last sum) }
     {
-        self.head(2 * Pair::WIDTH as u32 + 16);
+        record_laws::<R>();
+        self.head(2 * R::WIDTH as u32 + 16);
         self.word(count);
-        self.pair_bytes(first);
-        self.pair_bytes(last);
+        self.record_bytes(first);
+        self.record_bytes(last);
         self.word(sum);
     }
 
-    // A key and a value.
-    fn pair(&mut self, item: Pair)
-        requires { length self.old + 41 ≤ 65536 }
-        ensures text { self.new ≡ self.old ++ pair_text item }
-        ensures length { length self.new ≤ length self.old + 41 }
+    // The fields of a record, parted by one space.
+    #[inline]
+    fn fields<R: Fields>(&mut self, item: R)
+        requires { length self.old + 167 ≤ 65536 }
+        ensures text { self.new ≡ self.old ++ fields_text (R.fields_of item) }
+        ensures length { length self.new ≤ length self.old + 167 }
     {
-        self.number(item.key);
-        self.text(b" ");
-        self.number(item.value);
+        record_laws::<R>();
+        fields_laws::<R>();
+        self.number(item.field(0));
+        for i in 1..R::COUNT {
+            self.text(b" ");
+            self.number(item.field(i));
+        }
     }
 
     fn number(&mut self, number: u64)
@@ -217,13 +225,17 @@ impl Gathered {
     }
 
     // The bytes of a record.
-    fn pair_bytes(&mut self, item: Pair)
-        requires { length self.old + 16 ≤ 65536 }
-        ensures text { self.new ≡ self.old ++ pair_bytes item }
-        ensures length { length self.new ≡ length self.old + 16 }
+    #[inline]
+    fn record_bytes<R: Fields>(&mut self, item: R)
+        requires { length self.old + R.WIDTH ≤ 65536 }
+        ensures text { self.new ≡ self.old ++ R.bytes_of item }
+        ensures length { length self.new ≡ length self.old + R.WIDTH }
     {
-        self.word(item.key);
-        self.word(item.value);
+        record_laws::<R>();
+        fields_laws::<R>();
+        for i in 0..R::COUNT {
+            self.word(item.field(i));
+        }
     }
 
     // The eight bytes of a number.

@@ -1,4 +1,4 @@
-//! Runs a script: each command acts on one queue of records and gives one text.
+//! Executes a script: each command acts on one queue of records and gives one text.
 #![tactic(auto)]
 
 mod answer;
@@ -21,5 +21,5 @@ mod world;
 pub use answer::{Answer, Drained};
 pub use end::{End, Ended};
 pub use laws::session_laws;
-pub use ppq_script::{Form, Script, check_files, read};
+pub use ppq_script::{Form, Head, Script, check_files, read, read_head};
 pub use run::run_script;

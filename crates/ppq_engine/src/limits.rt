@@ -1,4 +1,4 @@
-//! Runs a limit session of a script.
+//! Executes a limit session of a script.
 ghost use Rattle.std.specs.Prelude.{◌≡◌, List, ℕ, Option, OnOk, OnErr, IfErr};
 ghost use Rattle.ppq_script.specs.ppq_outside.Told.{HasOneCause};
 ghost use Rattle.ppq_script.specs.Parts.{AreLines, limit_part, commands_of};
@@ -17,24 +17,25 @@ use crate::session::ended;
 use crate::stop::Stop;
 use crate::world::World;
 use ppq_load::Limits;
-use ppq_script::{Failed, Gate, Host, Numbered, Pair, Sink, Slot};
+use ppq_record::record_laws;
+use ppq_script::{Failed, Fields, Gate, Host, Numbered, Sink, Slot};
 
 // Runs lines of a session in batches, and prints what each batch answered, up to the first batch in which
 // a pass or the front stopped.
-fn run_lines<H: Host, S: Slot + Send + Sync, O: Sink, G: Gate>(
-    world: &World<'_, H, G>,
-    session: &mut Limits<S>,
-    lines: &[Numbered],
-    batch: &mut Batch,
+fn run_lines<H: Host, S: Slot + Send + Sync, R: Fields + Send + Sync, O: Sink, G: Gate>(
+    world: &World<'_, H, G, R>,
+    session: &mut Limits<S, R>,
+    lines: &[Numbered<R>],
+    batch: &mut Batch<R>,
     gathered: &mut Gathered,
     out: &mut O,
 ) -> Result<(), Failed>
 where
     H::Dir: Send,
-    requires lines { AreLines session.old.front.sizes.workers (InLimit session.old.front.limit) (commands_of lines.now) }
+    requires lines { AreLines R.Fields session.old.front.sizes.workers (InLimit session.old.front.limit) (commands_of lines.now) }
     requires going { AreGoing session.old }
-    ensures ran { OnOk result (RunsLines S.shown world.now.form (commands_of lines.now) (O.told out.old) (O.told out.new) gathered.old gathered.new session.old session.new) }
-    ensures broken { OnErr result (BreaksOff S.shown world.now.form (commands_of lines.now) (O.told out.old) (O.told out.new) gathered.old session.old session.new) }
+    ensures ran { OnOk result (RunsLines R.Fields S.shown world.now.form (commands_of lines.now) (O.told out.old) (O.told out.new) gathered.old gathered.new session.old session.new) }
+    ensures broken { OnErr result (BreaksOff R.Fields S.shown world.now.form (commands_of lines.now) (O.told out.old) (O.told out.new) gathered.old session.old session.new) }
     ensures cause { HasOneCause (O.faults out.old) (O.faults out.new) result }
 {
     let mut rest = lines;
@@ -50,24 +51,25 @@ where
     Ok(())
 }
 
-impl<S: Slot + Send + Sync> Machine<S> {
+impl<S: Slot + Send + Sync, R: Fields + Send + Sync> Machine<S, R> {
     // Runs a limit session with this limit and these lines: they are run in batches of at most as many as a
     // round has records, in which the front answers its lines beside the passes, and the answers are printed
     // in the order of lines. The queue has the passes' records at the end. It gives the machine back.
     pub fn run_limit<H: Host, O: Sink, G: Gate>(
         self,
-        world: &World<'_, H, G>,
-        limit: Pair,
-        lines: &[Numbered],
+        world: &World<'_, H, G, R>,
+        limit: R,
+        lines: &[Numbered<R>],
         out: &mut O,
-    ) -> (Machine<S>, Result<(), Stop>)
+    ) -> (Machine<S, R>, Result<(), Stop>)
     where
         H::Dir: Send,
-        requires lines { AreLines self.queue.sizes.workers (InLimit limit) (commands_of lines.now) }
-        ensures goes { (files : Option (List ℕ → Option (List ℕ))) → Goes world.now.form files world.now.script.now (LimitBegin limit) (limit_part limit (commands_of lines.now)) (O.told out.old) (O.told out.new) self.queue result.0.queue self.desk.gathered result.0.desk.gathered result.1 }
+        requires lines { AreLines R.Fields self.queue.sizes.workers (InLimit limit) (commands_of lines.now) }
+        ensures goes { (files : Option (List ℕ → Option (List ℕ))) → Goes R.Fields world.now.form files world.now.script.now (LimitBegin limit) (limit_part limit (commands_of lines.now)) (O.told out.old) (O.told out.new) self.queue result.0.queue self.desk.gathered result.0.desk.gathered result.1 }
         ensures by_limit { IfErr result.1 IsByLimit }
         ensures sink { SinkCounts (O.faults out.old) (O.faults out.new) result.1 }
     {
+        record_laws::<R>();
         let Machine { queue, desk } = self;
         queue.known();
         let Ok(mut batch) = Batch::new(world.alloc, desk.list.room()) else {

@@ -10,7 +10,7 @@ use crate::machine::Machine;
 use crate::stop::Stop;
 use crate::world::World;
 use ppq_load::{LoadFault, load_file, load_generated};
-use ppq_script::{Gate, Host, Library, Slot};
+use ppq_script::{Fields, Gate, Host, Library, Slot};
 
 // A fault of a load, for the command on this line, whose file has so many bytes.
 pub fn stop_of(fault: LoadFault, line: u32, said: u64) -> Stop
@@ -34,17 +34,17 @@ fn stopped(loaded: Result<(), LoadFault>, line: u32, said: u64) -> Result<(), St
     }
 }
 
-impl<S: Slot + Send + Sync> Machine<S> {
+impl<S: Slot + Send + Sync, R: Fields + Send + Sync> Machine<S, R> {
     // Adds so many generated records. It gives the machine back.
     pub fn push_generated<H: Host, G: Gate>(
         self,
-        world: &World<'_, H, G>,
+        world: &World<'_, H, G, R>,
         seed: u64,
         count: u64,
-    ) -> (Machine<S>, Result<(), Stop>)
+    ) -> (Machine<S, R>, Result<(), Stop>)
     where
         H::Dir: Send,
-        ensures { GoesAlone world.now.script.now (Gen seed count) (Gen seed count ∷ []) self.queue result.0.queue self.desk.gathered result.0.desk.gathered result.1 }
+        ensures { GoesAlone R.Fields world.now.script.now (Gen seed count) (Gen seed count ∷ []) self.queue result.0.queue self.desk.gathered result.0.desk.gathered result.1 }
     {
         let Machine { queue, desk } = self;
         let (queue, loaded) = load_generated(world.rt, world.alloc, queue, seed, count, world.gate);
@@ -55,17 +55,17 @@ impl<S: Slot + Send + Sync> Machine<S> {
     // read by pieces of as many records as the desk has room for. It gives the machine back.
     pub fn push_file<H: Host, L: Library, G: Gate>(
         self,
-        world: &World<'_, H, G>,
+        world: &World<'_, H, G, R>,
         place: usize,
         file: u32,
         said: u64,
         library: &mut L,
-    ) -> (Machine<S>, Result<(), Stop>)
+    ) -> (Machine<S, R>, Result<(), Stop>)
     where
         H::Dir: Send,
-        requires turn { IsTurn world.now.script.now self.queue place (One (Bulk file said)) }
+        requires turn { IsTurn R.Fields world.now.script.now self.queue place (One (Bulk file said)) }
         requires lengths { TellsLengths (L.told library.old) world.now.script.now }
-        ensures goes { (put : Option (List ℕ)) → Goes world.now.form (L.told library.old) world.now.script.now (Bulk file said) (Bulk file said ∷ []) put put self.queue result.0.queue self.desk.gathered result.0.desk.gathered result.1 }
+        ensures goes { (put : Option (List ℕ)) → Goes R.Fields world.now.form (L.told library.old) world.now.script.now (Bulk file said) (Bulk file said ∷ []) put put self.queue result.0.queue self.desk.gathered result.0.desk.gathered result.1 }
         ensures by_file { IfErr result.1 IsByFile }
         ensures library { LibraryCounts (L.told library.old) (L.told library.new) (L.replied library.old) (L.replied library.new) world.now.script.now (L.faults library.old) (L.faults library.new) result.1 }
     {

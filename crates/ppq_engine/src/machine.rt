@@ -4,18 +4,18 @@ ghost use Rattle.ppq_load.specs.ppq_budget.Sizes.{batch_of};
 
 use crate::desk::Desk;
 use ppq_load::Queue;
-use ppq_script::{Pair, Slot};
+use ppq_script::{Fields, Slot};
 
 // A queue, and what commands work with beside it. Each command is a method: those that keep the queue in
 // its place borrow the machine, and those that give it to a session hand the machine back.
 #[derive(Drop)]
-pub struct Machine<S: Slot + Send + Sync> {
-    pub queue: Queue<S, Pair>,
-    pub desk: Desk,
+pub struct Machine<S: Slot + Send + Sync, R: Fields + Send + Sync> {
+    pub queue: Queue<S, R>,
+    pub desk: Desk<R>,
 
     // A round of a pop is a block of records for each worker.
     ghost round: { desk.list.room ≡ batch_of queue.sizes },
 
     // A piece of a file has a record or more.
-    ghost piece: { 16 ≤ length desk.room.items },
+    ghost piece: { R.WIDTH ≤ length desk.room.items },
 }

@@ -1,8 +1,6 @@
 //! Removes many records from a queue, and prints them or what they add up to.
 ghost use Rattle.std.specs.Prelude.{◌≡◌, ◌<◌, ◌+◌, ◌-◌, ◌^◌, ◌∷◌, ◌++◌, [], List, None, Some, OnOk, IfOk, length, slice_get};
-ghost use Rattle.ppq_script.specs.ppq_record.declared.pair.Pair.{Pair};
 ghost use Rattle.ppq_script.specs.ppq_record.Bag.{front, without_front};
-ghost use Rattle.ppq_script.specs.ppq_record.Pair.{pair_cmp};
 ghost use Rattle.ppq_script.specs.ppq_outside.Shown.{AllTell};
 ghost use Rattle.ppq_script.specs.declared.command.Command.TheVariants.{BulkPopLimit};
 ghost use Rattle.ppq_engine.specs.Output.{records_text};
@@ -16,12 +14,13 @@ use crate::stop::Stop;
 use crate::world::World;
 use crate::{Answer, Drained};
 use ppq_load::QueueFault;
-use ppq_script::{Failed, Form, Gate, Host, Pair, Record, Sink, Slot};
+use ppq_record::{fields_laws, record_laws};
+use ppq_script::{Failed, Fields, Form, Gate, Host, Sink, Slot};
 
-impl Drained {
+impl<R: Fields> Drained<R> {
     /// No record.
-    pub fn nothing() -> Drained
-        ensures { IsSummary [] result }
+    pub fn nothing() -> Drained<R>
+        ensures { IsSummary R.Fields [] result }
     {
         Drained {
             count: 0,
@@ -32,23 +31,25 @@ impl Drained {
     }
 
     // One record more.
-    fn add(self, item: Pair) -> Drained
+    fn add(self, item: R) -> Drained<R>
         requires { self.count < 2 ^ 64 - 1 }
         ensures count { result.count ≡ self.count + 1 }
-        ensures summary { (items : List Pair) → IsSummary items self → IsSummary (items ++ item ∷ []) result }
+        ensures summary { (items : List R) → IsSummary R.Fields items self → IsSummary R.Fields (items ++ item ∷ []) result }
     {
+        record_laws::<R>();
+        fields_laws::<R>();
         Drained {
             count: self.count + 1,
             first: Some(self.first.unwrap_or(item)),
             last: Some(item),
-            sum: self.sum.wrapping_add(item.key),
+            sum: self.sum.wrapping_add(item.field(0)),
         }
     }
 }
 
 // The record at this place.
 #[inline]
-fn record_at(items: &[Pair], i: usize) -> Pair
+fn record_at<R: Fields>(items: &[R], i: usize) -> R
     requires { i < length items.now }
     ensures { slice_get items.now i ≡ Some result }
 {
@@ -56,10 +57,10 @@ fn record_at(items: &[Pair], i: usize) -> Pair
 }
 
 // What was drained, and then these records.
-fn add_all(before: Drained, items: &[Pair]) -> Drained
+fn add_all<R: Fields>(before: Drained<R>, items: &[R]) -> Drained<R>
     requires { before.count + length items.now < 2 ^ 64 }
     ensures count { result.count ≡ before.count + length items.now }
-    ensures summary { (had : List Pair) → IsSummary had before → IsSummary (had ++ items.now) result }
+    ensures summary { (had : List R) → IsSummary R.Fields had before → IsSummary R.Fields (had ++ items.now) result }
 {
     let mut drained = before;
     for i in 0..items.len() {
@@ -69,14 +70,14 @@ fn add_all(before: Drained, items: &[Pair]) -> Drained
 }
 
 // Prints these records.
-fn print_all<H: Host, O: Sink>(
+fn print_all<H: Host, R: Fields, O: Sink>(
     rt: &H,
     form: Form,
-    items: &[Pair],
+    items: &[R],
     gathered: &mut Gathered,
     out: &mut O,
 ) -> Result<(), Failed>
-    ensures { GathersAll (O.told out.old) (O.told out.new) (O.faults out.old) (O.faults out.new) gathered.old (records_text form items.now) gathered.new result }
+    ensures { GathersAll (O.told out.old) (O.told out.new) (O.faults out.old) (O.faults out.new) gathered.old (records_text R.Fields form items.now) gathered.new result }
 {
     for i in 0..items.len() {
         let item = record_at(items, i);
@@ -85,21 +86,22 @@ fn print_all<H: Host, O: Sink>(
     Ok(())
 }
 
-impl<S: Slot + Send + Sync> Machine<S> {
+impl<S: Slot + Send + Sync, R: Fields + Send + Sync> Machine<S, R> {
     // Removes a round of the smallest records, as many as the list has room for, and at most so many, and only
     // those below the limit where there is one. They are in the list.
     fn pop_round<H: Host, G: Gate>(
         &mut self,
-        world: &World<'_, H, G>,
-        below: Option<Pair>,
+        world: &World<'_, H, G, R>,
+        below: Option<R>,
         count: u64,
     ) -> Result<(), QueueFault>
     where
         H::Dir: Send,
         requires { 0 < count }
-        ensures popped { OnOk result (PopsRound below count self.old.queue self.new.queue self.new.desk.list.items) }
-        ensures called { IsCalled self.old self.new self.old.queue.peak result }
+        ensures popped { OnOk result (PopsRound R.Fields below count self.old.queue self.new.queue self.new.desk.list.items) }
+        ensures called { IsCalled self.old.queue self.new.queue self.old.desk.gathered self.new.desk.gathered self.old.queue.peak result }
     {
+        record_laws::<R>();
         self.queue.known();
         match below {
             None => {
@@ -120,16 +122,17 @@ impl<S: Slot + Send + Sync> Machine<S> {
     // Removes up to so many smallest records, and says what they add up to.
     pub fn drain<H: Host, G: Gate>(
         &mut self,
-        world: &World<'_, H, G>,
+        world: &World<'_, H, G, R>,
         count: u64,
-    ) -> Result<Drained, QueueFault>
+    ) -> Result<Drained<R>, QueueFault>
     where
         H::Dir: Send,
         requires { self.old.queue.failed ≡ None }
-        ensures summary { IfOk result (λ drained. AllTell self.old.queue.slots → IsSummary (front pair_cmp self.old.queue.bag count) drained) }
-        ensures left { OnOk result (Leaves self.old.queue self.new.queue (without_front pair_cmp self.old.queue.bag count) (self.old.queue.size - count) (self.old.queue.size - count)) }
-        ensures called { IsCalled self.old self.new self.old.queue.peak result }
+        ensures summary { IfOk result (λ drained. AllTell self.old.queue.slots → IsSummary R.Fields (front R.Ord.cmp self.old.queue.bag count) drained) }
+        ensures left { OnOk result (Leaves self.old.queue self.new.queue (without_front R.Ord.cmp self.old.queue.bag count) (self.old.queue.size - count) (self.old.queue.size - count)) }
+        ensures called { IsCalled self.old.queue self.new.queue self.old.desk.gathered self.new.desk.gathered self.old.queue.peak result }
     {
+        record_laws::<R>();
         let mut drained = Drained::nothing();
         let mut done = 0;
         'rounds: while done < count {
@@ -147,19 +150,20 @@ impl<S: Slot + Send + Sync> Machine<S> {
     // them.
     pub fn print_popped<H: Host, O: Sink, G: Gate>(
         &mut self,
-        world: &World<'_, H, G>,
-        below: Option<Pair>,
+        world: &World<'_, H, G, R>,
+        below: Option<R>,
         count: u64,
         out: &mut O,
     ) -> Result<(), Stop>
     where
         H::Dir: Send,
         requires { self.old.queue.failed ≡ None }
-        ensures prints { Prints self.old.queue.slots (O.told out.old) (O.told out.new) self.old.desk.gathered (records_text world.now.form (front pair_cmp self.old.queue.bag (popped_count below self.old.queue.bag count))) self.new.desk.gathered result }
+        ensures prints { Prints self.old.queue.slots (O.told out.old) (O.told out.new) self.old.desk.gathered (records_text R.Fields world.now.form (front R.Ord.cmp self.old.queue.bag (popped_count R.Fields below self.old.queue.bag count))) self.new.desk.gathered result }
         ensures sink { SinkCounts (O.faults out.old) (O.faults out.new) result }
-        ensures left { OnOk result (Leaves self.old.queue self.new.queue (without_front pair_cmp self.old.queue.bag (popped_count below self.old.queue.bag count)) (self.old.queue.size - count) (left_at_most below self.old.queue.size count)) }
+        ensures left { OnOk result (Leaves self.old.queue self.new.queue (without_front R.Ord.cmp self.old.queue.bag (popped_count R.Fields below self.old.queue.bag count)) (self.old.queue.size - count) (left_at_most below self.old.queue.size count)) }
         ensures lent { IsLent self.old.queue self.new.queue self.old.queue.peak result }
     {
+        record_laws::<R>();
         let mut done = 0;
         'rounds: while done < count {
             self.pop_round(world, below, count - done)?;
@@ -182,14 +186,14 @@ impl<S: Slot + Send + Sync> Machine<S> {
     // Whether a record below the limit is left.
     fn mark_of<H: Host, G: Gate>(
         &mut self,
-        world: &World<'_, H, G>,
-        limit: Pair,
-    ) -> Result<Answer, QueueFault>
+        world: &World<'_, H, G, R>,
+        limit: R,
+    ) -> Result<Answer<R>, QueueFault>
     where
         H::Dir: Send,
-        ensures text { IfOk result (λ answer. AllTell self.old.queue.slots → answer_text world.now.form answer ≡ left_mark world.now.form (next_of (Some limit) self.old.queue.bag)) }
+        ensures text { IfOk result (λ answer. AllTell self.old.queue.slots → answer_text R.Fields world.now.form answer ≡ left_mark world.now.form (next_of R.Fields (Some limit) self.old.queue.bag)) }
         ensures left { OnOk result (Leaves self.old.queue self.new.queue self.old.queue.bag self.old.queue.size self.old.queue.size) }
-        ensures called { IsCalled self.old self.new self.old.queue.peak result }
+        ensures called { IsCalled self.old.queue self.new.queue self.old.desk.gathered self.new.desk.gathered self.old.queue.peak result }
     {
         match self.queue.top(world.rt, world.gate)? {
             None => Ok(Answer::All),
@@ -207,16 +211,17 @@ impl<S: Slot + Send + Sync> Machine<S> {
     // below it is left.
     pub fn print_limited<H: Host, O: Sink, G: Gate>(
         &mut self,
-        world: &World<'_, H, G>,
-        limit: Pair,
+        world: &World<'_, H, G, R>,
+        limit: R,
         count: u64,
         out: &mut O,
     ) -> Result<(), Stop>
     where
         H::Dir: Send,
         requires { self.old.queue.failed ≡ None }
-        ensures { Lends world.now.form (O.told out.old) (O.told out.new) (O.faults out.old) (O.faults out.new) self.old self.new (BulkPopLimit limit count) result }
+        ensures { Lends R.Fields world.now.form (O.told out.old) (O.told out.new) (O.faults out.old) (O.faults out.new) self.old.queue self.new.queue self.old.desk.gathered self.new.desk.gathered (BulkPopLimit limit count) result }
     {
+        record_laws::<R>();
         self.print_popped(world, Some(limit), count, out)?;
         let mark = self.mark_of(world, limit)?;
         self.desk.gathered.print(world.rt, world.form, mark, out)?;

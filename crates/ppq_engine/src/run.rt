@@ -1,4 +1,4 @@
-//! Runs the commands of a script.
+//! Executes the commands of a script.
 ghost use Rattle.std.specs.Prelude.{◌≡◌, ◌≤◌, ◌<◌, ◌⊎◌, List, ℕ, Option, [], Some, All, OnOk, IfErr, IsTrue, length, map};
 ghost use Rattle.ppq_script.specs.ppq_outside.Shown.{AllTell};
 ghost use Rattle.ppq_script.specs.ppq_outside.Told.{TakesAll, TakesPart, Rose, Remembers, RepliesOnly};
@@ -23,35 +23,38 @@ use crate::stop::Stop;
 use crate::world::World;
 use crate::{End, Ended};
 use ppq_load::{OpenFault, Queue, QueueFault, Sizes};
-use ppq_script::{Failed, Form, Gate, Host, Library, Pair, Script, Sink, Slot};
+use ppq_record::record_laws;
+use ppq_script::{Failed, Fields, Form, Gate, Host, Library, Script, Sink, Slot};
 use std::alloc::Global;
 
-impl<S: Slot + Send + Sync> Machine<S> {
+impl<S: Slot + Send + Sync, R: Fields + Send + Sync> Machine<S, R> {
     // Runs the commands of the script in order up to the first that does not run to its end, and gathers
     // what they print. It gives the machine back.
     fn run<H: Host, L: Library, O: Sink, G: Gate>(
         self,
-        world: &World<'_, H, G>,
+        world: &World<'_, H, G, R>,
         library: &mut L,
         out: &mut O,
-    ) -> (Machine<S>, Result<(), Stop>)
+    ) -> (Machine<S, R>, Result<(), Stop>)
     where
         H::Dir: Send,
         requires may { MayRun (L.told library.old) world.now.script.now self.queue }
         requires block { 0 < self.queue.sizes.block }
         requires gathered { self.desk.gathered ≡ [] }
-        ensures runs { OnOk result.1 (RunsAll world.now.form (L.told library.old) world.now.script.now self.queue result.0.queue (O.told out.old) (O.told out.new) result.0.desk.gathered) }
-        ensures stopped { IfErr result.1 (HasStopped world.now.form (L.told library.old) world.now.script.now self.queue.slots (O.told out.old) (O.told out.new) result.0.desk.gathered self.queue.sizes result.0.queue.slots) }
+        ensures runs { OnOk result.1 (RunsAll R.Fields world.now.form (L.told library.old) world.now.script.now self.queue result.0.queue (O.told out.old) (O.told out.new) result.0.desk.gathered) }
+        ensures stopped { IfErr result.1 (HasStopped R.Fields world.now.form (L.told library.old) world.now.script.now self.queue.slots (O.told out.old) (O.told out.new) result.0.desk.gathered self.queue.sizes result.0.queue.slots) }
         ensures slots { SameSlots self.queue.slots result.0.queue.slots }
         ensures library { LibraryCounts (L.told library.old) (L.told library.new) (L.replied library.old) (L.replied library.new) world.now.script.now (L.faults library.old) (L.faults library.new) result.1 }
         ensures sink { SinkCounts (O.faults out.old) (O.faults out.new) result.1 }
     {
+        record_laws::<R>();
         let script = world.script;
         script.checked();
         let mut machine = self;
         let mut place = 0;
         'commands: while place < script.len() {
             let part = script.part(place);
+            let count = part.count();
             let (back, result) = machine.advance(world, place, part, library, out);
             machine = back;
             match result {
@@ -59,7 +62,7 @@ impl<S: Slot + Send + Sync> Machine<S> {
                 Err(stop) => return (machine, Err(stop)),
             }
             machine.queue.known();
-            place += part.count();
+            place += count;
         }
         (machine, Ok(()))
     }
@@ -114,24 +117,32 @@ fn put_stopped<H: Host, O: Sink>(rt: &H, stop: Stop, gathered: &mut Gathered, ou
 
 // Runs the commands on an empty queue with this desk, and puts all that was gathered, also where they stop,
 // unless it is the sink that stops them. It takes no memory but for commands that begin a session.
-fn run_opened<H: Host, S: Slot + Send + Sync, L: Library, O: Sink, G: Gate>(
-    world: &World<'_, H, G>,
-    desk: Desk,
-    queue: Queue<S, Pair>,
+fn run_opened<
+    H: Host,
+    S: Slot + Send + Sync,
+    R: Fields + Send + Sync,
+    L: Library,
+    O: Sink,
+    G: Gate,
+>(
+    world: &World<'_, H, G, R>,
+    desk: Desk<R>,
+    queue: Queue<S, R>,
     library: &mut L,
     out: &mut O,
-) -> (Queue<S, Pair>, End)
+) -> (Queue<S, R>, End)
 where
     H::Dir: Send,
     requires may { MayRun (L.told library.old) world.now.script.now queue }
     requires gathered { desk.gathered ≡ [] }
     requires round { desk.list.room ≡ batch_of queue.sizes }
-    requires piece { 16 ≤ length desk.room.items }
-    ensures ends { EndsRun world.now.form (L.told library.old) (L.replied library.new) world.now.script.now queue result.0 (O.told out.old) (O.told out.new) (O.faults out.old) (O.faults out.new) (L.faults library.old) (L.faults library.new) result.1 }
+    requires piece { R.WIDTH ≤ length desk.room.items }
+    ensures ends { EndsRun R.Fields world.now.form (L.told library.old) (L.replied library.new) world.now.script.now queue result.0 (O.told out.old) (O.told out.new) (O.faults out.old) (O.faults out.new) (L.faults library.old) (L.faults library.new) result.1 }
     ensures slots { SameSlots queue.slots result.0.slots }
     ensures library { LibraryStays (L.told library.old) (L.told library.new) (L.replied library.old) (L.replied library.new) world.now.script.now (L.faults library.old) (L.faults library.new) }
     ensures later { O.faults out.old ≤ O.faults out.new }
 {
+    record_laws::<R>();
     queue.known();
     let machine = Machine { queue, desk };
     let (machine, result) = machine.run(world, library, out);
@@ -165,10 +176,17 @@ where
 /// What is said of the output holds where the contents of the blocks and of the library are visible to
 /// proofs; where the script reads no file, the library's need not be. When each end comes, and which
 /// blocks come back, is said of all blocks and libraries.
-pub fn run_script<H: Host, S: Slot + Send + Sync, L: Library, O: Sink, G: Gate>(
+pub fn run_script<
+    H: Host,
+    S: Slot + Send + Sync,
+    R: Fields + Send + Sync,
+    L: Library,
+    O: Sink,
+    G: Gate,
+>(
     rt: &H,
     alloc: Global,
-    script: &Script,
+    script: &Script<R>,
     sizes: Sizes,
     slots: Vec<S>,
     library: &mut L,
@@ -180,15 +198,15 @@ where
     H::Dir: Send,
     requires checked { IsTrue script.now.checked }
     requires workers { script.now.workers ≡ sizes.workers }
-    requires slots { AreNewSlots sizes 16 (map S.shown slots.items) }
+    requires slots { AreNewSlots sizes R.WIDTH (map S.shown slots.items) }
     requires lengths { (files : List ℕ → Option (List ℕ)) → L.told library.old ≡ Some files → KeepsLengths files script.now }
 
     // What is written, where slots and library tell.
-    ensures done { result.end ≡ Done → AllTell (map S.shown slots.items) → (files : List ℕ → Option (List ℕ)) → AreFilesOf (L.told library.old) script.now files → TakesAll (O.told out.old) (O.told out.new) (output_of form (given_of files script.now) (command_list script.now)) }
-    ensures part { AllTell (map S.shown slots.items) → (files : List ℕ → Option (List ℕ)) → AreFilesOf (L.told library.old) script.now files → TakesPart (O.told out.old) (O.told out.new) (output_of form (given_of files script.now) (command_list script.now)) }
-    ensures within { result.end ≡ NoFreeBlock → AllTell (map S.shown slots.items) → (files : List ℕ → Option (List ℕ)) → AreFilesOf (L.told library.old) script.now files → TakesWithin form (given_of files script.now) (O.told out.old) (O.told out.new) sizes (command_list script.now) }
-    ensures memory { result.end ≡ Memory → (O.told out.new ≡ O.told out.old) ⊎ TakesBeforeLoad form (L.told library.old) script.now (map S.shown slots.items) (O.told out.old) (O.told out.new) }
-    ensures file { FaultBeforeFile form (L.told library.old) script.now (map S.shown slots.items) (O.told out.old) (O.told out.new) result.end }
+    ensures done { result.end ≡ Done → AllTell (map S.shown slots.items) → (files : List ℕ → Option (List ℕ)) → AreFilesOf (L.told library.old) script.now files → TakesAll (O.told out.old) (O.told out.new) (output_of R.Fields form (given_of R.Fields files script.now) (command_list script.now)) }
+    ensures part { AllTell (map S.shown slots.items) → (files : List ℕ → Option (List ℕ)) → AreFilesOf (L.told library.old) script.now files → TakesPart (O.told out.old) (O.told out.new) (output_of R.Fields form (given_of R.Fields files script.now) (command_list script.now)) }
+    ensures within { result.end ≡ NoFreeBlock → AllTell (map S.shown slots.items) → (files : List ℕ → Option (List ℕ)) → AreFilesOf (L.told library.old) script.now files → TakesWithin R.Fields form (given_of R.Fields files script.now) (O.told out.old) (O.told out.new) sizes (command_list script.now) }
+    ensures memory { result.end ≡ Memory → (O.told out.new ≡ O.told out.old) ⊎ TakesBeforeLoad R.Fields form (L.told library.old) script.now (map S.shown slots.items) (O.told out.old) (O.told out.new) }
+    ensures file { FaultBeforeFile R.Fields form (L.told library.old) script.now (map S.shown slots.items) (O.told out.old) (O.told out.new) result.end }
     ensures nothing { (need : ℕ) → result.end ≡ BudgetTooSmall need → O.told out.new ≡ O.told out.old }
 
     // When each end comes.
@@ -196,23 +214,23 @@ where
     ensures read { result.end ≡ ReadFault → Rose (L.faults library.old) (L.faults library.new) }
     ensures write { result.end ≡ WriteFault → Rose (O.faults out.old) (O.faults out.new) }
     ensures failed { (number : ℕ) → result.end ≡ DeviceFault number → HasFailed number (map S.shown result.blocks.items) }
-    ensures above { result.end ≡ NoFreeBlock → AllTell (map S.shown slots.items) → (files : List ℕ → Option (List ℕ)) → AreFilesOf (L.told library.old) script.now files → HasNoRoom sizes (begins_limit (command_list script.now)) (load_of (given_of files script.now) (command_list script.now)) }
-    ensures above_any { result.end ≡ NoFreeBlock → HasNoRoom sizes (begins_limit (command_list script.now)) (most_of (command_list script.now)) }
+    ensures above { result.end ≡ NoFreeBlock → AllTell (map S.shown slots.items) → (files : List ℕ → Option (List ℕ)) → AreFilesOf (L.told library.old) script.now files → HasNoRoom sizes (begins_limit (command_list script.now)) (load_of R.Fields (given_of R.Fields files script.now) (command_list script.now)) }
+    ensures above_any { result.end ≡ NoFreeBlock → HasNoRoom sizes (begins_limit (command_list script.now)) (most_of R.Fields (command_list script.now)) }
     ensures changed { (line said got : ℕ) → result.end ≡ FileChanged line said got → HasChanged (L.told library.old) (L.replied library.new) script.now line said got }
     ensures later { O.faults out.old ≤ O.faults out.new }
     ensures stays { NoFault result.end → O.faults out.new ≡ O.faults out.old }
 
     // A budget that is large enough for its fixed part, a load for which the device has room, or one heap if no
     // limit session begins, and no fault of the sink, the library or a block.
-    ensures complete { fixed_of sizes ≤ sizes.memory → AllTell (map S.shown slots.items) → (files : List ℕ → Option (List ℕ)) → AreFilesOf (L.told library.old) script.now files → HasRoom sizes (begins_limit (command_list script.now)) (load_of (given_of files script.now) (command_list script.now)) → IsQuiet (O.faults out.old) (O.faults out.new) → IsQuiet (L.faults library.old) (L.faults library.new) → NoneFailed (map S.shown result.blocks.items) → IsCompleted (L.told library.old) result.end }
-    ensures complete_any { fixed_of sizes ≤ sizes.memory → HasRoom sizes (begins_limit (command_list script.now)) (most_of (command_list script.now)) → IsQuiet (O.faults out.old) (O.faults out.new) → IsQuiet (L.faults library.old) (L.faults library.new) → NoneFailed (map S.shown result.blocks.items) → IsCompleted (L.told library.old) result.end }
+    ensures complete { fixed_of sizes ≤ sizes.memory → AllTell (map S.shown slots.items) → (files : List ℕ → Option (List ℕ)) → AreFilesOf (L.told library.old) script.now files → HasRoom sizes (begins_limit (command_list script.now)) (load_of R.Fields (given_of R.Fields files script.now) (command_list script.now)) → IsQuiet (O.faults out.old) (O.faults out.new) → IsQuiet (L.faults library.old) (L.faults library.new) → NoneFailed (map S.shown result.blocks.items) → IsCompleted (L.told library.old) result.end }
+    ensures complete_any { fixed_of sizes ≤ sizes.memory → HasRoom sizes (begins_limit (command_list script.now)) (most_of R.Fields (command_list script.now)) → IsQuiet (O.faults out.old) (O.faults out.new) → IsQuiet (L.faults library.old) (L.faults library.new) → NoneFailed (map S.shown result.blocks.items) → IsCompleted (L.told library.old) result.end }
 
     // All blocks come back, each once, and no count of a block falls; after `Done` no call of a block failed. The
     // device was used: each record above the budget, when the multiset was greatest outside sessions, was written.
     ensures blocks { SameSlots (map S.shown slots.items) (map S.shown result.blocks.items) }
     ensures unfailed { result.end ≡ Done → All (λ s. s.faults ≡ 0) (map S.shown result.blocks.items) }
-    ensures used { result.end ≡ Done → AllTell (map S.shown slots.items) → (files : List ℕ → Option (List ℕ)) → AreFilesOf (L.told library.old) script.now files → FitsWritten (crest_of (given_of files script.now) (command_list script.now)) sizes (map S.shown result.blocks.items) }
-    ensures used_any { result.end ≡ Done → FitsWritten (least_of (command_list script.now)) sizes (map S.shown result.blocks.items) }
+    ensures used { result.end ≡ Done → AllTell (map S.shown slots.items) → (files : List ℕ → Option (List ℕ)) → AreFilesOf (L.told library.old) script.now files → FitsWritten (crest_of R.Fields (given_of R.Fields files script.now) (command_list script.now)) sizes (map S.shown result.blocks.items) }
+    ensures used_any { result.end ≡ Done → FitsWritten (least_of R.Fields (command_list script.now)) sizes (map S.shown result.blocks.items) }
 
     // No file changes, and the library's count rises only where the end names a fault. It is asked for no length, and for
     // no byte past the length that the script keeps of a file.
@@ -228,7 +246,7 @@ where
             blocks: slots,
         };
     };
-    let queue: Queue<S, Pair> = match Queue::open(alloc, sizes, slots) {
+    let queue: Queue<S, R> = match Queue::open(alloc, sizes, slots) {
         Ok(queue) => queue,
         Err((blocks, fault)) => {
             return Ended {

@@ -1,4 +1,4 @@
-//! Runs a bulk session of a script.
+//! Executes a bulk session of a script.
 ghost use Rattle.std.specs.Prelude.{◌≡◌, None, All};
 ghost use Rattle.ppq_script.specs.Parts.{AreLines, bulk_part, commands_of};
 ghost use Rattle.ppq_script.specs.declared.command.Command.TheVariants.{BulkBegin};
@@ -15,18 +15,19 @@ use crate::machine::Machine;
 use crate::stop::Stop;
 use crate::world::World;
 use ppq_load::{Load, QueueFault};
-use ppq_script::{Failed, Gate, Host, Numbered, Slot};
+use ppq_record::record_laws;
+use ppq_script::{Failed, Fields, Gate, Host, Numbered, Slot};
 
 // Gives the records of lines to the passes, in batches, until one stops.
-fn push_all<H: Host, S: Slot + Send + Sync, G: Gate>(
-    world: &World<'_, H, G>,
-    load: &mut Load<S>,
-    lines: &[Numbered],
-    batch: &mut Collected,
+fn push_all<H: Host, S: Slot + Send + Sync, R: Fields + Send + Sync, G: Gate>(
+    world: &World<'_, H, G, R>,
+    load: &mut Load<S, R>,
+    lines: &[Numbered<R>],
+    batch: &mut Collected<R>,
 )
 where
     H::Dir: Send,
-    requires lines { AreLines load.old.bulk.sizes.workers InBulk (commands_of lines.now) }
+    requires lines { AreLines R.Fields load.old.bulk.sizes.workers InBulk (commands_of lines.now) }
     requires going { All IsGoing load.old.passes }
     ensures { GivesLines S.shown (commands_of lines.now) load.old load.new }
 {
@@ -52,19 +53,20 @@ pub fn ended(printed: Result<(), Failed>, over: Result<(), QueueFault>) -> Resul
     }
 }
 
-impl<S: Slot + Send + Sync> Machine<S> {
+impl<S: Slot + Send + Sync, R: Fields + Send + Sync> Machine<S, R> {
     // Runs a bulk session with these lines: they go to the passes in batches of at most as many as a round
     // has records, and the queue has their records at the end. It gives the machine back.
     pub fn run_bulk<H: Host, G: Gate>(
         self,
-        world: &World<'_, H, G>,
-        lines: &[Numbered],
-    ) -> (Machine<S>, Result<(), Stop>)
+        world: &World<'_, H, G, R>,
+        lines: &[Numbered<R>],
+    ) -> (Machine<S, R>, Result<(), Stop>)
     where
         H::Dir: Send,
-        requires lines { AreLines self.queue.sizes.workers InBulk (commands_of lines.now) }
-        ensures { GoesAlone world.now.script.now BulkBegin (bulk_part (commands_of lines.now)) self.queue result.0.queue self.desk.gathered result.0.desk.gathered result.1 }
+        requires lines { AreLines R.Fields self.queue.sizes.workers InBulk (commands_of lines.now) }
+        ensures { GoesAlone R.Fields world.now.script.now BulkBegin (bulk_part (commands_of lines.now)) self.queue result.0.queue self.desk.gathered result.0.desk.gathered result.1 }
     {
+        record_laws::<R>();
         let Machine { queue, desk } = self;
         queue.known();
         let Ok(mut batch) = Collected::new(world.alloc, desk.list.room()) else {

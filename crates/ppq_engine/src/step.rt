@@ -1,6 +1,5 @@
-//! Runs one command, or commands that run together.
+//! Executes one command, or commands that belong together.
 ghost use Rattle.std.specs.Prelude.{◌≡◌, List, ℕ, None, OnOk, IfOk, max};
-ghost use Rattle.ppq_script.specs.ppq_record.declared.pair.Pair.{Pair};
 ghost use Rattle.ppq_script.specs.ppq_outside.Shown.{AllTell};
 ghost use Rattle.ppq_script.specs.Parts.{commands_in, first_in};
 ghost use Rattle.ppq_script.specs.declared.form.Form.{Form};
@@ -15,11 +14,11 @@ use crate::machine::Machine;
 use crate::stop::Stop;
 use crate::world::World;
 use ppq_load::QueueFault;
-use ppq_script::{Command, Gate, Host, Library, Pair, Part, Sink, Slot};
+use ppq_script::{Command, Fields, Gate, Host, Library, Part, Sink, Slot};
 
 // What is printed of the smallest record.
-fn answer_of(item: Option<Pair>) -> Answer
-    ensures { (form : Form) → answer_text form result ≡ least_text form item }
+fn answer_of<R: Fields>(item: Option<R>) -> Answer<R>
+    ensures { (form : Form) → answer_text R.Fields form result ≡ least_text R.Fields form item }
 {
     match item {
         Some(item) => Answer::Record { item },
@@ -27,20 +26,20 @@ fn answer_of(item: Option<Pair>) -> Answer
     }
 }
 
-impl<S: Slot + Send + Sync> Machine<S> {
+impl<S: Slot + Send + Sync, R: Fields + Send + Sync> Machine<S, R> {
     // Runs a command that adds one record at the most and prints one answer.
     fn act<H: Host, G: Gate>(
         &mut self,
-        world: &World<'_, H, G>,
-        command: Command,
-    ) -> Result<Answer, QueueFault>
+        world: &World<'_, H, G, R>,
+        command: Command<R>,
+    ) -> Result<Answer<R>, QueueFault>
     where
         H::Dir: Send,
         requires sound { self.old.queue.failed ≡ None }
         requires plain { IsPlain command }
-        ensures text { IfOk result (λ answer. AllTell self.old.queue.slots → answer_text world.now.form answer ≡ text_of world.now.form (outside self.old.queue.bag) command) }
-        ensures left { OnOk result ((given : ℕ → List Pair) (leaves : ℕ → ℕ → ℕ) → Leaves self.old.queue self.new.queue (after given (outside self.old.queue.bag) command).bag (size_after leaves self.old.queue.size command) (size_after leaves self.old.queue.size command)) }
-        ensures called { IsCalled self.old self.new (max self.old.queue.peak (size_after none_go self.old.queue.size command)) result }
+        ensures text { IfOk result (λ answer. AllTell self.old.queue.slots → answer_text R.Fields world.now.form answer ≡ text_of R.Fields world.now.form (outside self.old.queue.bag) command) }
+        ensures left { OnOk result ((given : ℕ → List R) (leaves : ℕ → ℕ → ℕ) → Leaves self.old.queue self.new.queue (after R.Fields given (outside self.old.queue.bag) command).bag (size_after R.Fields leaves self.old.queue.size command) (size_after R.Fields leaves self.old.queue.size command)) }
+        ensures called { IsCalled self.old.queue self.new.queue self.old.desk.gathered self.new.desk.gathered (max self.old.queue.peak (size_after R.Fields none_go self.old.queue.size command)) result }
     {
         match command {
             Command::Push { item } => match self.queue.push(world.rt, item, world.gate) {
@@ -77,15 +76,15 @@ impl<S: Slot + Send + Sync> Machine<S> {
     // Runs a command that lends the queue to calls of it, and prints what it answers.
     fn lend<H: Host, O: Sink, G: Gate>(
         &mut self,
-        world: &World<'_, H, G>,
-        command: Command,
+        world: &World<'_, H, G, R>,
+        command: Command<R>,
         out: &mut O,
     ) -> Result<(), Stop>
     where
         H::Dir: Send,
         requires sound { self.old.queue.failed ≡ None }
         requires lends { LendsQueue command }
-        ensures { Lends world.now.form (O.told out.old) (O.told out.new) (O.faults out.old) (O.faults out.new) self.old self.new command result }
+        ensures { Lends R.Fields world.now.form (O.told out.old) (O.told out.new) (O.faults out.old) (O.faults out.new) self.old.queue self.new.queue self.old.desk.gathered self.new.desk.gathered command result }
     {
         match command {
             Command::BulkPop { count } => self.print_popped(world, None, count, out),
@@ -103,17 +102,17 @@ impl<S: Slot + Send + Sync> Machine<S> {
     // Runs the commands of a part, at this place of the script. It gives the machine back.
     pub fn advance<H: Host, L: Library, O: Sink, G: Gate>(
         self,
-        world: &World<'_, H, G>,
+        world: &World<'_, H, G, R>,
         place: usize,
-        part: Part<'_>,
+        part: Part<'_, R>,
         library: &mut L,
         out: &mut O,
-    ) -> (Machine<S>, Result<(), Stop>)
+    ) -> (Machine<S, R>, Result<(), Stop>)
     where
         H::Dir: Send,
-        requires turn { IsTurn world.now.script.now self.queue place part }
+        requires turn { IsTurn R.Fields world.now.script.now self.queue place part }
         requires lengths { TellsLengths (L.told library.old) world.now.script.now }
-        ensures goes { Goes world.now.form (L.told library.old) world.now.script.now (first_in part.entry) (commands_in part.entry) (O.told out.old) (O.told out.new) self.queue result.0.queue self.desk.gathered result.0.desk.gathered result.1 }
+        ensures goes { Goes R.Fields world.now.form (L.told library.old) world.now.script.now (first_in part.entry) (commands_in part.entry) (O.told out.old) (O.told out.new) self.queue result.0.queue self.desk.gathered result.0.desk.gathered result.1 }
         ensures library { LibraryCounts (L.told library.old) (L.told library.new) (L.replied library.old) (L.replied library.new) world.now.script.now (L.faults library.old) (L.faults library.new) result.1 }
         ensures sink { SinkCounts (O.faults out.old) (O.faults out.new) result.1 }
     {

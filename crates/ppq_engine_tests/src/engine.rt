@@ -4,6 +4,7 @@ use crate::runs::{File, NEVER, Outcome, outcome_in, outcome_of, plain};
 use ppq_budget::Sizes;
 use ppq_engine::{End, Form};
 use ppq_outside::{Host, OpenGate};
+use ppq_record::{Down, Fields, Pair, Triple};
 use ppq_testkit::PairGate;
 use std::alloc::Global;
 use std::process::Abort;
@@ -260,7 +261,7 @@ fn in_the_form_of_bytes_each_answer_is_a_frame(rt: HostRuntime) {
     for (script, wants) in FRAMES {
         let text = script.as_bytes();
         let file = File::of(0);
-        let ran = outcome_in(
+        let ran = outcome_in::<HostRuntime, Pair, OpenGate>(
             &rt,
             rt.alloc(),
             text,
@@ -273,6 +274,49 @@ fn in_the_form_of_bytes_each_answer_is_a_frame(rt: HostRuntime) {
         assert!(rt; ran.end == End::Done, "{script}");
         assert_eq!(rt; ran.wrote.as_slice(), *wants, "{script}");
     }
+}
+
+// A run of a script with a head, about records of the type `R`, is done and writes this in this form.
+fn kind_writes<H: Host + Abort, R: Fields + Send + Sync>(
+    rt: &H,
+    alloc: Global,
+    form: Form,
+    script: &str,
+    wants: &[u8],
+)
+where
+    H::Dir: Send,
+{
+    let text = script.as_bytes();
+    let file = File::of(0);
+    let ran = outcome_in::<H, R, OpenGate>(rt, alloc, text, small(), file, NEVER, &OpenGate, form);
+    assert!(rt; ran.end == End::Done, "{script}");
+    assert_eq!(rt; ran.wrote.as_slice(), wants, "{script}");
+}
+
+#[test]
+fn records_of_each_kind_are_written_in_their_order_with_all_fields(rt: HostRuntime) {
+    kind_writes::<HostRuntime, Down<Pair>>(
+        &rt,
+        rt.alloc(),
+        Form::Text,
+        "ppq 2 pair down\npush 1 1\npush 2 2\npop\nbulk_pop_limit 1 1 5\n",
+        b"2 2\nall\n",
+    );
+    kind_writes::<HostRuntime, Triple>(
+        &rt,
+        rt.alloc(),
+        Form::Text,
+        "ppq 2 triple up\npush 1 2 4\npush 1 2 3\ngen 1 1\ndrain 9\n",
+        b"count 3 first 1 2 3 last 7806831264735756412 0 1 sum 7806831264735756414\n",
+    );
+    kind_writes::<HostRuntime, Down<Triple>>(
+        &rt,
+        rt.alloc(),
+        Form::Bytes,
+        "ppq 2 triple down\npush 1 2 4\npush 1 3 0\ntop\n",
+        b"\0\0\0\x18\0\0\0\0\0\0\0\x01\0\0\0\0\0\0\0\x03\0\0\0\0\0\0\0\0",
+    );
 }
 
 // A run of a script with this file ends so and writes this.
@@ -382,14 +426,15 @@ fn twenty<H: Host + Abort>(rt: &H, alloc: Global, first: &str, line: &str, last:
 }
 
 #[test]
-fn twenty_records_go_to_the_passes_in_three_batches(rt: HostRuntime) {
+fn twenty_records_go_to_the_passes_in_three_batches_and_generated_ones_in_one(rt: HostRuntime) {
     let table = [
-        ("bulk f\n", "", ""),
-        ("gen 1 20\n", "", ""),
-        ("bulk_begin\n", "bulk_push 1 5 0\n", "bulk_end\n"),
-        ("limit_begin 4 0\n", "limit_push 0 5 0\n", "limit_end\n"),
+        ("bulk f\n", "", "", 3),
+        // each worker makes its records by itself
+        ("gen 1 20\n", "", "", 1),
+        ("bulk_begin\n", "bulk_push 1 5 0\n", "bulk_end\n", 3),
+        ("limit_begin 4 0\n", "limit_push 0 5 0\n", "limit_end\n", 3),
     ];
-    for (first, line, last) in table {
+    for (first, line, last, batches) in table {
         let script = twenty(&rt, rt.alloc(), first, line, last);
         let gate = PairGate::new();
         let sizes = Sizes::new(2, 4, 8, 2_000, 200);
@@ -397,6 +442,6 @@ fn twenty_records_go_to_the_passes_in_three_batches(rt: HostRuntime) {
         let ran = outcome_of(&rt, rt.alloc(), text, sizes, File::of(20), NEVER, &gate);
         is_as(&rt, ran, script.as_str(), End::Done, "");
         // a batch is a block of 4 records for each of 2 workers, and each worker enters once a batch
-        assert_eq!(rt; gate.entered(), 2 * 3, "{script}");
+        assert_eq!(rt; gate.entered(), 2 * batches, "{script}");
     }
 }

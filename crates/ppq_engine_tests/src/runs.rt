@@ -3,9 +3,10 @@ ghost use Rattle.std.specs.Prelude.{◌≡◌, List, ℕ, Option, Some, IsTrue};
 ghost use Rattle.ppq_engine.specs.Output.{KeepsLengths};
 
 use ppq_budget::Sizes;
-use ppq_engine::{End, Ended, Form, Script, check_files, read, run_script};
+use ppq_device::make_blocks;
+use ppq_engine::{End, Ended, Form, Script, check_files, read, read_head, run_script};
 use ppq_outside::{Gate, Host, Library, MemLibrary, MemRack, MemSink, MemSlot, OpenGate, Slot};
-use ppq_testkit::blocks_of;
+use ppq_record::{Fields, Pair};
 use std::alloc::Global;
 use std::process::Abort;
 
@@ -52,19 +53,22 @@ pub(crate) struct Outcome {
 }
 
 // A script that is checked over a library.
-fn checked_script<H: Host + Abort, L: Library>(
+fn checked_script<H: Host + Abort, R: Fields, L: Library>(
     rt: &H,
     alloc: Global,
     text: &[u8],
     workers: u32,
     library: &mut L,
-) -> Script
+) -> Script<R>
     ensures checked { IsTrue result.checked }
     ensures workers { result.workers ≡ workers }
     ensures lengths { (files : List ℕ → Option (List ℕ)) → L.told library.new ≡ Some files → KeepsLengths files result }
 {
     if text.len() > 1_048_576 {
         panic!(rt; "the script is too long");
+    }
+    if !read_head(text).is_of::<R>() {
+        panic!(rt; "the script is about other records");
     }
     let Ok(mut script) = read(alloc, text, workers) else {
         panic!(rt; "no memory for the script")
@@ -116,9 +120,9 @@ fn library_of<H: Host + Abort>(rt: &H, alloc: Global, file: File) -> MemLibrary 
     library
 }
 
-// A run of a text on a queue of these sizes, with such a file, on a device on which the call of block 0 with this
+// A run of a text about records of the type `R` on a queue of these sizes, with such a file, on a device on which the call of block 0 with this
 // number fails, where workers pass this gate. What it prints is in this form.
-pub(crate) fn outcome_in<H: Host + Abort, G: Gate>(
+pub(crate) fn outcome_in<H: Host + Abort, R: Fields + Send + Sync, G: Gate>(
     rt: &H,
     alloc: Global,
     text: &[u8],
@@ -133,8 +137,9 @@ where
 {
     let sizes = sizes.expect(rt, "a number is out of range");
     let mut library = library_of(rt, alloc, file);
-    let script = checked_script(rt, alloc, text, sizes.workers(), &mut library);
-    let slots = match blocks_of(rt, alloc, &mut rack_of(rt, alloc, call), sizes) {
+    let script: Script<R> = checked_script(rt, alloc, text, sizes.workers(), &mut library);
+    let mut rack = rack_of(rt, alloc, call);
+    let slots = match make_blocks::<R, H, MemRack>(rt, alloc, &mut rack, "device", sizes) {
         Ok(slots) => slots,
         Err(_) => panic!(rt; "no block"),
     };
@@ -159,7 +164,7 @@ where
     }
 }
 
-// The same in the form of text.
+// The same of pairs in the form of text.
 pub(crate) fn outcome_of<H: Host + Abort, G: Gate>(
     rt: &H,
     alloc: Global,
@@ -172,7 +177,7 @@ pub(crate) fn outcome_of<H: Host + Abort, G: Gate>(
 where
     H::Dir: Send,
 {
-    outcome_in(rt, alloc, text, sizes, file, call, gate, Form::Text)
+    outcome_in::<H, Pair, G>(rt, alloc, text, sizes, file, call, gate, Form::Text)
 }
 
 // A run of a text that reads no file, on a device that never fails.

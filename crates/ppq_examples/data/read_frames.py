@@ -6,12 +6,22 @@ import struct
 import sys
 
 WORDS = {b"e": "empty", b"l": "limit", b"a": "all", b"m": "more"}
-NUMBERS = {8: "{}", 16: "{} {}", 48: "count {} first {} {} last {} {} sum {}"}
+NUMBERS = {
+    8: "{}",
+    16: "{} {}",
+    24: "{} {} {}",
+    48: "count {} first {} {} last {} {} sum {}",
+    64: "count {} first {} {} {} last {} {} {} sum {}",
+}
 
 
 def frames(stream):
     while head := stream.read(4):
-        yield stream.read(int.from_bytes(head, "big"))
+        length = int.from_bytes(head, "big")
+        frame = stream.read(length)
+        if len(head) < 4 or len(frame) < length:
+            sys.exit("the frames stop early")
+        yield frame
 
 
 for frame in frames(sys.stdin.buffer):

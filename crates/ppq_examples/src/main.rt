@@ -60,6 +60,16 @@ const EXAMPLES: &[Example] = &[
         most: 0,
     },
     Example {
+        words: "run greatest.ppq --device a.device --blocks 200 --workers 2 --block 2 --heap 1 --memory 372",
+        least: 1,
+        most: 100,
+    },
+    Example {
+        words: "run events.ppq --device a.device --blocks 200 --workers 2 --block 2 --heap 1 --memory-bytes 8928",
+        least: 1,
+        most: 100,
+    },
+    Example {
         words: "run large.ppq --device a.device --blocks 2048 --workers 4 --block 4096 --heap 8 --memory 1048576",
         least: 721,
         most: 12284,

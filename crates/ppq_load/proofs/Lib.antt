@@ -6,3 +6,5 @@ pub mod Parts
 pub mod Reading
 pub mod Refusals
 pub mod Results
+pub mod Strides
+pub mod Widths

@@ -1,8 +1,7 @@
--- Why a session of pairs did not begin, as a fault of a load; and how many records a batch has room for.
+-- Why a session did not begin, as a fault of a load; and how many records a batch has room for.
 use Rattle.std.proofs.Common.{◌≡◌, Bool, ℕ, ◌^◌, ◌<◌, ap, ap₂, ◌∙◌, subst, arith}
 use Rattle.std.specs.Prelude.{Result, Ok, Err}
 use Rattle.std.proofs.Math.Nat.{mul-le-mul_left, mul-le-mul_right}
-use Rattle.ppq_session.specs.ppq_record.declared.pair.Pair.{Pair}
 use Rattle.ppq_session.specs.ppq_budget.Sizes.{Numbers, AreInRange, batch_of}
 use Rattle.ppq_session.specs.ppq_queue.Holding.{Holding}
 use Rattle.ppq_session.specs.ppq_array.declared.store_fault.StoreFault.TheVariants.{Device}
@@ -21,27 +20,30 @@ batch-some sizes range = omega (arith, range.two_records, mul-le-mul_right sizes
 pub batch-small : (sizes : Numbers) → AreInRange sizes → batch_of sizes < 2 ^ 32
 batch-small sizes range = omega (arith, mul-le-mul_right sizes.block range.workers, mul-le-mul_left 64 range.block)
 
--- why a session did not begin
-pub begin-refused : (old new : Holding Pair) (is_limited : Bool) (fault : BeginFault) → IsBeginRefusal old new fault → new.sizes ≡ old.sizes → new.peak ≡ old.peak → new.limited ≡ is_limited → LoadStopsFor old.peak old.sizes is_limited new.slots (begin_fault_of fault)
-begin-refused old new is_limited begin.Memory refused sizes peak limited = tt
-begin-refused old new is_limited begin.NoFreeBlock refused sizes peak limited =
-    subst (λ l. HasNoRoom old.sizes l old.peak) limited (subst (λ n. HasNoRoom n new.limited old.peak) sizes (subst (λ load. HasNoRoom new.sizes new.limited load) peak (refused.above, refused.room)))
-begin-refused old new is_limited (begin.Device number) refused sizes peak limited = refused.fault
+module _ {R : Type 0} where
+  -- why a session did not begin
+  pub begin-refused : (old new : Holding R) (is_limited : Bool) (fault : BeginFault) → IsBeginRefusal old new fault → new.sizes ≡ old.sizes → new.peak ≡ old.peak → new.limited ≡ is_limited → LoadStopsFor old.peak old.sizes is_limited new.slots (begin_fault_of fault)
+  begin-refused old new is_limited begin.Memory refused sizes peak limited = tt
+  begin-refused old new is_limited begin.NoFreeBlock refused sizes peak limited =
+      subst (λ l. HasNoRoom old.sizes l old.peak) limited (subst (λ n. HasNoRoom n new.limited old.peak) sizes (subst (λ load. HasNoRoom new.sizes new.limited load) peak (refused.above, refused.room)))
+  begin-refused old new is_limited (begin.Device number) refused sizes peak limited = refused.fault
 
-pub begin-back : (old new : Holding Pair) (fault : BeginFault) → IsBeginRefusal old new fault → IsHandedBack old new (begin_fault_of fault)
-begin-back old new begin.Memory refused = refused
-begin-back old new begin.NoFreeBlock refused = record { bag = refused.bag; size = refused.size; sound = refused.sound }
-begin-back old new (begin.Device number) refused = refused
+module _ {R : Type 0} where
+  pub begin-back : (old new : Holding R) (fault : BeginFault) → IsBeginRefusal old new fault → IsHandedBack old new (begin_fault_of fault)
+  begin-back old new begin.Memory refused = refused
+  begin-back old new begin.NoFreeBlock refused = record { bag = refused.bag; size = refused.size; sound = refused.sound }
+  begin-back old new (begin.Device number) refused = refused
 
--- a block had failed before
-pub begin-latched :
-    {A B : Type 0} (old new : Holding Pair) (fault : BeginFault) (given : LoadFault) (number : ℕ) → given ≡ begin_fault_of fault
-    → ◌≡◌ {A = Result A (Holding Pair × BeginFault)} (Err (new, fault)) (Err (old, begin.Device number)) → ◌≡◌ {A = Result B (Holding Pair × LoadFault)} (Err (new, given)) (Err (old, Queue (Device number)))
-begin-latched old new fault given number is said =
-    let pair : ◌≡◌ {A = Holding Pair × BeginFault} (new, fault) (old, begin.Device number) = cc in
-    let queue : new ≡ old = ap (λ (p : Holding Pair × BeginFault). p.0) pair in
-    let device : given ≡ Queue (Device number) = is ∙ ap (λ (p : Holding Pair × BeginFault). begin_fault_of p.1) pair in
-    ap₂ (λ (q : Holding Pair) (f : LoadFault). Err (q, f)) queue device
+module _ {R : Type 0} where
+  -- a block had failed before
+  pub begin-latched :
+      {A B : Type 0} (old new : Holding R) (fault : BeginFault) (given : LoadFault) (number : ℕ) → given ≡ begin_fault_of fault
+      → ◌≡◌ {A = Result A (Holding R × BeginFault)} (Err (new, fault)) (Err (old, begin.Device number)) → ◌≡◌ {A = Result B (Holding R × LoadFault)} (Err (new, given)) (Err (old, Queue (Device number)))
+  begin-latched old new fault given number is said =
+      let pair : ◌≡◌ {A = Holding R × BeginFault} (new, fault) (old, begin.Device number) = cc in
+      let queue : new ≡ old = ap (λ (p : Holding R × BeginFault). p.0) pair in
+      let device : given ≡ Queue (Device number) = is ∙ ap (λ (p : Holding R × BeginFault). begin_fault_of p.1) pair in
+      ap₂ (λ (q : Holding R) (f : LoadFault). Err (q, f)) queue device
 
 pub begin-by : (fault : BeginFault) → IsByLoad (begin_fault_of fault)
 begin-by begin.Memory = tt

@@ -1,9 +1,8 @@
 -- What a load says, by what its session and its reading said.
 use Rattle.std.proofs.Common.{◌≡◌, ℕ, ◌+◌, ◌/◌, List, ◌++◌, length, max, Option, Some, None, refl, ap, ◌∙◌, subst}
 use Rattle.std.specs.Prelude.{Result, Ok, Err, OnOk, OnErr, IfErr}
-use Rattle.ppq_session.specs.ppq_record.declared.pair.Pair.{Pair}
 use Rattle.ppq_session.specs.ppq_record.Bag.{IsSameBag}
-use Rattle.ppq_session.specs.ppq_record.Given.{records_of}
+use Rattle.ppq_load.specs.Given.{records_of}
 use Rattle.ppq_session.specs.ppq_outside.Shown.{Shown, AllTell}
 use Rattle.ppq_session.specs.ppq_outside.Told.{Reply, bytes_or_none}
 use Rattle.ppq_session.specs.ppq_array.Kept.{AreQuiet}
@@ -16,35 +15,38 @@ use Rattle.ppq_load.specs.Reading.{HasLength}
 use Rattle.ppq_load.specs.Loading.{LoadHolding, InSession, IsLoaded, HasGiven, LoadStopsFor, LoadEndsIn, LoadCountsFrom, IsByLoad, IsByRead, IsHandedBack, IsLeftBy, IsStoppedBy, loaded_of, first_of}
 use Rattle.ppq_load.proofs.FileRecords.{file-all}
 
--- What a load says of the queue. Ok: it has all of `bag`, so many records more, no failed block, and its peak, and no call of a slot failed.
--- Else: why it was refused
-pub record LoadSays {B : Type 0} (bag : Type 0) (queue new : Holding Pair) (n : ℕ) (result : Result B LoadFault) : Type 0 where
-  pub all : OnOk result bag
-  pub size : OnOk result (new.size ≡ queue.size + n)
-  pub sound : OnOk result (new.failed ≡ None)
-  pub quiet : OnOk result (AreQuiet queue.slots new.slots)
-  pub peak : OnOk result (new.peak ≡ max queue.peak (queue.size + n))
-  pub refused : IfErr result (LoadStopsFor (max queue.peak (queue.size + n)) queue.sizes queue.limited new.slots)
+module _ {R : Type 0} where
+  -- What a load says of the queue. Ok: it has all of `bag`, so many records more, no failed block, and its peak, and no call of a slot failed.
+  -- Else: why it was refused
+  pub record LoadSays {B : Type 0} (bag : Type 0) (queue new : Holding R) (n : ℕ) (result : Result B LoadFault) : Type 0 where
+    pub all : OnOk result bag
+    pub size : OnOk result (new.size ≡ queue.size + n)
+    pub sound : OnOk result (new.failed ≡ None)
+    pub quiet : OnOk result (AreQuiet queue.slots new.slots)
+    pub peak : OnOk result (new.peak ≡ max queue.peak (queue.size + n))
+    pub refused : IfErr result (LoadStopsFor (max queue.peak (queue.size + n)) queue.sizes queue.limited new.slots)
 
--- a session ended to which these records were given
-pub loaded-says :
-    {B : Type 0} (queue new : Holding Pair) (records : List Pair) (n : ℕ) (bag : Type 0) → length records ≡ n → ((AllTell queue.slots → IsSameBag new.bag (records ++ queue.bag)) → bag)
-    → (ended : Result B QueueFault) → IsLoaded queue records new ended → LoadSays bag queue new n (loaded_of ended)
-loaded-says queue new records n bag long so (Ok value) loaded =
-    record { all = so loaded.bag; size = loaded.size ∙ ap (λ k. queue.size + k) long; sound = loaded.sound; quiet = loaded.quiet; peak = loaded.peak ∙ ap (λ k. max queue.peak (queue.size + k)) long; refused = tt }
-loaded-says queue new records n bag long so (Err fault) loaded =
-    record { all = tt; size = tt; sound = tt; quiet = tt; peak = tt; refused = subst (λ k. LoadStopsFor (max queue.peak (queue.size + k)) queue.sizes queue.limited new.slots (Queue fault)) long loaded.refused }
+module _ {R : Type 0} where
+  -- a session ended to which these records were given
+  pub loaded-says :
+      {B : Type 0} (queue new : Holding R) (records : List R) (n : ℕ) (bag : Type 0) → length records ≡ n → ((AllTell queue.slots → IsSameBag new.bag (records ++ queue.bag)) → bag)
+      → (ended : Result B QueueFault) → IsLoaded queue records new ended → LoadSays bag queue new n (loaded_of ended)
+  loaded-says queue new records n bag long so (Ok value) loaded =
+      record { all = so loaded.bag; size = loaded.size ∙ ap (λ k. queue.size + k) long; sound = loaded.sound; quiet = loaded.quiet; peak = loaded.peak ∙ ap (λ k. max queue.peak (queue.size + k)) long; refused = tt }
+  loaded-says queue new records n bag long so (Err fault) loaded =
+      record { all = tt; size = tt; sound = tt; quiet = tt; peak = tt; refused = subst (λ k. LoadStopsFor (max queue.peak (queue.size + k)) queue.sizes queue.limited new.slots (Queue fault)) long loaded.refused }
 
 pub loaded-by : {B : Type 0} (ended : Result B QueueFault) → IfErr (loaded_of ended) IsByLoad
 loaded-by (Ok value) = tt
 loaded-by (Err fault) = tt
 
--- a fault of reading says nothing of the queue
-read-stops : (peak : ℕ) (queue : Holding Pair) (slots : List Shown) (fault : LoadFault) → IsByRead fault → LoadStopsFor peak queue.sizes queue.limited slots fault
-read-stops peak queue slots (Queue fault) by = absurd by
-read-stops peak queue slots Read by = tt
-read-stops peak queue slots Memory by = tt
-read-stops peak queue slots (Ended got) by = tt
+module _ {R : Type 0} where
+  -- a fault of reading says nothing of the queue
+  read-stops : (peak : ℕ) (queue : Holding R) (slots : List Shown) (fault : LoadFault) → IsByRead fault → LoadStopsFor peak queue.sizes queue.limited slots fault
+  read-stops peak queue slots (Queue fault) by = absurd by
+  read-stops peak queue slots Read by = tt
+  read-stops peak queue slots Memory by = tt
+  read-stops peak queue slots (Ended got) by = tt
 
 -- what only a read can say stays as the read said it
 pub first-err : {A B : Type 0} (read : Result A LoadFault) (ended : Result B QueueFault) (P : LoadFault → Type 0) → ((fault : QueueFault) → OnOk read (P (Queue fault))) → IfErr read P → IfErr (first_of read ended) P
@@ -58,17 +60,18 @@ first-ok (Ok value) (Ok other) P holds = holds
 first-ok (Ok value) (Err fault) P holds = tt
 first-ok (Err fault) ended P holds = tt
 
--- the session of a file ended, to which all its records were given unless reading it was refused
-pub first-says :
-    {S A B : Type 0} (shown : S → Shown) (told : Option (List ℕ → Option (List ℕ))) (name : List ℕ) (said : ℕ) (load : LoadHolding S) (queue new : Holding Pair) (ended : Result B QueueFault)
-    → ((records : List Pair) → InSession shown queue records load → IsLoaded queue records new ended) → HasLength told name said
-    → (read : Result A LoadFault) → OnOk read (HasGiven shown queue told name (said / 16) load) → IfErr read IsByRead
-    → LoadSays (AllTell queue.slots → (files : List ℕ → Option (List ℕ)) → told ≡ Some files → IsSameBag new.bag (records_of (bytes_or_none (files name)) ++ queue.bag)) queue new (said / 16) (first_of read ended)
-first-says shown told name said load queue new ended end long (Ok value) given by =
-    loaded-says queue new given.records (said / 16) (AllTell queue.slots → (files : List ℕ → Option (List ℕ)) → told ≡ Some files → IsSameBag new.bag (records_of (bytes_or_none (files name)) ++ queue.bag)) given.are.length
-    (λ bag tells files is. file-all told name files said new.bag queue.bag given.records is (long files is) given.are (bag tells)) ended (end given.records given.session)
-first-says shown told name said load queue new ended end long (Err fault) given by =
-    record { all = tt; size = tt; sound = tt; quiet = tt; peak = tt; refused = read-stops (max queue.peak (queue.size + said / 16)) queue new.slots fault by }
+module _ {R : Type 0} (record_of : List ℕ → R) (width : ℕ) where
+  -- the session of a file ended, to which all its records were given unless reading it was refused
+  pub first-says :
+      {S A B : Type 0} (shown : S → Shown) (told : Option (List ℕ → Option (List ℕ))) (name : List ℕ) (said : ℕ) (load : LoadHolding S R) (queue new : Holding R) (ended : Result B QueueFault)
+      → ((records : List R) → InSession shown queue records load → IsLoaded queue records new ended) → HasLength told name said
+      → (read : Result A LoadFault) → OnOk read (HasGiven record_of width shown queue told name (said / width) load) → IfErr read IsByRead
+      → LoadSays (AllTell queue.slots → (files : List ℕ → Option (List ℕ)) → told ≡ Some files → IsSameBag new.bag (records_of record_of width (bytes_or_none (files name)) ++ queue.bag)) queue new (said / width) (first_of read ended)
+  first-says shown told name said load queue new ended end long (Ok value) given by =
+      loaded-says queue new given.records (said / width) (AllTell queue.slots → (files : List ℕ → Option (List ℕ)) → told ≡ Some files → IsSameBag new.bag (records_of record_of width (bytes_or_none (files name)) ++ queue.bag)) given.are.length
+      (λ bag tells files is. file-all record_of width told name files said new.bag queue.bag given.records is (long files is) given.are (bag tells)) ended (end given.records given.session)
+  first-says shown told name said load queue new ended end long (Err fault) given by =
+      record { all = tt; size = tt; sound = tt; quiet = tt; peak = tt; refused = read-stops (max queue.peak (queue.size + said / width)) queue new.slots fault by }
 
 pub on_ok : {T E : Type 0} (result : Result T E) (P : Type 0) → P → OnOk result P
 on_ok (Ok value) P holds = holds
@@ -86,36 +89,41 @@ pub if_err-map : {T E : Type 0} (result : Result T E) (P Q : E → Type 0) → (
 if_err-map (Ok value) P Q f holds = tt
 if_err-map (Err fault) P Q f holds = f fault holds
 
--- what a load that names a failed block says of its queue
-pub loaded-stopped : {S B : Type 0} (shown : S → Shown) (load : LoadHolding S) (new : Holding Pair) (ended : Result B QueueFault) → IfErr ended (IsLeftBy shown load new) → IfErr (loaded_of ended) (IsStoppedBy new)
-loaded-stopped shown load new (Ok value) left = tt
-loaded-stopped shown load new (Err NoFreeBlock) left = tt
-loaded-stopped shown load new (Err (Device number)) left = left.stopped
+module _ {R : Type 0} where
+  -- what a load that names a failed block says of its queue
+  pub loaded-stopped : {S B : Type 0} (shown : S → Shown) (load : LoadHolding S R) (new : Holding R) (ended : Result B QueueFault) → IfErr ended (IsLeftBy shown load new) → IfErr (loaded_of ended) (IsStoppedBy new)
+  loaded-stopped shown load new (Ok value) left = tt
+  loaded-stopped shown load new (Err NoFreeBlock) left = tt
+  loaded-stopped shown load new (Err (Device number)) left = left.stopped
 
-read-unstopped : (new : Holding Pair) (fault : LoadFault) → IsByRead fault → IsStoppedBy new fault
-read-unstopped new (Queue fault) by = absurd by
-read-unstopped new Read by = tt
-read-unstopped new Memory by = tt
-read-unstopped new (Ended got) by = tt
+module _ {R : Type 0} where
+  read-unstopped : (new : Holding R) (fault : LoadFault) → IsByRead fault → IsStoppedBy new fault
+  read-unstopped new (Queue fault) by = absurd by
+  read-unstopped new Read by = tt
+  read-unstopped new Memory by = tt
+  read-unstopped new (Ended got) by = tt
 
-pub first-stopped :
-    {S A B : Type 0} (shown : S → Shown) (load : LoadHolding S) (new : Holding Pair) (read : Result A LoadFault) (ended : Result B QueueFault) → IfErr ended (IsLeftBy shown load new) → IfErr read IsByRead
-    → IfErr (first_of read ended) (IsStoppedBy new)
-first-stopped shown load new (Ok value) ended left by = loaded-stopped shown load new ended left
-first-stopped shown load new (Err fault) ended left by = read-unstopped new fault by
+module _ {R : Type 0} where
+  pub first-stopped :
+      {S A B : Type 0} (shown : S → Shown) (load : LoadHolding S R) (new : Holding R) (read : Result A LoadFault) (ended : Result B QueueFault) → IfErr ended (IsLeftBy shown load new) → IfErr read IsByRead
+      → IfErr (first_of read ended) (IsStoppedBy new)
+  first-stopped shown load new (Ok value) ended left by = loaded-stopped shown load new ended left
+  first-stopped shown load new (Err fault) ended left by = read-unstopped new fault by
 
-pub unbegun-stopped : (queue back : Holding Pair) (fault : LoadFault) → IsHandedBack queue back fault → IsStoppedBy back fault
-unbegun-stopped queue back (Queue NoFreeBlock) intact = tt
-unbegun-stopped queue back (Queue (Device number)) met = record { fault = met.fault; kept = met.kept }
-unbegun-stopped queue back Read never = tt
-unbegun-stopped queue back Memory intact = tt
-unbegun-stopped queue back (Ended got) never = tt
+module _ {R : Type 0} where
+  pub unbegun-stopped : (queue back : Holding R) (fault : LoadFault) → IsHandedBack queue back fault → IsStoppedBy back fault
+  unbegun-stopped queue back (Queue NoFreeBlock) intact = tt
+  unbegun-stopped queue back (Queue (Device number)) met = record { fault = met.fault; kept = met.kept }
+  unbegun-stopped queue back Read never = tt
+  unbegun-stopped queue back Memory intact = tt
+  unbegun-stopped queue back (Ended got) never = tt
 
--- a queue that a block had stopped before comes back as it was
-pub back-latched :
-    {A B : Type 0} (old new : Holding Pair) (fault given : LoadFault) → ◌≡◌ {A = Result A (Holding Pair × LoadFault)} (Err (new, fault)) (Err (old, given))
-    → ◌≡◌ {A = Holding Pair × Result B LoadFault} (new, Err fault) (old, Err given)
-back-latched old new fault given said = (let pair : ◌≡◌ {A = Holding Pair × LoadFault} (new, fault) (old, given) = cc in ap (λ p. (p.0, Err p.1)) pair)
+module _ {R : Type 0} where
+  -- a queue that a block had stopped before comes back as it was
+  pub back-latched :
+      {A B : Type 0} (old new : Holding R) (fault given : LoadFault) → ◌≡◌ {A = Result A (Holding R × LoadFault)} (Err (new, fault)) (Err (old, given))
+      → ◌≡◌ {A = Holding R × Result B LoadFault} (new, Err fault) (old, Err given)
+  back-latched old new fault given said = (let pair : ◌≡◌ {A = Holding R × LoadFault} (new, fault) (old, given) = cc in ap (λ p. (p.0, Err p.1)) pair)
 
 -- a session that did not begin read nothing
 pub unread-ends : (told : Option (List ℕ → Option (List ℕ))) (replied : Reply → Type 0) (name : List ℕ) (said : ℕ) (fault : LoadFault) → IsByLoad fault → LoadEndsIn told replied name said fault

@@ -1,9 +1,7 @@
 -- Sessions in which a queue gets many records, by a pass for each worker.
-use Rattle.std.specs.Prelude.{◌≡◌, ◌<◌, ◌≤◌, ◌↔◌, ◌+◌, ◌*◌, Bool, false, IsTrue, ℕ, zero, suc, List, [], ◌++◌, length, drop, max, All, Any, Option, Some, None, Result, Ok, Err, OnOk, IfErr, ⊤}
-use Rattle.ppq_session.specs.ppq_record.declared.pair.Pair.{Pair}
-use Rattle.ppq_session.specs.ppq_record.Pair.{pair_of}
+use Rattle.std.specs.Prelude.{◌^◌, ◌≡◌, ◌<◌, ◌≤◌, ◌↔◌, ◌+◌, ◌*◌, Bool, false, IsTrue, ℕ, zero, suc, List, [], ◌++◌, length, drop, max, All, Any, Option, Some, None, Result, Ok, Err, OnOk, IfErr, ⊤}
 use Rattle.ppq_session.specs.ppq_record.Bag.{IsSameBag}
-use Rattle.ppq_session.specs.ppq_record.Given.{records_from, next_seed}
+use Rattle.ppq_session.specs.ppq_record.Given.{records_from}
 use Rattle.ppq_session.specs.ppq_outside.Shown.{Shown, AllTell}
 use Rattle.ppq_session.specs.ppq_outside.Told.{Reply, Rose, bytes_or_none}
 use Rattle.ppq_session.specs.ppq_budget.Sizes.{Numbers}
@@ -25,14 +23,9 @@ use Rattle.ppq_load.specs.declared.fault.LoadFault.TheVariants.{Queue, Read, Mem
 use Rattle.ppq_load.specs.declared.fill.FileFault.{FileFault}
 use Rattle.ppq_load.specs.declared.fill.FileFault.TheVariants as file
 
--- What contracts see of an open session of pairs: what its owner keeps, and the passes, in the order of their workers
-abbrev pub LoadHolding : Type 0 → Type 0
-LoadHolding S = SessionHolding S Pair
-
--- the number of the generator after so many steps
-abbrev pub seed_after : ℕ → ℕ → ℕ
-seed_after seed zero = seed
-seed_after seed (suc n) = seed_after (next_seed seed) n
+-- What contracts see of an open session: what its owner keeps, and the passes, in the order of their workers
+abbrev pub LoadHolding : Type 0 → Type 0 → Type 0
+LoadHolding S R = SessionHolding S R
 
 -- the bytes of a file as far as the library tells, and none of one that does not tell
 abbrev pub told_bytes : Option (List ℕ → Option (List ℕ)) → List ℕ → List ℕ
@@ -40,32 +33,32 @@ told_bytes None name = []
 told_bytes (Some files) name = bytes_or_none (files name)
 
 -- these are the records of a file from a place on, of so many records each; where the library does not tell, it is only known how many
-pub record AreRecordsAt (told : Option (List ℕ → Option (List ℕ))) (name : List ℕ) (from count : ℕ) (records : List Pair) : Type 0 where
+pub record AreRecordsAt {R : Type 0} (record_of : List ℕ → R) (width : ℕ) (told : Option (List ℕ → Option (List ℕ))) (name : List ℕ) (from count : ℕ) (records : List R) : Type 0 where
   pub length : length records ≡ count
-  pub are : (files : List ℕ → Option (List ℕ)) → told ≡ Some files → records ≡ records_from pair_of 16 count (drop (from * 16) (bytes_or_none (files name)))
+  pub are : (files : List ℕ → Option (List ℕ)) → told ≡ Some files → records ≡ records_from record_of width count (drop (from * width) (bytes_or_none (files name)))
 
 -- the first so many records of a file were given to the passes of a session
-pub record HasGiven {S : Type 0} (shown : S → Shown) (queue : Holding Pair) (told : Option (List ℕ → Option (List ℕ))) (name : List ℕ) (count : ℕ) (load : LoadHolding S) : Type 0 where
-  pub records : List Pair
-  pub are : AreRecordsAt told name 0 count records
+pub record HasGiven {S R : Type 0} (record_of : List ℕ → R) (width : ℕ) (shown : S → Shown) (queue : Holding R) (told : Option (List ℕ → Option (List ℕ))) (name : List ℕ) (count : ℕ) (load : LoadHolding S R) : Type 0 where
+  pub records : List R
+  pub are : AreRecordsAt record_of width told name 0 count records
   pub session : InSession shown queue records load
 
 -- some of the first records of a file were given to the passes of a session, and no more than so many
-pub record HasGivenSome {S : Type 0} (shown : S → Shown) (queue : Holding Pair) (told : Option (List ℕ → Option (List ℕ))) (name : List ℕ) (most : ℕ) (load : LoadHolding S) : Type 0 where
+pub record HasGivenSome {S R : Type 0} (record_of : List ℕ → R) (width : ℕ) (shown : S → Shown) (queue : Holding R) (told : Option (List ℕ → Option (List ℕ))) (name : List ℕ) (most : ℕ) (load : LoadHolding S R) : Type 0 where
   pub count : ℕ
   pub few : count ≤ most
-  pub given : HasGiven shown queue told name count load
+  pub given : HasGiven record_of width shown queue told name count load
 
 -- So many records of a file, behind the first `from`: they fill a piece of so many bytes, have room in the batch, and lie within the bytes
 -- that the library said, which are few enough for a load
-pub record IsPart (said from count bytes most : ℕ) : Type 0 where
-  pub length : bytes ≡ count * 16
+pub record IsPart (width said from count bytes most : ℕ) : Type 0 where
+  pub length : bytes ≡ count * width
   pub batch : count ≤ most
-  pub within : (from + count) * 16 ≤ said
-  pub fits : said ≤ 68719476736
+  pub within : (from + count) * width ≤ said
+  pub fits : said ≤ 2 ^ 63
 
 -- Records were dealt to the passes of a session, whose sizes stay: it is said whether each pass goes on, and where not, one ended
-pub record HasDealt {S : Type 0} (old new : LoadHolding S) (is_all : Bool) : Type 0 where
+pub record HasDealt {S R : Type 0} (old new : LoadHolding S R) (is_all : Bool) : Type 0 where
   pub all : IsTrue is_all ↔ All IsGoing new.passes
   pub stopped : is_all ≡ false → Any HasEnded new.passes
   pub sizes : new.bulk.sizes ≡ old.bulk.sizes
@@ -114,7 +107,7 @@ IsByRead Memory = ⊤
 IsByRead (Ended got) = ⊤
 
 -- a session did not begin: the queue has the records that it had, unless a block failed
-abbrev pub IsHandedBack : Holding Pair → Holding Pair → LoadFault → Type 0
+abbrev pub IsHandedBack : {R : Type 0} → Holding R → Holding R → LoadFault → Type 0
 IsHandedBack old new (Queue queue_fault.NoFreeBlock) = IsIntact old new
 IsHandedBack old new (Queue (queue_fault.Device number)) = MetFault number old new
 IsHandedBack old new Read = ⊥
@@ -122,7 +115,7 @@ IsHandedBack old new Memory = IsIntact old new
 IsHandedBack old new (Ended got) = ⊥
 
 -- a load that names a failed block left a queue that this block stopped
-abbrev pub IsStoppedBy : Holding Pair → LoadFault → Type 0
+abbrev pub IsStoppedBy : {R : Type 0} → Holding R → LoadFault → Type 0
 IsStoppedBy new (Queue queue_fault.NoFreeBlock) = ⊤
 IsStoppedBy new (Queue (queue_fault.Device number)) = HasStopped number new
 IsStoppedBy new Read = ⊤

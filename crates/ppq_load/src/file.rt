@@ -1,9 +1,8 @@
 //! Sessions of the records of a file.
 ghost use Rattle.std.specs.Prelude.{◌≡◌, ◌≤◌, ◌<◌, ◌+◌, ◌*◌, ◌/◌, ◌++◌, [], List, ℕ, Option, Some, None, All, Err, OnOk, OnErr, IfOk, IfErr, length, take, max};
-ghost use Rattle.ppq_session.specs.ppq_record.declared.pair.Pair.{Pair};
-ghost use Rattle.ppq_session.specs.ppq_record.Pair.{pair_of};
 ghost use Rattle.ppq_session.specs.ppq_record.Bag.{IsSameBag};
-ghost use Rattle.ppq_session.specs.ppq_record.Given.{records_from, records_of};
+ghost use Rattle.ppq_session.specs.ppq_record.Given.{records_from};
+ghost use Rattle.ppq_load.specs.Given.{records_of};
 ghost use Rattle.ppq_session.specs.ppq_outside.Shown.{AllTell};
 ghost use Rattle.ppq_session.specs.ppq_outside.Told.{Remembers, RepliesOnly, bytes_or_none};
 ghost use Rattle.ppq_session.specs.ppq_budget.Sizes.{batch_of};
@@ -22,7 +21,8 @@ use crate::fill::fill;
 use crate::load::Load;
 use crate::part::Part;
 use crate::source::Source;
-use ppq_session::{Gate, Host, Library, Pair, Queue, QueueFault, Record, Slot};
+use ppq_record::record_laws;
+use ppq_session::{Gate, Host, Library, Queue, QueueFault, Record, Slot};
 use std::alloc::Global;
 
 /// Adds the records of a file of `said` bytes in a session. They are read by pieces of as many records as
@@ -31,28 +31,28 @@ use std::alloc::Global;
 /// A refusal hands the queue back, with the session ended, and with a part of the records unless a block
 /// failed: `Memory`, `Read` and `Ended` as reading says, or `Memory` before the session began; `Queue` where
 /// there is no room for the records or a block failed.
-pub fn load_file<H: Host, S: Slot + Send + Sync, L: Library, G: Gate>(
+pub fn load_file<H: Host, S: Slot + Send + Sync, R: Record + Send + Sync, L: Library, G: Gate>(
     rt: &H,
     alloc: Global,
     library: &mut L,
     name: &str,
     said: u64,
     room: &mut [u8],
-    queue: Queue<S, Pair>,
+    queue: Queue<S, R>,
     gate: &G,
-) -> (Queue<S, Pair>, Result<(), LoadFault>)
+) -> (Queue<S, R>, Result<(), LoadFault>)
 where
     H::Dir: Send,
-    requires room { 16 ≤ length room.old }
-    requires fits { said ≤ 68719476736 }
+    requires room { R.WIDTH ≤ length room.old }
+    requires fits { said ≤ 4294967296 * R.WIDTH }
     requires long { (files : List ℕ → Option (List ℕ)) → L.told library.old ≡ Some files → length (bytes_or_none (files name.now)) ≡ said }
-    ensures bag { OnOk result.1 (AllTell queue.slots → (files : List ℕ → Option (List ℕ)) → L.told library.old ≡ Some files → IsSameBag result.0.bag (records_of (bytes_or_none (files name.now)) ++ queue.bag)) }
-    ensures size { OnOk result.1 (result.0.size ≡ queue.size + said / 16) }
+    ensures bag { OnOk result.1 (AllTell queue.slots → (files : List ℕ → Option (List ℕ)) → L.told library.old ≡ Some files → IsSameBag result.0.bag (records_of R.record_of R.WIDTH (bytes_or_none (files name.now)) ++ queue.bag)) }
+    ensures size { OnOk result.1 (result.0.size ≡ queue.size + said / R.WIDTH) }
     ensures sound { OnOk result.1 (result.0.failed ≡ None) }
     ensures quiet { OnOk result.1 (AreQuiet queue.slots result.0.slots) }
-    ensures part { OnErr result.1 (result.0.failed ≡ None → AllTell queue.slots → (files : List ℕ → Option (List ℕ)) → L.told library.old ≡ Some files → AddsPart (records_of (bytes_or_none (files name.now))) queue.bag result.0.bag) }
-    ensures peak { OnOk result.1 (result.0.peak ≡ max queue.peak (queue.size + said / 16)) }
-    ensures refused { IfErr result.1 (LoadStopsFor (max queue.peak (queue.size + said / 16)) queue.sizes queue.limited result.0.slots) }
+    ensures part { OnErr result.1 (result.0.failed ≡ None → AllTell queue.slots → (files : List ℕ → Option (List ℕ)) → L.told library.old ≡ Some files → AddsPart (records_of R.record_of R.WIDTH (bytes_or_none (files name.now))) queue.bag result.0.bag) }
+    ensures peak { OnOk result.1 (result.0.peak ≡ max queue.peak (queue.size + said / R.WIDTH)) }
+    ensures refused { IfErr result.1 (LoadStopsFor (max queue.peak (queue.size + said / R.WIDTH)) queue.sizes queue.limited result.0.slots) }
     ensures ended { IfErr result.1 (LoadEndsIn (L.told library.old) (L.replied library.new) name.now said) }
     ensures stopped { IfErr result.1 (IsStoppedBy result.0) }
     ensures latched { (number : ℕ) → queue.failed ≡ Some number → result ≡ (queue, Err (ByQueue (Device number))) }
@@ -86,33 +86,35 @@ fn first_fault(read: Result<(), LoadFault>, ended: Result<(), QueueFault>) -> Re
 }
 
 // Reads a file piece by piece and deals its records to the passes of a session, until one stops.
-fn deal_file<H: Host, S: Slot + Send + Sync, L: Library, G: Gate>(
+fn deal_file<H: Host, S: Slot + Send + Sync, R: Record + Send + Sync, L: Library, G: Gate>(
     context: &Context<H>,
     library: &mut L,
     source: Source,
     room: &mut [u8],
-    load: &mut Load<S>,
+    load: &mut Load<S, R>,
     gate: &G,
 ) -> Result<(), LoadFault>
 where
     H::Dir: Send,
     requires going { All IsGoing load.old.passes }
-    requires room { 16 ≤ length room.old }
-    requires fits { source.said ≤ 68719476736 }
+    requires room { R.WIDTH ≤ length room.old }
+    requires fits { source.said ≤ 4294967296 * R.WIDTH }
     requires long { HasLength (L.told library.old) source.name.now source.said }
-    ensures given { OnOk result ((queue : Holding Pair) → InSession S.shown queue [] load.old → HasGiven S.shown queue (L.told library.old) source.entry.name.now (source.entry.said / 16) load.new) }
-    ensures some { (queue : Holding Pair) → InSession S.shown queue [] load.old → HasGivenSome S.shown queue (L.told library.old) source.entry.name.now (source.entry.said / 16) load.new }
+    ensures given { OnOk result ((queue : Holding R) → InSession S.shown queue [] load.old → HasGiven R.record_of R.WIDTH S.shown queue (L.told library.old) source.entry.name.now (source.entry.said / R.WIDTH) load.new) }
+    ensures some { (queue : Holding R) → InSession S.shown queue [] load.old → HasGivenSome R.record_of R.WIDTH S.shown queue (L.told library.old) source.entry.name.now (source.entry.said / R.WIDTH) load.new }
     ensures refused { IfErr result (IsReadRefusal (L.told library.old) (L.replied library.new) source.entry.name.now source.entry.said) }
     ensures reads { ReadsFile L.told L.replied source.entry.name.now source.entry.said library.old library.new }
     ensures counts { CountsBy LoadCountsFrom (L.faults library.old) (L.faults library.new) result }
 {
     let Source { name, said } = source;
-    let records = said / 16;
-    let most = u64::from(load.batch_len()).min(room.len() as u64 / 16);
+    record_laws::<R>();
+    let width = R::WIDTH;
+    let records = said / width as u64;
+    let most = u64::from(load.batch_len()).min((room.len() / width) as u64);
     let mut from = 0;
     'pieces: while from < records {
         let count = most.min(records - from) as u32;
-        let piece = &mut room[..count as usize * 16];
+        let piece = &mut room[..count as usize * width];
         let part = Part {
             name,
             said,
@@ -129,27 +131,34 @@ where
 
 // Reads some records of a file into `piece`, which has room for just these, and deals them to the passes of
 // a session. Whether all were added.
-fn deal_piece<H: Host, S: Slot + Send + Sync, L: Library, G: Gate>(
+fn deal_piece<H: Host, S: Slot + Send + Sync, R: Record + Send + Sync, L: Library, G: Gate>(
     context: &Context<H>,
     library: &mut L,
     part: Part,
     piece: &mut [u8],
-    load: &mut Load<S>,
+    load: &mut Load<S, R>,
     gate: &G,
 ) -> Result<bool, LoadFault>
 where
     H::Dir: Send,
     requires going { All IsGoing load.old.passes }
-    requires part { IsPart part.said part.from part.count (length piece.old) (batch_of load.old.bulk.sizes) }
+    requires part { IsPart R.WIDTH part.said part.from part.count (length piece.old) (batch_of load.old.bulk.sizes) }
     requires long { HasLength (L.told library.old) part.name.now part.said }
-    ensures given { IfOk result (λ all. (queue : Holding Pair) → HasGiven S.shown queue (L.told library.old) part.entry.name.now part.entry.from load.old → HasGiven S.shown queue (L.told library.old) part.entry.name.now (part.entry.from + part.entry.count) load.new) }
+    ensures given { IfOk result (λ all. (queue : Holding R) → HasGiven R.record_of R.WIDTH S.shown queue (L.told library.old) part.entry.name.now part.entry.from load.old → HasGiven R.record_of R.WIDTH S.shown queue (L.told library.old) part.entry.name.now (part.entry.from + part.entry.count) load.new) }
     ensures dealt { IfOk result (HasDealt load.old load.new) }
     ensures same { IfErr result (λ fault. load.new ≡ load.old) }
     ensures refused { IfErr result (IsReadRefusal (L.told library.old) (L.replied library.new) part.entry.name.now part.entry.said) }
     ensures reads { ReadsFile L.told L.replied part.entry.name.now part.entry.said library.old library.new }
     ensures counts { CountsBy LoadCountsFrom (L.faults library.old) (L.faults library.new) result }
 {
-    if let Err(fault) = fill(context, library, part.name, part.from * 16, piece) {
+    record_laws::<R>();
+    if let Err(fault) = fill(
+        context,
+        library,
+        part.name,
+        part.from * R::WIDTH as u64,
+        piece,
+    ) {
         return Err(LoadFault::from(fault));
     }
     fill_records(load, piece, part.count);
@@ -157,16 +166,21 @@ where
 }
 
 // Fills the first places of the batch with the records of these bytes.
-fn fill_records<S: Slot + Send + Sync>(load: &mut Load<S>, bytes: &[u8], count: u32)
-    requires length { length bytes.now ≡ count * 16 }
+fn fill_records<S: Slot + Send + Sync, R: Record + Send + Sync>(
+    load: &mut Load<S, R>,
+    bytes: &[u8],
+    count: u32,
+)
+    requires length { length bytes.now ≡ count * R.WIDTH }
     requires within { count ≤ batch_of load.old.bulk.sizes }
     ensures only { load.new ≡ with_batch load.old load.new.bulk.batch }
-    ensures records { take count load.new.bulk.batch ≡ records_from pair_of 16 count bytes.now }
+    ensures records { take count load.new.bulk.batch ≡ records_from R.record_of R.WIDTH count bytes.now }
 {
     let _room = load.batch_len();
+    let width = R::WIDTH;
     for place in 0..count {
-        let at = place as usize * 16;
-        let item = Pair::take(&bytes[at..at + 16]);
+        let at = place as usize * width;
+        let item = R::take(&bytes[at..at + width]);
         load.put(place, item);
     }
 }

@@ -1,8 +1,6 @@
 //! An open limit session as one value.
 ghost use Rattle.std.specs.Prelude.{◌≡◌, ◌≤◌, ◌<◌, ◌+◌, ◌++◌, ℕ, true, false, [], List, All, Some, None, Err, IsTrue, IfOk, IfErr, OnOk, length, take, vec_capacity};
-ghost use Rattle.ppq_session.specs.ppq_record.declared.pair.Pair.{Pair};
 ghost use Rattle.ppq_session.specs.ppq_record.Order.{is_before};
-ghost use Rattle.ppq_session.specs.ppq_record.Pair.{pair_cmp};
 ghost use Rattle.ppq_session.specs.ppq_outside.Shown.{AllTell};
 ghost use Rattle.ppq_session.specs.ppq_queue.Holding.{Holding};
 ghost use Rattle.ppq_session.specs.ppq_array.declared.store_fault.StoreFault.TheVariants.{Device};
@@ -16,27 +14,27 @@ ghost use Rattle.ppq_session.specs.Batches.{passes_of};
 ghost use Rattle.ppq_load.specs.Limits.{AreGoing, HasStopped, InLimits, IsOver, IsOverBy, begun_in};
 
 use crate::LoadFault;
-use ppq_session::{Ask, Gate, Host, LimitSession, Line, Pair, Queue, QueueFault, Slot};
+use ppq_session::{Ask, Gate, Host, LimitSession, Line, Queue, QueueFault, Record, Slot};
 use std::alloc::Global;
 use std::marker::Model;
 
-/// An open limit session of a queue of pairs: its front, what its passes share, and a pass for each worker.
+/// An open limit session of a queue: its front, what its passes share, and a pass for each worker.
 ///
 /// Contracts see the front and the passes, in the order of their workers.
 #[derive(Drop)]
-pub struct Limits<S: Slot + Send + Sync> {
-    session: LimitSession<S, Pair>,
+pub struct Limits<S: Slot + Send + Sync, R: Record + Send + Sync> {
+    session: LimitSession<S, R>,
 }
 
-impl<S: Slot + Send + Sync> Model for Limits<S> {
+impl<S: Slot + Send + Sync, R: Record + Send + Sync> Model for Limits<S, R> {
     ghost use Rattle.ppq_load.specs.Limits.{LimitsHolding};
 
-    ghost Value = { LimitsHolding S };
+    ghost Value = { LimitsHolding S R };
 
     ghost view = { λ s. s.session };
 }
 
-impl<S: Slot + Send + Sync> Limits<S> {
+impl<S: Slot + Send + Sync, R: Record + Send + Sync> Limits<S, R> {
     /// Begins a limit session of the queue with this limit. The memory that it needs is taken now.
     ///
     /// The rest of the extract buffer and each heap that is not empty are stored as runs first, which costs a
@@ -46,10 +44,10 @@ impl<S: Slot + Send + Sync> Limits<S> {
     pub fn begin<H: Host, G: Gate>(
         rt: &H,
         alloc: Global,
-        queue: Queue<S, Pair>,
-        limit: Pair,
+        queue: Queue<S, R>,
+        limit: R,
         gate: &G,
-    ) -> Result<Limits<S>, (Queue<S, Pair>, LoadFault)>
+    ) -> Result<Limits<S, R>, (Queue<S, R>, LoadFault)>
     where
         H::Dir: Send,
         ensures session { IfOk result (λ session. InLimits S.shown queue limit [] queue.bag 0 session) }
@@ -77,25 +75,25 @@ impl<S: Slot + Send + Sync> Limits<S> {
     pub fn run<H: Host, G: Gate>(
         &mut self,
         rt: &H,
-        lines: &[Line<Pair>],
+        lines: &[Line<R>],
         asks: &[Ask],
-        answers: &mut Vec<Option<Pair>>,
+        answers: &mut Vec<Option<R>>,
         gate: &G,
     ) -> bool
     where
         H::Dir: Send,
         requires named { All (λ line. line.pass < self.old.front.sizes.workers) lines.now }
-        requires above { All (λ line. is_before pair_cmp line.record self.old.front.limit ≡ false) lines.now }
+        requires above { All (λ line. is_before R.Ord.cmp line.record self.old.front.limit ≡ false) lines.now }
         requires going { AreGoing self.old }
         requires no_answer { answers.old.items ≡ [] }
         requires room { length asks.now ≤ vec_capacity answers.old }
         ensures all { IsTrue result → AreGoing self.new }
         ensures stopped { result ≡ false → HasStopped self.new }
-        ensures answers { (queue : Holding Pair) (limit : Pair) (given left : List Pair) (popped : ℕ) → InLimits S.shown queue limit given left popped self.old → AllTell queue.slots → answers.new.items ≡ take (length answers.new.items) (answers_to pair_cmp limit left asks.now) }
+        ensures answers { (queue : Holding R) (limit : R) (given left : List R) (popped : ℕ) → InLimits S.shown queue limit given left popped self.old → AllTell queue.slots → answers.new.items ≡ take (length answers.new.items) (answers_to R.Ord.cmp limit left asks.now) }
         ensures answered { self.new.front.failed ≡ None → length answers.new.items ≡ length asks.now }
         ensures fewer { length answers.new.items ≤ length asks.now }
         ensures room { vec_capacity answers.new ≡ vec_capacity answers.old }
-        ensures session { (queue : Holding Pair) (limit : Pair) (given left : List Pair) (popped : ℕ) → InLimits S.shown queue limit given left popped self.old → InLimits S.shown queue limit (given ++ records_in lines.now) (left_after pair_cmp limit left asks.now) (popped + pops_in asks.now) self.new }
+        ensures session { (queue : Holding R) (limit : R) (given left : List R) (popped : ℕ) → InLimits S.shown queue limit given left popped self.old → InLimits S.shown queue limit (given ++ records_in lines.now) (left_after R.Ord.cmp limit left asks.now) (popped + pops_in asks.now) self.new }
         ensures each { EachAdds S.shown (λ pass. records_for pass lines.now) (passes_of self.old.passes) (passes_of self.new.passes) }
         ensures sizes { self.new.front.sizes ≡ self.old.front.sizes }
         ensures limit { self.new.front.limit ≡ self.old.front.limit }
@@ -109,11 +107,11 @@ impl<S: Slot + Send + Sync> Limits<S> {
     /// `Ok`: the queue has all records that were given. `NoFreeBlock`: a pass or a merge of levels found no
     /// blocks, and no accepted record is lost. `Device`: the block with that number failed; the first pass that
     /// met a fault is named, else the front, and else a merge of levels.
-    pub fn end<H: Host, G: Gate>(self, rt: &H, gate: &G) -> (Queue<S, Pair>, Result<(), QueueFault>)
+    pub fn end<H: Host, G: Gate>(self, rt: &H, gate: &G) -> (Queue<S, R>, Result<(), QueueFault>)
     where
         H::Dir: Send,
         ensures all { OnOk result.1 (AreGoing self) }
-        ensures over { (queue : Holding Pair) (limit : Pair) (given left : List Pair) (popped : ℕ) → InLimits S.shown queue limit given left popped self → IsOver queue given left popped result.0 result.1 }
+        ensures over { (queue : Holding R) (limit : R) (given left : List R) (popped : ℕ) → InLimits S.shown queue limit given left popped self → IsOver queue given left popped result.0 result.1 }
         ensures left { IfErr result.1 (IsOverBy S.shown self result.0) }
         ensures first { NamesFirst (passes_of self.passes) self.front.failed result.1 }
     {

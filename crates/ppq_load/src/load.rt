@@ -1,6 +1,5 @@
 //! An open session, as one value.
 ghost use Rattle.std.specs.Prelude.{◌≡◌, ◌<◌, ◌≤◌, ◌++◌, ◌↔◌, [], ℕ, List, All, Any, Some, None, Err, IsTrue, false, IfOk, IfErr, OnOk, length, take, slice_set};
-ghost use Rattle.ppq_session.specs.ppq_record.declared.pair.Pair.{Pair};
 ghost use Rattle.ppq_session.specs.ppq_budget.Sizes.{AreInRange, batch_of};
 ghost use Rattle.ppq_session.specs.ppq_queue.Holding.{Holding};
 ghost use Rattle.ppq_session.specs.ppq_array.declared.store_fault.StoreFault.TheVariants.{Device};
@@ -11,7 +10,7 @@ ghost use Rattle.ppq_load.specs.Loading.{InSession, IsLoaded, IsByLoad, IsHanded
 ghost use Rattle.ppq_load.specs.declared.fault.LoadFault.TheVariants as load_fault;
 
 use crate::fault::LoadFault;
-use ppq_session::{Gate, Host, Line, Pair, Queue, QueueFault, Session, Slot};
+use ppq_session::{Gate, Host, Line, Maker, Queue, QueueFault, Record, Session, Slot};
 use std::alloc::Global;
 use std::marker::Model;
 
@@ -20,19 +19,19 @@ use std::marker::Model;
 /// Contracts see what is left and the passes, in the order of their workers. `InSession` says which
 /// records were given to them.
 #[derive(Drop)]
-pub struct Load<S: Slot + Send + Sync> {
-    session: Session<S, Pair>,
+pub struct Load<S: Slot + Send + Sync, R: Record + Send + Sync> {
+    session: Session<S, R>,
 }
 
-impl<S: Slot + Send + Sync> Model for Load<S> {
+impl<S: Slot + Send + Sync, R: Record + Send + Sync> Model for Load<S, R> {
     ghost use Rattle.ppq_load.specs.Loading.{LoadHolding};
 
-    ghost Value = { LoadHolding S };
+    ghost Value = { LoadHolding S R };
 
     ghost view = { λ l. l.session };
 }
 
-impl<S: Slot + Send + Sync> Load<S> {
+impl<S: Slot + Send + Sync, R: Record + Send + Sync> Load<S, R> {
     /// Begins a session of a queue, with a pass for each worker. All memory that it needs is taken now.
     ///
     /// Each refusal hands the queue back, with the records that it had unless a block failed. A queue of
@@ -40,9 +39,9 @@ impl<S: Slot + Send + Sync> Load<S> {
     pub fn begin<H: Host, G: Gate>(
         rt: &H,
         alloc: Global,
-        queue: Queue<S, Pair>,
+        queue: Queue<S, R>,
         gate: &G,
-    ) -> Result<Load<S>, (Queue<S, Pair>, LoadFault)>
+    ) -> Result<Load<S, R>, (Queue<S, R>, LoadFault)>
     where
         H::Dir: Send,
         ensures session { IfOk result (λ load. InSession S.shown queue [] load) }
@@ -71,7 +70,7 @@ impl<S: Slot + Send + Sync> Load<S> {
 
     /// Writes a record to a place of the batch.
     #[inline]
-    pub fn put(&mut self, place: u32, item: Pair)
+    pub fn put(&mut self, place: u32, item: R)
         requires { place < batch_of self.old.bulk.sizes }
         ensures { self.new ≡ with_batch self.old (slice_set self.old.bulk.batch place item) }
     {
@@ -86,23 +85,43 @@ impl<S: Slot + Send + Sync> Load<S> {
         requires going { All IsGoing self.old.passes }
         ensures all { IsTrue result ↔ All IsGoing self.new.passes }
         ensures ended { result ≡ false → Any HasEnded self.new.passes }
-        ensures session { (queue : Holding Pair) → (records : List Pair) → InSession S.shown queue records self.old → InSession S.shown queue (records ++ take count self.old.bulk.batch) self.new }
+        ensures session { (queue : Holding R) → (records : List R) → InSession S.shown queue records self.old → InSession S.shown queue (records ++ take count self.old.bulk.batch) self.new }
         ensures each { EachAdds S.shown (part_for (length self.old.passes) (take count self.old.bulk.batch)) self.old.passes self.new.passes }
         ensures bulk { self.new.bulk ≡ self.old.bulk }
     {
         self.session.deal(rt, count, gate)
     }
 
+    /// Adds all records of a maker: each pass gets an equal part, which its worker makes and adds on a thread of
+    /// its own. Whether all were added.
+    pub fn deal_made<H: Host, M: Maker<R> + Sync, G: Gate>(
+        &mut self,
+        rt: &H,
+        maker: &M,
+        gate: &G,
+    ) -> bool
+    where
+        H::Dir: Send,
+        requires going { All IsGoing self.old.passes }
+        ensures all { IsTrue result ↔ All IsGoing self.new.passes }
+        ensures ended { result ≡ false → Any HasEnded self.new.passes }
+        ensures session { (queue : Holding R) → (records : List R) → InSession S.shown queue records self.old → InSession S.shown queue (records ++ M.rest maker.now) self.new }
+        ensures each { EachAdds S.shown (part_for (length self.old.passes) (M.rest maker.now)) self.old.passes self.new.passes }
+        ensures bulk { self.new.bulk ≡ self.old.bulk }
+    {
+        self.session.deal_made(rt, maker, gate)
+    }
+
     /// Adds the records of lines: each worker takes those with its number, in their order. Whether all were
     /// added.
-    pub fn push<H: Host, G: Gate>(&mut self, rt: &H, lines: &[Line<Pair>], gate: &G) -> bool
+    pub fn push<H: Host, G: Gate>(&mut self, rt: &H, lines: &[Line<R>], gate: &G) -> bool
     where
         H::Dir: Send,
         requires named { All (λ line. line.pass < self.old.bulk.sizes.workers) lines.now }
         requires going { All IsGoing self.old.passes }
         ensures all { IsTrue result ↔ All IsGoing self.new.passes }
         ensures ended { result ≡ false → Any HasEnded self.new.passes }
-        ensures session { (queue : Holding Pair) → (records : List Pair) → InSession S.shown queue records self.old → InSession S.shown queue (records ++ records_in lines.now) self.new }
+        ensures session { (queue : Holding R) → (records : List R) → InSession S.shown queue records self.old → InSession S.shown queue (records ++ records_in lines.now) self.new }
         ensures each { EachAdds S.shown (λ pass. records_for pass lines.now) self.old.passes self.new.passes }
         ensures bulk { self.new.bulk ≡ self.old.bulk }
     {
@@ -115,11 +134,11 @@ impl<S: Slot + Send + Sync> Load<S> {
     /// `Ok`: the queue has all records that were given. `NoFreeBlock`: a pass or a merge of levels found no
     /// blocks, and the queue has all records that were accepted. `Device`: the block with that number failed,
     /// and records may be lost; the first pass that met a fault is named, and else a merge of levels.
-    pub fn end<H: Host, G: Gate>(self, rt: &H, gate: &G) -> (Queue<S, Pair>, Result<(), QueueFault>)
+    pub fn end<H: Host, G: Gate>(self, rt: &H, gate: &G) -> (Queue<S, R>, Result<(), QueueFault>)
     where
         H::Dir: Send,
         ensures all { OnOk result.1 (All IsGoing self.passes) }
-        ensures loaded { (queue : Holding Pair) → (records : List Pair) → InSession S.shown queue records self → IsLoaded queue records result.0 result.1 }
+        ensures loaded { (queue : Holding R) → (records : List R) → InSession S.shown queue records self → IsLoaded queue records result.0 result.1 }
         ensures left { IfErr result.1 (IsLeftBy S.shown self result.0) }
         ensures first { NamesFirst self.passes None result.1 }
     {

@@ -1,7 +1,7 @@
 //! Whole scripts over memory: what they write, and how they end.
 use crate::memory::{SIZES, ends, gives, library_of, repeated, sink_in, words_in};
 use ppq_cli::{End, OpenGate, run_twice};
-use ppq_outside::MemRack;
+use ppq_outside::{MemRack, Slot};
 
 // Scripts, and what each of them writes.
 const SCRIPTS: &[(&[u8], &[u8])] = &[
@@ -141,6 +141,80 @@ fn a_script_with_a_bad_line_writes_nothing(rt: HostRuntime) {
     }
 }
 
+// Scripts with a head, and what each of them writes.
+const HEADED: &[(&[u8], &[u8])] = &[
+    // the greatest record goes first
+    (
+        b"ppq 2 pair down\npush 1 1\npush 2 2\npop\nbulk_pop_limit 1 1 5\n",
+        b"2 2\nall\n",
+    ),
+    // records of three numbers
+    (
+        b"ppq 2 triple up\npush 1 2 4\npush 1 2 3\ngen 1 1\ndrain 9\n",
+        b"count 3 first 1 2 3 last 7806831264735756412 0 1 sum 7806831264735756414\n",
+    ),
+    (
+        b"ppq 2 triple down\npush 1 2 4\npush 1 2 3\npush 1 3 0\ngen 1 1\nbulk_pop 3\ndrain 9\nsize\n",
+        b"7806831264735756412 0 1\n1 3 0\n1 2 4\ncount 1 first 1 2 3 last 1 2 3 sum 1\n0\n",
+    ),
+    // the head that a script without one has
+    (b"ppq 2 pair up\nbulk f\npop\npop\n", b"3 9\n5 1\n"),
+    // sessions
+    (
+        b"ppq 2 triple up\npush 4 0 0\npush 4 0 1\nbulk_begin\nbulk_push 0 3 9 9\nbulk_push 1 1 0 5\nbulk_push 0 4 0 0\nbulk_push 1 1 0 4\nbulk_end\nlimit_begin 4 0 0\nlimit_pop\nlimit_push 1 4 0 0\nlimit_top\nlimit_pop\nlimit_pop\nlimit_pop\nlimit_end\nbulk_pop 9\n",
+        b"1 0 4\n1 0 5\n1 0 5\n3 9 9\nlimit\n4 0 0\n4 0 0\n4 0 0\n4 0 1\n",
+    ),
+    (
+        b"ppq 2 pair down\nlimit_begin 3 0\nlimit_push 0 2 9\nlimit_push 1 3 0\nlimit_pop\nlimit_end\npush 9 9\nlimit_begin 3 0\nlimit_pop\nlimit_pop\nlimit_end\nbulk_pop 9\n",
+        b"limit\n9 9\nlimit\n3 0\n2 9\n",
+    ),
+    // spaces, and a carriage return
+    (
+        b"  ppq  2 pair   down \r\npush 1 1\npush 2 2\npop\n",
+        b"2 2\n",
+    ),
+    (b"ppq 2 triple down", b""),
+];
+
+#[test]
+fn a_head_names_the_records_and_their_order(rt: HostRuntime) {
+    for (script, output) in HEADED {
+        gives(&rt, rt.alloc(), SIZES, script, End::Done, output);
+    }
+}
+
+// Scripts with a bad head or with other records than their head names, and the first bad line of each.
+const BAD_HEADS: &[(&[u8], u32)] = &[
+    // a head on another line, and of another version, kind or order
+    (b"#x\nppq 2 pair up\n", 2),
+    (b"ppq 2 pair up\nppq 2 pair up\n", 2),
+    (b"ppq 3 pair up\n", 1),
+    (b"ppq 2 quad up\n", 1),
+    (b"ppq 2 pair\n", 1),
+    (b"ppq 2 pair up down\n", 1),
+    // records of another number of fields
+    (b"ppq 2 triple up\npush 1 2\n", 2),
+    (b"ppq 2 triple up\nbulk_pop_limit 1 2 3\n", 2),
+    (b"ppq 2 pair down\npush 1 2 3\n", 2),
+    (b"push 1 2 3\n", 1),
+    // a file of 32 bytes is none of triples
+    (b"ppq 2 triple up\nbulk f\n", 2),
+    (b"ppq 2 triple up\nbulk e\nbulk long\n", 3),
+    // a record that is before the limit in the order down
+    (
+        b"ppq 2 pair down\nlimit_begin 4 0\nlimit_push 0 5 0\nlimit_end\n",
+        3,
+    ),
+];
+
+#[test]
+fn a_script_with_a_bad_head_writes_nothing(rt: HostRuntime) {
+    for (script, line) in BAD_HEADS {
+        let end = End::BadLine { line: *line };
+        gives(&rt, rt.alloc(), SIZES, script, end, b"");
+    }
+}
+
 #[test]
 fn a_script_has_at_most_1_048_576_bytes(rt: HostRuntime) {
     for (length, end) in [
@@ -233,6 +307,13 @@ const RUNS: &[(&str, &[u8], End, &[u8])] = &[
         End::Done,
         b"\0\0\0\x10\0\0\0\0\0\0\0\x03\0\0\0\0\0\0\0\x02\0\0\0\x10\0\0\0\0\0\0\0\x03\0\0\0\0\0\0\0\x09\0\0\0\x10\0\0\0\0\0\0\0\x05\0\0\0\0\0\0\0\x01\0\0\0\x08\0\0\0\0\0\0\0\x01",
     ),
+    // a frame of a record of three numbers has 24 bytes
+    (
+        "run s --device d --blocks 200 --workers 2 --block 2 --heap 1 --memory 372 --form bytes",
+        b"ppq 2 triple up\npush 1 2 3\npop\npop\n",
+        End::Done,
+        b"\0\0\0\x18\0\0\0\0\0\0\0\x01\0\0\0\0\0\0\0\x02\0\0\0\0\0\0\0\x03\0\0\0\x01e",
+    ),
     // a pass is one of the workers
     (
         "run s --device d --blocks 200 --workers 2 --block 16 --heap 1 --memory 9999",
@@ -274,6 +355,51 @@ fn a_budget_below_its_fixed_part_makes_no_block(rt: HostRuntime) {
     let end = End::BudgetTooSmall { need: 5952 };
     let used = gives(&rt, rt.alloc(), line, b"pop\n", end, b"");
     assert_eq!(rt; used.made, 0);
+}
+
+// A script of triples whose third record is not in memory.
+const TRIPLES: &[u8] = b"ppq 2 triple down\npush 6 0 1\npush 5 0 2\npush 7 0 3\npop\nsize\n";
+
+#[test]
+fn a_budget_in_bytes_is_one_of_the_records_of_the_head(rt: HostRuntime) {
+    let enough = "run s --device d --blocks 200 --workers 2 --block 2 --heap 1 --memory-bytes 8928";
+    let used = gives(&rt, rt.alloc(), enough, TRIPLES, End::Done, b"7 0 3\n2\n");
+    assert_eq!(rt; (used.made, used.written), (200, Some(0)));
+    let below = "run s --device d --blocks 200 --workers 2 --block 2 --heap 1 --memory-bytes 8927";
+    let end = End::BudgetTooSmall { need: 8928 };
+    let used = gives(&rt, rt.alloc(), below, TRIPLES, end, b"");
+    assert_eq!(rt; used.made, 0);
+    let records = "run s --device d --blocks 200 --workers 2 --block 2 --heap 1 --memory 371";
+    let end = End::BudgetTooSmall { need: 372 };
+    gives(&rt, rt.alloc(), records, TRIPLES, end, b"");
+}
+
+#[test]
+fn a_bad_line_goes_before_a_budget_that_is_too_small(rt: HostRuntime) {
+    let line = "run s --device d --blocks 200 --workers 2 --block 2 --heap 1 --memory-bytes 0";
+    let script = b"ppq 2 triple up\npush 1 2\n";
+    let used = gives(&rt, rt.alloc(), line, script, End::BadLine { line: 2 }, b"");
+    assert_eq!(rt; used.made, 0);
+}
+
+#[test]
+fn a_block_has_room_for_the_records_of_the_head(rt: HostRuntime) {
+    let alloc = rt.alloc();
+    let mut library = library_of(&rt, alloc, TRIPLES, 0);
+    let (mut rack, mut sink) = (MemRack::new(), sink_in(&rt, alloc));
+    let blocks = ends(
+        &rt,
+        alloc,
+        SIZES,
+        &mut library,
+        &mut rack,
+        &mut sink,
+        End::Done,
+        b"7 0 3\n2\n",
+    );
+    for block in &blocks {
+        assert_eq!(rt; block.size(), 48);
+    }
 }
 
 // The words of some other sizes.

@@ -7,10 +7,10 @@ use crate::Record;
 /// A record that is some numbers, its fields. The first field in which two records differ decides their
 /// order, and the bytes are the fields in their order, each in eight bytes, the highest byte first.
 pub trait Fields: Record {
-    /// How many fields a record has.
+    /// How many fields a record has, from 1 to 8: `WIDTH` is 8 times as much.
     const COUNT: usize;
 
-    /// Whether of two records that one is first whose field is greater.
+    /// Whether the order goes down: where two records first differ, the one with the greater field is first.
     const DOWN: bool;
 
     ghost COUNT: { ℕ };

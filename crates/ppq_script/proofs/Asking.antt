@@ -27,11 +27,11 @@ Any-more : {X : Type 0} (P : X → Type 0) (xs : List X) (y : X) → Any P xs �
 Any-more P xs y a = (a.0, a.1, grind (arith, common_steps, a.2), grind (arith, common_steps, a.2, a.3), a.4)
 
 -- one command more keeps its length, and all replies since are lengths that are kept
-pub kept_more : (before mid now : Reply → Type 0) (names : List (List ℕ)) (items : List Numbered) (i : ℕ) (item : Numbered) → i < length items → RepliesOnly before mid (IsKeptAmong names (take i items))
+pub kept_more : {R : Type 0} (before mid now : Reply → Type 0) (names : List (List ℕ)) (items : List (Numbered R)) (i : ℕ) (item : Numbered R) → i < length items → RepliesOnly before mid (IsKeptAmong names (take i items))
     → RepliesOnly mid now (λ reply. IsKeptBy names reply item) → RepliesOnly before now (IsKeptAmong names (take (i + 1) (set items i item)))
-kept_more before mid now names items i item below done here =
+kept_more {R} before mid now names items i item below done here =
     let all = take i items ++ item ∷ [] in
-    subst (λ (xs : List Numbered). RepliesOnly before now (IsKeptAmong names xs)) (sym (take_more_set items i item below))
+    subst (λ (xs : List (Numbered R)). RepliesOnly before now (IsKeptAmong names xs)) (sym (take_more_set items i item below))
     (replies_then before mid now (IsKeptAmong names all)
     (replies_wider before mid (IsKeptAmong names (take i items)) (IsKeptAmong names all) (λ reply any. Any-more (IsKeptBy names reply) (take i items) item any) done)
     (replies_wider mid now (λ reply. IsKeptBy names reply item) (IsKeptAmong names all) (λ reply kept. Any-push (IsKeptBy names reply) (take i items) item kept) here))

@@ -11,6 +11,7 @@ use Rattle.ppq_script.specs.declared.check.CheckFault.{CheckFault}
 use Rattle.ppq_script.specs.declared.check.CheckFault.TheVariants.{BadLine, ReadFault, Memory}
 use Rattle.ppq_script.specs.Files.{file_in, name_at, IsRecordLength, bad_among, IsBadAmong, IsLength, IsNotFound, NoFile}
 use Rattle.ppq_script.specs.Reading.{Reading}
+use Rattle.ppq_script.specs.Words.{Words}
 
 -- a library's fault as a fault of checking
 abbrev pub check_fault_of : OutsideFault → CheckFault
@@ -18,7 +19,7 @@ check_fault_of outside.Failed = ReadFault
 check_fault_of outside.Memory = Memory
 
 -- the first bad line of a script, by which files can be used
-abbrev pub bad_of : (List ℕ → Bool) → Reading → Option ℕ
+abbrev pub bad_of : {R : Type 0} → (List ℕ → Bool) → Reading R → Option ℕ
 bad_of usable script = bad_among usable script.names script.commands script.bad
 
 -- this bad line is answered, and only where there is one; or a call failed, or memory was wanting
@@ -26,57 +27,57 @@ abbrev pub IsCheckAnswer : {T : Type 0} → Option ℕ → Result T CheckFault �
 IsCheckAnswer bad result = MatchOption bad (IsOk result) (λ line. IsErrOf result (BadLine line)) ⊎ (IsErrOf result ReadFault ⊎ IsErrOf result Memory)
 
 -- what a refusal says by the library's replies
-abbrev pub CheckRefusalIsRight : (Reply → Type 0) → Reading → CheckFault → Type 0
-CheckRefusalIsRight replied script (BadLine line) = IsBadAmong replied script.names script.commands script.bad line
-CheckRefusalIsRight replied script ReadFault = ⊤
-CheckRefusalIsRight replied script Memory = ⊤
+abbrev pub CheckRefusalIsRight : {R : Type 0} → Words R → (Reply → Type 0) → Reading R → CheckFault → Type 0
+CheckRefusalIsRight words replied script (BadLine line) = IsBadAmong words replied script.names script.commands script.bad line
+CheckRefusalIsRight words replied script ReadFault = ⊤
+CheckRefusalIsRight words replied script Memory = ⊤
 
 -- what a refusal by a name says: the library replied of it, and the fault names this line
-abbrev pub NameRefusalIsRight : (Reply → Type 0) → List ℕ → ℕ → CheckFault → Type 0
-NameRefusalIsRight replied name here (BadLine line) = (here ≡ line) × IsNotFound replied name
-NameRefusalIsRight replied name here ReadFault = ⊤
-NameRefusalIsRight replied name here Memory = ⊤
+abbrev pub NameRefusalIsRight : {R : Type 0} → Words R → (Reply → Type 0) → List ℕ → ℕ → CheckFault → Type 0
+NameRefusalIsRight words replied name here (BadLine line) = (here ≡ line) × IsNotFound words replied name
+NameRefusalIsRight words replied name here ReadFault = ⊤
+NameRefusalIsRight words replied name here Memory = ⊤
 
 -- by a command, which names a file
-abbrev pub ItemRefusalIsRight : (Reply → Type 0) → List (List ℕ) → Numbered → CheckFault → Type 0
-ItemRefusalIsRight replied names item (BadLine line) = (item.line ≡ line) × NoFile replied names (file_in item.command)
-ItemRefusalIsRight replied names item ReadFault = ⊤
-ItemRefusalIsRight replied names item Memory = ⊤
+abbrev pub ItemRefusalIsRight : {R : Type 0} → Words R → (Reply → Type 0) → List (List ℕ) → Numbered R → CheckFault → Type 0
+ItemRefusalIsRight words replied names item (BadLine line) = (item.line ≡ line) × NoFile words replied names (file_in item.command)
+ItemRefusalIsRight words replied names item ReadFault = ⊤
+ItemRefusalIsRight words replied names item Memory = ⊤
 
 -- by the first of the commands whose file cannot be used, whatever line behind them is bad
-abbrev pub CommandsRefusalIsRight : (Reply → Type 0) → List (List ℕ) → List Numbered → CheckFault → Type 0
-CommandsRefusalIsRight replied names items (BadLine line) = (bad : Option ℕ) → IsBadAmong replied names items bad line
-CommandsRefusalIsRight replied names items ReadFault = ⊤
-CommandsRefusalIsRight replied names items Memory = ⊤
+abbrev pub CommandsRefusalIsRight : {R : Type 0} → Words R → (Reply → Type 0) → List (List ℕ) → List (Numbered R) → CheckFault → Type 0
+CommandsRefusalIsRight words replied names items (BadLine line) = (bad : Option ℕ) → IsBadAmong words replied names items bad line
+CommandsRefusalIsRight words replied names items ReadFault = ⊤
+CommandsRefusalIsRight words replied names items Memory = ⊤
 
 -- a command with another length of its file, if it names one
-abbrev pub IsSameFile : Option (ℕ × ℕ) → Command → Command → Type 0
+abbrev pub IsSameFile : {R : Type 0} → Option (ℕ × ℕ) → Command R → Command R → Type 0
 IsSameFile None old new = new ≡ old
 IsSameFile (Some file) old new = (length : ℕ) × (new ≡ Bulk file.0 length)
 
-pub record IsSameItem (old new : Numbered) : Type 0 where
+pub record IsSameItem {R : Type 0} (old new : Numbered R) : Type 0 where
   pub line : new.line ≡ old.line
   pub command : IsSameFile (file_in old.command) old.command new.command
 
 -- a command with the length of a record file that the library replied of its file, if it names one
-abbrev pub IsAskedFile : (Reply → Type 0) → List (List ℕ) → Option (ℕ × ℕ) → Command → Command → Type 0
-IsAskedFile replied names None old new = new ≡ old
-IsAskedFile replied names (Some file) old new = (length : ℕ) × ((new ≡ Bulk file.0 length) × (replied (OfLength (name_at names file.0) (Some length)) × IsRecordLength length))
+abbrev pub IsAskedFile : {R : Type 0} → Words R → (Reply → Type 0) → List (List ℕ) → Option (ℕ × ℕ) → Command R → Command R → Type 0
+IsAskedFile words replied names None old new = new ≡ old
+IsAskedFile words replied names (Some file) old new = (length : ℕ) × ((new ≡ Bulk file.0 length) × (replied (OfLength (name_at names file.0) (Some length)) × IsRecordLength words length))
 
-pub record IsAsked (replied : Reply → Type 0) (names : List (List ℕ)) (old new : Numbered) : Type 0 where
+pub record IsAsked {R : Type 0} (words : Words R) (replied : Reply → Type 0) (names : List (List ℕ)) (old new : Numbered R) : Type 0 where
   pub line : new.line ≡ old.line
-  pub command : IsAskedFile replied names (file_in old.command) old.command new.command
+  pub command : IsAskedFile words replied names (file_in old.command) old.command new.command
 
 -- a command with the length that its file has in this library, if it names one
-abbrev pub with_size : (List ℕ → Option (List ℕ)) → List (List ℕ) → Option (ℕ × ℕ) → Command → Command
+abbrev pub with_size : {R : Type 0} → (List ℕ → Option (List ℕ)) → List (List ℕ) → Option (ℕ × ℕ) → Command R → Command R
 with_size files names None command = command
 with_size files names (Some file) command = Bulk file.0 (length (bytes_or_none (files (name_at names file.0))))
 
-abbrev pub with_sizes : (List ℕ → Option (List ℕ)) → List (List ℕ) → List Numbered → List Numbered
-with_sizes files names items = map (λ (n : Numbered). record n { command = with_size files names (file_in n.command) n.command }) items
+abbrev pub with_sizes : {R : Type 0} → (List ℕ → Option (List ℕ)) → List (List ℕ) → List (Numbered R) → List (Numbered R)
+with_sizes {R} files names items = map (λ (n : Numbered R). record n { command = with_size files names (file_in n.command) n.command }) items
 
 -- the script after a check: only the lengths of its files and whether it is checked may differ
-pub record IsSameScript (old new : Reading) : Type 0 where
+pub record IsSameScript {R : Type 0} (old new : Reading R) : Type 0 where
   pub commands : AllZip IsSameItem old.commands new.commands
   pub bad : new.bad ≡ old.bad
   pub names : new.names ≡ old.names
@@ -89,15 +90,15 @@ StaysUnlessRead before now ReadFault = ⊤
 StaysUnlessRead before now Memory = now ≡ before
 
 -- the reply is the length that a command keeps of its file
-abbrev pub IsKeptBy : List (List ℕ) → Reply → Numbered → Type 0
+abbrev pub IsKeptBy : {R : Type 0} → List (List ℕ) → Reply → Numbered R → Type 0
 IsKeptBy names reply item = IsSomeAnd (file_in item.command) (λ file. reply ≡ OfLength (name_at names file.0) (Some file.1))
 
 -- the reply is the length that one of the commands keeps of its file
-abbrev pub IsKeptAmong : List (List ℕ) → List Numbered → Reply → Type 0
+abbrev pub IsKeptAmong : {R : Type 0} → List (List ℕ) → List (Numbered R) → Reply → Type 0
 IsKeptAmong names items reply = Any (IsKeptBy names reply) items
 
 -- the same of a script's commands
-abbrev pub IsKeptLength : Reading → Reply → Type 0
+abbrev pub IsKeptLength : {R : Type 0} → Reading R → Reply → Type 0
 IsKeptLength script reply = IsKeptAmong script.names script.commands reply
 
 -- what the library replied it has replied, and it replied nothing more but lengths of files

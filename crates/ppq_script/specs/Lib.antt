@@ -3,6 +3,7 @@ pub use Rattle.ppq_record.specs as ppq_record
 pub mod Checking
 pub mod Command
 pub mod Files
+pub mod Head
 pub mod Lines
 pub mod Meaning
 pub mod Number
@@ -11,3 +12,4 @@ pub mod Reading
 pub mod Sessions
 pub mod Shown
 pub mod Taken
+pub mod Words

@@ -8,6 +8,7 @@ ghost use Rattle.ppq_script.specs.declared.check.CheckFault.TheVariants.{ReadFau
 
 use crate::{Command, Numbered, Script};
 use ppq_outside::{Host, Library, OutsideFault};
+use ppq_record::{Fields, record_laws};
 use std::alloc::Global;
 
 /// Why a script's files were not all found.
@@ -39,21 +40,21 @@ impl From<OutsideFault> for CheckFault {
 /// and reads nothing of the files. After `Ok` the library replied nothing more but the lengths that
 /// the commands keep, so none was asked and then dropped.
 ///
-/// A file that is absent, whose length is no multiple of 16, or is above 68,719,476,736 bytes makes
-/// its line bad. `BadLine` is the first bad line, by lines and files together, and comes exactly
+/// A file that is absent, whose length is no multiple of a record's, or that has more than 4,294,967,296
+/// records makes its line bad. `BadLine` is the first bad line, by lines and files together, and comes exactly
 /// where there is one and no call failed before it. `ReadFault` comes only where the library's count
 /// rose. After every answer but `Ok` the script is not checked, and the lengths that it keeps may
 /// differ.
-pub fn check_files<H: Host, L: Library>(
+pub fn check_files<H: Host, L: Library, R: Fields>(
     rt: &H,
     alloc: Global,
-    script: &mut Script,
+    script: &mut Script<R>,
     library: &mut L,
 ) -> Result<(), CheckFault>
-    ensures answer { IfSome (L.told library.old) (λ files. IsCheckAnswer (bad_of (is_usable files) script.old) result) }
+    ensures answer { IfSome (L.told library.old) (λ files. IsCheckAnswer (bad_of (is_usable R.Fields files) script.old) result) }
     ensures lengths { OnOk result (IfSome (L.told library.old) (λ files. script.new.commands ≡ with_sizes files script.old.names script.old.commands)) }
-    ensures asked { OnOk result (AllZip (IsAsked (L.replied library.new) script.old.names) script.old.commands script.new.commands) }
-    ensures refused { IfErr result (CheckRefusalIsRight (L.replied library.new) script.old) }
+    ensures asked { OnOk result (AllZip (IsAsked R.Fields (L.replied library.new) script.old.names) script.old.commands script.new.commands) }
+    ensures refused { IfErr result (CheckRefusalIsRight R.Fields (L.replied library.new) script.old) }
     ensures checked { script.new.checked ≡ is_ok result }
     ensures good { OnOk result (script.old.bad ≡ None) }
     ensures same { IsSameScript script.old script.new }
@@ -71,17 +72,17 @@ pub fn check_files<H: Host, L: Library>(
 
 // Asks the length of each file that the commands name, up to the first that cannot be used, and
 // keeps it in its command.
-pub(crate) fn ask_all<H: Host, L: Library>(
+pub(crate) fn ask_all<H: Host, L: Library, R: Fields>(
     rt: &H,
     alloc: Global,
     names: &[String],
-    commands: &mut [Numbered],
+    commands: &mut [Numbered<R>],
     library: &mut L,
 ) -> Result<(), CheckFault>
     requires { All (λ n. NamesFile (length names.now) n.command) commands.old }
-    ensures asked { OnOk result (AllZip (IsAsked (L.replied library.new) (map string_bytes names.now)) commands.old commands.new) }
+    ensures asked { OnOk result (AllZip (IsAsked R.Fields (L.replied library.new) (map string_bytes names.now)) commands.old commands.new) }
     ensures same { AllZip IsSameItem commands.old commands.new }
-    ensures refused { IfErr result (CommandsRefusalIsRight (L.replied library.new) (map string_bytes names.now) commands.old) }
+    ensures refused { IfErr result (CommandsRefusalIsRight R.Fields (L.replied library.new) (map string_bytes names.now) commands.old) }
     ensures told { L.told library.new ≡ L.told library.old }
     ensures replied { AsksLengths (L.replied library.old) (L.replied library.new) }
     ensures once { OnOk result (RepliesOnly (L.replied library.old) (L.replied library.new) (IsKeptAmong (map string_bytes names.now) commands.new)) }
@@ -97,17 +98,17 @@ pub(crate) fn ask_all<H: Host, L: Library>(
 }
 
 // Asks the length of the file that a command names, if it names one, and keeps it in the command.
-fn ask<H: Host, L: Library>(
+fn ask<H: Host, L: Library, R: Fields>(
     rt: &H,
     alloc: Global,
     names: &[String],
-    item: &mut Numbered,
+    item: &mut Numbered<R>,
     library: &mut L,
 ) -> Result<(), CheckFault>
     requires { NamesFile (length names.now) item.old.command }
-    ensures asked { OnOk result (IsAsked (L.replied library.new) (map string_bytes names.now) item.old item.new) }
+    ensures asked { OnOk result (IsAsked R.Fields (L.replied library.new) (map string_bytes names.now) item.old item.new) }
     ensures same { OnErr result (item.new ≡ item.old) }
-    ensures refused { IfErr result (ItemRefusalIsRight (L.replied library.new) (map string_bytes names.now) item.old) }
+    ensures refused { IfErr result (ItemRefusalIsRight R.Fields (L.replied library.new) (map string_bytes names.now) item.old) }
     ensures told { L.told library.new ≡ L.told library.old }
     ensures replied { AsksLengths (L.replied library.old) (L.replied library.new) }
     ensures once { OnOk result (RepliesOnly (L.replied library.old) (L.replied library.new) (λ reply. IsKeptBy (map string_bytes names.now) reply item.new)) }
@@ -116,7 +117,7 @@ fn ask<H: Host, L: Library>(
     let Command::Bulk { file, .. } = item.command else {
         return Ok(());
     };
-    match record_length(rt, alloc, names[file as usize].as_str(), item.line, library) {
+    match record_length::<H, L, R>(rt, alloc, names[file as usize].as_str(), item.line, library) {
         Ok(length) => {
             item.command = Command::Bulk { file, length };
             Ok(())
@@ -126,15 +127,15 @@ fn ask<H: Host, L: Library>(
 }
 
 // The length of a record file; the fault names this line where there is no such file.
-fn record_length<H: Host, L: Library>(
+fn record_length<H: Host, L: Library, R: Fields>(
     rt: &H,
     alloc: Global,
     name: &str,
     line: u32,
     library: &mut L,
 ) -> Result<u64, CheckFault>
-    ensures found { IfOk result (λ length. L.replied library.new (OfLength name.now (Some length)) × IsRecordLength length) }
-    ensures refused { IfErr result (NameRefusalIsRight (L.replied library.new) name.now line) }
+    ensures found { IfOk result (λ length. L.replied library.new (OfLength name.now (Some length)) × IsRecordLength R.Fields length) }
+    ensures refused { IfErr result (NameRefusalIsRight R.Fields (L.replied library.new) name.now line) }
     ensures told { L.told library.new ≡ L.told library.old }
     ensures replied { AsksLengths (L.replied library.old) (L.replied library.new) }
     ensures once { IfOk result (λ length. RepliesOnly (L.replied library.old) (L.replied library.new) (λ reply. reply ≡ OfLength name.now (Some length))) }
@@ -143,7 +144,7 @@ fn record_length<H: Host, L: Library>(
     match library.length(rt, alloc, name)? {
         None => Err(CheckFault::BadLine { line }),
         Some(length) => {
-            if is_of_records(length) {
+            if is_of_records::<R>(length) {
                 Ok(length)
             } else {
                 Err(CheckFault::BadLine { line })
@@ -152,9 +153,11 @@ fn record_length<H: Host, L: Library>(
     }
 }
 
-// Whether a file of so many bytes is records of 16 bytes each, and at most 2^32 of them.
-fn is_of_records(length: u64) -> bool
-    ensures { result ≡ is_record_length length }
+// Whether a file of so many bytes is whole records, and at most 2^32 of them.
+fn is_of_records<R: Fields>(length: u64) -> bool
+    ensures { result ≡ is_record_length R.Fields length }
 {
-    length % 16 == 0 && length <= 68_719_476_736
+    record_laws::<R>();
+    let width = R::WIDTH as u64;
+    length % width == 0 && length <= 4_294_967_296 * width
 }

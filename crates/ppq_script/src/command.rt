@@ -1,17 +1,18 @@
 //! The fields of a line as a command.
 ghost use Rattle.std.specs.Prelude.{◌≡◌};
 ghost use Rattle.ppq_script.specs.Lines.{fields_of};
-ghost use Rattle.ppq_script.specs.Command.{alone, one_of, two_of, three_of, push_of, gen_of, bulk_pop_of, drain_of, bulk_pop_limit_of, pass_of, bulk_push_of, limit_begin_of, limit_push_of, command_of, many_of, session_of, limit_of};
+ghost use Rattle.ppq_script.specs.Command.{alone, push_of, gen_of, bulk_pop_of, drain_of, bulk_pop_limit_of, bulk_push_of, limit_begin_of, limit_push_of, command_of, many_of, session_of, limit_of};
 
-use crate::digits::number;
 use crate::fields::next_field;
-use ppq_record::Pair;
+use crate::numbers::{item, item_and_number, one_number, pass_and_item, two_numbers};
+use ppq_record::Fields;
 
-/// What a line of a script asks for. Each command acts on one multiset of records and gives one text.
+/// What a line of a script asks for. Each command acts on one multiset of records and gives one text. A
+/// record is written as its numbers: `K V` here, and `A B C` for records of three.
 #[derive(Clone, Copy, Debug, PartialEq, Eq)]
-pub enum Command {
+pub enum Command<R> {
     /// `push K V`: adds the record with that key and value.
-    Push { item: Pair },
+    Push { item: R },
     /// `pop`: removes the smallest record, if there is one, and prints it.
     Pop,
     /// `top`: prints the smallest record, if there is one, and leaves it in the multiset.
@@ -27,23 +28,23 @@ pub enum Command {
     BulkPop { count: u64 },
     /// `bulk_pop_limit K V N`: removes the smallest records before this one, at most so many, prints
     /// them, and whether any before it are left.
-    BulkPopLimit { limit: Pair, count: u64 },
+    BulkPopLimit { limit: R, count: u64 },
     /// `drain N`: removes the smallest so many records, or all, and prints what they sum up to.
     Drain { count: u64 },
     /// `bulk_begin`: begins a bulk session. Until its end only `bulk_push` may stand.
     BulkBegin,
     /// `bulk_push I K V`: in a bulk session, the pass with that number, which is below the number
     /// of workers, takes the record; it joins the multiset when the session ends.
-    BulkPush { pass: u32, item: Pair },
+    BulkPush { pass: u32, item: R },
     /// `bulk_end`: ends the bulk session; the multiset gains all records that were pushed in it.
     BulkEnd,
     /// `limit_begin K V`: begins a limit session with that record as its limit. Until its end only
     /// `limit_push`, `limit_top` and `limit_pop` may stand.
-    LimitBegin { limit: Pair },
+    LimitBegin { limit: R },
     /// `limit_push I K V`: in a limit session, the pass with that number, which is below the number
     /// of workers, takes the record, which is not below the limit; it joins the multiset when the session
     /// ends.
-    LimitPush { pass: u32, item: Pair },
+    LimitPush { pass: u32, item: R },
     /// `limit_top`: in a limit session, prints the smallest record of the multiset if it is below the limit,
     /// and leaves it there.
     LimitTop,
@@ -55,7 +56,7 @@ pub enum Command {
 }
 
 // The command, if no field is left.
-fn alone(command: Command, rest: &[u8]) -> Option<Command>
+fn alone<R: Fields>(command: Command<R>, rest: &[u8]) -> Option<Command<R>>
     ensures { result ≡ alone command (fields_of rest.now) }
 {
     match next_field(rest) {
@@ -64,49 +65,16 @@ fn alone(command: Command, rest: &[u8]) -> Option<Command>
     }
 }
 
-// The number that is the only field left.
-fn one_number(rest: &[u8]) -> Option<u64>
-    ensures { result ≡ one_of (fields_of rest.now) }
+// The command that pushes a record.
+fn push<R: Fields>(item: Option<R>) -> Option<Command<R>>
+    ensures { result ≡ push_of item }
 {
-    let first = next_field(rest)?;
-    match next_field(first.1) {
-        None => number(first.0),
-        Some(_) => None,
-    }
-}
-
-// The numbers that are the two fields left.
-fn two_numbers(rest: &[u8]) -> Option<(u64, u64)>
-    ensures { result ≡ two_of (fields_of rest.now) }
-{
-    let first = next_field(rest)?;
-    let one = number(first.0)?;
-    let other = one_number(first.1)?;
-    Some((one, other))
-}
-
-// The command that pushes the record of a key and a value.
-fn push(numbers: Option<(u64, u64)>) -> Option<Command>
-    ensures { result ≡ push_of numbers }
-{
-    let (key, value) = numbers?;
-    Some(Command::Push {
-        item: Pair { key, value },
-    })
-}
-
-// The numbers that are the three fields left.
-fn three_numbers(rest: &[u8]) -> Option<(u64, (u64, u64))>
-    ensures { result ≡ three_of (fields_of rest.now) }
-{
-    let first = next_field(rest)?;
-    let one = number(first.0)?;
-    let others = two_numbers(first.1)?;
-    Some((one, others))
+    let item = item?;
+    Some(Command::Push { item })
 }
 
 // The command that makes so many records from a seed.
-fn generate(numbers: Option<(u64, u64)>) -> Option<Command>
+fn generate<R: Fields>(numbers: Option<(u64, u64)>) -> Option<Command<R>>
     ensures { result ≡ gen_of numbers }
 {
     let (seed, count) = numbers?;
@@ -117,7 +85,7 @@ fn generate(numbers: Option<(u64, u64)>) -> Option<Command>
 }
 
 // The command that removes so many records and prints them.
-fn bulk_pop(number: Option<u64>) -> Option<Command>
+fn bulk_pop<R: Fields>(number: Option<u64>) -> Option<Command<R>>
     ensures { result ≡ bulk_pop_of number }
 {
     let count = number?;
@@ -125,7 +93,7 @@ fn bulk_pop(number: Option<u64>) -> Option<Command>
 }
 
 // The command that removes so many records and sums them up.
-fn drain(number: Option<u64>) -> Option<Command>
+fn drain<R: Fields>(number: Option<u64>) -> Option<Command<R>>
     ensures { result ≡ drain_of number }
 {
     let count = number?;
@@ -133,29 +101,15 @@ fn drain(number: Option<u64>) -> Option<Command>
 }
 
 // The command that removes at most so many of the records before one.
-fn bulk_pop_limit(numbers: Option<(u64, (u64, u64))>) -> Option<Command>
-    ensures { result ≡ bulk_pop_limit_of numbers }
+fn bulk_pop_limit<R: Fields>(limit: Option<(R, u64)>) -> Option<Command<R>>
+    ensures { result ≡ bulk_pop_limit_of limit }
 {
-    let (key, (value, count)) = numbers?;
-    Some(Command::BulkPopLimit {
-        limit: Pair { key, value },
-        count,
-    })
-}
-
-// The number of a pass, and a key and a value as a record.
-fn pass_and_item(numbers: Option<(u64, (u64, u64))>) -> Option<(u32, Pair)>
-    ensures { result ≡ pass_of numbers }
-{
-    let (pass, (key, value)) = numbers?;
-    if pass > 4_294_967_295 {
-        return None;
-    }
-    Some((pass as u32, Pair { key, value }))
+    let (limit, count) = limit?;
+    Some(Command::BulkPopLimit { limit, count })
 }
 
 // The command that pushes a record by a pass of a bulk session.
-fn bulk_push(push: Option<(u32, Pair)>) -> Option<Command>
+fn bulk_push<R: Fields>(push: Option<(u32, R)>) -> Option<Command<R>>
     ensures { result ≡ bulk_push_of push }
 {
     let (pass, item) = push?;
@@ -163,32 +117,30 @@ fn bulk_push(push: Option<(u32, Pair)>) -> Option<Command>
 }
 
 // The command that pushes a record by a pass of a limit session.
-fn limit_push(push: Option<(u32, Pair)>) -> Option<Command>
+fn limit_push<R: Fields>(push: Option<(u32, R)>) -> Option<Command<R>>
     ensures { result ≡ limit_push_of push }
 {
     let (pass, item) = push?;
     Some(Command::LimitPush { pass, item })
 }
 
-// The command that begins a session with the record of a key and a value as its limit.
-fn limit_begin(numbers: Option<(u64, u64)>) -> Option<Command>
-    ensures { result ≡ limit_begin_of numbers }
+// The command that begins a session with a record as its limit.
+fn limit_begin<R: Fields>(limit: Option<R>) -> Option<Command<R>>
+    ensures { result ≡ limit_begin_of limit }
 {
-    let (key, value) = numbers?;
-    Some(Command::LimitBegin {
-        limit: Pair { key, value },
-    })
+    let limit = limit?;
+    Some(Command::LimitBegin { limit })
 }
 
 // The command of this name of a limit session, whose further fields are those of the rest.
-fn read_limit(name: &[u8], rest: &[u8]) -> Option<Command>
-    ensures { result ≡ limit_of name.now (fields_of rest.now) }
+fn read_limit<R: Fields>(name: &[u8], rest: &[u8]) -> Option<Command<R>>
+    ensures { result ≡ limit_of R.Fields name.now (fields_of rest.now) }
 {
     if name == b"limit_begin".as_slice() {
-        return limit_begin(two_numbers(rest));
+        return limit_begin(item(rest));
     }
     if name == b"limit_push".as_slice() {
-        return limit_push(pass_and_item(three_numbers(rest)));
+        return limit_push(pass_and_item(rest));
     }
     if name == b"limit_top".as_slice() {
         return alone(Command::LimitTop, rest);
@@ -203,14 +155,14 @@ fn read_limit(name: &[u8], rest: &[u8]) -> Option<Command>
 }
 
 // The command of this name of a session, whose further fields are those of the rest.
-fn read_session(name: &[u8], rest: &[u8]) -> Option<Command>
-    ensures { result ≡ session_of name.now (fields_of rest.now) }
+fn read_session<R: Fields>(name: &[u8], rest: &[u8]) -> Option<Command<R>>
+    ensures { result ≡ session_of R.Fields name.now (fields_of rest.now) }
 {
     if name == b"bulk_begin".as_slice() {
         return alone(Command::BulkBegin, rest);
     }
     if name == b"bulk_push".as_slice() {
-        return bulk_push(pass_and_item(three_numbers(rest)));
+        return bulk_push(pass_and_item(rest));
     }
     if name == b"bulk_end".as_slice() {
         return alone(Command::BulkEnd, rest);
@@ -220,8 +172,8 @@ fn read_session(name: &[u8], rest: &[u8]) -> Option<Command>
 
 // The command of this name on many records, but for `bulk`, or of a session, whose further fields
 // are those of the rest.
-fn read_many(name: &[u8], rest: &[u8]) -> Option<Command>
-    ensures { result ≡ many_of name.now (fields_of rest.now) }
+fn read_many<R: Fields>(name: &[u8], rest: &[u8]) -> Option<Command<R>>
+    ensures { result ≡ many_of R.Fields name.now (fields_of rest.now) }
 {
     if name == b"gen".as_slice() {
         return generate(two_numbers(rest));
@@ -230,7 +182,7 @@ fn read_many(name: &[u8], rest: &[u8]) -> Option<Command>
         return bulk_pop(one_number(rest));
     }
     if name == b"bulk_pop_limit".as_slice() {
-        return bulk_pop_limit(three_numbers(rest));
+        return bulk_pop_limit(item_and_number(rest));
     }
     if name == b"drain".as_slice() {
         return drain(one_number(rest));
@@ -239,11 +191,11 @@ fn read_many(name: &[u8], rest: &[u8]) -> Option<Command>
 }
 
 // The command of this name, but for `bulk`, whose further fields are those of the rest.
-pub(crate) fn read_command(name: &[u8], rest: &[u8]) -> Option<Command>
-    ensures { result ≡ command_of name.now (fields_of rest.now) }
+pub(crate) fn read_command<R: Fields>(name: &[u8], rest: &[u8]) -> Option<Command<R>>
+    ensures { result ≡ command_of R.Fields name.now (fields_of rest.now) }
 {
     if name == b"push".as_slice() {
-        return push(two_numbers(rest));
+        return push(item(rest));
     }
     if name == b"pop".as_slice() {
         return alone(Command::Pop, rest);

@@ -9,14 +9,15 @@ ghost use Rattle.ppq_script.specs.Shown.{text_in, kind_in};
 use crate::Command;
 use crate::command::read_command;
 use crate::fields::{next_field, text};
+use ppq_record::Fields;
 
 // What a line of a script is.
 #[derive(Clone, Copy, Debug, PartialEq, Eq)]
-pub(crate) enum Line<'a> {
-    // Blank, or a comment.
+pub(crate) enum Line<'a, R> {
+    // Blank, or a comment. The head is passed before lines are read.
     Skipped,
     // A command that names no file.
-    Plain { command: Command },
+    Plain { command: Command<R> },
     // The command `bulk` with the name of a file.
     OfFile { name: &'a str },
     // None of these.
@@ -67,8 +68,8 @@ fn file(rest: &[u8]) -> Option<&str>
 }
 
 // What a line is. It costs time linear in its bytes.
-pub(crate) fn read_line(line: &[u8]) -> Line<'_>
-    ensures { kind_in result ≡ kind_of line.now }
+pub(crate) fn read_line<R: Fields>(line: &[u8]) -> Line<'_, R>
+    ensures { kind_in result ≡ kind_of R.Fields line.now }
 {
     let Some(first) = next_field(text(line)) else {
         return Line::Skipped;

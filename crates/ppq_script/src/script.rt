@@ -1,8 +1,8 @@
 //! A script as a list of commands.
-ghost use Rattle.std.specs.Prelude.{◌≡◌, ◌<◌, true, false, IsTrue, is_ok, OnOk, IfErr, length, drop, map, string_bytes, None, Some, All, slice_get, nat_eq};
+ghost use Rattle.std.specs.Prelude.{◌≡◌, ◌+◌, ◌<◌, ◌≤◌, true, false, IsTrue, is_ok, OnOk, IfErr, length, drop, map, string_bytes, None, Some, All, slice_get, nat_eq};
 ghost use Rattle.ppq_script.specs.Files.{NamesFile, HasRecords, name_at};
 ghost use Rattle.std.specs.List.{AllZip};
-ghost use Rattle.ppq_script.specs.Parts.{IsPartAt, first_in};
+ghost use Rattle.ppq_script.specs.Parts.{IsPartAt, commands_in, first_in};
 ghost use Rattle.ppq_script.specs.Reading.{IsReady};
 ghost use Rattle.ppq_script.specs.Sessions.{are_in_place};
 ghost use Rattle.ppq_script.specs.declared.session.Session.TheVariants.{Outside};
@@ -13,14 +13,15 @@ use crate::check::ask_all;
 use crate::part::session_lines;
 use crate::{CheckFault, Command, Numbered, Part};
 use ppq_outside::{Host, Library};
+use ppq_record::Fields;
 use std::alloc::Global;
 use std::marker::Model;
 
 /// The commands before the first bad line, and that line, as `read` found them, and the names of
 /// the files. After `check_files` it has the files' lengths.
 #[derive(Drop)]
-pub struct Script {
-    commands: Vec<Numbered>,
+pub struct Script<R: Fields> {
+    commands: Vec<Numbered<R>>,
     bad: Option<u32>,
     // The names of the files, by the number that commands have for them.
     names: Vec<String>,
@@ -29,32 +30,33 @@ pub struct Script {
     checked: bool,
 }
 
-impl Model for Script {
+impl<R: Fields> Model for Script<R> {
     ghost use Rattle.std.specs.Prelude.{◌≡◌, true, None, length, map, string_bytes, All};
     ghost use Rattle.ppq_script.specs.Files.{NamesFile, HasRecords};
     ghost use Rattle.ppq_script.specs.Reading.{Reading};
     ghost use Rattle.ppq_script.specs.Sessions.{are_in_place};
+    ghost use Rattle.ppq_script.specs.Words.{words};
     ghost use Rattle.ppq_script.specs.declared.session.Session.TheVariants.{Outside};
 
-    ghost Value = { Reading };
+    ghost Value = { Reading R };
 
     ghost view = { λ s. record { commands = s.commands.items; bad = s.bad; names = map string_bytes s.names.items; workers = s.workers; checked = s.checked } };
 
-    ghost invariant = { λ s. record { files : All (λ n. NamesFile (length s.names.items) n.command) s.commands.items; good : s.checked ≡ true → s.bad ≡ None; lengths : s.checked ≡ true → All (λ n. HasRecords n.command) s.commands.items; in_place : s.bad ≡ None → are_in_place s.workers Outside (map (λ n. n.command) s.commands.items) ≡ true } };
+    ghost invariant = { λ s. record { files : All (λ n. NamesFile (length s.names.items) n.command) s.commands.items; good : s.checked ≡ true → s.bad ≡ None; lengths : s.checked ≡ true → All (λ n. HasRecords (words R.PartialEq R.PartialOrd R.Ord R.Record R.Fields) n.command) s.commands.items; in_place : s.bad ≡ None → are_in_place (words R.PartialEq R.PartialOrd R.Ord R.Record R.Fields) s.workers Outside (map (λ n. n.command) s.commands.items) ≡ true } };
 }
 
-impl Script {
+impl<R: Fields> Script<R> {
     ghost use Rattle.ppq_script.specs.Reading.{command_list, line_list};
 
     // A script of these parts, which is not checked.
     pub(crate) fn from_parts(
-        commands: Vec<Numbered>,
+        commands: Vec<Numbered<R>>,
         bad: Option<u32>,
         names: Vec<String>,
         workers: u32,
-    ) -> Script
+    ) -> Script<R>
         requires files { All (λ n. NamesFile (length names.items) n.command) commands.items }
-        requires in_place { bad ≡ None → are_in_place workers Outside (map (λ n. n.command) commands.items) ≡ true }
+        requires in_place { bad ≡ None → are_in_place R.Fields workers Outside (map (λ n. n.command) commands.items) ≡ true }
         ensures { result ≡ record { commands = commands.items; bad = bad; names = map string_bytes names.items; workers = workers; checked = false } }
     {
         Script {
@@ -91,13 +93,13 @@ impl Script {
     /// The command at a place, from 0. It costs one copy.
     ///
     /// A file that it names is one of the script's, and in a checked script the file's length is a
-    /// multiple of 16 and at most 68,719,476,736.
+    /// multiple of a record's, and it has at most 4,294,967,296 records.
     #[inline]
-    pub fn at(&self, i: usize) -> Command
+    pub fn at(&self, i: usize) -> Command<R>
         requires { i < length self.now.commands }
         ensures command { slice_get (command_list self.now) i ≡ Some result }
         ensures file { NamesFile (length self.now.names) result }
-        ensures records { IsTrue self.now.checked → HasRecords result }
+        ensures records { IsTrue self.now.checked → HasRecords R.Fields result }
     {
         self.commands[i].command
     }
@@ -106,12 +108,13 @@ impl Script {
     /// begins there, or the one command. It costs a look at each line of the session.
     ///
     /// Its first command has what is said of the command `at` that place.
-    pub fn part(&self, place: usize) -> Part<'_>
+    pub fn part(&self, place: usize) -> Part<'_, R>
         requires place { place < length self.now.commands }
-        requires outside { are_in_place self.now.workers Outside (drop place (command_list self.now)) ≡ true }
-        ensures part { IsPartAt self.now place result }
+        requires outside { are_in_place R.Fields self.now.workers Outside (drop place (command_list self.now)) ≡ true }
+        ensures part { IsPartAt R.Fields self.now place result }
+        ensures within { place + length (commands_in result) ≤ length self.now.commands }
         ensures file { NamesFile (length self.now.names) (first_in result) }
-        ensures records { IsTrue self.now.checked → HasRecords (first_in result) }
+        ensures records { IsTrue self.now.checked → HasRecords R.Fields (first_in result) }
     {
         let (_before, behind) = self.commands.split_at(place + 1);
         match self.at(place) {
@@ -154,7 +157,7 @@ impl Script {
     /// command may stand in its session.
     pub fn checked(&self) -> bool
         ensures checked { result ≡ self.now.checked }
-        ensures ready { IsTrue result → IsReady self.now }
+        ensures ready { IsTrue result → IsReady R.Fields self.now }
     {
         self.checked
     }
@@ -166,8 +169,8 @@ impl Script {
         alloc: Global,
         library: &mut L,
     ) -> Result<(), CheckFault>
-        ensures asked { OnOk result (AllZip (IsAsked (L.replied library.new) self.old.names) self.old.commands self.new.commands) }
-        ensures refused { IfErr result (CheckRefusalIsRight (L.replied library.new) self.old) }
+        ensures asked { OnOk result (AllZip (IsAsked R.Fields (L.replied library.new) self.old.names) self.old.commands self.new.commands) }
+        ensures refused { IfErr result (CheckRefusalIsRight R.Fields (L.replied library.new) self.old) }
         ensures checked { self.new.checked ≡ is_ok result }
         ensures good { OnOk result (self.old.bad ≡ None) }
         ensures same { IsSameScript self.old self.new }

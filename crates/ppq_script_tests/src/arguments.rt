@@ -1,5 +1,5 @@
 //! Words with a reading, and words without.
-use ppq_words::{BudgetUnit, Form, RunArguments, Sizes, read_words, words_mean};
+use ppq_words::{BudgetUnit, Form, GivenSizes, RunArguments, read_words, words_mean};
 use std::alloc::Global;
 use std::process::Abort;
 
@@ -15,22 +15,20 @@ fn words_of(rt: &impl Abort, alloc: Global, parts: &[&str]) -> Vec<String> {
     words
 }
 
-// Asserts that a line reads as these names, script and device, with these sizes, this unit and this form.
+// Asserts that a line reads as these names, script and device, with these numbers and this form.
 fn reads<'a>(
     rt: &impl Abort,
     alloc: Global,
     parts: &[&str],
     (script, device): (&'a str, &'a str),
-    sizes: Sizes,
-    unit: BudgetUnit,
+    given: GivenSizes,
     form: Form,
 ) {
     let words = words_of(rt, alloc, parts);
     let arguments = RunArguments {
         script,
         device,
-        sizes,
-        unit,
+        given,
         form,
     };
     let is_read = match read_words(alloc, &words) {
@@ -50,9 +48,12 @@ fn reads_as<'a>(
     device: &'a str,
     (workers, block, heap, memory, blocks): (u32, u32, u32, u64, u32),
 ) {
-    let sizes = Sizes::new(workers, block, heap, memory, blocks).expect(rt, "numbers in range");
-    let (unit, form) = (BudgetUnit::Records, Form::Text);
-    reads(rt, alloc, parts, (script, device), sizes, unit, form);
+    let budget = (memory, BudgetUnit::Records);
+    let given = GivenSizes::new(workers, block, heap, budget, blocks).expect(
+        rt,
+        "numbers in range",
+    );
+    reads(rt, alloc, parts, (script, device), given, Form::Text);
 }
 
 // Asserts that a line has no reading.
@@ -153,7 +154,7 @@ fn each_range_has_its_two_ends(rt: HostRuntime) {
     }
 }
 
-// Ways to say the budget and the form, with the budget in records, its unit, and the form.
+// Ways to say the budget and the form, with the budget, its unit, and the form.
 const BUDGETS: &[(&str, u64, BudgetUnit, Form)] = &[
     ("--memory 372", 372, BudgetUnit::Records, Form::Text),
     (
@@ -168,24 +169,22 @@ const BUDGETS: &[(&str, u64, BudgetUnit, Form)] = &[
         BudgetUnit::Records,
         Form::Bytes,
     ),
-    ("--memory-bytes 5952", 372, BudgetUnit::Bytes, Form::Text),
-    // a record has 16 bytes, and what is left does not count
+    ("--memory-bytes 5952", 5952, BudgetUnit::Bytes, Form::Text),
     (
         "--memory-bytes=5967 --form bytes",
-        372,
+        5967,
         BudgetUnit::Bytes,
         Form::Bytes,
     ),
     (
-        "--form text --memory-bytes 5951",
-        371,
+        "--form text --memory-bytes 0",
+        0,
         BudgetUnit::Bytes,
         Form::Text,
     ),
-    ("--memory-bytes 15", 0, BudgetUnit::Bytes, Form::Text),
     (
         "--memory-bytes 4294967296",
-        268_435_456,
+        4294967296,
         BudgetUnit::Bytes,
         Form::Text,
     ),
@@ -214,21 +213,46 @@ const NO_BUDGETS: &[&str] = &[
 #[test]
 fn the_budget_is_in_records_or_in_bytes_and_the_form_may_be_said(rt: HostRuntime) {
     let front = "run s --device d --blocks 200 --workers 2 --block 2 --heap 1";
-    for (back, memory, unit, form) in BUDGETS {
-        let sizes = Sizes::new(2, 2, 1, *memory, 200).expect(&rt, "numbers in range");
-        reads(
-            &rt,
-            rt.alloc(),
-            &[front, back],
-            ("s", "d"),
-            sizes,
-            *unit,
-            *form,
-        );
+    for (back, budget, unit, form) in BUDGETS {
+        let given = GivenSizes::new(2, 2, 1, (*budget, *unit), 200).expect(&rt, "numbers in range");
+        reads(&rt, rt.alloc(), &[front, back], ("s", "d"), given, *form);
     }
     for back in NO_BUDGETS {
         is_refused(&rt, rt.alloc(), &[front, back]);
     }
+}
+
+// Budgets, the width of a record in bytes, and how many records the queue has.
+const MEMORIES: &[(u64, BudgetUnit, u64, u64)] = &[
+    (372, BudgetUnit::Records, 16, 372),
+    (372, BudgetUnit::Records, 24, 372),
+    // what is left of the bytes does not count
+    (5951, BudgetUnit::Bytes, 16, 371),
+    (5952, BudgetUnit::Bytes, 16, 372),
+    (5967, BudgetUnit::Bytes, 16, 372),
+    (5951, BudgetUnit::Bytes, 24, 247),
+    (5952, BudgetUnit::Bytes, 24, 248),
+    (5975, BudgetUnit::Bytes, 24, 248),
+    (15, BudgetUnit::Bytes, 16, 0),
+    (23, BudgetUnit::Bytes, 24, 0),
+    (4294967296, BudgetUnit::Bytes, 16, 268_435_456),
+    (4294967296, BudgetUnit::Bytes, 24, 178_956_970),
+];
+
+#[test]
+fn a_budget_in_bytes_is_as_many_records_as_fit(rt: HostRuntime) {
+    for (budget, unit, width, memory) in MEMORIES {
+        let given = GivenSizes::new(2, 2, 1, (*budget, *unit), 200).expect(&rt, "numbers in range");
+        let width = (*width).max(16);
+        let sizes = given.for_width(width);
+        assert!(&rt;
+            sizes.memory() == *memory && sizes.workers() == given.workers(),
+            "{budget}"
+        );
+    }
+    // a queue that needs 372 records says so in the unit of the budget
+    assert_eq!(&rt; BudgetUnit::Records.amount(372, 24), 372);
+    assert_eq!(&rt; BudgetUnit::Bytes.amount(372, 24), 8928);
 }
 
 // Values that are no number, each apart from its option and joined.

@@ -32,7 +32,7 @@ type Events = Queue<Checked<FileSlot>, Pair>;
 fn open<H: Host>(rt: &H, alloc: Global) -> Result<Events, Fault>
     ensures { IfOk result (λ events. events.sizes.workers ≡ 4) }
 {
-    let sizes = Sizes::new(4, 256, 4, 40000, 2000).unwrap();
+    let sizes = Sizes::new(4, 256, 4, 40000, 2500).unwrap();
     let mut rack = CheckedRack::new(FileRack::new());
     match make_blocks::<Pair, _, _>(rt, alloc, &mut rack, "ppq_threads.device", sizes) {
         Ok(blocks) => Queue::open(alloc, sizes, blocks).map_err(|_| Fault::Open),

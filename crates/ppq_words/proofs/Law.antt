@@ -1,10 +1,10 @@
 -- The reading of words, against what they mean to a reader.
-use Rattle.std.proofs.Common.{◌≡◌, ◌∙◌, ◌↔◌, ◌≤◌, ℕ, Bool, true, false, not, cond, ◌||◌, nat_le, ◌/◌, refl, sym, ap, ap₂, subst, arith, List, [], ◌∷◌, ◌++◌, map, flat_map, length, Option, Some, None, codes, bytes_eq, Contains, inl, inr, option_map}
+use Rattle.std.proofs.Common.{◌≡◌, ◌∙◌, ◌↔◌, ◌≤◌, ℕ, Bool, true, false, not, cond, ◌||◌, nat_le, refl, sym, ap, ap₂, subst, arith, List, [], ◌∷◌, ◌++◌, map, flat_map, length, Option, Some, None, codes, bytes_eq, Contains, inl, inr, option_map}
 use Rattle.std.specs.List.{list_any, AllByRecursion as Each}
 use Rattle.std.specs.Option.{option_and_then}
 use Rattle.std.proofs.lemmas.Bool.{and_parts, and_from, or_parts, or_cases, or_right, leb-true, le-leb, not-true, not_from_false}
 use Rattle.std.proofs.lemmas.Slice.Eq.{bytes_eq-Decides}
-use Rattle.ppq_budget.specs.Sizes.{Numbers, numbers, AreInRange}
+use Rattle.ppq_words.specs.Given.{Given, given_as, largest, AreGivenInRange}
 use Rattle.ppq_script.specs.Number.{number_of}
 use Rattle.ppq_script.specs.Meaning.{Spells}
 use Rattle.ppq_script.specs.declared.form.Form.{Form}
@@ -12,7 +12,7 @@ use Rattle.ppq_script.specs.declared.form.Form.TheVariants as form
 use Rattle.ppq_words.specs.declared.budget_unit.BudgetUnit.{BudgetUnit}
 use Rattle.ppq_words.specs.declared.budget_unit.BudgetUnit.TheVariants as unit
 use Rattle.ppq_words.specs.Uses.{Text, Use, alone, is_option, uses_of, names_differ, value_under}
-use Rattle.ppq_words.specs.Reading.{Reading, option_names, not_empty, number_in, are_in_range, in_range, sizes_of, record_bytes, in_records, budget_of, form_of, reading_from, reading_by, reading_of_uses, reading_of}
+use Rattle.ppq_words.specs.Reading.{Reading, option_names, not_empty, number_in, are_in_range, in_range, given_of, budget_of, form_of, reading_from, reading_by, reading_of_uses, reading_of}
 use Rattle.ppq_words.specs.Meaning.{Argument, bare, apart, joined, spelled_as, IsNamed, IsPlain, value_in, HasNumber, HasBudget, HasForm, Reads, scripts_in, values_of, options, IsBudgetUsage, IsFormUsage, IsUsageOf}
 use Rattle.ppq_words.proofs.Names.{names_are}
 use Rattle.ppq_words.proofs.Arguments.{use_of, IsKnown, values_under, is_option-Contains, all_known, all_named, values_under-scripts_in, values_under-values_of, Spells-IsPlain}
@@ -21,65 +21,75 @@ use Rattle.ppq_words.proofs.Spelled.{AreUses, uses_mean}
 abbrev pub NumberLaw : Type 0
 NumberLaw = (digits : Text) (n : ℕ) → (number_of digits ≡ Some n) ↔ Spells digits n
 
-range_is : (n : Numbers) → are_in_range n ≡ true → AreInRange n
-range_is n e =
+range_is : (g : Given) → are_in_range g ≡ true → AreGivenInRange g
+range_is g e =
+    let n = g.numbers in
     let a = and_parts (nat_le 1 n.workers) _ e in
     let b = and_parts (nat_le n.workers 64) _ a.1 in
     let c = and_parts (nat_le 2 n.block) _ b.1 in
     let d = and_parts (nat_le n.block 65536) _ c.1 in
     let f = and_parts (nat_le 1 n.heap) _ d.1 in
-    let g = and_parts (nat_le n.heap 64) _ f.1 in
-    let h = and_parts (nat_le n.memory 268435456) (nat_le n.blocks 65536) g.1 in
+    let h = and_parts (nat_le n.heap 64) _ f.1 in
+    let i = and_parts (nat_le n.memory (largest g.unit)) (nat_le n.blocks 65536) h.1 in
     record {
-      some_worker = leb-true 1 n.workers a.0;
-      workers = leb-true n.workers 64 b.0;
-      two_records = leb-true 2 n.block c.0;
-      block = leb-true n.block 65536 d.0;
-      some_heap = leb-true 1 n.heap f.0;
-      heap = leb-true n.heap 64 g.0;
-      memory = leb-true n.memory 268435456 h.0;
-      blocks = leb-true n.blocks 65536 h.1;
+      others = record {
+        some_worker = leb-true 1 n.workers a.0;
+        workers = leb-true n.workers 64 b.0;
+        two_records = leb-true 2 n.block c.0;
+        block = leb-true n.block 65536 d.0;
+        some_heap = leb-true 1 n.heap f.0;
+        heap = leb-true n.heap 64 h.0;
+        memory = omega arith;
+        blocks = leb-true n.blocks 65536 i.1;
+      };
+      budget = leb-true n.memory (largest g.unit) i.0;
     }
 
-range_from : (n : Numbers) → AreInRange n → are_in_range n ≡ true
-range_from n r =
-    and_from _ _ (le-leb 1 n.workers r.some_worker) (and_from _ _ (le-leb n.workers 64 r.workers) (and_from _ _ (le-leb 2 n.block r.two_records) (and_from _ _ (le-leb n.block 65536 r.block)
-    (and_from _ _ (le-leb 1 n.heap r.some_heap) (and_from _ _ (le-leb n.heap 64 r.heap) (and_from _ _ (le-leb n.memory 268435456 r.memory) (le-leb n.blocks 65536 r.blocks)))))))
+range_from : (g : Given) → AreGivenInRange g → are_in_range g ≡ true
+range_from g r =
+    let n = g.numbers in
+    let o = r.others in
+    and_from _ _ (le-leb 1 n.workers o.some_worker) (and_from _ _ (le-leb n.workers 64 o.workers) (and_from _ _ (le-leb 2 n.block o.two_records) (and_from _ _ (le-leb n.block 65536 o.block)
+    (and_from _ _ (le-leb 1 n.heap o.some_heap) (and_from _ _ (le-leb n.heap 64 o.heap) (and_from _ _ (le-leb n.memory (largest g.unit) r.budget) (le-leb n.blocks 65536 o.blocks)))))))
 
-reading_parts : (a b : Option Text) (c : Option Numbers) (u : Option BudgetUnit) (f : Option Form) (r : Reading) → reading_from a b c u f ≡ Some r
-    → (a ≡ Some r.script) × (b ≡ Some r.device) × (c ≡ Some r.sizes) × (u ≡ Some r.unit) × (f ≡ Some r.form)
-reading_parts None b c u f r e = cc
-reading_parts (Some s) None c u f r e = cc
-reading_parts (Some s) (Some d) None u f r e = cc
-reading_parts (Some s) (Some d) (Some n) None f r e = cc
-reading_parts (Some s) (Some d) (Some n) (Some v) None r e = cc
-reading_parts (Some s) (Some d) (Some n) (Some v) (Some g) r e =
-    let made : Reading = record { script = s; device = d; sizes = n; unit = v; form = g } in
+reading_parts : (a b : Option Text) (c : Option Given) (f : Option Form) (r : Reading) → reading_from a b c f ≡ Some r → (a ≡ Some r.script) × (b ≡ Some r.device) × (c ≡ Some r.given) × (f ≡ Some r.form)
+reading_parts None b c f r e = cc
+reading_parts (Some s) None c f r e = cc
+reading_parts (Some s) (Some d) None f r e = cc
+reading_parts (Some s) (Some d) (Some n) None r e = cc
+reading_parts (Some s) (Some d) (Some n) (Some g) r e =
+    let made : Reading = record { script = s; device = d; given = n; form = g } in
     let same : made ≡ r = cc in
-    (ap (λ (z : Reading). Some z.script) same, ap (λ (z : Reading). Some z.device) same, ap (λ (z : Reading). Some z.sizes) same, ap (λ (z : Reading). Some z.unit) same, ap (λ (z : Reading). Some z.form) same)
+    (ap (λ (z : Reading). Some z.script) same, ap (λ (z : Reading). Some z.device) same, ap (λ (z : Reading). Some z.given) same, ap (λ (z : Reading). Some z.form) same)
 
 name_parts : (t : Option Text) (s : Text) → option_and_then not_empty t ≡ Some s → (t ≡ Some s) × (1 ≤ length s)
 name_parts None s e = cc
 name_parts (Some []) s e = cc
 name_parts (Some (b ∷ bs)) s e = let same : b ∷ bs ≡ s = cc in (e, subst (λ (z : Text). 1 ≤ length z) same (omega arith))
 
-range_parts : (m n : Numbers) → in_range m ≡ Some n → (m ≡ n) × (are_in_range n ≡ true)
+range_parts : (m n : Given) → in_range m ≡ Some n → (m ≡ n) × (are_in_range n ≡ true)
 range_parts m n e = go (are_in_range m) refl e
   where
     go : (b : Bool) → are_in_range m ≡ b → cond b (Some m) None ≡ Some n → (m ≡ n) × (are_in_range n ≡ true)
     go true is e = let same : m ≡ n = cc in (same, sym (ap are_in_range same) ∙ is)
     go false is e = cc
 
-sizes_parts : (a b c d e : Option ℕ) (n : Numbers) → sizes_of a b c d e ≡ Some n
-    → (a ≡ Some n.blocks) × (b ≡ Some n.workers) × (c ≡ Some n.block) × (d ≡ Some n.heap) × (e ≡ Some n.memory) × (are_in_range n ≡ true)
-sizes_parts None b c d e n h = cc
-sizes_parts (Some a) None c d e n h = cc
-sizes_parts (Some a) (Some b) None d e n h = cc
-sizes_parts (Some a) (Some b) (Some c) None e n h = cc
-sizes_parts (Some a) (Some b) (Some c) (Some d) None n h = cc
-sizes_parts (Some a) (Some b) (Some c) (Some d) (Some e) n h =
-    let parts = range_parts (numbers b c d e a) n h in
-    (ap (λ (z : Numbers). Some z.blocks) parts.0, ap (λ (z : Numbers). Some z.workers) parts.0, ap (λ (z : Numbers). Some z.block) parts.0, ap (λ (z : Numbers). Some z.heap) parts.0, ap (λ (z : Numbers). Some z.memory) parts.0, parts.1)
+given_parts : (a b c d : Option ℕ) (e : Option (ℕ × BudgetUnit)) (n : Given) → given_of a b c d e ≡ Some n
+    → (a ≡ Some n.numbers.blocks) × (b ≡ Some n.numbers.workers) × (c ≡ Some n.numbers.block) × (d ≡ Some n.numbers.heap) × (e ≡ Some (n.numbers.memory, n.unit)) × (are_in_range n ≡ true)
+given_parts None b c d e n h = cc
+given_parts (Some a) None c d e n h = cc
+given_parts (Some a) (Some b) None d e n h = cc
+given_parts (Some a) (Some b) (Some c) None e n h = cc
+given_parts (Some a) (Some b) (Some c) (Some d) None n h = cc
+given_parts (Some a) (Some b) (Some c) (Some d) (Some e) n h =
+    let parts = range_parts (given_as b c d e a) n h in (
+      ap (λ (z : Given). Some z.numbers.blocks) parts.0,
+      ap (λ (z : Given). Some z.numbers.workers) parts.0,
+      ap (λ (z : Given). Some z.numbers.block) parts.0,
+      ap (λ (z : Given). Some z.numbers.heap) parts.0,
+      ap (λ (z : Given). Some (z.numbers.memory, z.unit)) parts.0,
+      parts.1,
+    )
 
 bytes_eq-swap : (x y : Text) → bytes_eq x y ≡ bytes_eq y x
 bytes_eq-swap x y = go (bytes_eq x y) (bytes_eq y x) refl refl
@@ -224,38 +234,21 @@ number_once law words us h name n other differ e = go (value_under name us) refl
 option_absent : (words : List Text) (us : List Use) (h : AreUses option_names words us) (name : Text) → bytes_eq alone name ≡ false → value_under name us ≡ None → values_of name h.arguments ≡ []
 option_absent words us h name other e = sym (values_under-values_of name other h.arguments) ∙ (ap (values_under name) h.values ∙ absent_under name us e)
 
--- a number of bytes in its range
-fit_parts : (bytes records : ℕ) → in_records bytes ≡ Some records → (bytes ≤ 4294967296) × (records ≡ bytes / record_bytes)
-fit_parts bytes records e = go (nat_le bytes 4294967296) refl e
-  where
-    go : (b : Bool) → nat_le bytes 4294967296 ≡ b → cond b (Some (bytes / record_bytes)) None ≡ Some records → (bytes ≤ 4294967296) × (records ≡ bytes / record_bytes)
-    go true is e = let same : bytes / record_bytes ≡ records = cc in (leb-true bytes 4294967296 is, sym same)
-    go false is e = cc
-
 module _ (law : NumberLaw) (words : List Text) (us : List Use) (h : AreUses option_names words us) (differ : names_differ us ≡ true) where
   -- the budget stands in just one unit
   budget_once : (b : ℕ × BudgetUnit) → budget_of (value_under (codes "--memory") us) (value_under (codes "--memory-bytes") us) ≡ Some b → HasBudget h.arguments b.0 b.1
   budget_once b e = go (value_under (codes "--memory") us) (value_under (codes "--memory-bytes") us) refl refl e
     where
-      in_bytes : (digits : Text) (bytes : ℕ) (o : Option ℕ) → value_under (codes "--memory-bytes") us ≡ Some digits → value_under (codes "--memory") us ≡ None → number_of digits ≡ Some bytes → in_records bytes ≡ o
+      bytes_given : (digits : Text) (o : Option ℕ) → value_under (codes "--memory-bytes") us ≡ Some digits → value_under (codes "--memory") us ≡ None → number_of digits ≡ o
           → option_map (λ (n : ℕ). (n, unit.Bytes)) o ≡ Some b → HasBudget h.arguments b.0 b.1
-      in_bytes digits bytes None at other is fits e = cc
-      in_bytes digits bytes (Some records) at other is fits e =
-          let same : (records, unit.Bytes) ≡ b = cc in
-          let parts = fit_parts bytes records fits in
+      bytes_given digits None at other is e = cc
+      bytes_given digits (Some bytes) at other is e =
+          let same : (bytes, unit.Bytes) ≡ b = cc in
           subst (λ (z : ℕ × BudgetUnit). HasBudget h.arguments z.0 z.1) same
           (record {
-            bytes = bytes;
             given = record { digits = digits; once = option_once words us h (codes "--memory-bytes") digits refl (once_under (codes "--memory-bytes") digits us differ at); spelled = (law digits bytes).0 is };
-            most = parts.0;
-            fit = parts.1;
             alone = option_absent words us h (codes "--memory") refl other;
           })
-
-      bytes_given : (digits : Text) (o : Option ℕ) → value_under (codes "--memory-bytes") us ≡ Some digits → value_under (codes "--memory") us ≡ None → number_of digits ≡ o
-          → option_map (λ (n : ℕ). (n, unit.Bytes)) (option_and_then in_records o) ≡ Some b → HasBudget h.arguments b.0 b.1
-      bytes_given digits None at other is e = cc
-      bytes_given digits (Some bytes) at other is e = in_bytes digits bytes (in_records bytes) at other is refl e
 
       records_given : (digits : Text) (o : Option ℕ) → value_under (codes "--memory") us ≡ Some digits → value_under (codes "--memory-bytes") us ≡ None → number_of digits ≡ o
           → option_map (λ (n : ℕ). (n, unit.Records)) o ≡ Some b → HasBudget h.arguments b.0 b.1
@@ -294,21 +287,15 @@ module _ (law : NumberLaw) (words : List Text) (us : List Use) (h : AreUses opti
       go None at e = let same : form.Text ≡ f = cc in subst (λ (z : Form). HasForm h.arguments z) same (inl (option_absent words us h (codes "--form") refl at))
       go (Some name) at e = named name (bytes_eq name (codes "text")) (bytes_eq name (codes "bytes")) at refl refl e
 
--- the parts of a budget
-budget_parts : (o : Option (ℕ × BudgetUnit)) (n : ℕ) (u : BudgetUnit) → option_map (λ (b : ℕ × BudgetUnit). b.0) o ≡ Some n → option_map (λ (b : ℕ × BudgetUnit). b.1) o ≡ Some u → o ≡ Some (n, u)
-budget_parts None n u e f = cc
-budget_parts (Some b) n u e f = let first : b.0 ≡ n = cc in let second : b.1 ≡ u = cc in ap₂ (λ (x : ℕ) (y : BudgetUnit). Some (x, y)) first second
-
 uses_read : NumberLaw → (rest : List Text) (us : List Use) (r : Reading) → uses_of option_names None rest ≡ Some us → names_differ us ≡ true → reading_by (λ name. value_under name us) ≡ Some r → Reads (codes "run" ∷ rest) r
 uses_read law rest us r is differ e =
     let f : Text → Option Text = λ name. value_under name us in
     let budget = budget_of (f (codes "--memory")) (f (codes "--memory-bytes")) in
-    let memory = option_map (λ (b : ℕ × BudgetUnit). b.0) budget in
-    let parts = reading_parts (option_and_then not_empty (f alone)) (option_and_then not_empty (f (codes "--device")))
-    (sizes_of (number_in (f (codes "--blocks"))) (number_in (f (codes "--workers"))) (number_in (f (codes "--block"))) (number_in (f (codes "--heap"))) memory) (option_map (λ (b : ℕ × BudgetUnit). b.1) budget) (form_of (f (codes "--form"))) r e in
+    let given = given_of (number_in (f (codes "--blocks"))) (number_in (f (codes "--workers"))) (number_in (f (codes "--block"))) (number_in (f (codes "--heap"))) budget in
+    let parts = reading_parts (option_and_then not_empty (f alone)) (option_and_then not_empty (f (codes "--device"))) given (form_of (f (codes "--form"))) r e in
     let s = name_parts (f alone) r.script parts.0 in
     let d = name_parts (f (codes "--device")) r.device parts.1 in
-    let n = sizes_parts (number_in (f (codes "--blocks"))) (number_in (f (codes "--workers"))) (number_in (f (codes "--block"))) (number_in (f (codes "--heap"))) memory r.sizes parts.2 in
+    let n = given_parts (number_in (f (codes "--blocks"))) (number_in (f (codes "--workers"))) (number_in (f (codes "--block"))) (number_in (f (codes "--heap"))) budget r.given parts.2 in
     let h = (uses_mean option_names names_are rest us).0 is in
     record {
       arguments = h.arguments;
@@ -319,13 +306,13 @@ uses_read law rest us r is differ e =
       some_script = s.1;
       device = option_once rest us h (codes "--device") r.device refl (once_under (codes "--device") r.device us differ d.0);
       some_device = d.1;
-      blocks = number_once law rest us h (codes "--blocks") r.sizes.blocks refl differ n.0;
-      workers = number_once law rest us h (codes "--workers") r.sizes.workers refl differ n.1;
-      block = number_once law rest us h (codes "--block") r.sizes.block refl differ n.2;
-      heap = number_once law rest us h (codes "--heap") r.sizes.heap refl differ n.3;
-      budget = budget_once law rest us h differ (r.sizes.memory, r.unit) (budget_parts budget r.sizes.memory r.unit n.4 parts.3);
-      form = form_once law rest us h differ r.form parts.4;
-      in_range = range_is r.sizes n.5;
+      blocks = number_once law rest us h (codes "--blocks") r.given.numbers.blocks refl differ n.0;
+      workers = number_once law rest us h (codes "--workers") r.given.numbers.workers refl differ n.1;
+      block = number_once law rest us h (codes "--block") r.given.numbers.block refl differ n.2;
+      heap = number_once law rest us h (codes "--heap") r.given.numbers.heap refl differ n.3;
+      budget = budget_once law rest us h differ (r.given.numbers.memory, r.given.unit) n.4;
+      form = form_once law rest us h differ r.form parts.3;
+      in_range = range_is r.given n.5;
     }
 
 -- words with a reading mean it
@@ -368,7 +355,7 @@ at_most_none args name other e = let none = ap (λ (z : List Text). length z) (v
 -- each of both options of a budget stands once at the most
 at_most_budget : (args : List Argument) (n : ℕ) (u : BudgetUnit) → HasBudget args n u → (length (values_under (codes "--memory") (map use_of args)) ≤ 1) × (length (values_under (codes "--memory-bytes") (map use_of args)) ≤ 1)
 at_most_budget args n unit.Records h = (at_most_number args (codes "--memory") n refl h.given, at_most_none args (codes "--memory-bytes") refl h.alone)
-at_most_budget args n unit.Bytes h = (at_most_none args (codes "--memory") refl h.alone, at_most_number args (codes "--memory-bytes") h.bytes refl h.given)
+at_most_budget args n unit.Bytes h = (at_most_none args (codes "--memory") refl h.alone, at_most_number args (codes "--memory-bytes") n refl h.given)
 
 at_most_form : (args : List Argument) (f : Form) → HasForm args f → length (values_under (codes "--form") (map use_of args)) ≤ 1
 at_most_form args form.Text (inl none) = at_most_none args (codes "--form") refl none
@@ -382,17 +369,13 @@ absent_is args name other e = value_absent name (map use_of args) (values_under-
 value_is : (args : List Argument) (name v : Text) → bytes_eq alone name ≡ false → values_of name args ≡ v ∷ [] → value_under name (map use_of args) ≡ Some v
 value_is args name v other e = value_once name v (map use_of args) (under_option name args v other e)
 
-fit_is : (bytes : ℕ) → bytes ≤ 4294967296 → in_records bytes ≡ Some (bytes / record_bytes)
-fit_is bytes h = ap (λ (b : Bool). cond b (Some (bytes / record_bytes)) None) (le-leb bytes 4294967296 h)
-
 budget_is : NumberLaw → (args : List Argument) (n : ℕ) (u : BudgetUnit) → HasBudget args n u → budget_of (value_under (codes "--memory") (map use_of args)) (value_under (codes "--memory-bytes") (map use_of args)) ≡ Some (n, u)
 budget_is law args n unit.Records h =
     ap₂ budget_of (value_is args (codes "--memory") h.given.digits refl h.given.once) (absent_is args (codes "--memory-bytes") refl h.alone)
     ∙ ap (option_map (λ (m : ℕ). (m, unit.Records))) ((law h.given.digits n).1 h.given.spelled)
 budget_is law args n unit.Bytes h =
     ap₂ budget_of (absent_is args (codes "--memory") refl h.alone) (value_is args (codes "--memory-bytes") h.given.digits refl h.given.once)
-    ∙ ap (λ (o : Option ℕ). option_map (λ (m : ℕ). (m, unit.Bytes)) (option_and_then in_records o)) ((law h.given.digits h.bytes).1 h.given.spelled)
-    ∙ ap (option_map (λ (m : ℕ). (m, unit.Bytes))) (fit_is h.bytes h.most) ∙ ap (λ (m : ℕ). Some (m, unit.Bytes)) (sym h.fit)
+    ∙ ap (option_map (λ (m : ℕ). (m, unit.Bytes))) ((law h.given.digits n).1 h.given.spelled)
 
 form_is : (args : List Argument) (f : Form) → HasForm args f → form_of (value_under (codes "--form") (map use_of args)) ≡ Some f
 form_is args form.Text (inl none) = ap form_of (absent_is args (codes "--form") refl none)
@@ -408,11 +391,11 @@ uses_once words r h name key =
     let args = h.arguments in
     let s = at_most (map use_of args) alone r.script (scripts_under words r h) in
     let d = at_most (map use_of args) (codes "--device") r.device (under_option (codes "--device") args r.device refl h.device) in
-    let blocks = at_most_number args (codes "--blocks") r.sizes.blocks refl h.blocks in
-    let workers = at_most_number args (codes "--workers") r.sizes.workers refl h.workers in
-    let block = at_most_number args (codes "--block") r.sizes.block refl h.block in
-    let heap = at_most_number args (codes "--heap") r.sizes.heap refl h.heap in
-    let budget = at_most_budget args r.sizes.memory r.unit h.budget in
+    let blocks = at_most_number args (codes "--blocks") r.given.numbers.blocks refl h.blocks in
+    let workers = at_most_number args (codes "--workers") r.given.numbers.workers refl h.workers in
+    let block = at_most_number args (codes "--block") r.given.numbers.block refl h.block in
+    let heap = at_most_number args (codes "--heap") r.given.numbers.heap refl h.heap in
+    let budget = at_most_budget args r.given.numbers.memory r.given.unit h.budget in
     let form = at_most_form args r.form h.form in
     among keys name (λ z. length (values_under z (map use_of args)) ≤ 1) key (s, (d, (blocks, (workers, (block, (heap, (budget.0, (budget.1, (form, tt)))))))))
 
@@ -427,10 +410,10 @@ Reads-reading law words r h =
     let differ : names_differ us ≡ true = differ_once args known (uses_once words r h) in
     let s = name_once us alone r.script (scripts_under words r h) h.some_script in
     let d = name_once us (codes "--device") r.device (under_option (codes "--device") args r.device refl h.device) h.some_device in
-    let sizes : in_range r.sizes ≡ Some r.sizes = ap (λ (b : Bool). cond b (Some r.sizes) None) (range_from r.sizes h.in_range) in
-    let n : sizes_of (number_in (value_under (codes "--blocks") us)) (number_in (value_under (codes "--workers") us)) (number_in (value_under (codes "--block") us)) (number_in (value_under (codes "--heap") us)) (Some r.sizes.memory) ≡ Some r.sizes =
-    rw (number_is law args (codes "--blocks") r.sizes.blocks refl h.blocks, number_is law args (codes "--workers") r.sizes.workers refl h.workers, number_is law args (codes "--block") r.sizes.block refl h.block, number_is law args (codes "--heap") r.sizes.heap refl h.heap) sizes in
-    let budget = budget_is law args r.sizes.memory r.unit h.budget in
+    let given : in_range r.given ≡ Some r.given = ap (λ (b : Bool). cond b (Some r.given) None) (range_from r.given h.in_range) in
+    let n : given_of (number_in (value_under (codes "--blocks") us)) (number_in (value_under (codes "--workers") us)) (number_in (value_under (codes "--block") us)) (number_in (value_under (codes "--heap") us)) (Some (r.given.numbers.memory, r.given.unit)) ≡ Some r.given =
+    rw (number_is law args (codes "--blocks") r.given.numbers.blocks refl h.blocks, number_is law args (codes "--workers") r.given.numbers.workers refl h.workers, number_is law args (codes "--block") r.given.numbers.block refl h.block, number_is law args (codes "--heap") r.given.numbers.heap refl h.heap) given in
+    let budget = budget_is law args r.given.numbers.memory r.given.unit h.budget in
     let form = form_is args r.form h.form in
     let read : reading_by (λ name. value_under name us) ≡ Some r = rw (s, d, budget, n, form) refl in
     ap reading_of h.spelled ∙ (ap (option_and_then reading_of_uses) uses ∙ (ap (λ (b : Bool). cond b (reading_by (λ name. value_under name us)) None) differ ∙ read))
@@ -534,13 +517,11 @@ budget_last budget more n unit.Records f last are is =
     )
 budget_last budget more n unit.Bytes f last are is =
     let digits = is.0 in
-    let bytes = is.1.0 in
-    let spells = is.1.1.1.0 in
     let name = codes "--memory-bytes" in (
       apart name digits ∷ last,
       record {
-        last_are = subst (λ (z : List Text). AreLast (apart name digits ∷ last) (z ++ more)) (sym is.1.1.0) (option_last name digits last more (option_is name refl) (λ m e. (not_rest m e).0) (Spells-IsPlain digits bytes spells) are.last_are);
-        budget = record { bytes = bytes; given = record { digits = digits; once = ap (λ (z : List Text). digits ∷ z) are.bytes; spelled = spells }; most = is.1.1.1.1.0; fit = is.1.1.1.1.1; alone = are.memory };
+        last_are = subst (λ (z : List Text). AreLast (apart name digits ∷ last) (z ++ more)) (sym is.1.0) (option_last name digits last more (option_is name refl) (λ m e. (not_rest m e).0) (Spells-IsPlain digits n is.1.1) are.last_are);
+        budget = record { given = record { digits = digits; once = ap (λ (z : List Text). digits ∷ z) are.bytes; spelled = is.1.1 }; alone = are.memory };
         form = form_behind name digits last f refl are.form;
       },
     )
@@ -553,7 +534,7 @@ all_of script device blocks workers block heap last =
 module _ (script device blocks workers block heap : Text) (last : List Argument) where
   budget_of_all : (n : ℕ) (u : BudgetUnit) → HasBudget last n u → HasBudget (all_of script device blocks workers block heap last) n u
   budget_of_all n unit.Records h = record { given = record { digits = h.given.digits; once = h.given.once; spelled = h.given.spelled }; alone = h.alone }
-  budget_of_all n unit.Bytes h = record { bytes = h.bytes; given = record { digits = h.given.digits; once = h.given.once; spelled = h.given.spelled }; most = h.most; fit = h.fit; alone = h.alone }
+  budget_of_all n unit.Bytes h = record { given = record { digits = h.given.digits; once = h.given.once; spelled = h.given.spelled }; alone = h.alone }
 
   form_of_all : (f : Form) → HasForm last f → HasForm (all_of script device blocks workers block heap last) f
   form_of_all form.Text h = h
@@ -562,14 +543,14 @@ module _ (script device blocks workers block heap : Text) (last : List Argument)
 pub usage_read : (words : List Text) (r : Reading) → IsUsageOf words r → Reads words r
 usage_read words r h =
     let with_form = form_last h.form r.form h.form_is in
-    let with_budget = budget_last h.budget h.form r.sizes.memory r.unit r.form with_form.0 with_form.1 h.budget_is in
+    let with_budget = budget_last h.budget h.form r.given.numbers.memory r.given.unit r.form with_form.0 with_form.1 h.budget_is in
     let last = with_budget.0 in
     let are = with_budget.1.last_are in
     let number : (name digits : Text) → is_option last_names name ≡ false → digits ∷ values_of name last ≡ digits ∷ [] = λ name digits other. ap (λ (z : List Text). digits ∷ z) (are.others name other) in
-    let plain_blocks = Spells-IsPlain h.blocks r.sizes.blocks h.spelled_blocks in
-    let plain_workers = Spells-IsPlain h.workers r.sizes.workers h.spelled_workers in
-    let plain_block = Spells-IsPlain h.block r.sizes.block h.spelled_block in
-    let plain_heap = Spells-IsPlain h.heap r.sizes.heap h.spelled_heap in
+    let plain_blocks = Spells-IsPlain h.blocks r.given.numbers.blocks h.spelled_blocks in
+    let plain_workers = Spells-IsPlain h.workers r.given.numbers.workers h.spelled_workers in
+    let plain_block = Spells-IsPlain h.block r.given.numbers.block h.spelled_block in
+    let plain_heap = Spells-IsPlain h.heap r.given.numbers.heap h.spelled_heap in
     record {
       arguments = all_of r.script r.device h.blocks h.workers h.block h.heap last;
       spelled =
@@ -585,7 +566,7 @@ usage_read words r h =
       workers = record { digits = h.workers; once = number (codes "--workers") h.workers refl; spelled = h.spelled_workers };
       block = record { digits = h.block; once = number (codes "--block") h.block refl; spelled = h.spelled_block };
       heap = record { digits = h.heap; once = number (codes "--heap") h.heap refl; spelled = h.spelled_heap };
-      budget = budget_of_all r.script r.device h.blocks h.workers h.block h.heap last r.sizes.memory r.unit with_budget.1.budget;
+      budget = budget_of_all r.script r.device h.blocks h.workers h.block h.heap last r.given.numbers.memory r.given.unit with_budget.1.budget;
       form = form_of_all r.script r.device h.blocks h.workers h.block h.heap last r.form with_budget.1.form;
       in_range = h.in_range;
     }

@@ -3,6 +3,7 @@ pub use Rattle.ppq_script.specs.ppq_outside as ppq_outside
 pub use Rattle.ppq_script.specs.ppq_record as ppq_record
 pub use Rattle.ppq_script.specs as ppq_script
 pub mod Command
+pub mod Given
 pub mod Meaning
 pub mod Reading
 pub mod Strays

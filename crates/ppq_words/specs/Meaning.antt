@@ -1,14 +1,14 @@
 -- What the words of the command line mean to a reader: a relation above the definition that computes.
-use Rattle.std.specs.Prelude.{◌≡◌, ◌⊎◌, ℕ, ⊤, ◌≤◌, ◌/◌, length, bytes_eq, if◌then◌else◌, false, List, [], ◌∷◌, ◌++◌, map, flat_map, codes, Contains}
+use Rattle.std.specs.Prelude.{◌≡◌, ◌⊎◌, ℕ, ⊤, ◌≤◌, length, bytes_eq, if◌then◌else◌, false, List, [], ◌∷◌, ◌++◌, map, flat_map, codes, Contains}
 use Rattle.std.specs.List.{AllByRecursion as Each}
-use Rattle.ppq_budget.specs.Sizes.{AreInRange}
 use Rattle.ppq_script.specs.Meaning.{Spells}
 use Rattle.ppq_script.specs.declared.form.Form.{Form}
 use Rattle.ppq_script.specs.declared.form.Form.TheVariants as form
 use Rattle.ppq_words.specs.declared.budget_unit.BudgetUnit.{BudgetUnit}
 use Rattle.ppq_words.specs.declared.budget_unit.BudgetUnit.TheVariants as unit
 use Rattle.ppq_words.specs.Uses.{Text, begins_with_hyphen}
-use Rattle.ppq_words.specs.Reading.{Reading, option_names, record_bytes}
+use Rattle.ppq_words.specs.Given.{AreGivenInRange}
+use Rattle.ppq_words.specs.Reading.{Reading, option_names}
 
 -- the script's name, or an option with its value: in the next word, as `--heap 1`, or after `=`, as `--heap=1`
 pub data Argument : Type 0 where
@@ -62,23 +62,19 @@ pub record HasNumber (arguments : List Argument) (name : Text) (n : ℕ) : Type 
   pub once : values_of name arguments ≡ digits ∷ []
   pub spelled : Spells digits n
 
--- the budget is given in records alone
-pub record IsInRecords (arguments : List Argument) (records : ℕ) : Type 0 where
-  pub given : HasNumber arguments (codes "--memory") records
-  pub alone : values_of (codes "--memory-bytes") arguments ≡ []
+-- the option of a unit, and that of the other
+abbrev pub budget_option : BudgetUnit → Text
+budget_option unit.Records = codes "--memory"
+budget_option unit.Bytes = codes "--memory-bytes"
 
--- the budget is given in bytes alone, in their range: as many records as fit
-pub record IsInBytes (arguments : List Argument) (records : ℕ) : Type 0 where
-  pub bytes : ℕ
-  pub given : HasNumber arguments (codes "--memory-bytes") bytes
-  pub most : bytes ≤ 4294967296
-  pub fit : records ≡ bytes / record_bytes
-  pub alone : values_of (codes "--memory") arguments ≡ []
+abbrev pub other_option : BudgetUnit → Text
+other_option unit.Records = codes "--memory-bytes"
+other_option unit.Bytes = codes "--memory"
 
--- a budget of so many records is given in this unit, and not in the other too
-abbrev pub HasBudget : List Argument → ℕ → BudgetUnit → Type 0
-HasBudget arguments records unit.Records = IsInRecords arguments records
-HasBudget arguments records unit.Bytes = IsInBytes arguments records
+-- this budget is given in this unit, and none in the other
+pub record HasBudget (arguments : List Argument) (n : ℕ) (u : BudgetUnit) : Type 0 where
+  pub given : HasNumber arguments (budget_option u) n
+  pub alone : values_of (other_option u) arguments ≡ []
 
 -- `--form` stands once with the name of this form; or it does not stand, and the form is text
 abbrev pub HasForm : List Argument → Form → Type 0
@@ -96,23 +92,21 @@ pub record Reads (words : List Text) (r : Reading) : Type 0 where
   pub some_script : 1 ≤ length r.script
   pub device : values_of (codes "--device") arguments ≡ r.device ∷ []
   pub some_device : 1 ≤ length r.device
-  pub blocks : HasNumber arguments (codes "--blocks") r.sizes.blocks
-  pub workers : HasNumber arguments (codes "--workers") r.sizes.workers
-  pub block : HasNumber arguments (codes "--block") r.sizes.block
-  pub heap : HasNumber arguments (codes "--heap") r.sizes.heap
-  pub budget : HasBudget arguments r.sizes.memory r.unit
+  pub blocks : HasNumber arguments (codes "--blocks") r.given.numbers.blocks
+  pub workers : HasNumber arguments (codes "--workers") r.given.numbers.workers
+  pub block : HasNumber arguments (codes "--block") r.given.numbers.block
+  pub heap : HasNumber arguments (codes "--heap") r.given.numbers.heap
+  pub budget : HasBudget arguments r.given.numbers.memory r.given.unit
   pub form : HasForm arguments r.form
-  pub in_range : AreInRange r.sizes
+  pub in_range : AreGivenInRange r.given
 
 -- a name that words can say: it is not empty and does not begin with `-`
 abbrev pub IsName : Text → Type 0
 IsName name = (1 ≤ length name) × IsPlain name
 
--- `--memory M`, or `--memory-bytes N` of which so many records fit
+-- `--memory M`, or `--memory-bytes N`
 abbrev pub IsBudgetUsage : List Text → ℕ → BudgetUnit → Type 0
-IsBudgetUsage words records unit.Records = (digits : Text) × ((words ≡ codes "--memory" ∷ digits ∷ []) × Spells digits records)
-IsBudgetUsage words records unit.Bytes =
-    (digits : Text) × ((bytes : ℕ) × ((words ≡ codes "--memory-bytes" ∷ digits ∷ []) × (Spells digits bytes × ((bytes ≤ 4294967296) × (records ≡ bytes / record_bytes)))))
+IsBudgetUsage words n u = (digits : Text) × ((words ≡ budget_option u ∷ digits ∷ []) × Spells digits n)
 
 -- `--form text` or nothing, or `--form bytes`
 abbrev pub IsFormUsage : List Text → Form → Type 0
@@ -132,10 +126,10 @@ pub record IsUsageOf (words : List Text) (r : Reading) : Type 0 where
       ∷ codes "--block" ∷ block ∷ codes "--heap" ∷ heap ∷ budget ++ form
   pub script : IsName r.script
   pub device : IsName r.device
-  pub spelled_blocks : Spells blocks r.sizes.blocks
-  pub spelled_workers : Spells workers r.sizes.workers
-  pub spelled_block : Spells block r.sizes.block
-  pub spelled_heap : Spells heap r.sizes.heap
-  pub budget_is : IsBudgetUsage budget r.sizes.memory r.unit
+  pub spelled_blocks : Spells blocks r.given.numbers.blocks
+  pub spelled_workers : Spells workers r.given.numbers.workers
+  pub spelled_block : Spells block r.given.numbers.block
+  pub spelled_heap : Spells heap r.given.numbers.heap
+  pub budget_is : IsBudgetUsage budget r.given.numbers.memory r.given.unit
   pub form_is : IsFormUsage form r.form
-  pub in_range : AreInRange r.sizes
+  pub in_range : AreGivenInRange r.given

@@ -4,7 +4,7 @@ ghost use Rattle.ppq_words.specs.Uses.{Text};
 ghost use Rattle.ppq_words.specs.Reading.{Reading, reading_of};
 ghost use Rattle.ppq_words.specs.Meaning.{Reads, IsUsageOf};
 
-use ppq_script::lines_mean;
+use ppq_script::{Pair, lines_mean};
 
 /// The law of the words, as clauses for the proof of whoever calls it, and for a reader.
 ///
@@ -22,5 +22,5 @@ pub fn words_mean()
     // Each reading has words: those of the line that explains the usage.
     ensures usage { (words : List Text) (r : Reading) → IsUsageOf words r → Reads words r }
 {
-    lines_mean();
+    lines_mean::<Pair>();
 }

@@ -9,6 +9,7 @@
 
 mod budget_unit;
 mod command;
+mod given_sizes;
 mod laws;
 mod run_arguments;
 mod strays;
@@ -16,11 +17,13 @@ mod values;
 mod words;
 
 pub use budget_unit::BudgetUnit;
+pub use given_sizes::GivenSizes;
 pub use laws::words_mean;
 pub use ppq_budget::Sizes;
 pub use ppq_script::{
-    CheckFault, Failed, Form, Gate, Host, Library, Memory, OpenGate, OutsideFault, Pair, Rack,
-    Record, Script, Sink, Slot, check_files, read,
+    CheckFault, Down, Failed, Fields, Form, Gate, Head, Host, Kind, Library, Memory, OpenGate,
+    Order, OutsideFault, Pair, Rack, Record, Script, Sink, Slot, Triple, check_files, read,
+    read_head,
 };
 pub use run_arguments::RunArguments;
 pub use words::read_words;

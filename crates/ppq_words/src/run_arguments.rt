@@ -1,6 +1,5 @@
 //! The arguments of the command `run`.
-use crate::BudgetUnit;
-use ppq_budget::Sizes;
+use crate::GivenSizes;
 use ppq_script::Form;
 
 /// What the words of the command `run` say. The names are borrowed from the words.
@@ -10,10 +9,8 @@ pub struct RunArguments<'a> {
     pub script: &'a str,
     /// The name of the device. It is not empty and does not begin with `-`.
     pub device: &'a str,
-    /// The sizes of the queue. Of a budget in bytes it has as many records as fit.
-    pub sizes: Sizes,
-    /// The unit in which the budget is given.
-    pub unit: BudgetUnit,
+    /// The sizes of the queue as they are given; how wide its records are is told by the script.
+    pub given: GivenSizes,
     /// The form of the output.
     pub form: Form,
 }

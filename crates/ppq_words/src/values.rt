@@ -1,16 +1,12 @@
 //! What the values of a parse say.
 ghost use Rattle.std.specs.Prelude.{◌≡◌, Some, option_map, option_and_then, codes};
 ghost use Rattle.clap.specs.Words.{first_value, found_of};
-ghost use Rattle.ppq_budget.specs.Sizes.{numbers};
-ghost use Rattle.ppq_words.specs.Reading.{as_reading, not_empty, number_in, in_records, budget_of, sizes_of, in_range, form_of, reading_by};
+ghost use Rattle.ppq_words.specs.Given.{given_as};
+ghost use Rattle.ppq_words.specs.Reading.{as_reading, not_empty, number_in, budget_of, given_of, in_range, form_of, reading_by};
 
-use crate::{BudgetUnit, RunArguments};
+use crate::{BudgetUnit, GivenSizes, RunArguments};
 use clap::ArgMatches;
-use ppq_budget::Sizes;
-use ppq_script::{Form, Pair, Record, number};
-
-// The largest budget in bytes: that of the largest in records.
-const LARGEST: u64 = 4_294_967_296;
+use ppq_script::{Form, number};
 
 // The value under a name, where it is not empty.
 fn name_under<'a>(matches: &ArgMatches<'a>, id: &str) -> Option<&'a str>
@@ -27,29 +23,24 @@ fn number_under(matches: &ArgMatches<'_>, id: &str) -> Option<u64>
     number(matches.get_str(id)?.as_bytes())
 }
 
-// The sizes of these numbers, where each is in its range.
-fn sizes_in(workers: u64, block: u64, heap: u64, memory: u64, blocks: u64) -> Option<Sizes>
-    ensures { result ≡ in_range (numbers workers block heap memory blocks) }
+// The sizes of these numbers, with a budget in its unit, where each is in its range.
+fn given_in(
+    workers: u64,
+    block: u64,
+    heap: u64,
+    budget: (u64, BudgetUnit),
+    blocks: u64,
+) -> Option<GivenSizes>
+    ensures { result ≡ in_range (given_as workers block heap budget blocks) }
 {
     let workers = u32::try_from(workers).ok()?;
     let block = u32::try_from(block).ok()?;
     let heap = u32::try_from(heap).ok()?;
     let blocks = u32::try_from(blocks).ok()?;
-    Sizes::new(workers, block, heap, memory, blocks)
+    GivenSizes::new(workers, block, heap, budget, blocks)
 }
 
-// A budget of so many bytes in records, where it is in its range.
-fn in_records(bytes: u64) -> Option<u64>
-    ensures { result ≡ in_records bytes }
-{
-    if bytes <= LARGEST {
-        Some(bytes / Pair::WIDTH as u64)
-    } else {
-        None
-    }
-}
-
-// The budget in records, and the unit in which it is given, where just one of both is.
+// The budget and its unit, where it is given in just one.
 fn budget_of(matches: &ArgMatches<'_>) -> Option<(u64, BudgetUnit)>
     ensures { let value = first_value (found_of matches.now) in
         result ≡ budget_of (value (codes "--memory")) (value (codes "--memory-bytes")) }
@@ -59,10 +50,7 @@ fn budget_of(matches: &ArgMatches<'_>) -> Option<(u64, BudgetUnit)>
         matches.get_str("--memory-bytes"),
     ) {
         (Some(records), None) => Some((number(records.as_bytes())?, BudgetUnit::Records)),
-        (None, Some(bytes)) => {
-            let records = in_records(number(bytes.as_bytes())?)?;
-            Some((records, BudgetUnit::Bytes))
-        }
+        (None, Some(bytes)) => Some((number(bytes.as_bytes())?, BudgetUnit::Bytes)),
         _ => None,
     }
 }
@@ -79,16 +67,16 @@ fn form_of(matches: &ArgMatches<'_>) -> Option<Form>
     }
 }
 
-// The sizes that the values say, with this budget in records.
-fn sizes_of(matches: &ArgMatches<'_>, memory: u64) -> Option<Sizes>
+// The sizes that the values say, with this budget in its unit.
+fn given_of(matches: &ArgMatches<'_>, budget: (u64, BudgetUnit)) -> Option<GivenSizes>
     ensures { let value = first_value (found_of matches.now) in
-        result ≡ sizes_of (number_in (value (codes "--blocks"))) (number_in (value (codes "--workers"))) (number_in (value (codes "--block"))) (number_in (value (codes "--heap"))) (Some memory) }
+        result ≡ given_of (number_in (value (codes "--blocks"))) (number_in (value (codes "--workers"))) (number_in (value (codes "--block"))) (number_in (value (codes "--heap"))) (Some budget) }
 {
     let blocks = number_under(matches, "--blocks")?;
     let workers = number_under(matches, "--workers")?;
     let block = number_under(matches, "--block")?;
     let heap = number_under(matches, "--heap")?;
-    sizes_in(workers, block, heap, memory, blocks)
+    given_in(workers, block, heap, budget, blocks)
 }
 
 // What the values of a parse say, where none is missing, no name is empty, each number is spelled and
@@ -98,14 +86,13 @@ pub(crate) fn arguments_of<'a>(matches: &ArgMatches<'a>) -> Option<RunArguments<
 {
     let script = name_under(matches, "SCRIPT")?;
     let device = name_under(matches, "--device")?;
-    let (memory, unit) = budget_of(matches)?;
-    let sizes = sizes_of(matches, memory)?;
+    let budget = budget_of(matches)?;
+    let given = given_of(matches, budget)?;
     let form = form_of(matches)?;
     Some(RunArguments {
         script,
         device,
-        sizes,
-        unit,
+        given,
         form,
     })
 }

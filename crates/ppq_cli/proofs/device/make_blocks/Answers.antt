@@ -1,4 +1,4 @@
-use Rattle.std.proofs.Common.{◌≡◌, ◌+◌, ◌*◌, ◌∷◌, ◌++◌, [], length, map, ap, sym, ◌∙◌, subst, arith, length-append}
+use Rattle.std.proofs.Common.{◌≡◌, ◌+◌, ◌∷◌, ◌++◌, [], length, map, ap, sym, ◌∙◌, subst, arith, length-append}
 use Rattle.std.specs.List.{range_with_len}
 use Rattle.std.proofs.lemmas.List.{map-append, length-map}
 use Rattle.std.proofs.lemmas.List.Elements.{All-push}
@@ -21,11 +21,10 @@ loop-number-preserved g c =
     record {
       many = long ∙ ap (λ n. n + 1) c.loop-number.invariant.many;
       room = c.push_reserved.ensures.capacity ∙ c.loop-number.invariant.room;
-      bytes = c.loop-number.invariant.bytes;
-      new = subst (AreNew (c.args.sizes.block * 16)) (sym all) (new-more (c.args.sizes.block * 16) (map shown had) (shown block) c.loop-number.invariant.new number (record { size = c.in-Ok-block.ensures.size ∙ c.loop-number.invariant.bytes; no_fault = c.in-Ok-block.ensures.fresh.no_fault; no_write = c.in-Ok-block.ensures.fresh.no_write; no_read = c.in-Ok-block.ensures.fresh.no_read }));
+      new = subst (AreNew c.args.bytes) (sym all) (new-more c.args.bytes (map shown had) (shown block) c.loop-number.invariant.new number (record { size = c.in-Ok-block.ensures.size; no_fault = c.in-Ok-block.ensures.fresh.no_fault; no_write = c.in-Ok-block.ensures.fresh.no_write; no_read = c.in-Ok-block.ensures.fresh.no_read }));
       made =
-          let next : HasMade (made c.loop-number.rack) (made c.block-in-loop-number.new.self) (length had ∷ []) = subst (λ n. HasMade (made c.loop-number.rack) (made c.block-in-loop-number.new.self) (n ∷ [])) (sym c.loop-number.invariant.many) c.in-Ok-block.ensures.made in
-          subst (λ n. HasMade (made c.args.rack.now) (made c.block-in-loop-number.new.self) (range_with_len 0 n)) (sym long) (made-more (made c.args.rack.now) (made c.loop-number.rack) (made c.block-in-loop-number.new.self) (length had) c.loop-number.invariant.made next);
+          let next : HasMade (made c.loop-number.rack) (made c.block.new.self) (length had ∷ []) = subst (λ n. HasMade (made c.loop-number.rack) (made c.block.new.self) (n ∷ [])) (sym c.loop-number.invariant.many) c.in-Ok-block.ensures.made in
+          subst (λ n. HasMade (made c.args.rack.now) (made c.block.new.self) (range_with_len 0 n)) (sym long) (made-more (made c.args.rack.now) (made c.loop-number.rack) (made c.block.new.self) (length had) c.loop-number.invariant.made next);
       tells = λ t. subst AllTell (sym all) (All-push Tells (map shown had) (shown block) (c.loop-number.invariant.tells t) (c.in-Ok-block.ensures.tells (c.loop-number.invariant.kept t)));
       kept = λ t. c.in-Ok-block.ensures.kept (c.loop-number.invariant.kept t);
       stays = c.in-Ok-block.ensures.cause.ok ∙ c.loop-number.invariant.stays;

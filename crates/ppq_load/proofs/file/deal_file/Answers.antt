@@ -1,10 +1,11 @@
-use Rattle.std.proofs.Common.{◌≡◌, ◌∙◌, ◌+◌, ◌*◌, ◌/◌, ℕ, List, Option, drop, ap, refl, sym, subst, arith, length-append, length-drop}
-use Rattle.ppq_session.specs.ppq_record.declared.pair.Pair.{Pair}
+use Rattle.std.proofs.Common.{◌≡◌, ◌∙◌, ◌+◌, ◌*◌, ◌/◌, ℕ, ◌≤◌, length, List, Option, drop, ap, refl, sym, subst, arith, length-append, length-drop, length-take-le, take}
 use Rattle.ppq_session.specs.ppq_budget.Sizes.{batch_of}
 use Rattle.ppq_session.specs.ppq_queue.Holding.{Holding}
 use Rattle.ppq_load.specs.Loading.{LoadHolding, HasGiven}
 use Rattle.ppq_load.proofs.FileRecords.{given-none, given-stopped}
+use Rattle.std.proofs.Math.Nat.{mul-le-mul_right}
 use Rattle.ppq_load.proofs.Loadings.{batch-some}
+use Rattle.ppq_load.proofs.Widths.{fit, one-fits, few-bytes, part-of}
 use Rattle.ppq_load.proofs.Reading.{reads-none, reads-then}
 use Rattle.ppq_load.proofs.file.deal_file.Goals as goal
 
@@ -15,7 +16,7 @@ returns-in_err-deal_piece-clause-some g c =
     record {
       count = c.pieces.from;
       few = omega (arith, i.records, i.within);
-      given = subst (λ l. HasGiven g.S.Slot.shown queue (g.L.Library.told c.args.library.now) c.args.source.name.now c.pieces.from l) (sym c.in_err-deal_piece.ensures.same) (i.given queue s);
+      given = subst (λ l. HasGiven g.R.Record.record_of g.R.Record.WIDTH g.S.Slot.shown queue (g.L.Library.told c.args.library.now) c.args.source.name.now c.pieces.from l) (sym c.in_err-deal_piece.ensures.same) (i.given queue s);
     }
 
 pub returns-in_err-deal_piece-clause-reads : goal.returns-in_err-deal_piece-clause-reads
@@ -30,15 +31,17 @@ pieces-preserved g c =
     let old = c.pieces.load in
     let new = c.deal_piece.new.load in
     let e = c.in_ok-deal_piece.ensures in
+    let width = c.WIDTH-width.result in
+    let used : n * width ≤ length c.pieces.room = omega (arith, ap (λ k. n * k) c.WIDTH-width.ensures, i.piece, mul-le-mul_right g.R.Record.WIDTH (let few : n ≤ c.min-most.result = omega arith in few)) in
     record {
       given =
           λ queue s.
-          subst (λ k. HasGiven shown queue (g.L.Library.told c.args.library.now) name (c.pieces.from + k) new) (sym c.from-in-pieces.ensures) (subst (λ told. HasGiven shown queue told name (c.pieces.from + n) new) i.reads.told (e.given queue (subst (λ told. HasGiven shown queue told name c.pieces.from old) (sym i.reads.told) (i.given queue s))));
+          subst (λ k. HasGiven g.R.Record.record_of g.R.Record.WIDTH shown queue (g.L.Library.told c.args.library.now) name (c.pieces.from + k) new) (sym c.from-in-pieces.ensures) (subst (λ told. HasGiven g.R.Record.record_of g.R.Record.WIDTH shown queue told name (c.pieces.from + n) new) i.reads.told (e.given queue (subst (λ told. HasGiven g.R.Record.record_of g.R.Record.WIDTH shown queue told name c.pieces.from old) (sym i.reads.told) (i.given queue s))));
       going = e.dealt.all.0 c.if-not-branch.false;
       room = omega (arith, i.room, ap (λ sizes. batch_of sizes) e.dealt.sizes);
       some = i.some;
       small = i.small;
-      piece = omega (arith, i.piece, c.deal_piece.auto.piece, length-append c.deal_piece.new.piece (drop (n * 16) c.pieces.room), length-drop (n * 16) c.pieces.room);
+      piece = omega (arith, i.piece, c.deal_piece.auto.piece, length-append c.deal_piece.new.piece (drop (n * width) c.pieces.room), length-drop (n * width) c.pieces.room, used);
       within = omega arith;
       records = i.records;
       reads = reads-then g.L.Library.told g.L.Library.replied name i.reads c.deal_piece.ensures.reads;
@@ -47,14 +50,14 @@ pieces-preserved g c =
 
 pub pieces-init : goal.pieces-init
 pieces-init g c = record {
-  given = λ queue s. given-none (g.L.Library.told c.args.library.now) c.args.source.name.now g.S.Slot.shown queue c.args.load.now s;
+  given = λ queue s. given-none g.R.Record.record_of g.R.Record.WIDTH (g.L.Library.told c.args.library.now) c.args.source.name.now g.S.Slot.shown queue c.args.load.now s;
   going = c.requires.going;
   room = omega arith;
-  some = omega (arith, batch-some c.args.load.now.bulk.sizes c.batch_len.ensures.range);
+  some = omega (arith, batch-some c.args.load.now.bulk.sizes c.batch_len.ensures.range, one-fits (length c.args.room.now) c.WIDTH-width.result (omega (arith, c.WIDTH-width.ensures, c.record_laws.ensures.width.0)) (omega (arith, c.WIDTH-width.ensures, c.requires.room)));
   small = omega arith;
-  piece = omega arith;
+  piece = subst (λ k. c.min-most.result * k ≤ length c.args.room.now) c.WIDTH-width.ensures (fit c.min-most.result (length c.args.room.now) c.WIDTH-width.result (omega arith));
   within = omega arith;
-  records = refl;
+  records = ap (λ k. c.args.source.said / k) c.WIDTH-width.ensures;
   reads = reads-none g.L.Library.told g.L.Library.replied c.args.source.name.now c.args.source.said c.args.library.now;
   stays = refl;
 }
@@ -70,14 +73,14 @@ returns-then-not-branch-clause-given g c =
     let new = c.deal_piece.new.load in
     let e = c.in_ok-deal_piece.ensures in
     λ queue s.
-    given-stopped told name shown queue (c.pieces.from + n) (c.args.source.said / 16) new (omega (arith, i.records)) (e.dealt.stopped c.if-not-branch.true)
-    (subst (λ t. HasGiven shown queue t name (c.pieces.from + n) new) i.reads.told (e.given queue (subst (λ t. HasGiven shown queue t name c.pieces.from old) (sym i.reads.told) (i.given queue s))))
+    given-stopped g.R.Record.record_of g.R.Record.WIDTH told name shown queue (c.pieces.from + n) (c.args.source.said / g.R.Record.WIDTH) new (omega (arith, i.records)) (e.dealt.stopped c.if-not-branch.true)
+    (subst (λ t. HasGiven g.R.Record.record_of g.R.Record.WIDTH shown queue t name (c.pieces.from + n) new) i.reads.told (e.given queue (subst (λ t. HasGiven g.R.Record.record_of g.R.Record.WIDTH shown queue t name c.pieces.from old) (sym i.reads.told) (i.given queue s))))
 
 pub returns-then-not-branch-clause-some : goal.returns-then-not-branch-clause-some
 returns-then-not-branch-clause-some g c =
     let i = c.pieces.invariant in
     let n = c.min-count.result in
-    let Given : Holding Pair → LoadHolding g.row.S.Denot → ℕ → Option (List ℕ → Option (List ℕ)) → Type 0 = λ queue load k told. HasGiven g.S.Slot.shown queue told c.args.source.name.now k load in
+    let Given : Holding g.row.R.Denot → LoadHolding g.row.S.Denot g.row.R.Denot → ℕ → Option (List ℕ → Option (List ℕ)) → Type 0 = λ queue load k told. HasGiven g.R.Record.record_of g.R.Record.WIDTH g.S.Slot.shown queue told c.args.source.name.now k load in
     λ queue s.
     record {
       count = c.pieces.from + n;
@@ -91,8 +94,21 @@ returns-then-not-branch-clause-reads g c = reads-then g.L.Library.told g.L.Libra
 pub returns-clause-given : goal.returns-clause-given
 returns-clause-given g c =
     let i = c.pieces.invariant in
-    let end : c.pieces.from ≡ c.args.source.said / 16 = omega (arith, i.records, i.within) in
-    λ queue s. subst (λ k. HasGiven g.S.Slot.shown queue (g.L.Library.told c.args.library.now) c.args.source.name.now k c.pieces.load) end (i.given queue s)
+    let end : c.pieces.from ≡ c.args.source.said / g.R.Record.WIDTH = omega (arith, i.records, i.within) in
+    λ queue s. subst (λ k. HasGiven g.R.Record.record_of g.R.Record.WIDTH g.S.Slot.shown queue (g.L.Library.told c.args.library.now) c.args.source.name.now k c.pieces.load) end (i.given queue s)
 
 pub returns-clause-some : goal.returns-clause-some
 returns-clause-some g c = let i = c.pieces.invariant in λ queue s. record { count = c.pieces.from; few = omega (arith, i.records, i.within); given = i.given queue s }
+
+pub deal_piece-requires-clause-part : goal.deal_piece-requires-clause-part
+deal_piece-requires-clause-part g c κs within =
+    let i = c.pieces.invariant in
+    let said = c.args.source.said in
+    let w = g.R.Record.WIDTH in
+    let n = c.min-count.result in
+    let width = c.WIDTH-width.result in
+    let few : n ≤ c.min-most.result = omega arith in
+    let size : n * width ≡ n * w = ap (λ k. n * k) c.WIDTH-width.ensures in
+    let used : n * width ≤ length c.pieces.room = omega (arith, size, i.piece, mul-le-mul_right w few) in
+    part-of said w c.pieces.from n (length (take (n * width) c.pieces.room)) (batch_of c.pieces.load.bulk.sizes) (said / width) (length-take-le (n * width) c.pieces.room used ∙ size) (omega (arith, i.room, few)) (omega arith) (ap (λ k. said / k) c.WIDTH-width.ensures)
+    (few-bytes said w c.requires.fits c.record_laws.ensures.width.1)

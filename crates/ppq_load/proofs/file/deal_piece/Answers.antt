@@ -1,4 +1,7 @@
-use Rattle.std.proofs.Common.{◌≡◌, ◌+◌, ◌*◌, length, take, sym, subst, arith}
+use Rattle.std.proofs.Common.{◌≡◌, ℕ, ◌+◌, ◌*◌, List, Option, Some, length, take, drop, sym, subst, arith}
+use Rattle.ppq_session.specs.ppq_outside.Told.{bytes_or_none}
+use Rattle.ppq_session.specs.ppq_budget.Sizes.{batch_of}
+use Rattle.ppq_load.proofs.Widths.{part-end}
 use Rattle.ppq_load.specs.declared.fault.LoadFault.{LoadFault}
 use Rattle.ppq_load.specs.Loading.{InSession, IsReadRefusal, LoadCountsFrom}
 use Rattle.ppq_load.proofs.FileRecords.{given-more, piece-are}
@@ -14,10 +17,11 @@ returns-clause-given g c =
     let filled = c.fill_records.new.load in
     let part = c.args.part in
     let piece = c.fill.new.piece in
-    let long : length piece ≡ part.count * 16 = omega (arith, c.fill.auto.piece, c.requires.part.length) in
+    let long : length piece ≡ part.count * g.R.Record.WIDTH = omega (arith, c.fill.auto.piece, c.requires.part.length) in
+    let Read : ℕ → Type 0 = λ w. (files : List ℕ → Option (List ℕ)) → told ≡ Some files → piece ≡ take (length piece) (drop (part.from * w) (bytes_or_none (files part.name.now))) in
     λ queue had.
-    given-more told part.name.now shown queue part.from part.count (take part.count filled.bulk.batch) old c.deal.new.self
-    (piece-are told part.name.now part.from part.count piece (take part.count filled.bulk.batch) long c.fill_records.ensures.records c.in_default.ensures.bytes)
+    given-more g.R.Record.record_of g.R.Record.WIDTH told part.name.now shown queue part.from part.count (take part.count filled.bulk.batch) old c.deal.new.self
+    (piece-are g.R.Record.record_of g.R.Record.WIDTH told part.name.now part.from part.count piece (take part.count filled.bulk.batch) long c.fill_records.ensures.records (subst Read c.WIDTH.ensures c.in_default.ensures.bytes))
     (λ records s. c.deal.ensures.session queue records (subst (λ l. InSession shown queue records l) (sym c.fill_records.ensures.only) (session-batch shown queue records old filled.bulk.batch s)))
     had
 
@@ -27,7 +31,7 @@ returns-in-Err-clause-refused g c =
     let replied = g.L.Library.replied c.fill.new.library in
     let part = c.args.part in
     subst (λ (f : LoadFault). IsReadRefusal told replied part.name.now part.said f) (sym c.from.ensures)
-    (read-refused told replied part.name.now part.said c.requires.long (part.from * 16 + length c.args.piece.now) c.in-Err.fault (omega (arith, c.requires.part.length, c.requires.part.within)) c.in-Err.ensures.ended)
+    (read-refused told replied part.name.now part.said c.requires.long (part.from * c.WIDTH.result + length c.args.piece.now) c.in-Err.fault (part-end part.said g.R.Record.WIDTH part.from part.count (length c.args.piece.now) (batch_of c.args.load.now.bulk.sizes) c.WIDTH.result c.requires.part c.WIDTH.ensures) c.in-Err.ensures.ended)
 
 pub returns-in-Err-clause-counts : goal.returns-in-Err-clause-counts
 returns-in-Err-clause-counts g c =
@@ -40,7 +44,7 @@ returns-in-Err-clause-counts g c =
     }
 
 pub returns-in-Err-clause-reads : goal.returns-in-Err-clause-reads
-returns-in-Err-clause-reads g c = reads-wider g.L.Library.told g.L.Library.replied c.args.part.name.now (omega (arith, c.requires.part.length, c.requires.part.within)) c.fill.ensures.reads
+returns-in-Err-clause-reads g c = reads-wider g.L.Library.told g.L.Library.replied c.args.part.name.now (part-end c.args.part.said g.R.Record.WIDTH c.args.part.from c.args.part.count (length c.args.piece.now) (batch_of c.args.load.now.bulk.sizes) c.WIDTH.result c.requires.part c.WIDTH.ensures) c.fill.ensures.reads
 
 pub returns-clause-reads : goal.returns-clause-reads
-returns-clause-reads g c = reads-wider g.L.Library.told g.L.Library.replied c.args.part.name.now (omega (arith, c.requires.part.length, c.requires.part.within)) c.fill.ensures.reads
+returns-clause-reads g c = reads-wider g.L.Library.told g.L.Library.replied c.args.part.name.now (part-end c.args.part.said g.R.Record.WIDTH c.args.part.from c.args.part.count (length c.args.piece.now) (batch_of c.args.load.now.bulk.sizes) c.WIDTH.result c.requires.part c.WIDTH.ensures) c.fill.ensures.reads

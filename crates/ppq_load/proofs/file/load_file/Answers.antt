@@ -1,8 +1,7 @@
 use Rattle.std.proofs.Common.{◌≡◌, ℕ, ◌+◌, ◌/◌, ◌++◌, List, Option, Some, None, max, [], sym, subst, arith}
 use Rattle.std.specs.Prelude.{OnOk, IfErr, ⊤}
-use Rattle.ppq_session.specs.ppq_record.declared.pair.Pair.{Pair}
 use Rattle.ppq_session.specs.ppq_record.Bag.{IsSameBag}
-use Rattle.ppq_session.specs.ppq_record.Given.{records_of}
+use Rattle.ppq_load.specs.Given.{records_of}
 use Rattle.ppq_session.specs.ppq_outside.Shown.{AllTell}
 use Rattle.ppq_session.specs.ppq_outside.Told.{bytes_or_none}
 use Rattle.ppq_session.proofs.ppq_outside.Replies.{no_replies}
@@ -22,19 +21,19 @@ use Rattle.ppq_load.proofs.file.load_file.Goals as goal
 -- what the load says, once its session ended
 says :
     (g : over.Over) (c : After-first_fault g)
-    → LoadSays (AllTell c.args.queue.slots → (files : List ℕ → Option (List ℕ)) → g.L.Library.told c.args.library.now ≡ Some files → IsSameBag c.end-queue.result.0.bag (records_of (bytes_or_none (files c.args.name.now)) ++ c.args.queue.bag)) c.args.queue c.end-queue.result.0 (c.args.said / 16) c.first_fault.result
+    → LoadSays (AllTell c.args.queue.slots → (files : List ℕ → Option (List ℕ)) → g.L.Library.told c.args.library.now ≡ Some files → IsSameBag c.end-queue.result.0.bag (records_of g.R.Record.record_of g.R.Record.WIDTH (bytes_or_none (files c.args.name.now)) ++ c.args.queue.bag)) c.args.queue c.end-queue.result.0 (c.args.said / g.R.Record.WIDTH) c.first_fault.result
 says g c =
     let q = c.args.queue in
     let told = g.L.Library.told c.args.library.now in
     let new = c.end-queue.result.0 in
     let read = c.deal_file-read in
     let given =
-    on_ok-map read.result ((queue : Holding Pair) → InSession g.S.Slot.shown queue [] c.in-Ok.load → HasGiven g.S.Slot.shown queue told c.args.name.now (c.args.said / 16) read.new.load)
-    (HasGiven g.S.Slot.shown q told c.args.name.now (c.args.said / 16) read.new.load) (λ all. all q c.in-Ok.ensures.session) read.ensures.given
+    on_ok-map read.result ((queue : Holding g.row.R.Denot) → InSession g.S.Slot.shown queue [] c.in-Ok.load → HasGiven g.R.Record.record_of g.R.Record.WIDTH g.S.Slot.shown queue told c.args.name.now (c.args.said / g.R.Record.WIDTH) read.new.load)
+    (HasGiven g.R.Record.record_of g.R.Record.WIDTH g.S.Slot.shown q told c.args.name.now (c.args.said / g.R.Record.WIDTH) read.new.load) (λ all. all q c.in-Ok.ensures.session) read.ensures.given
     in
     let by_file = if_err-map read.result (IsReadRefusal told (g.L.Library.replied read.new.library) c.args.name.now c.args.said) IsByRead (λ fault refused. refused.by_file) read.ensures.refused in
-    subst (λ r. LoadSays (AllTell q.slots → (files : List ℕ → Option (List ℕ)) → told ≡ Some files → IsSameBag new.bag (records_of (bytes_or_none (files c.args.name.now)) ++ q.bag)) q new (c.args.said / 16) r) (sym c.first_fault.ensures)
-    (first-says g.S.Slot.shown told c.args.name.now c.args.said read.new.load q new c.end-queue.result.1 (c.end-queue.ensures.loaded q) c.requires.long read.result given by_file)
+    subst (λ r. LoadSays (AllTell q.slots → (files : List ℕ → Option (List ℕ)) → told ≡ Some files → IsSameBag new.bag (records_of g.R.Record.record_of g.R.Record.WIDTH (bytes_or_none (files c.args.name.now)) ++ q.bag)) q new (c.args.said / g.R.Record.WIDTH) r) (sym c.first_fault.ensures)
+    (first-says g.R.Record.record_of g.R.Record.WIDTH g.S.Slot.shown told c.args.name.now c.args.said read.new.load q new c.end-queue.result.1 (c.end-queue.ensures.loaded q) c.requires.long read.result given by_file)
 
 pub returns-in-Ok-clause-bag : goal.returns-in-Ok-clause-bag
 returns-in-Ok-clause-bag g c = (says g (goal.at.returns-in-Ok-clause-bag g c).After-first_fault).all
@@ -56,13 +55,13 @@ returns-in-Ok-clause-part g c =
     let told = g.L.Library.told c.args.library.now in
     let some = c.deal_file-read.ensures.some q c.in-Ok.ensures.session in
     let ended = c.end-queue.ensures.loaded q some.given.records some.given.session in
-    on_err c.first_fault.result (new.failed ≡ None → AllTell q.slots → (files : List ℕ → Option (List ℕ)) → told ≡ Some files → AddsPart (records_of (bytes_or_none (files name))) q.bag new.bag)
+    on_err c.first_fault.result (new.failed ≡ None → AllTell q.slots → (files : List ℕ → Option (List ℕ)) → told ≡ Some files → AddsPart (records_of g.R.Record.record_of g.R.Record.WIDTH (bytes_or_none (files name))) q.bag new.bag)
     (λ sound tells files is.
-    file-part told name files c.args.said some.count some.given.records q.bag new.bag is (c.requires.long files is) some.few some.given.are
+    file-part g.R.Record.record_of g.R.Record.WIDTH told name files c.args.said some.count some.given.records q.bag new.bag is (c.requires.long files is) some.few some.given.are
     (ended-part g.S.Slot.shown c.deal_file-read.new.load q new some.given.records c.end-queue.result.1 ended c.end-queue.ensures.left sound tells))
 
 pub returns-in-Err-clause-part : goal.returns-in-Err-clause-part
-returns-in-Err-clause-part g c = λ sound tells files is. unbegun-part (records_of (bytes_or_none (files c.args.name.now))) c.args.queue c.in-Err.queue c.in-Err.fault c.in-Err.ensures.intact sound tells
+returns-in-Err-clause-part g c = λ sound tells files is. unbegun-part (records_of g.R.Record.record_of g.R.Record.WIDTH (bytes_or_none (files c.args.name.now))) c.args.queue c.in-Err.queue c.in-Err.fault c.in-Err.ensures.intact sound tells
 
 pub returns-in-Ok-clause-peak : goal.returns-in-Ok-clause-peak
 returns-in-Ok-clause-peak g c = (says g (goal.at.returns-in-Ok-clause-peak g c).After-first_fault).peak
@@ -97,7 +96,7 @@ returns-in-Ok-clause-cause g c =
 pub returns-in-Err-clause-refused : goal.returns-in-Err-clause-refused
 returns-in-Err-clause-refused g c =
     let q = c.args.queue in
-    stop-later q.sizes q.limited q.limited q.peak (max q.peak (q.size + c.args.said / 16)) (omega (arith, c.known.ensures.range.two_records)) (λ same. same) (omega arith) c.in-Err.queue.slots c.in-Err.fault c.in-Err.ensures.refused
+    stop-later q.sizes q.limited q.limited q.peak (max q.peak (q.size + c.args.said / g.R.Record.WIDTH)) (omega (arith, c.known.ensures.range.two_records)) (λ same. same) (omega arith) c.in-Err.queue.slots c.in-Err.fault c.in-Err.ensures.refused
 
 pub returns-in-Err-clause-ended : goal.returns-in-Err-clause-ended
 returns-in-Err-clause-ended g c = unread-ends (g.L.Library.told c.args.library.now) (g.L.Library.replied c.args.library.now) c.args.name.now c.args.said c.in-Err.fault c.in-Err.ensures.by_load

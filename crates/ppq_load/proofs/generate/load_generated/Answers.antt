@@ -1,12 +1,12 @@
-use Rattle.std.proofs.Common.{◌≡◌, ◌+◌, ◌++◌, None, max, sym, subst, arith}
+use Rattle.std.proofs.Common.{◌≡◌, ◌+◌, ◌++◌, List, [], None, max, sym, ap, subst, arith}
 use Rattle.std.specs.Prelude.{IfErr}
 use Rattle.ppq_session.specs.ppq_record.Bag.{IsSameBag}
-use Rattle.ppq_session.specs.ppq_record.Given.{generated}
+use Rattle.ppq_load.specs.Given.{generated_by, generated_from_by}
 use Rattle.ppq_session.specs.ppq_outside.Shown.{AllTell}
 use Rattle.ppq_session.specs.Dealing.{AddsPart}
 use Rattle.ppq_session.specs.ppq_array.declared.store_fault.StoreFault.TheVariants.{Device}
 use Rattle.ppq_load.specs.declared.fault.LoadFault.TheVariants.{Queue}
-use Rattle.ppq_load.specs.Loading.{IsLoaded, IsByLoad, IsStoppedBy}
+use Rattle.ppq_load.specs.Loading.{InSession, IsLoaded, IsByLoad, IsStoppedBy}
 use Rattle.ppq_load.proofs.Generated.{length-generated}
 use Rattle.ppq_load.proofs.Refusals.{stop-later}
 use Rattle.ppq_load.proofs.Parts.{ended-part, unbegun-part}
@@ -16,18 +16,23 @@ use Rattle.ppq_load.proofs.generate.load_generated.Goals.{After-end-queue, After
 use Rattle.ppq_load.proofs.generate.load_generated.Goals as goal
 
 -- the session ended with the generated records
-done : (g : over.Over) (c : After-end-queue g) → IsLoaded c.args.queue (generated c.args.seed c.args.count) c.end-queue.result.0 c.end-queue.result.1
-done g c = c.end-queue.ensures.loaded c.args.queue (generated c.args.seed c.args.count) (c.deal_generated.ensures.session c.args.queue c.in-Ok.ensures.session)
+done : (g : over.Over) (c : After-end-queue g) → IsLoaded c.args.queue (generated_by g.R.Fields.COUNT g.R.Fields.of_fields c.args.seed c.args.count) c.end-queue.result.0 c.end-queue.result.1
+done g c =
+    let maker = c.new.result in
+    let records = generated_by g.R.Fields.COUNT g.R.Fields.of_fields c.args.seed c.args.count in
+    let of_new = ap (λ m. generated_from_by g.R.Fields.COUNT g.R.Fields.of_fields m.seed m.key m.number m.left) c.new.ensures in
+    let given = subst (λ (rs : List g.row.R.Denot). InSession g.S.Slot.shown c.args.queue rs c.deal_made-all.new.self) of_new (c.deal_made-all.ensures.session c.args.queue [] c.in-Ok.ensures.session) in
+    c.end-queue.ensures.loaded c.args.queue records given
 
 says :
     (g : over.Over) (c : After-loaded g)
-    → LoadSays (AllTell c.args.queue.slots → IsSameBag c.end-queue.result.0.bag (generated c.args.seed c.args.count ++ c.args.queue.bag)) c.args.queue c.end-queue.result.0 c.args.count c.loaded.result
+    → LoadSays (AllTell c.args.queue.slots → IsSameBag c.end-queue.result.0.bag (generated_by g.R.Fields.COUNT g.R.Fields.of_fields c.args.seed c.args.count ++ c.args.queue.bag)) c.args.queue c.end-queue.result.0 c.args.count c.loaded.result
 says g c =
     let q = c.args.queue in
     let new = c.end-queue.result.0 in
-    let records = generated c.args.seed c.args.count in
+    let records = generated_by g.R.Fields.COUNT g.R.Fields.of_fields c.args.seed c.args.count in
     let Bag : Type 0 = AllTell q.slots → IsSameBag new.bag (records ++ q.bag) in
-    subst (λ r. LoadSays Bag q new c.args.count r) (sym c.loaded.ensures) (loaded-says q new records c.args.count Bag (length-generated c.args.seed 0 c.args.count) (λ bag. bag) c.end-queue.result.1 (done g c.before))
+    subst (λ r. LoadSays Bag q new c.args.count r) (sym c.loaded.ensures) (loaded-says q new records c.args.count Bag (length-generated g.R.Fields.COUNT g.R.Fields.of_fields c.args.seed c.args.seed 0 c.args.count) (λ bag. bag) c.end-queue.result.1 (done g c.before))
 
 pub returns-in-Ok-clause-bag : goal.returns-in-Ok-clause-bag
 returns-in-Ok-clause-bag g c = (says g (goal.at.returns-in-Ok-clause-bag g c).After-loaded).all
@@ -45,13 +50,13 @@ pub returns-in-Ok-clause-part : goal.returns-in-Ok-clause-part
 returns-in-Ok-clause-part g c =
     let q = c.args.queue in
     let new = c.end-queue.result.0 in
-    let records = generated c.args.seed c.args.count in
+    let records = generated_by g.R.Fields.COUNT g.R.Fields.of_fields c.args.seed c.args.count in
     let ended = done g (goal.at.returns-in-Ok-clause-part g c).After-end-queue in
     on_err c.loaded.result (new.failed ≡ None → AllTell q.slots → AddsPart records q.bag new.bag)
-    (ended-part g.S.Slot.shown c.deal_generated.new.load q new records c.end-queue.result.1 ended c.end-queue.ensures.left)
+    (ended-part g.S.Slot.shown c.deal_made-all.new.self q new records c.end-queue.result.1 ended c.end-queue.ensures.left)
 
 pub returns-in-Err-clause-part : goal.returns-in-Err-clause-part
-returns-in-Err-clause-part g c = unbegun-part (generated c.args.seed c.args.count) c.args.queue c.in-Err.queue c.in-Err.fault c.in-Err.ensures.intact
+returns-in-Err-clause-part g c = unbegun-part (generated_by g.R.Fields.COUNT g.R.Fields.of_fields c.args.seed c.args.count) c.args.queue c.in-Err.queue c.in-Err.fault c.in-Err.ensures.intact
 
 pub returns-in-Ok-clause-peak : goal.returns-in-Ok-clause-peak
 returns-in-Ok-clause-peak g c = (says g (goal.at.returns-in-Ok-clause-peak g c).After-loaded).peak
@@ -71,7 +76,7 @@ returns-in-Err-clause-refused g c =
     stop-later q.sizes q.limited q.limited q.peak (max q.peak (q.size + c.args.count)) (omega (arith, c.known.ensures.range.two_records)) (λ same. same) (omega arith) c.in-Err.queue.slots c.in-Err.fault c.in-Err.ensures.refused
 
 pub returns-in-Ok-clause-stopped : goal.returns-in-Ok-clause-stopped
-returns-in-Ok-clause-stopped g c = subst (λ r. IfErr r (IsStoppedBy c.end-queue.result.0)) (sym c.loaded.ensures) (loaded-stopped g.S.Slot.shown c.deal_generated.new.load c.end-queue.result.0 c.end-queue.result.1 c.end-queue.ensures.left)
+returns-in-Ok-clause-stopped g c = subst (λ r. IfErr r (IsStoppedBy c.end-queue.result.0)) (sym c.loaded.ensures) (loaded-stopped g.S.Slot.shown c.deal_made-all.new.self c.end-queue.result.0 c.end-queue.result.1 c.end-queue.ensures.left)
 
 pub returns-in-Err-clause-stopped : goal.returns-in-Err-clause-stopped
 returns-in-Err-clause-stopped g c = unbegun-stopped c.args.queue c.in-Err.queue c.in-Err.fault c.in-Err.ensures.intact

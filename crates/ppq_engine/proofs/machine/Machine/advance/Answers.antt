@@ -1,6 +1,6 @@
-use Rattle.std.proofs.Common.{◌∷◌, ℕ, Bool, List, [], max, sym, refl, subst, arith}
+use Rattle.std.proofs.Common.{◌∷◌, ℕ, Bool, List, [], max, sym, subst, arith}
+use Rattle.ppq_script.specs.Words.{words}
 use Rattle.std.specs.Prelude.{IfErr, OnOk}
-use Rattle.ppq_script.specs.ppq_record.declared.pair.Pair.{Pair}
 use Rattle.ppq_script.specs.declared.command.Command.{Command}
 use Rattle.ppq_script.specs.declared.part.Part.{Part}
 use Rattle.ppq_script.specs.declared.part.Part.TheVariants.{One}
@@ -20,13 +20,15 @@ use Rattle.ppq_engine.proofs.Turns.{library-unasked, adds-sink, turn-goes}
 use Rattle.ppq_engine.proofs.machine.Machine.advance.Goals as goal
 
 pub run_bulk-requires-clause-lines : goal.run_bulk-requires-clause-lines
-run_bulk-requires-clause-lines g c κs within = subst (HasItsLines c.args.self.queue.sizes.workers) c.in-Bulk.is c.requires.turn.lines
+run_bulk-requires-clause-lines g c κs within = let w = words g.R.PartialEq g.R.PartialOrd g.R.Ord g.R.Record g.R.Fields in
+    subst (HasItsLines w c.args.self.queue.sizes.workers) c.in-Bulk.is c.requires.turn.lines
 
 pub run_limit-requires-clause-lines : goal.run_limit-requires-clause-lines
-run_limit-requires-clause-lines g c κs within = subst (HasItsLines c.args.self.queue.sizes.workers) c.in-Limit.is c.requires.turn.lines
+run_limit-requires-clause-lines g c κs within = let w = words g.R.PartialEq g.R.PartialOrd g.R.Ord g.R.Record g.R.Fields in
+    subst (HasItsLines w c.args.self.queue.sizes.workers) c.in-Limit.is c.requires.turn.lines
 
 pub returns-in-Bulk : goal.returns-in-Bulk
-returns-in-Bulk g c =
+returns-in-Bulk g c = let w = words g.R.PartialEq g.R.PartialOrd g.R.Ord g.R.Record g.R.Fields in
     let script = c.args.world.now.script.now in
     let put = g.O.Sink.told c.args.out.now in
     let files = g.L.Library.told c.args.library.now in
@@ -34,7 +36,7 @@ returns-in-Bulk g c =
     let new = c.run_bulk.result.0 in
     let r = c.run_bulk.result.1 in
     let b = c.run_bulk.ensures in
-    let Going : Part → Type 0 = λ p. Goes c.args.world.now.form files script (first_in p) (commands_in p) put put c.args.self.queue new.queue c.args.self.desk.gathered new.desk.gathered r in
+    let Going : Part g.row.R.Denot → Type 0 = λ p. Goes w c.args.world.now.form files script (first_in p) (commands_in p) put put c.args.self.queue new.queue c.args.self.desk.gathered new.desk.gathered r in
     record {
       goes = subst Going (sym c.in-Bulk.is) (b.goes c.args.world.now.form files put);
       library = library-unasked files replied script (g.L.Library.faults c.args.library.now) r (if-err-map r IsBySession IsByLimit session-by_limit b.by_session);
@@ -42,7 +44,7 @@ returns-in-Bulk g c =
     }
 
 pub returns-in-Limit : goal.returns-in-Limit
-returns-in-Limit g c =
+returns-in-Limit g c = let w = words g.R.PartialEq g.R.PartialOrd g.R.Ord g.R.Record g.R.Fields in
     let script = c.args.world.now.script.now in
     let told = g.O.Sink.told in
     let files = g.L.Library.told c.args.library.now in
@@ -50,7 +52,7 @@ returns-in-Limit g c =
     let new = c.run_limit.result.0 in
     let r = c.run_limit.result.1 in
     let b = c.run_limit.ensures in
-    let Going : Part → Type 0 = λ p. Goes c.args.world.now.form files script (first_in p) (commands_in p) (told c.args.out.now) (told c.run_limit.new.out) c.args.self.queue new.queue c.args.self.desk.gathered new.desk.gathered r in
+    let Going : Part g.row.R.Denot → Type 0 = λ p. Goes w c.args.world.now.form files script (first_in p) (commands_in p) (told c.args.out.now) (told c.run_limit.new.out) c.args.self.queue new.queue c.args.self.desk.gathered new.desk.gathered r in
     record {
       goes = subst Going (sym c.in-Limit.is) (b.goes files);
       library = library-unasked files replied script (g.L.Library.faults c.args.library.now) r b.by_limit;
@@ -58,22 +60,23 @@ returns-in-Limit g c =
     }
 
 pub push_file-requires-clause-turn : goal.push_file-requires-clause-turn
-push_file-requires-clause-turn g c κs within = subst (λ (k : Command). IsTurn c.args.world.now.script.now c.args.self.queue c.args.place (One k)) c.in-Bulk-command.is (subst (IsTurn c.args.world.now.script.now c.args.self.queue c.args.place) c.in-One.is c.requires.turn)
+push_file-requires-clause-turn g c κs within = let w = words g.R.PartialEq g.R.PartialOrd g.R.Ord g.R.Record g.R.Fields in
+    subst (λ (k : Command g.row.R.Denot). IsTurn w c.args.world.now.script.now c.args.self.queue c.args.place (One k)) c.in-Bulk-command.is (subst (IsTurn w c.args.world.now.script.now c.args.self.queue c.args.place) c.in-One.is c.requires.turn)
 
 pub returns-in-Bulk-command : goal.returns-in-Bulk-command
-returns-in-Bulk-command g c =
+returns-in-Bulk-command g c = let w = words g.R.PartialEq g.R.PartialOrd g.R.Ord g.R.Record g.R.Fields in
     let script = c.args.world.now.script.now in
     let put = g.O.Sink.told c.args.out.now in
     let files = g.L.Library.told c.args.library.now in
     let new = c.push_file.result.0 in
     let r = c.push_file.result.1 in
     let b = c.push_file.ensures in
-    let Going : Command → Type 0 = λ k. Goes c.args.world.now.form files script k (k ∷ []) put put c.args.self.queue new.queue c.args.self.desk.gathered new.desk.gathered r in
-    let Whole : Part → Type 0 = λ p. Goes c.args.world.now.form files script (first_in p) (commands_in p) put put c.args.self.queue new.queue c.args.self.desk.gathered new.desk.gathered r in
+    let Going : Command g.row.R.Denot → Type 0 = λ k. Goes w c.args.world.now.form files script k (k ∷ []) put put c.args.self.queue new.queue c.args.self.desk.gathered new.desk.gathered r in
+    let Whole : Part g.row.R.Denot → Type 0 = λ p. Goes w c.args.world.now.form files script (first_in p) (commands_in p) put put c.args.self.queue new.queue c.args.self.desk.gathered new.desk.gathered r in
     record { goes = subst Whole (sym c.in-One.is) (subst Going (sym c.in-Bulk-command.is) (b.goes put)); library = b.library; sink = adds-sink (g.O.Sink.faults c.args.out.now) r b.by_file }
 
 pub returns-in-Gen : goal.returns-in-Gen
-returns-in-Gen g c =
+returns-in-Gen g c = let w = words g.R.PartialEq g.R.PartialOrd g.R.Ord g.R.Record g.R.Fields in
     let script = c.args.world.now.script.now in
     let put = g.O.Sink.told c.args.out.now in
     let files = g.L.Library.told c.args.library.now in
@@ -81,8 +84,8 @@ returns-in-Gen g c =
     let new = c.push_generated.result.0 in
     let r = c.push_generated.result.1 in
     let b = c.push_generated.ensures in
-    let Going : Command → Type 0 = λ k. Goes c.args.world.now.form files script k (k ∷ []) put put c.args.self.queue new.queue c.args.self.desk.gathered new.desk.gathered r in
-    let Whole : Part → Type 0 = λ p. Goes c.args.world.now.form files script (first_in p) (commands_in p) put put c.args.self.queue new.queue c.args.self.desk.gathered new.desk.gathered r in
+    let Going : Command g.row.R.Denot → Type 0 = λ k. Goes w c.args.world.now.form files script k (k ∷ []) put put c.args.self.queue new.queue c.args.self.desk.gathered new.desk.gathered r in
+    let Whole : Part g.row.R.Denot → Type 0 = λ p. Goes w c.args.world.now.form files script (first_in p) (commands_in p) put put c.args.self.queue new.queue c.args.self.desk.gathered new.desk.gathered r in
     record {
       goes = subst Whole (sym c.in-One.is) (subst Going (sym c.in-Gen.is) (b.goes c.args.world.now.form files put));
       library = library-unasked files replied script (g.L.Library.faults c.args.library.now) r (if-err-map r IsBySession IsByLimit session-by_limit b.by_session);
@@ -90,12 +93,13 @@ returns-in-Gen g c =
     }
 
 pub lend-done-requires-clause-lends : goal.lend-done-requires-clause-lends
-lend-done-requires-clause-lends g c = λ lives fits.
+lend-done-requires-clause-lends g c = let w = words g.R.PartialEq g.R.PartialOrd g.R.Ord g.R.Record g.R.Fields in
+    λ lives fits.
     let workers = c.args.self.queue.sizes.workers in
-    lends workers c.in-One.command (subst (HasItsLines workers) c.in-One.is c.requires.turn.lines) c.in_default.not-Bulk c.in_default.not-Gen
+    lends w workers c.in-One.command (subst (HasItsLines w workers) c.in-One.is c.requires.turn.lines) c.in_default.not-Bulk c.in_default.not-Gen
 
 pub returns-in_default : goal.returns-in_default
-returns-in_default g c =
+returns-in_default g c = let w = words g.R.PartialEq g.R.PartialOrd g.R.Ord g.R.Record g.R.Fields in
     let script = c.args.world.now.script.now in
     let k = c.in-One.command in
     let told = g.O.Sink.told in
@@ -107,25 +111,25 @@ returns-in_default g c =
     let has = c.lend-done.new.self.desk.gathered in
     let a = c.lend-done.ensures in
     let r = c.lend-done.result in
-    let higher = max old.peak (size_after none_go old.size k) in
-    let Left : Type 0 = (given : ℕ → List Pair) → Leaves old new (after given (outside old.bag) k).bag (size_after all_go old.size k) (size_after none_go old.size k) in
+    let higher = max old.peak (size_after w none_go old.size k) in
+    let Left : Type 0 = (given : ℕ → List g.row.R.Denot) → Leaves old new (after w given (outside old.bag) k).bag (size_after w all_go old.size k) (size_after w none_go old.size k) in
     let Why : Stop → Numbers → Bool → Type 0 = λ stop n b. StopsFor new.peak n b new.slots stop in
     let By : Stop → Type 0 = λ stop. StopsFor new.peak new.sizes new.limited new.slots stop × NotByFile stop in
-    let ran : OnOk r (RunsStep files script old new k) =
-    on-ok-map r Left (RunsStep files script old new k)
+    let ran : OnOk r (RunsStep w files script old new k) =
+    on-ok-map r Left (RunsStep w files script old new k)
     (λ left.
     let any = left (λ file. []) in
-    record { bag = λ tells given are. (left (given_of given script)).bag tells; low = any.low; high = any.high; sound = any.sound; quiet = any.quiet; peak = a.lent.peak }) a.left in
-    let stops : IfErr r (StopsStep old new k) =
-    if-err-map r By (StopsStep old new k)
+    record { bag = λ tells given are. (left (given_of w given script)).bag tells; low = any.low; high = any.high; sound = any.sound; quiet = any.quiet; peak = a.lent.peak }) a.left in
+    let stops : IfErr r (StopsStep w old new k) =
+    if-err-map r By (StopsStep w old new k)
     (λ stop why. record {
       refused = stops-more old.sizes old.limited new.slots new.peak higher stop (omega (arith, c.known.ensures.range.two_records)) a.lent.peak (subst (Why stop old.sizes) a.lent.kept.limited (subst (λ (n : Numbers). Why stop n new.limited) a.lent.kept.sizes why.0));
       of_file = not_of_file k stop why.1;
     }) (if-err-both r (StopsFor new.peak new.sizes new.limited new.slots) NotByFile a.lent.refused a.lent.no_file) in
-    let is = subst (HasItsLines old.sizes.workers) c.in-One.is c.requires.turn.lines in
-    let Whole : Part → Type 0 = λ p. Goes c.args.world.now.form files script (first_in p) (commands_in p) (told c.args.out.now) (told c.lend-done.new.out) old new had has r in
+    let is = subst (HasItsLines w old.sizes.workers) c.in-One.is c.requires.turn.lines in
+    let Whole : Part g.row.R.Denot → Type 0 = λ p. Goes w c.args.world.now.form files script (first_in p) (commands_in p) (told c.args.out.now) (told c.lend-done.new.out) old new had has r in
     record {
-      goes = subst Whole (sym c.in-One.is) (turn-goes c.args.world.now.form files script old.sizes.workers k is old new (told c.args.out.now) (told c.lend-done.new.out) had has r a.prints a.lent.kept ran stops);
+      goes = subst Whole (sym c.in-One.is) (turn-goes w c.args.world.now.form files script old.sizes.workers k is old new (told c.args.out.now) (told c.lend-done.new.out) had has r a.prints a.lent.kept ran stops);
       library = library-unasked files replied script (g.L.Library.faults c.args.library.now) r (if-err-map r NotByFile IsByLimit not-by_limit a.lent.no_file);
       sink = a.counts;
     }

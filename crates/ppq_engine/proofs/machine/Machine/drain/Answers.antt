@@ -1,6 +1,6 @@
 use Rattle.std.proofs.Common.{rules, ◌≡◌, ◌+◌, ◌-◌, ◌++◌, ◌∙◌, ℕ, List, length, ap, None, refl, sym, subst, take, drop, arith}
-use Rattle.ppq_script.specs.ppq_record.declared.pair.Pair.{Pair}
-use Rattle.ppq_script.specs.ppq_record.Pair.{pair_cmp}
+use Rattle.ppq_engine.proofs.Orders.{laws_of}
+use Rattle.ppq_script.specs.Words.{words}
 use Rattle.ppq_script.specs.ppq_record.Bag.{IsSameBag, ascending}
 use Rattle.ppq_engine.specs.Gathers.{IsSummary}
 use Rattle.ppq_engine.proofs.Popped.{left-begin, round-left, round-taken, round-ends}
@@ -8,18 +8,19 @@ use Rattle.ppq_engine.proofs.Kept.{Keeps-refl, Keeps-trans}
 use Rattle.ppq_engine.proofs.machine.Machine.drain.Goals as goal
 
 pub rounds-init : goal.rounds-init
-rounds-init g c = record {
-  left = λ tells. left-begin c.args.self.now.queue.bag;
-  summary = λ tells. c.nothing-drained.ensures;
-  count = c.nothing-drained.ensures.count;
-  within = omega arith;
-  size = omega arith;
-  sound = c.requires;
-  quiet = refl;
-  peak = omega arith;
-  kept = Keeps-refl c.args.self.now.queue;
-  gathered = refl;
-}
+rounds-init g c = let w = words g.R.PartialEq g.R.PartialOrd g.R.Ord g.R.Record g.R.Fields in let laws = laws_of w c.record_laws.ensures.order c.record_laws.ensures.same in
+    record {
+      left = λ tells. left-begin w laws c.args.self.now.queue.bag;
+      summary = λ tells. c.nothing-drained.ensures;
+      count = c.nothing-drained.ensures.count;
+      within = omega arith;
+      size = omega arith;
+      sound = c.requires;
+      quiet = refl;
+      peak = omega arith;
+      kept = Keeps-refl c.args.self.now.queue;
+      gathered = refl;
+    }
 
 pub returns-in_err-pop_round-clause-called : goal.returns-in_err-pop_round-clause-called
 returns-in_err-pop_round-clause-called g c = record {
@@ -30,20 +31,21 @@ returns-in_err-pop_round-clause-called g c = record {
 }
 
 pub returns-then-is_empty-clause-summary : goal.returns-then-is_empty-clause-summary
-returns-then-is_empty-clause-summary g c = λ tells.
+returns-then-is_empty-clause-summary g c = let w = words g.R.PartialEq g.R.PartialOrd g.R.Ord g.R.Record g.R.Fields in let laws = laws_of w c.record_laws.ensures.order c.record_laws.ensures.same in
+    λ tells.
     let here = c.rounds.invariant.kept.tells tells in
-    let all = round-ends None c.rounds.self.queue.bag c.pop_round.new.self.queue.bag c.args.self.now.queue.bag c.pop_round.new.self.desk.list.items c.rounds.done c.args.count (c.args.count - c.rounds.done) (c.if-is_empty.ensures.0 refl) (c.rounds.invariant.left tells) (c.in_ok-pop_round.ensures.popped.round here) c.rounds.invariant.within in
-    let P : List Pair → Type 0 = λ items. IsSummary items c.rounds.drained in
+    let all = round-ends w laws None c.rounds.self.queue.bag c.pop_round.new.self.queue.bag c.args.self.now.queue.bag c.pop_round.new.self.desk.list.items c.rounds.done c.args.count (c.args.count - c.rounds.done) (c.if-is_empty.ensures.0 refl) (c.rounds.invariant.left tells) (c.in_ok-pop_round.ensures.popped.round here) c.rounds.invariant.within in
+    let P : List g.row.R.Denot → Type 0 = λ items. IsSummary w items c.rounds.drained in
     subst P (sym all.0) (c.rounds.invariant.summary tells)
 
 pub returns-then-is_empty-clause-left : goal.returns-then-is_empty-clause-left
-returns-then-is_empty-clause-left g c =
+returns-then-is_empty-clause-left g c = let w = words g.R.PartialEq g.R.PartialOrd g.R.Ord g.R.Record g.R.Fields in let laws = laws_of w c.record_laws.ensures.order c.record_laws.ensures.same in
     let popped = c.in_ok-pop_round.ensures.popped in
     let none = c.if-is_empty.ensures.0 refl in
     record {
       bag =
           λ tells.
-          (round-ends None c.rounds.self.queue.bag c.pop_round.new.self.queue.bag c.args.self.now.queue.bag c.pop_round.new.self.desk.list.items c.rounds.done c.args.count (c.args.count - c.rounds.done) none (c.rounds.invariant.left tells) (popped.round (c.rounds.invariant.kept.tells tells)) c.rounds.invariant.within).1;
+          (round-ends w laws None c.rounds.self.queue.bag c.pop_round.new.self.queue.bag c.args.self.now.queue.bag c.pop_round.new.self.desk.list.items c.rounds.done c.args.count (c.args.count - c.rounds.done) none (c.rounds.invariant.left tells) (popped.round (c.rounds.invariant.kept.tells tells)) c.rounds.invariant.within).1;
       low = omega (arith, c.rounds.invariant.size, c.rounds.invariant.within, popped.size, popped.end refl none);
       high = omega (arith, c.rounds.invariant.size, c.rounds.invariant.within, popped.size, popped.end refl none);
       sound = popped.sound;
@@ -59,9 +61,9 @@ returns-then-is_empty-clause-called g c = record {
 }
 
 pub rounds-preserved : goal.rounds-preserved
-rounds-preserved g c =
+rounds-preserved g c = let w = words g.R.PartialEq g.R.PartialOrd g.R.Ord g.R.Record g.R.Fields in let laws = laws_of w c.record_laws.ensures.order c.record_laws.ensures.same in
     let old = c.args.self.now.queue.bag in
-    let asc = ascending pair_cmp old in
+    let asc = ascending w.cmp old in
     let bag = c.rounds.self.queue.bag in
     let next = c.pop_round.new.self.queue.bag in
     let items = c.pop_round.new.self.desk.list.items in
@@ -74,14 +76,14 @@ rounds-preserved g c =
       left =
           λ tells.
           let P : ℕ → Type 0 = λ n. IsSameBag next (drop n asc) in
-          subst P sum (round-left bag next old items done left None (v.left tells) (popped.round (v.kept.tells tells)));
+          subst P sum (round-left w laws bag next old items done left None (v.left tells) (popped.round (v.kept.tells tells)));
       summary =
           λ tells.
-          let P : ℕ → Type 0 = λ n. IsSummary (take n asc) c.add_all-drained.result in
-          let Q : List Pair → Type 0 = λ xs. IsSummary xs c.add_all-drained.result in
-          let R : List Pair → Type 0 = λ xs. IsSummary (take done asc ++ xs) c.add_all-drained.result in
+          let P : ℕ → Type 0 = λ n. IsSummary w (take n asc) c.add_all-drained.result in
+          let Q : List g.row.R.Denot → Type 0 = λ xs. IsSummary w xs c.add_all-drained.result in
+          let R : List g.row.R.Denot → Type 0 = λ xs. IsSummary w (take done asc ++ xs) c.add_all-drained.result in
           subst P sum
-          (subst Q (sym (round-taken bag next old items done left None (v.left tells) (popped.round (v.kept.tells tells))))
+          (subst Q (sym (round-taken w laws bag next old items done left None (v.left tells) (popped.round (v.kept.tells tells))))
           (subst R c.as_slice.ensures (c.add_all-drained.ensures.summary (take done asc) (v.summary tells))));
       count = omega (arith, sum, c.add_all-drained.ensures.count, v.count, ap length c.as_slice.ensures);
       within = omega (arith, sum, popped.few, v.within);
@@ -94,16 +96,17 @@ rounds-preserved g c =
     }
 
 pub returns-clause-summary : goal.returns-clause-summary
-returns-clause-summary g c = λ tells.
-    let P : ℕ → Type 0 = λ n. IsSummary (take n (ascending pair_cmp c.args.self.now.queue.bag)) c.rounds.drained in
+returns-clause-summary g c = let w = words g.R.PartialEq g.R.PartialOrd g.R.Ord g.R.Record g.R.Fields in
+    λ tells.
+    let P : ℕ → Type 0 = λ n. IsSummary w (take n (ascending w.cmp c.args.self.now.queue.bag)) c.rounds.drained in
     let all : c.rounds.done ≡ c.args.count = omega (arith, c.rounds.invariant.within) in
     subst P all (c.rounds.invariant.summary tells)
 
 pub returns-clause-left : goal.returns-clause-left
-returns-clause-left g c =
+returns-clause-left g c = let w = words g.R.PartialEq g.R.PartialOrd g.R.Ord g.R.Record g.R.Fields in
     let all : c.rounds.done ≡ c.args.count = omega (arith, c.rounds.invariant.within) in
     record {
-      bag = λ tells. let P : ℕ → Type 0 = λ n. IsSameBag c.rounds.self.queue.bag (drop n (ascending pair_cmp c.args.self.now.queue.bag)) in subst P all (c.rounds.invariant.left tells);
+      bag = λ tells. let P : ℕ → Type 0 = λ n. IsSameBag c.rounds.self.queue.bag (drop n (ascending w.cmp c.args.self.now.queue.bag)) in subst P all (c.rounds.invariant.left tells);
       low = omega (arith, c.rounds.invariant.size, all);
       high = omega (arith, c.rounds.invariant.size, all);
       sound = c.rounds.invariant.sound;

@@ -1,6 +1,5 @@
 use Rattle.std.proofs.Common.{◌≡◌, ◌-◌, ℕ, List, [], refl, sym, subst, arith}
-use Rattle.ppq_script.specs.ppq_record.declared.pair.Pair.{Pair}
-use Rattle.ppq_script.specs.ppq_record.Pair.{pair_cmp}
+use Rattle.ppq_script.specs.Words.{words}
 use Rattle.ppq_script.specs.ppq_record.Bag.{without_front}
 use Rattle.ppq_script.specs.ppq_outside.Told.{TakesPart}
 use Rattle.ppq_script.proofs.ppq_outside.Takes.{part_of_more}
@@ -16,7 +15,7 @@ use Rattle.ppq_engine.proofs.Results.{not-ok, on-ok-map}
 use Rattle.ppq_engine.proofs.machine.Machine.lend.Goals as goal
 
 pub returns-in-BulkPop : goal.returns-in-BulkPop
-returns-in-BulkPop g c =
+returns-in-BulkPop g c = let w = words g.R.PartialEq g.R.PartialOrd g.R.Ord g.R.Record g.R.Fields in
     let told = g.O.Sink.told in
     let faults = g.O.Sink.faults in
     let old = c.args.self.now in
@@ -24,26 +23,26 @@ returns-in-BulkPop g c =
     let new = p.new.self in
     let count = c.in-BulkPop.count in
     let k = BulkPop count in
-    let Done : Command → Type 0 = λ k. Lends c.args.world.now.form (told c.args.out.now) (told p.new.out) (faults c.args.out.now) (faults p.new.out) old new k p.result in
-    let Popped : Type 0 = Leaves old.queue new.queue (without_front pair_cmp old.queue.bag count) (old.queue.size - count) (old.queue.size - count) in
-    let Left : Type 0 = (given : ℕ → List Pair) → Leaves old.queue new.queue (after given (outside old.queue.bag) k).bag (size_after all_go old.queue.size k) (size_after none_go old.queue.size k) in
+    let Done : Command g.row.R.Denot → Type 0 = λ k. Lends w c.args.world.now.form (told c.args.out.now) (told p.new.out) (faults c.args.out.now) (faults p.new.out) old.queue new.queue old.desk.gathered new.desk.gathered k p.result in
+    let Popped : Type 0 = Leaves old.queue new.queue (without_front w.cmp old.queue.bag count) (old.queue.size - count) (old.queue.size - count) in
+    let Left : Type 0 = (given : ℕ → List g.row.R.Denot) → Leaves old.queue new.queue (after w given (outside old.queue.bag) k).bag (size_after w all_go old.queue.size k) (size_after w none_go old.queue.size k) in
     subst Done (sym c.in-BulkPop.is) (record { prints = p.ensures.prints; counts = p.ensures.sink; left = on-ok-map p.result Popped Left (λ left given. left) p.ensures.left; lent = lent-more p.ensures.lent (omega arith) })
 
 pub returns-in-BulkPopLimit : goal.returns-in-BulkPopLimit
-returns-in-BulkPopLimit g c =
+returns-in-BulkPopLimit g c = let w = words g.R.PartialEq g.R.PartialOrd g.R.Ord g.R.Record g.R.Fields in
     let told = g.O.Sink.told in
     let faults = g.O.Sink.faults in
     let p = c.print_limited in
-    let Done : Command → Type 0 = λ k. Lends c.args.world.now.form (told c.args.out.now) (told p.new.out) (faults c.args.out.now) (faults p.new.out) c.args.self.now p.new.self k p.result in
+    let Done : Command g.row.R.Denot → Type 0 = λ k. Lends w c.args.world.now.form (told c.args.out.now) (told p.new.out) (faults c.args.out.now) (faults p.new.out) c.args.self.now.queue p.new.self.queue c.args.self.now.desk.gathered p.new.self.desk.gathered k p.result in
     subst Done (sym c.in-BulkPopLimit.is) p.ensures
 
 pub returns-in_err-answer-in_default : goal.returns-in_err-answer-in_default
-returns-in_err-answer-in_default g c =
+returns-in_err-answer-in_default g c = let w = words g.R.PartialEq g.R.PartialOrd g.R.Ord g.R.Record g.R.Fields in
     let put = g.O.Sink.told c.args.out.now in
     let faults = g.O.Sink.faults c.args.out.now in
     let old = c.args.self.now in
     let new = c.act.new.self in
-    let text = text_of c.args.world.now.form (outside old.queue.bag) c.args.command in
+    let text = text_of w c.args.world.now.form (outside old.queue.bag) c.args.command in
     let r = c.from_residual.result in
     let stop = Queue c.in_err-answer-in_default.field-0.0 in
     let is = c.from_residual.ensures.1 in
@@ -56,12 +55,12 @@ returns-in_err-answer-in_default g c =
     }
 
 pub returns-in_err-print-in_default : goal.returns-in_err-print-in_default
-returns-in_err-print-in_default g c =
+returns-in_err-print-in_default g c = let w = words g.R.PartialEq g.R.PartialOrd g.R.Ord g.R.Record g.R.Fields in
     let told = g.O.Sink.told in
     let faults = g.O.Sink.faults in
     let old = c.args.self.now in
     let new = c.act.new.self in
-    let text = text_of c.args.world.now.form (outside old.queue.bag) c.args.command in
+    let text = text_of w c.args.world.now.form (outside old.queue.bag) c.args.command in
     let r = c.from_residual-in_err-print-in_default.result in
     let is = c.from_residual-in_err-print-in_default.ensures.1 in
     let a = c.act.ensures.called in

@@ -1,5 +1,6 @@
 use Rattle.std.proofs.Common.{◌≡◌, ◌++◌, ◌∙◌, max, refl, arith}
-use Rattle.ppq_script.specs.ppq_record.Pair.{pair_cmp}
+use Rattle.ppq_engine.proofs.Orders.{laws_of}
+use Rattle.ppq_script.specs.Words.{words}
 use Rattle.ppq_script.specs.ppq_record.Bag.{front}
 use Rattle.ppq_script.specs.declared.command.Command.TheVariants.{BulkPopLimit}
 use Rattle.ppq_engine.specs.Loads.{none_go, size_after}
@@ -11,13 +12,13 @@ use Rattle.ppq_engine.proofs.Results.{not-ok}
 use Rattle.ppq_engine.proofs.machine.Machine.print_limited.Goals as goal
 
 pub returns-in_err-print_popped : goal.returns-in_err-print_popped
-returns-in_err-print_popped g c =
+returns-in_err-print_popped g c = let w = words g.R.PartialEq g.R.PartialOrd g.R.Ord g.R.Record g.R.Fields in
     let told = g.O.Sink.told in
     let old = c.args.self.now in
     let new = c.print_popped.new.self in
-    let lines = records_text c.args.world.now.form (front pair_cmp old.queue.bag (limited_count old.queue.bag c.args.limit c.args.count)) in
-    let mark = mark_text c.args.world.now.form old.queue.bag c.args.limit c.args.count in
-    let most = max old.queue.peak (size_after none_go old.queue.size (BulkPopLimit c.args.limit c.args.count)) in
+    let lines = records_text w c.args.world.now.form (front w.cmp old.queue.bag (limited_count w old.queue.bag c.args.limit c.args.count)) in
+    let mark = mark_text w c.args.world.now.form old.queue.bag c.args.limit c.args.count in
+    let most = max old.queue.peak (size_after w none_go old.queue.size (BulkPopLimit c.args.limit c.args.count)) in
     let r = c.from_residual.result in
     let stop = c.in_err-print_popped.field-0.0 in
     let is = c.from_residual.ensures.1 in
@@ -32,14 +33,14 @@ returns-in_err-print_popped g c =
     }
 
 pub returns-in_err-mark : goal.returns-in_err-mark
-returns-in_err-mark g c =
+returns-in_err-mark g c = let w = words g.R.PartialEq g.R.PartialOrd g.R.Ord g.R.Record g.R.Fields in
     let told = g.O.Sink.told in
     let old = c.args.self.now in
     let mid = c.print_popped.new.self in
     let new = c.mark_of.new.self in
-    let lines = records_text c.args.world.now.form (front pair_cmp old.queue.bag (limited_count old.queue.bag c.args.limit c.args.count)) in
-    let mark = mark_text c.args.world.now.form old.queue.bag c.args.limit c.args.count in
-    let most = max old.queue.peak (size_after none_go old.queue.size (BulkPopLimit c.args.limit c.args.count)) in
+    let lines = records_text w c.args.world.now.form (front w.cmp old.queue.bag (limited_count w old.queue.bag c.args.limit c.args.count)) in
+    let mark = mark_text w c.args.world.now.form old.queue.bag c.args.limit c.args.count in
+    let most = max old.queue.peak (size_after w none_go old.queue.size (BulkPopLimit c.args.limit c.args.count)) in
     let r = c.from_residual-in_err-mark.result in
     let stop = Queue c.in_err-mark.field-0.0 in
     let is = c.from_residual-in_err-mark.ensures.1 in
@@ -55,14 +56,14 @@ returns-in_err-mark g c =
     }
 
 pub returns-in_err-print : goal.returns-in_err-print
-returns-in_err-print g c =
+returns-in_err-print g c = let w = words g.R.PartialEq g.R.PartialOrd g.R.Ord g.R.Record g.R.Fields in
     let told = g.O.Sink.told in
     let old = c.args.self.now in
     let mid = c.print_popped.new.self in
     let new = c.mark_of.new.self in
-    let lines = records_text c.args.world.now.form (front pair_cmp old.queue.bag (limited_count old.queue.bag c.args.limit c.args.count)) in
-    let mark = mark_text c.args.world.now.form old.queue.bag c.args.limit c.args.count in
-    let most = max old.queue.peak (size_after none_go old.queue.size (BulkPopLimit c.args.limit c.args.count)) in
+    let lines = records_text w c.args.world.now.form (front w.cmp old.queue.bag (limited_count w old.queue.bag c.args.limit c.args.count)) in
+    let mark = mark_text w c.args.world.now.form old.queue.bag c.args.limit c.args.count in
+    let most = max old.queue.peak (size_after w none_go old.queue.size (BulkPopLimit c.args.limit c.args.count)) in
     let r = c.from_residual-in_err-print.result in
     let is = c.from_residual-in_err-print.ensures.1 in
     let p = c.in_ok-print_popped.ensures in
@@ -78,13 +79,13 @@ returns-in_err-print g c =
     }
 
 pub returns : goal.returns
-returns g c =
+returns g c = let w = words g.R.PartialEq g.R.PartialOrd g.R.Ord g.R.Record g.R.Fields in let laws = laws_of w c.record_laws.ensures.order c.record_laws.ensures.same in
     let told = g.O.Sink.told in
     let old = c.args.self.now in
     let mid = c.print_popped.new.self in
     let new = c.mark_of.new.self in
-    let lines = records_text c.args.world.now.form (front pair_cmp old.queue.bag (limited_count old.queue.bag c.args.limit c.args.count)) in
-    let mark = mark_text c.args.world.now.form old.queue.bag c.args.limit c.args.count in
+    let lines = records_text w c.args.world.now.form (front w.cmp old.queue.bag (limited_count w old.queue.bag c.args.limit c.args.count)) in
+    let mark = mark_text w c.args.world.now.form old.queue.bag c.args.limit c.args.count in
     let p = c.in_ok-print_popped.ensures in
     let called = c.mark_of.ensures.called in
     let m = c.in_ok-mark.ensures in
@@ -92,7 +93,7 @@ returns g c =
       prints = record {
         text =
             λ tells.
-            let is = m.text (p.lent.kept.tells tells) ∙ mark-is c.args.world.now.form mid.queue.bag old.queue.bag c.args.limit c.args.count (p.left.bag tells) in
+            let is = m.text (p.lent.kept.tells tells) ∙ mark-is w laws c.args.world.now.form mid.queue.bag old.queue.bag c.args.limit c.args.count (p.left.bag tells) in
             gathers-more (told c.args.out.now) (told c.print_popped.new.out) (told c.print.new.out) old.desk.gathered mid.desk.gathered c.print.new.self lines mark (p.prints.text tells) (gathers-as called.gathered is c.in_ok-print.ensures.ok);
         part = tt;
       };

@@ -1,13 +1,14 @@
 use Rattle.std.proofs.Common.{◌≡◌, ◌+◌, ◌/◌, ◌++◌, ℕ, List, [], length, Option, Some, max, refl, ap, ◌∙◌, subst}
+use Rattle.ppq_script.specs.Words.{words}
 use Rattle.ppq_script.specs.ppq_record.Bag.{IsSameBag}
-use Rattle.ppq_script.specs.ppq_record.Given.{records_of}
+use Rattle.ppq_load.specs.Given.{records_of}
 use Rattle.ppq_script.specs.ppq_outside.Shown.{AllTell}
 use Rattle.ppq_script.specs.ppq_outside.Told.{bytes_or_none}
 use Rattle.ppq_script.proofs.ppq_outside.Replies.{replies_wider}
 use Rattle.ppq_script.specs.declared.command.Command.TheVariants.{Bulk}
 use Rattle.ppq_load.specs.Reading.{IsReadWithin}
 use Rattle.ppq_engine.specs.Calls.{Adds, RunsStep, StopsStep}
-use Rattle.ppq_engine.specs.Files.{IsByFile, EndsEarly, IsReadInScript}
+use Rattle.ppq_engine.specs.Files.{EndsEarly, IsReadInScript}
 use Rattle.ppq_engine.specs.Running.{StopsFor, ChangedIn}
 use Rattle.ppq_engine.specs.declared.stop.Stop.{Stop}
 use Rattle.ppq_engine.proofs.Lengths.{file-bag}
@@ -22,7 +23,7 @@ load_file-queue-requires-clause-long g c = λ lives fits files tells.
     ap (λ (n : List ℕ). length (bytes_or_none (files n))) c.name-name.ensures ∙ c.requires.lengths files tells c.args.place c.args.file c.args.said c.requires.turn.first
 
 pub returns : goal.returns
-returns g c =
+returns g c = let w = words g.R.PartialEq g.R.PartialOrd g.R.Ord g.R.Record g.R.Fields in
     let script = c.args.world.now.script.now in
     let place = c.args.place in
     let queue = c.args.self.queue in
@@ -41,22 +42,22 @@ returns g c =
     let replied = g.L.Library.replied q.new.library in
     let r = c.stopped.result in
     let same = c.stopped.ensures in
-    let Loaded : Type 0 = AllTell queue.slots → (files : List ℕ → Option (List ℕ)) → told ≡ Some files → IsSameBag new.bag (records_of (bytes_or_none (files name)) ++ queue.bag) in
-    let Why : Stop → Type 0 = StopsFor (max queue.peak (queue.size + said / 16)) queue.sizes queue.limited new.slots in
+    let Loaded : Type 0 = AllTell queue.slots → (files : List ℕ → Option (List ℕ)) → told ≡ Some files → IsSameBag new.bag (records_of w.record_of w.WIDTH (bytes_or_none (files name)) ++ queue.bag) in
+    let Why : Stop → Type 0 = StopsFor (max queue.peak (queue.size + said / w.WIDTH)) queue.sizes queue.limited new.slots in
     let Early : Stop → Type 0 = EndsEarly told replied name line said in
-    let Adds' : Type 0 = Adds queue new (said / 16) in
-    let adds = on-ok-both r Loaded Adds' (loaded-ok line said q.result.1 r same Loaded q.ensures.bag) (loaded-adds line said q.result.1 r same queue new (said / 16) q.ensures.size q.ensures.sound q.ensures.quiet q.ensures.peak) in
+    let Adds' : Type 0 = Adds queue new (said / w.WIDTH) in
+    let adds = on-ok-both r Loaded Adds' (loaded-ok line said q.result.1 r same Loaded q.ensures.bag) (loaded-adds line said q.result.1 r same queue new (said / w.WIDTH) q.ensures.size q.ensures.sound q.ensures.quiet q.ensures.peak) in
     let by = loaded-by_file line said q.result.1 r same in
-    let refused = loaded-refused line said q.result.1 r same (max queue.peak (queue.size + said / 16)) queue.sizes queue.limited new.slots q.ensures.refused in
+    let refused = loaded-refused line said q.result.1 r same (max queue.peak (queue.size + said / w.WIDTH)) queue.sizes queue.limited new.slots q.ensures.refused in
     let early = loaded-ended line said q.result.1 r same told replied name q.ensures.ended in
     let N : Stop → List ℕ → Type 0 = λ stop n. EndsEarly told replied n line said stop in
     record {
       goes =
           λ put.
-          turn-goes c.args.world.now.form told script queue.sizes.workers k (record { stands = refl; stays = refl }) queue new put put had had r (adds-prints queue.slots put had [] r refl by) q.ensures.kept
-          (on-ok-map r (Loaded × Adds') (RunsStep told script queue new k)
-          (λ both. adds-runs k (λ leaves. refl) (λ tells. file-bag told script place file said k name queue.bag new.bag here refl c.name-name.ensures (both.0 tells)) both.1) adds)
-          (if-err-map r Why (StopsStep queue new k) (λ stop why. record { refused = why; of_file = file_of_file file said stop }) refused);
+          turn-goes w c.args.world.now.form told script queue.sizes.workers k (record { stands = refl; stays = refl }) queue new put put had had r (adds-prints queue.slots put had [] r refl by) q.ensures.kept
+          (on-ok-map r (Loaded × Adds') (RunsStep w told script queue new k)
+          (λ both. adds-runs w k (λ leaves. refl) (λ tells. file-bag w told script place file said k name queue.bag new.bag here refl c.name-name.ensures (both.0 tells)) both.1) adds)
+          (if-err-map r Why (StopsStep w queue new k) (λ stop why. record { refused = why; of_file = file_of_file g.row.R.Denot file said stop }) refused);
       by_file = by;
       library = record {
         told = q.ensures.told;

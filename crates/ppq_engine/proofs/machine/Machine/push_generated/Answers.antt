@@ -1,6 +1,7 @@
 use Rattle.std.proofs.Common.{◌+◌, ◌++◌, [], max, refl}
+use Rattle.ppq_script.specs.Words.{words}
 use Rattle.ppq_script.specs.ppq_record.Bag.{IsSameBag}
-use Rattle.ppq_script.specs.ppq_record.Given.{generated}
+use Rattle.ppq_load.specs.Given.{generated_by}
 use Rattle.ppq_script.specs.ppq_outside.Shown.{AllTell}
 use Rattle.ppq_script.specs.declared.command.Command.TheVariants.{Gen}
 use Rattle.ppq_engine.specs.Calls.{Adds, RunsStep, StopsStep}
@@ -14,7 +15,7 @@ use Rattle.ppq_engine.proofs.Turns.{adds-runs, adds-prints, turn-goes}
 use Rattle.ppq_engine.proofs.machine.Machine.push_generated.Goals as goal
 
 pub returns : goal.returns
-returns g c =
+returns g c = let w = words g.R.PartialEq g.R.PartialOrd g.R.Ord g.R.Record g.R.Fields in
     let script = c.args.world.now.script.now in
     let queue = c.args.self.queue in
     let had = c.args.self.desk.gathered in
@@ -24,7 +25,7 @@ returns g c =
     let new = q.result.0 in
     let r = c.stopped.result in
     let same = c.stopped.ensures in
-    let Loaded : Type 0 = AllTell queue.slots → IsSameBag new.bag (generated c.args.seed count ++ queue.bag) in
+    let Loaded : Type 0 = AllTell queue.slots → IsSameBag new.bag (generated_by w.COUNT w.of_fields c.args.seed count ++ queue.bag) in
     let Why : Stop → Type 0 = StopsFor (max queue.peak (queue.size + count)) queue.sizes queue.limited new.slots in
     let adds = on-ok-both r Loaded (Adds queue new count) (loaded-ok 0 0 q.result.1 r same Loaded q.ensures.bag) (loaded-adds 0 0 q.result.1 r same queue new count q.ensures.size q.ensures.sound q.ensures.quiet q.ensures.peak) in
     let by = loaded-by_session 0 0 q.result.1 r same q.ensures.by_load in
@@ -32,9 +33,9 @@ returns g c =
     record {
       goes =
           λ form files put.
-          turn-goes form files script queue.sizes.workers k (record { stands = refl; stays = refl }) queue new put put had had r (adds-prints queue.slots put had [] r refl (if-err-map r IsBySession IsByFile session_by_file by)) q.ensures.kept
-          (on-ok-map r (Loaded × Adds queue new count) (RunsStep files script queue new k) (λ both. adds-runs k (λ leaves. refl) (λ tells given are. both.0 tells) both.1) adds)
-          (if-err-map r (λ stop. Why stop × IsBySession stop) (StopsStep queue new k)
+          turn-goes w form files script queue.sizes.workers k (record { stands = refl; stays = refl }) queue new put put had had r (adds-prints queue.slots put had [] r refl (if-err-map r IsBySession IsByFile session_by_file by)) q.ensures.kept
+          (on-ok-map r (Loaded × Adds queue new count) (RunsStep w files script queue new k) (λ both. adds-runs w k (λ leaves. refl) (λ tells given are. both.0 tells) both.1) adds)
+          (if-err-map r (λ stop. Why stop × IsBySession stop) (StopsStep w queue new k)
           (λ stop both. record { refused = both.0; of_file = limit_of_file k stop tt (session-by_limit stop both.1) }) why);
       by_session = by;
     }

@@ -1,4 +1,6 @@
 use Rattle.std.proofs.Common.{◌+◌, List, All, length, max, sym, ap, ◌∙◌, subst, arith}
+use Rattle.ppq_engine.proofs.Orders.{laws_of}
+use Rattle.ppq_script.specs.Words.{words}
 use Rattle.ppq_script.specs.declared.command.Command.{Command}
 use Rattle.ppq_script.specs.declared.session.Session.TheVariants.{InBulk}
 use Rattle.ppq_script.specs.Parts.{AreLines, commands_of}
@@ -13,19 +15,23 @@ use Rattle.ppq_engine.specs.declared.stop.Stop.{Stop}
 use Rattle.ppq_engine.specs.declared.stop.Stop.TheVariants.{Memory}
 use Rattle.ppq_engine.proofs.Kept.{Keeps-refl}
 use Rattle.ppq_engine.proofs.Loads.{stop-refused, stop-by_session}
+use Rattle.ppq_engine.proofs.Popped.{some_room}
 use Rattle.ppq_engine.proofs.Pushes.{given-some, given-all}
 use Rattle.ppq_engine.proofs.Results.{on-ok-map}
 use Rattle.ppq_engine.proofs.Turns.{bulk-stopped, bulk-ended}
 use Rattle.ppq_engine.proofs.machine.Machine.run_bulk.Goals as goal
 
+pub new-requires : goal.new-requires
+new-requires g c = omega (arith, c.room.ensures, c.args.self.round, some_room c.args.self.queue.sizes c.known.ensures.range)
+
 pub returns-in_default : goal.returns-in_default
-returns-in_default g c =
+returns-in_default g c = let w = words g.R.PartialEq g.R.PartialOrd g.R.Ord g.R.Record g.R.Fields in let laws = laws_of w c.record_laws.ensures.order c.record_laws.ensures.same in
     let queue = c.args.self.queue in
-    bulk-stopped c.args.world.now.script.now queue.sizes.workers (commands_of c.args.lines.now) c.requires.lines queue queue c.args.self.desk.gathered Memory tt tt (Keeps-refl queue)
+    bulk-stopped w laws c.args.world.now.script.now queue.sizes.workers (commands_of c.args.lines.now) c.requires.lines queue queue c.args.self.desk.gathered Memory tt tt (Keeps-refl queue)
 
 pub push_all-requires-clause-lines : goal.push_all-requires-clause-lines
-push_all-requires-clause-lines g c κs within =
-    let P : Numbers → Type 0 = λ n. AreLines n.workers InBulk (commands_of c.args.lines.now) in
+push_all-requires-clause-lines g c κs within = let w = words g.R.PartialEq g.R.PartialOrd g.R.Ord g.R.Record g.R.Fields in
+    let P : Numbers → Type 0 = λ n. AreLines w n.workers InBulk (commands_of c.args.lines.now) in
     subst P (sym c.in-Ok-begin.ensures.session.keeps.sizes) c.requires.lines
 
 pub invariant_of-result-in-Ok-begin : goal.invariant_of-result-in-Ok-begin
@@ -35,7 +41,7 @@ invariant_of-result-in-Ok-begin g c =
     record { round = c.args.self.round ∙ ap batch_of (sym (c.end-queue.ensures.loaded queue (pushed_in pushing.given) (pushing.session queue c.in-Ok-begin.ensures.session)).kept.sizes); piece = c.args.self.piece }
 
 pub returns-in-Ok-begin : goal.returns-in-Ok-begin
-returns-in-Ok-begin g c =
+returns-in-Ok-begin g c = let w = words g.R.PartialEq g.R.PartialOrd g.R.Ord g.R.Record g.R.Fields in let laws = laws_of w c.record_laws.ensures.order c.record_laws.ensures.same in
     let shown = g.S.Slot.shown in
     let queue = c.args.self.queue in
     let body = commands_of c.args.lines.now in
@@ -45,18 +51,18 @@ returns-in-Ok-begin g c =
     let end = c.end-queue in
     let new = end.result.0 in
     let loaded = end.ensures.loaded queue (pushed_in gives.pushing.given) (gives.pushing.session queue c.in-Ok-begin.ensures.session) in
-    let P : List Command → Type 0 = λ cs. IsLoaded queue (pushed_in cs) new end.result.1 in
-    bulk-ended c.args.world.now.script.now queue.sizes.workers body c.requires.lines queue new c.args.self.desk.gathered _ end.result.1 c.ended.result c.ended.ensures
+    let P : List (Command g.row.R.Denot) → Type 0 = λ cs. IsLoaded queue (pushed_in cs) new end.result.1 in
+    bulk-ended w laws c.args.world.now.script.now queue.sizes.workers body c.requires.lines queue new c.args.self.desk.gathered _ end.result.1 c.ended.result c.ended.ensures
     (on-ok-map end.result.1 (All IsGoing mid.passes) (P body) (λ going. subst P (given-all shown body begun mid gives going) loaded) end.ensures.all)
     (pushed_in gives.pushing.given) (given-some shown body begun mid gives) (omega (arith, c.known.ensures.range.two_records)) loaded
 
 pub returns : goal.returns
-returns g c =
+returns g c = let w = words g.R.PartialEq g.R.PartialOrd g.R.Ord g.R.Record g.R.Fields in let laws = laws_of w c.record_laws.ensures.order c.record_laws.ensures.same in
     let queue = c.args.self.queue in
     let slots = c.in-Err.queue.slots in
     let body = commands_of c.args.lines.now in
     let most = max queue.peak (queue.size + length (pushed_in body)) in
     let Why : Stop → Type 0 = λ s. StopsFor most queue.sizes queue.limited slots s in
     let refused = stop-later queue.sizes queue.limited queue.limited queue.peak most (omega (arith, c.known.ensures.range.two_records)) (λ same. same) (omega arith) slots c.in-Err.fault c.in-Err.ensures.refused in
-    bulk-stopped c.args.world.now.script.now queue.sizes.workers body c.requires.lines queue c.in-Err.queue c.args.self.desk.gathered c.stop_of.result
+    bulk-stopped w laws c.args.world.now.script.now queue.sizes.workers body c.requires.lines queue c.in-Err.queue c.args.self.desk.gathered c.stop_of.result
     (subst IsBySession (sym c.stop_of.ensures) (stop-by_session 0 0 c.in-Err.fault c.in-Err.ensures.by_load)) (subst Why (sym c.stop_of.ensures) (stop-refused most queue.sizes queue.limited slots 0 0 c.in-Err.fault refused)) c.in-Err.ensures.kept

@@ -1,5 +1,6 @@
 use Rattle.std.proofs.Common.{true, refl, sym, ap, ◌∙◌, subst, arith}
-use Rattle.ppq_script.specs.ppq_record.declared.pair.Pair.{Pair}
+use Rattle.ppq_engine.proofs.Orders.{laws_of}
+use Rattle.ppq_script.specs.Words.{words}
 use Rattle.ppq_script.specs.declared.session.Session.TheVariants.{InLimit}
 use Rattle.ppq_script.specs.Parts.{AreLines, limit_part, commands_of}
 use Rattle.ppq_load.specs.ppq_budget.Sizes.{Numbers, batch_of}
@@ -10,36 +11,39 @@ use Rattle.ppq_engine.specs.Running.{PartStops, SinkAfter}
 use Rattle.ppq_engine.specs.declared.stop.Stop.{Stop}
 use Rattle.ppq_engine.proofs.LimitParts.{SessionRan, ended-runs, ended-stopped, ended-by_limit, ended-kept, ended-counts, begin-stopped}
 use Rattle.ppq_engine.proofs.Loads.{stop-refused, stop-by_session}
-use Rattle.ppq_engine.proofs.Popped.{gathers-nothing}
+use Rattle.ppq_engine.proofs.Popped.{some_room, gathers-nothing}
 use Rattle.ppq_engine.proofs.Slots.{SameSlots-refl}
 use Rattle.ppq_engine.proofs.Stops.{file_unput, session_by_file, session-by_limit}
 use Rattle.ppq_engine.proofs.Turns.{limit-goes}
 use Rattle.ppq_engine.proofs.machine.Machine.run_limit.Goals as goal
 
+pub new-requires-after_bounds : goal.new-requires-after_bounds
+new-requires-after_bounds g c = omega (arith, c.room.ensures, c.args.self.round, some_room c.args.self.queue.sizes c.known.ensures.range)
+
 pub returns-in_default : goal.returns-in_default
-returns-in_default g c =
+returns-in_default g c = let w = words g.R.PartialEq g.R.PartialOrd g.R.Ord g.R.Record g.R.Fields in
     let queue = c.args.self.queue in
     let told = g.O.Sink.told c.args.out.now in
     let had = c.args.self.desk.gathered in
     record {
-      goes = limit-goes c.args.world.now.form c.args.world.now.script.now c.args.limit (commands_of c.args.lines.now) queue queue told told had had _ tt tt (λ tells. gathers-nothing told had) (SameSlots-refl queue.slots);
+      goes = limit-goes w c.args.world.now.form c.args.world.now.script.now c.args.limit (commands_of c.args.lines.now) queue queue told told had had _ tt tt (λ tells. gathers-nothing told had) (SameSlots-refl queue.slots);
       by_limit = tt;
       sink = record { later = omega arith; stays = tt; cause = refl };
     }
 
 pub run_lines-printed-requires-clause-lines : goal.run_lines-printed-requires-clause-lines
-run_lines-printed-requires-clause-lines g c κs within =
+run_lines-printed-requires-clause-lines g c κs within = let w = words g.R.PartialEq g.R.PartialOrd g.R.Ord g.R.Record g.R.Fields in
     let lines = commands_of c.args.lines.now in
     let begun = c.in-Ok-begin.ensures.session in
-    let P : Numbers → Type 0 = λ n. AreLines n.workers (InLimit c.args.limit) lines in
-    let Q : Pair → Type 0 = λ l. AreLines c.in-Ok-begin.session.front.sizes.workers (InLimit l) lines in
+    let P : Numbers → Type 0 = λ n. AreLines w n.workers (InLimit c.args.limit) lines in
+    let Q : g.row.R.Denot → Type 0 = λ l. AreLines w c.in-Ok-begin.session.front.sizes.workers (InLimit l) lines in
     subst Q (sym begun.limit_is) (subst P (sym begun.keeps.sizes) c.requires.lines)
 
 pub run_lines-printed-requires-clause-going : goal.run_lines-printed-requires-clause-going
 run_lines-printed-requires-clause-going g c κs within = c.in-Ok-begin.ensures.going
 
 pub invariant_of-result-in-Ok-begin : goal.invariant_of-result-in-Ok-begin
-invariant_of-result-in-Ok-begin g c =
+invariant_of-result-in-Ok-begin g c = let w = words g.R.PartialEq g.R.PartialOrd g.R.Ord g.R.Record g.R.Fields in let laws = laws_of w c.record_laws.ensures.order c.record_laws.ensures.same in
     let queue = c.args.self.queue in
     let before = g.O.Sink.told c.args.out.now in
     let now = g.O.Sink.told c.run_lines-printed.new.out in
@@ -47,7 +51,7 @@ invariant_of-result-in-Ok-begin g c =
     let has = c.run_lines-printed.new.gathered in
     let lines = commands_of c.args.lines.now in
     let end = c.end-queue in
-    let run : SessionRan g.S.Slot.shown c.args.world.now.form queue before now had has c.run_lines-printed.new.session queue.sizes.workers c.args.limit lines c.requires.lines c.in-Ok-begin.session end.result.0 c.run_lines-printed.result end.result.1 = record {
+    let run : SessionRan w laws g.S.Slot.shown c.args.world.now.form queue before now had has c.run_lines-printed.new.session queue.sizes.workers c.args.limit lines c.requires.lines c.in-Ok-begin.session end.result.0 c.run_lines-printed.result end.result.1 = record {
       begun = c.in-Ok-begin.ensures.session;
       lines = c.run_lines-printed.ensures.ran;
       broken = c.run_lines-printed.ensures.broken;
@@ -55,10 +59,10 @@ invariant_of-result-in-Ok-begin g c =
       over = λ given left popped il. end.ensures.over queue c.args.limit given left popped il;
       unfaulted = over-unfaulted g.S.Slot.shown c.run_lines-printed.new.session end.result.0 end.result.1 end.ensures.left;
     } in
-    record { round = c.args.self.round ∙ ap batch_of (sym (ended-kept g.S.Slot.shown c.args.world.now.form queue before now had has c.run_lines-printed.new.session queue.sizes.workers c.args.limit lines c.requires.lines c.in-Ok-begin.session end.result.0 c.run_lines-printed.result end.result.1 run).sizes); piece = c.args.self.piece }
+    record { round = c.args.self.round ∙ ap batch_of (sym (ended-kept w laws g.S.Slot.shown c.args.world.now.form queue before now had has c.run_lines-printed.new.session queue.sizes.workers c.args.limit lines c.requires.lines c.in-Ok-begin.session end.result.0 c.run_lines-printed.result end.result.1 run).sizes); piece = c.args.self.piece }
 
 pub returns-in-Ok-begin : goal.returns-in-Ok-begin
-returns-in-Ok-begin g c =
+returns-in-Ok-begin g c = let w = words g.R.PartialEq g.R.PartialOrd g.R.Ord g.R.Record g.R.Fields in let laws = laws_of w c.record_laws.ensures.order c.record_laws.ensures.same in
     let shown = g.S.Slot.shown in
     let script = c.args.world.now.script.now in
     let limit = c.args.limit in
@@ -76,7 +80,7 @@ returns-in-Ok-begin g c =
     let over = c.end-queue.result.1 in
     let s = c.ended.result in
     let e = c.ended.ensures in
-    let run : SessionRan shown c.args.world.now.form queue before now had has mid queue.sizes.workers limit lines are old new printed over = record {
+    let run : SessionRan w laws shown c.args.world.now.form queue before now had has mid queue.sizes.workers limit lines are old new printed over = record {
       begun = c.in-Ok-begin.ensures.session;
       lines = c.run_lines-printed.ensures.ran;
       broken = c.run_lines-printed.ensures.broken;
@@ -86,14 +90,14 @@ returns-in-Ok-begin g c =
     } in
     record {
       goes =
-          limit-goes c.args.world.now.form script limit lines queue new before now had has s (ended-runs shown c.args.world.now.form queue before now had has mid queue.sizes.workers limit lines are old new printed over s e run script) (ended-by_limit printed over s e)
-          (ended-stopped shown c.args.world.now.form queue before now had has mid queue.sizes.workers limit lines are old new printed over s e run) (ended-kept shown c.args.world.now.form queue before now had has mid queue.sizes.workers limit lines are old new printed over run).slots;
+          limit-goes w c.args.world.now.form script limit lines queue new before now had has s (ended-runs w laws shown c.args.world.now.form queue before now had has mid queue.sizes.workers limit lines are old new printed over s e run script) (ended-by_limit printed over s e)
+          (ended-stopped w laws shown c.args.world.now.form queue before now had has mid queue.sizes.workers limit lines are old new printed over s e run) (ended-kept w laws shown c.args.world.now.form queue before now had has mid queue.sizes.workers limit lines are old new printed over run).slots;
       by_limit = ended-by_limit printed over s e;
       sink = ended-counts printed over s e (g.O.Sink.faults c.args.out.now) (g.O.Sink.faults c.run_lines-printed.new.out) c.run_lines-printed.ensures.cause;
     }
 
 pub returns : goal.returns
-returns g c =
+returns g c = let w = words g.R.PartialEq g.R.PartialOrd g.R.Ord g.R.Record g.R.Fields in
     let told = g.O.Sink.told c.args.out.now in
     let faults = g.O.Sink.faults c.args.out.now in
     let had = c.args.self.desk.gathered in
@@ -103,12 +107,12 @@ returns g c =
     let stop = load_stop 0 0 c.in-Err.fault in
     let same = sym c.stop_of.ensures in
     let by = stop-by_session 0 0 c.in-Err.fault c.in-Err.ensures.by_load in
-    let P : Stop → Type 0 = λ s. PartStops c.args.world.now.form queue.slots told told had queue.bag queue.size queue.peak (limit_part c.args.limit body) queue.sizes true new.slots had s in
+    let P : Stop → Type 0 = λ s. PartStops w c.args.world.now.form queue.slots told told had queue.bag queue.size queue.peak (limit_part c.args.limit body) queue.sizes true new.slots had s in
     let Q : Stop → Type 0 = λ s. SinkAfter faults faults s in
     let by_limit = subst IsByLimit same (session-by_limit stop by) in
-    let stopped = subst P same (begin-stopped c.args.world.now.form told had queue new.slots c.args.limit body stop (omega (arith, c.known.ensures.range.two_records)) (stop-refused queue.peak queue.sizes true new.slots 0 0 c.in-Err.fault c.in-Err.ensures.refused) by) in
+    let stopped = subst P same (begin-stopped w c.args.world.now.form told had queue new.slots c.args.limit body stop (omega (arith, c.known.ensures.range.two_records)) (stop-refused queue.peak queue.sizes true new.slots 0 0 c.in-Err.fault c.in-Err.ensures.refused) by) in
     record {
-      goes = limit-goes c.args.world.now.form c.args.world.now.script.now c.args.limit body queue new told told had had _ tt by_limit stopped c.in-Err.ensures.kept.slots;
+      goes = limit-goes w c.args.world.now.form c.args.world.now.script.now c.args.limit body queue new told told had had _ tt by_limit stopped c.in-Err.ensures.kept.slots;
       by_limit = by_limit;
       sink = record { later = omega arith; stays = tt; cause = subst Q same (file_unput faults stop (session_by_file stop by)) };
     }

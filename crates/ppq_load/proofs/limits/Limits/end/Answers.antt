@@ -1,6 +1,5 @@
 use Rattle.std.proofs.Common.{ℕ, List, subst}
 use Rattle.std.specs.Prelude.{IfErr}
-use Rattle.ppq_session.specs.ppq_record.declared.pair.Pair.{Pair}
 use Rattle.ppq_session.specs.ppq_queue.Holding.{Holding}
 use Rattle.ppq_session.specs.Ends.{NamesFirst}
 use Rattle.ppq_session.specs.Batches.{passes_of}
@@ -10,12 +9,12 @@ use Rattle.ppq_load.proofs.limits.Limits.end.Goals as goal
 pub returns-clause-over : goal.returns-clause-over
 returns-clause-over g c =
     subst
-    (λ (old : LimitsHolding g.row.S.Denot). (queue : Holding Pair) (limit : Pair) (given left : List Pair) (popped : ℕ) → InLimits g.S.Slot.shown queue limit given left popped old → IsOver queue given left popped c.end.result.0 c.end.result.1)
+    (λ (old : LimitsHolding g.row.S.Denot g.row.R.Denot). (queue : Holding g.row.R.Denot) (limit : g.row.R.Denot) (given left : List g.row.R.Denot) (popped : ℕ) → InLimits g.S.Slot.shown queue limit given left popped old → IsOver queue given left popped c.end.result.0 c.end.result.1)
     c.self.view_is
     c.end.ensures.over
 
 pub returns-clause-left : goal.returns-clause-left
-returns-clause-left g c = subst (λ (old : LimitsHolding g.row.S.Denot). IfErr c.end.result.1 (IsOverBy g.S.Slot.shown old c.end.result.0)) c.self.view_is c.end.ensures.left
+returns-clause-left g c = subst (λ (old : LimitsHolding g.row.S.Denot g.row.R.Denot). IfErr c.end.result.1 (IsOverBy g.S.Slot.shown old c.end.result.0)) c.self.view_is c.end.ensures.left
 
 pub returns-clause-first : goal.returns-clause-first
-returns-clause-first g c = subst (λ (old : LimitsHolding g.row.S.Denot). NamesFirst (passes_of old.passes) old.front.failed c.end.result.1) c.self.view_is c.end.ensures.first
+returns-clause-first g c = subst (λ (old : LimitsHolding g.row.S.Denot g.row.R.Denot). NamesFirst (passes_of old.passes) old.front.failed c.end.result.1) c.self.view_is c.end.ensures.first

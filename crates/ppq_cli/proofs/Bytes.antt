@@ -1,0 +1,141 @@
+-- From a script that was read, or refused, to what comes of its bytes.
+use Rattle.std.proofs.Common.{◌≡◌, ℕ, List, [], Option, Some, None, refl, sym, ap, ◌∙◌, subst, inl, inr}
+use Rattle.std.specs.Prelude.{Result, Err, IfErr, IsErrOf, IfSome, map}
+use Rattle.ppq_words.specs.ppq_outside.Shown.{Shown}
+use Rattle.ppq_words.specs.ppq_outside.Told.{Rose}
+use Rattle.ppq_words.specs.ppq_outside.declared.library.Library.{Ghosts as LibraryShows}
+use Rattle.ppq_words.specs.ppq_outside.declared.rack.Rack.{Ghosts as RackShows}
+use Rattle.ppq_words.specs.ppq_outside.declared.sink.Sink.{Ghosts as SinkShows}
+use Rattle.ppq_words.specs.ppq_script.Words.{Words}
+use Rattle.ppq_words.specs.ppq_script.declared.check.CheckFault.{CheckFault}
+use Rattle.ppq_words.specs.ppq_script.declared.check.CheckFault.TheVariants as check
+use Rattle.ppq_words.specs.ppq_script.Files.{IsLength}
+use Rattle.ppq_words.specs.ppq_script.Reading.{Reading}
+use Rattle.ppq_words.specs.Reading.{Reading as Arguments}
+use Rattle.ppq_engine.specs.Ends.{NoFault}
+use Rattle.ppq_engine.specs.Files.{IsReadInScript}
+use Rattle.ppq_engine.specs.declared.end.End.{End}
+use Rattle.ppq_engine.specs.declared.end.End.TheVariants.{Done, ReadFault, WriteFault, DeviceFault, NoDevice}
+use Rattle.ppq_engine.specs.declared.end.Ended.{Ended}
+use Rattle.ppq_cli.specs.Device.{IsSurelyRun}
+use Rattle.ppq_cli.specs.Load.{check_end, CheckCounts}
+use Rattle.ppq_cli.specs.Replies.{Files, IsScript, IsRefused, RefusalOf, LibraryKeeps}
+use Rattle.ppq_cli.specs.RunWords.{OfBytes, WritesPart, refusal_of_bytes, IsAnswer}
+use Rattle.ppq_cli.specs.RunOver.{RunWrites, RunBlocks, RunEnds, RunCounts, RunFaults, RunsBytes}
+use Rattle.ppq_cli.specs.Types.{typed}
+use Rattle.ppq_cli.proofs.Blocks.{made_nothing}
+use Rattle.ppq_cli.proofs.Ends.{unread_not_run, no_blocks, refused_answer, refused_refusal, loaded_run, loaded_answer, loaded_refusal, of_commands}
+use Rattle.ppq_cli.proofs.Extent.{reads_then, reads_script, reads_lengths}
+use Rattle.ppq_cli.proofs.Given.{script_remembered}
+use Rattle.ppq_cli.proofs.RunOver.{takes_none, same_count}
+
+-- a refusal names no block, no device and no sink
+not_device : (fault : CheckFault) (number : ℕ) → check_end fault ≡ DeviceFault number → ⊥
+not_device (check.BadLine line) number is = cc
+not_device check.ReadFault number is = cc
+not_device check.Memory number is = cc
+
+not_done : (fault : CheckFault) → check_end fault ≡ Done → ⊥
+not_done (check.BadLine line) is = cc
+not_done check.ReadFault is = cc
+not_done check.Memory is = cc
+
+not_rack : (fault : CheckFault) → check_end fault ≡ NoDevice → ⊥
+not_rack (check.BadLine line) is = cc
+not_rack check.ReadFault is = cc
+not_rack check.Memory is = cc
+
+not_sink : (fault : CheckFault) → check_end fault ≡ WriteFault → ⊥
+not_sink (check.BadLine line) is = cc
+not_sink check.ReadFault is = cc
+not_sink check.Memory is = cc
+
+rose_by : (before now : ℕ) (fault : CheckFault) → (fault ≡ check.ReadFault → Rose before now) → check_end fault ≡ ReadFault → Rose before now
+rose_by before now (check.BadLine line) rose is = cc
+rose_by before now check.ReadFault rose is = rose refl
+rose_by before now check.Memory rose is = cc
+
+counted : {T : Type 0} (before now : ℕ) (result : Result T CheckFault) (fault : CheckFault) → result ≡ Err fault → CheckCounts before now result → RunCounts ReadFault before now (check_end fault)
+counted {T} before now result fault is counts = record {
+  later = counts.later;
+  stays = let P : Result T CheckFault → Type 0 = λ x. IfErr x (λ f. NoFault (check_end f) → now ≡ before) in subst P is counts.unless;
+  rose =
+      let P : Result T CheckFault → Type 0 = λ x. IsErrOf x check.ReadFault → Rose before now in
+      rose_by before now fault (λ e. (subst P is counts.read) (ap (λ (f : CheckFault). let x : Result T CheckFault = Err f in x) e));
+}
+
+nothing_part : (told : Option Files) {R : Type 0} (words : Words R) {O : Type 0} (sink : O → Option (List ℕ)) (out : O) (r : Arguments) (bytes : List ℕ) → OfBytes told (typed words) r bytes (WritesPart sink out out)
+nothing_part None words sink out r bytes = tt
+nothing_part (Some files) words sink out r bytes = takes_none (sink out) _
+
+module _ {R L K O S : Type 0} (words : Words R) (library : LibraryShows L) (rack : RackShows K S) (sink : SinkShows O) (shown : S → Shown) (r : Arguments) (bytes : List ℕ) where
+  -- a script that was refused
+  pub refused_bytes :
+      {T : Type 0} (old new : L) (held : K) (out : O) (ended : Ended S) (result : Result T CheckFault) (fault : CheckFault) → result ≡ Err fault → ended.end ≡ check_end fault → ended.blocks.items ≡ []
+      → IsRefused words (library.told old) (library.replied new) bytes r.given.numbers.workers fault → LibraryKeeps library.told library.replied IsLength old new → CheckCounts (library.faults old) (library.faults new) result
+      → RunsBytes (typed words) library rack sink shown r bytes old new held held out out ended
+  refused_bytes old new held out ended result fault was is none refused keeps counts =
+      let told = library.told old in
+      let A : End → Type 0 = λ e. IfSome told (λ files. IsAnswer (refusal_of_bytes words files bytes r) e) in
+      let Q : End → Type 0 = λ e. RefusalOf words told (library.replied new) r bytes e in
+      let F : End → Type 0 = λ e. RunFaults (library.faults old) (library.faults new) (rack.faults held) (rack.faults held) (sink.faults out) (sink.faults out) e in
+      let not_run : IsSurelyRun ended.end → ⊥ = λ run. unread_not_run fault (subst IsSurelyRun is run) in
+      record {
+        ran = inl (record { maybe = not_run; same = refl });
+        part = λ t. nothing_part told words sink.told out r bytes;
+        nothing = inr refl;
+        answer = subst A (sym is) (refused_answer words told (library.replied new) r bytes fault refused);
+        refused = subst Q (sym is) (refused_refusal words told (library.replied new) r bytes fault refused);
+        failed = λ number e. absurd (not_device fault number (sym is ∙ e));
+        blocks = record {
+          made = made_nothing (λ s. (shown s).number) ended.blocks.items (rack.made held) none;
+          are = no_blocks r.given.numbers.blocks ended.end (map shown ended.blocks.items) not_run (let P : List S → Type 0 = λ s. map shown s ≡ [] in subst P (sym none) refl);
+          unfailed = λ e. absurd (not_done fault (sym is ∙ e));
+          tells = λ t. t;
+        };
+        keeps = record { told = keeps.told; remembers = keeps.remembers; asks = reads_lengths (library.replied old) (library.replied new) keeps.asks };
+        faults = subst F (sym is) (record {
+          library = counted (library.faults old) (library.faults new) result fault was counts;
+          rack = same_count NoDevice (check_end fault) (rack.faults held) (not_rack fault);
+          sink = same_count WriteFault (check_end fault) (sink.faults out) (not_sink fault);
+        });
+      }
+
+  -- a script that was run over a device
+  pub run_bytes :
+      (old mid new : L) (old_rack new_rack : K) (old_out new_out : O) (ended : Ended S) (script : Reading R)
+      → IsScript words (library.told old) (library.replied mid) bytes r.given.numbers.workers script → LibraryKeeps library.told library.replied IsLength old mid → library.faults mid ≡ library.faults old
+      → RunWrites words (rack.tells old_rack) (library.told mid) (sink.told old_out) (sink.told new_out) r script (map shown ended.blocks.items) ended.end
+      → RunBlocks shown (rack.tells old_rack) (rack.tells new_rack) (rack.made old_rack) (rack.made new_rack) r.given.numbers.blocks ended
+      → LibraryKeeps library.told library.replied (IsReadInScript script) mid new
+      → RunEnds words (library.told mid) (library.replied new) r script (map shown ended.blocks.items) ended.end
+      → RunFaults (library.faults mid) (library.faults new) (rack.faults old_rack) (rack.faults new_rack) (sink.faults old_out) (sink.faults new_out) ended.end
+      → RunsBytes (typed words) library rack sink shown r bytes old new old_rack new_rack old_out new_out ended
+  run_bytes old mid new old_rack new_rack old_out new_out ended script is first same writes blocks next ends faults =
+      let told = library.told old in
+      let replied = library.replied new in
+      let before = sink.told old_out in
+      let now = sink.told new_out in
+      let slots = map shown ended.blocks.items in
+      let W : Option Files → Type 0 = λ t. RunWrites words (rack.tells old_rack) t before now r script slots ended.end in
+      let E : Option Files → Type 0 = λ t. RunEnds words t replied r script slots ended.end in
+      let F : ℕ → Type 0 = λ n. RunFaults n (library.faults new) (rack.faults old_rack) (rack.faults new_rack) (sink.faults old_out) (sink.faults new_out) ended.end in
+      let later : IsScript words told replied bytes r.given.numbers.workers script = script_remembered words told (library.replied mid) replied bytes r.given.numbers.workers script next.remembers is in
+      let wrote : W told = subst W first.told writes in
+      let ended_so : E told = subst E first.told ends in
+      record {
+        ran = loaded_run words told replied r bytes (rack.tells old_rack) script before now slots ended.end later ended_so.answer wrote;
+        part = λ t. of_commands words told replied r bytes script (WritesPart sink.told old_out new_out) later (wrote.part t);
+        nothing = wrote.nothing;
+        answer = loaded_answer words told replied r bytes script ended.end later ended_so.answer;
+        refused = loaded_refusal words told replied r bytes script ended.end later ended_so.answer ended_so.changed;
+        failed = ended_so.failed;
+        blocks = blocks;
+        keeps = record {
+          told = next.told ∙ first.told;
+          remembers = λ reply had. next.remembers reply (first.remembers reply had);
+          asks = reads_then (library.replied old) (library.replied mid) replied next.remembers (reads_lengths (library.replied old) (library.replied mid) first.asks)
+              (reads_script words told (library.replied mid) replied bytes r.given.numbers.workers script next.remembers is next.asks);
+        };
+        faults = subst F same faults;
+      }
