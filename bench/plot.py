@@ -36,7 +36,7 @@ def points(lines):
     found, rows = {name: {} for name in COLOURS}, set()
     for line in lines:
         cells = [cell.strip() for cell in line.split("|")[1:-1]]
-        if len(cells) != 10:
+        if len(cells) != 11:
             continue
         if (row := (cells[0], cells[1])) in rows:
             sys.exit(f"bench/plot.py: two rows of {row[1]} for {row[0]}")

@@ -10,10 +10,11 @@ use Rattle.ppq_words.specs.ppq_script.Words.{Words}
 use Rattle.ppq_words.specs.ppq_script.declared.check.CheckFault.{CheckFault}
 use Rattle.ppq_words.specs.ppq_script.declared.check.CheckFault.TheVariants as check
 use Rattle.ppq_words.specs.ppq_script.Files.{IsLength}
-use Rattle.ppq_words.specs.ppq_script.Reading.{Reading}
-use Rattle.ppq_words.specs.Reading.{Reading as Arguments}
+use Rattle.ppq_words.specs.ppq_script.Reading.{Reading, command_list}
+use Rattle.ppq_words.specs.Reading.{Reading as Arguments, sizes_at}
 use Rattle.ppq_engine.specs.Ends.{NoFault}
 use Rattle.ppq_engine.specs.Files.{IsReadInScript}
+use Rattle.ppq_engine.specs.Work.{work_of}
 use Rattle.ppq_engine.specs.declared.end.End.{End}
 use Rattle.ppq_engine.specs.declared.end.End.TheVariants.{Done, ReadFault, WriteFault, DeviceFault, NoDevice}
 use Rattle.ppq_engine.specs.declared.end.Ended.{Ended}
@@ -22,11 +23,13 @@ use Rattle.ppq_cli.specs.Load.{check_end, CheckCounts}
 use Rattle.ppq_cli.specs.Replies.{Files, IsScript, IsRefused, RefusalOf, LibraryKeeps}
 use Rattle.ppq_cli.specs.RunWords.{OfBytes, WritesPart, refusal_of_bytes, IsAnswer}
 use Rattle.ppq_cli.specs.RunOver.{RunWrites, RunBlocks, RunEnds, RunCounts, RunFaults, RunsBytes}
+use Rattle.ppq_cli.specs.Transfers.{TransfersWithin}
 use Rattle.ppq_cli.specs.Types.{typed}
 use Rattle.ppq_cli.proofs.Blocks.{made_nothing}
 use Rattle.ppq_cli.proofs.Ends.{unread_not_run, no_blocks, refused_answer, refused_refusal, loaded_run, loaded_answer, loaded_refusal, of_commands}
 use Rattle.ppq_cli.proofs.Extent.{reads_then, reads_script, reads_lengths}
 use Rattle.ppq_cli.proofs.Given.{script_remembered}
+use Rattle.ppq_cli.proofs.Transfers.{no_slots}
 use Rattle.ppq_cli.proofs.RunOver.{takes_none, same_count}
 
 -- a refusal names no block, no device and no sink
@@ -84,6 +87,7 @@ module _ {R L K O S : Type 0} (words : Words R) (library : LibraryShows L) (rack
         ran = inl (record { maybe = not_run; same = refl });
         part = λ t. nothing_part told words sink.told out r bytes;
         nothing = inr refl;
+        transfers = inl (no_slots shown ended.blocks.items none);
         answer = subst A (sym is) (refused_answer words told (library.replied new) r bytes fault refused);
         refused = subst Q (sym is) (refused_refusal words told (library.replied new) r bytes fault refused);
         failed = λ number e. absurd (not_device fault number (sym is ∙ e));
@@ -107,11 +111,12 @@ module _ {R L K O S : Type 0} (words : Words R) (library : LibraryShows L) (rack
       → IsScript words (library.told old) (library.replied mid) bytes r.given.numbers.workers script → LibraryKeeps library.told library.replied IsLength old mid → library.faults mid ≡ library.faults old
       → RunWrites words (rack.tells old_rack) (library.told mid) (sink.told old_out) (sink.told new_out) r script (map shown ended.blocks.items) ended.end
       → RunBlocks shown (rack.tells old_rack) (rack.tells new_rack) (rack.made old_rack) (rack.made new_rack) r.given.numbers.blocks ended
+      → TransfersWithin (sizes_at words.WIDTH r) (work_of words (sizes_at words.WIDTH r) (command_list script)) (map shown ended.blocks.items)
       → LibraryKeeps library.told library.replied (IsReadInScript script) mid new
       → RunEnds words (library.told mid) (library.replied new) r script (map shown ended.blocks.items) ended.end
       → RunFaults (library.faults mid) (library.faults new) (rack.faults old_rack) (rack.faults new_rack) (sink.faults old_out) (sink.faults new_out) ended.end
       → RunsBytes (typed words) library rack sink shown r bytes old new old_rack new_rack old_out new_out ended
-  run_bytes old mid new old_rack new_rack old_out new_out ended script is first same writes blocks next ends faults =
+  run_bytes old mid new old_rack new_rack old_out new_out ended script is first same writes blocks few next ends faults =
       let told = library.told old in
       let replied = library.replied new in
       let before = sink.told old_out in
@@ -127,6 +132,7 @@ module _ {R L K O S : Type 0} (words : Words R) (library : LibraryShows L) (rack
         ran = loaded_run words told replied r bytes (rack.tells old_rack) script before now slots ended.end later ended_so.answer wrote;
         part = λ t. of_commands words told replied r bytes script (WritesPart sink.told old_out new_out) later (wrote.part t);
         nothing = wrote.nothing;
+        transfers = inr (script, (later, few));
         answer = loaded_answer words told replied r bytes script ended.end later ended_so.answer;
         refused = loaded_refusal words told replied r bytes script ended.end later ended_so.answer ended_so.changed;
         failed = ended_so.failed;

@@ -15,13 +15,14 @@ use Rattle.ppq_engine.specs.declared.end.End.{End}
 use Rattle.ppq_engine.specs.declared.end.End.TheVariants.{Done, Usage, NoFreeBlock, FileChanged}
 use Rattle.ppq_engine.specs.declared.end.Ended.{Ended}
 use Rattle.ppq_cli.specs.Device.{IsSurelyRun}
-use Rattle.ppq_cli.specs.Replies.{Files, IsLoadedAs, OfRun, RefusalOf, RunOf, RunIsRight, WroteNothing, HasRunWhole, HasRunFull, LibraryKeeps, IsInLength}
+use Rattle.ppq_cli.specs.Replies.{Files, IsLoadedAs, OfRun, RefusalOf, RunOf, RunIsRight, TransfersOf, WroteNothing, HasRunWhole, HasRunFull, LibraryKeeps, IsInLength}
 use Rattle.ppq_cli.specs.RunWords.{reading, About, Measure, OfWords, OfBytes, OfFile, WritesAll, WritesPart, WritesRoom, UsesDevice, load_by, crest_by, most_by, least_by, refusal_of, refusal_of_bytes, refusal_of_file, IsAnswer, IsTooLarge, Completes, RunsWords}
 use Rattle.ppq_cli.specs.RunOver.{RunsBytes}
 use Rattle.ppq_cli.specs.Types.{type_of}
 use Rattle.ppq_cli.proofs.Ends.{of_commands, of_bytes, answer_of_bytes, named_completed}
 use Rattle.ppq_cli.proofs.Extent.{reads_then}
 use Rattle.ppq_cli.proofs.Given.{loaded_remembered}
+use Rattle.ppq_cli.proofs.Transfers as transfers
 
 -- a count that is far from its last value and rose is higher
 rose_above : (before now : ℕ) → before < 2 ^ 63 → Rose before now → before < now
@@ -76,6 +77,9 @@ module _
   refusal : RefusalOf (type_of bytes).words (library.told old) (library.replied new) r bytes ended.end
   refusal = let P : Option Files → Type 0 = λ t. RefusalOf (type_of bytes).words t (library.replied new) r bytes ended.end in subst P kept.told e.refused
 
+  few : TransfersOf (type_of bytes).words (library.told old) (library.replied new) r bytes (map shown ended.blocks.items)
+  few = let P : Option Files → Type 0 = λ t. TransfersOf (type_of bytes).words t (library.replied new) r bytes (map shown ended.blocks.items) in subst P kept.told e.transfers
+
   -- where a file had changed, the library does not tell
   untold : (line said got : ℕ) → ended.end ≡ FileChanged line said got → library.told old ≡ None
   untold line said got is =
@@ -111,6 +115,8 @@ module _
         ]);
         used = λ is t. of_words _ (whole_file (UsesDevice crest_by shown ended) is (λ script w. w.crest t));
         used_any = λ is. of_words _ (whole_file (UsesDevice least_by shown ended) is (λ script w files are. w.least));
+        transfers = of_words _ (transfers.of_file shown ended (library.told old) (library.replied new) r bytes loaded.loaded few);
+        transfers_any = of_words _ (inr (bytes, (now_loaded, few)));
         made = e.blocks.made;
         blocks = of_words _ e.blocks.are;
         unfailed = e.blocks.unfailed;

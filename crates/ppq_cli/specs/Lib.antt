@@ -5,5 +5,6 @@ pub mod Report
 pub mod RunOver
 pub mod RunWords
 pub mod Status
+pub mod Transfers
 pub mod Twice
 pub mod Types

@@ -20,10 +20,12 @@ use Rattle.ppq_engine.specs.Output.{AreFilesOf, given_of, output_of, load_of, cr
 use Rattle.ppq_engine.specs.Reading.{EndsAt}
 use Rattle.ppq_engine.specs.Refusal.{HasNoRoom}
 use Rattle.ppq_engine.specs.Running.{HasChanged}
+use Rattle.ppq_engine.specs.Work.{work_of}
 use Rattle.ppq_engine.specs.declared.end.End.{End}
 use Rattle.ppq_engine.specs.declared.end.End.TheVariants.{Done, BadLine, Usage, ReadFault, WriteFault, DeviceFault, NoFreeBlock, BudgetTooSmall, Memory, FileChanged, NoDevice, NoScript, ScriptTooLong}
 use Rattle.ppq_cli.specs.Device.{IsSurelyRun}
 use Rattle.ppq_cli.specs.Load.{IsLoaded, script_kinds}
+use Rattle.ppq_cli.specs.Transfers.{TransfersWithin, AreUntouched}
 use Rattle.ppq_cli.specs.Types.{type_of}
 
 -- the files that a library tells: the bytes under each name, none where there is no file
@@ -257,3 +259,12 @@ pub record WroteNothing (before now : Option (List ℕ)) (end : End) : Type 0 wh
 abbrev pub RunIsRight : Type 0 → Option Files → (Reply → Type 0) → Arguments → Option (List ℕ) → Option (List ℕ) → List Shown → End → Type 0
 RunIsRight tells told replied r before now blocks end =
     WroteNothing before now end ⊎ OfLoaded told replied r.script (λ bytes. RunOf (type_of bytes).words tells told replied r bytes before now blocks end)
+
+-- no block was written or read; or the script was read, and the transfers of these blocks are within the bound of its work
+abbrev pub TransfersOf : {R : Type 0} → Words R → Option Files → (Reply → Type 0) → Arguments → List ℕ → List Shown → Type 0
+TransfersOf words told replied r bytes blocks =
+    AreUntouched blocks ⊎ OfGood words told replied r bytes (λ script. TransfersWithin (sizes_at words.WIDTH r) (work_of words (sizes_at words.WIDTH r) (command_list script)) blocks)
+
+-- no block was written or read; or the library gave the script as some bytes, and so it is with the records that its head names
+abbrev pub TransfersAreRight : Option Files → (Reply → Type 0) → Arguments → List Shown → Type 0
+TransfersAreRight told replied r blocks = AreUntouched blocks ⊎ OfLoaded told replied r.script (λ bytes. TransfersOf (type_of bytes).words told replied r bytes blocks)

@@ -8,15 +8,17 @@ use Rattle.ppq_words.specs.ppq_outside.declared.rack.Rack.{Ghosts as RackShows}
 use Rattle.ppq_words.specs.ppq_outside.declared.sink.Sink.{Ghosts as SinkShows}
 use Rattle.ppq_words.specs.ppq_script.Words.{Words}
 use Rattle.ppq_words.specs.Reading.{Reading as Arguments, sizes_at}
-use Rattle.ppq_words.specs.ppq_script.Reading.{Reading}
+use Rattle.ppq_words.specs.ppq_script.Reading.{Reading, command_list}
+use Rattle.ppq_words.specs.ppq_budget.Sizes.{Numbers, AreInRange}
 use Rattle.ppq_engine.specs.ppq_array.Kept.{HasFailed}
 use Rattle.ppq_engine.specs.Ends.{NoFault}
 use Rattle.ppq_engine.specs.Running.{HasChanged}
+use Rattle.ppq_engine.specs.Work.{TransfersFew}
 use Rattle.ppq_engine.specs.declared.end.End.{End}
 use Rattle.ppq_engine.specs.declared.end.End.TheVariants.{Done, ReadFault, WriteFault, DeviceFault, NoFreeBlock, Memory, FileChanged, NoDevice}
 use Rattle.ppq_engine.specs.declared.end.Ended.{Ended}
 use Rattle.ppq_cli.specs.Device.{AreBlocks}
-use Rattle.ppq_cli.specs.Replies.{Files, HasRunWhole, HasRunPart, HasRunFull, RanToLoad, FaultToFile, WroteNothing, RunOf, RefusalOf, LibraryKeeps, IsInLength}
+use Rattle.ppq_cli.specs.Replies.{Files, HasRunWhole, HasRunPart, HasRunFull, RanToLoad, FaultToFile, WroteNothing, RunOf, RefusalOf, TransfersOf, LibraryKeeps, IsInLength}
 use Rattle.ppq_cli.specs.RunWords.{OfBytes, WritesPart, MayWrite, refusal_of_budget, refusal_of_bytes, IsAnswer, IsTriedOrRefusal}
 use Rattle.ppq_cli.specs.Types.{RecordType}
 
@@ -42,6 +44,11 @@ pub record RunEnds {R : Type 0} (words : Words R) (told : Option Files) (replied
   pub failed : (number : ℕ) → end ≡ DeviceFault number → HasFailed number blocks
   pub changed : (line said got : ℕ) → end ≡ FileChanged line said got → HasChanged told replied script line said got
 
+-- each of these sizes is in its range, and few blocks were written and read for the work of the script
+pub record RunTransfers {R : Type 0} (words : Words R) (sizes : Numbers) (script : Reading R) (blocks : List Shown) : Type 0 where
+  pub range : AreInRange sizes
+  pub few : TransfersFew words (command_list script) sizes blocks
+
 -- A count of faults did not fall; it stayed where the end names no fault, and rose with the end that names this one
 pub record RunCounts (fault : End) (before now : ℕ) (end : End) : Type 0 where
   pub later : before ≤ now
@@ -65,6 +72,7 @@ pub record RunsBytes
   pub part : rack.tells old_rack → OfBytes (library.told old_library) type r bytes (WritesPart sink.told old_out new_out)
   pub nothing : MayWrite ended.end ⊎ (sink.told new_out ≡ sink.told old_out)
   pub answer : IfSome (library.told old_library) (λ files. IsAnswer (refusal_of_bytes type.words files bytes r) ended.end)
+  pub transfers : TransfersOf type.words (library.told old_library) (library.replied new_library) r bytes (map shown ended.blocks.items)
   pub refused : RefusalOf type.words (library.told old_library) (library.replied new_library) r bytes ended.end
   pub failed : (number : ℕ) → ended.end ≡ DeviceFault number → HasFailed number (map shown ended.blocks.items)
   pub blocks : RunBlocks shown (rack.tells old_rack) (rack.tells new_rack) (rack.made old_rack) (rack.made new_rack) r.given.numbers.blocks ended

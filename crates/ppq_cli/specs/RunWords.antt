@@ -24,9 +24,11 @@ use Rattle.ppq_engine.specs.Output.{output_of, load_of, crest_of, TakesWithin}
 use Rattle.ppq_engine.specs.Loads.{most_of, least_of, begins_limit, FitsWritten}
 use Rattle.ppq_engine.specs.Refusal.{HasRoom, HasNoRoom}
 use Rattle.ppq_engine.specs.Ends.{BeganCommands, NoFault}
+use Rattle.ppq_engine.specs.Work.{work_of}
 use Rattle.ppq_cli.specs.Device.{AreBlocks}
 use Rattle.ppq_cli.specs.Load.{script_kinds}
-use Rattle.ppq_cli.specs.Replies.{Files, need_of, RefusalIsRight, RunIsRight, ReadsWithin}
+use Rattle.ppq_cli.specs.Replies.{Files, need_of, RefusalIsRight, RunIsRight, TransfersAreRight, ReadsWithin}
+use Rattle.ppq_cli.specs.Transfers.{TransfersWithin}
 use Rattle.ppq_cli.specs.Types.{RecordType, type_of}
 
 -- The script that the words name.
@@ -109,6 +111,15 @@ least_by type given commands = least_of type.words commands
 abbrev pub UsesDevice : {S : Type 0} → Measure → (S → Shown) → Ended S → About
 UsesDevice measure shown ended type r given commands = FitsWritten (measure type given commands) (sizes_at type.words.WIDTH r) (map shown ended.blocks.items)
 
+-- the transfers of these blocks are within the bound of the script's work: the records that its commands push, the heaps that these fill, and the
+-- sessions that begin
+abbrev pub TransfersBounded : {S : Type 0} → (S → Shown) → Ended S → About
+TransfersBounded shown ended type r given commands = TransfersWithin (sizes_at type.words.WIDTH r) (work_of type.words (sizes_at type.words.WIDTH r) commands) (map shown ended.blocks.items)
+
+-- the same by the commands of the script that the library gave, whether it tells or not
+abbrev pub AreTransfersRight : {L S : Type 0} → List (String Global) → (L → Option Files) → L → (L → Reply → Type 0) → L → (S → Shown) → Ended S → Type 0
+AreTransfersRight words told library replied later shown ended = OfWords words (λ r. TransfersAreRight (told library) (replied later) r (map shown ended.blocks.items))
+
 -- When each outcome comes.
 
 -- the answer that refuses a script before its device is made, and none to another: first that it is not there, then that it is too
@@ -178,6 +189,8 @@ pub record RunsWords
   pub ran : IfRan words rack.tells old_rack library.told old_library library.replied new_library sink.told old_out new_out shown ended
   pub used : ended.end ≡ Done → rack.tells old_rack → OfScript library.told old_library words (UsesDevice crest_by shown ended)
   pub used_any : ended.end ≡ Done → OfScript library.told old_library words (UsesDevice least_by shown ended)
+  pub transfers : OfScript library.told old_library words (TransfersBounded shown ended)
+  pub transfers_any : AreTransfersRight words library.told old_library library.replied new_library shown ended
   pub made : HasMadeJust (rack.made old_rack) (rack.made new_rack) (map (λ slot. (shown slot).number) ended.blocks.items)
   pub blocks : OfWords words (λ r. AreBlocks r.given.numbers.blocks ended.end (map shown ended.blocks.items))
   pub unfailed : ended.end ≡ Done → All (λ (s : Shown). s.faults ≡ 0) (map shown ended.blocks.items)

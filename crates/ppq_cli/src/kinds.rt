@@ -10,7 +10,7 @@ use crate::place::Place;
 use crate::reading::{end_of_check, read_script};
 use crate::run::{run_over, without_blocks};
 use ppq_engine::Ended;
-use ppq_record::fields_laws;
+use ppq_record::{fields_laws, record_laws};
 use ppq_words::{
     Down, Fields, Gate, Host, Kind, Library, Order, Pair, Rack, RunArguments, Sink, Triple,
     read_head,
@@ -33,6 +33,7 @@ where
     ensures { RunsBytes (typed R.Fields) L.Library K.Rack O.Sink K.Slot.shown (as_reading arguments.now) bytes.now library.old library.new rack.old rack.new out.old out.new result }
 {
     fields_laws::<R>();
+    record_laws::<R>();
     let workers = arguments.given.workers();
     match read_script::<R, H, L>(place.rt, place.alloc, bytes, library, workers) {
         Ok(script) => run_over(place, &script, arguments, library, rack, out),

@@ -3,9 +3,9 @@ ghost use Rattle.std.specs.Prelude.{◌≡◌, ◌≤◌, ℕ, List, Option, [],
 ghost use Rattle.ppq_engine.specs.Output.{KeepsLengths};
 ghost use Rattle.ppq_engine.specs.Files.{IsReadInScript};
 ghost use Rattle.ppq_cli.specs.Replies.{LibraryKeeps};
-ghost use Rattle.ppq_cli.specs.RunOver.{RunWrites, RunBlocks, RunEnds, RunFaults};
+ghost use Rattle.ppq_cli.specs.RunOver.{RunWrites, RunBlocks, RunTransfers, RunEnds, RunFaults};
 ghost use Rattle.ppq_cli.specs.Device.{make_end};
-ghost use Rattle.ppq_words.specs.Reading.{as_reading};
+ghost use Rattle.ppq_words.specs.Reading.{as_reading, sizes_at};
 
 use crate::device::make_blocks;
 use crate::place::Place;
@@ -60,6 +60,7 @@ where
     // that were made come back, files are only read, and a count of faults rises only with an end that names a fault.
     ensures written { RunWrites R.Fields (K.tells rack.old) (L.told library.old) (O.told out.old) (O.told out.new) (as_reading arguments.now) script.now (map K.Slot.shown result.blocks.items) result.end }
     ensures blocks { RunBlocks K.Slot.shown (K.tells rack.old) (K.tells rack.new) (K.made rack.old) (K.made rack.new) arguments.now.given.numbers.blocks result }
+    ensures transfers { RunTransfers R.Fields (sizes_at R.WIDTH (as_reading arguments.now)) script.now (map K.Slot.shown result.blocks.items) }
     ensures library { LibraryKeeps L.told L.replied (IsReadInScript script.now) library.old library.new }
     ensures ends { RunEnds R.Fields (L.told library.old) (L.replied library.new) (as_reading arguments.now) script.now (map K.Slot.shown result.blocks.items) result.end }
     ensures faults { RunFaults (L.faults library.old) (L.faults library.new) (K.faults rack.old) (K.faults rack.new) (O.faults out.old) (O.faults out.new) result.end }

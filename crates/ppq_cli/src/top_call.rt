@@ -10,7 +10,7 @@ ghost use Rattle.ppq_engine.specs.declared.end.End.TheVariants as ends;
 ghost use Rattle.ppq_engine.specs.declared.end.End.TheVariants.{Done, Usage, ReadFault, WriteFault, DeviceFault, NoFreeBlock, NoDevice};
 ghost use Rattle.ppq_cli.specs.Device.{AreBlocks};
 ghost use Rattle.ppq_cli.specs.Replies.{RefusalIsRight, ReadsWithin};
-ghost use Rattle.ppq_cli.specs.RunWords.{reading, OfWords, OfScript, WritesAll, WritesPart, WritesRoom, MayWrite, IfRan, UsesDevice};
+ghost use Rattle.ppq_cli.specs.RunWords.{reading, OfWords, OfScript, WritesAll, WritesPart, WritesRoom, MayWrite, IfRan, UsesDevice, TransfersBounded, AreTransfersRight};
 ghost use Rattle.ppq_cli.specs.RunWords.{load_by, crest_by, most_by, least_by, refusal_of, IsAnswer, IsTooLarge, Completes};
 
 use crate::kinds::run_bytes;
@@ -26,18 +26,20 @@ use std::alloc::Global;
 /// records are those that the script's head names: blocks and record files are made of them, and of a
 /// budget in bytes as many of them count as fit.
 ///
-/// After `Done` the sink took exactly the script's output in the form that the arguments say, which is
-/// that of one multiset, ordered by whole records and as the head says, whatever the sizes; after every other
-/// outcome it took a prefix of it. All blocks that the rack made come back, each once, and after `Done` what
-/// the budget cannot hold was written to them, and no call of a block failed; files are only read, and never past a length that the library
-/// said. Each outcome comes only for its cause, and `Usage`, `NoScript`, `ScriptTooLong`, `BadLine` and
-/// `BudgetTooSmall` if and only if they are due, in this order, unless an allocation or a read failed.
-/// No count of faults falls, and none rises unless the outcome names a fault, so the same outside can
-/// be handed in again. A script that is not refused ends `Done` or `Memory`, unless the outcome names a
-/// fault, if there is room for its load: on the device, or in one heap where the script begins no limit
-/// session. This is said of an outside that is visible to proofs; of any other library, the outcomes,
-/// and the output of a script that reads no file, are those of the bytes that its reads returned as the
-/// script.
+/// After `Done` the sink took exactly the script's output in the form that the arguments say, which is that of
+/// one multiset, ordered by whole records and as the head says, whatever the sizes; after every other outcome
+/// it took a prefix of it. All blocks that the rack made come back, each once, and after `Done` what the budget
+/// cannot hold was written to them, and no call of a block failed; files are only read, and never past a length
+/// that the library said. Whatever the outcome, few blocks are written for the records that the script pushes,
+/// the heaps that these fill and the sessions that it begins, and no more are read than written, unless twice
+/// these heaps and `workers + 2` times the sessions come to 8^8 or more. Each outcome comes only for its cause,
+/// and `Usage`, `NoScript`, `ScriptTooLong`, `BadLine` and `BudgetTooSmall` if and only if they are due, in
+/// this order, unless an allocation or a read failed. No count of faults falls, and none rises unless the
+/// outcome names a fault, so the same outside can be handed in again. A script that is not refused ends `Done`
+/// or `Memory`, unless the outcome names a fault, if there is room for its load: on the device, or in one heap
+/// where the script begins no limit session. This is said of an outside that is visible to proofs; of any other
+/// library, the outcomes, how few blocks are written and read, and the output of a script that reads no file,
+/// are those of the bytes that its reads returned as the script.
 ///
 /// What the outcomes say, besides `Done`:
 ///
@@ -82,6 +84,8 @@ where
     ensures ran { IfRan words.now K.tells rack.old L.told library.old L.replied library.new O.told out.old out.new K.Slot.shown result }
     ensures used { result.end ≡ Done → K.tells rack.old → OfScript L.told library.old words.now (UsesDevice crest_by K.Slot.shown result) }
     ensures used_any { result.end ≡ Done → OfScript L.told library.old words.now (UsesDevice least_by K.Slot.shown result) }
+    ensures transfers { OfScript L.told library.old words.now (TransfersBounded K.Slot.shown result) }
+    ensures transfers_any { AreTransfersRight words.now L.told library.old L.replied library.new K.Slot.shown result }
     ensures made { HasMadeJust (K.made rack.old) (K.made rack.new) (map (λ slot. (K.Slot.shown slot).number) result.blocks.items) }
     ensures blocks { OfWords words.now (λ r. AreBlocks r.given.numbers.blocks result.end (map K.Slot.shown result.blocks.items)) }
     ensures unfailed { result.end ≡ Done → All (λ s. s.faults ≡ 0) (map K.Slot.shown result.blocks.items) }

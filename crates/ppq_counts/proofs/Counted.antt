@@ -1,10 +1,10 @@
 -- What an owner of runs keeps from call to call.
 use Rattle.std.proofs.Common.{◌≡◌, ℕ, ◌+◌, ◌*◌, ◌<◌, ◌≤◌, arith}
 use Rattle.std.proofs.Math.Nat.{mul-le-mul_left}
-use Rattle.ppq_counts.specs.Tally.{Tally, last, no_tally, accepting, storing, beginning, IsCounting, runs_of, credit_of}
-use Rattle.ppq_counts.specs.Account.{Account, too_heavy, Costs, Stops, IsPaid, IsCovered, IsCounted}
-use Rattle.ppq_counts.proofs.Accounts.{costs-same}
-use Rattle.ppq_counts.proofs.Paid.{paid-costs, paid-stops, paid-covered, covered-bound, credit-accepting, runs-accepting, credit-storing, runs-storing, credit-beginning, runs-beginning, counting-before}
+use Rattle.ppq_counts.specs.Tally.{Tally, no_tally, accepting, storing, beginning, IsCounting, runs_of, credit_of, bound_of}
+use Rattle.ppq_counts.specs.Account.{Account, too_heavy, Costs, Stops, IsPaid, IsCounted, IsCountedBeside, IsExact, beside}
+use Rattle.ppq_counts.proofs.Accounts.{costs-beside}
+use Rattle.ppq_counts.proofs.Paid.{paid-costs, paid-stops, paid-covered, covered-bound, credit-accepting, credit-storing, runs-storing, credit-beginning, runs-beginning, counting-before}
 
 module _ (workers block : ℕ) {Sound Sound' : Type 0} where
   -- numbers that paid before pay still, after a call that costs no more than they pay more
@@ -14,10 +14,15 @@ module _ (workers block : ℕ) {Sound Sound' : Type 0} where
         record {
           paid = λ counting few none. pays counting few;
           covered = λ counting few. paid-covered workers block u y (pays counting few);
+          unread = λ exact none. unread exact;
+          read = λ exact. omega (arith, unread exact);
         }
       where
         pays : IsCounting u → runs_of workers u < too_heavy → IsPaid workers block u y
         pays counting few = paid-costs workers block t u c m x y (was.paid (before counting) (omega (arith, few, runs counting)) sound) (credit counting) (runs counting) few costs
+
+        unread : IsExact y → y.reads + y.stored ≤ y.writes
+        unread exact = omega (arith, was.unread (omega (arith, exact, costs.stay)) sound, costs.read (omega (arith, exact)))
 
     -- a block failed
     pub counted-stops : (Sound' → ⊥) → Stops c m x y → IsCounted workers block Sound' u y
@@ -25,6 +30,39 @@ module _ (workers block : ℕ) {Sound Sound' : Type 0} where
         record {
           paid = λ counting few none. absurd (failed none);
           covered = λ counting few. paid-stops workers block t u c m x y (was.paid (before counting) (omega (arith, few, runs counting)) sound) (credit counting) (runs counting) few stops;
+          unread = λ exact none. absurd (failed none);
+          read = λ exact. omega (arith, was.unread (omega (arith, exact, stops.stay)) sound, stops.read (omega (arith, exact)));
+        }
+
+  -- the same of parts that gave so many records of their heaps away
+  module _ (begun : ℕ) (t u : Tally) (before : IsCounting u → IsCounting t) (c m : ℕ) (credit : IsCounting u → credit_of workers block t + c ≤ credit_of workers block u) (runs : IsCounting u → runs_of workers t + m ≤ runs_of workers u) (x y : Account)
+      (was : IsCountedBeside workers block begun Sound t x) (sound : Sound) where
+    pub beside-costs : Costs c m x y → IsCountedBeside workers block begun Sound' u y
+    beside-costs costs =
+        record {
+          paid = λ counting few none. pays counting few;
+          covered = λ counting few. (let p = pays counting few in omega (arith, p.spent));
+          unread = λ exact none. unread exact;
+          read = λ exact. omega (arith, unread exact);
+        }
+      where
+        pays : IsCounting u → runs_of workers u < too_heavy → IsPaid workers block u (beside begun y)
+        pays counting few =
+            paid-costs workers block t u c m (beside begun x) (beside begun y) (was.paid (before counting) (omega (arith, few, runs counting)) sound) (credit counting) (runs counting) few (costs-beside begun costs)
+
+        unread : IsExact y → y.reads + y.stored ≤ y.writes
+        unread exact = omega (arith, was.unread (omega (arith, exact, costs.stay)) sound, costs.read (omega (arith, exact)))
+
+    -- a block failed
+    pub beside-stops : (Sound' → ⊥) → Stops c m x y → IsCountedBeside workers block begun Sound' u y
+    beside-stops failed stops =
+        record {
+          paid = λ counting few none. absurd (failed none);
+          covered = λ counting few.
+              let p = was.paid (before counting) (omega (arith, few, runs counting)) sound in
+              omega (arith, p.spent, stops.written (omega (arith, p.weight, few, runs counting)), credit counting);
+          unread = λ exact none. absurd (failed none);
+          read = λ exact. omega (arith, was.unread (omega (arith, exact, stops.stay)) sound, stops.read (omega (arith, exact)));
         }
 
 module _ (workers block : ℕ) (t : Tally) where
@@ -58,29 +96,67 @@ module _ (workers block : ℕ) (t : Tally) where
   pub beginning-runs : (runs : ℕ) → runs ≤ workers + 2 → IsCounting (beginning t) → runs_of workers t + runs ≤ runs_of workers (beginning t)
   beginning-runs runs few is = let e = runs-beginning workers block t (beginning-before is) in omega (arith, e, few)
 
--- Nothing was written, and there is nothing yet
-pub counted-none : (workers block : ℕ) (Sound : Type 0) (x : Account) → x.written ≡ 0 → x.owed ≡ 0 → x.weight ≡ 0 → IsCounted workers block Sound no_tally x
-counted-none workers block Sound x w o h =
+-- Nothing was written or read, and there is nothing yet
+pub counted-none :
+    (workers block : ℕ) (Sound : Type 0) (x : Account) → x.written ≡ 0 → x.owed ≡ 0 → x.weight ≡ 0 → x.reads ≡ 0 → x.stored ≡ 0 → IsCounted workers block Sound no_tally x
+counted-none workers block Sound x w o h r s =
     record {
       paid = λ counting few none. pays;
       covered = λ counting few. paid-covered workers block no_tally x pays;
+      unread = λ exact none. omega (arith, r, s);
+      read = λ exact. omega (arith, r);
     }
   where
     pays : IsPaid workers block no_tally x
     pays = record { spent = omega (arith, w, o); weight = omega (arith, h) }
 
+module _ {workers block : ℕ} {Sound Sound' : Type 0} {t : Tally} where
+  -- who is sound now was sound before
+  pub counted-sound : {x : Account} → (Sound' → Sound) → IsCounted workers block Sound t x → IsCounted workers block Sound' t x
+  counted-sound {x} was is = record { paid = λ counting few sound. is.paid counting few (was sound); covered = is.covered; unread = λ exact sound. is.unread exact (was sound); read = is.read }
+
+  pub beside-sound : {begun : ℕ} {x : Account} → (Sound' → Sound) → IsCountedBeside workers block begun Sound t x → IsCountedBeside workers block begun Sound' t x
+  beside-sound {begun} {x} was is = record { paid = λ counting few sound. is.paid counting few (was sound); covered = is.covered; unread = λ exact sound. is.unread exact (was sound); read = is.read }
+
+module _ {workers block : ℕ} {Sound : Type 0} {t : Tally} where
+  -- no more was written or read, and no more is owed
+  pub counted-less : {x y : Account} → y.written ≤ x.written → y.owed ≤ x.owed → y.weight ≤ x.weight → y.writes ≡ x.writes → y.reads ≤ x.reads → y.stored ≤ x.stored → IsCounted workers block Sound t x → IsCounted workers block Sound t y
+  counted-less {x} {y} written owed weight writes reads stored is =
+      record {
+        paid = λ counting few sound. (let p = is.paid counting few sound in record { spent = omega (arith, p.spent, written, owed); weight = omega (arith, p.weight, weight) });
+        covered = λ counting few. omega (arith, is.covered counting few, written);
+        unread = λ exact sound. omega (arith, is.unread (omega (arith, exact, writes)) sound, writes, reads, stored);
+        read = λ exact. omega (arith, is.read (omega (arith, exact, writes)), writes, reads);
+      }
+
+  -- A queue gives the records of its heaps to passes. While they have them, they are no records of its parts, and they are paid for
+  pub beside-counted : {begun : ℕ} {x : Account} → Sound → IsCounted workers block Sound t (beside begun x) → IsCountedBeside workers block begun Sound t x
+  beside-counted {begun} {x} sound is = record { paid = is.paid; covered = λ counting few. (let p = is.paid counting few sound in omega (arith, p.spent)); unread = is.unread; read = is.read }
+
+  -- all passes came back
+  pub counted-beside : {x : Account} → IsCountedBeside workers block 0 Sound t x → IsCounted workers block Sound t x
+  counted-beside {x} is =
+      record {
+        paid = λ counting few sound. (let p = is.paid counting few sound in record { spent = omega (arith, p.spent); weight = omega (arith, p.weight) });
+        covered = λ counting few. omega (arith, is.covered counting few);
+        unread = is.unread;
+        read = is.read;
+      }
+
 -- what it says of the writes
 pub counted-bound :
-    (workers block : ℕ) (Sound : Type 0) (t : Tally) (writes : ℕ) (x : Account) → x.written ≡ 7 * (block * writes) → IsCounted workers block Sound t x → IsCounting t → runs_of workers t < too_heavy
-    → block * writes ≤ 8 * (t.accepted + workers * block * (t.stores + t.sessions)) + 2 * (block * runs_of workers t)
+    (workers block : ℕ) (Sound : Type 0) (t : Tally) (writes : ℕ) (x : Account) → x.written ≡ 7 * (block * writes) → IsCounted workers block Sound t x → IsCounting t → runs_of workers t < too_heavy → block * writes ≤ bound_of workers block t
 counted-bound workers block Sound t writes x e is counting few = covered-bound workers block t writes x e (is.covered counting few)
 
--- a bound by the numbers bounds by greater ones
-pub bound-more :
-    (workers block : ℕ) (t u : Tally) → t.accepted ≤ u.accepted → t.stores ≤ u.stores → t.sessions ≤ u.sessions
-    → 8 * (t.accepted + workers * block * (t.stores + t.sessions)) + 2 * (block * runs_of workers t) ≤ 8 * (u.accepted + workers * block * (u.stores + u.sessions)) + 2 * (block * runs_of workers u)
+-- greater numbers allow more runs
+pub runs-more : (workers : ℕ) (t u : Tally) → t.stores ≤ u.stores → t.sessions ≤ u.sessions → runs_of workers t ≤ runs_of workers u
+runs-more workers t u b c =
+    let per : (workers + 2) * t.sessions ≤ (workers + 2) * u.sessions = mul-le-mul_left (workers + 2) c in
+    omega (arith, b, per)
+
+-- and a bound by the numbers bounds by greater ones
+pub bound-more : (workers block : ℕ) (t u : Tally) → t.accepted ≤ u.accepted → t.stores ≤ u.stores → t.sessions ≤ u.sessions → bound_of workers block t ≤ bound_of workers block u
 bound-more workers block t u a b c =
     let one : workers * block * (t.stores + t.sessions) ≤ workers * block * (u.stores + u.sessions) = mul-le-mul_left (workers * block) (omega (arith, b, c)) in
-    let per : (workers + 2) * t.sessions ≤ (workers + 2) * u.sessions = mul-le-mul_left (workers + 2) c in
-    let two : block * runs_of workers t ≤ block * runs_of workers u = mul-le-mul_left block (omega (arith, b, per)) in
+    let two : block * runs_of workers t ≤ block * runs_of workers u = mul-le-mul_left block (runs-more workers t u b c) in
     omega (arith, a, one, two)

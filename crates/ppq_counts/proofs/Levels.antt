@@ -1,10 +1,11 @@
 -- What a store and a merge of a level do to an account, told by levels and lengths of runs.
-use Rattle.std.proofs.Common.{◌≡◌, ℕ, zero, suc, min, ◌+◌, ◌-◌, ◌*◌, ◌<◌, ◌≤◌, ◌^◌, List, [], ◌∷◌, ◌++◌, length, sum_by, All, refl, sym, ap, ◌∙◌, arith, IsPermutation}
-use Rattle.std.proofs.Math.Nat.{pow-suc, mul-le-mul_left, mul_comm, mul_assoc}
+use Rattle.std.proofs.Common.{◌≡◌, ℕ, suc, min, ◌+◌, ◌-◌, ◌*◌, ◌<◌, ◌≤◌, List, [], ◌∷◌, ◌++◌, length, sum_by, All, refl, ap, ◌∙◌, arith, IsPermutation}
+use Rattle.std.proofs.Math.Nat.{pow-suc, mul-le-mul_left, mul_comm}
 use Rattle.std.proofs.lemmas.List.Sums.{sum_by-cons, sum_by-append}
 use Rattle.std.proofs.lemmas.List.Sorted.{sum_by-IsPermutation}
 use Rattle.std.proofs.lemmas.List.Elements.{All-head, All-tail}
-use Rattle.ppq_counts.specs.Account.{Account, toll, heft, too_heavy, tolls, hefts, account, Rises, Costs, Stops}
+use Rattle.ppq_counts.specs.Tally.{last}
+use Rattle.ppq_counts.specs.Account.{toll, heft, too_heavy, tolls, hefts, blocks_of, account, Costs, Stops}
 
 -- a run of a level is as heavy as 8 of the level below
 pub heft-suc : (l : ℕ) → heft (suc l) ≡ 8 * heft l
@@ -94,7 +95,34 @@ module _ {X : Type 0} (level size : X → ℕ) where
   pub few-top : (others inputs : List X) → length inputs ≡ 8 → All (λ x. level x ≡ 7) inputs → hefts level size (others ++ inputs) < too_heavy → ⊥
   few-top others inputs eight all light = omega (arith, light, hefts-append others inputs, hefts-level 7 inputs all, ap (λ k. k * heft 7) eight)
 
-  module _ (block writes writes' k : ℕ) (more : writes' ≤ writes + k) where
+  -- a run of the same level with no more records owes no more
+  pub toll-fewer : (block : ℕ) (x y : X) → level y ≡ level x → size y ≤ size x → toll block (level y) (size y) ≤ toll block (level x) (size x)
+  toll-fewer block x y same fewer =
+      let product : (7 - level x) * size y ≤ (7 - level x) * size x = mul-le-mul_left (7 - level x) fewer in
+      let here : toll block (level y) (size y) ≡ toll block (level x) (size y) = ap (λ k. toll block k (size y)) same in
+      omega (arith, product, here)
+
+-- how many blocks runs have stored
+module _ {X : Type 0} (blocks : X → ℕ) where
+  pub blocks-sum : (xs : List X) → blocks_of blocks xs ≡ sum_by blocks xs
+  unfolding blocks_of
+  blocks-sum xs = refl
+
+  -- of two lists
+  pub blocks-append : (xs ys : List X) → blocks_of blocks (xs ++ ys) ≡ blocks_of blocks xs + blocks_of blocks ys
+  blocks-append xs ys = omega (arith, blocks-sum (xs ++ ys), blocks-sum xs, blocks-sum ys, sum_by-append blocks xs ys)
+
+  -- of a list with one run more at its end
+  pub blocks-push : (xs : List X) (x : X) → blocks_of blocks (xs ++ x ∷ []) ≡ blocks_of blocks xs + blocks x
+  blocks-push xs x = omega (arith, blocks-append xs (x ∷ []), blocks-sum (x ∷ []), sum_by-cons blocks x [])
+
+  -- of the same runs in another order
+  pub blocks-moved : (xs ys : List X) → IsPermutation xs ys → blocks_of blocks ys ≡ blocks_of blocks xs
+  blocks-moved xs ys p = omega (arith, blocks-sum xs, blocks-sum ys, sum_by-IsPermutation blocks xs ys p)
+
+-- what steps cost. They read blocks from the one number to the other, and wrote them likewise
+module _ {X : Type 0} (level size blocks : X → ℕ) where
+  module _ (block writes writes' reads reads' k : ℕ) (more : writes' ≤ writes + k) where
     -- what the writes of k blocks with so many records add
     written-most : (records : ℕ) → k * block < records + block → 7 * (block * writes') ≤ 7 * (block * writes) + 7 * (records + block)
     written-most records few =
@@ -102,83 +130,101 @@ module _ {X : Type 0} (level size : X → ℕ) where
         let sum : block * (writes + k) ≡ block * writes + block * k = omega arith in
         omega (arith, product, sum, blocks-cost block k records few)
 
-    -- a list of n records and m records in memory became a run of level 0
+    -- a list of n records and m records in memory became a run of level 0, whose blocks were all written
     pub stored-costs :
-        (n m : ℕ) (old new : List X) (made : X) → level made ≡ 0 → size made ≡ n + m → new ≡ old ++ made ∷ [] → k * block < n + m + block
-        → Costs (56 * n + 8 * block) 1 (account level size block writes old m) (account level size block writes' new 0)
-    stored-costs n m old new made level_is size_is new_is few =
+        (n m : ℕ) (old new : List X) (made : X) → level made ≡ 0 → size made ≡ n + m → new ≡ old ++ made ∷ [] → k * block < n + m + block → writes ≤ writes' → (writes' < last → writes + blocks made ≤ writes') → reads' ≤ reads
+        → Costs (56 * n + 8 * block) 1 (account level size blocks block writes reads old m) (account level size blocks block writes' reads' new 0)
+    stored-costs n m old new made level_is size_is new_is few stay least unread =
         let one : toll block (level made) (size made) ≡ toll block 0 (n + m) = ap (λ l. toll block l (size made)) level_is ∙ ap (toll block 0) size_is in
-        let owed : tolls level size block new ≡ tolls level size block old + toll block 0 (n + m) = ap (tolls level size block) new_is ∙ (omega (arith, tolls-push block old made, one)) in
+        let owed : tolls level size block new ≡ tolls level size block old + toll block 0 (n + m) = ap (tolls level size block) new_is ∙ (omega (arith, tolls-push level size block old made, one)) in
         let heavy : heft (level made) ≡ 1 = ap heft level_is ∙ heft-zero in
-        let weight : hefts level size new ≡ hefts level size old + 1 = ap (hefts level size) new_is ∙ (omega (arith, hefts-push old made, heavy)) in
-        record { rises = λ light. record { spent = omega (arith, owed, written-most (n + m) few); weight = omega (arith, weight) } }
+        let weight : hefts level size new ≡ hefts level size old + 1 = ap (hefts level size) new_is ∙ (omega (arith, hefts-push level size old made, heavy)) in
+        let stored : blocks_of blocks new ≡ blocks_of blocks old + blocks made = ap (blocks_of blocks) new_is ∙ blocks-push blocks old made in
+        record { rises = λ light. record { spent = omega (arith, owed, written-most (n + m) few); weight = omega (arith, weight) }; stay = stay; read = λ exact. omega (arith, stored, least exact, unread) }
 
     -- a write of one of its blocks failed
-    pub stored-stops : (n m : ℕ) (old new : List X) (m' : ℕ) → k * block < n + m + block → Stops (56 * n + 8 * block) 1 (account level size block writes old m) (account level size block writes' new m')
-    stored-stops n m old new m' few = record { written = λ light. omega (arith, written-most (n + m) few) }
+    pub stored-stops :
+        (n m : ℕ) (old new : List X) (m' : ℕ) → k * block < n + m + block → writes ≤ writes' → reads' ≤ reads
+        → Stops (56 * n + 8 * block) 1 (account level size blocks block writes reads old m) (account level size blocks block writes' reads' new m')
+    stored-stops n m old new m' few stay unread = record { written = λ light. omega (arith, written-most (n + m) few); stay = stay; read = λ exact. omega (arith, stay, unread) }
 
     module _ (l : ℕ) (old inputs others : List X) (at_most : l ≤ 7) (parted : IsPermutation old (others ++ inputs)) (eight : length inputs ≡ 8) (levels : All (λ x. level x ≡ l) inputs) where
       old-owed : tolls level size block old ≡ tolls level size block others + (7 * ((7 - l) * sum_by size inputs) + 8 * block)
-      old-owed = omega (arith, tolls-moved block old (others ++ inputs) parted, tolls-append block others inputs, tolls-level block l inputs levels, ap (λ k. k * block) eight)
+      old-owed = omega (arith, tolls-moved level size block old (others ++ inputs) parted, tolls-append level size block others inputs, tolls-level level size block l inputs levels, ap (λ k. k * block) eight)
 
       old-weight : hefts level size old ≡ hefts level size others + 8 * heft l
-      old-weight = omega (arith, hefts-moved old (others ++ inputs) parted, hefts-append others inputs, hefts-level l inputs levels, ap (λ k. k * heft l) eight)
+      old-weight = omega (arith, hefts-moved level size old (others ++ inputs) parted, hefts-append level size others inputs, hefts-level level size l inputs levels, ap (λ k. k * heft l) eight)
+
+      old-stored : blocks_of blocks old ≡ blocks_of blocks others + sum_by blocks inputs
+      old-stored = omega (arith, blocks-moved blocks old (others ++ inputs) parted, blocks-append blocks others inputs, blocks-sum blocks inputs)
 
       below-top : hefts level size old < too_heavy → l < 7
       below-top light = let top : l ≡ 7 → ⊥ = λ e. (omega (arith, light, old-weight, ap heft e)) in omega (arith, at_most, top)
 
-      -- 8 runs of a level became one of the next
+      -- 8 runs of a level, of which each block was read once at most, became one of the next, whose blocks were all written
       pub merged-costs :
           (m : ℕ) (new : List X) (made : X) → level made ≡ min (l + 1) 7 → size made ≡ sum_by size inputs → new ≡ others ++ made ∷ [] → k * block < sum_by size inputs + block
-          → Costs 0 0 (account level size block writes old m) (account level size block writes' new m)
-      merged-costs m new made level_is size_is new_is few =
+          → writes ≤ writes' → (writes' < last → writes + blocks made ≤ writes') → reads' ≤ reads + sum_by blocks inputs
+          → Costs 0 0 (account level size blocks block writes reads old m) (account level size blocks block writes' reads' new m)
+      merged-costs m new made level_is size_is new_is few stay least most =
           let records = sum_by size inputs in
+          let stored : blocks_of blocks new ≡ blocks_of blocks others + blocks made = ap (blocks_of blocks) new_is ∙ blocks-push blocks others made in
           record {
             rises = λ light.
                 let below = below-top (omega (arith, light)) in
                 let next : level made ≡ suc l = level_is ∙ (let e : min (l + 1) 7 ≡ suc l = omega (arith, below) in e) in
                 let one : toll block (level made) (size made) ≡ toll block (suc l) records = ap (λ l. toll block l (size made)) next ∙ ap (toll block (suc l)) size_is in
-                let owed : tolls level size block new ≡ tolls level size block others + toll block (suc l) records = ap (tolls level size block) new_is ∙ (omega (arith, tolls-push block others made, one)) in
+                let owed : tolls level size block new ≡ tolls level size block others + toll block (suc l) records = ap (tolls level size block) new_is ∙ (omega (arith, tolls-push level size block others made, one)) in
                 let heavy : heft (level made) ≡ 8 * heft l = ap heft next ∙ heft-suc l in
-                let weight : hefts level size new ≡ hefts level size others + 8 * heft l = ap (hefts level size) new_is ∙ (omega (arith, hefts-push others made, heavy)) in
+                let weight : hefts level size new ≡ hefts level size others + 8 * heft l = ap (hefts level size) new_is ∙ (omega (arith, hefts-push level size others made, heavy)) in
                 let step : (7 - l) * records ≡ records + (7 - suc l) * records = ap (λ k. k * records) (let e : 7 - l ≡ 1 + (7 - suc l) = omega (arith, below) in e) ∙ (omega arith) in
                 record { spent = omega (arith, owed, old-owed, step, written-most records few); weight = omega (arith, weight, old-weight) };
+            stay = stay;
+            read = λ exact. omega (arith, old-stored, stored, least exact, most);
           }
 
       -- a read or a write failed
-      pub merged-stops : (m m' : ℕ) (new : List X) → k * block < sum_by size inputs + block → Stops 0 0 (account level size block writes old m) (account level size block writes' new m')
-      merged-stops m m' new few =
+      pub merged-stops :
+          (m m' : ℕ) (new : List X) → k * block < sum_by size inputs + block → writes ≤ writes' → reads' ≤ reads + sum_by blocks inputs
+          → Stops 0 0 (account level size blocks block writes reads old m) (account level size blocks block writes' reads' new m')
+      merged-stops m m' new few stay most =
           let records = sum_by size inputs in
           record {
             written = λ light.
                 let below = below-top (omega (arith, light)) in
                 let step : (7 - l) * records ≡ records + (6 - l) * records = ap (λ k. k * records) (let e : 7 - l ≡ 1 + (6 - l) = omega (arith, below) in e) ∙ (omega arith) in
                 omega (arith, old-owed, step, written-most records few);
+            stay = stay;
+            read = λ exact. omega (arith, old-stored, stay, most);
           }
 
-  -- the same runs, in any order, and nothing was written
-  pub same-costs : (block writes writes' m : ℕ) (old new : List X) → writes' ≤ writes → IsPermutation old new → Costs 0 0 (account level size block writes old m) (account level size block writes' new m)
-  same-costs block writes writes' m old new less moved =
-      let product : block * writes' ≤ block * writes = mul-le-mul_left block less in
-      record { rises = λ light. record { spent = omega (arith, product, tolls-moved block old new moved); weight = omega (arith, hefts-moved old new moved) } }
+  module _ (block writes writes' reads reads' : ℕ) (none : writes' ≡ writes) where
+    -- the same runs, in any order, and no block was written or read
+    pub same-costs : (m : ℕ) (old new : List X) → IsPermutation old new → reads' ≤ reads → Costs 0 0 (account level size blocks block writes reads old m) (account level size blocks block writes' reads' new m)
+    same-costs m old new moved unread =
+        let product : block * writes' ≡ block * writes = ap (λ k. block * k) none in
+        record {
+          rises = λ light. record { spent = omega (arith, product, tolls-moved level size block old new moved); weight = omega (arith, hefts-moved level size old new moved) };
+          stay = omega (arith, none);
+          read = λ exact. omega (arith, none, unread, blocks-moved blocks old new moved);
+        }
 
-  -- nothing was written, and n records more lie in memory
-  pub held-costs : (block writes writes' n m : ℕ) (runs : List X) → writes' ≤ writes → Costs (56 * n) 0 (account level size block writes runs m) (account level size block writes' runs (m + n))
-  held-costs block writes writes' n m runs less =
-      let product : block * writes' ≤ block * writes = mul-le-mul_left block less in
-      record { rises = λ light. record { spent = omega (arith, product); weight = omega arith } }
+    -- no block was written or read, and n records more lie in memory
+    pub held-costs : (n m : ℕ) (runs : List X) → reads' ≤ reads → Costs (56 * n) 0 (account level size blocks block writes reads runs m) (account level size blocks block writes' reads' runs (m + n))
+    held-costs n m runs unread =
+        let product : block * writes' ≡ block * writes = ap (λ k. block * k) none in
+        record { rises = λ light. record { spent = omega (arith, product); weight = omega arith }; stay = omega (arith, none); read = λ exact. omega (arith, none, unread) }
 
-  -- records left the runs, of which no more owe more or weigh more, and nothing was written
-  pub taken-costs :
-      (block writes writes' m m' : ℕ) (old new : List X) → writes' ≤ writes → m' ≤ m → tolls level size block new ≤ tolls level size block old → hefts level size new ≤ hefts level size old
-      → Costs 0 0 (account level size block writes old m) (account level size block writes' new m')
-  taken-costs block writes writes' m m' old new less fewer owed weight =
-      let product : block * writes' ≤ block * writes = mul-le-mul_left block less in
-      record { rises = λ light. record { spent = omega (arith, product, fewer, owed); weight = omega (arith, weight) } }
+    -- records left the runs, of which no more owe more or weigh more. No block was written, and each that was read is stored no more
+    pub taken-costs :
+        (m m' : ℕ) (old new : List X) → m' ≤ m → tolls level size block new ≤ tolls level size block old → hefts level size new ≤ hefts level size old → reads' + blocks_of blocks new ≤ reads + blocks_of blocks old
+        → Costs 0 0 (account level size blocks block writes reads old m) (account level size blocks block writes' reads' new m')
+    taken-costs m m' old new fewer owed weight read =
+        let product : block * writes' ≡ block * writes = ap (λ k. block * k) none in
+        record { rises = λ light. record { spent = omega (arith, product, fewer, owed); weight = omega (arith, weight) }; stay = omega (arith, none); read = λ exact. omega (arith, none, read) }
 
-  -- a run of the same level with no more records owes no more
-  pub toll-fewer : (block : ℕ) (x y : X) → level y ≡ level x → size y ≤ size x → toll block (level y) (size y) ≤ toll block (level x) (size x)
-  toll-fewer block x y same fewer =
-      let product : (7 - level x) * size y ≤ (7 - level x) * size x = mul-le-mul_left (7 - level x) fewer in
-      let here : toll block (level y) (size y) ≡ toll block (level x) (size y) = ap (λ k. toll block k (size y)) same in
-      omega (arith, product, here)
+    -- a block could not be read
+    pub taken-stops : (m m' : ℕ) (old new : List X) → reads' ≤ reads + blocks_of blocks old → Stops 0 0 (account level size blocks block writes reads old m) (account level size blocks block writes' reads' new m')
+    taken-stops m m' old new read =
+        let product : block * writes' ≡ block * writes = ap (λ k. block * k) none in
+        record { written = λ light. omega (arith, product); stay = omega (arith, none); read = λ exact. omega (arith, none, read) }

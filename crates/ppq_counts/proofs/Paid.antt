@@ -1,7 +1,6 @@
 -- The numbers pay.
-use Rattle.std.proofs.Common.{◌≡◌, ℕ, ◌+◌, ◌*◌, ◌-◌, ◌^◌, ◌<◌, ◌≤◌, min, ap, ◌∙◌, arith}
-use Rattle.std.proofs.Math.Nat.{mul-le-mul_left}
-use Rattle.ppq_counts.specs.Tally.{Tally, last, tally, no_tally, accepting, storing, beginning, joined, IsCounting, runs_of, credit_of}
+use Rattle.std.proofs.Common.{◌≡◌, ℕ, ◌+◌, ◌*◌, ◌<◌, ◌≤◌, min, ap, ◌∙◌, arith}
+use Rattle.ppq_counts.specs.Tally.{Tally, last, tally, accepting, storing, beginning, joined, IsCounting, runs_of, credit_of, bound_of}
 use Rattle.ppq_counts.specs.Account.{Account, too_heavy, Costs, Stops, IsPaid, IsCovered}
 
 module _ (workers block : ℕ) where
@@ -18,7 +17,7 @@ module _ (workers block : ℕ) where
   paid-covered t x paid = omega (arith, paid.spent)
 
   -- what was paid for bounds the writes
-  pub covered-bound : (t : Tally) (writes : ℕ) (x : Account) → x.written ≡ 7 * (block * writes) → IsCovered workers block t x → block * writes ≤ 8 * (t.accepted + workers * block * (t.stores + t.sessions)) + 2 * (block * runs_of workers t)
+  pub covered-bound : (t : Tally) (writes : ℕ) (x : Account) → x.written ≡ 7 * (block * writes) → IsCovered workers block t x → block * writes ≤ bound_of workers block t
   covered-bound t writes x is covered = omega (arith, is, covered)
 
   -- what the numbers pay more, as they go up
@@ -70,14 +69,13 @@ module _ (workers block : ℕ) where
     pub runs-joined : runs_of workers (joined t u) ≡ runs_of workers t + runs_of workers u
     runs-joined = ap (runs_of workers) joined-is ∙ (omega arith)
 
-    -- what two parts are paid for, they are paid for together
-    pub paid-joined : (x y z : Account) → z.written ≤ x.written + y.written → z.owed ≤ x.owed + y.owed → z.weight ≤ x.weight + y.weight → IsPaid workers block t x → IsPaid workers block u y → IsPaid workers block (joined t u) z
-    paid-joined x y z written owed weight one two =
-        record { spent = omega (arith, written, owed, one.spent, two.spent, credit-joined); weight = omega (arith, weight, one.weight, two.weight, runs-joined) }
-
-    pub covered-joined : (x y z : Account) → z.written ≤ x.written + y.written → IsCovered workers block t x → IsCovered workers block u y → IsCovered workers block (joined t u) z
-    covered-joined x y z written one two = omega (arith, written, one, two, credit-joined)
-
 -- what counts now counted before
 pub counting-before : (t u : Tally) → t.accepted ≤ u.accepted → t.stores ≤ u.stores → t.sessions ≤ u.sessions → IsCounting u → IsCounting t
 counting-before t u a b c is = record { accepted = omega (arith, a, is.accepted); stores = omega (arith, b, is.stores); sessions = omega (arith, c, is.sessions) }
+
+-- so did both parts of what counts
+pub counting-left : (t u : Tally) → IsCounting (joined t u) → IsCounting t
+counting-left t u is = record { accepted = omega (arith, is.accepted); stores = omega (arith, is.stores); sessions = omega (arith, is.sessions) }
+
+pub counting-right : (t u : Tally) → IsCounting (joined t u) → IsCounting u
+counting-right t u is = record { accepted = omega (arith, is.accepted); stores = omega (arith, is.stores); sessions = omega (arith, is.sessions) }

@@ -44,6 +44,10 @@ runs_of workers t = 2 * t.stores + (workers + 2) * t.sessions
 abbrev pub credit_of : ℕ → ℕ → Tally → ℕ
 credit_of workers block t = 56 * (t.accepted + workers * block * (t.stores + t.sessions)) + 8 * (block * runs_of workers t)
 
+-- so many records at most, in blocks of this size, are written where these are the numbers
+abbrev pub bound_of : ℕ → ℕ → Tally → ℕ
+bound_of workers block t = 8 * (t.accepted + workers * block * (t.stores + t.sessions)) + 2 * (block * runs_of workers t)
+
 -- Stores of full heaps were begun with accepted records alone: with a heap of so many records, those of all such stores and those that are
 -- in heaps now are no more than were accepted, and those that were there before
 pub record IsBacked (heap before in_heaps : ℕ) (t : Tally) : Type 0 where

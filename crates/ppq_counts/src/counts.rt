@@ -1,6 +1,6 @@
 //! Three numbers that never fall.
 ghost use Rattle.std.specs.Prelude.{◌≡◌};
-ghost use Rattle.ppq_counts.specs.Tally.{no_tally, accepting, storing, beginning, joined};
+ghost use Rattle.ppq_counts.specs.Tally.{no_tally, tally, accepting, storing, beginning, joined};
 
 use std::marker::Model;
 
@@ -38,6 +38,18 @@ impl Counts {
         Counts {
             accepted: 0,
             stores: 0,
+            sessions: 0,
+        }
+    }
+
+    /// The numbers of a pass: so many records and stores, and no session.
+    #[inline]
+    pub fn of_pass(accepted: u64, stores: u64) -> Self
+        ensures { result ≡ tally accepted stores 0 }
+    {
+        Counts {
+            accepted,
+            stores,
             sessions: 0,
         }
     }

@@ -15,6 +15,7 @@ use Rattle.ppq_script.specs.declared.session.Session.TheVariants.{Outside, InBul
 use Rattle.ppq_script.specs.Parts.{IsLine, AreLines, bulk_part, limit_part}
 use Rattle.ppq_load.specs.ppq_queue.Holding.{Holding}
 use Rattle.ppq_load.specs.ppq_array.declared.store_fault.StoreFault.{StoreFault as QueueFault}
+use Rattle.ppq_load.specs.Limits.{begun_in}
 use Rattle.ppq_load.specs.Refusal.{Keeps, IsRefusedBy}
 use Rattle.ppq_engine.specs.Files.{IsBySession}
 use Rattle.ppq_engine.specs.Gathers.{Gathers}
@@ -41,8 +42,9 @@ pub Keeps-none : {R : Type 0} (q new : Holding R) (part : List (Command R)) → 
 Keeps-none q new part none k = Keeps-flag q new q.limited (q.limited || begins_limit part) (none-flag q.limited part none) k
 
 -- behind one that does, one was begun
-pub Keeps-begun : {R : Type 0} (q new : Holding R) (limit : R) (lines : List (Command R)) → Keeps (record q { limited = true }) new → Keeps (behind_part q (limit_part limit lines)) new
-Keeps-begun q new limit lines k = Keeps-flag q new true (q.limited || true) (sym (or-true q.limited)) k
+pub Keeps-begun : {R : Type 0} (q new : Holding R) (limit : R) (lines : List (Command R)) → Keeps (begun_in q) new → Keeps (behind_part q (limit_part limit lines)) new
+Keeps-begun q new limit lines k =
+    Keeps-flag q new true (q.limited || true) (sym (or-true q.limited)) (record { sizes = k.sizes; limited = k.limited; slots = k.slots; tells = k.tells; writes = k.writes })
 
 -- a part behind other commands
 pub Keeps-behind : {R : Type 0} (a b c : Holding R) (cs part : List (Command R)) → Keeps (behind_part a cs) b → Keeps (behind_part b part) c → Keeps (behind_part a (cs ++ part)) c

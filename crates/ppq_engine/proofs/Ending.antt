@@ -14,8 +14,8 @@ use Rattle.ppq_load.specs.Refusal.{HasRoom, HasNoRoom}
 use Rattle.ppq_load.proofs.Refusals.{room-not_none}
 use Rattle.ppq_engine.specs.Loads.{most_of, least_of, begins_limit, FitsWritten}
 use Rattle.ppq_engine.specs.Output.{AreFilesOf, given_of, output_of, load_of, crest_of, TakesWithin}
-use Rattle.ppq_engine.specs.Outcome.{EndSays, TakesBeforeLoad}
-use Rattle.ppq_engine.specs.Ends.{budget_refusal, BeganOrRefused, IsQuiet, NoneFailed, IsCompleted}
+use Rattle.ppq_engine.specs.Outcome.{EndSays, CountsStay, TakesBeforeLoad}
+use Rattle.ppq_engine.specs.Ends.{budget_refusal, BeganOrRefused, IsQuiet, NoFault, NoneFailed, IsCompleted}
 use Rattle.ppq_engine.specs.declared.end.End.{End}
 use Rattle.ppq_engine.specs.declared.end.End.TheVariants.{Done, BadLine, Usage, ReadFault, WriteFault, DeviceFault, NoFreeBlock, BudgetTooSmall, Memory, FileChanged, NoDevice, NoScript, ScriptTooLong}
 use Rattle.ppq_engine.proofs.Sizes.{fits-more}
@@ -76,12 +76,26 @@ module _ {R : Type 0} (w : Words R) (form : Form) (told : Option (List ℕ → O
     pub end-above : end ≡ NoFreeBlock → AllTell first → (files : List ℕ → Option (List ℕ)) → AreFilesOf told script files → HasNoRoom sizes (begins_limit (command_list script)) (load_of w (given_of w files script) (command_list script))
     end-above is tells files are = ((says-is NoFreeBlock is).0 tells files are).above
 
+    pub end-above_any : end ≡ NoFreeBlock → HasNoRoom sizes (begins_limit (command_list script)) (most_of w (command_list script))
+    end-above_any is = (says-is NoFreeBlock is).1
+
     -- memory was wanting where a command begins a session
     pub end-memory : end ≡ Memory → TakesBeforeLoad w form told script first before now
     end-memory is = (says-is Memory is).0
 
     pub end-failed : (number : ℕ) → end ≡ DeviceFault number → HasFailed number later
     end-failed number is = says-is (DeviceFault number) is
+
+  -- an end that names no fault leaves the counts of sink and library as they were
+  pub says-stays : (slots : List Shown) (end : End) → Says slots end → NoFault end → CountsStay sink sink_now library library_now
+  says-stays slots Done says none = says.2
+  says-stays slots ReadFault says none = absurd none
+  says-stays slots WriteFault says none = absurd none
+  says-stays slots (DeviceFault number) says none = absurd none
+  says-stays slots NoFreeBlock says none = says.2
+  says-stays slots Memory says none = says.1
+  says-stays slots (FileChanged line said got) says none = says.1
+  says-stays slots _ says none = absurd says
 
   -- of an open queue an end has one of the causes that come after the beginning
   began : (slots : List Shown) (end : End) → Says slots end → BeganOrRefused None end

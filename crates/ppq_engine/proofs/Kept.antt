@@ -1,8 +1,9 @@
 -- What calls of the queue keep, one after the other.
 use Rattle.std.proofs.Common.{◌≡◌, ◌≤◌, ℕ, refl, ◌∙◌, arith}
 use Rattle.std.specs.Prelude.{Result, IsErrAnd}
-use Rattle.ppq_load.specs.ppq_queue.Holding.{Holding}
+use Rattle.ppq_load.specs.ppq_queue.Holding.{Holding, CountsFew}
 use Rattle.ppq_load.specs.Refusal.{Keeps}
+use Rattle.ppq_load.proofs.Counting.{few-to}
 use Rattle.ppq_engine.specs.Calls.{IsLent, SinkCounts}
 use Rattle.ppq_engine.specs.Popping.{NotByFile}
 use Rattle.ppq_engine.specs.Running.{StopsFor, SinkAfter}
@@ -24,12 +25,20 @@ Keeps-trans a b c h k = record {
 
 -- what a command that stopped says of the queue, and of the sink
 module _ {T : Type 0} (r : Result T Stop) (stop : Stop) (is : IsErrAnd r (λ x. x ≡ stop)) where
-  pub lent-stop : {R : Type 0} (a b c : Holding R) (most : ℕ) → Keeps a b → Keeps b c → c.peak ≤ most → StopsFor c.peak c.sizes c.limited c.slots stop → NotByFile stop → IsLent a c most r
-  lent-stop a b c most h k peak why by = record { kept = Keeps-trans a b c h k; peak = peak; refused = if-err r stop (StopsFor c.peak c.sizes c.limited c.slots) is why; no_file = if-err r stop NotByFile is by }
+  pub lent-stop :
+      {R U F : Type 0} {q : Result U F} (a b c : Holding R) (most pushes : ℕ) → Keeps a b → Keeps b c → c.peak ≤ most → CountsFew pushes 0 a c q → StopsFor c.peak c.sizes c.limited c.slots stop → NotByFile stop
+      → IsLent a c most pushes r
+  lent-stop {q = q} a b c most pushes h k peak counts why by = record {
+    kept = Keeps-trans a b c h k;
+    peak = peak;
+    counted = few-to a c q r (λ A holds. not-ok r (λ x. x ≡ stop) A is) counts;
+    refused = if-err r stop (StopsFor c.peak c.sizes c.limited c.slots) is why;
+    no_file = if-err r stop NotByFile is by;
+  }
 
   pub sink-stop : (before now : ℕ) → before ≤ now → SinkAfter before now stop → SinkCounts before now r
   sink-stop before now later why = record { later = later; stays = not-ok r (λ x. x ≡ stop) (now ≡ before) is; cause = if-err r stop (SinkAfter before now) is why }
 
 -- a peak that may be higher
-pub lent-more : {R : Type 0} {T : Type 0} {a b : Holding R} {most more : ℕ} {r : Result T Stop} → IsLent a b most r → most ≤ more → IsLent a b more r
-lent-more l h = record { kept = l.kept; peak = omega (arith, l.peak, h); refused = l.refused; no_file = l.no_file }
+pub lent-more : {R : Type 0} {T : Type 0} {a b : Holding R} {most more pushes : ℕ} {r : Result T Stop} → IsLent a b most pushes r → most ≤ more → IsLent a b more pushes r
+lent-more l h = record { kept = l.kept; peak = omega (arith, l.peak, h); counted = l.counted; refused = l.refused; no_file = l.no_file }

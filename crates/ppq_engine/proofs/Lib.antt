@@ -2,6 +2,7 @@ pub use Rattle.ppq_load.proofs as ppq_load
 pub mod Advancing
 pub mod Asked
 pub mod Below
+pub mod Counted
 pub mod Deferred
 pub mod Ending
 pub mod Kept

@@ -13,13 +13,14 @@ use Rattle.ppq_script.specs.declared.command.Command.TheVariants.{LimitBegin, Li
 use Rattle.ppq_script.specs.declared.session.Session.TheVariants.{InLimit}
 use Rattle.ppq_script.specs.Parts.{AreLines, limit_part}
 use Rattle.ppq_script.specs.Reading.{Reading}
-use Rattle.ppq_load.specs.ppq_queue.Holding.{Holding}
+use Rattle.ppq_load.specs.ppq_queue.Holding.{Holding, CountsFew}
 use Rattle.ppq_load.specs.ppq_array.declared.store_fault.StoreFault.{StoreFault as QueueFault}
 use Rattle.ppq_load.specs.ppq_array.declared.store_fault.StoreFault.TheVariants.{NoFreeBlock, Device}
 use Rattle.ppq_load.specs.Refusal.{Keeps, IsRefusedBy}
+use Rattle.ppq_load.proofs.Counting.{few-to}
 use Rattle.ppq_load.proofs.Refusals.{cause-later}
 use Rattle.ppq_load.specs.ppq_session.Asks.{pops_in, left_after}
-use Rattle.ppq_load.specs.Limits.{LimitsHolding, InLimits, AreGoing, IsOver}
+use Rattle.ppq_load.specs.Limits.{LimitsHolding, InLimits, AreGoing, IsOver, begun_in}
 use Rattle.ppq_engine.specs.Calls.{RunsPart, SinkCounts}
 use Rattle.ppq_engine.specs.Files.{IsBySession}
 use Rattle.ppq_engine.specs.Gathers.{Gathers}
@@ -35,7 +36,7 @@ use Rattle.ppq_engine.proofs.Advancing.{Keeps-begun, lines-refused}
 use Rattle.ppq_engine.proofs.Asked.{inside, lines-high, lines-low, lines-output, lines-bag}
 use Rattle.ppq_engine.proofs.Lines.{size_from-append}
 use Rattle.ppq_engine.proofs.Popped.{gathers-nothing}
-use Rattle.ppq_engine.proofs.Pushes.{lines-split}
+use Rattle.ppq_engine.proofs.Pushes.{lines-split, pushed-append}
 use Rattle.ppq_engine.proofs.Running.{output_from-append, state_from-append}
 
 module _ {R : Type 0} (w : Words R) (laws : HasLaws w) (workers : ℕ) (limit : R) (lines : List (Command R)) (are : AreLines w workers (InLimit limit) lines) where
@@ -59,6 +60,16 @@ module _ {R : Type 0} (w : Words R) (laws : HasLaws w) (workers : ℕ) (limit : 
 
   pub whole-low : (size : ℕ) → size_from w all_go size (limit_part limit lines) ≤ (size - pops_in (asks_in lines)) + length (pushed_in lines)
   whole-low size = omega (arith, size_from-append w all_go size lines (LimitEnd ∷ []), lines-low w laws workers limit size lines are)
+
+-- a session of lines ends well only if its end is Ok
+end-on : (printed : Result ⊤ Failed) (ended : Result ⊤ QueueFault) (A : Type 0) → OnOk ended A → OnOk (session_end printed ended) A
+end-on (Ok v) (Ok w) A holds = holds
+end-on (Ok v) (Err fault) A holds = tt
+end-on (Err failed) ended A holds = tt
+
+-- the first lines of a session push no more than all
+pushed-first : {R : Type 0} (lines rest body : List (Command R)) → body ≡ lines ++ rest → length (pushed_in lines) ≤ length (pushed_in body)
+pushed-first {R} lines rest body all = omega (arith, ap (λ (cs : List (Command R)). length (pushed_in cs)) all, ap length (pushed-append lines rest), length-append (pushed_in lines) (pushed_in rest))
 
 module _ {R : Type 0} (w : Words R) (laws : HasLaws w)
     {S : Type 0} (shown : S → Shown) (form : Form) (queue : Holding R) (before now : Option (List ℕ)) (had has : List ℕ) (mid : LimitsHolding S R)
@@ -87,6 +98,14 @@ module _ {R : Type 0} (w : Words R) (laws : HasLaws w)
         over = run.over (pushed_in lines) (left_after w.cmp limit queue.bag (asks_in lines)) (pops_in (asks_in lines)) (run.lines.session queue limit run.begun);
         text = λ sound. run.lines.text sound queue limit run.begun;
       }
+
+      -- the sink failed when these lines were run
+      broken-over :
+          (failed : Failed) (ended : Result ⊤ QueueFault) (run : SessionRan old new (Err failed) ended)
+          → IsOver queue (pushed_in run.broken.lines) (left_after w.cmp limit queue.bag (asks_in run.broken.lines)) (pops_in (asks_in run.broken.lines)) new ended
+      broken-over failed ended run =
+          let lines = run.broken.lines in
+          run.over (pushed_in lines) (left_after w.cmp limit queue.bag (asks_in lines)) (pops_in (asks_in lines)) (run.broken.session queue limit run.begun)
 
       -- what stands where all was run, whatever files a library has
       runs-part : (script : Reading R) (v : ⊤) → LinesRan new (Ok v) body → mid.front.failed ≡ None → (told : Option (List ℕ → Option (List ℕ))) → RunsPart w form told script queue new before now had has part
@@ -158,11 +177,22 @@ module _ {R : Type 0} (w : Words R) (laws : HasLaws w)
           subst P (sym (whole-output w laws workers limit body are form given queue.bag)) (run.broken.text queue limit run.begun tells)
 
       -- what its end keeps
-      pub ended-kept : (printed : Result ⊤ Failed) (ended : Result ⊤ QueueFault) → SessionRan old new printed ended → Keeps (record queue { limited = true }) new
+      pub ended-kept : (printed : Result ⊤ Failed) (ended : Result ⊤ QueueFault) → SessionRan old new printed ended → Keeps (begun_in queue) new
       ended-kept (Ok v) ended run = (lines-ran v ended run).over.kept
-      ended-kept (Err failed) ended run =
-          let some = run.broken.session queue limit run.begun in
-          (run.over (pushed_in some.0) (left_after w.cmp limit queue.bag (asks_in some.0)) (pops_in (asks_in some.0)) some.1).kept
+      ended-kept (Err failed) ended run = (broken-over failed ended run).kept
+
+      -- the lines of which its passes were given the records, and that the queue counts no more of it
+      abbrev pub ended-given : (printed : Result ⊤ Failed) (ended : Result ⊤ QueueFault) → SessionRan old new printed ended → List (Command R)
+      ended-given (Ok v) ended run = run.lines.lines
+      ended-given (Err failed) ended run = run.broken.lines
+
+      pub ended-few : (printed : Result ⊤ Failed) (ended : Result ⊤ QueueFault) (run : SessionRan old new printed ended) → length (pushed_in (ended-given printed ended run)) ≤ length (pushed_in body)
+      ended-few (Ok v) ended run = pushed-first run.lines.lines run.lines.rest body run.lines.all
+      ended-few (Err failed) ended run = pushed-first run.broken.lines run.broken.rest body run.broken.all
+
+      ended-counted : (printed : Result ⊤ Failed) (ended : Result ⊤ QueueFault) (run : SessionRan old new printed ended) → CountsFew (length (pushed_in (ended-given printed ended run))) 1 queue new ended
+      ended-counted (Ok v) ended run = (lines-ran v ended run).over.counted
+      ended-counted (Err failed) ended run = (broken-over failed ended run).counted
 
       module _ (printed : Result ⊤ Failed) (ended : Result ⊤ QueueFault) (s : Result ⊤ Stop) (e : s ≡ session_end printed ended) (run : SessionRan old new printed ended) where
         pub ended-runs : (script : Reading R) → OnOk s ((told : Option (List ℕ → Option (List ℕ))) → RunsPart w form told script queue new before now had has part)
@@ -170,6 +200,11 @@ module _ {R : Type 0} (w : Words R) (laws : HasLaws w)
 
         pub ended-stopped : IfErr s Stops
         ended-stopped = let P : Result ⊤ Stop → Type 0 = λ x. IfErr x Stops in subst P (sym e) (stopped printed ended run)
+
+        pub ended-counts_few : CountsFew (length (pushed_in (ended-given printed ended run))) 1 queue new s
+        ended-counts_few =
+            let n = length (pushed_in (ended-given printed ended run)) in
+            subst (CountsFew n 1 queue new) (sym e) (few-to queue new ended (session_end printed ended) (end-on printed ended) (ended-counted printed ended run))
 
 -- a session did not begin
 pub begin-stopped :

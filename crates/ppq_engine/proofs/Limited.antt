@@ -173,7 +173,10 @@ module _ {R : Type 0} (w : Words R) {S : Type 0} (shown : S → Shown) (form : F
 
       pub breaks-off : TakesPart mid_told now (mid_has ++ answers_text w form answers) → BreaksOff w shown form whole before now had old new
       breaks-off took = record {
-        session = λ queue limit begun. (cs ++ first, session_to queue limit begun);
+        lines = cs ++ first;
+        rest = behind;
+        all = all_to;
+        session = session_to;
         text =
             λ queue limit begun tells.
             let a = answered_to queue limit begun tells in

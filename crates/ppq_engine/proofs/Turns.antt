@@ -14,11 +14,12 @@ use Rattle.ppq_script.specs.declared.command.Command.TheVariants.{BulkBegin, Lim
 use Rattle.ppq_script.specs.declared.session.Session.TheVariants.{Outside, InBulk}
 use Rattle.ppq_script.specs.Parts.{IsLine, AreLines, bulk_part, limit_part}
 use Rattle.ppq_script.specs.Reading.{Reading}
-use Rattle.ppq_load.specs.ppq_queue.Holding.{Holding}
+use Rattle.ppq_load.specs.ppq_queue.Holding.{Holding, CountsFew}
 use Rattle.ppq_load.specs.ppq_array.Kept.{SameSlots}
 use Rattle.ppq_load.specs.ppq_array.declared.store_fault.StoreFault.{StoreFault as QueueFault}
 use Rattle.ppq_load.specs.Loading.{IsLoaded}
 use Rattle.ppq_load.specs.Refusal.{Keeps}
+use Rattle.ppq_load.proofs.Counting.{few-to}
 use Rattle.ppq_load.proofs.Refusals.{cause-later}
 use Rattle.ppq_engine.specs.Calls.{Adds, Prints, SinkCounts, LibraryCounts, RunsStep, StopsStep, RunsPart, StopsPart, Goes, GoesAlone}
 use Rattle.ppq_engine.specs.Files.{IsByFile, IsBySession, IsReadInScript}
@@ -29,9 +30,11 @@ use Rattle.ppq_engine.specs.Output.{outside, text_of, after, given_of, AreFilesO
 use Rattle.ppq_engine.specs.Pushes.{pushed_in}
 use Rattle.ppq_engine.specs.Popping.{IsByLimit}
 use Rattle.ppq_engine.specs.Running.{WritesPart, PartStops, StopsFor, SinkAfter, LibraryAfter, ChangedIn}
+use Rattle.ppq_engine.specs.Work.{pushes_of, begins_of}
 use Rattle.ppq_engine.specs.declared.stop.Stop.{Stop}
 use Rattle.ppq_engine.specs.declared.stop.Stop.TheVariants.{Queue}
 use Rattle.ppq_engine.proofs.Advancing.{Keeps-none, lone-stops, bulk-stops}
+use Rattle.ppq_engine.proofs.Counted.{few-ok, lone-counts, bulk-counts, limit-counts}
 use Rattle.ppq_engine.proofs.Lines.{lone-begins, bulk-begins, bulk-part_size, bulk-bag, bulk-silent}
 use Rattle.ppq_engine.proofs.Popped.{file-part, gathers-nothing}
 use Rattle.ppq_engine.proofs.Results.{on-ok, on-ok-map, on-ok-both, if-err-map, if-err-both}
@@ -42,8 +45,10 @@ module _ {R : Type 0} (w : Words R)
     (form : Form) (told : Option (List ℕ → Option (List ℕ))) (script : Reading R) (workers : ℕ) (c : Command R) (is : IsLine w workers Outside c) (old new : Holding R) (before now : Option (List ℕ)) (had has : List ℕ) (r : Result ⊤ Stop)
     (prints : Prints old.slots before now had (text_of w form (outside old.bag) c) has r)
   where
-    pub turn-goes : Keeps old new → OnOk r (RunsStep w told script old new c) → IfErr r (StopsStep w old new c) → Goes w form told script c (c ∷ []) before now old new had has r
-    turn-goes kept runs stops =
+    pub turn-goes :
+        Keeps old new → CountsFew (pushes_of w c) (begins_of c) old new r → OnOk r (RunsStep w told script old new c) → IfErr r (StopsStep w old new c)
+        → Goes w form told script c (c ∷ []) before now old new had has r
+    turn-goes kept counts runs stops =
         let text = text_of w form (outside old.bag) c in
         let Text : Type 0 = AllTell old.slots → Gathers before now had text has in
         let Wrote : Stop → Type 0 = λ stop. AllTell old.slots → WritesPart before now had text has stop in
@@ -67,6 +72,8 @@ module _ {R : Type 0} (w : Words R)
                 of_file = both.0.of_file;
               }) (if-err-both r (StopsStep w old new c) Wrote stops prints.part);
           slots = kept.slots;
+          sizes = kept.sizes;
+          counted = lone-counts w old new r c counts;
         }
 
 -- a bulk session
@@ -90,17 +97,23 @@ module _ {R : Type 0} (w : Words R) (laws : HasLaws w) (script : Reading R) (wor
           };
           stopped = tt;
           slots = loaded.kept.slots;
+          sizes = loaded.kept.sizes;
+          counted = bulk-counts w old new (Ok v) (length (pushed_in body)) body (omega arith) (few-ok old new loaded.counted);
         };
         by_session = tt;
       }
 
   -- it did not, or did not begin
-  pub bulk-stopped : (stop : Stop) → IsBySession stop → StopsFor (max old.peak (old.size + length (pushed_in body))) old.sizes old.limited new.slots stop → Keeps old new → GoesAlone w script BulkBegin (bulk_part body) old new had had (Err stop)
-  bulk-stopped stop by why kept = record {
+  pub bulk-stopped :
+      {T E : Type 0} {q : Result T E} (stop : Stop) → IsBySession stop → StopsFor (max old.peak (old.size + length (pushed_in body))) old.sizes old.limited new.slots stop → Keeps old new
+      → (n : ℕ) → n ≤ length (pushed_in body) → CountsFew n 1 old new q → GoesAlone w script BulkBegin (bulk_part body) old new had had (Err stop)
+  bulk-stopped {q = q} stop by why kept n few counts = record {
     goes = λ form files put. record {
       runs = tt;
       stopped = record { wrote = bulk-stops w laws form old.slots put had old.bag old.size old.peak old.sizes old.limited new.slots workers body are stop by why; of_file = limit_of_file BulkBegin stop tt (session-by_limit stop by) };
       slots = kept.slots;
+      sizes = kept.sizes;
+      counted = bulk-counts w old new (Err stop) n body few (few-to old new q (Err stop) (λ A holds. tt) counts);
     };
     by_session = by;
   }
@@ -114,15 +127,15 @@ module _ {R : Type 0} (w : Words R) (laws : HasLaws w) (script : Reading R) (wor
       let few = max old.peak (old.size + length given) in
       let most = max old.peak (old.size + length (pushed_in body)) in
       subst (GoesAlone w script BulkBegin (bulk_part body) old new had had) (sym e)
-      (bulk-stopped (Queue fault) tt (cause-later old.sizes old.limited old.limited few most block (λ same. same) (omega (arith, fewer)) new.slots fault loaded.refused) loaded.kept)
+      (bulk-stopped (Queue fault) tt (cause-later old.sizes old.limited old.limited few most block (λ same. same) (omega (arith, fewer)) new.slots fault loaded.refused) loaded.kept (length given) fewer loaded.counted)
 
 -- a limit session
 pub limit-goes :
     {R : Type 0} (w : Words R) (form : Form) (script : Reading R) (limit : R) (body : List (Command R)) (old new : Holding R) (before now : Option (List ℕ)) (had has : List ℕ) (s : Result ⊤ Stop)
     → OnOk s ((files : Option (List ℕ → Option (List ℕ))) → RunsPart w form files script old new before now had has (limit_part limit body)) → IfErr s IsByLimit
-    → IfErr s (PartStops w form old.slots before now had old.bag old.size old.peak (limit_part limit body) old.sizes true new.slots has) → SameSlots old.slots new.slots
-    → (files : Option (List ℕ → Option (List ℕ))) → Goes w form files script (LimitBegin limit) (limit_part limit body) before now old new had has s
-limit-goes w form script limit body old new before now had has s runs by stops slots files =
+    → IfErr s (PartStops w form old.slots before now had old.bag old.size old.peak (limit_part limit body) old.sizes true new.slots has) → SameSlots old.slots new.slots → new.sizes ≡ old.sizes
+    → (n : ℕ) → n ≤ length (pushed_in body) → CountsFew n 1 old new s → (files : Option (List ℕ → Option (List ℕ))) → Goes w form files script (LimitBegin limit) (limit_part limit body) before now old new had has s
+limit-goes w form script limit body old new before now had has s runs by stops slots sizes n few counts files =
     let part = limit_part limit body in
     let Wrote : Bool → Stop → Type 0 = λ l stop. PartStops w form old.slots before now had old.bag old.size old.peak part old.sizes l new.slots has stop in
     record {
@@ -132,6 +145,8 @@ limit-goes w form script limit body old new before now had has s runs by stops s
           (λ stop why. record { wrote = let P : Bool → Type 0 = λ l. Wrote l stop in subst P (sym (or-true old.limited)) why.1; of_file = limit_of_file (LimitBegin limit) stop tt why.0 })
           (if-err-both s IsByLimit (Wrote true) by stops);
       slots = slots;
+      sizes = sizes;
+      counted = limit-counts w old new s n limit body few counts;
     }
 
 -- a command that adds records and prints nothing

@@ -11,7 +11,8 @@ use Rattle.ppq_script.specs.declared.part.Part.{Part}
 use Rattle.ppq_script.specs.Files.{NamesFile, HasRecords}
 use Rattle.ppq_script.specs.Reading.{Reading, command_list}
 use Rattle.ppq_script.specs.Parts.{first_in, HasItsLines}
-use Rattle.ppq_load.specs.ppq_queue.Holding.{Holding}
+use Rattle.ppq_load.specs.ppq_counts.Tally.{no_tally}
+use Rattle.ppq_load.specs.ppq_queue.Holding.{Holding, CountsFew}
 use Rattle.ppq_load.specs.ppq_array.declared.store_fault.StoreFault.{StoreFault as QueueFault}
 use Rattle.ppq_load.specs.Refusal.{Keeps, IsRefusedBy}
 use Rattle.ppq_engine.specs.Files.{IsBySession, IsReadInScript}
@@ -21,21 +22,25 @@ use Rattle.ppq_engine.specs.Output.{AreFilesOf, TellsLengths, given_of, outside,
 use Rattle.ppq_engine.specs.Outcome.{EndSays, FaultBeforeFile}
 use Rattle.ppq_engine.specs.Popping.{NotByFile, IsRound}
 use Rattle.ppq_engine.specs.Running.{IsGathered, WritesPart, StopsFor, PartStops, behind_part, IsOfFile, ChangedIn, SinkAfter, LibraryAfter}
+use Rattle.ppq_engine.specs.Work.{pushes_of, pushed_by, begun_by}
 use Rattle.ppq_engine.specs.declared.end.End.{End}
 use Rattle.ppq_engine.specs.declared.stop.Stop.{Stop}
 
 -- a call that the machine makes of its queue, whatever it answers: what the queue keeps, that nothing was printed, that the peak is no more
--- than this, and why it was refused
-pub record IsCalled {R T : Type 0} (old new : Holding R) (had has : List ℕ) (most : ℕ) (result : Result T QueueFault) : Type 0 where
+-- than this, that no more than so many records were counted, and why it was refused
+pub record IsCalled {R T : Type 0} (old new : Holding R) (had has : List ℕ) (most pushes : ℕ) (result : Result T QueueFault) : Type 0 where
   pub kept : Keeps old new
   pub gathered : has ≡ had
   pub peak : new.peak ≤ most
+  pub counted : CountsFew pushes 0 old new result
   pub refused : IfErr result (IsRefusedBy new.peak new.sizes new.limited new.slots)
 
--- a command that calls the queue: what it keeps, that the peak is no more than this, and why it stopped; no file stopped it
-pub record IsLent {R : Type 0} {T : Type 0} (old new : Holding R) (most : ℕ) (result : Result T Stop) : Type 0 where
+-- a command that calls the queue: what it keeps, that the peak is no more than this, that no more than so many records were counted, and why it
+-- stopped; no file stopped it
+pub record IsLent {R : Type 0} {T : Type 0} (old new : Holding R) (most pushes : ℕ) (result : Result T Stop) : Type 0 where
   pub kept : Keeps old new
   pub peak : new.peak ≤ most
+  pub counted : CountsFew pushes 0 old new result
   pub refused : IfErr result (StopsFor new.peak new.sizes new.limited new.slots)
   pub no_file : IfErr result NotByFile
 
@@ -142,13 +147,16 @@ pub record Lends {R : Type 0} (w : Words R) (form : Form) (before now : Option (
   pub prints : Prints old.slots before now had (text_of w form (outside old.bag) command) has result
   pub counts : SinkCounts sink sink_now result
   pub left : OnOk result ((given : ℕ → List R) → Leaves old new (after w given (outside old.bag) command).bag (size_after w all_go old.size command) (size_after w none_go old.size command))
-  pub lent : IsLent old new (max old.peak (size_after w none_go old.size command)) result
+  pub lent : IsLent old new (max old.peak (size_after w none_go old.size command)) (pushes_of w command) result
 
--- commands that run together, of which this is the first, whatever is answered: what they did, or why they stopped
+-- commands that run together, of which this is the first, whatever is answered: what they did, or why they stopped; and that the queue counts no
+-- more records and sessions than they bring
 pub record Goes {R : Type 0} (w : Words R) (form : Form) (files : Option (List ℕ → Option (List ℕ))) (script : Reading R) (first : Command R) (part : List (Command R)) (before now : Option (List ℕ)) (old new : Holding R) (had has : List ℕ) (result : Result ⊤ Stop) : Type 0 where
   pub runs : OnOk result (RunsPart w form files script old new before now had has part)
   pub stopped : IfErr result (StopsPart w form old new before now had has first part)
   pub slots : SameSlots old.slots new.slots
+  pub sizes : new.sizes ≡ old.sizes
+  pub counted : CountsFew (pushed_by w part) (begun_by part) old new result
 
 -- the same of commands that need no file and print nothing
 pub record GoesAlone {R : Type 0} (w : Words R) (script : Reading R) (first : Command R) (part : List (Command R)) (old new : Holding R) (had has : List ℕ) (result : Result ⊤ Stop) : Type 0 where
@@ -165,6 +173,8 @@ pub record MayRun {R : Type 0} (files : Option (List ℕ → Option (List ℕ)))
   pub peak : queue.peak ≡ 0
   pub sound : queue.failed ≡ None
   pub unlimited : queue.limited ≡ false
+  pub counts : queue.counts ≡ no_tally
+  pub in_heap : queue.in_heap ≡ 0
 
 -- all commands of a script were run
 pub record RunsAll {R : Type 0} (w : Words R) (form : Form) (told : Option (List ℕ → Option (List ℕ))) (script : Reading R) (old new : Holding R) (before now : Option (List ℕ)) (has : List ℕ) : Type 0 where

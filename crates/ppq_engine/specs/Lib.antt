@@ -1,4 +1,5 @@
 pub use Rattle.ppq_load.specs.ppq_array as ppq_array
+pub use Rattle.ppq_load.specs.ppq_counts as ppq_counts
 pub use Rattle.ppq_load.specs as ppq_load
 pub use Rattle.ppq_load.specs.ppq_queue as ppq_queue
 pub use Rattle.ppq_script.specs as ppq_script
@@ -18,3 +19,4 @@ pub mod Output
 pub mod Popping
 pub mod Pushes
 pub mod Running
+pub mod Work

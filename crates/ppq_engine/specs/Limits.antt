@@ -81,9 +81,12 @@ module _ {R : Type 0} (w : Words R) {S : Type 0} (shown : S → Shown) where
     pub text : new.front.failed ≡ None → (queue : Holding R) (limit : R) → HasBegun queue limit old → AllTell queue.slots → Gathers before now had (answers_of w form limit queue.bag lines) has
     pub end : AreGoing new → rest ≡ []
 
-  -- the sink failed before all lines were run: it took a part of the answers
+  -- the sink failed when these lines of them were run: it took a part of the answers
   pub record BreaksOff (form : Form) (whole : List (Command R)) (before now : Option (List ℕ)) (had : List ℕ) (old new : LimitsHolding S R) : Type 0 where
-    pub session : (queue : Holding R) (limit : R) → HasBegun queue limit old → (lines : List (Command R)) × HasDone queue limit lines new
+    pub lines : List (Command R)
+    pub rest : List (Command R)
+    pub all : whole ≡ lines ++ rest
+    pub session : (queue : Holding R) (limit : R) → HasBegun queue limit old → HasDone queue limit lines new
     pub text : (queue : Holding R) (limit : R) → HasBegun queue limit old → AllTell queue.slots → TakesPart before now (had ++ answers_of w form limit queue.bag whole)
 
 -- how a session ended, by what was printed and what its end answered

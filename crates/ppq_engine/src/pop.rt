@@ -99,7 +99,7 @@ impl<S: Slot + Send + Sync, R: Fields + Send + Sync> Machine<S, R> {
         H::Dir: Send,
         requires { 0 < count }
         ensures popped { OnOk result (PopsRound R.Fields below count self.old.queue self.new.queue self.new.desk.list.items) }
-        ensures called { IsCalled self.old.queue self.new.queue self.old.desk.gathered self.new.desk.gathered self.old.queue.peak result }
+        ensures called { IsCalled self.old.queue self.new.queue self.old.desk.gathered self.new.desk.gathered self.old.queue.peak 0 result }
     {
         record_laws::<R>();
         self.queue.known();
@@ -130,7 +130,7 @@ impl<S: Slot + Send + Sync, R: Fields + Send + Sync> Machine<S, R> {
         requires { self.old.queue.failed ≡ None }
         ensures summary { IfOk result (λ drained. AllTell self.old.queue.slots → IsSummary R.Fields (front R.Ord.cmp self.old.queue.bag count) drained) }
         ensures left { OnOk result (Leaves self.old.queue self.new.queue (without_front R.Ord.cmp self.old.queue.bag count) (self.old.queue.size - count) (self.old.queue.size - count)) }
-        ensures called { IsCalled self.old.queue self.new.queue self.old.desk.gathered self.new.desk.gathered self.old.queue.peak result }
+        ensures called { IsCalled self.old.queue self.new.queue self.old.desk.gathered self.new.desk.gathered self.old.queue.peak 0 result }
     {
         record_laws::<R>();
         let mut drained = Drained::nothing();
@@ -161,7 +161,7 @@ impl<S: Slot + Send + Sync, R: Fields + Send + Sync> Machine<S, R> {
         ensures prints { Prints self.old.queue.slots (O.told out.old) (O.told out.new) self.old.desk.gathered (records_text R.Fields world.now.form (front R.Ord.cmp self.old.queue.bag (popped_count R.Fields below self.old.queue.bag count))) self.new.desk.gathered result }
         ensures sink { SinkCounts (O.faults out.old) (O.faults out.new) result }
         ensures left { OnOk result (Leaves self.old.queue self.new.queue (without_front R.Ord.cmp self.old.queue.bag (popped_count R.Fields below self.old.queue.bag count)) (self.old.queue.size - count) (left_at_most below self.old.queue.size count)) }
-        ensures lent { IsLent self.old.queue self.new.queue self.old.queue.peak result }
+        ensures lent { IsLent self.old.queue self.new.queue self.old.queue.peak 0 result }
     {
         record_laws::<R>();
         let mut done = 0;
@@ -193,7 +193,7 @@ impl<S: Slot + Send + Sync, R: Fields + Send + Sync> Machine<S, R> {
         H::Dir: Send,
         ensures text { IfOk result (λ answer. AllTell self.old.queue.slots → answer_text R.Fields world.now.form answer ≡ left_mark world.now.form (next_of R.Fields (Some limit) self.old.queue.bag)) }
         ensures left { OnOk result (Leaves self.old.queue self.new.queue self.old.queue.bag self.old.queue.size self.old.queue.size) }
-        ensures called { IsCalled self.old.queue self.new.queue self.old.desk.gathered self.new.desk.gathered self.old.queue.peak result }
+        ensures called { IsCalled self.old.queue self.new.queue self.old.desk.gathered self.new.desk.gathered self.old.queue.peak 0 result }
     {
         match self.queue.top(world.rt, world.gate)? {
             None => Ok(Answer::All),

@@ -13,6 +13,7 @@ ghost use Rattle.ppq_engine.specs.Output.{output_of, load_of, crest_of, given_of
 ghost use Rattle.ppq_engine.specs.Running.{HasStopped, HasChanged, queue_end, open_end};
 ghost use Rattle.ppq_engine.specs.Files.{IsReadInScript};
 ghost use Rattle.ppq_engine.specs.Outcome.{TakesBeforeLoad, FaultBeforeFile, PutsRest, PutsStopped};
+ghost use Rattle.ppq_engine.specs.Work.{IsWithinWork, TransfersFew};
 ghost use Rattle.ppq_engine.specs.Ends.{budget_refusal, BeganOrRefused, IsCompleted, IsQuiet, NoFault, NoneFailed};
 ghost use Rattle.ppq_engine.specs.declared.end.End.TheVariants.{Done, ReadFault, WriteFault, DeviceFault, NoFreeBlock, BudgetTooSmall, Memory, FileChanged};
 
@@ -44,6 +45,7 @@ impl<S: Slot + Send + Sync, R: Fields + Send + Sync> Machine<S, R> {
         ensures runs { OnOk result.1 (RunsAll R.Fields world.now.form (L.told library.old) world.now.script.now self.queue result.0.queue (O.told out.old) (O.told out.new) result.0.desk.gathered) }
         ensures stopped { IfErr result.1 (HasStopped R.Fields world.now.form (L.told library.old) world.now.script.now self.queue.slots (O.told out.old) (O.told out.new) result.0.desk.gathered self.queue.sizes result.0.queue.slots) }
         ensures slots { SameSlots self.queue.slots result.0.queue.slots }
+        ensures counted { IsWithinWork R.Fields (command_list world.now.script.now) self.queue.sizes result.0.queue }
         ensures library { LibraryCounts (L.told library.old) (L.told library.new) (L.replied library.old) (L.replied library.new) world.now.script.now (L.faults library.old) (L.faults library.new) result.1 }
         ensures sink { SinkCounts (O.faults out.old) (O.faults out.new) result.1 }
     {
@@ -139,6 +141,7 @@ where
     requires piece { R.WIDTH ≤ length desk.room.items }
     ensures ends { EndsRun R.Fields world.now.form (L.told library.old) (L.replied library.new) world.now.script.now queue result.0 (O.told out.old) (O.told out.new) (O.faults out.old) (O.faults out.new) (L.faults library.old) (L.faults library.new) result.1 }
     ensures slots { SameSlots queue.slots result.0.slots }
+    ensures transfers { TransfersFew R.Fields (command_list world.now.script.now) queue.sizes result.0.slots }
     ensures library { LibraryStays (L.told library.old) (L.told library.new) (L.replied library.old) (L.replied library.new) world.now.script.now (L.faults library.old) (L.faults library.new) }
     ensures later { O.faults out.old ≤ O.faults out.new }
 {
@@ -147,6 +150,7 @@ where
     let machine = Machine { queue, desk };
     let (machine, result) = machine.run(world, library, out);
     let Machine { queue, desk } = machine;
+    queue.known();
     let mut gathered = desk.gathered;
     match result {
         Ok(()) => match gathered.put(world.rt, out) {
@@ -231,6 +235,10 @@ where
     ensures unfailed { result.end ≡ Done → All (λ s. s.faults ≡ 0) (map S.shown result.blocks.items) }
     ensures used { result.end ≡ Done → AllTell (map S.shown slots.items) → (files : List ℕ → Option (List ℕ)) → AreFilesOf (L.told library.old) script.now files → FitsWritten (crest_of R.Fields (given_of R.Fields files script.now) (command_list script.now)) sizes (map S.shown result.blocks.items) }
     ensures used_any { result.end ≡ Done → FitsWritten (least_of R.Fields (command_list script.now)) sizes (map S.shown result.blocks.items) }
+
+    // Few blocks are written for the records that the script pushes and the sessions that it begins, and no more are
+    // read than written, however the run ends.
+    ensures transfers { TransfersFew R.Fields (command_list script.now) sizes (map S.shown result.blocks.items) }
 
     // No file changes, and the library's count rises only where the end names a fault. It is asked for no length, and for
     // no byte past the length that the script keeps of a file.

@@ -52,15 +52,46 @@ impl Shape {
             blocks.min(65_536) as u32,
         )
     }
+
+    // How many records there may be in the blocks that are written for so many pushed records and so many sessions:
+    // eight times these records, and an extract buffer for each heap that they fill and each session; and two blocks
+    // for each run, of which a heap that they fill makes two, and a session one for each worker and two more.
+    fn most_written(self, pushed: u64, begun: u64) -> u64 {
+        let block = u64::from(self.block);
+        let workers = u64::from(self.workers);
+        let heap = u64::from(self.heap).saturating_mul(block).max(1);
+        let stores = pushed.div_ceil(heap);
+        let emptied = stores
+            .saturating_add(begun)
+            .saturating_mul(workers)
+            .saturating_mul(block);
+        let runs = workers
+            .saturating_add(2)
+            .saturating_mul(begun)
+            .saturating_add(stores.saturating_mul(2));
+        pushed
+            .saturating_add(emptied)
+            .saturating_mul(8)
+            .saturating_add(runs.saturating_mul(block).saturating_mul(2))
+    }
 }
 
-// Runs the script, and says whether it was done. Then it has printed what the list does; else it found no
-// free block, and has printed the beginning of that.
-fn is_done<H: Host + Abort>(rt: &H, case: &Case, sizes: Option<Sizes>) -> bool
+// Runs the script on a device of so many blocks, and says whether it was done. Then it has printed what the list
+// does; else it found no free block, and has printed the beginning of that. Few blocks were written, and no more
+// were read than written.
+fn is_done<H: Host + Abort>(rt: &H, case: &Case, shape: Shape, blocks: u64) -> bool
 where
     H::Dir: Send,
 {
-    let Outcome { end, wrote, .. } = plain(rt, case.alloc, &case.text, sizes);
+    let Outcome {
+        end,
+        wrote,
+        writes,
+        reads,
+        ..
+    } = plain(rt, case.alloc, &case.text, shape.over(blocks));
+    let written = writes.saturating_mul(u64::from(shape.block));
+    assert!(rt; written <= shape.most_written(case.pushed, case.begun) && reads <= writes);
     let is_done = end == End::Done;
     assert!(rt; is_done || end == End::NoFreeBlock);
     assert!(rt; case.output.starts_with(&wrote));
@@ -110,8 +141,8 @@ fn on_two_devices<H: Host + Abort>(rt: &H, case: &Case, shape: Shape, fewer: u64
 where
     H::Dir: Send,
 {
-    assert!(rt; is_done(rt, case, shape.over(shape.room(case.load))));
-    let is_whole = is_done(rt, case, shape.over(fewer));
+    assert!(rt; is_done(rt, case, shape, shape.room(case.load)));
+    let is_whole = is_done(rt, case, shape, fewer);
     let in_heap = u64::from(shape.heap).saturating_mul(u64::from(shape.block));
     assert!(rt; is_whole || case.load > in_heap || case.limited);
     is_whole
@@ -210,8 +241,11 @@ fn four_thousand_records_above_the_budget_are_written(rt: HostRuntime) -> Result
     let sizes = Sizes::new(1, 16, 1, 1_840, 576);
     let ran = plain(&rt, rt.alloc(), &text, sizes);
     assert!(rt; ran.end == End::Done && ran.wrote.as_slice() == b"1 0\n2 0\n".as_slice());
-    let writes = ran.writes;
+    let (writes, reads) = (ran.writes, ran.reads);
     assert!(rt; ran.blocks == 576 && writes >= 135);
-    println!(rt; "4000 records falling, 16 a block, a budget of 1840: {writes} writes")?;
+    assert!(rt; writes <= 5_000 && reads <= writes);
+    println!(rt;
+        "4000 records falling, 16 a block, a budget of 1840: {writes} writes, {reads} reads"
+    )?;
     Ok(())
 }

@@ -60,6 +60,10 @@ pub(crate) struct Case {
     pub load: u64,
     // How many records were popped in the open limit session.
     popped: u64,
+    // How many records were pushed, by any command.
+    pub pushed: u64,
+    // How many sessions were begun, of generated records too.
+    pub begun: u64,
     // Whether a bulk session was begun.
     pub bulked: bool,
     // Whether a limit session was begun.
@@ -75,6 +79,8 @@ impl Case {
             list: Vec::new(alloc),
             load: 0,
             popped: 0,
+            pushed: 0,
+            begun: 0,
             bulked: false,
             limited: false,
         }
@@ -82,6 +88,12 @@ impl Case {
 
     fn command(&mut self, word: &[u8], numbers: &[u64]) -> Result<(), Fail> {
         put_line(&mut self.text, self.alloc, word, numbers)
+    }
+
+    // The same of a command that begins a session.
+    fn begin(&mut self, word: &[u8], numbers: &[u64]) -> Result<(), Fail> {
+        self.begun = self.begun.saturating_add(1);
+        self.command(word, numbers)
     }
 
     fn print(&mut self, word: &[u8], numbers: &[u64]) -> Result<(), Fail> {
@@ -103,7 +115,7 @@ impl Case {
 
     // `gen SEED N`.
     fn generate(&mut self, seed: u64, count: u64) -> Result<(), Fail> {
-        self.command(b"gen", &[seed, count])?;
+        self.begin(b"gen", &[seed, count])?;
         let mut key = seed;
         for value in 0..count {
             draw(&mut key, 1);
@@ -114,7 +126,7 @@ impl Case {
 
     // A bulk session with so many pushes, each by a pass below a number of workers.
     fn session(&mut self, seed: &mut u64, mood: Mood, count: u64) -> Result<(), Fail> {
-        self.command(b"bulk_begin", &[])?;
+        self.begin(b"bulk_begin", &[])?;
         self.bulked = true;
         for _ in 0..count {
             let item = record(seed, mood.keys);
@@ -135,6 +147,7 @@ impl Case {
         }
         let place = place.min(self.list.len());
         self.list.insert(place, item)?;
+        self.pushed = self.pushed.saturating_add(1);
         let count = (self.list.len() as u64).saturating_add(self.popped);
         self.load = self.load.max(count);
         Ok(())
@@ -143,7 +156,7 @@ impl Case {
     // A limit session with so many lines, each push by a pass below a number of workers.
     fn limit_session(&mut self, seed: &mut u64, mood: Mood, count: u64) -> Result<(), Fail> {
         let limit = record(seed, mood.keys);
-        self.command(b"limit_begin", &[limit.key, limit.value])?;
+        self.begin(b"limit_begin", &[limit.key, limit.value])?;
         self.limited = true;
         for _ in 0..count {
             match draw(seed, 4) {

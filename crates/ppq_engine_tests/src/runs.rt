@@ -50,6 +50,8 @@ pub(crate) struct Outcome {
     pub faults: u64,
     // How many writes the blocks had in all.
     pub writes: u64,
+    // How many reads.
+    pub reads: u64,
 }
 
 // A script that is checked over a library.
@@ -97,6 +99,15 @@ fn writes_of(blocks: &[MemSlot]) -> u64 {
         writes = writes.saturating_add(slot.writes());
     }
     writes
+}
+
+// How many reads these blocks had in all.
+fn reads_of(blocks: &[MemSlot]) -> u64 {
+    let mut reads = 0u64;
+    for slot in blocks {
+        reads = reads.saturating_add(slot.reads());
+    }
+    reads
 }
 
 // A device on which the call of block 0 with this number fails.
@@ -161,6 +172,7 @@ where
         blocks: blocks.len(),
         faults: faults_of(&blocks),
         writes: writes_of(&blocks),
+        reads: reads_of(&blocks),
     }
 }
 

@@ -155,6 +155,16 @@ pub fn are_all(rt: &impl Abort, alloc: Global, blocks: &[MemSlot], count: usize)
     are_new && blocks.len() == count
 }
 
+/// Whether no more of these blocks were read than written.
+pub fn are_read_rarely(blocks: &[MemSlot]) -> bool {
+    let (mut reads, mut writes) = (0u64, 0u64);
+    for block in blocks {
+        reads = reads.saturating_add(block.reads());
+        writes = writes.saturating_add(block.writes());
+    }
+    reads <= writes
+}
+
 // Puts all calls of a block behind a list.
 fn put_calls(rt: &impl Abort, calls: &mut Vec<Call>, block: &MemSlot) {
     let number = block.number();

@@ -3,7 +3,7 @@
 
 use crate::call::{Call, Faults};
 use crate::cases::{CASES, Case, EARLY, Text, text_of};
-use crate::runs::{Ran, are_all, calls_of, faults_of, run};
+use crate::runs::{Ran, are_all, are_read_rarely, calls_of, faults_of, run};
 use ppq_cli::End;
 use ppq_outside::Host;
 use std::alloc::Global;
@@ -37,6 +37,7 @@ where
     let faults = faults_of(&ran, call);
     let came_back = are_all(rt, alloc, &ran.blocks, case.blocks);
     assert!(rt; is_right(&ran, text, call, faults), "{call:?}: {faults:?}");
+    assert!(rt; are_read_rarely(&ran.blocks), "{call:?}");
     assert!(rt;
         came_back | (faults.library > 0 && ran.blocks.is_empty()),
         "{call:?}"

@@ -1,4 +1,7 @@
 pub use Rattle.ppq_session.proofs.ppq_block as ppq_block
+pub use Rattle.ppq_session.proofs.ppq_queue.ppq_counts as ppq_counts
+pub use Rattle.ppq_session.proofs.ppq_queue as ppq_queue
+pub mod Counting
 pub mod FileRecords
 pub mod Generated
 pub mod Loadings

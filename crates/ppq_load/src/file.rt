@@ -6,7 +6,7 @@ ghost use Rattle.ppq_load.specs.Given.{records_of};
 ghost use Rattle.ppq_session.specs.ppq_outside.Shown.{AllTell};
 ghost use Rattle.ppq_session.specs.ppq_outside.Told.{Remembers, RepliesOnly, bytes_or_none};
 ghost use Rattle.ppq_session.specs.ppq_budget.Sizes.{batch_of};
-ghost use Rattle.ppq_session.specs.ppq_queue.Holding.{Holding};
+ghost use Rattle.ppq_session.specs.ppq_queue.Holding.{Holding, CountsFew, session_begun};
 ghost use Rattle.ppq_session.specs.ppq_array.Kept.{AreQuiet};
 ghost use Rattle.ppq_session.specs.ppq_array.declared.store_fault.StoreFault.TheVariants.{Device};
 ghost use Rattle.ppq_session.specs.Dealing.{IsGoing, AddsPart};
@@ -30,7 +30,8 @@ use std::alloc::Global;
 ///
 /// A refusal hands the queue back, with the session ended, and with a part of the records unless a block
 /// failed: `Memory`, `Read` and `Ended` as reading says, or `Memory` before the session began; `Queue` where
-/// there is no room for the records or a block failed.
+/// there is no room for the records or a block failed. Whatever is returned, the queue counts a session more
+/// at the most, and the records of the file.
 pub fn load_file<H: Host, S: Slot + Send + Sync, R: Record + Send + Sync, L: Library, G: Gate>(
     rt: &H,
     alloc: Global,
@@ -55,8 +56,9 @@ where
     ensures refused { IfErr result.1 (LoadStopsFor (max queue.peak (queue.size + said / R.WIDTH)) queue.sizes queue.limited result.0.slots) }
     ensures ended { IfErr result.1 (LoadEndsIn (L.told library.old) (L.replied library.new) name.now said) }
     ensures stopped { IfErr result.1 (IsStoppedBy result.0) }
-    ensures latched { (number : ℕ) → queue.failed ≡ Some number → result ≡ (queue, Err (ByQueue (Device number))) }
+    ensures latched { (number : ℕ) → queue.failed ≡ Some number → result ≡ (session_begun queue, Err (ByQueue (Device number))) }
     ensures kept { Keeps queue result.0 }
+    ensures counted { CountsFew (said / R.WIDTH) 1 queue result.0 result.1 }
     ensures remembers { Remembers (L.replied library.old) (L.replied library.new) }
     ensures asks { RepliesOnly (L.replied library.old) (L.replied library.new) (IsReadWithin name.now said) }
     ensures told { L.told library.new ≡ L.told library.old }

@@ -3,6 +3,7 @@ ghost use Rattle.std.specs.Prelude.{◌≡◌, ◌≤◌, ◌+◌, ◌*◌, ◌%
 ghost use Rattle.ppq_session.specs.ppq_record.Bag.{IsSameBag};
 ghost use Rattle.ppq_session.specs.ppq_outside.Shown.{AllTell};
 ghost use Rattle.ppq_session.specs.ppq_array.Kept.{AreQuiet};
+ghost use Rattle.ppq_session.specs.ppq_queue.Holding.{CountsFew, session_begun};
 ghost use Rattle.ppq_session.specs.ppq_array.declared.store_fault.StoreFault.TheVariants.{Device};
 ghost use Rattle.ppq_session.specs.Dealing.{AddsPart};
 ghost use Rattle.ppq_load.specs.declared.fault.LoadFault.TheVariants.{Queue as ByQueue};
@@ -24,7 +25,8 @@ use std::alloc::Global;
 /// and zeros, as many as it has.
 ///
 /// A refusal hands the queue back, with a part of the records unless a block failed: `Memory` before the
-/// session began, `Queue` where there is no room for the records or a block failed.
+/// session began, `Queue` where there is no room for the records or a block failed. Whatever is returned, the
+/// queue counts a session more at the most, and these records.
 pub fn load_generated<H: Host, S: Slot + Send + Sync, R: Fields + Send + Sync, G: Gate>(
     rt: &H,
     alloc: Global,
@@ -44,8 +46,9 @@ where
     ensures refused { IfErr result.1 (LoadStopsFor (max queue.peak (queue.size + count)) queue.sizes queue.limited result.0.slots) }
     ensures by_load { IfErr result.1 IsByLoad }
     ensures stopped { IfErr result.1 (IsStoppedBy result.0) }
-    ensures latched { (number : ℕ) → queue.failed ≡ Some number → result ≡ (queue, Err (ByQueue (Device number))) }
+    ensures latched { (number : ℕ) → queue.failed ≡ Some number → result ≡ (session_begun queue, Err (ByQueue (Device number))) }
     ensures kept { Keeps queue result.0 }
+    ensures counted { CountsFew count 1 queue result.0 result.1 }
 {
     queue.known();
     match Load::begin(rt, alloc, queue, gate) {

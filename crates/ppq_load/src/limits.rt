@@ -2,14 +2,15 @@
 ghost use Rattle.std.specs.Prelude.{◌≡◌, ◌≤◌, ◌<◌, ◌+◌, ◌++◌, ℕ, true, false, [], List, All, Some, None, Err, IsTrue, IfOk, IfErr, OnOk, length, take, vec_capacity};
 ghost use Rattle.ppq_session.specs.ppq_record.Order.{is_before};
 ghost use Rattle.ppq_session.specs.ppq_outside.Shown.{AllTell};
-ghost use Rattle.ppq_session.specs.ppq_queue.Holding.{Holding};
+ghost use Rattle.ppq_session.specs.ppq_queue.ppq_counts.Tally.{beginning};
+ghost use Rattle.ppq_session.specs.ppq_queue.Holding.{Holding, CountsAs};
 ghost use Rattle.ppq_session.specs.ppq_array.declared.store_fault.StoreFault.TheVariants.{Device};
 ghost use Rattle.ppq_session.specs.Dealing.{EachAdds, records_in, records_for};
 ghost use Rattle.ppq_load.specs.declared.fault.LoadFault.TheVariants.{Queue as ByQueue};
 ghost use Rattle.ppq_load.specs.Loading.{LoadStopsFor, IsByLoad, IsHandedBack};
 ghost use Rattle.ppq_load.specs.Refusal.{Keeps};
-ghost use Rattle.ppq_session.specs.Ends.{NamesFirst};
-ghost use Rattle.ppq_session.specs.Asks.{answers_to, left_after, pops_in};
+ghost use Rattle.ppq_session.specs.Ends.{NamesFirst, accepted_of};
+ghost use Rattle.ppq_session.specs.Asks.{answers_to, left_after, removed_in, pops_in};
 ghost use Rattle.ppq_session.specs.Batches.{passes_of};
 ghost use Rattle.ppq_load.specs.Limits.{AreGoing, HasStopped, InLimits, IsOver, IsOverBy, begun_in};
 
@@ -40,7 +41,8 @@ impl<S: Slot + Send + Sync, R: Record + Send + Sync> Limits<S, R> {
     /// The rest of the extract buffer and each heap that is not empty are stored as runs first, which costs a
     /// sort and a store of each heap; levels of runs are merged after each.
     ///
-    /// Each refusal hands the queue back, with the records that it had unless a block failed.
+    /// Each refusal hands the queue back, with the records that it had unless a block failed, and counts the
+    /// session.
     pub fn begin<H: Host, G: Gate>(
         rt: &H,
         alloc: Global,
@@ -56,6 +58,7 @@ impl<S: Slot + Send + Sync, R: Record + Send + Sync> Limits<S, R> {
         ensures by_load { IfErr result (λ back. IsByLoad back.1) }
         ensures intact { IfErr result (λ back. IsHandedBack queue back.0 back.1) }
         ensures kept { IfErr result (λ back. Keeps (begun_in queue) back.0) }
+        ensures counted { IfErr result (λ back. CountsAs (beginning queue.counts) queue back.0) }
         ensures latched { (number : ℕ) → queue.failed ≡ Some number → result ≡ Err (begun_in queue, ByQueue (Device number)) }
     {
         match LimitSession::begin(rt, alloc, queue, limit, gate) {
@@ -71,7 +74,8 @@ impl<S: Slot + Send + Sync, R: Record + Send + Sync> Limits<S, R> {
     ///
     /// The answers do not depend on the lines, since no record of a line is below the limit. A pass stops at
     /// its first record that is refused, and the others go on. The asks end at the first that meets a fault
-    /// of a block.
+    /// of a block. The number of the front's pops rises by one for each ask for a pop whose answer is a
+    /// record, and by nothing else.
     pub fn run<H: Host, G: Gate>(
         &mut self,
         rt: &H,
@@ -92,6 +96,7 @@ impl<S: Slot + Send + Sync, R: Record + Send + Sync> Limits<S, R> {
         ensures answers { (queue : Holding R) (limit : R) (given left : List R) (popped : ℕ) → InLimits S.shown queue limit given left popped self.old → AllTell queue.slots → answers.new.items ≡ take (length answers.new.items) (answers_to R.Ord.cmp limit left asks.now) }
         ensures answered { self.new.front.failed ≡ None → length answers.new.items ≡ length asks.now }
         ensures fewer { length answers.new.items ≤ length asks.now }
+        ensures popped { self.new.front.popped ≡ self.old.front.popped + removed_in asks.now answers.new.items }
         ensures room { vec_capacity answers.new ≡ vec_capacity answers.old }
         ensures session { (queue : Holding R) (limit : R) (given left : List R) (popped : ℕ) → InLimits S.shown queue limit given left popped self.old → InLimits S.shown queue limit (given ++ records_in lines.now) (left_after R.Ord.cmp limit left asks.now) (popped + pops_in asks.now) self.new }
         ensures each { EachAdds S.shown (λ pass. records_for pass lines.now) (passes_of self.old.passes) (passes_of self.new.passes) }
@@ -104,14 +109,16 @@ impl<S: Slot + Send + Sync, R: Record + Send + Sync> Limits<S, R> {
     /// Ends the session: the queue with the records that are left of what it had and those that its passes
     /// accepted. The runs of the passes become runs of the queue, and levels are merged. It allocates nothing.
     ///
-    /// `Ok`: the queue has all records that were given. `NoFreeBlock`: a pass or a merge of levels found no
-    /// blocks, and no accepted record is lost. `Device`: the block with that number failed; the first pass that
+    /// `Ok`: the queue has all records that were given, and counts those that the front has left and those
+    /// that the passes accepted, whatever the blocks gave back. `NoFreeBlock`: a pass or a merge of levels found
+    /// no blocks, and no accepted record is lost. `Device`: the block with that number failed; the first pass that
     /// met a fault is named, else the front, and else a merge of levels.
     pub fn end<H: Host, G: Gate>(self, rt: &H, gate: &G) -> (Queue<S, R>, Result<(), QueueFault>)
     where
         H::Dir: Send,
         ensures all { OnOk result.1 (AreGoing self) }
         ensures over { (queue : Holding R) (limit : R) (given left : List R) (popped : ℕ) → InLimits S.shown queue limit given left popped self → IsOver queue given left popped result.0 result.1 }
+        ensures size { OnOk result.1 (result.0.size ≡ self.front.size + accepted_of (passes_of self.passes)) }
         ensures left { IfErr result.1 (IsOverBy S.shown self result.0) }
         ensures first { NamesFirst (passes_of self.passes) self.front.failed result.1 }
     {

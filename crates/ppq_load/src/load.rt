@@ -1,7 +1,8 @@
 //! An open session, as one value.
 ghost use Rattle.std.specs.Prelude.{◌≡◌, ◌<◌, ◌≤◌, ◌++◌, ◌↔◌, [], ℕ, List, All, Any, Some, None, Err, IsTrue, false, IfOk, IfErr, OnOk, length, take, slice_set};
 ghost use Rattle.ppq_session.specs.ppq_budget.Sizes.{AreInRange, batch_of};
-ghost use Rattle.ppq_session.specs.ppq_queue.Holding.{Holding};
+ghost use Rattle.ppq_session.specs.ppq_queue.ppq_counts.Tally.{beginning};
+ghost use Rattle.ppq_session.specs.ppq_queue.Holding.{Holding, CountsAs, session_begun};
 ghost use Rattle.ppq_session.specs.ppq_array.declared.store_fault.StoreFault.TheVariants.{Device};
 ghost use Rattle.ppq_session.specs.Ends.{NamesFirst};
 ghost use Rattle.ppq_session.specs.Dealing.{IsGoing, HasEnded, EachAdds, records_in, records_for, part_for};
@@ -35,7 +36,7 @@ impl<S: Slot + Send + Sync, R: Record + Send + Sync> Load<S, R> {
     /// Begins a session of a queue, with a pass for each worker. All memory that it needs is taken now.
     ///
     /// Each refusal hands the queue back, with the records that it had unless a block failed. A queue of
-    /// which a block failed before comes back as it was.
+    /// which a block failed before comes back as it was, but that it counts a session more, as after each refusal.
     pub fn begin<H: Host, G: Gate>(
         rt: &H,
         alloc: Global,
@@ -50,7 +51,8 @@ impl<S: Slot + Send + Sync, R: Record + Send + Sync> Load<S, R> {
         ensures by_load { IfErr result (λ back. IsByLoad back.1) }
         ensures intact { IfErr result (λ back. IsHandedBack queue back.0 back.1) }
         ensures kept { IfErr result (λ back. Keeps queue back.0) }
-        ensures latched { (number : ℕ) → queue.failed ≡ Some number → result ≡ Err (queue, load_fault.Queue (Device number)) }
+        ensures counted { IfErr result (λ back. CountsAs (beginning queue.counts) queue back.0) }
+        ensures latched { (number : ℕ) → queue.failed ≡ Some number → result ≡ Err (session_begun queue, load_fault.Queue (Device number)) }
     {
         match Session::begin(rt, alloc, queue, gate) {
             Ok(session) => Ok(Load { session }),

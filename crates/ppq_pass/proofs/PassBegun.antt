@@ -1,5 +1,5 @@
 -- A pass that begins.
-use Rattle.std.proofs.Common.{◌≡◌, ℕ, ◌+◌, ◌*◌, ◌/◌, ◌<◌, ◌≤◌, false, List, [], ◌++◌, length, sum_by, All, None, refl, sym, ap, ap₂, ◌∙◌, subst, arith}
+use Rattle.std.proofs.Common.{◌≡◌, ℕ, ◌+◌, ◌*◌, ◌/◌, ◌<◌, ◌≤◌, false, List, [], ◌++◌, length, sum_by, All, Option, None, refl, sym, ap, ap₂, ◌∙◌, subst, arith}
 use Rattle.std.specs.Prelude.{vec_capacity}
 use Rattle.std.specs.declared.cmp.Ordering.{Ordering}
 use Rattle.std.proofs.lemmas.List.Elements.{All-nil}
@@ -10,12 +10,17 @@ use Rattle.ppq_extract.specs.ppq_budget.Sizes.{Numbers, AreInRange, heap_of, poo
 use Rattle.ppq_heap.specs.Heap.{Contents}
 use Rattle.ppq_extract.specs.ppq_array.declared.berth.DeviceBlock.{DeviceBlock}
 use Rattle.ppq_extract.specs.ppq_array.Run.{Run, items_of}
-use Rattle.ppq_extract.specs.ppq_array.External.{External, records_in}
+use Rattle.ppq_extract.specs.ppq_array.External.{External, size_of, records_in}
 use Rattle.ppq_extract.specs.ppq_array.Owner.{HasBlock, HasSize, slots_shown}
-use Rattle.ppq_extract.specs.ppq_array.Kept.{SameSlots, all_faults, all_writes}
-use Rattle.ppq_extract.specs.ppq_array.Holdings.{internal_buffers, external_slots, external_buffers, RunHasBlock, ArrayHasSize}
+use Rattle.ppq_extract.specs.ppq_array.Kept.{SameSlots, all_faults, all_writes, all_reads}
+use Rattle.ppq_extract.specs.ppq_array.Holdings.{internal_items, internal_buffers, external_slots, external_buffers, RunHasBlock, ArrayHasSize}
 use Rattle.ppq_extract.specs.ppq_fetch.Fetching.{count_in}
+use Rattle.ppq_spill.specs.ppq_counts.Tally.{tally}
+use Rattle.ppq_spill.specs.ppq_counts.Account.{IsCountedFrom, tolls, hefts, blocks_of}
+use Rattle.ppq_spill.proofs.ppq_counts.Levels.{tolls-sum, hefts-sum, blocks-sum}
+use Rattle.ppq_spill.proofs.ppq_counts.Passed.{from-none}
 use Rattle.ppq_spill.specs.Body.{IsNewBody, job_slots}
+use Rattle.ppq_spill.specs.Storing.{in_buffers}
 use Rattle.ppq_spill.specs.declared.body.PassBody.{PassBody}
 use Rattle.ppq_spill.specs.Untold.{untold}
 use Rattle.ppq_spill.proofs.SameSlots.{SameSlots-refl}
@@ -23,7 +28,7 @@ use Rattle.ppq_pool.specs.Seats.{count_of}
 use Rattle.ppq_pass.specs.declared.parts.PassParts.{PassParts}
 use Rattle.ppq_pass.specs.Passing.{IsPass, items_at}
 use Rattle.ppq_pass.specs.Passed.{slots_of}
-use Rattle.ppq_pass.specs.PassState.{IsPassed, IsSoundPass, IsPassRun, IsPassArray, shared_of, drawn_of}
+use Rattle.ppq_pass.specs.PassState.{IsPassed, IsSoundPass, IsPassCounted, IsPassRun, IsPassArray, pass_account, shared_of, drawn_of}
 
 module _ {S R : Type 0} (shown : S → Shown) (cmp : R → R → Ordering) (record_of : List ℕ → R) (width : ℕ) (n : Numbers) (heap : Contents R) (body : PassBody S R) (p : PassParts S R)
     (range : AreInRange n) (new : IsNewBody n.block (pool_of n / n.heap + 1) (n.blocks / n.heap + 1) body) (block : p.block ≡ n.block) (stash : p.stash ≡ []) (dry : p.dry ≡ 0) (scant : p.scant ≡ 0) (undrawn : p.row_seat.hand.places ≡ []) (slots : length p.row_seat.hand.items ≤ n.blocks)
@@ -106,3 +111,18 @@ module _ {S R : Type 0} (shown : S → Shown) (cmp : R → R → Ordering) (reco
           stash = omega (arith, empty);
           whole = λ r. cc;
         }
+
+    -- it paid for nothing yet, and had the records of its heap in the beginning
+    pub new_counted : (begun : ℕ) → begun ≡ length heap.items → (failed : Option ℕ) → IsPassCounted shown n heap body p begun 0 0 failed
+    new_counted begun counted failed =
+        let memory : in_buffers body ≡ 0 = ap (λ (xs : List (Run R)). length (internal_items xs)) new.no_internal in
+        let level : External S R → ℕ = λ a. a.level in
+        let blocks : External S R → ℕ = λ a. length a.stored in
+        let owed : tolls level size_of n.block body.runs.external.items ≡ 0 = ap (tolls level size_of n.block) new.no_external ∙ tolls-sum level size_of n.block [] in
+        let weight : hefts level size_of body.runs.external.items ≡ 0 = ap (hefts level size_of) new.no_external ∙ hefts-sum level size_of [] in
+        let stored : blocks_of blocks body.runs.external.items ≡ 0 = ap (blocks_of blocks) new.no_external ∙ blocks-sum blocks [] in
+        let writes : all_writes (slots_of shown body p) ≡ 0 = ap all_writes no_slots in
+        let written : 7 * (n.block * all_writes (slots_of shown body p)) ≡ 0 = ap (λ k. 7 * (n.block * k)) writes ∙ (omega arith) in
+        let reads : all_reads (slots_of shown body p) ≡ 0 = ap all_reads no_slots in
+        let is = from-none n.workers n.block begun (failed ≡ None) (pass_account shown n heap body p) written (omega (arith, owed, memory, counted)) weight reads stored in
+        subst (λ (ds : List Shown). IsCountedFrom n.workers n.block begun (all_writes ds) (all_reads ds) (failed ≡ None) (tally 0 0 0) (pass_account shown n heap body p)) (sym no_drawn) is

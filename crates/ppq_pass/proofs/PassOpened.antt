@@ -42,12 +42,12 @@ module _ {T E : Type 0} where
   has_room (Err e) most x old new room full added = absurd (omega (arith, full refl))
 
 module _ {S R : Type 0} (shown : S → Shown) (cmp : R → R → Ordering) (record_of : List ℕ → R) (width : ℕ) (n : Numbers) (heap : Contents R) (body : PassBody S R) where
-  module _ (begun accepted : ℕ) (refused : Bool) (failed : Option ℕ) (o : Option (PassParts S R)) (p : PassParts S R) (e : o ≡ Some p) where
-    pub opened : IsPassing shown cmp record_of width n heap body o begun accepted refused failed → IsPassing shown cmp record_of width n heap body (Some p) begun accepted refused failed
-    opened is = subst (λ (o : Option (PassParts S R)). IsPassing shown cmp record_of width n heap body o begun accepted refused failed) e is
+  module _ (begun accepted : ℕ) (refused : Bool) (failed : Option ℕ) (stores : ℕ) (o : Option (PassParts S R)) (p : PassParts S R) (e : o ≡ Some p) where
+    pub opened : IsPassing shown cmp record_of width n heap body o begun accepted refused failed stores → IsPassing shown cmp record_of width n heap body (Some p) begun accepted refused failed stores
+    opened is = subst (λ (o : Option (PassParts S R)). IsPassing shown cmp record_of width n heap body o begun accepted refused failed stores) e is
 
-    pub seen : (v : PassHolding S R) → shown_holding shown record_of width n heap body o begun accepted refused failed ≡ v → holding_of shown record_of width n heap body p begun accepted refused failed ≡ v
-    seen v view = subst (λ (o : Option (PassParts S R)). shown_holding shown record_of width n heap body o begun accepted refused failed ≡ v) e view
+    pub seen : (v : PassHolding S R) → shown_holding shown record_of width n heap body o begun accepted refused failed stores ≡ v → holding_of shown record_of width n heap body p begun accepted refused failed stores ≡ v
+    seen v view = subst (λ (o : Option (PassParts S R)). shown_holding shown record_of width n heap body o begun accepted refused failed stores ≡ v) e view
 
 module _ {S R : Type 0} {shown : S → Shown} {width records : ℕ} {shared : Shared S R} {a b : PassBody S R} {p q : PassParts S R} (kept : StoreKept shown width records shared a b p q) (row : p.row_seat.row ≡ shared.row) (pool : p.pool_seat.pool ≡ shared.pool) where
   -- the key stays
@@ -67,10 +67,10 @@ of_shared {S = S} {R = R} p shared row pool = ap₂ made row pool
     made : TableId → TableId → Shared S R
     made r l = record { row = r; pool = l }
 
--- two holdings with the same numbers differ in multiset, slots, stash, draws, numbers of buffers, note, steps and refusal alone
+-- two holdings with the same numbers differ in multiset, slots, stash, draws, numbers of buffers, note, steps, refusal and stores alone
 pub refused_holding :
     {S R : Type 0} (old new : PassHolding S R) → new.key ≡ old.key → new.size ≡ old.size → new.in_heap ≡ old.in_heap → new.in_buffers ≡ old.in_buffers → new.buffers ≡ old.buffers → new.noted ≡ true → new.accepted ≡ old.accepted → new.refused ≡ true → new.failed ≡ old.failed
-    → new ≡ record old { bag = new.bag; slots = new.slots; stash = new.stash; drawn = new.drawn; numbers = new.numbers; noted = true; steps = new.steps; refused = true }
+    → new ≡ record old { bag = new.bag; slots = new.slots; stash = new.stash; drawn = new.drawn; numbers = new.numbers; noted = true; steps = new.steps; refused = true; stores = new.stores }
 refused_holding {S = S} {R = R} old new key size heap in_buffers buffers noted accepted refused failed =
     ap₂ (λ (k : PassKey S R) (s : ℕ). made k s new.in_heap new.in_buffers new.buffers new.noted new.accepted new.refused new.failed) key size
     ∙ ap₂ (λ (h m : ℕ). made old.key old.size h m new.buffers new.noted new.accepted new.refused new.failed) heap in_buffers
@@ -96,4 +96,5 @@ refused_holding {S = S} {R = R} old new key size heap in_buffers buffers noted a
           accepted = a;
           refused = r;
           failed = f;
+          stores = new.stores;
         }

@@ -12,6 +12,7 @@ use Rattle.ppq_pass.specs.declared.parts.PassParts.{PassParts}
 use Rattle.ppq_pass.specs.Passed.{PassHolding, IsKnown, holding_of, shown_holding, with_one}
 use Rattle.ppq_pass.specs.PassState.{IsPassed, IsPassing}
 use Rattle.ppq_pass.proofs.PassKeeps.{size_few}
+use Rattle.ppq_pass.proofs.PassCounted.{counted-put}
 
 -- a heap that took a record was not full
 pub was_not_full : {T E : Type 0} (r : Result T E) (x : T) (a b : ℕ) → r ≡ Ok x → (a ≡ b → IsErr r) → a ≤ b → a < b
@@ -21,9 +22,13 @@ was_not_full {T = T} {E = E} (Ok v) x a b e full le = let ne : a ≢ b = λ same
     not_err T E v h = cc
 was_not_full (Err f) x a b e full le = cc
 
-module _ {S R : Type 0} (shown : S → Shown) (cmp : R → R → Ordering) (record_of : List ℕ → R) (width : ℕ) (n : Numbers) (heap : Contents R) (body : PassBody S R) (begun accepted : ℕ) (refused : Bool) where
+-- and one that did not was full
+pub was_full : {T E P : Type 0} {r : Result T E} {e : E} → r ≡ Err e → (IsErr r → P) → P
+was_full {T} {E} {P} {r} {e} is full = full (subst (λ (r : Result T E). IsErr r) (sym is) refl)
+
+module _ {S R : Type 0} (shown : S → Shown) (cmp : R → R → Ordering) (record_of : List ℕ → R) (width : ℕ) (n : Numbers) (heap : Contents R) (body : PassBody S R) (begun accepted : ℕ) (refused : Bool) (stores : ℕ) where
   abbrev Holds : Option (PassParts S R) → Option ℕ → Type 0
-  Holds o failed = IsPassing shown cmp record_of width n heap body o begun accepted refused failed
+  Holds o failed = IsPassing shown cmp record_of width n heap body o begun accepted refused failed stores
 
   -- no slot failed of a pass whose heap has room
   not_failed : (p : PassParts S R) (failed : Option ℕ) → IsPassed shown width n heap body p refused failed → length heap.items < heap_of n → failed ≡ None
@@ -44,7 +49,7 @@ module _ {S R : Type 0} (shown : S → Shown) (cmp : R → R → Ordering) (reco
   -- one record more
   pub pushed :
       (o : Option (PassParts S R)) (failed : Option ℕ) → Holds o failed → (heap' : Contents R) → heap'.cap ≡ heap.cap → length heap'.items ≡ length heap.items + 1 → length heap.items < heap_of n
-      → IsPassing shown cmp record_of width n heap' body o begun (accepted + 1) refused failed
+      → IsPassing shown cmp record_of width n heap' body o begun (accepted + 1) refused failed stores
   pushed (Some p) failed is heap' cap more room =
       let was = is.0 in
       let none = not_failed p failed was room in (
@@ -83,29 +88,35 @@ module _ {S R : Type 0} (shown : S → Shown) (cmp : R → R → Ordering) (reco
               stash = omega (arith, more, sound.stash);
               whole = λ r. omega (arith, more, sound.whole r);
             }),
+        counted-put shown n heap body p begun accepted stores failed is.2 heap' more,
       )
   pushed None failed is heap' cap more room = absurd is
 
   -- the heap is as it was
-  pub same_heap : (o : Option (PassParts S R)) (failed : Option ℕ) → Holds o failed → (heap' : Contents R) → heap'.items ≡ heap.items → heap'.cap ≡ heap.cap → IsPassing shown cmp record_of width n heap' body o begun accepted refused failed
-  same_heap o failed is heap' items cap = subst (λ (h : Contents R). IsPassing shown cmp record_of width n h body o begun accepted refused failed) (sym (ap₂ contents items cap)) is
+  pub same_heap : (o : Option (PassParts S R)) (failed : Option ℕ) → Holds o failed → (heap' : Contents R) → heap'.items ≡ heap.items → heap'.cap ≡ heap.cap → IsPassing shown cmp record_of width n heap' body o begun accepted refused failed stores
+  same_heap o failed is heap' items cap = subst (λ (h : Contents R). IsPassing shown cmp record_of width n h body o begun accepted refused failed stores) (sym (ap₂ contents items cap)) is
     where
       contents : List R → ℕ → Contents R
       contents items cap = record { items = items; cap = cap }
 
   -- what it shows then
   pub shows_one :
-      (o : Option (PassParts S R)) (failed : Option ℕ) → Holds o failed → (heap' : Contents R) → length heap'.items ≡ length heap.items + 1 → (v : PassHolding S R) → shown_holding shown record_of width n heap body o begun accepted refused failed ≡ v
-      → shown_holding shown record_of width n heap' body o begun (accepted + 1) refused failed ≡ with_one v (shown_holding shown record_of width n heap' body o begun (accepted + 1) refused failed).bag
+      (o : Option (PassParts S R)) (failed : Option ℕ) → Holds o failed → (heap' : Contents R) → length heap'.items ≡ length heap.items + 1 → (v : PassHolding S R) → shown_holding shown record_of width n heap body o begun accepted refused failed stores ≡ v
+      → shown_holding shown record_of width n heap' body o begun (accepted + 1) refused failed stores ≡ with_one v (shown_holding shown record_of width n heap' body o begun (accepted + 1) refused failed stores).bag
   shows_one (Some p) failed is heap' more v view =
-      let now = holding_of shown record_of width n heap' body p begun (accepted + 1) refused failed in
-      let was = holding_of shown record_of width n heap body p begun accepted refused failed in
+      let now = holding_of shown record_of width n heap' body p begun (accepted + 1) refused failed stores in
+      let was = holding_of shown record_of width n heap body p begun accepted refused failed stores in
       let size : now.size ≡ was.size + 1 = omega (arith, more) in
       subst (λ (w : PassHolding S R). now ≡ with_one w now.bag) view (ap₂ (λ (k m : ℕ). record now { size = k; in_heap = m }) size more)
   shows_one None failed is heap' more v view = absurd is
 
+  -- the fault that it shows is the one that it met
+  pub shows_failed : (o : Option (PassParts S R)) (failed : Option ℕ) → Holds o failed → (v : PassHolding S R) → shown_holding shown record_of width n heap body o begun accepted refused failed stores ≡ v → v.failed ≡ failed
+  shows_failed (Some p) failed is v view = ap (λ v. v.failed) (sym view)
+  shows_failed None failed is v view = absurd is
+
   -- what is known of a pass
-  pub known_of : (o : Option (PassParts S R)) (failed : Option ℕ) → Holds o failed → (v : PassHolding S R) → shown_holding shown record_of width n heap body o begun accepted refused failed ≡ v → IsKnown v
+  pub known_of : (o : Option (PassParts S R)) (failed : Option ℕ) → Holds o failed → (v : PassHolding S R) → shown_holding shown record_of width n heap body o begun accepted refused failed stores ≡ v → IsKnown v
   known_of (Some p) failed is v view =
       subst (λ (w : PassHolding S R). IsKnown w) view record {
         range = is.0.range;

@@ -1,5 +1,5 @@
 -- What a pass drew since: places behind those that it had, steps that no call takes back, and the slots that it holds then.
-use Rattle.std.proofs.Common.{◌≡◌, ℕ, ◌+◌, List, [], ◌∷◌, ◌++◌, length, sum_by, refl, sym, ap, ap₂, ◌∙◌, subst, arith, append-nil, length-append}
+use Rattle.std.proofs.Common.{◌≡◌, ℕ, ◌+◌, ◌≤◌, List, [], ◌∷◌, ◌++◌, length, sum_by, refl, sym, ap, ap₂, ◌∙◌, subst, arith, append-nil, length-append}
 use mathlib.Core.Option.{Option, none, some}
 use mathlib.Core.List.{append_assoc}
 use lib.ListN.{get_elem?}
@@ -8,7 +8,7 @@ use Rattle.std.proofs.lemmas.List.Sums.{sum_by-append}
 use Rattle.ppq_extract.specs.ppq_outside.Shown.{Shown}
 use Rattle.ppq_extract.specs.ppq_array.declared.berth.DeviceBlock.{DeviceBlock}
 use Rattle.ppq_extract.specs.ppq_array.Owner.{slots_shown}
-use Rattle.ppq_extract.specs.ppq_array.Kept.{SameSlots, weight_at}
+use Rattle.ppq_extract.specs.ppq_array.Kept.{SameSlots, weight_at, all_writes}
 use Rattle.ppq_spill.specs.declared.body.PassBody.{PassBody}
 use Rattle.ppq_spill.proofs.SameSlots.{SameSlots-refl}
 use Rattle.ppq_row.specs.Known.{Known as RowKnown}
@@ -95,6 +95,10 @@ module _ {S R : Type 0} {shown : S → Shown} {width records : ℕ} {shared : Sh
         ap₂ (λ (xs : List (DeviceBlock S R)) (ps : List ℕ). slots_shown shown (items_at xs ps)) kept.items kept.since.places
         ∙ ap (slots_shown shown) (items_at-append p.row_seat.hand.items p.row_seat.hand.places kept.since.more)
         ∙ map-append (λ (b : DeviceBlock S R). shown b.slot) (items_at p.row_seat.hand.items p.row_seat.hand.places) (items_at p.row_seat.hand.items kept.since.more)
+
+    -- they were written no less often
+    pub drawn_more : all_writes (drawn_of shown p) ≤ all_writes (drawn_of shown q)
+    drawn_more = omega (arith, ap all_writes all_drawn, sum_by-append (λ (s : Shown). s.writes) (drawn_of shown p) drew)
 
     held : SameSlots (slots_of shown a p ++ drew) (slots_of shown b q)
     held =

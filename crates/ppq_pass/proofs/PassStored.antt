@@ -36,8 +36,8 @@ use Rattle.ppq_pass.proofs.PassKeeps.{heap_small}
 use Rattle.ppq_pass.proofs.PassReady.{AtStore}
 use Rattle.ppq_pass.proofs.PassSlots.{still_tell, tell_before, same_quiet}
 
-module _ {S R : Type 0} {shown : S → Shown} {cmp : R → R → Ordering} {record_of : List ℕ → R} {width : ℕ} {n : Numbers} {heap : Contents R} {a : PassBody S R} {p : PassParts S R} {begun accepted : ℕ} {refused : Bool} {failed : Option ℕ} {v : PassHolding S R} {shared : Shared S R} {sorted : List R}
-    (at : AtStore shown cmp record_of width n heap a p begun accepted refused failed v shared sorted) {b : PassBody S R} {q : PassParts S R} (kept : StoreKept shown width (length sorted) shared a b p q)
+module _ {S R : Type 0} {shown : S → Shown} {cmp : R → R → Ordering} {record_of : List ℕ → R} {width : ℕ} {n : Numbers} {heap : Contents R} {a : PassBody S R} {p : PassParts S R} {begun accepted : ℕ} {refused : Bool} {failed : Option ℕ} {stores : ℕ} {v : PassHolding S R} {shared : Shared S R} {sorted : List R}
+    (at : AtStore shown cmp record_of width n heap a p begun accepted refused failed stores v shared sorted) {b : PassBody S R} {q : PassParts S R} (kept : StoreKept shown width (length sorted) shared a b p q)
   where
     abbrev Rises : External S R → Type 0
     Rises a = Ascends cmp (records_in record_of width shown a)

@@ -173,4 +173,4 @@ module _ (S R : RattleType) (slot : Slot.Ghosts S.Denot) (of : Record.Ghosts R.D
     pub pass_sends : IsSend (Pass.the_row S R slot of ord eq le)
     pass_sends =
         view_send _ _ _ _ _ (struct_sends (pass.the_type S R slot of ord eq le)
-        (sizes.the_send, (insertion_heap.the_send R of ord eq le send_R, (body_sends, (option.the_field_send (PassParts.the_row S R slot of ord eq le) parts_send, (u64_sends, (u64_sends, (bool_sends, (option.the_field_send u32 u32_sends, tt)))))))))
+        (sizes.the_send, (insertion_heap.the_send R of ord eq le send_R, (body_sends, (option.the_field_send (PassParts.the_row S R slot of ord eq le) parts_send, (u64_sends, (u64_sends, (bool_sends, (option.the_field_send u32 u32_sends, (u64_sends, tt))))))))))

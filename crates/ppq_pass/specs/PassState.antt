@@ -9,11 +9,14 @@ use Rattle.ppq_extract.specs.ppq_array.declared.berth.DeviceBlock.{DeviceBlock}
 use Rattle.ppq_extract.specs.ppq_array.Run.{Run, run_of, items_of, buffers_of}
 use Rattle.ppq_extract.specs.ppq_array.External.{External, size_of, records_in}
 use Rattle.ppq_extract.specs.ppq_array.Supply.{Stock}
-use Rattle.ppq_extract.specs.ppq_array.Kept.{SameSlots, HasFailed, AreQuiet, all_writes}
+use Rattle.ppq_extract.specs.ppq_array.Kept.{SameSlots, HasFailed, AreQuiet, all_writes, all_reads}
 use Rattle.ppq_extract.specs.ppq_array.Owner.{slots_shown}
 use Rattle.ppq_extract.specs.ppq_array.Holdings.{RunHasBlock, ArrayHasSize, CanTakeBack}
 use Rattle.ppq_extract.specs.ppq_fetch.Fetching.{IsFitting, count_in}
+use Rattle.ppq_spill.specs.ppq_counts.Tally.{tally}
+use Rattle.ppq_spill.specs.ppq_counts.Account.{Account, beside, IsCountedFrom}
 use Rattle.ppq_spill.specs.Body.{held_by}
+use Rattle.ppq_spill.specs.Costing.{body_account}
 use Rattle.ppq_spill.specs.Storing.{HasOneSize, in_buffers}
 use Rattle.ppq_spill.specs.Untold.{SameUntold}
 use Rattle.ppq_spill.specs.declared.body.PassBody.{PassBody}
@@ -100,7 +103,17 @@ module _ {S R : Type 0} where
       pub stash : length parts.stash * n.block ≤ length heap.items + in_buffers body
       pub whole : refused ≡ true → heap_of n ≤ length heap.items + count_in body.runs.internal.items body.runs.external.items
 
-    -- both, of parts that are there
-    abbrev pub IsPassing : (R → R → Ordering) → (List ℕ → R) → ℕ → Numbers → Contents R → PassBody S R → Option (PassParts S R) → ℕ → ℕ → Bool → Option ℕ → Type 0
-    IsPassing cmp record_of width n heap body (Some parts) begun accepted refused failed = IsPassed width n heap body parts refused failed × (failed ≡ None → IsSoundPass cmp record_of width n heap body parts begun accepted refused)
-    IsPassing cmp record_of width n heap body None begun accepted refused failed = ⊥
+    -- what was written of the slots that a pass holds, and what its runs and the records in memory may still cost
+    abbrev pub pass_account : Numbers → Contents R → PassBody S R → PassParts S R → Account
+    pass_account n heap body parts = beside (length heap.items) (body_account n.block (slots_of shown body parts) body)
+
+    -- The records that it accepted and the stores that it began pay for what was written of its slots since it drew them, beside the records that
+    -- it had in the beginning; and no more blocks of them were read than written, while their counts are exact
+    abbrev pub IsPassCounted : Numbers → Contents R → PassBody S R → PassParts S R → ℕ → ℕ → ℕ → Option ℕ → Type 0
+    IsPassCounted n heap body parts begun accepted stores failed = IsCountedFrom n.workers n.block begun (all_writes (drawn_of parts)) (all_reads (drawn_of parts)) (failed ≡ None) (tally accepted stores 0) (pass_account n heap body parts)
+
+    -- all three, of parts that are there
+    abbrev pub IsPassing : (R → R → Ordering) → (List ℕ → R) → ℕ → Numbers → Contents R → PassBody S R → Option (PassParts S R) → ℕ → ℕ → Bool → Option ℕ → ℕ → Type 0
+    IsPassing cmp record_of width n heap body (Some parts) begun accepted refused failed stores =
+        IsPassed width n heap body parts refused failed × (failed ≡ None → IsSoundPass cmp record_of width n heap body parts begun accepted refused) × IsPassCounted n heap body parts begun accepted stores failed
+    IsPassing cmp record_of width n heap body None begun accepted refused failed stores = ⊥

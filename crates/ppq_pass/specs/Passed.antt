@@ -1,5 +1,5 @@
 -- What contracts see of a pass.
-use Rattle.std.specs.Prelude.{◌≡◌, ℕ, ◌+◌, ◌*◌, ◌<◌, ◌≤◌, Bool, true, false, List, [], ◌∷◌, ◌++◌, length, flat_map, All, Option, Some, None}
+use Rattle.std.specs.Prelude.{◌≡◌, ℕ, ◌+◌, ◌-◌, ◌*◌, ◌<◌, ◌≤◌, Bool, true, false, cond, nat_lt, min, List, [], ◌∷◌, ◌++◌, length, flat_map, All, Option, Some, None, Result, OnOk, OnErr}
 use Rattle.atomic_table.specs.Seated.{TableId}
 use Rattle.ppq_pool.specs.ppq_table.Sums.{times}
 use Rattle.ppq_pool.specs.ppq_record.Bag.{IsSameBag}
@@ -12,6 +12,7 @@ use Rattle.ppq_extract.specs.ppq_array.Kept.{SameSlots, HasFailed, AreQuiet}
 use Rattle.ppq_extract.specs.ppq_array.Owner.{slots_shown}
 use Rattle.ppq_extract.specs.ppq_array.Holdings.{internal_items}
 use Rattle.ppq_extract.specs.ppq_fetch.Fetching.{count_in}
+use Rattle.ppq_spill.specs.ppq_counts.Tally.{Tally, tally, last, IsBacked}
 use Rattle.ppq_spill.specs.Body.{body_slots, held_by}
 use Rattle.ppq_spill.specs.Storing.{in_buffers}
 use Rattle.ppq_spill.specs.declared.body.PassBody.{PassBody}
@@ -40,7 +41,8 @@ pub record PassKey (S R : Type 0) : Type 0 where
 -- heap, and how many in runs in buffers. All slots that it holds, in its runs and its stash, and how many the stash has; all that it drew,
 -- as they were put into the row. How many buffers of a block it holds, in its runs and two that are idle, and the numbers that its seat of
 -- the pool holds. Whether it knows that the row is drawn to its end, and how many steps it took at what is shared. How many of its pushes
--- answered Ok, whether one answered NoFreeBlock, and the number of the slot a call of which failed first, if any
+-- answered Ok, whether one answered NoFreeBlock, and the number of the slot a call of which failed first, if any. How many stores of its full
+-- heap it began, whatever came of them; that number saturates
 pub record PassHolding (S R : Type 0) : Type 0 where
   pub key : PassKey S R
   pub bag : List R
@@ -57,6 +59,7 @@ pub record PassHolding (S R : Type 0) : Type 0 where
   pub accepted : ℕ
   pub refused : Bool
   pub failed : Option ℕ
+  pub stores : ℕ
 
 module _ {S R : Type 0} where
   -- the pass is of the session that shares these
@@ -78,12 +81,12 @@ module _ {S R : Type 0} where
 
   -- A store found too few slots: the row is drawn to its end, and the stash has fewer than the records of the heap and of the runs in
   -- buffers want. The slots that it drew stay with it, and no record went. It gave back each buffer that it took. Its steps at what is shared are
-  -- counted
+  -- counted, and so is the store
   pub record FoundNone (old new : PassHolding S R) : Type 0 where
     pub bag : IsSameBag new.bag old.bag
     pub noted : new.noted ≡ true
     pub few : new.stash * old.key.sizes.block < heap_of old.key.sizes + old.in_buffers
-    pub rest : new ≡ record old { bag = new.bag; slots = new.slots; stash = new.stash; drawn = new.drawn; numbers = new.numbers; noted = true; steps = new.steps; refused = true }
+    pub rest : new ≡ record old { bag = new.bag; slots = new.slots; stash = new.stash; drawn = new.drawn; numbers = new.numbers; noted = true; steps = new.steps; refused = true; stores = new.stores }
 
   -- The slots that it holds are those that it held and those that it drew since, each once; no count of a slot fell. Nor did that of its
   -- steps at what is shared
@@ -115,11 +118,32 @@ module _ {S R : Type 0} where
     pub sound : new.failed ≡ None
     pub stored : new.in_heap ≡ 1
 
-  -- Whatever a push answers: slots go on telling, the pass has those that it had and those that it drew, and its key stays
+  -- Whatever a push that stores the heap first answers: slots go on telling, the pass has those that it had and those that it drew, its key
+  -- stays, and one store more was begun
   pub record PushKeeps (shown : S → Shown) (old new : PassHolding S R) : Type 0 where
     pub tells : PassTells shown old → PassTells shown new
     pub kept : KeptSlots old new
     pub key : new.key ≡ old.key
+    pub stores : new.stores ≡ min (old.stores + 1) last
+
+  -- what it counts, as the numbers of a queue: it begins no session
+  abbrev pub tally_of : PassHolding S R → Tally
+  tally_of pass = tally pass.accepted pass.stores 0
+
+  -- it began stores with records that it accepted or had in the beginning alone: those of all its stores, and those in its heap, are no more
+  abbrev pub IsBackedPass : PassHolding S R → Type 0
+  IsBackedPass pass = IsBacked (heap_of pass.key.sizes) pass.key.begun pass.in_heap (tally_of pass)
+
+  -- the same without the records of a full heap, where the last store was not made
+  abbrev pub IsBackedPassWithout : PassHolding S R → Type 0
+  IsBackedPassWithout pass = IsBacked (heap_of pass.key.sizes) pass.key.begun (pass.in_heap - heap_of pass.key.sizes) (tally_of pass)
+
+  -- What a push with this answer counts: where no fault was met before and the heap is full, one store more was begun. Its stores were begun
+  -- with records that it accepted or had in the beginning alone; after a push that was refused they are without those of the full heap
+  pub record CountsPassPush {T E : Type 0} (old new : PassHolding S R) (result : Result T E) : Type 0 where
+    pub stores : old.failed ≡ None → new.stores ≡ cond (nat_lt old.in_heap (heap_of old.key.sizes)) old.stores (min (old.stores + 1) last)
+    pub backed : OnOk result (IsBackedPass old → IsBackedPass new)
+    pub unbacked : OnErr result (IsBackedPass old → IsBackedPassWithout new)
 
   -- What always holds of a pass: its sizes are in range, and its heap is within them. The slots that it holds are those that it drew. It
   -- holds the buffers whose numbers its seat of the pool holds, and two more. The numbers are of buffers of the pool, each once, and the pool
@@ -172,6 +196,7 @@ module _ {S R : Type 0} where
         accepted = 0;
         refused = false;
         failed = None;
+        stores = 0;
       }
 
   module _ (shown : S → Shown) where
@@ -184,8 +209,8 @@ module _ {S R : Type 0} where
     runs_bag record_of width body = internal_items body.runs.internal.items ++ flat_map (records_in record_of width shown) body.runs.external.items
 
     -- what a pass with these parts shows
-    abbrev pub holding_of : (List ℕ → R) → ℕ → Numbers → Contents R → PassBody S R → PassParts S R → ℕ → ℕ → Bool → Option ℕ → PassHolding S R
-    holding_of record_of width sizes heap body parts begun accepted refused failed =
+    abbrev pub holding_of : (List ℕ → R) → ℕ → Numbers → Contents R → PassBody S R → PassParts S R → ℕ → ℕ → Bool → Option ℕ → ℕ → PassHolding S R
+    holding_of record_of width sizes heap body parts begun accepted refused failed stores =
         record {
           key = key_of sizes begun parts.row_seat parts.pool_seat;
           bag = heap.items ++ runs_bag record_of width body;
@@ -202,12 +227,13 @@ module _ {S R : Type 0} where
           accepted = accepted;
           refused = refused;
           failed = failed;
+          stores = stores;
         }
 
     -- the same; nothing where the parts are away, as within a call
-    abbrev pub shown_holding : (List ℕ → R) → ℕ → Numbers → Contents R → PassBody S R → Option (PassParts S R) → ℕ → ℕ → Bool → Option ℕ → PassHolding S R
-    shown_holding record_of width sizes heap body (Some parts) begun accepted refused failed = holding_of record_of width sizes heap body parts begun accepted refused failed
-    shown_holding record_of width sizes heap body None begun accepted refused failed =
+    abbrev pub shown_holding : (List ℕ → R) → ℕ → Numbers → Contents R → PassBody S R → Option (PassParts S R) → ℕ → ℕ → Bool → Option ℕ → ℕ → PassHolding S R
+    shown_holding record_of width sizes heap body (Some parts) begun accepted refused failed stores = holding_of record_of width sizes heap body parts begun accepted refused failed stores
+    shown_holding record_of width sizes heap body None begun accepted refused failed stores =
         record {
           key = record {
             row = no_table;
@@ -232,6 +258,7 @@ module _ {S R : Type 0} where
           accepted = 0;
           refused = false;
           failed = None;
+          stores = 0;
         }
       where
         no_table : TableId

@@ -23,4 +23,6 @@ pub struct PassHeld<S: Slot, R: Record> {
     pub refused: bool,
     /// The number of the slot a call of which failed first.
     pub failed: Option<u32>,
+    /// How many stores of its full heap it began, whatever came of them.
+    pub stores: u64,
 }

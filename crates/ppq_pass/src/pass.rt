@@ -5,8 +5,8 @@ ghost use Rattle.ppq_extract.specs.ppq_budget.Sizes.{heap_of, pool_of};
 ghost use Rattle.ppq_extract.specs.ppq_array.Owner.{HasSize};
 ghost use Rattle.ppq_spill.specs.Body.{IsNewBody};
 ghost use Rattle.ppq_pool.specs.Seats.{count_of};
-ghost use Rattle.ppq_pass.specs.Passed.{IsOf, PassTells, KeptSlots, PutAfterStore, PushKeeps, with_one, IsRefusedPush, IsKnown, holding_of, new_holding};
-ghost use Rattle.ppq_pass.specs.PassState.{IsPassed, IsSoundPass};
+ghost use Rattle.ppq_pass.specs.Passed.{IsOf, PassTells, KeptSlots, PutAfterStore, PushKeeps, CountsPassPush, with_one, IsRefusedPush, IsKnown, holding_of, new_holding};
+ghost use Rattle.ppq_pass.specs.PassState.{IsPassed, IsSoundPass, IsPassCounted};
 ghost use Rattle.ppq_extract.specs.ppq_array.declared.store_fault.StoreFault.TheVariants.{Device};
 
 use crate::store::store_run;
@@ -27,7 +27,7 @@ use std::marker::Model;
 /// Contracts see its key, which no call changes; the multiset of its records, as far as slots tell, and how
 /// many they are; all slots and how many buffers it holds; how many steps it took at the row and the
 /// pool, which it shares with others; how many pushes were accepted, and whether one was refused for
-/// want of blocks; and the slot that failed.
+/// want of blocks; the slot that failed; and how many stores of its full heap it began.
 #[derive(Drop)]
 pub struct Pass<S: Slot, R: Record> {
     /// The five numbers from which all sizes follow.
@@ -46,6 +46,8 @@ pub struct Pass<S: Slot, R: Record> {
     refused: bool,
     /// The slot that failed first; from then on every push says so.
     failed: Option<u32>,
+    /// How many stores of the full heap were begun. It saturates at 2^64 - 1.
+    stores: u64,
 }
 
 impl<S: Slot, R: Record> Model for Pass<S, R> {
@@ -54,9 +56,9 @@ impl<S: Slot, R: Record> Model for Pass<S, R> {
 
     ghost Value = { PassHolding S R };
 
-    ghost view = { λ p. shown_holding S.shown R.record_of R.WIDTH p.sizes p.heap p.body p.parts p.begun p.accepted p.refused p.failed };
+    ghost view = { λ p. shown_holding S.shown R.record_of R.WIDTH p.sizes p.heap p.body p.parts p.begun p.accepted p.refused p.failed p.stores };
 
-    ghost invariant = { λ p. IsPassing S.shown R.Ord.cmp R.record_of R.WIDTH p.sizes p.heap p.body p.parts p.begun p.accepted p.refused p.failed };
+    ghost invariant = { λ p. IsPassing S.shown R.Ord.cmp R.record_of R.WIDTH p.sizes p.heap p.body p.parts p.begun p.accepted p.refused p.failed p.stores };
 }
 
 impl<S: Slot, R: Record> Pass<S, R> {
@@ -108,6 +110,7 @@ impl<S: Slot, R: Record> Pass<S, R> {
             accepted: 0,
             refused: false,
             failed: None,
+            stores: 0,
         }
     }
 
@@ -141,6 +144,10 @@ impl<S: Slot + Send, R: Record + Send> Pass<S, R> {
     /// and changes nothing, the heap is full, so that `try_push` returns `Full`, and `accepted` and `refused`
     /// return what they did. Whatever it returns, the pass holds the slots that it held and those that it
     /// drew, each once.
+    ///
+    /// A push that finds the heap full counts one store more, whatever comes of it, unless a call of a slot
+    /// failed before. The records of all stores that a pass counted are among those that it accepted and
+    /// those that it had in the beginning.
     pub fn push<H: Host>(
         &mut self,
         rt: &H,
@@ -163,6 +170,7 @@ impl<S: Slot + Send, R: Record + Send> Pass<S, R> {
         ensures tells { PassTells S.shown self.old → PassTells S.shown self.new }
         ensures kept { KeptSlots self.old self.new }
         ensures key { self.new.key ≡ self.old.key }
+        ensures counted { CountsPassPush self.old self.new result }
     {
         if let Some(number) = self.failed {
             return Err((r, StoreFault::Device { number }));
@@ -177,7 +185,8 @@ impl<S: Slot + Send, R: Record + Send> Pass<S, R> {
         }
     }
 
-    // Stores a full heap as a run, and puts a record into the emptied heap.
+    // Stores a full heap as a run, and puts a record into the emptied heap. The store is counted before it is
+    // tried.
     fn store_and_put<H: Host>(
         &mut self,
         rt: &H,
@@ -197,6 +206,7 @@ impl<S: Slot + Send, R: Record + Send> Pass<S, R> {
         let Some(parts) = self.parts.take() else {
             unreachable!()
         };
+        self.stores = self.stores.saturating_add(1);
         self.heap.sort_in_place();
         let (parts, answer) = store_run(rt, shared, &mut self.body, parts, self.heap.as_slice());
         self.parts = Some(parts);
@@ -252,11 +262,14 @@ impl<S: Slot, R: Record> Pass<S, R> {
         let _ = &self.sizes;
     }
 
-    /// All that the pass has, for the end of its session.
+    /// All that the pass has, for the end of its session. What it counted pays for what was written of its
+    /// slots since it drew them, and no more blocks of them were read than written, while their counts are
+    /// exact.
     pub fn into_parts(self) -> PassHeld<S, R>
-        ensures shows { holding_of S.shown R.record_of R.WIDTH self.key.sizes result.heap result.body result.parts result.begun result.accepted result.refused result.failed ≡ self }
+        ensures shows { holding_of S.shown R.record_of R.WIDTH self.key.sizes result.heap result.body result.parts result.begun result.accepted result.refused result.failed result.stores ≡ self }
         ensures always { IsPassed S.shown R.WIDTH self.key.sizes result.heap result.body result.parts result.refused result.failed }
         ensures sound { self.failed ≡ None → IsSoundPass S.shown R.Ord.cmp R.record_of R.WIDTH self.key.sizes result.heap result.body result.parts result.begun result.accepted result.refused }
+        ensures counted { IsPassCounted S.shown self.key.sizes result.heap result.body result.parts result.begun result.accepted result.stores result.failed }
     {
         let Pass {
             sizes: _,
@@ -267,6 +280,7 @@ impl<S: Slot, R: Record> Pass<S, R> {
             accepted,
             refused,
             failed,
+            stores,
         } = self;
         let Some(parts) = parts else { unreachable!() };
         PassHeld {
@@ -277,6 +291,7 @@ impl<S: Slot, R: Record> Pass<S, R> {
             accepted,
             refused,
             failed,
+            stores,
         }
     }
 }

@@ -1,5 +1,6 @@
 //! Storing a sorted heap as a run of a pass.
 ghost use Rattle.std.specs.Prelude.{◌<◌, ℕ, length, OnOk, IsErrOf};
+ghost use Rattle.ppq_spill.specs.Costing.{StorePays};
 ghost use Rattle.ppq_spill.specs.Storing.{MayStore, RunsAscend, IsStored, NoneFree, DeviceFailed};
 ghost use Rattle.ppq_pass.specs.Passing.{IsPass};
 ghost use Rattle.ppq_pass.specs.PassState.{stock_of};
@@ -25,6 +26,7 @@ where
     requires room { MayStore S.shown R.WIDTH (length sorted.now) body.old (stock_of S.shown parts) }
     requires ascend { RunsAscend R.Ord.cmp S.shown sorted.now body.old (stock_of S.shown parts) }
     ensures kept { StoreKept S.shown R.WIDTH (length sorted.now) shared.now body.old body.new parts result.0 }
+    ensures counted { StorePays S.shown result.1 (length sorted.now) body.old body.new (stock_of S.shown parts) (stock_of S.shown result.0) }
     ensures stored { OnOk result.1 (IsStored R.Ord.cmp R.record_of R.WIDTH S.shown sorted.now body.old body.new (stock_of S.shown parts) (stock_of S.shown result.0)) }
     ensures none_free { IsErrOf result.1 StoreFault.NoFreeBlock → NoneFree (length sorted.now) body.old body.new (stock_of S.shown parts) (stock_of S.shown result.0) }
     ensures device { (number : ℕ) → IsErrOf result.1 (StoreFault.Device number) → DeviceFailed S.shown number body.new (stock_of S.shown result.0) }

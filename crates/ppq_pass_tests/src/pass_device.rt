@@ -268,3 +268,32 @@ where
 fn a_refused_push_keeps_heap_and_slots(rt: HostRuntime) {
     refuses_one(&rt, rt.alloc())
 }
+
+// How many stores of its full heap a pass began.
+fn stores_of(pass: Pass<MemSlot, Pair>) -> u64 {
+    let held = pass.into_parts();
+    let stores = held.stores;
+    end_held(held);
+    stores
+}
+
+// How many stores a pass began that stored five full heaps and was refused the sixth, and how many one
+// that pushed nothing.
+fn stores_of_both<H: Host + Abort>(rt: &H, alloc: Global) -> (u64, u64)
+where
+    H::Dir: Send,
+{
+    let Session {
+        shared,
+        one: mut pass,
+        other,
+    } = two_passes(rt, alloc);
+    push_until_refused(rt, &shared, &mut pass);
+    end_shared(shared);
+    (stores_of(pass), stores_of(other))
+}
+
+#[test]
+fn stores_are_counted_also_one_that_is_refused(rt: HostRuntime) {
+    assert!(rt; stores_of_both(&rt, rt.alloc()) == (6, 0));
+}

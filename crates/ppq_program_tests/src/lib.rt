@@ -13,3 +13,5 @@ mod memory;
 mod report;
 #[cfg(test)]
 mod scripts;
+#[cfg(test)]
+mod transfers;

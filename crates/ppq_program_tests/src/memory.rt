@@ -18,6 +18,10 @@ pub const SIZES: &str = "run s --device d --blocks 200 --workers 2 --block 2 --h
 /// A file of two records, `5 1` and `3 9`.
 pub const TWO: &[u8] = b"\0\0\0\0\0\0\0\x05\0\0\0\0\0\0\0\x01\0\0\0\0\0\0\0\x03\0\0\0\0\0\0\0\x09";
 
+/// A file of two records of three numbers, `5 1 2` and `3 9 4`.
+pub const TRIPLES: &[u8] =
+    b"\0\0\0\0\0\0\0\x05\0\0\0\0\0\0\0\x01\0\0\0\0\0\0\0\x02\0\0\0\0\0\0\0\x03\0\0\0\0\0\0\0\x09\0\0\0\0\0\0\0\x04";
+
 /// A record `7 7`.
 pub const SEVEN: &[u8] = b"\0\0\0\0\0\0\0\x07\0\0\0\0\0\0\0\x07";
 
@@ -46,8 +50,8 @@ pub fn repeated(
     all
 }
 
-/// A library with the script `s`, an empty file `e`, the file `f` of two records, the file `sevens` of so many
-/// records `7 7`, and the file `long` of 33 bytes.
+/// A library with the script `s`, an empty file `e`, the file `f` of two records, the file `triples` of two records of
+/// three numbers, the file `sevens` of so many records `7 7`, and the file `long` of 33 bytes.
 pub fn library_of(rt: &impl Abort, alloc: Global, script: &[u8], sevens: usize) -> MemLibrary
     ensures { ⟦<MemLibrary as Library>⟧.faults result ≡ 0 }
 {
@@ -56,6 +60,7 @@ pub fn library_of(rt: &impl Abort, alloc: Global, script: &[u8], sevens: usize) 
     library.add(alloc, "s", script).expect(rt, "memory");
     library.add(alloc, "e", b"").expect(rt, "memory");
     library.add(alloc, "f", TWO).expect(rt, "memory");
+    library.add(alloc, "triples", TRIPLES).expect(rt, "memory");
     library.add(alloc, "sevens", &bytes).expect(rt, "memory");
     library.add(alloc, "long", &[0; 33]).expect(rt, "memory");
     library

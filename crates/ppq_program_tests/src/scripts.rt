@@ -157,6 +157,11 @@ const HEADED: &[(&[u8], &[u8])] = &[
         b"ppq 2 triple down\npush 1 2 4\npush 1 2 3\npush 1 3 0\ngen 1 1\nbulk_pop 3\ndrain 9\nsize\n",
         b"7806831264735756412 0 1\n1 3 0\n1 2 4\ncount 1 first 1 2 3 last 1 2 3 sum 1\n0\n",
     ),
+    // a file of such records
+    (
+        b"ppq 2 triple up\nbulk triples\nbulk_pop 9\nsize\n",
+        b"3 9 4\n5 1 2\n0\n",
+    ),
     // the head that a script without one has
     (b"ppq 2 pair up\nbulk f\npop\npop\n", b"3 9\n5 1\n"),
     // sessions
@@ -313,6 +318,13 @@ const RUNS: &[(&str, &[u8], End, &[u8])] = &[
         b"ppq 2 triple up\npush 1 2 3\npop\npop\n",
         End::Done,
         b"\0\0\0\x18\0\0\0\0\0\0\0\x01\0\0\0\0\0\0\0\x02\0\0\0\0\0\0\0\x03\0\0\0\x01e",
+    ),
+    // and what was drained of them one of 64
+    (
+        "run s --device d --blocks 200 --workers 2 --block 2 --heap 1 --memory 372 --form bytes",
+        b"ppq 2 triple up\nbulk triples\ndrain 9\n",
+        End::Done,
+        b"\0\0\0\x40\0\0\0\0\0\0\0\x02\0\0\0\0\0\0\0\x03\0\0\0\0\0\0\0\x09\0\0\0\0\0\0\0\x04\0\0\0\0\0\0\0\x05\0\0\0\0\0\0\0\x01\0\0\0\0\0\0\0\x02\0\0\0\0\0\0\0\x08",
     ),
     // a pass is one of the workers
     (

@@ -15,7 +15,7 @@ use Rattle.ppq_extract.specs.ppq_fetch.Fetching.{blocks_in}
 use Rattle.ppq_spill.specs.Body.{job_slots}
 use Rattle.ppq_spill.specs.declared.body.PassBody.{PassBody}
 use Rattle.ppq_queue.specs.Resting.{AtRest, runs_bag, lane_buffers, count_of, slots_of, odd_in, IsShort}
-use Rattle.ppq_queue.proofs.Counts.{arrays_length, runs_some, runs_fit, internal_count, stored_slots, arrays_fit, arrays_written}
+use Rattle.ppq_queue.proofs.Amounts.{arrays_length, runs_some, runs_fit, internal_count, stored_slots, arrays_fit, arrays_written}
 use Rattle.ppq_queue.proofs.Odd.{arrays_full, runs_most}
 
 -- the pool is within the budget

@@ -1,5 +1,5 @@
 -- A queue after a call of its store, whatever was answered.
-use Rattle.std.proofs.Common.{◌≡◌, ℕ, ◌+◌, ◌-◌, ◌<◌, ◌≤◌, List, [], length, min, Bool, Option, None, Some, refl, sym, ap, ◌∙◌, subst, arith, inl, inr}
+use Rattle.std.proofs.Common.{◌≡◌, ℕ, ◌+◌, ◌-◌, ◌<◌, ◌≤◌, List, [], length, min, Bool, true, false, Option, None, Some, refl, sym, ap, ◌∙◌, subst, arith, inl, inr}
 use Rattle.std.specs.Prelude.{◌⊎◌, Result, Ok, Err, OnOk, OnErr, IfErr, IsErrOf, IsErrAnd}
 use Rattle.std.specs.declared.cmp.Ordering.{Ordering}
 use Rattle.std.specs.declared.cmp.Ordering.TheVariants.{Equal}
@@ -13,6 +13,9 @@ use Rattle.ppq_extract.specs.ppq_budget.Sizes.{batch_of}
 use Rattle.ppq_extract.specs.ppq_array.Kept.{HasFailed}
 use Rattle.ppq_extract.specs.ppq_array.declared.store_fault.StoreFault.{StoreFault}
 use Rattle.ppq_extract.specs.ppq_array.declared.store_fault.StoreFault.TheVariants.{NoFreeBlock, Device}
+use Rattle.ppq_spill.specs.ppq_counts.Account.{IsCounted}
+use Rattle.ppq_spill.specs.ppq_counts.Tally.{Tally, beginning}
+use Rattle.ppq_queue.specs.Paying.{heaps_account}
 use Rattle.ppq_queue.specs.Resting.{IsShort}
 use Rattle.ppq_queue.specs.State.{IsQueue, IsSound}
 use Rattle.ppq_queue.specs.Stores.{HeapsStay, StoreKept, StoreLeaves, HeapsLeave, MayWork, Holds, Lacks, Refuses, stored, slots_in, whole_bag}
@@ -21,13 +24,14 @@ use Rattle.ppq_queue.specs.Out.{Listed, listed}
 use Rattle.ppq_queue.specs.Handed.{viewed, QueueStands}
 use Rattle.ppq_queue.specs.Holding.{Holding, IsAbove, IsRefusal, FoundNoBlock, Keeps, SameRecords, QueueLeaves, latched}
 use Rattle.ppq_queue.specs.declared.store.Store.{Store}
+use Rattle.ppq_queue.proofs.Accounted.{counted-free, counted-later, pays-fewer}
 use Rattle.ppq_queue.proofs.Moves.{ok-map, ok-map2}
 use Rattle.ppq_queue.proofs.Stores.{heaps-same, holds-beside, refused-beside, err-map, err_of, err_is}
 use Rattle.ppq_queue.proofs.Took.{empty_list}
 use Rattle.ppq_queue.proofs.Ends.{left_is}
-use Rattle.ppq_queue.proofs.Flushed.{fault-kept, queue-moved, short-bounds, device-fault, not_sound, leaves-stopped}
+use Rattle.ppq_queue.proofs.Flushed.{fault-kept, queue-moved, short-bounds, sound-counts, device-fault, not_sound, leaves-stopped}
 
-module _ {S R : Type 0} (shown : S → Shown) (cmp : R → R → Ordering) (record_of : List ℕ → R) (width : ℕ) (x y : Store S R) (h h' : Shares R) (kept : StoreKept shown x y) (heaps : HeapsStay h h') (count peak : ℕ) (limited : Bool) where
+module _ {S R : Type 0} (shown : S → Shown) (cmp : R → R → Ordering) (record_of : List ℕ → R) (width : ℕ) (x y : Store S R) (h h' : Shares R) (kept : StoreKept shown x y) (heaps : HeapsStay h h') (count peak : ℕ) (limited : Bool) (t u : Tally) where
   abbrev Was : Option ℕ → Type 0
   Was failed = IsQueue shown x.sizes h x.extract x.body x.supply count peak failed
 
@@ -45,10 +49,10 @@ module _ {S R : Type 0} (shown : S → Shown) (cmp : R → R → Ordering) (reco
 
   -- what the queue showed, and what it shows
   abbrev from : Holding R
-  from = viewed shown record_of width x h count peak None limited
+  from = viewed shown record_of width x h count peak None limited t
 
   abbrev to : ℕ → Option ℕ → Holding R
-  to less failed = viewed shown record_of width y h' less peak failed limited
+  to less failed = viewed shown record_of width y h' less peak failed limited u
 
   queue-called :
       {T : Type 0} (less : ℕ) (failed : Option ℕ) (r : Result T StoreFault) (hs hs' : List R)
@@ -183,12 +187,12 @@ module _ {T R : Type 0} (was now : Listed R) where
   left-room (Ok v) e = ap (λ l. l.room) e
   left-room (Err f) e = ap (λ l. l.room) e
 
-module _ {S R : Type 0} {shown : S → Shown} {cmp : R → R → Ordering} {record_of : List ℕ → R} {width : ℕ} {x : Store S R} {h : Shares R} {count peak room : ℕ} {failed : Option ℕ} {limited : Bool} (stands : QueueStands shown cmp record_of width x h count peak failed limited room) {old : Holding R} (view : viewed shown record_of width x h count peak failed limited ≡ old) {T : Type 0} {number : ℕ} (is : failed ≡ Some number) where
+module _ {S R : Type 0} {shown : S → Shown} {cmp : R → R → Ordering} {record_of : List ℕ → R} {width : ℕ} {x : Store S R} {h : Shares R} {count peak room : ℕ} {failed : Option ℕ} {limited : Bool} {t : Tally} (stands : QueueStands shown cmp record_of width x h count peak failed limited t room) {old : Holding R} (view : viewed shown record_of width x h count peak failed limited t ≡ old) {T : Type 0} {number : ℕ} (is : failed ≡ Some number) where
   -- a call of a queue that a failed block stopped
   pub stopped : QueueLeaves {T = T} old old (Err (Device number))
   stopped =
       let r : Result T StoreFault = Err (Device number) in
-      subst (λ q. QueueLeaves q q r) view (leaves-stopped (viewed shown record_of width x h count peak failed limited) number is (stands.queue.fault number is))
+      subst (λ q. QueueLeaves q q r) view (leaves-stopped (viewed shown record_of width x h count peak failed limited t) number is (stands.queue.fault number is))
 
   -- the same of a bulk pop
   pub bulk-stopped : {limit : Option R} {most : ℕ} (given : Listed R) {now : Listed R} → now ≡ listed [] given.room → BulkLeaves cmp {T = T} limit most old old given now (Err (Device number))
@@ -201,10 +205,32 @@ module _ {S R : Type 0} {shown : S → Shown} {cmp : R → R → Ordering} {reco
         size = omega (arith, ap (λ l. length l.items) cleared);
         list_room = ap (λ l. l.room) cleared;
         peak = refl;
+        counted = record { counts = refl; heaps = omega arith };
         keeps = stopped.stays.keeps;
       }
 
-module _ {S R : Type 0} {shown : S → Shown} {cmp : R → R → Ordering} {record_of : List ℕ → R} {width : ℕ} {x : Store S R} {h : Shares R} {count peak room : ℕ} {failed : Option ℕ} {limited : Bool} (stands : QueueStands shown cmp record_of width x h count peak failed limited room) (none : failed ≡ None) where
+-- a queue that a failed block stopped stands where a session that is begun counts
+pub stands-stopped :
+    {S R : Type 0} {shown : S → Shown} {cmp : R → R → Ordering} {record_of : List ℕ → R} {width : ℕ} {x : Store S R} {h : Shares R} {count peak room : ℕ} {failed : Option ℕ} {limited limited' : Bool} {t u : Tally} {number : ℕ}
+    → QueueStands shown cmp record_of width x h count peak failed limited t room → failed ≡ Some number → u ≡ beginning t → QueueStands shown cmp record_of width x h count peak failed limited' u room
+stands-stopped {number = number} stands is e = record { queue = stands.queue; sound = λ none. not_sound number (sym is ∙ none); counted = counted-later e stands.counted; slots_room = stands.slots_room }
+
+-- a queue of which a limit session was noted
+pub stands-limited :
+    {S R : Type 0} {shown : S → Shown} {cmp : R → R → Ordering} {record_of : List ℕ → R} {width : ℕ} {x : Store S R} {h : Shares R} {count peak room : ℕ} {failed : Option ℕ} {limited : Bool} {t : Tally}
+    → QueueStands shown cmp record_of width x h count peak failed limited t room → QueueStands shown cmp record_of width x h count peak failed true t room
+stands-limited stands =
+    record {
+      queue = stands.queue;
+      sound = λ none. (let sound = stands.sound none in sound-counts sound sound.counted sound.ascends sound.order (λ more is. limit_known is));
+      counted = stands.counted;
+      slots_room = stands.slots_room;
+    }
+  where
+    limit_known : {P : Type 0} → true ≡ false → P
+    limit_known e = absurd (cc)
+
+module _ {S R : Type 0} {shown : S → Shown} {cmp : R → R → Ordering} {record_of : List ℕ → R} {width : ℕ} {x : Store S R} {h : Shares R} {count peak room : ℕ} {failed : Option ℕ} {limited : Bool} {t : Tally} (stands : QueueStands shown cmp record_of width x h count peak failed limited t room) (none : failed ≡ None) where
   -- the store of a sound queue may work
   pub may_work : MayWork shown cmp record_of width x
   may_work =
@@ -223,84 +249,88 @@ module _ {S R : Type 0} {shown : S → Shown} {cmp : R → R → Ordering} {reco
   was_none : IsQueue shown x.sizes h x.extract x.body x.supply count peak None
   was_none = subst (λ f. IsQueue shown x.sizes h x.extract x.body x.supply count peak f) none stands.queue
 
-  module _ {T : Type 0} (r : Result T StoreFault) {old : Holding R} (view : viewed shown record_of width x h count peak failed limited ≡ old) {failed' : Option ℕ} (late : failed' ≡ latched r failed) where
+  module _ {T : Type 0} (r : Result T StoreFault) {old : Holding R} (view : viewed shown record_of width x h count peak failed limited t ≡ old) {failed' : Option ℕ} (late : failed' ≡ latched r failed) where
     -- a statement of a queue that was sound, of this queue
     told :
-        (y : Store S R) (h' : Shares R) (less : ℕ) (P : Holding R → Holding R → Type 0)
-        → P (viewed shown record_of width x h count peak None limited) (viewed shown record_of width y h' less peak (latched r None) limited) → P old (viewed shown record_of width y h' less peak failed' limited)
-    told y h' less P p =
-        subst (λ q. P q (viewed shown record_of width y h' less peak failed' limited)) (sym (ap (λ f. viewed shown record_of width x h count peak f limited) none) ∙ view)
-        (subst (λ f. P (viewed shown record_of width x h count peak None limited) (viewed shown record_of width y h' less peak f limited)) (sym (late ∙ ap (latched r) none)) p)
+        (y : Store S R) (h' : Shares R) (less : ℕ) (u : Tally) (P : Holding R → Holding R → Type 0)
+        → P (viewed shown record_of width x h count peak None limited t) (viewed shown record_of width y h' less peak (latched r None) limited u) → P old (viewed shown record_of width y h' less peak failed' limited u)
+    told y h' less u P p =
+        subst (λ q. P q (viewed shown record_of width y h' less peak failed' limited u)) (sym (ap (λ f. viewed shown record_of width x h count peak f limited t) none) ∙ view)
+        (subst (λ f. P (viewed shown record_of width x h count peak None limited t) (viewed shown record_of width y h' less peak f limited u)) (sym (late ∙ ap (latched r) none)) p)
 
     -- a call that moved no record out of the queue
     pub called :
-        {y : Store S R} {h' : Shares R}
-        → StoreKept shown x y → HeapsStay h h' → (length (items_of h') < count → IsAbove x.sizes peak limited) → (IsErrOf r NoFreeBlock → IsAbove x.sizes peak limited)
+        {y : Store S R} {h' : Shares R} {u : Tally}
+        → IsCounted x.sizes.workers x.sizes.block (failed' ≡ None) u (heaps_account shown h' y) → StoreKept shown x y → HeapsStay h h' → (length (items_of h') < count → IsAbove x.sizes peak limited) → (IsErrOf r NoFreeBlock → IsAbove x.sizes peak limited)
         → OnOk r (Holds shown cmp record_of width (items_of h) (items_of h') x y) → IfErr r (Refuses shown cmp record_of width (items_of h) (items_of h') x y)
-        → QueueStands shown cmp record_of width y h' count peak failed' limited room × QueueLeaves old (viewed shown record_of width y h' count peak failed' limited) r
-    called {y = y} {h' = h'} kept heaps above why holds refused =
+        → QueueStands shown cmp record_of width y h' count peak failed' limited u room × QueueLeaves old (viewed shown record_of width y h' count peak failed' limited u) r
+    called {y = y} {h' = h'} {u = u} paid kept heaps above why holds refused =
         let sound = stands.sound none in (
           record {
-            queue = subst (λ f. IsQueue shown y.sizes h' y.extract y.body y.supply count peak f) (sym late) (queue-called shown cmp record_of width x y h h' kept heaps count peak limited count failed r (items_of h) (items_of h') (omega arith) stands.queue refused);
-            sound = λ n. sound-called shown cmp record_of width x y h h' kept heaps count peak limited failed r sound above holds refused (sym late ∙ n);
+            queue = subst (λ f. IsQueue shown y.sizes h' y.extract y.body y.supply count peak f) (sym late) (queue-called shown cmp record_of width x y h h' kept heaps count peak limited t u count failed r (items_of h) (items_of h') (omega arith) stands.queue refused);
+            sound = λ n. sound-called shown cmp record_of width x y h h' kept heaps count peak limited t u failed r sound above holds refused (sym late ∙ n);
+            counted = subst (λ n. IsCounted n.workers n.block (failed' ≡ None) u (heaps_account shown h' y)) (sym kept.sizes) paid;
             slots_room = omega (arith, stands.slots_room, ap (λ n. n.blocks) kept.sizes);
           },
-          told y h' count (λ a b. QueueLeaves a b r) (record {
-            same = same-called shown cmp record_of width x y h h' kept heaps count peak limited r holds;
-            refused = refused-called shown cmp record_of width x y h h' kept heaps count peak limited r was_none sound why refused;
+          told y h' count u (λ a b. QueueLeaves a b r) (record {
+            same = same-called shown cmp record_of width x y h h' kept heaps count peak limited t u r holds;
+            refused = refused-called shown cmp record_of width x y h h' kept heaps count peak limited t u r was_none sound why refused;
             latched = λ number e. not_sound number (sym e);
-            stays = record { keeps = keeps-called shown cmp record_of width x y h h' kept heaps count peak limited count (latched r None); size = refl; peak = refl };
+            stays = record { keeps = keeps-called shown cmp record_of width x y h h' kept heaps count peak limited t u count (latched r None); size = refl; peak = refl };
           }),
         )
 
     -- a call beside the heaps
     pub called-beside :
-        {y : Store S R}
-        → StoreKept shown x y → OnOk r (Holds shown cmp record_of width [] [] x y) → IfErr r (Refuses shown cmp record_of width [] [] x y)
-        → QueueStands shown cmp record_of width y h count peak failed' limited room × QueueLeaves old (viewed shown record_of width y h count peak failed' limited) r
-    called-beside {y = y} kept holds refused =
+        {y : Store S R} {u : Tally}
+        → IsCounted x.sizes.workers x.sizes.block (failed' ≡ None) u (heaps_account shown h y) → StoreKept shown x y → OnOk r (Holds shown cmp record_of width [] [] x y) → IfErr r (Refuses shown cmp record_of width [] [] x y)
+        → QueueStands shown cmp record_of width y h count peak failed' limited u room × QueueLeaves old (viewed shown record_of width y h count peak failed' limited u) r
+    called-beside {y = y} {u = u} paid kept holds refused =
         let sound = stands.sound none in
-        called {h' = h} kept heaps-same sound.above (above-some shown cmp record_of width x y h h kept heaps-same count peak limited r sound refused) (ok-map r (λ one. holds-beside (items_of h) one) holds) (err-map r (refused-beside shown cmp record_of width (items_of h) x y) refused)
+        called {h' = h} {u = u} paid kept heaps-same sound.above (above-some shown cmp record_of width x y h h kept heaps-same count peak limited t u r sound refused) (ok-map r (λ one. holds-beside (items_of h) one) holds) (err-map r (refused-beside shown cmp record_of width (items_of h) x y) refused)
 
     pub called-leaves :
-        {y : Store S R} → StoreLeaves shown cmp record_of width [] [] x y r → QueueStands shown cmp record_of width y h count peak failed' limited room × QueueLeaves old (viewed shown record_of width y h count peak failed' limited) r
-    called-leaves one = called-beside one.stays.kept one.holds one.refused
+        {y : Store S R} {u : Tally} → IsCounted x.sizes.workers x.sizes.block (failed' ≡ None) u (heaps_account shown h y) → StoreLeaves shown cmp record_of width [] [] x y r → QueueStands shown cmp record_of width y h count peak failed' limited u room × QueueLeaves old (viewed shown record_of width y h count peak failed' limited u) r
+    called-leaves paid one = called-beside paid one.stays.kept one.holds one.refused
 
     -- a store of heaps
     pub called-heaps :
-        {y : Store S R} {h' : Shares R} → IsAbove x.sizes peak limited → HeapsLeave shown cmp record_of width h h' x y r
-        → QueueStands shown cmp record_of width y h' count peak failed' limited room × QueueLeaves old (viewed shown record_of width y h' count peak failed' limited) r
-    called-heaps above one = called one.leaves.stays.kept one.heaps (λ more. above) (λ err. above) one.leaves.holds one.leaves.refused
+        {y : Store S R} {h' : Shares R} {u : Tally} {runs : ℕ} → IsCounted x.sizes.workers x.sizes.block (failed' ≡ None) u (heaps_account shown h' y) → IsAbove x.sizes peak limited → HeapsLeave shown cmp record_of width runs h h' x y r
+        → QueueStands shown cmp record_of width y h' count peak failed' limited u room × QueueLeaves old (viewed shown record_of width y h' count peak failed' limited u) r
+    called-heaps paid above one = called paid one.leaves.stays.kept one.heaps (λ more. above) (λ err. above) one.leaves.holds one.leaves.refused
 
     -- a bulk pop into a list that was emptied first, and is after an error
     pub bulk-called :
         {y : Store S R} {h' : Shares R} {limit : Option R} {most less : ℕ} (given first was now : Listed R)
         → IsTotalOrder cmp → ((a b : R) → cmp a b ≡ Equal → a ≡ b) → first ≡ listed [] given.room → TakesOut shown cmp record_of width limit most h h' x y first was r → now ≡ left_after r was → less ≡ count - length now.items
-        → QueueStands shown cmp record_of width y h' less peak failed' limited room × BulkLeaves cmp limit most old (viewed shown record_of width y h' less peak failed' limited) given now r
+        → QueueStands shown cmp record_of width y h' less peak failed' limited t room × BulkLeaves cmp limit most old (viewed shown record_of width y h' less peak failed' limited t) given now r
     bulk-called {y = y} {h' = h'} {limit = limit} {most = most} {less = less} given first was now o same cleared takes left fewer =
         let sound = stands.sound none in
         let as_was = left-ok was now r left in
         let gone = left-err was now r left in
         let kept = takes.kept in
         let heaps = takes.heaps in
+        let paid = counted-free none r late stands.counted (pays-fewer (length (items_of h)) (length (items_of h')) heaps.fewer takes.pays) in
         let out = now.items in
         let took = ok-map2 r (λ e all. subst (λ l. TookAll shown cmp record_of width limit most (items_of h) (items_of h') x y l) (sym (ap (λ l. l.items) e)) all) as_was takes.took in
-        let refused = refused-heaps shown cmp record_of width x y h h' kept heaps count peak limited r takes.refused takes.same_heaps in
-        let why = above-some shown cmp record_of width x y h h' kept heaps count peak limited r sound takes.refused in (
+        let refused = refused-heaps shown cmp record_of width x y h h' kept heaps count peak limited t t r takes.refused takes.same_heaps in
+        let why = above-some shown cmp record_of width x y h h' kept heaps count peak limited t t r sound takes.refused in (
           record {
-            queue = subst (λ f. IsQueue shown y.sizes h' y.extract y.body y.supply less peak f) (sym late) (queue-called shown cmp record_of width x y h h' kept heaps count peak limited less failed r [] [] (omega (arith, fewer)) stands.queue takes.refused);
-            sound = λ n. bulk-sound shown cmp record_of width x y h h' kept heaps count peak limited limit most less out fewer failed r sound took takes.refused refused gone (sym late ∙ n);
+            queue = subst (λ f. IsQueue shown y.sizes h' y.extract y.body y.supply less peak f) (sym late) (queue-called shown cmp record_of width x y h h' kept heaps count peak limited t t less failed r [] [] (omega (arith, fewer)) stands.queue takes.refused);
+            sound = λ n. bulk-sound shown cmp record_of width x y h h' kept heaps count peak limited t t limit most less out fewer failed r sound took takes.refused refused gone (sym late ∙ n);
+            counted = subst (λ n. IsCounted n.workers n.block (failed' ≡ None) t (heaps_account shown h' y)) (sym kept.sizes) paid;
             slots_room = omega (arith, stands.slots_room, ap (λ n. n.blocks) kept.sizes);
           },
-          told y h' less (λ a b. BulkLeaves cmp limit most a b given now r) (record {
-            took = front-called shown cmp record_of width x y h h' kept heaps count peak limited limit most less out fewer r o same sound took;
+          told y h' less t (λ a b. BulkLeaves cmp limit most a b given now r) (record {
+            took = front-called shown cmp record_of width x y h h' kept heaps count peak limited t t limit most less out fewer r o same sound took;
             emptied = gone;
-            refused = refused-fewer shown cmp record_of width x y h h' kept heaps count peak limited limit most less out fewer r (latched r None) (refused-called shown cmp record_of width x y h h' kept heaps count peak limited r was_none sound why refused) gone;
+            refused = refused-fewer shown cmp record_of width x y h h' kept heaps count peak limited t t limit most less out fewer r (latched r None) (refused-called shown cmp record_of width x y h h' kept heaps count peak limited t t r was_none sound why refused) gone;
             latched = λ number e. not_sound number (sym e);
             size = fewer;
             list_room = left-room was now r left ∙ takes.list_room ∙ ap (λ l. l.room) cleared;
             peak = refl;
-            keeps = keeps-called shown cmp record_of width x y h h' kept heaps count peak limited less (latched r None);
+            counted = record { counts = refl; heaps = heaps.fewer };
+            keeps = keeps-called shown cmp record_of width x y h h' kept heaps count peak limited t t less (latched r None);
           }),
         )
 
@@ -312,7 +342,7 @@ bulk-at {cmp = cmp} {limit = limit} {old = old} {new = new} {was = was} {now = n
 module _ {R T U : Type 0} {cmp : R → R → Ordering} {limit : Option R} {most : ℕ} {old new : Holding R} {was now : Listed R} where
   -- a bulk pop that returns more
   pub bulk-answered : {v : T} {w : U} → BulkLeaves cmp limit most old new was now (Ok v) → BulkLeaves cmp limit most old new was now (Ok w)
-  bulk-answered one = record { took = one.took; emptied = tt; refused = tt; latched = λ number e. absurd (let odd = (one.latched number e).0 in cc); size = one.size; list_room = one.list_room; peak = one.peak; keeps = one.keeps }
+  bulk-answered one = record { took = one.took; emptied = tt; refused = tt; latched = λ number e. absurd (let odd = (one.latched number e).0 in cc); size = one.size; list_room = one.list_room; peak = one.peak; counted = one.counted; keeps = one.keeps }
 
   -- an error of a bulk pop that is handed on
   pub bulk-given : {r : Result T StoreFault} {e : StoreFault} → IsErrAnd r (λ given. given ≡ e) → BulkLeaves cmp {T = U} limit most old new was now (Err e) → BulkLeaves cmp limit most old new was now r
@@ -326,6 +356,7 @@ module _ {R T U : Type 0} {cmp : R → R → Ordering} {limit : Option R} {most 
         size = one.size;
         list_room = one.list_room;
         peak = one.peak;
+        counted = one.counted;
         keeps = one.keeps;
       }
     where

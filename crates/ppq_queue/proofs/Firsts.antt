@@ -9,13 +9,14 @@ use Rattle.ppq_extract.specs.ppq_outside.Shown.{Shown, AllTell}
 use Rattle.ppq_queue.specs.Stores.{whole_bag}
 use Rattle.ppq_queue.specs.Resting.{runs_bag}
 use Rattle.ppq_queue.specs.Choice.{first_of_two}
+use Rattle.ppq_spill.specs.ppq_counts.Tally.{Tally}
 use Rattle.ppq_queue.specs.Handed.{viewed, QueueStands}
 use Rattle.ppq_queue.specs.Holding.{Holding, IsReady}
 use Rattle.ppq_queue.specs.declared.store.Store.{Store}
 use Rattle.ppq_queue.proofs.Bounds.{bag_length}
 use Rattle.ppq_queue.proofs.Ready.{first_least, none_first}
 
-module _ {S R : Type 0} {shown : S → Shown} {cmp : R → R → Ordering} {record_of : List ℕ → R} {width : ℕ} {x : Store S R} {h : Shares R} {count peak room : ℕ} {failed : Option ℕ} {limited : Bool} {q : Holding R} (stands : QueueStands shown cmp record_of width x h count peak failed limited room) (view : viewed shown record_of width x h count peak failed limited ≡ q) (ready : IsReady q) where
+module _ {S R : Type 0} {shown : S → Shown} {cmp : R → R → Ordering} {record_of : List ℕ → R} {width : ℕ} {x : Store S R} {h : Shares R} {count peak room : ℕ} {failed : Option ℕ} {limited : Bool} {t : Tally} {q : Holding R} (stands : QueueStands shown cmp record_of width x h count peak failed limited t room) (view : viewed shown record_of width x h count peak failed limited t ≡ q) (ready : IsReady q) where
   pub none_failed : failed ≡ None
   none_failed = ap (λ v. v.failed) view ∙ ready.sound
 

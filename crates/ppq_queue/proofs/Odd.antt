@@ -11,7 +11,7 @@ use Rattle.ppq_extract.specs.ppq_array.Run.{items_of}
 use Rattle.ppq_extract.specs.ppq_array.External.{External, size_of}
 use Rattle.ppq_extract.specs.ppq_fetch.Fetching.{blocks_in}
 use Rattle.ppq_queue.specs.Resting.{IsRestingArray, odd_of, odd_in}
-use Rattle.ppq_queue.proofs.Counts.{counts_fit, counts_full, waiting_is}
+use Rattle.ppq_queue.proofs.Amounts.{counts_fit, counts_full, waiting_is}
 
 -- a test of two numbers
 differ_le : (a b : ℕ) → ◌≤◌ (cond (a == b) 0 1) 1

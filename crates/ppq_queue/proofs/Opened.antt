@@ -1,17 +1,26 @@
 -- A new queue: its parts are at rest.
-use Rattle.std.proofs.Common.{◌≡◌, ℕ, ◌-◌, ◌*◌, ◌≤◌, List, [], ◌∷◌, ◌++◌, length, map, Option, None, Some, All, sym, ap, ◌∙◌, subst, arith}
+use Rattle.std.proofs.Common.{◌≡◌, ℕ, ◌-◌, ◌*◌, ◌≤◌, List, [], ◌∷◌, ◌++◌, length, map, Option, None, Some, All, refl, sym, ap, ◌∙◌, subst, arith}
 use Rattle.std.specs.Prelude.{Result, Ok, Err, OnOk, OnErr, is_err, Bool, true, false}
 use Rattle.std.specs.declared.cmp.Ordering.{Ordering}
 use Rattle.std.proofs.lemmas.List.Elements.{All-nil, All-weaker, All-cons, All-head, All-tail}
+use Rattle.std.proofs.lemmas.List.Sums.{sum_by-cons}
 use Rattle.ppq_heap.specs.ppq_record.Order.{Ascends}
+use Rattle.ppq_heap.specs.Heaps.{items_of as items_in}
+use Rattle.ppq_spill.specs.ppq_counts.Tally.{no_tally}
+use Rattle.ppq_spill.specs.ppq_counts.Account.{IsCounted, tolls, hefts, blocks_of}
+use Rattle.ppq_spill.proofs.ppq_counts.Levels.{tolls-sum, hefts-sum, blocks-sum}
+use Rattle.ppq_spill.proofs.ppq_counts.Counted.{counted-none}
+use Rattle.ppq_spill.specs.Storing.{in_buffers}
+use Rattle.ppq_queue.specs.Paying.{whole_account}
 use Rattle.ppq_extract.specs.ppq_outside.Shown.{Shown}
 use Rattle.ppq_extract.specs.ppq_budget.Sizes.{Numbers, AreInRange, fixed_of, pool_of}
 use Rattle.ppq_extract.specs.ppq_block.Block.{Block, holding}
 use Rattle.ppq_extract.specs.ppq_array.Run.{Run, items_of}
-use Rattle.ppq_extract.specs.ppq_array.External.{External, records_in}
+use Rattle.ppq_extract.specs.ppq_array.External.{External, size_of, records_in}
 use Rattle.ppq_extract.specs.ppq_array.Supply.{Stock}
 use Rattle.ppq_extract.specs.ppq_array.Owner.{HasBlock}
-use Rattle.ppq_extract.specs.ppq_array.Holdings.{internal_buffers, external_buffers, external_slots}
+use Rattle.ppq_extract.specs.ppq_array.Holdings.{internal_items, internal_buffers, external_buffers, external_slots}
+use Rattle.ppq_extract.specs.ppq_array.Kept.{all_writes, all_reads}
 use Rattle.ppq_extract.specs.ppq_fetch.Fetching.{fronts_in, count_in}
 use Rattle.ppq_extract.specs.ppq_fetch.Taking.{NoneAfter}
 use Rattle.ppq_spill.specs.Body.{job_slots}
@@ -20,6 +29,15 @@ use Rattle.ppq_queue.specs.Holding.{IsNewSlot}
 use Rattle.ppq_queue.specs.Slots.{with_slots}
 use Rattle.ppq_queue.specs.Resting.{AtRest, IsRestingRun, IsRestingArray, slots_of, runs_bag, count_of, odd_in}
 use Rattle.ppq_queue.specs.State.{IsQueue, IsSound, AreNewParts}
+
+-- slots that were not called yet
+new_writes : (bytes : ℕ) (xs : List Shown) → All (IsNewSlot bytes) xs → all_writes xs ≡ 0
+new_writes bytes [] all = refl
+new_writes bytes (x ∷ xs) all = omega (arith, sum_by-cons (λ (s : Shown). s.writes) x xs, (All-head (IsNewSlot bytes) x xs all).no_write, new_writes bytes xs (All-tail (IsNewSlot bytes) x xs all))
+
+new_reads : (bytes : ℕ) (xs : List Shown) → All (IsNewSlot bytes) xs → all_reads xs ≡ 0
+new_reads bytes [] all = refl
+new_reads bytes (x ∷ xs) all = omega (arith, sum_by-cons (λ (s : Shown). s.reads) x xs, (All-head (IsNewSlot bytes) x xs all).no_read, new_reads bytes xs (All-tail (IsNewSlot bytes) x xs all))
 
 module _ {S R : Type 0} (shown : S → Shown) (n : Numbers) (parts : Parts S R) (is : AreNewParts n parts) (slots : List Shown) (stock : Stock) (e : stock ≡ with_slots parts.store.supply slots (parts.store.supply.slot_room - length slots)) (count : length slots ≡ n.blocks) where
   kept_is : stock.kept ≡ slots
@@ -50,6 +68,21 @@ module _ {S R : Type 0} (shown : S → Shown) (n : Numbers) (parts : Parts S R) 
 
   count_none : count_of parts.store.body ≡ 0
   count_none = ap (λ l. count_in l parts.store.body.runs.external.items) is.body.no_internal ∙ ap (λ l. count_in [] l) is.body.no_external
+
+  -- nothing was written or read, and there are no runs
+  pub counted-opened : {Sound : Type 0} {bytes : ℕ} → All (IsNewSlot bytes) slots → IsCounted n.workers n.block Sound no_tally (whole_account shown n (length (items_in parts.heaps)) parts.store.body stock)
+  counted-opened {Sound = Sound} {bytes = bytes} fresh =
+      let body = parts.store.body in
+      let level : External S R → ℕ = λ a. a.level in
+      let blocks : External S R → ℕ = λ a. length a.stored in
+      let written : all_writes (slots_of shown body stock) ≡ 0 = ap all_writes slots-opened ∙ new_writes bytes slots fresh in
+      let read : all_reads (slots_of shown body stock) ≡ 0 = ap all_reads slots-opened ∙ new_reads bytes slots fresh in
+      let memory : in_buffers body ≡ 0 = ap (λ l. length (internal_items l)) is.body.no_internal in
+      let heap : length (items_in parts.heaps) ≡ 0 = ap length is.no_record in
+      let owed : tolls level size_of n.block body.runs.external.items ≡ 0 = ap (tolls level size_of n.block) is.body.no_external ∙ tolls-sum level size_of n.block [] in
+      let weight : hefts level size_of body.runs.external.items ≡ 0 = ap (hefts level size_of) is.body.no_external ∙ hefts-sum level size_of [] in
+      let stored : blocks_of blocks body.runs.external.items ≡ 0 = ap (blocks_of blocks) is.body.no_external ∙ blocks-sum blocks [] in
+      counted-none n.workers n.block Sound (whole_account shown n (length (items_in parts.heaps)) body stock) (ap (λ k. 7 * (n.block * k)) written ∙ omega arith) (omega (arith, owed, memory, heap)) weight read stored
 
   module _ (cmp : R → R → Ordering) (record_of : List ℕ → R) (width : ℕ) where
     rest-opened : AtRest shown cmp record_of width n parts.store.body stock

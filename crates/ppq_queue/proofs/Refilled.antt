@@ -23,7 +23,7 @@ use Rattle.ppq_extract.specs.Extracted.{sources_of, Refilled}
 use Rattle.ppq_spill.specs.declared.body.PassBody.{PassBody}
 use Rattle.ppq_queue.specs.Resting.{BodyKept, IsRestingRun, IsRestingArray, AllRise, AtRest, Readied, runs_bag, slots_of}
 use Rattle.ppq_queue.proofs.Bounds.{blocks_hold, pool_small, runs_few, idle_most, records_most}
-use Rattle.ppq_queue.proofs.Counts.{fronts_few}
+use Rattle.ppq_queue.proofs.Amounts.{fronts_few}
 use Rattle.ppq_queue.proofs.Odd.{odd_most}
 use Rattle.ppq_queue.proofs.Slots.{slots-no_job, quiet-free}
 use Rattle.ppq_queue.proofs.Moves.{none_after-same, rest-moved}

@@ -45,9 +45,8 @@ module _ {S : Type 0} (shown : S → Shown) where
   pub berths_back :
       (xs mid rest pushed final : List S) (slot : S) (kept : List Shown)
       → mid ≡ reverse xs → map shown (reverse mid) ≡ kept ++ (shown slot ∷ map shown (reverse rest)) → pushed ≡ rest ++ slot ∷ [] → map shown final ≡ map shown pushed ++ kept
-      → SameSlots (map shown xs) (map shown final)
-  berths_back xs mid rest pushed final slot kept e part p end =
-      let sums : SameSums (map shown xs) (map shown final) = λ f.
+      → SameSums (map shown xs) (map shown final)
+  berths_back xs mid rest pushed final slot kept e part p end f =
       omega (
         arith,
         sum-reverse shown f xs,
@@ -62,8 +61,6 @@ module _ {S : Type 0} (shown : S → Shown) where
         ap (sum_by f) end,
         sum_by-append f (map shown pushed) kept,
       )
-      in
-      SameSlots-sums (map shown xs) (map shown final) sums (sym (SameSums-length (map shown xs) (map shown final) sums))
 
 module _ {S R : Type 0} (shown : S → Shown) where
   -- one run more at the end

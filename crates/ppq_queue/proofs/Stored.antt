@@ -22,7 +22,7 @@ use Rattle.ppq_spill.specs.Storing.{in_buffers, NoSlots, MayStore, HasOneSize, L
 use Rattle.ppq_spill.specs.declared.body.PassBody.{PassBody}
 use Rattle.ppq_queue.specs.Resting.{BodyKept, IsRestingRun, IsRestingArray, AllRise, AtRest, Moved, StoreShort, runs_bag, slots_of, odd_in}
 use Rattle.ppq_queue.proofs.Bounds.{pool_within, pool_small, runs_few, idle_most, idle_some, in_buffers_few}
-use Rattle.ppq_queue.proofs.Counts.{internal_count}
+use Rattle.ppq_queue.proofs.Amounts.{internal_count}
 use Rattle.ppq_queue.proofs.Moves.{rest-moved}
 use Rattle.ppq_queue.proofs.Odd.{odd_most}
 use Rattle.ppq_queue.proofs.Slots.{no_row_more, kept-sums, quiet-same}

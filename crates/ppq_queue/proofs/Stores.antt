@@ -21,7 +21,9 @@ use Rattle.ppq_spill.specs.declared.body.PassBody.{PassBody}
 use Rattle.ppq_queue.specs.Resting.{AtRest, BodyKept, Moved, Readied, IsShort, runs_bag, count_of}
 use Rattle.ppq_queue.specs.Stores.{HeapsStay, stored, StoreKept, StoreStays, FailsAlone, RunLeaves, RunRefused, MayWork, Holds, Readies, Lacks, Refuses, StoreLeaves, LevelsLeave, slots_in}
 use Rattle.ppq_queue.specs.declared.store.Store.{Store}
+use Rattle.ppq_spill.proofs.ppq_counts.Accounts.{costs-same, costs-then}
 use Rattle.ppq_queue.proofs.Moves.{kept-refl, kept-trans, none_after-same, short-more}
+use Rattle.ppq_queue.proofs.Paying.{ok_pays, pays_ok, pays-then, pays-given}
 
 -- what a loop says that had no refusal so far
 abbrev pub done : Result ⊤ StoreFault
@@ -198,23 +200,23 @@ module _ {S R : Type 0} {shown : S → Shown} {cmp : R → R → Ordering} {reco
   leaves-beside h {x = x} {y = y} {r = Err e} one = record { stays = one.stays; holds = tt; refused = refused-beside shown cmp record_of width h x y e one.refused }
 
   pub levels-same : {T : Type 0} {v : T} {x : Store S R} → MayWork shown cmp record_of width x → LevelsLeave shown cmp record_of width x x (Ok v)
-  levels-same works = record { leaves = leaves-same works; internal = refl; crowded = λ err. cc }
+  levels-same works = record { leaves = leaves-same works; internal = refl; crowded = λ err. cc; pays = ok_pays (costs-same _) }
 
   pub levels-after :
       {T U : Type 0} {v : U} {x y z : Store S R} {r : Result T StoreFault}
       → LevelsLeave shown cmp record_of width x y (Ok v) → LevelsLeave shown cmp record_of width y z r → LevelsLeave shown cmp record_of width x z r
-  levels-after one two = record { leaves = leaves-after one.leaves two.leaves; internal = two.internal ∙ one.internal; crowded = two.crowded }
+  levels-after one two = record { leaves = leaves-after one.leaves two.leaves; internal = two.internal ∙ one.internal; crowded = two.crowded; pays = pays-then (pays_ok one.pays) two.pays }
 
   pub levels-on :
       {T U : Type 0} {v : T} {u : U} {x y z : Store S R}
       → LevelsLeave shown cmp record_of width x y (Ok v) → LevelsLeave shown cmp record_of width y z (Ok u) → LevelsLeave shown cmp record_of width x z (Ok v)
-  levels-on one two = record { leaves = leaves-on one.leaves two.leaves; internal = two.internal ∙ one.internal; crowded = λ err. cc }
+  levels-on one two = record { leaves = leaves-on one.leaves two.leaves; internal = two.internal ∙ one.internal; crowded = λ err. cc; pays = ok_pays (costs-then (pays_ok one.pays) (pays_ok two.pays)) }
 
   pub levels-given :
       {T U : Type 0} {x y : Store S R} {r : Result T StoreFault} {e : StoreFault}
       → IsErrAnd r (λ given. given ≡ e) → LevelsLeave shown cmp record_of width {T = U} x y (Err e) → LevelsLeave shown cmp record_of width x y r
   levels-given {r = Ok v} is one = absurd is
-  levels-given {U = U} {r = Err f} is one = record { leaves = leaves-given is one.leaves; internal = one.internal; crowded = λ err. one.crowded (ap (err_of U) (sym is ∙ err_is f NoFreeBlock err)) }
+  levels-given {U = U} {r = Err f} is one = record { leaves = leaves-given is one.leaves; internal = one.internal; crowded = λ err. one.crowded (ap (err_of U) (sym is ∙ err_is f NoFreeBlock err)); pays = pays-given is one.pays }
 
   module _ (x : Store S R) (b : PassBody S R) (t : Stock) (works : MayWork shown cmp record_of width x) (kept : BodyKept shown x.body b x.supply t) (no_row : t.drawn ≡ []) where
     -- a store may work on after a step of its runs

@@ -9,6 +9,8 @@ use Rattle.ppq_extract.specs.ppq_array.declared.store_fault.StoreFault.{StoreFau
 use Rattle.ppq_extract.specs.ppq_fetch.Taking.{AllBelow, NoneBelow}
 use Rattle.ppq_extract.specs.Extracted.{Held}
 use Rattle.ppq_extract.proofs.ppq_fetch.Parted.{taken_none, taken_same, taken_of}
+use Rattle.ppq_spill.specs.ppq_counts.Account.{Costs}
+use Rattle.ppq_queue.specs.Paying.{store_account}
 use Rattle.ppq_queue.specs.Resting.{runs_bag, count_of}
 use Rattle.ppq_queue.specs.Stores.{StoreKept, HeapsStay, MayWork, Holds, stored, slots_in, whole_bag}
 use Rattle.ppq_queue.specs.declared.store.Store.{Store}
@@ -17,6 +19,7 @@ use Rattle.ppq_queue.specs.Bulk.{Merged, MergesTo, HasEnded, TookOut, TookAll, T
 use Rattle.ppq_queue.proofs.Bounds.{bag_length}
 use Rattle.ppq_queue.proofs.Merging.{exhausted-runs}
 use Rattle.ppq_queue.proofs.Moves.{kept-refl, ok-map}
+use Rattle.ppq_queue.proofs.Paying.{pays-then}
 use Rattle.ppq_queue.proofs.Stores.{same-sources, heaps-more, kept-more, kept-step, works-step, holds-beside, refused-more, err-map}
 
 pub empty_list : {X : Type 0} (l : List X) → length l ≡ 0 → l ≡ []
@@ -51,6 +54,7 @@ module _ {S R : Type 0} (shown : S → Shown) (cmp : R → R → Ordering) (reco
     pub took : TookOut shown cmp record_of width limit most (items_of before) (items_of after) x y now.items
     pub stands : Stands (items_of after) y now.items
     pub few : length y.body.runs.external.items ≤ 64
+    pub pays : Costs 0 0 (store_account shown x) (store_account shown y)
     pub list_room : now.room ≡ was.room
 
 module _ {S R : Type 0} (shown : S → Shown) {cmp : R → R → Ordering} (o : IsTotalOrder cmp) (record_of : List ℕ → R) (width : ℕ) (limit : Option R) (most : ℕ) where
@@ -140,10 +144,10 @@ module _ {S R : Type 0} (shown : S → Shown) {cmp : R → R → Ordering} (o : 
   -- a merge after what was taken so far
   pub gathers-merged :
       {before after after' : Shares R} {x z : Store S R} {v : Held R} {was mid now : Listed R} {more : Bool}
-      → StoreKept shown x z → HeapsStay before after → TookOut shown cmp record_of width limit most (items_of before) (items_of after) x z mid.items → mid.room ≡ was.room → length z.body.runs.external.items ≤ 64
+      → StoreKept shown x z → HeapsStay before after → TookOut shown cmp record_of width limit most (items_of before) (items_of after) x z mid.items → mid.room ≡ was.room → length z.body.runs.external.items ≤ 64 → Costs 0 0 (store_account shown x) (store_account shown z)
       → (more ≡ true → 0 < count_of z.body) → (more ≡ false → count_of z.body ≡ 0) → MergesTo cmp most more limit after after' z.extract v mid now
       → Gathers shown cmp record_of width limit most before after' x (record z { extract = v }) was now
-  gathers-merged {before = before} {after = after} {after' = after'} {x = x} {z = z} {v = v} {mid = mid} {now = now} {more = more} kept heaps took room few some none m =
+  gathers-merged {before = before} {after = after} {after' = after'} {x = x} {z = z} {v = v} {mid = mid} {now = now} {more = more} kept heaps took room few pays some none m =
       let moves = m.moves in
       let all = took-merged (items_of before) (items_of after) (items_of after') x z v mid.items now.items more kept took none moves.merged moves.rooms.first m.few in
       record {
@@ -152,6 +156,7 @@ module _ {S R : Type 0} (shown : S → Shown) {cmp : R → R → Ordering} (o : 
         took = all;
         stands = stands-ended (items_of after') (record z { extract = v }) now.items more all.works some none m.ended;
         few = few;
+        pays = pays;
         list_room = moves.rooms.list ∙ room;
       }
 
@@ -186,8 +191,8 @@ module _ {S R : Type 0} (shown : S → Shown) {cmp : R → R → Ordering} (o : 
 -- levels were settled before heaps and a store were asked
 pub takes-settled :
     {S R T : Type 0} {shown : S → Shown} {cmp : R → R → Ordering} {record_of : List ℕ → R} {width : ℕ} {limit : Option R} {most : ℕ} {before after : Shares R} {x y z : Store S R} {was now : Listed R} {r : Result T StoreFault}
-    → IsTotalOrder cmp → StoreKept shown x y → Holds shown cmp record_of width [] [] x y → TakesOut shown cmp record_of width limit most before after y z was now r → TakesOut shown cmp record_of width limit most before after x z was now r
-takes-settled {shown = shown} {cmp = cmp} {record_of = record_of} {width = width} {limit = limit} {most = most} {before = before} {after = after} {x = x} {y = y} {z = z} {now = now} {r = r} o kept holds takes =
+    → IsTotalOrder cmp → StoreKept shown x y → Holds shown cmp record_of width [] [] x y → Costs 0 0 (store_account shown x) (store_account shown y) → TakesOut shown cmp record_of width limit most before after y z was now r → TakesOut shown cmp record_of width limit most before after x z was now r
+takes-settled {shown = shown} {cmp = cmp} {record_of = record_of} {width = width} {limit = limit} {most = most} {before = before} {after = after} {x = x} {y = y} {z = z} {now = now} {r = r} o kept holds pays takes =
     record {
       kept = kept-more kept takes.kept;
       heaps = takes.heaps;
@@ -195,4 +200,5 @@ takes-settled {shown = shown} {cmp = cmp} {record_of = record_of} {width = width
       took = ok-map r (all-settled shown o record_of width limit most (items_of before) (items_of after) x y z now.items kept holds) takes.took;
       same_heaps = takes.same_heaps;
       refused = err-map r (λ fault. refused-more shown cmp record_of width [] [] [] x y z fault kept holds) takes.refused;
+      pays = pays-then pays takes.pays;
     }

@@ -10,8 +10,10 @@ use Rattle.ppq_extract.specs.ppq_array.declared.store_fault.StoreFault.TheVarian
 use Rattle.ppq_heap.specs.Heaps.{Shares, items_of}
 use Rattle.ppq_extract.specs.ppq_fetch.Taking.{wanted, NoneAfter, IsTaken, AllBelow, NoneBelow}
 use Rattle.ppq_extract.specs.Extracted.{Held}
+use Rattle.ppq_spill.specs.Costing.{Pays}
 use Rattle.ppq_queue.specs.Out.{Listed, listed}
-use Rattle.ppq_queue.specs.Holding.{Holding, Keeps, IsRefusal, NamesAgain}
+use Rattle.ppq_queue.specs.Paying.{store_account}
+use Rattle.ppq_queue.specs.Holding.{Holding, Keeps, IsRefusal, NamesAgain, CountsAs}
 use Rattle.ppq_queue.specs.Resting.{count_of}
 use Rattle.ppq_queue.specs.Stores.{MayWork, StoreKept, HeapsStay, Refuses, stored, slots_in, whole_bag}
 use Rattle.ppq_queue.specs.declared.store.Store.{Store}
@@ -107,7 +109,7 @@ module _ {R : Type 0} (cmp : R → R → Ordering) where
     pub quiet : AreQuiet old.slots new.slots
 
   -- What a bulk pop leaves of a queue and of its list: the smallest records were taken if it is Ok; none is returned if it is not, and what a refusal
-  -- means; the queue counts as many fewer as are in the list; and what stays whatever is returned
+  -- means; the queue counts as many fewer as are in the list; and what stays whatever is returned, its three numbers among it
   pub record BulkLeaves {T : Type 0} (limit : Option R) (most : ℕ) (old new : Holding R) (was now : Listed R) (r : Result T StoreFault) : Type 0 where
     pub took : OnOk r (TookFront limit most old new now.items)
     pub emptied : OnErr r (now.items ≡ [])
@@ -116,6 +118,7 @@ module _ {R : Type 0} (cmp : R → R → Ordering) where
     pub size : new.size ≡ old.size - length now.items
     pub list_room : now.room ≡ was.room
     pub peak : new.peak ≡ old.peak
+    pub counted : CountsAs old.counts old new
     pub keeps : Keeps old new
 
 module _ {S R : Type 0} (shown : S → Shown) (cmp : R → R → Ordering) (record_of : List ℕ → R) (width : ℕ) where
@@ -138,7 +141,7 @@ module _ {S R : Type 0} (shown : S → Shown) (cmp : R → R → Ordering) (reco
     pub ready : (l : R) → limit ≡ Some l → new.extract.items ≡ [] → count_of new.body ≡ 0
 
   -- what a bulk pop leaves of heaps and the store: what stays whatever is returned; all that was wanted was taken if it is Ok; what a refusal means, and
-  -- that the heaps are as they were where no block was free
+  -- that the heaps are as they were where no block was free; and it costs nothing
   pub record TakesOut {T : Type 0} (limit : Option R) (most : ℕ) (before after : Shares R) (old new : Store S R) (was now : Listed R) (r : Result T StoreFault) : Type 0 where
     pub kept : StoreKept shown old new
     pub heaps : HeapsStay before after
@@ -146,3 +149,4 @@ module _ {S R : Type 0} (shown : S → Shown) (cmp : R → R → Ordering) (reco
     pub took : OnOk r (TookAll limit most (items_of before) (items_of after) old new now.items)
     pub same_heaps : IsErrOf r NoFreeBlock → after ≡ before
     pub refused : IfErr r (Refuses shown cmp record_of width [] [] old new)
+    pub pays : Pays r 0 0 (store_account shown old) (store_account shown new)

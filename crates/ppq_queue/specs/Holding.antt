@@ -1,10 +1,11 @@
 -- What a queue holds.
-use Rattle.std.specs.Prelude.{◌≡◌, ◌<◌, ◌≤◌, ◌+◌, ◌-◌, ◌*◌, ◌↔◌, ℕ, Bool, true, false, List, ◌∷◌, length, max, Option, Some, None, IsNone, Result, Ok, Err, OnOk, IfErr, ⊤, All}
+use Rattle.std.specs.Prelude.{◌≡◌, ◌<◌, ◌≤◌, ◌+◌, ◌-◌, ◌*◌, ◌↔◌, ℕ, Bool, true, false, cond, nat_lt, List, ◌∷◌, length, max, Option, Some, None, IsNone, Result, Ok, Err, OnOk, OnErr, IfErr, ⊤, All}
 use Rattle.std.specs.declared.cmp.Ordering.{Ordering}
 use Rattle.ppq_heap.specs.ppq_record.Bag.{IsSameBag, least, without_front}
 use Rattle.ppq_extract.specs.ppq_budget.Sizes.{Numbers, fixed_of, batch_of, heap_of, blocks_for, room_of}
 use Rattle.ppq_extract.specs.ppq_outside.Shown.{Shown, AllTell}
 use Rattle.ppq_extract.specs.ppq_array.Kept.{SameSlots, HasFailed, AreQuiet, all_writes}
+use Rattle.ppq_spill.specs.ppq_counts.Tally.{Tally, last, accepting, storing, beginning, IsBacked}
 use Rattle.ppq_extract.specs.ppq_array.declared.store_fault.StoreFault.{StoreFault}
 use Rattle.ppq_extract.specs.ppq_array.declared.store_fault.StoreFault.TheVariants.{NoFreeBlock, Device}
 use Rattle.ppq_queue.specs.declared.fault.OpenFault.{OpenFault}
@@ -13,8 +14,8 @@ use Rattle.ppq_queue.specs.declared.fault.OpenFault.TheVariants.{TooSmall, Memor
 -- The multiset of its records, as far as its slots tell; how many records it counts; its sizes; the greatest size that it had or was to get
 -- by a push; all its slots, in some order, and how many of them are free; the number of the slot a call of which failed first, if any;
 -- how many records its heaps have, how many the first of them, and how many its extract buffer; how many runs in blocks there are, and
--- how many of them a level has at the most; how many buffers of a block each, and how many of those of the pool no run has; and whether
--- a limit session was begun, which stores heaps that are not full
+-- how many of them a level has at the most; how many buffers of a block each, and how many of those of the pool no run has; whether a limit
+-- session was begun, which stores heaps that are not full; and how many records it accepted, stores of a full heap it began, and sessions
 pub record Holding (R : Type 0) : Type 0 where
   pub bag : List R
   pub size : ℕ
@@ -31,6 +32,7 @@ pub record Holding (R : Type 0) : Type 0 where
   pub buffers : ℕ
   pub idle : ℕ
   pub limited : Bool
+  pub counts : Tally
 
 -- the peak is above what one heap holds, unless a limit session was begun
 abbrev pub IsAbove : Numbers → ℕ → Bool → Type 0
@@ -71,7 +73,70 @@ latched (Err (Device number)) failed = Some number
 module _ {R : Type 0} where
   -- the queue with one record more in its first heap, and with these records; no slot and no run has changed
   abbrev pub with_one : Holding R → List R → Holding R
-  with_one old bag = record old { bag = bag; size = old.size + 1; peak = max old.peak (old.size + 1); in_heap = old.in_heap + 1; in_first = old.in_first + 1 }
+  with_one old bag = record old { bag = bag; size = old.size + 1; peak = max old.peak (old.size + 1); in_heap = old.in_heap + 1; in_first = old.in_first + 1; counts = accepting 1 old.counts }
+
+  -- a session is begun, which counts it
+  abbrev pub session_begun : Holding R → Holding R
+  session_begun q = record q { counts = beginning q.counts }
+
+  -- a limit session is begun, which is noted too
+  abbrev pub limit_begun : Holding R → Holding R
+  limit_begun q = record q { limited = true; counts = beginning q.counts }
+
+  -- its numbers once there is room for a record in its first heap: if that was full, a store of it was begun
+  abbrev pub begun_push : Holding R → Tally
+  begun_push q = cond (nat_lt q.in_first (heap_of q.sizes)) q.counts (storing q.counts)
+
+  -- its numbers after a push with this answer
+  abbrev pub after_push : {T E : Type 0} → Result T E → Holding R → Tally
+  after_push (Ok value) q = accepting 1 (begun_push q)
+  after_push (Err fault) q = begun_push q
+
+  -- The law of its numbers: its stores of full heaps, and so many records in heaps, were made of accepted records, as long as their number counts
+  abbrev pub IsBackedBeside : ℕ → Holding R → Type 0
+  IsBackedBeside in_heaps q = q.counts.accepted < last → IsBacked (heap_of q.sizes) 0 in_heaps q.counts
+
+  -- with all records of its heaps
+  abbrev pub IsBackedQueue : Holding R → Type 0
+  IsBackedQueue q = IsBackedBeside q.in_heap q
+
+  -- with none of them
+  abbrev pub AreStoresBacked : Holding R → Type 0
+  AreStoresBacked q = IsBackedBeside 0 q
+
+  -- without those of a full heap, whose store was begun and refused
+  abbrev pub IsBackedWithout : Holding R → Type 0
+  IsBackedWithout q = IsBackedBeside (q.in_heap - heap_of q.sizes) q
+
+  -- the queue has these numbers, and no more records in its heaps
+  pub record CountsAs (t : Tally) (old new : Holding R) : Type 0 where
+    pub counts : new.counts ≡ t
+    pub heaps : new.in_heap ≤ old.in_heap
+
+  -- what a push does to its numbers, unless a block failed before: a store of the first heap counts if that was full, whatever is returned, and the
+  -- record if it was accepted. The law stays, after a refusal without the records of the heap whose store was begun
+  pub record CountsPush {T E : Type 0} (old new : Holding R) (r : Result T E) : Type 0 where
+    pub counts : old.failed ≡ None → new.counts ≡ after_push r old
+    pub backed : OnOk r (IsBackedQueue old → IsBackedQueue new)
+    pub unbacked : OnErr r (IsBackedQueue old → IsBackedWithout new)
+
+  -- what room that is made in the first heap does to them
+  pub record CountsRoom {T E : Type 0} (old new : Holding R) (r : Result T E) : Type 0 where
+    pub counts : new.counts ≡ begun_push old
+    pub backed : OnOk r (IsBackedQueue old → IsBackedQueue new)
+    pub unbacked : OnErr r (IsBackedQueue old → IsBackedWithout new)
+
+  -- what a store of the first heap does to them, of which no record is in a heap then
+  pub record CountsStore {T E : Type 0} (old new : Holding R) (r : Result T E) : Type 0 where
+    pub counts : CountsAs (storing old.counts) old new
+    pub left : OnOk r (new.in_heap + old.in_first ≤ old.in_heap)
+
+  -- Calls accepted no more than so many records, and began no more than so many sessions. The law stays, after a refusal of the stores alone
+  pub record CountsFew {T E : Type 0} (records begun : ℕ) (old new : Holding R) (r : Result T E) : Type 0 where
+    pub accepted : new.counts.accepted ≤ old.counts.accepted + records
+    pub sessions : new.counts.sessions ≤ old.counts.sessions + begun
+    pub backed : OnOk r (IsBackedQueue old → IsBackedQueue new)
+    pub unbacked : OnErr r (IsBackedQueue old → AreStoresBacked new)
 
   -- the same records, and no call failed
   pub record SameRecords (old new : Holding R) : Type 0 where
@@ -158,19 +223,6 @@ module _ {R : Type 0} where
     pub room : q.in_first < heap_of q.sizes
     pub peak : q.size < q.peak
 
-  -- a limit session was begun, no call failed, the extract buffer is empty, and there is room for one run in blocks more
-  pub record MayStoreAll (q : Holding R) : Type 0 where
-    pub sound : q.failed ≡ None
-    pub emptied : q.in_extract ≡ 0
-    pub settled : q.runs ≤ 64
-    pub limited : q.limited ≡ true
-
-  -- all records are in runs, of which at most 64 are in blocks
-  pub record AreStored (q : Holding R) : Type 0 where
-    pub emptied : q.in_extract ≡ 0
-    pub heaps : q.in_heap ≡ 0
-    pub settled : q.runs ≤ 64
-
   -- the smallest record, if there is one
   pub record IsLeast (cmp : R → R → Ordering) (q : Holding R) (one : Option R) : Type 0 where
     pub answer : AllTell q.slots → one ≡ least cmp q.bag
@@ -180,4 +232,5 @@ module _ {R : Type 0} where
   pub record TookLeast (cmp : R → R → Ordering) (old new : Holding R) (one : Option R) : Type 0 where
     pub least : IsLeast cmp old one
     pub rest : AllTell old.slots → IsSameBag new.bag (without_front cmp old.bag 1)
+    pub heaps : new.in_heap ≤ old.in_heap
     pub fields : new ≡ record old { bag = new.bag; size = old.size - 1; in_heap = new.in_heap; in_first = new.in_first; in_extract = new.in_extract }

@@ -1,6 +1,7 @@
 pub use Rattle.ppq_extract.specs.ppq_array as ppq_array
 pub use Rattle.ppq_extract.specs.ppq_block as ppq_block
 pub use Rattle.ppq_extract.specs.ppq_budget as ppq_budget
+pub use Rattle.ppq_spill.specs.ppq_counts as ppq_counts
 pub use Rattle.ppq_extract.specs as ppq_extract
 pub use Rattle.ppq_extract.specs.ppq_fetch as ppq_fetch
 pub use Rattle.ppq_heap.specs as ppq_heap
@@ -16,6 +17,7 @@ pub mod Choice
 pub mod Handed
 pub mod Holding
 pub mod Out
+pub mod Paying
 pub mod Resting
 pub mod Slots
 pub mod State

@@ -3,7 +3,7 @@ use Rattle.std.specs.Prelude.{◌≡◌, ℕ, ◌+◌, ◌*◌, ◌<◌, ◌≤�
 use Rattle.std.specs.declared.cmp.Ordering.{Ordering}
 use Rattle.ppq_heap.specs.ppq_record.Order.{Ascends}
 use Rattle.ppq_heap.specs.ppq_record.Bag.{IsSameBag}
-use Rattle.ppq_heap.specs.Heaps.{Shares, items_of}
+use Rattle.ppq_heap.specs.Heaps.{Shares, items_of, share_at}
 use Rattle.ppq_extract.specs.ppq_outside.Shown.{Shown, AllTell}
 use Rattle.ppq_extract.specs.ppq_budget.Sizes.{Numbers, AreInRange, fixed_of, batch_of, pool_of}
 use Rattle.ppq_extract.specs.ppq_array.Supply.{Stock}
@@ -12,9 +12,11 @@ use Rattle.ppq_extract.specs.ppq_array.declared.store_fault.StoreFault.{StoreFau
 use Rattle.ppq_extract.specs.ppq_array.declared.store_fault.StoreFault.TheVariants.{NoFreeBlock, Device}
 use Rattle.ppq_extract.specs.ppq_fetch.Taking.{NoneAfter}
 use Rattle.ppq_extract.specs.Extracted.{ServesFor, SourcesRest}
+use Rattle.ppq_spill.specs.Costing.{PaysUnless, Pays}
 use Rattle.ppq_spill.specs.Leveling.{count_level}
 use Rattle.ppq_spill.specs.declared.body.PassBody.{PassBody}
 use Rattle.ppq_queue.specs.Resting.{AtRest, BodyKept, Moved, StoreShort, IsShort, runs_bag, count_of, crowd_of, slots_of}
+use Rattle.ppq_queue.specs.Paying.{stores_cost, runs_account, store_account, heaps_account}
 use Rattle.ppq_queue.specs.declared.store.Store.{Store}
 
 module _ {R : Type 0} where
@@ -23,6 +25,11 @@ module _ {R : Type 0} where
     pub count : length new.heaps ≡ length old.heaps
     pub cap : new.cap ≡ old.cap
     pub fewer : length (items_of new) ≤ length (items_of old)
+
+  -- all records of the heap at a place left the heaps
+  pub record ShareStored (place : ℕ) (old new : Shares R) : Type 0 where
+    pub emptied : share_at new place ≡ []
+    pub left : length (items_of new) + length (share_at old place) ≤ length (items_of old)
 
 module _ {S R : Type 0} where
   -- the extract buffer is empty, and there is room for one run in blocks more
@@ -88,11 +95,13 @@ module _ {S R : Type 0} (shown : S → Shown) where
     RunRefused sizes n old new before now NoFreeBlock = StoreShort shown cmp record_of width sizes n old new before now
     RunRefused sizes n old new before now (Device number) = HasFailed number (slots_of shown new now)
 
-    -- what the store of a list of records as one run more leaves: what stays whatever is returned, that they came, and what a refusal means
+    -- what the store of a list of records as one run more leaves: what stays whatever is returned, that they came, what a refusal means, and what
+    -- it costs, of which a refusal is free
     pub record RunLeaves {T : Type 0} (sizes : Numbers) (sorted : List R) (old new : PassBody S R) (before now : Stock) (r : Result T StoreFault) : Type 0 where
       pub kept : RunsKept old new before now
       pub stored : OnOk r (Moved shown cmp record_of width sizes sorted old new before now)
       pub refused : IfErr r (RunRefused sizes (length sorted) old new before now)
+      pub pays : PaysUnless r (stores_cost sizes (length sorted) 1) 1 0 0 (runs_account shown sizes old before) (runs_account shown sizes new now)
 
     -- What each call of a store needs and leaves, unless a slot failed: runs may move, and the sources serve for all of them. The extract buffer
     -- is within its room; where slots tell it ascends, and no record of a run is before one of its
@@ -149,11 +158,13 @@ module _ {S R : Type 0} (shown : S → Shown) where
       pub holds : OnOk r (Holds heap heap' old new)
       pub refused : IfErr r (Refuses heap heap' old new)
 
-    -- what a merge of levels leaves: the same; the runs in buffers are as they were; and where no block was free, a level has more than 8 runs
+    -- what a merge of levels leaves: the same; the runs in buffers are as they were; where no block was free, a level has more than 8 runs; and it
+    -- costs no more than its runs owed
     pub record LevelsLeave {T : Type 0} (old new : Store S R) (r : Result T StoreFault) : Type 0 where
       pub leaves : StoreLeaves [] [] old new r
       pub internal : new.body.runs.internal ≡ old.body.runs.internal
       pub crowded : IsErrOf r NoFreeBlock → 8 < crowd_of new.body.runs.external.items
+      pub pays : Pays r 0 0 (store_account shown old) (store_account shown new)
 
     -- what a merge of one level leaves: the same; and lower levels have as many runs as before
     pub record LevelLeaves {T : Type 0} (level : ℕ) (old new : Store S R) (r : Result T StoreFault) : Type 0 where
@@ -165,26 +176,31 @@ module _ {S R : Type 0} (shown : S → Shown) where
       pub levels : LevelsLeave old new r
       pub few : OnOk r (length new.body.runs.external.items ≤ 64)
 
-    -- what a store of the rest of the extract buffer leaves
-    pub record RestLeaves {T : Type 0} (old new : Store S R) (r : Result T StoreFault) : Type 0 where
+    -- what a store of the rest of the extract buffer leaves, and what it costs with so many runs
+    pub record RestLeaves {T : Type 0} (runs : ℕ) (old new : Store S R) (r : Result T StoreFault) : Type 0 where
       pub leaves : StoreLeaves [] [] old new r
       pub emptied : OnOk r (IsEmptied new)
+      pub pays : Pays r (stores_cost old.sizes (length old.extract.items) runs) runs (store_account shown old) (store_account shown new)
 
-    -- what a store of heaps leaves, which keep their room
-    pub record HeapsLeave {T : Type 0} (before after : Shares R) (old new : Store S R) (r : Result T StoreFault) : Type 0 where
+    -- what a store of heaps and of the rest of the extract buffer leaves, where the heaps keep their room, and what it costs with so many runs: the
+    -- records of heaps are paid already
+    pub record HeapsLeave {T : Type 0} (runs : ℕ) (before after : Shares R) (old new : Store S R) (r : Result T StoreFault) : Type 0 where
       pub leaves : StoreLeaves (items_of before) (items_of after) old new r
       pub heaps : HeapsStay before after
       pub emptied : OnOk r (IsEmptied new)
+      pub pays : Pays r (stores_cost old.sizes (length old.extract.items) runs) runs (heaps_account shown before old) (heaps_account shown after new)
 
-    -- what a refill leaves of a store: it is ready, with room for one run in blocks more, unless a block failed
+    -- what a refill leaves of a store: it is ready, with room for one run in blocks more, unless a block failed. It costs nothing
     pub record Refills {T : Type 0} (old new : Store S R) (r : Result T StoreFault) : Type 0 where
       pub kept : StoreKept old new
       pub readied : OnOk r (Readies old new)
       pub few : OnOk r (length new.body.runs.external.items ≤ 64)
       pub failed : IfErr r (FailsAlone new)
+      pub pays : Pays r 0 0 (store_account shown old) (store_account shown new)
 
     -- what a call leaves that makes a store ready
     pub record MakesReady {T : Type 0} (old new : Store S R) (r : Result T StoreFault) : Type 0 where
       pub kept : StoreKept old new
       pub readied : OnOk r (Readies old new)
       pub refused : IfErr r (Refuses [] [] old new)
+      pub pays : Pays r 0 0 (store_account shown old) (store_account shown new)

@@ -1,6 +1,5 @@
 //! Slots that go into boxes when a queue is opened, and out of them when it is closed.
 ghost use Rattle.std.specs.Prelude.{◌≡◌, ◌≤◌, ◌<◌, ◌+◌, ◌-◌, ◌*◌, ◌∷◌, ◌++◌, [], length, map, reverse, All, OnOk, OnErr, IfErr, vec_capacity};
-ghost use Rattle.ppq_extract.specs.ppq_array.Kept.{SameSlots};
 ghost use Rattle.ppq_extract.specs.ppq_array.Owner.{slots_shown};
 ghost use Rattle.ppq_extract.specs.ppq_array.Holdings.{external_slots};
 ghost use Rattle.ppq_extract.specs.ppq_lane.declared.job.Job.{Job};
@@ -34,7 +33,7 @@ pub fn make_buffers<S: Slot, R: Record>(
 }
 
 // Puts each slot into a box, and gives it to a supply that has none, in their order. Where memory is
-// wanting, the list has all slots again, in some order.
+// wanting, the list has all slots again as they were, in some order.
 pub fn berth_slots<S: Slot, R: Record>(
     alloc: Global,
     slots: &mut Vec<S>,
@@ -45,7 +44,7 @@ pub fn berth_slots<S: Slot, R: Record>(
     requires room { length slots.old.items ≤ supply.old.slot_room }
     ensures stock { OnOk result (supply.new ≡ with_slots supply.old (map S.shown slots.old.items) (supply.old.slot_room - length slots.old.items)) }
     ensures emptied { OnOk result (slots.new.items ≡ []) }
-    ensures back { OnErr result (SameSlots (map S.shown slots.old.items) (map S.shown slots.new.items)) }
+    ensures back { OnErr result (SameSums (map S.shown slots.old.items) (map S.shown slots.new.items)) }
     ensures capacity { vec_capacity slots.new ≡ vec_capacity slots.old }
 {
     slots.as_mut_slice().reverse();

@@ -1,7 +1,7 @@
 //! Heaps that are stored as runs.
 ghost use Rattle.std.specs.Prelude.{◌≡◌, ◌<◌, [], length, OnOk};
-ghost use Rattle.ppq_heap.specs.Heaps.{ChangesOnly, items_of, share_at};
-ghost use Rattle.ppq_queue.specs.Stores.{MayStoreHeaps, HeapsLeave};
+ghost use Rattle.ppq_heap.specs.Heaps.{ChangesOnly, items_of};
+ghost use Rattle.ppq_queue.specs.Stores.{MayStoreHeaps, HeapsLeave, ShareStored};
 
 use crate::QueueFault;
 use crate::store::{Store, store_run};
@@ -20,7 +20,7 @@ impl<S: Slot + Send + Sync, R: Record + Send + Sync> Store<S, R> {
     where
         H::Dir: Send,
         requires may { MayStoreHeaps S.shown R.Ord.cmp R.record_of R.WIDTH (items_of heaps.old) self.old }
-        ensures leaves { HeapsLeave S.shown R.Ord.cmp R.record_of R.WIDTH heaps.old heaps.new self.old self.new result }
+        ensures leaves { HeapsLeave S.shown R.Ord.cmp R.record_of R.WIDTH (length heaps.old.heaps) heaps.old heaps.new self.old self.new result }
         ensures none { OnOk result (items_of heaps.new ≡ []) }
     {
         let count = heaps.count();
@@ -42,9 +42,9 @@ impl<S: Slot + Send + Sync, R: Record + Send + Sync> Store<S, R> {
         H::Dir: Send,
         requires may { MayStoreHeaps S.shown R.Ord.cmp R.record_of R.WIDTH (items_of heaps.old) self.old }
         requires place { place < length heaps.old.heaps }
-        ensures leaves { HeapsLeave S.shown R.Ord.cmp R.record_of R.WIDTH heaps.old heaps.new self.old self.new result }
+        ensures leaves { HeapsLeave S.shown R.Ord.cmp R.record_of R.WIDTH 1 heaps.old heaps.new self.old self.new result }
         ensures only { ChangesOnly place heaps.old heaps.new }
-        ensures share { OnOk result (share_at heaps.new place ≡ []) }
+        ensures share { OnOk result (ShareStored place heaps.old heaps.new) }
     {
         record_laws::<R>();
         if heaps.share(place).is_empty() {

@@ -35,6 +35,6 @@ pub use ppq_extract::{
     StoreFault, StoreFault as QueueFault, Supply, free_slot, give_buffer, merge_workers, size_of,
 };
 pub use ppq_heap::{Heaps, InsertionHeap, Listing, Lists, MinTree, Pair, Record, sort};
-pub use ppq_spill::{PassBody, store_sorted};
+pub use ppq_spill::{Counts, PassBody, store_sorted};
 pub use queue::Queue;
 pub use queue_parts::QueueParts;

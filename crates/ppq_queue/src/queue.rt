@@ -1,13 +1,15 @@
 //! The queue.
-ghost use Rattle.std.specs.Prelude.{◌≡◌, ◌≤◌, ◌<◌, ◌+◌, ◌*◌, ◌↔◌, ◌∷◌, [], ℕ, length, map, Some, None, IsNone, IsOk, Err, IsErrOf, IfOk, IfErr, OnOk, max, min, true, false};
+ghost use Rattle.std.specs.Prelude.{◌≡◌, ◌≤◌, ◌<◌, ◌+◌, ◌*◌, ◌^◌, ◌↔◌, ◌∷◌, [], ℕ, length, map, Some, None, IsNone, IsOk, Err, IsErrOf, IfOk, IfErr, OnOk, max, min, true, false};
 ghost use Rattle.ppq_heap.specs.ppq_record.Bag.{IsSameBag, least};
 ghost use Rattle.ppq_extract.specs.ppq_budget.Sizes.{AreInRange, fixed_of, heap_of, heaps_of, batch_of, pool_of};
 ghost use Rattle.ppq_extract.specs.ppq_outside.Shown.{AllTell};
-ghost use Rattle.ppq_extract.specs.ppq_array.Kept.{SameSlots, SameSums, HasFailed, all_writes};
+ghost use Rattle.ppq_extract.specs.ppq_array.Kept.{SameSums, HasFailed, all_writes, all_reads};
 ghost use Rattle.ppq_extract.specs.ppq_array.declared.store_fault.StoreFault.TheVariants.{NoFreeBlock, Device};
+ghost use Rattle.ppq_spill.specs.ppq_counts.Account.{too_heavy};
+ghost use Rattle.ppq_spill.specs.ppq_counts.Tally.{no_tally, accepting, beginning, IsCounting, runs_of, bound_of};
 ghost use Rattle.ppq_queue.specs.Bulk.{IsEnd, EndsBy, BulkLeaves};
 ghost use Rattle.ppq_queue.specs.Handed.{holding_of, IsWhole};
-ghost use Rattle.ppq_queue.specs.Holding.{resident_of, with_one, IsAbove, NamesNeed, AreNewSlots, IsReady, IsRefusal, IsLeast, TookLeast, Keeps, Stays, SameRecords, QueueLeaves, HasAdded, HasTaken, MayPut, MayStoreAll, AreStored};
+ghost use Rattle.ppq_queue.specs.Holding.{resident_of, with_one, IsAbove, NamesNeed, AreNewSlots, IsReady, IsRefusal, IsLeast, TookLeast, Keeps, Stays, SameRecords, QueueLeaves, HasAdded, HasTaken, MayPut, CountsAs, CountsPush, CountsRoom, CountsStore, session_begun, limit_begun};
 
 use crate::berths::{berth_slots, give_back};
 use crate::bulk::{empty_on_error, keep_below};
@@ -19,6 +21,7 @@ use crate::wanted::Wanted;
 use crate::{LimitEnd, OpenFault, Out, QueueFault, QueueParts};
 use ppq_extract::{Gate, Host, Sizes, Slot, Supply};
 use ppq_heap::{Heaps, Record, record_laws};
+use ppq_spill::Counts;
 use std::alloc::Global;
 use std::marker::Model;
 
@@ -26,7 +29,9 @@ use std::marker::Model;
 /// a device behind it.
 ///
 /// Contracts see the multiset of its records as far as its slots tell, how many there are, its sizes, the
-/// greatest size that it had, was to get by a push, or counted in a session, and all its slots.
+/// greatest size that it had, was to get by a push, or counted in a session, and all its slots. They see three
+/// numbers too that never fall: records accepted, stores of a full heap begun, and sessions begun. These bound
+/// what the queue writes (`known`).
 #[derive(Drop)]
 pub struct Queue<S: Slot + Send + Sync, R: Record + Send + Sync> {
     // The runs, the extract buffer, and what works on them.
@@ -41,6 +46,8 @@ pub struct Queue<S: Slot + Send + Sync, R: Record + Send + Sync> {
     failed: Option<u32>,
     // Whether a limit session was begun, which stores heaps that are not full.
     limited: bool,
+    // How many records were accepted, how many stores of a full heap were begun, and how many sessions.
+    counts: Counts,
     // The emptied list of the slots that came in.
     slots: Vec<S>,
 }
@@ -52,9 +59,9 @@ impl<S: Slot + Send + Sync, R: Record + Send + Sync> Model for Queue<S, R> {
 
     ghost Value = { Holding R };
 
-    ghost view = { λ q. viewed S.shown R.record_of R.WIDTH q.store q.heaps q.count q.peak q.failed q.limited };
+    ghost view = { λ q. viewed S.shown R.record_of R.WIDTH q.store q.heaps q.count q.peak q.failed q.limited q.counts };
 
-    ghost invariant = { λ q. QueueStands S.shown R.Ord.cmp R.record_of R.WIDTH q.store q.heaps q.count q.peak q.failed q.limited (vec_capacity q.slots) × (q.slots.items ≡ []) };
+    ghost invariant = { λ q. QueueStands S.shown R.Ord.cmp R.record_of R.WIDTH q.store q.heaps q.count q.peak q.failed q.limited q.counts (vec_capacity q.slots) × (q.slots.items ≡ []) };
 }
 
 impl<S: Slot + Send + Sync, R: Record + Send + Sync> Queue<S, R> {
@@ -76,9 +83,10 @@ impl<S: Slot + Send + Sync, R: Record + Send + Sync> Queue<S, R> {
         ensures peak { IfOk result (λ q. q.peak ≡ 0) }
         ensures sound { IfOk result (λ q. q.failed ≡ None) }
         ensures unlimited { IfOk result (λ q. q.limited ≡ false) }
+        ensures counts { IfOk result (λ q. (q.counts ≡ no_tally) × (q.in_heap ≡ 0)) }
         ensures budget { IfOk result (λ q. fixed_of sizes ≤ sizes.memory) }
         ensures slots { IfOk result (λ q. q.slots ≡ map S.shown slots.items) }
-        ensures back { IfErr result (λ refused. SameSlots (map S.shown slots.items) (map S.shown refused.0.items)) }
+        ensures back { IfErr result (λ refused. SameSums (map S.shown slots.items) (map S.shown refused.0.items)) }
         ensures need { IfErr result (λ refused. NamesNeed sizes refused.1) }
     {
         let _workers = sizes.workers();
@@ -102,6 +110,7 @@ impl<S: Slot + Send + Sync, R: Record + Send + Sync> Queue<S, R> {
             peak: 0,
             failed: None,
             limited: false,
+            counts: Counts::none(),
             slots,
         })
     }
@@ -113,8 +122,11 @@ impl<S: Slot + Send + Sync, R: Record + Send + Sync> Queue<S, R> {
     /// Each refusal hands the record back. `NoFreeBlock`: the multiset is as it was; the device has fewer blocks
     /// than are enough for the peak, and the peak is above what a heap holds, unless a limit session was
     /// begun. `Device`: a call of the block with that number failed, now or before. From then on the queue is
-    /// stopped: each later call of it returns that number and changes nothing (`store_heaps` notes a limit
-    /// session all the same), while `size`, `resident` and `close` return what they did.
+    /// stopped: each later call of it returns that number and changes nothing (`begin_session` and `store_heaps`
+    /// count a session all the same, and the latter notes a limit session), while `size`, `resident` and `close`
+    /// return what they did.
+    ///
+    /// A record that is accepted counts, and a store of the first heap, if that was full, whatever is returned.
     pub fn push<H: Host, G: Gate>(&mut self, rt: &H, r: R, gate: &G) -> Result<(), (R, QueueFault)>
     where
         H::Dir: Send,
@@ -124,6 +136,7 @@ impl<S: Slot + Send + Sync, R: Record + Send + Sync> Queue<S, R> {
         ensures refused { IfErr result (λ refused. IsRefusal self.old self.new refused.1) }
         ensures latched { (number : ℕ) → self.old.failed ≡ Some number → (result ≡ Err (r, Device number)) × (self.new ≡ self.old) }
         ensures peak { self.old.failed ≡ None → self.new.peak ≡ max self.old.peak (self.old.size + 1) }
+        ensures counted { CountsPush self.old self.new result }
         ensures keeps { Keeps self.old self.new }
     {
         if let Some(number) = self.failed {
@@ -146,6 +159,7 @@ impl<S: Slot + Send + Sync, R: Record + Send + Sync> Queue<S, R> {
         requires sound { self.old.failed ≡ None }
         requires peak { self.old.size < self.old.peak }
         ensures leaves { QueueLeaves self.old self.new result }
+        ensures counted { CountsRoom self.old self.new result }
         ensures room { OnOk result (self.new.in_first < heap_of self.new.sizes) }
         ensures easy { self.old.in_first < heap_of self.old.sizes → IsOk result × (self.new ≡ self.old) }
     {
@@ -167,24 +181,27 @@ impl<S: Slot + Send + Sync, R: Record + Send + Sync> Queue<S, R> {
     fn put(&mut self, r: R)
         requires may { MayPut self.old }
         ensures added { IsSameBag self.new.bag (r ∷ self.old.bag) }
-        ensures rest { self.new ≡ record self.old { bag = self.new.bag; size = self.old.size + 1; in_heap = self.old.in_heap + 1; in_first = self.old.in_first + 1 } }
+        ensures rest { self.new ≡ record self.old { bag = self.new.bag; size = self.old.size + 1; in_heap = self.old.in_heap + 1; in_first = self.old.in_first + 1; counts = accepting 1 self.old.counts } }
     {
         // There is room, so the heap takes it.
         // The first heap has room, so no record comes back.
         let _ = self.heaps.try_push(r);
         self.heaps.known();
         self.count += 1;
+        self.counts.accept(1);
     }
 
-    // Stores the rest of the extract buffer and the first heap.
+    // Stores the rest of the extract buffer and the first heap, which counts.
     fn flush<H: Host, G: Gate>(&mut self, rt: &H, gate: &G) -> Result<(), QueueFault>
     where
         H::Dir: Send,
         requires sound { self.old.failed ≡ None }
         requires above { IsAbove self.old.sizes self.old.peak self.old.limited }
         ensures leaves { QueueLeaves self.old self.new result }
+        ensures counted { CountsStore self.old self.new result }
         ensures emptied { OnOk result (self.new.in_first ≡ 0) }
     {
+        self.counts.begin_store();
         let answer = self.store.flush_all(rt, &mut self.heaps, gate);
         latch(&mut self.failed, answer);
         answer
@@ -195,6 +212,7 @@ impl<S: Slot + Send + Sync, R: Record + Send + Sync> Queue<S, R> {
     where
         H::Dir: Send,
         ensures leaves { QueueLeaves self.old self.new result }
+        ensures counted { CountsAs self.old.counts self.old self.new }
         ensures readied { OnOk result (IsReady self.new) }
     {
         if let Some(number) = self.failed {
@@ -236,6 +254,7 @@ impl<S: Slot + Send + Sync, R: Record + Send + Sync> Queue<S, R> {
         ensures same { OnOk result (SameRecords self.old self.new) }
         ensures refused { IfErr result (IsRefusal self.old self.new) }
         ensures latched { (number : ℕ) → self.old.failed ≡ Some number → (result ≡ Err (Device number)) × (self.new ≡ self.old) }
+        ensures counted { CountsAs self.old.counts self.old self.new }
         ensures stays { Stays self.old self.new }
     {
         record_laws::<R>();
@@ -257,6 +276,7 @@ impl<S: Slot + Send + Sync, R: Record + Send + Sync> Queue<S, R> {
         ensures refused { IfErr result (IsRefusal self.old self.new) }
         ensures latched { (number : ℕ) → self.old.failed ≡ Some number → (result ≡ Err (Device number)) × (self.new ≡ self.old) }
         ensures peak { self.new.peak ≡ self.old.peak }
+        ensures counted { CountsAs self.old.counts self.old self.new }
         ensures keeps { Keeps self.old self.new }
     {
         record_laws::<R>();
@@ -373,6 +393,7 @@ impl<S: Slot + Send + Sync, R: Record + Send + Sync> Queue<S, R> {
         ensures crowded { IsErrOf result NoFreeBlock → 8 < self.new.crowd }
         ensures refused { IfErr result (IsRefusal self.old self.new) }
         ensures latched { (number : ℕ) → self.old.failed ≡ Some number → (result ≡ Err (Device number)) × (self.new ≡ self.old) }
+        ensures counted { CountsAs self.old.counts self.old self.new }
         ensures stays { Stays self.old self.new }
     {
         if let Some(number) = self.failed {
@@ -386,7 +407,8 @@ impl<S: Slot + Send + Sync, R: Record + Send + Sync> Queue<S, R> {
     /// Makes the queue ready for a session: the rest of the extract buffer is stored as a run, and levels of
     /// runs are merged before and after. The heaps stay as they are. If `merges`, and fewer than half of the
     /// pool's buffers are idle then, all runs in buffers are merged into one run in blocks, and levels of runs
-    /// again, so that the passes have buffers: half of the pool is idle afterwards.
+    /// again, so that the passes have buffers: half of the pool is idle afterwards. A session more counts,
+    /// whatever is returned.
     ///
     /// `NoFreeBlock` and `Device` come as from `push`.
     pub fn begin_session<H: Host, G: Gate>(
@@ -404,9 +426,11 @@ impl<S: Slot + Send + Sync, R: Record + Send + Sync> Queue<S, R> {
         ensures settled { OnOk result (self.new.runs ≤ 64) }
         ensures merged { merges ≡ true → OnOk result (pool_of self.new.sizes ≤ 2 * self.new.idle) }
         ensures refused { IfErr result (IsRefusal self.old self.new) }
-        ensures latched { (number : ℕ) → self.old.failed ≡ Some number → (result ≡ Err (Device number)) × (self.new ≡ self.old) }
+        ensures latched { (number : ℕ) → self.old.failed ≡ Some number → (result ≡ Err (Device number)) × (self.new ≡ session_begun self.old) }
+        ensures counted { CountsAs (beginning self.old.counts) self.old self.new }
         ensures stays { Stays self.old self.new }
     {
+        self.counts.begin_session();
         if let Some(number) = self.failed {
             return Err(QueueFault::Device { number });
         }
@@ -417,7 +441,7 @@ impl<S: Slot + Send + Sync, R: Record + Send + Sync> Queue<S, R> {
 
     /// Makes the queue ready for a limit session: it does what `begin_session` does, and then stores each heap
     /// that is not empty as a run of its own, with levels of runs merged after each. The queue notes that a
-    /// limit session was begun, whatever is returned.
+    /// limit session was begun, and counts a session more, whatever is returned.
     ///
     /// It costs a sort and a store of each heap. `Device` comes as from `push`, `NoFreeBlock` at any peak.
     pub fn store_heaps<H: Host, G: Gate>(&mut self, rt: &H, gate: &G) -> Result<(), QueueFault>
@@ -428,30 +452,16 @@ impl<S: Slot + Send + Sync, R: Record + Send + Sync> Queue<S, R> {
         ensures heaps { OnOk result (self.new.in_heap ≡ 0) }
         ensures settled { OnOk result (self.new.runs ≤ 64) }
         ensures refused { IfErr result (IsRefusal self.old self.new) }
-        ensures latched { (number : ℕ) → self.old.failed ≡ Some number → (result ≡ Err (Device number)) × (self.new ≡ record self.old { limited = true }) }
+        ensures latched { (number : ℕ) → self.old.failed ≡ Some number → (result ≡ Err (Device number)) × (self.new ≡ limit_begun self.old) }
+        ensures counted { CountsAs (beginning self.old.counts) self.old self.new }
         ensures stays { Stays (record self.old { limited = true }) self.new }
     {
-        self.note_limit();
-        self.begin_session(rt, false, gate)?;
-        self.store_all(rt, gate)
-    }
-
-    // A limit session is about to begin.
-    fn note_limit(&mut self)
-        ensures { self.new ≡ record self.old { limited = true } }
-    {
         self.limited = true;
-    }
-
-    // Stores all heaps of a queue whose extract buffer is empty.
-    fn store_all<H: Host, G: Gate>(&mut self, rt: &H, gate: &G) -> Result<(), QueueFault>
-    where
-        H::Dir: Send,
-        requires may { MayStoreAll self.old }
-        ensures leaves { QueueLeaves self.old self.new result }
-        ensures stored { OnOk result (AreStored self.new) }
-    {
-        let answer = self.store.store_heaps(rt, &mut self.heaps, gate);
+        self.counts.begin_session();
+        if let Some(number) = self.failed {
+            return Err(QueueFault::Device { number });
+        }
+        let answer = self.store.store_all(rt, &mut self.heaps, gate);
         latch(&mut self.failed, answer);
         answer
     }
@@ -468,6 +478,7 @@ impl<S: Slot + Send + Sync, R: Record + Send + Sync> Queue<S, R> {
             peak,
             failed,
             limited,
+            counts,
             slots,
         } = self;
         let Store {
@@ -488,6 +499,7 @@ impl<S: Slot + Send + Sync, R: Record + Send + Sync> Queue<S, R> {
             peak,
             failed,
             limited,
+            counts,
             slots,
         }
     }
@@ -508,6 +520,7 @@ impl<S: Slot + Send + Sync, R: Record + Send + Sync> Queue<S, R> {
             peak,
             failed,
             limited,
+            counts,
             slots,
         } = parts;
         let store = Store {
@@ -524,6 +537,7 @@ impl<S: Slot + Send + Sync, R: Record + Send + Sync> Queue<S, R> {
             peak,
             failed,
             limited,
+            counts,
             slots,
         }
     }
@@ -565,6 +579,11 @@ impl<S: Slot + Send + Sync, R: Record + Send + Sync> Queue<S, R> {
 
         // Records beyond the budget are in blocks, each of which was written.
         ensures written { self.now.failed ≡ None → self.now.size ≤ self.now.sizes.memory + self.now.sizes.block * all_writes self.now.slots }
+
+        // Its numbers bound what was written, while none of them stands still and they allow few enough runs. No more
+        // blocks were read than written, while these counts are exact.
+        ensures transfers { IsCounting self.now.counts → runs_of self.now.sizes.workers self.now.counts < too_heavy → self.now.sizes.block * all_writes self.now.slots ≤ bound_of self.now.sizes.workers self.now.sizes.block self.now.counts }
+        ensures read { all_writes self.now.slots < 2 ^ 63 → all_reads self.now.slots ≤ all_writes self.now.slots }
 
         ensures slots { length self.now.slots ≡ self.now.sizes.blocks }
         ensures free { self.now.free ≤ self.now.sizes.blocks }

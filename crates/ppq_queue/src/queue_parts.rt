@@ -1,7 +1,7 @@
 //! The parts of a queue, for whoever works on them outside of it.
 use ppq_extract::{Extract, OwnerLists, Sizes, Slot, Sources};
 use ppq_heap::{Heaps, Record};
-use ppq_spill::PassBody;
+use ppq_spill::{Counts, PassBody};
 
 /// All parts of a queue, as `Queue::into_parts` hands them over and `Queue::from_parts` takes them back.
 ///
@@ -29,6 +29,8 @@ pub struct QueueParts<S: Slot + Send + Sync, R: Record + Send + Sync> {
     pub failed: Option<u32>,
     /// Whether a limit session was begun.
     pub limited: bool,
+    /// How many records were accepted, how many stores of a full heap were begun, and how many sessions.
+    pub counts: Counts,
     /// The emptied list of the slots that came in.
     pub slots: Vec<S>,
 }

@@ -2,7 +2,9 @@
 ghost use Rattle.std.specs.Prelude.{◌≡◌, ◌<◌, [], length, OnOk};
 ghost use Rattle.ppq_heap.specs.ppq_record.Order.{Ascends};
 ghost use Rattle.ppq_extract.specs.ppq_outside.Shown.{AllTell};
+ghost use Rattle.ppq_spill.specs.Costing.{Pays};
 ghost use Rattle.ppq_spill.specs.Storing.{in_buffers};
+ghost use Rattle.ppq_queue.specs.Paying.{stores_cost, store_account};
 ghost use Rattle.ppq_queue.specs.Resting.{slots_of};
 ghost use Rattle.ppq_queue.specs.Stores.{RunMayCome, RunLeaves, MayAdd, StoreLeaves};
 
@@ -34,6 +36,7 @@ impl<S: Slot + Send + Sync, R: Record + Send + Sync> Store<S, R> {
         requires may { MayAdd S.shown R.Ord.cmp R.record_of R.WIDTH self.old }
         requires some { 0 < in_buffers self.old.body }
         ensures leaves { StoreLeaves S.shown R.Ord.cmp R.record_of R.WIDTH [] [] self.old self.new result }
+        ensures pays { Pays result (stores_cost self.old.sizes 0 1) 1 (store_account S.shown self.old) (store_account S.shown self.new) }
         ensures none { OnOk result (self.new.body.runs.internal.items ≡ []) }
     {
         let answer = store_buffers(rt, &mut self.body, &mut self.supply);

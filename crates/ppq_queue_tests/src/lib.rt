@@ -8,4 +8,6 @@ mod bulk;
 #[cfg(test)]
 mod queue;
 #[cfg(test)]
+mod transfers;
+#[cfg(test)]
 mod workers;

@@ -8,9 +8,8 @@ fn records_stores_and_sessions_are_counted_up_to_the_last_number(rt: HostRuntime
     counts.accept(3);
     counts.begin_store();
     counts.begin_session();
-    let mut all = counts;
-    all.join(counts);
-    assert!(rt; (all.accepted() == 6) & (all.stores() == 2) & (all.sessions() == 2));
-    all.accept(u64::MAX);
-    assert!(rt; all.accepted() == u64::MAX);
+    counts.join(Counts::of_pass(4, 2));
+    assert!(rt; (counts.accepted() == 7) & (counts.stores() == 3) & (counts.sessions() == 1));
+    counts.accept(u64::MAX);
+    assert!(rt; counts.accepted() == u64::MAX);
 }

@@ -6,4 +6,10 @@ mod arguments;
 #[cfg(test)]
 mod edge;
 #[cfg(test)]
+mod files;
+#[cfg(test)]
+mod heads;
+#[cfg(test)]
+mod parts;
+#[cfg(test)]
 mod script;

@@ -6,17 +6,18 @@ use Rattle.ppq_pass.specs.ppq_record.Bag.{IsSameBag}
 use Rattle.ppq_pass.specs.ppq_record.Order.{is_before}
 use Rattle.ppq_pass.proofs.ppq_record.Order.{count_by-append, Each-append_left, Each-append_right}
 use Rattle.ppq_pass.specs.ppq_outside.Shown.{Shown}
-use Rattle.ppq_pass.specs.Passed.{PassHolding, PassTells, IsRefusedPush}
+use Rattle.ppq_pass.specs.Passed.{PassHolding, PassTells, IsRefusedPush, IsBackedPass, IsBackedPassWithout}
 use Rattle.ppq_pass.specs.ppq_array.declared.store_fault.StoreFault.{StoreFault as QueueFault}
 use Rattle.ppq_pass.specs.ppq_array.declared.store_fault.StoreFault.TheVariants.{NoFreeBlock, Device}
-use Rattle.ppq_session.specs.Dealing.{IsGoing, HasEnded, Adds, HasNoFault, EachAdds, AddsPart, Dealt, part_for}
+use Rattle.ppq_session.specs.Dealing.{IsGoing, HasEnded, StaysBacked, Adds, HasNoFault, EachAdds, AddsPart, Dealt, part_for}
+use Rattle.ppq_session.proofs.Backed.{backed-stays}
 use Rattle.ppq_pass.specs.ppq_fetch.Taking.{NoneBelow}
 use Rattle.ppq_session.specs.SessionPass.{SaysIfGoing, Takes}
 use Rattle.std.specs.List.{Any}
 use Rattle.std.specs.Fork.{slice_chunk}
 use Rattle.std.specs.Int.{div_ceil}
 use Rattle.std.proofs.lemmas.List.Sums.{sum_by-cons}
-use Rattle.std.proofs.lemmas.List.Elements.{All-cons, All-head, All-tail}
+use Rattle.std.proofs.lemmas.List.Elements.{All-nil, All-cons, All-head, All-tail}
 use Rattle.std.proofs.lemmas.Bool.{cases_lt}
 use Rattle.std.proofs.lemmas.Grind.{div_ceil_times}
 use Rattle.ppq_session.specs.BulkSession.{bag_of, accepted_of}
@@ -135,12 +136,13 @@ module _ {S R : Type 0} where
       least = omega arith;
       accepted = λ _. omega arith;
       fewer = λ ended. absurd (not_both pass going ended);
+      backed = backed-stays pass;
     }
 
     module _ (r : R) (old new : PassHolding S R) (key : new.key ≡ old.key) (tells : PassTells shown old → PassTells shown new) where
       -- a record that was added
-      pub adds-one : IsGoing new → (PassTells shown old → IsSameBag new.bag (r ∷ old.bag)) → new.accepted ≡ old.accepted + 1 → Adds shown (r ∷ []) old new
-      adds-one going added accepted =
+      pub adds-one : IsGoing new → (PassTells shown old → IsSameBag new.bag (r ∷ old.bag)) → new.accepted ≡ old.accepted + 1 → (IsBackedPass old → IsBackedPass new) → Adds shown (r ∷ []) old new
+      adds-one going added accepted backed =
           let one : 1 ≡ new.accepted - old.accepted = omega (arith, accepted) in
           record {
             key = key;
@@ -149,11 +151,12 @@ module _ {S R : Type 0} where
             least = omega (arith, accepted);
             accepted = λ _. omega (arith, accepted);
             fewer = λ ended. absurd (not_both new going ended);
+            backed = λ is. backed-stays new (backed is);
           }
 
       -- a record that was refused
-      pub adds-refused : (fault : QueueFault) → IsRefusedPush old new fault → Adds shown (r ∷ []) old new
-      adds-refused fault refused =
+      pub adds-refused : (fault : QueueFault) → IsRefusedPush old new fault → (IsBackedPass old → IsBackedPassWithout new) → Adds shown (r ∷ []) old new
+      adds-refused fault refused backed =
           let ended = refused-ended old new fault refused in
           let same = refused-accepted old new fault refused in
           let none : 0 ≡ new.accepted - old.accepted = omega (arith, same) in
@@ -164,6 +167,7 @@ module _ {S R : Type 0} where
             least = omega (arith, same);
             accepted = λ going. absurd (not_both new going ended);
             fewer = λ _. omega (arith, same);
+            backed = λ is. ((λ going. absurd (not_both new going ended)), backed is);
           }
 
     module _ (whole xs ys : List R) (is : whole ≡ xs ++ ys) (old mid new : PassHolding S R) (first : Adds shown xs old mid) where
@@ -197,6 +201,7 @@ module _ {S R : Type 0} where
             least = omega (arith, first.least, then.least);
             accepted = λ goes. omega (arith, so_far, then.accepted goes, long);
             fewer = λ ended. omega (arith, so_far, then.fewer ended, long);
+            backed = λ is. then.backed ((first.backed is).0 going);
           }
 
     -- a pass that stopped at one of the first was given all
@@ -212,6 +217,7 @@ module _ {S R : Type 0} where
           least = first.least;
           accepted = λ going. absurd (not_both new going ended);
           fewer = λ _. omega (arith, less, ap length is, length-append xs ys);
+          backed = first.backed;
         }
 
     module _ (cmp : R → R → Ordering) where
@@ -292,6 +298,7 @@ module _ {S R : Type 0} where
       accepted = λ going. refl;
       most = omega arith;
       fewer = λ any. absurd (any-none any);
+      backed = λ all. All-nil StaysBacked;
     }
 
     -- one pass has the first of its records, and no other, unless a call of a slot failed
@@ -331,6 +338,7 @@ module _ {S R : Type 0} where
                 | inl here ↦ omega (arith, one.fewer here, all.most, old, new, long)
                 | inr there ↦ omega (arith, adds-most part o n one, all.fewer there, old, new, long)
               ];
+          backed = λ is. All-cons StaysBacked n ns (one.backed (All-head IsBackedPass o os is)) (all.backed (All-tail IsBackedPass o os is));
         }
 
     -- each pass was given its part

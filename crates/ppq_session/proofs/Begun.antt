@@ -1,5 +1,5 @@
 -- What the clauses of a session's beginning are put together from.
-use Rattle.std.proofs.Common.{◌≡◌, ◌*◌, ◌≤◌, List, ◌++◌, All, sym, ap, ◌∙◌, subst, [], ◌∷◌, length, sum_by, refl, arith}
+use Rattle.std.proofs.Common.{◌≡◌, ◌*◌, ◌≤◌, List, ◌++◌, All, true, sym, ap, ◌∙◌, subst, [], ◌∷◌, length, sum_by, refl, arith}
 use Rattle.std.specs.Prelude.{slice_index_or, Vec, Result, Ok, Err, IfOk, IfErr, count_by}
 use Rattle.std.specs.Global.{Global}
 use Rattle.ppq_pass.proofs.ppq_record.Order.{IsSameBag-trans, count_by-append}
@@ -10,7 +10,8 @@ use Rattle.ppq_pass.specs.ppq_budget.Sizes.{pool_of}
 use Rattle.ppq_pass.specs.ppq_pool.Seats.{count_of}
 use Rattle.ppq_pass.specs.Passed.{PassKey, PassHolding, PassTells, IsOf}
 use Rattle.ppq_pass.specs.declared.shared.Shared.{Shared}
-use Rattle.ppq_queue.specs.Holding.{Holding, Keeps, Stays, SameRecords}
+use Rattle.ppq_pass.specs.ppq_counts.Tally.{beginning}
+use Rattle.ppq_queue.specs.Holding.{Holding, Keeps, Stays, SameRecords, CountsAs}
 use Rattle.ppq_session.specs.BulkSession.{BulkHolding, AreOf, keys_of, bag_of, shared_by, pass_key}
 use Rattle.ppq_session.specs.declared.fault.BeginFault.{BeginFault}
 use Rattle.ppq_session.specs.declared.fault.BeginFault.TheVariants.{Memory}
@@ -45,9 +46,13 @@ module _ {S R : Type 0} (bulk : BulkHolding S R) (passes : List (PassHolding S R
           let all : slots_shown shown bulk.items ≡ p.slots ++ slots_shown shown p.key.items = items ∙ ap (λ (l : List Shown). l ++ slots_shown shown p.key.items) (sym empty) in
           subst AllTell all tell
 
+-- that a session is counted is nothing that a queue keeps
+pub keeps-begun : {R : Type 0} (old new : Holding R) → Keeps (record old { limited = true }) new → Keeps (begun_in old) new
+keeps-begun old new kept = record { sizes = kept.sizes; limited = kept.limited; slots = kept.slots; tells = kept.tells; writes = kept.writes }
+
 -- a queue that has what it had was handed back for want of memory
-pub unbegun-memory : {R : Type 0} (old begun new : Holding R) → SameRecords old new → Keeps begun new → new.peak ≡ old.peak → IsUnbegun old begun new Memory
-unbegun-memory old begun new same kept peak = record { why = record { bag = same.bag; size = same.size; sound = same.sound }; kept = kept; peak = peak }
+pub unbegun-memory : {R : Type 0} (old begun new : Holding R) → SameRecords old new → Keeps begun new → new.peak ≡ old.peak → CountsAs (beginning old.counts) old new → IsUnbegun old begun new Memory
+unbegun-memory old begun new same kept peak counted = record { why = record { bag = same.bag; size = same.size; sound = same.sound }; kept = kept; peak = peak; counted = counted }
 
 -- what a beginning returns
 abbrev pub Begins : Type 0 → Type 0 → Type 0
@@ -71,9 +76,9 @@ module _ {S R : Type 0} where
 
     -- a session began: the queue was readied for it, and handed out
     pub began-bulk :
-        SameRecords old new → Stays old new → new.in_heap ≡ old.in_heap → new.in_first ≡ old.in_first → new.runs ≤ 64 → pool_of new.sizes ≤ 2 * new.idle
+        SameRecords old new → Stays old new → new.in_heap ≡ old.in_heap → new.in_first ≡ old.in_first → new.runs ≤ 64 → pool_of new.sizes ≤ 2 * new.idle → new.counts ≡ beginning old.counts
         → (x : BulkHolding S R × Shared S R × Vec (PassHolding S R) Global) → IsHanded x → BulkBegan shown old x.0 x.1 x.2.items
-    began-bulk same stays heaps first settled half x h =
+    began-bulk same stays heaps first settled half counts x h =
         let bulk = x.0 in
         let kept = stays.keeps in
         record {
@@ -98,6 +103,7 @@ module _ {S R : Type 0} where
           peak = h.peak ∙ stays.peak;
           limited = h.limited ∙ kept.limited;
           sizes = h.sizes ∙ kept.sizes;
+          counts = h.counts ∙ counts;
         }
 
 module _ {S R : Type 0} where
@@ -151,9 +157,9 @@ module _ {S R : Type 0} (shown : S → Shown) (old new : Holding R) (bulk : Bulk
 
   -- a session began: a queue that has no record in heaps was handed out, and its passes got the limit
   pub limit_began :
-      SameRecords old new → Stays (begun_in old) new → (limit : R) (front : FrontHolding S R) → front ≡ front_begun bulk limit
+      SameRecords old new → Stays (record old { limited = true }) new → new.counts ≡ beginning old.counts → (limit : R) (front : FrontHolding S R) → front ≡ front_begun bulk limit
       → (list : List (LimitHolding S R)) → GotLimit limit passes list → LimitBegan old limit front shared list
-  limit_began same stays limit front is list got =
+  limit_began same stays counts limit front is list got =
       let kept = stays.keeps in
       let of = are_limited bulk passes h.of none limit list got in
       subst (λ f. LimitBegan old limit f shared list) (sym is)
@@ -174,4 +180,5 @@ module _ {S R : Type 0} (shown : S → Shown) (old new : Holding R) (bulk : Bulk
         sound = refl;
         peak = h.peak ∙ stays.peak;
         sizes = h.sizes ∙ kept.sizes;
+        counts = h.counts ∙ counts;
       })

@@ -31,10 +31,13 @@ use Rattle.ppq_pass.specs.Passing.{items_at, with_item}
 use Rattle.ppq_pass.specs.Passed.{PassHolding, PassTells, slots_of as pass_slots}
 use Rattle.ppq_queue.specs.Resting.{slots_of}
 use Rattle.ppq_queue.proofs.Slots.{SameSums-length}
-use Rattle.ppq_session.specs.Apart.{IsApart, IsSoundApart, GoesBefore, apart_slots}
+use Rattle.ppq_pass.specs.ppq_counts.Account.{IsCountedBeside}
+use Rattle.ppq_session.specs.Apart.{IsApart, IsSoundApart, IsCountedApart, GoesBefore, apart_slots, apart_account}
+use Rattle.ppq_pass.specs.ppq_spill.Costing.{body_account}
+use Rattle.ppq_session.proofs.Counted.{same-account, beside-none}
 use Rattle.ppq_session.specs.Passes.{IsBrought, pass_of}
 use Rattle.ppq_session.specs.Bringing.{BroughtAll}
-use Rattle.ppq_session.specs.Gathering.{IsGathered, IsGathering, IsSoundSoFar, slots_in, buffers_in}
+use Rattle.ppq_session.specs.Gathering.{IsGathered, IsGathering, IsSoundSoFar, slots_in, drawn_in, buffers_in, begun_in, gathered_account}
 use Rattle.ppq_session.specs.Closing.{IsClosed}
 use Rattle.ppq_session.specs.declared.brought.Brought.{Brought}
 use Rattle.ppq_session.specs.declared.closed.Closed.{Closed}
@@ -56,17 +59,13 @@ module _ {T : Type 0} where
       one (some x) xs ys = refl
 
 module _ {S R : Type 0} (shown : S → Shown) where
-  -- the slots that passes drew, as they were put into the row
-  abbrev pub drawn_in : List (Brought S R) → List Shown
-  drawn_in brought = flat_map (λ one. drawn_of shown one.kept.value) brought
-
   abbrev pub places_in : List (Brought S R) → List ℕ
   places_in brought = flat_map (λ one. one.kept.value.row_seat.hand.places) brought
 
   -- they are those at the passes' places
   pub drawn-places :
       (items : List (DeviceBlock S R)) (brought : List (Brought S R)) → All (λ (one : Brought S R). one.kept.value.row_seat.hand.items ≡ items) brought
-      → drawn_in brought ≡ slots_shown shown (items_at items (places_in brought))
+      → drawn_in shown brought ≡ slots_shown shown (items_at items (places_in brought))
   drawn-places items [] all = refl
   drawn-places items (x ∷ xs) all =
       let here : x.kept.value.row_seat.hand.items ≡ items = All-head (λ (one : Brought S R). one.kept.value.row_seat.hand.items ≡ items) x xs all in
@@ -79,43 +78,43 @@ module _ {S R : Type 0} (shown : S → Shown) where
 
   module _ (cmp : R → R → Ordering) (record_of : List ℕ → R) (width : ℕ) (n : Numbers) where
     -- what passes drew is what they have
-    pub drawn-same : (brought : List (Brought S R)) → All (IsBrought shown record_of width n cmp) brought → SameSlots (drawn_in brought) (slots_in shown brought) × (all_writes (drawn_in brought) ≤ all_writes (slots_in shown brought))
+    pub drawn-same : (brought : List (Brought S R)) → All (IsBrought shown record_of width n cmp) brought → SameSlots (drawn_in shown brought) (slots_in shown brought) × (all_writes (drawn_in shown brought) ≤ all_writes (slots_in shown brought))
     drawn-same [] all = (SameSlots-refl [], omega arith)
     drawn-same (x ∷ xs) all =
         let is = (All-head (IsBrought shown record_of width n cmp) x xs all).always in
         let more = drawn-same xs (All-tail (IsBrought shown record_of width n cmp) x xs all) in
         let mine = drawn_of shown x.kept.value in
         let have = pass_slots shown x.body x.kept.value in
-        let a : drawn_in (x ∷ xs) ≡ mine ++ drawn_in xs = flat_map-cons (λ (one : Brought S R). drawn_of shown one.kept.value) x xs in
+        let a : drawn_in shown (x ∷ xs) ≡ mine ++ drawn_in shown xs = flat_map-cons (λ (one : Brought S R). drawn_of shown one.kept.value) x xs in
         let b : slots_in shown (x ∷ xs) ≡ have ++ slots_in shown xs = flat_map-cons (λ (one : Brought S R). pass_slots shown one.body one.kept.value) x xs in (
-          subst (λ l. SameSlots l (slots_in shown (x ∷ xs))) (sym a) (subst (λ l. SameSlots (mine ++ drawn_in xs) l) (sym b) (SameSlots-append mine have (drawn_in xs) (slots_in shown xs) is.slots more.0)),
-          omega (arith, is.writes, more.1, ap all_writes a, ap all_writes b, sum_by-append (λ (s : Shown). s.writes) mine (drawn_in xs), sum_by-append (λ (s : Shown). s.writes) have (slots_in shown xs)),
+          subst (λ l. SameSlots l (slots_in shown (x ∷ xs))) (sym a) (subst (λ l. SameSlots (mine ++ drawn_in shown xs) l) (sym b) (SameSlots-append mine have (drawn_in shown xs) (slots_in shown xs) is.slots more.0)),
+          omega (arith, is.writes, more.1, ap all_writes a, ap all_writes b, sum_by-append (λ (s : Shown). s.writes) mine (drawn_in shown xs), sum_by-append (λ (s : Shown). s.writes) have (slots_in shown xs)),
         )
 
     -- as many of what they drew do not tell as of what they have
-    pub drawn-untold : (brought : List (Brought S R)) → All (IsBrought shown record_of width n cmp) brought → sum_by untold (drawn_in brought) ≡ sum_by untold (slots_in shown brought)
+    pub drawn-untold : (brought : List (Brought S R)) → All (IsBrought shown record_of width n cmp) brought → sum_by untold (drawn_in shown brought) ≡ sum_by untold (slots_in shown brought)
     drawn-untold [] all = refl
     drawn-untold (x ∷ xs) all =
         let is = (All-head (IsBrought shown record_of width n cmp) x xs all).always in
         let mine = drawn_of shown x.kept.value in
         let have = pass_slots shown x.body x.kept.value in
-        let a : drawn_in (x ∷ xs) ≡ mine ++ drawn_in xs = flat_map-cons (λ (one : Brought S R). drawn_of shown one.kept.value) x xs in
+        let a : drawn_in shown (x ∷ xs) ≡ mine ++ drawn_in shown xs = flat_map-cons (λ (one : Brought S R). drawn_of shown one.kept.value) x xs in
         let b : slots_in shown (x ∷ xs) ≡ have ++ slots_in shown xs = flat_map-cons (λ (one : Brought S R). pass_slots shown one.body one.kept.value) x xs in
         let more = drawn-untold xs (All-tail (IsBrought shown record_of width n cmp) x xs all) in
-        omega (arith, is.untold, more, ap (sum_by untold) a, ap (sum_by untold) b, sum_by-append untold mine (drawn_in xs), sum_by-append untold have (slots_in shown xs))
+        omega (arith, is.untold, more, ap (sum_by untold) a, ap (sum_by untold) b, sum_by-append untold mine (drawn_in shown xs), sum_by-append untold have (slots_in shown xs))
 
     -- no call failed of what they drew, where none of them met a fault
-    pub drawn-quiet : (brought : List (Brought S R)) → All (IsBrought shown record_of width n cmp) brought → All (λ (one : Brought S R). one.failed ≡ None) brought → AreQuiet (drawn_in brought) (slots_in shown brought)
+    pub drawn-quiet : (brought : List (Brought S R)) → All (IsBrought shown record_of width n cmp) brought → All (λ (one : Brought S R). one.failed ≡ None) brought → AreQuiet (drawn_in shown brought) (slots_in shown brought)
     drawn-quiet [] all fine = refl
     drawn-quiet (x ∷ xs) all fine =
         let is = (All-head (IsBrought shown record_of width n cmp) x xs all).sound (All-head (λ (one : Brought S R). one.failed ≡ None) x xs fine) in
         let mine = drawn_of shown x.kept.value in
         let have = pass_slots shown x.body x.kept.value in
-        let a : drawn_in (x ∷ xs) ≡ mine ++ drawn_in xs = flat_map-cons (λ (one : Brought S R). drawn_of shown one.kept.value) x xs in
+        let a : drawn_in shown (x ∷ xs) ≡ mine ++ drawn_in shown xs = flat_map-cons (λ (one : Brought S R). drawn_of shown one.kept.value) x xs in
         let b : slots_in shown (x ∷ xs) ≡ have ++ slots_in shown xs = flat_map-cons (λ (one : Brought S R). pass_slots shown one.body one.kept.value) x xs in
         let more = drawn-quiet xs (All-tail (IsBrought shown record_of width n cmp) x xs all) (All-tail (λ (one : Brought S R). one.failed ≡ None) x xs fine) in
         let f : Shown → ℕ = λ s. s.faults in
-        omega (arith, is.quiet, more, ap all_faults a, ap all_faults b, sum_by-append f mine (drawn_in xs), sum_by-append f have (slots_in shown xs))
+        omega (arith, is.quiet, more, ap all_faults a, ap all_faults b, sum_by-append f mine (drawn_in shown xs), sum_by-append f have (slots_in shown xs))
 
 module _ {S R : Type 0} (shown : S → Shown) (cmp : R → R → Ordering) (record_of : List ℕ → R) (width : ℕ) (q : BulkParts S R) (failed : Option ℕ) (is : IsApart shown width q failed) (q1 : BulkParts S R) (passes : List (PassHolding S R)) (br : BroughtAll shown record_of width q.sizes cmp passes q q1) (c : Closed S R) (cl : IsClosed shown q1 failed c) (count : length passes ≡ q.sizes.workers) (keys : All (λ (p : PassHolding S R). p.key.items ≡ q.row_seat.hand.items) passes) where
   abbrev rest : List (Brought S R)
@@ -126,12 +125,12 @@ module _ {S R : Type 0} (shown : S → Shown) (cmp : R → R → Ordering) (reco
 
   -- the parts, in terms of those that there were
   abbrev pub closed : Closed S R
-  closed = record { sizes = q.sizes; heaps = q.heaps; tree = q.tree; body = q.body; supply = c.supply; extract = q.extract; sources = q.sources; count = q.count; peak = q.peak; limited = q.limited; failed = failed; slots = q.slots }
+  closed = record { sizes = q.sizes; heaps = q.heaps; tree = q.tree; body = q.body; supply = c.supply; extract = q.extract; sources = q.sources; count = q.count; peak = q.peak; limited = q.limited; failed = failed; slots = q.slots; counts = q.counts }
 
   pub closed_is : c ≡ closed
   closed_is =
       cl.rest
-      ∙ ap (λ (p : BulkParts S R). record { sizes = p.sizes; heaps = p.heaps; tree = p.tree; body = p.body; supply = c.supply; extract = p.extract; sources = p.sources; count = p.count; peak = p.peak; limited = p.limited; failed = failed; slots = p.slots }) br.rest
+      ∙ ap (λ (p : BulkParts S R). record { sizes = p.sizes; heaps = p.heaps; tree = p.tree; body = p.body; supply = c.supply; extract = p.extract; sources = p.sources; count = p.count; peak = p.peak; limited = p.limited; failed = failed; slots = p.slots; counts = p.counts }) br.rest
 
   same_items : All (λ (one : Brought S R). one.kept.value.row_seat.hand.items ≡ items) rest
   same_items = all_mapped (pass_of shown record_of width q.sizes) (λ (p : PassHolding S R). p.key.items ≡ items) rest (subst (All (λ (p : PassHolding S R). p.key.items ≡ items)) (sym br.passes_are) keys)
@@ -379,7 +378,7 @@ module _ {S R : Type 0} (shown : S → Shown) (cmp : R → R → Ordering) (reco
         sum_by-append untold (slots_of shown q.body q.supply) (slots_shown shown items),
       ))
 
-  module _ (popped : ℕ) (so : failed ≡ None → IsSoundApart shown cmp record_of width q (sum_by (λ (p : PassHolding S R). p.key.begun) passes) popped) (before : failed ≡ None → All (GoesBefore shown cmp q) passes) where
+  module _ (popped : ℕ) (so : failed ≡ None → IsSoundApart shown cmp record_of width q (sum_by (λ (p : PassHolding S R). p.key.begun) passes) popped) (before : failed ≡ None → All (GoesBefore shown cmp q) passes) (paid : IsCountedApart shown q (sum_by (λ (p : PassHolding S R). p.key.begun) passes) failed) where
     none_after-right : (xs ys zs : List R) → NoneAfter cmp xs (ys ++ zs) → NoneAfter cmp xs zs
     none_after-right [] ys zs h = tt
     none_after-right (x ∷ xs) ys zs h = (Each-append_right (Le (is_before cmp) x) ys zs h.0, none_after-right xs ys zs h.1)
@@ -411,6 +410,18 @@ module _ {S R : Type 0} (shown : S → Shown) (cmp : R → R → Ordering) (reco
               none_after-right q.extract.items _ _ mine;
         }
 
+    begun_here : sum_by (λ (p : PassHolding S R). p.key.begun) passes ≡ begun_in shown rest
+    begun_here = ap (sum_by (λ (p : PassHolding S R). p.key.begun)) (sym br.passes_are) ∙ sum-mapped (pass_of shown record_of width q.sizes) (λ (p : PassHolding S R). p.key.begun) rest
+
+    account_here : apart_account shown q ≡ gathered_account shown closed rest
+    account_here =
+        let none : length (items_in q.heaps.items) ≡ 0 = ap (λ l. length (items_in l)) is.out.home.no_heap in
+        let moved_account = same-account q.sizes.block (apart_slots shown q) mid q.body (moved (λ s. s.writes)) (moved (λ s. s.reads)) in
+        moved_account ∙ beside-none (length (items_in q.heaps.items)) none (body_account q.sizes.block mid q.body)
+
+    counted : IsCountedBeside q.sizes.workers q.sizes.block (begun_in shown rest) (failed ≡ None) q.counts (gathered_account shown closed rest)
+    counted = subst (λ a. IsCountedBeside q.sizes.workers q.sizes.block (begun_in shown rest) (failed ≡ None) q.counts a) account_here (subst (λ k. IsCountedApart shown q k failed) begun_here paid)
+
     -- the parts and the passes that came, before the first is put in
     pub gathered-first : IsGathered shown cmp record_of width now (slots_shown shown q.row_seat.hand.items) c br.brought
     gathered-first =
@@ -420,4 +431,5 @@ module _ {S R : Type 0} (shown : S → Shown) (cmp : R → R → Ordering) (reco
           each = br.each;
           items_are = λ k d h. ap (slots_shown shown) (same_items k d h);
           sound = sound;
+          counted = counted;
         })

@@ -22,7 +22,7 @@ use Rattle.ppq_pass.specs.ppq_spill.Body.{held_by, body_slots, job_slots}
 use Rattle.ppq_pass.specs.Passed.{slots_of as pass_slots}
 use Rattle.ppq_pass.specs.PassState.{IsSoundPass}
 use Rattle.ppq_queue.specs.Resting.{slots_of}
-use Rattle.ppq_queue.proofs.Counts.{runs_some, stored_slots}
+use Rattle.ppq_queue.proofs.Amounts.{runs_some, stored_slots}
 use Rattle.ppq_queue.proofs.Slots.{SameSums-length}
 use Rattle.ppq_queue.proofs.Odd.{runs_most}
 

@@ -28,7 +28,7 @@ use Rattle.ppq_session.specs.LimitSession.{AreLimited, front_key, shared_of, of_
 use Rattle.ppq_session.proofs.Moved.{lent-length, told-whole, lent-blocks, told-parts}
 use Rattle.ppq_pass.specs.declared.shared.Shared.{Shared}
 use Rattle.ppq_session.proofs.Mapped.{sum-mapped, all_mapped}
-use Rattle.ppq_session.specs.Apart.{IsOut, IsApart, IsSoundApart, GoesBefore, CanBring, CanEnd, apart_key, staying}
+use Rattle.ppq_session.specs.Apart.{IsOut, IsApart, IsSoundApart, GoesBefore, CanBring, CanEnd, IsCountedApart, apart_key, staying}
 use Rattle.ppq_pass.specs.ppq_array.declared.berth.DeviceBlock.{DeviceBlock}
 use Rattle.ppq_pass.specs.ppq_array.Holdings.{external_slots}
 use Rattle.ppq_pass.proofs.ppq_spill.Keeping.{slots_long}
@@ -59,6 +59,7 @@ module _ {S R : Type 0} (shown : S → Shown) (cmp : R → R → Ordering) (reco
         packed = omega (arith, all, ap length is.no_extract, is.sound.packed);
         fits = omega (arith, all, ap length is.no_extract, is.sound.fit);
         fault = λ number e. absurd (cc);
+        paid = subst (λ k. IsCountedApart shown q k None) (omega (arith, all)) is.paid;
       }
 
   rest_first : AtRest shown cmp record_of width q.sizes (with_lent q.sizes q.body) (with_shared shown items pooled q.supply)
@@ -191,11 +192,11 @@ module _ {S R : Type 0} (shown : S → Shown) (cmp : R → R → Ordering) (reco
 
 module _ {S R : Type 0} where
   -- the pass alone
-  abbrev pass_in : LimitHolding S R → PassHolding S R
+  abbrev pub pass_in : LimitHolding S R → PassHolding S R
   pass_in p = p.pass
 
   -- no pass had a record in the beginning
-  none_begun : (front : FrontHolding S R) (ps : List (LimitHolding S R)) → All (λ (p : LimitHolding S R). p.pass.key ≡ front_key front) ps → sum_by (λ (p : LimitHolding S R). p.pass.key.begun) ps ≡ 0
+  pub none_begun : (front : FrontHolding S R) (ps : List (LimitHolding S R)) → All (λ (p : LimitHolding S R). p.pass.key ≡ front_key front) ps → sum_by (λ (p : LimitHolding S R). p.pass.key.begun) ps ≡ 0
   none_begun front [] all = refl
   none_begun front (p ∷ ps) all =
       let P : LimitHolding S R → Type 0 = λ x. x.pass.key ≡ front_key front in
@@ -211,6 +212,10 @@ module _ {S R : Type 0} (shown : S → Shown) (cmp : R → R → Ordering) (reco
     by_idle : {X : Type 0} (f : BulkParts S R → X) → f (emptied r.idle q) ≡ f q → (q2 ≡ q) ⊎ (q2 ≡ emptied r.idle q) → f q2 ≡ f q
     by_idle f same (inl e) = ap f e
     by_idle f same (inr e) = ap f e ∙ same
+
+    keeps_idle : (P : BulkParts S R → Type 0) → (P q → P (emptied r.idle q)) → P q → (q2 ≡ q) ⊎ (q2 ≡ emptied r.idle q) → P q2
+    keeps_idle P same is (inl e) = subst P (sym e) is
+    keeps_idle P same is (inr e) = subst P (sym e) (same is)
 
     pub front_stays : staying shown record_of width q2 popped failed ≡ of_front front
     front_stays =
@@ -238,15 +243,17 @@ module _ {S R : Type 0} (shown : S → Shown) (cmp : R → R → Ordering) (reco
       pub front_can : IsTotalOrder cmp → All (λ (p : LimitHolding S R). IsLimited shown cmp p.limit p.pass) passes → CanEnd shown cmp record_of width shared q2 popped failed (passes_of passes)
       front_can o limited =
           let begun = sum_by (λ (p : PassHolding S R). p.key.begun) (passes_of passes) in
+          let none_had : begun ≡ 0 = sum-mapped pass_in (λ p. p.key.begun) passes ∙ none_begun (front_holding shown record_of width q front.limit popped failed) passes of.keys in
           record {
             back = front_back;
             sound = λ none.
                 subst (λ (x : BulkParts S R). IsSoundApart shown cmp record_of width x begun popped) (sym (r.same none))
-                (front_sound shown cmp record_of width q popped failed front.limit t.out t.tallied (t.sound none) begun (sum-mapped pass_in (λ p. p.key.begun) passes ∙ none_begun (front_holding shown record_of width q front.limit popped failed) passes of.keys));
+                (front_sound shown cmp record_of width q popped failed front.limit t.out t.tallied (t.sound none) begun none_had);
             before = λ none.
                 subst (λ (x : BulkParts S R). All (GoesBefore shown cmp x) (passes_of passes)) (sym (r.same none))
                 (All-map (GoesBefore shown cmp q) pass_in passes (λ k d h.
                 front_before shown cmp record_of width q popped failed front.limit t.out t.tallied (t.sound none) o _ (of.limits k d h) (ap (λ (x : PassKey S R). x.items) (of.keys k d h)) (limited k d h)));
+            paid = keeps_idle (λ p. IsCountedApart shown p begun failed) (λ is. is) (subst (λ k. IsCountedApart shown q k failed) (sym none_had) t.tallied.paid) r.is;
           }
 
 module _ {S R : Type 0} (shown : S → Shown) (cmp : R → R → Ordering) (record_of : List ℕ → R) (width : ℕ) (q : BulkParts S R) (is : IsBulk shown cmp record_of width q) where
@@ -256,7 +263,7 @@ module _ {S R : Type 0} (shown : S → Shown) (cmp : R → R → Ordering) (reco
   -- no record is in the extract buffer, no slot is free, and no job is there
   stays : staying shown record_of width q 0 None ≡ of_bulk held
   stays =
-      let stay : List R → List Shown → Staying R = λ bag slots. record { bag = bag; size = q.count; popped = 0; sizes = q.sizes; peak = q.peak; limited = q.limited; slots = slots; failed = None } in
+      let stay : List R → List Shown → Staying R = λ bag slots. record { bag = bag; size = q.count; popped = 0; sizes = q.sizes; peak = q.peak; limited = q.limited; slots = slots; failed = None; counts = q.counts } in
       ap₂ stay (ap (λ l. l ++ runs_bag shown record_of width q.body) is.no_extract) (bare_slots shown q is.supply.kept is.apart.out.no_job)
 
   module _ (b : BulkHolding S R) (shows : held ≡ b) where
@@ -269,6 +276,7 @@ module _ {S R : Type 0} (shown : S → Shown) (cmp : R → R → Ordering) (reco
         let of = subst (λ x. AreOf x (keys_of ps)) (sym shows) are in
         let key : PassHolding S R → PassKey S R = λ p. p.key in
         let begun : sum_by (λ (p : PassHolding S R). p.key.begun) ps + count_of q.body ≡ q.count = omega (arith, sum-mapped key (λ (k : PassKey S R). k.begun) ps, of.begun, is.counted) in
+        let all : q.count - count_of q.body ≡ sum_by (λ (p : PassHolding S R). p.key.begun) ps = omega (arith, begun) in
         record {
           back = record {
             apart = is.apart;
@@ -277,6 +285,7 @@ module _ {S R : Type 0} (shown : S → Shown) (cmp : R → R → Ordering) (reco
             row = ap (λ (x : BulkHolding S R). x.row) shows ∙ sym (ap (λ (s : Shared S R). s.row) is_shared);
             pool = ap (λ (x : BulkHolding S R). x.pool) shows ∙ sym (ap (λ (s : Shared S R). s.pool) is_shared);
           };
-          sound = λ none. let all : q.count - count_of q.body ≡ sum_by (λ (p : PassHolding S R). p.key.begun) ps = omega (arith, begun) in subst (λ n. IsSoundApart shown cmp record_of width q n 0) all is.sound;
+          sound = λ none. subst (λ n. IsSoundApart shown cmp record_of width q n 0) all is.sound;
           before = λ none k d h tell fine. none_first cmp q.extract.items _ is.no_extract;
+          paid = subst (λ n. IsCountedApart shown q n None) all is.paid;
         }

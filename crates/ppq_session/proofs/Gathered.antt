@@ -34,7 +34,7 @@ use Rattle.ppq_pass.specs.ppq_spill.Untold.{untold}
 use Rattle.ppq_pass.proofs.ppq_spill.Telling.{tell_sum, sum_tell}
 use Rattle.ppq_pass.specs.Passed.{slots_of as pass_slots}
 use Rattle.ppq_queue.specs.Slots.{with_slots}
-use Rattle.ppq_queue.proofs.Counts.{runs_fit, arrays_fit, stored_slots, internal_count}
+use Rattle.ppq_queue.proofs.Amounts.{runs_fit, arrays_fit, stored_slots, internal_count}
 use Rattle.ppq_queue.specs.Resting.{IsRestingRun, IsRestingArray, odd_of, odd_in, slots_of, count_of, runs_bag}
 use Rattle.ppq_session.specs.Gathering.{IsGathering, IsSoundSoFar, slots_in, buffers_in, begun_in, Adopted}
 use Rattle.ppq_session.specs.declared.brought.Brought.{Brought}
@@ -138,7 +138,7 @@ module _ {S R : Type 0} (shown : S → Shown) (width : ℕ) (slots items : List 
       → (held_by shown new.body).buffers ≡ (held_by shown c.body).buffers + (held_by shown one.body).buffers → new.body.lanes.jobs.items ≡ []
       → new.supply ≡ with_slots c.supply new.supply.kept new.supply.slot_room → length new.supply.kept + new.supply.slot_room ≡ length c.supply.kept + c.supply.slot_room
       → ((number : ℕ) → new.failed ≡ Some number → (c.failed ≡ Some number) ⊎ (one.failed ≡ Some number))
-      → new ≡ record c { heaps = new.heaps; body = new.body; supply = new.supply; count = new.count; failed = new.failed }
+      → new ≡ record c { heaps = new.heaps; body = new.body; supply = new.supply; count = new.count; counts = new.counts; failed = new.failed }
       → IsGathering shown width slots items new rest
   gathering-more new passed heaps heaps_room sums held no_job stock room failed same =
       let old : List Shown = slots_of shown c.body c.supply ++ slots_in shown (rest ++ one ∷ []) in
@@ -341,7 +341,7 @@ module _ {S R : Type 0} (shown : S → Shown) (cmp : R → R → Ordering) (reco
       places_few = passed.supply.once (length one.kept.value.row_seat.hand.items) passed.supply.drawn
 
   -- what holds of the parts after the pass was put in
-  module _ (new : Closed S R) (whole : one.failed ≡ None) (is : Adopted c.body one.body new.body) (heaps : new.heaps.items ≡ c.heaps.items ++ one.heap ∷ []) (stash : new.supply.kept ≡ c.supply.kept ++ slots_shown shown one.kept.value.stash) (count : new.count ≡ c.count + one.accepted) (same : new ≡ record c { heaps = new.heaps; body = new.body; supply = new.supply; count = new.count; failed = new.failed }) where
+  module _ (new : Closed S R) (whole : one.failed ≡ None) (is : Adopted c.body one.body new.body) (heaps : new.heaps.items ≡ c.heaps.items ++ one.heap ∷ []) (stash : new.supply.kept ≡ c.supply.kept ++ slots_shown shown one.kept.value.stash) (count : new.count ≡ c.count + one.accepted) (same : new ≡ record c { heaps = new.heaps; body = new.body; supply = new.supply; count = new.count; counts = new.counts; failed = new.failed }) where
     all_items : length (items_in new.heaps.items) ≡ length (items_in c.heaps.items) + length one.heap.items
     all_items =
         let g : Contents R → List R = λ h. h.items in

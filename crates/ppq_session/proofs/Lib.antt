@@ -10,7 +10,9 @@ pub mod Adding
 pub mod Answered
 pub mod Begun
 pub mod Belows
+pub mod Backed
 pub mod Brings
+pub mod Counted
 pub mod Emptying
 pub mod Equipping
 pub mod Faults
@@ -24,6 +26,7 @@ pub mod Mapped
 pub mod Moved
 pub mod OneHistory
 pub mod Opening
+pub mod Paying
 pub mod Places
 pub mod PutIn
 pub mod Refilling

@@ -13,7 +13,7 @@ use Rattle.ppq_pass.proofs.ppq_spill.SameSlots.{SameSlots-trans}
 use Rattle.ppq_pass.specs.ppq_array.Owner.{slots_shown}
 use Rattle.ppq_pass.specs.Passed.{PassKey, PassHolding, PassTells, with_one, IsRefusedPush}
 use Rattle.ppq_pass.specs.declared.shared.Shared.{Shared}
-use Rattle.ppq_queue.specs.Holding.{Holding}
+use Rattle.ppq_queue.specs.Holding.{Holding, Keeps}
 use Rattle.ppq_pass.specs.ppq_array.declared.store_fault.StoreFault.{StoreFault as QueueFault}
 use Rattle.ppq_pass.specs.ppq_array.declared.store_fault.StoreFault.TheVariants.{NoFreeBlock, Device}
 use Rattle.ppq_session.specs.BulkSession.{IsFresh, keys_of}
@@ -30,7 +30,9 @@ use Rattle.ppq_session.specs.Answering.{KeepsFront, HasAnswered}
 use Rattle.ppq_session.specs.LimitSessions.{AreGoing, InLimits, IsOver, IsOverBy, begun_in}
 use Rattle.ppq_session.proofs.Answered.{left_after-same, answers_to-same, removed_in-most}
 use Rattle.ppq_session.proofs.Sessions.{fresh-going, given-none, given-more, end-keeps, finished-whole, finished-short, finished-stopped}
-use Rattle.ppq_session.proofs.Mapped.{all_mapped}
+use Rattle.ppq_session.proofs.Mapped.{sum-mapped, all_mapped}
+use Rattle.ppq_session.proofs.Fronted.{pass_in, none_begun}
+use Rattle.ppq_session.proofs.Backed.{counts-none, counts-more, counts-whole, counts-stopped}
 use Rattle.std.specs.List.{AllByRecursion as Each}
 use Rattle.ppq_pass.specs.ppq_record.Order.{is_before}
 use Rattle.ppq_pass.specs.ppq_fetch.Taking.{NoneBelow}
@@ -174,6 +176,11 @@ module _ {S R : Type 0} where
       popped_is = omega (arith, began.unpopped);
       rest = λ _ t. began.bag t;
       given_are = given-none queue.slots [] (passes_of passes) (limited_bag passes) (fresh-all passes began.new) (λ t p. ap (count_by p) (fresh-bag passes began.new));
+      counted =
+          counts-none queue (of_front front) (passes_of passes) began.counts
+          (omega (arith, sum-mapped pass_in (λ (q : PassHolding S R). q.key.begun) passes, none_begun front passes began.of.keys))
+          (All-map (λ (p : PassHolding S R). p.key.sizes ≡ queue.sizes) (λ (p : LimitHolding S R). p.pass) passes (λ k d l. ap (λ key. key.sizes) (began.of.keys k d l) ∙ began.sizes))
+          (fresh-all passes began.new);
     }
 
     module _ (queue : Holding R) (limit : R) (given left : List R) (popped : ℕ) where
@@ -204,6 +211,7 @@ module _ {S R : Type 0} where
                 (subst (λ l. IsSameBag new.bag (left_after cmp l old.bag asks)) s.limit_is (answered.left sound (k.tells t).0))
                 (left_after-same o equal limit old.bag left asks (s.rest going.front t));
             given_are = given-more queue.slots [] shown given more (limited_bag olds) (limited_bag news) (passes_of olds) (passes_of news) (λ p. omega arith) (λ t. (k.tells t).1) going.passes dealt s.given_are;
+            counted = counts-more queue (of_front old) (of_front new) (passes_of olds) (passes_of news) (ap (λ (f : FrontHolding S R). f.counts) kept.rest) dealt.keys dealt.backed going.passes s.counted;
           }
 
       -- the answers are those of what was left before
@@ -215,17 +223,20 @@ module _ {S R : Type 0} where
           ∙ ap (take (length answers)) (ap (λ l. answers_to cmp l old.bag asks) s.limit_is ∙ answers_to-same o equal limit old.bag left asks (s.rest going.front t))
 
       module _ (front : FrontHolding S R) (passes : List (LimitHolding S R)) (s : InLimits shown queue limit given left popped (record { front = front; passes = passes })) (new : Holding R) (how : SessionEnd) (e : LimitEnded shown front passes new how) where
+        kept : Keeps (begun_in queue) new
+        kept = end-keeps shown (begun_in queue) (of_front front) (passes_of passes) s.keeps new how e
+
         sum : front.failed ≡ None → AllTell queue.slots → (p : R → Bool) → count_by p (front.bag ++ limited_bag passes) + count_by p (let none : List R = [] in none) ≡ count_by p (limited_bag passes) + count_by p left
         sum sound t p = omega (arith, s.rest sound t p, count_by-append p front.bag (limited_bag passes))
 
         pub over-whole : {T : Type 0} (value : T) → IsTogether shown front passes new → All IsGoing (passes_of passes) → IsOver queue given left popped new (Ok value)
         over-whole value end going =
-            finished-whole shown (begun_in queue) (of_front front) (passes_of passes) s.keeps new given left [] (limited_bag passes) popped s.given_are s.popped_is sum end value (end-keeps shown (begun_in queue) (of_front front) (passes_of passes) s.keeps new how e) going
+            finished-whole shown (begun_in queue) (of_front front) (passes_of passes) s.keeps new queue given left [] (limited_bag passes) popped s.given_are s.popped_is sum end value kept going (counts-whole shown queue (of_front front) (passes_of passes) s.counted new how e kept.sizes (length given) s.given_are.most value going)
 
         pub over-short : {T : Type 0} → IsTogether shown front passes new → 0 < front.sizes.block → Any HasEnded (passes_of passes) → IsOver {T = T} queue given left popped new (Err NoFreeBlock)
         over-short end some ended =
-            finished-short shown (begun_in queue) (of_front front) (passes_of passes) s.keeps new given left [] (limited_bag passes) popped s.given_are s.popped_is sum end (end-keeps shown (begun_in queue) (of_front front) (passes_of passes) s.keeps new how e) some ended
+            finished-short shown (begun_in queue) (of_front front) (passes_of passes) s.keeps new queue given left [] (limited_bag passes) popped s.given_are s.popped_is sum end kept some ended (counts-stopped shown queue (of_front front) (passes_of passes) s.counted new how e kept.sizes (length given) s.given_are.most NoFreeBlock)
 
         pub over-stopped : {T : Type 0} (fault : QueueFault) → EndsWith shown (of_front front) (passes_of passes) new (Stopped fault) → 0 < front.sizes.block → IsOver {T = T} queue given left popped new (Err fault)
         over-stopped fault end some =
-            finished-stopped shown (begun_in queue) (of_front front) (passes_of passes) s.keeps new given left [] (limited_bag passes) popped s.given_are s.popped_is sum fault (end-keeps shown (begun_in queue) (of_front front) (passes_of passes) s.keeps new how e) some e.sizes end
+            finished-stopped shown (begun_in queue) (of_front front) (passes_of passes) s.keeps new queue given left [] (limited_bag passes) popped s.given_are s.popped_is sum fault kept some e.sizes end (counts-stopped shown queue (of_front front) (passes_of passes) s.counted new how e kept.sizes (length given) s.given_are.most fault)

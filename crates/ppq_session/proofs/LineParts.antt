@@ -112,6 +112,7 @@ module _ {S R : Type 0} (shown : S → Shown) where
         accepted = λ going. omega (arith, dealt.accepted going, long);
         most = omega (arith, dealt.most, long);
         fewer = λ any. omega (arith, dealt.fewer any, long);
+        backed = dealt.backed;
       }
 
   -- each pass was given the records of its lines

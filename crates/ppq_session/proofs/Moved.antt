@@ -22,7 +22,7 @@ use Rattle.ppq_pass.specs.ppq_spill.Body.{body_slots, held_by}
 use Rattle.ppq_pass.specs.ppq_spill.declared.body.PassBody.{PassBody}
 use Rattle.ppq_queue.specs.Resting.{BodyKept, slots_of, runs_bag, count_of}
 use Rattle.ppq_session.specs.declared.parts.BulkParts.{BulkParts}
-use Rattle.ppq_session.specs.Apart.{apart_slots, IsOut}
+use Rattle.ppq_session.specs.Apart.{apart_slots, IsOut, IsCountedApart}
 use Rattle.ppq_session.specs.FrontState.{IsRefillRefusal, lent, with_lent, with_shared, IsTallied, front_bag, front_holding, IsSoundFront}
 use Rattle.std.specs.declared.cmp.Ordering.{Ordering}
 use Rattle.ppq_pass.specs.ppq_fetch.Taking.{NoneBelow, NoneAfter, AllBelow}
@@ -115,8 +115,10 @@ module _ {S R : Type 0} (shown : S → Shown) where
           omega (arith, kept.writes, sum_by-append f (slots_of shown q.body q.supply) own, sum_by-append f (slots_of shown b t) own)
 
     -- the counts are as they were
-    pub tallied-refilled : (popped : ℕ) (failed failed' : Option ℕ) → IsTallied shown q popped failed → ((number : ℕ) → failed' ≡ Some number → HasFailed number (apart_slots shown refilled)) → IsTallied shown refilled popped failed'
-    tallied-refilled popped failed failed' is fault = record { limited = is.limited; counted = is.counted; most = is.most; packed = is.packed; fits = is.fits; fault = fault }
+    pub tallied-refilled :
+        (popped : ℕ) (failed failed' : Option ℕ) → IsTallied shown q popped failed → ((number : ℕ) → failed' ≡ Some number → HasFailed number (apart_slots shown refilled)) → IsCountedApart shown refilled 0 failed'
+        → IsTallied shown refilled popped failed'
+    tallied-refilled popped failed failed' is fault paid = record { limited = is.limited; counted = is.counted; most = is.most; packed = is.packed; fits = is.fits; fault = fault; paid = paid }
 
 module _ {S R : Type 0} (shown : S → Shown) (record_of : List ℕ → R) (width : ℕ) (q q' : BulkParts S R) (rest : q' ≡ record q { extract = q'.extract; body = q'.body; supply = q'.supply; sources = q'.sources }) (kept : BodyKept shown q.body q'.body q.supply q'.supply) where
   slots-ready : SameSlots (apart_slots shown q) (apart_slots shown q')
@@ -131,10 +133,10 @@ module _ {S R : Type 0} (shown : S → Shown) (record_of : List ℕ → R) (widt
   pub told-ready : AllTell (apart_slots shown q') → AllTell (apart_slots shown q)
   told-ready tell = told-refilled shown width q q'.extract q'.body q'.supply q'.sources kept (subst (λ p. AllTell (apart_slots shown p)) rest tell)
 
-  pub tallied-ready : (popped : ℕ) (failed failed' : Option ℕ) → IsTallied shown q popped failed → ((number : ℕ) → failed' ≡ Some number → HasFailed number (apart_slots shown q')) → IsTallied shown q' popped failed'
-  tallied-ready popped failed failed' is fault =
+  pub tallied-ready : (popped : ℕ) (failed failed' : Option ℕ) → IsTallied shown q popped failed → ((number : ℕ) → failed' ≡ Some number → HasFailed number (apart_slots shown q')) → IsCountedApart shown q' 0 failed' → IsTallied shown q' popped failed'
+  tallied-ready popped failed failed' is fault paid =
       subst (λ p. IsTallied shown p popped failed') (sym rest)
-      (tallied-refilled shown width q q'.extract q'.body q'.supply q'.sources popped failed failed' is (λ number e. subst (λ p. HasFailed number (apart_slots shown p)) rest (fault number e)))
+      (tallied-refilled shown width q q'.extract q'.body q'.supply q'.sources popped failed failed' is (λ number e. subst (λ p. HasFailed number (apart_slots shown p)) rest (fault number e)) (subst (λ p. IsCountedApart shown p 0 failed') rest paid))
 
   -- what stayed empty has nothing below the limit, and neither have the runs
   pub is-ready :
@@ -168,6 +170,7 @@ module _ {S R : Type 0} (shown : S → Shown) (record_of : List ℕ → R) (widt
         items = p.row_seat.hand.items;
         pool = p.pool_seat.pool;
         failed = failed';
+        counts = p.counts;
       }
       in
       ap (λ p. shows p now) rest ∙ ap (shows q) same ∙ ap (λ (h : FrontHolding S R). record h { bag = front_bag shown record_of width q'; slots = apart_slots shown q'; run_buffers = internal_buffers q'.body.runs.internal.items; in_extract = length q'.extract.items; failed = failed' }) view
@@ -203,7 +206,7 @@ module _ {S R : Type 0} (shown : S → Shown) (width : ℕ) (q : BulkParts S R) 
   taken = record q { extract = x; count = k }
 
   tallied-taken : (popped popped' : ℕ) (failed : Option ℕ) → k + popped' ≡ q.count + popped → IsTallied shown q popped failed → IsTallied shown taken popped' failed
-  tallied-taken popped popped' failed same is = record { limited = is.limited; counted = omega (arith, same, is.counted); most = omega (arith, same, is.most); packed = omega (arith, same, is.packed); fits = omega (arith, same, is.fits); fault = is.fault }
+  tallied-taken popped popped' failed same is = record { limited = is.limited; counted = omega (arith, same, is.counted); most = omega (arith, same, is.most); packed = omega (arith, same, is.packed); fits = omega (arith, same, is.fits); fault = is.fault; paid = is.paid }
 
   module _ (gone : x ≡ held (drop 1 q.extract.items) q.extract.room) where
     front-taken : IsOut shown width q → IsOut shown width taken

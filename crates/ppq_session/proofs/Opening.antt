@@ -1,5 +1,5 @@
 -- A queue whose extract buffer is empty is handed out: what a session has when it begins.
-use Rattle.std.proofs.Common.{◌≡◌, ℕ, ◌*◌, ◌<◌, ◌≤◌, List, [], ◌∷◌, ◌++◌, length, All, refl, sym, ap, ap₂, ◌∙◌, subst, arith, append-nil, ◌+◌, ◌-◌, length-append, None}
+use Rattle.std.proofs.Common.{◌≡◌, ℕ, ◌*◌, ◌<◌, ◌≤◌, List, [], ◌∷◌, ◌++◌, length, All, refl, sym, ap, ap₂, ◌∙◌, subst, arith, append-nil, ◌+◌, ◌-◌, length-append, Option, None}
 use Rattle.std.proofs.Math.Nat.{add-mul, mul-le-mul_right}
 use Rattle.std.specs.Prelude.{Vec, vec_capacity, count_by}
 use Rattle.std.specs.Global.{Global}
@@ -21,7 +21,7 @@ use Rattle.ppq_pass.specs.ppq_fetch.Fetching.{blocks_in}
 use Rattle.ppq_pass.specs.ppq_fetch.Taking.{NoneAfter}
 use Rattle.ppq_pass.specs.ppq_record.Order.{Ascends}
 use Rattle.ppq_pass.proofs.ppq_spill.Keeping.{slots_long}
-use Rattle.ppq_queue.proofs.Counts.{stored_slots, internal_count, runs_fit, arrays_fit}
+use Rattle.ppq_queue.proofs.Amounts.{stored_slots, internal_count, runs_fit, arrays_fit}
 use Rattle.ppq_queue.proofs.Odd.{arrays_full}
 use Rattle.ppq_pass.specs.ppq_spill.Body.{job_slots}
 use Rattle.ppq_pass.specs.ppq_row.declared.hand.Hand.{Hand as RowHand}
@@ -30,11 +30,15 @@ use Rattle.ppq_pass.specs.ppq_pool.Seats.{count_of as pool_count}
 use Rattle.ppq_pass.specs.Passed.{PassKey, PassHolding}
 use Rattle.ppq_pass.specs.declared.shared.PoolBuf.{PoolBuf}
 use Rattle.ppq_pass.specs.declared.shared.Shared.{Shared}
-use Rattle.ppq_queue.specs.Resting.{AtRest, IsRestingRun, IsRestingArray, slots_of, runs_bag, lane_buffers, odd_in}
+use Rattle.ppq_queue.specs.Resting.{AtRest, IsRestingRun, IsRestingArray, slots_of, runs_bag, count_of, lane_buffers, odd_in}
 use Rattle.ppq_queue.specs.State.{IsSound}
 use Rattle.ppq_queue.specs.declared.queue_parts.QueueParts.{QueueParts}
 use Rattle.ppq_session.specs.BulkSession.{BulkHolding, AreOf, keys_of, bag_of, pass_key}
-use Rattle.ppq_session.specs.Apart.{apart_slots, in_runs}
+use Rattle.ppq_pass.specs.ppq_counts.Account.{IsCountedBeside}
+use Rattle.ppq_pass.proofs.ppq_counts.Counted.{beside-counted, beside-sound}
+use Rattle.ppq_pass.specs.ppq_spill.Costing.{body_account}
+use Rattle.ppq_queue.specs.Paying.{runs_account}
+use Rattle.ppq_session.specs.Apart.{apart_slots, in_runs, IsCountedApart}
 use Rattle.ppq_session.specs.State.{IsBulk, IsBare, bulk_holding, bulk_slots}
 use Rattle.ppq_session.specs.Opened.{IsOpened, HandedOut}
 use Rattle.ppq_session.specs.Equipped.{Equipped, MayEquip, ArePasses, session_key}
@@ -64,6 +68,7 @@ opened_parts p s heaps tree idle brought =
       count = p.count;
       peak = p.peak;
       limited = p.limited;
+      counts = p.counts;
       slots = p.slots;
       row_seat = s.row_seat;
       pool_seat = s.pool_seat;
@@ -190,6 +195,12 @@ module _ {S R : Type 0} (shown : S → Shown) (cmp : R → R → Ordering) (reco
           buffer_room = omega (arith, ap (λ t. t.buffer_room) o.out, r.pool);
         }
 
+    -- the numbers of the queue pay for the parts, and for the records of its heaps
+    paid_apart : (begun : ℕ) → length (items_of p.heaps) ≡ begun → apart_slots shown (opened_parts p s' heaps tree idle brought) ≡ slots_of shown p.body o.before → IsCountedApart shown (opened_parts p s' heaps tree idle brought) begun None
+    paid_apart begun e slots =
+        let beside_heaps = subst (λ k. IsCountedBeside p.sizes.workers p.sizes.block k (p.failed ≡ None) p.counts (runs_account shown p.sizes p.body o.before)) e (beside-counted o.sound o.whole.counted) in
+        subst (λ l. IsCountedBeside p.sizes.workers p.sizes.block begun (◌≡◌ {A = Option ℕ} None None) p.counts (body_account p.sizes.block l p.body)) (sym slots) (beside-sound (λ _. o.sound) beside_heaps)
+
     pub is_bulk : heaps.items ≡ [] → p.sizes.workers ≤ vec_capacity heaps → length tree.items ≡ p.sizes.workers → brought.items ≡ [] → p.sizes.workers ≤ vec_capacity brought → IsBulk shown cmp record_of width (opened_parts p s' heaps tree idle brought)
     is_bulk none room leaves empty many =
         let w = o.whole.queue in
@@ -259,6 +270,7 @@ module _ {S R : Type 0} (shown : S → Shown) (cmp : R → R → Ordering) (reco
           supply = bare;
           counted = omega (arith, so.counted);
           least = w.counted;
+          paid = paid_apart (q.count - count_of p.body) (omega (arith, so.counted, ap length o.extract)) (same ∙ slots_same);
         }
 
     abbrev held : BulkHolding S R
@@ -308,6 +320,7 @@ module _ {S R : Type 0} (shown : S → Shown) (cmp : R → R → Ordering) (reco
           peak = ap (λ h. h.peak) o.shows;
           limited = ap (λ h. h.limited) o.shows;
           sizes = ap (λ h. h.sizes) o.shows;
+          counts = ap (λ h. h.counts) o.shows;
         })
 
 module _ {S R : Type 0} (shown : S → Shown) (cmp : R → R → Ordering) (record_of : List ℕ → R) (width : ℕ) (p : QueueParts S R) (q : Holding R) (shows : holding_of shown record_of width p ≡ q) where

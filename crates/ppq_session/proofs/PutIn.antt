@@ -23,15 +23,18 @@ use Rattle.ppq_session.specs.Passes.{IsBrought, pass_of}
 use Rattle.ppq_session.specs.Gathering.{IsGathered, IsGathering, IsSoundSoFar, gathered_bag, Adopted, MayGather, Gathers}
 use Rattle.ppq_session.specs.declared.brought.Brought.{Brought}
 use Rattle.ppq_session.specs.declared.closed.Closed.{Closed}
+use Rattle.ppq_pass.specs.ppq_counts.Tally.{tally, joined}
+use Rattle.ppq_session.proofs.Counted.{gathered-counted}
 use Rattle.ppq_session.proofs.Gathered.{adopted-slots, adopted-buffers, gathering-more, sound-more', count-flat, count-joined}
 
 -- what a queue's parts are after a pass was put in, besides its runs
 pub record PutIn {S R : Type 0} (c new : Closed S R) (one : Brought S R) : Type 0 where
   pub heaps : new.heaps.items ≡ c.heaps.items ++ one.heap ∷ []
   pub heaps_room : vec_capacity new.heaps ≡ vec_capacity c.heaps
+  pub counts : new.counts ≡ joined c.counts (tally one.accepted one.stores 0)
   pub stock : new.supply ≡ with_slots c.supply new.supply.kept new.supply.slot_room
   pub room : length new.supply.kept + new.supply.slot_room ≡ length c.supply.kept + c.supply.slot_room
-  pub same : new ≡ record c { heaps = new.heaps; body = new.body; supply = new.supply; count = new.count; failed = new.failed }
+  pub same : new ≡ record c { heaps = new.heaps; body = new.body; supply = new.supply; count = new.count; counts = new.counts; failed = new.failed }
 
 module _ {S R : Type 0} (shown : S → Shown) (cmp : R → R → Ordering) (record_of : List ℕ → R) (width : ℕ) (slots items : List Shown) (c : Closed S R) (one : Brought S R) (rest : List (Brought S R)) (is : IsGathered shown cmp record_of width slots items c (rest ++ one ∷ [])) where
   pub each_left : All (IsBrought shown record_of width c.sizes cmp) rest
@@ -46,13 +49,17 @@ module _ {S R : Type 0} (shown : S → Shown) (cmp : R → R → Ordering) (reco
       All-head P one [] (all_right P rest (one ∷ []) is.items_are)
 
 module _ {S R : Type 0} (shown : S → Shown) (cmp : R → R → Ordering) (record_of : List ℕ → R) (width : ℕ) (slots items : List Shown) (c new : Closed S R) (one : Brought S R) (rest : List (Brought S R)) (is : IsGathered shown cmp record_of width slots items c (rest ++ one ∷ [])) (put : PutIn c new one) where
-  together : IsGathering shown width slots items new rest → (new.failed ≡ None → IsSoundSoFar shown cmp record_of width new rest) → IsGathered shown cmp record_of width slots items new rest
-  together always sound =
+  together :
+      IsGathering shown width slots items new rest → (new.failed ≡ None → IsSoundSoFar shown cmp record_of width new rest)
+      → ((f : Shown → ℕ) → sum_by f (slots_of shown new.body new.supply) ≡ sum_by f (slots_of shown c.body c.supply) + sum_by f (pass_slots shown one.body one.kept.value))
+      → (new.failed ≡ None → c.failed ≡ None) → (new.failed ≡ None → one.failed ≡ None) → (new.failed ≡ None → Adopted c.body one.body new.body) → IsGathered shown cmp record_of width slots items new rest
+  together always sound sums parts_sound pass_sound adopted =
       record {
         always = always;
         each = subst (λ n. All (IsBrought shown record_of width n cmp) rest) (sym (ap (λ q. q.sizes) put.same)) (each_left shown cmp record_of width slots items c one rest is);
         items_are = all_left (λ (x : Brought S R). slots_shown shown x.kept.value.row_seat.hand.items ≡ items) rest (one ∷ []) is.items_are;
         sound = sound;
+        counted = gathered-counted shown c new one rest (ap (λ q. q.sizes) put.same) put.heaps put.counts sums parts_sound pass_sound adopted is.counted (this shown cmp record_of width slots items c one rest is).counted;
       }
 
   no_fault : {P : Type 0} → c.failed ≡ None → (number : ℕ) → new.failed ≡ Some number → new.failed ≡ None → P
@@ -65,8 +72,9 @@ module _ {S R : Type 0} (shown : S → Shown) (cmp : R → R → Ordering) (reco
   gathered-adopted adopted stash count none whole still =
       let mine = this shown cmp record_of width slots items c one rest is in
       let passed = mine.always in
+      let sums : (f : Shown → ℕ) → sum_by f (slots_of shown new.body new.supply) ≡ sum_by f (slots_of shown c.body c.supply) + sum_by f (pass_slots shown one.body one.kept.value) = λ f. adopted-slots shown c.body one.body new.body adopted passed.no_job f c.supply new.supply one.kept.value.stash stash in
       let always =
-      gathering-more shown width slots items c one rest is.always new passed put.heaps put.heaps_room (λ f. adopted-slots shown c.body one.body new.body adopted passed.no_job f c.supply new.supply one.kept.value.stash stash)
+      gathering-more shown width slots items c one rest is.always new passed put.heaps put.heaps_room sums
       (adopted-buffers shown c.body one.body new.body adopted passed.no_job)
       (ap (λ j. j.items) adopted.jobs ∙ is.always.no_job)
       put.stock
@@ -75,7 +83,7 @@ module _ {S R : Type 0} (shown : S → Shown) (cmp : R → R → Ordering) (reco
       put.same
       in
       let sound = sound-more' shown cmp record_of width slots items c one rest is.always (is.sound none) passed (mine.sound whole) (its_items shown cmp record_of width slots items c one rest is) new whole adopted put.heaps stash count put.same in
-      together always (λ _. subst (λ q. IsSoundSoFar shown cmp record_of width q rest) (ap (λ m. record new { sizes = m }) (sym (ap (λ q. q.sizes) put.same))) sound)
+      together always (λ _. subst (λ q. IsSoundSoFar shown cmp record_of width q rest) (ap (λ m. record new { sizes = m }) (sym (ap (λ q. q.sizes) put.same))) sound) sums (λ _. none) (λ _. whole) (λ _. adopted)
 
   -- its runs were taken apart: slots and buffers are all there
   pub gathered-dissolved :
@@ -95,7 +103,7 @@ module _ {S R : Type 0} (shown : S → Shown) (cmp : R → R → Ordering) (reco
       put.room
       failed
       put.same)
-      (λ none. absurd (some none))
+      (λ none. absurd (some none)) all (λ none. absurd (some none)) (λ none. absurd (some none)) (λ none. absurd (some none))
     where
       all : (f : Shown → ℕ) → sum_by f (slots_of shown new.body new.supply) ≡ sum_by f (slots_of shown c.body c.supply) + sum_by f (pass_slots shown one.body one.kept.value)
       all f =
@@ -174,6 +182,8 @@ module _ {S R : Type 0} (shown : S → Shown) (cmp : R → R → Ordering) (reco
         sizes = refl;
         peak = refl;
         limited = refl;
+        tally = refl;
+        heaps = omega arith;
       }
 
   -- one more
@@ -190,6 +200,8 @@ module _ {S R : Type 0} (shown : S → Shown) (cmp : R → R → Ordering) (reco
         sizes = j.sizes ∙ i.sizes;
         peak = j.peak ∙ i.peak;
         limited = j.limited ∙ i.limited;
+        tally = j.tally ∙ ap (λ t. joined t (tally one.accepted one.stores 0)) i.tally;
+        heaps = omega (arith, j.heaps, i.heaps, sum_by-cons (λ (x : Brought S R). length x.heap.items) one came, sum_by-cons (λ (x : Brought S R). length x.heap.items) one []);
       }
 
   -- of all passes these are to come, and the others were put in

@@ -30,7 +30,7 @@ use Rattle.ppq_pass.proofs.ppq_spill.Keeping.{slots_long}
 use Rattle.ppq_pass.specs.ppq_spill.declared.body.PassBody.{PassBody}
 use Rattle.ppq_queue.specs.Resting.{BodyKept, AtRest, runs_bag, slots_of}
 use Rattle.ppq_queue.proofs.Bounds.{blocks_hold, pool_small, runs_few, idle_most, records_most}
-use Rattle.ppq_queue.proofs.Counts.{fronts_few}
+use Rattle.ppq_queue.proofs.Amounts.{fronts_few}
 use Rattle.ppq_queue.proofs.Odd.{odd_most}
 use Rattle.ppq_queue.proofs.Moves.{none_after-same}
 use Rattle.ppq_queue.proofs.Refilled.{sources-bag, rises-in, rises-out, runs-refilled, arrays-refilled}

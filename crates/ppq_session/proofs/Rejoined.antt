@@ -12,6 +12,10 @@ use Rattle.ppq_pass.specs.ppq_array.Owner.{HasBlock}
 use Rattle.ppq_pass.specs.ppq_array.Holdings.{external_slots}
 use Rattle.ppq_pass.specs.ppq_spill.Body.{job_slots}
 use Rattle.ppq_queue.specs.declared.queue_parts.QueueParts.{QueueParts}
+use Rattle.ppq_pass.specs.ppq_counts.Account.{IsCounted, beside}
+use Rattle.ppq_pass.proofs.ppq_counts.Counted.{counted-sound, counted-beside}
+use Rattle.ppq_pass.specs.ppq_spill.Costing.{body_account}
+use Rattle.ppq_queue.specs.Paying.{whole_account}
 use Rattle.ppq_queue.specs.Handed.{IsWhole}
 use Rattle.ppq_queue.specs.State.{IsQueue, IsSound}
 use Rattle.ppq_queue.specs.Resting.{AtRest, IsRestingRun, IsRestingArray, count_of, slots_of, odd_in}
@@ -20,7 +24,7 @@ use Rattle.ppq_queue.proofs.Slots.{SameSums-length}
 use Rattle.ppq_queue.proofs.Shared.{all_within}
 use Rattle.ppq_pass.specs.ppq_array.Kept.{HasFailed, weight_at}
 use Rattle.ppq_queue.specs.Holding.{IsAbove}
-use Rattle.ppq_session.specs.Gathering.{IsGathered, IsGathering, IsSoundSoFar}
+use Rattle.ppq_session.specs.Gathering.{IsGathered, IsGathering, IsSoundSoFar, gathered_account}
 use Rattle.ppq_session.specs.declared.closed.Closed.{Closed}
 use Rattle.ppq_session.proofs.PutIn.{or_none, or_some}
 
@@ -32,7 +36,7 @@ module _ {R : Type 0} where
 -- the parts as a queue's, with these heaps
 abbrev pub parts_of : {S R : Type 0} → Closed S R → Shares R → ℕ → ℕ → Option ℕ → QueueParts S R
 parts_of c heaps count load first =
-    record { sizes = c.sizes; heaps = heaps; body = c.body; supply = c.supply; extract = c.extract; sources = c.sources; count = count; peak = max c.peak load; limited = c.limited; failed = option_or first c.failed; slots = c.slots }
+    record { sizes = c.sizes; heaps = heaps; body = c.body; supply = c.supply; extract = c.extract; sources = c.sources; count = count; peak = max c.peak load; limited = c.limited; failed = option_or first c.failed; counts = c.counts; slots = c.slots }
 
 module _ {S R : Type 0} (shown : S → Shown) (cmp : R → R → Ordering) (record_of : List ℕ → R) (width : ℕ) (slots items : List Shown) (c : Closed S R) (is : IsGathered shown cmp record_of width slots items c []) (heaps : Shares R) (heaps_are : heaps.heaps ≡ c.heaps.items) (cap : heaps.cap ≡ heap_of c.sizes) (are : AreShares heaps) where
   a : IsGathering shown width slots items c []
@@ -137,5 +141,14 @@ module _ {S R : Type 0} (shown : S → Shown) (cmp : R → R → Ordering) (reco
     pub count_all : c.failed ≡ None → count ≡ c.count
     count_all none = omega (arith, (sound_here none).counted, (is.sound none).counted, ap (λ l. length (items_in l)) heaps_are)
 
+    -- the numbers pay for all
+    counted_here : IsCounted c.sizes.workers c.sizes.block (option_or first c.failed ≡ None) c.counts (whole_account shown c.sizes (length (items_of heaps)) c.body c.supply)
+    counted_here =
+        let items : length (items_in c.heaps.items) ≡ length (items_of heaps) = sym (ap (λ l. length (items_in l)) heaps_are) in
+        let account : gathered_account shown c [] ≡ whole_account shown c.sizes (length (items_of heaps)) c.body c.supply =
+        ap₂ (λ l k. beside k (body_account c.sizes.block l c.body)) (append-nil (slots_of shown c.body c.supply)) items
+        in
+        counted-sound (λ none. (or_none first c.failed none).1) (subst (λ a. IsCounted c.sizes.workers c.sizes.block (c.failed ≡ None) c.counts a) account (counted-beside is.counted))
+
     pub whole-rejoined : IsWhole shown cmp record_of width (parts_of c heaps count load first)
-    whole-rejoined = record { queue = queue_here; sound = λ none. sound_here (or_none first c.failed none).1; no_slot = a.no_slot; slots_room = a.slots_room }
+    whole-rejoined = record { queue = queue_here; sound = λ none. sound_here (or_none first c.failed none).1; no_slot = a.no_slot; slots_room = a.slots_room; counted = counted_here }

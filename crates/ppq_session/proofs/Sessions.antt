@@ -7,7 +7,7 @@ use Rattle.std.proofs.lemmas.List.{length-map}
 use Rattle.ppq_pass.specs.ppq_budget.Sizes.{AreInRange}
 use Rattle.ppq_pass.specs.Passed.{PassKey, PassHolding, PassTells}
 use Rattle.ppq_pass.specs.declared.shared.Shared.{Shared}
-use Rattle.ppq_queue.specs.Holding.{Holding}
+use Rattle.ppq_queue.specs.Holding.{Holding, CountsFew}
 use Rattle.ppq_pass.specs.ppq_array.declared.store_fault.StoreFault.{StoreFault as QueueFault}
 use Rattle.ppq_pass.specs.ppq_array.declared.store_fault.StoreFault.TheVariants.{NoFreeBlock, Device}
 use Rattle.ppq_session.specs.BulkSession.{BulkHolding, AreOf, BulkEnded, IsTogether, keys_of, shared_by, pass_key, bag_of, of_bulk, IsFresh}
@@ -16,9 +16,10 @@ use Rattle.ppq_session.specs.Opened.{BulkBegan}
 use Rattle.ppq_session.specs.declared.fault.SessionEnd.{SessionEnd}
 use Rattle.ppq_session.specs.declared.fault.SessionEnd.TheVariants.{Whole, Stopped}
 use Rattle.ppq_session.specs.Dealing.{IsGoing, HasEnded, MayAdd, Dealt, AddsPart}
-use Rattle.ppq_session.specs.Given.{IsFinished, KeepsQueue, WereGiven}
+use Rattle.ppq_session.specs.Given.{IsFinished, KeepsQueue, WereGiven, CountsGiven}
+use Rattle.ppq_session.proofs.Backed.{counts-none, counts-more, counts-whole, counts-stopped}
 use Rattle.ppq_session.specs.Sessions.{SessionHolding, InSession, IsLoaded, IsLeftBy, with_batch}
-use Rattle.ppq_session.proofs.Mapped.{all_mapped}
+use Rattle.ppq_session.proofs.Mapped.{sum-mapped, all_mapped}
 use Rattle.std.proofs.Math.Seq.{take-append_seam}
 use Rattle.std.proofs.lemmas.List.Sums.{sum_by-cons}
 use Rattle.std.proofs.lemmas.List.Elements.{All-head, All-tail}
@@ -40,6 +41,9 @@ device-no_block : (T : Type 0) (number : ℕ) → ◌≡◌ {A = Result T QueueF
 device-no_block T number e = cc
 
 module _ {S R : Type 0} where
+  abbrev key_in : PassHolding S R → PassKey S R
+  key_in pass = pass.key
+
   pub fresh-going : (passes : List (PassHolding S R)) → All IsFresh passes → All IsGoing passes
   fresh-going passes fresh k d l = let f = fresh k d l in record { unrefused = f.refused; sound = f.failed }
 
@@ -105,7 +109,7 @@ module _ {S R : Type 0} where
     }
 
     -- what was given, what was left of what the queue had, and how many were asked to be popped
-    module _ (given left first held : List R) (popped : ℕ) (g : WereGiven queue.slots given first held passes) (few : stay.popped ≤ popped)
+    module _ (before : Holding R) (given left first held : List R) (popped : ℕ) (g : WereGiven queue.slots given first held passes) (few : stay.popped ≤ popped)
         (sum : stay.failed ≡ None → AllTell queue.slots → (p : R → Bool) → count_by p (stay.bag ++ bag_of passes) + count_by p first ≡ count_by p held + count_by p left) where
       module _ (end : HasAll shown stay passes new) where
         peak-most : new.peak ≤ max queue.peak (queue.size + length given)
@@ -139,8 +143,8 @@ module _ {S R : Type 0} where
             (no_room-later stay.sizes queue.limited queue.limited new.peak (max queue.peak (queue.size + length given)) some (λ same. same) peak-most here)
 
         -- all passes went on
-        pub finished-whole : {T : Type 0} (value : T) → Keeps queue new → All IsGoing passes → IsFinished queue given left popped new (Ok value)
-        finished-whole value kept going =
+        pub finished-whole : {T : Type 0} (value : T) → Keeps queue new → All IsGoing passes → CountsFew {T = T} {E = QueueFault} (length given) 1 before new (Ok value) → IsFinished before queue given left popped new (Ok value)
+        finished-whole value kept going counted =
             let all = g.accepted going in
             record {
               kept = kept;
@@ -153,20 +157,22 @@ module _ {S R : Type 0} where
               part = λ e. absurd (ok-no_err value e);
               peak = omega (arith, end.peak, s.peak, s.total, all);
               refused = tt;
+              counted = counted;
             }
 
         -- a push was refused
-        pub finished-short : {T : Type 0} → Keeps queue new → 0 < stay.sizes.block → Any HasEnded passes → IsFinished {T = T} queue given left popped new (Err NoFreeBlock)
-        finished-short kept some ended =
-            record { kept = kept; bag = tt; low = tt; least = tt; high = tt; sound = tt; quiet = tt; part = λ _. end-part; peak = tt; refused = short-much some ended }
+        pub finished-short : {T : Type 0} → Keeps queue new → 0 < stay.sizes.block → Any HasEnded passes → CountsFew {T = T} {E = QueueFault} (length given) 1 before new (Err NoFreeBlock) → IsFinished {T = T} before queue given left popped new (Err NoFreeBlock)
+        finished-short kept some ended counted =
+            record { kept = kept; bag = tt; low = tt; least = tt; high = tt; sound = tt; quiet = tt; part = λ _. end-part; peak = tt; refused = short-much some ended; counted = counted }
 
       -- a merge of levels found no block, or a call of a slot failed
       pub finished-stopped :
-          {T : Type 0} (fault : QueueFault) → Keeps queue new → 0 < stay.sizes.block → new.sizes ≡ stay.sizes → EndsWith shown stay passes new (Stopped fault) → IsFinished {T = T} queue given left popped new (Err fault)
-      finished-stopped {T} NoFreeBlock kept some same end =
-          record { kept = kept; bag = tt; low = tt; least = tt; high = tt; sound = tt; quiet = tt; part = λ _. end-part end.0; peak = tt; refused = unmerged-much end.0 some same end.1 }
-      finished-stopped {T} (Device number) kept some same end =
-          record { kept = kept; bag = tt; low = tt; least = tt; high = tt; sound = tt; quiet = tt; part = λ e. absurd (device-no_block T number e); peak = tt; refused = end.stopped.fault }
+          {T : Type 0} (fault : QueueFault) → Keeps queue new → 0 < stay.sizes.block → new.sizes ≡ stay.sizes → EndsWith shown stay passes new (Stopped fault) → CountsFew {T = T} (length given) 1 before new (Err fault)
+          → IsFinished {T = T} before queue given left popped new (Err fault)
+      finished-stopped {T} NoFreeBlock kept some same end counted =
+          record { kept = kept; bag = tt; low = tt; least = tt; high = tt; sound = tt; quiet = tt; part = λ _. end-part end.0; peak = tt; refused = unmerged-much end.0 some same end.1; counted = counted }
+      finished-stopped {T} (Device number) kept some same end counted =
+          record { kept = kept; bag = tt; low = tt; least = tt; high = tt; sound = tt; quiet = tt; part = λ e. absurd (device-no_block T number e); peak = tt; refused = end.stopped.fault; counted = counted }
 
 module _ {S R : Type 0} where
   -- records can be added to the passes of a session, which have what it shares
@@ -212,10 +218,15 @@ module _ {S R : Type 0} where
     session-begin bulk shared passes began = record {
       keeps = record { sizes = began.sizes; limited = began.limited; peak = began.peak; total = omega (arith, began.size); slots = began.slots; tells = began.tells; writes = began.writes; quiet = λ _. began.quiet };
       given = given-none queue.slots queue.bag passes (bulk.bag ++ bag_of passes) began.fresh began.bag;
+      counted =
+          counts-none queue (of_bulk bulk) passes began.counts
+          (omega (arith, sum-mapped key_in (λ (k : PassKey S R). k.begun) passes, began.of.begun, began.begun))
+          (λ k d l. ap (λ (key : PassKey S R). key.sizes) (all_mapped key_in (λ (k : PassKey S R). k ≡ pass_key bulk k.begun) passes began.of.each k d l) ∙ began.sizes)
+          began.fresh;
     }
 
     pub session-batch : (records : List R) (session : SessionHolding S R) (batch : List R) → InSession shown queue records session → InSession shown queue records (with_batch session batch)
-    session-batch records session batch s = record { keeps = s.keeps; given = s.given }
+    session-batch records session batch s = record { keeps = s.keeps; given = s.given; counted = record { counts = s.counted.counts; begun = s.counted.begun; sizes = s.counted.sizes; backed = s.counted.backed } }
 
     -- more records were given to passes that all went on
     pub session-deal :
@@ -232,30 +243,34 @@ module _ {S R : Type 0} where
               going
               dealt
               s.given;
+          counted = counts-more queue (of_bulk bulk) (of_bulk bulk) olds news refl dealt.keys dealt.backed going s.counted;
         }
 
     -- records that were not given, since a pass had stopped
     pub session-rest : (records rest : List R) (session : SessionHolding S R) → InSession shown queue records session → Any HasEnded session.passes → InSession shown queue (records ++ rest) session
-    session-rest records rest session s ended = record { keeps = s.keeps; given = given-rest queue.slots queue.bag records rest (session.bulk.bag ++ bag_of session.passes) session.passes s.given ended }
+    session-rest records rest session s ended = record { keeps = s.keeps; given = given-rest queue.slots queue.bag records rest (session.bulk.bag ++ bag_of session.passes) session.passes s.given ended; counted = s.counted }
 
     -- what the end of a session says of a load
-    loaded : {T : Type 0} (records : List R) (new : Holding R) (result : Result T QueueFault) → IsFinished queue records queue.bag 0 new result → IsLoaded queue records new result
+    loaded : {T : Type 0} (records : List R) (new : Holding R) (result : Result T QueueFault) → IsFinished queue queue records queue.bag 0 new result → IsLoaded queue records new result
     loaded records new (Ok value) f =
-        record { kept = f.kept; bag = f.bag; size = omega (arith, f.low, f.high); sound = f.sound; quiet = f.quiet; part = f.part; peak = f.peak; refused = f.refused }
-    loaded records new (Err fault) f = record { kept = f.kept; bag = tt; size = tt; sound = tt; quiet = tt; part = f.part; peak = tt; refused = f.refused }
+        record { kept = f.kept; bag = f.bag; size = omega (arith, f.low, f.high); sound = f.sound; quiet = f.quiet; part = f.part; peak = f.peak; refused = f.refused; counted = f.counted }
+    loaded records new (Err fault) f = record { kept = f.kept; bag = tt; size = tt; sound = tt; quiet = tt; part = f.part; peak = tt; refused = f.refused; counted = f.counted }
 
     module _ (records : List R) (bulk : BulkHolding S R) (passes : List (PassHolding S R)) (s : InSession shown queue records (record { bulk = bulk; passes = passes })) (new : Holding R) (how : SessionEnd) (e : BulkEnded shown bulk passes new how) where
+      kept : Keeps queue new
+      kept = end-keeps shown queue (of_bulk bulk) passes s.keeps new how e
+
       pub loaded-whole : {T : Type 0} (value : T) → IsTogether shown bulk passes new → All IsGoing passes → IsLoaded queue records new (Ok value)
       loaded-whole value end going =
           loaded records new (Ok value)
-          (finished-whole shown queue (of_bulk bulk) passes s.keeps new records queue.bag queue.bag (bulk.bag ++ bag_of passes) 0 s.given (omega arith) (λ _ _ p. refl) end value (end-keeps shown queue (of_bulk bulk) passes s.keeps new how e) going)
+          (finished-whole shown queue (of_bulk bulk) passes s.keeps new queue records queue.bag queue.bag (bulk.bag ++ bag_of passes) 0 s.given (omega arith) (λ _ _ p. refl) end value kept going (counts-whole shown queue (of_bulk bulk) passes s.counted new how e kept.sizes (length records) s.given.most value going))
 
       pub loaded-short : {T : Type 0} → IsTogether shown bulk passes new → 0 < bulk.sizes.block → Any HasEnded passes → IsLoaded {T = T} queue records new (Err NoFreeBlock)
       loaded-short {T} end some ended =
           loaded {T = T} records new (Err NoFreeBlock)
-          (finished-short shown queue (of_bulk bulk) passes s.keeps new records queue.bag queue.bag (bulk.bag ++ bag_of passes) 0 s.given (omega arith) (λ _ _ p. refl) end (end-keeps shown queue (of_bulk bulk) passes s.keeps new how e) some ended)
+          (finished-short shown queue (of_bulk bulk) passes s.keeps new queue records queue.bag queue.bag (bulk.bag ++ bag_of passes) 0 s.given (omega arith) (λ _ _ p. refl) end kept some ended (counts-stopped shown queue (of_bulk bulk) passes s.counted new how e kept.sizes (length records) s.given.most NoFreeBlock))
 
       pub loaded-stopped : {T : Type 0} (fault : QueueFault) → EndsWith shown (of_bulk bulk) passes new (Stopped fault) → 0 < bulk.sizes.block → IsLoaded {T = T} queue records new (Err fault)
       loaded-stopped {T} fault end some =
           loaded {T = T} records new (Err fault)
-          (finished-stopped shown queue (of_bulk bulk) passes s.keeps new records queue.bag queue.bag (bulk.bag ++ bag_of passes) 0 s.given (omega arith) (λ _ _ p. refl) fault (end-keeps shown queue (of_bulk bulk) passes s.keeps new how e) some e.sizes end)
+          (finished-stopped shown queue (of_bulk bulk) passes s.keeps new queue records queue.bag queue.bag (bulk.bag ++ bag_of passes) 0 s.given (omega arith) (λ _ _ p. refl) fault kept some e.sizes end (counts-stopped shown queue (of_bulk bulk) passes s.counted new how e kept.sizes (length records) s.given.most fault))

@@ -18,7 +18,7 @@ use Rattle.ppq_pass.proofs.ppq_spill.Keeping.{slots_long}
 use Rattle.ppq_pass.specs.Passed.{PassHolding, slots_of as pass_slots}
 use Rattle.ppq_pass.specs.PassState.{IsPassArray}
 use Rattle.ppq_queue.specs.Resting.{odd_of, odd_in, slots_of, lane_buffers}
-use Rattle.ppq_queue.proofs.Counts.{stored_slots, internal_count, runs_fit, arrays_fit}
+use Rattle.ppq_queue.proofs.Amounts.{stored_slots, internal_count, runs_fit, arrays_fit}
 use Rattle.ppq_queue.proofs.Odd.{arrays_full}
 use Rattle.ppq_session.specs.Apart.{IsApart, IsSoundApart, apart_slots, in_runs}
 use Rattle.ppq_session.specs.declared.parts.BulkParts.{BulkParts}

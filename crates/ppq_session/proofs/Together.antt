@@ -1,5 +1,5 @@
 -- All passes of a session came: its row and pool can be closed, the passes can be put in, and what the queue has then.
-use Rattle.std.proofs.Common.{◌≡◌, ℕ, ◌*◌, ◌+◌, ◌<◌, ◌≤◌, true, List, [], ◌++◌, length, map, max, min, reverse, sum_by, All, None, refl, sym, ap, ◌∙◌, subst, arith, append-nil, Option, length-append}
+use Rattle.std.proofs.Common.{◌≡◌, ℕ, ◌*◌, ◌+◌, ◌<◌, ◌≤◌, true, List, [], ◌++◌, length, map, max, min, reverse, sum_by, All, None, refl, sym, ap, ap₂, ◌∙◌, subst, arith, append-nil, Option, length-append}
 use Rattle.std.specs.Prelude.{flat_map, count_by, Option, Some, Result, Ok, Err}
 use Rattle.std.specs.List.{Any}
 use Rattle.std.specs.declared.cmp.Ordering.{Ordering}
@@ -20,7 +20,8 @@ use Rattle.ppq_pass.specs.ppq_array.Kept.{SameSlots, AreQuiet, HasFailed, weight
 use Rattle.ppq_pass.proofs.ppq_spill.SameSlots.{SameSlots-trans}
 use Rattle.ppq_pass.specs.Passed.{PassKey, PassHolding, PassTells, slots_of as pass_slots}
 use Rattle.ppq_pass.specs.ppq_budget.Sizes.{heap_of, room_of}
-use Rattle.ppq_queue.specs.Holding.{Holding, IsRefusal, SameRecords, Stays}
+use Rattle.ppq_pass.specs.ppq_counts.Tally.{tally, joined}
+use Rattle.ppq_queue.specs.Holding.{Holding, IsRefusal, SameRecords, Stays, CountsAs}
 use Rattle.ppq_pass.specs.ppq_array.declared.store_fault.StoreFault.{StoreFault as QueueFault}
 use Rattle.ppq_pass.specs.ppq_array.declared.store_fault.StoreFault.TheVariants.{NoFreeBlock, Device}
 use Rattle.ppq_session.specs.declared.fault.SessionEnd.{SessionEnd}
@@ -29,11 +30,13 @@ use Rattle.ppq_queue.specs.Slots.{SameSums}
 use Rattle.ppq_queue.specs.Resting.{slots_of, runs_bag}
 use Rattle.ppq_queue.proofs.Slots.{slots-sums, tells-sums}
 use Rattle.ppq_session.specs.Ends.{Staying, HasAll, EndsWith, SessionEnded, bag_of, accepted_of, first_some, first_fault}
-use Rattle.ppq_session.specs.Apart.{IsSoundApart, GoesBefore, CanBring, CanEnd, apart_slots, staying, IsApart}
+use Rattle.ppq_session.specs.Counting.{stores_of, tally_with}
+use Rattle.ppq_session.proofs.Counted.{counts-some}
+use Rattle.ppq_session.specs.Apart.{IsSoundApart, IsCountedApart, GoesBefore, CanBring, CanEnd, apart_slots, staying, IsApart}
 use Rattle.ppq_pass.specs.declared.shared.Shared.{Shared}
 use Rattle.ppq_session.specs.declared.parts.BulkParts.{BulkParts}
 use Rattle.ppq_session.specs.Passes.{pass_of}
-use Rattle.ppq_session.specs.Gathering.{IsGathered, MayGather, Gathers, IsMade, gathered_bag, slots_in, accepted_in}
+use Rattle.ppq_session.specs.Gathering.{IsGathered, MayGather, Gathers, IsMade, gathered_bag, slots_in, accepted_in, heaps_in, counts_with}
 use Rattle.ppq_session.specs.declared.brought.Brought.{Brought}
 use Rattle.ppq_session.specs.declared.closed.Closed.{Closed}
 use Rattle.ppq_session.specs.Bringing.{MayBring, BroughtAll}
@@ -172,6 +175,9 @@ module _ {S R : Type 0} (shown : S → Shown) (cmp : R → R → Ordering) (reco
       sound_turned : failed ≡ None → IsSoundApart shown cmp record_of width q (sum_by (λ (p : PassHolding S R). p.key.begun) (reverse ps)) popped
       sound_turned none = subst (λ k. IsSoundApart shown cmp record_of width q k popped) (sym (sum-turned (λ (p : PassHolding S R). p.key.begun) ps)) (can.sound none)
 
+      paid_turned : IsCountedApart shown q (sum_by (λ (p : PassHolding S R). p.key.begun) (reverse ps)) failed
+      paid_turned = subst (λ k. IsCountedApart shown q k failed) (sym (sum-turned (λ (p : PassHolding S R). p.key.begun) ps)) can.paid
+
       brought_is : brought ≡ br.brought
       brought_is = list_is ∙ br.items ∙ ap (λ l. l ++ br.brought) can.back.apart.out.home.none_brought
 
@@ -185,7 +191,7 @@ module _ {S R : Type 0} (shown : S → Shown) (cmp : R → R → Ordering) (reco
       first : IsGathered shown cmp record_of width now (slots_shown shown items) c brought
       first =
           subst (IsGathered shown cmp record_of width now (slots_shown shown items) c) (sym brought_is)
-          (gathered-first shown cmp record_of width q failed can.back.apart q1 (reverse ps) br c cl count keys popped sound_turned (λ none. all_turned (GoesBefore shown cmp q) ps (can.before none)))
+          (gathered-first shown cmp record_of width q failed can.back.apart q1 (reverse ps) br c cl count keys popped sound_turned (λ none. all_turned (GoesBefore shown cmp q) ps (can.before none)) paid_turned)
 
       pub may_gather : MayGather shown cmp record_of width brought c
       may_gather = record { slots = now; items = slots_shown shown items; rest = []; is = first }
@@ -209,6 +215,18 @@ module _ {S R : Type 0} (shown : S → Shown) (cmp : R → R → Ordering) (reco
           let pass = pass_of shown record_of width q.sizes in
           let accepted : PassHolding S R → ℕ = λ p. p.accepted in
           sym (sum-mapped pass accepted br.brought) ∙ ap (sum_by accepted) br.passes_are ∙ sum-turned accepted ps
+
+      stores_here : sum_by (λ (x : Brought S R). x.stores) br.brought ≡ stores_of ps
+      stores_here =
+          let pass = pass_of shown record_of width q.sizes in
+          let stores : PassHolding S R → ℕ = λ p. p.stores in
+          sym (sum-mapped pass stores br.brought) ∙ ap (sum_by stores) br.passes_are ∙ sum-turned stores ps
+
+      heaps_here : heaps_in br.brought ≡ sum_by (λ (p : PassHolding S R). p.in_heap) ps
+      heaps_here =
+          let pass = pass_of shown record_of width q.sizes in
+          let heap : PassHolding S R → ℕ = λ p. p.in_heap in
+          sym (sum-mapped pass heap br.brought) ∙ ap (sum_by heap) br.passes_are ∙ sum-turned heap ps
 
       -- a call of a slot with the number that is named failed
       named : (fault : Option ℕ) → fault ≡ first_some (map (λ (x : Brought S R). x.failed) (reverse brought)) failed → (number : ℕ) → fault ≡ Some number → HasFailed number now
@@ -247,12 +265,35 @@ module _ {S R : Type 0} (shown : S → Shown) (cmp : R → R → Ordering) (reco
         last_tells tell each =
             tells-sums now (slots_of shown d.body d.supply) last_sums (told_now shown cmp record_of width q failed can.back.apart q1 (reverse ps) br c cl count keys tell (all_turned (PassTells shown) ps each))
 
-        module _ (fault : Option ℕ) (fault_is : fault ≡ first_some (map (λ (x : Brought S R). x.failed) (reverse brought)) failed) (queue end : Holding R) (made : IsMade shown cmp record_of width popped fault d queue) (still : Stays queue end) where
+        module _ (fault : Option ℕ) (fault_is : fault ≡ first_some (map (λ (x : Brought S R). x.failed) (reverse brought)) failed) (queue end : Holding R) (made : IsMade shown cmp record_of width popped fault d queue) (still : Stays queue end) (same_counts : CountsAs queue.counts queue end) where
           abbrev stay : Staying R
           stay = staying shown record_of width q popped failed
 
           limited_is : end.limited ≡ q.limited
           limited_is = still.keeps.limited ∙ made.limited ∙ g.limited ∙ ap (λ k. k.limited) first_is
+
+          -- the numbers of the passes came on top
+          counts_are : end.counts ≡ tally_with q.counts ps
+          counts_are =
+              same_counts.counts
+              ∙ made.tally
+              ∙ g.tally
+              ∙ ap₂ (λ t l. counts_with t l) (ap (λ k. k.counts) first_is) brought_is
+              ∙ counts-some q.counts br.brought (omega (arith, came, can.back.apart.out.home.range.some_worker))
+              ∙ ap₂ (λ a s. joined q.counts (tally a s 0)) accepted_here stores_here
+
+          heaps_are : end.in_heap ≤ sum_by (λ (p : PassHolding S R). p.in_heap) ps
+          heaps_are =
+              omega (
+                arith,
+                same_counts.heaps,
+                made.heaps,
+                g.heaps,
+                ap (λ k. length (items_in k.heaps.items)) first_is,
+                ap (λ l. length (items_in l)) can.back.apart.out.home.no_heap,
+                ap heaps_in brought_is,
+                heaps_here,
+              )
 
           -- the queue counts what stayed and what the passes accepted, as far as there can be so many
           total_is : end.size ≡ queue.size → end.size ≡ min (q.count + accepted_of ps) (q.sizes.memory + q.sizes.block * q.sizes.blocks)
@@ -321,6 +362,8 @@ module _ {S R : Type 0} (shown : S → Shown) (cmp : R → R → Ordering) (reco
                 writes = omega (arith, last_writes, still.keeps.writes, ap all_writes made.slots);
                 sizes = still.keeps.sizes ∙ made.sizes ∙ g.sizes ∙ ap (λ k. k.sizes) first_is;
                 limited = limited_is;
+                counts = counts_are;
+                heaps = heaps_are;
               }
 
           -- the settling went well, or was refused

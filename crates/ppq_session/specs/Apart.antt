@@ -19,7 +19,9 @@ use Rattle.ppq_pass.specs.ppq_extract.Extracted.{ServesFor}
 use Rattle.ppq_pass.specs.ppq_pool.Known.{Known as PoolKnown}
 use Rattle.ppq_pass.specs.ppq_pool.Seats.{count_of as pool_count}
 use Rattle.ppq_pass.specs.ppq_row.Known.{Known as RowKnown}
+use Rattle.ppq_pass.specs.ppq_counts.Account.{Account, IsCountedBeside}
 use Rattle.ppq_pass.specs.ppq_spill.Body.{held_by}
+use Rattle.ppq_pass.specs.ppq_spill.Costing.{body_account}
 use Rattle.ppq_pass.specs.Passed.{PassKey, PassHolding}
 use Rattle.ppq_pass.specs.declared.shared.PoolBuf.{PoolBuf}
 use Rattle.ppq_pass.specs.declared.shared.Shared.{Shared}
@@ -52,7 +54,16 @@ module _ {S R : Type 0} where
     -- what stays, of which so many records were popped
     abbrev pub staying : (List ℕ → R) → ℕ → BulkParts S R → ℕ → Option ℕ → Staying R
     staying record_of width q popped failed =
-        record { bag = q.extract.items ++ runs_bag shown record_of width q.body; size = q.count; popped = popped; sizes = q.sizes; peak = q.peak; limited = q.limited; slots = apart_slots q; failed = failed }
+        record { bag = q.extract.items ++ runs_bag shown record_of width q.body; size = q.count; popped = popped; sizes = q.sizes; peak = q.peak; limited = q.limited; slots = apart_slots q; failed = failed; counts = q.counts }
+
+    -- what was written, and what the runs may still cost
+    abbrev pub apart_account : BulkParts S R → Account
+    apart_account q = body_account q.sizes.block (apart_slots q) q.body
+
+    -- The numbers pay for it, and for so many records, which the passes had in their heaps in the beginning. After a fault only what was
+    -- written is paid for
+    abbrev pub IsCountedApart : BulkParts S R → ℕ → Option ℕ → Type 0
+    IsCountedApart q begun failed = IsCountedBeside q.sizes.workers q.sizes.block begun (failed ≡ None) q.counts (apart_account q)
 
     -- What no call of a front changes: no heap is there, the seats have drawn and taken nothing, and miss a share for each pass
     pub record IsHome (width : ℕ) (n : Numbers) (heaps : Vec (Contents R) Global) (tree : Leaves R) (row_seat : RowKnown (DeviceBlock S R)) (pool_seat : PoolKnown (PoolBuf R)) (slots : Vec S Global) (brought : Vec (Brought S R) Global) (peak : ℕ) : Type 0 where
@@ -139,6 +150,7 @@ module _ {S R : Type 0} where
         pub back : CanBring width shared q failed passes
         pub sound : failed ≡ None → IsSoundApart cmp record_of width q (sum_by (λ p. p.key.begun) passes) popped
         pub before : failed ≡ None → All (GoesBefore cmp q) passes
+        pub paid : IsCountedApart q (sum_by (λ p. p.key.begun) passes) failed
 
       -- and they came, the last first
       pub record IsJoined (joined : BulkParts S R) : Type 0 where

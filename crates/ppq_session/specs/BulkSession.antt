@@ -4,6 +4,7 @@ use Rattle.atomic_table.specs.Seated.{TableId}
 use Rattle.ppq_pass.specs.ppq_record.Bag.{IsSameBag}
 use Rattle.ppq_pass.specs.ppq_outside.Shown.{Shown, AllTell}
 use Rattle.ppq_pass.specs.ppq_budget.Sizes.{Numbers, pool_of}
+use Rattle.ppq_pass.specs.ppq_counts.Tally.{Tally}
 use Rattle.ppq_pass.specs.ppq_array.declared.berth.DeviceBlock.{DeviceBlock}
 use Rattle.ppq_pass.specs.ppq_pool.Seats.{count_of}
 use Rattle.ppq_pass.specs.Passed.{PassKey, PassHolding}
@@ -20,7 +21,7 @@ pub use Rattle.ppq_session.specs.Ends.{bag_of, accepted_of}
 -- the queue had when the session began, and how many of them are in the heaps, which the passes have; how many runs in blocks there are;
 -- its sizes; the greatest size so far; whether a limit session was begun; all slots of the queue, those of the runs and those that were
 -- put into the row; how many buffers of a block it has, and how many of them its runs in buffers; the row with those slots, and the pool;
--- and a batch of records to be dealt
+-- a batch of records to be dealt; and how many records, stores of a full heap and sessions the queue counts
 pub record BulkHolding (S R : Type 0) : Type 0 where
   pub bag : List R
   pub size : ℕ
@@ -36,6 +37,7 @@ pub record BulkHolding (S R : Type 0) : Type 0 where
   pub items : List (DeviceBlock S R)
   pub pool : TableId
   pub batch : List R
+  pub counts : Tally
 
 -- With so many buffers at the owner, two at each pass and those of the pool, there are just the buffers of the budget: those that blocks are
 -- written from and merged by, and those of the pool
@@ -79,17 +81,19 @@ module _ {S R : Type 0} where
   abbrev pub shared_by : BulkHolding S R → Shared S R
   shared_by bulk = record { row = bulk.row; pool = bulk.pool }
 
-  -- A pass to which nothing was pushed yet. It holds two buffers, and none of the pool
+  -- A pass to which nothing was pushed yet. Its records are in its heap, which was never stored. It holds two buffers, and none of the pool
   pub record IsFresh (pass : PassHolding S R) : Type 0 where
     pub buffers : pass.buffers ≡ 2
     pub numbers : pass.numbers ≡ []
     pub accepted : pass.accepted ≡ 0
     pub refused : pass.refused ≡ false
     pub failed : pass.failed ≡ None
+    pub stores : pass.stores ≡ 0
+    pub in_heap : pass.in_heap ≡ pass.key.begun
 
   -- what stays: nothing is popped in a bulk session, and no call of its slots fails
   abbrev pub of_bulk : BulkHolding S R → Staying R
-  of_bulk bulk = record { bag = bulk.bag; size = bulk.size; popped = 0; sizes = bulk.sizes; peak = bulk.peak; limited = bulk.limited; slots = bulk.slots; failed = None }
+  of_bulk bulk = record { bag = bulk.bag; size = bulk.size; popped = 0; sizes = bulk.sizes; peak = bulk.peak; limited = bulk.limited; slots = bulk.slots; failed = None; counts = bulk.counts }
 
   -- the queue has all records of the bulk and of its passes
   abbrev pub IsTogether : (S → Shown) → BulkHolding S R → List (PassHolding S R) → Holding R → Type 0

@@ -30,4 +30,4 @@ module _ {S R : Type 0} (shown : S → Shown) where
     pub given : ℕ
     pub given_are : given + length old.pool_seat.hand.numbers ≡ pool_count old.pool_seat.pool
     pub supply : new.supply ≡ record old.supply { kept = old.supply.kept ++ slots_shown shown left; slot_room = old.supply.slot_room - length left; sure_buffers = old.supply.sure_buffers + given; buffer_room = old.supply.buffer_room - given }
-    pub rest : new ≡ record { sizes = old.sizes; heaps = old.heaps; tree = old.tree; body = old.body; supply = new.supply; extract = old.extract; sources = old.sources; count = old.count; peak = old.peak; limited = old.limited; failed = failed; slots = old.slots }
+    pub rest : new ≡ record { sizes = old.sizes; heaps = old.heaps; tree = old.tree; body = old.body; supply = new.supply; extract = old.extract; sources = old.sources; count = old.count; peak = old.peak; limited = old.limited; failed = failed; slots = old.slots; counts = old.counts }

@@ -5,7 +5,7 @@ use Rattle.std.specs.Int.{div_ceil}
 use Rattle.std.specs.List.{Any, filter}
 use Rattle.ppq_pass.specs.ppq_record.Bag.{IsSameBag}
 use Rattle.ppq_pass.specs.ppq_outside.Shown.{Shown}
-use Rattle.ppq_pass.specs.Passed.{PassHolding, PassTells, IsOf}
+use Rattle.ppq_pass.specs.Passed.{PassHolding, PassTells, IsOf, IsBackedPass, IsBackedPassWithout}
 use Rattle.ppq_pass.specs.declared.shared.Shared.{Shared}
 use Rattle.ppq_session.specs.BulkSession.{keys_of, bag_of, accepted_of}
 use Rattle.ppq_session.specs.declared.line.Line.{Line}
@@ -51,6 +51,11 @@ module _ {S R : Type 0} where
   abbrev pub HasEnded : PassHolding S R → Type 0
   HasEnded pass = (pass.refused ≡ true) ⊎ ((number : ℕ) × (pass.failed ≡ Some number))
 
+  -- The stores of full heaps of a pass are backed by the records that it got and accepted: with those of its heap while no push was refused, and
+  -- in any case without those of a full heap
+  abbrev pub StaysBacked : PassHolding S R → Type 0
+  StaysBacked pass = (IsGoing pass → IsBackedPass pass) × IsBackedPassWithout pass
+
   module _ (shown : S → Shown) where
     -- a pass was given these records: it has all of them, or stopped at one that was refused and has those in front of it, unless a call of a
     -- slot failed
@@ -61,6 +66,7 @@ module _ {S R : Type 0} where
       pub least : old.accepted ≤ new.accepted
       pub accepted : IsGoing new → new.accepted ≡ old.accepted + length records
       pub fewer : HasEnded new → new.accepted < old.accepted + length records
+      pub backed : IsBackedPass old → StaysBacked new
 
     -- each of several passes was given records of its own: the first those for 0, and so on
     pub record EachAdds (records_of : ℕ → List R) (old new : List (PassHolding S R)) : Type 0 where
@@ -76,3 +82,4 @@ module _ {S R : Type 0} where
       pub accepted : All IsGoing new → accepted_of new ≡ accepted_of old + length records
       pub most : accepted_of new ≤ accepted_of old + length records
       pub fewer : Any HasEnded new → accepted_of new < accepted_of old + length records
+      pub backed : All IsBackedPass old → All StaysBacked new

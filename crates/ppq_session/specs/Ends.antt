@@ -9,12 +9,15 @@ use Rattle.ppq_pass.specs.Passed.{PassHolding, PassTells}
 use Rattle.ppq_queue.specs.Holding.{Holding, IsAbove, HasStopped}
 use Rattle.ppq_pass.specs.ppq_array.declared.store_fault.StoreFault.{StoreFault as QueueFault}
 use Rattle.ppq_pass.specs.ppq_array.declared.store_fault.StoreFault.TheVariants.{NoFreeBlock, Device}
+use Rattle.ppq_pass.specs.ppq_counts.Tally.{Tally}
 use Rattle.ppq_session.specs.declared.fault.SessionEnd.{SessionEnd}
 use Rattle.ppq_session.specs.declared.fault.SessionEnd.TheVariants.{Whole, Stopped}
+use Rattle.ppq_session.specs.Counting.{tally_with}
+pub use Rattle.ppq_session.specs.Counting.{accepted_of}
 
 -- What the owner of a queue keeps while a session is on: the multiset of its records, as far as its slots tell; how many it counts, and how many
--- were popped; its sizes; the greatest size when the session began; whether a limit session was begun; all slots; and the number of the slot a
--- call of which failed first, if any
+-- were popped; its sizes; the greatest size when the session began; whether a limit session was begun; all slots; the number of the slot a
+-- call of which failed first, if any; and how many records, stores of a full heap and sessions the queue counts
 pub record Staying (R : Type 0) : Type 0 where
   pub bag : List R
   pub size : ℕ
@@ -24,6 +27,7 @@ pub record Staying (R : Type 0) : Type 0 where
   pub limited : Bool
   pub slots : List Shown
   pub failed : Option ℕ
+  pub counts : Tally
 
 -- No block was free for a merge of levels, of which one has more than 8 runs still: the device has fewer blocks than are enough for the peak,
 -- which is above what one heap holds, unless a limit session was begun
@@ -55,10 +59,6 @@ module _ {S R : Type 0} where
   abbrev pub bag_of : List (PassHolding S R) → List R
   bag_of passes = flat_map (λ p. p.bag) passes
 
-  -- how many records passes accepted
-  abbrev pub accepted_of : List (PassHolding S R) → ℕ
-  accepted_of passes = sum_by (λ p. p.accepted) passes
-
   -- A call of the slot with this number failed, and the queue keeps that number. It counts what stayed and what its passes accepted, as far as
   -- there can be so many records
   pub record HasLost (stay : Staying R) (passes : List (PassHolding S R)) (number : ℕ) (queue : Holding R) : Type 0 where
@@ -86,7 +86,7 @@ module _ {S R : Type 0} where
     EndsWith (Stopped (Device number)) = HasLost stay passes number queue
 
     -- how a session ended, and what it left of its slots and sizes. A fault that was met before is named: that of the first pass in order that
-    -- met one, and else that of what stayed
+    -- met one, and else that of what stayed. The numbers of the passes came on top, and heaps have no record that those of passes had not
     pub record SessionEnded (end : SessionEnd) : Type 0 where
       pub end_is : EndsWith end
       pub first : (number : ℕ) → first_fault passes stay.failed ≡ Some number → end ≡ Stopped (Device number)
@@ -96,3 +96,5 @@ module _ {S R : Type 0} where
       pub writes : all_writes stay.slots ≤ all_writes queue.slots
       pub sizes : queue.sizes ≡ stay.sizes
       pub limited : queue.limited ≡ stay.limited
+      pub counts : queue.counts ≡ tally_with stay.counts passes
+      pub heaps : queue.in_heap ≤ sum_by (λ p. p.in_heap) passes

@@ -19,7 +19,7 @@ use Rattle.ppq_pass.specs.ppq_spill.Body.{held_by}
 use Rattle.ppq_pass.specs.ppq_spill.declared.body.PassBody.{PassBody}
 use Rattle.ppq_queue.specs.Resting.{AtRest, BodyKept, runs_bag, count_of, lane_buffers}
 use Rattle.ppq_session.specs.declared.parts.BulkParts.{BulkParts}
-use Rattle.ppq_session.specs.Apart.{IsOut, IsApart, apart_slots}
+use Rattle.ppq_session.specs.Apart.{IsOut, IsApart, IsCountedApart, apart_slots}
 use Rattle.ppq_session.specs.Emptied.{emptied}
 use Rattle.ppq_session.specs.Fronts.{FrontHolding}
 
@@ -70,10 +70,12 @@ module _ {S R : Type 0} where
           items = q.row_seat.hand.items;
           pool = q.pool_seat.pool;
           failed = failed;
+          counts = q.counts;
         }
 
     -- In a limit session the counts fit, and a call of the slot that is kept as failed did fail. What no call changes: the blocks that were not put into the
-    -- row had no more room than the records and 65 blocks, and all records fit into those blocks and the buffers that are not out
+    -- row had no more room than the records and 65 blocks, and all records fit into those blocks and the buffers that are not out. The numbers of
+    -- the queue pay for what was written and is owed
     pub record IsTallied (q : BulkParts S R) (popped : ℕ) (failed : Option ℕ) : Type 0 where
       pub limited : q.limited ≡ true
       pub counted : q.count + popped ≤ q.peak
@@ -81,6 +83,7 @@ module _ {S R : Type 0} where
       pub packed : (q.sizes.blocks - length q.row_seat.hand.items) * q.sizes.block ≤ q.count + popped + 65 * q.sizes.block
       pub fits : q.count + popped + (length q.row_seat.hand.items + pool_count q.pool_seat.pool + 2 * q.sizes.workers) * q.sizes.block ≤ (q.sizes.blocks + lane_buffers q.sizes + pool_of q.sizes) * q.sizes.block
       pub fault : (number : ℕ) → failed ≡ Some number → HasFailed number (apart_slots shown q)
+      pub paid : IsCountedApart shown q 0 failed
 
     -- parts can be given room for the buffers that come back from the pool: there is room, unless a call of a slot failed
     pub record CanMakeRoom (width : ℕ) (q : BulkParts S R) (popped : ℕ) (failed : Option ℕ) : Type 0 where

@@ -6,6 +6,7 @@ use Rattle.ppq_pass.specs.ppq_record.Bag.{IsSameBag, first_of, front, without_fr
 use Rattle.ppq_pass.specs.ppq_outside.Shown.{Shown, AllTell}
 use Rattle.ppq_pass.specs.ppq_budget.Sizes.{Numbers}
 use Rattle.ppq_pass.specs.ppq_array.Kept.{SameSlots, HasFailed, AreQuiet, all_writes}
+use Rattle.ppq_pass.specs.ppq_counts.Tally.{Tally}
 use Rattle.ppq_pass.specs.ppq_array.declared.berth.DeviceBlock.{DeviceBlock}
 use Rattle.ppq_pass.specs.ppq_fetch.Taking.{NoneBelow}
 use Rattle.ppq_pass.specs.ppq_array.declared.store_fault.StoreFault.{StoreFault as QueueFault}
@@ -14,7 +15,8 @@ use Rattle.ppq_pass.specs.ppq_array.declared.store_fault.StoreFault.TheVariants.
 -- The multiset of its records, as far as its slots tell, and the limit; how many records it counts, and how many it gave; its sizes; the greatest
 -- size of the queue when the session began; all slots, those of its runs, those that it freed and those that were put into the row; how many
 -- buffers of a block it has, idle ones too, and how many of them its runs in buffers; how many records its extract buffer has; the row with the
--- slots that were put into it, and the pool; and the number of the slot a call of which failed first, if any
+-- slots that were put into it, and the pool; the number of the slot a call of which failed first, if any; and how many records, stores of a full
+-- heap and sessions the queue counts
 pub record FrontHolding (S R : Type 0) : Type 0 where
   pub bag : List R
   pub limit : R
@@ -30,6 +32,7 @@ pub record FrontHolding (S R : Type 0) : Type 0 where
   pub items : List (DeviceBlock S R)
   pub pool : TableId
   pub failed : Option ℕ
+  pub counts : Tally
 
 module _ {R : Type 0} (cmp : R → R → Ordering) (limit : R) where
   -- the smallest record of a multiset that is below the limit, and none where none is below it

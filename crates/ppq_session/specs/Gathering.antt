@@ -1,5 +1,5 @@
 -- Passes that are put into the parts of a queue.
-use Rattle.std.specs.Prelude.{◌≡◌, ◌⊎◌, ℕ, ◌+◌, ◌-◌, ◌*◌, ◌^◌, ◌<◌, ◌≤◌, List, [], ◌++◌, length, max, min, reverse, sum_by, flat_map, Option, Some, None, All, vec_capacity}
+use Rattle.std.specs.Prelude.{◌≡◌, ◌⊎◌, ℕ, ◌+◌, ◌-◌, ◌*◌, ◌^◌, ◌<◌, ◌≤◌, List, [], ◌∷◌, ◌++◌, length, max, min, reverse, sum_by, flat_map, Option, Some, None, All, vec_capacity}
 use Rattle.std.specs.Option.{option_or}
 use Rattle.std.specs.declared.cmp.Ordering.{Ordering}
 use Rattle.ppq_pass.specs.ppq_outside.Shown.{Shown, AllTell}
@@ -12,9 +12,13 @@ use Rattle.ppq_pass.specs.ppq_array.Supply.{Stock}
 use Rattle.ppq_pass.specs.ppq_array.Holdings.{external_buffers}
 use Rattle.ppq_pass.specs.ppq_extract.Extracted.{ServesFor}
 use Rattle.ppq_pass.specs.ppq_fetch.Fetching.{fronts_in}
+use Rattle.ppq_pass.specs.ppq_counts.Tally.{Tally, tally, joined}
+use Rattle.ppq_pass.specs.ppq_counts.Account.{Account, IsCountedBeside, beside}
 use Rattle.ppq_pass.specs.ppq_spill.Body.{held_by}
+use Rattle.ppq_pass.specs.ppq_spill.Costing.{body_account}
 use Rattle.ppq_pass.specs.ppq_spill.declared.body.PassBody.{PassBody}
 use Rattle.ppq_pass.specs.Passed.{slots_of as pass_slots}
+use Rattle.ppq_pass.specs.PassState.{drawn_of}
 use Rattle.ppq_queue.specs.Slots.{SameSums, with_slots}
 use Rattle.ppq_queue.specs.Resting.{IsRestingRun, IsRestingArray, AllRise, runs_bag, count_of, lane_buffers, odd_in, slots_of}
 use Rattle.ppq_pass.specs.ppq_record.Order.{Ascends}
@@ -48,10 +52,23 @@ pub record Adopted {S R : Type 0} (old from new : PassBody S R) : Type 0 where
   pub internal_room : vec_capacity new.runs.internal ≡ vec_capacity old.runs.internal
   pub external_room : vec_capacity new.runs.external ≡ vec_capacity old.runs.external
 
+-- numbers with those of passes on top, the last first
+abbrev pub counts_with : {S R : Type 0} → Tally → List (Brought S R) → Tally
+counts_with t [] = t
+counts_with t (one ∷ put) = joined (counts_with t put) (tally one.accepted one.stores 0)
+
+-- how many records the heaps of passes have
+abbrev pub heaps_in : {S R : Type 0} → List (Brought S R) → ℕ
+heaps_in brought = sum_by (λ one. length one.heap.items) brought
+
 module _ {S R : Type 0} (shown : S → Shown) where
   -- the slots of passes that are still to be put in
   abbrev pub slots_in : List (Brought S R) → List Shown
   slots_in brought = flat_map (λ one. pass_slots shown one.body one.kept.value) brought
+
+  -- the slots that they drew, as they were put into the row
+  abbrev pub drawn_in : List (Brought S R) → List Shown
+  drawn_in brought = flat_map (λ one. drawn_of shown one.kept.value) brought
 
   -- how many buffers they have
   abbrev pub buffers_in : List (Brought S R) → ℕ
@@ -64,6 +81,10 @@ module _ {S R : Type 0} (shown : S → Shown) where
   -- how many records they accepted
   abbrev pub accepted_in : List (Brought S R) → ℕ
   accepted_in brought = sum_by (λ one. one.accepted) brought
+
+  -- what was written, and what the runs and the heaps that are there may still cost; the slots of the passes that are to come count as these drew them
+  abbrev pub gathered_account : Closed S R → List (Brought S R) → Account
+  gathered_account c rest = beside (length (items_in c.heaps.items)) (body_account c.sizes.block (slots_of shown c.body c.supply ++ drawn_in rest) c.body)
 
   -- What holds always while passes are put in: the slots of the parts and of the passes that are to come are all that there are, and so are
   -- their buffers. Where they tell, those did that were put into the row, as they were then
@@ -117,12 +138,13 @@ module _ {S R : Type 0} (shown : S → Shown) where
       pub order : AllTell (slots_of shown c.body c.supply ++ slots_in rest) → NoneAfter cmp c.extract.items (runs_bag shown record_of width c.body)
       pub order_rest : AllTell (slots_of shown c.body c.supply ++ slots_in rest) → All (λ (one : Brought S R). one.failed ≡ None → NoneAfter cmp c.extract.items (runs_bag shown record_of width one.body)) rest
 
-    -- all that holds, with the passes that are to come
+    -- all that holds, with the passes that are to come; the numbers pay for these, too
     pub record IsGathered (slots items : List Shown) (c : Closed S R) (rest : List (Brought S R)) : Type 0 where
       pub always : IsGathering width slots items c rest
       pub each : All (IsBrought shown record_of width c.sizes cmp) rest
       pub items_are : All (λ (one : Brought S R). slots_shown shown one.kept.value.row_seat.hand.items ≡ items) rest
       pub sound : c.failed ≡ None → IsSoundSoFar c rest
+      pub counted : IsCountedBeside c.sizes.workers c.sizes.block (begun_in rest) (c.failed ≡ None) c.counts (gathered_account c rest)
 
     -- the records of the parts and of the passes that are to come
     abbrev pub gathered_bag : Closed S R → List (Brought S R) → List R
@@ -145,6 +167,8 @@ module _ {S R : Type 0} (shown : S → Shown) where
       pub sizes : new.sizes ≡ old.sizes
       pub peak : new.peak ≡ old.peak
       pub limited : new.limited ≡ old.limited
+      pub tally : new.counts ≡ counts_with old.counts put
+      pub heaps : length (items_in new.heaps.items) ≡ length (items_in old.heaps.items) + heaps_in put
 
     -- What a queue shows that was made of the parts into which all passes were put. So many records were popped, which count in its peak; and
     -- this is the number of the first fault, if one was met
@@ -157,3 +181,5 @@ module _ {S R : Type 0} (shown : S → Shown) where
       pub peak : queue.peak ≡ max c.peak (min (c.count + popped) (c.sizes.memory + c.sizes.block * c.sizes.blocks))
       pub sizes : queue.sizes ≡ c.sizes
       pub limited : queue.limited ≡ c.limited
+      pub tally : queue.counts ≡ c.counts
+      pub heaps : queue.in_heap ≡ length (items_in c.heaps.items)

@@ -2,6 +2,7 @@ pub use Rattle.ppq_pass.specs.ppq_array as ppq_array
 pub use Rattle.ppq_pass.specs.ppq_block as ppq_block
 pub use Rattle.ppq_pass.specs.ppq_budget as ppq_budget
 pub use Rattle.ppq_pass.specs.ppq_core as ppq_core
+pub use Rattle.ppq_pass.specs.ppq_counts as ppq_counts
 pub use Rattle.ppq_pass.specs.ppq_extract as ppq_extract
 pub use Rattle.ppq_pass.specs.ppq_fetch as ppq_fetch
 pub use Rattle.ppq_pass.specs.ppq_heap as ppq_heap
@@ -25,6 +26,7 @@ pub mod Batches
 pub mod Bringing
 pub mod BulkSession
 pub mod Closing
+pub mod Counting
 pub mod Dealing
 pub mod Emptied
 pub mod Ends

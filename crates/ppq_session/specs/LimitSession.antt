@@ -6,6 +6,7 @@ use Rattle.ppq_pass.specs.ppq_outside.Shown.{Shown, AllTell}
 use Rattle.ppq_pass.specs.ppq_array.Kept.{SameSlots, AreQuiet, all_writes}
 use Rattle.ppq_pass.specs.Passed.{PassKey, PassHolding, IsOf}
 use Rattle.ppq_pass.specs.declared.shared.Shared.{Shared}
+use Rattle.ppq_pass.specs.ppq_counts.Tally.{beginning}
 use Rattle.ppq_queue.specs.Holding.{Holding}
 use Rattle.ppq_session.specs.BulkSession.{BulkHolding, IsFresh, HasPool}
 use Rattle.ppq_session.specs.Ends.{Staying, HasAll, SessionEnded, bag_of, accepted_of}
@@ -47,6 +48,7 @@ module _ {S R : Type 0} where
         items = bulk.items;
         pool = bulk.pool;
         failed = None;
+        counts = bulk.counts;
       }
 
   -- what stayed of a queue all of whose records are in at most 64 runs, by a limit session
@@ -85,7 +87,7 @@ module _ {S R : Type 0} where
   -- what stays
   abbrev pub of_front : FrontHolding S R → Staying R
   of_front front =
-      record { bag = front.bag; size = front.size; popped = front.popped; sizes = front.sizes; peak = front.peak; limited = true; slots = front.slots; failed = front.failed }
+      record { bag = front.bag; size = front.size; popped = front.popped; sizes = front.sizes; peak = front.peak; limited = true; slots = front.slots; failed = front.failed; counts = front.counts }
 
   -- the queue has all records of the front and of the passes
   abbrev pub IsTogether : (S → Shown) → FrontHolding S R → List (LimitHolding S R) → Holding R → Type 0
@@ -96,7 +98,7 @@ module _ {S R : Type 0} where
   LimitEnded shown front passes queue end = SessionEnded shown (of_front front) (passes_of passes) queue end
 
   -- A limit session of a queue began: the front has its records, and the passes have none. All buffers that no run has are in the pool. No call
-  -- of a slot failed
+  -- of a slot failed, and the session is counted
   pub record LimitBegan (q : Holding R) (limit : R) (front : FrontHolding S R) (shared : Shared S R) (passes : List (LimitHolding S R)) : Type 0 where
     pub of : AreLimited front passes
     pub shared_is : shared ≡ shared_of front
@@ -114,3 +116,4 @@ module _ {S R : Type 0} where
     pub sound : front.failed ≡ None
     pub peak : front.peak ≡ q.peak
     pub sizes : front.sizes ≡ q.sizes
+    pub counts : front.counts ≡ beginning q.counts

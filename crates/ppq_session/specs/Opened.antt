@@ -10,6 +10,7 @@ use Rattle.ppq_pass.specs.ppq_budget.Sizes.{pool_of}
 use Rattle.ppq_pass.specs.ppq_pool.Seats.{count_of}
 use Rattle.ppq_pass.specs.Passed.{PassHolding, PassTells, IsOf}
 use Rattle.ppq_pass.specs.declared.shared.Shared.{Shared}
+use Rattle.ppq_pass.specs.ppq_counts.Tally.{beginning}
 use Rattle.ppq_queue.specs.Holding.{Holding}
 use Rattle.ppq_queue.specs.Handed.{IsWhole, holding_of}
 use Rattle.ppq_queue.specs.declared.queue_parts.QueueParts.{QueueParts}
@@ -54,9 +55,11 @@ module _ {S R : Type 0} where
       pub peak : bulk.peak ≡ q.peak
       pub limited : bulk.limited ≡ q.limited
       pub sizes : bulk.sizes ≡ q.sizes
+      pub counts : bulk.counts ≡ q.counts
 
     -- A bulk session of a queue began: the passes have the records of its heaps, the first those of the first heap, and the bulk has the rest.
-    -- All buffers that no run has are in the pool, which are half of the budget's pool at least. No call of a slot failed
+    -- All buffers that no run has are in the pool, which are half of the budget's pool at least. No call of a slot failed, and the session is
+    -- counted
     pub record BulkBegan (q : Holding R) (bulk : BulkHolding S R) (shared : Shared S R) (passes : List (PassHolding S R)) : Type 0 where
       pub of : AreOf bulk (keys_of passes)
       pub shared_is : shared ≡ shared_by bulk
@@ -79,3 +82,4 @@ module _ {S R : Type 0} where
       pub peak : bulk.peak ≡ q.peak
       pub limited : bulk.limited ≡ q.limited
       pub sizes : bulk.sizes ≡ q.sizes
+      pub counts : bulk.counts ≡ beginning q.counts

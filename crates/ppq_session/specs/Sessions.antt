@@ -4,13 +4,14 @@ use Rattle.ppq_pass.specs.ppq_record.Bag.{IsSameBag}
 use Rattle.ppq_pass.specs.ppq_outside.Shown.{Shown, AllTell}
 use Rattle.ppq_pass.specs.ppq_array.Kept.{AreQuiet}
 use Rattle.ppq_pass.specs.Passed.{PassHolding}
-use Rattle.ppq_queue.specs.Holding.{Holding}
+use Rattle.ppq_pass.specs.ppq_counts.Tally.{beginning}
+use Rattle.ppq_queue.specs.Holding.{Holding, CountsAs, CountsFew}
 use Rattle.ppq_pass.specs.ppq_array.declared.store_fault.StoreFault.{StoreFault as QueueFault}
 use Rattle.ppq_pass.specs.ppq_array.declared.store_fault.StoreFault.TheVariants.{NoFreeBlock, Device}
 use Rattle.ppq_session.specs.BulkSession.{BulkHolding, IsBeginRefusal, IsTogether, of_bulk, bag_of}
 use Rattle.ppq_session.specs.Dealing.{AddsPart}
 use Rattle.ppq_session.specs.Ends.{HasLost}
-use Rattle.ppq_session.specs.Given.{KeepsQueue, WereGiven}
+use Rattle.ppq_session.specs.Given.{KeepsQueue, WereGiven, CountsGiven}
 use Rattle.ppq_session.specs.Refusal.{Keeps, IsRefusedBy}
 use Rattle.ppq_session.specs.declared.fault.BeginFault.{BeginFault}
 
@@ -28,9 +29,11 @@ with_batch session batch = record session { bulk = record session.bulk { batch =
 pub record InSession {S R : Type 0} (shown : S → Shown) (queue : Holding R) (records : List R) (session : SessionHolding S R) : Type 0 where
   pub keeps : KeepsQueue shown queue (of_bulk session.bulk) session.passes
   pub given : WereGiven queue.slots records queue.bag (session.bulk.bag ++ bag_of session.passes) session.passes
+  pub counted : CountsGiven queue (of_bulk session.bulk) session.passes
 
 -- A session of a queue ended, to whose passes these records were given. Where the result is Ok, the queue has them all, and no call of a
--- slot failed; else there is no room for them, and the queue has a part of them, or a block failed
+-- slot failed; else there is no room for them, and the queue has a part of them, or a block failed. The session is counted, and no more records
+-- than these
 pub record IsLoaded {T R : Type 0} (queue : Holding R) (records : List R) (new : Holding R) (result : Result T QueueFault) : Type 0 where
   pub kept : Keeps queue new
   pub bag : OnOk result (AllTell queue.slots → IsSameBag new.bag (records ++ queue.bag))
@@ -40,12 +43,15 @@ pub record IsLoaded {T R : Type 0} (queue : Holding R) (records : List R) (new :
   pub part : IsErrOf result NoFreeBlock → AllTell queue.slots → AddsPart records queue.bag new.bag
   pub peak : OnOk result (new.peak ≡ max queue.peak (queue.size + length records))
   pub refused : IfErr result (IsRefusedBy (max queue.peak (queue.size + length records)) queue.sizes queue.limited new.slots)
+  pub counted : CountsFew (length records) 1 queue new result
 
--- A session of a queue did not begin, and left this one. It keeps what a queue keeps in which a limit session was begun, if it was one
+-- A session of a queue did not begin, and left this one. It keeps what a queue keeps in which a limit session was begun, if it was one; and it
+-- counts the session all the same
 pub record IsUnbegun {R : Type 0} (old begun new : Holding R) (fault : BeginFault) : Type 0 where
   pub why : IsBeginRefusal old new fault
   pub kept : Keeps begun new
   pub peak : new.peak ≡ old.peak
+  pub counted : CountsAs (beginning old.counts) old new
 
 -- a session ended with a fault: the queue has all records of the session, or a block failed, and the queue counts them
 abbrev pub IsLeftBy : {S R : Type 0} → (S → Shown) → SessionHolding S R → Holding R → QueueFault → Type 0

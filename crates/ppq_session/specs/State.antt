@@ -7,7 +7,7 @@ use Rattle.ppq_pass.specs.ppq_array.Supply.{Stock}
 use Rattle.ppq_pass.specs.ppq_array.Owner.{slots_shown}
 use Rattle.ppq_pass.specs.ppq_array.Holdings.{internal_buffers, external_slots, external_buffers}
 use Rattle.ppq_queue.specs.Resting.{runs_bag, count_of}
-use Rattle.ppq_session.specs.Apart.{IsApart, IsSoundApart}
+use Rattle.ppq_session.specs.Apart.{IsApart, IsSoundApart, IsCountedApart}
 use Rattle.ppq_session.specs.BulkSession.{BulkHolding}
 use Rattle.ppq_session.specs.declared.parts.BulkParts.{BulkParts}
 
@@ -43,6 +43,7 @@ module _ {S R : Type 0} (shown : S → Shown) where
         items = q.row_seat.hand.items;
         pool = q.pool_seat.pool;
         batch = q.body.lanes.batch.items;
+        counts = q.counts;
       }
 
   -- What holds of all parts: they are those of a queue whose heaps, row, pool and passes' buffers are out. No slot and no buffer is free, and no
@@ -54,6 +55,7 @@ module _ {S R : Type 0} (shown : S → Shown) where
     pub supply : IsBare q.sizes.block q.sizes.blocks (pool_of q.sizes) q.supply
     pub counted : count_of q.body ≤ q.count
     pub least : q.count ≤ q.peak
+    pub paid : IsCountedApart shown q (q.count - count_of q.body) None
 
   -- the parts of a bulk whose records are all in runs, at most 64 of them in blocks, in a limit session
   pub record IsAllInRuns (cmp : R → R → Ordering) (record_of : List ℕ → R) (width : ℕ) (q : BulkParts S R) : Type 0 where

@@ -2,7 +2,7 @@
 ghost use Rattle.std.specs.Prelude.{◌≡◌, ℕ, Some, None, Err, IfOk, IfErr};
 ghost use Rattle.ppq_session.specs.declared.fault.BeginFault.TheVariants.{Memory, Device};
 ghost use Rattle.ppq_session.specs.Opened.{IsOpened, HandedOut, BulkBegan};
-ghost use Rattle.ppq_queue.specs.Holding.{Holding};
+ghost use Rattle.ppq_queue.specs.Holding.{Holding, session_begun};
 ghost use Rattle.ppq_session.specs.Sessions.{IsUnbegun};
 ghost use Rattle.ppq_session.specs.Outfits.{ServeWorkers};
 ghost use Rattle.ppq_pass.specs.ppq_pool.Seats.{count_of};
@@ -28,7 +28,7 @@ use std::alloc::Global;
 /// A session is to be ended with all its passes: what is dropped before takes its blocks and records along.
 ///
 /// Each refusal hands the queue back. `Memory` and `NoFreeBlock`: its multiset is as it was. `Device`: the
-/// block with that number failed, now or before.
+/// block with that number failed, now or before. The queue counts the session whatever is returned.
 pub fn bulk_begin<H: Host, S: Slot + Send + Sync, R: Record + Send + Sync, G: Gate>(
     rt: &H,
     alloc: Global,
@@ -39,7 +39,7 @@ where
     H::Dir: Send,
     ensures begun { IfOk result (λ r. BulkBegan S.shown q r.0 r.1 r.2.items) }
     ensures refused { IfErr result (λ e. IsUnbegun q q e.0 e.1) }
-    ensures latched { (number : ℕ) → q.failed ≡ Some number → result ≡ Err (q, Device number) }
+    ensures latched { (number : ℕ) → q.failed ≡ Some number → result ≡ Err (session_begun q, Device number) }
 {
     let mut q = q;
     match q.begin_session(rt, true, gate) {
@@ -104,6 +104,7 @@ fn deal_out<S: Slot + Send + Sync, R: Record + Send + Sync>(
         peak,
         failed: _,
         limited,
+        counts,
         slots,
     } = parts;
     let mut body = body;
@@ -136,6 +137,7 @@ fn deal_out<S: Slot + Send + Sync, R: Record + Send + Sync>(
         count,
         peak,
         limited,
+        counts,
         slots,
         row_seat,
         pool_seat,

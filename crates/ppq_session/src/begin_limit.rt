@@ -18,7 +18,7 @@ use std::alloc::Global;
 /// levels are merged. It allocates what the passes keep, and nothing is allocated later.
 ///
 /// Each refusal hands the queue back. `Memory` and `NoFreeBlock`: its multiset is as it was. `Device`: the
-/// block with that number failed, now or before.
+/// block with that number failed, now or before. The queue counts the session whatever is returned.
 pub fn limit_begin<H: Host, S: Slot + Send + Sync, R: Record + Send + Sync, G: Gate>(
     rt: &H,
     alloc: Global,

@@ -41,6 +41,7 @@ fn bring<S: Slot + Send + Sync, R: Record + Send + Sync>(
         parts: held,
         begun,
         accepted,
+        stores,
         refused,
         failed,
     } = pass.into_parts();
@@ -60,6 +61,7 @@ fn bring<S: Slot + Send + Sync, R: Record + Send + Sync>(
         kept,
         begun,
         accepted,
+        stores,
         refused,
         failed,
     });

@@ -18,6 +18,8 @@ pub struct Brought<S: Slot, R: Record> {
     pub begun: u64,
     /// How many of its pushes answered Ok.
     pub accepted: u64,
+    /// How many stores of its full heap it began.
+    pub stores: u64,
     /// Whether a push of it answered `NoFreeBlock`.
     pub refused: bool,
     /// The number of the slot a call of which failed first.

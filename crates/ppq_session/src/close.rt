@@ -31,6 +31,7 @@ pub fn close<S: Slot + Send + Sync, R: Record + Send + Sync>(
         count,
         peak,
         limited,
+        counts,
         slots,
         row_seat,
         pool_seat,
@@ -51,6 +52,7 @@ pub fn close<S: Slot + Send + Sync, R: Record + Send + Sync>(
         count,
         peak,
         limited,
+        counts,
         failed,
         slots,
     };

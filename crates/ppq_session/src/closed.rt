@@ -3,6 +3,7 @@
 use ppq_pass::{
     Extract, InsertionHeap, MinTree, OwnerLists, PassBody, Record, Sizes, Slot, Sources,
 };
+use ppq_queue::Counts;
 
 /// The parts of a queue after its session's row and pool were closed, while passes are put into it.
 #[derive(Drop)]
@@ -27,6 +28,9 @@ pub struct Closed<S: Slot + Send + Sync, R: Record + Send + Sync> {
     pub peak: u64,
     /// Whether a limit session was begun.
     pub limited: bool,
+    /// How many records the queue accepted, and how many stores of a full heap and sessions it began, with
+    /// what the passes that were put in count.
+    pub counts: Counts,
     /// The number of the slot a call of which failed, in a front or in one of those passes.
     pub failed: Option<u32>,
     /// The emptied list of the slots that came in.

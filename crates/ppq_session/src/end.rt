@@ -17,8 +17,9 @@ use ppq_queue::Queue;
 /// Ends a bulk session: the queue with the records that it had and those that its passes accepted. All
 /// passes of the session come, in any order.
 ///
-/// The runs of the passes become runs of the queue, whose levels are merged at last. It allocates
-/// nothing.
+/// The runs of the passes become runs of the queue, whose levels are merged at last. What the passes
+/// counted, records that they accepted and stores that they began, comes on top of the queue's counts. It
+/// allocates nothing.
 ///
 /// `Whole`: the queue has all records, and its levels are settled: at most 64 runs are in blocks.
 /// `Stopped(NoFreeBlock)`: it has all records, but a merge of levels found no blocks. `Stopped(Device)`: a

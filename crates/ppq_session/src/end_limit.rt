@@ -13,7 +13,8 @@ use ppq_queue::Queue;
 /// accepted. All passes of the session come, in any order.
 ///
 /// The runs of the passes become runs of the queue, which costs a few steps for each run, block and buffer
-/// of theirs; then levels are merged, which reads and writes their blocks once a level. It does not allocate.
+/// of theirs; then levels are merged, which reads and writes their blocks once a level. What the passes counted
+/// comes on top of the queue's counts. It does not allocate.
 ///
 /// `Whole`: the queue has all records, and its levels are settled: at most 64 runs are in blocks.
 /// `Stopped(NoFreeBlock)`: it has all records, but a merge of levels found no blocks. `Stopped(Device)`: a

@@ -12,6 +12,7 @@ use crate::moving::{free_all, move_all, move_buffers};
 use ppq_pass::{
     BufList, ExternalArray, InternalArray, OwnerLists, PassBody, Record, Slot, free_slot,
 };
+use ppq_queue::Counts;
 
 /// The number of the slot that failed first in the first pass that met a fault, and else `other`. The first
 /// pass stands last.
@@ -52,12 +53,14 @@ fn gather<S: Slot + Send + Sync, R: Record + Send + Sync>(c: &mut Closed<S, R>, 
         body,
         stash,
         accepted,
+        stores,
         failed,
         ..
     } = one;
     c.heaps.push_reserved(heap);
     free_all(&mut c.supply, stash);
     c.count = c.count.saturating_add(accepted);
+    c.counts.join(Counts::of_pass(accepted, stores));
     c.failed = c.failed.or(failed);
     match c.failed {
         None => adopt(&mut c.body, body),

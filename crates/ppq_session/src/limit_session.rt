@@ -50,7 +50,8 @@ impl<S: Slot + Send + Sync, R: Record + Send + Sync> LimitSession<S, R> {
     /// The rest of the extract buffer and each heap that is not empty are stored as runs first, which costs a
     /// sort and a store of each heap; levels of runs are merged after each.
     ///
-    /// Each refusal hands the queue back, with the records that it had unless a block failed.
+    /// Each refusal hands the queue back, with the records that it had unless a block failed, and the queue
+    /// counts the session.
     pub fn begin<H: Host, G: Gate>(
         rt: &H,
         alloc: Global,

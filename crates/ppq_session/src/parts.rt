@@ -5,6 +5,7 @@ use ppq_pass::{
     Berth, Extract, InsertionHeap, MinTree, OwnerLists, PassBody, PoolBuf, PoolSeat, Record,
     RowSeat, Sizes, Slot, Sources,
 };
+use ppq_queue::Counts;
 
 /// The parts of a queue while its heaps, free slots and idle buffers are out.
 #[derive(Drop)]
@@ -29,6 +30,9 @@ pub struct BulkParts<S: Slot + Send + Sync, R: Record + Send + Sync> {
     pub peak: u64,
     /// Whether a limit session was begun.
     pub limited: bool,
+    /// How many records the queue accepted, and how many stores of a full heap and sessions it began, this
+    /// one too.
+    pub counts: Counts,
     /// The emptied list of the slots that came in.
     pub slots: Vec<S>,
     /// The right to the row of the free slots.

@@ -1,6 +1,7 @@
 //! The extract buffer of a front, refilled.
 ghost use Rattle.std.specs.Prelude.{OnOk, IfErr};
-ghost use Rattle.ppq_session.specs.Apart.{apart_slots};
+ghost use Rattle.ppq_pass.specs.ppq_spill.Costing.{Pays};
+ghost use Rattle.ppq_session.specs.Apart.{apart_slots, apart_account};
 ghost use Rattle.ppq_session.specs.FrontState.{CanRefill, FrontRefilled, IsRefillRefusal, RefillStays};
 
 use crate::parts::BulkParts;
@@ -21,6 +22,7 @@ where
     ensures refilled { OnOk result (FrontRefilled S.shown R.Ord.cmp R.record_of R.WIDTH limit q.old q.new) }
     ensures failed { IfErr result (IsRefillRefusal (apart_slots S.shown q.new)) }
     ensures stays { RefillStays S.shown R.WIDTH q.old q.new }
+    ensures counted { Pays result 0 0 (apart_account S.shown q.old) (apart_account S.shown q.new) }
 {
     record_laws::<R>();
     let answer = q.extract.refill(

@@ -29,6 +29,7 @@ pub fn rejoin<S: Slot + Send + Sync, R: Record + Send + Sync>(
         count,
         peak,
         limited,
+        counts,
         failed,
         slots,
     } = c;
@@ -47,6 +48,7 @@ pub fn rejoin<S: Slot + Send + Sync, R: Record + Send + Sync>(
         count,
         peak: peak.max(load),
         limited,
+        counts,
         failed: first.or(failed),
         slots,
     })

@@ -1,7 +1,7 @@
 //! An open bulk session, as one value.
 ghost use Rattle.std.specs.Prelude.{◌≡◌, ◌<◌, ◌≤◌, ◌++◌, ◌↔◌, [], ℕ, List, All, Any, Some, None, Err, IsTrue, false, IfOk, IfErr, OnOk, length, take, slice_set};
 ghost use Rattle.ppq_pass.specs.ppq_budget.Sizes.{AreInRange, batch_of};
-ghost use Rattle.ppq_queue.specs.Holding.{Holding};
+ghost use Rattle.ppq_queue.specs.Holding.{Holding, session_begun};
 ghost use Rattle.ppq_session.specs.declared.fault.BeginFault.TheVariants.{Device};
 ghost use Rattle.ppq_session.specs.Ends.{NamesFirst};
 ghost use Rattle.ppq_session.specs.Dealing.{IsGoing, HasEnded, EachAdds, records_in, records_for, part_for};
@@ -49,7 +49,7 @@ impl<S: Slot + Send + Sync, R: Record + Send + Sync> Session<S, R> {
     /// Begins a session of a queue, with a pass for each worker. All memory that it needs is taken now.
     ///
     /// Each refusal hands the queue back, with the records that it had unless a block failed. A queue of
-    /// which a block failed before comes back as it was.
+    /// which a block failed before comes back as it was, but it counts the session.
     pub fn begin<H: Host, G: Gate>(
         rt: &H,
         alloc: Global,
@@ -61,7 +61,7 @@ impl<S: Slot + Send + Sync, R: Record + Send + Sync> Session<S, R> {
         ensures session { IfOk result (λ session. InSession S.shown queue [] session) }
         ensures going { IfOk result (λ session. All IsGoing session.passes) }
         ensures refused { IfErr result (λ back. IsUnbegun queue queue back.0 back.1) }
-        ensures latched { (number : ℕ) → queue.failed ≡ Some number → result ≡ Err (queue, Device number) }
+        ensures latched { (number : ℕ) → queue.failed ≡ Some number → result ≡ Err (session_begun queue, Device number) }
     {
         match bulk_begin(rt, alloc, queue, gate) {
             Ok((bulk, shared, passes)) => Ok(Session {

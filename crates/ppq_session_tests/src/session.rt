@@ -5,7 +5,7 @@ ghost use Rattle.ppq_session.specs.Dealing.{IsGoing};
 use crate::bulk::{Adding, Done, in_session};
 use crate::records::{are_keys, are_twins, ascend, popped, queue_of};
 use ppq_outside::{MemSlot, OpenGate};
-use ppq_session::{Host, Line, Out, Pair, Queue, Session, SessionEnd, Sizes};
+use ppq_session::{Host, Line, Out, Pair, Queue, Session, SessionEnd, Sizes, Slot};
 use ppq_testkit::pair;
 use std::alloc::Global;
 use std::process::Abort;
@@ -102,6 +102,44 @@ fn records_from_before_and_of_both_passes_come_out_together(rt: HostRuntime) -> 
         };
         takes_all(&rt, rt.alloc(), case)?;
     }
+    Ok(())
+}
+
+// How many blocks were written and read until the end of a session.
+fn transfers_by<H: Host + Abort>(rt: &H, alloc: Global, case: Case) -> Result<(u64, u64), Fail>
+where
+    H::Dir: Send,
+{
+    let sizes = Sizes::new(2, 2, 1, case.memory, case.blocks).expect(rt, "sizes in range");
+    let queue = queue_of(rt, alloc, sizes, falling(rt, alloc, case.pushed))?;
+    let lines = lines_of(rt, alloc, case.lines);
+    let (queue, _end, _done) = in_session(rt, alloc, queue, Adding::Lines, lines.as_slice());
+    Ok(sums_of(queue.close()))
+}
+
+// How often all these slots were written, and how often they were read.
+fn sums_of(slots: Vec<MemSlot>) -> (u64, u64) {
+    let mut writes: u64 = 0;
+    let mut reads: u64 = 0;
+    for slot in slots.as_slice() {
+        writes = writes.saturating_add(slot.writes());
+        reads = reads.saturating_add(slot.reads());
+    }
+    (writes, reads)
+}
+
+#[test]
+fn a_session_writes_no_more_blocks_than_its_records_pay_for(rt: HostRuntime) -> Result<(), Fail> {
+    let case = Case {
+        memory: 472,
+        blocks: 300,
+        pushed: 31,
+        lines: 200,
+    };
+    let (writes, reads) = transfers_by(&rt, rt.alloc(), case)?;
+    // 231 records, which fill a heap of two records 116 times, and a session, with blocks of two records
+    let most = (8 * (231 + 4 * (116 + 1)) + 2 * 2 * (2 * 116 + 4)) / 2;
+    assert!(rt; (writes > 0) & (reads <= writes) & (writes <= most));
     Ok(())
 }
 

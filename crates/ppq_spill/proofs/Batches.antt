@@ -16,6 +16,8 @@ use Rattle.ppq_fetch.specs.ppq_array.Run.{run_of}
 use Rattle.ppq_fetch.specs.ppq_array.External.{External, external, size_of, counts, block_items, blocks_items, IsPacked}
 use Rattle.ppq_spill.specs.Making.{Hand, hand_slots, Wrote, WroteAll, WroteSome, AllFull, MayWrite, MayWritePart}
 use Rattle.ppq_spill.specs.Writing.{SameBuffers}
+use Rattle.ppq_spill.specs.Went.{AtLeast}
+use Rattle.ppq_spill.proofs.Going.{each-none, each-then}
 use Rattle.ppq_spill.proofs.Parts.{Wrote-trans, Wrote-none, hand_long}
 use Rattle.ppq_spill.proofs.Blocks.{counts_append, counts_full, all_full, packed_append, packed_full, fewer_than}
 
@@ -24,6 +26,7 @@ pub record Batch {S R : Type 0} (record_of : List ℕ → R) (width block : ℕ)
   pub blocks : List (DeviceBlock S R)
   pub wrote : Wrote shown bytes old new blocks
   pub quiet : AreQuiet (hand_slots shown old) (hand_slots shown new)
+  pub each : AtLeast (length blocks) (hand_slots shown old) (hand_slots shown new)
   pub within : at ≤ length records
   pub size : counts blocks ≡ at
   pub packed : IsPacked block blocks
@@ -45,6 +48,7 @@ module _ {S R : Type 0} (record_of : List ℕ → R) (width block : ℕ) (shown 
         blocks = [];
         wrote = Wrote-none shown bytes old;
         quiet = refl;
+        each = each-none (hand_slots shown old);
         within = omega arith;
         size = refl;
         packed = packed_full block [] (All-nil (λ (b : DeviceBlock S R). b.count ≡ block));
@@ -69,6 +73,7 @@ module _ {S R : Type 0} (record_of : List ℕ → R) (width block : ℕ) (shown 
         blocks = bs ++ cs;
         wrote = Wrote-trans shown bytes old now new bs cs batch.wrote put.wrote;
         quiet = put.quiet ∙ batch.quiet;
+        each = subst (λ n. AtLeast n (hand_slots shown old) (hand_slots shown new)) (sym (length-append bs cs)) (each-then (length bs) (length cs) (hand_slots shown old) (hand_slots shown now) (hand_slots shown new) batch.each put.each);
         within = omega (arith, is);
         size = size;
         packed = packed_append block bs cs full (some_block cs (omega (arith, put.size, long, is, more, some))) put.packed;
@@ -108,6 +113,7 @@ module _ {S R : Type 0} (record_of : List ℕ → R) (width block : ℕ) (shown 
         blocks = batch.blocks;
         wrote = batch.wrote;
         quiet = batch.quiet;
+        each = batch.each;
         size = batch.size ∙ e;
         packed = batch.packed;
         tight = omega (arith, batch.tight, e);

@@ -89,7 +89,7 @@ module _ {S R : Type 0} (shown : S → Shown) (width workers level : ℕ) (old m
               counted =
                   level_counted shown width level old new others o last.end stock now is at_most tt refl
                   (size_made shown width level old new others o last.end stock now is lanes lanes' workers may last.merged.ready last.emptied last.merged.same refl last.idle_is jobs batch last.arrays_are)
-                  last.arrays_are;
+                  last.arrays_are last.merged.each;
               size = again.size;
             },
             again,

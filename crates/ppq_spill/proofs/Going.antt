@@ -5,7 +5,7 @@ use Rattle.std.proofs.lemmas.List.Elements.{All-cons, All-head, All-nil}
 use Rattle.ppq_fetch.specs.ppq_outside.Shown.{Shown, Tells}
 use Rattle.ppq_fetch.specs.ppq_array.Supply.{Stock}
 use Rattle.ppq_fetch.specs.ppq_array.Kept.{SameSums, AreQuiet, MoreWrites, weight_at, all_faults}
-use Rattle.ppq_spill.specs.Went.{Went, WentWriting}
+use Rattle.ppq_spill.specs.Went.{Went, WentWriting, AtLeast}
 use Rattle.ppq_spill.specs.Writing.{Grew}
 use Rattle.ppq_spill.proofs.SameSlots.{SameSlots-refl, SameSlots-trans, SameSlots-grown}
 use Rattle.ppq_spill.proofs.Keeping.{sum_ones}
@@ -135,6 +135,29 @@ quiet_more base xs ys s t before same =
     let e : all_faults (xs ++ t ∷ ys) ≡ all_faults base = omega (arith, before, same, sum_by-append f_of xs (s ∷ ys), sum_by-cons f_of s ys, sum_by-append f_of xs (t ∷ ys), sum_by-cons f_of t ys) in
     e
 
+-- no slot was written
+pub each-none : (xs : List Shown) → AtLeast 0 xs xs
+each-none xs exact = omega arith
+
+-- written, and then written more
+pub each-then : (n m : ℕ) (a b c : List Shown) → AtLeast n a b → AtLeast m b c → AtLeast (n + m) a c
+each-then n m a b c first second exact = let more = second exact in omega (arith, first (omega (arith, exact, more)), more)
+
+-- the same slots among others, in any order
+pub each_placed :
+    (n : ℕ) (xs a b a' b' : List Shown) → ((f : Shown → ℕ) → sum_by f a' ≡ sum_by f xs + sum_by f a) → ((f : Shown → ℕ) → sum_by f b' ≡ sum_by f xs + sum_by f b) → AtLeast n a b
+    → AtLeast n a' b'
+each_placed n xs a b a' b' before now is exact = omega (arith, before w_of, now w_of, is (omega (arith, exact, now w_of)))
+
+-- one slot more was written
+pub each_more : (base xs ys : List Shown) (s t : Shown) (n : ℕ) → AtLeast n base (xs ++ s ∷ ys) → AtLeast 1 (s ∷ []) (t ∷ []) → AtLeast (n + 1) base (xs ++ t ∷ ys)
+each_more base xs ys s t n before one =
+    each-then n 1 base (xs ++ s ∷ ys) (xs ++ t ∷ ys) before
+    (each_placed 1 (xs ++ ys) (s ∷ []) (t ∷ []) (xs ++ s ∷ ys) (xs ++ t ∷ ys)
+    (λ f. omega (arith, sum_by-append f xs (s ∷ ys), sum_by-cons f s ys, sum_by-append f xs ys, sum_by-cons f s []))
+    (λ f. omega (arith, sum_by-append f xs (t ∷ ys), sum_by-cons f t ys, sum_by-append f xs ys, sum_by-cons f t []))
+    one)
+
 -- of what is held and kept, only slots that were drawn were called
 module _ (e j k0 d1 b0 e' j' k1 d0 b k : List Shown) (moved : SameSums (k0 ++ d1) (b0 ++ k ++ d0)) (placed : (f : Shown → ℕ) → sum_by f e' + sum_by f j' + sum_by f k1 ≡ sum_by f e + sum_by f j + sum_by f k + sum_by f b) where
   four : (f : Shown → ℕ) (a b c d : List Shown) → sum_by f (a ++ b ++ c ++ d) ≡ sum_by f a + sum_by f b + sum_by f c + sum_by f d
@@ -151,6 +174,9 @@ module _ (e j k0 d1 b0 e' j' k1 d0 b k : List Shown) (moved : SameSums (k0 ++ d1
 
   pub quiet_kept : AreQuiet b0 b → AreQuiet (e ++ j ++ k0 ++ d1) (e' ++ j' ++ k1 ++ d0)
   quiet_kept is = quiet_placed (e ++ j ++ k ++ d0) b0 b (e ++ j ++ k0 ++ d1) (e' ++ j' ++ k1 ++ d0) held_before held_now is
+
+  pub each_kept : (n : ℕ) → AtLeast n b0 b → AtLeast n (e ++ j ++ k0 ++ d1) (e' ++ j' ++ k1 ++ d0)
+  each_kept n is = each_placed n (e ++ j ++ k ++ d0) b0 b (e ++ j ++ k0 ++ d1) (e' ++ j' ++ k1 ++ d0) held_before held_now is
 
 -- the supply's slots are as they were
 pub went_untouched : (slots : List Shown) (o n : Stock) → n.kept ≡ o.kept → n.drawn ≡ o.drawn → WentWriting 0 (slots ++ o.kept ++ n.drawn) (slots ++ n.kept ++ o.drawn)

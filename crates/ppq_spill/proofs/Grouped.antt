@@ -22,11 +22,11 @@ use Rattle.ppq_fetch.specs.ppq_array.Kept.{MoreWrites}
 use Rattle.ppq_fetch.proofs.ppq_array.Noted.{all_left, all_right}
 use Rattle.ppq_spill.specs.Writing.{Grew, BlockStored, WriteFailed, Writing}
 use Rattle.ppq_spill.specs.Grouping.{MergedInto, slot_of, buf_of, block_of, IsWrite, IsGood, IsBad}
-use Rattle.ppq_spill.specs.Went.{WentWriting}
+use Rattle.ppq_spill.specs.Went.{WentWriting, AtLeast}
 use Rattle.ppq_spill.proofs.Filled.{MergedInto-buffers}
 use Rattle.ppq_spill.proofs.Going.{WentWriting-more, WentWriting-placed, WentWriting-weaker}
 use Rattle.ppq_spill.proofs.Keeping.{slots_long}
-use Rattle.ppq_spill.proofs.Transfers.{one_slot}
+use Rattle.ppq_spill.proofs.Transfers.{one_slot, one_least}
 use Rattle.ppq_spill.proofs.Writings.{Writing-more}
 use Rattle.ppq_spill.proofs.Written.{some_is, grew_written, block_stored, block_failed}
 
@@ -113,6 +113,12 @@ module _ {S R : Type 0} (cmp : R → R → Ordering) (bytes_of : R → List ℕ)
       let e : done.answer ≡ Ok u = some_is (Ok u) done.answer (Ok u) (sym done.done ∙ good) in
       let once : (shown d.slot.slot).writes ≡ next_count (shown j.slot.slot).writes = IfOk-at_ok (λ _. (shown d.slot.slot).writes ≡ next_count (shown j.slot.slot).writes) e w.wrote.writes.ok in
       omega (arith, once)
+
+  pub good_each : (j d : Job (DeviceBlock S R) R) → IsWrite j → Ran j d → IsGood d → AtLeast 1 (shown j.slot.slot ∷ []) (shown d.slot.slot ∷ [])
+  good_each j d is done (u, good) =
+      let w = wrote j d is done in
+      let e : done.answer ≡ Ok u = some_is (Ok u) done.answer (Ok u) (sym done.done ∙ good) in
+      one_least (shown j.slot.slot) (shown d.slot.slot) (IfOk-at_ok (λ _. (shown d.slot.slot).writes ≡ next_count (shown j.slot.slot).writes) e w.wrote.writes.ok)
 
   pub good_quiet : (j d : Job (DeviceBlock S R) R) → IsWrite j → Ran j d → IsGood d → (shown d.slot.slot).faults ≡ (shown j.slot.slot).faults
   good_quiet j d is done (u, good) =

@@ -21,7 +21,8 @@ use Rattle.ppq_spill.specs.Moves.{DrewSlots, FoundScant}
 use Rattle.ppq_spill.specs.Storing.{RunsAscend, BlocksStored, IsStored, StoreLeaves, StoreEnds, NoSlots, NoneFree, SameScant, TooFew, IsShortOfBuffers}
 use Rattle.ppq_spill.specs.Writing.{Writing, left_in}
 use Rattle.ppq_spill.proofs.Keeping.{slots_more, slots_long}
-use Rattle.ppq_spill.proofs.Going.{quiet_kept}
+use Rattle.ppq_spill.specs.Went.{AtLeast}
+use Rattle.ppq_spill.proofs.Going.{quiet_kept, each_kept}
 use Rattle.ppq_spill.specs.Untold.{untold}
 use Rattle.ppq_spill.proofs.Telling.{tell_sum, sum_tell, tell_moved}
 
@@ -64,6 +65,10 @@ module _ {S R : Type 0} (cmp : R → R → Ordering) (record_of : List ℕ → R
             (subst (λ (x : List Shown). SameSums (o.kept ++ x) (slots_shown shown slots0 ++ d.kept ++ o.drawn)) (sym drawn) drew.moved)
             (λ f. omega (arith, ap (sum_by f) has, sum_by-append f had stored, ap (sum_by f) same_kept, ap (λ js. sum_by f (job_slots shown js)) jobs))
             (subst (AreQuiet (slots_shown shown slots0)) (append-nil stored) writing.quiet);
+        each = each_kept had (job_slots shown old.lanes.jobs.items) o.kept r.drawn (slots_shown shown slots0) (external_slots shown new.runs.external.items) (job_slots shown new.lanes.jobs.items) r.kept o.drawn stored d.kept
+            (subst (λ (x : List Shown). SameSums (o.kept ++ x) (slots_shown shown slots0 ++ d.kept ++ o.drawn)) (sym drawn) drew.moved)
+            (λ f. omega (arith, ap (sum_by f) has, sum_by-append f had stored, ap (sum_by f) same_kept, ap (λ js. sum_by f (job_slots shown js)) jobs)) (length array.stored)
+            (subst (AtLeast (length array.stored) (slots_shown shown slots0)) (append-nil stored) writing.each);
         level = ap (λ a. a.level) writing.shape;
         loaded = ap (λ a. a.loaded) writing.shape;
         lifted = ap (λ a. a.lifted) writing.shape;
@@ -95,6 +100,7 @@ module _ {S R : Type 0} (cmp : R → R → Ordering) (record_of : List ℕ → R
         blocks = record {
           array = at.array;
           quiet = at.quiet;
+          each = at.each;
           level = at.level;
           loaded = at.loaded;
           lifted = at.lifted;

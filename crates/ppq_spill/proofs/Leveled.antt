@@ -22,17 +22,17 @@ use Rattle.ppq_fetch.specs.ppq_array.Run.{run_of, items_of, buffers_of}
 use Rattle.ppq_fetch.specs.ppq_array.External.{External, external, size_of, counts, records_in, waiting, blocks_items, IsPacked}
 use Rattle.ppq_fetch.specs.ppq_array.Supply.{Stock}
 use Rattle.ppq_fetch.specs.ppq_array.Owner.{slots_shown, HasBlock, HasSize}
-use Rattle.ppq_fetch.specs.ppq_array.Kept.{Kept, HasFailed, SameSlots, AreQuiet, weight_at, all_faults, all_writes}
+use Rattle.ppq_fetch.specs.ppq_array.Kept.{Kept, HasFailed, SameSlots, AreQuiet, weight_at, all_faults}
 use Rattle.ppq_fetch.specs.ppq_array.Holdings.{external_slots, external_buffers, RunHasBlock, ArrayHasSize}
 use Rattle.ppq_fetch.proofs.ppq_array.Noted.{all_left}
 use Rattle.ppq_fetch.specs.Fetching.{state, source_items, waiting_items, IsFitting, blocks_in, one_if_some}
 use Rattle.ppq_spill.specs.Body.{job_slots}
 use Rattle.ppq_fetch.specs.Taking.{NoneAfter}
-use Rattle.ppq_spill.specs.Leveling.{EightOf, MayLevel, AreOneSize, LevelCalls, LevelMerged, NoneForLevel, LevelTells, LevelFailed, ArraysAscend, held_in, records_count, arrays_before, arrays_after}
+use Rattle.ppq_spill.specs.Leveling.{MoreCalls, EightOf, MayLevel, AreOneSize, LevelCalls, LevelMerged, NoneForLevel, LevelTells, LevelFailed, ArraysAscend, held_in, records_count, arrays_before, arrays_after}
 use Rattle.ppq_spill.specs.Moves.{DrewSlots, FoundFewSlots}
-use Rattle.ppq_spill.specs.Went.{Went}
+use Rattle.ppq_spill.specs.Went.{Went, AtLeast}
 use Rattle.ppq_spill.specs.Making.{Hand, Table, table, table_slots, total, BetweenBatches, Merging, MergedOn, IsRising, all_records, HasNothing, IsFaultOf, LastMerged, LastFailed, freed}
-use Rattle.ppq_spill.proofs.Going.{f_of, Went-placed, WentWriting-refl, went_kept}
+use Rattle.ppq_spill.proofs.Going.{f_of, Went-placed, WentWriting-refl, went_kept, each_placed}
 use Rattle.ppq_spill.proofs.Keeping.{slots_long, sum_ones}
 use Rattle.ppq_spill.specs.Untold.{untold}
 use Rattle.ppq_spill.proofs.Telling.{tell_part}
@@ -187,6 +187,14 @@ module _ {S R : Type 0} (shown : S → Shown) (width level : ℕ) (old new other
       let e : all_faults (arrays_after shown new stock now) ≡ all_faults (arrays_before shown old stock now) = omega (arith, old_sum f_of [], new_sum f_of [], before, after, quiet) in
       e
 
+  -- of all slots as many were written, at least
+  pub level_each : (n : ℕ) → AtLeast n (table_slots shown o) (table_slots shown t) → AtLeast n (arrays_before shown old stock now) (arrays_after shown new stock now)
+  level_each n each =
+      let all = each_placed n (external_slots shown others ++ stock.drawn ++ []) (table_slots shown o) (table_slots shown t) (external_slots shown old ++ [] ++ stock.kept ++ now.drawn) (external_slots shown new ++ [] ++ now.kept ++ stock.drawn)
+      (λ f. old_sum f []) (λ f. new_sum f []) each in
+      subst (λ (xs : List Shown). AtLeast n (xs ++ stock.kept ++ now.drawn) (arrays_after shown new stock now)) (append-nil (external_slots shown old))
+      (subst (λ (xs : List Shown). AtLeast n (external_slots shown old ++ [] ++ stock.kept ++ now.drawn) (xs ++ now.kept ++ stock.drawn)) (append-nil (external_slots shown new)) all)
+
   -- the supply can take back as many more as are held more
   pub level_room : length (external_slots shown new) + stock.slot_room ≡ length (external_slots shown old) + now.slot_room
   level_room =
@@ -233,8 +241,8 @@ module _ {S R : Type 0} (shown : S → Shown) (width level : ℕ) (old new other
   blocks_long = omega (arith, ap (λ a. length a.stored) is.merging.made, length-append o.hand.made.stored is.merging.blocks, ap length is.none_made)
 
   -- no more blocks were written than were made or went on, and they are no more than the records of the 8 take
-  pub level_writes : all_writes (arrays_after shown new stock now) ≤ all_writes (arrays_before shown old stock now) + (length is.merging.blocks + is.later)
-  level_writes = nil_went.calls.written
+  pub level_writes : MoreCalls (length is.merging.blocks + is.later) (blocks_in o.inputs) (arrays_before shown old stock now) (arrays_after shown new stock now)
+  level_writes = record { written = nil_went.calls.written; stay = nil_went.calls.stay; read = omega (arith, nil_went.calls.read) }
 
   pub level_few : (length is.merging.blocks + is.later) * stock.block < records_count o.inputs + stock.block
   level_few =
@@ -249,7 +257,7 @@ module _ {S R : Type 0} (shown : S → Shown) (width level : ℕ) (old new other
         of = is.of;
         blocks = length is.merging.blocks + is.later;
         few = level_few;
-        calls = record { written = nil_went.calls.written; stay = nil_went.calls.stay; read = omega (arith, nil_went.calls.read) };
+        calls = level_writes;
       }
 
   start_block : o.hand.stock.block ≡ stock.block
@@ -573,8 +581,8 @@ module _ {S R : Type 0} (shown : S → Shown) (width workers level : ℕ) (old n
       (subst (λ (xs : List Shown). Went 0 0 (external_slots shown old ++ [] ++ stock.kept ++ now.drawn) (xs ++ now.kept ++ stock.drawn)) (append-nil (external_slots shown new)) (went_none []))
 
   -- none was written
-  pub none_writes : all_writes (arrays_after shown new stock now) ≤ all_writes (arrays_before shown old stock now)
-  none_writes = omega (arith, went_plain.calls.written)
+  pub none_writes : MoreCalls 0 0 (arrays_before shown old stock now) (arrays_after shown new stock now)
+  none_writes = went_plain.calls
 
   pub none_tells : LevelTells shown old new stock now
   none_tells = went_plain.tells

@@ -1,3 +1,4 @@
+pub use Rattle.ppq_counts.proofs as ppq_counts
 pub mod Batches
 pub mod Blocks
 pub mod Idle

@@ -13,7 +13,7 @@ use Rattle.ppq_fetch.specs.ppq_array.Supply.{Stock, GetsSlot}
 use Rattle.ppq_fetch.specs.ppq_array.Kept.{AreQuiet, all_faults}
 use Rattle.ppq_fetch.specs.ppq_array.Holdings.{external_slots, external_buffers, ArrayHasSize, RunHasBlock}
 use Rattle.ppq_fetch.specs.Fetching.{State, state, slots_in, AreSources, PartsKept, blocks_in, fronts_in, one_if_some}
-use Rattle.ppq_spill.specs.Went.{Went}
+use Rattle.ppq_spill.specs.Went.{Went, AtLeast}
 use Rattle.ppq_spill.specs.Making.{Hand, hand, hand_slots, Wrote, Tried, Table, table, table_slots, total, BetweenBatches, Merging}
 use Rattle.ppq_spill.proofs.Going.{f_of, Went-refl, Went-trans, Went-placed}
 use Rattle.ppq_spill.proofs.Parts.{SameRest-trans, hand_sum}
@@ -125,6 +125,27 @@ module _ {S R : Type 0} (shown : S → Shown) where
         hand_sum shown f_of n,
       ) in
       e
+
+  -- Blocks were loaded, and then blocks written, each of them
+  pub each_both :
+      (o : Table S R) (inputs : List (External S R)) (idle idle' : List (Block R)) (stock : Stock) (n : Hand S R) (k : ℕ)
+      → PartsKept shown (state [] o.inputs o.idle o.hand.stock) (state [] inputs idle stock) → AtLeast k (hand_slots shown (hand o.hand.made o.hand.berths stock)) (hand_slots shown n)
+      → AtLeast k (table_slots shown o) (table_slots shown (table inputs idle' n.made n.berths n.stock))
+  each_both o inputs idle idle' stock n k loaded written exact =
+      let t = table inputs idle' n.made n.berths n.stock in
+      let f : Shown → ℕ = λ s. s.writes in
+      let here : sum_by f (hand_slots shown n) ≤ sum_by f (table_slots shown t) = omega (arith, table_sum f t, hand_sum shown f n) in
+      omega (
+        arith,
+        loaded.transfers.writes,
+        written (omega (arith, here, exact)),
+        table_sum f o,
+        table_sum f t,
+        sum_by-append f (external_slots shown o.inputs) o.hand.stock.kept,
+        sum_by-append f (external_slots shown inputs) stock.kept,
+        hand_sum shown f (hand o.hand.made o.hand.berths stock),
+        hand_sum shown f n,
+      )
 
   -- nothing was merged yet
   pub Merging-none : (width workers : ℕ) (o : Table S R) → BetweenBatches shown width workers o → Merging shown width 0 o o

@@ -16,7 +16,7 @@ use Rattle.ppq_fetch.proofs.ppq_array.Noted.{all_left}
 use Rattle.ppq_spill.specs.Writing.{BlockStored, BlockFailed}
 use Rattle.ppq_spill.specs.Went.{Went}
 use Rattle.ppq_spill.specs.Making.{Hand, hand, hand_slots, SameRest, Wrote, WroteAll, WroteSome}
-use Rattle.ppq_spill.proofs.Going.{Went-refl, Went-trans, Went-placed, Went-one, quiet_placed, quiet_more}
+use Rattle.ppq_spill.proofs.Going.{Went-refl, Went-trans, Went-placed, Went-one, quiet_placed, quiet_more, each_placed}
 use Rattle.ppq_spill.proofs.Keeping.{slots_long}
 use Rattle.ppq_spill.specs.Untold.{untold}
 use Rattle.ppq_spill.proofs.Telling.{tell_part, tell_moved}
@@ -129,6 +129,7 @@ module _ {S R : Type 0} (shown : S → Shown) where
           written = All-cons (λ (b : DeviceBlock S R). 1 ≤ (shown b.slot).writes) last [] put.written (All-nil (λ (b : DeviceBlock S R). 1 ≤ (shown b.slot).writes));
         };
         quiet = quiet_placed others (shown b.slot ∷ []) (shown last.slot ∷ []) (hand_slots shown o) (hand_slots shown n) before now (quiet_more (shown b.slot ∷ []) [] [] (shown b.slot) (shown last.slot) refl put.quiet);
+        each = each_placed 1 others (shown b.slot ∷ []) (shown last.slot ∷ []) (hand_slots shown o) (hand_slots shown n) before now put.each;
         size = one;
         packed = record {
           full = λ k d h. absurd (omega arith);

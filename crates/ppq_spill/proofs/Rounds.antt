@@ -19,12 +19,13 @@ use Rattle.ppq_fetch.specs.ppq_array.Owner.{HasBlock, HasSize}
 use Rattle.ppq_fetch.specs.Fetching.{state, WentOn, count_in}
 use Rattle.ppq_fetch.specs.ppq_lane.declared.lanes.Lanes.{Lanes}
 use Rattle.ppq_spill.specs.Writing.{SameBuffers}
-use Rattle.ppq_spill.specs.Making.{hand, WroteAll, WroteSome, MayWrite, Table, table, total, BetweenBatches, MayMerge, SameTools, MergedOn, MergeFailed, MergedBatch, AllFull, IsFaultOf}
+use Rattle.ppq_spill.specs.Making.{hand, WroteAll, WroteSome, MayWrite, Table, table, table_slots, total, BetweenBatches, MayMerge, SameTools, MergedOn, MergeFailed, MergedBatch, AllFull, IsFaultOf}
 use Rattle.ppq_spill.specs.Staging.{TookBatch, ReadFailed}
+use Rattle.ppq_spill.proofs.Going.{each-then}
 use Rattle.ppq_spill.proofs.Parts.{Wrote-none}
 use Rattle.ppq_spill.proofs.Blocks.{counts_full}
 use Rattle.ppq_spill.proofs.Fetches.{went_fit}
-use Rattle.ppq_spill.proofs.Merges.{some_idle, tried_of, merging_of, quiet_both, Merging-none, Merging-trans}
+use Rattle.ppq_spill.proofs.Merges.{some_idle, tried_of, merging_of, quiet_both, each_both, Merging-none, Merging-trans}
 use Rattle.ppq_spill.proofs.Readies.{zero_or, enough_taken, ready_after, rising_after}
 
 -- a fault that is none of the first kind names a failed slot
@@ -103,10 +104,12 @@ module _ {S R : Type 0} (cmp : R → R → Ordering) (record_of : List ℕ → R
       let block2 : stock2.block ≡ b = put.wrote.rest.block ∙ got.parts.kept.block in
       let tight : length made2.stored * b < size_of made2 + b = subst (λ k. length made2.stored * k < size_of made2 + k) block2 after.0.tight in
       let eight : length inputs1 ≡ length o.inputs = sym (length_all_zip WentOn o.inputs inputs1 got.parts.went_on) in
+      let stored : made2.stored ≡ o.hand.made.stored ++ put.blocks = ap (λ a. a.stored) put.wrote.made in
       record {
         merged = record {
           merging = merging_of shown width workers 0 o (table inputs1 idle1 o.hand.made o.hand.berths stock1) n put.blocks ready refl refl got.parts may.sources taken.1 eight (tried_of shown (b * width) (hand o.hand.made o.hand.berths stock1) n.hand put.blocks put.wrote) refl same.long idle_blocks (no_more b (total o) n (omega (arith, tight, after.1)));
           quiet = quiet_both shown o inputs1 idle1 idle2 stock1 (hand made2 berths2 stock2) got.quiet put.quiet;
+          each = λ exact. omega (arith, each_both shown o inputs1 idle1 idle2 stock1 (hand made2 berths2 stock2) (length put.blocks) got.parts put.each exact, ap length stored, length-append o.hand.made.stored put.blocks);
           ready = after.0;
           same = after.1;
           rise = λ t r. (rising_after shown cmp record_of width o inputs1 idle1 idle2 stock1 stock2 made2 berths2 records order ready.shape got put t r).0;
@@ -167,13 +170,14 @@ module _ {S R : Type 0} (cmp : R → R → Ordering) (record_of : List ℕ → R
       }
 
   pub MergedOn-none : (o : Table S R) → BetweenBatches shown width workers o → MergedOn cmp record_of width workers shown o o
-  MergedOn-none o ready = record { merging = Merging-none shown width workers o ready; quiet = refl; ready = ready; same = refl; rise = λ t r. r; records = λ t r p. refl }
+  MergedOn-none o ready = record { merging = Merging-none shown width workers o ready; quiet = refl; each = λ exact. omega arith; ready = ready; same = refl; rise = λ t r. r; records = λ t r p. refl }
 
   pub MergedOn-trans : (o h n : Table S R) → MergedOn cmp record_of width workers shown o h → MergedOn cmp record_of width workers shown h n → MergedOn cmp record_of width workers shown o n
   MergedOn-trans o h n a b =
       record {
         merging = Merging-trans shown width 0 o h n a.merging a.same b.merging;
         quiet = b.quiet ∙ a.quiet;
+        each = λ exact. omega (arith, each-then (length h.hand.made.stored - length o.hand.made.stored) (length n.hand.made.stored - length h.hand.made.stored) (table_slots shown o) (table_slots shown h) (table_slots shown n) a.each b.each exact);
         ready = b.ready;
         same = b.same ∙ a.same;
         rise = λ t r. b.rise (a.merging.went.tells.0 t) (a.rise t r);

@@ -18,16 +18,15 @@ use Rattle.ppq_fetch.specs.ppq_array.External.{External, external, counts, block
 use Rattle.ppq_fetch.specs.ppq_array.Owner.{slots_shown, HasSize, HasBlock}
 use Rattle.ppq_fetch.specs.ppq_array.Supply.{Stock}
 use Rattle.ppq_fetch.proofs.ppq_array.Noted.{all_left, all_right, take_whole}
-use Rattle.ppq_spill.specs.Went.{Went}
+use Rattle.ppq_spill.specs.Went.{Went, WentWriting, AtLeast}
 use Rattle.ppq_fetch.specs.ppq_array.Kept.{SameSums, AreQuiet, all_faults}
-use Rattle.ppq_spill.specs.Went.{WentWriting}
 use Rattle.ppq_spill.specs.Making.{hand, hand_slots, SameRest, WroteAll, Tried}
 use Rattle.ppq_spill.proofs.Parts.{SameRest-trans, hand_sum}
 use Rattle.ppq_spill.proofs.Blocks.{fewer_than}
 use Rattle.ppq_spill.specs.Grouping.{appended, slot_of, buf_of, block_of, IsWrite, IsGood}
 use Rattle.ppq_spill.specs.Staging.{StandIn, Staged}
-use Rattle.ppq_spill.proofs.Going.{f_of, Went-placed, WentWriting-refl, quiet_placed}
-use Rattle.ppq_spill.proofs.Grouped.{Ran, went_each, called_all, sized_all, told_items, good_write, good_quiet}
+use Rattle.ppq_spill.proofs.Going.{f_of, Went-placed, WentWriting-refl, quiet_placed, each-none, each-then, each_placed}
+use Rattle.ppq_spill.proofs.Grouped.{Ran, went_each, called_all, sized_all, told_items, good_write, good_quiet, good_each}
 use Rattle.ppq_spill.proofs.Telling.{tell_moved}
 use Rattle.ppq_spill.proofs.Keeping.{sum_ones, slots_long}
 
@@ -178,6 +177,22 @@ module _ {S R : Type 0} (cmp : R → R → Ordering) (bytes_of : R → List ℕ)
       ) in
       e
 
+  -- each of them was written
+  each_all : (js ds : List (Job (DeviceBlock S R) R)) → All IsWrite js → AllZip (Ran cmp bytes_of record_of width block shown) js ds → All IsGood ds → AtLeast (length ds) (slots_shown shown (map slot_of js)) (slots_shown shown (map slot_of ds))
+  each_all [] [] is zip good = each-none []
+  each_all [] (d ∷ ds) is zip good = absurd zip
+  each_all (j ∷ js) [] is zip good = absurd zip
+  each_all (j ∷ js) (d ∷ ds) is zip good =
+      let s = shown j.slot.slot in
+      let t = shown d.slot.slot in
+      let ss = slots_shown shown (map slot_of js) in
+      let ts = slots_shown shown (map slot_of ds) in
+      let one = each_placed 1 ss (s ∷ []) (t ∷ []) (s ∷ ss) (t ∷ ss) (λ f. omega (arith, sum_by-cons f s ss, sum_by-cons f s [])) (λ f. omega (arith, sum_by-cons f t ss, sum_by-cons f t []))
+      (good_each cmp bytes_of record_of width block shown j d (All-head IsWrite j js is) zip.0 (All-head IsGood d ds good)) in
+      let rest = each_placed (length ds) (t ∷ []) ss ts (t ∷ ss) (t ∷ ts) (λ f. omega (arith, sum_by-cons f t ss, sum_by-cons f t [])) (λ f. omega (arith, sum_by-cons f t ts, sum_by-cons f t []))
+      (each_all js ds (All-tail IsWrite j js is) zip.1 (All-tail IsGood d ds good)) in
+      λ exact. omega (arith, each-then 1 (length ds) (s ∷ ss) (t ∷ ss) (t ∷ ts) one rest exact)
+
   -- all slots at hand, where some of them went to jobs
   staged_before :
       (records : List R) (idle idle' : List (Block R)) (berths berths' : List (DeviceBlock S R)) (stock stock' : Stock) (jobs : List (Job (DeviceBlock S R) R)) (made : External S R)
@@ -249,6 +264,7 @@ module _ {S R : Type 0} (cmp : R → R → Ordering) (bytes_of : R → List ℕ)
           written = written_as jobs done staged.write zip good;
         };
         quiet = quiet_placed others js ds (hand_slots shown old) (hand_slots shown new) before now (quiet_all jobs done staged.write zip good);
+        each = subst (λ n. AtLeast n (hand_slots shown old) (hand_slots shown new)) (sym (length-map done block_of)) (each_placed (length done) others js ds (hand_slots shown old) (hand_slots shown new) before now (each_all jobs done staged.write zip good));
         size = counts_as done ∙ sym (stand_count (map buf_of done)) ∙ ap length stand.all;
         packed = packed_as block records done stand;
         tight = (let n : length (map buf_of done) ≡ length (map block_of done) = omega (arith, length-map done buf_of, length-map done block_of) in subst (λ k. k * block < length records + block) n stand.tight);

@@ -23,9 +23,10 @@ use Rattle.ppq_fetch.specs.ppq_array.Kept.{HasFailed}
 use Rattle.ppq_fetch.specs.ppq_array.Holdings.{external_buffers}
 use Rattle.ppq_fetch.specs.Fetching.{State, state, AreSources, PartsKept, WentOn, count_in}
 use Rattle.ppq_spill.specs.Writing.{SameBuffers}
-use Rattle.ppq_spill.specs.Making.{Table, table, hand, total, AllFull, WroteAll, MayWrite, MayMerge, Tried, Merging, MergedOn, MergeFailed}
+use Rattle.ppq_spill.specs.Making.{Table, table, hand, hand_slots, total, AllFull, WroteAll, MayWrite, MayMerge, Tried, Merging, MergedOn, MergeFailed}
 use Rattle.ppq_spill.specs.Grouping.{CanEnd, GroupStopped, IsGood, IsBad, appended, items_in, slot_of, buf_of, block_of}
 use Rattle.ppq_spill.specs.Staging.{MayStage, Staged, MayTake, TookBatch, ReadFailed, Takes}
+use Rattle.ppq_spill.proofs.Going.{each-none}
 use Rattle.ppq_spill.proofs.Parts.{Wrote-none, failed_there}
 use Rattle.ppq_spill.proofs.Blocks.{packed_full, counts_full, fewer_than}
 use Rattle.ppq_spill.proofs.Fetches.{went_fit}
@@ -124,6 +125,7 @@ module _ {S R : Type 0} (cmp : R → R → Ordering) (bytes_of : R → List ℕ)
             blocks = [];
             wrote = Wrote-none shown (b * width) (hand made berths stock);
             quiet = refl;
+            each = each-none (hand_slots shown (hand made berths stock));
             size = sym (ap length no_record);
             packed = packed_full b [] (All-nil (λ (b' : DeviceBlock S R). b'.count ≡ b));
             tight = (let z : 0 * b ≡ 0 = omega arith in omega (arith, z, turn_write.some));

@@ -22,8 +22,8 @@ use Rattle.ppq_fetch.specs.ppq_array.Kept.{AreQuiet, MoreWrites}
 use Rattle.ppq_fetch.proofs.ppq_array.Noted.{all_left, all_right, take_whole}
 use Rattle.ppq_fetch.specs.Taking.{NoneAfter}
 use Rattle.ppq_spill.specs.Writing.{Grew, MergedOut, BlockStored, BlockFailed, WriteFailed, Writing, left_in}
-use Rattle.ppq_spill.specs.Went.{WentWriting}
-use Rattle.ppq_spill.proofs.Going.{WentWriting-refl, WentWriting-more, WentWriting-weaker, quiet_more}
+use Rattle.ppq_spill.specs.Went.{WentWriting, AtLeast}
+use Rattle.ppq_spill.proofs.Going.{WentWriting-refl, WentWriting-more, WentWriting-weaker, quiet_more, each-none, each_more}
 use Rattle.ppq_spill.proofs.Keeping.{slots_long}
 
 module _ {S R : Type 0} (cmp : R → R → Ordering) (record_of : List ℕ → R) (width block : ℕ) (shown : S → Shown) where
@@ -56,6 +56,7 @@ module _ {S R : Type 0} (cmp : R → R → Ordering) (record_of : List ℕ → R
         written = subst (λ bs. All (λ (b : DeviceBlock S R). 1 ≤ (shown b.slot).writes) bs) (sym none) (λ k d h. absurd (omega arith));
         went = subst (λ bs. WentWriting (length bs) (slots_shown shown slots) (slots_shown shown bs ++ slots_shown shown slots)) (sym none) (WentWriting-refl (slots_shown shown slots));
         quiet = subst (λ bs. AreQuiet (slots_shown shown slots) (slots_shown shown bs ++ slots_shown shown slots)) (sym none) refl;
+        each = subst (λ bs. AtLeast (length bs) (slots_shown shown slots) (slots_shown shown bs ++ slots_shown shown slots)) (sym none) (each-none (slots_shown shown slots));
         full = λ some. subst (λ bs. All (λ (b : DeviceBlock S R). b.count ≡ block) bs) (sym none) (λ k d h. absurd (omega arith));
         packed = subst (IsPacked block) (sym none) (record { full = λ k d h. absurd (omega arith); last = λ k d h. absurd (omega arith) });
         tells = λ t. t;
@@ -92,6 +93,7 @@ module _ {S R : Type 0} (cmp : R → R → Ordering) (record_of : List ℕ → R
         written = subst (λ bs. All (λ (b : DeviceBlock S R). 1 ≤ (shown b.slot).writes) bs) (sym blocks) (All-push (λ (b : DeviceBlock S R). 1 ≤ (shown b.slot).writes) stored last is.written put.written);
         went = went_more slots0 stored b last slots put.grew put.transfers is.went blocks;
         quiet = subst (AreQuiet (slots_shown shown slots0)) (shown_more stored last slots blocks) (quiet_more (slots_shown shown slots0) (slots_shown shown stored) (slots_shown shown slots) (shown b.slot) (shown last.slot) is.quiet put.quiet);
+        each = least_more slots0 stored b last slots put.each is.each blocks;
         full = λ h. subst (All IsFull) (sym blocks) (All-push IsFull stored last (is.full (omega arith)) (omega (arith, is.least (omega arith), more, sum, merged.count, at_least block (length slots) h, put.count)));
         packed = subst (IsPacked block) (sym blocks) (record {
           full = subst (All IsFull) (sym (but_last stored last)) (is.full (omega arith));
@@ -142,6 +144,15 @@ module _ {S R : Type 0} (cmp : R → R → Ordering) (record_of : List ℕ → R
           let long : length stored' ≡ length stored + 1 = ap length e ∙ length-append stored (last ∷ []) in
           subst (WentWriting (length stored') (slots_shown shown slots0)) (shown_more stored last slots e)
           (WentWriting-more (slots_shown shown slots0) (slots_shown shown stored) (slots_shown shown slots) (shown b.slot) (shown last.slot) (length stored) 1 (length stored') before grew one long)
+
+      least_more :
+          (slots0 stored : List (DeviceBlock S R)) (b last : DeviceBlock S R) (slots : List (DeviceBlock S R)) → AtLeast 1 (shown b.slot ∷ []) (shown last.slot ∷ []) → AtLeast (length stored) (slots_shown shown slots0) (slots_shown shown stored ++ slots_shown shown (b ∷ slots))
+          → {stored' : List (DeviceBlock S R)} → stored' ≡ stored ++ last ∷ [] → AtLeast (length stored') (slots_shown shown slots0) (slots_shown shown stored' ++ slots_shown shown slots)
+      least_more slots0 stored b last slots one before {stored'} e =
+          let long : length stored' ≡ length stored + 1 = ap length e ∙ length-append stored (last ∷ []) in
+          subst (λ n. AtLeast n (slots_shown shown slots0) (slots_shown shown stored' ++ slots_shown shown slots)) (sym long)
+          (subst (AtLeast (length stored + 1) (slots_shown shown slots0)) (shown_more stored last slots e)
+          (each_more (slots_shown shown slots0) (slots_shown shown stored) (slots_shown shown slots) (shown b.slot) (shown last.slot) (length stored) before one))
 
       sizes_more :
           (stored : List (DeviceBlock S R)) (b last : DeviceBlock S R) (slots : List (DeviceBlock S R)) → Grew (shown b.slot) (shown last.slot) → All (HasSize shown (block * width)) (stored ++ b ∷ slots) → {stored' : List (DeviceBlock S R)} → stored' ≡ stored ++ last ∷ []

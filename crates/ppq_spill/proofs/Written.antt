@@ -11,7 +11,8 @@ use Rattle.ppq_fetch.specs.ppq_array.declared.berth.DeviceBlock.{DeviceBlock}
 use Rattle.ppq_fetch.specs.ppq_array.External.{External, external}
 use Rattle.ppq_fetch.specs.ppq_array.Kept.{MoreWrites}
 use Rattle.ppq_spill.specs.Writing.{Grew, BlockStored, BlockFailed}
-use Rattle.ppq_spill.proofs.Transfers.{one_slot}
+use Rattle.ppq_spill.specs.Went.{AtLeast}
+use Rattle.ppq_spill.proofs.Transfers.{one_slot, one_least}
 
 pub some_is : {X : Type 0} (d x y : X) → Some x ≡ Some y → x ≡ y
 some_is d x y e = ap (λ o. unwrap_or o d) e
@@ -53,6 +54,7 @@ module _ {S R : Type 0} (bytes_of : R → List ℕ) (record_of : List ℕ → R)
         quiet = subst (λ s. (shown s).faults ≡ (shown slot).faults) (sym at) (IfOk-at_ok (λ _. (shown slot').faults ≡ (shown slot).faults) e w.wrote.cause.ok);
         written = subst (λ s. 1 ≤ (shown s).writes) (sym at) (omega (arith, once));
         transfers = subst (λ s. MoreWrites 1 (shown slot ∷ []) (shown s ∷ [])) (sym at) (one_slot 1 (shown slot) (shown slot') (omega (arith, once)) (omega (arith, w.wrote.reads)));
+        each = subst (λ s. AtLeast 1 (shown slot ∷ []) (shown s ∷ [])) (sym at) (one_least (shown slot) (shown slot') once);
         items_are = λ t. ap (λ s. records_told record_of width last.count (shown s).told) at ∙ ap (λ n. records_told record_of width n (shown slot').told) count ∙ back t;
       }
 

@@ -1,12 +1,12 @@
 -- What storing a run and merging a level cost.
-use Rattle.std.specs.Prelude.{ℕ, ◌+◌, ◌*◌, List, Result, Ok, Err}
+use Rattle.std.specs.Prelude.{ℕ, ◌+◌, ◌*◌, List, length, Result, Ok, Err}
 use Rattle.ppq_counts.specs.Account.{Account, account, Costs, Stops}
 use Rattle.ppq_fetch.specs.ppq_outside.Shown.{Shown}
 use Rattle.ppq_fetch.specs.ppq_array.declared.store_fault.StoreFault.{StoreFault}
 use Rattle.ppq_fetch.specs.ppq_array.declared.store_fault.StoreFault.TheVariants.{NoFreeBlock, Device}
 use Rattle.ppq_fetch.specs.ppq_array.External.{External, size_of}
 use Rattle.ppq_fetch.specs.ppq_array.Supply.{Stock}
-use Rattle.ppq_fetch.specs.ppq_array.Kept.{all_writes}
+use Rattle.ppq_fetch.specs.ppq_array.Kept.{all_writes, all_reads}
 use Rattle.ppq_spill.specs.Storing.{in_buffers, slots_before, slots_after}
 use Rattle.ppq_spill.specs.Leveling.{arrays_before, arrays_after}
 use Rattle.ppq_spill.specs.declared.body.PassBody.{PassBody}
@@ -29,7 +29,7 @@ Pays result cost runs old new = PaysUnless result cost runs cost runs old new
 module _ {S R : Type 0} where
   -- the account of runs in blocks, with so many records in memory
   abbrev pub arrays_account : ℕ → List Shown → List (External S R) → ℕ → Account
-  arrays_account block slots arrays in_memory = account (λ (a : External S R). a.level) size_of block (all_writes slots) arrays in_memory
+  arrays_account block slots arrays in_memory = account (λ (a : External S R). a.level) size_of (λ (a : External S R). length a.stored) block (all_writes slots) (all_reads slots) arrays in_memory
 
   -- the account of a body, whose runs in buffers are in memory
   abbrev pub body_account : ℕ → List Shown → PassBody S R → Account

@@ -1,3 +1,4 @@
+pub use Rattle.ppq_counts.specs as ppq_counts
 pub mod Body
 pub mod Choosing
 pub mod Costing

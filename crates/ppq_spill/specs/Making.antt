@@ -17,7 +17,7 @@ use Rattle.ppq_fetch.specs.ppq_array.Holdings.{external_slots, external_buffers,
 use Rattle.ppq_fetch.specs.Fetching.{state, source_items, MayFetch, RunsRise, blocks_in, count_in}
 use Rattle.ppq_fetch.specs.ppq_lane.declared.lanes.Lanes.{Lanes}
 use Rattle.ppq_spill.specs.declared.new_array.NewArray.{NewArray}
-use Rattle.ppq_spill.specs.Went.{Went}
+use Rattle.ppq_spill.specs.Went.{Went, AtLeast}
 use Rattle.ppq_fetch.specs.Taking.{NoneAfter}
 
 -- no slot was drawn from a row, and the supply can take back as many buffers
@@ -86,6 +86,7 @@ module _ {S R : Type 0} where
     pub blocks : List (DeviceBlock S R)
     pub wrote : Wrote shown bytes old new blocks
     pub quiet : AreQuiet (hand_slots shown old) (hand_slots shown new)
+    pub each : AtLeast (length blocks) (hand_slots shown old) (hand_slots shown new)
     pub size : counts blocks ≡ length records
     pub packed : IsPacked block blocks
     pub tight : length blocks * block < length records + block
@@ -227,6 +228,7 @@ module _ {S R : Type 0} where
   pub record MergedOn (cmp : R → R → Ordering) (record_of : List ℕ → R) (width workers : ℕ) (shown : S → Shown) (old new : Table S R) : Type 0 where
     pub merging : Merging shown width 0 old new
     pub quiet : AreQuiet (table_slots shown old) (table_slots shown new)
+    pub each : AtLeast (length new.hand.made.stored - length old.hand.made.stored) (table_slots shown old) (table_slots shown new)
     pub ready : BetweenBatches shown width workers new
     pub same : total new ≡ total old
     pub rise : AllTell (table_slots shown old) → IsRising cmp record_of width shown old → IsRising cmp record_of width shown new

@@ -18,6 +18,7 @@ use Rattle.ppq_fetch.specs.ppq_array.Holdings.{internal_items, RunHasBlock, Arra
 use Rattle.ppq_fetch.specs.Fetching.{IsFitting}
 use Rattle.ppq_spill.specs.Body.{body_slots, held_by}
 use Rattle.ppq_spill.specs.Untold.{SameUntold}
+use Rattle.ppq_spill.specs.Went.{AtLeast}
 use Rattle.ppq_spill.specs.declared.body.PassBody.{PassBody}
 
 -- so many blocks have no room for so many records
@@ -106,6 +107,8 @@ module _ {S R : Type 0} where
     pub blocks : length array.stored * before.block < size_of array + before.block
     pub packed : IsPacked before.block array.stored
     pub written : All (λ (b : DeviceBlock S R). 1 ≤ (shown b.slot).writes) array.stored
+    -- and each of its blocks since the call began
+    pub each : AtLeast (length array.stored) (body_slots shown old ++ before.kept ++ now.drawn) (body_slots shown new ++ now.kept ++ before.drawn)
     -- the slots are those that the supply kept, as far as they go
     pub kept : length now.kept ≡ length before.kept - length array.stored
     pub internal : new.runs.internal.items ≡ []

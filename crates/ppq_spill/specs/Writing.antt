@@ -14,7 +14,7 @@ use Rattle.ppq_fetch.specs.ppq_array.Holdings.{internal_items}
 use Rattle.ppq_fetch.specs.Taking.{NoneAfter}
 use Rattle.ppq_spill.specs.declared.body.PassBody.{PassBody}
 use Rattle.ppq_spill.specs.declared.new_array.NewArray.{NewArray}
-use Rattle.ppq_spill.specs.Went.{WentWriting}
+use Rattle.ppq_spill.specs.Went.{WentWriting, AtLeast}
 
 -- a slot after a call: the same slot, and no count of it fell
 pub record Grew (before now : Shown) : Type 0 where
@@ -62,6 +62,7 @@ module _ {S R : Type 0} where
     pub quiet : (shown last.slot).faults ≡ (shown slot).faults
     pub written : 1 ≤ (shown last.slot).writes
     pub transfers : MoreWrites 1 (shown slot ∷ []) (shown last.slot ∷ [])
+    pub each : AtLeast 1 (shown slot ∷ []) (shown last.slot ∷ [])
     pub items_are : Tells (shown slot) → block_items record_of width shown last ≡ items
 
   -- the write of a block failed
@@ -97,6 +98,7 @@ module _ {S R : Type 0} where
     pub written : All (λ (b : DeviceBlock S R). 1 ≤ (shown b.slot).writes) array.stored
     pub went : WentWriting (length array.stored) (slots_shown shown slots0) (slots_shown shown array.stored ++ slots_shown shown slots)
     pub quiet : AreQuiet (slots_shown shown slots0) (slots_shown shown array.stored ++ slots_shown shown slots)
+    pub each : AtLeast (length array.stored) (slots_shown shown slots0) (slots_shown shown array.stored ++ slots_shown shown slots)
     pub full : 0 < length slots → All (λ (b : DeviceBlock S R). b.count ≡ block) array.stored
     pub packed : IsPacked block array.stored
     pub tells : AllTell (slots_shown shown slots0) → AllTell (slots_shown shown slots)

@@ -32,4 +32,5 @@ mod writing;
 
 pub use body::PassBody;
 pub use level::merge_level;
+pub use ppq_counts::Counts;
 pub use store::{store_buffers, store_sorted};

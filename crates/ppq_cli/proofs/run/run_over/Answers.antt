@@ -1,6 +1,6 @@
 use Rattle.std.proofs.Common.{◌≡◌, ◌≤◌, ◌<◌, ◌∙◌, ℕ, inl, length, map, ap, ap₂, sym, subst, arith}
 use Rattle.std.proofs.lemmas.List.{length-map}
-use Rattle.ppq_words.specs.ppq_budget.Sizes.{Numbers, fixed_of}
+use Rattle.ppq_words.specs.ppq_budget.Sizes.{Numbers, AreInRange, fixed_of}
 use Rattle.ppq_words.specs.ppq_script.Words.{words}
 use Rattle.ppq_words.specs.ppq_script.Reading.{command_list}
 use Rattle.ppq_words.specs.Reading.{as_reading, in_unit, sizes_at}
@@ -8,6 +8,7 @@ use Rattle.ppq_words.specs.declared.budget_unit.BudgetUnit.{BudgetUnit}
 use Rattle.ppq_engine.specs.Loads.{most_of, least_of, begins_limit, FitsWritten}
 use Rattle.ppq_engine.specs.Output.{given_of, load_of, crest_of, TakesWithin}
 use Rattle.ppq_engine.specs.Refusal.{HasNoRoom}
+use Rattle.ppq_engine.specs.Work.{TransfersFew}
 use Rattle.ppq_engine.specs.Ends.{BeganOrRefused, budget_refusal}
 use Rattle.ppq_engine.specs.declared.end.End.{End}
 use Rattle.ppq_engine.specs.declared.end.End.TheVariants.{BudgetTooSmall}
@@ -16,6 +17,7 @@ use Rattle.ppq_cli.specs.Device.{AreBlocks}
 use Rattle.ppq_cli.proofs.Blocks.{returned, in_order, made_just, made_nothing}
 use Rattle.ppq_cli.proofs.Ends.{ran_to_load, fault_to_file, may_write, no_blocks}
 use Rattle.ppq_cli.proofs.RunOver.{wrote_nothing, unmade_wrote, asked_nothing, small_ends, unmade_ends, begun_ends, small_faults, unmade_faults, made_count, unmade_blocks, unmade_not_done}
+use Rattle.ppq_cli.proofs.Transfers.{new_slots, no_slots, few_any}
 use Rattle.ppq_cli.proofs.run.run_over.Goals as goal
 
 -- the budget is too small
@@ -35,6 +37,16 @@ returns-then-memory-need-clause-blocks g c =
       are = subst (λ (e : End). AreBlocks c.args.arguments.now.given.numbers.blocks e (map shown r.result.blocks.items)) (sym r.ensures.end) (no_blocks c.args.arguments.now.given.numbers.blocks (BudgetTooSmall _) (map shown r.result.blocks.items) (λ run. run) (ap (map shown) r.ensures.none));
       unfailed = λ is. let other = r.ensures.end in absurd (cc);
       tells = λ t. t;
+    }
+
+pub returns-then-memory-need-clause-transfers : goal.returns-then-memory-need-clause-transfers
+returns-then-memory-need-clause-transfers g c =
+    let all = words g.R.PartialEq g.R.PartialOrd g.R.Ord g.R.Record g.R.Fields in
+    let reading = as_reading c.args.arguments.now in
+    let same : c.for_width-sizes.result ≡ sizes_at all.WIDTH reading = c.for_width-sizes.ensures ∙ ap (λ (n : ℕ). sizes_at n reading) c.WIDTH.ensures in
+    record {
+      range = subst AreInRange same c.memory.ensures.range;
+      few = few_any all (command_list c.args.script.now) (sizes_at all.WIDTH reading) _ (no_slots g.K.Slot.Slot.shown c.without_blocks.result.blocks.items c.without_blocks.ensures.none);
     }
 
 pub returns-then-memory-need-clause-library : goal.returns-then-memory-need-clause-library
@@ -112,6 +124,16 @@ returns-in-Ok-clause-blocks g c =
       tells = c.make_blocks.ensures.kept;
     }
 
+pub returns-in-Ok-clause-transfers : goal.returns-in-Ok-clause-transfers
+returns-in-Ok-clause-transfers g c =
+    let all = words g.R.PartialEq g.R.PartialOrd g.R.Ord g.R.Record g.R.Fields in
+    let reading = as_reading c.args.arguments.now in
+    let same : c.for_width-sizes.result ≡ sizes_at all.WIDTH reading = c.for_width-sizes.ensures ∙ ap (λ (n : ℕ). sizes_at n reading) c.WIDTH.ensures in
+    record {
+      range = subst AreInRange same c.memory.ensures.range;
+      few = subst (λ (n : Numbers). TransfersFew all (command_list c.args.script.now) n (map g.K.Slot.Slot.shown c.run_script.result.blocks.items)) same c.run_script.ensures.transfers;
+    }
+
 pub returns-in-Ok-clause-library : goal.returns-in-Ok-clause-library
 returns-in-Ok-clause-library g c = let e = c.run_script.ensures in record { told = e.files; remembers = e.remembers; asks = e.asks }
 
@@ -160,6 +182,16 @@ returns-in-Err-clause-blocks g c =
       are = subst (λ (e : End). AreBlocks c.args.arguments.now.given.numbers.blocks e (map shown back)) (sym c.end_of_making.ensures) (unmade_blocks c.args.arguments.now.given.numbers.blocks (map shown back) c.in-Err.fault numbers (omega (arith, most, length-map back shown)));
       unfailed = λ is. absurd (unmade_not_done c.in-Err.fault (sym c.end_of_making.ensures ∙ is));
       tells = c.make_blocks.ensures.kept;
+    }
+
+pub returns-in-Err-clause-transfers : goal.returns-in-Err-clause-transfers
+returns-in-Err-clause-transfers g c =
+    let all = words g.R.PartialEq g.R.PartialOrd g.R.Ord g.R.Record g.R.Fields in
+    let reading = as_reading c.args.arguments.now in
+    let same : c.for_width-sizes.result ≡ sizes_at all.WIDTH reading = c.for_width-sizes.ensures ∙ ap (λ (n : ℕ). sizes_at n reading) c.WIDTH.ensures in
+    record {
+      range = subst AreInRange same c.memory.ensures.range;
+      few = few_any all (command_list c.args.script.now) (sizes_at all.WIDTH reading) _ (new_slots _ _ c.in-Err.ensures.blocks.new);
     }
 
 pub returns-in-Err-clause-library : goal.returns-in-Err-clause-library

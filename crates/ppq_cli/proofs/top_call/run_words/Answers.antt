@@ -5,6 +5,7 @@ use Rattle.ppq_cli.specs.Replies.{IsLoadedAs}
 use Rattle.ppq_cli.specs.RunWords.{reading}
 use Rattle.ppq_cli.proofs.Blocks.{made_nothing}
 use Rattle.ppq_cli.proofs.Loaded.{of_loaded}
+use Rattle.ppq_cli.proofs.Transfers.{any_script, any_reply}
 use Rattle.ppq_cli.proofs.top_call.run_words.Goals as goal
 
 pub returns-in-Err-clause-made : goal.returns-in-Err-clause-made
@@ -15,6 +16,24 @@ returns-in_default-clause-made g c = made_nothing (λ s. (g.K.Slot.Slot.shown s)
 
 pub returns-in-Err-load-clause-made : goal.returns-in-Err-load-clause-made
 returns-in-Err-load-clause-made g c = made_nothing (λ s. (g.K.Slot.Slot.shown s).number) _ (g.K.Rack.made c.args.rack.now) c.without_blocks-in-Err-load.ensures.none
+
+pub returns-in-Err-clause-transfers : goal.returns-in-Err-clause-transfers
+returns-in-Err-clause-transfers g c = any_script g.K.Slot.Slot.shown c.without_blocks.result g.L.Library.told c.args.library.now c.args.words.now c.without_blocks.ensures.none
+
+pub returns-in-Err-clause-transfers_any : goal.returns-in-Err-clause-transfers_any
+returns-in-Err-clause-transfers_any g c = any_reply g.K.Slot.Slot.shown c.without_blocks.result g.L.Library.told c.args.library.now g.L.Library.replied _ c.args.words.now c.without_blocks.ensures.none
+
+pub returns-in_default-clause-transfers : goal.returns-in_default-clause-transfers
+returns-in_default-clause-transfers g c = any_script g.K.Slot.Slot.shown c.without_blocks-in_default.result g.L.Library.told c.args.library.now c.args.words.now c.without_blocks-in_default.ensures.none
+
+pub returns-in_default-clause-transfers_any : goal.returns-in_default-clause-transfers_any
+returns-in_default-clause-transfers_any g c = any_reply g.K.Slot.Slot.shown c.without_blocks-in_default.result g.L.Library.told c.args.library.now g.L.Library.replied _ c.args.words.now c.without_blocks-in_default.ensures.none
+
+pub returns-in-Err-load-clause-transfers : goal.returns-in-Err-load-clause-transfers
+returns-in-Err-load-clause-transfers g c = any_script g.K.Slot.Slot.shown c.without_blocks-in-Err-load.result g.L.Library.told c.args.library.now c.args.words.now c.without_blocks-in-Err-load.ensures.none
+
+pub returns-in-Err-load-clause-transfers_any : goal.returns-in-Err-load-clause-transfers_any
+returns-in-Err-load-clause-transfers_any g c = any_reply g.K.Slot.Slot.shown c.without_blocks-in-Err-load.result g.L.Library.told c.args.library.now g.L.Library.replied _ c.args.words.now c.without_blocks-in-Err-load.ensures.none
 
 pub returns-in-Ok-load : goal.returns-in-Ok-load
 returns-in-Ok-load g c =
@@ -31,6 +50,8 @@ returns-in-Ok-load g c =
       ran = e.ran;
       used = e.used;
       used_any = e.used_any;
+      transfers = e.transfers;
+      transfers_any = e.transfers_any;
       made = e.made;
       blocks = e.blocks;
       unfailed = e.unfailed;

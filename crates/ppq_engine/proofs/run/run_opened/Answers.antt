@@ -6,6 +6,7 @@ use Rattle.ppq_script.specs.Reading.{command_list}
 use Rattle.ppq_engine.specs.Calls.{RunsAll}
 use Rattle.ppq_engine.specs.Output.{output_of, given_of}
 use Rattle.ppq_engine.specs.Running.{HasStopped, ChangedIn, SinkAfter, LibraryAfter}
+use Rattle.ppq_engine.proofs.Counted.{transfers-few}
 use Rattle.ppq_engine.proofs.Libraries.{library-stays}
 use Rattle.ppq_engine.proofs.Results.{at-ok, at-err}
 use Rattle.ppq_engine.proofs.Running.{gathered-all, gathered-part}
@@ -83,3 +84,18 @@ returns-clause-ends g c = let w = words g.R.PartialEq g.R.PartialOrd g.R.Ord g.R
 
 pub returns-in-Ok-clause-library : goal.returns-in-Ok-clause-library
 returns-in-Ok-clause-library g c = library-stays c.run-machine.ensures.library
+
+pub returns-in-Ok-put-clause-transfers : goal.returns-in-Ok-put-clause-transfers
+returns-in-Ok-put-clause-transfers g c = let w = words g.R.PartialEq g.R.PartialOrd g.R.Ord g.R.Record g.R.Fields in
+    let k = c.known-2.ensures in
+    transfers-few w (command_list c.args.world.now.script.now) c.args.queue.sizes c.run-machine.result.0.queue k.range c.run-machine.ensures.counted k.transfers k.read
+
+pub returns-in-Ok-clause-transfers : goal.returns-in-Ok-clause-transfers
+returns-in-Ok-clause-transfers g c = let w = words g.R.PartialEq g.R.PartialOrd g.R.Ord g.R.Record g.R.Fields in
+    let k = c.known-2.ensures in
+    transfers-few w (command_list c.args.world.now.script.now) c.args.queue.sizes c.run-machine.result.0.queue k.range c.run-machine.ensures.counted k.transfers k.read
+
+pub returns-clause-transfers : goal.returns-clause-transfers
+returns-clause-transfers g c = let w = words g.R.PartialEq g.R.PartialOrd g.R.Ord g.R.Record g.R.Fields in
+    let k = c.known-2.ensures in
+    transfers-few w (command_list c.args.world.now.script.now) c.args.queue.sizes c.run-machine.result.0.queue k.range c.run-machine.ensures.counted k.transfers k.read

@@ -1,16 +1,18 @@
-use Rattle.std.proofs.Common.{◌≡◌, ℕ, ◌+◌, ◌/◌, ◌++◌, List, Option, Some, None, max, [], sym, subst, arith}
+use Rattle.std.proofs.Common.{◌≡◌, ℕ, ◌+◌, ◌/◌, ◌++◌, List, length, Option, Some, None, max, [], sym, subst, arith}
 use Rattle.std.specs.Prelude.{OnOk, IfErr, ⊤}
 use Rattle.ppq_session.specs.ppq_record.Bag.{IsSameBag}
 use Rattle.ppq_load.specs.Given.{records_of}
 use Rattle.ppq_session.specs.ppq_outside.Shown.{AllTell}
 use Rattle.ppq_session.specs.ppq_outside.Told.{bytes_or_none}
 use Rattle.ppq_session.proofs.ppq_outside.Replies.{no_replies}
-use Rattle.ppq_session.specs.ppq_queue.Holding.{Holding}
+use Rattle.ppq_session.specs.ppq_queue.Holding.{Holding, CountsFew, session_begun}
+use Rattle.ppq_session.proofs.ppq_queue.Counted.{few-begun, few-more}
 use Rattle.ppq_session.specs.Dealing.{AddsPart}
 use Rattle.ppq_session.specs.ppq_array.declared.store_fault.StoreFault.TheVariants.{Device}
 use Rattle.ppq_load.specs.declared.fault.LoadFault.TheVariants.{Queue}
-use Rattle.ppq_load.specs.Loading.{InSession, HasGiven, IsByRead, IsReadRefusal, IsStoppedBy, LoadEndsIn, LoadCountsFrom}
+use Rattle.ppq_load.specs.Loading.{InSession, HasGiven, IsByRead, IsReadRefusal, IsStoppedBy, LoadEndsIn, LoadCountsFrom, first_of}
 use Rattle.ppq_load.specs.Reading.{IsReadWithin}
+use Rattle.ppq_load.proofs.Counting.{few-to, first-on}
 use Rattle.ppq_load.proofs.Refusals.{stop-later}
 use Rattle.ppq_load.proofs.Parts.{ended-part, unbegun-part, file-part}
 use Rattle.ppq_load.proofs.Results.{LoadSays, first-says, first-err, first-ok, on_err, on_ok, on_ok-map, if_err-map, unread-ends, unread-counts, first-stopped, unbegun-stopped, back-latched}
@@ -122,4 +124,23 @@ pub returns-in-Ok-clause-latched : goal.returns-in-Ok-clause-latched
 returns-in-Ok-clause-latched g c = λ number failed. let back = c.in-Ok.ensures.latched number failed in absurd (cc)
 
 pub returns-in-Err-clause-latched : goal.returns-in-Err-clause-latched
-returns-in-Err-clause-latched g c = λ number failed. back-latched c.args.queue c.in-Err.queue c.in-Err.fault (Queue (Device number)) (c.in-Err.ensures.latched number failed)
+returns-in-Err-clause-latched g c = λ number failed. back-latched (session_begun c.args.queue) c.in-Err.queue c.in-Err.fault (Queue (Device number)) (c.in-Err.ensures.latched number failed)
+
+pub returns-in-Ok-clause-counted : goal.returns-in-Ok-clause-counted
+returns-in-Ok-clause-counted g c =
+    let q = c.args.queue in
+    let read = c.deal_file-read in
+    let new = c.end-queue.result.0 in
+    let ended = c.end-queue.result.1 in
+    let some = read.ensures.some q c.in-Ok.ensures.session in
+    let given = length some.given.records in
+    let said = c.args.said / g.R.Record.WIDTH in
+    subst (λ r. CountsFew said 1 q new r) (sym c.first_fault.ensures)
+    (few-to q new ended (first_of read.result ended) (first-on read.result ended)
+    (few-more given 1 said 1 q new ended (omega (arith, some.given.are.length, some.few)) (omega arith) (c.end-queue.ensures.loaded q some.given.records some.given.session).counted))
+
+pub returns-in-Err-clause-counted : goal.returns-in-Err-clause-counted
+returns-in-Err-clause-counted g c =
+    let q = c.args.queue in
+    let new = c.in-Err.queue in
+    few-more 0 1 (c.args.said / g.R.Record.WIDTH) 1 q new _ (omega arith) (omega arith) (few-begun q new _ c.in-Err.ensures.kept.sizes c.in-Err.ensures.counted)

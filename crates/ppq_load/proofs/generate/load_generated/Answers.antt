@@ -6,7 +6,10 @@ use Rattle.ppq_session.specs.ppq_outside.Shown.{AllTell}
 use Rattle.ppq_session.specs.Dealing.{AddsPart}
 use Rattle.ppq_session.specs.ppq_array.declared.store_fault.StoreFault.TheVariants.{Device}
 use Rattle.ppq_load.specs.declared.fault.LoadFault.TheVariants.{Queue}
-use Rattle.ppq_load.specs.Loading.{InSession, IsLoaded, IsByLoad, IsStoppedBy}
+use Rattle.ppq_session.specs.ppq_queue.Holding.{CountsFew, session_begun}
+use Rattle.ppq_session.proofs.ppq_queue.Counted.{few-begun, few-more}
+use Rattle.ppq_load.specs.Loading.{InSession, IsLoaded, IsByLoad, IsStoppedBy, loaded_of}
+use Rattle.ppq_load.proofs.Counting.{few-to, loaded-on}
 use Rattle.ppq_load.proofs.Generated.{length-generated}
 use Rattle.ppq_load.proofs.Refusals.{stop-later}
 use Rattle.ppq_load.proofs.Parts.{ended-part, unbegun-part}
@@ -85,4 +88,19 @@ pub returns-in-Ok-clause-latched : goal.returns-in-Ok-clause-latched
 returns-in-Ok-clause-latched g c = λ number failed. let back = c.in-Ok.ensures.latched number failed in absurd (cc)
 
 pub returns-in-Err-clause-latched : goal.returns-in-Err-clause-latched
-returns-in-Err-clause-latched g c = λ number failed. back-latched c.args.queue c.in-Err.queue c.in-Err.fault (Queue (Device number)) (c.in-Err.ensures.latched number failed)
+returns-in-Err-clause-latched g c = λ number failed. back-latched (session_begun c.args.queue) c.in-Err.queue c.in-Err.fault (Queue (Device number)) (c.in-Err.ensures.latched number failed)
+
+pub returns-in-Ok-clause-counted : goal.returns-in-Ok-clause-counted
+returns-in-Ok-clause-counted g c =
+    let q = c.args.queue in
+    let new = c.end-queue.result.0 in
+    let ended = done g (goal.at.returns-in-Ok-clause-counted g c).After-end-queue in
+    let long = length-generated g.R.Fields.COUNT g.R.Fields.of_fields c.args.seed c.args.seed 0 c.args.count in
+    subst (λ r. CountsFew c.args.count 1 q new r) (sym c.loaded.ensures)
+    (few-to q new c.end-queue.result.1 (loaded_of c.end-queue.result.1) (loaded-on c.end-queue.result.1) (subst (λ n. CountsFew n 1 q new c.end-queue.result.1) long ended.counted))
+
+pub returns-in-Err-clause-counted : goal.returns-in-Err-clause-counted
+returns-in-Err-clause-counted g c =
+    let q = c.args.queue in
+    let new = c.in-Err.queue in
+    few-more 0 1 c.args.count 1 q new _ (omega arith) (omega arith) (few-begun q new _ c.in-Err.ensures.kept.sizes c.in-Err.ensures.counted)

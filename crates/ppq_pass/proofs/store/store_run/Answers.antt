@@ -4,6 +4,7 @@ use Rattle.ppq_extract.specs.ppq_array.Supply.{Stock}
 use Rattle.ppq_extract.specs.ppq_array.Kept.{Kept}
 use Rattle.ppq_extract.specs.ppq_array.Holdings.{CanTakeBack}
 use Rattle.ppq_spill.specs.Body.{held_by}
+use Rattle.ppq_spill.specs.Costing.{StorePays}
 use Rattle.ppq_spill.specs.Storing.{HasOneSize, NoneFree, DeviceFailed, StillTell, StillUntold, WritesFew}
 use Rattle.ppq_pass.specs.Passing.{IsPass, IsSince, home_of}
 use Rattle.ppq_pass.specs.PassState.{stock_of}
@@ -50,6 +51,13 @@ returns-clause-none_free g c err =
     let s : c.from_parts-supply.result.stock ≡ stock_of shown c.args.parts = ap (λ x. x.stock) c.from_parts-supply.ensures in
     let t : stock_of shown c.into_parts.result ≡ c.store_sorted-answer.new.supply.stock = ap (λ x. x.stock) c.into_parts.ensures.same in
     moved (λ x y. NoneFree (length c.args.sorted.now) c.args.body.now c.store_sorted-answer.new.body x y) s t (c.store_sorted-answer.ensures.none_free err)
+
+pub returns-clause-counted : goal.returns-clause-counted
+returns-clause-counted g c =
+    let shown = g.S.Slot.shown in
+    let s : c.from_parts-supply.result.stock ≡ stock_of shown c.args.parts = ap (λ x. x.stock) c.from_parts-supply.ensures in
+    let t : stock_of shown c.into_parts.result ≡ c.store_sorted-answer.new.supply.stock = ap (λ x. x.stock) c.into_parts.ensures.same in
+    moved (λ x y. StorePays shown c.store_sorted-answer.result (length c.args.sorted.now) c.args.body.now c.store_sorted-answer.new.body x y) s t c.store_sorted-answer.ensures.counted
 
 pub returns-clause-device : goal.returns-clause-device
 returns-clause-device g c number err =

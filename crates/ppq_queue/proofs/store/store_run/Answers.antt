@@ -2,6 +2,7 @@ use Rattle.std.proofs.Common.{length, ap, arith}
 use Rattle.ppq_queue.specs.Stores.{RunRefused}
 use Rattle.ppq_queue.proofs.Moves.{ok-map}
 use Rattle.ppq_queue.proofs.Stored.{kept-stored, may_store, moved-stored, short-stored}
+use Rattle.ppq_queue.proofs.Paying.{pays-stored}
 use Rattle.ppq_queue.proofs.Stores.{by_fault}
 use Rattle.ppq_queue.proofs.store.store_run.Goals as goal
 
@@ -30,6 +31,7 @@ returns g c =
       refused = by_fault (RunRefused shown g.R.Ord.cmp g.R.Record.record_of g.R.Record.WIDTH c.args.sizes n a b s t) m.result
           (λ err. short-stored shown g.R.Ord.cmp g.R.Record.record_of g.R.Record.WIDTH c.args.sizes a b s t runs.rest kept e.size e.takes_back e.lanes c.args.sorted.now c.requires.may.some c.requires.ascends runs.no_row no_row (e.none_free err))
           (λ number err. (e.device number err).failed);
+      pays = pays-stored shown c.args.sizes a b s t runs.rest.block runs.no_row no_row m.result n e.counted;
     }
 
 pub store_sorted-answer-requires-clause-some : goal.store_sorted-answer-requires-clause-some

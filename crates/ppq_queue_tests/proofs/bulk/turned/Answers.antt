@@ -1,4 +1,4 @@
-use Rattle.std.proofs.Common.{◌≡◌, ℕ, ◌<◌, List, [], ◌∷◌, length, reverse, sum_by, All, refl, sym, ap, ◌∙◌, subst, arith, length-append, Ordering}
+use Rattle.std.proofs.Common.{◌≡◌, ℕ, None, ◌<◌, List, [], ◌∷◌, length, reverse, sum_by, All, refl, sym, ap, ◌∙◌, subst, arith, length-append, Ordering}
 use Rattle.std.specs.List.Sorted.{IsPermutation}
 use Rattle.std.proofs.lemmas.List.Elements.{All-head}
 use Rattle.std.proofs.lemmas.List.Sums.{sum_by-cons}
@@ -7,7 +7,9 @@ use Rattle.ppq_outside.specs.Shown.{Shown}
 use Rattle.ppq_queue.specs.ppq_heap.Heap.{Contents}
 use Rattle.ppq_queue.specs.ppq_heap.Heaps.{Shares, AreShares, cap_of, items_in, items_of}
 use Rattle.ppq_queue.specs.declared.queue_parts.QueueParts.{QueueParts}
+use Rattle.ppq_queue.specs.ppq_counts.Account.{IsCounted}
 use Rattle.ppq_queue.specs.Handed.{IsWhole}
+use Rattle.ppq_queue.specs.Paying.{whole_account}
 use Rattle.ppq_queue.proofs.Slots.{turned}
 use Rattle.ppq_queue.proofs.Moves.{kept-refl}
 use Rattle.ppq_queue.proofs.Flushed.{queue-kept}
@@ -61,6 +63,7 @@ whole-heaps shown cmp record_of width q heaps is cap count items =
             workers = s.workers;
             serves = s.serves;
           };
+      counted = subst (λ k. IsCounted q.sizes.workers q.sizes.block (q.failed ≡ None) q.counts (whole_account shown q.sizes k q.body q.supply)) (sym items) is.counted;
       no_slot = is.no_slot;
       slots_room = is.slots_room;
     }

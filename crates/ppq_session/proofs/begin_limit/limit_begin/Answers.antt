@@ -4,7 +4,7 @@ use Rattle.ppq_queue.specs.Holding.{MetFault, IsRefusal}
 use Rattle.ppq_session.specs.Sessions.{IsUnbegun}
 use Rattle.ppq_session.specs.LimitSessions.{begun_in}
 use Rattle.ppq_session.specs.declared.fault.BeginFault.TheVariants.{Device}
-use Rattle.ppq_session.proofs.Begun.{unbegun-memory, handed_nothing, handed_count, limit_began}
+use Rattle.ppq_session.proofs.Begun.{keeps-begun, unbegun-memory, handed_nothing, handed_count, limit_began}
 use Rattle.ppq_session.proofs.begin_limit.limit_begin.Goals as goal
 
 pub limit_passes-passes-requires-after_bounds : goal.limit_passes-passes-requires-after_bounds
@@ -27,7 +27,7 @@ front_of-requires-after_bounds g c κs bounds =
 pub returns-in-Ok-hand_out-clause-begun : goal.returns-in-Ok-hand_out-clause-begun
 returns-in-Ok-hand_out-clause-begun g c =
     let b = c.in-Ok-hand_out in
-    limit_began g.S.Slot.shown c.args.q c.store_heaps.new.self b.bulk b.shared b.passes.items b.ensures.handed c.in-Ok.ensures.heaps c.in-Ok.ensures.same c.store_heaps.ensures.stays c.args.l c.front_of.result c.front_of.ensures c.limit_passes-passes.result.items c.limit_passes-passes.ensures
+    limit_began g.S.Slot.shown c.args.q c.store_heaps.new.self b.bulk b.shared b.passes.items b.ensures.handed c.in-Ok.ensures.heaps c.in-Ok.ensures.same c.store_heaps.ensures.stays c.store_heaps.ensures.counted.counts c.args.l c.front_of.result c.front_of.ensures c.limit_passes-passes.result.items c.limit_passes-passes.ensures
 
 pub returns-in-Ok-hand_out-clause-latched : goal.returns-in-Ok-hand_out-clause-latched
 returns-in-Ok-hand_out-clause-latched g c = λ number latched. let said = (c.store_heaps.ensures.latched number latched).0 in cc
@@ -37,7 +37,7 @@ returns-in_default g c =
     let e = c.store_heaps.ensures in
     record {
       begun = tt;
-      refused = unbegun-memory c.args.q (begun_in c.args.q) c.store_heaps.new.self c.in-Ok.ensures.same e.stays.keeps e.stays.peak;
+      refused = unbegun-memory c.args.q (begun_in c.args.q) c.store_heaps.new.self c.in-Ok.ensures.same (keeps-begun c.args.q c.store_heaps.new.self e.stays.keeps) e.stays.peak e.counted;
       latched = λ number latched. let said = (e.latched number latched).0 in cc;
     }
 
@@ -46,7 +46,7 @@ returns-in-Err g c =
     let e = c.store_heaps.ensures in
     record {
       begun = tt;
-      refused = subst (λ e. IsUnbegun c.args.q (begun_in c.args.q) e.0 e.1) (sym c.in-Err.ensures.back) (unbegun-memory c.args.q (begun_in c.args.q) c.store_heaps.new.self c.in-Ok.ensures.same e.stays.keeps e.stays.peak);
+      refused = subst (λ e. IsUnbegun c.args.q (begun_in c.args.q) e.0 e.1) (sym c.in-Err.ensures.back) (unbegun-memory c.args.q (begun_in c.args.q) c.store_heaps.new.self c.in-Ok.ensures.same (keeps-begun c.args.q c.store_heaps.new.self e.stays.keeps) e.stays.peak e.counted);
       latched = λ number latched. let said = (e.latched number latched).0 in cc;
     }
 
@@ -56,7 +56,7 @@ returns-in-Err-NoFreeBlock g c =
     let arm = c.in-Err-NoFreeBlock in
     record {
       begun = tt;
-      refused = record { why = subst (IsRefusal c.args.q c.store_heaps.new.self) arm.field-0-is arm.ensures.refused; kept = e.stays.keeps; peak = e.stays.peak };
+      refused = record { why = subst (IsRefusal c.args.q c.store_heaps.new.self) arm.field-0-is arm.ensures.refused; kept = keeps-begun c.args.q c.store_heaps.new.self e.stays.keeps; peak = e.stays.peak; counted = e.counted };
       latched = λ number latched. let said = (e.latched number latched).0 in cc;
     }
 
@@ -68,7 +68,7 @@ returns-in-Err-Device g c =
     let stopped : MetFault arm.number c.args.q new = subst (IsRefusal c.args.q new) arm.field-0-is arm.ensures.refused in
     record {
       begun = tt;
-      refused = record { why = subst (λ (n : ℕ). MetFault n c.args.q new) (sym arm.number-is) stopped; kept = e.stays.keeps; peak = e.stays.peak };
+      refused = record { why = subst (λ (n : ℕ). MetFault n c.args.q new) (sym arm.number-is) stopped; kept = keeps-begun c.args.q c.store_heaps.new.self e.stays.keeps; peak = e.stays.peak; counted = e.counted };
       latched = λ number latched.
           let both = e.latched number latched in
           let said = both.0 in

@@ -3,7 +3,7 @@ use Rattle.std.specs.Prelude.{◌||◌}
 use Rattle.std.proofs.lemmas.List.Elements.{All-nil, All-cons, All-head}
 use Rattle.std.proofs.lemmas.List.Concat.{flat_map-cons}
 use Rattle.ppq_pass.specs.Passed.{holding_of}
-use Rattle.ppq_pass.specs.PassState.{IsPassed, IsSoundPass}
+use Rattle.ppq_pass.specs.PassState.{IsPassed, IsSoundPass, IsPassCounted}
 use Rattle.ppq_session.specs.Passes.{IsBrought}
 use Rattle.ppq_session.specs.Bringing.{IsShareOf}
 use Rattle.ppq_session.specs.declared.brought.Brought.{Brought}
@@ -41,7 +41,7 @@ returns-clause-brought g c =
     let sizes = of.sizes in
     let old = c.args.parts.now in
     let one : Brought g.row.S.Denot g.row.R.Denot =
-    record { heap = held.heap; body = held.body; stash = held.parts.stash; kept = c.of-kept.result; begun = held.begun; accepted = held.accepted; refused = held.refused; failed = held.failed }
+    record { heap = held.heap; body = held.body; stash = held.parts.stash; kept = c.of-kept.result; begun = held.begun; accepted = held.accepted; stores = held.stores; refused = held.refused; failed = held.failed }
     in
     let row = c.join.ensures in
     let pool = c.join-2.ensures in
@@ -52,12 +52,15 @@ returns-clause-brought g c =
           subst (λ m. IsSoundPass shown cmp record_of width m held.heap held.body one.kept.value held.begun held.accepted held.refused) sizes
           (subst (λ k. IsSoundPass shown cmp record_of width c.args.pass.key.sizes held.heap held.body k held.begun held.accepted held.refused) (sym kept) (e.sound (sym (ap (λ p. p.failed) e.shows) ∙ none)));
       stash = sym (ap (λ k. k.stash) kept);
+      counted =
+          subst (λ m. IsPassCounted shown m held.heap held.body one.kept.value held.begun held.accepted held.stores held.failed) sizes
+          (subst (λ k. IsPassCounted shown c.args.pass.key.sizes held.heap held.body k held.begun held.accepted held.stores held.failed) (sym kept) e.counted);
     }
     in
     record {
       brought = one ∷ [];
       items = c.push_reserved.ensures.items;
-      passes_are = ap (λ p. p ∷ []) (ap₂ (λ m k. holding_of shown record_of width m held.heap held.body k held.begun held.accepted held.refused held.failed) (sym sizes) kept ∙ e.shows);
+      passes_are = ap (λ p. p ∷ []) (ap₂ (λ m k. holding_of shown record_of width m held.heap held.body k held.begun held.accepted held.refused held.failed held.stores) (sym sizes) kept ∙ e.shows);
       each = All-cons (IsBrought shown record_of width n cmp) one [] is (All-nil (IsBrought shown record_of width n cmp));
       row = row.row ∙ sym c.requires.row;
       row_items = ap (λ h. h.items) row.both;

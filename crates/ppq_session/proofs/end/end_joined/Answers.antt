@@ -30,7 +30,7 @@ returns-in-Ok g c = λ q ps j.
     let queue = c.rejoin-queue.result in
     let t = c.settle.ensures in
     let fine = unlatched_ok queue.failed c.settle.result (λ number h. (t.latched number h).0) _ c.in-Ok.is in
-    ended_whole g.S.Slot.shown g.R.Ord.cmp g.R.Record.record_of g.R.Record.WIDTH c.args.shared q c.args.popped c.args.failed ps j.can c.args.parts j.came closed.result.0 closed.ensures.closed closed.result.1.items (ap (λ v. v.items) closed.ensures.brought) c.gather_all.new.c c.gather_all.ensures c.first_fault-first.result named queue c.settle.new.self c.rejoin-queue.ensures t.stays fine c.in-Ok.ensures.same c.in-Ok.ensures.settled
+    ended_whole g.S.Slot.shown g.R.Ord.cmp g.R.Record.record_of g.R.Record.WIDTH c.args.shared q c.args.popped c.args.failed ps j.can c.args.parts j.came closed.result.0 closed.ensures.closed closed.result.1.items (ap (λ v. v.items) closed.ensures.brought) c.gather_all.new.c c.gather_all.ensures c.first_fault-first.result named queue c.settle.new.self c.rejoin-queue.ensures t.stays t.counted fine c.in-Ok.ensures.same c.in-Ok.ensures.settled
 
 pub returns-in-Err : goal.returns-in-Err
 returns-in-Err g c = λ q ps j.
@@ -41,4 +41,4 @@ returns-in-Err g c = λ q ps j.
     let crowded = λ (e : c.in-Err.fault ≡ NoFreeBlock). t.crowded (c.in-Err.is ∙ ap (λ (x : QueueFault). Err x) e) in
     let names = latched_err queue.failed c.settle.result (λ number h. (t.latched number h).0) c.in-Err.fault c.in-Err.is in
     let fine = unlatched_err queue.failed c.settle.result (λ number h. (t.latched number h).0) c.in-Err.fault c.in-Err.is in
-    ended_stopped g.S.Slot.shown g.R.Ord.cmp g.R.Record.record_of g.R.Record.WIDTH c.args.shared q c.args.popped c.args.failed ps j.can c.args.parts j.came closed.result.0 closed.ensures.closed closed.result.1.items (ap (λ v. v.items) closed.ensures.brought) c.gather_all.new.c c.gather_all.ensures c.first_fault-first.result named queue c.settle.new.self c.rejoin-queue.ensures t.stays c.in-Err.fault c.in-Err.ensures.refused crowded fine names
+    ended_stopped g.S.Slot.shown g.R.Ord.cmp g.R.Record.record_of g.R.Record.WIDTH c.args.shared q c.args.popped c.args.failed ps j.can c.args.parts j.came closed.result.0 closed.ensures.closed closed.result.1.items (ap (λ v. v.items) closed.ensures.brought) c.gather_all.new.c c.gather_all.ensures c.first_fault-first.result named queue c.settle.new.self c.rejoin-queue.ensures t.stays t.counted c.in-Err.fault c.in-Err.ensures.refused crowded fine names

@@ -9,6 +9,9 @@ use Rattle.ppq_session.specs.declared.brought.Brought.{Brought}
 use Rattle.ppq_session.specs.declared.closed.Closed.{Closed}
 use Rattle.ppq_session.proofs.PutIn.{PutIn, gathered-adopted, gathered-dissolved, bag-adopted, or_none, or_some}
 use Rattle.ppq_session.proofs.Fits.{slots-fit, stash-sizes, runs-sizes, buffers-fit, freed-kept, freed-room, freed-stock, freed-sums, can-adopt, count-fits}
+use Rattle.ppq_pass.specs.ppq_counts.Tally.{tally, joined}
+use Rattle.ppq_pass.specs.ppq_heap.Heaps.{items_in}
+use Rattle.ppq_session.proofs.Counted.{items-push}
 use Rattle.ppq_session.proofs.gather.gather.Given as given
 use Rattle.ppq_session.proofs.gather.gather.Goals as goal
 
@@ -51,7 +54,11 @@ dissolve-requires-clause-few g c κs within =
 
 -- the parts after its runs were adopted
 abbrev whole : (g : given.Over) (c : goal.After-drop-one g) → Closed g.row.S.Denot g.row.R.Denot
-whole g c = record c.args.c.now { heaps = c.push_reserved.new.self; body = c.adopt.new.to; supply = c.free_all.new.supply; count = c.saturating_add-c.result; failed = c.or-c.result }
+whole g c = record c.args.c.now { heaps = c.push_reserved.new.self; body = c.adopt.new.to; supply = c.free_all.new.supply; count = c.saturating_add-c.result; counts = c.join.new.self; failed = c.or-c.result }
+
+-- the numbers of the pass came on top
+counts_joined : (g : given.Over) (c : goal.After-drop-one g) → c.join.new.self ≡ joined c.args.c.now.counts (tally c.args.one.accepted c.args.one.stores 0)
+counts_joined g c = c.join.ensures ∙ ap (joined c.args.c.now.counts) c.of_pass.ensures
 
 put_whole : (g : given.Over) (c : goal.After-drop-one g) → PutIn c.args.c.now (whole g c) c.args.one
 put_whole g c =
@@ -61,6 +68,7 @@ put_whole g c =
     record {
       heaps = c.push_reserved.ensures.items;
       heaps_room = c.push_reserved.ensures.capacity;
+      counts = counts_joined g c;
       stock = freed-stock g.S.Slot.shown g.R.Ord.cmp g.R.Record.record_of g.R.Record.WIDTH c.requires.slots c.requires.items q c.args.one c.requires.rest c.requires.is s free;
       room = freed-room g.S.Slot.shown g.R.Ord.cmp g.R.Record.record_of g.R.Record.WIDTH c.requires.slots c.requires.items q c.args.one c.requires.rest c.requires.is s free;
       same = refl;
@@ -89,6 +97,8 @@ returns-in-None g c =
       sizes = refl;
       peak = refl;
       limited = refl;
+      tally = counts_joined g c;
+      heaps = omega (arith, ap (λ l. length (items_in l)) c.push_reserved.ensures.items, items-push q.heaps.items one.heap, sum_by-cons (λ (x : Brought g.row.S.Denot g.row.R.Denot). length x.heap.items) one []);
     }
 
 pub returns : goal.returns
@@ -105,7 +115,8 @@ returns g c =
     let free = c.free_all.ensures.stock in
     let ends = external_slots shown one.body.runs.external.items in
     let body : PassBody g.row.S.Denot g.row.R.Denot = record q.body { lanes = record q.body.lanes { idle = c.dissolve.new.idle } } in
-    let new : Closed g.row.S.Denot g.row.R.Denot = record q { heaps = c.push_reserved.new.self; body = body; supply = s; count = c.saturating_add-c.result; failed = c.or-c.result } in
+    let new : Closed g.row.S.Denot g.row.R.Denot = record q { heaps = c.push_reserved.new.self; body = body; supply = s; count = c.saturating_add-c.result; counts = c.join.new.self; failed = c.or-c.result } in
+    let joined_are = c.join.ensures ∙ ap (joined q.counts) c.of_pass.ensures in
     let still : length s.kept + s.slot_room ≡ length freed.kept + freed.slot_room = omega (arith, d.back.room, SameSums-length (freed.kept ++ ends) s.kept d.back.slots_are, length-append freed.kept ends) in
     let odd : new.failed ≡ None → ⊥ = λ none. (let e : ◌≡◌ {A = Option ℕ} None (Some c.in-Some.field-0) = sym none ∙ c.in-Some.is in cc) in
     record {
@@ -114,6 +125,7 @@ returns g c =
           record {
             heaps = c.push_reserved.ensures.items;
             heaps_room = c.push_reserved.ensures.capacity;
+            counts = joined_are;
             stock = d.back.stock ∙ ap (λ x. with_slots x s.kept s.slot_room) free;
             room = still ∙ freed-room shown cmp record_of width slots items q one rest is freed free;
             same = refl;
@@ -128,4 +140,6 @@ returns g c =
       sizes = refl;
       peak = refl;
       limited = refl;
+      tally = joined_are;
+      heaps = omega (arith, ap (λ l. length (items_in l)) c.push_reserved.ensures.items, items-push q.heaps.items one.heap, sum_by-cons (λ (x : Brought g.row.S.Denot g.row.R.Denot). length x.heap.items) one []);
     }

@@ -14,7 +14,7 @@ returns-in-Ok g c =
     let going : IsGoing new = record { unrefused = ok.same ∙ c.requires.going.unrefused; sound = ok.sound } in
     record {
       takes = record {
-        adds = adds-one shown c.args.r old new e.key e.tells going ok.added ok.accepted;
+        adds = adds-one shown c.args.r old new e.key e.tells going ok.added ok.accepted ok.counted.backed;
         limits = λ limit none is. limited-pushed shown g.R.Ord.cmp limit old new c.args.r is none.0 e.key c.push.result e.added e.refused e.latched e.tells;
       };
       says = says-going new going;
@@ -30,7 +30,7 @@ returns-in-Err g c =
     let refused = c.in-Err.ensures.refused in
     record {
       takes = record {
-        adds = adds-refused shown c.args.r old new e.key e.tells fault refused;
+        adds = adds-refused shown c.args.r old new e.key e.tells fault refused c.in-Err.ensures.counted.unbacked;
         limits = λ limit none is. limited-pushed shown g.R.Ord.cmp limit old new c.args.r is none.0 e.key c.push.result e.added e.refused e.latched e.tells;
       };
       says = says-ended new (refused-ended old new fault refused);

@@ -7,6 +7,8 @@ use Rattle.ppq_queue.proofs.Moves.{ok-map, ok-map3, any_answer}
 use Rattle.ppq_queue.proofs.Refilled.{kept-refilled}
 use Rattle.ppq_session.proofs.Moved.{front-refilled, failed-kept, refused-refilled}
 use Rattle.ppq_session.proofs.Refilling.{may_fetch, runs_served, quiet-refilled, sound-refilled, bag-refilled, ready-refilled, room_some}
+use Rattle.ppq_queue.proofs.Paying.{costs-refilled, stops-refilled, pays-by}
+use Rattle.ppq_session.proofs.Paying.{pays-refilled}
 use Rattle.ppq_session.proofs.refill.refill_front.Goals as goal
 
 pub refill-answer-requires-clause-may : goal.refill-answer-requires-clause-may
@@ -80,3 +82,22 @@ returns-clause-failed g c =
     let q = c.args.q.now in
     let b = record q.body { runs = m.new.runs; lanes = m.new.lanes } in
     refused-refilled (apart_slots g.S.Slot.shown (record q { body = b; supply = m.new.supply })) m.result m.ensures.device_alone (λ number err. failed-kept g.S.Slot.shown q b m.new.supply number (m.ensures.device number err).failed)
+
+pub returns-clause-counted : goal.returns-clause-counted
+returns-clause-counted g c =
+    let m = c.refill-answer in
+    let e = m.ensures in
+    let shown = g.S.Slot.shown in
+    let q = c.args.q.now in
+    let a = q.body in
+    let b = record a { runs = m.new.runs; lanes = m.new.lanes } in
+    let s = q.supply in
+    let t = m.new.supply in
+    let out = c.requires.out in
+    let none' = ap (λ v. v.items) e.jobs ∙ out.no_job in
+    let no_row = c.free_slots-free.ensures.no_row in
+    pays-refilled shown g.R.Record.WIDTH q m.new.self b t m.new.sources m.result
+    (pays-by m.result
+    (ok-map m.result (λ r. costs-refilled shown q.sizes a b s t out.block out.no_row no_row out.no_job none' r.transfers refl r.in_memory r.weights) e.refilled)
+    (λ err. absurd (e.device_alone err))
+    (λ number err. stops-refilled shown q.sizes a b s t out.block out.no_row no_row out.no_job none' (e.device number err).parts.transfers (omega arith)))

@@ -1,4 +1,4 @@
-use Rattle.std.proofs.Common.{◌≡◌, ◌≤◌, ◌+◌, ◌*◌, ◌∙◌, ◌++◌, ℕ, All, ap, sym, subst, arith, min, max, append-nil}
+use Rattle.std.proofs.Common.{◌≡◌, ◌≤◌, ◌+◌, ◌*◌, ◌∙◌, ◌++◌, ℕ, All, length, ap, sym, subst, arith, min, max, append-nil}
 use Rattle.std.proofs.lemmas.Nat.{mul-le}
 use Rattle.ppq_pass.specs.ppq_heap.Heap.{Contents}
 use Rattle.ppq_pass.specs.ppq_heap.Heaps.{items_in}
@@ -60,4 +60,6 @@ returns g c =
       peak = ap (λ r. r.peak) shows ∙ c.max.ensures ∙ ap (λ k. max q.peak k) all;
       sizes = ap (λ r. r.sizes) shows;
       limited = ap (λ r. r.limited) shows;
+      tally = ap (λ r. r.counts) shows;
+      heaps = ap (λ r. r.in_heap) shows ∙ ap (λ l. length (items_in l)) heaps.ensures.heaps;
     }

@@ -3,7 +3,7 @@ use Rattle.std.proofs.lemmas.List.Elements.{All-push}
 use Rattle.ppq_fetch.specs.ppq_array.Holdings.{RunHasBlock}
 use Rattle.ppq_spill.proofs.Storings.{sizes_after}
 use Rattle.std.proofs.lemmas.Result.{on_ok_weaker}
-use Rattle.ppq_spill.specs.Storing.{BlocksStored, slots_before, slots_after}
+use Rattle.ppq_spill.specs.Storing.{BlocksStored}
 use Rattle.ppq_spill.specs.Body.{body_slots}
 use Rattle.ppq_spill.proofs.Going.{went_untouched, more_writes}
 use Rattle.ppq_spill.proofs.InBlocks.{stored_after, ascend_still, leaves_still, ends_stored, none_after, short_after}
@@ -105,4 +105,4 @@ returns-in-Some-clause-counted g c =
     let went = (went_untouched (body_slots g.S.Slot.shown c.args.body.now) o n (ap (λ s. s.kept) is.stock) (ap (λ s. s.drawn) is.stock)).went in
     let body = c.args.body.now in
     let b = record body { runs = record body.runs { internal = c.push_reserved.new.self } } in
-    buffers_counted g.S.Slot.shown tt c.args.sorted.now c.in-Some.run' body b o n (more_writes 0 (slots_before g.S.Slot.shown body o n) (slots_after g.S.Slot.shown b o n) went) is.items c.push_reserved.ensures.items refl
+    buffers_counted g.S.Slot.shown tt c.args.sorted.now c.in-Some.run' body b o n went.calls is.items c.push_reserved.ensures.items refl

@@ -6,12 +6,14 @@ use Rattle.ppq_script.specs.declared.part.Part.{Part}
 use Rattle.ppq_script.specs.declared.part.Part.TheVariants.{One}
 use Rattle.ppq_script.specs.Parts.{commands_in, first_in, HasItsLines}
 use Rattle.ppq_load.specs.ppq_budget.Sizes.{Numbers}
+use Rattle.ppq_load.proofs.ppq_queue.Counted.{few-more}
 use Rattle.ppq_engine.specs.Calls.{Leaves, IsTurn, RunsStep, StopsStep, Goes}
 use Rattle.ppq_engine.specs.Files.{IsByFile, IsBySession}
 use Rattle.ppq_engine.specs.Loads.{none_go, all_go, size_after}
 use Rattle.ppq_engine.specs.Output.{outside, after, given_of}
 use Rattle.ppq_engine.specs.Popping.{IsByLimit, NotByFile}
 use Rattle.ppq_engine.specs.Running.{StopsFor}
+use Rattle.ppq_engine.specs.Work.{pushes_of, begins_of}
 use Rattle.ppq_engine.specs.declared.stop.Stop.{Stop}
 use Rattle.ppq_engine.proofs.Advancing.{lends}
 use Rattle.ppq_engine.proofs.Results.{if-err-map, if-err-both, on-ok-map}
@@ -129,7 +131,7 @@ returns-in_default g c = let w = words g.R.PartialEq g.R.PartialOrd g.R.Ord g.R.
     let is = subst (HasItsLines w old.sizes.workers) c.in-One.is c.requires.turn.lines in
     let Whole : Part g.row.R.Denot → Type 0 = λ p. Goes w c.args.world.now.form files script (first_in p) (commands_in p) (told c.args.out.now) (told c.lend-done.new.out) old new had has r in
     record {
-      goes = subst Whole (sym c.in-One.is) (turn-goes w c.args.world.now.form files script old.sizes.workers k is old new (told c.args.out.now) (told c.lend-done.new.out) had has r a.prints a.lent.kept ran stops);
+      goes = subst Whole (sym c.in-One.is) (turn-goes w c.args.world.now.form files script old.sizes.workers k is old new (told c.args.out.now) (told c.lend-done.new.out) had has r a.prints a.lent.kept (few-more (pushes_of w k) 0 (pushes_of w k) (begins_of k) old new r (omega arith) (omega arith) a.lent.counted) ran stops);
       library = library-unasked files replied script (g.L.Library.faults c.args.library.now) r (if-err-map r NotByFile IsByLimit not-by_limit a.lent.no_file);
       sink = a.counts;
     }

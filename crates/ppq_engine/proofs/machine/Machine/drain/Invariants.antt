@@ -4,7 +4,9 @@ use Rattle.ppq_script.specs.ppq_record.Bag.{IsSameBag, ascending}
 use Rattle.ppq_script.specs.ppq_outside.Shown.{AllTell}
 use Rattle.ppq_engine.specs.Gathers.{IsSummary}
 use Rattle.ppq_load.specs.ppq_array.Kept.{AreQuiet}
+use Rattle.ppq_load.specs.ppq_queue.Holding.{CountsFew}
 use Rattle.ppq_load.specs.Refusal.{Keeps}
+use Rattle.ppq_engine.proofs.Counted.{unrefused}
 use Rattle.ppq_engine.proofs.machine.Machine.drain.Given as goal
 
 abbrev pub invariant-rounds : goal.invariant-rounds
@@ -20,6 +22,7 @@ invariant-rounds g l = let w = words g.R.PartialEq g.R.PartialOrd g.R.Ord g.R.Re
       peak : l.self.queue.peak ≤ l.fn.self.queue.peak;
       kept : Keeps l.fn.self.queue l.self.queue;
       gathered : l.self.desk.gathered ≡ l.fn.self.desk.gathered;
+      counted : CountsFew 0 0 l.fn.self.queue l.self.queue unrefused;
     }
 
 abbrev pub decreases-rounds : goal.decreases-rounds

@@ -2,6 +2,7 @@ use Rattle.std.proofs.Common.{◌≡◌, Option, None, Some, length, refl, ap, s
 use Rattle.ppq_engine.proofs.Orders.{laws_of}
 use Rattle.ppq_script.specs.Words.{words}
 use Rattle.ppq_load.specs.ppq_budget.Sizes.{batch_of}
+use Rattle.ppq_load.proofs.ppq_queue.Counted.{few-as}
 use Rattle.ppq_engine.specs.Calls.{PopsRound}
 use Rattle.ppq_engine.proofs.Popped.{some_room, round-all, round-low}
 use Rattle.ppq_engine.proofs.machine.Machine.pop_round.Goals as goal
@@ -37,3 +38,8 @@ returns-in_ok-_end-in-Some-clause-popped g c = let w = words g.R.PartialEq g.R.P
       sound = b.took.sound;
       quiet = b.took.quiet;
     })
+
+pub returns-in_ok-_taken-in-None-clause-called : goal.returns-in_ok-_taken-in-None-clause-called
+returns-in_ok-_taken-in-None-clause-called g c =
+    let b = c.in_ok-_taken-in-None.ensures.pops in
+    record { kept = b.keeps; gathered = refl; peak = omega (arith, b.peak); counted = few-as c.args.self.now.queue c.bulk_pop.new.self _ b.keeps.sizes b.counted; refused = tt }

@@ -8,6 +8,8 @@ use Rattle.ppq_engine.specs.Gathers.{Gathers}
 use Rattle.ppq_engine.specs.Popping.{popped_count}
 use Rattle.ppq_engine.specs.declared.stop.Stop.TheVariants.{Sink, Queue}
 use Rattle.ppq_engine.proofs.Popped.{left-begin, round-left, round-lines, round-passed, round-taken, round-ends, round-put, gathers-nothing, gathers-more, gathers-kept, left-most, popped-part, popped-le, prints-stop}
+use Rattle.ppq_load.proofs.ppq_queue.Counted.{few-then}
+use Rattle.ppq_engine.proofs.Counted.{few-none, few-ok}
 use Rattle.ppq_engine.proofs.Kept.{Keeps-refl, Keeps-trans, lent-stop}
 use Rattle.ppq_engine.proofs.machine.Machine.print_popped.Goals as goal
 
@@ -23,6 +25,7 @@ rounds-init g c = let w = words g.R.PartialEq g.R.PartialOrd g.R.Ord g.R.Record 
       quiet = refl;
       peak = omega arith;
       kept = Keeps-refl c.args.self.now.queue;
+      counted = few-none c.args.self.now.queue;
       stays = refl;
     }
 
@@ -36,8 +39,8 @@ returns-in_err-pop_round-clause-prints g c = let w = words g.R.PartialEq g.R.Par
 
 pub returns-in_err-pop_round-clause-lent : goal.returns-in_err-pop_round-clause-lent
 returns-in_err-pop_round-clause-lent g c =
-    lent-stop c.from_residual.result (Queue c.in_err-pop_round.field-0.0) c.from_residual.ensures.1 c.args.self.now.queue c.rounds.self.queue c.pop_round.new.self.queue c.args.self.now.queue.peak
-    c.rounds.invariant.kept c.pop_round.ensures.called.kept (omega (arith, c.rounds.invariant.peak, c.pop_round.ensures.called.peak)) c.in_err-pop_round.ensures.called.refused tt
+    lent-stop c.from_residual.result (Queue c.in_err-pop_round.field-0.0) c.from_residual.ensures.1 c.args.self.now.queue c.rounds.self.queue c.pop_round.new.self.queue c.args.self.now.queue.peak 0
+    c.rounds.invariant.kept c.pop_round.ensures.called.kept (omega (arith, c.rounds.invariant.peak, c.pop_round.ensures.called.peak)) (few-then 0 0 0 0 c.args.self.now.queue c.rounds.self.queue c.pop_round.new.self.queue _ _ c.rounds.invariant.counted c.pop_round.ensures.called.counted) c.in_err-pop_round.ensures.called.refused tt
 
 pub returns-then-is_empty-clause-prints : goal.returns-then-is_empty-clause-prints
 returns-then-is_empty-clause-prints g c = let w = words g.R.PartialEq g.R.PartialOrd g.R.Ord g.R.Record g.R.Fields in let laws = laws_of w c.record_laws.ensures.order c.record_laws.ensures.same in
@@ -70,6 +73,7 @@ pub returns-then-is_empty-clause-lent : goal.returns-then-is_empty-clause-lent
 returns-then-is_empty-clause-lent g c = record {
   kept = Keeps-trans c.args.self.now.queue c.rounds.self.queue c.pop_round.new.self.queue c.rounds.invariant.kept c.pop_round.ensures.called.kept;
   peak = omega (arith, c.rounds.invariant.peak, c.pop_round.ensures.called.peak);
+  counted = few-ok c.args.self.now.queue c.pop_round.new.self.queue (few-then 0 0 0 0 c.args.self.now.queue c.rounds.self.queue c.pop_round.new.self.queue _ _ c.rounds.invariant.counted c.in_ok-pop_round.ensures.called.counted);
   refused = tt;
   no_file = tt;
 }
@@ -93,8 +97,8 @@ returns-in_err-print_all-clause-prints g c = let w = words g.R.PartialEq g.R.Par
 
 pub returns-in_err-print_all-clause-lent : goal.returns-in_err-print_all-clause-lent
 returns-in_err-print_all-clause-lent g c =
-    lent-stop c.from_residual-in_err-print_all.result Sink c.from_residual-in_err-print_all.ensures.1 c.args.self.now.queue c.rounds.self.queue c.pop_round.new.self.queue c.args.self.now.queue.peak
-    c.rounds.invariant.kept c.pop_round.ensures.called.kept (omega (arith, c.rounds.invariant.peak, c.pop_round.ensures.called.peak)) tt tt
+    lent-stop c.from_residual-in_err-print_all.result Sink c.from_residual-in_err-print_all.ensures.1 c.args.self.now.queue c.rounds.self.queue c.pop_round.new.self.queue c.args.self.now.queue.peak 0
+    c.rounds.invariant.kept c.pop_round.ensures.called.kept (omega (arith, c.rounds.invariant.peak, c.pop_round.ensures.called.peak)) (few-then 0 0 0 0 c.args.self.now.queue c.rounds.self.queue c.pop_round.new.self.queue _ _ c.rounds.invariant.counted c.pop_round.ensures.called.counted) tt tt
 
 pub rounds-preserved : goal.rounds-preserved
 rounds-preserved g c = let w = words g.R.PartialEq g.R.PartialOrd g.R.Ord g.R.Record g.R.Fields in let laws = laws_of w c.record_laws.ensures.order c.record_laws.ensures.same in
@@ -131,6 +135,7 @@ rounds-preserved g c = let w = words g.R.PartialEq g.R.PartialOrd g.R.Ord g.R.Re
       quiet = popped.quiet ∙ v.quiet;
       peak = omega (arith, c.pop_round.ensures.called.peak, v.peak);
       kept = Keeps-trans c.args.self.now.queue c.rounds.self.queue c.pop_round.new.self.queue v.kept c.pop_round.ensures.called.kept;
+      counted = few-ok c.args.self.now.queue c.pop_round.new.self.queue (few-then 0 0 0 0 c.args.self.now.queue c.rounds.self.queue c.pop_round.new.self.queue _ _ c.rounds.invariant.counted c.in_ok-pop_round.ensures.called.counted);
       stays = c.in_ok-print_all.ensures.cause.ok ∙ v.stays;
     }
 

@@ -6,7 +6,9 @@ use Rattle.ppq_engine.specs.Output.{records_text}
 use Rattle.ppq_engine.specs.Gathers.{Gathers}
 use Rattle.ppq_engine.specs.Popping.{popped_count}
 use Rattle.ppq_load.specs.ppq_array.Kept.{AreQuiet}
+use Rattle.ppq_load.specs.ppq_queue.Holding.{CountsFew}
 use Rattle.ppq_load.specs.Refusal.{Keeps}
+use Rattle.ppq_engine.proofs.Counted.{unrefused}
 use Rattle.ppq_engine.proofs.machine.Machine.print_popped.Given as goal
 
 abbrev pub invariant-rounds : goal.invariant-rounds
@@ -21,6 +23,7 @@ invariant-rounds g l = let w = words g.R.PartialEq g.R.PartialOrd g.R.Ord g.R.Re
       quiet : AreQuiet l.fn.self.queue.slots l.self.queue.slots;
       peak : l.self.queue.peak ≤ l.fn.self.queue.peak;
       kept : Keeps l.fn.self.queue l.self.queue;
+      counted : CountsFew 0 0 l.fn.self.queue l.self.queue unrefused;
       stays : g.O.Sink.faults l.out ≡ g.O.Sink.faults l.fn.out;
     }
 

@@ -7,6 +7,7 @@ use Rattle.ppq_script.specs.ppq_outside.Told.{bytes_or_none}
 use Rattle.ppq_script.proofs.ppq_outside.Replies.{replies_wider}
 use Rattle.ppq_script.specs.declared.command.Command.TheVariants.{Bulk}
 use Rattle.ppq_load.specs.Reading.{IsReadWithin}
+use Rattle.ppq_load.proofs.Counting.{few-to}
 use Rattle.ppq_engine.specs.Calls.{Adds, RunsStep, StopsStep}
 use Rattle.ppq_engine.specs.Files.{EndsEarly, IsReadInScript}
 use Rattle.ppq_engine.specs.Running.{StopsFor, ChangedIn}
@@ -54,7 +55,7 @@ returns g c = let w = words g.R.PartialEq g.R.PartialOrd g.R.Ord g.R.Record g.R.
     record {
       goes =
           λ put.
-          turn-goes w c.args.world.now.form told script queue.sizes.workers k (record { stands = refl; stays = refl }) queue new put put had had r (adds-prints queue.slots put had [] r refl by) q.ensures.kept
+          turn-goes w c.args.world.now.form told script queue.sizes.workers k (record { stands = refl; stays = refl }) queue new put put had had r (adds-prints queue.slots put had [] r refl by) q.ensures.kept (few-to queue new q.result.1 r (loaded-ok line said q.result.1 r same) q.ensures.counted)
           (on-ok-map r (Loaded × Adds') (RunsStep w told script queue new k)
           (λ both. adds-runs w k (λ leaves. refl) (λ tells. file-bag w told script place file said k name queue.bag new.bag here refl c.name-name.ensures (both.0 tells)) both.1) adds)
           (if-err-map r Why (StopsStep w queue new k) (λ stop why. record { refused = why; of_file = file_of_file g.row.R.Denot file said stop }) refused);

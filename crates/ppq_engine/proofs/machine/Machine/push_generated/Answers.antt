@@ -4,6 +4,7 @@ use Rattle.ppq_script.specs.ppq_record.Bag.{IsSameBag}
 use Rattle.ppq_load.specs.Given.{generated_by}
 use Rattle.ppq_script.specs.ppq_outside.Shown.{AllTell}
 use Rattle.ppq_script.specs.declared.command.Command.TheVariants.{Gen}
+use Rattle.ppq_load.proofs.Counting.{few-to}
 use Rattle.ppq_engine.specs.Calls.{Adds, RunsStep, StopsStep}
 use Rattle.ppq_engine.specs.Files.{IsByFile, IsBySession}
 use Rattle.ppq_engine.specs.Running.{StopsFor}
@@ -33,7 +34,7 @@ returns g c = let w = words g.R.PartialEq g.R.PartialOrd g.R.Ord g.R.Record g.R.
     record {
       goes =
           λ form files put.
-          turn-goes w form files script queue.sizes.workers k (record { stands = refl; stays = refl }) queue new put put had had r (adds-prints queue.slots put had [] r refl (if-err-map r IsBySession IsByFile session_by_file by)) q.ensures.kept
+          turn-goes w form files script queue.sizes.workers k (record { stands = refl; stays = refl }) queue new put put had had r (adds-prints queue.slots put had [] r refl (if-err-map r IsBySession IsByFile session_by_file by)) q.ensures.kept (few-to queue new q.result.1 r (loaded-ok 0 0 q.result.1 r same) q.ensures.counted)
           (on-ok-map r (Loaded × Adds queue new count) (RunsStep w files script queue new k) (λ both. adds-runs w k (λ leaves. refl) (λ tells given are. both.0 tells) both.1) adds)
           (if-err-map r (λ stop. Why stop × IsBySession stop) (StopsStep w queue new k)
           (λ stop both. record { refused = both.0; of_file = limit_of_file k stop tt (session-by_limit stop both.1) }) why);

@@ -20,6 +20,7 @@ use Rattle.ppq_engine.specs.Loads.{FitsWritten, least_of, begins_limit}
 use Rattle.ppq_engine.specs.Output.{AreFilesOf, given_of, output_of, crest_of}
 use Rattle.ppq_engine.specs.Running.{HasRun, HasSizes, IsGathered, PartStops, SinkAfter, behind_part}
 use Rattle.ppq_engine.proofs.Advancing.{Keeps-none, Keeps-behind}
+use Rattle.ppq_engine.proofs.Counted.{HasCounted, counted-begin, counted-part, counted-stop, counted-all}
 use Rattle.ppq_engine.proofs.Kept.{Keeps-refl}
 use Rattle.ppq_engine.proofs.Lengths.{has_length}
 use Rattle.ppq_engine.proofs.Libraries.{library-none, library-stays, library-then, library-stop}
@@ -47,6 +48,7 @@ commands-init g c = let w = words g.R.PartialEq g.R.PartialOrd g.R.Ord g.R.Recor
       sound = c.requires.may.sound;
       quiet = refl;
       kept = Keeps-none queue queue (take 0 (command_list c.args.world.now.script.now)) refl (Keeps-refl queue);
+      counted = counted-begin w queue (command_list c.args.world.now.script.now) c.requires.may.counts c.requires.may.in_heap;
       library = library-none told (g.L.Library.replied c.args.library.now) c.args.world.now.script.now (g.L.Library.faults c.args.library.now);
       library_stays = refl;
       stays = refl;
@@ -91,6 +93,16 @@ returns-in-Err-clause-stopped g c = let w = words g.R.PartialEq g.R.PartialOrd g
 
 pub returns-in-Err-clause-slots : goal.returns-in-Err-clause-slots
 returns-in-Err-clause-slots g c = SameSlots-trans c.args.self.queue.slots c.commands.machine.queue.slots c.advance-back.result.0.queue.slots c.commands.invariant.kept.slots c.advance-back.ensures.goes.slots
+
+pub returns-in-Err-clause-counted : goal.returns-in-Err-clause-counted
+returns-in-Err-clause-counted g c = let w = words g.R.PartialEq g.R.PartialOrd g.R.Ord g.R.Record g.R.Fields in
+    let commands = command_list c.args.world.now.script.now in
+    let i = c.commands.place in
+    let part = commands_in c.part-part.result in
+    let a = c.advance-back in
+    let v = c.commands.invariant in
+    counted-stop w c.commands.machine.queue a.result.0.queue (take i commands) part v.counted a.result.1 (i + length part) commands c.args.self.queue.sizes
+    (take-part commands i part c.part-part.ensures.part.whole) (a.ensures.goes.sizes ∙ v.kept.sizes) a.ensures.goes.counted
 
 pub returns-in-Err-clause-library : goal.returns-in-Err-clause-library
 returns-in-Err-clause-library g c = library-stop c.advance-back.result.1 c.in-Err.stop c.in-Err.is c.commands.invariant.library c.commands.invariant.library_stays c.advance-back.ensures.library
@@ -150,6 +162,7 @@ commands-preserved g c = let w = words g.R.PartialEq g.R.PartialOrd g.R.Ord g.R.
     let fits = subst Fits kept.sizes (c.known.ensures.written runs.sound) in
     let Sized : List (Command g.row.R.Denot) → Type 0 = λ cs. HasSizes w new.size new.peak sizes new.slots cs in
     let Kept : List (Command g.row.R.Denot) → Type 0 = λ cs. Keeps (behind_part c.args.self.queue cs) new in
+    let Counted : List (Command g.row.R.Denot) → Type 0 = λ cs. HasCounted w cs new in
     let Place : ℕ → Type 0 = λ n. are_in_place w script.workers Outside (drop n commands) ≡ true in
     record {
       run =
@@ -173,6 +186,7 @@ commands-preserved g c = let w = words g.R.PartialEq g.R.PartialOrd g.R.Ord g.R.
       sound = runs.sound;
       quiet = runs.quiet ∙ v.quiet;
       kept = subst Kept (sym split) kept;
+      counted = subst Counted (sym split) (counted-part w queue new (take i commands) part v.counted c.advance-back.result.1 tt c.in-Ok.is a.goes.counted);
       library = library-then v.library (library-stays a.library);
       library_stays = ok (g.L.Library.faults c.advance-back.new.library ≡ g.L.Library.faults c.commands.library) a.library.stays ∙ v.library_stays;
       stays = ok (g.O.Sink.faults c.advance-back.new.out ≡ g.O.Sink.faults c.commands.out) a.sink.stays ∙ v.stays;
@@ -198,6 +212,13 @@ returns-clause-runs g c = let w = words g.R.PartialEq g.R.PartialOrd g.R.Ord g.R
       least = subst Least all v.has.crest;
       quiet = v.quiet;
     }
+
+pub returns-clause-counted : goal.returns-clause-counted
+returns-clause-counted g c = let w = words g.R.PartialEq g.R.PartialOrd g.R.Ord g.R.Record g.R.Fields in
+    let script = c.args.world.now.script.now in
+    let v = c.commands.invariant in
+    let all = all_run script c.commands.place (omega (arith, c.commands-test.false, c.len.ensures)) in
+    counted-all w c.commands.machine.queue (take c.commands.place (command_list script)) (command_list script) c.args.self.queue.sizes all v.kept.sizes v.counted
 
 pub returns-clause-library : goal.returns-clause-library
 returns-clause-library g c =

@@ -9,6 +9,7 @@ use Rattle.ppq_load.specs.Refusal.{Keeps}
 use Rattle.ppq_engine.specs.Calls.{LibraryStays}
 use Rattle.ppq_engine.specs.Output.{AreFilesOf, given_of}
 use Rattle.ppq_engine.specs.Running.{HasRun, HasSizes, behind_part}
+use Rattle.ppq_engine.proofs.Counted.{HasCounted}
 use Rattle.ppq_engine.proofs.Lines.{session_from}
 use Rattle.ppq_engine.proofs.machine.Machine.run.Given as goal
 
@@ -25,6 +26,7 @@ invariant-commands g l = let w = words g.R.PartialEq g.R.PartialOrd g.R.Ord g.R.
       sound : l.machine.queue.failed ≡ None;
       quiet : AreQuiet l.fn.self.queue.slots l.machine.queue.slots;
       kept : Keeps (behind_part l.fn.self.queue (take l.place (command_list l.script))) l.machine.queue;
+      counted : HasCounted w (take l.place (command_list l.script)) l.machine.queue;
       library : LibraryStays (g.L.Library.told l.fn.library) (g.L.Library.told l.library) (g.L.Library.replied l.fn.library) (g.L.Library.replied l.library) l.script (g.L.Library.faults l.fn.library) (g.L.Library.faults l.library);
       library_stays : g.L.Library.faults l.library ≡ g.L.Library.faults l.fn.library;
       stays : g.O.Sink.faults l.out ≡ g.O.Sink.faults l.fn.out;

@@ -13,6 +13,8 @@ use Rattle.ppq_engine.specs.Pushes.{pushed_in}
 use Rattle.ppq_engine.specs.Running.{StopsFor}
 use Rattle.ppq_engine.specs.declared.stop.Stop.{Stop}
 use Rattle.ppq_engine.specs.declared.stop.Stop.TheVariants.{Memory}
+use Rattle.ppq_load.proofs.ppq_queue.Counted.{few-begun, few-more}
+use Rattle.ppq_engine.proofs.Counted.{unrefused, few-none}
 use Rattle.ppq_engine.proofs.Kept.{Keeps-refl}
 use Rattle.ppq_engine.proofs.Loads.{stop-refused, stop-by_session}
 use Rattle.ppq_engine.proofs.Popped.{some_room}
@@ -27,7 +29,7 @@ new-requires g c = omega (arith, c.room.ensures, c.args.self.round, some_room c.
 pub returns-in_default : goal.returns-in_default
 returns-in_default g c = let w = words g.R.PartialEq g.R.PartialOrd g.R.Ord g.R.Record g.R.Fields in let laws = laws_of w c.record_laws.ensures.order c.record_laws.ensures.same in
     let queue = c.args.self.queue in
-    bulk-stopped w laws c.args.world.now.script.now queue.sizes.workers (commands_of c.args.lines.now) c.requires.lines queue queue c.args.self.desk.gathered Memory tt tt (Keeps-refl queue)
+    bulk-stopped w laws c.args.world.now.script.now queue.sizes.workers (commands_of c.args.lines.now) c.requires.lines queue queue c.args.self.desk.gathered Memory tt tt (Keeps-refl queue) 0 (omega arith) (few-more 0 0 0 1 queue queue unrefused (omega arith) (omega arith) (few-none queue))
 
 pub push_all-requires-clause-lines : goal.push_all-requires-clause-lines
 push_all-requires-clause-lines g c κs within = let w = words g.R.PartialEq g.R.PartialOrd g.R.Ord g.R.Record g.R.Fields in
@@ -66,3 +68,4 @@ returns g c = let w = words g.R.PartialEq g.R.PartialOrd g.R.Ord g.R.Record g.R.
     let refused = stop-later queue.sizes queue.limited queue.limited queue.peak most (omega (arith, c.known.ensures.range.two_records)) (λ same. same) (omega arith) slots c.in-Err.fault c.in-Err.ensures.refused in
     bulk-stopped w laws c.args.world.now.script.now queue.sizes.workers body c.requires.lines queue c.in-Err.queue c.args.self.desk.gathered c.stop_of.result
     (subst IsBySession (sym c.stop_of.ensures) (stop-by_session 0 0 c.in-Err.fault c.in-Err.ensures.by_load)) (subst Why (sym c.stop_of.ensures) (stop-refused most queue.sizes queue.limited slots 0 0 c.in-Err.fault refused)) c.in-Err.ensures.kept
+    0 (omega arith) (few-begun queue c.in-Err.queue unrefused c.in-Err.ensures.kept.sizes c.in-Err.ensures.counted)

@@ -1,15 +1,19 @@
-use Rattle.std.proofs.Common.{true, refl, sym, ap, ◌∙◌, subst, arith}
+use Rattle.std.proofs.Common.{true, length, refl, sym, ap, ◌∙◌, subst, arith}
 use Rattle.ppq_engine.proofs.Orders.{laws_of}
 use Rattle.ppq_script.specs.Words.{words}
 use Rattle.ppq_script.specs.declared.session.Session.TheVariants.{InLimit}
 use Rattle.ppq_script.specs.Parts.{AreLines, limit_part, commands_of}
 use Rattle.ppq_load.specs.ppq_budget.Sizes.{Numbers, batch_of}
+use Rattle.ppq_load.proofs.Counting.{few-to}
 use Rattle.ppq_load.proofs.Parts.{over-unfaulted}
+use Rattle.ppq_load.proofs.ppq_queue.Counted.{few-begun, few-more}
 use Rattle.ppq_engine.specs.Files.{load_stop}
 use Rattle.ppq_engine.specs.Popping.{IsByLimit}
+use Rattle.ppq_engine.specs.Pushes.{pushed_in}
 use Rattle.ppq_engine.specs.Running.{PartStops, SinkAfter}
 use Rattle.ppq_engine.specs.declared.stop.Stop.{Stop}
-use Rattle.ppq_engine.proofs.LimitParts.{SessionRan, ended-runs, ended-stopped, ended-by_limit, ended-kept, ended-counts, begin-stopped}
+use Rattle.ppq_engine.proofs.Counted.{unrefused, few-none}
+use Rattle.ppq_engine.proofs.LimitParts.{SessionRan, ended-runs, ended-stopped, ended-by_limit, ended-kept, ended-given, ended-few, ended-counts_few, ended-counts, begin-stopped}
 use Rattle.ppq_engine.proofs.Loads.{stop-refused, stop-by_session}
 use Rattle.ppq_engine.proofs.Popped.{some_room, gathers-nothing}
 use Rattle.ppq_engine.proofs.Slots.{SameSlots-refl}
@@ -26,7 +30,7 @@ returns-in_default g c = let w = words g.R.PartialEq g.R.PartialOrd g.R.Ord g.R.
     let told = g.O.Sink.told c.args.out.now in
     let had = c.args.self.desk.gathered in
     record {
-      goes = limit-goes w c.args.world.now.form c.args.world.now.script.now c.args.limit (commands_of c.args.lines.now) queue queue told told had had _ tt tt (λ tells. gathers-nothing told had) (SameSlots-refl queue.slots);
+      goes = limit-goes w c.args.world.now.form c.args.world.now.script.now c.args.limit (commands_of c.args.lines.now) queue queue told told had had _ tt tt (λ tells. gathers-nothing told had) (SameSlots-refl queue.slots) refl 0 (omega arith) (few-to queue queue unrefused _ (λ A holds. tt) (few-more 0 0 0 1 queue queue unrefused (omega arith) (omega arith) (few-none queue)));
       by_limit = tt;
       sink = record { later = omega arith; stays = tt; cause = refl };
     }
@@ -88,10 +92,14 @@ returns-in-Ok-begin g c = let w = words g.R.PartialEq g.R.PartialOrd g.R.Ord g.R
       over = λ given left popped il. c.end-queue.ensures.over queue limit given left popped il;
       unfaulted = over-unfaulted shown mid new over c.end-queue.ensures.left;
     } in
+    let kept = ended-kept w laws shown c.args.world.now.form queue before now had has mid queue.sizes.workers limit lines are old new printed over run in
+    let given = ended-given w laws shown c.args.world.now.form queue before now had has mid queue.sizes.workers limit lines are old new printed over run in
     record {
       goes =
           limit-goes w c.args.world.now.form script limit lines queue new before now had has s (ended-runs w laws shown c.args.world.now.form queue before now had has mid queue.sizes.workers limit lines are old new printed over s e run script) (ended-by_limit printed over s e)
-          (ended-stopped w laws shown c.args.world.now.form queue before now had has mid queue.sizes.workers limit lines are old new printed over s e run) (ended-kept w laws shown c.args.world.now.form queue before now had has mid queue.sizes.workers limit lines are old new printed over run).slots;
+          (ended-stopped w laws shown c.args.world.now.form queue before now had has mid queue.sizes.workers limit lines are old new printed over s e run) kept.slots kept.sizes
+          (length (pushed_in given)) (ended-few w laws shown c.args.world.now.form queue before now had has mid queue.sizes.workers limit lines are old new printed over run)
+          (ended-counts_few w laws shown c.args.world.now.form queue before now had has mid queue.sizes.workers limit lines are old new printed over s e run);
       by_limit = ended-by_limit printed over s e;
       sink = ended-counts printed over s e (g.O.Sink.faults c.args.out.now) (g.O.Sink.faults c.run_lines-printed.new.out) c.run_lines-printed.ensures.cause;
     }
@@ -112,7 +120,8 @@ returns g c = let w = words g.R.PartialEq g.R.PartialOrd g.R.Ord g.R.Record g.R.
     let by_limit = subst IsByLimit same (session-by_limit stop by) in
     let stopped = subst P same (begin-stopped w c.args.world.now.form told had queue new.slots c.args.limit body stop (omega (arith, c.known.ensures.range.two_records)) (stop-refused queue.peak queue.sizes true new.slots 0 0 c.in-Err.fault c.in-Err.ensures.refused) by) in
     record {
-      goes = limit-goes w c.args.world.now.form c.args.world.now.script.now c.args.limit body queue new told told had had _ tt by_limit stopped c.in-Err.ensures.kept.slots;
+      goes = limit-goes w c.args.world.now.form c.args.world.now.script.now c.args.limit body queue new told told had had _ tt by_limit stopped c.in-Err.ensures.kept.slots c.in-Err.ensures.kept.sizes
+          0 (omega arith) (few-begun queue new _ c.in-Err.ensures.kept.sizes c.in-Err.ensures.counted);
       by_limit = by_limit;
       sink = record { later = omega arith; stays = tt; cause = subst Q same (file_unput faults stop (session_by_file stop by)) };
     }

@@ -24,3 +24,6 @@ returns-in-Err-clause-latched g c = λ number failed. begin-latched (begun_in c.
 
 pub returns-in-Err-clause-kept : goal.returns-in-Err-clause-kept
 returns-in-Err-clause-kept g c = c.in-Err.ensures.refused.kept
+
+pub returns-in-Err-clause-counted : goal.returns-in-Err-clause-counted
+returns-in-Err-clause-counted g c = c.in-Err.ensures.refused.counted

@@ -2,7 +2,7 @@ use Rattle.std.proofs.Common.{◌≡◌, ◌+◌, ◌++◌, ℕ, List, length, t
 use Rattle.ppq_session.specs.ppq_outside.Shown.{AllTell}
 use Rattle.ppq_session.specs.ppq_queue.Holding.{Holding}
 use Rattle.ppq_session.specs.Dealing.{records_in}
-use Rattle.ppq_session.specs.Asks.{answers_to, left_after, pops_in}
+use Rattle.ppq_session.specs.Asks.{answers_to, left_after, removed_in, pops_in}
 use Rattle.ppq_load.specs.Limits.{LimitsHolding, InLimits}
 use Rattle.ppq_load.proofs.limits.Limits.run.Goals as goal
 
@@ -24,3 +24,7 @@ returns-clause-answers g c =
     → AllTell queue.slots → answers ≡ take (length answers) (answers_to g.R.Ord.cmp limit left c.args.asks.now))
     c.self.view_is
     c.run.ensures.answers
+
+pub returns-clause-popped : goal.returns-clause-popped
+returns-clause-popped g c =
+    subst (λ (old : LimitsHolding g.row.S.Denot g.row.R.Denot). c.run.new.self.front.popped ≡ old.front.popped + removed_in c.args.asks.now c.run.new.answers.items) c.self.view_is c.run.ensures.popped

@@ -1,4 +1,5 @@
 use Rattle.std.proofs.Common.{sym, subst}
+use Rattle.ppq_session.specs.ppq_queue.Holding.{session_begun}
 use Rattle.ppq_load.specs.declared.fault.LoadFault.{LoadFault}
 use Rattle.ppq_load.specs.Loading.{IsByLoad, IsHandedBack, LoadStopsFor}
 use Rattle.ppq_load.proofs.Loadings.{begin-refused, begin-back, begin-latched, begin-by}
@@ -19,7 +20,10 @@ pub returns-in-Ok-clause-latched : goal.returns-in-Ok-clause-latched
 returns-in-Ok-clause-latched g c = λ number latched. let said = c.in-Ok.ensures.latched number latched in absurd (cc)
 
 pub returns-in-Err-clause-latched : goal.returns-in-Err-clause-latched
-returns-in-Err-clause-latched g c = λ number latched. begin-latched c.args.queue c.in-Err.queue c.in-Err.fault c.from.result number c.from.ensures (c.in-Err.ensures.latched number latched)
+returns-in-Err-clause-latched g c = λ number latched. begin-latched (session_begun c.args.queue) c.in-Err.queue c.in-Err.fault c.from.result number c.from.ensures (c.in-Err.ensures.latched number latched)
 
 pub returns-in-Err-clause-kept : goal.returns-in-Err-clause-kept
 returns-in-Err-clause-kept g c = c.in-Err.ensures.refused.kept
+
+pub returns-in-Err-clause-counted : goal.returns-in-Err-clause-counted
+returns-in-Err-clause-counted g c = c.in-Err.ensures.refused.counted

@@ -1,11 +1,16 @@
-use Rattle.std.proofs.Common.{◌≡◌, ◌+◌, ◌*◌, ◌≤◌, ◌++◌, length, arith, ap, ◌∙◌, subst, sym, length-append}
+use Rattle.std.proofs.Common.{◌≡◌, ◌+◌, ◌*◌, ◌^◌, ◌<◌, ◌≤◌, ◌++◌, None, length, refl, arith, ap, ◌∙◌, subst, sym, length-append}
 use Rattle.std.proofs.Math.Nat.{mul-le-mul_right, mul_comm}
 use Rattle.ppq_extract.specs.ppq_outside.Shown.{AllTell}
-use Rattle.ppq_extract.specs.ppq_array.Kept.{all_writes}
+use Rattle.ppq_extract.specs.ppq_array.Kept.{all_writes, all_reads}
 use Rattle.ppq_extract.specs.ppq_fetch.Fetching.{blocks_in}
 use Rattle.ppq_heap.specs.Heaps.{items_of}
 use Rattle.ppq_queue.specs.Resting.{slots_of, runs_bag}
 use Rattle.ppq_queue.proofs.Bounds.{records_within, written, bag_length}
+use Rattle.ppq_spill.specs.ppq_counts.Account.{too_heavy}
+use Rattle.ppq_spill.specs.ppq_counts.Tally.{IsCounting, runs_of, bound_of}
+use Rattle.ppq_spill.proofs.ppq_counts.Counted.{counted-bound}
+use Rattle.ppq_queue.specs.Holding.{Holding}
+use Rattle.ppq_queue.specs.Paying.{heaps_account}
 use Rattle.ppq_queue.proofs.queue.Queue.known.Goals as goal
 
 pub returns-clause-counted : goal.returns-clause-counted
@@ -38,3 +43,15 @@ returns-clause-written g c none =
     let turned : all_writes slots * s.store.sizes.block ≡ s.store.sizes.block * all_writes slots = mul_comm (all_writes slots) s.store.sizes.block in
     let size : s.count ≤ s.store.sizes.memory + s.store.sizes.block * all_writes slots = omega (arith, within, more, turned, sound.counted) in
     subst (λ q. q.size ≤ q.sizes.memory + q.sizes.block * all_writes q.slots) c.self.view_is size
+
+pub returns-clause-transfers : goal.returns-clause-transfers
+returns-clause-transfers g c =
+    let s = c.self.inside in
+    let n = s.store.sizes in
+    let P : Holding g.row.R.Denot → Type 0 = λ q. IsCounting q.counts → runs_of q.sizes.workers q.counts < too_heavy → q.sizes.block * all_writes q.slots ≤ bound_of q.sizes.workers q.sizes.block q.counts in
+    subst P c.self.view_is (counted-bound n.workers n.block (s.failed ≡ None) s.counts (all_writes (slots_of g.S.Slot.shown s.store.body s.store.supply)) (heaps_account g.S.Slot.shown s.heaps s.store) refl c.self.invariant.0.counted)
+
+pub returns-clause-read : goal.returns-clause-read
+returns-clause-read g c =
+    let P : Holding g.row.R.Denot → Type 0 = λ q. all_writes q.slots < 2 ^ 63 → all_reads q.slots ≤ all_writes q.slots in
+    subst P c.self.view_is c.self.invariant.0.counted.read

@@ -1,10 +1,13 @@
-use Rattle.std.proofs.Common.{◌≡◌, ◌≤◌, ◌*◌, ◌-◌, ◌∙◌, length, map, None, false, ap, sym, subst, arith, All}
+use Rattle.std.proofs.Common.{◌≡◌, ℕ, ◌≤◌, ◌*◌, ◌-◌, ◌∙◌, length, map, Option, None, false, ap, sym, subst, refl, arith, All}
 use Rattle.std.proofs.lemmas.Grind.{common_steps}
 use Rattle.std.specs.Prelude.{vec_capacity}
 use Rattle.std.proofs.lemmas.List.{length-map}
+use Rattle.ppq_heap.specs.Heaps.{items_of}
+use Rattle.ppq_spill.specs.ppq_counts.Account.{IsCounted}
+use Rattle.ppq_queue.specs.Paying.{whole_account, heaps_account}
 use Rattle.ppq_queue.specs.Slots.{with_slots}
 use Rattle.ppq_queue.specs.State.{IsQueue, IsSound}
-use Rattle.ppq_queue.proofs.Opened.{queue-opened, sound-opened, slot_sizes, err_holds, ok_holds}
+use Rattle.ppq_queue.proofs.Opened.{queue-opened, sound-opened, counted-opened, slot_sizes, err_holds, ok_holds}
 use Rattle.ppq_queue.proofs.queue.Queue.open.Goals as goal
 
 pub berth_slots-requires-clause-sizes : goal.berth_slots-requires-clause-sizes
@@ -29,6 +32,9 @@ invariant_of-result g c =
       record {
         queue = subst (λ n. IsQueue shown n parts.heaps parts.store.extract parts.store.body stock 0 0 None) same (queue-opened shown c.args.sizes parts is slots stock e c.requires.count c.workers-workers.ensures.range (omega (arith, c.in-Ok.ensures.budget)));
         sound = λ none. subst (λ n. IsSound shown g.R.Ord.cmp g.R.Record.record_of g.R.Record.WIDTH n parts.heaps parts.store.extract parts.store.body stock parts.store.sources 0 0 false) same (sound-opened shown c.args.sizes parts is slots stock e c.requires.count g.R.Ord.cmp g.R.Record.record_of g.R.Record.WIDTH);
+        counted = subst (λ n. IsCounted n.workers n.block (◌≡◌ {A = Option ℕ} None None) c.none.result (heaps_account shown parts.heaps (record parts.store { sizes = n; supply = stock }))) same
+            (subst (λ t. IsCounted c.args.sizes.workers c.args.sizes.block (◌≡◌ {A = Option ℕ} None None) t (whole_account shown c.args.sizes (length (items_of parts.heaps)) parts.store.body stock)) (sym c.none.ensures)
+            (counted-opened shown c.args.sizes parts is slots stock e c.requires.count c.requires.fresh));
         slots_room = subst (λ n. n.blocks ≤ vec_capacity c.berth_slots.new.slots) same room;
       },
       ok_holds c.berth_slots.result c.is_err.result c.is_err.ensures.value c.if-is_err.false c.berth_slots.ensures.emptied,
@@ -47,7 +53,7 @@ pub berth_slots-requires-clause-room : goal.berth_slots-requires-clause-room
 berth_slots-requires-clause-room g c = grind (arith, common_steps)
 
 pub returns-in-Err : goal.returns-in-Err
-returns-in-Err g c = record { bag = tt; size = tt; sizes = tt; peak = tt; sound = tt; unlimited = tt; budget = tt; slots = tt; back = omega arith; need = grind arith }
+returns-in-Err g c = record { bag = tt; size = tt; sizes = tt; peak = tt; sound = tt; unlimited = tt; counts = tt; budget = tt; slots = tt; back = λ f. refl; need = grind arith }
 
 pub returns : goal.returns
-returns g c = record { bag = grind arith; size = assumption; sizes = grind arith; peak = assumption; sound = assumption; unlimited = assumption; budget = grind arith; slots = grind arith; back = tt; need = tt }
+returns g c = record { bag = grind arith; size = assumption; sizes = grind arith; peak = assumption; sound = assumption; unlimited = assumption; counts = (c.none.ensures, ap length c.in-Ok-new.ensures.no_record); budget = grind arith; slots = grind arith; back = tt; need = tt }

@@ -7,7 +7,7 @@ use Rattle.ppq_queue.proofs.Flushed.{keeps-slots, keeps-more}
 use Rattle.ppq_queue.proofs.queue.Queue.pop.Goals as goal
 
 pub returns-in_err-ready : goal.returns-in_err-ready
-returns-in_err-ready g c = record { answer = grind arith; none = grind arith; taken = grind arith; refused = grind arith; latched = grind arith; peak = assumption; keeps = assumption }
+returns-in_err-ready g c = record { answer = grind arith; none = grind arith; taken = grind arith; refused = grind arith; latched = grind arith; peak = assumption; counted = assumption; keeps = assumption }
 
 pub take_least-requires-after_bounds : goal.take_least-requires-after_bounds
 take_least-requires-after_bounds g c = grind arith
@@ -32,5 +32,6 @@ returns g c =
       refused = tt;
       latched = grind arith;
       peak = ap (λ q. q.peak) took.fields ∙ stays.peak;
+      counted = record { counts = ap (λ q. q.counts) took.fields ∙ c.ready.ensures.counted.counts; heaps = omega (arith, took.heaps, c.ready.ensures.counted.heaps) };
       keeps = keeps-more c.args.self.now mid now stays.keeps (keeps-slots mid now (ap (λ q. q.sizes) took.fields) (ap (λ q. q.limited) took.fields) (ap (λ q. q.slots) took.fields));
     }

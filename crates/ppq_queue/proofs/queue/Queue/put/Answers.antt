@@ -1,7 +1,11 @@
-use Rattle.std.proofs.Common.{ℕ, ◌+◌, ◌*◌, ◌<◌, ◌≤◌, ◌≡◌, ◌∷◌, ◌++◌, length, arith, refl, ap, ap₂, ◌∙◌, subst}
+use Rattle.std.proofs.Common.{ℕ, ◌+◌, ◌*◌, ◌<◌, ◌≤◌, ◌≡◌, ◌∷◌, ◌++◌, length, None, arith, refl, sym, ap, ap₂, ◌∙◌, subst}
 use Rattle.std.specs.Prelude.{count_by}
 use Rattle.ppq_heap.proofs.ppq_record.Order.{IsSameBag-length, count_by-append, count_by-cons}
 use Rattle.ppq_heap.specs.Heaps.{items_of, share_at}
+use Rattle.ppq_spill.specs.ppq_counts.Account.{IsCounted}
+use Rattle.ppq_spill.specs.ppq_counts.Tally.{Tally, accepting}
+use Rattle.ppq_queue.specs.Paying.{whole_account, store_account}
+use Rattle.ppq_queue.proofs.Accounted.{counted-put}
 use Rattle.ppq_queue.specs.Handed.{viewed}
 use Rattle.ppq_queue.specs.Holding.{Holding}
 use Rattle.ppq_queue.specs.Resting.{runs_bag}
@@ -30,6 +34,7 @@ invariant_of-self g c =
       record {
         queue = queue-counts i push.others.cap push.others.count within refl i.in_extract (omega (arith, c.requires.may.peak, ap (λ q. q.size) view, ap (λ q. q.peak) view)) i.most (omega (arith, most, long, sound.counted));
         sound = λ none. sound-counts sound (omega (arith, sound.counted, long)) sound.ascends sound.order (λ more. sound.above (omega (arith, more, long)));
+        counted = subst (λ k. IsCounted s.store.sizes.workers s.store.sizes.block (s.failed ≡ None) c.accept.new.self (whole_account g.S.Slot.shown s.store.sizes k s.store.body s.store.supply)) (sym long) (counted-put (length (items_of s.heaps)) (store_account g.S.Slot.shown s.store) (ap (λ q. q.failed) view ∙ c.requires.may.sound) c.accept.ensures stands.counted);
         slots_room = stands.slots_room;
       },
       c.self.invariant.1,
@@ -75,9 +80,9 @@ returns-clause-rest g c =
     let heap : length new ≡ length old + 1 = IsSameBag-length new (c.args.r ∷ old) (has_room c.try_push.result (length one) s.heaps.cap room push.full.0 push.added) ∙ omega arith in
     let first : length one' ≡ length one + 1 = IsSameBag-length one' (c.args.r ∷ one) (has_room c.try_push.result (length one) s.heaps.cap room push.full.0 push.share) ∙ omega arith in
     let bag = new ++ s.store.extract.items ++ runs_bag shown record_of width s.store.body in
-    let made : ℕ → ℕ → Holding g.row.R.Denot = λ h f. record (viewed shown record_of width s.store s.heaps s.count s.peak s.failed s.limited) { bag = bag; size = s.count + 1; in_heap = h; in_first = f } in
-    let more : Holding g.row.R.Denot → Holding g.row.R.Denot = λ q. record q { bag = bag; size = q.size + 1; in_heap = q.in_heap + 1; in_first = q.in_first + 1 } in
-    ap₂ made heap first ∙ ap more view
+    let made : ℕ → ℕ → Tally → Holding g.row.R.Denot = λ h f t. record (viewed shown record_of width s.store s.heaps s.count s.peak s.failed s.limited t) { bag = bag; size = s.count + 1; in_heap = h; in_first = f } in
+    let more : Holding g.row.R.Denot → Holding g.row.R.Denot = λ q. record q { bag = bag; size = q.size + 1; in_heap = q.in_heap + 1; in_first = q.in_first + 1; counts = accepting 1 q.counts } in
+    ap₂ (λ h f. made h f c.accept.new.self) heap first ∙ ap (made (length old + 1) (length one + 1)) c.accept.ensures ∙ ap more view
 
 pub overflow_add-self : goal.overflow_add-self
 overflow_add-self g c = grind arith

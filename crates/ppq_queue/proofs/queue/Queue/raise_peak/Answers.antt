@@ -10,6 +10,7 @@ invariant_of-self g c =
       record {
         queue = queue-counts i refl refl i.in_heap refl i.in_extract (omega (arith, up, i.counted)) (omega (arith, up, i.most, i.most_count)) i.most_count;
         sound = λ none. (let sound = stands.sound none in sound-counts sound sound.counted sound.ascends sound.order (λ more full. omega (arith, up, sound.above more full)));
+        counted = stands.counted;
         slots_room = stands.slots_room;
       },
       c.self.invariant.1,

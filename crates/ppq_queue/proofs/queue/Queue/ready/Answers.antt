@@ -1,11 +1,14 @@
-use Rattle.std.proofs.Common.{arith}
+use Rattle.std.proofs.Common.{length, ap, refl, arith}
+use Rattle.ppq_heap.specs.Heaps.{items_of}
+use Rattle.ppq_queue.proofs.Paying.{pays-beside}
+use Rattle.ppq_queue.proofs.Accounted.{counted-free}
 use Rattle.ppq_queue.proofs.Took.{empty_list}
 use Rattle.ppq_queue.proofs.Moves.{ok-map, ok-map2}
 use Rattle.ppq_queue.proofs.Calls.{may_work, stopped, called-beside}
 use Rattle.ppq_queue.proofs.queue.Queue.ready.Goals as goal
 
 pub returns-in-Some : goal.returns-in-Some
-returns-in-Some g c = record { leaves = stopped c.self.invariant.0 c.self.view_is c.in-Some.is; readied = tt }
+returns-in-Some g c = record { leaves = stopped c.self.invariant.0 c.self.view_is c.in-Some.is; counted = record { counts = refl; heaps = omega arith }; readied = tt }
 
 pub make_ready-answer-requires-clause-works : goal.make_ready-answer-requires-clause-works
 make_ready-answer-requires-clause-works g c κs within = may_work c.self.invariant.0 c.in_default.is
@@ -14,7 +17,9 @@ pub invariant_of-self : goal.invariant_of-self
 invariant_of-self g c =
     let m = c.make_ready-answer in
     let e = m.ensures in
-    ((called-beside c.self.invariant.0 c.in_default.is m.result c.self.view_is c.latch.ensures e.kept (ok-map m.result (λ d. d.holds) e.readied) e.refused).0, c.self.invariant.1)
+    let stands = c.self.invariant.0 in
+    let paid = counted-free c.in_default.is m.result c.latch.ensures stands.counted (pays-beside (length (items_of c.self.inside.heaps)) e.pays) in
+    ((called-beside stands c.in_default.is m.result c.self.view_is c.latch.ensures paid e.kept (ok-map m.result (λ d. d.holds) e.readied) e.refused).0, c.self.invariant.1)
 
 pub returns : goal.returns
 returns g c =
@@ -22,8 +27,12 @@ returns g c =
     let counted = (c.self.invariant.0.sound none).counted in
     let m = c.make_ready-answer in
     let e = m.ensures in
-    let left = (called-beside c.self.invariant.0 none m.result c.self.view_is c.latch.ensures e.kept (ok-map m.result (λ d. d.holds) e.readied) e.refused).1 in
+    let stands = c.self.invariant.0 in
+    let view = c.self.view_is in
+    let paid = counted-free none m.result c.latch.ensures stands.counted (pays-beside (length (items_of c.self.inside.heaps)) e.pays) in
+    let left = (called-beside stands none m.result view c.latch.ensures paid e.kept (ok-map m.result (λ d. d.holds) e.readied) e.refused).1 in
     record {
       leaves = left;
+      counted = record { counts = ap (λ q. q.counts) view; heaps = omega (arith, ap (λ q. q.in_heap) view) };
       readied = ok-map2 m.result (λ d same. record { sound = same.sound; some = λ gone. omega (arith, gone, d.some (empty_list m.new.self.extract.items gone), counted, d.holds.count) }) e.readied left.same;
     }

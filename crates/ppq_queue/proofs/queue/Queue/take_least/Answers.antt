@@ -5,6 +5,8 @@ use Rattle.ppq_heap.specs.Heaps.{items_of, share_at}
 use Rattle.ppq_queue.specs.Handed.{viewed}
 use Rattle.ppq_queue.specs.Holding.{Holding}
 use Rattle.ppq_queue.specs.Resting.{runs_bag, count_of}
+use Rattle.ppq_queue.specs.Paying.{store_account}
+use Rattle.ppq_queue.proofs.Accounted.{counted-fewer}
 use Rattle.ppq_queue.proofs.Ready.{left_over}
 use Rattle.ppq_queue.proofs.Flushed.{queue-counts, sound-counts}
 use Rattle.ppq_queue.proofs.Firsts.{all_in_heaps, least_of_all, none_of_all}
@@ -28,6 +30,7 @@ invariant_of-self g c =
             sound-counts sound
             (left_over s.count (length (items_of s.heaps)) (length s.store.extract.items) (length (items_of heaps)) (length extract.items) (count_of s.store.body) c.saturating_sub-self-inside.result sound.counted took.count less (all_in_heaps stands c.self.view_is c.requires))
             (λ tell. took.ascends (sound.ascends tell)) (λ tell. took.order runs (sound.order tell)) (λ more. sound.above (omega (arith, more, took.near, less)));
+        counted = counted-fewer (length (items_of s.heaps)) (length (items_of heaps)) (store_account g.S.Slot.shown s.store) e.heaps.fewer stands.counted;
         slots_room = stands.slots_room;
       },
       c.self.invariant.1,
@@ -52,5 +55,6 @@ returns g c =
         none = none_of_all stands view c.requires laws.order laws.same c.take_first.result took.value;
       };
       rest = λ tell p. took.rest runs (is tell) p ∙ ap (λ q. count_by p (without_front g.R.Ord.cmp q.bag 1)) view;
-      fields = ap (λ k. now k (viewed g.S.Slot.shown g.R.Record.record_of g.R.Record.WIDTH s.store s.heaps s.count s.peak s.failed s.limited)) less ∙ ap (λ q. now (q.size - 1) q) view;
+      heaps = omega (arith, c.take_first.ensures.heaps.fewer, ap (λ q. q.in_heap) view);
+      fields = ap (λ k. now k (viewed g.S.Slot.shown g.R.Record.record_of g.R.Record.WIDTH s.store s.heaps s.count s.peak s.failed s.limited s.counts)) less ∙ ap (λ q. now (q.size - 1) q) view;
     }

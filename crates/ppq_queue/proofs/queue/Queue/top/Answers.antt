@@ -5,7 +5,7 @@ use Rattle.ppq_heap.proofs.ppq_record.Fronts.{ascending-same_bag}
 use Rattle.ppq_queue.proofs.queue.Queue.top.Goals as goal
 
 pub returns-in_err-ready : goal.returns-in_err-ready
-returns-in_err-ready g c = record { answer = grind arith; none = grind arith; same = grind arith; refused = grind arith; latched = grind arith; stays = assumption }
+returns-in_err-ready g c = record { answer = grind arith; none = grind arith; same = grind arith; refused = grind arith; latched = grind arith; counted = assumption; stays = assumption }
 
 pub least-requires-after_bounds : goal.least-requires-after_bounds
 least-requires-after_bounds g c = grind arith
@@ -20,5 +20,6 @@ returns g c =
       same = left.same;
       refused = tt;
       latched = grind arith;
+      counted = c.ready.ensures.counted;
       stays = left.stays;
     }

@@ -3,7 +3,7 @@ use Rattle.std.proofs.lemmas.Grind.{common_steps}
 use Rattle.std.proofs.lemmas.Bool.Decides.{nat_tests}
 use Rattle.std.proofs.lemmas.List.Elements.{All-nil}
 use Rattle.ppq_queue.specs.Resting.{IsRestingArray}
-use Rattle.ppq_queue.proofs.Counts.{count_some, internal_count}
+use Rattle.ppq_queue.proofs.Amounts.{count_some, internal_count}
 use Rattle.ppq_queue.proofs.store.Store.are_few_idle.Goals as goal
 
 pub returns-clause-some : goal.returns-clause-some

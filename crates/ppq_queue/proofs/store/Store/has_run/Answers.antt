@@ -1,6 +1,6 @@
 use Rattle.std.proofs.Common.{◌≡◌, ◌+◌, ◌<◌, length, arith}
 use Rattle.std.proofs.lemmas.Bool.Decides.{nat_tests}
-use Rattle.ppq_queue.proofs.Counts.{none_count, count_some}
+use Rattle.ppq_queue.proofs.Amounts.{none_count, count_some}
 use Rattle.ppq_queue.proofs.store.Store.has_run.Goals as goal
 
 pub returns-clause-none : goal.returns-clause-none

@@ -2,7 +2,9 @@ use Rattle.std.proofs.Common.{[], arith}
 use Rattle.std.proofs.lemmas.Grind.{common_steps}
 use Rattle.ppq_queue.specs.Stores.{Refuses}
 use Rattle.ppq_queue.proofs.Moves.{ok-map}
-use Rattle.ppq_queue.proofs.Stores.{kept-more, holds-more, refused-alone, err-map, not_ok, on_given}
+use Rattle.ppq_spill.proofs.ppq_counts.Accounts.{costs-same}
+use Rattle.ppq_queue.proofs.Paying.{ok_pays, pays_ok, pays-then, pays-given}
+use Rattle.ppq_queue.proofs.Stores.{kept-same, holds-same, kept-more, holds-more, refused-alone, err-map, not_ok, on_given}
 use Rattle.ppq_queue.proofs.store.Store.make_ready.Goals as goal
 
 pub returns-in_err-settle : goal.returns-in_err-settle
@@ -13,6 +15,7 @@ returns-in_err-settle g c =
       kept = c.settle.ensures.levels.leaves.stays.kept;
       readied = not_ok _ _ _ given;
       refused = on_given (Refuses g.S.Slot.shown g.R.Ord.cmp g.R.Record.record_of g.R.Record.WIDTH [] [] c.args.self.now c.settle.new.self) c.from_residual.result e given c.in_err-settle.ensures.levels.leaves.refused;
+      pays = pays-given given c.in_err-settle.ensures.levels.pays;
     }
 
 pub refill-requires-clause-may : goal.refill-requires-clause-may
@@ -27,13 +30,14 @@ returns g c =
       kept = kept-more kept e.kept;
       readied = ok-map c.refill.result (λ ready. record { holds = holds-more kept holds ready.holds; some = ready.some }) e.readied;
       refused = err-map c.refill.result (refused-alone g.S.Slot.shown g.R.Ord.cmp g.R.Record.record_of g.R.Record.WIDTH [] [] c.args.self.now c.refill.new.self) e.failed;
+      pays = pays-then (pays_ok c.in_ok-settle.ensures.levels.pays) e.pays;
     }
 
 pub has_run-requires-after_bounds : goal.has_run-requires-after_bounds
 has_run-requires-after_bounds g c = assumption
 
 pub returns-then-not-has_run : goal.returns-then-not-has_run
-returns-then-not-has_run g c = grind arith
+returns-then-not-has_run g c = record { kept = kept-same; readied = record { holds = holds-same c.requires.works; some = grind arith }; refused = tt; pays = ok_pays (costs-same _) }
 
 pub settle-requires-clause-works : goal.settle-requires-clause-works
 settle-requires-clause-works g c = assumption

@@ -7,10 +7,11 @@ use Rattle.ppq_extract.specs.Extracted.{SourcesRest}
 use Rattle.ppq_spill.specs.Leveling.{MayLevel, NoneForLevel}
 use Rattle.ppq_queue.specs.Stores.{Refuses}
 use Rattle.ppq_queue.proofs.Bounds.{arrays_few}
-use Rattle.ppq_queue.proofs.Counts.{count_some}
+use Rattle.ppq_queue.proofs.Amounts.{count_some}
 use Rattle.ppq_queue.proofs.Moves.{ok-map, ok-map2}
 use Rattle.ppq_queue.proofs.Leveled.{kept-leveled, may_level, moved-leveled, fewer-leveled, lower-leveled, short-leveled, still_crowded}
 use Rattle.ppq_queue.proofs.Slots.{slots-no_job}
+use Rattle.ppq_queue.proofs.Paying.{pays-leveled}
 use Rattle.ppq_queue.proofs.Stores.{by_fault, level_few, stays-step, holds-runs, lacks-runs}
 use Rattle.ppq_queue.proofs.store.Store.merge_once.Goals as goal
 
@@ -67,6 +68,7 @@ returns g c =
           leaves = record { stays = stays-step x b t src kept no_row rests; holds = holds; refused = refused };
           internal = refl;
           crowded = λ err. still_crowded shown level x.sources.bench.workers a.runs.external.items m.new.arrays.items a.lanes m.new.lanes s t c.requires.level c.requires.more (e.none_free err);
+          pays = pays-leveled shown n a b s t rest.block works.runs.no_row no_row m.result rest.no_job e.lanes.no_job refl e.counted;
         };
         lower = ok-map m.result (lower-leveled cmp record_of width shown level a.runs.external.items m.new.arrays.items s t c.requires.level) e.merged;
       };

@@ -1,8 +1,9 @@
 use Rattle.std.proofs.Common.{[], ap, arith, inr}
 use Rattle.ppq_queue.specs.Stores.{Refuses}
-use Rattle.ppq_queue.proofs.Counts.{internal_count}
+use Rattle.ppq_queue.proofs.Amounts.{internal_count}
 use Rattle.ppq_queue.proofs.Moves.{ok-map}
 use Rattle.ppq_queue.proofs.Stored.{kept-stored, may_store, moved-in_blocks, short-merged}
+use Rattle.ppq_queue.proofs.Paying.{pays-more, pays-stored}
 use Rattle.ppq_queue.proofs.Stores.{by_fault, stays-step, same-sources, holds-runs, lacks-runs}
 use Rattle.ppq_queue.proofs.store.Store.merge_runs.Goals as goal
 
@@ -38,6 +39,7 @@ returns g c =
             (λ err. (let short = short-merged shown cmp record_of width x.sizes a b s t runs.rest kept e.size e.takes_back e.lanes runs.no_row no_row (e.none_free err) in lacks-runs x b t works kept no_row x.sources same-sources short.moved (omega (arith, c.requires.some, internal_count a.runs.internal.items)) (inr (omega (arith, short.short)))))
             e.device;
       };
+      pays = pays-more (omega arith) (omega arith) (omega arith) (omega arith) (pays-stored shown x.sizes a b s t runs.rest.block runs.no_row no_row m.result 0 e.counted);
       none = ok-map m.result (λ stored. stored.internal) e.stored;
     }
 

@@ -7,6 +7,7 @@ use Rattle.ppq_spill.specs.Body.{body_slots}
 use Rattle.ppq_queue.proofs.Bounds.{runs_few, batch_some}
 use Rattle.ppq_queue.proofs.Moves.{ok-map, ok-map3, any_answer}
 use Rattle.ppq_queue.proofs.Refilled.{kept-refilled, may_fetch, readied-refilled}
+use Rattle.ppq_queue.proofs.Paying.{pays-by, costs-refilled, stops-refilled}
 use Rattle.ppq_queue.proofs.Stores.{by_fault, failed-right, kept-step, readies-step}
 use Rattle.ppq_queue.proofs.store.Store.refill.Goals as goal
 
@@ -61,6 +62,10 @@ returns g c =
           e.may;
       few = ok-map m.result (λ r. omega (arith, r.external, c.requires.may.few)) e.refilled;
       failed = by_fault (FailsAlone shown (record x { body = b; supply = t; extract = v; sources = m.new.sources })) m.result e.device_alone (λ number err. failed-right number (body_slots shown b) t.kept (e.device number err).failed);
+      pays = pays-by m.result
+          (ok-map m.result (λ r. costs-refilled shown n a b s t rest.block works.runs.no_row no_row none none' r.transfers refl r.in_memory r.weights) e.refilled)
+          (λ err. absurd (e.device_alone err))
+          (λ number err. stops-refilled shown n a b s t rest.block works.runs.no_row no_row none none' (e.device number err).parts.transfers (omega arith));
     }
 
 pub refill-answer-requires-clause-empty : goal.refill-answer-requires-clause-empty

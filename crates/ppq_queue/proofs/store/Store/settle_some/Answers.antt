@@ -1,5 +1,5 @@
 use Rattle.std.proofs.Common.{arith}
-use Rattle.ppq_queue.proofs.Counts.{count_some}
+use Rattle.ppq_queue.proofs.Amounts.{count_some}
 use Rattle.ppq_queue.proofs.Stores.{levels-same}
 use Rattle.ppq_queue.proofs.store.Store.settle_some.Goals as goal
 

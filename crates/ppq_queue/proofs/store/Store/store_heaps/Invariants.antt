@@ -6,6 +6,6 @@ use Rattle.ppq_queue.proofs.store.Store.store_heaps.Given as goal
 
 abbrev pub invariant-storing : goal.invariant-storing
 invariant-storing g l = record {
-  so_far : HeapsLeave g.S.Slot.shown g.R.Ord.cmp g.R.Record.record_of g.R.Record.WIDTH l.fn.heaps l.heaps l.fn.self l.self done;
+  so_far : HeapsLeave g.S.Slot.shown g.R.Ord.cmp g.R.Record.record_of g.R.Record.WIDTH l.place l.fn.heaps l.heaps l.fn.self l.self done;
   stored : (other : ℕ) → other < l.place → share_at l.heaps other ≡ [];
 }

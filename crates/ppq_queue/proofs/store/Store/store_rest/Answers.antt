@@ -6,11 +6,13 @@ use Rattle.ppq_queue.proofs.Bounds.{parts_within}
 use Rattle.ppq_queue.proofs.Moves.{ok-map}
 use Rattle.ppq_queue.proofs.Took.{empty_list}
 use Rattle.ppq_queue.proofs.HeapStores.{some_list}
+use Rattle.ppq_spill.proofs.ppq_counts.Accounts.{costs-same, costs-more}
+use Rattle.ppq_queue.proofs.Paying.{ok_pays, pays_ok, pays-more, pays-next, pays-given}
 use Rattle.ppq_queue.proofs.Stores.{kept-step, same-sources, holds-rest, leaves-same, leaves-more, leaves-refused, not_ok}
 use Rattle.ppq_queue.proofs.store.Store.store_rest.Goals as goal
 
 pub returns-then-is_empty : goal.returns-then-is_empty
-returns-then-is_empty g c = record { leaves = leaves-same c.requires.may.works; emptied = record { no_extract = c.is_empty.ensures.0 c.if-is_empty.true; few = c.requires.may.few } }
+returns-then-is_empty g c = record { leaves = leaves-same c.requires.may.works; emptied = record { no_extract = c.is_empty.ensures.0 c.if-is_empty.true; few = c.requires.may.few }; pays = ok_pays (costs-more (omega arith) (omega arith) (costs-same _)) }
 
 pub store_run-requires-clause-may : goal.store_run-requires-clause-may
 store_run-requires-clause-may g c κs within =
@@ -34,6 +36,7 @@ returns-in_err-store_run g c =
     record {
       leaves = leaves-refused x c.store_run.new.body c.store_run.new.supply c.requires.may.works made.kept.body made.kept.no_row [] (omega (arith, some, ap length few)) (omega (arith, ap length few)) given c.in_err-store_run.ensures;
       emptied = not_ok _ _ _ given;
+      pays = pays-more (omega (arith, ap length few)) (omega arith) (omega arith) (omega arith) (pays-given given c.in_err-store_run.ensures.pays);
     }
 
 pub settle-requires-clause-works : goal.settle-requires-clause-works
@@ -62,6 +65,7 @@ returns g c =
     record {
       leaves = leaves-more stays (holds-rest x b t c.requires.may.works made.kept.body made.kept.no_row v room none moved) leaves;
       emptied = ok-map c.settle.result (λ few. record { no_extract = empty_list c.settle.new.self.extract.items (omega (arith, leaves.stays.extract, ap length none)); few = few }) two.few;
+      pays = pays-next (omega (arith, ap length c.rest.ensures)) (omega arith) (omega (arith, ap length c.rest.ensures)) (omega arith) (pays_ok c.in_ok-store_run.ensures.pays) two.levels.pays;
     }
 
 pub store_run-requires-clause-ascends : goal.store_run-requires-clause-ascends

@@ -2,6 +2,8 @@ use Rattle.std.proofs.Common.{◌≡◌, ◌∙◌, [], length, sym, ap, inl, re
 use Rattle.ppq_heap.specs.Heaps.{items_of}
 use Rattle.ppq_queue.specs.Stores.{Refuses}
 use Rattle.ppq_queue.proofs.Took.{took-none, takes-settled}
+use Rattle.ppq_spill.proofs.ppq_counts.Accounts.{costs-same}
+use Rattle.ppq_queue.proofs.Paying.{ok_pays, pays_ok, pays-given}
 use Rattle.ppq_queue.proofs.Stores.{heaps-same, kept-same, not_ok, on_given}
 use Rattle.ppq_queue.proofs.store.Store.take_out.Goals as goal
 
@@ -27,6 +29,7 @@ returns-then-wants_nothing g c =
       };
       same_heaps = λ err. refl;
       refused = tt;
+      pays = ok_pays (costs-same _);
     }
 
 pub returns-in_err-settle_some : goal.returns-in_err-settle_some
@@ -40,13 +43,14 @@ returns-in_err-settle_some g c =
       took = not_ok _ _ _ given;
       same_heaps = λ err. refl;
       refused = on_given (Refuses g.S.Slot.shown g.R.Ord.cmp g.R.Record.record_of g.R.Record.WIDTH [] [] c.args.self.now c.settle_some.new.self) c.from_residual.result c.in_err-settle_some.field-0.0 given leaves.refused;
+      pays = pays-given given c.in_err-settle_some.ensures.levels.pays;
     }
 
 pub gather-requires-clause-may : goal.gather-requires-clause-may
 gather-requires-clause-may g c κs within = (let e = c.in_ok-settle_some.ensures in record { works = e.levels.leaves.holds.works; few = e.few })
 
 pub returns : goal.returns
-returns g c = (let leaves = c.in_ok-settle_some.ensures.levels.leaves in takes-settled c.record_laws.ensures.order leaves.stays.kept leaves.holds c.gather.ensures)
+returns g c = (let levels = c.in_ok-settle_some.ensures.levels in takes-settled c.record_laws.ensures.order levels.leaves.stays.kept levels.leaves.holds (pays_ok levels.pays) c.gather.ensures)
 
 pub settle_some-requires-clause-works : goal.settle_some-requires-clause-works
 settle_some-requires-clause-works g c = assumption

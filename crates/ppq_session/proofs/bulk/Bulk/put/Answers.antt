@@ -18,4 +18,5 @@ invariant_of-self g c =
       supply = i.supply;
       counted = i.counted;
       least = i.least;
+      paid = i.paid;
     }

@@ -1,11 +1,15 @@
 use Rattle.std.proofs.Common.{◌≡◌, ℕ, ◌∙◌, Option, Some, None, refl, ap, sym, subst, rules}
-use Rattle.std.specs.Prelude.{count_by, IfErr}
+use Rattle.std.specs.Prelude.{count_by, IfErr, Result, Err, ⊤}
+use Rattle.ppq_pass.specs.ppq_array.declared.store_fault.StoreFault.{StoreFault as QueueFault}
 use Rattle.ppq_pass.specs.ppq_array.declared.store_fault.StoreFault.TheVariants.{NoFreeBlock, Device}
 use Rattle.ppq_pass.specs.ppq_outside.Shown.{AllTell}
 use Rattle.ppq_pass.specs.ppq_array.Kept.{HasFailed, AreQuiet}
-use Rattle.ppq_session.specs.Apart.{apart_slots}
+use Rattle.ppq_pass.specs.ppq_counts.Account.{Stops}
+use Rattle.ppq_pass.specs.ppq_spill.Costing.{Pays}
+use Rattle.ppq_session.specs.Apart.{apart_slots, apart_account}
 use Rattle.ppq_session.specs.FrontState.{IsRefillRefusal}
 use Rattle.ppq_session.proofs.Moved.{tallied-ready, is-ready, refill-keeps}
+use Rattle.ppq_session.proofs.Paying.{paid-refilled, paid-failed}
 use Rattle.ppq_session.proofs.front.Front.ready.Given as given
 use Rattle.ppq_session.proofs.front.Front.ready.Goals as goal
 
@@ -20,6 +24,20 @@ returns-in-Ok-clause-readied g c =
       sound = c.in_default.is;
       quiet = subst (λ f. AreQuiet f.slots (apart_slots g.S.Slot.shown m.new.q)) c.self.view_is ok.quiet;
     }
+
+pub invariant_of-self : goal.invariant_of-self
+invariant_of-self g c =
+    let s = c.self.inside in
+    let m = c.refill_front-answer in
+    let shown = g.S.Slot.shown in
+    let stays = m.ensures.stays in
+    let none : s.failed ≡ None = c.in_default.is in
+    let costs = (subst (λ (r : Result ⊤ QueueFault). Pays r 0 0 (apart_account shown s.parts) (apart_account shown m.new.q)) c.in-Ok.is m.ensures.counted).pays in
+    let paid = paid-refilled shown s.parts m.new.q (ap (λ p. p.sizes) stays.rest) (ap (λ p. p.counts) stays.rest) s.failed s.failed none c.self.invariant.1.paid costs in (
+      stays.out,
+      tallied-ready shown g.R.Record.record_of g.R.Record.WIDTH s.parts m.new.q stays.rest stays.kept s.popped s.failed s.failed c.self.invariant.1 (λ number e. absurd (let odd : ◌≡◌ {A = Option ℕ} None (Some number) = sym none ∙ e in cc)) paid,
+      (λ _. c.in-Ok.ensures.refilled.sound),
+    )
 
 pub returns-in-Ok-clause-kept : goal.returns-in-Ok-clause-kept
 returns-in-Ok-clause-kept g c =
@@ -47,6 +65,16 @@ returns-in-Err-Device-clause-kept g c =
     let stays = c.refill_front-answer.ensures.stays in
     refill-keeps g.S.Slot.shown g.R.Record.record_of g.R.Record.WIDTH s.parts c.refill_front-answer.new.q stays.rest stays.kept s.limit s.popped s.failed (Some c.in-Err-Device.number) c.args.self.now c.self.view_is
 
+-- what it wrote
+stopped : (g : given.Over) (c : goal.After-self-1 g) → Stops 0 0 (apart_account g.S.Slot.shown c.self.inside.parts) (apart_account g.S.Slot.shown c.refill_front-answer.new.q)
+stopped g c =
+    let arm = c.in-Err-Device in
+    let old = apart_account g.S.Slot.shown c.self.inside.parts in
+    let new = apart_account g.S.Slot.shown c.refill_front-answer.new.q in
+    let fault_is : arm.field-0 ≡ Device arm.number = search rules in
+    let said = subst (λ (r : Result ⊤ QueueFault). Pays r 0 0 old new) arm.is c.refill_front-answer.ensures.counted in
+    (subst (λ (f : QueueFault). Pays {T = ⊤} (Err f) 0 0 old new) fault_is said).pays
+
 -- the call that failed
 fault : (g : given.Over) (c : goal.After-self-1 g) → HasFailed c.in-Err-Device.number (apart_slots g.S.Slot.shown c.refill_front-answer.new.q)
 fault g c =
@@ -63,7 +91,10 @@ invariant_of-self-in-Err-Device g c =
     let failed = fault g c in (
       m.ensures.stays.out,
       tallied-ready g.S.Slot.shown g.R.Record.record_of g.R.Record.WIDTH s.parts m.new.q m.ensures.stays.rest m.ensures.stays.kept s.popped s.failed (Some number) c.self.invariant.1
-          (λ k e. (let same : number ≡ k = cc in subst (λ (n : ℕ). HasFailed n (apart_slots g.S.Slot.shown m.new.q)) same failed)),
+          (λ k e. (let same : number ≡ k = cc in subst (λ (n : ℕ). HasFailed n (apart_slots g.S.Slot.shown m.new.q)) same failed))
+          (paid-failed g.S.Slot.shown s.parts m.new.q (ap (λ p. p.sizes) m.ensures.stays.rest) (ap (λ p. p.counts) m.ensures.stays.rest) s.failed (Some number) c.in_default.is c.self.invariant.1.paid
+          (λ none. (let odd : ◌≡◌ {A = Option ℕ} (Some number) None = none in cc))
+          (stopped g c)),
       (λ none. absurd (let odd : ◌≡◌ {A = Option ℕ} (Some number) None = none in cc)),
     )
 

@@ -1,6 +1,6 @@
 use Rattle.std.proofs.Common.{◌≡◌, ap}
 use Rattle.std.specs.Prelude.{Err}
-use Rattle.ppq_queue.specs.Holding.{Holding}
+use Rattle.ppq_queue.specs.Holding.{Holding, session_begun}
 use Rattle.ppq_session.specs.declared.fault.BeginFault.{BeginFault}
 use Rattle.ppq_session.specs.declared.fault.BeginFault.TheVariants.{Device}
 use Rattle.ppq_session.proofs.Sessions.{session-begin, fresh-going}
@@ -18,5 +18,5 @@ returns-in-Ok-clause-latched g c = λ number latched. let said = c.in-Ok.ensures
 pub returns-in-Err-clause-latched : goal.returns-in-Err-clause-latched
 returns-in-Err-clause-latched g c = λ number latched.
     let said = c.in-Err.ensures.latched number latched in
-    let both : ◌≡◌ {A = Holding g.row.R.Denot × BeginFault} (c.in-Err.queue, c.in-Err.fault) (c.args.queue, Device number) = cc in
+    let both : ◌≡◌ {A = Holding g.row.R.Denot × BeginFault} (c.in-Err.queue, c.in-Err.fault) (session_begun c.args.queue, Device number) = cc in
     ap (λ (back : Holding g.row.R.Denot × BeginFault). Err back) both
