@@ -1,7 +1,7 @@
 //! Records, their bytes, their order and their fronts, at pairs.
 use ppq_record::{
-    Listing, Lists, Pair, Record, is_least, one_front, pair_order, put_all, record_laws, sort,
-    take_at, taken_back,
+    Listing, Lists, Pair, Record, is_least, one_front, pair_order, record_laws, sort, take_at,
+    taken_back,
 };
 
 fn pair(key: u64, value: u64) -> Pair {
@@ -59,7 +59,8 @@ fn records_are_put_and_taken_one_after_the_other(rt: HostRuntime) {
     pair_order();
     taken_back::<Pair>();
     let mut bytes = [0u8; 32];
-    put_all(&[pair(5, 1), pair(3, 9)], &mut bytes);
+    pair(5, 1).put(&mut bytes[..16]);
+    pair(3, 9).put(&mut bytes[16..]);
     let first: Pair = take_at(&bytes, 0);
     let second: Pair = take_at(&bytes, 1);
     assert!(rt; (first == pair(5, 1)) & (second == pair(3, 9)));

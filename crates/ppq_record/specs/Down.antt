@@ -1,5 +1,5 @@
 -- A record in the opposite order.
-use Rattle.std.proofs.Common.{◌≡◌, List, ℕ, ap, sym}
+use Rattle.std.proofs.Common.{◌≡◌, ap, sym}
 use Rattle.ppq_record.specs.declared.down.Down.{Down}
 
 abbrev pub down : {R : Type 0} → R → Down R

@@ -1,5 +1,5 @@
 -- Numbers of eight bytes, the highest byte first, as the fields of records have them.
-use Rattle.std.proofs.Common.{◌≡◌, ℕ, ◌+◌, ◌-◌, ◌<◌, ◌≤◌, List, [], ◌∷◌, length, take, drop, get_or, All, refl, sym, ap, ap₂, arith, Ordering, zero, suc, length-take, get_or-take, lit<}
+use Rattle.std.proofs.Common.{◌≡◌, ℕ, ◌+◌, ◌-◌, ◌<◌, ◌≤◌, List, [], ◌∷◌, length, take, get_or, All, refl, sym, ap, ap₂, arith, Ordering, zero, suc, length-take, get_or-take, lit<}
 use Rattle.std.proofs.lemmas.List.Elements.{All-take}
 use Rattle.std.specs.declared.cmp.Ordering.TheVariants.{Less, Equal, Greater}
 use Rattle.std.specs.Int.{w64, to_be_bytes, from_be_bytes, sum_through, byte_worth}

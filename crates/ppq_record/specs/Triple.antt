@@ -1,5 +1,5 @@
 -- A triple as a record of twenty-four bytes.
-use Rattle.std.proofs.Common.{◌≡◌, ℕ, ◌+◌, ◌<◌, ◌≤◌, ◌^◌, List, ◌++◌, length, take, drop, All, sym, ap, ap₂, ◌∙◌, arith, Ordering, take-append-drop, length-drop}
+use Rattle.std.proofs.Common.{◌≡◌, ℕ, ◌<◌, ◌^◌, List, ◌++◌, length, drop, All, sym, ap, ap₂, ◌∙◌, arith, Ordering, take-append-drop, length-drop}
 use Rattle.std.proofs.lemmas.List.{drop-drop}
 use Rattle.std.proofs.lemmas.List.Elements.{All-drop}
 use Rattle.std.specs.declared.cmp.Ordering.TheVariants.{Equal}

@@ -4,20 +4,6 @@ ghost use Rattle.ppq_record.specs.Given.{records_from};
 
 use crate::{Record, record_laws};
 
-/// Writes records one after the other over a slice of exactly their bytes.
-pub fn put_all<R: Record>(items: &[R], into: &mut [u8])
-    requires { length into.old ≡ length items.now * R.WIDTH }
-    ensures { into.new ≡ flat_map R.bytes_of items.now }
-{
-    record_laws::<R>();
-    let mut at = 0;
-    for item in items {
-        let part = &mut into[at..at + R::WIDTH];
-        item.put(part);
-        at += R::WIDTH;
-    }
-}
-
 /// The record at a place, counted in records. It costs one `take`.
 #[inline]
 pub fn take_at<R: Record>(bytes: &[u8], i: usize) -> R

@@ -19,7 +19,7 @@ mod record;
 mod triple;
 
 pub use bag::{one_front, sort};
-pub use bytes::{put_all, take_at, taken_back};
+pub use bytes::{take_at, taken_back};
 pub use down::Down;
 pub use fields::{Fields, fields_laws};
 pub use least::is_least;
