@@ -1,14 +1,16 @@
 #!/usr/bin/env python3
-"""Says which sizes so many records want, by the formulas of docs/storage.md.
+"""Says which sizes so many records need, by the formulas of docs/storage.md.
 
     examples/sizes.py LOAD WORKERS BLOCK HEAP [WIDTH]
 
-LOAD is the most records that are held at once, BLOCK the records of a block, HEAP the blocks of a heap, and WIDTH the
-bytes of a record, 16 if it is left out. It prints `--blocks`, the smallest `--memory`, both also in bytes.
+LOAD is the most records that are held at once, BLOCK the records of a block (2 to 65536), HEAP the blocks of a heap (1 to
+64), and WIDTH the bytes of a record (1 to 64; 16 if it is left out). WORKERS are 1 to 64. It prints `--blocks` and the
+smallest `--memory`, both also in bytes.
 """
 import sys
 
 MOST_BLOCKS, MOST_MEMORY = 65536, 268435456
+RANGES = range(0, 2**64), range(1, 65), range(2, 65537), range(1, 65), range(1, 65)
 
 
 def room(load, workers, block):
@@ -23,10 +25,13 @@ def main(load, workers, block, heap, width=16):
     blocks = room(load, workers, block)
     memory = fixed(workers, block, heap, blocks)
     if blocks > MOST_BLOCKS or memory > MOST_MEMORY:
-        sys.exit(f"no: it wants {blocks} blocks of {MOST_BLOCKS}, and {memory} records of memory of {MOST_MEMORY}")
+        sys.exit(f"no: it needs {blocks} blocks of at most {MOST_BLOCKS}, and {memory} records of memory of at most {MOST_MEMORY}")
     print(f"--blocks {blocks}, a device of at most {blocks * block * width / 1e6:.0f} MB")
     print(f"--memory {memory} or more, which is {memory * width / 1e6:.1f} MB")
 
 
 if __name__ == "__main__":
-    main(*map(int, sys.argv[1:]))
+    words = sys.argv[1:]
+    if len(words) not in (4, 5) or not all(it.isdecimal() and int(it) in known for it, known in zip(words, RANGES)):
+        sys.exit(__doc__)
+    main(*map(int, words))

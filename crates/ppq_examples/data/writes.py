@@ -4,9 +4,12 @@
     examples/writes.py RECORDS SESSIONS WORKERS BLOCK HEAP
 
 RECORDS is how many records are pushed in all, by any command; SESSIONS how many lines `bulk`, `gen`, `bulk_begin` and
-`limit_begin` there are; BLOCK the records of a block, and HEAP the blocks of a heap. As many blocks are read at most.
+`limit_begin` there are; BLOCK the records of a block (2 to 65536), and HEAP the blocks of a heap (1 to 64). WORKERS are
+1 to 64. As many blocks are read at most.
 """
 import sys
+
+RANGES = range(0, 2**64), range(0, 2**64), range(1, 65), range(2, 65537), range(1, 65)
 
 
 def records_at_most(records, sessions, workers, block, heap):
@@ -24,4 +27,7 @@ def main(records, sessions, workers, block, heap):
 
 
 if __name__ == "__main__":
-    main(*map(int, sys.argv[1:]))
+    words = sys.argv[1:]
+    if len(words) != 5 or not all(it.isdecimal() and int(it) in known for it, known in zip(words, RANGES)):
+        sys.exit(__doc__)
+    main(*map(int, words))
