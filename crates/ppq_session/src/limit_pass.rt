@@ -3,7 +3,7 @@ ghost use Rattle.std.specs.Prelude.{◌≡◌, ◌<◌, ◌+◌, ◌↔◌, ◌�
 ghost use Rattle.ppq_pass.specs.ppq_record.Order.{is_before};
 ghost use Rattle.ppq_pass.specs.ppq_record.Bag.{IsSameBag};
 ghost use Rattle.ppq_pass.specs.ppq_budget.Sizes.{heap_of};
-ghost use Rattle.ppq_pass.specs.Passed.{IsOf, PassTells, KeptSlots, with_one, IsRefusedPush};
+ghost use Rattle.ppq_pass.specs.Passed.{IsOf, PassTells, KeptSlots, CountsPassPush, with_one, IsRefusedPush, IsKnown};
 ghost use Rattle.ppq_pass.specs.ppq_array.declared.store_fault.StoreFault.TheVariants.{Device};
 ghost use Rattle.ppq_session.specs.Limited.{HoldsNothing, IsLimited, limited};
 ghost use Rattle.ppq_session.specs.Dealing.{IsGoing, Adds, records_for};
@@ -102,6 +102,7 @@ impl<S: Slot + Send, R: Record + Send> LimitPass<S, R> {
         ensures tells { PassTells S.shown self.old.pass → PassTells S.shown self.new.pass }
         ensures kept { KeptSlots self.old.pass self.new.pass }
         ensures key { self.new.pass.key ≡ self.old.pass.key }
+        ensures counted { CountsPassPush self.old.pass self.new.pass result }
         ensures unmoved { self.new.limit ≡ self.old.limit }
     {
         self.pass.push(rt, shared, r)
@@ -155,9 +156,10 @@ impl<S: Slot, R: Record> LimitPass<S, R> {
     /// What always holds of it, as a clause for the proof of whoever calls it. It does nothing.
     #[inline]
     pub fn known(&self)
-        ensures { IsLimited S.shown R.Ord.cmp self.now.limit self.now.pass }
+        ensures limited { IsLimited S.shown R.Ord.cmp self.now.limit self.now.pass }
+        ensures pass { IsKnown self.now.pass }
     {
-        let _accepted = self.pass.accepted();
+        self.pass.known();
     }
 }
 

@@ -11,7 +11,7 @@ loop-i-preserved g c =
     let P = λ (p : LimitHolding g.row.S.Denot g.row.R.Denot). IsLimited g.S.Slot.shown g.R.Ord.cmp p.limit p.pass in
     let xs = c.args.passes.now in
     let x = c.index-passes-i.result in
-    subst (All P) (sym (take_more xs c.loop-i.i x (omega arith))) (All-push P (take c.loop-i.i xs) _ c.loop-i.invariant (subst P c.index-passes-i.is c.known-in-loop-i.ensures))
+    subst (All P) (sym (take_more xs c.loop-i.i x (omega arith))) (All-push P (take c.loop-i.i xs) _ c.loop-i.invariant (subst P c.index-passes-i.is c.known-in-loop-i.ensures.limited))
 
 pub returns : goal.returns
 returns g c tell sound =

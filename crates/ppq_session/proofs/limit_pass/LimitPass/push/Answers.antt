@@ -1,7 +1,7 @@
 use Rattle.std.proofs.Common.{◌≡◌, ◌∷◌, false, sym, subst}
 use Rattle.std.specs.Prelude.{OnOk}
 use Rattle.ppq_pass.specs.ppq_record.Bag.{IsSameBag}
-use Rattle.ppq_pass.specs.Passed.{PassTells, KeptSlots}
+use Rattle.ppq_pass.specs.Passed.{PassTells, KeptSlots, CountsPassPush}
 use Rattle.ppq_pass.specs.ppq_record.Order.{is_before}
 use Rattle.ppq_session.proofs.LimitSessions.{limited-pushed}
 use Rattle.ppq_session.proofs.limit_pass.LimitPass.push.Goals as goal
@@ -21,3 +21,6 @@ returns-clause-tells g c = subst (λ p. PassTells g.S.Slot.shown p.pass → Pass
 
 pub returns-clause-kept : goal.returns-clause-kept
 returns-clause-kept g c = subst (λ p. KeptSlots p.pass c.push.new.self) c.self.view_is c.push.ensures.kept
+
+pub returns-clause-counted : goal.returns-clause-counted
+returns-clause-counted g c = subst (λ p. CountsPassPush p.pass c.push.new.self c.push.result) c.self.view_is c.push.ensures.counted
