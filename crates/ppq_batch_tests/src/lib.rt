@@ -8,4 +8,6 @@ mod kinds;
 #[cfg(test)]
 mod load;
 #[cfg(test)]
+mod pieces;
+#[cfg(test)]
 mod queues;

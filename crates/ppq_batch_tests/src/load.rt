@@ -17,7 +17,12 @@ fn small() -> Option<Sizes> {
 }
 
 // How many bytes a file has, as the library says.
-fn length_in<H: Host + Abort, L: Library>(rt: &H, alloc: Global, library: &mut L, name: &str) -> u64
+pub(crate) fn length_in<H: Host + Abort, L: Library>(
+    rt: &H,
+    alloc: Global,
+    library: &mut L,
+    name: &str,
+) -> u64
     ensures { (files : List ℕ → Option (List ℕ)) → L.told library.new ≡ Some files → length (bytes_or_none (files name.now)) ≡ result }
 {
     match library.length(rt, alloc, name) {

@@ -32,15 +32,6 @@ module _ {R : Type 0} (record_of : List ℕ → R) (width : ℕ) where
       ap (λ (n : ℕ). records_from record_of width n bytes) sum
       ∙ ap (λ (xs : List R). head ∷ xs) (records-add a b (drop width bytes) ∙ ap (λ (t : List ℕ). records_from record_of width a (drop width bytes) ++ records_from record_of width b t) (drop-drop (a * width) width bytes ∙ ap (λ (n : ℕ). drop n bytes) e))
 
-  -- a record more in the batch
-  pub batch-record :
-      (batch : List R) (bytes : List ℕ) (i : ℕ) → i < length batch → take i batch ≡ records_from record_of width i bytes
-      → take (i + 1) (slice_set batch i (record_of (take width (drop (i * width) bytes)))) ≡ records_from record_of width (i + 1) bytes
-  batch-record batch bytes i within had =
-      let more : suc i ≡ i + 1 = omega arith in
-      let item : R = record_of (take width (drop (i * width) bytes)) in
-      take_more_set batch i item within ∙ ap (λ (xs : List R). xs ++ item ∷ []) had ∙ sym (records_from-suc record_of width i bytes) ∙ ap (λ (n : ℕ). records_from record_of width n bytes) more
-
   -- the records of a piece are those of the file from its place on
   pub piece-at : (piece rest : List ℕ) (count : ℕ) → length piece ≡ count * width → piece ≡ take (length piece) rest → records_from record_of width count piece ≡ records_from record_of width count rest
   piece-at piece rest count long is = ap (records_from record_of width count) (is ∙ ap (λ (n : ℕ). take n rest) long) ∙ records_from-take record_of width count rest

@@ -1,8 +1,7 @@
--- Why a session did not begin, as a fault of a load; and how many records a batch has room for.
+-- Why a session did not begin, as a fault of a load.
 use Rattle.std.proofs.Common.{◌≡◌, Bool, ℕ, ◌^◌, ◌<◌, ap, ap₂, ◌∙◌, subst, arith}
 use Rattle.std.specs.Prelude.{Result, Ok, Err}
-use Rattle.std.proofs.Math.Nat.{mul-le-mul_left, mul-le-mul_right}
-use Rattle.ppq_session.specs.ppq_budget.Sizes.{Numbers, AreInRange, batch_of}
+use Rattle.ppq_session.specs.ppq_budget.Sizes.{Numbers}
 use Rattle.ppq_session.specs.ppq_queue.Holding.{Holding}
 use Rattle.ppq_session.specs.ppq_array.declared.store_fault.StoreFault.TheVariants.{Device}
 use Rattle.ppq_session.specs.BulkSession.{IsBeginRefusal}
@@ -12,13 +11,6 @@ use Rattle.ppq_load.specs.Refusal.{HasNoRoom}
 use Rattle.ppq_load.specs.declared.fault.LoadFault.{LoadFault}
 use Rattle.ppq_load.specs.declared.fault.LoadFault.TheVariants.{Queue}
 use Rattle.ppq_load.specs.Loading.{IsByLoad, IsHandedBack, LoadStopsFor, begin_fault_of}
-
--- a batch has room for a record, and its places fit in a word
-pub batch-some : (sizes : Numbers) → AreInRange sizes → 0 < batch_of sizes
-batch-some sizes range = omega (arith, range.two_records, mul-le-mul_right sizes.block range.some_worker)
-
-pub batch-small : (sizes : Numbers) → AreInRange sizes → batch_of sizes < 2 ^ 32
-batch-small sizes range = omega (arith, mul-le-mul_right sizes.block range.workers, mul-le-mul_left 64 range.block)
 
 module _ {R : Type 0} where
   -- why a session did not begin

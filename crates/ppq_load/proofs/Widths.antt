@@ -17,16 +17,15 @@ few-bytes said width few narrow = omega (arith, few, narrow)
 
 -- the records between two places
 pub part-of :
-    (said width from count bytes most records : ℕ) → bytes ≡ count * width → count ≤ most → from + count ≤ records → records ≡ said / width → said ≤ 2 ^ 63 → IsPart width said from count bytes most
-part-of said width from count bytes most records length batch within are fits = record {
+    (said width from count bytes records : ℕ) → bytes ≡ count * width → from + count ≤ records → records ≡ said / width → said ≤ 2 ^ 63 → IsPart width said from count bytes
+part-of said width from count bytes records length within are fits = record {
   length = length;
-  batch = batch;
   within = fit (from + count) said width (omega (arith, within, are));
   fits = fits;
 }
 
 -- where the bytes of a part end
-pub part-end : (said width from count bytes most size : ℕ) → IsPart width said from count bytes most → size ≡ width → from * size + bytes ≤ said
-part-end said width from count bytes most size part is =
+pub part-end : (said width from count bytes size : ℕ) → IsPart width said from count bytes → size ≡ width → from * size + bytes ≤ said
+part-end said width from count bytes size part is =
     let same : from * size ≡ from * width = ap (λ k. from * k) is in
     omega (arith, same, part.length, part.within, add-mul from count width)

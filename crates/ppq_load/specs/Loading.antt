@@ -15,7 +15,7 @@ use Rattle.ppq_session.specs.declared.fault.BeginFault.TheVariants as begin
 use Rattle.ppq_session.specs.ppq_array.declared.store_fault.StoreFault.TheVariants as queue_fault
 use Rattle.ppq_session.specs.Dealing.{IsGoing, HasEnded}
 use Rattle.ppq_session.specs.Sessions.{SessionHolding}
-pub use Rattle.ppq_session.specs.Sessions.{InSession, IsLoaded, IsLeftBy, with_batch}
+pub use Rattle.ppq_session.specs.Sessions.{InSession, IsLoaded, IsLeftBy}
 use Rattle.ppq_load.specs.Reading.{EndsAt}
 use Rattle.ppq_load.specs.Refusal.{Keeps, IsRefusedBy}
 use Rattle.ppq_load.specs.declared.fault.LoadFault.{LoadFault}
@@ -49,19 +49,17 @@ pub record HasGivenSome {S R : Type 0} (record_of : List ℕ → R) (width : ℕ
   pub few : count ≤ most
   pub given : HasGiven record_of width shown queue told name count load
 
--- So many records of a file, behind the first `from`: they fill a piece of so many bytes, have room in the batch, and lie within the bytes
--- that the library said, which are few enough for a load
-pub record IsPart (width said from count bytes most : ℕ) : Type 0 where
+-- So many records of a file, behind the first `from`: they fill a piece of so many bytes, and lie within the bytes that the library said,
+-- which are few enough for a load
+pub record IsPart (width said from count bytes : ℕ) : Type 0 where
   pub length : bytes ≡ count * width
-  pub batch : count ≤ most
   pub within : (from + count) * width ≤ said
   pub fits : said ≤ 2 ^ 63
 
--- Records were dealt to the passes of a session, whose sizes stay: it is said whether each pass goes on, and where not, one ended
-pub record HasDealt {S R : Type 0} (old new : LoadHolding S R) (is_all : Bool) : Type 0 where
+-- Records were dealt to the passes of a session: it is said whether each pass goes on, and where not, one ended
+pub record HasDealt {S R : Type 0} (new : LoadHolding S R) (is_all : Bool) : Type 0 where
   pub all : IsTrue is_all ↔ All IsGoing new.passes
   pub stopped : is_all ≡ false → Any HasEnded new.passes
-  pub sizes : new.bulk.sizes ≡ old.bulk.sizes
 
 -- why a session did not begin, as a fault of a load
 abbrev pub begin_fault_of : BeginFault → LoadFault

@@ -1,11 +1,9 @@
 //! Sessions of the records of a file.
-ghost use Rattle.std.specs.Prelude.{◌≡◌, ◌≤◌, ◌<◌, ◌+◌, ◌*◌, ◌/◌, ◌++◌, [], List, ℕ, Option, Some, None, All, Err, OnOk, OnErr, IfOk, IfErr, length, take, max};
+ghost use Rattle.std.specs.Prelude.{◌≡◌, ◌≤◌, ◌<◌, ◌+◌, ◌*◌, ◌/◌, ◌++◌, [], List, ℕ, Option, Some, None, All, Err, OnOk, OnErr, IfOk, IfErr, length, max};
 ghost use Rattle.ppq_session.specs.ppq_record.Bag.{IsSameBag};
-ghost use Rattle.ppq_session.specs.ppq_record.Given.{records_from};
 ghost use Rattle.ppq_load.specs.Given.{records_of};
 ghost use Rattle.ppq_session.specs.ppq_outside.Shown.{AllTell};
 ghost use Rattle.ppq_session.specs.ppq_outside.Told.{Remembers, RepliesOnly, bytes_or_none};
-ghost use Rattle.ppq_session.specs.ppq_budget.Sizes.{batch_of};
 ghost use Rattle.ppq_session.specs.ppq_queue.Holding.{Holding, CountsFew, session_begun};
 ghost use Rattle.ppq_session.specs.ppq_array.Kept.{AreQuiet};
 ghost use Rattle.ppq_session.specs.ppq_array.declared.store_fault.StoreFault.TheVariants.{Device};
@@ -13,20 +11,22 @@ ghost use Rattle.ppq_session.specs.Dealing.{IsGoing, AddsPart};
 ghost use Rattle.ppq_load.specs.declared.fault.LoadFault.TheVariants.{Queue as ByQueue};
 ghost use Rattle.ppq_load.specs.Reading.{IsReadWithin, ReadsFile, CountsBy, HasLength};
 ghost use Rattle.ppq_load.specs.Refusal.{Keeps};
-ghost use Rattle.ppq_load.specs.Loading.{InSession, HasGiven, HasGivenSome, HasDealt, IsPart, IsReadRefusal, IsStoppedBy, LoadStopsFor, LoadCountsFrom, LoadEndsIn, first_of, with_batch};
+ghost use Rattle.ppq_load.specs.Loading.{InSession, HasGiven, HasGivenSome, HasDealt, IsPart, IsReadRefusal, IsStoppedBy, LoadStopsFor, LoadCountsFrom, LoadEndsIn, first_of};
 
 use crate::context::Context;
 use crate::fault::{LoadFault, loaded};
 use crate::fill::fill;
 use crate::load::Load;
 use crate::part::Part;
+use crate::piece::Piece;
 use crate::source::Source;
 use ppq_record::record_laws;
 use ppq_session::{Gate, Host, Library, Queue, QueueFault, Record, Slot};
 use std::alloc::Global;
 
-/// Adds the records of a file of `said` bytes in a session. They are read by pieces of as many records as
-/// `room` has place for, and no more than a batch has, and each piece is dealt to the passes.
+/// Adds the records of a file of `said` bytes in a session. The file is read by pieces of as many records as
+/// `room` has place for. Each pass gets an equal part of a piece, whose records its worker makes of their bytes
+/// and adds on a thread of its own; so a worker enters the gate once a piece.
 ///
 /// A refusal hands the queue back, with the session ended, and with a part of the records unless a block
 /// failed: `Memory`, `Read` and `Ended` as reading says, or `Memory` before the session began; `Queue` where
@@ -112,10 +112,10 @@ where
     record_laws::<R>();
     let width = R::WIDTH;
     let records = said / width as u64;
-    let most = u64::from(load.batch_len()).min((room.len() / width) as u64);
+    let most = (room.len() / width) as u64;
     let mut from = 0;
     'pieces: while from < records {
-        let count = most.min(records - from) as u32;
+        let count = most.min(records - from);
         let piece = &mut room[..count as usize * width];
         let part = Part {
             name,
@@ -126,7 +126,7 @@ where
         if !deal_piece(context, library, part, piece, load, gate)? {
             return Ok(());
         }
-        from += u64::from(count);
+        from += count;
     }
     Ok(())
 }
@@ -144,10 +144,10 @@ fn deal_piece<H: Host, S: Slot + Send + Sync, R: Record + Send + Sync, L: Librar
 where
     H::Dir: Send,
     requires going { All IsGoing load.old.passes }
-    requires part { IsPart R.WIDTH part.said part.from part.count (length piece.old) (batch_of load.old.bulk.sizes) }
+    requires part { IsPart R.WIDTH part.said part.from part.count (length piece.old) }
     requires long { HasLength (L.told library.old) part.name.now part.said }
     ensures given { IfOk result (λ all. (queue : Holding R) → HasGiven R.record_of R.WIDTH S.shown queue (L.told library.old) part.entry.name.now part.entry.from load.old → HasGiven R.record_of R.WIDTH S.shown queue (L.told library.old) part.entry.name.now (part.entry.from + part.entry.count) load.new) }
-    ensures dealt { IfOk result (HasDealt load.old load.new) }
+    ensures dealt { IfOk result (HasDealt load.new) }
     ensures same { IfErr result (λ fault. load.new ≡ load.old) }
     ensures refused { IfErr result (IsReadRefusal (L.told library.old) (L.replied library.new) part.entry.name.now part.entry.said) }
     ensures reads { ReadsFile L.told L.replied part.entry.name.now part.entry.said library.old library.new }
@@ -163,26 +163,5 @@ where
     ) {
         return Err(LoadFault::from(fault));
     }
-    fill_records(load, piece, part.count);
-    Ok(load.deal(context.rt, part.count, gate))
-}
-
-// Fills the first places of the batch with the records of these bytes.
-fn fill_records<S: Slot + Send + Sync, R: Record + Send + Sync>(
-    load: &mut Load<S, R>,
-    bytes: &[u8],
-    count: u32,
-)
-    requires length { length bytes.now ≡ count * R.WIDTH }
-    requires within { count ≤ batch_of load.old.bulk.sizes }
-    ensures only { load.new ≡ with_batch load.old load.new.bulk.batch }
-    ensures records { take count load.new.bulk.batch ≡ records_from R.record_of R.WIDTH count bytes.now }
-{
-    let _room = load.batch_len();
-    let width = R::WIDTH;
-    for place in 0..count {
-        let at = place as usize * width;
-        let item = R::take(&bytes[at..at + width]);
-        load.put(place, item);
-    }
+    Ok(load.deal(context.rt, &Piece::new(piece), gate))
 }

@@ -53,7 +53,7 @@ where
     queue.known();
     match Load::begin(rt, alloc, queue, gate) {
         Ok(mut load) => {
-            let _all = load.deal_made(rt, &Generator::new(seed, count), gate);
+            let _all = load.deal(rt, &Generator::new(seed, count), gate);
             let (queue, ended) = load.end(rt, gate);
             (queue, loaded(ended))
         }

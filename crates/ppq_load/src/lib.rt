@@ -1,9 +1,10 @@
 //! Sessions in which a queue gets many records: generated ones, those of a file, or lines that name their
 //! workers.
 //!
-//! A [`Load`] is an open session as one value: the queue taken apart, and a pass for each worker. Lines
-//! and the records of a file are given to it in batches of at most `p * B`, each of which all workers add side
-//! by side; generated records are made by the workers, without a batch. At the end it is a queue again. [`load_generated`] and [`load_file`] are whole sessions.
+//! A [`Load`] is an open session as one value: the queue taken apart, and a pass for each worker. Lines are
+//! given to it in batches of at most `p * B`, and the bytes of a file piece by piece; all workers add side by
+//! side. Records that are generated or stand in a file are made by the worker that adds them. At the end it is
+//! a queue again. [`load_generated`] and [`load_file`] are whole sessions.
 //!
 //! Contracts say by `InSession` which records were given since the session began.
 #![tactic(auto)]
@@ -17,6 +18,7 @@ mod generator;
 mod limits;
 mod load;
 mod part;
+mod piece;
 mod source;
 
 pub use fault::LoadFault;

@@ -1,13 +1,12 @@
 //! An open session, as one value.
-ghost use Rattle.std.specs.Prelude.{◌≡◌, ◌<◌, ◌≤◌, ◌++◌, ◌↔◌, [], ℕ, List, All, Any, Some, None, Err, IsTrue, false, IfOk, IfErr, OnOk, length, take, slice_set};
-ghost use Rattle.ppq_session.specs.ppq_budget.Sizes.{AreInRange, batch_of};
+ghost use Rattle.std.specs.Prelude.{◌≡◌, ◌<◌, ◌++◌, ◌↔◌, [], ℕ, List, All, Any, Some, None, Err, IsTrue, false, IfOk, IfErr, OnOk, length};
 ghost use Rattle.ppq_session.specs.ppq_queue.ppq_counts.Tally.{beginning};
 ghost use Rattle.ppq_session.specs.ppq_queue.Holding.{Holding, CountsAs, session_begun};
 ghost use Rattle.ppq_session.specs.ppq_array.declared.store_fault.StoreFault.TheVariants.{Device};
 ghost use Rattle.ppq_session.specs.Ends.{NamesFirst};
 ghost use Rattle.ppq_session.specs.Dealing.{IsGoing, HasEnded, EachAdds, records_in, records_for, part_for};
 ghost use Rattle.ppq_load.specs.Refusal.{Keeps};
-ghost use Rattle.ppq_load.specs.Loading.{InSession, IsLoaded, IsByLoad, IsHandedBack, IsLeftBy, LoadStopsFor, with_batch};
+ghost use Rattle.ppq_load.specs.Loading.{InSession, IsLoaded, IsByLoad, IsHandedBack, IsLeftBy, LoadStopsFor};
 ghost use Rattle.ppq_load.specs.declared.fault.LoadFault.TheVariants as load_fault;
 
 use crate::fault::LoadFault;
@@ -60,43 +59,9 @@ impl<S: Slot + Send + Sync, R: Record + Send + Sync> Load<S, R> {
         }
     }
 
-    /// How many records a batch has room for: `p * B`.
-    #[inline]
-    pub fn batch_len(&self) -> u32
-        ensures same { result ≡ batch_of self.now.bulk.sizes }
-        ensures range { AreInRange self.now.bulk.sizes }
-        ensures batch { length self.now.bulk.batch ≡ batch_of self.now.bulk.sizes }
-    {
-        self.session.batch_len()
-    }
-
-    /// Writes a record to a place of the batch.
-    #[inline]
-    pub fn put(&mut self, place: u32, item: R)
-        requires { place < batch_of self.old.bulk.sizes }
-        ensures { self.new ≡ with_batch self.old (slice_set self.old.bulk.batch place item) }
-    {
-        self.session.put(place, item);
-    }
-
-    /// Deals the first `count` records of the batch to the passes, in equal parts. Whether all were added.
-    pub fn deal<H: Host, G: Gate>(&mut self, rt: &H, count: u32, gate: &G) -> bool
-    where
-        H::Dir: Send,
-        requires within { count ≤ batch_of self.old.bulk.sizes }
-        requires going { All IsGoing self.old.passes }
-        ensures all { IsTrue result ↔ All IsGoing self.new.passes }
-        ensures ended { result ≡ false → Any HasEnded self.new.passes }
-        ensures session { (queue : Holding R) → (records : List R) → InSession S.shown queue records self.old → InSession S.shown queue (records ++ take count self.old.bulk.batch) self.new }
-        ensures each { EachAdds S.shown (part_for (length self.old.passes) (take count self.old.bulk.batch)) self.old.passes self.new.passes }
-        ensures bulk { self.new.bulk ≡ self.old.bulk }
-    {
-        self.session.deal(rt, count, gate)
-    }
-
     /// Adds all records of a maker: each pass gets an equal part, which its worker makes and adds on a thread of
     /// its own. Whether all were added.
-    pub fn deal_made<H: Host, M: Maker<R> + Sync, G: Gate>(
+    pub fn deal<H: Host, M: Maker<R> + Sync, G: Gate>(
         &mut self,
         rt: &H,
         maker: &M,
@@ -111,7 +76,7 @@ impl<S: Slot + Send + Sync, R: Record + Send + Sync> Load<S, R> {
         ensures each { EachAdds S.shown (part_for (length self.old.passes) (M.rest maker.now)) self.old.passes self.new.passes }
         ensures bulk { self.new.bulk ≡ self.old.bulk }
     {
-        self.session.deal_made(rt, maker, gate)
+        self.session.deal(rt, maker, gate)
     }
 
     /// Adds the records of lines: each worker takes those with its number, in their order. Whether all were

@@ -10,5 +10,5 @@ pub struct Part<'a> {
     // How many of its records are in front of these.
     pub from: u64,
     // How many records these are.
-    pub count: u32,
+    pub count: u64,
 }

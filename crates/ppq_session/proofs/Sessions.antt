@@ -18,7 +18,7 @@ use Rattle.ppq_session.specs.declared.fault.SessionEnd.TheVariants.{Whole, Stopp
 use Rattle.ppq_session.specs.Dealing.{IsGoing, HasEnded, MayAdd, Dealt, AddsPart}
 use Rattle.ppq_session.specs.Given.{IsFinished, KeepsQueue, WereGiven, CountsGiven}
 use Rattle.ppq_session.proofs.Backed.{counts-none, counts-more, counts-whole, counts-stopped}
-use Rattle.ppq_session.specs.Sessions.{SessionHolding, InSession, IsLoaded, IsLeftBy, with_batch}
+use Rattle.ppq_session.specs.Sessions.{SessionHolding, InSession, IsLoaded, IsLeftBy}
 use Rattle.ppq_session.proofs.Mapped.{sum-mapped, all_mapped}
 use Rattle.std.proofs.Math.Seq.{take-append_seam}
 use Rattle.std.proofs.lemmas.List.Sums.{sum_by-cons}
@@ -190,12 +190,6 @@ module _ {S R : Type 0} where
         going = going;
       }
 
-  -- of an open session only the batch is another, and then once more
-  pub batch-then : (old mid new : SessionHolding S R) (batch : List R) → mid ≡ with_batch old mid.bulk.batch → new ≡ with_batch mid batch → new ≡ with_batch old new.bulk.batch
-  batch-then old mid new batch had is =
-      let at : batch ≡ new.bulk.batch = sym (ap (λ (session : SessionHolding S R). session.bulk.batch) is) in
-      is ∙ ap (λ (session : SessionHolding S R). with_batch session batch) had ∙ ap (with_batch old) at
-
   -- the fault that an end names
   module _ (passes : List (PassHolding S R)) (other : Option ℕ) (how : SessionEnd) (first : (number : ℕ) → first_fault passes other ≡ Some number → how ≡ Stopped (Device number)) where
     pub first-whole : {T : Type 0} {result : Result T QueueFault} → how ≡ Whole → NamesFirst passes other result
@@ -224,9 +218,6 @@ module _ {S R : Type 0} where
           (λ k d l. ap (λ (key : PassKey S R). key.sizes) (all_mapped key_in (λ (k : PassKey S R). k ≡ pass_key bulk k.begun) passes began.of.each k d l) ∙ began.sizes)
           began.fresh;
     }
-
-    pub session-batch : (records : List R) (session : SessionHolding S R) (batch : List R) → InSession shown queue records session → InSession shown queue records (with_batch session batch)
-    session-batch records session batch s = record { keeps = s.keeps; given = s.given; counted = record { counts = s.counted.counts; begun = s.counted.begun; sizes = s.counted.sizes; backed = s.counted.backed } }
 
     -- more records were given to passes that all went on
     pub session-deal :

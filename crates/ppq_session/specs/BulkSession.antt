@@ -21,7 +21,7 @@ pub use Rattle.ppq_session.specs.Ends.{bag_of, accepted_of}
 -- the queue had when the session began, and how many of them are in the heaps, which the passes have; how many runs in blocks there are;
 -- its sizes; the greatest size so far; whether a limit session was begun; all slots of the queue, those of the runs and those that were
 -- put into the row; how many buffers of a block it has, and how many of them its runs in buffers; the row with those slots, and the pool;
--- a batch of records to be dealt; and how many records, stores of a full heap and sessions the queue counts
+-- and how many records, stores of a full heap and sessions the queue counts
 pub record BulkHolding (S R : Type 0) : Type 0 where
   pub bag : List R
   pub size : ℕ
@@ -36,7 +36,6 @@ pub record BulkHolding (S R : Type 0) : Type 0 where
   pub row : TableId
   pub items : List (DeviceBlock S R)
   pub pool : TableId
-  pub batch : List R
   pub counts : Tally
 
 -- With so many buffers at the owner, two at each pass and those of the pool, there are just the buffers of the budget: those that blocks are

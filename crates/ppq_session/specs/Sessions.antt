@@ -20,10 +20,6 @@ pub record SessionHolding (S R : Type 0) : Type 0 where
   pub bulk : BulkHolding S R
   pub passes : List (PassHolding S R)
 
--- the same with this batch
-abbrev pub with_batch : {S R : Type 0} → SessionHolding S R → List R → SessionHolding S R
-with_batch session batch = record session { bulk = record session.bulk { batch = batch } }
-
 -- A session of a queue, which is shown as it was when the session began. These records were given to its passes: as long as none has
 -- stopped, they have all of them, and as long as no call of a slot failed, a part
 pub record InSession {S R : Type 0} (shown : S → Shown) (queue : Holding R) (records : List R) (session : SessionHolding S R) : Type 0 where

@@ -42,7 +42,6 @@ module _ {S R : Type 0} (shown : S → Shown) where
         row = q.row_seat.row;
         items = q.row_seat.hand.items;
         pool = q.pool_seat.pool;
-        batch = q.body.lanes.batch.items;
         counts = q.counts;
       }
 

@@ -1,17 +1,16 @@
 //! What the owner of a queue keeps while a session is on.
-ghost use Rattle.std.specs.Prelude.{◌≡◌, ◌<◌, length, slice_set};
-ghost use Rattle.ppq_pass.specs.ppq_budget.Sizes.{AreInRange, batch_of};
+ghost use Rattle.std.specs.Prelude.{◌≡◌};
+ghost use Rattle.ppq_pass.specs.ppq_budget.Sizes.{AreInRange};
 ghost use Rattle.ppq_session.specs.State.{bulk_holding, IsBulk};
 
 use crate::parts::BulkParts;
 use ppq_pass::{Record, Slot};
 use std::marker::Model;
 
-/// What the owner of a queue keeps while a bulk session is on: the runs that were there, and a batch of
-/// `p * B` records, to be filled and dealt to the passes.
+/// What the owner of a queue keeps while a bulk session is on: the runs that were there.
 ///
-/// Contracts see the multiset of its records, how many the queue had when the session began, all that tells
-/// which passes are of this session, and the batch.
+/// Contracts see the multiset of its records, how many the queue had when the session began, and all that
+/// tells which passes are of this session.
 #[derive(Drop)]
 pub struct Bulk<S: Slot + Send + Sync, R: Record + Send + Sync> {
     parts: BulkParts<S, R>,
@@ -50,24 +49,6 @@ impl<S: Slot + Send + Sync, R: Record + Send + Sync> Bulk<S, R> {
     pub fn known(&self)
         ensures range { AreInRange self.now.sizes }
     {
-        let _batch = self.parts.body.lanes.batch.len();
-    }
-
-    /// The batch: `p * B` records. What stands in it at the beginning has no meaning.
-    #[inline]
-    pub fn batch(&self) -> &[R]
-        ensures items { result.now ≡ self.now.batch }
-        ensures length { length result.now ≡ batch_of self.now.sizes }
-    {
-        self.parts.body.lanes.batch.as_slice()
-    }
-
-    /// Writes a record to a place of the batch.
-    #[inline]
-    pub fn put(&mut self, place: u32, r: R)
-        requires { place < batch_of self.old.sizes }
-        ensures { self.new ≡ record self.old { batch = slice_set self.old.batch place r } }
-    {
-        self.parts.body.lanes.batch[place as usize] = r;
+        let _count = self.parts.count;
     }
 }

@@ -3,10 +3,10 @@
 //!
 //! A bulk session is begun by [`bulk_begin`], which takes a queue apart. The free slots become a row and the
 //! idle buffers a pool, which all passes share ([`Shared`]); each [`Pass`] gets a heap of the queue, two
-//! buffers of its lanes, and a seat of row and pool. What stays is a [`Bulk`]: the runs that were there, and
-//! the batch from which records are dealt ([`deal`]). Lines are pushed without it ([`push_lines`]), and a
-//! [`Maker`] makes each record where it is added ([`deal_made`]).
-//! [`bulk_end`] puts all together again. All memory is taken by `bulk_begin`.
+//! buffers of its lanes, and a seat of row and pool. What stays is a [`Bulk`]: the runs that were there. The
+//! records of a [`Maker`] are dealt to the passes in equal parts, and each worker makes those of its own
+//! ([`deal`]); a [`RecordSlice`] is a maker of records that stand in a slice. Lines are pushed to the passes
+//! that they name ([`push_lines`]). [`bulk_end`] puts all together again. All memory is taken by `bulk_begin`.
 //!
 //! In a limit session the owner takes the records below a limit out, the smallest first, while passes add
 //! records that are not below it. [`limit_begin`] gives a [`Front`], which is the runs that the queue had and an
@@ -45,10 +45,10 @@ mod limit_session;
 mod line;
 mod lines;
 mod maker;
-mod making;
 mod moving;
 mod outfit;
 mod parts;
+mod record_slice;
 mod refill;
 mod rejoining;
 mod running;
@@ -75,11 +75,11 @@ pub use limit_session::LimitSession;
 pub use line::Line;
 pub use lines::push_lines;
 pub use maker::Maker;
-pub use making::deal_made;
 pub use ppq_pass::{
     Full, Gate, Host, Library, OutsideFault, Pair, Pass, PoolBuf, Record, Shared, Sizes, Slot,
     StoreFault, StoreFault as QueueFault,
 };
 pub use ppq_queue::{OpenFault, Out, Queue};
+pub use record_slice::RecordSlice;
 pub use running::run_both;
 pub use session::Session;

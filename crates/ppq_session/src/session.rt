@@ -1,18 +1,16 @@
 //! An open bulk session, as one value.
-ghost use Rattle.std.specs.Prelude.{◌≡◌, ◌<◌, ◌≤◌, ◌++◌, ◌↔◌, [], ℕ, List, All, Any, Some, None, Err, IsTrue, false, IfOk, IfErr, OnOk, length, take, slice_set};
-ghost use Rattle.ppq_pass.specs.ppq_budget.Sizes.{AreInRange, batch_of};
+ghost use Rattle.std.specs.Prelude.{◌≡◌, ◌<◌, ◌++◌, ◌↔◌, [], ℕ, List, All, Any, Some, None, Err, IsTrue, false, IfOk, IfErr, OnOk, length};
 ghost use Rattle.ppq_queue.specs.Holding.{Holding, session_begun};
 ghost use Rattle.ppq_session.specs.declared.fault.BeginFault.TheVariants.{Device};
 ghost use Rattle.ppq_session.specs.Ends.{NamesFirst};
 ghost use Rattle.ppq_session.specs.Dealing.{IsGoing, HasEnded, EachAdds, records_in, records_for, part_for};
-ghost use Rattle.ppq_session.specs.Sessions.{InSession, IsLoaded, IsLeftBy, IsUnbegun, with_batch};
+ghost use Rattle.ppq_session.specs.Sessions.{InSession, IsLoaded, IsLeftBy, IsUnbegun};
 
 use crate::begin::bulk_begin;
 use crate::dealing::deal;
 use crate::end::bulk_end;
 use crate::going::are_going;
 use crate::lines::push_lines;
-use crate::making::deal_made;
 use crate::{BeginFault, Bulk, Line, Maker, Pass, SessionEnd, Shared};
 use ppq_pass::{Gate, Host, QueueFault, Record, Slot};
 use ppq_queue::Queue;
@@ -25,7 +23,7 @@ use std::marker::Model;
 /// records were given to them.
 #[derive(Drop)]
 pub struct Session<S: Slot + Send + Sync, R: Record + Send + Sync> {
-    // What is left of the queue, with the batch from which records are dealt.
+    // What is left of the queue.
     bulk: Bulk<S, R>,
     // What all passes share.
     shared: Shared<S, R>,
@@ -73,46 +71,9 @@ impl<S: Slot + Send + Sync, R: Record + Send + Sync> Session<S, R> {
         }
     }
 
-    /// How many records a batch has room for: `p * B`.
-    #[inline]
-    pub fn batch_len(&self) -> u32
-        ensures same { result ≡ batch_of self.now.bulk.sizes }
-        ensures range { AreInRange self.now.bulk.sizes }
-        ensures batch { length self.now.bulk.batch ≡ batch_of self.now.bulk.sizes }
-    {
-        self.bulk.known();
-        self.bulk.batch().len() as u32
-    }
-
-    /// Writes a record to a place of the batch.
-    #[inline]
-    pub fn put(&mut self, place: u32, item: R)
-        requires { place < batch_of self.old.bulk.sizes }
-        ensures { self.new ≡ with_batch self.old (slice_set self.old.bulk.batch place item) }
-    {
-        self.bulk.put(place, item);
-    }
-
-    /// Deals the first `count` records of the batch to the passes, in equal parts. Whether all were added.
-    pub fn deal<H: Host, G: Gate>(&mut self, rt: &H, count: u32, gate: &G) -> bool
-    where
-        H::Dir: Send,
-        requires within { count ≤ batch_of self.old.bulk.sizes }
-        requires going { All IsGoing self.old.passes }
-        ensures all { IsTrue result ↔ All IsGoing self.new.passes }
-        ensures ended { result ≡ false → Any HasEnded self.new.passes }
-        ensures session { (queue : Holding R) → (records : List R) → InSession S.shown queue records self.old → InSession S.shown queue (records ++ take count self.old.bulk.batch) self.new }
-        ensures each { EachAdds S.shown (part_for (length self.old.passes) (take count self.old.bulk.batch)) self.old.passes self.new.passes }
-        ensures bulk { self.new.bulk ≡ self.old.bulk }
-    {
-        self.bulk.known();
-        let records = &self.bulk.batch()[..count as usize];
-        deal(rt, gate, &self.shared, records, self.passes.as_mut_slice())
-    }
-
     /// Adds all records of a maker: each pass gets an equal part, which its worker makes and adds on a thread of
     /// its own. Whether all were added.
-    pub fn deal_made<H: Host, M: Maker<R> + Sync, G: Gate>(
+    pub fn deal<H: Host, M: Maker<R> + Sync, G: Gate>(
         &mut self,
         rt: &H,
         maker: &M,
@@ -128,7 +89,7 @@ impl<S: Slot + Send + Sync, R: Record + Send + Sync> Session<S, R> {
         ensures bulk { self.new.bulk ≡ self.old.bulk }
     {
         self.bulk.known();
-        deal_made(rt, gate, &self.shared, maker, self.passes.as_mut_slice())
+        deal(rt, gate, &self.shared, maker, self.passes.as_mut_slice())
     }
 
     /// Adds the records of lines: each worker takes those with its number, in their order. Whether all were

@@ -21,6 +21,8 @@ mod records;
 mod session;
 mod short;
 #[cfg(test)]
+mod slices;
+#[cfg(test)]
 mod threads;
 
 pub use short::Short;

@@ -258,8 +258,8 @@ fn line(pass: u32) -> Line<Pair>
     }
 }
 
-// A session of an empty queue for three workers, with heaps of four records.
-fn begun<H: Host + Abort>(rt: &H, alloc: Global) -> Result<Session<MemSlot, Pair>, Fail>
+/// A session of an empty queue for three workers, with heaps of four records.
+pub fn begun<H: Host + Abort>(rt: &H, alloc: Global) -> Result<Session<MemSlot, Pair>, Fail>
 where
     H::Dir: Send,
     ensures workers { IfOk result (λ session. session.bulk.sizes.workers ≡ 3) }

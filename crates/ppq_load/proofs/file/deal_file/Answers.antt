@@ -1,10 +1,8 @@
 use Rattle.std.proofs.Common.{◌≡◌, ◌∙◌, ◌+◌, ◌*◌, ◌/◌, ℕ, ◌≤◌, length, List, Option, drop, ap, refl, sym, subst, arith, length-append, length-drop, length-take-le, take}
-use Rattle.ppq_session.specs.ppq_budget.Sizes.{batch_of}
 use Rattle.ppq_session.specs.ppq_queue.Holding.{Holding}
 use Rattle.ppq_load.specs.Loading.{LoadHolding, HasGiven}
 use Rattle.ppq_load.proofs.FileRecords.{given-none, given-stopped}
 use Rattle.std.proofs.Math.Nat.{mul-le-mul_right}
-use Rattle.ppq_load.proofs.Loadings.{batch-some}
 use Rattle.ppq_load.proofs.Widths.{fit, one-fits, few-bytes, part-of}
 use Rattle.ppq_load.proofs.Reading.{reads-none, reads-then}
 use Rattle.ppq_load.proofs.file.deal_file.Goals as goal
@@ -32,15 +30,13 @@ pieces-preserved g c =
     let new = c.deal_piece.new.load in
     let e = c.in_ok-deal_piece.ensures in
     let width = c.WIDTH-width.result in
-    let used : n * width ≤ length c.pieces.room = omega (arith, ap (λ k. n * k) c.WIDTH-width.ensures, i.piece, mul-le-mul_right g.R.Record.WIDTH (let few : n ≤ c.min-most.result = omega arith in few)) in
+    let used : n * width ≤ length c.pieces.room = omega (arith, ap (λ k. n * k) c.WIDTH-width.ensures, i.piece, mul-le-mul_right g.R.Record.WIDTH (let few : n ≤ length c.args.room.now / width = omega arith in few)) in
     record {
       given =
           λ queue s.
-          subst (λ k. HasGiven g.R.Record.record_of g.R.Record.WIDTH shown queue (g.L.Library.told c.args.library.now) name (c.pieces.from + k) new) (sym c.from-in-pieces.ensures) (subst (λ told. HasGiven g.R.Record.record_of g.R.Record.WIDTH shown queue told name (c.pieces.from + n) new) i.reads.told (e.given queue (subst (λ told. HasGiven g.R.Record.record_of g.R.Record.WIDTH shown queue told name c.pieces.from old) (sym i.reads.told) (i.given queue s))));
+          subst (λ told. HasGiven g.R.Record.record_of g.R.Record.WIDTH shown queue told name (c.pieces.from + n) new) i.reads.told (e.given queue (subst (λ told. HasGiven g.R.Record.record_of g.R.Record.WIDTH shown queue told name c.pieces.from old) (sym i.reads.told) (i.given queue s)));
       going = e.dealt.all.0 c.if-not-branch.false;
-      room = omega (arith, i.room, ap (λ sizes. batch_of sizes) e.dealt.sizes);
       some = i.some;
-      small = i.small;
       piece = omega (arith, i.piece, c.deal_piece.auto.piece, length-append c.deal_piece.new.piece (drop (n * width) c.pieces.room), length-drop (n * width) c.pieces.room, used);
       within = omega arith;
       records = i.records;
@@ -52,10 +48,8 @@ pub pieces-init : goal.pieces-init
 pieces-init g c = record {
   given = λ queue s. given-none g.R.Record.record_of g.R.Record.WIDTH (g.L.Library.told c.args.library.now) c.args.source.name.now g.S.Slot.shown queue c.args.load.now s;
   going = c.requires.going;
-  room = omega arith;
-  some = omega (arith, batch-some c.args.load.now.bulk.sizes c.batch_len.ensures.range, one-fits (length c.args.room.now) c.WIDTH-width.result (omega (arith, c.WIDTH-width.ensures, c.record_laws.ensures.width.0)) (omega (arith, c.WIDTH-width.ensures, c.requires.room)));
-  small = omega arith;
-  piece = subst (λ k. c.min-most.result * k ≤ length c.args.room.now) c.WIDTH-width.ensures (fit c.min-most.result (length c.args.room.now) c.WIDTH-width.result (omega arith));
+  some = omega (arith, one-fits (length c.args.room.now) c.WIDTH-width.result (omega (arith, c.WIDTH-width.ensures, c.record_laws.ensures.width.0)) (omega (arith, c.WIDTH-width.ensures, c.requires.room)));
+  piece = subst (λ k. length c.args.room.now / c.WIDTH-width.result * k ≤ length c.args.room.now) c.WIDTH-width.ensures (fit (length c.args.room.now / c.WIDTH-width.result) (length c.args.room.now) c.WIDTH-width.result (omega arith));
   within = omega arith;
   records = ap (λ k. c.args.source.said / k) c.WIDTH-width.ensures;
   reads = reads-none g.L.Library.told g.L.Library.replied c.args.source.name.now c.args.source.said c.args.library.now;
@@ -107,8 +101,8 @@ deal_piece-requires-clause-part g c κs within =
     let w = g.R.Record.WIDTH in
     let n = c.min-count.result in
     let width = c.WIDTH-width.result in
-    let few : n ≤ c.min-most.result = omega arith in
+    let few : n ≤ length c.args.room.now / width = omega arith in
     let size : n * width ≡ n * w = ap (λ k. n * k) c.WIDTH-width.ensures in
     let used : n * width ≤ length c.pieces.room = omega (arith, size, i.piece, mul-le-mul_right w few) in
-    part-of said w c.pieces.from n (length (take (n * width) c.pieces.room)) (batch_of c.pieces.load.bulk.sizes) (said / width) (length-take-le (n * width) c.pieces.room used ∙ size) (omega (arith, i.room, few)) (omega arith) (ap (λ k. said / k) c.WIDTH-width.ensures)
+    part-of said w c.pieces.from n (length (take (n * width) c.pieces.room)) (said / width) (length-take-le (n * width) c.pieces.room used ∙ size) (omega arith) (ap (λ k. said / k) c.WIDTH-width.ensures)
     (few-bytes said w c.requires.fits c.record_laws.ensures.width.1)

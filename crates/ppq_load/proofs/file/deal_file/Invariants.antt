@@ -1,5 +1,4 @@
 use Rattle.std.proofs.Common.{◌≡◌, ◌≤◌, ◌<◌, ◌-◌, ◌*◌, ◌/◌, ◌^◌, [], length, All}
-use Rattle.ppq_session.specs.ppq_budget.Sizes.{batch_of}
 use Rattle.ppq_session.specs.ppq_queue.Holding.{Holding}
 use Rattle.ppq_session.specs.Dealing.{IsGoing}
 use Rattle.ppq_load.specs.Loading.{InSession, HasGiven}
@@ -10,9 +9,7 @@ abbrev pub invariant-pieces : goal.invariant-pieces
 invariant-pieces g l = record {
   given : (queue : Holding g.row.R.Denot) → InSession g.S.Slot.shown queue [] l.fn.load → HasGiven g.R.Record.record_of g.R.Record.WIDTH g.S.Slot.shown queue (g.L.Library.told l.fn.library) l.fn.source.name.now l.from l.load;
   going : All IsGoing l.load.passes;
-  room : l.most ≤ batch_of l.load.bulk.sizes;
   some : 0 < l.most;
-  small : l.most < 2 ^ 32;
   piece : l.most * g.R.Record.WIDTH ≤ length l.room;
   within : l.from ≤ l.records;
   records : l.records ≡ l.fn.source.said / g.R.Record.WIDTH;

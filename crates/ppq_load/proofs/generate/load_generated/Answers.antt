@@ -24,7 +24,7 @@ done g c =
     let maker = c.new.result in
     let records = generated_by g.R.Fields.COUNT g.R.Fields.of_fields c.args.seed c.args.count in
     let of_new = ap (λ m. generated_from_by g.R.Fields.COUNT g.R.Fields.of_fields m.seed m.key m.number m.left) c.new.ensures in
-    let given = subst (λ (rs : List g.row.R.Denot). InSession g.S.Slot.shown c.args.queue rs c.deal_made-all.new.self) of_new (c.deal_made-all.ensures.session c.args.queue [] c.in-Ok.ensures.session) in
+    let given = subst (λ (rs : List g.row.R.Denot). InSession g.S.Slot.shown c.args.queue rs c.deal-all.new.self) of_new (c.deal-all.ensures.session c.args.queue [] c.in-Ok.ensures.session) in
     c.end-queue.ensures.loaded c.args.queue records given
 
 says :
@@ -56,7 +56,7 @@ returns-in-Ok-clause-part g c =
     let records = generated_by g.R.Fields.COUNT g.R.Fields.of_fields c.args.seed c.args.count in
     let ended = done g (goal.at.returns-in-Ok-clause-part g c).After-end-queue in
     on_err c.loaded.result (new.failed ≡ None → AllTell q.slots → AddsPart records q.bag new.bag)
-    (ended-part g.S.Slot.shown c.deal_made-all.new.self q new records c.end-queue.result.1 ended c.end-queue.ensures.left)
+    (ended-part g.S.Slot.shown c.deal-all.new.self q new records c.end-queue.result.1 ended c.end-queue.ensures.left)
 
 pub returns-in-Err-clause-part : goal.returns-in-Err-clause-part
 returns-in-Err-clause-part g c = unbegun-part (generated_by g.R.Fields.COUNT g.R.Fields.of_fields c.args.seed c.args.count) c.args.queue c.in-Err.queue c.in-Err.fault c.in-Err.ensures.intact
@@ -79,7 +79,7 @@ returns-in-Err-clause-refused g c =
     stop-later q.sizes q.limited q.limited q.peak (max q.peak (q.size + c.args.count)) (omega (arith, c.known.ensures.range.two_records)) (λ same. same) (omega arith) c.in-Err.queue.slots c.in-Err.fault c.in-Err.ensures.refused
 
 pub returns-in-Ok-clause-stopped : goal.returns-in-Ok-clause-stopped
-returns-in-Ok-clause-stopped g c = subst (λ r. IfErr r (IsStoppedBy c.end-queue.result.0)) (sym c.loaded.ensures) (loaded-stopped g.S.Slot.shown c.deal_made-all.new.self c.end-queue.result.0 c.end-queue.result.1 c.end-queue.ensures.left)
+returns-in-Ok-clause-stopped g c = subst (λ r. IfErr r (IsStoppedBy c.end-queue.result.0)) (sym c.loaded.ensures) (loaded-stopped g.S.Slot.shown c.deal-all.new.self c.end-queue.result.0 c.end-queue.result.1 c.end-queue.ensures.left)
 
 pub returns-in-Err-clause-stopped : goal.returns-in-Err-clause-stopped
 returns-in-Err-clause-stopped g c = unbegun-stopped c.args.queue c.in-Err.queue c.in-Err.fault c.in-Err.ensures.intact

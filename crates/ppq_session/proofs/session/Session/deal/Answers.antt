@@ -19,21 +19,20 @@ returns g c =
     let olds = inside.passes.items in
     let news = c.deal.new.passes in
     let view = c.self.view_is in
-    let n = c.args.count in
-    let more = take n inside.bulk.batch in
+    let more = g.M.Maker.rest c.args.maker.now in
     let records = part_for (length olds) more in
     let after = take inside.passes.len (news ++ drop (length news) olds) in
     let back = kept_back inside.passes.len news (drop (length news) olds) (c.deal.auto.passes ∙ c.as_mut_slice.ensures.len) in
     let going = subst (λ l. All IsGoing l.passes) (sym view) c.requires.going in
-    let dealt = subst (λ xs. Dealt shown (take n xs) olds news) c.batch.ensures.items (subst (λ ps. Dealt shown (take n c.batch.result.now) ps news) c.as_mut_slice.ensures.value c.deal.ensures.dealt) in
-    let each = subst (λ xs. EachAdds shown (part_for (length olds) (take n xs)) olds news) c.batch.ensures.items (subst (λ ps. EachAdds shown (part_for (length ps) (take n c.batch.result.now)) ps news) c.as_mut_slice.ensures.value c.deal.ensures.each) in
+    let dealt = subst (λ ps. Dealt shown more ps news) c.as_mut_slice.ensures.value c.deal.ensures.dealt in
+    let each = subst (λ ps. EachAdds shown (part_for (length ps) more) ps news) c.as_mut_slice.ensures.value c.deal.ensures.each in
     record {
       all = subst (λ ps. IsTrue c.deal.result ↔ All IsGoing ps) (sym back) c.deal.ensures.all;
       ended = subst (λ ps. c.deal.result ≡ false → Any HasEnded ps) (sym back) c.deal.ensures.ended;
-      session = subst (λ old. (queue : Holding g.row.R.Denot) → (records : List g.row.R.Denot) → InSession shown queue records old → InSession shown queue (records ++ take n old.bulk.batch) (record { bulk = inside.bulk; passes = after })) view
+      session = subst (λ old. (queue : Holding g.row.R.Denot) → (records : List g.row.R.Denot) → InSession shown queue records old → InSession shown queue (records ++ more) (record { bulk = inside.bulk; passes = after })) view
           (λ queue records s.
           subst (λ ps. InSession shown queue (records ++ more) (record { bulk = inside.bulk; passes = ps })) (sym back)
           (session-deal shown queue records more inside.bulk olds news s going dealt));
-      each = subst (λ old. EachAdds shown (part_for (length old.passes) (take n old.bulk.batch)) old.passes after) view (subst (λ ps. EachAdds shown records olds ps) (sym back) each);
+      each = subst (λ old. EachAdds shown (part_for (length old.passes) more) old.passes after) view (subst (λ ps. EachAdds shown records olds ps) (sym back) each);
       bulk = ap (λ old. old.bulk) view;
     }

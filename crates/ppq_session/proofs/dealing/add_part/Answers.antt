@@ -1,7 +1,7 @@
 use Rattle.std.proofs.Common.{◌≡◌, ◌∙◌, ◌*◌, length, take, min, ap, subst, arith}
 use Rattle.ppq_session.specs.Dealing.{Adds}
 use Rattle.ppq_session.proofs.Adding.{drop_within}
-use Rattle.ppq_session.proofs.making.add_part.Goals as goal
+use Rattle.ppq_session.proofs.dealing.add_part.Goals as goal
 
 pub returns : goal.returns
 returns g c =

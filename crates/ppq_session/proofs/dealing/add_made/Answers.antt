@@ -2,7 +2,7 @@ use Rattle.std.proofs.Common.{◌≡◌, ◌∙◌, ◌++◌, ◌∷◌, [], sym
 use Rattle.std.proofs.lemmas.List.{append_assoc, append-nil}
 use Rattle.ppq_session.specs.Dealing.{Adds}
 use Rattle.ppq_session.proofs.Adding.{takes-none, takes-then, takes-ended}
-use Rattle.ppq_session.proofs.making.add_made.Goals as goal
+use Rattle.ppq_session.proofs.dealing.add_made.Goals as goal
 
 pub making-init : goal.making-init
 making-init g c = record { going = c.requires.going; takes = ([], (refl, takes-none g.S.Slot.shown g.R.Ord.cmp c.args.pass.now c.requires.going)) }

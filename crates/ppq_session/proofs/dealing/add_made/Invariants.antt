@@ -1,7 +1,7 @@
 use Rattle.std.proofs.Common.{◌≡◌, ◌++◌, List, length}
 use Rattle.ppq_session.specs.Dealing.{IsGoing}
 use Rattle.ppq_session.specs.SessionPass.{Takes}
-use Rattle.ppq_session.proofs.making.add_made.Given as goal
+use Rattle.ppq_session.proofs.dealing.add_made.Given as goal
 
 abbrev pub invariant-making : goal.invariant-making
 invariant-making g l = record {
