@@ -9,14 +9,22 @@
 //! file, and COUNT times removes the smallest and adds one with a greater key. It prints the count, the first
 //! and the last of what was removed and the sum of the keys, and no time: `bench/device` runs it beside
 //! other queues.
+//!
+//! With the argument `lying` it executes `gen 7 4000000` and `drain 4000000` over a device in memory, and over
+//! one that gives back other bytes than it was given, and prints how many nanoseconds each took. With the
+//! argument `sum` it prints how many picoseconds the sums of a record take, at its write and its read together,
+//! and what they add up to. `bench/lying` runs both.
 #![tactic(auto)]
 
 mod held;
 mod load;
+mod lying;
 mod merges;
+mod sums;
 
 use held::{Removed, Shape, Task, hold};
 use load::{Load, out_of_memory};
+use lying::honest_and_lying;
 use merges::{as_sorted, picoseconds};
 use ppq_device::Host;
 use std::alloc::Global;
@@ -24,6 +32,7 @@ use std::io::ErrorKind;
 use std::rt::Clock;
 use std::thread::Threads;
 use std::{env, io};
+use sums::picoseconds_of_sums;
 
 // The numbers of runs.
 const RUNS: [u32; 3] = [8, 64, 512];
@@ -177,12 +186,31 @@ where
     print_removed(rt, hold(rt, alloc, LARGE, task, device)?)
 }
 
+// Prints how long a script takes over a device that keeps what it is given, and over one that does not.
+fn print_lying<H: Host + Clock>(rt: &H, alloc: Global) -> io::Result<()>
+where
+    H::Dir: Send,
+{
+    let (honest, lying) = honest_and_lying(rt, alloc)?;
+    println!(rt; "{honest} {lying}")?;
+    Ok(())
+}
+
+// Prints how long the sums of a record take, and what all of them add up to.
+fn print_sums<H: Clock + Print>(rt: &H, alloc: Global) -> io::Result<()> {
+    let (took, all) = picoseconds_of_sums(rt, alloc)?;
+    println!(rt; "{took} {all}")?;
+    Ok(())
+}
+
 fn main(rt: HostRuntime) -> io::Result<()> {
     let words = words_of(&rt)?;
     match words.first() {
         None => check(&rt, rt.alloc()),
         Some(word) if word.as_str() == "merge" => time(&rt, rt.alloc()),
         Some(word) if word.as_str() == "hold" => hold_as_said(&rt, rt.alloc(), &words[1..]),
+        Some(word) if word.as_str() == "lying" => print_lying(&rt, rt.alloc()),
+        Some(word) if word.as_str() == "sum" => print_sums(&rt, rt.alloc()),
         Some(_) => Err(bad_argument()),
     }
 }

@@ -1,4 +1,5 @@
 pub mod Folds
+pub mod Given
 pub mod Noticed
 pub mod Rows
 pub mod Steps

@@ -1,33 +1,35 @@
 //! A block that notices when what is read is not what was written.
-ghost use Rattle.std.specs.Prelude.{◌≡◌, ◌⊎◌, ◌↔◌, Some, None, length, OnOk, OnErr, IsTrue};
+ghost use Rattle.std.specs.Prelude.{◌≡◌, ◌⊎◌, ◌↔◌, Some, None, length, IsSome, OnOk, OnErr, IsTrue};
 ghost use Rattle.ppq_outside.specs.Told.{Rose};
 ghost use Rattle.ppq_outside.specs.Shown.{IsWritten, IsRead, Tells};
 ghost use Rattle.ppq_checked.specs.Sums.{sum_of};
 ghost use Rattle.ppq_checked.specs.Kept.{CheckedState, HasSum, shown_over};
 
-use crate::sum;
+use crate::{UntrustedSlot, sum};
 use ppq_outside::{Failed, Host, Slot};
 use std::marker::Model;
 
 /// A block over another one, the slot inside, that keeps the sum of the bytes of the last write, if that write
-/// returned Ok. A read of bytes that have another sum is a failed call.
+/// returned Ok. A read of bytes that have another sum is a failed call, and so is each read while no sum is kept.
 ///
-/// What contracts see of it is what the slot inside shows, but for two counts: its faults are those of the slot
-/// inside and the reads that it refused itself, and its reads are those that returned Ok. If the contents of the
-/// slot inside are visible to proofs, no read is refused for its sum.
+/// The slot inside may give back other bytes than it was given. This block never does: it has the whole contract
+/// of a [`Slot`], and if the contents of the slot inside are visible to proofs, a read that returns Ok gives what
+/// was written last. What contracts see of it is what the slot inside shows, but for two counts: its faults are
+/// those of the slot inside and the reads that it refused itself, and its reads are those that returned Ok. If
+/// the slot inside is honest too, no read of a block that was written is refused for its sum.
 #[derive(Drop)]
-pub struct Checked<S: Slot> {
+pub struct Checked<S: UntrustedSlot> {
     // the slot inside
     inside: S,
     // the sum of what was last written, if that write returned Ok
     sum: Option<u64>,
     // how many reads returned Ok
     reads: u64,
-    // how many reads of the slot inside gave bytes of another sum
+    // how many reads of the slot inside gave bytes that have not the sum that is kept, or were made with none
     differed: u64,
 }
 
-impl<S: Slot> Model for Checked<S> {
+impl<S: UntrustedSlot> Model for Checked<S> {
     ghost use Rattle.ppq_checked.specs.Kept.{CheckedState, HoldsSum};
 
     ghost Value = { CheckedState S };
@@ -37,8 +39,8 @@ impl<S: Slot> Model for Checked<S> {
     ghost invariant = { λ s. HoldsSum s.sum (S.shown s.inside).told };
 }
 
-impl<S: Slot> Checked<S> {
-    /// A block over another one. It keeps no sum before it is written, so what is read before is not checked.
+impl<S: UntrustedSlot> Checked<S> {
+    /// A block over another one. It keeps no sum before it is written, so each read before that is a failed call.
     pub fn new(inside: S) -> Self
         ensures inside { result.inside ≡ inside }
         ensures sum { result.sum ≡ None }
@@ -54,8 +56,8 @@ impl<S: Slot> Checked<S> {
         }
     }
 
-    /// How many reads gave bytes of another sum than those that were written; it saturates at 2^64 - 1. Each was
-    /// a failed call.
+    /// How many reads gave bytes of another sum than those that were written, or came before a block was written;
+    /// it saturates at 2^64 - 1. Each was a failed call.
     pub fn differed(&self) -> u64
         ensures { result ≡ self.now.differed }
     {
@@ -63,17 +65,17 @@ impl<S: Slot> Checked<S> {
     }
 }
 
-// Whether bytes have the sum that is kept, if one is.
+// Whether a sum is kept, and bytes have it.
 fn has_sum(kept: Option<u64>, bytes: &[u8]) -> bool
     ensures { IsTrue result ↔ HasSum kept bytes.now }
 {
     match kept {
-        None => true,
+        None => false,
         Some(kept) => sum(bytes) == kept,
     }
 }
 
-impl<S: Slot> Slot for Checked<S> {
+impl<S: UntrustedSlot> Slot for Checked<S> {
     ghost shown = { shown_over S.shown };
 
     fn number(&self) -> u32 {
@@ -114,13 +116,14 @@ impl<S: Slot> Slot for Checked<S> {
     }
 
     /// One block transfer, and then one sum of the bytes, if a sum is kept. Ok is returned only if the bytes have
-    /// that sum, and `Failed` only if the slot inside failed or they have another.
+    /// that sum, and `Failed` only if the slot inside failed, they have another, or none is kept.
+    #[tactic(auto, using(crate::proofs::Given::given_is))]
     fn read<H: Host>(&mut self, rt: &H, into: &mut [u8]) -> Result<(), Failed>
         requires { length into.old ≡ (S.shown self.old.inside).size }
         ensures noticed { OnOk result (HasSum self.old.sum into.new) }
         ensures cause { OnErr result (Rose (S.shown self.old.inside).faults (S.shown self.new.inside).faults ⊎ (HasSum self.old.sum into.new → ⊥)) }
-        ensures tells { Tells (S.shown self.old.inside) → OnErr result (Rose (S.shown self.old.inside).faults (S.shown self.new.inside).faults) }
-        ensures differed { Tells (S.shown self.old.inside) → self.new.differed ≡ self.old.differed }
+        ensures tells { S.honest self.old.inside → Tells (S.shown self.old.inside) → IsSome self.old.sum → OnErr result (Rose (S.shown self.old.inside).faults (S.shown self.new.inside).faults) }
+        ensures differed { S.honest self.old.inside → Tells (S.shown self.old.inside) → IsSome self.old.sum → self.new.differed ≡ self.old.differed }
         ensures kept { self.new.sum ≡ self.old.sum }
         ensures shown { IsRead result into.new (shown_over S.shown self.old) (shown_over S.shown self.new) }
     {

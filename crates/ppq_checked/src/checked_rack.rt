@@ -1,7 +1,7 @@
 //! A device of blocks that notice when what is read is not what was written.
 ghost use Rattle.std.specs.Prelude.{◌≡◌};
 
-use crate::Checked;
+use crate::{Checked, UntrustedRack};
 use ppq_outside::{Host, OutsideFault, Rack};
 use std::alloc::Global;
 use std::marker::Model;
@@ -9,21 +9,24 @@ use std::marker::Model;
 /// A device of checked blocks, over another device: its blocks are those of the device inside, each in a
 /// [`Checked`].
 ///
+/// The blocks of the device inside may give back other bytes than they were given, and it is a [`Rack`] all the
+/// same: each clause on what a device holds is true of it, and so is all that is proved over any [`Rack`].
+///
 /// Contracts see the device inside: whether its contents are visible to proofs, which blocks it made, and how many
 /// calls failed.
 #[derive(Drop)]
-pub struct CheckedRack<R: Rack + Drop> {
+pub struct CheckedRack<R: UntrustedRack + Drop> {
     // the device that makes the blocks
     inside: R,
 }
 
-impl<R: Rack + Drop> Model for CheckedRack<R> {
+impl<R: UntrustedRack + Drop> Model for CheckedRack<R> {
     ghost Value = { R };
 
     ghost view = { λ r. r.inside };
 }
 
-impl<R: Rack + Drop> CheckedRack<R> {
+impl<R: UntrustedRack + Drop> CheckedRack<R> {
     /// A device over another one. It makes no block.
     pub fn new(inside: R) -> Self
         ensures { result ≡ inside }
@@ -32,7 +35,7 @@ impl<R: Rack + Drop> CheckedRack<R> {
     }
 }
 
-impl<R: Rack + Drop> Rack for CheckedRack<R> {
+impl<R: UntrustedRack + Drop> Rack for CheckedRack<R> {
     type Slot = Checked<R::Slot>;
 
     ghost tells = { R.tells };

@@ -1,7 +1,8 @@
 //! Blocks that give back other bytes than were written.
 ghost use Rattle.std.specs.Prelude.{None};
 
-use ppq_checked::{Checked, CheckedRack};
+use ppq_checked::{Checked, CheckedRack, UntrustedSlot};
+use ppq_lying::{Lie, LyingRack};
 use ppq_outside::{Failed, Host, MemRack, MemSlot, Rack, Slot};
 use std::alloc::Global;
 use std::process::Abort;
@@ -16,36 +17,38 @@ struct Lies {
     other: Bytes,
 }
 
-impl Slot for Lies {
+impl UntrustedSlot for Lies {
     ghost shown = { λ s. record (⟦<MemSlot as Slot>⟧.shown s.inside) { told = None } };
 
+    ghost honest = { λ _. ⊥ };
+
     fn number(&self) -> u32 {
-        self.inside.number()
+        Slot::number(&self.inside)
     }
 
     fn size(&self) -> usize {
-        self.inside.size()
+        Slot::size(&self.inside)
     }
 
     fn faults(&self) -> u64 {
-        self.inside.faults()
+        Slot::faults(&self.inside)
     }
 
     fn writes(&self) -> u64 {
-        self.inside.writes()
+        Slot::writes(&self.inside)
     }
 
     fn reads(&self) -> u64 {
-        self.inside.reads()
+        Slot::reads(&self.inside)
     }
 
     fn write<H: Host>(&mut self, rt: &H, bytes: &[u8]) -> Result<(), Failed> {
-        self.inside.write(rt, bytes)
+        Slot::write(&mut self.inside, rt, bytes)
     }
 
     fn read<H: Host>(&mut self, rt: &H, into: &mut [u8]) -> Result<(), Failed> {
-        let lies = self.inside.reads() == 1;
-        let answer = self.inside.read(rt, into);
+        let lies = Slot::reads(&self.inside) == 1;
+        let answer = Slot::read(&mut self.inside, rt, into);
         if lies {
             for (byte, other) in into.iter_mut().zip(&self.other) {
                 *byte = *other;
@@ -100,10 +103,8 @@ fn with_bit_at(place: usize) -> Bytes {
     bytes
 }
 
-// Asserts that a block whose second read gives these bytes fails that read, and goes on.
-fn is_noticed<H: Host + Abort>(rt: &H, alloc: Global, other: Bytes) {
-    let inside = block_of(rt, alloc, &mut MemRack::new(), 5);
-    let mut slot = Checked::new(Lies { inside, other });
+// Asserts that block 5, whose second read lies, fails that read and goes on.
+fn is_noticed<H: Host + Abort, S: UntrustedSlot>(rt: &H, mut slot: Checked<S>) {
     takes(rt, &mut slot, &OLDER, true);
     takes(rt, &mut slot, &LATEST, true);
     gives(rt, &mut slot, Ok(&LATEST));
@@ -114,19 +115,45 @@ fn is_noticed<H: Host + Abort>(rt: &H, alloc: Global, other: Bytes) {
     assert_eq!(rt; (slot.number(), slot.differed()), (5, 1));
 }
 
+// Asserts that a block whose second read gives these bytes fails that read, though no contract says what it holds.
+fn are_noticed<H: Host + Abort>(rt: &H, alloc: Global, other: Bytes) {
+    let inside = block_of(rt, alloc, &mut MemRack::new(), 5);
+    is_noticed(rt, Checked::new(Lies { inside, other }));
+}
+
+// Asserts that a block of a device of which the second read of block 5 lies fails that read.
+fn is_lie_noticed<H: Host + Abort>(rt: &H, alloc: Global, lie: Lie) {
+    let mut rack = CheckedRack::new(LyingRack::new(5, 1, lie));
+    is_noticed(rt, block_of(rt, alloc, &mut rack, 5));
+    assert_eq!(rt; rack.faults(), 0);
+}
+
 #[test]
 fn a_read_with_one_bit_turned_fails(rt: HostRuntime) {
     // in each lane, in the last byte of the row, in the word behind the rows, and in the last bytes
     for place in [0, 8, 16, 24, 31, 32, 39, 40, 42] {
-        is_noticed(&rt, rt.alloc(), with_bit_at(place));
+        are_noticed(&rt, rt.alloc(), with_bit_at(place));
+        is_lie_noticed(&rt, rt.alloc(), Lie::Bit(place));
     }
 }
 
 #[test]
 fn a_read_of_an_older_version_of_another_block_or_of_zeros_fails(rt: HostRuntime) {
+    is_lie_noticed(&rt, rt.alloc(), Lie::Older);
     for other in [OLDER, [9; 43], [0; 43]] {
-        is_noticed(&rt, rt.alloc(), other);
+        let bytes = other.to_vec(rt.alloc()).expect(&rt, "memory");
+        are_noticed(&rt, rt.alloc(), other);
+        is_lie_noticed(&rt, rt.alloc(), Lie::Bytes(bytes));
     }
+}
+
+#[test]
+fn a_block_of_the_device_that_is_not_to_lie_does_not(rt: HostRuntime) {
+    let mut rack = CheckedRack::new(LyingRack::new(5, 0, Lie::Bit(0)));
+    let mut slot = block_of(&rt, rt.alloc(), &mut rack, 4);
+    takes(&rt, &mut slot, &LATEST, true);
+    gives(&rt, &mut slot, Ok(&LATEST));
+    counts(&rt, &slot, 0, 1, 1);
 }
 
 #[test]
@@ -137,13 +164,29 @@ fn a_checked_device_fails_only_as_the_one_inside(rt: HostRuntime) {
     let makes = vec![in alloc; 1].expect(&rt, "memory");
     let mut rack = CheckedRack::new(MemRack::failing(calls, makes));
     let mut slot = block_of(&rt, alloc, &mut rack, 0);
-    // what was never written is not checked
-    gives(&rt, &mut slot, Ok(&[0; 43]));
     takes(&rt, &mut slot, &LATEST, true);
-    takes(&rt, &mut slot, &OLDER, false);
     gives(&rt, &mut slot, Ok(&LATEST));
-    counts(&rt, &slot, 1, 1, 2);
+    takes(&rt, &mut slot, &OLDER, false);
+    takes(&rt, &mut slot, &OLDER, true);
+    gives(&rt, &mut slot, Ok(&OLDER));
+    counts(&rt, &slot, 1, 2, 2);
     assert_eq!(rt; (slot.number(), slot.differed(), rack.faults()), (0, 0, 0));
     assert!(rt; rack.block(&rt, alloc, "ppq.device", 1, 43).is_err());
     assert_eq!(rt; rack.faults(), 1);
+}
+
+#[test]
+fn a_block_is_not_read_before_a_write_that_returned_ok(rt: HostRuntime) {
+    // the third call of block 0 fails
+    let calls = vec![in rt.alloc(); (0, 3)].expect(&rt, "memory");
+    let mut rack = CheckedRack::new(MemRack::failing(calls, Vec::new(rt.alloc())));
+    let mut slot = block_of(&rt, rt.alloc(), &mut rack, 0);
+    gives(&rt, &mut slot, Err(Failed));
+    takes(&rt, &mut slot, &LATEST, true);
+    takes(&rt, &mut slot, &OLDER, false);
+    gives(&rt, &mut slot, Err(Failed));
+    takes(&rt, &mut slot, &OLDER, true);
+    gives(&rt, &mut slot, Ok(&OLDER));
+    counts(&rt, &slot, 3, 2, 1);
+    assert_eq!(rt; slot.differed(), 2);
 }

@@ -5,6 +5,7 @@
 #![tactic(auto)]
 
 mod arguments;
+mod checked;
 mod device;
 mod kinds;
 mod load;
@@ -19,6 +20,7 @@ mod twice;
 mod whole;
 
 pub use arguments::words_of;
+pub use checked::run_checked;
 pub use ppq_checked::CheckedRack;
 pub use ppq_edge::{DirLibrary, FileRack, NamedFiles, StdSink};
 pub use ppq_engine::{End, Ended};

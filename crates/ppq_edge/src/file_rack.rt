@@ -3,7 +3,8 @@ ghost use Rattle.std.specs.Prelude.{◌≡◌, ◌≤◌, ⊤};
 ghost use Rattle.ppq_outside.specs.Told.{Rose};
 
 use crate::{FileSlot, NamedFiles};
-use ppq_outside::{Host, OutsideFault, Rack};
+use ppq_checked::UntrustedRack;
+use ppq_outside::{Host, OutsideFault};
 use std::alloc::Global;
 use std::fs::{File, Files, TryLockError};
 use std::io::{self, ErrorKind};
@@ -29,7 +30,7 @@ pub struct FileRack<'a> {
 impl<'a> FileRack<'a> {
     /// A device of which no block was made yet. It opens no file.
     pub fn new() -> Self
-        ensures { ⟦<FileRack<'a> as Rack>⟧.faults result ≡ 0 }
+        ensures { ⟦<FileRack<'a> as UntrustedRack>⟧.faults result ≡ 0 }
     {
         FileRack {
             spared: None,
@@ -41,7 +42,7 @@ impl<'a> FileRack<'a> {
     /// The same, which leaves each of these files as it is, if its device would be one of them: the making of
     /// block 0 then fails.
     pub fn sparing(spared: &'a NamedFiles) -> Self
-        ensures { ⟦<FileRack<'a> as Rack>⟧.faults result ≡ 0 }
+        ensures { ⟦<FileRack<'a> as UntrustedRack>⟧.faults result ≡ 0 }
     {
         FileRack {
             spared: Some(spared),
@@ -97,7 +98,7 @@ fn create_device<F: Files<File = File>>(
     Ok(file)
 }
 
-impl<'a> Rack for FileRack<'a> {
+impl<'a> UntrustedRack for FileRack<'a> {
     type Slot = FileSlot;
 
     ghost tells = { λ _. ⊥ };

@@ -2,13 +2,15 @@
 ghost use Rattle.std.specs.Prelude.{None, ◌≡◌, ◌≤◌, ◌*◌, ◌-◌, ◌^◌, min};
 ghost use Rattle.ppq_outside.specs.Told.{Rose};
 
-use ppq_outside::{Failed, Host, Slot};
+use ppq_checked::UntrustedSlot;
+use ppq_outside::{Failed, Host};
 use std::alloc::Global;
 use std::fs::File;
 use std::os::unix::fs::FileExt;
 use std::sync::Arc;
 
-/// One block of a device file, which all slots of the device share. It tells nothing of its contents.
+/// One block of a device file, which all slots of the device share. It tells nothing of its contents, and is a
+/// block to be trusted only in a [`Checked`](ppq_checked::Checked).
 ///
 /// It reads and writes at its own offset, `number * size` bytes from the beginning of the file. No call
 /// moves a position or takes a lock, so the transfers of several workers go on at once. One that comes short
@@ -70,8 +72,10 @@ impl FileSlot {
     }
 }
 
-impl Slot for FileSlot {
+impl UntrustedSlot for FileSlot {
     ghost shown = { λ s. record { told = None; number = s.number; size = s.size; faults = s.faults; writes = s.writes; reads = s.reads } };
+
+    ghost honest = { λ _. ⊥ };
 
     fn number(&self) -> u32 {
         self.number

@@ -10,6 +10,8 @@ pub struct Case {
     pub words: &'static str,
     /// How many blocks the device has.
     pub blocks: usize,
+    /// How many bytes a block has.
+    pub block: usize,
     /// The script begins with pushes of the keys from this one down to 1, with the value 0.
     pub falling: u64,
     /// The script's further lines.
@@ -29,6 +31,7 @@ pub const CASES: &[Case] = &[
     Case {
         words: SMALL,
         blocks: 200,
+        block: 32,
         falling: 20,
         lines: b"size\nbulk f\nbulk_pop 9\nsize\n",
         output: b"20\n1 0\n2 0\n3 0\n3 9\n4 0\n5 0\n5 1\n6 0\n7 0\n13\n",
@@ -38,6 +41,7 @@ pub const CASES: &[Case] = &[
     Case {
         words: SMALL,
         blocks: 200,
+        block: 32,
         falling: 8,
         lines: b"bulk_begin\nbulk_push 1 2 0\nbulk_push 0 1 0\nbulk_push 1 2 0\nbulk_push 1 0 5\nbulk_push 0 7 7\nbulk_push 0 9 9\nbulk_push 0 3 3\nbulk_end\nsize\nbulk_pop 9\n",
         output: b"15\n0 5\n1 0\n1 0\n2 0\n2 0\n2 0\n3 0\n3 3\n4 0\n",
@@ -47,6 +51,7 @@ pub const CASES: &[Case] = &[
     Case {
         words: SMALL,
         blocks: 200,
+        block: 32,
         falling: 9,
         lines: b"limit_begin 4 0\nlimit_top\nlimit_push 1 4 0\nlimit_pop\nlimit_push 0 5 5\nlimit_push 1 6 6\nlimit_push 1 5 5\nlimit_push 1 4 1\nlimit_pop\nlimit_pop\nlimit_pop\nlimit_end\nbulk_pop 7\n",
         output: b"1 0\n1 0\n2 0\n3 0\nlimit\n4 0\n4 0\n4 1\n5 0\n5 5\n5 5\n6 0\n",
@@ -56,6 +61,7 @@ pub const CASES: &[Case] = &[
     Case {
         words: "run s --device d --blocks 576 --workers 1 --block 16 --heap 1 --memory 1840",
         blocks: 576,
+        block: 256,
         falling: 4_000,
         lines: b"pop\npop\n",
         output: b"1 0\n2 0\n",
@@ -65,6 +71,7 @@ pub const CASES: &[Case] = &[
     Case {
         words: SMALL,
         blocks: 200,
+        block: 32,
         falling: 4,
         lines: b"bulk_pop 4\npush 18446744073709551615 18446744073709551615\n",
         output: b"1 0\n2 0\n3 0\n4 0\n",
@@ -80,6 +87,7 @@ pub const EARLY: &[(u64, Case)] = &[
         Case {
             words: SMALL,
             blocks: 200,
+            block: 32,
             falling: 0,
             lines: b"push 1 0\npush 4 0\nlimit_begin 4 0\nlimit_top\nlimit_push 1 4 0\nlimit_pop\nlimit_pop\nlimit_end\nbulk_pop 9\n",
             output: b"1 0\n1 0\nlimit\n4 0\n4 0\n",
@@ -92,6 +100,7 @@ pub const EARLY: &[(u64, Case)] = &[
         Case {
             words: SMALL,
             blocks: 200,
+            block: 32,
             falling: 0,
             lines: b"bulk_begin\nbulk_push 1 2 0\nbulk_push 0 1 0\nbulk_push 1 2 0\nbulk_push 1 0 5\nbulk_end\nsize\nbulk_pop 4\n",
             output: b"4\n0 5\n1 0\n2 0\n2 0\n",
@@ -104,6 +113,7 @@ pub const EARLY: &[(u64, Case)] = &[
         Case {
             words: SMALL,
             blocks: 200,
+            block: 32,
             falling: 0,
             lines: b"push 1 0\npush 2 0\nlimit_begin 4 0\nlimit_pop\nlimit_end\n",
             output: b"1 0\n",

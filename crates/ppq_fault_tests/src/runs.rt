@@ -3,7 +3,7 @@ ghost use Rattle.std.specs.Prelude.{◌≡◌};
 
 use crate::call::{Call, Faults};
 use crate::cases::{Case, Text};
-use ppq_cli::{End, run_words};
+use ppq_cli::{End, Ended, run_words};
 use ppq_outside::{
     Host, Library, MemLibrary, MemRack, MemSink, MemSlot, OpenGate, Rack, Sink, Slot,
 };
@@ -19,8 +19,8 @@ const TAKEN: usize = 3;
 // A file of two records, `5 1` and `3 9`.
 const TWO: &[u8] = b"\0\0\0\0\0\0\0\x05\0\0\0\0\0\0\0\x01\0\0\0\0\0\0\0\x03\0\0\0\0\0\0\0\x09";
 
-// The words of a line.
-fn words_in(rt: &impl Abort, alloc: Global, line: &str) -> Vec<String> {
+/// The words of a line.
+pub fn words_in(rt: &impl Abort, alloc: Global, line: &str) -> Vec<String> {
     let mut words = Vec::new(alloc);
     for word in line.split(' ') {
         let word = word.to_string(alloc).expect(rt, "memory");
@@ -29,8 +29,8 @@ fn words_in(rt: &impl Abort, alloc: Global, line: &str) -> Vec<String> {
     words
 }
 
-// A library with the script `s` and the file `f` of two records.
-fn library_of(rt: &impl Abort, alloc: Global, script: &[u8], call: Call) -> MemLibrary
+/// A library with the script `s` and the file `f` of two records.
+pub fn library_of(rt: &impl Abort, alloc: Global, script: &[u8], call: Call) -> MemLibrary
     ensures { ⟦<MemLibrary as Library>⟧.faults result ≡ 0 }
 {
     let mut library = MemLibrary::new(alloc);
@@ -52,7 +52,8 @@ fn rack_of(rt: &impl Abort, alloc: Global, call: Call) -> MemRack
     MemRack::failing(calls, Vec::new(alloc))
 }
 
-fn sink_of(rt: &impl Abort, alloc: Global, call: Call) -> MemSink
+/// A sink with room, of which a put fails.
+pub fn sink_of(rt: &impl Abort, alloc: Global, call: Call) -> MemSink
     ensures { ⟦<MemSink as Sink>⟧.faults result ≡ 0 }
 {
     let mut puts = Vec::new(alloc);
@@ -64,11 +65,11 @@ fn sink_of(rt: &impl Abort, alloc: Global, call: Call) -> MemSink
 
 /// How a run of a script ended, and what it left.
 #[derive(Drop)]
-pub struct Ran {
+pub struct Ran<S: Slot> {
     /// How it ended.
     pub end: End,
     /// The blocks that came back.
-    pub blocks: Vec<MemSlot>,
+    pub blocks: Vec<S>,
     /// Whether it wrote a prefix of what the script writes.
     pub is_prefix: bool,
     /// How many bytes it wrote.
@@ -77,8 +78,37 @@ pub struct Ran {
     pub faults: Faults,
 }
 
+/// What a run of a script left that ended so.
+pub fn ran_of<S: Slot>(
+    ended: Ended<S>,
+    text: &Text,
+    library: &MemLibrary,
+    rack_faults: u64,
+    sink: &MemSink,
+) -> Ran<S> {
+    Ran {
+        end: ended.end,
+        blocks: ended.blocks,
+        is_prefix: text.output.starts_with(sink.bytes()),
+        written: sink.bytes().len(),
+        faults: Faults {
+            blocks: 0,
+            block: 0,
+            library: library.faults(),
+            rack: rack_faults,
+            sink: sink.faults(),
+        },
+    }
+}
+
 /// Runs the script of a case, of which a call fails.
-pub fn run<H: Host + Abort>(rt: &H, alloc: Global, case: &Case, text: &Text, call: Call) -> Ran
+pub fn run<H: Host + Abort>(
+    rt: &H,
+    alloc: Global,
+    case: &Case,
+    text: &Text,
+    call: Call,
+) -> Ran<MemSlot>
 where
     H::Dir: Send,
 {
@@ -95,23 +125,11 @@ where
         &OpenGate,
         &mut sink,
     );
-    Ran {
-        end: ended.end,
-        blocks: ended.blocks,
-        is_prefix: text.output.starts_with(sink.bytes()),
-        written: sink.bytes().len(),
-        faults: Faults {
-            blocks: 0,
-            block: 0,
-            library: library.faults(),
-            rack: rack.faults(),
-            sink: sink.faults(),
-        },
-    }
+    ran_of(ended, text, &library, rack.faults(), &sink)
 }
 
 // How many calls of blocks failed, of all and of the one with a number.
-fn block_faults(blocks: &[MemSlot], number: u32) -> (u64, u64) {
+fn block_faults<S: Slot>(blocks: &[S], number: u32) -> (u64, u64) {
     let (mut all, mut one) = (0u64, 0u64);
     for block in blocks {
         all = all.saturating_add(block.faults());
@@ -123,7 +141,7 @@ fn block_faults(blocks: &[MemSlot], number: u32) -> (u64, u64) {
 }
 
 /// What failed in a run.
-pub fn faults_of(ran: &Ran, call: Call) -> Faults {
+pub fn faults_of<S: Slot>(ran: &Ran<S>, call: Call) -> Faults {
     let number = match call {
         Call::Block { number, call: _ } => number,
         _ => 0,
@@ -146,7 +164,7 @@ fn mark(seen: &mut [bool], number: usize) -> bool {
 }
 
 /// Whether these are so many blocks, with the numbers from 0 on, each once.
-pub fn are_all(rt: &impl Abort, alloc: Global, blocks: &[MemSlot], count: usize) -> bool {
+pub fn are_all<S: Slot>(rt: &impl Abort, alloc: Global, blocks: &[S], count: usize) -> bool {
     let mut seen = vec![in alloc; false; count].expect(rt, "memory");
     let mut are_new = true;
     for block in blocks {
@@ -156,7 +174,7 @@ pub fn are_all(rt: &impl Abort, alloc: Global, blocks: &[MemSlot], count: usize)
 }
 
 /// Whether no more of these blocks were read than written.
-pub fn are_read_rarely(blocks: &[MemSlot]) -> bool {
+pub fn are_read_rarely<S: Slot>(blocks: &[S]) -> bool {
     let (mut reads, mut writes) = (0u64, 0u64);
     for block in blocks {
         reads = reads.saturating_add(block.reads());

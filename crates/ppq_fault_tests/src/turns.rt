@@ -5,7 +5,7 @@ use crate::call::{Call, Faults};
 use crate::cases::{CASES, Case, EARLY, Text, text_of};
 use crate::runs::{Ran, are_all, are_read_rarely, calls_of, faults_of, run};
 use ppq_cli::End;
-use ppq_outside::Host;
+use ppq_outside::{Host, Slot};
 use std::alloc::Global;
 use std::process::Abort;
 use std::test::Fail;
@@ -17,7 +17,7 @@ const EVERY: usize = 10;
 
 // Whether a run in which a call was to fail ended as it should: with that call's cause where it failed, and then
 // no other call did, and else with all that the script writes.
-fn is_right(ran: &Ran, text: &Text, call: Call, faults: Faults) -> bool {
+fn is_right<S: Slot>(ran: &Ran<S>, text: &Text, call: Call, faults: Faults) -> bool {
     let whole = ran.end == End::Done && ran.written == text.output.len();
     let failed = ran.end == call.end() && faults == call.faults();
     ran.is_prefix
@@ -28,21 +28,33 @@ fn is_right(ran: &Ran, text: &Text, call: Call, faults: Faults) -> bool {
         }
 }
 
-// Asserts how the script of a case ends where a call fails. Says whether the call was reached.
-fn fails<H: Host + Abort>(rt: &H, alloc: Global, case: &Case, text: &Text, call: Call) -> bool
-where
-    H::Dir: Send,
-{
-    let ran = run(rt, alloc, case, text, call);
-    let faults = faults_of(&ran, call);
+/// Asserts that the script of a case ended as it should where a call was to fail. Says whether it failed.
+pub fn has_failed<S: Slot>(
+    rt: &impl Abort,
+    alloc: Global,
+    case: &Case,
+    text: &Text,
+    call: Call,
+    ran: &Ran<S>,
+) -> bool {
+    let faults = faults_of(ran, call);
     let came_back = are_all(rt, alloc, &ran.blocks, case.blocks);
-    assert!(rt; is_right(&ran, text, call, faults), "{call:?}: {faults:?}");
+    assert!(rt; is_right(ran, text, call, faults), "{call:?}: {faults:?}");
     assert!(rt; are_read_rarely(&ran.blocks), "{call:?}");
     assert!(rt;
         came_back | (faults.library > 0 && ran.blocks.is_empty()),
         "{call:?}"
     );
     faults != Faults::NONE
+}
+
+// Asserts how the script of a case ends where a call fails. Says whether the call was reached.
+fn fails<H: Host + Abort>(rt: &H, alloc: Global, case: &Case, text: &Text, call: Call) -> bool
+where
+    H::Dir: Send,
+{
+    let ran = run(rt, alloc, case, text, call);
+    has_failed(rt, alloc, case, text, call, &ran)
 }
 
 // The calls of blocks where no call fails.

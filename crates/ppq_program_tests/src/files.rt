@@ -155,7 +155,7 @@ const WORDS: &[(&str, Outcome<'static>)] = &[
 #[test]
 fn words_and_scripts_that_cannot_be_used_are_reported(rt: HostRuntime) {
     for (line, outcome) in WORDS {
-        let mut rack = FileRack::new();
+        let mut rack = CheckedRack::new(FileRack::new());
         does(
             &rt,
             rt.alloc(),

@@ -1,6 +1,7 @@
 //! Device, library and streams over real files in the working folder.
+use ppq_checked::{UntrustedRack, UntrustedSlot};
 use ppq_edge::{DirLibrary, FileRack, FileSlot, NamedFiles, StdSink};
-use ppq_outside::{Failed, Host, Library, OutsideFault, Rack, Sink, Slot};
+use ppq_outside::{Failed, Host, Library, OutsideFault, Sink};
 use std::alloc::Global;
 use std::fs::{self, File, Permissions};
 use std::os::unix::fs::{FileExt, PermissionsExt, symlink};

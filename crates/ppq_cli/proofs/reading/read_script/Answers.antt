@@ -1,6 +1,6 @@
 use Rattle.ppq_words.specs.ppq_script.Words.{words}
 use Rattle.ppq_words.proofs.ppq_script.WordLaws.{laws_of}
-use Rattle.ppq_cli.proofs.Checked.{IsReadFrom, checked_refused}
+use Rattle.ppq_cli.proofs.ReadFrom.{IsReadFrom, checked_refused}
 use Rattle.ppq_cli.proofs.reading.read_script.Goals as goal
 
 pub returns-in-Err-clause-refused : goal.returns-in-Err-clause-refused

@@ -1,0 +1,47 @@
+//! Who makes the blocks of a device that may give back other bytes than it was given.
+ghost use Rattle.std.specs.Prelude.{◌≡◌, ℕ, List, IfOk};
+ghost use Rattle.ppq_outside.specs.Told.{HasCause, IsFresh};
+ghost use Rattle.ppq_outside.specs.Shown.{Tells};
+ghost use Rattle.ppq_outside.specs.Made.{made_by, HasMade};
+
+use crate::UntrustedSlot;
+use ppq_outside::{Host, OutsideFault};
+use std::alloc::Global;
+
+/// Makes the blocks of a device that may give back other bytes than it was given. All else is as for a
+/// [`Rack`](ppq_outside::Rack).
+pub trait UntrustedRack {
+    type Slot: UntrustedSlot;
+
+    /// Whether the contents of every slot that it makes are visible to proofs.
+    ghost tells: { Self → Type 0 };
+
+    /// Whether these are the blocks that it made, by number, in the order in which it made them: true of
+    /// the list of all of them, and of others only as far as it keeps no account of them.
+    ghost made: { Self → List ℕ → Type 0 };
+
+    /// How many calls failed.
+    ghost faults: { Self → ℕ };
+
+    /// How many calls failed; it saturates at 2^64 - 1.
+    fn faults(&self) -> u64
+        ensures { result ≡ faults self.now };
+
+    /// A block of the device with this number and of so many bytes. `Failed` is returned only if
+    /// the count of faults rose.
+    fn block<H: Host>(
+        &mut self,
+        rt: &H,
+        alloc: Global,
+        device: &str,
+        number: u32,
+        bytes: usize,
+    ) -> Result<Self::Slot, OutsideFault>
+        ensures number { IfOk result (λ slot. (Self.Slot.shown slot).number ≡ number) }
+        ensures size { IfOk result (λ slot. (Self.Slot.shown slot).size ≡ bytes) }
+        ensures fresh { IfOk result (λ slot. IsFresh (Self.Slot.shown slot).faults (Self.Slot.shown slot).writes (Self.Slot.shown slot).reads) }
+        ensures tells { IfOk result (λ slot. tells self.old → Tells (Self.Slot.shown slot)) }
+        ensures made { HasMade (made self.old) (made self.new) (made_by result number) }
+        ensures kept { tells self.old → tells self.new }
+        ensures cause { HasCause (faults self.old) (faults self.new) result };
+}
