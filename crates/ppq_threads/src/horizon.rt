@@ -91,7 +91,11 @@ where
             break;
         }
     }
-    Ok(())
+    if lines.is_empty() {
+        Ok(())
+    } else {
+        Err(Fault::Session)
+    }
 }
 
 // Takes all events of a queue that are below a horizon, and adds those that they make.
