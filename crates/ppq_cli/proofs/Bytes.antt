@@ -61,11 +61,22 @@ rose_by before now check.Memory rose is = cc
 counted : {T : Type 0} (before now : ℕ) (result : Result T CheckFault) (fault : CheckFault) → result ≡ Err fault → CheckCounts before now result → RunCounts ReadFault before now (check_end fault)
 counted {T} before now result fault is counts = record {
   later = counts.later;
-  stays = let P : Result T CheckFault → Type 0 = λ x. IfErr x (λ f. NoFault (check_end f) → now ≡ before) in subst P is counts.unless;
   rose =
       let P : Result T CheckFault → Type 0 = λ x. IsErrOf x check.ReadFault → Rose before now in
       rose_by before now fault (λ e. (subst P is counts.read) (ap (λ (f : CheckFault). let x : Result T CheckFault = Err f in x) e));
 }
+
+-- of the ends of a refusal one alone names a fault
+check_quiet : (fault : CheckFault) → ¬ (check_end fault ≡ ReadFault) → NoFault (check_end fault)
+check_quiet (check.BadLine line) read = tt
+check_quiet check.ReadFault read = absurd (read refl)
+check_quiet check.Memory read = tt
+
+count_stays : {T : Type 0} (before now : ℕ) (result : Result T CheckFault) (fault : CheckFault) → result ≡ Err fault → CheckCounts before now result → ¬ (check_end fault ≡ ReadFault) → now ≡ before
+count_stays {T} before now result fault is counts read =
+    let P : Result T CheckFault → Type 0 = λ x. IfErr x (λ f. NoFault (check_end f) → now ≡ before) in
+    let unless : P (Err fault) = subst P is counts.unless in
+    unless (check_quiet fault read)
 
 nothing_part : (told : Option Files) {R : Type 0} (words : Words R) {O : Type 0} (sink : O → Option (List ℕ)) (out : O) (r : Arguments) (bytes : List ℕ) → OfBytes told (typed words) r bytes (WritesPart sink out out)
 nothing_part None words sink out r bytes = tt
@@ -100,8 +111,11 @@ module _ {R L K O S : Type 0} (words : Words R) (library : LibraryShows L) (rack
         keeps = record { told = keeps.told; remembers = keeps.remembers; asks = reads_lengths (library.replied old) (library.replied new) keeps.asks };
         faults = subst F (sym is) (record {
           library = counted (library.faults old) (library.faults new) result fault was counts;
+          library_stays = λ read written. count_stays (library.faults old) (library.faults new) result fault was counts read;
           rack = same_count NoDevice (check_end fault) (rack.faults held) (not_rack fault);
+          rack_stays = λ unmade. refl;
           sink = same_count WriteFault (check_end fault) (sink.faults out) (not_sink fault);
+          sink_stays = λ written. refl;
         });
       }
 

@@ -214,11 +214,22 @@ unread_not_run (check.BadLine line) run = run
 unread_not_run check.ReadFault run = run
 unread_not_run check.Memory run = run
 
+-- of the ends of a script that was not loaded, one alone names a fault
+load_quiet : (fault : LoadFault) → ¬ (load_end fault ≡ ReadFault) → NoFault (load_end fault)
+load_quiet load.ReadFault read = absurd (read refl)
+load_quiet load.Memory read = tt
+load_quiet load.NoScript read = tt
+load_quiet load.ScriptTooLong read = tt
+load_quiet (load.FileChanged said got) read = tt
+
+pub unloaded_stays : (before now : ℕ) (fault : LoadFault) (end : End) → end ≡ load_end fault → (NoFault (load_end fault) → now ≡ before) → ¬ (end ≡ ReadFault) → now ≡ before
+unloaded_stays before now fault end is unless read = unless (load_quiet fault (λ e. read (is ∙ e)))
+
 -- and has no blocks
 pub no_blocks : (most : ℕ) (end : End) (slots : List Shown) → (IsSurelyRun end → ⊥) → slots ≡ [] → AreBlocks most end slots
 no_blocks most end slots not_run none =
     let P : List Shown → Type 0 = λ s. AreBlocks most end s in
-    subst P (sym none) (record { numbers = IsPermutation-refl []; most = omega arith; all = λ run. absurd (not_run run); all_or_none = λ run. inr refl })
+    subst P (sym none) (record { numbers = IsPermutation-refl []; most = omega arith; all = λ run. absurd (not_run run); all_or_none = λ run. inr refl; none = λ refused. refl })
 
 -- a script that was read keeps the lengths of its files
 pub keeps :

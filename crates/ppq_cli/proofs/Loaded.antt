@@ -137,11 +137,11 @@ module _
         above = λ is t. of_words _ (full_file (IsTooLarge load_by) is (λ script w. w.above t));
         above_any = λ is. of_words _ (full_file (IsTooLarge most_by) is (λ script w files are. w.above_any));
         library_later = omega (arith, same, e.faults.library.later);
-        library_stays = λ quiet. e.faults.library.stays quiet ∙ same;
+        library_stays = λ read written. e.faults.library_stays read written ∙ same;
         rack_later = e.faults.rack.later;
-        rack_stays = e.faults.rack.stays;
+        rack_stays = e.faults.rack_stays;
         sink_later = e.faults.sink.later;
-        sink_stays = e.faults.sink.stays;
+        sink_stays = e.faults.sink_stays;
         complete = λ t fault. completed load_by (λ is. full_file (IsTooLarge load_by) is (λ script w. w.above t)) fault;
         complete_any = λ fault. completed most_by (λ is. full_file (IsTooLarge most_by) is (λ script w files are. w.above_any)) fault;
       }

@@ -15,8 +15,8 @@ use Rattle.ppq_words.specs.Reading.{Reading as Arguments, sizes_at}
 use Rattle.ppq_words.proofs.ppq_outside.Replies.{no_replies}
 use Rattle.ppq_engine.specs.Ends.{BeganCommands, BeganOrRefused, budget_refusal}
 use Rattle.ppq_engine.specs.declared.end.End.{End}
-use Rattle.ppq_engine.specs.declared.end.End.TheVariants.{Done, ReadFault, WriteFault, NoFreeBlock, BudgetTooSmall, Memory, NoDevice}
-use Rattle.ppq_cli.specs.Device.{AreBlocks, HasReason, IsSurelyRun, make_end}
+use Rattle.ppq_engine.specs.declared.end.End.TheVariants.{Done, BadLine, Usage, ReadFault, WriteFault, NoFreeBlock, BudgetTooSmall, Memory, NoDevice, NoScript, ScriptTooLong}
+use Rattle.ppq_cli.specs.Device.{AreBlocks, ComesBeforeBlocks, HasReason, IsSurelyRun, make_end}
 use Rattle.ppq_cli.specs.Replies.{Files, need_of, LibraryKeeps, FaultToFile}
 use Rattle.ppq_cli.specs.RunOver.{RunWrites, RunEnds, RunCounts, RunFaults}
 use Rattle.ppq_cli.specs.RunWords.{refusal_of_budget, IsTriedOrRefusal}
@@ -87,32 +87,40 @@ device_made false need (inr is) = cc
 
 -- a count that stays, with an end that does not name its fault
 pub same_count : (fault end : End) (count : ℕ) → (end ≡ fault → ⊥) → RunCounts fault count count end
-same_count fault end count never = record { later = omega arith; stays = λ quiet. refl; rose = λ is. absurd (never is) }
+same_count fault end count never = record { later = omega arith; rose = λ is. absurd (never is) }
 
 pub small_faults : (library rack sink need : ℕ) → RunFaults library library rack rack sink sink (BudgetTooSmall need)
 small_faults library rack sink need = record {
   library = same_count ReadFault (BudgetTooSmall need) library (λ is. cc);
+  library_stays = λ read written. refl;
   rack = same_count NoDevice (BudgetTooSmall need) rack (λ is. cc);
+  rack_stays = λ unmade. refl;
   sink = same_count WriteFault (BudgetTooSmall need) sink (λ is. cc);
+  sink_stays = λ written. refl;
 }
 
 pub unmade_faults : (library rack rack_now sink : ℕ) (fault : OutsideFault) → rack ≤ rack_now → HasReason rack rack_now fault → RunFaults library library rack rack_now sink sink (make_end fault)
 unmade_faults library rack rack_now sink outside.Failed later reason = record {
   library = same_count ReadFault NoDevice library (λ is. cc);
-  rack = record { later = later; stays = λ quiet. absurd quiet; rose = λ is. reason };
+  library_stays = λ read written. refl;
+  rack = record { later = later; rose = λ is. reason };
+  rack_stays = λ unmade. absurd (unmade refl);
   sink = same_count WriteFault NoDevice sink (λ is. cc);
+  sink_stays = λ written. refl;
 }
 unmade_faults library rack rack_now sink outside.Memory later reason = record {
   library = same_count ReadFault Memory library (λ is. cc);
-  rack = record { later = later; stays = λ quiet. reason; rose = λ is. cc };
+  library_stays = λ read written. refl;
+  rack = record { later = later; rose = λ is. cc };
+  rack_stays = λ unmade. reason;
   sink = same_count WriteFault Memory sink (λ is. cc);
+  sink_stays = λ written. refl;
 }
 
 -- the device was made, so its count stays
 pub made_count : (sizes : Numbers) (before now : ℕ) (end : End) → now ≡ before → BeganOrRefused (budget_refusal sizes) end → RunCounts NoDevice before now end
 made_count sizes before now end same answer = record {
   later = omega (arith, same);
-  stays = λ quiet. same;
   rose = λ is. absurd (device_made (nat_lt sizes.memory (fixed_of sizes)) (fixed_of sizes) (let P : End → Type 0 = λ e. BeganOrRefused (budget_refusal sizes) e in subst P is answer));
 }
 
@@ -129,6 +137,28 @@ early_not_begun : (fault : OutsideFault) → BeganCommands (make_end fault) → 
 early_not_begun outside.Failed run = run
 early_not_begun outside.Memory run = run
 
+-- an end that is none of a refusal
+unmade_unrefused : (fault : OutsideFault) → ComesBeforeBlocks (make_end fault) → ⊥
+unmade_unrefused outside.Failed refused = refused
+unmade_unrefused outside.Memory refused = refused
+
+began_unrefused : (end : End) → BeganCommands end → ComesBeforeBlocks end → ⊥
+began_unrefused (BadLine line) began refused = began
+began_unrefused Usage began refused = began
+began_unrefused (BudgetTooSmall need) began refused = began
+began_unrefused NoScript began refused = began
+began_unrefused ScriptTooLong began refused = began
+began_unrefused _ began refused = refused
+
+-- nor is that of a script whose budget is large enough
+unrefused_by : (small : Bool) (need : ℕ) (end : End) → small ≡ false → BeganOrRefused (if small then Some (BudgetTooSmall need) else None) end → ComesBeforeBlocks end → ⊥
+unrefused_by true need end large answer refused = cc
+unrefused_by false need end large (inl began) refused = began_unrefused end began refused
+unrefused_by false need end large (inr memory) refused = subst ComesBeforeBlocks memory refused
+
+pub run_unrefused : (sizes : Numbers) (end : End) → fixed_of sizes ≤ sizes.memory → BeganOrRefused (budget_refusal sizes) end → ComesBeforeBlocks end → ⊥
+run_unrefused sizes end enough answer refused = unrefused_by (nat_lt sizes.memory (fixed_of sizes)) (fixed_of sizes) end (le-ltb sizes.memory (fixed_of sizes) enough) answer refused
+
 -- the blocks that were made before one that could not be
 pub unmade_blocks : (most : ℕ) (slots : List Shown) (fault : OutsideFault) → IsPermutation (map (λ s. s.number) slots) (range_with_len 0 (length slots)) → length slots ≤ most → AreBlocks most (make_end fault) slots
-unmade_blocks most slots fault numbers within = record { numbers = numbers; most = within; all = λ run. absurd (early_not_run fault run); all_or_none = λ run. absurd (early_not_begun fault run) }
+unmade_blocks most slots fault numbers within = record { numbers = numbers; most = within; all = λ run. absurd (early_not_run fault run); all_or_none = λ run. absurd (early_not_begun fault run); none = λ refused. absurd (unmade_unrefused fault refused) }

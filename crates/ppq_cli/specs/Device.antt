@@ -60,10 +60,27 @@ IsSurelyRun end.NoDevice = ⊥
 IsSurelyRun end.NoScript = ⊥
 IsSurelyRun end.ScriptTooLong = ⊥
 
+-- the arguments, the script or the budget were refused: the end comes before a block is made
+abbrev pub ComesBeforeBlocks : End → Type 0
+ComesBeforeBlocks end.Done = ⊥
+ComesBeforeBlocks (end.BadLine line) = ⊤
+ComesBeforeBlocks end.Usage = ⊤
+ComesBeforeBlocks end.ReadFault = ⊥
+ComesBeforeBlocks end.WriteFault = ⊥
+ComesBeforeBlocks (end.DeviceFault number) = ⊥
+ComesBeforeBlocks end.NoFreeBlock = ⊥
+ComesBeforeBlocks (end.BudgetTooSmall need) = ⊤
+ComesBeforeBlocks end.Memory = ⊥
+ComesBeforeBlocks (end.FileChanged line said got) = ⊥
+ComesBeforeBlocks end.NoDevice = ⊥
+ComesBeforeBlocks end.NoScript = ⊤
+ComesBeforeBlocks end.ScriptTooLong = ⊤
+
 -- the blocks that come back with an end, of a device that has so many: their numbers are those from 0 on, each once; all of them
--- where the script was run; none where it could not be loaded
+-- where the script was run; none where it was refused
 pub record AreBlocks (blocks : ℕ) (answer : End) (slots : List Shown) : Type 0 where
   pub numbers : IsPermutation (map (λ s. s.number) slots) (range_with_len 0 (length slots))
   pub most : length slots ≤ blocks
   pub all : IsSurelyRun answer → length slots ≡ blocks
   pub all_or_none : BeganCommands answer → (length slots ≡ blocks) ⊎ (length slots ≡ 0)
+  pub none : ComesBeforeBlocks answer → length slots ≡ 0

@@ -11,7 +11,6 @@ use Rattle.ppq_words.specs.Reading.{Reading as Arguments, sizes_at}
 use Rattle.ppq_words.specs.ppq_script.Reading.{Reading, command_list}
 use Rattle.ppq_words.specs.ppq_budget.Sizes.{Numbers, AreInRange}
 use Rattle.ppq_engine.specs.ppq_array.Kept.{HasFailed}
-use Rattle.ppq_engine.specs.Ends.{NoFault}
 use Rattle.ppq_engine.specs.Running.{HasChanged}
 use Rattle.ppq_engine.specs.Work.{TransfersFew}
 use Rattle.ppq_engine.specs.declared.end.End.{End}
@@ -49,17 +48,19 @@ pub record RunTransfers {R : Type 0} (words : Words R) (sizes : Numbers) (script
   pub range : AreInRange sizes
   pub few : TransfersFew words (command_list script) sizes blocks
 
--- A count of faults did not fall; it stayed where the end names no fault, and rose with the end that names this one
+-- A count of faults did not fall, and rose with the end that names this one
 pub record RunCounts (fault : End) (before now : ℕ) (end : End) : Type 0 where
   pub later : before ≤ now
-  pub stays : NoFault end → now ≡ before
   pub rose : end ≡ fault → Rose before now
 
--- the counts of the library, the rack and the sink
+-- The counts of the library, the rack and the sink. Each stayed with every other end; but a read may have failed before the sink did
 pub record RunFaults (of_library library_now of_rack rack_now of_sink sink_now : ℕ) (end : End) : Type 0 where
   pub library : RunCounts ReadFault of_library library_now end
+  pub library_stays : ¬ (end ≡ ReadFault) → ¬ (end ≡ WriteFault) → library_now ≡ of_library
   pub rack : RunCounts NoDevice of_rack rack_now end
+  pub rack_stays : ¬ (end ≡ NoDevice) → rack_now ≡ of_rack
   pub sink : RunCounts WriteFault of_sink sink_now end
+  pub sink_stays : ¬ (end ≡ WriteFault) → sink_now ≡ of_sink
 
 -- What comes of a script of these bytes with records of this type, by what library, rack, sink and blocks show, before it and after it: what
 -- the sink took, when each end comes, and that all blocks come back

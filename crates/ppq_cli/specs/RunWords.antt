@@ -211,10 +211,10 @@ pub record RunsWords
   pub above : ended.end ≡ NoFreeBlock → rack.tells old_rack → OfScript library.told old_library words (IsTooLarge load_by)
   pub above_any : ended.end ≡ NoFreeBlock → OfScript library.told old_library words (IsTooLarge most_by)
   pub library_later : library.faults old_library ≤ library.faults new_library
-  pub library_stays : NoFault ended.end → library.faults new_library ≡ library.faults old_library
+  pub library_stays : ¬ (ended.end ≡ ReadFault) → ¬ (ended.end ≡ WriteFault) → library.faults new_library ≡ library.faults old_library
   pub rack_later : rack.faults old_rack ≤ rack.faults new_rack
-  pub rack_stays : NoFault ended.end → rack.faults new_rack ≡ rack.faults old_rack
+  pub rack_stays : ¬ (ended.end ≡ NoDevice) → rack.faults new_rack ≡ rack.faults old_rack
   pub sink_later : sink.faults old_out ≤ sink.faults new_out
-  pub sink_stays : NoFault ended.end → sink.faults new_out ≡ sink.faults old_out
+  pub sink_stays : ¬ (ended.end ≡ WriteFault) → sink.faults new_out ≡ sink.faults old_out
   pub complete : rack.tells old_rack → NoFault ended.end → Completes load_by library.told old_library words ended.end
   pub complete_any : NoFault ended.end → Completes most_by library.told old_library words ended.end

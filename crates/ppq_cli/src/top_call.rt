@@ -34,9 +34,10 @@ use std::alloc::Global;
 /// the heaps that these fill and the sessions that it begins, and no more are read than written, unless twice
 /// these heaps and `workers + 2` times the sessions come to 8^8 or more. Each outcome comes only for its cause,
 /// and `Usage`, `NoScript`, `ScriptTooLong`, `BadLine` and `BudgetTooSmall` if and only if they are due, in
-/// this order, unless an allocation or a read failed. No count of faults falls, and none rises unless the
-/// outcome names a fault, so the same outside can be handed in again. A script that is not refused ends `Done`
-/// or `Memory`, unless the outcome names a fault, if there is room for its load: on the device, or in one heap
+/// this order, unless an allocation or a read failed; these five make no block. No count of faults falls, and
+/// none rises but with the outcome that names it, and the library's with `WriteFault`, before which a read may
+/// have failed; so the same outside can be handed in again. A script that is not refused ends `Done` or
+/// `Memory`, unless the outcome names a fault, if there is room for its load: on the device, or in one heap
 /// where the script begins no limit session. This is said of an outside that is visible to proofs; of any other
 /// library, the outcomes, how few blocks are written and read, and the output of a script that reads no file,
 /// are those of the bytes that its reads returned as the script.
@@ -95,7 +96,7 @@ where
     ensures remembers { Remembers (L.replied library.old) (L.replied library.new) }
     ensures reads { ReadsWithin (L.replied library.old) (L.replied library.new) }
 
-    // When each outcome comes: each has its cause, and a count of faults rises only with an outcome that names a fault.
+    // When each outcome comes: each has its cause, and a count of faults rises only with the outcome that names it; but a read may have failed before `WriteFault`.
     ensures usage { result.end ≡ Usage → reading words.now ≡ None }
     ensures no_reading { reading words.now ≡ None → (result.end ≡ Usage) ⊎ (result.end ≡ ends.Memory) }
     ensures early { reading words.now ≡ None → may_run (texts_of words.now) ≡ false → result.end ≡ Usage }
@@ -108,11 +109,11 @@ where
     ensures above { result.end ≡ NoFreeBlock → K.tells rack.old → OfScript L.told library.old words.now (IsTooLarge load_by) }
     ensures above_any { result.end ≡ NoFreeBlock → OfScript L.told library.old words.now (IsTooLarge most_by) }
     ensures library_later { L.faults library.old ≤ L.faults library.new }
-    ensures library_stays { NoFault result.end → L.faults library.new ≡ L.faults library.old }
+    ensures library_stays { ¬ (result.end ≡ ReadFault) → ¬ (result.end ≡ WriteFault) → L.faults library.new ≡ L.faults library.old }
     ensures rack_later { K.faults rack.old ≤ K.faults rack.new }
-    ensures rack_stays { NoFault result.end → K.faults rack.new ≡ K.faults rack.old }
+    ensures rack_stays { ¬ (result.end ≡ NoDevice) → K.faults rack.new ≡ K.faults rack.old }
     ensures sink_later { O.faults out.old ≤ O.faults out.new }
-    ensures sink_stays { NoFault result.end → O.faults out.new ≡ O.faults out.old }
+    ensures sink_stays { ¬ (result.end ≡ WriteFault) → O.faults out.new ≡ O.faults out.old }
 
     // Completeness: a script that is not refused, with room for its load, is done, unless memory was wanting or the outside failed.
     ensures complete { K.tells rack.old → NoFault result.end → Completes load_by L.told library.old words.now result.end }

@@ -15,7 +15,7 @@ use Rattle.ppq_load.proofs.Refusals.{room-not_none}
 use Rattle.ppq_engine.specs.Loads.{most_of, least_of, begins_limit, FitsWritten}
 use Rattle.ppq_engine.specs.Output.{AreFilesOf, given_of, output_of, load_of, crest_of, TakesWithin}
 use Rattle.ppq_engine.specs.Outcome.{EndSays, CountsStay, TakesBeforeLoad}
-use Rattle.ppq_engine.specs.Ends.{budget_refusal, BeganOrRefused, IsQuiet, NoFault, NoneFailed, IsCompleted}
+use Rattle.ppq_engine.specs.Ends.{budget_refusal, BeganOrRefused, IsQuiet, NoneFailed, IsCompleted}
 use Rattle.ppq_engine.specs.declared.end.End.{End}
 use Rattle.ppq_engine.specs.declared.end.End.TheVariants.{Done, BadLine, Usage, ReadFault, WriteFault, DeviceFault, NoFreeBlock, BudgetTooSmall, Memory, FileChanged, NoDevice, NoScript, ScriptTooLong}
 use Rattle.ppq_engine.proofs.Sizes.{fits-more}
@@ -50,7 +50,7 @@ module _ {R : Type 0} (w : Words R) (form : Form) (told : Option (List ℕ → O
         says.2,
         sym (sums (λ s. s.faults)) ∙ says.3,
       )
-  says-later slots later (DeviceFault number) sums says = omega (arith, says, sums (weight_at (λ s. s.faults) number))
+  says-later slots later (DeviceFault number) sums says = (omega (arith, says.0, sums (weight_at (λ s. s.faults) number)), says.1)
   says-later slots later _ sums says = says
 
   module _ (slots later : List Shown) (end : End) (sums : SameSums slots later) (says : Says slots end) where
@@ -84,18 +84,29 @@ module _ {R : Type 0} (w : Words R) (form : Form) (told : Option (List ℕ → O
     end-memory is = (says-is Memory is).0
 
     pub end-failed : (number : ℕ) → end ≡ DeviceFault number → HasFailed number later
-    end-failed number is = says-is (DeviceFault number) is
+    end-failed number is = (says-is (DeviceFault number) is).0
 
-  -- an end that names no fault leaves the counts of sink and library as they were
-  pub says-stays : (slots : List Shown) (end : End) → Says slots end → NoFault end → CountsStay sink sink_now library library_now
-  says-stays slots Done says none = says.2
-  says-stays slots ReadFault says none = absurd none
-  says-stays slots WriteFault says none = absurd none
-  says-stays slots (DeviceFault number) says none = absurd none
-  says-stays slots NoFreeBlock says none = says.2
-  says-stays slots Memory says none = says.1
-  says-stays slots (FileChanged line said got) says none = says.1
-  says-stays slots _ says none = absurd says
+  -- the count of the sink rises with one end alone
+  pub says-sink_stays : (slots : List Shown) (end : End) → Says slots end → ¬ (end ≡ WriteFault) → sink_now ≡ sink
+  says-sink_stays slots Done says written = says.2.sink_same
+  says-sink_stays slots ReadFault says written = says.1
+  says-sink_stays slots WriteFault says written = absurd (written refl)
+  says-sink_stays slots (DeviceFault number) says written = says.1.sink_same
+  says-sink_stays slots NoFreeBlock says written = says.2.sink_same
+  says-sink_stays slots Memory says written = says.1.sink_same
+  says-sink_stays slots (FileChanged line said got) says written = says.1.sink_same
+  says-sink_stays slots _ says written = absurd says
+
+  -- that of the library with its own, and with that of the sink, to which gathered text is put after a read failed
+  pub says-library_stays : (slots : List Shown) (end : End) → Says slots end → ¬ (end ≡ ReadFault) → ¬ (end ≡ WriteFault) → library_now ≡ library
+  says-library_stays slots Done says read written = says.2.library_same
+  says-library_stays slots ReadFault says read written = absurd (read refl)
+  says-library_stays slots WriteFault says read written = absurd (written refl)
+  says-library_stays slots (DeviceFault number) says read written = says.1.library_same
+  says-library_stays slots NoFreeBlock says read written = says.2.library_same
+  says-library_stays slots Memory says read written = says.1.library_same
+  says-library_stays slots (FileChanged line said got) says read written = says.1.library_same
+  says-library_stays slots _ says read written = absurd says
 
   -- of an open queue an end has one of the causes that come after the beginning
   began : (slots : List Shown) (end : End) → Says slots end → BeganOrRefused None end
@@ -119,9 +130,9 @@ module _ {R : Type 0} (w : Words R) (form : Form) (told : Option (List ℕ → O
       (slots : List Shown) (end : End) → Says slots end → IsQuiet sink sink_now → IsQuiet library library_now → NoneFailed slots
       → (end ≡ NoFreeBlock → ⊥) → IsCompleted told end
   says-completed slots Done says s l none room = tt
-  says-completed slots ReadFault says s l none room = not_quiet library library_now says l
+  says-completed slots ReadFault says s l none room = not_quiet library library_now says.0 l
   says-completed slots WriteFault says s l none room = not_quiet sink sink_now says s
-  says-completed slots (DeviceFault number) says s l none room = none number says
+  says-completed slots (DeviceFault number) says s l none room = none number says.0
   says-completed slots NoFreeBlock says s l none room = room refl
   says-completed slots Memory says s l none room = tt
   says-completed slots (FileChanged line said got) says s l none room = says.0.untold

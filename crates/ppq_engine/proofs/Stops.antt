@@ -275,9 +275,9 @@ module _ {R : Type 0} (w : Words R) (laws : HasLaws w) (form : Form) (told : Opt
         record { sink_same = same; library_same = library_after },
       ))
   says-stopped (Queue (Device number)) replied slots sizes mid now sink sink_mid sink_now library library_now had over some stopped changed after library_after puts =
-      rest-says replied slots sizes mid now sink sink_mid sink_now library library_now had (end.DeviceFault number) over puts after (λ took same. stopped.any)
+      rest-says replied slots sizes mid now sink sink_mid sink_now library library_now had (end.DeviceFault number) over puts after (λ took same. (stopped.any, record { sink_same = same; library_same = library_after }))
   says-stopped Read replied slots sizes mid now sink sink_mid sink_now library library_now had over some stopped changed after library_after puts =
-      rest-says replied slots sizes mid now sink sink_mid sink_now library library_now had end.ReadFault over puts after (λ took same. library_after)
+      rest-says replied slots sizes mid now sink sink_mid sink_now library library_now had end.ReadFault over puts after (λ took same. (library_after, same))
   says-stopped Memory replied slots sizes mid now sink sink_mid sink_now library library_now had over some stopped changed after library_after puts =
       rest-says replied slots sizes mid now sink sink_mid sink_now library library_now had end.Memory over puts after
       (λ took same. (

@@ -79,9 +79,9 @@ EndSays w form told replied script first slots sizes before now sink sink_now li
     × AreQuiet first slots
 EndSays w form told replied script first slots sizes before now sink sink_now library library_now (BadLine line) = ⊥
 EndSays w form told replied script first slots sizes before now sink sink_now library library_now Usage = ⊥
-EndSays w form told replied script first slots sizes before now sink sink_now library library_now ReadFault = Rose library library_now
+EndSays w form told replied script first slots sizes before now sink sink_now library library_now ReadFault = Rose library library_now × (sink_now ≡ sink)
 EndSays w form told replied script first slots sizes before now sink sink_now library library_now WriteFault = Rose sink sink_now
-EndSays w form told replied script first slots sizes before now sink sink_now library library_now (DeviceFault number) = HasFailed number slots
+EndSays w form told replied script first slots sizes before now sink sink_now library library_now (DeviceFault number) = HasFailed number slots × CountsStay sink sink_now library library_now
 EndSays w form told replied script first slots sizes before now sink sink_now library library_now NoFreeBlock =
     (AllTell first → (files : List ℕ → Option (List ℕ)) → AreFilesOf told script files → IsFull w form (given_of w files script) script before now sizes)
     × HasNoRoom sizes (begins_limit (command_list script)) (most_of w (command_list script))

@@ -14,7 +14,7 @@ ghost use Rattle.ppq_engine.specs.Running.{HasStopped, HasChanged, queue_end, op
 ghost use Rattle.ppq_engine.specs.Files.{IsReadInScript};
 ghost use Rattle.ppq_engine.specs.Outcome.{TakesBeforeLoad, FaultBeforeFile, PutsRest, PutsStopped};
 ghost use Rattle.ppq_engine.specs.Work.{IsWithinWork, TransfersFew};
-ghost use Rattle.ppq_engine.specs.Ends.{budget_refusal, BeganOrRefused, IsCompleted, IsQuiet, NoFault, NoneFailed};
+ghost use Rattle.ppq_engine.specs.Ends.{budget_refusal, BeganOrRefused, IsCompleted, IsQuiet, NoneFailed};
 ghost use Rattle.ppq_engine.specs.declared.end.End.TheVariants.{Done, ReadFault, WriteFault, DeviceFault, NoFreeBlock, BudgetTooSmall, Memory, FileChanged};
 
 use crate::desk::Desk;
@@ -222,7 +222,7 @@ where
     ensures above_any { result.end ≡ NoFreeBlock → HasNoRoom sizes (begins_limit (command_list script.now)) (most_of R.Fields (command_list script.now)) }
     ensures changed { (line said got : ℕ) → result.end ≡ FileChanged line said got → HasChanged (L.told library.old) (L.replied library.new) script.now line said got }
     ensures later { O.faults out.old ≤ O.faults out.new }
-    ensures stays { NoFault result.end → O.faults out.new ≡ O.faults out.old }
+    ensures stays { ¬ (result.end ≡ WriteFault) → O.faults out.new ≡ O.faults out.old }
 
     // A budget that is large enough for its fixed part, a load for which the device has room, or one heap if no
     // limit session begins, and no fault of the sink, the library or a block.
@@ -240,13 +240,13 @@ where
     // read than written, however the run ends.
     ensures transfers { TransfersFew R.Fields (command_list script.now) sizes (map S.shown result.blocks.items) }
 
-    // No file changes, and the library's count rises only where the end names a fault. It is asked for no length, and for
-    // no byte past the length that the script keeps of a file.
+    // No file changes, and the library's count rises only with `ReadFault`, or with `WriteFault`, before which a read may have
+    // failed. It is asked for no length, and for no byte past the length that the script keeps of a file.
     ensures files { L.told library.new ≡ L.told library.old }
     ensures remembers { Remembers (L.replied library.old) (L.replied library.new) }
     ensures asks { RepliesOnly (L.replied library.old) (L.replied library.new) (IsReadInScript script.now) }
     ensures library_later { L.faults library.old ≤ L.faults library.new }
-    ensures library_stays { NoFault result.end → L.faults library.new ≡ L.faults library.old }
+    ensures library_stays { ¬ (result.end ≡ ReadFault) → ¬ (result.end ≡ WriteFault) → L.faults library.new ≡ L.faults library.old }
 {
     let Ok(desk) = Desk::new(alloc, &sizes) else {
         return Ended {

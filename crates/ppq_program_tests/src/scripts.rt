@@ -128,16 +128,11 @@ const BAD: &[(&[u8], u32)] = &[
 ];
 
 #[test]
-fn a_script_with_a_bad_line_writes_nothing(rt: HostRuntime) {
+fn a_script_with_a_bad_line_writes_nothing_and_makes_no_block(rt: HostRuntime) {
     for (script, line) in BAD {
-        gives(
-            &rt,
-            rt.alloc(),
-            SIZES,
-            script,
-            End::BadLine { line: *line },
-            b"",
-        );
+        let end = End::BadLine { line: *line };
+        let used = gives(&rt, rt.alloc(), SIZES, script, end, b"");
+        assert_eq!(rt; used.made, 0, "line {line}");
     }
 }
 
@@ -213,10 +208,11 @@ const BAD_HEADS: &[(&[u8], u32)] = &[
 ];
 
 #[test]
-fn a_script_with_a_bad_head_writes_nothing(rt: HostRuntime) {
+fn a_script_with_a_bad_head_writes_nothing_and_makes_no_block(rt: HostRuntime) {
     for (script, line) in BAD_HEADS {
         let end = End::BadLine { line: *line };
-        gives(&rt, rt.alloc(), SIZES, script, end, b"");
+        let used = gives(&rt, rt.alloc(), SIZES, script, end, b"");
+        assert_eq!(rt; used.made, 0, "line {line}");
     }
 }
 
@@ -227,7 +223,8 @@ fn a_script_has_at_most_1_048_576_bytes(rt: HostRuntime) {
         (1_048_577, End::ScriptTooLong),
     ] {
         let script = repeated(&rt, rt.alloc(), b"", b"x", length);
-        gives(&rt, rt.alloc(), SIZES, &script, end, b"");
+        let used = gives(&rt, rt.alloc(), SIZES, &script, end, b"");
+        assert_eq!(rt; used.made, 0);
     }
 }
 
@@ -384,6 +381,13 @@ fn a_budget_in_bytes_is_one_of_the_records_of_the_head(rt: HostRuntime) {
     let records = "run s --device d --blocks 200 --workers 2 --block 2 --heap 1 --memory 371";
     let end = End::BudgetTooSmall { need: 372 };
     gives(&rt, rt.alloc(), records, TRIPLES, end, b"");
+}
+
+#[test]
+fn a_script_that_is_not_there_makes_no_block(rt: HostRuntime) {
+    let line = "run t --device d --blocks 200 --workers 2 --block 2 --heap 1 --memory 372";
+    let used = gives(&rt, rt.alloc(), line, b"pop\n", End::NoScript, b"");
+    assert_eq!(rt; used.made, 0);
 }
 
 #[test]

@@ -16,7 +16,7 @@ use Rattle.ppq_cli.specs.RunOver.{RunWrites, RunEnds, RunFaults}
 use Rattle.ppq_cli.specs.Device.{AreBlocks}
 use Rattle.ppq_cli.proofs.Blocks.{returned, in_order, made_just, made_nothing}
 use Rattle.ppq_cli.proofs.Ends.{ran_to_load, fault_to_file, may_write, no_blocks}
-use Rattle.ppq_cli.proofs.RunOver.{wrote_nothing, unmade_wrote, asked_nothing, small_ends, unmade_ends, begun_ends, small_faults, unmade_faults, made_count, unmade_blocks, unmade_not_done}
+use Rattle.ppq_cli.proofs.RunOver.{wrote_nothing, unmade_wrote, asked_nothing, small_ends, unmade_ends, begun_ends, small_faults, unmade_faults, made_count, unmade_blocks, unmade_not_done, run_unrefused}
 use Rattle.ppq_cli.proofs.Transfers.{new_slots, no_slots, few_any}
 use Rattle.ppq_cli.proofs.run.run_over.Goals as goal
 
@@ -116,10 +116,11 @@ returns-in-Ok-clause-blocks g c =
     let back = c.run_script.result.blocks.items in
     let same = c.run_script.ensures.blocks in
     let numbers = returned (map shown slots) (map shown back) same c.in-Ok.ensures.blocks.new.numbers in
+    let enough : fixed_of c.for_width-sizes.result ≤ c.for_width-sizes.result.memory = omega (arith, c.fixed-need.ensures, c.memory.ensures.same) in
     let all : length (map shown back) ≡ c.args.arguments.now.given.numbers.blocks = same.length ∙ length-map slots shown ∙ c.in-Ok.ensures.all ∙ c.blocks-2.ensures.same ∙ ap (λ (n : Numbers). n.blocks) sizes in
     record {
       made = made_just shown back (g.K.Rack.made c.args.rack.now) (g.K.Rack.made c.make_blocks.new.rack) (length slots) numbers (same.length ∙ length-map slots shown) c.in-Ok.ensures.made;
-      are = record { numbers = numbers; most = omega (arith, all); all = λ run. all; all_or_none = λ run. inl all };
+      are = record { numbers = numbers; most = omega (arith, all); all = λ run. all; all_or_none = λ run. inl all; none = λ refused. absurd (run_unrefused c.for_width-sizes.result c.run_script.result.end enough c.run_script.ensures.answer refused) };
       unfailed = c.run_script.ensures.unfailed;
       tells = c.make_blocks.ensures.kept;
     }
@@ -154,9 +155,12 @@ pub returns-in-Ok-clause-faults : goal.returns-in-Ok-clause-faults
 returns-in-Ok-clause-faults g c =
     let e = c.run_script.ensures in
     record {
-      library = record { later = e.library_later; stays = e.library_stays; rose = e.read };
+      library = record { later = e.library_later; rose = e.read };
+      library_stays = e.library_stays;
       rack = made_count c.for_width-sizes.result _ _ c.run_script.result.end c.in-Ok.ensures.counts.stays e.answer;
-      sink = record { later = e.later; stays = e.stays; rose = e.write };
+      rack_stays = λ unmade. c.in-Ok.ensures.counts.stays;
+      sink = record { later = e.later; rose = e.write };
+      sink_stays = e.stays;
     }
 
 -- the device was not made

@@ -4,6 +4,7 @@ use Rattle.ppq_words.specs.Reading.{as_reading}
 use Rattle.ppq_cli.specs.Replies.{IsLoadedAs}
 use Rattle.ppq_cli.specs.RunWords.{reading}
 use Rattle.ppq_cli.proofs.Blocks.{made_nothing}
+use Rattle.ppq_cli.proofs.Ends.{unloaded_stays}
 use Rattle.ppq_cli.proofs.Loaded.{of_loaded}
 use Rattle.ppq_cli.proofs.Transfers.{any_script, any_reply}
 use Rattle.ppq_cli.proofs.top_call.run_words.Goals as goal
@@ -34,6 +35,10 @@ returns-in-Err-load-clause-transfers g c = any_script g.K.Slot.Slot.shown c.with
 
 pub returns-in-Err-load-clause-transfers_any : goal.returns-in-Err-load-clause-transfers_any
 returns-in-Err-load-clause-transfers_any g c = any_reply g.K.Slot.Slot.shown c.without_blocks-in-Err-load.result g.L.Library.told c.args.library.now g.L.Library.replied _ c.args.words.now c.without_blocks-in-Err-load.ensures.none
+
+-- a script that was not loaded: the library's count rose if a read failed
+pub returns-in-Err-load-clause-library_stays : goal.returns-in-Err-load-clause-library_stays
+returns-in-Err-load-clause-library_stays g c = λ read written. unloaded_stays _ _ c.in-Err-load.fault _ (c.without_blocks-in-Err-load.ensures.end ∙ c.end_of.ensures) c.in-Err-load.ensures.counts.unless read
 
 pub returns-in-Ok-load : goal.returns-in-Ok-load
 returns-in-Ok-load g c =

@@ -9,7 +9,7 @@ use Rattle.ppq_engine.specs.Output.{AreFilesOf, given_of, output_of}
 use Rattle.ppq_engine.specs.Outcome.{EndSays, FaultBeforeFile}
 use Rattle.ppq_engine.specs.Work.{TransfersFew}
 use Rattle.ppq_engine.proofs.Counted.{transfers-same, transfers-none}
-use Rattle.ppq_engine.proofs.Ending.{says-first, says-began, says-stays, same_blocks, end-done, end-used, end-used_any, end-unfailed, end-within, end-memory, end-above, end-above_any, end-failed, end-complete, end-complete_any}
+use Rattle.ppq_engine.proofs.Ending.{says-first, says-began, says-sink_stays, says-library_stays, same_blocks, end-done, end-used, end-used_any, end-unfailed, end-within, end-memory, end-above, end-above_any, end-failed, end-complete, end-complete_any}
 use Rattle.ppq_engine.proofs.Slots.{SameSums-slots}
 use Rattle.ppq_engine.proofs.run.run_script.Given as given
 use Rattle.ppq_engine.proofs.run.run_script.Goals as goal
@@ -63,11 +63,11 @@ returns-clause-above_any g c = let w = words g.R.PartialEq g.R.PartialOrd g.R.Or
 
 pub returns-clause-stays : goal.returns-clause-stays
 returns-clause-stays g c = let w = words g.R.PartialEq g.R.PartialOrd g.R.Ord g.R.Record g.R.Fields in
-    λ none. (says-stays w c.args.form (g.L.Library.told c.args.library.now) (g.L.Library.replied c.run_opened-queue.new.library) c.args.script.now (map g.S.Slot.shown c.args.slots.items) c.args.sizes (g.O.Sink.told c.args.out.now) (g.O.Sink.told c.run_opened-queue.new.out) (g.O.Sink.faults c.args.out.now) (g.O.Sink.faults c.run_opened-queue.new.out) (g.L.Library.faults c.args.library.now) (g.L.Library.faults c.run_opened-queue.new.library) c.run_opened-queue.result.0.slots c.run_opened-queue.result.1 (says g c) none).sink_same
+    says-sink_stays w c.args.form (g.L.Library.told c.args.library.now) (g.L.Library.replied c.run_opened-queue.new.library) c.args.script.now (map g.S.Slot.shown c.args.slots.items) c.args.sizes (g.O.Sink.told c.args.out.now) (g.O.Sink.told c.run_opened-queue.new.out) (g.O.Sink.faults c.args.out.now) (g.O.Sink.faults c.run_opened-queue.new.out) (g.L.Library.faults c.args.library.now) (g.L.Library.faults c.run_opened-queue.new.library) c.run_opened-queue.result.0.slots c.run_opened-queue.result.1 (says g c)
 
 pub returns-clause-library_stays : goal.returns-clause-library_stays
 returns-clause-library_stays g c = let w = words g.R.PartialEq g.R.PartialOrd g.R.Ord g.R.Record g.R.Fields in
-    λ none. (says-stays w c.args.form (g.L.Library.told c.args.library.now) (g.L.Library.replied c.run_opened-queue.new.library) c.args.script.now (map g.S.Slot.shown c.args.slots.items) c.args.sizes (g.O.Sink.told c.args.out.now) (g.O.Sink.told c.run_opened-queue.new.out) (g.O.Sink.faults c.args.out.now) (g.O.Sink.faults c.run_opened-queue.new.out) (g.L.Library.faults c.args.library.now) (g.L.Library.faults c.run_opened-queue.new.library) c.run_opened-queue.result.0.slots c.run_opened-queue.result.1 (says g c) none).library_same
+    says-library_stays w c.args.form (g.L.Library.told c.args.library.now) (g.L.Library.replied c.run_opened-queue.new.library) c.args.script.now (map g.S.Slot.shown c.args.slots.items) c.args.sizes (g.O.Sink.told c.args.out.now) (g.O.Sink.told c.run_opened-queue.new.out) (g.O.Sink.faults c.args.out.now) (g.O.Sink.faults c.run_opened-queue.new.out) (g.L.Library.faults c.args.library.now) (g.L.Library.faults c.run_opened-queue.new.library) c.run_opened-queue.result.0.slots c.run_opened-queue.result.1 (says g c)
 
 pub returns-clause-used : goal.returns-clause-used
 returns-clause-used g c = let w = words g.R.PartialEq g.R.PartialOrd g.R.Ord g.R.Record g.R.Fields in
