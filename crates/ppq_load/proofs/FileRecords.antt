@@ -1,6 +1,6 @@
 -- Records of a file, piece by piece.
-use Rattle.std.proofs.Common.{◌≡◌, ℕ, zero, suc, ◌+◌, ◌-◌, ◌*◌, ◌/◌, ◌<◌, ◌≤◌, List, [], ◌∷◌, ◌++◌, length, take, drop, slice_set, Option, Some, refl, sym, ap, ap₂, ◌∙◌, subst, arith, length-append}
-use Rattle.std.proofs.lemmas.List.{take_more_set, drop-drop}
+use Rattle.std.proofs.Common.{◌≡◌, ℕ, zero, suc, ◌+◌, ◌-◌, ◌*◌, ◌/◌, ◌≤◌, List, [], ◌∷◌, ◌++◌, length, take, drop, Option, Some, refl, sym, ap, ap₂, ◌∙◌, subst, arith, length-append}
+use Rattle.std.proofs.lemmas.List.{drop-drop}
 use Rattle.std.proofs.Math.Nat.{suc-mul}
 use Rattle.std.specs.Prelude.{Any}
 use Rattle.ppq_session.specs.ppq_record.Bag.{IsSameBag}
@@ -8,7 +8,7 @@ use Rattle.ppq_session.specs.ppq_record.Given.{records_from}
 use Rattle.ppq_load.specs.Given.{records_of}
 use Rattle.ppq_session.specs.ppq_outside.Shown.{Shown}
 use Rattle.ppq_session.specs.ppq_outside.Told.{bytes_or_none}
-use Rattle.ppq_session.proofs.ppq_block.Blocks.{length-records_from, records_from-suc, records_from-take}
+use Rattle.ppq_session.proofs.ppq_block.Blocks.{length-records_from, records_from-take}
 use Rattle.ppq_session.specs.ppq_queue.Holding.{Holding}
 use Rattle.ppq_session.specs.Dealing.{HasEnded}
 use Rattle.ppq_load.specs.Loading.{LoadHolding, InSession, AreRecordsAt, HasGiven, told_bytes}

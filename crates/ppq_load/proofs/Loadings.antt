@@ -1,7 +1,6 @@
 -- Why a session did not begin, as a fault of a load.
-use Rattle.std.proofs.Common.{◌≡◌, Bool, ℕ, ◌^◌, ◌<◌, ap, ap₂, ◌∙◌, subst, arith}
-use Rattle.std.specs.Prelude.{Result, Ok, Err}
-use Rattle.ppq_session.specs.ppq_budget.Sizes.{Numbers}
+use Rattle.std.proofs.Common.{◌≡◌, Bool, ℕ, ap, ap₂, ◌∙◌, subst}
+use Rattle.std.specs.Prelude.{Result, Err}
 use Rattle.ppq_session.specs.ppq_queue.Holding.{Holding}
 use Rattle.ppq_session.specs.ppq_array.declared.store_fault.StoreFault.TheVariants.{Device}
 use Rattle.ppq_session.specs.BulkSession.{IsBeginRefusal}

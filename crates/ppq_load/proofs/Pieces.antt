@@ -1,7 +1,7 @@
 -- The records that stand in a piece of bytes: how many they are, the first one, and some in a row.
-use Rattle.std.proofs.Common.{◌≡◌, ℕ, zero, suc, ◌+◌, ◌-◌, ◌*◌, ◌/◌, ◌<◌, ◌≤◌, List, [], ◌∷◌, length, take, drop, min, refl, sym, ap, ap₂, ◌∙◌, arith, length-drop, length-take-le}
+use Rattle.std.proofs.Common.{◌≡◌, ℕ, zero, suc, ◌+◌, ◌-◌, ◌*◌, ◌/◌, ◌<◌, ◌≤◌, List, [], ◌∷◌, length, take, drop, min, sym, ap, ap₂, ◌∙◌, arith, length-drop, length-take-le}
 use Rattle.std.proofs.lemmas.List.{drop-drop}
-use Rattle.std.proofs.Math.Nat.{suc-mul, add-mul, mul-div_cancel, add-div_right, div-eq_of_lt, mul-le-mul_right}
+use Rattle.std.proofs.Math.Nat.{suc-mul, add-mul, mul-div_cancel, add-div_right, div-eq_of_lt}
 use Rattle.ppq_record.specs.Given.{records_from}
 use Rattle.ppq_load.specs.Given.{records_of}
 use Rattle.ppq_load.proofs.Widths.{fit}

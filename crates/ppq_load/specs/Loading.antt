@@ -1,15 +1,12 @@
 -- Sessions in which a queue gets many records, by a pass for each worker.
-use Rattle.std.specs.Prelude.{◌^◌, ◌≡◌, ◌<◌, ◌≤◌, ◌↔◌, ◌+◌, ◌*◌, Bool, false, IsTrue, ℕ, zero, suc, List, [], ◌++◌, length, drop, max, All, Any, Option, Some, None, Result, Ok, Err, OnOk, IfErr, ⊤}
-use Rattle.ppq_session.specs.ppq_record.Bag.{IsSameBag}
+use Rattle.std.specs.Prelude.{◌^◌, ◌≡◌, ◌<◌, ◌≤◌, ◌↔◌, ◌+◌, ◌*◌, Bool, false, IsTrue, ℕ, List, [], length, drop, All, Any, Option, Some, None, Result, Ok, Err, ⊤}
 use Rattle.ppq_session.specs.ppq_record.Given.{records_from}
-use Rattle.ppq_session.specs.ppq_outside.Shown.{Shown, AllTell}
+use Rattle.ppq_session.specs.ppq_outside.Shown.{Shown}
 use Rattle.ppq_session.specs.ppq_outside.Told.{Reply, Rose, bytes_or_none}
 use Rattle.ppq_session.specs.ppq_budget.Sizes.{Numbers}
-use Rattle.ppq_session.specs.ppq_array.Kept.{SameSlots, all_writes}
-use Rattle.ppq_session.specs.ppq_pass.Passed.{PassHolding, PassTells}
 use Rattle.ppq_session.specs.ppq_queue.Holding.{Holding, HasStopped, MetFault}
 use Rattle.ppq_session.specs.ppq_array.declared.store_fault.StoreFault.{StoreFault as QueueFault}
-use Rattle.ppq_session.specs.BulkSession.{BulkHolding, IsIntact, IsTogether, bag_of, accepted_of}
+use Rattle.ppq_session.specs.BulkSession.{IsIntact}
 use Rattle.ppq_session.specs.declared.fault.BeginFault.{BeginFault}
 use Rattle.ppq_session.specs.declared.fault.BeginFault.TheVariants as begin
 use Rattle.ppq_session.specs.ppq_array.declared.store_fault.StoreFault.TheVariants as queue_fault
@@ -17,7 +14,7 @@ use Rattle.ppq_session.specs.Dealing.{IsGoing, HasEnded}
 use Rattle.ppq_session.specs.Sessions.{SessionHolding}
 pub use Rattle.ppq_session.specs.Sessions.{InSession, IsLoaded, IsLeftBy}
 use Rattle.ppq_load.specs.Reading.{EndsAt}
-use Rattle.ppq_load.specs.Refusal.{Keeps, IsRefusedBy}
+use Rattle.ppq_load.specs.Refusal.{IsRefusedBy}
 use Rattle.ppq_load.specs.declared.fault.LoadFault.{LoadFault}
 use Rattle.ppq_load.specs.declared.fault.LoadFault.TheVariants.{Queue, Read, Memory, Ended}
 use Rattle.ppq_load.specs.declared.fill.FileFault.{FileFault}

@@ -1,17 +1,17 @@
 -- Stores of full heaps of a session's passes are backed by the records that they got and accepted, and so are those of the queue at its end.
-use Rattle.std.proofs.Common.{◌≡◌, ◌⊎◌, inl, inr, ℕ, ◌+◌, ◌-◌, ◌*◌, ◌<◌, ◌≤◌, List, [], ◌∷◌, All, get_or, sum_by, min, refl, sym, ap, ◌∙◌, subst, arith}
-use Rattle.std.specs.Prelude.{Result, Ok, Err, OnOk, OnErr}
+use Rattle.std.proofs.Common.{◌≡◌, ℕ, ◌+◌, ◌-◌, ◌*◌, ◌≤◌, List, [], ◌∷◌, All, get_or, sum_by, min, sym, ap, ◌∙◌, subst, arith}
+use Rattle.std.specs.Prelude.{Ok, Err}
 use Rattle.std.proofs.Math.Nat.{mul-le-mul_left}
 use Rattle.std.proofs.lemmas.List.Sums.{sum_by-cons}
 use Rattle.std.proofs.lemmas.List.Elements.{All-head, All-tail, All-map}
-use Rattle.ppq_pass.specs.ppq_counts.Tally.{Tally, tally, last, beginning, joined, IsBacked}
+use Rattle.ppq_pass.specs.ppq_counts.Tally.{last, beginning, IsBacked}
 use Rattle.ppq_pass.specs.ppq_outside.Shown.{Shown}
 use Rattle.ppq_pass.specs.ppq_budget.Sizes.{Numbers, heap_of}
-use Rattle.ppq_pass.specs.Passed.{PassKey, PassHolding, IsBackedPass, IsBackedPassWithout, tally_of}
+use Rattle.ppq_pass.specs.Passed.{PassKey, PassHolding, IsBackedPass, tally_of}
 use Rattle.ppq_queue.specs.Holding.{Holding, CountsFew, IsBackedQueue, AreStoresBacked}
 use Rattle.ppq_session.specs.BulkSession.{IsFresh, keys_of}
 use Rattle.ppq_session.specs.Counting.{accepted_of, stores_of, tally_with}
-use Rattle.ppq_session.specs.Dealing.{IsGoing, StaysBacked, Dealt}
+use Rattle.ppq_session.specs.Dealing.{IsGoing, StaysBacked}
 use Rattle.ppq_session.specs.Ends.{Staying, SessionEnded}
 use Rattle.ppq_session.specs.Given.{CountsGiven}
 use Rattle.ppq_session.specs.declared.fault.SessionEnd.{SessionEnd}

@@ -1,5 +1,5 @@
 -- What a refill of a front costs: nothing, since blocks are read that were stored.
-use Rattle.std.proofs.Common.{◌≡◌, ℕ, ◌+◌, ◌*◌, ◌<◌, ◌≤◌, List, [], ◌++◌, length, Option, Some, None, refl, sym, subst, arith}
+use Rattle.std.proofs.Common.{◌≡◌, ℕ, List, ◌++◌, length, Option, None, sym, subst, arith}
 use Rattle.std.specs.Prelude.{Result, Ok, Err}
 use Rattle.std.proofs.lemmas.List.Sums.{sum_by-append}
 use Rattle.ppq_pass.specs.ppq_counts.Account.{Account, Costs, Stops, IsCountedBeside}

@@ -16,7 +16,7 @@ use Rattle.ppq_session.specs.Opened.{BulkBegan}
 use Rattle.ppq_session.specs.declared.fault.SessionEnd.{SessionEnd}
 use Rattle.ppq_session.specs.declared.fault.SessionEnd.TheVariants.{Whole, Stopped}
 use Rattle.ppq_session.specs.Dealing.{IsGoing, HasEnded, MayAdd, Dealt, AddsPart}
-use Rattle.ppq_session.specs.Given.{IsFinished, KeepsQueue, WereGiven, CountsGiven}
+use Rattle.ppq_session.specs.Given.{IsFinished, KeepsQueue, WereGiven}
 use Rattle.ppq_session.proofs.Backed.{counts-none, counts-more, counts-whole, counts-stopped}
 use Rattle.ppq_session.specs.Sessions.{SessionHolding, InSession, IsLoaded, IsLeftBy}
 use Rattle.ppq_session.proofs.Mapped.{sum-mapped, all_mapped}
