@@ -36,10 +36,6 @@ costs-more {c} {m} {d} {n} {x} {y} hc hm h = record { rises = λ light. (let is 
 pub stops-more : {c m d n : ℕ} {x y : Account} → c ≤ d → m ≤ n → Stops c m x y → Stops d n x y
 stops-more {c} {m} {d} {n} {x} {y} hc hm h = record { written = λ light. omega (arith, h.written (omega (arith, light, hm)), hc); stay = h.stay; read = h.read }
 
--- what rose may be looked at as what was stopped
-pub costs-cut : {c m : ℕ} {x y : Account} → Costs c m x y → Stops c m x y
-costs-cut {c} {m} {x} {y} h = record { written = λ light. omega (arith, (h.rises light).spent); stay = h.stay; read = λ exact. omega (arith, h.read exact) }
-
 -- records in memory that stay
 pub costs-beside : (k : ℕ) {c m : ℕ} {x y : Account} → Costs c m x y → Costs c m (beside k x) (beside k y)
 costs-beside k {c} {m} {x} {y} h = record { rises = λ light. (let is = h.rises light in record { spent = omega (arith, is.spent); weight = is.weight }); stay = h.stay; read = h.read }

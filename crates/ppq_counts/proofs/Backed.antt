@@ -1,7 +1,7 @@
 -- Stores of full heaps are backed by accepted records.
 use Rattle.std.proofs.Common.{◌≡◌, ℕ, ◌+◌, ◌*◌, ◌≤◌, min, arith}
 use Rattle.std.proofs.Math.Nat.{mul-le-mul_left}
-use Rattle.ppq_counts.specs.Tally.{Tally, last, accepting, storing, beginning, joined, IsBacked}
+use Rattle.ppq_counts.specs.Tally.{Tally, last, accepting, storing, beginning, IsBacked}
 
 module _ (heap before : ℕ) where
   -- a record was accepted into a heap
@@ -23,12 +23,3 @@ module _ (heap before : ℕ) where
 
   pub backed-beginning : (h : ℕ) (t : Tally) → IsBacked heap before h t → IsBacked heap before h (beginning t)
   backed-beginning h t is = record { within = is.within }
-
--- A pass came back: it began with so many records, which the parts had before
-pub backed-joined :
-    (heap begun h i : ℕ) (t u : Tally) → t.accepted + u.accepted ≤ last → IsBacked heap 0 (h + begun) t → IsBacked heap begun i u → IsBacked heap 0 (h + i) (joined t u)
-backed-joined heap begun h i t u few one two =
-    let a : min (t.accepted + u.accepted) last ≡ t.accepted + u.accepted = omega (arith, few) in
-    let b : min (t.stores + u.stores) last ≤ t.stores + u.stores = omega arith in
-    let product : heap * min (t.stores + u.stores) last ≤ heap * (t.stores + u.stores) = mul-le-mul_left heap b in
-    record { within = omega (arith, one.within, two.within, a, product) }

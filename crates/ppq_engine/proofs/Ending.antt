@@ -14,7 +14,7 @@ use Rattle.ppq_load.specs.Refusal.{HasRoom, HasNoRoom}
 use Rattle.ppq_load.proofs.Refusals.{room-not_none}
 use Rattle.ppq_engine.specs.Loads.{most_of, least_of, begins_limit, FitsWritten}
 use Rattle.ppq_engine.specs.Output.{AreFilesOf, given_of, output_of, load_of, crest_of, TakesWithin}
-use Rattle.ppq_engine.specs.Outcome.{EndSays, CountsStay, TakesBeforeLoad}
+use Rattle.ppq_engine.specs.Outcome.{EndSays, TakesBeforeLoad}
 use Rattle.ppq_engine.specs.Ends.{budget_refusal, BeganOrRefused, IsQuiet, NoneFailed, IsCompleted}
 use Rattle.ppq_engine.specs.declared.end.End.{End}
 use Rattle.ppq_engine.specs.declared.end.End.TheVariants.{Done, BadLine, Usage, ReadFault, WriteFault, DeviceFault, NoFreeBlock, BudgetTooSmall, Memory, FileChanged, NoDevice, NoScript, ScriptTooLong}

@@ -6,8 +6,3 @@ use Rattle.ppq_outside.specs.Told.{Keeps}
 pub holds_written : (before now : Option (List ℕ)) (bytes : List ℕ) → IsSome before → Keeps before now bytes → now ≡ Some bytes
 holds_written None now bytes tells keeps = cc
 holds_written (Some had) now bytes tells keeps = keeps
-
--- a read gives what the slot holds
-pub read_gives : (told : Option (List ℕ)) (held into : List ℕ) → told ≡ Some held → Keeps told told into → into ≡ held
-read_gives None held into is keeps = cc
-read_gives (Some had) held into is keeps = cc

@@ -1,7 +1,7 @@
 -- What calls of a queue do to its numbers, as those above it see it.
-use Rattle.std.proofs.Common.{◌≡◌, ℕ, ◌+◌, ◌-◌, ◌*◌, ◌<◌, ◌≤◌, min, Bool, true, false, cond, Option, Some, None, refl, sym, ap, ap₂, ◌∙◌, subst, arith}
+use Rattle.std.proofs.Common.{◌≡◌, ℕ, ◌+◌, ◌-◌, ◌*◌, ◌≤◌, min, Bool, true, false, cond, Option, Some, None, refl, sym, ap, ap₂, ◌∙◌, subst, arith}
 use Rattle.std.specs.Prelude.{Result, Ok, Err, OnOk, OnErr, nat_lt}
-use Rattle.std.proofs.lemmas.Bool.{lt-ltb, le-ltb}
+use Rattle.std.proofs.lemmas.Bool.{le-ltb}
 use Rattle.ppq_spill.specs.ppq_counts.Tally.{Tally, last, accepting, storing, beginning, IsBacked}
 use Rattle.ppq_spill.proofs.ppq_counts.Backed.{backed-accepting, backed-storing}
 use Rattle.ppq_extract.specs.ppq_budget.Sizes.{Numbers, heap_of}
@@ -22,10 +22,6 @@ begun-sessions q = room (nat_lt q.in_first (heap_of q.sizes))
     room : (b : Bool) → (cond b q.counts (storing q.counts)).sessions ≡ q.counts.sessions
     room true = refl
     room false = refl
-
--- a heap with room begins no store
-pub begun-room : {R : Type 0} (q : Holding R) → q.in_first < heap_of q.sizes → begun_push q ≡ q.counts
-begun-room q room = ap (λ b. cond b q.counts (storing q.counts)) (lt-ltb q.in_first (heap_of q.sizes) room)
 
 -- a full one begins one
 pub begun-full : {R : Type 0} (q : Holding R) → heap_of q.sizes ≤ q.in_first → begun_push q ≡ storing q.counts

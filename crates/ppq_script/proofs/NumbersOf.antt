@@ -1,6 +1,6 @@
 -- Lemmas on the numbers of the first fields, taken one after the other.
-use Rattle.std.proofs.Common.{◌≡◌, ℕ, zero, suc, ◌+◌, ◌-◌, ◌<◌, ◌≤◌, List, [], ◌∷◌, ◌++◌, length, take, set, Option, Some, None, refl, sym, ap, ap₂, ◌∙◌, arith}
-use Rattle.std.proofs.lemmas.List.{take_all, take_more_set}
+use Rattle.std.proofs.Common.{◌≡◌, ℕ, zero, suc, ◌+◌, ◌-◌, ◌<◌, List, [], ◌∷◌, ◌++◌, length, take, set, Option, Some, None, refl, sym, ap, ap₂, ◌∙◌, arith}
+use Rattle.std.proofs.lemmas.List.{take_more_set}
 use Rattle.ppq_script.specs.Number.{number_of}
 use Rattle.ppq_script.specs.Command.{in_front, numbers_of}
 use Rattle.ppq_script.proofs.Spelling.{in_front_parts}
@@ -53,9 +53,3 @@ pub numbers_none : (i m : ℕ) (ns : List ℕ) (fields rest : List (List ℕ)) �
 numbers_none i m ns fields rest below had next =
     let left : m ≡ i + suc (m - suc i) = omega (arith, below) in
     numbers_then i (suc (m - suc i)) m fields (ns, rest) had left ∙ ap (behind ns) (none_more (m - suc i) rest next)
-
--- all places have theirs
-pub numbers_all : (i : ℕ) (numbers : List ℕ) (fields rest : List (List ℕ)) → length numbers ≤ i → i ≤ length numbers → numbers_of i fields ≡ Some (take i numbers, rest) → numbers_of (length numbers) fields ≡ Some (numbers, rest)
-numbers_all i numbers fields rest all over had =
-    let same : length numbers ≡ i = omega (arith, all, over) in
-    ap (λ (k : ℕ). numbers_of k fields) same ∙ had ∙ ap (λ (ns : List ℕ). Some (ns, rest)) (take_all i numbers all)

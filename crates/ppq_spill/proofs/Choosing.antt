@@ -1,7 +1,7 @@
 -- Choosing the smallest of first records, and taking it.
 use Rattle.std.proofs.Common.{◌≡◌, ℕ, zero, suc, ◌<◌, List, [], ◌∷◌, ◌++◌, length, drop, map, All, Option, Some, None, slice_index_or, slice_set, refl, sym, ap, ap₂, ◌∙◌, subst, arith, length-append}
 use Rattle.std.specs.Prelude.{count_by}
-use Rattle.std.specs.List.{AllByRecursion as Each, slice_get}
+use Rattle.std.specs.List.{AllByRecursion as Each}
 use Rattle.std.specs.Cmp.{IsStrictWeakOrder}
 use Rattle.std.specs.declared.cmp.Ordering.{Ordering}
 use Rattle.std.proofs.lemmas.List.Concat.{flat_map-cons}
@@ -18,12 +18,6 @@ pub same_at : {X : Type 0} (xs : List X) (i : ℕ) (d e : X) → i < length xs �
 same_at [] i d e h = absurd (omega arith)
 same_at (x ∷ xs) zero d e h = refl
 same_at (x ∷ xs) (suc i) d e h = same_at xs i d e (omega arith)
-
-pub first-drop : {X : Type 0} (xs : List X) (n : ℕ) → slice_get xs n ≡ first_of (drop n xs)
-first-drop [] zero = refl
-first-drop [] (suc n) = refl
-first-drop (x ∷ xs) zero = refl
-first-drop (x ∷ xs) (suc n) = first-drop xs n
 
 module _ {R : Type 0} (cmp : R → R → Ordering) (o : IsStrictWeakOrder (is_before cmp)) where
   -- what is not before the first of an ascending list is not before the others

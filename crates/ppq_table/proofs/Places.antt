@@ -1,5 +1,5 @@
 -- How items lie in their places at the start, and what is left in them at the end.
-use Rattle.std.proofs.Common.{◌≡◌, ℕ, zero, suc, ◌+◌, ◌<◌, ◌≤◌, Bool, true, false, List, [], ◌∷◌, ◌++◌, map, take, drop, length, get_or, slice_set, sym, refl, ap, ◌∙◌, subst, arith, Vec, vec_capacity, append-nil}
+use Rattle.std.proofs.Common.{◌≡◌, ℕ, zero, suc, ◌+◌, ◌<◌, ◌≤◌, Bool, false, List, [], ◌∷◌, ◌++◌, map, take, drop, length, get_or, slice_set, sym, refl, ap, ◌∙◌, subst, arith, Vec}
 use Rattle.std.proofs.lemmas.List.{same_from_push}
 use mathlib.Core.Option.{Option, none, some, some-injective, some-ne-none}
 use mathlib.Core.Logic.{dite}
@@ -8,7 +8,7 @@ use lib.ListN.{get_elem?}
 use Rattle.std.specs.Global.{Global}
 use Rattle.ppq_table.specs.declared.place.Place.{Place}
 use Rattle.ppq_table.specs.declared.place.Place.TheVariants.{Empty, Item, Room}
-use Rattle.ppq_table.specs.Places.{IsRoom, IsLaid, HasRoom, items_in, Unread}
+use Rattle.ppq_table.specs.Places.{IsRoom, IsLaid, items_in, Unread}
 
 pub nil_of : {A : Type 0} (xs : List A) → length xs ≡ 0 → xs ≡ []
 nil_of [] e = refl
@@ -122,11 +122,3 @@ Unread-more fs i n h u = (
   (λ k lt. dite (ℕ_discrete k i) (λ e. subst (λ (j : ℕ). get_or (slice_set fs i false) j false ≡ false) (sym e) (set_false fs i)) (λ ne. set_apart fs i k ne ∙ u.1 k (omega arith))),
   set_apart fs i n (λ e. omega arith) ∙ u.2,
 )
-
--- the last slot is taken first
-pub Unread-first : (fs : List Bool) (n : ℕ) → ((k : ℕ) → k < n + 1 → get_or fs k false ≡ true) → Unread (slice_set fs n false) 0 n
-Unread-first fs n full = ((λ k le lt. set_apart fs n k (λ e. omega arith) ∙ full k (omega arith)), (λ k lt. absurd (omega arith)), set_false fs n)
-
--- at the end every slot is taken
-pub Unread-done : (fs : List Bool) (n : ℕ) → Unread fs n n → (k : ℕ) → k < n + 1 → get_or fs k false ≡ false
-Unread-done fs n u k lt = dite (ℕ_discrete k n) (λ e. subst (λ (j : ℕ). get_or fs j false ≡ false) (sym e) u.2) (λ ne. u.1 k (omega arith))

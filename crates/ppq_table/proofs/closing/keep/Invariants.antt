@@ -1,4 +1,4 @@
-use Rattle.std.proofs.Common.{◌≡◌, ◌+◌, ◌≤◌, take, drop, vec_len, vec_capacity}
+use Rattle.std.proofs.Common.{◌≡◌, ◌≤◌, take, drop, vec_len, vec_capacity}
 use Rattle.std.specs.Slots.{slots_items, slots_filled, slots_len}
 use Rattle.ppq_table.specs.Places.{items_in, Unread}
 use Rattle.ppq_table.proofs.closing.keep.Given as goal
