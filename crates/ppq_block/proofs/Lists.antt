@@ -1,6 +1,6 @@
 -- The item at a place of joined and of reversed lists, and the records of buffers one after the other.
 use Rattle.std.proofs.Common.{◌≡◌, ℕ, zero, suc, ◌+◌, ◌-◌, ◌<◌, ◌≤◌, List, [], ◌∷◌, ◌++◌, length, reverse, Some, refl, sym, ap, ap₂, ◌∙◌, arith, length-append, append-nil}
-use Rattle.std.proofs.lemmas.List.{reverse-append, length-reverse}
+use Rattle.std.proofs.lemmas.List.{reverse-append}
 use Rattle.std.proofs.lemmas.Option.{slice_get_within}
 use Rattle.std.proofs.lemmas.Grind.{flat_map-append}
 use Rattle.std.proofs.lemmas.List.Concat.{flat_map-cons}
@@ -23,13 +23,6 @@ module _ {X : Type 0} where
 
   pub reverse-cons : (x : X) (xs : List X) → reverse (x ∷ xs) ≡ reverse xs ++ x ∷ []
   reverse-cons x xs = reverse-append (x ∷ []) xs
-
-  pub slice_get-reverse : (xs : List X) (i j : ℕ) → i + j + 1 ≡ length xs → slice_get (reverse xs) i ≡ slice_get xs j
-  slice_get-reverse [] i j e = absurd (omega arith)
-  slice_get-reverse (x ∷ xs) i zero e =
-      ap (λ l. slice_get l i) (reverse-cons x xs) ∙ slice_get-right (reverse xs) (x ∷ []) i 0 (omega (arith, length-reverse xs))
-  slice_get-reverse (x ∷ xs) i (suc j) e =
-      ap (λ l. slice_get l i) (reverse-cons x xs) ∙ slice_get-left (reverse xs) (x ∷ []) i (omega (arith, length-reverse xs)) ∙ slice_get-reverse xs i j (omega arith)
 
   -- where the first list is empty only with the second, both joined are empty exactly with it
   pub append-empty : (xs ys : List X) → (xs ≡ [] → ys ≡ []) → xs ≡ [] → xs ++ reverse ys ≡ []

@@ -1,7 +1,7 @@
 -- Stores of full heaps are backed by accepted records.
 use Rattle.std.proofs.Common.{◌≡◌, ℕ, ◌+◌, ◌*◌, ◌≤◌, min, arith}
 use Rattle.std.proofs.Math.Nat.{mul-le-mul_left}
-use Rattle.ppq_counts.specs.Tally.{Tally, last, accepting, storing, beginning, IsBacked}
+use Rattle.ppq_counts.specs.Tally.{Tally, last, accepting, storing, IsBacked}
 
 module _ (heap before : ℕ) where
   -- a record was accepted into a heap
@@ -16,10 +16,3 @@ module _ (heap before : ℕ) where
       let e : min (t.stores + 1) last ≤ t.stores + 1 = omega arith in
       let product : heap * min (t.stores + 1) last ≤ heap * (t.stores + 1) = mul-le-mul_left heap e in
       record { within = omega (arith, is.within, product, fewer) }
-
-  -- records left the heaps, or a session was begun
-  pub backed-fewer : (h h' : ℕ) (t : Tally) → h' ≤ h → IsBacked heap before h t → IsBacked heap before h' t
-  backed-fewer h h' t fewer is = record { within = omega (arith, is.within, fewer) }
-
-  pub backed-beginning : (h : ℕ) (t : Tally) → IsBacked heap before h t → IsBacked heap before h (beginning t)
-  backed-beginning h t is = record { within = is.within }

@@ -119,16 +119,6 @@ module _ {workers block : ℕ} {Sound Sound' : Type 0} {t : Tally} where
   beside-sound {begun} {x} was is = record { paid = λ counting few sound. is.paid counting few (was sound); covered = is.covered; unread = λ exact sound. is.unread exact (was sound); read = is.read }
 
 module _ {workers block : ℕ} {Sound : Type 0} {t : Tally} where
-  -- no more was written or read, and no more is owed
-  pub counted-less : {x y : Account} → y.written ≤ x.written → y.owed ≤ x.owed → y.weight ≤ x.weight → y.writes ≡ x.writes → y.reads ≤ x.reads → y.stored ≤ x.stored → IsCounted workers block Sound t x → IsCounted workers block Sound t y
-  counted-less {x} {y} written owed weight writes reads stored is =
-      record {
-        paid = λ counting few sound. (let p = is.paid counting few sound in record { spent = omega (arith, p.spent, written, owed); weight = omega (arith, p.weight, weight) });
-        covered = λ counting few. omega (arith, is.covered counting few, written);
-        unread = λ exact sound. omega (arith, is.unread (omega (arith, exact, writes)) sound, writes, reads, stored);
-        read = λ exact. omega (arith, is.read (omega (arith, exact, writes)), writes, reads);
-      }
-
   -- A queue gives the records of its heaps to passes. While they have them, they are no records of its parts, and they are paid for
   pub beside-counted : {begun : ℕ} {x : Account} → Sound → IsCounted workers block Sound t (beside begun x) → IsCountedBeside workers block begun Sound t x
   beside-counted {begun} {x} sound is = record { paid = is.paid; covered = λ counting few. (let p = is.paid counting few sound in omega (arith, p.spent)); unread = is.unread; read = is.read }

@@ -27,9 +27,6 @@ module _ (workers block : ℕ) where
         let e : min (t.accepted + n) last ≡ t.accepted + n = omega (arith, few) in
         ap (λ k. credit_of workers block (record t { accepted = k })) e ∙ (omega arith)
 
-    pub runs-accepting : (n : ℕ) → runs_of workers (accepting n t) ≡ runs_of workers t
-    runs-accepting n = omega arith
-
     -- a store of a full heap pays for the rest of an extract buffer and for two runs
     pub credit-storing : credit_of workers block (storing t) ≡ credit_of workers block t + (56 * (workers * block) + 16 * block)
     credit-storing =

@@ -71,24 +71,6 @@ module _ (workers block begun : ℕ) {Sound Sound' : Type 0} where
                 omega (arith, before, here, was_with.writes, was_with.reads, was_with.stored, is_with.writes, is_with.reads);
           }
 
-    -- a step that draws no slot
-    pub from-costs : (w r : ℕ) (x y : Account) → IsCountedFrom workers block begun w r Sound t x → Sound → Costs c m x y → IsCountedFrom workers block begun w r Sound' u y
-    from-costs w r x y was sound costs = from-counted w r w r x y (with_them x) (with_them y) (is_with x) (is_with y) was sound (omega arith) moved
-      where
-        with_them : Account → Account
-        with_them a = record a { written = a.written + 7 * (block * w); writes = a.writes + w; reads = a.reads + r }
-
-        is_with : (a : Account) → IsWith block w r a (with_them a)
-        is_with a = record { written = refl; owed = refl; weight = refl; writes = refl; reads = refl; stored = refl }
-
-        moved : Costs c m (with_them x) (with_them y)
-        moved =
-            record {
-              rises = λ light. (let is = costs.rises light in record { spent = omega (arith, is.spent); weight = is.weight });
-              stay = omega (arith, costs.stay);
-              read = λ exact. omega (arith, costs.read (omega (arith, exact)));
-            }
-
 -- a new pass: it has drawn no slot, and the records of its heap were given to it
 pub from-none :
     (workers block begun : ℕ) (Sound : Type 0) (x : Account) → x.written ≡ 0 → x.owed ≡ 56 * begun → x.weight ≡ 0 → x.reads ≡ 0 → x.stored ≡ 0 → IsCountedFrom workers block begun 0 0 Sound no_tally x

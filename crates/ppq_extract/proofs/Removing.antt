@@ -8,14 +8,10 @@ use Rattle.std.proofs.lemmas.Grind.{get_or-set_at}
 use Rattle.std.proofs.lemmas.List.Sums.{sum_by-cons, sum_by-append}
 use Rattle.std.proofs.lemmas.List.Elements.{All-nil, All-cons, All-head, All-tail, All-append}
 use Rattle.std.proofs.lemmas.List.Sorted.{IsPermutation-refl, IsPermutation-trans, IsPermutation-append_right, IsPermutation-swap_remove, sum_by-IsPermutation, All-permutation, length_permutation}
+use Rattle.ppq_fetch.proofs.ppq_array.Noted.{all_right}
 use Rattle.ppq_extract.specs.Emptied.{LostOnly}
 
 module _ {X : Type 0} where
-  -- what holds of each element of two lists holds of each of the second
-  pub All-second : (P : X → Type 0) (xs ys : List X) → All P (xs ++ ys) → All P ys
-  All-second P [] ys all = all
-  All-second P (x ∷ xs) ys all = All-second P xs ys (All-tail P x (xs ++ ys) all)
-
   -- a measure that is 0 of each element adds up to 0
   pub sum_nothing : (f : X → ℕ) (P : X → Type 0) → ((x : X) → P x → f x ≡ 0) → (xs : List X) → All P xs → sum_by f xs ≡ 0
   sum_nothing f P zeros [] all = refl
@@ -55,7 +51,7 @@ module _ {X : Type 0} (IsLost : X → Type 0) where
     length_lost = omega (arith, length_permutation xs (l.lost ++ ys) l.parted, length-append l.lost ys)
 
     pub All_lost : (P : X → Type 0) → All P xs → All P ys
-    All_lost P all = All-second P l.lost ys (All-permutation P xs (l.lost ++ ys) l.parted all)
+    All_lost P all = all_right P l.lost ys (All-permutation P xs (l.lost ++ ys) l.parted all)
 
 pub length_removed : {X : Type 0} (xs ys : List X) (i : ℕ) (x : X) → i < length xs → ys ≡ swap_remove xs i x → length ys ≡ length xs - 1
 length_removed xs ys i x within items =

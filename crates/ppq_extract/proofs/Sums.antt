@@ -3,7 +3,8 @@ use Rattle.std.proofs.Common.{◌≡◌, ℕ, List, [], ◌∷◌, ◌++◌, len
 use Rattle.std.specs.Prelude.{sum_by}
 use Rattle.std.proofs.lemmas.List.Sums.{sum_by-cons, sum_by-append}
 use Rattle.ppq_fetch.specs.ppq_outside.Shown.{Shown, AllTell}
-use Rattle.ppq_fetch.proofs.Sums.{untold, tell_sum, sum_tell}
+use Rattle.ppq_fetch.specs.Untold.{untold}
+use Rattle.ppq_fetch.proofs.Sums.{tell_sum, sum_tell}
 
 -- every measure adds up to the same over both lists
 abbrev pub SameSums : {X : Type 0} → List X → List X → Type 0

@@ -33,7 +33,8 @@ use Rattle.ppq_array.proofs.Noted.{all_left, all_right}
 use Rattle.ppq_fetch.specs.Turns.{HasBuffer}
 use Rattle.ppq_fetch.specs.Fetching.{State, state, AreSources, MayFetch, PartsKept, FetchFailed, SourcesTell, WentOn, IsFitting, fronts_in, one_if_some, loaded_lists, blocks_in, slots_in, waiting_items, source_items}
 use Rattle.ppq_fetch.proofs.Parted.{taken_none, taken_same}
-use Rattle.ppq_fetch.proofs.Sums.{one_le, untold_of, untold, none_told, tell_sum, sum_tell, loaded_of, sum_flat_map, sum_all_of, sum_two_of}
+use Rattle.ppq_fetch.specs.Untold.{untold, untold_of}
+use Rattle.ppq_fetch.proofs.Sums.{one_le, none_told, tell_sum, sum_tell, loaded_of, sum_flat_map, sum_all_of, sum_two_of}
 use Rattle.ppq_fetch.specs.Rounds.{TookTurn, LostTurn}
 use Rattle.ppq_fetch.proofs.Rounds.{none_below, long_three, zip_set, each_set, on_same}
 

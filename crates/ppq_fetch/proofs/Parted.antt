@@ -139,13 +139,6 @@ module _ {X : Type 0} where
   within_whole (c ∷ cs) (b ∷ bs) [] w v = absurd v
   within_whole (c ∷ cs) (b ∷ bs) (q ∷ qs) w v = (omega (arith, w.0, length-take b q, v.0), within_whole cs bs qs w.1 v.1)
 
-  -- a part of a first part
-  take_part : (c b : ℕ) (q : List X) → c ≤ length (take b q) → take c (take b q) ≡ take c q
-  take_part zero b q h = refl
-  take_part (suc c) zero q h = absurd (omega arith)
-  take_part (suc c) (suc b) [] h = absurd (omega arith)
-  take_part (suc c) (suc b) (x ∷ q) h = ap (λ xs. x ∷ xs) (take_part c b q (omega arith))
-
   drop_part : (c b : ℕ) (q : List X) → c ≤ length (take b q) → drop c (take b q) ++ drop b q ≡ drop c q
   drop_part zero b q h = take-append-drop b q
   drop_part (suc c) zero q h = absurd (omega arith)

@@ -10,6 +10,7 @@ use Rattle.ppq_array.specs.ppq_outside.Shown.{Shown, Tells, AllTell}
 use Rattle.ppq_array.specs.Run.{Run, items_of}
 use Rattle.ppq_array.specs.External.{External, size_of, waiting, counts}
 use Rattle.ppq_fetch.specs.Fetching.{one_if_some, loaded_lists, count_in}
+use Rattle.ppq_fetch.specs.Untold.{untold_of, untold}
 
 module _ {A X : Type 0} (f : X → ℕ) (h : A → List X) where
   pub sum_flat_map : (xs : List A) → sum_by f (flat_map h xs) ≡ sum_by (λ x. sum_by f (h x)) xs
@@ -36,14 +37,6 @@ module _ {X : Type 0} where
 pub one_le : {X : Type 0} (xs : List X) → one_if_some xs ≤ 1
 one_le [] = omega arith
 one_le (x ∷ xs) = omega arith
-
--- 1 of a slot that does not tell
-abbrev pub untold_of : Option (List ℕ) → ℕ
-untold_of None = 1
-untold_of (Some bytes) = 0
-
-abbrev pub untold : Shown → ℕ
-untold s = untold_of s.told
 
 told_none : (told : Option (List ℕ)) → IsSome told → untold_of told ≡ 0
 told_none None t = absurd (cc)

@@ -14,3 +14,4 @@ pub mod Rounds
 pub mod Steps
 pub mod Taking
 pub mod Turns
+pub mod Untold

@@ -47,10 +47,6 @@ module _ {R : Type 0} where
   cap-set (x ∷ xs) zero heap e = e
   cap-set (x ∷ xs) (suc place) heap e = refl
 
-  pub first_cap : (heaps : List (Contents R)) (d : Contents R) → 0 < length heaps → (get_or heaps 0 d).cap ≡ cap_of heaps
-  first_cap [] d l = absurd (omega arith)
-  first_cap (x ∷ xs) d l = refl
-
   -- a heap in place of another with the same room
   pub shares-set :
       (heaps : List (Contents R)) (place : ℕ) (heap : Contents R) → AreShares (shares_of heaps) → heap.cap ≡ cap_of heaps → length heap.items ≤ cap_of heaps → AreShares (shares_of (set heaps place heap))
@@ -146,14 +142,6 @@ module _ {R : Type 0} where
     caps = caps;
     within = λ k d l. subst (λ n. length (get_or heaps k d).items ≤ n) (caps k d l) (within k d l).0;
   }
-
-  -- the records of all heaps, where one has a record more
-  pub bag-push :
-      (heaps : List (Contents R)) (place : ℕ) (old new : Contents R) (x : R) → place < length heaps → old ≡ get_or heaps place old
-      → IsSameBag new.items (x ∷ old.items) → IsSameBag (items_in (set heaps place new)) (x ∷ items_in heaps)
-  bag-push heaps place old new x l is bag p =
-      let read : count_by p old.items ≡ count_by p (get_or heaps place old).items = ap (λ (h : Contents R). count_by p h.items) is in
-      omega (arith, counts-set p heaps place new old l, bag p, read, count_by-cons p x old.items, count_by-cons p x (items_in heaps))
 
   -- and where one has a record less
   pub bag-take :

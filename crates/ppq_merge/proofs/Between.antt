@@ -9,7 +9,6 @@ use Rattle.ppq_split.specs.ppq_record.Runs.{list_at, all_of}
 use Rattle.ppq_split.proofs.ppq_record.Order.{count_by-append, Each-append, Each-append_left, Each-append_right}
 use Rattle.ppq_split.specs.Cut.{AreWithin, total, IsCutBy}
 use Rattle.ppq_split.specs.Edge.{ends}
-use Rattle.ppq_split.proofs.Cuts.{IsCut-rises}
 use Rattle.ppq_merge.specs.Parts.{between, before, after, AreParts, IsParted}
 
 pub count_by-nil : {X : Type 0} (p : X → Bool) → count_by p [] ≡ 0
@@ -112,9 +111,6 @@ module _ {X : Type 0} (lt : X → X → Bool) where
   parts_from_places (c ∷ cs) ds [] h k l = absurd h
   parts_from_places (c ∷ cs) [] (q ∷ qs) h k l = absurd k
   parts_from_places (c ∷ cs) (d ∷ ds) (q ∷ qs) h k l = ((l 0, k.0), parts_from_places cs ds qs h.1 k.1 (λ i. l (suc i)))
-
-  pub IsCut-fits : (qs : List (List X)) (r t : ℕ) (cs ds : List ℕ) → IsCutBy lt qs r cs → IsCutBy lt qs t ds → r ≤ t → AreParts cs ds qs
-  IsCut-fits qs r t cs ds h k l = parts_from_places cs ds qs h.within k.within (IsCut-rises lt qs r t cs ds h k l)
 
   each_before :
       (P : X → Type 0) (cs : List ℕ) (qs : List (List X))

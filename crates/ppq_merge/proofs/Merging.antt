@@ -42,9 +42,6 @@ module _ {X : Type 0} (lt : X → X → Bool) (o : IsStrictWeakOrder lt) where
         );
   }
 
-  pub merging_none : (qs : List (List X)) (left : List X) → IsMerging lt qs [] left left
-  merging_none qs left = record { bag = λ p. refl; order = λ up. (tt, tt) }
-
   pub merging_all : (qs : List (List X)) (fs ts gs : List ℕ) (done : List X) → AreParts gs ts qs → size_between gs ts ≡ 0 → IsMerging lt qs done (between gs ts qs) (between fs ts qs) → IsMergeBy lt qs fs ts done
   merging_all qs fs ts gs done h e m = record {
     bag = λ p.

@@ -6,7 +6,7 @@ use Rattle.ppq_table.specs.Sums.{times}
 use Rattle.ppq_table.proofs.Numbers.{times-append, times-same, times-other}
 use Rattle.ppq_pool.specs.declared.hand.Hand.{Hand}
 use Rattle.ppq_pool.specs.declared.hand.Move.TheVariants.{Took, Saw}
-use Rattle.ppq_pool.specs.Hands.{looks_below, elsewhere, together, with_give}
+use Rattle.ppq_pool.specs.Hands.{looks_below, elsewhere, with_give}
 use Rattle.ppq_pool.specs.Seats.{Holds, IsLook, Takes, FoundHeld}
 use Rattle.ppq_pool.proofs.Lists.{times-without}
 
@@ -55,10 +55,3 @@ module _ {T : Type 0} where
   -- what was held is held after another item is given back
   pub with_give-keeps : (v : Hand T) (i k : ℕ) (x : T) → Holds v i → k ≢ i → Holds v k → Holds (with_give i x v) k
   with_give-keeps v i k x held ne h = omega (arith, h, times-without i k v.numbers held, times-other i k (λ e. ne (sym e)))
-
-  -- a join keeps what both held
-  pub together-keeps : (v w : Hand T) (k : ℕ) → Holds v k → Holds (together v w) k
-  together-keeps v w k h = omega (arith, h, times-append k v.numbers w.numbers)
-
-  pub together-takes_over : (v w : Hand T) (k : ℕ) → Holds w k → Holds (together v w) k
-  together-takes_over v w k h = omega (arith, h, times-append k v.numbers w.numbers)

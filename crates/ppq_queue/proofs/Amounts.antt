@@ -17,15 +17,12 @@ use Rattle.ppq_extract.specs.ppq_array.Owner.{HasBlock, slots_shown}
 use Rattle.ppq_extract.specs.ppq_array.Holdings.{internal_items, internal_buffers, external_buffers, external_slots, RunHasBlock}
 use Rattle.ppq_extract.proofs.ppq_array.Noted.{all_left, all_right}
 use Rattle.ppq_extract.specs.ppq_fetch.Fetching.{IsFitting, one_if_some, fronts_in, blocks_in, count_in}
+use Rattle.ppq_extract.proofs.ppq_fetch.Sums.{one_le}
 use Rattle.ppq_spill.proofs.Keeping.{slots_long}
 use Rattle.ppq_queue.specs.Resting.{IsRestingRun, IsRestingArray}
 
 one_more : (k b : ℕ) → suc k * b ≡ k * b + b
 one_more k b = suc-mul k b
-
-one_le : {X : Type 0} (xs : List X) → one_if_some xs ≤ 1
-one_le [] = omega arith
-one_le (x ∷ xs) = omega arith
 
 module _ {R : Type 0} where
   -- buffers hold no more than fits in them

@@ -215,6 +215,10 @@ pub stands-stopped :
     → QueueStands shown cmp record_of width x h count peak failed limited t room → failed ≡ Some number → u ≡ beginning t → QueueStands shown cmp record_of width x h count peak failed limited' u room
 stands-stopped {number = number} stands is e = record { queue = stands.queue; sound = λ none. not_sound number (sym is ∙ none); counted = counted-later e stands.counted; slots_room = stands.slots_room }
 
+-- what is to hold where no limit session was noted
+pub limit_known : {P : Type 0} → true ≡ false → P
+limit_known e = absurd (cc)
+
 -- a queue of which a limit session was noted
 pub stands-limited :
     {S R : Type 0} {shown : S → Shown} {cmp : R → R → Ordering} {record_of : List ℕ → R} {width : ℕ} {x : Store S R} {h : Shares R} {count peak room : ℕ} {failed : Option ℕ} {limited : Bool} {t : Tally}
@@ -226,9 +230,6 @@ stands-limited stands =
       counted = stands.counted;
       slots_room = stands.slots_room;
     }
-  where
-    limit_known : {P : Type 0} → true ≡ false → P
-    limit_known e = absurd (cc)
 
 module _ {S R : Type 0} {shown : S → Shown} {cmp : R → R → Ordering} {record_of : List ℕ → R} {width : ℕ} {x : Store S R} {h : Shares R} {count peak room : ℕ} {failed : Option ℕ} {limited : Bool} {t : Tally} (stands : QueueStands shown cmp record_of width x h count peak failed limited t room) (none : failed ≡ None) where
   -- the store of a sound queue may work

@@ -1,27 +1,11 @@
 -- What calls of a queue do to its numbers, as those above it see it.
-use Rattle.std.proofs.Common.{◌≡◌, ℕ, ◌+◌, ◌-◌, ◌*◌, ◌≤◌, min, Bool, true, false, cond, Option, Some, None, refl, sym, ap, ap₂, ◌∙◌, subst, arith}
-use Rattle.std.specs.Prelude.{Result, Ok, Err, OnOk, OnErr, nat_lt}
+use Rattle.std.proofs.Common.{◌≡◌, ℕ, ◌+◌, ◌-◌, ◌*◌, ◌≤◌, min, cond, refl, sym, ap, ap₂, ◌∙◌, subst, arith}
+use Rattle.std.specs.Prelude.{Result, Ok, Err, OnOk, OnErr}
 use Rattle.std.proofs.lemmas.Bool.{le-ltb}
 use Rattle.ppq_spill.specs.ppq_counts.Tally.{Tally, last, accepting, storing, beginning, IsBacked}
 use Rattle.ppq_spill.proofs.ppq_counts.Backed.{backed-accepting, backed-storing}
 use Rattle.ppq_extract.specs.ppq_budget.Sizes.{Numbers, heap_of}
-use Rattle.ppq_queue.specs.Holding.{Holding, IsBackedBeside, IsBackedQueue, IsBackedWithout, AreStoresBacked, CountsAs, CountsPush, CountsRoom, CountsStore, CountsFew, begun_push, after_push}
-
--- a store of a full heap that is begun or not accepts nothing
-pub begun-accepted : {R : Type 0} (q : Holding R) → (begun_push q).accepted ≡ q.counts.accepted
-begun-accepted q = room (nat_lt q.in_first (heap_of q.sizes))
-  where
-    room : (b : Bool) → (cond b q.counts (storing q.counts)).accepted ≡ q.counts.accepted
-    room true = refl
-    room false = refl
-
--- and begins no session
-pub begun-sessions : {R : Type 0} (q : Holding R) → (begun_push q).sessions ≡ q.counts.sessions
-begun-sessions q = room (nat_lt q.in_first (heap_of q.sizes))
-  where
-    room : (b : Bool) → (cond b q.counts (storing q.counts)).sessions ≡ q.counts.sessions
-    room true = refl
-    room false = refl
+use Rattle.ppq_queue.specs.Holding.{Holding, IsBackedBeside, IsBackedQueue, IsBackedWithout, AreStoresBacked, CountsAs, CountsRoom, CountsStore, CountsFew, begun_push}
 
 -- a full one begins one
 pub begun-full : {R : Type 0} (q : Holding R) → heap_of q.sizes ≤ q.in_first → begun_push q ≡ storing q.counts
@@ -77,24 +61,6 @@ module _ {R : Type 0} where
     -- a call that begins a session
     pub few-begun : (old new : Holding R) (r : Result T E) → new.sizes ≡ old.sizes → CountsAs (beginning old.counts) old new → CountsFew 0 1 old new r
     few-begun old new r sizes is = few-same 1 old new (beginning old.counts) r sizes refl refl (omega arith) is
-
-    -- a push accepts one record at most; unless a block failed before, and then it changes nothing
-    pub few-push : (old new : Holding R) (r : Result T E) → CountsPush old new r → ((number : ℕ) → old.failed ≡ Some number → new ≡ old) → CountsFew 1 0 old new r
-    few-push old new r is latched =
-        let within = few old.failed refl in
-        record { accepted = within.0; sessions = within.1; backed = is.backed; unbacked = err r is.unbacked }
-      where
-        pushed : (r : Result T E) → ((after_push r old).accepted ≤ old.counts.accepted + 1) × ((after_push r old).sessions ≤ old.counts.sessions + 0)
-        pushed (Ok v) = (omega (arith, begun-accepted old), omega (arith, begun-sessions old))
-        pushed (Err e) = (omega (arith, begun-accepted old), omega (arith, begun-sessions old))
-
-        few : (failed : Option ℕ) → old.failed ≡ failed → (new.counts.accepted ≤ old.counts.accepted + 1) × (new.counts.sessions ≤ old.counts.sessions + 0)
-        few None none = (let e = is.counts none in (omega (arith, (pushed r).0, ap (λ u. u.accepted) e), omega (arith, (pushed r).1, ap (λ u. u.sessions) e)))
-        few (Some number) some = (let same = latched number some in (omega (arith, ap (λ q. q.counts.accepted) same), omega (arith, ap (λ q. q.counts.sessions) same)))
-
-        err : (r : Result T E) → OnErr r (IsBackedQueue old → IsBackedWithout new) → OnErr r (IsBackedQueue old → AreStoresBacked new)
-        err (Ok v) p = tt
-        err (Err e) p = λ backed. backed-less new (new.in_heap - heap_of new.sizes) 0 (omega arith) (p backed)
 
     -- more might have been counted
     pub few-more : (k l m n : ℕ) (old new : Holding R) (r : Result T E) → k ≤ m → l ≤ n → CountsFew k l old new r → CountsFew m n old new r

@@ -144,13 +144,3 @@ module _ {R : Type 0} where
 
   pub stays-more : (a b c : Holding R) → Stays a b → Stays b c → Stays a c
   stays-more a b c h k = record { keeps = keeps-more a b c h.keeps k.keeps; size = k.size ∙ h.size; peak = k.peak ∙ h.peak }
-
-  -- two calls that left the records as they were
-  pub same-more : (a b c : Holding R) → (AllTell a.slots → AllTell b.slots) → SameRecords a b → SameRecords b c → SameRecords a c
-  same-more a b c tells h k = record { quiet = k.quiet ∙ h.quiet; bag = λ tell p. k.bag (tells tell) p ∙ h.bag tell p; size = k.size ∙ h.size; sound = k.sound }
-
-  -- a refusal after such a call
-  pub refusal-more : (a b c : Holding R) (fault : StoreFault) → (AllTell a.slots → AllTell b.slots) → SameRecords a b → IsRefusal b c fault → IsRefusal a c fault
-  refusal-more a b c NoFreeBlock tells h is =
-      record { bag = λ tell p. is.bag (tells tell) p ∙ h.bag tell p; size = is.size ∙ h.size; sound = is.sound; quiet = is.quiet ∙ h.quiet; free = is.free; room = is.room; above = is.above }
-  refusal-more a b c (Device number) tells h is = record { fault = is.fault; kept = is.kept; size = is.size ∙ h.size }

@@ -17,7 +17,7 @@ use Rattle.ppq_queue.proofs.Amounts.{counts_fit, counts_full, waiting_is}
 differ_le : (a b : ℕ) → ◌≤◌ (cond (a == b) 0 1) 1
 differ_le a b = grind (arith, nat_tests)
 
-same_none : (a b : ℕ) → a ≡ b → ◌≡◌ {A = ℕ} (cond (a == b) 0 1) 0
+pub same_none : (a b : ℕ) → a ≡ b → ◌≡◌ {A = ℕ} (cond (a == b) 0 1) 0
 same_none a b e = grind (arith, nat_tests)
 
 none_same : (a b : ℕ) → ◌≡◌ {A = ℕ} (cond (a == b) 0 1) 0 → a ≡ b

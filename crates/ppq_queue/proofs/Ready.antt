@@ -1,6 +1,6 @@
 -- A heap beside an extract buffer that is ready: which of both has the smallest record, and what is left without it.
-use Rattle.std.proofs.Common.{◌≡◌, ℕ, zero, suc, inl, inr, ◌+◌, ◌-◌, ◌<◌, ◌≤◌, Bool, true, false, cond, not, List, [], ◌∷◌, ◌++◌, length, drop, Option, Some, None, refl, sym, ap, ◌∙◌, subst, arith, append_assoc, length-drop, Ordering}
-use Rattle.std.specs.Prelude.{count_by, ◌⊎◌, ◌↔◌, IfSome, IsNone, Result, Ok, Err, IsErr, OnOk}
+use Rattle.std.proofs.Common.{◌≡◌, ℕ, inl, inr, ◌+◌, ◌-◌, ◌<◌, ◌≤◌, Bool, true, false, cond, not, List, [], ◌∷◌, ◌++◌, length, drop, Option, Some, None, refl, sym, ap, ◌∙◌, subst, arith, append_assoc, length-drop, Ordering}
+use Rattle.std.specs.Prelude.{count_by, ◌↔◌, IfSome, IsNone, Result, Ok, Err, IsErr, OnOk}
 use Rattle.std.specs.declared.cmp.Ordering.TheVariants.{Equal}
 use Rattle.std.specs.Cmp.{IsTotalOrder}
 use Rattle.ppq_heap.specs.ppq_record.Order.{is_before, Le, Ascends}
@@ -8,6 +8,7 @@ use Rattle.ppq_heap.specs.ppq_record.Bag.{IsSameBag, first_of, least, ascending}
 use Rattle.ppq_heap.proofs.ppq_record.Order.{Each-append, count_by-cons, count_by-append, IsSameBag-length, in_order-same_bag}
 use Rattle.ppq_heap.proofs.ppq_record.Fronts.{ranks}
 use Rattle.ppq_extract.specs.ppq_fetch.Taking.{NoneAfter}
+use Rattle.ppq_spill.proofs.Readies.{zero_or}
 use Rattle.ppq_queue.specs.Choice.{goes_first, first_of_two, TookFirst}
 use Rattle.ppq_queue.proofs.Least.{least_is, least-none, least_of_empty, least_of_two, without_answer}
 
@@ -159,10 +160,6 @@ has_room (Err e) len most room full added = absurd (omega (arith, full refl))
 pub left_over : (count heap extract heap' extract' runs less : ℕ) → count ≡ heap + extract + runs → heap' + extract' ≡ heap + extract - 1 → less ≡ count - 1 → (extract ≡ 0 → count ≡ heap) → less ≡ heap' + extract' + runs
 left_over count heap extract heap' extract' runs less all few l ready =
     elim (zero_or extract) as (λ _. less ≡ heap' + extract' + runs) [ inl z ↦ omega (arith, ready z) | inr s ↦ omega arith ]
-  where
-    zero_or : (n : ℕ) → (n ≡ 0) ⊎ (0 < n)
-    zero_or zero = inl refl
-    zero_or (suc n) = inr (omega arith)
 
 -- a heap that was sorted
 pub sorted-same : {R : Type 0} {cmp : R → R → Ordering} (o : IsTotalOrder cmp) (xs ys : List R) → ys ≡ ascending cmp xs → IsSameBag ys xs

@@ -1,18 +1,16 @@
 -- Slots that are moved: their sums stay.
-use Rattle.std.proofs.Common.{◌≡◌, ℕ, ◌+◌, cond, List, [], ◌∷◌, ◌++◌, length, take, drop, map, reverse, sum_by, All, refl, sym, ap, ◌∙◌, arith, append-nil, length-append, suc}
-use Rattle.std.specs.Prelude.{Option, Some, None, IsSome, is_some}
-use Rattle.std.proofs.lemmas.List.Elements.{All-nil, All-cons, All-head, All-tail}
+use Rattle.std.proofs.Common.{◌≡◌, ℕ, ◌+◌, List, [], ◌∷◌, ◌++◌, length, take, drop, map, reverse, sum_by, refl, sym, ap, ◌∙◌, arith, append-nil, length-append}
 use Rattle.std.proofs.lemmas.List.{map-append, reverse-append, length-reverse, drop_all, take_all}
 use Rattle.std.proofs.lemmas.List.Sums.{sum_by-cons, sum_by-append}
 use Rattle.std.proofs.lemmas.List.Concat.{flat_map-cons}
-use Rattle.ppq_extract.specs.ppq_outside.Shown.{Shown, Tells, AllTell}
+use Rattle.ppq_extract.specs.ppq_outside.Shown.{Shown}
 use Rattle.ppq_extract.specs.ppq_array.External.{External}
 use Rattle.ppq_extract.specs.ppq_array.Kept.{SameSlots, AreQuiet, all_faults}
 use Rattle.ppq_extract.specs.ppq_array.Supply.{Stock}
 use Rattle.ppq_extract.specs.ppq_array.Owner.{slots_shown}
 use Rattle.ppq_extract.specs.ppq_array.Holdings.{external_slots}
 use Rattle.ppq_spill.proofs.SameSlots.{SameSlots-sums}
-use Rattle.ppq_spill.proofs.Keeping.{slots_more, slots_long}
+use Rattle.ppq_spill.proofs.Keeping.{slots_more, slots_long, sum_ones}
 use Rattle.ppq_spill.specs.Body.{job_slots}
 use Rattle.ppq_spill.specs.Leveling.{arrays_before, arrays_after}
 use Rattle.ppq_spill.specs.declared.body.PassBody.{PassBody}
@@ -31,10 +29,6 @@ module _ {S : Type 0} (shown : S → Shown) where
   sum-reverse f [] = refl
   sum-reverse f (x ∷ xs) =
       ap (λ (l : List S). sum_by f (map shown l)) (reverse-append (x ∷ []) xs) ∙ sum-push f (reverse xs) x ∙ omega (arith, sum-reverse f xs, sum_by-cons f (shown x) (map shown xs))
-
-sum_ones : (xs : List Shown) → sum_by (λ _. 1) xs ≡ length xs
-sum_ones [] = refl
-sum_ones (x ∷ xs) = let e : sum_by (λ _. 1) (x ∷ xs) ≡ suc (length xs) = omega (arith, sum_by-cons (λ (_ : Shown). 1) x xs, sum_ones xs) in e
 
 -- lists with the same sums are as long
 pub SameSums-length : (a b : List Shown) → SameSums a b → length b ≡ length a
@@ -79,34 +73,6 @@ pub turned : {A : Type 0} (xs rev : List A) (len : ℕ) → rev ≡ reverse xs �
 turned xs rev len e l =
     let long : length rev ≡ length xs = ap length e ∙ length-reverse xs in
     ap (λ ys. take len (rev ++ ys)) (drop_all (length rev) xs (omega (arith, long))) ∙ ap (take len) (append-nil rev) ∙ take_all len rev (omega (arith, long, l)) ∙ e
-
--- 1 of a slot that does not tell
-abbrev silent : Shown → ℕ
-silent s = cond (is_some s.told) 0 1
-
-told_none : (t : Option (List ℕ)) → IsSome t → ◌≡◌ {A = ℕ} (cond (is_some t) 0 1) 0
-told_none None h = absurd (cc)
-told_none (Some v) h = refl
-
-none_told : (t : Option (List ℕ)) → ◌≡◌ {A = ℕ} (cond (is_some t) 0 1) 0 → IsSome t
-none_told None h = absurd (omega arith)
-none_told (Some v) h = refl
-
-tell_sum : (xs : List Shown) → All Tells xs → sum_by silent xs ≡ 0
-tell_sum [] all = refl
-tell_sum (x ∷ xs) all = omega (arith, told_none x.told (All-head Tells x xs all), tell_sum xs (All-tail Tells x xs all), sum_by-cons silent x xs)
-
-sum_tell : (xs : List Shown) → sum_by silent xs ≡ 0 → All Tells xs
-sum_tell [] e = All-nil Tells
-sum_tell (x ∷ xs) e =
-    let cons = sum_by-cons silent x xs in
-    let here : ◌≡◌ {A = ℕ} (cond (is_some x.told) 0 1) 0 = omega (arith, e, cons) in
-    let rest : sum_by silent xs ≡ 0 = omega (arith, e, cons) in
-    All-cons Tells x xs (none_told x.told here) (sum_tell xs rest)
-
--- the same slots tell in any order
-pub tells-sums : (a b : List Shown) → SameSums a b → AllTell a → AllTell b
-tells-sums a b h tell = sum_tell b (omega (arith, h silent, tell_sum a tell))
 
 pub slots-sums : (a b : List Shown) → SameSums a b → SameSlots a b
 slots-sums a b h = SameSlots-sums a b h (sym (SameSums-length a b h))

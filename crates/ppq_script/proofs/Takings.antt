@@ -1,58 +1,18 @@
 -- Lemmas on reading one line after the other.
-use Rattle.std.proofs.Common.{◌≡◌, ℕ, cond, ◌+◌, List, [], ◌∷◌, ◌++◌, length, Option, Some, None, inl, inr, refl, sym, ap, ap₂, ◌∙◌, subst, arith, append-nil, length-append}
-use Rattle.ppq_script.specs.declared.command.Command.{Command}
-use Rattle.ppq_script.specs.declared.command.Command.TheVariants.{Bulk}
+use Rattle.std.proofs.Common.{◌≡◌, ℕ, cond, ◌+◌, List, [], ◌∷◌, ◌++◌, length, Option, Some, None, inl, inr, refl, sym, ap, ap₂, ◌∙◌, subst, arith, append-nil}
 use Rattle.ppq_script.specs.declared.numbered.Numbered.{Numbered}
 use Rattle.ppq_script.specs.declared.session.Session.{Session}
 use Rattle.ppq_script.specs.declared.session.Session.TheVariants.{Outside, InBulk, InLimit}
 use Rattle.ppq_script.specs.Sessions.{is_outside}
-use Rattle.ppq_script.specs.Lines.{LineKind, Skipped, Plain, OfFile, Bad, lines_of, kind_of, session_behind, placed, kinds_from, headed, kinds_of, head_at, file_after, numbered_from, names_of, first_bad}
+use Rattle.ppq_script.specs.Lines.{LineKind, Skipped, Bad, lines_of, kind_of, session_behind, placed, kinds_from, headed, kinds_of, head_at, file_after, numbered_from, names_of, first_bad}
 use Rattle.ppq_script.specs.Taken.{IsTaken, IsBehindHead}
 use Rattle.ppq_script.specs.declared.head.Head.{Head}
 use Rattle.ppq_script.specs.Words.{Words}
-
-snoc_first : {X : Type 0} (pre : List X) (x : X) (rest : List X) → pre ++ x ∷ rest ≡ (pre ++ x ∷ []) ++ rest
-snoc_first [] x rest = refl
-snoc_first {X = X} (y ∷ ys) x rest = ap (λ (t : List X). y ∷ t) (snoc_first ys x rest)
 
 -- no line is left
 pub nothing_left : (rest : List ℕ) → length rest ≡ 0 → rest ≡ []
 nothing_left [] e = refl
 nothing_left (b ∷ bs) e = absurd (omega (arith, e))
-
-module _ {R : Type 0} where
-  -- what each kind of line adds
-  taken_none : (line : ℕ) (had : List (Numbered R)) (knew : List (List ℕ)) → IsTaken line Skipped had knew had knew
-  taken_none line had knew = record { commands = λ rest. refl; names = λ rest. refl; file = refl; good = λ rest. refl; few = omega arith }
-
-  taken_plain : (line : ℕ) (c : Command R) (had : List (Numbered R)) (knew : List (List ℕ)) → IsTaken line (Plain c) had knew (had ++ record { line = line; command = c } ∷ []) knew
-  taken_plain line c had knew = record { commands = snoc_first had (record { line = line; command = c }); names = λ rest. refl; file = refl; good = λ rest. refl; few = omega arith }
-
-  taken_file : (line : ℕ) (name : List ℕ) (had : List (Numbered R)) (knew : List (List ℕ))
-      → IsTaken line (OfFile name) had knew (had ++ record { line = line; command = Bulk (length knew) 0 } ∷ []) (knew ++ name ∷ [])
-  taken_file line name had knew = record {
-    commands = snoc_first had (record { line = line; command = Bulk (length knew) 0 });
-    names = snoc_first knew name;
-    file = sym (length-append knew (name ∷ []));
-    good = λ rest. refl;
-    few = omega (arith, length-append knew (name ∷ []));
-  }
-
-  pub IsTaken-Skipped : (line : ℕ) (kind : LineKind R) (had has : List (Numbered R)) (knew knows : List (List ℕ)) → kind ≡ Skipped → has ≡ had → knows ≡ knew → IsTaken line kind had knew has knows
-  IsTaken-Skipped line kind had has knew knows k c n =
-      let P : LineKind R → List (Numbered R) → List (List ℕ) → Type 0 = λ kind has knows. IsTaken line kind had knew has knows in
-      subst (λ k. P k has knows) (sym k) (subst (λ h. P Skipped h knows) (sym c) (subst (λ h. P Skipped had h) (sym n) (taken_none line had knew)))
-
-  pub IsTaken-Plain : (line : ℕ) (kind : LineKind R) (c : Command R) (had has : List (Numbered R)) (knew knows : List (List ℕ)) → kind ≡ Plain c → has ≡ had ++ record { line = line; command = c } ∷ [] → knows ≡ knew → IsTaken line kind had knew has knows
-  IsTaken-Plain line kind command had has knew knows k c n =
-      let P : LineKind R → List (Numbered R) → List (List ℕ) → Type 0 = λ kind has knows. IsTaken line kind had knew has knows in
-      subst (λ k. P k has knows) (sym k) (subst (λ h. P (Plain command) h knows) (sym c) (subst (λ h. P (Plain command) (had ++ record { line = line; command = command } ∷ []) h) (sym n) (taken_plain line command had knew)))
-
-  pub IsTaken-OfFile : (line : ℕ) (kind : LineKind R) (name : List ℕ) (had has : List (Numbered R)) (knew knows : List (List ℕ)) → kind ≡ OfFile name
-      → has ≡ had ++ record { line = line; command = Bulk (length knew) 0 } ∷ [] → knows ≡ knew ++ name ∷ [] → IsTaken line kind had knew has knows
-  IsTaken-OfFile line kind name had has knew knows k c n =
-      let P : LineKind R → List (Numbered R) → List (List ℕ) → Type 0 = λ kind has knows. IsTaken line kind had knew has knows in
-      subst (λ k. P k has knows) (sym k) (subst (λ h. P (OfFile name) h knows) (sym c) (subst (λ h. P (OfFile name) (had ++ record { line = line; command = Bulk (length knew) 0 } ∷ []) h) (sym n) (taken_file line name had knew)))
 
 module _ {R : Type 0} (words : Words R) where
   -- these lines were taken: what is left begins with this line, in this session

@@ -28,7 +28,8 @@ use Rattle.ppq_session.specs.declared.fault.SessionEnd.{SessionEnd}
 use Rattle.ppq_session.specs.declared.fault.SessionEnd.TheVariants.{Whole, Stopped}
 use Rattle.ppq_queue.specs.Slots.{SameSums}
 use Rattle.ppq_queue.specs.Resting.{slots_of, runs_bag}
-use Rattle.ppq_queue.proofs.Slots.{slots-sums, tells-sums}
+use Rattle.ppq_pass.proofs.ppq_spill.Telling.{tell_moved}
+use Rattle.ppq_queue.proofs.Slots.{slots-sums}
 use Rattle.ppq_session.specs.Ends.{Staying, HasAll, EndsWith, SessionEnded, bag_of, accepted_of, first_some, first_fault}
 use Rattle.ppq_session.specs.Counting.{stores_of, tally_with}
 use Rattle.ppq_session.proofs.Counted.{counts-some}
@@ -263,7 +264,7 @@ module _ {S R : Type 0} (shown : S → Shown) (cmp : R → R → Ordering) (reco
 
         last_tells : AllTell (apart_slots shown q) → All (PassTells shown) ps → AllTell (slots_of shown d.body d.supply)
         last_tells tell each =
-            tells-sums now (slots_of shown d.body d.supply) last_sums (told_now shown cmp record_of width q failed can.back.apart q1 (reverse ps) br c cl count keys tell (all_turned (PassTells shown) ps each))
+            tell_moved now (slots_of shown d.body d.supply) last_sums (told_now shown cmp record_of width q failed can.back.apart q1 (reverse ps) br c cl count keys tell (all_turned (PassTells shown) ps each))
 
         module _ (fault : Option ℕ) (fault_is : fault ≡ first_some (map (λ (x : Brought S R). x.failed) (reverse brought)) failed) (queue end : Holding R) (made : IsMade shown cmp record_of width popped fault d queue) (still : Stays queue end) (same_counts : CountsAs queue.counts queue end) where
           abbrev stay : Staying R

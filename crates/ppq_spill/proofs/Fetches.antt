@@ -24,9 +24,6 @@ abbrev pub stored_count : {S R : Type 0} → List (External S R) → ℕ
 stored_count arrays = sum_by (λ a. counts a.stored) arrays
 
 module _ {S R : Type 0} (block : ℕ) where
-  Fit : External S R → Type 0
-  Fit a = AllFit block a.stored
-
   one_went : (x y : External S R) → WentOn x y → AllFit block x.stored → AllFit block y.stored × (length y.stored ≤ length x.stored) × (counts x.stored + length y.stored * block ≤ counts y.stored + length x.stored * block)
   one_went x y w fit =
       let front = take w.loads x.stored in

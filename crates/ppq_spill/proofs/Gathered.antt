@@ -1,5 +1,5 @@
 -- Arrays of a level that are brought to the end of a list.
-use Rattle.std.proofs.Common.{◌≡◌, ℕ, zero, suc, ◌+◌, ◌-◌, ◌<◌, ◌≤◌, ◌==◌, true, false, cond, List, [], ◌∷◌, length, take, drop, get_or, All, refl, sym, ap, ◌∙◌, subst, arith, IsPermutation}
+use Rattle.std.proofs.Common.{◌≡◌, ℕ, zero, suc, ◌+◌, ◌-◌, ◌<◌, ◌≤◌, ◌==◌, true, cond, List, [], ◌∷◌, length, take, drop, get_or, All, refl, sym, ap, ◌∙◌, subst, arith, IsPermutation}
 use Rattle.std.specs.List.{swap}
 use Rattle.std.proofs.lemmas.List.{get_or-drop, length-drop}
 use Rattle.std.proofs.lemmas.List.Edits.{swapped_from_swap}
@@ -17,9 +17,6 @@ module _ {S R : Type 0} (level : ℕ) where
   counts_one a e =
       let same : (level == level) ≡ true = grind arith in
       ap (λ k. cond (k == level) 1 0) e ∙ ap (λ b. cond b 1 0) same
-
-  counts_none : (a : External S R) → (a.level ≡ level → ⊥) → weight a ≡ 0
-  counts_none a e = let no : (a.level == level) ≡ false = grind arith in ap (λ b. cond b 1 0) no
 
   count_all : (xs : List (External S R)) → All (HasLevel level) xs → count_level level xs ≡ length xs
   count_all [] a = refl

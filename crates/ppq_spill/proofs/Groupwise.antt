@@ -2,7 +2,7 @@
 use Rattle.std.proofs.Common.{◌≡◌, ℕ, zero, suc, ◌+◌, ◌*◌, ◌<◌, ◌≤◌, List, [], ◌∷◌, ◌++◌, length, map, min, take, drop, sum_by, All, IsSome, refl, sym, ap, ◌∙◌, subst, arith, length-append}
 use Rattle.std.specs.List.{AllZip}
 use Rattle.std.proofs.lemmas.Nat.{mul-le}
-use Rattle.std.proofs.lemmas.List.{take-append-le, nil_from_length, length-map}
+use Rattle.std.proofs.lemmas.List.{take-append-le, length-map}
 use Rattle.std.proofs.lemmas.List.Elements.{All-cons, All-head, All-tail, All-nil, All-append}
 use Rattle.std.specs.Cmp.{IsStrictWeakOrder}
 use Rattle.std.specs.declared.cmp.Ordering.{Ordering}
@@ -16,7 +16,6 @@ use Rattle.ppq_fetch.specs.ppq_array.declared.berth.DeviceBlock.{DeviceBlock}
 use Rattle.ppq_fetch.specs.ppq_array.Run.{Run, run_of, buffers_of}
 use Rattle.ppq_fetch.specs.ppq_array.External.{External, external, size_of}
 use Rattle.ppq_fetch.specs.ppq_array.Owner.{HasSize, HasBlock, slots_shown}
-use Rattle.ppq_fetch.specs.ppq_array.Holdings.{internal_items}
 use Rattle.ppq_fetch.proofs.ppq_array.Noted.{all_left, all_right, take_whole}
 use Rattle.ppq_spill.specs.declared.body.PassBody.{PassBody}
 use Rattle.ppq_spill.specs.declared.new_array.NewArray.{NewArray}
@@ -26,7 +25,6 @@ use Rattle.ppq_spill.proofs.Filled.{MergedInto-buffers, MergedInto-count, Merged
 use Rattle.ppq_spill.proofs.Grouped.{Ran, wrote, told_items, same_bufs, group_written, group_failed}
 use Rattle.ppq_spill.proofs.Jobs.{items_same, may_run}
 use Rattle.ppq_spill.proofs.Keeping.{slots_long}
-use Rattle.ppq_spill.proofs.Writings.{rest_none}
 use Rattle.ppq_spill.proofs.Written.{grew_written}
 
 -- a slice that was lent by a list of its length
@@ -224,19 +222,3 @@ module _ {S R : Type 0} (cmp : R → R → Ordering) (bytes_of : R → List ℕ)
               (subst (λ a. WriteFailed shown (block * width) slots0 runs0 slots'' rs a bad.slot) (sym made)
               (subst (λ bs. WriteFailed shown (block * width) slots0 runs0 bs rs (appended (external 0 (run_of [] 0 []) [] making.made.stored) good) bad.slot) (sym slots_is) put)))
               (MergedInto-buffers cmp block filled' rs rest body'.runs.internal.items (drop at' sorted) (next.merged block goes.blocks))
-
-    -- where no buffer was filled, all is written
-    pub underway_end : (body : PassBody S R) (making : NewArray S R) (at : ℕ) (filled : List (Block R)) → 1 ≤ group → length filled ≡ 0 → Goes body making at filled → Wrote [] body.runs.internal.items [] making.made
-    underway_end body making at filled one none goes = end filled none goes.merged
-      where
-        no_slot : making.berths ≡ []
-        no_slot = nil_from_length making.berths (let e : length making.berths ≡ 0 = omega (arith, goes.count, none, one) in e)
-
-        wrote_all : (runs : List (Run R)) (rest : List R) → Wrote making.berths runs rest making.made → Wrote [] runs [] making.made
-        wrote_all runs rest writing =
-            let here = subst (λ bs. Wrote bs runs rest making.made) no_slot writing in
-            subst (λ xs. Wrote [] runs xs making.made) (rest_none (internal_items runs) rest block here.room) here
-
-        end : (bs : List (Block R)) → length bs ≡ 0 → MergedInto cmp block bs goes.runs_then goes.rest_then body.runs.internal.items (drop at sorted) → Wrote [] body.runs.internal.items [] making.made
-        end [] e into = subst (λ rs. Wrote [] rs [] making.made) (sym into.0) (wrote_all goes.runs_then goes.rest_then goes.writing)
-        end (b ∷ bs) e into = absurd (omega (arith, e))

@@ -13,6 +13,7 @@ use Rattle.ppq_fetch.specs.ppq_array.Supply.{Stock, GetsSlot}
 use Rattle.ppq_fetch.specs.ppq_array.Kept.{AreQuiet, all_faults}
 use Rattle.ppq_fetch.specs.ppq_array.Holdings.{external_slots, external_buffers, ArrayHasSize, RunHasBlock}
 use Rattle.ppq_fetch.specs.Fetching.{State, state, slots_in, AreSources, PartsKept, blocks_in, fronts_in, one_if_some}
+use Rattle.ppq_fetch.proofs.Sums.{one_le}
 use Rattle.ppq_spill.specs.Went.{Went, AtLeast}
 use Rattle.ppq_spill.specs.Making.{Hand, hand, hand_slots, Wrote, Tried, Table, table, table_slots, total, BetweenBatches, Merging}
 use Rattle.ppq_spill.proofs.Going.{f_of, Went-refl, Went-trans, Went-placed}
@@ -20,13 +21,9 @@ use Rattle.ppq_spill.proofs.Parts.{SameRest-trans, hand_sum}
 use Rattle.ppq_spill.proofs.Fetches.{parts_went, parts_rest}
 
 -- at most one for each list
-one_most : {X : Type 0} (xs : List X) → one_if_some xs ≤ 1
-one_most [] = omega arith
-one_most (x ∷ xs) = omega arith
-
 pub fronts_most : {S R : Type 0} (xs : List (External S R)) → fronts_in xs ≤ length xs
 fronts_most [] = omega arith
-fronts_most {S} {R} (x ∷ xs) = omega (arith, sum_by-cons (λ (a : External S R). one_if_some (items_of a.loaded)) x xs, one_most (items_of x.loaded), fronts_most xs)
+fronts_most {S} {R} (x ∷ xs) = omega (arith, sum_by-cons (λ (a : External S R). one_if_some (items_of a.loaded)) x xs, one_le (items_of x.loaded), fronts_most xs)
 
 module _ {S R : Type 0} (shown : S → Shown) where
   pub table_sum : (f : Shown → ℕ) (t : Table S R) → sum_by f (table_slots shown t) ≡ sum_by f (external_slots shown t.inputs) + (sum_by f (slots_shown shown t.hand.made.stored) + sum_by f (slots_shown shown t.hand.berths) + sum_by f t.hand.stock.kept)

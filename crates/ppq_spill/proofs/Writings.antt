@@ -30,10 +30,6 @@ module _ {S R : Type 0} (cmp : R → R → Ordering) (record_of : List ℕ → R
   abbrev now_records : External S R → List R
   now_records a = records_in record_of width shown a
 
-  -- the records of a run of written blocks
-  written_records : (stored : List (DeviceBlock S R)) → records_in record_of width shown (external 0 (run_of [] 0 []) [] stored) ≡ blocks_items record_of width shown stored
-  written_records stored = refl
-
   records_more : (stored : List (DeviceBlock S R)) (last : DeviceBlock S R) (out : List R) → block_items record_of width shown last ≡ out
       → records_in record_of width shown (external 0 (run_of [] 0 []) [] (stored ++ last ∷ [])) ≡ records_in record_of width shown (external 0 (run_of [] 0 []) [] stored) ++ out
   records_more stored last out e =

@@ -23,12 +23,6 @@ module _ {A : Type 0} where
   drop_take-more (y ∷ xs) (suc c) zero x le e = absurd (omega arith)
   drop_take-more (y ∷ xs) (suc c) (suc i) x le e = drop_take-more xs c i x (omega arith) e
 
-  pub drop_take-same : (xs : List A) (c : ℕ) → drop c (take c xs) ≡ []
-  drop_take-same [] zero = refl
-  drop_take-same [] (suc c) = refl
-  drop_take-same (x ∷ xs) zero = refl
-  drop_take-same (x ∷ xs) (suc c) = drop_take-same xs c
-
 module _ {T : Type 0} where
   abbrev item_of : Place T → Option T
   item_of Empty = none
@@ -42,9 +36,6 @@ module _ {T : Type 0} where
   room_of d Empty = d
   room_of d (Item x) = d
   room_of d (Room r) = r
-
-  pub room-injective : (r s : Vec T Global) → Room r ≡ Room s → r ≡ s
-  room-injective r s e = ap (room_of r) e
 
   -- what stands in a list of items is an item
   pub item_inside : (xs : List T) (a b : List (Place T)) (p : Place T) → map Item xs ≡ a ++ p ∷ b → (x : T) × (p ≡ Item x)
@@ -84,11 +75,6 @@ module _ {T : Type 0} where
   items_in-append (Item x ∷ ps) qs = λ k. x ∷ items_in-append ps qs k
   items_in-append (Empty ∷ ps) qs = items_in-append ps qs
   items_in-append (Room r ∷ ps) qs = items_in-append ps qs
-
-  pub items_in-other : (p : Place T) → ((x : T) → p ≡ Item x → ⊥) → items_in (p ∷ []) ≡ []
-  items_in-other Empty not = refl
-  items_in-other (Room r) not = refl
-  items_in-other (Item x) not = absurd (not x refl)
 
   -- one more place, beyond those that are dropped
   pub items_in-more : (ps : List (Place T)) (c i : ℕ) (p : Place T) → c ≤ i → get_elem? ps i ≡ some p → items_in (drop c (take (suc i) ps)) ≡ items_in (drop c (take i ps)) ++ items_in (p ∷ [])

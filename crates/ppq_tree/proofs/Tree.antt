@@ -168,13 +168,6 @@ module _ {X : Type 0} (cmp : X → X → Ordering) where
         ];
       }
 
-  pub played_all : (items : List (Option X)) (winners : List ℕ) (from : ℕ) → from ≤ 1 → IsPlayedFrom cmp items winners from → IsMinTree cmp items winners
-  played_all items winners from f t = record {
-    size = t.size;
-    leaves = t.leaves;
-    matches = λ u uz ul. t.matches u (omega arith) uz ul;
-  }
-
   -- the root's winner is a leaf
   pub root_within : (items : List (Option X)) (winners : List ℕ) → 0 < length items → IsMinTree cmp items winners → winner_at winners 1 < length items
   root_within items winners z t = (below_node cmp items winners t (2 * length items) 1 (omega arith) (omega arith) (omega arith)).0

@@ -99,9 +99,6 @@ module _ (names : List Text) where
   pub settles_script : (v : Text) (rows : List Row) → settles (held rows (Some (alone, v ∷ []))) ≡ add alone v rows
   settles_script v rows = settled_once alone v rows
 
-  pub settles_none : (rows : List Row) → settles (held rows None) ≡ Some rows
-  settles_none rows = refl
-
   pub settles_waiting : (name : Text) (rows : List Row) → is_known (45 ∷ 45 ∷ name) ≡ true → settles (held rows (Some (45 ∷ 45 ∷ name, []))) ≡ None
   settles_waiting name rows known =
       ap (λ (o : Option Rule). cond (clean (option_map_or (λ a. use_fault false a [] rows) o [])) (Some (used_by_id o [] rows)) None) (by_id name known)

@@ -1,4 +1,4 @@
-use Rattle.std.proofs.Common.{◌≡◌, ◌+◌, true, false, refl, ap, sym, ◌∙◌, length, arith}
+use Rattle.std.proofs.Common.{◌+◌, true, refl, ap, sym, ◌∙◌, length, arith}
 use Rattle.std.specs.Prelude.{⊤}
 use Rattle.ppq_spill.specs.ppq_counts.Tally.{beginning}
 use Rattle.ppq_queue.specs.Handed.{viewed}
@@ -8,11 +8,8 @@ use Rattle.ppq_queue.proofs.Bounds.{heaps_within}
 use Rattle.ppq_queue.proofs.Flushed.{keeps-slots, not_sound, refusal-limited, same-limited}
 use Rattle.ppq_queue.proofs.Moves.{ok-map}
 use Rattle.ppq_queue.proofs.Stores.{err-map}
-use Rattle.ppq_queue.proofs.Calls.{may_work, stopped, stands-stopped, stands-limited, called-heaps}
+use Rattle.ppq_queue.proofs.Calls.{may_work, stopped, stands-stopped, limit_known, stands-limited, called-heaps}
 use Rattle.ppq_queue.proofs.queue.Queue.store_heaps.Goals as goal
-
-limit_known : {P : Type 0} → true ≡ false → P
-limit_known e = absurd (cc)
 
 pub invariant_of-self : goal.invariant_of-self
 invariant_of-self g c = (stands-stopped c.self.invariant.0 c.in-Some.is c.begin_session.ensures, c.self.invariant.1)
