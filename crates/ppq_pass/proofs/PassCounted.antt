@@ -35,17 +35,6 @@ module _ {S R : Type 0} (shown : S → Shown) (n : Numbers) (heap : Contents R) 
         read = was.read;
       }
 
-  -- as many records in the heap
-  pub counted-same : (heap' : Contents R) → length heap'.items ≡ length heap.items → IsPassCounted shown n heap' a p begun accepted stores failed
-  counted-same heap' same =
-      record {
-        paid = λ counting few sound. (let is = was.paid counting few sound in record { spent = omega (arith, is.spent, same); weight = is.weight });
-        covered = was.covered;
-        stay = was.stay;
-        unread = was.unread;
-        read = was.read;
-      }
-
   -- a store of the heap, as it was sorted
   module _ (b : PassBody S R) (q : PassParts S R) (same : p.block ≡ n.block) (sound : failed ≡ None) (more : all_writes (drawn_of shown p) ≤ all_writes (drawn_of shown q)) (records : ℕ) (all : length heap.items ≡ records) (heap' : Contents R) where
     abbrev before : Account

@@ -1,9 +1,8 @@
 -- The slots of a pass, before and after a store: those that it holds are those that it drew, and they tell as before.
-use Rattle.std.proofs.Common.{◌≡◌, ◌↔◌, ℕ, zero, suc, ◌+◌, ◌<◌, ◌≤◌, List, [], ◌∷◌, ◌++◌, length, sum_by, All, refl, ap, ◌∙◌, arith, length-append}
+use Rattle.std.proofs.Common.{◌≡◌, ◌↔◌, ℕ, zero, suc, ◌+◌, ◌≤◌, List, [], ◌∷◌, ◌++◌, sum_by, refl, ap, arith, length-append}
 use mathlib.Core.Option.{Option, none, some}
 use lib.ListN.{get_elem?}
 use Rattle.std.proofs.lemmas.List.Sums.{sum_by-cons, sum_by-append}
-use Rattle.std.proofs.lemmas.List.Elements.{All-head, All-tail}
 use Rattle.ppq_extract.specs.ppq_outside.Shown.{Shown, AllTell}
 use Rattle.ppq_extract.specs.ppq_array.declared.berth.DeviceBlock.{DeviceBlock}
 use Rattle.ppq_extract.specs.ppq_array.Owner.{slots_shown}
@@ -18,25 +17,6 @@ use Rattle.ppq_pass.specs.Passing.{items_at, with_item}
 use Rattle.ppq_pass.specs.Passed.{slots_of}
 use Rattle.ppq_pass.specs.PassState.{drawn_of, all_slots}
 use Rattle.ppq_pass.specs.PassStore.{StoreKept}
-
-module _ {T : Type 0} where
-  -- places that are all there give an item each
-  pub items_at-length : (items : List T) (places : List ℕ) → All (λ p. p < length items) places → length (items_at items places) ≡ length places
-  items_at-length items [] a = refl
-  items_at-length items (p ∷ ps) a = one (get_elem? items p) (items_at items ps) (there items p (All-head (λ p. p < length items) p ps a)) ∙ ap suc (items_at-length items ps (All-tail (λ p. p < length items) p ps a))
-    where
-      IsThere : Option T → Type 0
-      IsThere none = ⊥
-      IsThere (some x) = Unit {0}
-
-      there : (xs : List T) (i : ℕ) → i < length xs → IsThere (get_elem? xs i)
-      there [] i h = absurd (omega (arith, h))
-      there (x ∷ xs) zero h = tt
-      there (x ∷ xs) (suc i) h = there xs i (omega (arith, h))
-
-      one : (o : Option T) (xs : List T) → IsThere o → length (with_item o xs) ≡ suc (length xs)
-      one none xs h = absurd h
-      one (some x) xs h = refl
 
 module _ {S R : Type 0} (shown : S → Shown) where
   -- slots that were drawn from a row all of whose slots tell

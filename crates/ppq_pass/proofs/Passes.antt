@@ -28,13 +28,6 @@ use Rattle.ppq_pass.specs.declared.shared.PoolBuf.{PoolBuf}
 use Rattle.ppq_pass.specs.Passing.{items_at, with_item, looks_in, pass_stock, IsPass}
 
 module _ {T : Type 0} where
-  some_same : (x y : T) → some x ≡ some y → x ≡ y
-  some_same x y e = ap (λ o. or_else o x) e
-    where
-      or_else : Option T → T → T
-      or_else none d = d
-      or_else (some z) d = z
-
   -- an item that is there is within, and what holds of all holds of it
   pub within : (xs : List T) (i : ℕ) (x : T) → get_elem? xs i ≡ some x → i < length xs
   within [] i x e = absurd (cc)

@@ -243,27 +243,6 @@ module _ {S R : Type 0} where
             limits = λ limit none. first.limits limit (Each-append_left (λ r. is_before cmp r limit ≡ false) xs ys (subst (NoneBelow cmp (Some limit)) is none));
           }
 
--- the part of a worker, as it is cut: within the records
-pub part_is : {X : Type 0} (xs : List X) (place part : ℕ) → take (min part (length xs - min (length xs) place)) (drop (min (length xs) place) xs) ≡ take part (drop place xs)
-part_is xs place part =
-    elim (cases_lt (length xs) place) as (λ _. take (min part (length xs - min (length xs) place)) (drop (min (length xs) place) xs) ≡ take part (drop place xs)) [
-      | inl past ↦ (
-          let at : min (length xs) place ≡ length xs = omega arith in
-          let none : drop place xs ≡ [] = drop_all place xs (omega arith) in
-          let end : drop (min (length xs) place) xs ≡ [] = drop_all (min (length xs) place) xs (omega arith) in
-          ap (take (min part (length xs - min (length xs) place))) end ∙ (take_all (min part (length xs - min (length xs) place)) [] (omega arith) ∙ sym (ap (take part) none ∙ take_all part [] (omega arith))))
-      | inr within ↦ (
-          let at : min (length xs) place ≡ place = omega arith in
-          ap₂ (λ (n m : ℕ). take n (drop m xs)) (ap (λ m. min part (length xs - m)) at) at ∙ fewer (drop place xs) (length xs - place) (length-drop place xs))
-    ]
-  where
-    fewer : {Y : Type 0} (ys : List Y) (left : ℕ) → length ys ≡ left → take (min part left) ys ≡ take part ys
-    fewer ys left e =
-        elim (cases_lt left part) as (λ _. take (min part left) ys ≡ take part ys) [
-          | inl short ↦ (take_all (min part left) ys (omega arith) ∙ sym (take_all part ys (omega arith)))
-          | inr long ↦ ap (λ n. take n ys) (omega arith)
-        ]
-
 -- what is behind so many records, where the count goes no further than they do
 pub drop_within : {X : Type 0} (xs : List X) (n place : ℕ) → n ≡ min (length xs) place → drop n xs ≡ drop place xs
 drop_within xs n place is =

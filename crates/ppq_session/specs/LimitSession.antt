@@ -1,5 +1,5 @@
 -- What contracts see of a limit session.
-use Rattle.std.specs.Prelude.{◌≡◌, ℕ, ◌≤◌, true, Vec, List, [], length, None, All, vec_capacity}
+use Rattle.std.specs.Prelude.{◌≡◌, ◌≤◌, true, Vec, List, [], length, None, All, vec_capacity}
 use Rattle.std.specs.Global.{Global}
 use Rattle.ppq_pass.specs.ppq_record.Bag.{IsSameBag}
 use Rattle.ppq_pass.specs.ppq_outside.Shown.{Shown, AllTell}
@@ -9,7 +9,7 @@ use Rattle.ppq_pass.specs.declared.shared.Shared.{Shared}
 use Rattle.ppq_pass.specs.ppq_counts.Tally.{beginning}
 use Rattle.ppq_queue.specs.Holding.{Holding}
 use Rattle.ppq_session.specs.BulkSession.{BulkHolding, IsFresh, HasPool}
-use Rattle.ppq_session.specs.Ends.{Staying, HasAll, SessionEnded, bag_of, accepted_of}
+use Rattle.ppq_session.specs.Ends.{Staying, HasAll, SessionEnded, bag_of}
 use Rattle.ppq_session.specs.declared.fault.SessionEnd.{SessionEnd}
 use Rattle.ppq_session.specs.Fronts.{FrontHolding}
 use Rattle.ppq_session.specs.Limited.{LimitHolding, HoldsNothing, passes_of}
@@ -79,10 +79,6 @@ module _ {S R : Type 0} where
   -- the records of passes
   abbrev pub limited_bag : List (LimitHolding S R) → List R
   limited_bag passes = bag_of (passes_of passes)
-
-  -- how many records passes accepted
-  abbrev pub limited_accepted : List (LimitHolding S R) → ℕ
-  limited_accepted passes = accepted_of (passes_of passes)
 
   -- what stays
   abbrev pub of_front : FrontHolding S R → Staying R
