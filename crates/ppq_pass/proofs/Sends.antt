@@ -76,7 +76,7 @@ snapshot_sends : (T : RattleType) → IsSend (Snapshot.the_row T)
 snapshot_sends T = search (sendable, crosses)
 
 -- a struct, by its fields
-struct_sends : (D : declared.Declared) → AllSend (declared.fields D) → IsSend (declared.row D)
+pub struct_sends : (D : declared.Declared) → AllSend (declared.fields D) → IsSend (declared.row D)
 struct_sends D all = recorded_send (Struct (declared.shape D)) D.D D.to D.to_one (struct_send (declared.shape D) all)
 
 struct_syncs : (D : declared.Declared) → AllSync (declared.fields D) → IsSync (declared.row D)

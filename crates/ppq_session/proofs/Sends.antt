@@ -1,14 +1,12 @@
 -- What goes to other threads: a pass of a limit session, if its slots and records may, and what a closure takes along.
 use denote.RattleType.{RattleType}
-use denote.Param.Send.{IsSend, IsSync, recorded_send, struct_send, view_send, AllSend, param_send, arg_send}
-use denote.Struct.Struct.{Struct}
-use denote.Struct.Declared as declared
+use denote.Param.Send.{IsSend, IsSync, view_send, param_send, arg_send}
 use Rattle.std.specs.declared.cmp.Ord as Ord
 use Rattle.std.specs.declared.cmp.PartialEq as PartialEq
 use Rattle.std.specs.declared.cmp.PartialOrd as PartialOrd
 use Rattle.ppq_pass.specs.ppq_record.declared.record.Record as Record
 use Rattle.ppq_pass.specs.ppq_outside.declared.slot.Slot as Slot
-use Rattle.ppq_pass.proofs.Sends.{pass_sends}
+use Rattle.ppq_pass.proofs.Sends.{struct_sends, pass_sends}
 use Rattle.ppq_session.specs.contracts.limit_pass.LimitPass as LimitPass
 use Rattle.ppq_session.specs.contracts.limit_pass.LimitPass.TheInside as limit_pass
 use mathlib.Core.List.{[], ◌∷◌}
@@ -19,15 +17,9 @@ use denote.Param.{param, arg}
 use denote.Struct.Tuple.{TupleAt, type_at}
 
 module _ (S R : RattleType) (slot : Slot.Ghosts S.Denot) (of : Record.Ghosts R.Denot) (ord : Ord.Ghosts R.Denot) (eq : PartialEq.Ghosts R.Denot) (le : PartialOrd.Ghosts R.Denot) (send_S : IsSend S) (sync_S : IsSync S) (send_R : IsSend R) (sync_R : IsSync R) where
-  abbrev fields : declared.Declared
-  fields = limit_pass.the_type S R slot of ord eq le
-
   pub limit_pass_sends : IsSend (LimitPass.the_row S R slot of ord eq le)
   limit_pass_sends =
-      view_send _ _ _ _ _ (recorded_send (Struct (declared.shape fields)) fields.D fields.to fields.to_one (struct_send (declared.shape fields) (pass_sends S R slot of ord eq le send_S sync_S send_R sync_R, (send_R, tt))))
-
-struct_sends : (D : declared.Declared) → AllSend (declared.fields D) → IsSend (declared.row D)
-struct_sends D all = recorded_send (Struct (declared.shape D)) D.D D.to D.to_one (struct_send (declared.shape D) all)
+      view_send _ _ _ _ _ (struct_sends (limit_pass.the_type S R slot of ord eq le) (pass_sends S R slot of ord eq le send_S sync_S send_R sync_R, (send_R, tt)))
 
 -- five things
 pub five_send :
