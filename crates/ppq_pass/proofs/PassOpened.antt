@@ -20,13 +20,6 @@ pub not_both : (o : Option ℕ) (k : ℕ) → o ≡ None → o ≡ Some k → �
 not_both None k a b = cc
 not_both (Some x) k a b = cc
 
-pub same_number : (j k : ℕ) → Some j ≡ Some k → j ≡ k
-same_number j k e = ap (λ o. or_zero o) e
-  where
-    or_zero : Option ℕ → ℕ
-    or_zero None = 0
-    or_zero (Some x) = x
-
 module _ {T E : Type 0} where
   -- what holds on Ok, where the answer is that
   pub on_ok : {P : Type 0} (r : Result T E) (x : T) → r ≡ Ok x → OnOk r P → P

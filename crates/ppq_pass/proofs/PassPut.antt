@@ -4,6 +4,7 @@ use Rattle.std.specs.Prelude.{count_by, flat_map, Result, Ok, Err}
 use Rattle.std.specs.declared.cmp.Ordering.{Ordering}
 use Rattle.ppq_pool.specs.ppq_record.Bag.{IsSameBag}
 use Rattle.ppq_pool.proofs.ppq_record.Order.{IsSameBag-length, count_by-append, count_by-cons}
+use Rattle.ppq_pool.proofs.Lists.{Some-injective}
 use Rattle.ppq_extract.specs.ppq_outside.Shown.{Shown}
 use Rattle.ppq_extract.specs.ppq_budget.Sizes.{Numbers, heap_of}
 use Rattle.ppq_extract.specs.ppq_array.External.{records_in}
@@ -25,7 +26,7 @@ use Rattle.ppq_pass.specs.PassState.{IsPassing, IsPassCounted, stock_of}
 use Rattle.ppq_pass.specs.PassStore.{StoreKept}
 use Rattle.ppq_pass.proofs.PassCounted.{counted-put, counted-stored, counted-refused, counted-failed}
 use Rattle.ppq_pass.proofs.PassKeeps.{heap_small, may_store, runs_ascend, size_few, passed_stored}
-use Rattle.ppq_pass.proofs.PassOpened.{not_both, same_number, key_stored, refused_holding, of_shared}
+use Rattle.ppq_pass.proofs.PassOpened.{not_both, key_stored, refused_holding, of_shared}
 use Rattle.ppq_pass.proofs.PassReady.{AtStore}
 use Rattle.ppq_pass.proofs.PassSince.{kept_stored, drawn_more}
 use Rattle.ppq_pass.proofs.PassSlots.{still_tell}
@@ -164,7 +165,7 @@ module _ {S R : Type 0} {shown : S → Shown} {cmp : R → R → Ordering} {reco
         module _ (number : ℕ) (device : answer ≡ Err (Device number)) (fault : HasFailed number (slots_of shown b q)) where
           pub fault_holds : IsPassing shown cmp record_of width n heap' b (Some q) begun accepted refused (Some number) stores'
           fault_holds = (
-            passed_stored at.is at.row at.pool kept heap' refused (Some number) cap (omega (arith, all)) (λ r. kept.dry (at.is.ended r)) (λ k h. (subst (λ j. HasFailed j (slots_of shown b q)) (same_number number k h) fault, all)),
+            passed_stored at.is at.row at.pool kept heap' refused (Some number) cap (omega (arith, all)) (λ r. kept.dry (at.is.ended r)) (λ k h. (subst (λ j. HasFailed j (slots_of shown b q)) (Some-injective number k h) fault, all)),
             (λ h. absurd (not_both (Some number) number h refl)),
             with_stores accepted (Some number) heap' (counted-failed shown n heap body p begun accepted stores failed at.counted b q at.is.block at.none (drawn_more kept) (length sorted) same_long heap' answer pays number device (Some number) (λ h. not_both (Some number) number h refl)),
           )

@@ -1,17 +1,18 @@
 -- How many buffers, blocks and records the runs of a pass have.
-use Rattle.std.proofs.Common.{◌≡◌, ℕ, suc, ◌+◌, ◌*◌, ◌<◌, ◌≤◌, List, [], ◌∷◌, ◌++◌, length, sum_by, All, ap, arith, length-append, length-drop}
+use Rattle.std.proofs.Common.{◌≡◌, ℕ, ◌+◌, ◌*◌, ◌<◌, ◌≤◌, List, [], ◌∷◌, ◌++◌, length, sum_by, All, ap, arith, length-append, length-drop}
 use Rattle.std.proofs.lemmas.List.Sums.{sum_by-cons}
-use Rattle.std.proofs.lemmas.List.Elements.{All-head, All-tail, All-cons}
+use Rattle.std.proofs.lemmas.List.Elements.{All-head, All-tail}
 use Rattle.std.proofs.lemmas.List.Concat.{flat_map-cons}
-use Rattle.std.proofs.Math.Nat.{suc-mul, add-mul, mul_assoc, mul-le-mul_right, le_of_mul-le-mul_right, lt_of_mul-lt-mul_right}
+use Rattle.std.proofs.Math.Nat.{suc-mul, add-mul, mul_assoc, mul-le-mul_right, le_of_mul-le-mul_right}
 use Rattle.ppq_extract.specs.ppq_outside.Shown.{Shown}
 use Rattle.ppq_extract.specs.ppq_block.Block.{Block, all_items}
-use Rattle.ppq_extract.specs.ppq_array.declared.berth.DeviceBlock.{DeviceBlock}
 use Rattle.ppq_extract.specs.ppq_array.Run.{Run, items_of, buffers_of}
 use Rattle.ppq_extract.specs.ppq_array.External.{External, counts, size_of, waiting}
 use Rattle.ppq_extract.specs.ppq_array.Owner.{HasBlock, slots_shown}
 use Rattle.ppq_extract.specs.ppq_array.Holdings.{internal_items, internal_buffers, external_slots, RunHasBlock}
+use Rattle.ppq_extract.proofs.ppq_array.Noted.{all_right}
 use Rattle.ppq_extract.specs.ppq_fetch.Fetching.{IsFitting}
+use Rattle.ppq_spill.proofs.Blocks.{counts_full}
 use Rattle.ppq_spill.proofs.Keeping.{slots_long}
 use Rattle.ppq_pass.specs.PassState.{IsPassRun, IsPassArray}
 
@@ -25,14 +26,10 @@ module _ {R : Type 0} where
       let more = buffers_fit block bs (All-tail (HasBlock block) b bs h) (All-tail IsFitting b bs f) in
       omega (arith, here, size, more, suc-mul (length bs) block, ap length (flat_map-cons (λ (x : Block R). x.items) b bs), length-append b.items (all_items bs))
 
-  right_part : (P : Block R → Type 0) (xs ys : List (Block R)) → All P (xs ++ ys) → All P ys
-  right_part P [] ys a = a
-  right_part P (x ∷ xs) ys a = right_part P xs ys (All-tail P x (xs ++ ys) a)
-
   -- so does a run
   run_fits : (block : ℕ) (run : Run R) → RunHasBlock block run → All IsFitting (buffers_of run) → length (items_of run) ≤ length (buffers_of run) * block
   run_fits block run h f =
-      let live = buffers_fit block run.live (right_part (HasBlock block) run.spent run.live h) (right_part IsFitting run.spent run.live f) in
+      let live = buffers_fit block run.live (all_right (HasBlock block) run.spent run.live h) (all_right IsFitting run.spent run.live f) in
       let more : length run.live * block ≤ length (buffers_of run) * block = mul-le-mul_right block (omega (arith, length-append run.spent run.live)) in
       omega (arith, live, more, length-drop run.taken (all_items run.live))
 
@@ -65,74 +62,39 @@ module _ {R : Type 0} where
       let product : length runs * h * block ≤ internal_buffers runs * block = mul-le-mul_right block (runs_buffers block h runs some a) in
       omega (arith, runs_records block (h * block) runs a, mul_assoc (length runs) h block, product)
 
-module _ {S R : Type 0} where
-  abbrev Full : ℕ → DeviceBlock S R → Type 0
-  Full block b = b.count ≡ block
+module _ {S R : Type 0} (shown : S → Shown) (width : ℕ) where
+  pub array_size : (block heap : ℕ) (a : External S R) → IsPassArray shown width block heap a → size_of a ≡ length a.stored * block
+  array_size block heap a is =
+      let none : length (items_of a.loaded) ≡ 0 = ap (λ r. length (items_of r)) is.loaded in
+      let same : counts (waiting a) ≡ counts a.stored = ap (λ l. counts (l ++ a.stored)) is.lifted in
+      omega (arith, none, same, counts_full block a.stored is.full)
 
-  abbrev Fits : ℕ → DeviceBlock S R → Type 0
-  Fits block b = b.count ≤ block
+  array_blocks : (block h : ℕ) (a : External S R) → 0 < block → IsPassArray shown width block (h * block) a → h ≤ length a.stored
+  array_blocks block h a some is = le_of_mul-le-mul_right (omega (arith, is.whole, array_size block (h * block) a is)) some
 
-  counts_full : (block : ℕ) (xs : List (DeviceBlock S R)) → All (Full block) xs → counts xs ≡ length xs * block
-  counts_full block [] a = omega arith
-  counts_full block (x ∷ xs) a = omega (arith, All-head (Full block) x xs a, counts_full block xs (All-tail (Full block) x xs a), suc-mul (length xs) block, sum_by-cons (λ (b : DeviceBlock S R). b.count) x xs)
+  one_more_array : (a : External S R) (rest : List (External S R)) → length (external_slots shown (a ∷ rest)) ≡ length a.stored + length (external_slots shown rest)
+  one_more_array a rest =
+      omega (
+        arith,
+        ap length (flat_map-cons (λ (x : External S R). slots_shown shown x.stored) a rest),
+        length-append (slots_shown shown a.stored) (external_slots shown rest),
+        slots_long shown a.stored,
+      )
 
-  pub counts_most : (block : ℕ) (xs : List (DeviceBlock S R)) → All (Fits block) xs → counts xs ≤ length xs * block
-  counts_most block [] a = omega arith
-  counts_most block (x ∷ xs) a = omega (arith, All-head (Fits block) x xs a, counts_most block xs (All-tail (Fits block) x xs a), suc-mul (length xs) block, sum_by-cons (λ (b : DeviceBlock S R). b.count) x xs)
+  -- each run in blocks has a block for each block of a heap
+  pub arrays_blocks : (block h : ℕ) (arrays : List (External S R)) → 0 < block → All (IsPassArray shown width block (h * block)) arrays → length arrays * h ≤ length (external_slots shown arrays)
+  arrays_blocks block h [] some a = omega arith
+  arrays_blocks block h (x ∷ xs) some a =
+      let one = array_blocks block h x some (All-head (IsPassArray shown width block (h * block)) x xs a) in
+      let more = arrays_blocks block h xs some (All-tail (IsPassArray shown width block (h * block)) x xs a) in
+      omega (arith, one, more, suc-mul (length xs) h, one_more_array x xs)
 
-  pub full_fits : (block : ℕ) (xs : List (DeviceBlock S R)) → All (Full block) xs → All (Fits block) xs
-  full_fits block xs a k d h = omega (arith, a k d h)
-
-  -- blocks that have as many records as fit in them are full
-  pub all_full : (block : ℕ) (xs : List (DeviceBlock S R)) → All (Fits block) xs → length xs * block ≤ counts xs → All (Full block) xs
-  all_full block [] a h = λ k d w. absurd (omega (arith, w))
-  all_full block (x ∷ xs) a h =
-      let sum = sum_by-cons (λ (b : DeviceBlock S R). b.count) x xs in
-      let here : x.count ≤ block = All-head (Fits block) x xs a in
-      let most = counts_most block xs (All-tail (Fits block) x xs a) in
-      All-cons (Full block) x xs (omega (arith, h, sum, here, most, suc-mul (length xs) block)) (all_full block xs (All-tail (Fits block) x xs a) (omega (arith, h, sum, here, suc-mul (length xs) block)))
-
-  -- as many records as whole blocks hold, in no more blocks than hold them, fill them
-  pub whole_full : (block blocks : ℕ) (xs : List (DeviceBlock S R)) → 0 < block → All (Fits block) xs → counts xs ≡ blocks * block → length xs * block < counts xs + block → All (Full block) xs
-  whole_full block blocks xs some a size few =
-      let most = counts_most block xs a in
-      let h : length xs * block < suc blocks * block = omega (arith, few, size, suc-mul blocks block) in
-      let within : length xs < suc blocks = lt_of_mul-lt-mul_right block h in
-      all_full block xs a (let le : length xs * block ≤ blocks * block = mul-le-mul_right block (omega (arith, within)) in omega (arith, le, size))
-
-  module _ (shown : S → Shown) (width : ℕ) where
-    pub array_size : (block heap : ℕ) (a : External S R) → IsPassArray shown width block heap a → size_of a ≡ length a.stored * block
-    array_size block heap a is =
-        let none : length (items_of a.loaded) ≡ 0 = ap (λ r. length (items_of r)) is.loaded in
-        let same : counts (waiting a) ≡ counts a.stored = ap (λ l. counts (l ++ a.stored)) is.lifted in
-        omega (arith, none, same, counts_full block a.stored is.full)
-
-    array_blocks : (block h : ℕ) (a : External S R) → 0 < block → IsPassArray shown width block (h * block) a → h ≤ length a.stored
-    array_blocks block h a some is = le_of_mul-le-mul_right (omega (arith, is.whole, array_size block (h * block) a is)) some
-
-    one_more_array : (a : External S R) (rest : List (External S R)) → length (external_slots shown (a ∷ rest)) ≡ length a.stored + length (external_slots shown rest)
-    one_more_array a rest =
-        omega (
-          arith,
-          ap length (flat_map-cons (λ (x : External S R). slots_shown shown x.stored) a rest),
-          length-append (slots_shown shown a.stored) (external_slots shown rest),
-          slots_long shown a.stored,
-        )
-
-    -- each run in blocks has a block for each block of a heap
-    pub arrays_blocks : (block h : ℕ) (arrays : List (External S R)) → 0 < block → All (IsPassArray shown width block (h * block)) arrays → length arrays * h ≤ length (external_slots shown arrays)
-    arrays_blocks block h [] some a = omega arith
-    arrays_blocks block h (x ∷ xs) some a =
-        let one = array_blocks block h x some (All-head (IsPassArray shown width block (h * block)) x xs a) in
-        let more = arrays_blocks block h xs some (All-tail (IsPassArray shown width block (h * block)) x xs a) in
-        omega (arith, one, more, suc-mul (length xs) h, one_more_array x xs)
-
-    -- and all blocks are full
-    pub arrays_size : (block heap : ℕ) (arrays : List (External S R)) → All (IsPassArray shown width block heap) arrays → sum_by size_of arrays ≡ length (external_slots shown arrays) * block
-    arrays_size block heap [] a = omega arith
-    arrays_size block heap (x ∷ xs) a =
-        let one = array_size block heap x (All-head (IsPassArray shown width block heap) x xs a) in
-        let more = arrays_size block heap xs (All-tail (IsPassArray shown width block heap) x xs a) in
-        let product : (length x.stored + length (external_slots shown xs)) * block ≡ length x.stored * block + length (external_slots shown xs) * block = add-mul (length x.stored) (length (external_slots shown xs)) block in
-        let same : length (external_slots shown (x ∷ xs)) * block ≡ (length x.stored + length (external_slots shown xs)) * block = ap (λ k. k * block) (one_more_array x xs) in
-        omega (arith, one, more, product, same, sum_by-cons (λ (y : External S R). size_of y) x xs)
+  -- and all blocks are full
+  pub arrays_size : (block heap : ℕ) (arrays : List (External S R)) → All (IsPassArray shown width block heap) arrays → sum_by size_of arrays ≡ length (external_slots shown arrays) * block
+  arrays_size block heap [] a = omega arith
+  arrays_size block heap (x ∷ xs) a =
+      let one = array_size block heap x (All-head (IsPassArray shown width block heap) x xs a) in
+      let more = arrays_size block heap xs (All-tail (IsPassArray shown width block heap) x xs a) in
+      let product : (length x.stored + length (external_slots shown xs)) * block ≡ length x.stored * block + length (external_slots shown xs) * block = add-mul (length x.stored) (length (external_slots shown xs)) block in
+      let same : length (external_slots shown (x ∷ xs)) * block ≡ (length x.stored + length (external_slots shown xs)) * block = ap (λ k. k * block) (one_more_array x xs) in
+      omega (arith, one, more, product, same, sum_by-cons (λ (y : External S R). size_of y) x xs)

@@ -25,13 +25,14 @@ use Rattle.ppq_extract.proofs.ppq_array.Noted.{all_right}
 use Rattle.ppq_extract.specs.ppq_fetch.Fetching.{count_in}
 use Rattle.ppq_spill.specs.Storing.{in_buffers, IsInBuffers, BlocksStored, IsStored, NoneFree}
 use Rattle.ppq_spill.specs.declared.body.PassBody.{PassBody}
+use Rattle.ppq_spill.proofs.Blocks.{counts_full, full_exact}
 use Rattle.ppq_spill.proofs.Keeping.{slots_long}
 use Rattle.ppq_pass.specs.declared.shared.Shared.{Shared}
 use Rattle.ppq_pass.specs.declared.parts.PassParts.{PassParts}
 use Rattle.ppq_pass.specs.Passed.{PassHolding, runs_bag, slots_of}
 use Rattle.ppq_pass.specs.PassState.{IsSoundPass, IsPassRun, IsPassArray, stock_of, drawn_of, all_slots}
 use Rattle.ppq_pass.specs.PassStore.{StoreKept}
-use Rattle.ppq_pass.proofs.PassRuns.{runs_records, runs_count, whole_full, counts_most, full_fits}
+use Rattle.ppq_pass.proofs.PassRuns.{runs_records, runs_count}
 use Rattle.ppq_pass.proofs.PassKeeps.{heap_small}
 use Rattle.ppq_pass.proofs.PassReady.{AtStore}
 use Rattle.ppq_pass.proofs.PassSlots.{still_tell, tell_before, same_quiet}
@@ -149,7 +150,7 @@ module _ {S R : Type 0} {shown : S → Shown} {cmp : R → R → Ordering} {reco
       few_blocks = subst (λ k. length put.array.stored * k < counts put.array.stored + k) block_before (omega (arith, put.blocks, put.size, all_records, counts_all))
 
       stored_full : All (λ (x : DeviceBlock S R). x.count ≡ n.block) put.array.stored
-      stored_full = whole_full n.block whole_blocks put.array.stored heap_some (subst (λ k. All (λ (x : DeviceBlock S R). x.count ≤ k) put.array.stored) block_before put.packed.last) counts_all few_blocks
+      stored_full = full_exact n.block put.array.stored whole_blocks (subst (λ k. All (λ (x : DeviceBlock S R). x.count ≤ k) put.array.stored) block_before put.packed.last) counts_all few_blocks
 
       is_array : IsPassArray shown width n.block (heap_of n) put.array
       is_array =
@@ -167,7 +168,7 @@ module _ {S R : Type 0} {shown : S → Shown} {cmp : R → R → Ordering} {reco
       -- the stash had no more slots than were wanted
       no_stash : length q.stash ≡ 0
       no_stash =
-          let most : length p.stash * n.block ≤ length put.array.stored * n.block = omega (arith, at.sound.stash, at.full, all_records, at.long, counts_all, counts_most n.block put.array.stored (full_fits n.block put.array.stored stored_full)) in
+          let most : length p.stash * n.block ≤ length put.array.stored * n.block = omega (arith, at.sound.stash, at.full, all_records, at.long, counts_all, counts_full n.block put.array.stored stored_full) in
           omega (arith, put.kept, le_of_mul-le-mul_right most heap_some, slots_long shown q.stash, slots_long shown p.stash)
 
       counted_now : all_in b ≡ all_in a + heap_of n

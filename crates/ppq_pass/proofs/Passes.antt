@@ -8,6 +8,7 @@ use Rattle.std.proofs.Math.Nat.{mul-le-mul_right, suc-mul}
 use Rattle.std.specs.Prelude.{Vec, vec_capacity}
 use Rattle.std.specs.Global.{Global}
 use Rattle.ppq_pool.specs.ppq_table.Sums.{times}
+use Rattle.ppq_pool.proofs.ppq_table.Sums.{within_at}
 use Rattle.ppq_pool.proofs.ppq_table.Numbers.{times-cons, times-append, times-same, times-other, upto, upto-times}
 use Rattle.ppq_extract.specs.ppq_outside.Shown.{Shown}
 use Rattle.ppq_extract.specs.ppq_array.Supply.{Stock, DrawsSlot}
@@ -28,12 +29,7 @@ use Rattle.ppq_pass.specs.declared.shared.PoolBuf.{PoolBuf}
 use Rattle.ppq_pass.specs.Passing.{items_at, with_item, looks_in, pass_stock, IsPass}
 
 module _ {T : Type 0} where
-  -- an item that is there is within, and what holds of all holds of it
-  pub within : (xs : List T) (i : ℕ) (x : T) → get_elem? xs i ≡ some x → i < length xs
-  within [] i x e = absurd (cc)
-  within (y ∷ ys) zero x e = omega arith
-  within (y ∷ ys) (suc i) x e = let h = within ys i x e in omega (arith, h)
-
+  -- what holds of all items holds of one at a place
   pub all_at : (P : T → Type 0) (xs : List T) (i : ℕ) (x : T) → get_elem? xs i ≡ some x → All P xs → P x
   all_at P [] i x e a = absurd (cc)
   all_at P (y ∷ ys) zero x e a = let h : y ≡ x = cc in subst P h (All-head P y ys a)
@@ -159,7 +155,7 @@ module _ {S R : Type 0} {shown : S → Shown} {width : ℕ} {home : Shared S R} 
       IsPass-drew i x drew =
           let places : row'.hand.places ≡ row.hand.places ++ i ∷ [] = ap (λ h. h.places) drew.1 in
           with_row row' stash' dry seat (ap (λ h. h.items) drew.1)
-          (subst (All (λ p. p < length row.hand.items)) (sym places) (All-push (λ p. p < length row.hand.items) row.hand.places i is.drawn (within row.hand.items i x drew.0)))
+          (subst (All (λ p. p < length row.hand.items)) (sym places) (All-push (λ p. p < length row.hand.items) row.hand.places i is.drawn (within_at row.hand.items i x drew.0)))
           (subst (λ (ps : List ℕ). (n : ℕ) → All (λ p. p < n) ps → length ps ≤ n) (sym places) (once_more row.hand.places i is.once drew.2))
           (omega (arith, ap length gone)) no_sizes (λ some. ap (λ h. h.noted) drew.1 ∙ is.ended some)
 
