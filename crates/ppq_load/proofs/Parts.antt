@@ -4,13 +4,13 @@ use Rattle.std.specs.Prelude.{count_by, Result, Ok, Err, IfErr}
 use Rattle.ppq_session.specs.ppq_record.Bag.{IsSameBag}
 use Rattle.ppq_session.specs.ppq_record.Given.{records_from}
 use Rattle.ppq_load.specs.Given.{records_of}
-use Rattle.ppq_session.proofs.ppq_record.Order.{count_by-append}
 use Rattle.ppq_session.specs.ppq_outside.Shown.{Shown, AllTell}
 use Rattle.ppq_session.specs.ppq_outside.Told.{bytes_or_none}
 use Rattle.ppq_session.specs.ppq_queue.Holding.{Holding}
 use Rattle.ppq_session.specs.ppq_array.declared.store_fault.StoreFault.{StoreFault as QueueFault}
 use Rattle.ppq_session.specs.ppq_array.declared.store_fault.StoreFault.TheVariants.{NoFreeBlock, Device}
 use Rattle.ppq_session.specs.Dealing.{AddsPart}
+use Rattle.ppq_session.proofs.Adding.{part-more}
 use Rattle.ppq_load.specs.declared.fault.LoadFault.{LoadFault}
 use Rattle.ppq_load.specs.declared.fault.LoadFault.TheVariants.{Queue, Read, Memory, Ended}
 use Rattle.ppq_load.specs.Loading.{LoadHolding, IsLoaded, IsLeftBy, IsHandedBack, AreRecordsAt}
@@ -25,15 +25,6 @@ module _ {R : Type 0} (records old new : List R) where
   -- and so is none
   part-none : IsSameBag new old → AddsPart records old new
   part-none bag = record { part = []; left = records; all = λ p. refl; bag = bag }
-
-  -- a part of the first records is a part of them all
-  part-more : (rest : List R) → AddsPart records old new → AddsPart (records ++ rest) old new
-  part-more rest had = record {
-    part = had.part;
-    left = had.left ++ rest;
-    all = λ p. omega (arith, had.all p, count_by-append p records rest, count_by-append p had.part had.left, count_by-append p had.part (had.left ++ rest), count_by-append p had.left rest);
-    bag = had.bag;
-  }
 
 module _ {R : Type 0} where
   -- a session ended to which these records were given, and no call of a slot failed
@@ -69,4 +60,4 @@ module _ {R : Type 0} (record_of : List ℕ → R) (width : ℕ) where
       let rest = records_from record_of width more (drop (count * width) bytes) in
       let sum : count + more ≡ said / width = omega (arith, few) in
       let all : records ++ rest ≡ records_of record_of width bytes = ap (λ (xs : List R). xs ++ rest) (are.are files is ∙ ap (records_from record_of width count) (from-start record_of width bytes)) ∙ sym (records-add record_of width count more bytes) ∙ ap (λ (n : ℕ). records_from record_of width n bytes) (sum ∙ ap (λ (n : ℕ). n / width) (sym long)) in
-      subst (λ (xs : List R). AddsPart xs old new) all (part-more records old new rest had)
+      subst (λ (xs : List R). AddsPart xs old new) all (part-more records rest old new had)

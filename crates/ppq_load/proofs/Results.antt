@@ -85,10 +85,6 @@ pub on_ok-map : {T E : Type 0} (result : Result T E) (P Q : Type 0) → (P → Q
 on_ok-map (Ok value) P Q f holds = f holds
 on_ok-map (Err fault) P Q f holds = tt
 
-pub if_err-map : {T E : Type 0} (result : Result T E) (P Q : E → Type 0) → ((fault : E) → P fault → Q fault) → IfErr result P → IfErr result Q
-if_err-map (Ok value) P Q f holds = tt
-if_err-map (Err fault) P Q f holds = f fault holds
-
 module _ {R : Type 0} where
   -- what a load that names a failed block says of its queue
   pub loaded-stopped : {S B : Type 0} (shown : S → Shown) (load : LoadHolding S R) (new : Holding R) (ended : Result B QueueFault) → IfErr ended (IsLeftBy shown load new) → IfErr (loaded_of ended) (IsStoppedBy new)

@@ -1,5 +1,6 @@
 use Rattle.std.proofs.Common.{◌≡◌, ℕ, ◌+◌, ◌/◌, ◌++◌, List, length, Option, Some, None, max, [], sym, subst, arith}
 use Rattle.std.specs.Prelude.{OnOk, IfErr, ⊤}
+use Rattle.std.proofs.lemmas.Result.{IfErr-weaker}
 use Rattle.ppq_session.specs.ppq_record.Bag.{IsSameBag}
 use Rattle.ppq_load.specs.Given.{records_of}
 use Rattle.ppq_session.specs.ppq_outside.Shown.{AllTell}
@@ -15,7 +16,7 @@ use Rattle.ppq_load.specs.Reading.{IsReadWithin}
 use Rattle.ppq_load.proofs.Counting.{few-to, first-on}
 use Rattle.ppq_load.proofs.Refusals.{stop-later}
 use Rattle.ppq_load.proofs.Parts.{ended-part, unbegun-part, file-part}
-use Rattle.ppq_load.proofs.Results.{LoadSays, first-says, first-err, first-ok, on_err, on_ok, on_ok-map, if_err-map, unread-ends, unread-counts, first-stopped, unbegun-stopped, back-latched}
+use Rattle.ppq_load.proofs.Results.{LoadSays, first-says, first-err, first-ok, on_err, on_ok, on_ok-map, unread-ends, unread-counts, first-stopped, unbegun-stopped, back-latched}
 use Rattle.ppq_load.proofs.file.load_file.Given as over
 use Rattle.ppq_load.proofs.file.load_file.Goals.{After-first_fault}
 use Rattle.ppq_load.proofs.file.load_file.Goals as goal
@@ -33,7 +34,7 @@ says g c =
     on_ok-map read.result ((queue : Holding g.row.R.Denot) → InSession g.S.Slot.shown queue [] c.in-Ok.load → HasGiven g.R.Record.record_of g.R.Record.WIDTH g.S.Slot.shown queue told c.args.name.now (c.args.said / g.R.Record.WIDTH) read.new.load)
     (HasGiven g.R.Record.record_of g.R.Record.WIDTH g.S.Slot.shown q told c.args.name.now (c.args.said / g.R.Record.WIDTH) read.new.load) (λ all. all q c.in-Ok.ensures.session) read.ensures.given
     in
-    let by_file = if_err-map read.result (IsReadRefusal told (g.L.Library.replied read.new.library) c.args.name.now c.args.said) IsByRead (λ fault refused. refused.by_file) read.ensures.refused in
+    let by_file = IfErr-weaker read.result (IsReadRefusal told (g.L.Library.replied read.new.library) c.args.name.now c.args.said) IsByRead (λ fault refused. refused.by_file) read.ensures.refused in
     subst (λ r. LoadSays (AllTell q.slots → (files : List ℕ → Option (List ℕ)) → told ≡ Some files → IsSameBag new.bag (records_of g.R.Record.record_of g.R.Record.WIDTH (bytes_or_none (files c.args.name.now)) ++ q.bag)) q new (c.args.said / g.R.Record.WIDTH) r) (sym c.first_fault.ensures)
     (first-says g.R.Record.record_of g.R.Record.WIDTH g.S.Slot.shown told c.args.name.now c.args.said read.new.load q new c.end-queue.result.1 (c.end-queue.ensures.loaded q) c.requires.long read.result given by_file)
 
@@ -76,7 +77,7 @@ returns-in-Ok-clause-ended g c =
     let read = c.deal_file-read in
     let P = LoadEndsIn (g.L.Library.told c.args.library.now) (g.L.Library.replied read.new.library) c.args.name.now c.args.said in
     subst (λ r. IfErr r P) (sym c.first_fault.ensures) (first-err read.result c.end-queue.result.1 P (λ fault. on_ok read.result ⊤ tt)
-    (if_err-map read.result (IsReadRefusal (g.L.Library.told c.args.library.now) (g.L.Library.replied read.new.library) c.args.name.now c.args.said) P (λ fault refused. refused.ended) read.ensures.refused))
+    (IfErr-weaker read.result (IsReadRefusal (g.L.Library.told c.args.library.now) (g.L.Library.replied read.new.library) c.args.name.now c.args.said) P (λ fault refused. refused.ended) read.ensures.refused))
 
 pub returns-in-Ok-clause-kept : goal.returns-in-Ok-clause-kept
 returns-in-Ok-clause-kept g c =
@@ -114,7 +115,7 @@ returns-in-Ok-clause-stopped g c =
     let told = g.L.Library.told c.args.library.now in
     let read = c.deal_file-read in
     let new = c.end-queue.result.0 in
-    let by_file = if_err-map read.result (IsReadRefusal told (g.L.Library.replied read.new.library) c.args.name.now c.args.said) IsByRead (λ fault refused. refused.by_file) read.ensures.refused in
+    let by_file = IfErr-weaker read.result (IsReadRefusal told (g.L.Library.replied read.new.library) c.args.name.now c.args.said) IsByRead (λ fault refused. refused.by_file) read.ensures.refused in
     subst (λ r. IfErr r (IsStoppedBy new)) (sym c.first_fault.ensures) (first-stopped g.S.Slot.shown read.new.load new read.result c.end-queue.result.1 c.end-queue.ensures.left by_file)
 
 pub returns-in-Err-clause-stopped : goal.returns-in-Err-clause-stopped
