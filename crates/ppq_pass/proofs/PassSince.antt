@@ -27,7 +27,7 @@ use Rattle.ppq_pass.proofs.Passes.{none_left}
 
 module _ {T : Type 0} where
   -- the items at places, and at those behind them
-  items_at-append : (items : List T) (ps qs : List ℕ) → items_at items (ps ++ qs) ≡ items_at items ps ++ items_at items qs
+  pub items_at-append : (items : List T) (ps qs : List ℕ) → items_at items (ps ++ qs) ≡ items_at items ps ++ items_at items qs
   items_at-append items [] qs = refl
   items_at-append items (p ∷ ps) qs = ap (λ xs. with_item (get_elem? items p) xs) (items_at-append items ps qs) ∙ put (get_elem? items p) (items_at items ps) (items_at items qs)
     where

@@ -18,11 +18,10 @@ use Rattle.ppq_session.specs.declared.fault.BeginFault.TheVariants.{Memory}
 use Rattle.ppq_session.specs.Opened.{HandedOut, BulkBegan, HoldsNoSlot}
 use Rattle.ppq_session.specs.Sessions.{IsUnbegun}
 use Rattle.ppq_session.proofs.Mapped.{all_mapped}
-use Rattle.std.proofs.lemmas.List.{length-map}
+use Rattle.std.proofs.lemmas.List.{length-map, nil_from_length}
 use Rattle.std.proofs.lemmas.List.Elements.{All-nil, All-cons, All-head, All-tail}
 use Rattle.std.proofs.lemmas.List.Concat.{flat_map-cons}
 use Rattle.std.proofs.lemmas.List.Sums.{sum_by-cons}
-use Rattle.ppq_queue.proofs.Took.{empty_list}
 use Rattle.ppq_session.specs.Equipped.{HasBegun}
 use Rattle.ppq_session.specs.LimitSessions.{begun_in}
 use Rattle.ppq_session.specs.Fronts.{FrontHolding}
@@ -123,7 +122,7 @@ module _ {S R : Type 0} where
   module _ (bulk : BulkHolding S R) (passes : List (PassHolding S R)) (of : AreOf bulk (keys_of passes)) (none : bulk.begun ≡ 0) where
     -- they have no records and no slots
     pub all_nothing : All HasBegun passes → All HoldsNoSlot passes → All HoldsNothing passes
-    all_nothing whole slots = λ k d h. record { bag = empty_list _ (whole k d h ∙ none_begun passes (of.begun ∙ none) k d h); slots = slots k d h }
+    all_nothing whole slots = λ k d h. record { bag = nil_from_length _ (whole k d h ∙ none_begun passes (of.begun ∙ none) k d h); slots = slots k d h }
 
     pub passes_count : length passes ≡ bulk.sizes.workers
     passes_count = omega (arith, length-map passes (λ (p : PassHolding S R). p.key), of.count)

@@ -13,15 +13,17 @@ use Rattle.ppq_session.specs.Bringing.{BroughtAll}
 use Rattle.ppq_session.specs.declared.brought.Brought.{Brought}
 use Rattle.ppq_session.specs.declared.parts.BulkParts.{BulkParts}
 
+module _ {S R : Type 0} where
+  -- the places that passes drew, and the numbers of the buffers that they have
+  abbrev pub places_in : List (Brought S R) → List ℕ
+  places_in brought = flat_map (λ (one : Brought S R). one.kept.value.row_seat.hand.places) brought
+
+  abbrev pub numbers_in : List (Brought S R) → List ℕ
+  numbers_in brought = flat_map (λ (one : Brought S R). one.kept.value.pool_seat.hand.numbers) brought
+
 module _ {S R : Type 0} (shown : S → Shown) (record_of : List ℕ → R) (width : ℕ) (n : Numbers) (cmp : R → R → Ordering) where
   abbrev noted_in : BulkParts S R → Brought S R → Type 0
   noted_in q one = one.kept.value.row_seat.hand.noted ≡ true → q.row_seat.hand.noted ≡ true
-
-  abbrev places_in : List (Brought S R) → List ℕ
-  places_in brought = flat_map (λ (one : Brought S R). one.kept.value.row_seat.hand.places) brought
-
-  abbrev numbers_in : List (Brought S R) → List ℕ
-  numbers_in brought = flat_map (λ (one : Brought S R). one.kept.value.pool_seat.hand.numbers) brought
 
   pub brought-none : (q : BulkParts S R) → BroughtAll shown record_of width n cmp [] q q
   brought-none q =

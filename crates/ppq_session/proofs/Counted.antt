@@ -1,5 +1,5 @@
 -- What the numbers of a queue pay for, from the beginning of a session to its end.
-use Rattle.std.proofs.Common.{◌≡◌, ℕ, ◌+◌, ◌*◌, ◌<◌, List, [], ◌∷◌, ◌++◌, length, reverse, sum_by, min, sym, ap, ap₂, ◌∙◌, subst, arith, append-nil, length-append}
+use Rattle.std.proofs.Common.{◌≡◌, ℕ, ◌+◌, ◌*◌, ◌<◌, List, [], ◌∷◌, ◌++◌, length, reverse, sum_by, min, sym, ap, ap₂, ◌∙◌, subst, arith, append-nil}
 use Rattle.std.specs.Prelude.{None}
 use Rattle.std.proofs.lemmas.List.Sums.{sum_by-cons, sum_by-append}
 use Rattle.std.proofs.lemmas.List.Concat.{flat_map-cons}
@@ -9,7 +9,6 @@ use Rattle.ppq_pass.specs.ppq_counts.Account.{Account, account, beside, toll, he
 use Rattle.ppq_pass.proofs.ppq_counts.Levels.{tolls-sum, hefts-sum, blocks-sum}
 use Rattle.ppq_pass.proofs.ppq_counts.Passed.{joined-counted}
 use Rattle.ppq_pass.specs.ppq_outside.Shown.{Shown}
-use Rattle.ppq_pass.specs.ppq_heap.Heap.{Contents}
 use Rattle.ppq_pass.specs.ppq_heap.Heaps.{items_in}
 use Rattle.ppq_pass.specs.ppq_array.Run.{Run, items_of}
 use Rattle.ppq_pass.specs.ppq_array.External.{External, size_of}
@@ -24,7 +23,7 @@ use Rattle.ppq_queue.proofs.Amounts.{internal_count}
 use Rattle.ppq_session.specs.Gathering.{Adopted, counts_with, begun_in, drawn_in, gathered_account}
 use Rattle.ppq_session.specs.declared.brought.Brought.{Brought}
 use Rattle.ppq_session.specs.declared.closed.Closed.{Closed}
-use Rattle.ppq_session.proofs.Gathered.{sum_by-joined}
+use Rattle.ppq_session.proofs.Gathered.{sum_by-joined, items-push}
 
 -- no record beside
 pub beside-none : (k : ℕ) → k ≡ 0 → (a : Account) → a ≡ beside k a
@@ -41,12 +40,6 @@ module _ {S R : Type 0} where
   drawn-push shown f rest one =
       let g : Brought S R → List Shown = λ x. drawn_of shown x.kept.value in
       omega (arith, ap (sum_by f) (flat_map-append g rest (one ∷ [])), sum_by-append f (drawn_in shown rest) (drawn_in shown (one ∷ [])), ap (sum_by f) (flat_map-cons g one [] ∙ append-nil (g one)))
-
--- the records of one heap more
-pub items-push : {R : Type 0} (heaps : List (Contents R)) (heap : Contents R) → length (items_in (heaps ++ heap ∷ [])) ≡ length (items_in heaps) + length heap.items
-items-push {R} heaps heap =
-    let g : Contents R → List R = λ h. h.items in
-    omega (arith, ap length (flat_map-append g heaps (heap ∷ [])), length-append (items_in heaps) (items_in (heap ∷ [])), ap length (flat_map-cons g heap [] ∙ append-nil heap.items))
 
 module _ {S R : Type 0} (block : ℕ) (old from new : PassBody S R) (is : Adopted old from new) where
   abbrev level : External S R → ℕ

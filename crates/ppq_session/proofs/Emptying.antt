@@ -1,11 +1,11 @@
 -- Runs all of whose records were consumed; and slots and buffers that went from a supply into a row and a pool, and come back.
-use Rattle.std.proofs.Common.{◌≡◌, ℕ, ◌+◌, List, [], ◌∷◌, ◌++◌, length, drop, refl, ap, ◌∙◌, arith, append-nil, length-drop, ◌-◌, ◌<◌, All, sym, ap₂, length-append}
+use Rattle.std.proofs.Common.{◌≡◌, ℕ, ◌+◌, List, [], ◌∷◌, ◌++◌, length, drop, ap, ◌∙◌, arith, append-nil, length-drop, ◌-◌, ◌<◌, All, sym, ap₂, length-append}
 use Rattle.std.proofs.lemmas.List.Sums.{sum_by-append, sum_by-cons}
 use Rattle.ppq_pass.specs.ppq_array.Run.{Run, IsRun, items_of, buffers_of}
 use Rattle.ppq_pass.specs.ppq_array.External.{External}
 use Rattle.ppq_pass.specs.ppq_array.Holdings.{external_buffers}
 use Rattle.ppq_pass.proofs.ppq_array.Items.{no_live}
-use Rattle.std.proofs.lemmas.List.{length-map}
+use Rattle.std.proofs.lemmas.List.{length-map, nil_from_length}
 use Rattle.std.proofs.lemmas.List.Elements.{All-head}
 use Rattle.ppq_pass.specs.ppq_outside.Shown.{Shown}
 use Rattle.ppq_pass.specs.ppq_array.Supply.{Stock}
@@ -14,14 +14,10 @@ use Rattle.ppq_pass.specs.ppq_array.declared.berth.DeviceBlock.{DeviceBlock}
 use Rattle.ppq_queue.specs.Slots.{with_slots}
 use Rattle.ppq_pass.specs.ppq_array.Kept.{SameSlots, weight_at}
 
-pub nothing : {X : Type 0} (xs : List X) → length xs ≡ 0 → xs ≡ []
-nothing [] e = refl
-nothing (x ∷ xs) e = absurd (omega (arith, e))
-
 module _ {R : Type 0} where
   -- none is left where as many were dropped as there were
   pub no_items : (old : List R) (count : ℕ) (new : List R) → count ≡ length old → new ≡ drop count old → new ≡ []
-  no_items old count new e d = nothing new (omega (arith, ap length d, length-drop count old, e))
+  no_items old count new e d = nil_from_length new (omega (arith, ap length d, length-drop count old, e))
 
   -- all buffers of such a run are spent
   pub spent_all : (run : Run R) → IsRun run → items_of run ≡ [] → (run.live ≡ []) × (buffers_of run ≡ run.spent)

@@ -27,7 +27,8 @@ use Rattle.ppq_pass.proofs.ppq_spill.Keeping.{slots_long}
 use Rattle.ppq_pass.proofs.ppq_spill.SameSlots.{SameSlots-refl, SameSlots-sums, SameSlots-trans}
 use Rattle.ppq_pass.specs.ppq_spill.Untold.{untold}
 use Rattle.ppq_pass.proofs.ppq_spill.Telling.{tell_sum, sum_tell}
-use Rattle.ppq_pass.specs.Passing.{items_at, with_item}
+use Rattle.ppq_pass.specs.Passing.{items_at}
+use Rattle.ppq_pass.proofs.PassSince.{items_at-append}
 use Rattle.ppq_pass.specs.Passed.{PassHolding, PassTells, slots_of as pass_slots}
 use Rattle.ppq_queue.specs.Resting.{slots_of}
 use Rattle.ppq_queue.proofs.Slots.{SameSums-length}
@@ -42,27 +43,14 @@ use Rattle.ppq_session.specs.Closing.{IsClosed}
 use Rattle.ppq_session.specs.declared.brought.Brought.{Brought}
 use Rattle.ppq_session.specs.declared.closed.Closed.{Closed}
 use Rattle.ppq_session.specs.declared.parts.BulkParts.{BulkParts}
+use Rattle.ppq_session.proofs.Brings.{places_in, numbers_in}
 use Rattle.ppq_session.proofs.Mapped.{sum-mapped, all_mapped}
 use Rattle.ppq_session.proofs.Places.{items_at-once}
 use Rattle.ppq_session.proofs.Emptying.{SameSlots-append}
-use mathlib.Core.Option.{Option as Maybe, some, none}
-use lib.ListN.{get_elem?}
 use Rattle.ppq_pass.specs.PassState.{drawn_of}
 
-module _ {T : Type 0} where
-  pub items_at-append : (items : List T) (ps qs : List ℕ) → items_at items (ps ++ qs) ≡ items_at items ps ++ items_at items qs
-  items_at-append items [] qs = refl
-  items_at-append items (p ∷ ps) qs = ap (with_item (get_elem? items p)) (items_at-append items ps qs) ∙ one (get_elem? items p) (items_at items ps) (items_at items qs)
-    where
-      one : (o : Maybe T) (xs ys : List T) → with_item o (xs ++ ys) ≡ with_item o xs ++ ys
-      one none xs ys = refl
-      one (some x) xs ys = refl
-
 module _ {S R : Type 0} (shown : S → Shown) where
-  abbrev pub places_in : List (Brought S R) → List ℕ
-  places_in brought = flat_map (λ one. one.kept.value.row_seat.hand.places) brought
-
-  -- they are those at the passes' places
+  -- what passes drew are the slots at their places
   pub drawn-places :
       (items : List (DeviceBlock S R)) (brought : List (Brought S R)) → All (λ (one : Brought S R). one.kept.value.row_seat.hand.items ≡ items) brought
       → drawn_in shown brought ≡ slots_shown shown (items_at items (places_in brought))
@@ -137,21 +125,21 @@ module _ {S R : Type 0} (shown : S → Shown) (cmp : R → R → Ordering) (reco
 
   -- the places of all passes
   abbrev places : List ℕ
-  places = places_in shown rest
+  places = places_in rest
 
   places_are : q1.row_seat.hand.places ≡ places
-  places_are = br.places ∙ ap (λ l. l ++ places_in shown br.brought) is.out.home.undrawn
+  places_are = br.places ∙ ap (λ l. l ++ places_in br.brought) is.out.home.undrawn
 
   below : All (λ p. p < length items) places
   below = by_list rest same_items br.each
     where
-      by_list : (xs : List (Brought S R)) → All (λ (one : Brought S R). one.kept.value.row_seat.hand.items ≡ items) xs → All (IsBrought shown record_of width q.sizes cmp) xs → All (λ p. p < length items) (places_in shown xs)
+      by_list : (xs : List (Brought S R)) → All (λ (one : Brought S R). one.kept.value.row_seat.hand.items ≡ items) xs → All (IsBrought shown record_of width q.sizes cmp) xs → All (λ p. p < length items) (places_in xs)
       by_list [] same each = All-nil (λ p. p < length items)
       by_list (x ∷ xs) same each =
           let here : x.kept.value.row_seat.hand.items ≡ items = All-head (λ (one : Brought S R). one.kept.value.row_seat.hand.items ≡ items) x xs same in
           let drawn = (All-head (IsBrought shown record_of width q.sizes cmp) x xs each).always.supply.drawn in
           subst (All (λ p. p < length items)) (sym (flat_map-cons (λ (one : Brought S R). one.kept.value.row_seat.hand.places) x xs))
-          (All-append (λ p. p < length items) x.kept.value.row_seat.hand.places (places_in shown xs) (subst (λ l. All (λ p. p < length l) x.kept.value.row_seat.hand.places) here drawn) (by_list xs (All-tail (λ (one : Brought S R). one.kept.value.row_seat.hand.items ≡ items) x xs same) (All-tail (IsBrought shown record_of width q.sizes cmp) x xs each)))
+          (All-append (λ p. p < length items) x.kept.value.row_seat.hand.places (places_in xs) (subst (λ l. All (λ p. p < length l) x.kept.value.row_seat.hand.places) here drawn) (by_list xs (All-tail (λ (one : Brought S R). one.kept.value.row_seat.hand.items ≡ items) x xs same) (All-tail (IsBrought shown record_of width q.sizes cmp) x xs each)))
 
   once : (x : ℕ) → times x places ≡ once_below x (length places)
   once x = subst (λ l. times x l ≡ once_below x (length l)) places_are (cl.each_once x)
@@ -288,11 +276,8 @@ module _ {S R : Type 0} (shown : S → Shown) (cmp : R → R → Ordering) (reco
   rest_count : length rest ≡ q.sizes.workers
   rest_count = omega (arith, ap length br.passes_are, length-map br.brought (pass_of shown record_of width q.sizes), count)
 
-  abbrev numbers_of : List (Brought S R) → List ℕ
-  numbers_of xs = flat_map (λ (one : Brought S R). one.kept.value.pool_seat.hand.numbers) xs
-
   -- each pass has the buffers of its numbers, and two more
-  buffers_are : (xs : List (Brought S R)) → All (IsBrought shown record_of width q.sizes cmp) xs → buffers_in shown xs ≡ length (numbers_of xs) + 2 * length xs
+  buffers_are : (xs : List (Brought S R)) → All (IsBrought shown record_of width q.sizes cmp) xs → buffers_in shown xs ≡ length (numbers_in xs) + 2 * length xs
   buffers_are [] each = refl
   buffers_are (x ∷ xs) each =
       let passed = (All-head (IsBrought shown record_of width q.sizes cmp) x xs each).always in
@@ -303,13 +288,13 @@ module _ {S R : Type 0} (shown : S → Shown) (cmp : R → R → Ordering) (reco
         buffers_are xs (All-tail (IsBrought shown record_of width q.sizes cmp) x xs each),
         sum_by-cons (λ (y : Brought S R). (held_by shown y.body).buffers) x xs,
         ap length (flat_map-cons (λ (one : Brought S R). one.kept.value.pool_seat.hand.numbers) x xs),
-        length-append x.kept.value.pool_seat.hand.numbers (numbers_of xs),
+        length-append x.kept.value.pool_seat.hand.numbers (numbers_in xs),
       )
 
-  taken : length q1.pool_seat.hand.numbers ≡ length (numbers_of rest)
+  taken : length q1.pool_seat.hand.numbers ≡ length (numbers_in rest)
   taken = omega (arith, ap length br.numbers, length-append q.pool_seat.hand.numbers (flat_map (λ (one : Brought S R). one.kept.value.pool_seat.hand.numbers) br.brought), ap length is.out.home.untaken)
 
-  all_pool : cl.given + length (numbers_of rest) ≡ pool_count q.pool_seat.pool
+  all_pool : cl.given + length (numbers_in rest) ≡ pool_count q.pool_seat.pool
   all_pool = omega (arith, cl.given_are, taken, ap (λ p. p.slots) br.pool)
 
   room_is : c.supply.buffer_room ≡ q.supply.buffer_room - cl.given

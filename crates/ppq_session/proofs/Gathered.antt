@@ -1,17 +1,15 @@
 -- A pass that is put into the parts of a queue.
-use Rattle.std.proofs.Common.{◌≡◌, ℕ, zero, suc, ◌+◌, ◌-◌, ◌*◌, ◌<◌, ◌≤◌, ◌==◌, cond, List, [], ◌∷◌, ◌++◌, length, take, reverse, sum_by, All, Some, refl, sym, ap, ◌∙◌, subst, arith, append-nil, length-append, inl, inr}
+use Rattle.std.proofs.Common.{◌≡◌, ℕ, ◌+◌, ◌-◌, ◌*◌, ◌<◌, ◌≤◌, List, [], ◌∷◌, ◌++◌, length, reverse, sum_by, All, Some, refl, sym, ap, ◌∙◌, subst, arith, append-nil, length-append, inl, inr}
 use Rattle.std.specs.Prelude.{◌⊎◌, vec_capacity, Bool, None, flat_map, count_by}
 use Rattle.std.specs.declared.cmp.Ordering.{Ordering}
 use Rattle.std.proofs.lemmas.Nat.{mul-le}
-use Rattle.std.proofs.lemmas.Bool.Decides.{nat_tests}
 use Rattle.std.proofs.Math.Nat.{zero-mul}
 use Rattle.std.proofs.lemmas.List.Sums.{sum_by-cons, sum_by-append}
-use Rattle.std.proofs.lemmas.List.Elements.{All-nil, All-cons, All-head, All-tail, All-append, All-push}
+use Rattle.std.proofs.lemmas.List.Elements.{All-nil, All-head, All-tail, All-append, All-push, All-take}
 use Rattle.std.proofs.lemmas.List.Sorted.{All-permutation, IsPermutation-reverse, sum_by-IsPermutation}
 use Rattle.std.proofs.lemmas.List.Concat.{flat_map-cons}
 use Rattle.std.proofs.lemmas.Grind.{flat_map-append}
-use Rattle.ppq_pass.specs.ppq_table.Sums.{times}
-use Rattle.ppq_pass.proofs.ppq_table.Numbers.{upto, upto-times}
+use Rattle.ppq_pass.proofs.Passes.{few_numbers}
 use Rattle.ppq_pass.specs.ppq_pool.Seats.{count_of as pool_count}
 use Rattle.ppq_pass.specs.ppq_record.Order.{Ascends, Le, is_before}
 use Rattle.ppq_pass.specs.ppq_outside.Shown.{Shown, Tells, AllTell}
@@ -31,10 +29,13 @@ use Rattle.ppq_pass.specs.ppq_heap.Heaps.{items_in}
 use Rattle.ppq_pass.specs.ppq_spill.Body.{held_by, body_slots, job_slots}
 use Rattle.ppq_pass.specs.ppq_spill.declared.body.PassBody.{PassBody}
 use Rattle.ppq_pass.specs.ppq_spill.Untold.{untold}
+use Rattle.ppq_pass.proofs.ppq_spill.Blocks.{counts_full}
 use Rattle.ppq_pass.proofs.ppq_spill.Telling.{tell_sum, sum_tell}
 use Rattle.ppq_pass.specs.Passed.{slots_of as pass_slots}
 use Rattle.ppq_queue.specs.Slots.{with_slots}
 use Rattle.ppq_queue.proofs.Amounts.{runs_fit, arrays_fit, stored_slots, internal_count}
+use Rattle.ppq_queue.proofs.Odd.{same_none}
+use Rattle.ppq_queue.proofs.Slots.{sum-stored}
 use Rattle.ppq_queue.specs.Resting.{IsRestingRun, IsRestingArray, odd_of, odd_in, slots_of, count_of, runs_bag}
 use Rattle.ppq_session.specs.Gathering.{IsGathering, IsSoundSoFar, slots_in, buffers_in, begun_in, Adopted}
 use Rattle.ppq_session.specs.declared.brought.Brought.{Brought}
@@ -54,71 +55,51 @@ module _ {X : Type 0} where
   pub All-joined : (P : X → Type 0) (xs ys : List X) → All P xs → All P ys → All P (xs ++ reverse ys)
   All-joined P xs ys a b = All-append P xs (reverse ys) a (All-permutation P ys (reverse ys) (IsPermutation-reverse ys) b)
 
-module _ {S R : Type 0} (shown : S → Shown) where
-  -- a weight of the slots of runs, by each run
-  pub sum-stored : (f : Shown → ℕ) (arrays : List (External S R)) → sum_by f (external_slots shown arrays) ≡ sum_by (λ (a : External S R). sum_by f (slots_shown shown a.stored)) arrays
-  sum-stored f [] = refl
-  sum-stored f (x ∷ xs) =
-      omega (
-        arith,
-        ap (sum_by f) (flat_map-cons (λ (a : External S R). slots_shown shown a.stored) x xs),
-        sum_by-append f (slots_shown shown x.stored) (external_slots shown xs),
-        sum-stored f xs,
-        sum_by-cons (λ (a : External S R). sum_by f (slots_shown shown a.stored)) x xs,
-      )
+-- the records of one heap more
+pub items-push : {R : Type 0} (heaps : List (Contents R)) (heap : Contents R) → length (items_in (heaps ++ heap ∷ [])) ≡ length (items_in heaps) + length heap.items
+items-push {R} heaps heap =
+    let g : Contents R → List R = λ h. h.items in
+    omega (arith, ap length (flat_map-append g heaps (heap ∷ [])), length-append (items_in heaps) (items_in (heap ∷ [])), ap length (flat_map-cons g heap [] ∙ append-nil heap.items))
 
+module _ {S R : Type 0} (shown : S → Shown) where
+  -- a weight of the slots of runs with others after them, the last first
   pub stored-joined : (f : Shown → ℕ) (xs ys : List (External S R)) → sum_by f (external_slots shown (xs ++ reverse ys)) ≡ sum_by f (external_slots shown xs) + sum_by f (external_slots shown ys)
   stored-joined f xs ys =
-      omega (arith, sum-stored f (xs ++ reverse ys), sum-stored f xs, sum-stored f ys, sum_by-joined (λ (a : External S R). sum_by f (slots_shown shown a.stored)) xs ys)
+      omega (arith, sum-stored shown f (xs ++ reverse ys), sum-stored shown f xs, sum-stored shown f ys, sum_by-joined (λ (a : External S R). sum_by f (slots_shown shown a.stored)) xs ys)
 
 -- a run in buffers of a pass rests
 pub resting-run : {R : Type 0} (block heap : ℕ) (run : Run R) → 0 < heap → IsPassRun block heap run → IsRestingRun block run
 resting-run block heap run some is = record { some = omega (arith, is.whole, some); spent = is.spent; blocks = is.blocks; fitting = is.fitting }
 
-same_none : (a b : ℕ) → a ≡ b → ◌≡◌ {A = ℕ} (cond (a == b) 0 1) 0
-same_none a b e = grind (arith, nat_tests)
+module _ {S R : Type 0} (shown : S → Shown) (width block heap : ℕ) (a : External S R) (is : IsPassArray shown width block heap a) where
+  none : buffers_of a.loaded ≡ []
+  none = ap buffers_of is.loaded
 
-module _ {S R : Type 0} where
-  counts_all : (block : ℕ) (blocks : List (DeviceBlock S R)) → All (λ (b : DeviceBlock S R). b.count ≡ block) blocks → counts blocks ≡ length blocks * block
-  counts_all block [] all = sym (zero-mul block)
-  counts_all block (b ∷ bs) all =
-      let here : b.count ≡ block = All-head (λ (b : DeviceBlock S R). b.count ≡ block) b bs all in
-      omega (arith, here, counts_all block bs (All-tail (λ (b : DeviceBlock S R). b.count ≡ block) b bs all), sum_by-cons (λ (b : DeviceBlock S R). b.count) b bs)
+  -- it rests
+  pub resting-array : 0 < heap → IsRestingArray shown width block a
+  resting-array some =
+      record {
+        some = omega (arith, is.whole, some);
+        level = omega (arith, is.level);
+        lifted = is.lifted;
+        size = is.size;
+        loaded = subst (All (λ x. x.block ≡ block)) (sym none) (All-nil (λ x. x.block ≡ block));
+        fitting = subst (All IsFitting) (sym none) (All-nil IsFitting);
+        spent = ap (λ r. r.spent) is.loaded;
+        packed = record {
+          full = All-take (λ (b : DeviceBlock S R). b.count ≡ block) (length a.stored - 1) a.stored is.full;
+          last = λ k d h. omega (arith, is.full k d h);
+        };
+        written = is.written;
+      }
 
-  All-take : (P : DeviceBlock S R → Type 0) (k : ℕ) (xs : List (DeviceBlock S R)) → All P xs → All P (take k xs)
-  All-take P zero xs all = All-nil P
-  All-take P (suc k) [] all = All-nil P
-  All-take P (suc k) (x ∷ xs) all = All-cons P x (take k xs) (All-head P x xs all) (All-take P k xs (All-tail P x xs all))
-
-  module _ (shown : S → Shown) (width block heap : ℕ) (a : External S R) (is : IsPassArray shown width block heap a) where
-    none : buffers_of a.loaded ≡ []
-    none = ap buffers_of is.loaded
-
-    -- it rests
-    pub resting-array : 0 < heap → IsRestingArray shown width block a
-    resting-array some =
-        record {
-          some = omega (arith, is.whole, some);
-          level = omega (arith, is.level);
-          lifted = is.lifted;
-          size = is.size;
-          loaded = subst (All (λ x. x.block ≡ block)) (sym none) (All-nil (λ x. x.block ≡ block));
-          fitting = subst (All IsFitting) (sym none) (All-nil IsFitting);
-          spent = ap (λ r. r.spent) is.loaded;
-          packed = record {
-            full = All-take (λ (b : DeviceBlock S R). b.count ≡ block) (length a.stored - 1) a.stored is.full;
-            last = λ k d h. omega (arith, is.full k d h);
-          };
-          written = is.written;
-        }
-
-    -- and it is not odd
-    pub even-array : odd_of block a ≡ 0
-    even-array =
-        let size : size_of a ≡ length a.stored * block =
-        omega (arith, ap (λ r. length (items_of r)) is.loaded, ap (λ (l : List (DeviceBlock S R)). counts (l ++ a.stored)) is.lifted, counts_all block a.stored is.full)
-        in
-        same_none (size_of a) (length a.stored * block) size
+  -- and it is not odd
+  pub even-array : odd_of block a ≡ 0
+  even-array =
+      let size : size_of a ≡ length a.stored * block =
+      omega (arith, ap (λ r. length (items_of r)) is.loaded, ap (λ (l : List (DeviceBlock S R)). counts (l ++ a.stored)) is.lifted, counts_full block a.stored is.full)
+      in
+      same_none (size_of a) (length a.stored * block) size
 
 module _ {S R : Type 0} (shown : S → Shown) (width : ℕ) (slots items : List Shown) (c : Closed S R) (one : Brought S R) (rest : List (Brought S R)) (a : IsGathering shown width slots items c (rest ++ one ∷ [])) where
   slots-push : (f : Shown → ℕ) → sum_by f (slots_in shown (rest ++ one ∷ [])) ≡ sum_by f (slots_in shown rest) + sum_by f (pass_slots shown one.body one.kept.value)
@@ -263,14 +244,6 @@ module _ {R : Type 0} (cmp : R → R → Ordering) where
   none_after-both [] ys zs h k = tt
   none_after-both (x ∷ xs) ys zs h k = (Each-append (Le (is_before cmp) x) ys zs h.0 k.0, none_after-both xs ys zs h.1 k.1)
 
--- numbers below a bound that stand once each are no more than the bound
-pub distinct_few : (xs : List ℕ) (n : ℕ) → All (λ i. i < n) xs → ((i : ℕ) → times i xs ≤ 1) → length xs ≤ n
-distinct_few xs n below once = omega (arith, upto-times xs n below, upto_le (λ i. times i xs) n once)
-  where
-    upto_le : (f : ℕ → ℕ) (n : ℕ) → ((i : ℕ) → f i ≤ 1) → upto f n ≤ n
-    upto_le f zero h = omega arith
-    upto_le f (suc n) h = omega (arith, upto_le f n h, h n)
-
 module _ {X : Type 0} where
   sum-zero : (f : X → ℕ) (xs : List X) → All (λ x. f x ≡ 0) xs → sum_by f xs ≡ 0
   sum-zero f [] all = refl
@@ -335,7 +308,7 @@ module _ {S R : Type 0} (shown : S → Shown) (cmp : R → R → Ordering) (reco
       omega (arith, p.counted, int, ext, none, one_side, other, heap, passed.in_heap, internal_count one.body.runs.internal.items)
     where
       numbers_few : length one.kept.value.numbers.items ≤ pool_count one.kept.value.pool_seat.pool
-      numbers_few = distinct_few one.kept.value.numbers.items (pool_count one.kept.value.pool_seat.pool) passed.supply.below passed.supply.each_once
+      numbers_few = few_numbers one.kept.value.numbers.items (pool_count one.kept.value.pool_seat.pool) passed.supply.below passed.supply.each_once
 
       places_few : length one.kept.value.row_seat.hand.places ≤ length one.kept.value.row_seat.hand.items
       places_few = passed.supply.once (length one.kept.value.row_seat.hand.items) passed.supply.drawn
@@ -343,15 +316,7 @@ module _ {S R : Type 0} (shown : S → Shown) (cmp : R → R → Ordering) (reco
   -- what holds of the parts after the pass was put in
   module _ (new : Closed S R) (whole : one.failed ≡ None) (is : Adopted c.body one.body new.body) (heaps : new.heaps.items ≡ c.heaps.items ++ one.heap ∷ []) (stash : new.supply.kept ≡ c.supply.kept ++ slots_shown shown one.kept.value.stash) (count : new.count ≡ c.count + one.accepted) (same : new ≡ record c { heaps = new.heaps; body = new.body; supply = new.supply; count = new.count; counts = new.counts; failed = new.failed }) where
     all_items : length (items_in new.heaps.items) ≡ length (items_in c.heaps.items) + length one.heap.items
-    all_items =
-        let g : Contents R → List R = λ h. h.items in
-        omega (
-          arith,
-          ap (λ l. length (items_in l)) heaps,
-          ap length (flat_map-append g c.heaps.items (one.heap ∷ [])),
-          length-append (items_in c.heaps.items) (items_in (one.heap ∷ [])),
-          ap length (flat_map-cons g one.heap [] ∙ append-nil one.heap.items),
-        )
+    all_items = ap (λ l. length (items_in l)) heaps ∙ items-push c.heaps.items one.heap
 
     was : AllTell (slots_of shown new.body new.supply ++ slots_in shown rest) → AllTell (slots_of shown c.body c.supply ++ slots_in shown (rest ++ one ∷ []))
     was tell =

@@ -1,7 +1,7 @@
 -- What holds of a mapped list, said of the list that it was made of.
 use Rattle.std.proofs.Common.{◌≡◌, ℕ, zero, suc, ◌<◌, List, [], ◌∷◌, length, map, get_or, sum_by, All, refl, sym, ap₂, subst, arith}
 use Rattle.std.specs.List.{Any, slice_index_or}
-use Rattle.std.proofs.lemmas.List.{length-map}
+use Rattle.std.proofs.lemmas.List.{length-map, get_or-map}
 use Rattle.std.proofs.lemmas.List.Sums.{sum_by-cons}
 use Rattle.std.proofs.lemmas.List.Elements.{All-nil, All-cons, All-head, All-tail}
 
@@ -25,13 +25,6 @@ module _ {X Y : Type 0} (f : X → Y) where
           let more = next (k, y, omega (arith, h), e, q) in
           (suc more.0, more.1, omega (arith, more.2), more.3, more.4)
 
--- an item of a map
-pub get_or-map : {X Y : Type 0} (f : X → Y) (xs : List X) (i : ℕ) (d : X) (e : Y) → i < length xs → get_or (map f xs) i e ≡ f (get_or xs i d)
-get_or-map f [] i d e h = absurd (omega arith)
-get_or-map f (x ∷ xs) zero d e h = refl
-get_or-map f (x ∷ xs) (suc i) d e h = get_or-map f xs i d e (omega arith)
-
-module _ {X Y : Type 0} (f : X → Y) where
   -- what holds of an item of two lists at each place
   pub each-mapped :
       (Q : ℕ → Y → Y → Type 0) (xs ys : List X) → length ys ≡ length xs → ((i : ℕ) (d : X) → i < length xs → Q i (f (get_or xs i d)) (f (get_or ys i d)))

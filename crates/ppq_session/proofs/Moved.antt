@@ -1,10 +1,10 @@
 -- What is out, beside what a front has: buffers of passes, slots of the row, buffers of the pool; and what a front has and shows after its
 -- extract buffer was refilled.
-use Rattle.std.proofs.Common.{◌≡◌, ℕ, ◌+◌, ◌*◌, ◌≤◌, List, [], ◌++◌, length, All, Option, Some, refl, sym, ◌∙◌, arith, length-append, ap, subst, ◌<◌, ◌∷◌, drop, None, length-drop}
+use Rattle.std.proofs.Common.{◌≡◌, ℕ, ◌+◌, ◌*◌, ◌≤◌, List, [], ◌++◌, length, All, Option, Some, refl, sym, ◌∙◌, arith, length-append, ap, subst, ◌∷◌, drop, None, length-drop}
 use Rattle.std.specs.Prelude.{Result, Ok, Err, IfErr, IsErrOf, count_by}
 use Rattle.ppq_pass.specs.ppq_array.declared.store_fault.StoreFault.{StoreFault as QueueFault}
 use Rattle.ppq_pass.specs.ppq_array.declared.store_fault.StoreFault.TheVariants.{NoFreeBlock, Device}
-use Rattle.std.proofs.lemmas.List.{length-replicate}
+use Rattle.std.proofs.lemmas.List.{length-replicate, nil_from_length}
 use Rattle.std.proofs.lemmas.List.Sums.{sum_by-append}
 use Rattle.std.proofs.lemmas.List.Elements.{All-append, All-replicate}
 use Rattle.ppq_pass.specs.ppq_outside.Shown.{Shown, Tells, AllTell}
@@ -27,7 +27,6 @@ use Rattle.ppq_session.specs.FrontState.{IsRefillRefusal, lent, with_lent, with_
 use Rattle.std.specs.declared.cmp.Ordering.{Ordering}
 use Rattle.ppq_pass.specs.ppq_fetch.Taking.{NoneBelow, NoneAfter, AllBelow}
 use Rattle.ppq_pass.specs.ppq_array.Holdings.{internal_buffers}
-use Rattle.ppq_queue.proofs.Took.{empty_list}
 use Rattle.ppq_session.specs.Fronts.{FrontHolding, RefillKeeps, IsReady, TakesLeast, number_in, without_least_below}
 use Rattle.std.specs.declared.cmp.Ordering.TheVariants.{Equal}
 use Rattle.std.specs.Cmp.{IsTotalOrder}
@@ -143,7 +142,7 @@ module _ {S R : Type 0} (shown : S → Shown) (record_of : List ℕ → R) (widt
       (cmp : R → R → Ordering) (limit : R) → (q'.extract.items ≡ [] → AllTell (apart_slots shown q) → NoneBelow cmp (Some limit) (runs_bag shown record_of width q'.body))
       → length q'.extract.items ≡ 0 → AllTell (apart_slots shown q') → NoneBelow cmp (Some limit) (front_bag shown record_of width q')
   is-ready cmp limit none empty tell =
-      let gone = empty_list q'.extract.items empty in
+      let gone = nil_from_length q'.extract.items empty in
       subst (λ l. NoneBelow cmp (Some limit) (l ++ runs_bag shown record_of width q'.body)) (sym gone) (none gone (told-ready tell))
 
   -- only the records' order, the slots, the buffers of runs and the extract buffer changed
@@ -188,10 +187,6 @@ module _ {S R : Type 0} (shown : S → Shown) (record_of : List ℕ → R) (widt
       })
 
 module _ {R : Type 0} where
-  pub first_some : (items : List R) (r : R) → first_of items ≡ Some r → 0 < length items
-  first_some [] r e = cc
-  first_some (x ∷ xs) r e = omega arith
-
   pub first_none : (items : List R) → first_of items ≡ None → items ≡ []
   first_none [] e = refl
   first_none (x ∷ xs) e = cc

@@ -4,7 +4,7 @@ use Rattle.std.proofs.Math.Nat.{add-mul, mul-le-mul_right}
 use Rattle.std.specs.Prelude.{Vec, vec_capacity, count_by}
 use Rattle.std.specs.Global.{Global}
 use Rattle.std.specs.declared.cmp.Ordering.{Ordering}
-use Rattle.std.proofs.lemmas.List.{length-map}
+use Rattle.std.proofs.lemmas.List.{length-map, nil_from_length}
 use Rattle.std.proofs.lemmas.List.Elements.{All-map, All-tail}
 use Rattle.atomic_table.specs.Seated.{TableId}
 use Rattle.ppq_pass.proofs.ppq_record.Order.{IsSameBag-trans, IsSameBag-append, IsSameBag-append_comm}
@@ -45,7 +45,6 @@ use Rattle.ppq_session.specs.Equipped.{Equipped, MayEquip, ArePasses, session_ke
 use Rattle.ppq_session.specs.declared.share.FirstSeats.{FirstSeats}
 use Rattle.ppq_session.specs.declared.parts.BulkParts.{BulkParts}
 use Rattle.ppq_session.specs.declared.brought.Brought.{Brought}
-use Rattle.ppq_session.proofs.Emptying.{nothing}
 use Rattle.ppq_session.proofs.Mapped.{sum-mapped}
 use Rattle.ppq_session.proofs.Equipping.{bag_same, begun_same, first_same}
 use Rattle.ppq_pass.specs.ppq_record.Bag.{IsSameBag}
@@ -325,7 +324,7 @@ module _ {S R : Type 0} (shown : S → Shown) (cmp : R → R → Ordering) (reco
 
 module _ {S R : Type 0} (shown : S → Shown) (cmp : R → R → Ordering) (record_of : List ℕ → R) (width : ℕ) (p : QueueParts S R) (q : Holding R) (shows : holding_of shown record_of width p ≡ q) where
   no_extract : q.in_extract ≡ 0 → p.extract.items ≡ []
-  no_extract e = nothing p.extract.items (ap (λ h. h.in_extract) shows ∙ e)
+  no_extract e = nil_from_length p.extract.items (ap (λ h. h.in_extract) shows ∙ e)
 
   -- the free slots and the idle buffers are out
   pub opens : IsWhole shown cmp record_of width p → q.failed ≡ None → q.in_extract ≡ 0 → (supply : Stock) (s : FirstSeats S R) → supply ≡ bare p.supply → IsFirst shown width p.supply s → IsOpened shown cmp record_of width q (record p { supply = supply }) s

@@ -26,11 +26,11 @@ use Rattle.ppq_session.specs.Passes.{IsBrought, pass_of}
 use Rattle.ppq_session.specs.Gathering.{slots_in, begun_in, accepted_in}
 use Rattle.ppq_session.specs.declared.brought.Brought.{Brought}
 use Rattle.ppq_session.specs.declared.closed.Closed.{Closed}
+use Rattle.ppq_session.proofs.Brings.{numbers_in}
 use Rattle.ppq_session.proofs.Gathered.{resting-array, even-array, resting-run}
 use Rattle.ppq_session.proofs.Mapped.{sum-mapped}
 use Rattle.ppq_session.specs.Bringing.{BroughtAll}
 use Rattle.ppq_session.specs.Closing.{IsClosed}
-use Rattle.std.specs.Prelude.{flat_map}
 use Rattle.ppq_pass.specs.ppq_pool.Seats.{count_of as pool_count}
 use Rattle.ppq_queue.proofs.Bounds.{parts_within, pool_within}
 
@@ -101,9 +101,6 @@ few_blocks n range load h =
     omega (arith, few)
 
 module _ {S R : Type 0} (shown : S → Shown) (cmp : R → R → Ordering) (record_of : List ℕ → R) (width : ℕ) (n : Numbers) (range : AreInRange n) where
-  abbrev numbers_in : List (Brought S R) → List ℕ
-  numbers_in xs = flat_map (λ (one : Brought S R). one.kept.value.pool_seat.hand.numbers) xs
-
   -- a pass has no more than its heap holds, its buffers and its slots
   pass_fits : (x : Brought S R) → IsBrought shown record_of width n cmp x → x.failed ≡ None → x.begun + x.accepted ≤ heap_of n + (length x.kept.value.pool_seat.hand.numbers + length (pass_slots shown x.body x.kept.value)) * n.block
   pass_fits x is whole =
@@ -203,7 +200,7 @@ module _ {S R : Type 0} (shown : S → Shown) (cmp : R → R → Ordering) (reco
       (few_blocks q.sizes is.out.home.range peak (omega (arith, room none, least)), full k d h refused)))
 
   abbrev taken : List ℕ
-  taken = numbers_in shown cmp record_of width q.sizes is.out.home.range rest
+  taken = numbers_in rest
 
   -- the passes have no more slots than were put into the row, and no more buffers than were put into the pool
   few_out : length taken + length (slots_in shown rest) ≤ pool_count q.pool_seat.pool + length q.row_seat.hand.items

@@ -1,5 +1,5 @@
-use Rattle.std.proofs.Common.{◌≡◌, ◌++◌, ◌∷◌, ◌∙◌, [], Bool, true, false, ap, ap₂, sym, subst, refl, arith, append-nil}
-use Rattle.std.specs.Prelude.{◌||◌}
+use Rattle.std.proofs.Common.{◌≡◌, ◌++◌, ◌∷◌, ◌∙◌, [], true, ap, ap₂, sym, subst, refl, arith, append-nil}
+use Rattle.std.proofs.lemmas.Bool.{or_left, or_right}
 use Rattle.std.proofs.lemmas.List.Elements.{All-nil, All-cons, All-head}
 use Rattle.std.proofs.lemmas.List.Concat.{flat_map-cons}
 use Rattle.ppq_pass.specs.Passed.{holding_of}
@@ -8,14 +8,6 @@ use Rattle.ppq_session.specs.Passes.{IsBrought}
 use Rattle.ppq_session.specs.Bringing.{IsShareOf}
 use Rattle.ppq_session.specs.declared.brought.Brought.{Brought}
 use Rattle.ppq_session.proofs.bringing.bring.Goals as goal
-
-or_right : (a b : Bool) → b ≡ true → (a || b) ≡ true
-or_right true b e = refl
-or_right false b e = e
-
-or_left : (a b : Bool) → a ≡ true → (a || b) ≡ true
-or_left true b e = refl
-or_left false b e = cc
 
 pub join-requires : goal.join-requires
 join-requires g c =

@@ -1,12 +1,11 @@
 use Rattle.std.proofs.Common.{◌≡◌, ◌++◌, ◌∷◌, ◌∙◌, [], All, length, map, reverse, ap, sym, subst, refl, arith, length-append}
-use Rattle.std.proofs.lemmas.List.{length-map}
+use Rattle.std.proofs.lemmas.List.{length-map, nil_from_length}
 use Rattle.std.proofs.lemmas.List.Elements.{All-nil, All-cons, All-head}
 use Rattle.ppq_pass.proofs.ppq_array.Noted.{all_left, all_right}
 use Rattle.ppq_session.specs.Passes.{pass_of}
 use Rattle.ppq_session.specs.Bringing.{BroughtAll, IsShareOf}
 use Rattle.ppq_session.specs.SessionPass.{KeepsLimit}
 use Rattle.ppq_session.proofs.Brings.{Came, came-none, came-more}
-use Rattle.ppq_session.proofs.Emptying.{nothing as no_list}
 use Rattle.ppq_session.proofs.Mapped.{all_mapped}
 use Rattle.ppq_session.proofs.bringing.bring_all.Goals as goal
 
@@ -72,7 +71,7 @@ returns g c =
     let a = c.args.parts.now in
     let i = c.bringing.invariant.came in
     let none : length c.bringing.passes.items ≡ 0 = omega (arith, c.in_default.ensures.cases) in
-    let all = sym (i.parts ∙ ap (λ l. l ++ i.came) (no_list c.bringing.passes.items none)) in
+    let all = sym (i.parts ∙ ap (λ l. l ++ i.came) (nil_from_length c.bringing.passes.items none)) in
     record {
       brought = subst (λ l. BroughtAll shown g.R.Record.record_of g.R.Record.WIDTH a.sizes cmp (reverse (map g.P.SessionPass.pass l)) a c.bringing.parts) all i.is;
       limits = subst (All (λ p. KeepsLimit shown cmp (g.P.SessionPass.limit p) (g.P.SessionPass.pass p))) all i.kept;

@@ -1,5 +1,5 @@
 use Rattle.std.proofs.Common.{◌≡◌, ◌+◌, ◌/◌, ◌∷◌, ◌++◌, [], All, length, reverse, sym, ap, ◌∙◌, subst, arith, length-append, append-nil}
-use Rattle.std.proofs.lemmas.List.{length-reverse}
+use Rattle.std.proofs.lemmas.List.{length-reverse, nil_from_length}
 use Rattle.std.proofs.lemmas.List.Elements.{All-push}
 use Rattle.atomic_table.specs.Seated.{TableId}
 use Rattle.ppq_pass.specs.ppq_budget.Sizes.{heap_of, pool_of}
@@ -11,7 +11,6 @@ use Rattle.ppq_session.specs.Outfits.{IsOutfit}
 use Rattle.ppq_session.specs.Equipped.{MayEquip, Equipped, HasBegun, bags_of, bags_in, session_key}
 use Rattle.ppq_session.specs.declared.outfit.Outfit.{Outfit}
 use Rattle.ppq_session.proofs.Equipping.{all_front, all_last, dealt_bags, key_is, may_still, one_more}
-use Rattle.ppq_session.proofs.Emptying.{nothing}
 use Rattle.ppq_session.proofs.equip.equip.Goals as goal
 
 pub new_pass-requires-clause-outfit : goal.new_pass-requires-clause-outfit
@@ -69,7 +68,7 @@ pub returns-clause-made : goal.returns-clause-made
 returns-clause-made g c =
     let i = c.dealing.invariant in
     let none : length c.dealing.heaps.items ≡ 0 = omega (arith, c.in_default.ensures.cases) in
-    let empty = nothing c.dealing.heaps.items none in
+    let empty = nil_from_length c.dealing.heaps.items none in
     record {
       passes_are = record {
         count = omega (arith, i.count, none, length-reverse c.args.heaps.now.items);

@@ -1,4 +1,5 @@
 use Rattle.std.proofs.Common.{◌≡◌, ◌*◌, ◌∷◌, ◌∙◌, [], All, List, length, sum_by, ap, subst, arith}
+use Rattle.std.proofs.lemmas.List.{nil_from_length}
 use Rattle.std.proofs.lemmas.List.Sums.{sum_by-append}
 use Rattle.ppq_pass.specs.ppq_array.External.{External}
 use Rattle.ppq_pass.specs.ppq_array.Owner.{slots_shown}
@@ -7,7 +8,7 @@ use Rattle.ppq_pass.proofs.ppq_array.Noted.{all_left}
 use Rattle.ppq_pass.proofs.ppq_spill.Keeping.{slots_long}
 use Rattle.ppq_queue.specs.Slots.{with_slots}
 use Rattle.ppq_queue.proofs.Slots.{stored-push, stored-push_length, no_stored}
-use Rattle.ppq_session.proofs.Emptying.{more_buffers, nothing}
+use Rattle.ppq_session.proofs.Emptying.{more_buffers}
 use Rattle.ppq_session.proofs.gather.empty_arrays.Goals as goal
 
 pub empty_array-requires-clause-room : goal.empty_array-requires-clause-room
@@ -43,5 +44,5 @@ returns-clause-back g c =
     record {
       slots_are = λ f. omega (arith, i.sums f, sum_by-append f c.args.supply.now.kept (external_slots shown c.args.arrays.items), no_stored shown f c.emptying.arrays.items none);
       stock = i.stock;
-      room = omega (arith, i.room, ap (λ (l : List (External g.row.S.Denot g.row.R.Denot)). length (external_slots shown l)) (nothing c.emptying.arrays.items none));
+      room = omega (arith, i.room, ap (λ (l : List (External g.row.S.Denot g.row.R.Denot)). length (external_slots shown l)) (nil_from_length c.emptying.arrays.items none));
     }

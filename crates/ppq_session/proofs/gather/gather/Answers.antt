@@ -11,7 +11,7 @@ use Rattle.ppq_session.proofs.PutIn.{PutIn, gathered-adopted, gathered-dissolved
 use Rattle.ppq_session.proofs.Fits.{slots-fit, stash-sizes, runs-sizes, buffers-fit, freed-kept, freed-room, freed-stock, freed-sums, can-adopt, count-fits}
 use Rattle.ppq_pass.specs.ppq_counts.Tally.{tally, joined}
 use Rattle.ppq_pass.specs.ppq_heap.Heaps.{items_in}
-use Rattle.ppq_session.proofs.Counted.{items-push}
+use Rattle.ppq_session.proofs.Gathered.{items-push}
 use Rattle.ppq_session.proofs.gather.gather.Given as given
 use Rattle.ppq_session.proofs.gather.gather.Goals as goal
 

@@ -1,5 +1,5 @@
 use Rattle.std.proofs.Common.{subst, arith}
-use Rattle.ppq_session.proofs.Emptying.{nothing}
+use Rattle.std.proofs.lemmas.List.{nil_from_length}
 use Rattle.ppq_session.proofs.PutIn.{PutSome, put-none, may-put, put-more, put-all}
 use Rattle.ppq_session.proofs.gather.gather_all.Goals as goal
 
@@ -23,4 +23,4 @@ gathering-preserved g c =
 pub returns : goal.returns
 returns g c =
     put-all g.S.Slot.shown g.R.Ord.cmp g.R.Record.record_of g.R.Record.WIDTH c.args.brought.items c.gathering.brought.items c.args.c.now c.gathering.c c.gathering.invariant
-    (nothing c.gathering.brought.items (omega (arith, c.in_default.ensures.cases)))
+    (nil_from_length c.gathering.brought.items (omega (arith, c.in_default.ensures.cases)))

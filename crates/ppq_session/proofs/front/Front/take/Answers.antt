@@ -1,6 +1,7 @@
 use Rattle.std.proofs.Common.{◌+◌, ◌-◌, ◌∙◌, length, refl, ap, sym, subst, arith, length-drop}
 use Rattle.ppq_session.specs.Fronts.{IsReady}
-use Rattle.ppq_session.proofs.Moved.{first_some, first_none, held-taken, takes-first}
+use Rattle.ppq_pass.proofs.ppq_spill.Heads.{some_first}
+use Rattle.ppq_session.proofs.Moved.{first_none, held-taken, takes-first}
 use Rattle.ppq_session.proofs.front.Front.take.Goals as goal
 
 pub invariant_of-self : goal.invariant_of-self
@@ -15,7 +16,7 @@ pub invariant_of-self-in-Some : goal.invariant_of-self-in-Some
 invariant_of-self-in-Some g c =
     let s = c.self.inside in
     let q = s.parts in
-    let some = first_some q.extract.items c.in-Some.first (sym c.pop.ensures.first ∙ c.in-Some.is) in
+    let some = some_first q.extract.items c.in-Some.first (sym c.pop.ensures.first ∙ c.in-Some.is) in
     let so = c.self.invariant.2 (ap (λ f. f.failed) c.self.view_is ∙ c.requires.sound) in
     held-taken g.S.Slot.shown g.R.Record.WIDTH q c.pop.new.self (q.count - 1) c.pop.ensures.rest g.R.Ord.cmp g.R.Record.record_of s.limit s.popped (s.popped + 1) s.failed c.self.invariant (omega (arith, some, so.counted))
     (λ sound. omega (arith, so.counted, some, length-drop 1 q.extract.items))
@@ -36,5 +37,5 @@ returns-in-Some g c =
     let laws = c.record_laws.ensures in
     let so = c.self.invariant.2 (ap (λ f. f.failed) c.self.view_is ∙ c.requires.sound) in
     let ready = subst (λ f. IsReady g.R.Ord.cmp f) (sym c.self.view_is) c.requires.ready in
-    let some = first_some q.extract.items c.in-Some.first (sym c.pop.ensures.first ∙ c.in-Some.is) in
+    let some = some_first q.extract.items c.in-Some.first (sym c.pop.ensures.first ∙ c.in-Some.is) in
     takes-first g.S.Slot.shown g.R.Record.WIDTH q c.pop.new.self (q.count - 1) c.pop.ensures.rest g.R.Ord.cmp g.R.Record.record_of s.limit so laws.order laws.same s.popped (s.popped + 1) s.failed ready _ c.args.self.now c.self.view_is (sym c.in-Some.is ∙ c.pop.ensures.first) (omega arith) (omega (arith, some, so.counted))
