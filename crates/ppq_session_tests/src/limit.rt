@@ -185,7 +185,7 @@ where
 }
 
 #[test]
-fn a_full_device_refuses_pushes_and_loses_no_record(rt: HostRuntime) -> Result<(), Fail> {
+fn pushes_that_a_full_device_refuses_leave_all_other_records(rt: HostRuntime) -> Result<(), Fail> {
     refuses_some(&rt, rt.alloc())
 }
 

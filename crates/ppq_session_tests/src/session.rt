@@ -156,7 +156,7 @@ where
 }
 
 #[test]
-fn a_full_device_refuses_pushes_and_loses_no_record(rt: HostRuntime) -> Result<(), Fail> {
+fn lines_that_a_full_device_refuses_leave_all_other_records(rt: HostRuntime) -> Result<(), Fail> {
     let case = Case {
         memory: 372,
         blocks: 2,
