@@ -129,7 +129,7 @@ fn a_worker_enters_once_for_all_generated_records(rt: HostRuntime) {
     let gate = PairGate::new();
     let (queue, answer) = load_generated(&rt, rt.alloc(), queue, 7, 20, &gate);
     assert!(rt; answer == Ok(()) && queue.size() == 20);
-    // each of the two workers enters once, and not once a batch
+    // each of the two workers enters once, for its part of all records
     assert_eq!(rt; gate.entered(), 2);
     let _slots = queue.close();
 }

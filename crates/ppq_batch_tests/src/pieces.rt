@@ -31,7 +31,7 @@ fn falling<H: Abort>(rt: &H, alloc: Global, said: usize) -> MemLibrary
 }
 
 // How often workers enter while a file is loaded into an empty queue by pieces of the length of `room`. The queue has
-// the records with these keys then. A batch of it has six records.
+// the records with these keys then. A block for each worker is six records.
 fn entered<H: Host + Abort>(rt: &H, alloc: Global, keys: &[u64], room: &mut [u8]) -> u64
 where
     H::Dir: Send,
@@ -65,7 +65,7 @@ fn each_worker_enters_once_a_piece_and_makes_its_part(rt: HostRuntime) {
 }
 
 #[test]
-fn a_piece_may_have_more_records_than_a_batch(rt: HostRuntime) {
+fn a_piece_may_have_more_records_than_a_block_for_each_worker(rt: HostRuntime) {
     let mut room = [0u8; 128];
     let keys = [1, 2, 3, 4, 5, 6, 7, 8];
     assert!(rt; entered(&rt, rt.alloc(), &keys, &mut room) == 3);
