@@ -22,7 +22,7 @@ use Rattle.ppq_engine.specs.Gathers.{Gathers}
 use Rattle.ppq_engine.specs.Loads.{none_go, size_after, size_from, begins_limit}
 use Rattle.ppq_engine.specs.Output.{outside, text_of, after, output_from, state_from}
 use Rattle.ppq_engine.specs.Pushes.{pushed_in}
-use Rattle.ppq_engine.specs.Running.{LendsQueue, WritesPart, StopsFor, CutAt, RefusedAt, PartStops, behind_part}
+use Rattle.ppq_engine.specs.Running.{LendsQueue, WroteInPart, StopsFor, CutAt, RefusedAt, PartStops, behind_part}
 use Rattle.ppq_engine.specs.declared.stop.Stop.{Stop}
 use Rattle.ppq_engine.specs.declared.stop.Stop.TheVariants.{Sink, Queue, Memory}
 use Rattle.ppq_engine.proofs.Lines.{begins-append, lone-begins, bulk-begins, bulk-size, bulk-quiet}
@@ -58,7 +58,7 @@ Keeps-behind a b c cs part h k = record {
 
 -- one command
 module _ {R : Type 0} (w : Words R) (form : Form) (first : List Shown) (before now : Option (List ℕ)) (had has : List ℕ) (bag : List R) (size peak : ℕ) (sizes : Numbers) (limited : Bool) (slots : List Shown) (workers : ℕ) (c : Command R) (is : IsLine w workers Outside c) where
-  pub lone-stops : (stop : Stop) → (AllTell first → WritesPart before now had (text_of w form (outside bag) c) has stop) → StopsFor (max peak (size_after w none_go size c)) sizes limited slots stop
+  pub lone-stops : (stop : Stop) → (AllTell first → WroteInPart before now had (text_of w form (outside bag) c) has stop) → StopsFor (max peak (size_after w none_go size c)) sizes limited slots stop
       → PartStops w form first before now had bag size peak (c ∷ []) sizes (limited || begins_limit (c ∷ [])) slots has stop
   lone-stops Sink wrote why = λ tells given. let P : List ℕ → Type 0 = λ t. TakesPart before now (had ++ t) in subst P (sym (append-nil (text_of w form (outside bag) c))) (wrote tells)
   lone-stops (Queue fault) wrote why =

@@ -23,7 +23,7 @@ use Rattle.ppq_script.proofs.ppq_outside.Takes.{takes_two, takes_and_part, takes
 use Rattle.ppq_engine.specs.Output.{first_field, record_text, records_text, all_text, more_text, last_of, limited_count, mark_text}
 use Rattle.ppq_engine.specs.Gathers.{Gathers, IsSummary}
 use Rattle.ppq_engine.specs.Calls.{Prints}
-use Rattle.ppq_engine.specs.Running.{GathersPart, WritesPart}
+use Rattle.ppq_engine.specs.Running.{GathersPart, WroteInPart}
 use Rattle.ppq_engine.specs.Files.{IsByFile}
 use Rattle.ppq_engine.specs.Popping.{passing, next_of, popped_count, left_at_most, left_mark, IsRound, NotByFile}
 use Rattle.ppq_engine.specs.declared.answer.Drained.{Drained}
@@ -422,7 +422,7 @@ lines-put {R} w form before mid now had between items i h step took =
     (subst Q (sym (lines-around w form items i (length items) h)) (takes-part before mid now had between (records_text w form (take i items)) (records_text w form (take (length items - i) (drop i items))) step took))
 
 -- a part of a text is a part of a longer one
-pub writes-more : (before now : Option (List ℕ)) (had text more has : List ℕ) (stop : Stop) → NotByFile stop → WritesPart before now had text has stop → WritesPart before now had (text ++ more) has stop
+pub writes-more : (before now : Option (List ℕ)) (had text more has : List ℕ) (stop : Stop) → NotByFile stop → WroteInPart before now had text has stop → WroteInPart before now had (text ++ more) has stop
 writes-more before now had text more has Sink by part =
     let P : List ℕ → Type 0 = λ t. TakesPart before now t in
     subst P (append_assoc had text more) (part_of_more before now (had ++ text) more part)
@@ -438,7 +438,7 @@ writes-more before now had text more has _ by part = absurd by
 pub nothing-part : (told : Option (List ℕ)) (had text : List ℕ) → GathersPart told told had text had
 nothing-part told had text = record { part = []; rest = text; all = refl; gathers = gathers-nothing told had }
 
-pub file-part : (told : Option (List ℕ)) (had text : List ℕ) (stop : Stop) → IsByFile stop → WritesPart told told had text had stop
+pub file-part : (told : Option (List ℕ)) (had text : List ℕ) (stop : Stop) → IsByFile stop → WroteInPart told told had text had stop
 file-part told had text Sink by = absurd by
 file-part told had text (Queue fault) by = nothing-part told had text
 file-part told had text _ by = gathers-nothing told had
@@ -446,8 +446,8 @@ file-part told had text _ by = gathers-nothing told had
 -- a command stopped, and printed so much
 pub prints-stop :
     {T : Type 0} (first : List Shown) (before now : Option (List ℕ)) (had text has : List ℕ) (r : Result T Stop) (stop : Stop)
-    → IsErrAnd r (λ x. x ≡ stop) → (AllTell first → WritesPart before now had text has stop) → Prints first before now had text has r
+    → IsErrAnd r (λ x. x ≡ stop) → (AllTell first → WroteInPart before now had text has stop) → Prints first before now had text has r
 prints-stop first before now had text has r stop is wrote = record {
   text = not-ok r (λ x. x ≡ stop) (AllTell first → Gathers before now had text has) is;
-  part = if-err r stop (λ s. AllTell first → WritesPart before now had text has s) is wrote;
+  part = if-err r stop (λ s. AllTell first → WroteInPart before now had text has s) is wrote;
 }

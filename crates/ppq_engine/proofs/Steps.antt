@@ -17,7 +17,7 @@ use Rattle.ppq_script.specs.Parts.{commands_in, first_in, HasItsLines}
 use Rattle.ppq_engine.specs.Loads.{none_go, size_from, FitsWritten}
 use Rattle.ppq_engine.specs.Output.{State, outside, state_from, state_of, bag_of, output_of, output_from, load_from, load_of, crest_from, crest_of}
 use Rattle.ppq_engine.specs.Gathers.{Gathers}
-use Rattle.ppq_engine.specs.Running.{IsGathered, HasRun, IsCut}
+use Rattle.ppq_engine.specs.Running.{IsGathered, HasRun, StopsWithin}
 use Rattle.ppq_engine.proofs.Sizes.{fits-more}
 use Rattle.ppq_engine.proofs.Lines.{HasLength, part-closed, part-crest, part-grows}
 use Rattle.ppq_engine.proofs.Running.{outside-same, output_from-same, state_from-same, state_from-append, output_from-append, load_from-append, crest_from-append, bag_of-le, gathered-more}
@@ -97,7 +97,7 @@ module _ {R : Type 0} (w : Words R) (laws : HasLaws w) (form : Form) (given : �
         (now : Option (List ℕ)) (has : List ℕ) (commands part first behind : List (Command R)) (done : ℕ) (text rest : List ℕ)
         → commands ≡ (cs ++ part) ++ behind → take done commands ≡ cs ++ first
         → output_from w form given (outside bag) part ≡ (output_from w form given (outside bag) first ++ text) ++ rest → Gathers mid now had (output_from w form given (outside bag) first ++ text) has
-        → IsCut w form given before now has commands done text
+        → StopsWithin w form given before now has commands done text
     run-cut now has commands part first behind done text rest split fewer all step =
         let P : List ℕ → Type 0 = λ t. IsGathered before now has t in
         let out = output_of w form given cs in

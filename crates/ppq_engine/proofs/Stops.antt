@@ -20,7 +20,7 @@ use Rattle.ppq_script.specs.Files.{name_at}
 use Rattle.ppq_engine.specs.Files.{IsByFile, IsBySession, EndsEarly}
 use Rattle.ppq_engine.specs.Loads.{IsLoad, none_go, size_from, most_of, begins_limit}
 use Rattle.ppq_engine.specs.Output.{outside, state_of, output_of, output_from, load_of, given_of, AreFilesOf, TakesAtLeast, TakesWithin}
-use Rattle.ppq_engine.specs.Running.{HasRun, HasSizes, IsCut, IsRefused, IsBeforeFile, IsBeforeLoad, HasStopped, RefusedAt, PartStops, IsOfFile, StopsFor, ChangedIn, SinkAfter, LibraryAfter, queue_end}
+use Rattle.ppq_engine.specs.Running.{HasRun, HasSizes, StopsWithin, QueueRefused, IsBeforeFile, IsBeforeLoad, ScriptStopped, RefusedAt, PartStops, IsOfFile, StopsFor, ChangedIn, SinkAfter, LibraryAfter, queue_end}
 use Rattle.ppq_engine.specs.Popping.{NotByFile, IsByLimit}
 use Rattle.ppq_engine.specs.Outcome.{EndSays, TakesBeforeFile, TakesBeforeLoad, FaultBeforeFile, PutsStopped, PutsRest}
 use Rattle.ppq_engine.specs.declared.end.End.{End}
@@ -37,12 +37,12 @@ use Rattle.ppq_engine.proofs.Sizes.{peak-part, greatest-take_all}
 use Rattle.ppq_engine.proofs.Steps.{peak-run, output-behind, run-cut}
 
 -- a cut output: what is put of it is a part of all, or the output of the first commands
-pub cut-part : {R : Type 0} (w : Words R) (form : Form) (given : ℕ → List R) (before mid now : Option (List ℕ)) (had : List ℕ) (commands : List (Command R)) (done : ℕ) (part : List ℕ) → IsCut w form given before mid had commands done part → TakesPart mid now had → TakesPart before now (output_of w form given commands)
+pub cut-part : {R : Type 0} (w : Words R) (form : Form) (given : ℕ → List R) (before mid now : Option (List ℕ)) (had : List ℕ) (commands : List (Command R)) (done : ℕ) (part : List ℕ) → StopsWithin w form given before mid had commands done part → TakesPart mid now had → TakesPart before now (output_of w form given commands)
 cut-part w form given before mid now had commands done part cut took =
     let P : List ℕ → Type 0 = λ t. TakesPart before now t in
     subst P (sym cut.all) (part_of_more before now (output_of w form given (take done commands) ++ part) cut.rest (gathered-part before mid now had (output_of w form given (take done commands) ++ part) cut.output took))
 
-cut-all : {R : Type 0} (w : Words R) (form : Form) (given : ℕ → List R) (before mid now : Option (List ℕ)) (had : List ℕ) (commands : List (Command R)) (done : ℕ) → IsCut w form given before mid had commands done [] → TakesAll mid now had → TakesAll before now (output_of w form given (take done commands))
+cut-all : {R : Type 0} (w : Words R) (form : Form) (given : ℕ → List R) (before mid now : Option (List ℕ)) (had : List ℕ) (commands : List (Command R)) (done : ℕ) → StopsWithin w form given before mid had commands done [] → TakesAll mid now had → TakesAll before now (output_of w form given (take done commands))
 cut-all w form given before mid now had commands done cut took =
     let P : List ℕ → Type 0 = λ t. TakesAll before now t in
     subst P (append-nil (output_of w form given (take done commands))) (gathered-all before mid now had (output_of w form given (take done commands) ++ []) cut.output took)
@@ -59,7 +59,7 @@ fewer-at_least w laws form given before now commands k i part h took =
 
 cut-within :
     {R : Type 0} (w : Words R) (laws : HasLaws w) (form : Form) (given : ℕ → List R) (before mid now : Option (List ℕ)) (had : List ℕ) (sizes : Numbers) (commands : List (Command R)) (done : ℕ) (part : List ℕ)
-    → 0 < sizes.block → IsCut w form given before mid had commands done part → TakesAll mid now had → HasNoRoom sizes (begins_limit (take (done + 1) commands)) (load_of w given (take (done + 1) commands)) → TakesWithin w form given before now sizes commands
+    → 0 < sizes.block → StopsWithin w form given before mid had commands done part → TakesAll mid now had → HasNoRoom sizes (begins_limit (take (done + 1) commands)) (load_of w given (take (done + 1) commands)) → TakesWithin w form given before now sizes commands
 cut-within w laws form given before mid now had sizes commands done part some cut took none = λ k room.
     let all = gathered-all before mid now had (output_of w form given (take done commands) ++ part) cut.output took in
     let begun : ℕ → Bool = λ n. begins_limit (take n commands) in
@@ -89,7 +89,7 @@ module _ {R : Type 0} (w : Words R) (laws : HasLaws w) (form : Form) (told : Opt
     split = take-part (command_list script) i part here.whole
 
     -- nothing of it is gathered
-    before-part : (given : ℕ → List R) → HasRun w form given before mid had bag size peak sizes slots (take i (command_list script)) → Gathers mid now had [] has → IsCut w form given before now has (command_list script) i []
+    before-part : (given : ℕ → List R) → HasRun w form given before mid had bag size peak sizes slots (take i (command_list script)) → Gathers mid now had [] has → StopsWithin w form given before now has (command_list script) i []
     before-part given ran step =
         let commands = command_list script in
         run-cut w laws form given before mid had bag size peak sizes slots (take i commands) ran now has commands part [] (drop (i + length part) commands) i [] (output_from w form given (outside bag) part) (around commands i part split) (sym (append-nil (take i commands))) refl step
@@ -117,7 +117,7 @@ module _ {R : Type 0} (w : Words R) (laws : HasLaws w) (form : Form) (told : Opt
           cause-later sizes (limited || begins_limit part) (begins_limit (take (done + 1) (command_list script))) higher (count (take (done + 1) (command_list script))) block (λ none. flag ∙ none)
           (subst (λ (xs : List (Command R)). higher ≤ count xs) (sym next) up) later fault refused.cause
 
-      refused-part : IsRefused w form told script first before now has sizes later fault
+      refused-part : QueueRefused w form told script first before now has sizes later fault
       refused-part =
           let commands = command_list script in
           let cs = take i commands in
@@ -137,7 +137,7 @@ module _ {R : Type 0} (w : Words R) (laws : HasLaws w) (form : Form) (told : Opt
             any = cause-with (most_of w) (peak-part w size peak higher sizes slots cs (take (n + 1) part) sized (omega arith));
           }
 
-    pub stopped-part : (stop : Stop) → PartStops w form held mid now had bag size peak part sizes (limited || begins_limit part) later has stop → IsOfFile (first_in p) stop → HasStopped w form told script first before now has sizes later stop
+    pub stopped-part : (stop : Stop) → PartStops w form held mid now had bag size peak part sizes (limited || begins_limit part) later has stop → IsOfFile (first_in p) stop → ScriptStopped w form told script first before now has sizes later stop
     stopped-part Sink stops of_file = λ tells files are.
         let given = given_of w files script in
         let commands = command_list script in
@@ -175,13 +175,13 @@ module _ {R : Type 0} (w : Words R) (laws : HasLaws w) (form : Form) (told : Opt
   -- what was put is a part of the output
   rest-part :
       (mid now : Option (List ℕ)) (sink sink_now : ℕ) (had : List ℕ) (stopped over : End) (given : ℕ → List R) (done : ℕ) (part : List ℕ)
-      → PutsRest mid now sink sink_now had stopped over → IsCut w form given before mid had (command_list script) done part → TakesPart before now (output_of w form given (command_list script))
+      → PutsRest mid now sink sink_now had stopped over → StopsWithin w form given before mid had (command_list script) done part → TakesPart before now (output_of w form given (command_list script))
   rest-part mid now sink sink_now had stopped over given done part (inl puts) cut = cut-part w form given before mid now had (command_list script) done part cut (all_is_part mid now had puts.0)
   rest-part mid now sink sink_now had stopped over given done part (inr puts) cut = cut-part w form given before mid now had (command_list script) done part cut puts.0
 
   pub part-stopped :
       (stop : Stop) (mid now : Option (List ℕ)) (sink sink_now : ℕ) (had : List ℕ) (sizes : Numbers) (slots : List Shown) (over : End)
-      → HasStopped w form told script first before mid had sizes slots stop → PutsStopped mid now sink sink_now had over stop
+      → ScriptStopped w form told script first before mid had sizes slots stop → PutsStopped mid now sink sink_now had over stop
       → AllTell first → (files : List ℕ → Option (List ℕ)) → AreFilesOf told script files → TakesPart before now (output_of w form (given_of w files script) (command_list script))
   part-stopped Sink mid now sink sink_now had sizes slots over stopped puts = λ tells files is.
       let P : Option (List ℕ) → Type 0 = λ n. TakesPart before n (output_of w form (given_of w files script) (command_list script)) in
@@ -226,7 +226,7 @@ module _ {R : Type 0} (w : Words R) (laws : HasLaws w) (form : Form) (told : Opt
 
   pub before-stopped :
       (stop : Stop) (mid now : Option (List ℕ)) (sink sink_now : ℕ) (had : List ℕ) (sizes : Numbers) (slots : List Shown) (over : End)
-      → HasStopped w form told script first before mid had sizes slots stop → PutsStopped mid now sink sink_now had over stop → FaultBeforeFile w form told script first before now over
+      → ScriptStopped w form told script first before mid had sizes slots stop → PutsStopped mid now sink sink_now had over stop → FaultBeforeFile w form told script first before now over
   before-stopped Sink mid now sink sink_now had sizes slots over stopped puts =
       let P : End → Type 0 = λ e. FaultBeforeFile w form told script first before now e in
       subst P (sym puts.1) tt
@@ -251,7 +251,7 @@ module _ {R : Type 0} (w : Words R) (laws : HasLaws w) (form : Form) (told : Opt
 
   pub says-stopped :
       (stop : Stop) (replied : Reply → Type 0) (slots : List Shown) (sizes : Numbers) (mid now : Option (List ℕ)) (sink sink_mid sink_now library library_now : ℕ) (had : List ℕ) (over : End)
-      → 0 < sizes.block → HasStopped w form told script first before mid had sizes slots stop → ChangedIn told replied script stop → SinkAfter sink sink_mid stop → LibraryAfter library library_now stop
+      → 0 < sizes.block → ScriptStopped w form told script first before mid had sizes slots stop → ChangedIn told replied script stop → SinkAfter sink sink_mid stop → LibraryAfter library library_now stop
       → PutsStopped mid now sink_mid sink_now had over stop
       → EndSays w form told replied script first slots sizes before now sink sink_now library library_now over
   says-stopped Sink replied slots sizes mid now sink sink_mid sink_now library library_now had over some stopped changed after library_after puts =

@@ -29,7 +29,7 @@ use Rattle.ppq_engine.specs.Loads.{none_go, all_go, size_after}
 use Rattle.ppq_engine.specs.Output.{outside, text_of, after, given_of, AreFilesOf}
 use Rattle.ppq_engine.specs.Pushes.{pushed_in}
 use Rattle.ppq_engine.specs.Popping.{IsByLimit}
-use Rattle.ppq_engine.specs.Running.{WritesPart, PartStops, StopsFor, SinkAfter, LibraryAfter, ChangedIn}
+use Rattle.ppq_engine.specs.Running.{WroteInPart, PartStops, StopsFor, SinkAfter, LibraryAfter, ChangedIn}
 use Rattle.ppq_engine.specs.Work.{pushes_of, begins_of}
 use Rattle.ppq_engine.specs.declared.stop.Stop.{Stop}
 use Rattle.ppq_engine.specs.declared.stop.Stop.TheVariants.{Queue}
@@ -51,7 +51,7 @@ module _ {R : Type 0} (w : Words R)
     turn-goes kept counts runs stops =
         let text = text_of w form (outside old.bag) c in
         let Text : Type 0 = AllTell old.slots → Gathers before now had text has in
-        let Wrote : Stop → Type 0 = λ stop. AllTell old.slots → WritesPart before now had text has stop in
+        let Wrote : Stop → Type 0 = λ stop. AllTell old.slots → WroteInPart before now had text has stop in
         record {
           runs =
               on-ok-map r (RunsStep w told script old new c × Text) (RunsPart w form told script old new before now had has (c ∷ []))
@@ -160,7 +160,7 @@ adds-prints first told had text r none by =
     let P : List ℕ → Type 0 = λ t. Gathers told told had t had in
     record {
       text = on-ok r (AllTell first → Gathers told told had text had) (λ tells. subst P (sym none) (gathers-nothing told had));
-      part = if-err-map r IsByFile (λ stop. AllTell first → WritesPart told told had text had stop) (λ stop file tells. file-part told had text stop file) by;
+      part = if-err-map r IsByFile (λ stop. AllTell first → WroteInPart told told had text had stop) (λ stop file tells. file-part told had text stop file) by;
     }
 
 pub adds-sink : {T : Type 0} (count : ℕ) (r : Result T Stop) → IfErr r IsByFile → SinkCounts count count r

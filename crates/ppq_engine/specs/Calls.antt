@@ -21,7 +21,7 @@ use Rattle.ppq_engine.specs.Loads.{none_go, all_go, size_after, size_from, least
 use Rattle.ppq_engine.specs.Output.{AreFilesOf, TellsLengths, given_of, outside, text_of, after, output_from, state_from, output_of, crest_of}
 use Rattle.ppq_engine.specs.Outcome.{EndSays, FaultBeforeFile}
 use Rattle.ppq_engine.specs.Popping.{NotByFile, IsRound}
-use Rattle.ppq_engine.specs.Running.{IsGathered, WritesPart, StopsFor, PartStops, behind_part, IsOfFile, ChangedIn, SinkAfter, LibraryAfter}
+use Rattle.ppq_engine.specs.Running.{IsGathered, WroteInPart, StopsFor, PartStops, behind_part, IsOfFile, ChangedIn, SinkAfter, LibraryAfter}
 use Rattle.ppq_engine.specs.Work.{pushes_of, pushed_by, begun_by}
 use Rattle.ppq_engine.specs.declared.end.End.{End}
 use Rattle.ppq_engine.specs.declared.stop.Stop.{Stop}
@@ -77,7 +77,7 @@ pub record GathersAll {T E : Type 0} (before now : Option (List ℕ)) (sink sink
 -- a command printed this text, or a part of it if it stopped, as far as the slots tell
 pub record Prints {T : Type 0} (first : List Shown) (before now : Option (List ℕ)) (had whole has : List ℕ) (result : Result T Stop) : Type 0 where
   pub text : OnOk result (AllTell first → Gathers before now had whole has)
-  pub part : IfErr result (λ stop. AllTell first → WritesPart before now had whole has stop)
+  pub part : IfErr result (λ stop. AllTell first → WroteInPart before now had whole has stop)
 
 -- the sink's count of faults rose if the sink stopped the command, and else stayed
 pub record SinkCounts {T : Type 0} (before now : ℕ) (result : Result T Stop) : Type 0 where

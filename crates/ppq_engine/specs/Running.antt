@@ -26,24 +26,24 @@ use Rattle.ppq_engine.specs.declared.stop.Stop.{Stop}
 use Rattle.ppq_engine.specs.declared.stop.Stop.TheVariants.{Sink, Queue, Read, Memory, Changed}
 
 -- a command that needs no session and prints one answer
-abbrev pub IsPlain : {R : Type 0} → Command R → Type 0
-IsPlain (Push item) = ⊤
-IsPlain Pop = ⊤
-IsPlain Top = ⊤
-IsPlain Size = ⊤
-IsPlain (Bulk file size) = ⊥
-IsPlain (Gen seed count) = ⊥
-IsPlain (BulkPop count) = ⊥
-IsPlain (BulkPopLimit limit count) = ⊥
-IsPlain (Drain count) = ⊤
-IsPlain BulkBegin = ⊥
-IsPlain (BulkPush pass item) = ⊥
-IsPlain BulkEnd = ⊥
-IsPlain (LimitBegin limit) = ⊥
-IsPlain (LimitPush pass item) = ⊥
-IsPlain LimitTop = ⊥
-IsPlain LimitPop = ⊥
-IsPlain LimitEnd = ⊥
+abbrev pub PrintsOne : {R : Type 0} → Command R → Type 0
+PrintsOne (Push item) = ⊤
+PrintsOne Pop = ⊤
+PrintsOne Top = ⊤
+PrintsOne Size = ⊤
+PrintsOne (Bulk file size) = ⊥
+PrintsOne (Gen seed count) = ⊥
+PrintsOne (BulkPop count) = ⊥
+PrintsOne (BulkPopLimit limit count) = ⊥
+PrintsOne (Drain count) = ⊤
+PrintsOne BulkBegin = ⊥
+PrintsOne (BulkPush pass item) = ⊥
+PrintsOne BulkEnd = ⊥
+PrintsOne (LimitBegin limit) = ⊥
+PrintsOne (LimitPush pass item) = ⊥
+PrintsOne LimitTop = ⊥
+PrintsOne LimitPop = ⊥
+PrintsOne LimitEnd = ⊥
 
 -- a command that needs no session
 abbrev pub LendsQueue : {R : Type 0} → Command R → Type 0
@@ -96,17 +96,17 @@ pub record HasSizes {R : Type 0} (w : Words R) (size peak : ℕ) (sizes : Number
   pub crest : FitsWritten (least_of w commands) sizes slots
 
 -- the first commands were run, the next wrote this text in part, and what is to come is open
-pub record IsCut {R : Type 0} (w : Words R) (form : Form) (given : ℕ → List R) (before now : Option (List ℕ)) (gathered : List ℕ) (commands : List (Command R)) (done : ℕ) (part : List ℕ) : Type 0 where
+pub record StopsWithin {R : Type 0} (w : Words R) (form : Form) (given : ℕ → List R) (before now : Option (List ℕ)) (gathered : List ℕ) (commands : List (Command R)) (done : ℕ) (part : List ℕ) : Type 0 where
   pub output : IsGathered before now gathered (output_of w form given (take done commands) ++ part)
   pub rest : List ℕ
   pub all : output_of w form given commands ≡ (output_of w form given (take done commands) ++ part) ++ rest
 
 -- the queue refused a command
-pub record IsRefused {R : Type 0} (w : Words R) (form : Form) (told : Option (List ℕ → Option (List ℕ))) (script : Reading R) (first : List Shown) (before now : Option (List ℕ)) (gathered : List ℕ) (sizes : Numbers) (slots : List Shown) (fault : QueueFault) : Type 0 where
+pub record QueueRefused {R : Type 0} (w : Words R) (form : Form) (told : Option (List ℕ → Option (List ℕ))) (script : Reading R) (first : List Shown) (before now : Option (List ℕ)) (gathered : List ℕ) (sizes : Numbers) (slots : List Shown) (fault : QueueFault) : Type 0 where
   pub done : ℕ
   pub cut :
       AllTell first → (files : List ℕ → Option (List ℕ)) → AreFilesOf told script files
-      → (part : List ℕ) × IsCut w form (given_of w files script) before now gathered (command_list script) done part
+      → (part : List ℕ) × StopsWithin w form (given_of w files script) before now gathered (command_list script) done part
   pub cause :
       AllTell first → (files : List ℕ → Option (List ℕ)) → AreFilesOf told script files
       → IsRefusedBy (load_of w (given_of w files script) (take (done + 1) (command_list script))) sizes (begins_limit (take (done + 1) (command_list script))) slots fault
@@ -120,7 +120,7 @@ pub record IsBeforeFile {R : Type 0} (w : Words R) (form : Form) (told : Option 
   pub here : slice_get (command_list script) done ≡ Some (Bulk file size)
   pub cut :
       AllTell first → (files : List ℕ → Option (List ℕ)) → AreFilesOf told script files
-      → IsCut w form (given_of w files script) before now gathered (command_list script) done []
+      → StopsWithin w form (given_of w files script) before now gathered (command_list script) done []
 
 -- a command that adds many records was not run: the output of those before it is gathered
 pub record IsBeforeLoad {R : Type 0} (w : Words R) (form : Form) (told : Option (List ℕ → Option (List ℕ))) (script : Reading R) (first : List Shown) (before now : Option (List ℕ)) (gathered : List ℕ) : Type 0 where
@@ -130,7 +130,7 @@ pub record IsBeforeLoad {R : Type 0} (w : Words R) (form : Form) (told : Option 
   pub loads : IsLoad command
   pub cut :
       AllTell first → (files : List ℕ → Option (List ℕ)) → AreFilesOf told script files
-      → IsCut w form (given_of w files script) before now gathered (command_list script) done []
+      → StopsWithin w form (given_of w files script) before now gathered (command_list script) done []
 
 -- the file of the command on this line ended before the length that was said of it; the library does not tell
 pub record HasChanged {R : Type 0} (told : Option (List ℕ → Option (List ℕ))) (replied : Reply → Type 0) (script : Reading R) (line said got : ℕ) : Type 0 where
@@ -143,21 +143,21 @@ pub record HasChanged {R : Type 0} (told : Option (List ℕ → Option (List ℕ
   pub untold : told ≡ None
 
 -- what stands where the commands did not all run
-abbrev pub HasStopped : {R : Type 0} → Words R → Form → Option (List ℕ → Option (List ℕ)) → Reading R → List Shown → Option (List ℕ) → Option (List ℕ) → List ℕ → Numbers → List Shown → Stop → Type 0
-HasStopped w form told script first before now gathered sizes slots Sink =
+abbrev pub ScriptStopped : {R : Type 0} → Words R → Form → Option (List ℕ → Option (List ℕ)) → Reading R → List Shown → Option (List ℕ) → Option (List ℕ) → List ℕ → Numbers → List Shown → Stop → Type 0
+ScriptStopped w form told script first before now gathered sizes slots Sink =
     AllTell first → (files : List ℕ → Option (List ℕ)) → AreFilesOf told script files → TakesPart before now (output_of w form (given_of w files script) (command_list script))
-HasStopped w form told script first before now gathered sizes slots (Queue fault) = IsRefused w form told script first before now gathered sizes slots fault
-HasStopped w form told script first before now gathered sizes slots Read = IsBeforeFile w form told script first before now gathered
-HasStopped w form told script first before now gathered sizes slots Memory = IsBeforeLoad w form told script first before now gathered
-HasStopped w form told script first before now gathered sizes slots (Changed line said got) = IsBeforeFile w form told script first before now gathered
+ScriptStopped w form told script first before now gathered sizes slots (Queue fault) = QueueRefused w form told script first before now gathered sizes slots fault
+ScriptStopped w form told script first before now gathered sizes slots Read = IsBeforeFile w form told script first before now gathered
+ScriptStopped w form told script first before now gathered sizes slots Memory = IsBeforeLoad w form told script first before now gathered
+ScriptStopped w form told script first before now gathered sizes slots (Changed line said got) = IsBeforeFile w form told script first before now gathered
 
 -- what one command wrote that did not run to its end: the sink took a part; or a part is gathered, and none of a command that adds many records
-abbrev pub WritesPart : Option (List ℕ) → Option (List ℕ) → List ℕ → List ℕ → List ℕ → Stop → Type 0
-WritesPart before now had text has Sink = TakesPart before now (had ++ text)
-WritesPart before now had text has (Queue fault) = GathersPart before now had text has
-WritesPart before now had text has Read = Gathers before now had [] has
-WritesPart before now had text has Memory = Gathers before now had [] has
-WritesPart before now had text has (Changed line said got) = Gathers before now had [] has
+abbrev pub WroteInPart : Option (List ℕ) → Option (List ℕ) → List ℕ → List ℕ → List ℕ → Stop → Type 0
+WroteInPart before now had text has Sink = TakesPart before now (had ++ text)
+WroteInPart before now had text has (Queue fault) = GathersPart before now had text has
+WroteInPart before now had text has Read = Gathers before now had [] has
+WroteInPart before now had text has Memory = Gathers before now had [] has
+WroteInPart before now had text has (Changed line said got) = Gathers before now had [] has
 
 -- Of commands that run together from a multiset on, the first so many were run and the next stopped: all that they print is gathered, and of what
 -- the others print the beginning

@@ -10,7 +10,7 @@ ghost use Rattle.ppq_load.specs.Refusal.{HasRoom, HasNoRoom};
 ghost use Rattle.ppq_engine.specs.Calls.{MayRun, RunsAll, EndsRun, SinkCounts, LibraryCounts, LibraryStays};
 ghost use Rattle.ppq_engine.specs.Loads.{most_of, least_of, begins_limit, FitsWritten};
 ghost use Rattle.ppq_engine.specs.Output.{output_of, load_of, crest_of, given_of, AreFilesOf, KeepsLengths, TakesWithin};
-ghost use Rattle.ppq_engine.specs.Running.{HasStopped, HasChanged, queue_end, open_end};
+ghost use Rattle.ppq_engine.specs.Running.{ScriptStopped, HasChanged, queue_end, open_end};
 ghost use Rattle.ppq_engine.specs.Files.{IsReadInScript};
 ghost use Rattle.ppq_engine.specs.Outcome.{TakesBeforeLoad, FaultBeforeFile, PutsRest, PutsStopped};
 ghost use Rattle.ppq_engine.specs.Work.{IsWithinWork, TransfersFew};
@@ -43,7 +43,7 @@ impl<S: Slot + Send + Sync, R: Fields + Send + Sync> Machine<S, R> {
         requires block { 0 < self.queue.sizes.block }
         requires gathered { self.desk.gathered ≡ [] }
         ensures runs { OnOk result.1 (RunsAll R.Fields world.now.form (L.told library.old) world.now.script.now self.queue result.0.queue (O.told out.old) (O.told out.new) result.0.desk.gathered) }
-        ensures stopped { IfErr result.1 (HasStopped R.Fields world.now.form (L.told library.old) world.now.script.now self.queue.slots (O.told out.old) (O.told out.new) result.0.desk.gathered self.queue.sizes result.0.queue.slots) }
+        ensures stopped { IfErr result.1 (ScriptStopped R.Fields world.now.form (L.told library.old) world.now.script.now self.queue.slots (O.told out.old) (O.told out.new) result.0.desk.gathered self.queue.sizes result.0.queue.slots) }
         ensures slots { SameSlots self.queue.slots result.0.queue.slots }
         ensures counted { IsWithinWork R.Fields (command_list world.now.script.now) self.queue.sizes result.0.queue }
         ensures library { LibraryCounts (L.told library.old) (L.told library.new) (L.replied library.old) (L.replied library.new) world.now.script.now (L.faults library.old) (L.faults library.new) result.1 }

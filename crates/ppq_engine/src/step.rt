@@ -7,7 +7,7 @@ ghost use Rattle.ppq_engine.specs.Calls.{IsCalled, Leaves, Lends, SinkCounts, Li
 ghost use Rattle.ppq_engine.specs.Loads.{none_go, size_after};
 ghost use Rattle.ppq_engine.specs.Output.{least_text, outside, text_of, after, TellsLengths};
 ghost use Rattle.ppq_engine.specs.Gathers.{answer_text};
-ghost use Rattle.ppq_engine.specs.Running.{IsPlain, LendsQueue};
+ghost use Rattle.ppq_engine.specs.Running.{PrintsOne, LendsQueue};
 ghost use Rattle.ppq_engine.specs.Work.{pushes_of};
 
 use crate::Answer;
@@ -37,7 +37,7 @@ impl<S: Slot + Send + Sync, R: Fields + Send + Sync> Machine<S, R> {
     where
         H::Dir: Send,
         requires sound { self.old.queue.failed ≡ None }
-        requires plain { IsPlain command }
+        requires plain { PrintsOne command }
         ensures text { IfOk result (λ answer. AllTell self.old.queue.slots → answer_text R.Fields world.now.form answer ≡ text_of R.Fields world.now.form (outside self.old.queue.bag) command) }
         ensures left { OnOk result ((given : ℕ → List R) (leaves : ℕ → ℕ → ℕ) → Leaves self.old.queue self.new.queue (after R.Fields given (outside self.old.queue.bag) command).bag (size_after R.Fields leaves self.old.queue.size command) (size_after R.Fields leaves self.old.queue.size command)) }
         ensures called { IsCalled self.old.queue self.new.queue self.old.desk.gathered self.new.desk.gathered (max self.old.queue.peak (size_after R.Fields none_go self.old.queue.size command)) (pushes_of R.Fields command) result }

@@ -5,7 +5,7 @@ use Rattle.std.specs.Prelude.{OnOk}
 use Rattle.ppq_script.specs.Reading.{command_list}
 use Rattle.ppq_engine.specs.Calls.{RunsAll}
 use Rattle.ppq_engine.specs.Output.{output_of, given_of}
-use Rattle.ppq_engine.specs.Running.{HasStopped, ChangedIn, SinkAfter, LibraryAfter}
+use Rattle.ppq_engine.specs.Running.{ScriptStopped, ChangedIn, SinkAfter, LibraryAfter}
 use Rattle.ppq_engine.proofs.Counted.{transfers-few}
 use Rattle.ppq_engine.proofs.Libraries.{library-stays}
 use Rattle.ppq_engine.proofs.Results.{at-ok, at-err}
@@ -72,7 +72,7 @@ returns-clause-ends g c = let w = words g.R.PartialEq g.R.PartialOrd g.R.Ord g.R
     let over = c.put_stopped.result in
     let puts = c.put_stopped.ensures.puts in
     let replied = g.L.Library.replied run.new.library in
-    let why = at-err run.result.1 stop (HasStopped w c.args.world.now.form files script queue.slots before mid run.result.0.desk.gathered queue.sizes slots) c.in-Err.is run.ensures.stopped in
+    let why = at-err run.result.1 stop (ScriptStopped w c.args.world.now.form files script queue.slots before mid run.result.0.desk.gathered queue.sizes slots) c.in-Err.is run.ensures.stopped in
     record {
       part = part-stopped w laws c.args.world.now.form files script queue.slots before stop mid now sink_mid sink_now run.result.0.desk.gathered queue.sizes slots over why puts;
       says =
