@@ -26,7 +26,7 @@ use Rattle.ppq_engine.specs.Calls.{Prints}
 use Rattle.ppq_engine.specs.Running.{GathersPart, WroteInPart}
 use Rattle.ppq_engine.specs.Files.{IsByFile}
 use Rattle.ppq_engine.specs.Popping.{passing, next_of, popped_count, left_at_most, left_mark, IsRound, NotByFile}
-use Rattle.ppq_engine.specs.declared.answer.Drained.{Drained}
+use Rattle.ppq_engine.specs.declared.drained.Drained.{Drained}
 use Rattle.ppq_engine.specs.declared.stop.Stop.{Stop}
 use Rattle.ppq_engine.specs.declared.stop.Stop.TheVariants.{Sink, Queue}
 use Rattle.ppq_engine.proofs.Results.{if-err, not-ok}

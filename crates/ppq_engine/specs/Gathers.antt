@@ -7,7 +7,7 @@ use Rattle.ppq_script.specs.declared.form.Form.{Form}
 use Rattle.ppq_engine.specs.Output.{record_text, empty_text, size_text, all_text, more_text, limited_text, drained_text, last_of, first_sum}
 use Rattle.ppq_engine.specs.declared.answer.Answer.{Answer}
 use Rattle.ppq_engine.specs.declared.answer.Answer.TheVariants as answer
-use Rattle.ppq_engine.specs.declared.answer.Drained.{Drained}
+use Rattle.ppq_engine.specs.declared.drained.Drained.{Drained}
 
 -- the text of an answer
 abbrev pub answer_text : {R : Type 0} → Words R → Form → Answer R → List ℕ

@@ -1,4 +1,11 @@
 //! What a command prints.
+ghost use Rattle.std.specs.Prelude.{◌≡◌};
+ghost use Rattle.ppq_script.specs.declared.form.Form.{Form};
+ghost use Rattle.ppq_engine.specs.Gathers.{answer_text};
+ghost use Rattle.ppq_engine.specs.Output.{least_text, limited_text};
+
+use crate::drained::Drained;
+use ppq_script::Fields;
 
 /// What a command prints, or a part of it: nothing, that there is no record, a record, how many records
 /// there are, whether a limited pop gave all, that no record is below a session's limit, or what was
@@ -24,16 +31,24 @@ pub enum Answer<R> {
     Drained { drained: Drained<R> },
 }
 
-/// Records that were drained: how many, the first and the last of them, and the sum of their first
-/// fields modulo 2^64.
-#[derive(Clone, Copy, Debug, PartialEq, Eq)]
-pub struct Drained<R> {
-    /// How many there were.
-    pub count: u64,
-    /// The first in the queue's order, if there was one.
-    pub first: Option<R>,
-    /// The last.
-    pub last: Option<R>,
-    /// The sum of their first fields modulo 2^64.
-    pub sum: u64,
+impl<R: Fields> Answer<R> {
+    // What is printed of the smallest record.
+    pub(crate) fn least(item: Option<R>) -> Answer<R>
+        ensures { (form : Form) → answer_text R.Fields form result ≡ least_text R.Fields form item }
+    {
+        match item {
+            Some(item) => Answer::Record { item },
+            None => Answer::Empty,
+        }
+    }
+
+    // What is printed of the smallest record below the limit of the session.
+    pub(crate) fn limited(item: Option<R>) -> Answer<R>
+        ensures { (form : Form) → answer_text R.Fields form result ≡ limited_text R.Fields form item }
+    {
+        match item {
+            Some(item) => Answer::Record { item },
+            None => Answer::Limit,
+        }
+    }
 }

@@ -1,17 +1,15 @@
 //! A batch of lines of a session.
-ghost use Rattle.std.specs.Prelude.{◌≡◌, ◌≤◌, ◌<◌, ◌+◌, ◌++◌, false, length, Some, IsTrue, slice_get, vec_len, vec_capacity, IfOk};
+ghost use Rattle.std.specs.Prelude.{◌≡◌, ◌≤◌, ◌<◌, ◌+◌, ◌++◌, false, length, IsTrue, vec_len, vec_capacity, IfOk};
 ghost use Rattle.ppq_script.specs.Parts.{AreLines, commands_of};
-ghost use Rattle.ppq_script.specs.declared.form.Form.{Form};
 ghost use Rattle.ppq_script.specs.declared.session.Session.TheVariants.{InLimit};
 ghost use Rattle.ppq_load.specs.Limits.{AreGoing, HasStopped};
 ghost use Rattle.ppq_engine.specs.Calls.{GathersAll};
-ghost use Rattle.ppq_engine.specs.Gathers.{answer_text};
-ghost use Rattle.ppq_engine.specs.Output.{limited_text};
 ghost use Rattle.ppq_engine.specs.Limits.{ask_by, asks_in, answers_text, RunsBatch};
 
 use crate::Answer;
 use crate::collected::Collected;
 use crate::gathered::Gathered;
+use crate::items::item_at;
 use ppq_load::{Ask, Limits};
 use ppq_record::record_laws;
 use ppq_script::{Command, Failed, Fields, Form, Gate, Host, Memory, Numbered, Sink, Slot};
@@ -125,27 +123,8 @@ impl<R: Fields + Send + Sync> Batch<R> {
         ensures { GathersAll (O.told out.old) (O.told out.new) (O.faults out.old) (O.faults out.new) gathered.old (answers_text R.Fields form self.now.answers.items) gathered.new result }
     {
         for i in 0..self.answers.len() {
-            gathered.print(rt, form, answer_of(answer_at(&self.answers, i)), out)?;
+            gathered.print(rt, form, Answer::limited(item_at(&self.answers, i)), out)?;
         }
         Ok(())
-    }
-}
-
-// The answer at this place.
-#[inline]
-fn answer_at<R: Fields>(answers: &[Option<R>], i: usize) -> Option<R>
-    requires { i < length answers.now }
-    ensures { slice_get answers.now i ≡ Some result }
-{
-    answers[i]
-}
-
-// What was answered to an ask.
-fn answer_of<R: Fields>(item: Option<R>) -> Answer<R>
-    ensures { (form : Form) → answer_text R.Fields form result ≡ limited_text R.Fields form item }
-{
-    match item {
-        Some(item) => Answer::Record { item },
-        None => Answer::Limit,
     }
 }

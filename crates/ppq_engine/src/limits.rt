@@ -1,5 +1,5 @@
 //! Executes a limit session of a script.
-ghost use Rattle.std.specs.Prelude.{◌≡◌, List, ℕ, Option, OnOk, OnErr, IfErr};
+ghost use Rattle.std.specs.Prelude.{List, ℕ, Option, OnOk, OnErr, IfErr};
 ghost use Rattle.ppq_script.specs.ppq_outside.Told.{HasOneCause};
 ghost use Rattle.ppq_script.specs.Parts.{AreLines, limit_part, commands_of};
 ghost use Rattle.ppq_script.specs.declared.command.Command.TheVariants.{LimitBegin};

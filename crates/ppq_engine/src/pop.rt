@@ -1,5 +1,5 @@
 //! Removes many records from a queue, and prints them or what they add up to.
-ghost use Rattle.std.specs.Prelude.{◌≡◌, ◌<◌, ◌+◌, ◌-◌, ◌^◌, ◌∷◌, ◌++◌, [], List, None, Some, OnOk, IfOk, length, slice_get};
+ghost use Rattle.std.specs.Prelude.{◌≡◌, ◌<◌, ◌+◌, ◌-◌, ◌^◌, ◌++◌, List, None, Some, OnOk, IfOk, length};
 ghost use Rattle.ppq_script.specs.ppq_record.Bag.{front, without_front};
 ghost use Rattle.ppq_script.specs.ppq_outside.Shown.{AllTell};
 ghost use Rattle.ppq_script.specs.declared.command.Command.TheVariants.{BulkPopLimit};
@@ -9,52 +9,14 @@ ghost use Rattle.ppq_engine.specs.Calls.{IsCalled, IsLent, Leaves, Lends, PopsRo
 ghost use Rattle.ppq_engine.specs.Popping.{next_of, popped_count, left_at_most, left_mark};
 
 use crate::gathered::Gathered;
+use crate::items::item_at;
 use crate::machine::Machine;
 use crate::stop::Stop;
 use crate::world::World;
 use crate::{Answer, Drained};
 use ppq_load::QueueFault;
-use ppq_record::{fields_laws, record_laws};
+use ppq_record::record_laws;
 use ppq_script::{Failed, Fields, Form, Gate, Host, Sink, Slot};
-
-impl<R: Fields> Drained<R> {
-    /// No record.
-    pub fn nothing() -> Drained<R>
-        ensures { IsSummary R.Fields [] result }
-    {
-        Drained {
-            count: 0,
-            first: None,
-            last: None,
-            sum: 0,
-        }
-    }
-
-    // One record more.
-    fn add(self, item: R) -> Drained<R>
-        requires { self.count < 2 ^ 64 - 1 }
-        ensures count { result.count ≡ self.count + 1 }
-        ensures summary { (items : List R) → IsSummary R.Fields items self → IsSummary R.Fields (items ++ item ∷ []) result }
-    {
-        record_laws::<R>();
-        fields_laws::<R>();
-        Drained {
-            count: self.count + 1,
-            first: Some(self.first.unwrap_or(item)),
-            last: Some(item),
-            sum: self.sum.wrapping_add(item.field(0)),
-        }
-    }
-}
-
-// The record at this place.
-#[inline]
-fn record_at<R: Fields>(items: &[R], i: usize) -> R
-    requires { i < length items.now }
-    ensures { slice_get items.now i ≡ Some result }
-{
-    items[i]
-}
 
 // What was drained, and then these records.
 fn add_all<R: Fields>(before: Drained<R>, items: &[R]) -> Drained<R>
@@ -64,7 +26,7 @@ fn add_all<R: Fields>(before: Drained<R>, items: &[R]) -> Drained<R>
 {
     let mut drained = before;
     for i in 0..items.len() {
-        drained = drained.add(record_at(items, i));
+        drained = drained.add(item_at(items, i));
     }
     drained
 }
@@ -80,7 +42,7 @@ fn print_all<H: Host, R: Fields, O: Sink>(
     ensures { GathersAll (O.told out.old) (O.told out.new) (O.faults out.old) (O.faults out.new) gathered.old (records_text R.Fields form items.now) gathered.new result }
 {
     for i in 0..items.len() {
-        let item = record_at(items, i);
+        let item = item_at(items, i);
         gathered.print(rt, form, Answer::Record { item }, out)?;
     }
     Ok(())

@@ -1,5 +1,5 @@
 //! Executes a bulk session of a script.
-ghost use Rattle.std.specs.Prelude.{◌≡◌, None, All};
+ghost use Rattle.std.specs.Prelude.{◌≡◌, All};
 ghost use Rattle.ppq_script.specs.Parts.{AreLines, bulk_part, commands_of};
 ghost use Rattle.ppq_script.specs.declared.command.Command.TheVariants.{BulkBegin};
 ghost use Rattle.ppq_script.specs.declared.session.Session.TheVariants.{InBulk};

@@ -2,10 +2,9 @@
 ghost use Rattle.std.specs.Prelude.{◌≡◌, List, ℕ, None, OnOk, IfOk, max};
 ghost use Rattle.ppq_script.specs.ppq_outside.Shown.{AllTell};
 ghost use Rattle.ppq_script.specs.Parts.{commands_in, first_in};
-ghost use Rattle.ppq_script.specs.declared.form.Form.{Form};
 ghost use Rattle.ppq_engine.specs.Calls.{IsCalled, Leaves, Lends, SinkCounts, LibraryCounts, IsTurn, Goes};
 ghost use Rattle.ppq_engine.specs.Loads.{none_go, size_after};
-ghost use Rattle.ppq_engine.specs.Output.{least_text, outside, text_of, after, TellsLengths};
+ghost use Rattle.ppq_engine.specs.Output.{outside, text_of, after, TellsLengths};
 ghost use Rattle.ppq_engine.specs.Gathers.{answer_text};
 ghost use Rattle.ppq_engine.specs.Running.{PrintsOne, LendsQueue};
 ghost use Rattle.ppq_engine.specs.Work.{pushes_of};
@@ -16,16 +15,6 @@ use crate::stop::Stop;
 use crate::world::World;
 use ppq_load::QueueFault;
 use ppq_script::{Command, Fields, Gate, Host, Library, Part, Sink, Slot};
-
-// What is printed of the smallest record.
-fn answer_of<R: Fields>(item: Option<R>) -> Answer<R>
-    ensures { (form : Form) → answer_text R.Fields form result ≡ least_text R.Fields form item }
-{
-    match item {
-        Some(item) => Answer::Record { item },
-        None => Answer::Empty,
-    }
-}
 
 impl<S: Slot + Send + Sync, R: Fields + Send + Sync> Machine<S, R> {
     // Runs a command that adds one record at the most and prints one answer.
@@ -47,8 +36,8 @@ impl<S: Slot + Send + Sync, R: Fields + Send + Sync> Machine<S, R> {
                 Ok(()) => Ok(Answer::Nothing),
                 Err(refused) => Err(refused.1),
             },
-            Command::Pop => Ok(answer_of(self.queue.pop(world.rt, world.gate)?)),
-            Command::Top => Ok(answer_of(self.queue.top(world.rt, world.gate)?)),
+            Command::Pop => Ok(Answer::least(self.queue.pop(world.rt, world.gate)?)),
+            Command::Top => Ok(Answer::least(self.queue.top(world.rt, world.gate)?)),
             Command::Size => {
                 self.queue.known();
                 Ok(Answer::Size {

@@ -8,13 +8,13 @@ use Rattle.ppq_engine.proofs.pop.add_all.Goals as goal
 pub loop-i-preserved : goal.loop-i-preserved
 loop-i-preserved g c = let w = words g.R.PartialEq g.R.PartialOrd g.R.Ord g.R.Record g.R.Fields in
     let items = c.args.items.now in
-    let item = c.record_at.result in
+    let item = c.item_at.result in
     let P : List g.row.R.Denot → Type 0 = λ xs. IsSummary w xs c.add-drained.result in
     record {
       count = omega (arith, c.add-drained.ensures.count, c.loop-i.invariant.count);
       summary =
           λ had is.
-          subst P (append_assoc had (take c.loop-i.i items) (item ∷ []) ∙ ap (λ (xs : List g.row.R.Denot). had ++ xs) (sym (take-next items c.loop-i.i item (omega arith) c.record_at.ensures)))
+          subst P (append_assoc had (take c.loop-i.i items) (item ∷ []) ∙ ap (λ (xs : List g.row.R.Denot). had ++ xs) (sym (take-next items c.loop-i.i item (omega arith) c.item_at.ensures)))
           (c.add-drained.ensures.summary (had ++ take c.loop-i.i items) (c.loop-i.invariant.summary had is));
     }
 

@@ -3,7 +3,7 @@ use Rattle.std.specs.Prelude.{unwrap_or}
 use Rattle.std.proofs.lemmas.Option.{get_or_from_slice_get}
 use Rattle.ppq_script.specs.Words.{words}
 use Rattle.ppq_engine.proofs.Popped.{summary-more}
-use Rattle.ppq_engine.proofs.answer.Drained.add.Goals as goal
+use Rattle.ppq_engine.proofs.drained.Drained.add.Goals as goal
 
 pub returns-clause-summary : goal.returns-clause-summary
 returns-clause-summary g c =
