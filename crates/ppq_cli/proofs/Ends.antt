@@ -201,14 +201,7 @@ nothing_by X false need end (inr memory) nothing = inl (inr memory)
 pub may_write : (X : Type 0) (sizes : Numbers) (end : End) → BeganOrRefused (budget_refusal sizes) end → ((n : ℕ) → end ≡ BudgetTooSmall n → X) → MayWrite end ⊎ X
 may_write X sizes end answer nothing = nothing_by X (nat_lt sizes.memory (fixed_of sizes)) (fixed_of sizes) end answer nothing
 
--- a script that was not loaded, or not read, was not run
-pub unloaded_not_run : (fault : LoadFault) → IsSurelyRun (load_end fault) → ⊥
-unloaded_not_run load.ReadFault run = run
-unloaded_not_run load.Memory run = run
-unloaded_not_run load.NoScript run = run
-unloaded_not_run load.ScriptTooLong run = run
-unloaded_not_run (load.FileChanged said got) run = run
-
+-- a script that was not read was not run
 pub unread_not_run : (fault : CheckFault) → IsSurelyRun (check_end fault) → ⊥
 unread_not_run (check.BadLine line) run = run
 unread_not_run check.ReadFault run = run

@@ -1,6 +1,6 @@
 -- What holds of a result's value or error.
 use Rattle.std.proofs.Common.{◌≡◌, sym, subst}
-use Rattle.std.specs.Prelude.{Result, Ok, Err, IfOk, IfErr, OnOk, OnErr, IsErrAnd, Option, Some, None, IfSome}
+use Rattle.std.specs.Prelude.{Result, Ok, Err, IfErr, OnOk, OnErr, IsErrAnd, Option, Some, None, IfSome}
 
 pub if-err : {T E : Type 0} (r : Result T E) (e : E) (P : E → Type 0) → IsErrAnd r (λ x. x ≡ e) → P e → IfErr r P
 if-err (Ok v) e P is p = tt
@@ -14,10 +14,6 @@ not-ok (Err x) P A is = tt
 pub if-err-map : {T E : Type 0} (r : Result T E) (P Q : E → Type 0) → ((x : E) → P x → Q x) → IfErr r P → IfErr r Q
 if-err-map (Ok v) P Q f p = tt
 if-err-map (Err x) P Q f p = f x p
-
-pub if-ok-map : {T E : Type 0} (r : Result T E) (P Q : T → Type 0) → ((x : T) → P x → Q x) → IfOk r P → IfOk r Q
-if-ok-map (Ok v) P Q f p = f v p
-if-ok-map (Err x) P Q f p = tt
 
 pub on-ok-map : {T E : Type 0} (r : Result T E) (A B : Type 0) → (A → B) → OnOk r A → OnOk r B
 on-ok-map (Ok v) A B f a = f a
@@ -41,9 +37,6 @@ at-ok {T} {E} r v A e h = let P : Result T E → Type 0 = λ x. OnOk x A in subs
 
 pub at-err : {T E : Type 0} (r : Result T E) (f : E) (P : E → Type 0) → r ≡ Err f → IfErr r P → P f
 at-err {T} {E} r f P e h = let Q : Result T E → Type 0 = λ x. IfErr x P in subst Q e h
-
-pub at-if-ok : {T E : Type 0} (r : Result T E) (v : T) (P : T → Type 0) → r ≡ Ok v → IfOk r P → P v
-at-if-ok {T} {E} r v P e h = let Q : Result T E → Type 0 = λ x. IfOk x P in subst Q e h
 
 -- two things that hold of an error, or of a value
 pub if-err-both : {T E : Type 0} (r : Result T E) (P Q : E → Type 0) → IfErr r P → IfErr r Q → IfErr r (λ e. P e × Q e)
