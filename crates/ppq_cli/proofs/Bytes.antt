@@ -18,6 +18,7 @@ use Rattle.ppq_engine.specs.Work.{work_of}
 use Rattle.ppq_engine.specs.declared.end.End.{End}
 use Rattle.ppq_engine.specs.declared.end.End.TheVariants.{Done, ReadFault, WriteFault, DeviceFault, NoDevice}
 use Rattle.ppq_engine.specs.declared.end.Ended.{Ended}
+use Rattle.ppq_engine.proofs.Running.{takes_none}
 use Rattle.ppq_cli.specs.Device.{IsSurelyRun}
 use Rattle.ppq_cli.specs.Load.{check_end, CheckCounts}
 use Rattle.ppq_cli.specs.Replies.{Files, IsScript, IsRefused, RefusalOf, LibraryKeeps}
@@ -30,7 +31,7 @@ use Rattle.ppq_cli.proofs.Ends.{unread_not_run, no_blocks, refused_answer, refus
 use Rattle.ppq_cli.proofs.Extent.{reads_then, reads_script, reads_lengths}
 use Rattle.ppq_cli.proofs.Given.{script_remembered}
 use Rattle.ppq_cli.proofs.Transfers.{no_slots}
-use Rattle.ppq_cli.proofs.RunOver.{takes_none, same_count}
+use Rattle.ppq_cli.proofs.RunOver.{same_count}
 
 -- a refusal names no block, no device and no sink
 not_device : (fault : CheckFault) (number : ℕ) → check_end fault ≡ DeviceFault number → ⊥

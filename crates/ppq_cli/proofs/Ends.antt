@@ -2,7 +2,7 @@
 use Rattle.std.proofs.Common.{◌≡◌, ℕ, ◌<◌, ◌≤◌, List, [], length, Option, Some, None, refl, sym, ap, ◌∙◌, subst, arith, inl, inr}
 use Rattle.std.specs.Prelude.{◌⊎◌, Bool, true, false, if◌then◌else◌, nat_lt, IfSome, MatchOption, map}
 use Rattle.std.proofs.lemmas.List.Sorted.{IsPermutation-refl}
-use Rattle.std.proofs.lemmas.Bool.{cases_lt, lt-ltb, le-ltb}
+use Rattle.std.proofs.lemmas.Bool.{ltb-true, ltb-false, le-ltb}
 use Rattle.ppq_words.specs.ppq_outside.Shown.{Shown, AllTell}
 use Rattle.ppq_words.specs.ppq_outside.Told.{Reply, bytes_or_none}
 use Rattle.ppq_words.specs.ppq_budget.Sizes.{Numbers, fixed_of}
@@ -35,18 +35,6 @@ use Rattle.ppq_cli.specs.Device.{IsSurelyRun, AreBlocks}
 use Rattle.ppq_cli.specs.Replies.{Files, need_of, IsScript, IsRefused, OfGood, RefusalOf, RunOf, WroteNothing, HasRunToFile, HasRunToLoad, FaultToFile}
 use Rattle.ppq_cli.specs.Types.{typed, type_of}
 
-ltb_false : (a b : ℕ) → nat_lt a b ≡ false → b ≤ a
-ltb_false a b is = elim (cases_lt a b) as (λ _. b ≤ a) [
-  | inl h ↦ let e : true ≡ false = sym (lt-ltb a b h) ∙ is in cc
-  | inr h ↦ h
-]
-
-ltb_true : (a b : ℕ) → nat_lt a b ≡ true → a < b
-ltb_true a b is = elim (cases_lt a b) as (λ _. a < b) [
-  | inl h ↦ h
-  | inr h ↦ let e : false ≡ true = sym (le-ltb a b h) ∙ is in cc
-]
-
 -- the three ways of a script that was read, for a budget with this fixed part: it is too small, the script was tried, or memory was wanting
 abbrev Ways : ℕ → ℕ → ℕ → End → Type 0
 Ways memory fixed need end = ((memory < fixed) × (end ≡ BudgetTooSmall need)) ⊎ (((fixed ≤ memory) × IsTried end) ⊎ (end ≡ Memory))
@@ -78,7 +66,7 @@ module _ {R : Type 0} (words : Words R) (told : Option Files) (replied : Reply �
   ways end answer =
       let memory = (sizes_at words.WIDTH r).memory in
       let fixed = fixed_of (sizes_at words.WIDTH r) in
-      ways_by (nat_lt memory fixed) memory fixed (need_of words r) end (ltb_true memory fixed) (ltb_false memory fixed) answer
+      ways_by (nat_lt memory fixed) memory fixed (need_of words r) end (ltb-true memory fixed) (ltb-false memory fixed) answer
 
   enough : (end : End) → BeganCommands end → IsTriedOrRefusal (refusal_of_budget words r) end → fixed_of (sizes_at words.WIDTH r) ≤ (sizes_at words.WIDTH r).memory
   enough end run answer = reaches (sizes_at words.WIDTH r).memory (fixed_of (sizes_at words.WIDTH r)) (need_of words r) end run (ways end answer)

@@ -1,5 +1,5 @@
 -- What `run_over` says where no command was run, and how its end follows from the device's and the script's.
-use Rattle.std.proofs.Common.{◌≡◌, inl, inr, ℕ, ◌<◌, ◌≤◌, List, map, length, Option, Some, None, refl, sym, ap, subst, arith, append-nil}
+use Rattle.std.proofs.Common.{◌≡◌, inl, inr, ℕ, ◌<◌, ◌≤◌, List, map, length, Option, Some, None, refl, sym, subst, arith}
 use Rattle.std.specs.Prelude.{◌⊎◌, Bool, true, false, if◌then◌else◌, nat_lt, MatchOption}
 use Rattle.std.specs.List.{range_with_len}
 use Rattle.std.specs.List.Sorted.{IsPermutation}
@@ -7,7 +7,7 @@ use Rattle.std.proofs.lemmas.Bool.{lt-ltb, le-ltb}
 use Rattle.ppq_words.specs.ppq_outside.declared.fault.OutsideFault.{OutsideFault}
 use Rattle.ppq_words.specs.ppq_outside.declared.fault.OutsideFault.TheVariants as outside
 use Rattle.ppq_words.specs.ppq_outside.Shown.{Shown}
-use Rattle.ppq_words.specs.ppq_outside.Told.{Reply, TakesPart}
+use Rattle.ppq_words.specs.ppq_outside.Told.{Reply}
 use Rattle.ppq_words.specs.ppq_budget.Sizes.{Numbers, fixed_of}
 use Rattle.ppq_words.specs.ppq_script.Words.{Words}
 use Rattle.ppq_words.specs.ppq_script.Reading.{Reading}
@@ -16,15 +16,11 @@ use Rattle.ppq_words.proofs.ppq_outside.Replies.{no_replies}
 use Rattle.ppq_engine.specs.Ends.{BeganCommands, BeganOrRefused, budget_refusal}
 use Rattle.ppq_engine.specs.declared.end.End.{End}
 use Rattle.ppq_engine.specs.declared.end.End.TheVariants.{Done, BadLine, Usage, ReadFault, WriteFault, NoFreeBlock, BudgetTooSmall, Memory, NoDevice, NoScript, ScriptTooLong}
+use Rattle.ppq_engine.proofs.Running.{takes_none}
 use Rattle.ppq_cli.specs.Device.{AreBlocks, ComesBeforeBlocks, HasReason, IsSurelyRun, make_end}
 use Rattle.ppq_cli.specs.Replies.{Files, need_of, LibraryKeeps, FaultToFile}
 use Rattle.ppq_cli.specs.RunOver.{RunWrites, RunEnds, RunCounts, RunFaults}
 use Rattle.ppq_cli.specs.RunWords.{refusal_of_budget, IsTriedOrRefusal}
-
--- nothing is a part of each text
-pub takes_none : (told : Option (List ℕ)) (text : List ℕ) → TakesPart told told text
-takes_none None text = refl
-takes_none (Some had) text = (0, omega arith, ap (λ (t : List ℕ). Some t) (sym (append-nil had)))
 
 -- nothing was written, and the end is that of no run
 pub wrote_nothing :

@@ -3,13 +3,10 @@ use Rattle.std.proofs.Common.{◌≡◌, ℕ, ◌+◌, ◌≤◌, List, [], ◌�
 use Rattle.std.specs.List.{concat}
 use Rattle.std.proofs.lemmas.List.{take_all, drop-drop}
 use Rattle.std.proofs.Math.Seq.{take-add}
-use Rattle.ppq_words.specs.ppq_outside.Told.{Reply, OfLength, OfRead, TellsReply, length_of, bytes_or_none}
+use Rattle.ppq_words.specs.ppq_outside.Told.{Reply, OfLength, OfRead, length_of, bytes_or_none}
+use Rattle.ppq_words.proofs.ppq_script.Checks.{AreTrue}
 use Rattle.ppq_cli.specs.Load.{IsLoaded}
 use Rattle.ppq_cli.specs.Replies.{AreGiven, IsGiven, IsReplied, IsLoadedAs}
-
--- the replies are true of what the library tells
-abbrev pub AreTrue : Option (List ℕ → Option (List ℕ)) → (Reply → Type 0) → Type 0
-AreTrue told replied = (reply : Reply) → replied reply → TellsReply told reply
 
 -- pieces that reads gave are a part of the file
 pieces_are : (files : List ℕ → Option (List ℕ)) (replied : Reply → Type 0) (name : List ℕ) (at : ℕ) (pieces : List (List ℕ)) → AreTrue (Some files) replied → AreGiven replied name at pieces → concat pieces ≡ take (length (concat pieces)) (drop at (bytes_or_none (files name)))

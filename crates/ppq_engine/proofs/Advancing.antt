@@ -17,6 +17,7 @@ use Rattle.ppq_load.specs.ppq_queue.Holding.{Holding}
 use Rattle.ppq_load.specs.ppq_array.declared.store_fault.StoreFault.{StoreFault as QueueFault}
 use Rattle.ppq_load.specs.Limits.{begun_in}
 use Rattle.ppq_load.specs.Refusal.{Keeps, IsRefusedBy}
+use Rattle.ppq_load.proofs.ppq_queue.ppq_spill.SameSlots.{SameSlots-trans}
 use Rattle.ppq_engine.specs.Files.{IsBySession}
 use Rattle.ppq_engine.specs.Gathers.{Gathers}
 use Rattle.ppq_engine.specs.Loads.{none_go, size_after, size_from, begins_limit}
@@ -28,7 +29,6 @@ use Rattle.ppq_engine.specs.declared.stop.Stop.TheVariants.{Sink, Queue, Memory}
 use Rattle.ppq_engine.proofs.Lines.{begins-append, lone-begins, bulk-begins, bulk-size, bulk-quiet}
 use Rattle.ppq_engine.proofs.Popped.{gathers-nothing}
 use Rattle.ppq_engine.proofs.Running.{output_from-append}
-use Rattle.ppq_engine.proofs.Slots.{SameSlots-trans}
 
 -- what is kept, where it is known in another way whether a limit session was begun
 Keeps-flag : {R : Type 0} (q new : Holding R) (one other : Bool) → one ≡ other → Keeps (record q { limited = one }) new → Keeps (record q { limited = other }) new

@@ -1,8 +1,8 @@
 -- What is pushed in a session may join the multiset at once or at the session's end: the two definitions agree.
-use Rattle.std.proofs.Common.{◌≡◌, ℕ, zero, suc, ◌+◌, ◌<◌, ◌≤◌, Bool, true, false, cond, List, [], ◌∷◌, ◌++◌, length, length-append, take, drop, refl, sym, ap, ap₂, ◌∙◌, subst, arith, inl, inr}
+use Rattle.std.proofs.Common.{◌≡◌, ℕ, zero, suc, ◌+◌, ◌≤◌, Bool, true, false, cond, List, [], ◌∷◌, ◌++◌, length, length-append, take, drop, refl, sym, ap, ap₂, ◌∙◌, subst, arith, inl, inr}
 use Rattle.std.specs.Prelude.{⊤, count_by, not, ◌&&◌, nat_le, if◌then◌else◌, max, unwrap_or}
 use Rattle.std.proofs.Math.Seq.{take-length}
-use Rattle.std.proofs.lemmas.Bool.{cases_Bool, cases_lt, le-leb, leb-true}
+use Rattle.std.proofs.lemmas.Bool.{cases_lt, le-leb, lt-leb, not-true}
 use Rattle.std.proofs.lemmas.List.{take-take, length-take}
 use Rattle.std.proofs.lemmas.List.Filters.{sum_by-filter_both}
 use Rattle.std.proofs.lemmas.List.Sums.{length-filter}
@@ -27,19 +27,16 @@ use Rattle.ppq_engine.proofs.Below.{NoneBelow, front-beside, size-beside}
 abbrev mark : Form → Bool → List ℕ
 mark form b = if b then all_text form else more_text form
 
-more_left : (m n : ℕ) → n < m → nat_le m n ≡ false
-more_left m n h = elim (cases_Bool (nat_le m n)) as (λ _. nat_le m n ≡ false) [ inl t ↦ absurd (omega (arith, leb-true m n t)) | inr f ↦ f ]
-
 nat_le-suc : (m n : ℕ) → nat_le m n ≡ nat_le (suc m) (suc n)
 nat_le-suc m n = elim (cases_lt n m) as (λ _. nat_le m n ≡ nat_le (suc m) (suc n)) [
-  | inl h ↦ more_left m n h ∙ sym (more_left (suc m) (suc n) (omega arith))
+  | inl h ↦ lt-leb m n h ∙ sym (lt-leb (suc m) (suc n) (omega arith))
   | inr h ↦ le-leb m n h ∙ sym (le-leb (suc m) (suc n) (omega arith))
 ]
 
 mark-left : {R : Type 0} (form : Form) (xs : List R) (n : ℕ) → left_text form (drop n xs) ≡ mark form (nat_le (length xs) n)
 mark-left form [] zero = refl
 mark-left form [] (suc n) = ap (mark form) (sym (le-leb 0 (suc n) (omega arith)))
-mark-left form (x ∷ xs) zero = ap (mark form) (sym (more_left (suc (length xs)) 0 (omega arith)))
+mark-left form (x ∷ xs) zero = ap (mark form) (sym (lt-leb (suc (length xs)) 0 (omega arith)))
 mark-left form (x ∷ xs) (suc n) = mark-left form xs n ∙ ap (mark form) (nat_le-suc (length xs) n)
 
 same_order : {R : Type 0} (w : Words R) (laws : HasLaws w) (bag : List R) → IsSameBag (ascending w.cmp bag) bag
@@ -132,14 +129,10 @@ stays-bulk w laws Outside pushed e = cc
 stays-bulk w laws InBulk pushed e = tt
 stays-bulk w laws (InLimit limit) pushed e = cc
 
-passes : (b : Bool) → not b ≡ true → b ≡ false
-passes true e = cc
-passes false e = refl
-
 stays-limit : {R : Type 0} (w : Words R) (laws : HasLaws w) (session : Session R) (pushed : List R) (item : R) → is_at_limit w session item ≡ true → MayWait w laws session pushed → MayWait w laws session (pushed ++ item ∷ [])
 stays-limit w laws Outside pushed item e waits = cc
 stays-limit w laws InBulk pushed item e waits = cc
-stays-limit w laws (InLimit limit) pushed item e waits = Each-append (λ x. is_before w.cmp x limit ≡ false) pushed (item ∷ []) waits (passes (is_before w.cmp item limit) e, tt)
+stays-limit w laws (InLimit limit) pushed item e waits = Each-append (λ x. is_before w.cmp x limit ≡ false) pushed (item ∷ []) waits (not-true (is_before w.cmp item limit) e, tt)
 
 module _ {R : Type 0} (w : Words R) (laws : HasLaws w) (whole pushed bag : List R) (same : IsSameBag whole (pushed ++ bag)) where
   least-is : (session : Session R) → is_in_limit session ≡ true → MayWait w laws session pushed → first_of (least_in w session bag) ≡ first_of (front w.cmp whole (popped_in w session whole))

@@ -12,6 +12,8 @@ use Rattle.ppq_load.specs.ppq_queue.Holding.{IsNewSlot}
 use Rattle.ppq_script.specs.Reading.{Reading, command_list}
 use Rattle.ppq_load.specs.Refusal.{HasRoom, HasNoRoom}
 use Rattle.ppq_load.proofs.Refusals.{room-not_none}
+use Rattle.ppq_load.proofs.ppq_queue.Slots.{slots-sums}
+use Rattle.ppq_load.proofs.ppq_queue.ppq_spill.SameSlots.{SameSlots-trans}
 use Rattle.ppq_engine.specs.Loads.{most_of, least_of, begins_limit, FitsWritten}
 use Rattle.ppq_engine.specs.Output.{AreFilesOf, given_of, output_of, load_of, crest_of, TakesWithin}
 use Rattle.ppq_engine.specs.Outcome.{EndSays, TakesBeforeLoad}
@@ -19,7 +21,7 @@ use Rattle.ppq_engine.specs.Ends.{budget_refusal, BeganOrRefused, IsQuiet, NoneF
 use Rattle.ppq_engine.specs.declared.end.End.{End}
 use Rattle.ppq_engine.specs.declared.end.End.TheVariants.{Done, BadLine, Usage, ReadFault, WriteFault, DeviceFault, NoFreeBlock, BudgetTooSmall, Memory, FileChanged, NoDevice, NoScript, ScriptTooLong}
 use Rattle.ppq_engine.proofs.Sizes.{fits-more}
-use Rattle.ppq_engine.proofs.Slots.{SameSlots-trans, SameSums-slots, new-unfailed, none-failed}
+use Rattle.ppq_engine.proofs.Slots.{new-unfailed, none-failed}
 
 -- a count that rose is not quiet
 not_quiet : (before now : ℕ) → Rose before now → IsQuiet before now → ⊥
@@ -27,7 +29,7 @@ not_quiet before now rose quiet = omega (arith, rose, quiet.0, quiet.1)
 
 -- the blocks that come back are those that were handed in
 pub same_blocks : (first held slots later : List Shown) → held ≡ first → SameSlots held slots → SameSums slots later → SameSlots first later
-same_blocks first held slots later is same sums = let P : List Shown → Type 0 = λ f. SameSlots f later in subst P is (SameSlots-trans held slots later same (SameSums-slots slots later sums))
+same_blocks first held slots later is same sums = let P : List Shown → Type 0 = λ f. SameSlots f later in subst P is (SameSlots-trans held slots later same (slots-sums slots later sums))
 
 module _ {R : Type 0} (w : Words R) (form : Form) (told : Option (List ℕ → Option (List ℕ))) (replied : Reply → Type 0) (script : Reading R) (first : List Shown) (sizes : Numbers) (before now : Option (List ℕ)) (sink sink_now library library_now : ℕ) where
   -- what an end says of these slots

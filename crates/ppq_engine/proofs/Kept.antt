@@ -1,27 +1,18 @@
 -- What calls of the queue keep, one after the other.
-use Rattle.std.proofs.Common.{◌≡◌, ◌≤◌, ℕ, refl, ◌∙◌, arith}
+use Rattle.std.proofs.Common.{◌≡◌, ◌≤◌, ℕ, refl, arith}
 use Rattle.std.specs.Prelude.{Result, IsErrAnd}
 use Rattle.ppq_load.specs.ppq_queue.Holding.{Holding, CountsFew}
 use Rattle.ppq_load.specs.Refusal.{Keeps}
 use Rattle.ppq_load.proofs.Counting.{few-to}
+use Rattle.ppq_load.proofs.ppq_queue.Flushed.{keeps-slots, keeps-more}
 use Rattle.ppq_engine.specs.Calls.{IsLent, SinkCounts}
 use Rattle.ppq_engine.specs.Popping.{NotByFile}
 use Rattle.ppq_engine.specs.Running.{StopsFor, SinkAfter}
 use Rattle.ppq_engine.specs.declared.stop.Stop.{Stop}
 use Rattle.ppq_engine.proofs.Results.{if-err, not-ok}
-use Rattle.ppq_engine.proofs.Slots.{SameSlots-refl, SameSlots-trans}
 
 pub Keeps-refl : {R : Type 0} (q : Holding R) → Keeps q q
-Keeps-refl q = record { sizes = refl; limited = refl; slots = SameSlots-refl q.slots; tells = λ t. t; writes = omega arith }
-
-pub Keeps-trans : {R : Type 0} (a b c : Holding R) → Keeps a b → Keeps b c → Keeps a c
-Keeps-trans a b c h k = record {
-  sizes = k.sizes ∙ h.sizes;
-  limited = k.limited ∙ h.limited;
-  slots = SameSlots-trans a.slots b.slots c.slots h.slots k.slots;
-  tells = λ t. k.tells (h.tells t);
-  writes = omega (arith, h.writes, k.writes);
-}
+Keeps-refl q = keeps-slots q q refl refl refl
 
 -- what a command that stopped says of the queue, and of the sink
 module _ {T : Type 0} (r : Result T Stop) (stop : Stop) (is : IsErrAnd r (λ x. x ≡ stop)) where
@@ -29,7 +20,7 @@ module _ {T : Type 0} (r : Result T Stop) (stop : Stop) (is : IsErrAnd r (λ x. 
       {R U F : Type 0} {q : Result U F} (a b c : Holding R) (most pushes : ℕ) → Keeps a b → Keeps b c → c.peak ≤ most → CountsFew pushes 0 a c q → StopsFor c.peak c.sizes c.limited c.slots stop → NotByFile stop
       → IsLent a c most pushes r
   lent-stop {q = q} a b c most pushes h k peak counts why by = record {
-    kept = Keeps-trans a b c h k;
+    kept = keeps-more a b c h k;
     peak = peak;
     counted = few-to a c q r (λ A holds. not-ok r (λ x. x ≡ stop) A is) counts;
     refused = if-err r stop (StopsFor c.peak c.sizes c.limited c.slots) is why;

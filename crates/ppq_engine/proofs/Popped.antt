@@ -1,22 +1,21 @@
 -- Records that were popped round by round: the first of the multiset's ascending list.
 use Rattle.std.proofs.Common.{◌≡◌, ℕ, zero, length, min, suc, ◌+◌, ◌-◌, ◌%◌, ◌^◌, ◌<◌, ◌≤◌, Bool, true, false, cond, List, [], ◌∷◌, ◌++◌, take, drop, Option, Some, None, refl, sym, ap, ◌∙◌, subst, arith, inl, inr, append-nil, length-append, take-add, append_assoc}
-use Rattle.std.specs.Prelude.{count_by, sum_by, nat_le, if◌then◌else◌, Result, IsErrAnd}
+use Rattle.std.specs.Prelude.{count_by, sum_by, if◌then◌else◌, Result, IsErrAnd}
 use Rattle.std.specs.List.{AllByRecursion as Each}
 use Rattle.std.specs.Cmp.{IsStrictWeakOrder}
-use Rattle.std.proofs.lemmas.Bool.{cases_Bool, cases_lt, le-leb, leb-true}
+use Rattle.std.proofs.lemmas.Bool.{cases_Bool, cases_lt, le-leb, lt-leb}
 use Rattle.std.proofs.lemmas.List.{drop-drop, length-take}
 use Rattle.std.proofs.Math.Seq.{take-length}
 use Rattle.std.proofs.lemmas.List.Sums.{sum_by-append}
 use Rattle.std.proofs.lemmas.List.Concat.{flat_map-append}
-use Rattle.std.proofs.Math.Nat.{mod-add-mod, mul-le-mul_left}
+use Rattle.std.proofs.Math.Nat.{mod-add-mod}
 use Rattle.ppq_script.specs.Words.{Words}
 use Rattle.ppq_engine.proofs.Orders.{HasLaws}
 use Rattle.ppq_script.specs.declared.form.Form.{Form}
 use Rattle.ppq_script.specs.ppq_record.Order.{is_before, Le, Rising}
 use Rattle.ppq_script.specs.ppq_record.Bag.{IsSameBag, ascending, without_front, least, first_of, size_below}
-use Rattle.ppq_script.proofs.ppq_record.Order.{count_by-cons, none_pass, Rising-in_order, in_order-same_bag}
+use Rattle.ppq_script.proofs.ppq_record.Order.{count_by-cons, none_pass, Each-weaker, Rising-in_order, in_order-same_bag}
 use Rattle.ppq_script.proofs.ppq_record.Fronts.{ranks, ascending_is}
-use Rattle.ppq_load.specs.ppq_budget.Sizes.{Numbers, AreInRange, batch_of}
 use Rattle.ppq_script.specs.ppq_outside.Shown.{Shown, AllTell}
 use Rattle.ppq_script.specs.ppq_outside.Told.{TakesPart}
 use Rattle.ppq_script.proofs.ppq_outside.Takes.{takes_two, takes_and_part, takes_nothing, part_of_more}
@@ -122,13 +121,6 @@ one_at_most : (b : Bool) → cond b 1 0 ≤ 1
 one_at_most true = omega arith
 one_at_most false = omega arith
 
-weaker : {X : Type 0} (P Q : X → Type 0) → ((x : X) → P x → Q x) → (xs : List X) → Each P xs → Each Q xs
-weaker P Q f [] e = tt
-weaker P Q f (x ∷ xs) e = (f x e.0, weaker P Q f xs e.1)
-
-not_le : (m n : ℕ) → n < m → nat_le m n ≡ false
-not_le m n h = elim (cases_Bool (nat_le m n)) as (λ _. nat_le m n ≡ false) [ inl t ↦ absurd (omega (arith, leb-true m n t)) | inr f ↦ f ]
-
 -- how many records of an ascending list are below a limit, told by the record at a place
 module _ {X : Type 0} (lt : X → X → Bool) (o : IsStrictWeakOrder lt) (limit : X) where
   each_at : (P : X → Type 0) (xs : List X) (i : ℕ) (x : X) (rest : List X) → Each P xs → drop i xs ≡ x ∷ rest → P x
@@ -157,7 +149,7 @@ module _ {X : Type 0} (lt : X → X → Bool) (o : IsStrictWeakOrder lt) (limit 
       let p : X → Bool = λ z. lt z limit in
       let same : y ≡ x = cc in
       let here : p y ≡ false = ap p same ∙ above in
-      let each : Each (λ z. p z ≡ false) ys = weaker (Le lt y) (λ z. p z ≡ false) (λ z h. o.chain z y limit h here) ys up.0 in
+      let each : Each (λ z. p z ≡ false) ys = Each-weaker (Le lt y) (λ z. p z ≡ false) (λ z h. o.chain z y limit h here) ys up.0 in
       omega (arith, none_pass p (y ∷ ys) (here, each))
   none_below [] (suc i) x rest up e above = cc
   none_below (y ∷ ys) (suc i) x rest up e above =
@@ -220,7 +212,7 @@ mark_at w laws form bag old limit count None same is =
     ap (λ (b : Bool). if b then all_text form else more_text form) (sym (le-leb (size_below w.cmp old limit) count few))
 mark_at w laws form bag old limit count (Some x) same is =
     let many : count < size_below w.cmp old limit = omega (arith, more_below w laws bag old (limited_count w old limit count) limit x same is) in
-    ap (λ (b : Bool). if b then all_text form else more_text form) (sym (not_le (size_below w.cmp old limit) count many))
+    ap (λ (b : Bool). if b then all_text form else more_text form) (sym (lt-leb (size_below w.cmp old limit) count many))
 
 pub mark-is : {R : Type 0} (w : Words R) (laws : HasLaws w) (form : Form) (bag old : List R) (limit : R) (count : ℕ) → IsSameBag bag (without_front w.cmp old (limited_count w old limit count)) → left_mark form (next_of w (Some limit) bag) ≡ mark_text w form old limit count
 mark-is w laws form bag old limit count same = mark_at w laws form bag old limit count (next_of w (Some limit) bag) same refl
@@ -247,10 +239,6 @@ summary-more w items item had has x is count first none some last sum = record {
       let all : sum_by (first_field w) (items ++ item ∷ []) ≡ sum_by (first_field w) items + field = sum_by-append (first_field w) items (item ∷ []) ∙ ap (λ (n : ℕ). sum_by (first_field w) items + n) (omega arith) in
       sum ∙ ap (λ (n : ℕ). (n + field) % 2 ^ 64) is.sum ∙ mod-add-mod (sum_by (first_field w) items) (2 ^ 64) field ∙ ap (λ (n : ℕ). n % 2 ^ 64) (sym all);
 }
-
--- a round has room for a record
-pub some_room : (sizes : Numbers) → AreInRange sizes → 0 < batch_of sizes
-some_room sizes range = omega (arith, range.some_worker, mul-le-mul_left sizes.workers range.two_records)
 
 -- a round of records: as many as these, and as many are left
 take_few : {R : Type 0} (m : ℕ) (xs : List R) → take (length (take m xs)) xs ≡ take m xs
@@ -335,7 +323,7 @@ module _ {X : Type 0} (lt : X → X → Bool) (o : IsStrictWeakOrder lt) (limit 
       let p : X → Bool = λ z. lt z limit in
       elim (cases_Bool (p y)) as (λ _. suc i + count_by p (drop i ys) ≡ count_by p (y ∷ ys)) [
         | inl h ↦ (let one : cond (p y) 1 0 ≡ 1 = ap (λ (b : Bool). num b) h in omega (arith, fewer_below ys i up.1 (omega (arith, l, one, count_by-cons p y ys)), one, count_by-cons p y ys))
-        | inr h ↦ (let each : Each (λ z. p z ≡ false) ys = weaker (Le lt y) (λ z. p z ≡ false) (λ z k. o.chain z y limit k h) ys up.0 in omega (arith, l, none_pass p (y ∷ ys) (h, each)))
+        | inr h ↦ (let each : Each (λ z. p z ≡ false) ys = Each-weaker (Le lt y) (λ z. p z ≡ false) (λ z k. o.chain z y limit k h) ys up.0 in omega (arith, l, none_pass p (y ∷ ys) (h, each)))
       ]
 
 pub round-passed :

@@ -11,7 +11,7 @@ use Rattle.ppq_script.proofs.ppq_record.Order.{IsSameBag-cons, IsSameBag-append,
 use Rattle.ppq_load.specs.Given.{generated_by}
 use Rattle.ppq_script.proofs.ppq_record.Fronts.{ascending-same_bag}
 use Rattle.ppq_script.specs.ppq_outside.Told.{TakesAll, TakesPart}
-use Rattle.ppq_script.proofs.ppq_outside.Takes.{takes_two, takes_and_part}
+use Rattle.ppq_script.proofs.ppq_outside.Takes.{takes_nothing, takes_two, takes_and_part, part_of_more, all_is_part}
 use Rattle.ppq_script.specs.declared.command.Command.{Command}
 use Rattle.ppq_script.specs.declared.command.Command.TheVariants.{Push, Pop, Top, Size, Bulk, Gen, BulkPop, BulkPopLimit, Drain, BulkBegin, BulkPush, BulkEnd, LimitBegin, LimitPush, LimitTop, LimitPop, LimitEnd}
 use Rattle.ppq_script.specs.declared.session.Session.{Session}
@@ -170,6 +170,10 @@ pub gathered-part : (before mid now : Option (List ℕ)) (had text : List ℕ) �
 gathered-part before mid now had text out took =
     let P : List ℕ → Type 0 = λ t. TakesPart before now t in
     subst P (sym out.all) (takes_and_part before mid now out.written had out.told took)
+
+-- where nothing was put, a part of each text was taken
+pub takes_none : (told : Option (List ℕ)) (text : List ℕ) → TakesPart told told text
+takes_none told text = part_of_more told told [] text (all_is_part told told [] (takes_nothing told))
 
 -- a part of a text that is gathered behind another
 pub part-behind : (before mid now : Option (List ℕ)) (had text more : List ℕ) → IsGathered before mid had text → TakesPart mid now (had ++ more) → TakesPart before now (text ++ more)

@@ -1,5 +1,6 @@
 use Rattle.std.proofs.Common.{subst}
-use Rattle.ppq_cli.proofs.Truth.{AreTrue, loaded_as}
+use Rattle.ppq_words.proofs.ppq_script.Checks.{AreTrue}
+use Rattle.ppq_cli.proofs.Truth.{loaded_as}
 use Rattle.ppq_cli.proofs.load.load.Goals as goal
 
 pub returns-clause-loaded : goal.returns-clause-loaded

@@ -1,30 +1,26 @@
-use Rattle.std.proofs.Common.{ℕ, ◌*◌, List, [], Option, map, subst, inr}
+use Rattle.std.proofs.Common.{ℕ, ◌*◌, List, Option, map, subst, inr}
 use Rattle.ppq_script.specs.Words.{words}
 use Rattle.ppq_script.specs.ppq_outside.Shown.{Shown, AllTell}
 use Rattle.ppq_script.specs.ppq_outside.Told.{TakesPart}
-use Rattle.ppq_script.proofs.ppq_outside.Takes.{part_of_more, all_is_part, takes_nothing}
 use Rattle.ppq_script.specs.Reading.{command_list}
 use Rattle.ppq_load.specs.ppq_budget.Sizes.{Numbers}
+use Rattle.ppq_load.proofs.ppq_queue.Slots.{slots-sums}
 use Rattle.ppq_engine.specs.Output.{AreFilesOf, given_of, output_of}
 use Rattle.ppq_engine.specs.Outcome.{EndSays, FaultBeforeFile}
 use Rattle.ppq_engine.specs.Work.{TransfersFew}
 use Rattle.ppq_engine.proofs.Counted.{transfers-same, transfers-none}
 use Rattle.ppq_engine.proofs.Ending.{says-first, says-began, says-sink_stays, says-library_stays, same_blocks, end-done, end-used, end-used_any, end-unfailed, end-within, end-memory, end-above, end-above_any, end-failed, end-complete, end-complete_any}
-use Rattle.ppq_engine.proofs.Slots.{SameSums-slots}
+use Rattle.ppq_engine.proofs.Running.{takes_none}
 use Rattle.ppq_engine.proofs.run.run_script.Given as given
 use Rattle.ppq_engine.proofs.run.run_script.Goals as goal
 
--- where nothing is taken, a part is
-none_taken : (told : Option (List ℕ)) (text : List ℕ) → TakesPart told told text
-none_taken told text = part_of_more told told [] text (all_is_part told told [] (takes_nothing told))
-
 pub returns-in_default-clause-part : goal.returns-in_default-clause-part
 returns-in_default-clause-part g c = let w = words g.R.PartialEq g.R.PartialOrd g.R.Ord g.R.Record g.R.Fields in
-    λ tells files are. none_taken (g.O.Sink.told c.args.out.now) (output_of w c.args.form (given_of w files c.args.script.now) (command_list c.args.script.now))
+    λ tells files are. takes_none (g.O.Sink.told c.args.out.now) (output_of w c.args.form (given_of w files c.args.script.now) (command_list c.args.script.now))
 
 pub returns-in-Err-clause-part : goal.returns-in-Err-clause-part
 returns-in-Err-clause-part g c = let w = words g.R.PartialEq g.R.PartialOrd g.R.Ord g.R.Record g.R.Fields in
-    λ tells files are. none_taken (g.O.Sink.told c.args.out.now) (output_of w c.args.form (given_of w files c.args.script.now) (command_list c.args.script.now))
+    λ tells files are. takes_none (g.O.Sink.told c.args.out.now) (output_of w c.args.form (given_of w files c.args.script.now) (command_list c.args.script.now))
 
 -- what the end says, of the blocks and sizes that were handed in
 says :
@@ -123,4 +119,4 @@ returns-in-Err-clause-transfers g c = let w = words g.R.PartialEq g.R.PartialOrd
     transfers-same w commands c.args.sizes slots (map g.S.Slot.shown c.in-Err.blocks.items) c.in-Err.ensures.back (transfers-none w commands c.args.sizes (c.args.sizes.block * g.R.Record.WIDTH) slots c.requires.slots.fresh)
 
 pub returns-in-Err-clause-blocks : goal.returns-in-Err-clause-blocks
-returns-in-Err-clause-blocks g c = SameSums-slots (map g.S.Slot.shown c.args.slots.items) (map g.S.Slot.shown c.in-Err.blocks.items) c.in-Err.ensures.back
+returns-in-Err-clause-blocks g c = slots-sums (map g.S.Slot.shown c.args.slots.items) (map g.S.Slot.shown c.in-Err.blocks.items) c.in-Err.ensures.back

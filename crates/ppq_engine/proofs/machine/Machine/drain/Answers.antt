@@ -5,8 +5,9 @@ use Rattle.ppq_script.specs.ppq_record.Bag.{IsSameBag, ascending}
 use Rattle.ppq_engine.specs.Gathers.{IsSummary}
 use Rattle.ppq_engine.proofs.Popped.{left-begin, round-left, round-taken, round-ends}
 use Rattle.ppq_load.proofs.ppq_queue.Counted.{few-then}
+use Rattle.ppq_load.proofs.ppq_queue.Flushed.{keeps-more}
 use Rattle.ppq_engine.proofs.Counted.{few-none, few-ok, few-err}
-use Rattle.ppq_engine.proofs.Kept.{Keeps-refl, Keeps-trans}
+use Rattle.ppq_engine.proofs.Kept.{Keeps-refl}
 use Rattle.ppq_engine.proofs.machine.Machine.drain.Goals as goal
 
 pub rounds-init : goal.rounds-init
@@ -27,7 +28,7 @@ rounds-init g c = let w = words g.R.PartialEq g.R.PartialOrd g.R.Ord g.R.Record 
 
 pub returns-in_err-pop_round-clause-called : goal.returns-in_err-pop_round-clause-called
 returns-in_err-pop_round-clause-called g c = record {
-  kept = Keeps-trans c.args.self.now.queue c.rounds.self.queue c.pop_round.new.self.queue c.rounds.invariant.kept c.pop_round.ensures.called.kept;
+  kept = keeps-more c.args.self.now.queue c.rounds.self.queue c.pop_round.new.self.queue c.rounds.invariant.kept c.pop_round.ensures.called.kept;
   gathered = c.pop_round.ensures.called.gathered ∙ c.rounds.invariant.gathered;
   peak = omega (arith, c.rounds.invariant.peak, c.pop_round.ensures.called.peak);
   counted = few-err c.args.self.now.queue c.pop_round.new.self.queue c.from_residual.result _ c.from_residual.ensures.1 (few-then 0 0 0 0 c.args.self.now.queue c.rounds.self.queue c.pop_round.new.self.queue _ _ c.rounds.invariant.counted c.pop_round.ensures.called.counted);
@@ -58,7 +59,7 @@ returns-then-is_empty-clause-left g c = let w = words g.R.PartialEq g.R.PartialO
 
 pub returns-then-is_empty-clause-called : goal.returns-then-is_empty-clause-called
 returns-then-is_empty-clause-called g c = record {
-  kept = Keeps-trans c.args.self.now.queue c.rounds.self.queue c.pop_round.new.self.queue c.rounds.invariant.kept c.pop_round.ensures.called.kept;
+  kept = keeps-more c.args.self.now.queue c.rounds.self.queue c.pop_round.new.self.queue c.rounds.invariant.kept c.pop_round.ensures.called.kept;
   gathered = c.pop_round.ensures.called.gathered ∙ c.rounds.invariant.gathered;
   peak = omega (arith, c.rounds.invariant.peak, c.pop_round.ensures.called.peak);
   counted = few-ok c.args.self.now.queue c.pop_round.new.self.queue (few-then 0 0 0 0 c.args.self.now.queue c.rounds.self.queue c.pop_round.new.self.queue _ _ c.rounds.invariant.counted c.in_ok-pop_round.ensures.called.counted);
@@ -96,7 +97,7 @@ rounds-preserved g c = let w = words g.R.PartialEq g.R.PartialOrd g.R.Ord g.R.Re
       sound = popped.sound;
       quiet = popped.quiet ∙ v.quiet;
       peak = omega (arith, c.pop_round.ensures.called.peak, v.peak);
-      kept = Keeps-trans c.args.self.now.queue c.rounds.self.queue c.pop_round.new.self.queue v.kept c.pop_round.ensures.called.kept;
+      kept = keeps-more c.args.self.now.queue c.rounds.self.queue c.pop_round.new.self.queue v.kept c.pop_round.ensures.called.kept;
       gathered = c.pop_round.ensures.called.gathered ∙ v.gathered;
       counted = few-ok c.args.self.now.queue c.pop_round.new.self.queue (few-then 0 0 0 0 c.args.self.now.queue c.rounds.self.queue c.pop_round.new.self.queue _ _ c.rounds.invariant.counted c.in_ok-pop_round.ensures.called.counted);
     }

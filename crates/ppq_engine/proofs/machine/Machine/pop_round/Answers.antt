@@ -2,9 +2,10 @@ use Rattle.std.proofs.Common.{◌≡◌, Option, None, Some, length, refl, ap, s
 use Rattle.ppq_engine.proofs.Orders.{laws_of}
 use Rattle.ppq_script.specs.Words.{words}
 use Rattle.ppq_load.specs.ppq_budget.Sizes.{batch_of}
+use Rattle.ppq_load.proofs.ppq_queue.Bounds.{batch_some}
 use Rattle.ppq_load.proofs.ppq_queue.Counted.{few-as}
 use Rattle.ppq_engine.specs.Calls.{PopsRound}
-use Rattle.ppq_engine.proofs.Popped.{some_room, round-all, round-low}
+use Rattle.ppq_engine.proofs.Popped.{round-all, round-low}
 use Rattle.ppq_engine.proofs.machine.Machine.pop_round.Goals as goal
 
 pub returns-in_ok-_taken-in-None-clause-popped : goal.returns-in_ok-_taken-in-None-clause-popped
@@ -12,7 +13,7 @@ returns-in_ok-_taken-in-None-clause-popped g c = let w = words g.R.PartialEq g.R
     let old = c.args.self.now.queue in
     let items = c.bulk_pop.new.out.items in
     let b = c.in_ok-_taken-in-None.ensures.pops in
-    let room = some_room old.sizes c.known.ensures.range in
+    let room = batch_some old.sizes c.known.ensures.range in
     let P : Option g.row.R.Denot → Type 0 = λ below. PopsRound w below c.args.count old c.bulk_pop.new.self items in
     subst P (sym c.in-None.is) (record {
       round = λ tells. round-all w old.bag c.bulk_pop.new.self.bag items c.args.count (batch_of old.sizes) c.requires room (b.took.front tells) (b.took.rest tells);
@@ -31,7 +32,7 @@ returns-in_ok-_end-in-Some-clause-popped g c = let w = words g.R.PartialEq g.R.P
     let b = c.in_ok-_end-in-Some.ensures.pops in
     let P : Option g.row.R.Denot → Type 0 = λ below. PopsRound w below c.args.count old c.bulk_pop_limit.new.self items in
     subst P (sym c.in-Some.is) (record {
-      round = λ tells. round-low w laws old.bag c.bulk_pop_limit.new.self.bag items limit c.args.count (batch_of old.sizes) c.requires (some_room old.sizes c.known.ensures.range) (b.took.front tells) (b.took.rest tells);
+      round = λ tells. round-low w laws old.bag c.bulk_pop_limit.new.self.bag items limit c.args.count (batch_of old.sizes) c.requires (batch_some old.sizes c.known.ensures.range) (b.took.front tells) (b.took.rest tells);
       few = omega (arith, b.took.few);
       end = λ same none. let different : Some limit ≡ None = same in cc;
       size = b.size;

@@ -8,8 +8,9 @@ use Rattle.ppq_engine.specs.Output.{records_text, mark_text, limited_count}
 use Rattle.ppq_engine.specs.declared.stop.Stop.TheVariants.{Sink, Queue}
 use Rattle.ppq_engine.proofs.Popped.{mark-is, gathers-as, gathers-kept, gathers-more, takes-part, writes-more, prints-stop}
 use Rattle.ppq_load.proofs.ppq_queue.Counted.{few-then}
+use Rattle.ppq_load.proofs.ppq_queue.Flushed.{keeps-more}
 use Rattle.ppq_engine.proofs.Counted.{few-ok}
-use Rattle.ppq_engine.proofs.Kept.{Keeps-refl, Keeps-trans, lent-stop, sink-stop}
+use Rattle.ppq_engine.proofs.Kept.{Keeps-refl, lent-stop, sink-stop}
 use Rattle.ppq_engine.proofs.Results.{not-ok}
 use Rattle.ppq_engine.proofs.machine.Machine.print_limited.Goals as goal
 
@@ -101,5 +102,5 @@ returns g c = let w = words g.R.PartialEq g.R.PartialOrd g.R.Ord g.R.Record g.R.
       };
       counts = record { later = omega (arith, p.sink.stays, c.print.ensures.cause.later); stays = c.in_ok-print.ensures.cause.ok ∙ p.sink.stays; cause = tt };
       left = λ given. record { bag = λ tells x. m.left.bag (p.lent.kept.tells tells) x ∙ p.left.bag tells x; low = omega (arith, p.left.low, m.left.low); high = omega (arith, p.left.high, m.left.high); sound = m.left.sound; quiet = m.left.quiet ∙ p.left.quiet };
-      lent = record { kept = Keeps-trans old.queue mid.queue new.queue p.lent.kept called.kept; peak = omega (arith, p.lent.peak, called.peak); counted = few-ok old.queue new.queue (few-then 0 0 0 0 old.queue mid.queue new.queue _ _ p.lent.counted m.called.counted); refused = tt; no_file = tt };
+      lent = record { kept = keeps-more old.queue mid.queue new.queue p.lent.kept called.kept; peak = omega (arith, p.lent.peak, called.peak); counted = few-ok old.queue new.queue (few-then 0 0 0 0 old.queue mid.queue new.queue _ _ p.lent.counted m.called.counted); refused = tt; no_file = tt };
     }

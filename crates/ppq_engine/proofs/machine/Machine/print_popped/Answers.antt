@@ -9,8 +9,9 @@ use Rattle.ppq_engine.specs.Popping.{popped_count}
 use Rattle.ppq_engine.specs.declared.stop.Stop.TheVariants.{Sink, Queue}
 use Rattle.ppq_engine.proofs.Popped.{left-begin, round-left, round-lines, round-passed, round-taken, round-ends, round-put, gathers-nothing, gathers-more, gathers-kept, left-most, popped-part, popped-le, prints-stop}
 use Rattle.ppq_load.proofs.ppq_queue.Counted.{few-then}
+use Rattle.ppq_load.proofs.ppq_queue.Flushed.{keeps-more}
 use Rattle.ppq_engine.proofs.Counted.{few-none, few-ok}
-use Rattle.ppq_engine.proofs.Kept.{Keeps-refl, Keeps-trans, lent-stop}
+use Rattle.ppq_engine.proofs.Kept.{Keeps-refl, lent-stop}
 use Rattle.ppq_engine.proofs.machine.Machine.print_popped.Goals as goal
 
 pub rounds-init : goal.rounds-init
@@ -71,7 +72,7 @@ returns-then-is_empty-clause-left g c = let w = words g.R.PartialEq g.R.PartialO
 
 pub returns-then-is_empty-clause-lent : goal.returns-then-is_empty-clause-lent
 returns-then-is_empty-clause-lent g c = record {
-  kept = Keeps-trans c.args.self.now.queue c.rounds.self.queue c.pop_round.new.self.queue c.rounds.invariant.kept c.pop_round.ensures.called.kept;
+  kept = keeps-more c.args.self.now.queue c.rounds.self.queue c.pop_round.new.self.queue c.rounds.invariant.kept c.pop_round.ensures.called.kept;
   peak = omega (arith, c.rounds.invariant.peak, c.pop_round.ensures.called.peak);
   counted = few-ok c.args.self.now.queue c.pop_round.new.self.queue (few-then 0 0 0 0 c.args.self.now.queue c.rounds.self.queue c.pop_round.new.self.queue _ _ c.rounds.invariant.counted c.in_ok-pop_round.ensures.called.counted);
   refused = tt;
@@ -134,7 +135,7 @@ rounds-preserved g c = let w = words g.R.PartialEq g.R.PartialOrd g.R.Ord g.R.Re
       sound = popped.sound;
       quiet = popped.quiet ∙ v.quiet;
       peak = omega (arith, c.pop_round.ensures.called.peak, v.peak);
-      kept = Keeps-trans c.args.self.now.queue c.rounds.self.queue c.pop_round.new.self.queue v.kept c.pop_round.ensures.called.kept;
+      kept = keeps-more c.args.self.now.queue c.rounds.self.queue c.pop_round.new.self.queue v.kept c.pop_round.ensures.called.kept;
       counted = few-ok c.args.self.now.queue c.pop_round.new.self.queue (few-then 0 0 0 0 c.args.self.now.queue c.rounds.self.queue c.pop_round.new.self.queue _ _ c.rounds.invariant.counted c.in_ok-pop_round.ensures.called.counted);
       stays = c.in_ok-print_all.ensures.cause.ok ∙ v.stays;
     }

@@ -14,6 +14,7 @@ use Rattle.ppq_script.specs.declared.part.Part.TheVariants as part
 use Rattle.ppq_script.specs.Parts.{commands_in, first_in, HasItsLines}
 use Rattle.ppq_script.specs.Reading.{Reading, command_list}
 use Rattle.ppq_load.specs.Refusal.{Keeps}
+use Rattle.ppq_load.proofs.ppq_queue.ppq_spill.SameSlots.{SameSlots-trans}
 use Rattle.ppq_script.specs.Sessions.{are_in_place}
 use Rattle.ppq_engine.specs.Calls.{RunsPart, StopsPart}
 use Rattle.ppq_engine.specs.Loads.{FitsWritten, least_of, begins_limit}
@@ -28,7 +29,6 @@ use Rattle.ppq_engine.proofs.Lines.{session_from, session_from-append, part-outs
 use Rattle.ppq_engine.proofs.Parts.{take-part, part-within}
 use Rattle.ppq_engine.proofs.Results.{at-ok, at-err}
 use Rattle.ppq_engine.proofs.Sizes.{sizes-begin, sizes-part}
-use Rattle.ppq_engine.proofs.Slots.{SameSlots-trans}
 use Rattle.ppq_engine.proofs.Steps.{run-begin, run-part}
 use Rattle.ppq_engine.proofs.Stops.{stopped-part}
 use Rattle.ppq_engine.proofs.machine.Machine.run.Goals as goal

@@ -13,18 +13,18 @@ use Rattle.ppq_engine.specs.Pushes.{pushed_in}
 use Rattle.ppq_engine.specs.Running.{StopsFor}
 use Rattle.ppq_engine.specs.declared.stop.Stop.{Stop}
 use Rattle.ppq_engine.specs.declared.stop.Stop.TheVariants.{Memory}
+use Rattle.ppq_load.proofs.ppq_queue.Bounds.{batch_some}
 use Rattle.ppq_load.proofs.ppq_queue.Counted.{few-begun, few-more}
 use Rattle.ppq_engine.proofs.Counted.{unrefused, few-none}
 use Rattle.ppq_engine.proofs.Kept.{Keeps-refl}
 use Rattle.ppq_engine.proofs.Loads.{stop-refused, stop-by_session}
-use Rattle.ppq_engine.proofs.Popped.{some_room}
 use Rattle.ppq_engine.proofs.Pushes.{given-some, given-all}
 use Rattle.ppq_engine.proofs.Results.{on-ok-map}
 use Rattle.ppq_engine.proofs.Turns.{bulk-stopped, bulk-ended}
 use Rattle.ppq_engine.proofs.machine.Machine.run_bulk.Goals as goal
 
 pub new-requires : goal.new-requires
-new-requires g c = omega (arith, c.room.ensures, c.args.self.round, some_room c.args.self.queue.sizes c.known.ensures.range)
+new-requires g c = omega (arith, c.room.ensures, c.args.self.round, batch_some c.args.self.queue.sizes c.known.ensures.range)
 
 pub returns-in_default : goal.returns-in_default
 returns-in_default g c = let w = words g.R.PartialEq g.R.PartialOrd g.R.Ord g.R.Record g.R.Fields in let laws = laws_of w c.record_laws.ensures.order c.record_laws.ensures.same in

@@ -6,7 +6,9 @@ use Rattle.ppq_script.specs.Parts.{AreLines, limit_part, commands_of}
 use Rattle.ppq_load.specs.ppq_budget.Sizes.{Numbers, batch_of}
 use Rattle.ppq_load.proofs.Counting.{few-to}
 use Rattle.ppq_load.proofs.Parts.{over-unfaulted}
+use Rattle.ppq_load.proofs.ppq_queue.Bounds.{batch_some}
 use Rattle.ppq_load.proofs.ppq_queue.Counted.{few-begun, few-more}
+use Rattle.ppq_load.proofs.ppq_queue.ppq_spill.SameSlots.{SameSlots-refl}
 use Rattle.ppq_engine.specs.Files.{load_stop}
 use Rattle.ppq_engine.specs.Popping.{IsByLimit}
 use Rattle.ppq_engine.specs.Pushes.{pushed_in}
@@ -15,14 +17,13 @@ use Rattle.ppq_engine.specs.declared.stop.Stop.{Stop}
 use Rattle.ppq_engine.proofs.Counted.{unrefused, few-none}
 use Rattle.ppq_engine.proofs.LimitParts.{SessionRan, ended-runs, ended-stopped, ended-by_limit, ended-kept, ended-given, ended-few, ended-counts_few, ended-counts, begin-stopped}
 use Rattle.ppq_engine.proofs.Loads.{stop-refused, stop-by_session}
-use Rattle.ppq_engine.proofs.Popped.{some_room, gathers-nothing}
-use Rattle.ppq_engine.proofs.Slots.{SameSlots-refl}
+use Rattle.ppq_engine.proofs.Popped.{gathers-nothing}
 use Rattle.ppq_engine.proofs.Stops.{file_unput, session_by_file, session-by_limit}
 use Rattle.ppq_engine.proofs.Turns.{limit-goes}
 use Rattle.ppq_engine.proofs.machine.Machine.run_limit.Goals as goal
 
 pub new-requires-after_bounds : goal.new-requires-after_bounds
-new-requires-after_bounds g c = omega (arith, c.room.ensures, c.args.self.round, some_room c.args.self.queue.sizes c.known.ensures.range)
+new-requires-after_bounds g c = omega (arith, c.room.ensures, c.args.self.round, batch_some c.args.self.queue.sizes c.known.ensures.range)
 
 pub returns-in_default : goal.returns-in_default
 returns-in_default g c = let w = words g.R.PartialEq g.R.PartialOrd g.R.Ord g.R.Record g.R.Fields in
