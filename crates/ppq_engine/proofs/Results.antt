@@ -11,10 +11,6 @@ pub not-ok : {T E : Type 0} (r : Result T E) (P : E → Type 0) (A : Type 0) →
 not-ok (Ok v) P A is = absurd is
 not-ok (Err x) P A is = tt
 
-pub if-err-map : {T E : Type 0} (r : Result T E) (P Q : E → Type 0) → ((x : E) → P x → Q x) → IfErr r P → IfErr r Q
-if-err-map (Ok v) P Q f p = tt
-if-err-map (Err x) P Q f p = f x p
-
 pub on-ok-map : {T E : Type 0} (r : Result T E) (A B : Type 0) → (A → B) → OnOk r A → OnOk r B
 on-ok-map (Ok v) A B f a = f a
 on-ok-map (Err x) A B f a = tt

@@ -2,6 +2,7 @@
 use Rattle.std.proofs.Common.{◌≡◌, ℕ, Bool, true, List, [], ◌∷◌, ◌+◌, ◌<◌, ◌≤◌, Option, length, max, refl, sym, ◌∙◌, subst, arith, append-nil}
 use Rattle.std.specs.Prelude.{Result, Ok, Err, IfErr, OnOk, ⊤}
 use Rattle.std.proofs.Math.Bool.{or-true}
+use Rattle.std.proofs.lemmas.Result.{IfErr-weaker}
 use Rattle.ppq_script.specs.Words.{Words}
 use Rattle.ppq_engine.proofs.Orders.{HasLaws}
 use Rattle.ppq_script.specs.declared.form.Form.{Form}
@@ -37,7 +38,7 @@ use Rattle.ppq_engine.proofs.Advancing.{Keeps-none, lone-stops, bulk-stops}
 use Rattle.ppq_engine.proofs.Counted.{few-ok, lone-counts, bulk-counts, limit-counts}
 use Rattle.ppq_engine.proofs.Lines.{lone-begins, bulk-begins, bulk-part_size, bulk-bag, bulk-silent}
 use Rattle.ppq_engine.proofs.Popped.{file-part, gathers-nothing}
-use Rattle.ppq_engine.proofs.Results.{on-ok, on-ok-map, on-ok-both, if-err-map, if-err-both}
+use Rattle.ppq_engine.proofs.Results.{on-ok, on-ok-map, on-ok-both, if-err-both}
 use Rattle.ppq_engine.proofs.Stops.{file_unput, limit_unasked, limit_of_file, limit_not_changed, session-by_limit}
 
 -- one command that runs together with no other
@@ -66,7 +67,7 @@ module _ {R : Type 0} (w : Words R)
                 kept = Keeps-none old new (c ∷ []) (lone-begins w workers c is) kept;
               }) (on-ok-both r (RunsStep w told script old new c) Text runs prints.text);
           stopped =
-              if-err-map r (λ stop. StopsStep w old new c stop × Wrote stop) (StopsPart w form old new before now had has c (c ∷ []))
+              IfErr-weaker r (λ stop. StopsStep w old new c stop × Wrote stop) (StopsPart w form old new before now had has c (c ∷ []))
               (λ stop both. record {
                 wrote = lone-stops w form old.slots before now had has old.bag old.size old.peak old.sizes old.limited new.slots workers c is stop both.1 both.0.refused;
                 of_file = both.0.of_file;
@@ -141,7 +142,7 @@ limit-goes w form script limit body old new before now had has s runs by stops s
     record {
       runs = on-ok-map s ((told : Option (List ℕ → Option (List ℕ))) → RunsPart w form told script old new before now had has part) (RunsPart w form files script old new before now had has part) (λ all. all files) runs;
       stopped =
-          if-err-map s (λ stop. IsByLimit stop × Wrote true stop) (StopsPart w form old new before now had has (LimitBegin limit) part)
+          IfErr-weaker s (λ stop. IsByLimit stop × Wrote true stop) (StopsPart w form old new before now had has (LimitBegin limit) part)
           (λ stop why. record { wrote = let P : Bool → Type 0 = λ l. Wrote l stop in subst P (sym (or-true old.limited)) why.1; of_file = limit_of_file (LimitBegin limit) stop tt why.0 })
           (if-err-both s IsByLimit (Wrote true) by stops);
       slots = slots;
@@ -160,11 +161,11 @@ adds-prints first told had text r none by =
     let P : List ℕ → Type 0 = λ t. Gathers told told had t had in
     record {
       text = on-ok r (AllTell first → Gathers told told had text had) (λ tells. subst P (sym none) (gathers-nothing told had));
-      part = if-err-map r IsByFile (λ stop. AllTell first → WroteInPart told told had text had stop) (λ stop file tells. file-part told had text stop file) by;
+      part = IfErr-weaker r IsByFile (λ stop. AllTell first → WroteInPart told told had text had stop) (λ stop file tells. file-part told had text stop file) by;
     }
 
 pub adds-sink : {T : Type 0} (count : ℕ) (r : Result T Stop) → IfErr r IsByFile → SinkCounts count count r
-adds-sink count r by = record { later = omega arith; stays = on-ok r (count ≡ count) refl; cause = if-err-map r IsByFile (SinkAfter count count) (file_unput count) by }
+adds-sink count r by = record { later = omega arith; stays = on-ok r (count ≡ count) refl; cause = IfErr-weaker r IsByFile (SinkAfter count count) (file_unput count) by }
 
 -- a command that asks the library for nothing
 pub library-unasked : {R : Type 0} {T : Type 0} (told : Option (List ℕ → Option (List ℕ))) (replied : Reply → Type 0) (script : Reading R) (count : ℕ) (r : Result T Stop) → IfErr r IsByLimit → LibraryCounts told told replied replied script count count r
@@ -174,6 +175,6 @@ library-unasked told replied script count r by = record {
   asks = no_replies replied (IsReadInScript script);
   later = omega arith;
   stays = on-ok r (count ≡ count) refl;
-  cause = if-err-map r IsByLimit (LibraryAfter count count) (limit_unasked count) by;
-  changed = if-err-map r IsByLimit (ChangedIn told replied script) (limit_not_changed told replied script) by;
+  cause = IfErr-weaker r IsByLimit (LibraryAfter count count) (limit_unasked count) by;
+  changed = IfErr-weaker r IsByLimit (ChangedIn told replied script) (limit_not_changed told replied script) by;
 }

@@ -1,6 +1,7 @@
 use Rattle.std.proofs.Common.{◌∷◌, ℕ, Bool, List, [], max, sym, subst, arith}
 use Rattle.ppq_script.specs.Words.{words}
 use Rattle.std.specs.Prelude.{IfErr, OnOk}
+use Rattle.std.proofs.lemmas.Result.{IfErr-weaker}
 use Rattle.ppq_script.specs.declared.command.Command.{Command}
 use Rattle.ppq_script.specs.declared.part.Part.{Part}
 use Rattle.ppq_script.specs.declared.part.Part.TheVariants.{One}
@@ -16,7 +17,7 @@ use Rattle.ppq_engine.specs.Running.{StopsFor}
 use Rattle.ppq_engine.specs.Work.{pushes_of, begins_of}
 use Rattle.ppq_engine.specs.declared.stop.Stop.{Stop}
 use Rattle.ppq_engine.proofs.Advancing.{lends}
-use Rattle.ppq_engine.proofs.Results.{if-err-map, if-err-both, on-ok-map}
+use Rattle.ppq_engine.proofs.Results.{if-err-both, on-ok-map}
 use Rattle.ppq_engine.proofs.Stops.{not_of_file, not-by_limit, session_by_file, session-by_limit, stops-more}
 use Rattle.ppq_engine.proofs.Turns.{library-unasked, adds-sink, turn-goes}
 use Rattle.ppq_engine.proofs.machine.Machine.advance.Goals as goal
@@ -41,8 +42,8 @@ returns-in-Bulk g c = let w = words g.R.PartialEq g.R.PartialOrd g.R.Ord g.R.Rec
     let Going : Part g.row.R.Denot → Type 0 = λ p. Goes w c.args.world.now.form files script (first_in p) (commands_in p) put put c.args.self.queue new.queue c.args.self.desk.gathered new.desk.gathered r in
     record {
       goes = subst Going (sym c.in-Bulk.is) (b.goes c.args.world.now.form files put);
-      library = library-unasked files replied script (g.L.Library.faults c.args.library.now) r (if-err-map r IsBySession IsByLimit session-by_limit b.by_session);
-      sink = adds-sink (g.O.Sink.faults c.args.out.now) r (if-err-map r IsBySession IsByFile session_by_file b.by_session);
+      library = library-unasked files replied script (g.L.Library.faults c.args.library.now) r (IfErr-weaker r IsBySession IsByLimit session-by_limit b.by_session);
+      sink = adds-sink (g.O.Sink.faults c.args.out.now) r (IfErr-weaker r IsBySession IsByFile session_by_file b.by_session);
     }
 
 pub returns-in-Limit : goal.returns-in-Limit
@@ -90,8 +91,8 @@ returns-in-Gen g c = let w = words g.R.PartialEq g.R.PartialOrd g.R.Ord g.R.Reco
     let Whole : Part g.row.R.Denot → Type 0 = λ p. Goes w c.args.world.now.form files script (first_in p) (commands_in p) put put c.args.self.queue new.queue c.args.self.desk.gathered new.desk.gathered r in
     record {
       goes = subst Whole (sym c.in-One.is) (subst Going (sym c.in-Gen.is) (b.goes c.args.world.now.form files put));
-      library = library-unasked files replied script (g.L.Library.faults c.args.library.now) r (if-err-map r IsBySession IsByLimit session-by_limit b.by_session);
-      sink = adds-sink (g.O.Sink.faults c.args.out.now) r (if-err-map r IsBySession IsByFile session_by_file b.by_session);
+      library = library-unasked files replied script (g.L.Library.faults c.args.library.now) r (IfErr-weaker r IsBySession IsByLimit session-by_limit b.by_session);
+      sink = adds-sink (g.O.Sink.faults c.args.out.now) r (IfErr-weaker r IsBySession IsByFile session_by_file b.by_session);
     }
 
 pub lend-done-requires-clause-lends : goal.lend-done-requires-clause-lends
@@ -123,7 +124,7 @@ returns-in_default g c = let w = words g.R.PartialEq g.R.PartialOrd g.R.Ord g.R.
     let any = left (λ file. []) in
     record { bag = λ tells given are. (left (given_of w given script)).bag tells; low = any.low; high = any.high; sound = any.sound; quiet = any.quiet; peak = a.lent.peak }) a.left in
     let stops : IfErr r (StopsStep w old new k) =
-    if-err-map r By (StopsStep w old new k)
+    IfErr-weaker r By (StopsStep w old new k)
     (λ stop why. record {
       refused = stops-more old.sizes old.limited new.slots new.peak higher stop (omega (arith, c.known.ensures.range.two_records)) a.lent.peak (subst (Why stop old.sizes) a.lent.kept.limited (subst (λ (n : Numbers). Why stop n new.limited) a.lent.kept.sizes why.0));
       of_file = not_of_file k stop why.1;
@@ -132,6 +133,6 @@ returns-in_default g c = let w = words g.R.PartialEq g.R.PartialOrd g.R.Ord g.R.
     let Whole : Part g.row.R.Denot → Type 0 = λ p. Goes w c.args.world.now.form files script (first_in p) (commands_in p) (told c.args.out.now) (told c.lend-done.new.out) old new had has r in
     record {
       goes = subst Whole (sym c.in-One.is) (turn-goes w c.args.world.now.form files script old.sizes.workers k is old new (told c.args.out.now) (told c.lend-done.new.out) had has r a.prints a.lent.kept (few-more (pushes_of w k) 0 (pushes_of w k) (begins_of k) old new r (omega arith) (omega arith) a.lent.counted) ran stops);
-      library = library-unasked files replied script (g.L.Library.faults c.args.library.now) r (if-err-map r NotByFile IsByLimit not-by_limit a.lent.no_file);
+      library = library-unasked files replied script (g.L.Library.faults c.args.library.now) r (IfErr-weaker r NotByFile IsByLimit not-by_limit a.lent.no_file);
       sink = a.counts;
     }

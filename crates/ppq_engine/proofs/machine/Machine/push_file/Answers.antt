@@ -1,4 +1,5 @@
 use Rattle.std.proofs.Common.{◌≡◌, ◌+◌, ◌/◌, ◌++◌, ℕ, List, [], length, Option, Some, max, refl, ap, ◌∙◌, subst}
+use Rattle.std.proofs.lemmas.Result.{IfErr-weaker}
 use Rattle.ppq_script.specs.Words.{words}
 use Rattle.ppq_script.specs.ppq_record.Bag.{IsSameBag}
 use Rattle.ppq_load.specs.Given.{records_of}
@@ -14,7 +15,7 @@ use Rattle.ppq_engine.specs.Running.{StopsFor, ChangedIn}
 use Rattle.ppq_engine.specs.declared.stop.Stop.{Stop}
 use Rattle.ppq_engine.proofs.Lengths.{file-bag}
 use Rattle.ppq_engine.proofs.Loads.{loaded-ok, loaded-adds, loaded-refused, loaded-by_file, loaded-ended, loaded-counts}
-use Rattle.ppq_engine.proofs.Results.{if-err-map, on-ok-map, on-ok-both}
+use Rattle.ppq_engine.proofs.Results.{on-ok-map, on-ok-both}
 use Rattle.ppq_engine.proofs.Stops.{file_of_file, file_changed}
 use Rattle.ppq_engine.proofs.Turns.{adds-runs, adds-prints, turn-goes}
 use Rattle.ppq_engine.proofs.machine.Machine.push_file.Goals as goal
@@ -58,7 +59,7 @@ returns g c = let w = words g.R.PartialEq g.R.PartialOrd g.R.Ord g.R.Record g.R.
           turn-goes w c.args.world.now.form told script queue.sizes.workers k (record { stands = refl; stays = refl }) queue new put put had had r (adds-prints queue.slots put had [] r refl by) q.ensures.kept (few-to queue new q.result.1 r (loaded-ok line said q.result.1 r same) q.ensures.counted)
           (on-ok-map r (Loaded × Adds') (RunsStep w told script queue new k)
           (λ both. adds-runs w k (λ leaves. refl) (λ tells. file-bag w told script place file said k name queue.bag new.bag here refl c.name-name.ensures (both.0 tells)) both.1) adds)
-          (if-err-map r Why (StopsStep w queue new k) (λ stop why. record { refused = why; of_file = file_of_file g.row.R.Denot file said stop }) refused);
+          (IfErr-weaker r Why (StopsStep w queue new k) (λ stop why. record { refused = why; of_file = file_of_file g.row.R.Denot file said stop }) refused);
       by_file = by;
       library = record {
         told = q.ensures.told;
@@ -69,6 +70,6 @@ returns g c = let w = words g.R.PartialEq g.R.PartialOrd g.R.Ord g.R.Record g.R.
         later = q.ensures.later;
         stays = loaded-ok line said q.result.1 r same (faults q.new.library ≡ faults c.args.library.now) q.ensures.stays;
         cause = loaded-counts line said q.result.1 r same (faults c.args.library.now) (faults q.new.library) q.ensures.cause;
-        changed = if-err-map r Early (ChangedIn told replied script) (λ stop ends. file_changed told replied script place file said line stop here c.line-line.ensures (subst (N stop) c.name-name.ensures ends)) early;
+        changed = IfErr-weaker r Early (ChangedIn told replied script) (λ stop ends. file_changed told replied script place file said line stop here c.line-line.ensures (subst (N stop) c.name-name.ensures ends)) early;
       };
     }
