@@ -32,7 +32,7 @@ use Rattle.ppq_cli.specs.Types.{type_of}
 abbrev pub Files : Type 0
 Files = List ℕ → Option (List ℕ)
 
--- reads of this file gave these pieces, one after the other with no gap, from a place on
+-- reads of this file gave these pieces, one after the other with no gap, from an offset on
 abbrev pub AreGiven : (Reply → Type 0) → List ℕ → ℕ → List (List ℕ) → Type 0
 AreGiven replied name at [] = ⊤
 AreGiven replied name at (piece ∷ pieces) = ((room : ℕ) × replied (OfRead name at room piece)) × AreGiven replied name (at + length piece) pieces

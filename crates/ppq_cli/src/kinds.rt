@@ -6,7 +6,7 @@ ghost use Rattle.ppq_words.specs.ppq_script.Lines.{head_of};
 ghost use Rattle.ppq_cli.specs.RunOver.{RunsBytes};
 ghost use Rattle.ppq_cli.specs.Types.{typed, type_of};
 
-use crate::place::Place;
+use crate::context::Context;
 use crate::reading::{end_of_check, read_script};
 use crate::run::{run_over, without_blocks};
 use ppq_engine::Ended;
@@ -18,7 +18,7 @@ use ppq_words::{
 
 // Reads a script, whose head names these records, and runs it over them.
 fn run_typed<R: Fields + Send + Sync, H: Host, L: Library, K: Rack, O: Sink, G: Gate>(
-    place: &Place<H, G>,
+    context: &Context<H, G>,
     bytes: &[u8],
     arguments: &RunArguments,
     library: &mut L,
@@ -35,16 +35,16 @@ where
     fields_laws::<R>();
     record_laws::<R>();
     let workers = arguments.given.workers();
-    match read_script::<R, H, L>(place.rt, place.alloc, bytes, library, workers) {
-        Ok(script) => run_over(place, &script, arguments, library, rack, out),
-        Err(fault) => without_blocks(place.alloc, end_of_check(fault)),
+    match read_script::<R, H, L>(context.rt, context.alloc, bytes, library, workers) {
+        Ok(script) => run_over(context, &script, arguments, library, rack, out),
+        Err(fault) => without_blocks(context.alloc, end_of_check(fault)),
     }
 }
 
 /// Reads the head of a script, and runs it over the records that it names. The type of the records is
 /// chosen here, once, for all that follows.
 pub fn run_bytes<H: Host, L: Library, K: Rack, O: Sink, G: Gate>(
-    place: &Place<H, G>,
+    context: &Context<H, G>,
     bytes: &[u8],
     arguments: &RunArguments,
     library: &mut L,
@@ -60,16 +60,16 @@ where
     let head = read_head(bytes);
     match (head.kind, head.order) {
         (Kind::Pair, Order::Up) => {
-            run_typed::<Pair, H, L, K, O, G>(place, bytes, arguments, library, rack, out)
+            run_typed::<Pair, H, L, K, O, G>(context, bytes, arguments, library, rack, out)
         }
         (Kind::Pair, Order::Down) => {
-            run_typed::<Down<Pair>, H, L, K, O, G>(place, bytes, arguments, library, rack, out)
+            run_typed::<Down<Pair>, H, L, K, O, G>(context, bytes, arguments, library, rack, out)
         }
         (Kind::Triple, Order::Up) => {
-            run_typed::<Triple, H, L, K, O, G>(place, bytes, arguments, library, rack, out)
+            run_typed::<Triple, H, L, K, O, G>(context, bytes, arguments, library, rack, out)
         }
         (Kind::Triple, Order::Down) => {
-            run_typed::<Down<Triple>, H, L, K, O, G>(place, bytes, arguments, library, rack, out)
+            run_typed::<Down<Triple>, H, L, K, O, G>(context, bytes, arguments, library, rack, out)
         }
     }
 }

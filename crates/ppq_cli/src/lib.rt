@@ -6,10 +6,10 @@
 
 mod arguments;
 mod checked;
+mod context;
 mod device;
 mod kinds;
 mod load;
-mod place;
 mod program;
 mod reading;
 mod reports;

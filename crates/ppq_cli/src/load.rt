@@ -41,7 +41,7 @@ impl From<OutsideFault> for LoadFault {
     }
 }
 
-// Reads further bytes of a file, from place `got` on, and says how many came.
+// Reads further bytes of a file, from offset `got` on, and says how many came.
 fn read_more<H: Host, L: Library>(
     rt: &H,
     alloc: Global,

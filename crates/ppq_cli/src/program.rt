@@ -4,7 +4,7 @@ ghost use Rattle.ppq_cli.specs.Report.{report_of, TakesLine};
 ghost use Rattle.ppq_cli.specs.Status.{status_of, writes_nothing, IsReported};
 ghost use Rattle.ppq_cli.specs.RunWords.{OfScript, WritesAll, WritesPart, IsTooLarge, load_by, RunsWords};
 
-use crate::place::Place;
+use crate::context::Context;
 use crate::reports::report;
 use crate::statuses::status;
 use crate::whole::run_whole;
@@ -57,7 +57,7 @@ where
     ensures above { result ≡ 6 → K.tells rack.old → OfScript L.told library.old words.now (IsTooLarge load_by) }
     ensures errors_later { E.faults errors.old ≤ E.faults errors.new }
 {
-    let place = Place { rt, alloc, gate };
-    let ended = run_whole(&place, words, library, rack, out);
+    let context = Context { rt, alloc, gate };
+    let ended = run_whole(&context, words, library, rack, out);
     report_end(rt, &ended.end, errors)
 }

@@ -7,8 +7,8 @@ ghost use Rattle.ppq_cli.specs.RunOver.{RunWrites, RunBlocks, RunTransfers, RunE
 ghost use Rattle.ppq_cli.specs.Device.{make_end};
 ghost use Rattle.ppq_words.specs.Reading.{as_reading, sizes_at};
 
+use crate::context::Context;
 use crate::device::make_blocks;
-use crate::place::Place;
 use ppq_engine::{End, Ended, run_script};
 use ppq_record::record_laws;
 use ppq_words::{
@@ -41,7 +41,7 @@ fn end_of_making(fault: OutsideFault) -> End
 /// budget is below its fixed part; the outcome then has that part in the unit of the budget. A record has at
 /// least 16 bytes, so a budget in bytes stays in its range. All blocks that were made come back.
 pub fn run_over<R: Fields + Send + Sync, H: Host, L: Library, K: Rack, O: Sink, G: Gate>(
-    place: &Place<H, G>,
+    context: &Context<H, G>,
     script: &Script<R>,
     arguments: &RunArguments,
     library: &mut L,
@@ -70,26 +70,26 @@ where
     let need = sizes.fixed();
     if sizes.memory() < need {
         let need = arguments.given.unit().amount(need, R::WIDTH as u64);
-        return without_blocks(place.alloc, End::BudgetTooSmall { need });
+        return without_blocks(context.alloc, End::BudgetTooSmall { need });
     }
     let bytes = sizes.block() as usize * R::WIDTH;
     match make_blocks(
-        place.rt,
-        place.alloc,
+        context.rt,
+        context.alloc,
         rack,
         arguments.device,
         sizes.blocks(),
         bytes,
     ) {
         Ok(slots) => run_script(
-            place.rt,
-            place.alloc,
+            context.rt,
+            context.alloc,
             script,
             sizes,
             slots,
             library,
             out,
-            place.gate,
+            context.gate,
             arguments.form,
         ),
         Err((blocks, fault)) => Ended {

@@ -13,9 +13,9 @@ ghost use Rattle.ppq_cli.specs.Replies.{RefusalIsRight, ReadsWithin};
 ghost use Rattle.ppq_cli.specs.RunWords.{reading, OfWords, OfScript, WritesAll, WritesPart, WritesRoom, MayWrite, IfRan, UsesDevice, TransfersBounded, AreTransfersRight};
 ghost use Rattle.ppq_cli.specs.RunWords.{load_by, crest_by, most_by, least_by, refusal_of, IsAnswer, IsTooLarge, Completes};
 
+use crate::context::Context;
 use crate::kinds::run_bytes;
 use crate::load::{end_of, load};
-use crate::place::Place;
 use crate::run::without_blocks;
 use ppq_engine::{End, Ended};
 use ppq_words::{Gate, Host, Library, Memory, Rack, Sink, read_words};
@@ -126,9 +126,9 @@ where
     let Some(arguments) = found else {
         return without_blocks(alloc, End::Usage);
     };
-    let place = Place { rt, alloc, gate };
+    let context = Context { rt, alloc, gate };
     match load(rt, alloc, library, arguments.script) {
-        Ok(bytes) => run_bytes(&place, &bytes, &arguments, library, rack, out),
+        Ok(bytes) => run_bytes(&context, &bytes, &arguments, library, rack, out),
         Err(fault) => without_blocks(alloc, end_of(fault)),
     }
 }

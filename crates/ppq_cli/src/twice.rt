@@ -4,7 +4,7 @@ ghost use Rattle.ppq_cli.specs.RunWords.{reading};
 ghost use Rattle.ppq_cli.specs.Twice.{EndInTurn, RunsTo, WriteTheSame, NameOneScript};
 ghost use Rattle.ppq_engine.specs.declared.end.End.TheVariants.{Done};
 
-use crate::place::Place;
+use crate::context::Context;
 use crate::whole::run_whole;
 use ppq_engine::End;
 use ppq_words::{Gate, Host, Library, Rack, Sink};
@@ -56,16 +56,16 @@ where
         → NameOneScript (reading words.now) (reading other_words.now) → IfSome (L.told library.old) (λ _.
         WriteTheSame (O.told out.old) (O.told out.new) (OtherO.told other_out.old) (OtherO.told other_out.new)) }
 {
-    let place = Place { rt, alloc, gate };
-    let first = run_whole(&place, words, library, rack, out);
+    let context = Context { rt, alloc, gate };
+    let first = run_whole(&context, words, library, rack, out);
     match first.end {
         End::Done => {
-            let other_place = Place {
+            let other_context = Context {
                 rt,
                 alloc,
                 gate: other_gate,
             };
-            let second = run_whole(&other_place, other_words, library, other_rack, other_out);
+            let second = run_whole(&other_context, other_words, library, other_rack, other_out);
             second.end
         }
         end => end,

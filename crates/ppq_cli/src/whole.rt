@@ -2,14 +2,14 @@
 ghost use Rattle.std.specs.Prelude.{◌<◌, ◌^◌};
 ghost use Rattle.ppq_cli.specs.RunWords.{RunsWords};
 
-use crate::place::Place;
+use crate::context::Context;
 use crate::top_call::run_words;
 use ppq_engine::Ended;
 use ppq_words::{Gate, Host, Library, Rack, Sink};
 
 /// Calls `run_words`, and says what it promises in one clause.
 pub fn run_whole<H: Host, L: Library, K: Rack, O: Sink, G: Gate>(
-    place: &Place<H, G>,
+    context: &Context<H, G>,
     words: &[String],
     library: &mut L,
     rack: &mut K,
@@ -23,5 +23,13 @@ where
     requires sink { O.faults out.old < 2 ^ 63 }
     ensures { RunsWords L.Library K.Rack O.Sink K.Slot.shown words.now library.old library.new rack.old rack.new out.old out.new result }
 {
-    run_words(place.rt, place.alloc, words, library, rack, place.gate, out)
+    run_words(
+        context.rt,
+        context.alloc,
+        words,
+        library,
+        rack,
+        context.gate,
+        out,
+    )
 }

@@ -1,9 +1,9 @@
-//! Where a script is run.
+//! What each step of the program is handed.
 use std::alloc::Global;
 
 // The runtime, the allocator, and the gate that the workers enter.
 #[derive(Drop)]
-pub struct Place<'a, H, G> {
+pub struct Context<'a, H, G> {
     pub rt: &'a H,
     pub alloc: Global,
     pub gate: &'a G,
