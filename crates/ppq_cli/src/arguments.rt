@@ -1,3 +1,4 @@
+//! Reads the arguments of the program.
 ghost use Rattle.std.specs.Prelude.{◌≡◌, ◌⊎◌, IfErr};
 ghost use Rattle.ppq_engine.specs.declared.end.End.TheVariants.{Usage, Memory};
 
@@ -6,7 +7,7 @@ use std::env;
 use std::env::Env;
 use std::io::ErrorKind;
 
-/// The words after the program's name. A word that is no UTF-8 text has no reading.
+/// The arguments after the program's name. One that is not UTF-8 text has no reading.
 pub fn words_of<R: Env + AllocGlobal>(rt: &R) -> Result<Vec<String>, End>
     ensures { IfErr result (λ end. (end ≡ Usage) ⊎ (end ≡ Memory)) }
 {

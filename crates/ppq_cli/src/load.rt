@@ -24,7 +24,7 @@ pub enum LoadFault {
     NoScript,
     /// It is longer than the longest script.
     ScriptTooLong,
-    /// It said a length, and a read at `got` gave nothing.
+    /// The library said a length, and a read at `got` returned nothing.
     FileChanged { said: u64, got: u64 },
 }
 

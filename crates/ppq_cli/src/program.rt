@@ -12,8 +12,8 @@ use ppq_engine::End;
 use ppq_words::{Gate, Host, Library, Rack, Sink};
 use std::alloc::Global;
 
-/// Reports an end, and gives its status. The whole line is taken, or the sink's count of faults
-/// rose and its beginning was; that changes nothing of the status.
+/// Reports an outcome, and returns its status. The whole line is taken, or the sink's count of faults
+/// rose and a prefix of it was; that changes nothing of the status.
 pub fn report_end<H: Host, E: Sink>(rt: &H, end: &End, errors: &mut E) -> u8
     ensures status { result ≡ status_of end.now }
     ensures later { E.faults errors.old ≤ E.faults errors.new }

@@ -1,4 +1,4 @@
-//! The line that reports an end.
+//! The line that reports an outcome.
 ghost use Rattle.std.specs.Prelude.{◌++◌, OnOk, decimal};
 ghost use Rattle.ppq_words.specs.ppq_outside.Told.{HasOneCause, TakesAll, TakesPart};
 ghost use Rattle.ppq_cli.specs.Report.{report_of, changed_text};
@@ -7,7 +7,7 @@ use itoa::Buffer;
 use ppq_engine::End;
 use ppq_words::{Failed, Host, Sink};
 
-/// Puts the line that reports an end; nothing for `Done`. `Failed` comes only where the sink's
+/// Puts the line that reports an outcome; nothing for `Done`. `Failed` comes only where the sink's
 /// count of faults rose, and a prefix of the line was then taken.
 pub fn report<H: Host, O: Sink>(rt: &H, end: &End, out: &mut O) -> Result<(), Failed>
     ensures all { OnOk result (TakesAll (O.told out.old) (O.told out.new) (report_of end.now)) }

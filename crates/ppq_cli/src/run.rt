@@ -16,7 +16,7 @@ use ppq_words::{
 };
 use std::alloc::Global;
 
-/// An end before a block was made.
+/// An outcome that comes before a block was made.
 pub fn without_blocks<S: Slot>(alloc: Global, end: End) -> Ended<S>
     ensures end { result.end ≡ end }
     ensures none { result.blocks.items ≡ [] }

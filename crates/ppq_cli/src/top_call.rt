@@ -115,7 +115,7 @@ where
     ensures sink_later { O.faults out.old ≤ O.faults out.new }
     ensures sink_stays { ¬ (result.end ≡ WriteFault) → O.faults out.new ≡ O.faults out.old }
 
-    // Completeness: a script that is not refused, with room for its load, is done, unless memory was wanting or the outside failed.
+    // Completeness: a script that is not refused, with room for its load, is done, unless an allocation or the outside failed.
     ensures complete { K.tells rack.old → NoFault result.end → Completes load_by L.told library.old words.now result.end }
     ensures complete_any { NoFault result.end → Completes most_by L.told library.old words.now result.end }
 {

@@ -1,4 +1,4 @@
-//! Two runs of one script.
+//! Two executions of one script.
 ghost use Rattle.std.specs.Prelude.{◌≡◌, ◌<◌, ◌^◌, IfSome};
 ghost use Rattle.ppq_cli.specs.RunWords.{reading};
 ghost use Rattle.ppq_cli.specs.Twice.{EndInTurn, RunsTo, WriteTheSame, NameOneScript};
@@ -10,11 +10,11 @@ use ppq_engine::End;
 use ppq_words::{Gate, Host, Library, Rack, Sink};
 use std::alloc::Global;
 
-/// Runs two lists of words over one library, each with a rack, a gate and a sink of its own, and
-/// gives the end of the first run that was not done, or `Done`.
+/// Executes the scripts of two lists of arguments in turn over one library, each with a rack, a gate and a sink of
+/// its own, and returns the outcome of the first that was not done, or `Done`.
 ///
-/// It is here for its contract: two runs of one script in one form that both end `Done` write the same
-/// bytes, with any sizes of their own, and whatever their gates do. What the second run asks of the library
+/// It is here for its contract: two executions of one script in one form that both end `Done` write the same
+/// bytes, with any sizes of their own, and whatever their gates do. What the second one asks of the library
 /// follows from how the first one ended.
 pub fn run_twice<
     H: Host,

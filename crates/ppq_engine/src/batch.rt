@@ -15,7 +15,7 @@ use ppq_record::record_laws;
 use ppq_script::{Command, Failed, Fields, Form, Gate, Host, Memory, Numbered, Sink, Slot};
 use std::alloc::Global;
 
-// The first of these lines, at most so many, and those behind them.
+// The first of these lines, at most so many, and those after them.
 pub fn cut<R: Fields>(lines: &[Numbered<R>], most: usize) -> (&[Numbered<R>], &[Numbered<R>])
     requires { 0 < most }
     ensures all { commands_of lines.now ≡ commands_of result.0.now ++ commands_of result.1.now }
@@ -30,7 +30,7 @@ pub fn cut<R: Fields>(lines: &[Numbered<R>], most: usize) -> (&[Numbered<R>], &[
 }
 
 // What the lines of a batch of a limit session push, what they ask, and what was answered. The memory for
-// as many lines as a batch may have is taken once.
+// as many lines as a batch may have is allocated once.
 #[derive(Drop)]
 pub struct Batch<R: Fields> {
     pub lines: Collected<R>,

@@ -7,7 +7,7 @@ use ppq_load::Line;
 use ppq_script::{Command, Fields, Memory, Numbered};
 use std::alloc::Global;
 
-// The lines of a batch. The memory for as many as may be is taken once.
+// The lines of a batch. The memory for as many as may be is allocated once.
 #[derive(Drop)]
 pub struct Collected<R: Fields> {
     pub items: Vec<Line<R>>,

@@ -8,7 +8,7 @@ use ppq_record::record_laws;
 use ppq_script::{Fields, Memory};
 use std::alloc::Global;
 
-// What commands work with beside the queue. The memory for all of it is taken once.
+// What commands work with beside the queue. The memory for all of it is allocated once.
 #[derive(Drop)]
 pub struct Desk<R: Fields> {
     // The records of a round of a pop.

@@ -1,13 +1,13 @@
 //! How the execution of a script ends.
 
-/// How a run of a script ends. Each end but `Memory` has a cause that the caller can see.
+/// How the execution of a script ends. Each end but `Memory` has a cause that the caller can see.
 #[derive(Clone, Copy, Debug, PartialEq, Eq)]
 pub enum End {
     /// The whole script was executed, and all its output was taken.
     Done,
     /// The script's first bad line.
     BadLine { line: u32 },
-    /// The words of the command line have no reading.
+    /// The arguments have no reading.
     Usage,
     /// The library failed.
     ReadFault,

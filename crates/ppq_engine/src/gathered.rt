@@ -20,7 +20,7 @@ const ROOM: usize = 65_536;
 // more, each of at most 20 digits, and 39 letters and signs.
 const LONGEST: usize = 400;
 
-// The bytes that were printed and not yet put. The memory for them is taken once.
+// The bytes that were printed and not yet put. The memory for them is allocated once.
 #[derive(Drop)]
 pub struct Gathered {
     bytes: Vec<u8>,

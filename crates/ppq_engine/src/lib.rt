@@ -1,4 +1,4 @@
-//! Executes a script: each command acts on one queue of records and gives one text.
+//! Executes a script: each command acts on one queue of records and prints one text.
 #![tactic(auto)]
 
 mod answer;

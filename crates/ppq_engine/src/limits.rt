@@ -54,7 +54,7 @@ where
 impl<S: Slot + Send + Sync, R: Fields + Send + Sync> Machine<S, R> {
     // Runs a limit session with this limit and these lines: they are run in batches of at most as many as a
     // round has records, in which the front answers its lines beside the passes, and the answers are printed
-    // in the order of lines. The queue has the passes' records at the end. It gives the machine back.
+    // in the order of lines. The queue has the passes' records at the end. It returns the machine.
     pub fn run_limit<H: Host, O: Sink, G: Gate>(
         self,
         world: &World<'_, H, G, R>,

@@ -35,7 +35,7 @@ fn stopped(loaded: Result<(), LoadFault>, line: u32, said: u64) -> Result<(), St
 }
 
 impl<S: Slot + Send + Sync, R: Fields + Send + Sync> Machine<S, R> {
-    // Adds so many generated records. It gives the machine back.
+    // Adds so many generated records. It returns the machine.
     pub fn push_generated<H: Host, G: Gate>(
         self,
         world: &World<'_, H, G, R>,
@@ -52,7 +52,7 @@ impl<S: Slot + Send + Sync, R: Fields + Send + Sync> Machine<S, R> {
     }
 
     // Adds the records of a file of `said` bytes, for the command at this place of the script. They are
-    // read by pieces of as many records as the desk has room for. It gives the machine back.
+    // read by pieces of as many records as the desk has room for. It returns the machine.
     pub fn push_file<H: Host, L: Library, G: Gate>(
         self,
         world: &World<'_, H, G, R>,

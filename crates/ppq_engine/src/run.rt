@@ -30,7 +30,7 @@ use std::alloc::Global;
 
 impl<S: Slot + Send + Sync, R: Fields + Send + Sync> Machine<S, R> {
     // Runs the commands of the script in order up to the first that does not run to its end, and gathers
-    // what they print. It gives the machine back.
+    // what they print. It returns the machine.
     fn run<H: Host, L: Library, O: Sink, G: Gate>(
         self,
         world: &World<'_, H, G, R>,
@@ -118,7 +118,7 @@ fn put_stopped<H: Host, O: Sink>(rt: &H, stop: Stop, gathered: &mut Gathered, ou
 }
 
 // Runs the commands on an empty queue with this desk, and puts all that was gathered, also where they stop,
-// unless it is the sink that stops them. It takes no memory but for commands that begin a session.
+// unless it is the sink that stops them. It allocates only for commands that begin a session.
 fn run_opened<
     H: Host,
     S: Slot + Send + Sync,
@@ -172,7 +172,7 @@ where
 /// device has fewer blocks than the script's load wants, and that load is above the capacity of one
 /// heap or the script begins a limit session; at least what all commands up to such a load print was
 /// taken. `FileChanged`: the file of the command on that line ended at `got`, before the length `said`
-/// that the script keeps, which no library does that tells.
+/// that the script keeps, and the library is not visible to proofs.
 /// `BudgetTooSmall` comes if and only if the budget is below its fixed part, unless an allocation failed;
 /// nothing was written then. On `Memory` nothing was written, or what the commands before a `bulk`, `gen`,
 /// `bulk_begin` or `limit_begin` print: such a command allocates for its session. No other end comes.

@@ -55,7 +55,7 @@ pub fn ended(printed: Result<(), Failed>, over: Result<(), QueueFault>) -> Resul
 
 impl<S: Slot + Send + Sync, R: Fields + Send + Sync> Machine<S, R> {
     // Runs a bulk session with these lines: they go to the passes in batches of at most as many as a round
-    // has records, and the queue has their records at the end. It gives the machine back.
+    // has records, and the queue has their records at the end. It returns the machine.
     pub fn run_bulk<H: Host, G: Gate>(
         self,
         world: &World<'_, H, G, R>,

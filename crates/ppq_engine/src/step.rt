@@ -89,7 +89,7 @@ impl<S: Slot + Send + Sync, R: Fields + Send + Sync> Machine<S, R> {
         }
     }
 
-    // Runs the commands of a part, at this place of the script. It gives the machine back.
+    // Runs the commands of a part, at this place of the script. It returns the machine.
     pub fn advance<H: Host, L: Library, O: Sink, G: Gate>(
         self,
         world: &World<'_, H, G, R>,

@@ -11,7 +11,7 @@ pub enum Stop {
     Queue { fault: QueueFault },
     // The library failed.
     Read,
-    // Memory was wanting for a read.
+    // An allocation for a session or a read failed.
     Memory,
     // The file of a command on this line ended at `got`, before the length that it had.
     Changed { line: u32, said: u64, got: u64 },
