@@ -1,4 +1,3 @@
-pub use Rattle.ppq_load.proofs as ppq_load
 pub mod Advancing
 pub mod Asked
 pub mod Below

@@ -3,7 +3,6 @@ pub use Rattle.ppq_load.specs.ppq_counts as ppq_counts
 pub use Rattle.ppq_load.specs as ppq_load
 pub use Rattle.ppq_load.specs.ppq_queue as ppq_queue
 pub use Rattle.ppq_script.specs as ppq_script
-pub use Rattle.ppq_load.specs.ppq_session as ppq_session
 pub use Rattle.ppq_load.specs.Reading as Reading
 pub use Rattle.ppq_load.specs.Refusal as Refusal
 pub mod Calls
