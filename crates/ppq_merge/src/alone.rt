@@ -6,7 +6,7 @@ ghost use Rattle.ppq_split.specs.Edge.{ends};
 ghost use Rattle.ppq_merge.specs.Merged.{IsMerged};
 ghost use Rattle.ppq_merge.specs.Seat.{HasRoom, KeepsSize};
 
-use crate::idle::enter_all;
+use crate::idle::{enter_all, enter_in_turn, has_no_bytes};
 use crate::merge::merge_front;
 use crate::seat::Seat;
 use crate::team::Team;
@@ -83,11 +83,12 @@ pub(crate) fn merge_alone<H: Threads + Sync, R: Record + Send, Q: Listing<R>, G:
     ensures kept { KeepsSize seat.old seat.new }
 {
     let Team { rt, runs, gate } = *team;
-    if workers == 1 {
+    let idle = workers - 1;
+    if idle == 0 || has_no_bytes(gate) {
+        enter_in_turn(gate, 1, idle);
         merge_by_first(runs, gate, seat, places, out);
         return;
     }
-    let idle = workers - 1;
     join_mut(
         rt,
         &mut ||

@@ -193,7 +193,8 @@ fn merge_by_seats<H: Threads + Sync, R: Record + Send, Q: Listing<R>, G: Gate>(
 /// workers.
 ///
 /// It does not allocate. It takes a time of `count * log2(runs) / workers` matches and one cut for
-/// each worker (see `ppq_split::cut_at`).
+/// each worker (see `ppq_split::cut_at`). A thread is started for each worker but one; for workers who
+/// have no piece none is, if the gate has no bytes, as `OpenGate`.
 pub fn merge_workers<H: Threads + Sync, R: Record + Send, Q: Listing<R>, G: Gate>(
     rt: &H,
     bench: &mut Bench<R>,

@@ -7,7 +7,7 @@ ghost use Rattle.ppq_merge.specs.Plan.{HaveRecords, HavePieces, MadePieces};
 ghost use Rattle.ppq_merge.specs.Seat.{AreSeats, IsSized};
 
 use crate::halves::merge_pieces;
-use crate::idle::enter_all;
+use crate::idle::{enter_all, enter_in_turn, has_no_bytes};
 use crate::plan::plan_cuts;
 use crate::seat::Seat;
 use crate::section::Section;
@@ -28,12 +28,13 @@ fn merge_beside_idle<H: Threads + Sync, R: Record + Send, Q: Listing<R>, G: Gate
     ensures { MadePieces R.Ord.cmp (Q.lists section.now.team.now.runs.now) seats.old seats.new out.new }
 {
     let top = section.first + seats.len() as u32;
-    if top == workers {
+    let Team { rt, gate, .. } = *section.team;
+    let idle = workers - top;
+    if idle == 0 || has_no_bytes(gate) {
+        enter_in_turn(gate, top, idle);
         merge_pieces(section, seats, out);
         return;
     }
-    let Team { rt, gate, .. } = *section.team;
-    let idle = workers - top;
     join_mut(
         rt,
         &mut ||
