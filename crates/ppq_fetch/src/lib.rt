@@ -17,6 +17,7 @@ mod prefetch;
 mod take;
 mod turn;
 
+pub use crew::Crew;
 pub use fetch::take_least;
 pub use ppq_array::{
     Berth, BerthList, BlockBuf, BufList, ExternalArray, Gate, Host, InternalArray, Library, Memory,

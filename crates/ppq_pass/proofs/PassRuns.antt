@@ -1,41 +1,23 @@
 -- How many buffers, blocks and records the runs of a pass have.
-use Rattle.std.proofs.Common.{◌≡◌, ℕ, ◌+◌, ◌*◌, ◌<◌, ◌≤◌, List, [], ◌∷◌, ◌++◌, length, sum_by, All, ap, arith, length-append, length-drop}
+use Rattle.std.proofs.Common.{◌≡◌, ℕ, ◌+◌, ◌*◌, ◌<◌, ◌≤◌, List, [], ◌∷◌, ◌++◌, length, sum_by, All, ap, arith, length-append}
 use Rattle.std.proofs.lemmas.List.Sums.{sum_by-cons}
 use Rattle.std.proofs.lemmas.List.Elements.{All-head, All-tail}
 use Rattle.std.proofs.lemmas.List.Concat.{flat_map-cons}
 use Rattle.std.proofs.Math.Nat.{suc-mul, add-mul, mul_assoc, mul-le-mul_right, le_of_mul-le-mul_right}
 use Rattle.ppq_extract.specs.ppq_outside.Shown.{Shown}
-use Rattle.ppq_extract.specs.ppq_block.Block.{Block, all_items}
 use Rattle.ppq_extract.specs.ppq_array.Run.{Run, items_of, buffers_of}
 use Rattle.ppq_extract.specs.ppq_array.External.{External, counts, size_of, waiting}
-use Rattle.ppq_extract.specs.ppq_array.Owner.{HasBlock, slots_shown}
-use Rattle.ppq_extract.specs.ppq_array.Holdings.{internal_items, internal_buffers, external_slots, RunHasBlock}
-use Rattle.ppq_extract.proofs.ppq_array.Noted.{all_right}
-use Rattle.ppq_extract.specs.ppq_fetch.Fetching.{IsFitting}
+use Rattle.ppq_extract.specs.ppq_array.Owner.{slots_shown}
+use Rattle.ppq_extract.specs.ppq_array.Holdings.{internal_items, internal_buffers, external_slots}
 use Rattle.ppq_spill.proofs.Blocks.{counts_full}
 use Rattle.ppq_spill.proofs.Keeping.{slots_long}
+use Rattle.ppq_spill.proofs.Starts.{run_fit}
 use Rattle.ppq_pass.specs.PassState.{IsPassRun, IsPassArray}
 
 module _ {R : Type 0} where
-  -- buffers hold no more than fits in them
-  buffers_fit : (block : ℕ) (bufs : List (Block R)) → All (HasBlock block) bufs → All IsFitting bufs → length (all_items bufs) ≤ length bufs * block
-  buffers_fit block [] h f = omega arith
-  buffers_fit block (b ∷ bs) h f =
-      let here : length b.items ≤ b.block = All-head (IsFitting {R = R}) b bs f in
-      let size : b.block ≡ block = All-head (HasBlock block) b bs h in
-      let more = buffers_fit block bs (All-tail (HasBlock block) b bs h) (All-tail IsFitting b bs f) in
-      omega (arith, here, size, more, suc-mul (length bs) block, ap length (flat_map-cons (λ (x : Block R). x.items) b bs), length-append b.items (all_items bs))
-
-  -- so does a run
-  run_fits : (block : ℕ) (run : Run R) → RunHasBlock block run → All IsFitting (buffers_of run) → length (items_of run) ≤ length (buffers_of run) * block
-  run_fits block run h f =
-      let live = buffers_fit block run.live (all_right (HasBlock block) run.spent run.live h) (all_right IsFitting run.spent run.live f) in
-      let more : length run.live * block ≤ length (buffers_of run) * block = mul-le-mul_right block (omega (arith, length-append run.spent run.live)) in
-      omega (arith, live, more, length-drop run.taken (all_items run.live))
-
   -- the run of a full heap has a buffer for each block of the heap
   run_buffers : (block h : ℕ) (run : Run R) → 0 < block → IsPassRun block (h * block) run → h ≤ length (buffers_of run)
-  run_buffers block h run some is = le_of_mul-le-mul_right (omega (arith, run_fits block run is.blocks is.fitting, is.whole)) some
+  run_buffers block h run some is = le_of_mul-le-mul_right (omega (arith, run_fit block run is.blocks is.fitting, is.whole)) some
 
   pub runs_buffers : (block h : ℕ) (runs : List (Run R)) → 0 < block → All (IsPassRun block (h * block)) runs → length runs * h ≤ internal_buffers runs
   runs_buffers block h [] some a = omega arith

@@ -4,7 +4,6 @@ use Rattle.std.specs.Prelude.{flat_map, Option, Some, None, IsSome}
 use Rattle.std.proofs.lemmas.List.Sums.{sum_by-cons, sum_by-append}
 use Rattle.std.proofs.lemmas.List.Elements.{All-head, All-tail}
 use Rattle.std.proofs.lemmas.List.Concat.{flat_map-cons}
-use Rattle.std.proofs.lemmas.Nat.{mul-le}
 use Rattle.std.proofs.Math.Nat.{suc-mul, zero-mul, add-mul}
 use Rattle.ppq_extract.specs.ppq_outside.Shown.{Shown, Tells}
 use Rattle.ppq_extract.specs.ppq_block.Told.{records_told}
@@ -13,34 +12,19 @@ use Rattle.ppq_extract.specs.ppq_block.Block.{Block, all_items}
 use Rattle.ppq_extract.specs.ppq_array.declared.berth.DeviceBlock.{DeviceBlock}
 use Rattle.ppq_extract.specs.ppq_array.Run.{Run, items_of, buffers_of}
 use Rattle.ppq_extract.specs.ppq_array.External.{External, counts, waiting, size_of, records_in, blocks_items, block_items}
-use Rattle.ppq_extract.specs.ppq_array.Owner.{HasBlock, slots_shown}
-use Rattle.ppq_extract.specs.ppq_array.Holdings.{internal_items, internal_buffers, external_buffers, external_slots, RunHasBlock}
+use Rattle.ppq_extract.specs.ppq_array.Owner.{slots_shown}
+use Rattle.ppq_extract.specs.ppq_array.Holdings.{internal_items, internal_buffers, external_buffers, external_slots}
 use Rattle.ppq_extract.proofs.ppq_array.Noted.{all_left, all_right}
-use Rattle.ppq_extract.specs.ppq_fetch.Fetching.{IsFitting, one_if_some, fronts_in, blocks_in, count_in}
+use Rattle.ppq_extract.specs.ppq_fetch.Fetching.{one_if_some, fronts_in, blocks_in, count_in}
 use Rattle.ppq_extract.proofs.ppq_fetch.Sums.{one_le}
 use Rattle.ppq_spill.proofs.Keeping.{slots_long}
+use Rattle.ppq_spill.proofs.Starts.{run_fit}
 use Rattle.ppq_queue.specs.Resting.{IsRestingRun, IsRestingArray}
 
 one_more : (k b : ℕ) → suc k * b ≡ k * b + b
 one_more k b = suc-mul k b
 
 module _ {R : Type 0} where
-  -- buffers hold no more than fits in them
-  pub buffers_fit : (block : ℕ) (bufs : List (Block R)) → All (HasBlock block) bufs → All IsFitting bufs → length (all_items bufs) ≤ length bufs * block
-  buffers_fit block [] h f = omega arith
-  buffers_fit block (b ∷ bs) h f =
-      let here : length b.items ≤ b.block = All-head (IsFitting {R = R}) b bs f in
-      let size : b.block ≡ block = All-head (HasBlock block) b bs h in
-      let more = buffers_fit block bs (All-tail (HasBlock block) b bs h) (All-tail IsFitting b bs f) in
-      omega (arith, here, size, more, one_more (length bs) block, ap length (flat_map-cons (λ (x : Block R). x.items) b bs), length-append b.items (all_items bs))
-
-  -- so does a run
-  pub run_fits : (block : ℕ) (run : Run R) → RunHasBlock block run → All IsFitting (buffers_of run) → length (items_of run) ≤ length (buffers_of run) * block
-  run_fits block run h f =
-      let live = buffers_fit block run.live (all_right (HasBlock block) run.spent run.live h) (all_right IsFitting run.spent run.live f) in
-      let more : length run.live * block ≤ length (buffers_of run) * block = mul-le (length run.live) block (length (buffers_of run)) block (omega (arith, length-append run.spent run.live)) (omega arith) in
-      omega (arith, live, more, length-drop run.taken (all_items run.live))
-
   -- a run with a record has a buffer
   pub run_some : (run : Run R) → 0 < length (items_of run) → 1 ≤ length (buffers_of run)
   run_some run h = by_live run.live refl
@@ -59,7 +43,7 @@ module _ {R : Type 0} where
   runs_fit block [] a = omega arith
   runs_fit block (r ∷ rs) a =
       let is = All-head (IsRestingRun block) r rs a in
-      let here = run_fits block r is.blocks is.fitting in
+      let here = run_fit block r is.blocks is.fitting in
       let more = runs_fit block rs (All-tail (IsRestingRun block) r rs a) in
       let sums : internal_buffers (r ∷ rs) * block ≡ length (buffers_of r) * block + internal_buffers rs * block = ap (λ n. n * block) (sum_by-cons (λ (run : Run R). length (buffers_of run)) r rs) ∙ add-mul (length (buffers_of r)) (internal_buffers rs) block in
       omega (arith, here, more, sums, ap length (flat_map-cons (λ (run : Run R). items_of run) r rs), length-append (items_of r) (internal_items rs))
@@ -102,7 +86,7 @@ module _ {S R : Type 0} where
     arrays_fit (x ∷ xs) a =
         let is = All-head (IsRestingArray shown width block) x xs a in
         let more = arrays_fit xs (All-tail (IsRestingArray shown width block) x xs a) in
-        let loaded = run_fits block x.loaded is.loaded is.fitting in
+        let loaded = run_fit block x.loaded is.loaded is.fitting in
         let stored = counts_fit block x.stored is.packed.last in
         let buffers : external_buffers (x ∷ xs) * block ≡ length (buffers_of x.loaded) * block + external_buffers xs * block = ap (λ n. n * block) (sum_by-cons (λ (y : External S R). length (buffers_of y.loaded)) x xs) ∙ add-mul (length (buffers_of x.loaded)) (external_buffers xs) block in
         let blocks : blocks_in (x ∷ xs) * block ≡ length x.stored * block + blocks_in xs * block = ap (λ n. n * block) (sum_by-cons (λ (y : External S R). length y.stored) x xs) ∙ add-mul (length x.stored) (blocks_in xs) block in

@@ -78,7 +78,8 @@ live_fit block [] has fit = omega arith
 live_fit {R} block (b ∷ bs) has fit =
     omega (arith, length-all_items_cons b bs, suc-mul (length bs) block, All-head (HasBlock {R = R} block) b bs has, All-head (IsFitting {R = R}) b bs fit, live_fit block bs (All-tail (HasBlock {R = R} block) b bs has) (All-tail (IsFitting {R = R}) b bs fit))
 
-run_fit : {R : Type 0} (block : ℕ) (run : Run R) → RunHasBlock block run → All IsFitting (buffers_of run) → length (items_of run) ≤ length (buffers_of run) * block
+-- and what a run in them has
+pub run_fit : {R : Type 0} (block : ℕ) (run : Run R) → RunHasBlock block run → All IsFitting (buffers_of run) → length (items_of run) ≤ length (buffers_of run) * block
 run_fit {R} block run has fit =
     let live = live_fit block run.live (all_right (HasBlock {R = R} block) run.spent run.live has) (all_right (IsFitting {R = R}) run.spent run.live fit) in
     let more : length run.live * block ≤ length (buffers_of run) * block = mul-le (length run.live) block (length (buffers_of run)) block (omega (arith, length-append run.spent run.live)) (omega arith) in

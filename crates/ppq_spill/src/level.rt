@@ -9,7 +9,6 @@ ghost use Rattle.ppq_spill.specs.Moves.{DrewSlots, FoundFewSlots};
 ghost use Rattle.ppq_spill.specs.Making.{table_of, last_eight, all_but_eight, MayMerge, SameTools, IsFaultOf, BatchMergeEnds, MergeEnds, LastEnds, HasNothing};
 ghost use Rattle.ppq_spill.specs.Leveling.{held_in, count_level, MayLevel, AreOneSize, LanesStay, LevelCalls, LevelMerged, NoneForLevel, ArraysAscend, LevelFailed, LevelTells};
 
-use crate::crew::Crew;
 use crate::gathering::{count_buffers, gather_level};
 use crate::groups::take_jobs;
 use crate::making::write_batch;
@@ -17,7 +16,7 @@ use crate::new_array::NewArray;
 use crate::slots::{draw_slots, free_slots};
 use crate::turns::{goes_beside, merge_beside};
 use ppq_fetch::{
-    Bench, Berth, BerthList, ExternalArray, Gate, Host, InternalArray, Lanes, Record, Slot,
+    Bench, Berth, BerthList, Crew, ExternalArray, Gate, Host, InternalArray, Lanes, Record, Slot,
     StoreFault, Supply, record_laws, take_least,
 };
 

@@ -18,7 +18,6 @@
 
 mod body;
 mod buffers;
-mod crew;
 mod gathering;
 mod groups;
 mod level;

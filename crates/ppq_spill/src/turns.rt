@@ -7,14 +7,13 @@ ghost use Rattle.ppq_spill.specs.Making.{table_of, MayMerge, MergeEnds, SameTool
 ghost use Rattle.ppq_spill.specs.Staging.{MayStage, Staged, MayTake, Takes};
 
 use crate::buffers::put_records;
-use crate::crew::Crew;
 use crate::groups::end_group;
 use crate::level::{see_emptied, take_batch};
 use crate::making::next_slot;
 use crate::new_array::NewArray;
 use ppq_fetch::{
-    Bench, Berth, BerthList, BufList, ExternalArray, Gate, Host, Job, JobKind, Lanes, Record, Slot,
-    StoreFault, Supply, free_slot, overlap_mut, record_laws,
+    Bench, Berth, BerthList, BufList, Crew, ExternalArray, Gate, Host, Job, JobKind, Lanes, Record,
+    Slot, StoreFault, Supply, free_slot, overlap_mut, record_laws,
 };
 
 // How few workers write a batch beside the taking of the next one. A batch has room for a block for each
