@@ -56,8 +56,8 @@ impl<S: UntrustedSlot> Checked<S> {
         }
     }
 
-    /// How many reads gave bytes of another sum than those that were written, or came before a block was written;
-    /// it saturates at 2^64 - 1. Each was a failed call.
+    /// How many reads gave bytes of another sum than those that were written, or came while no sum was kept: before
+    /// the first write, or after one that failed. Each was a failed call. It saturates at 2^64 - 1.
     pub fn differed(&self) -> u64
         ensures { result ≡ self.now.differed }
     {

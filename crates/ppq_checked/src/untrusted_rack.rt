@@ -16,9 +16,10 @@ pub trait UntrustedRack {
     /// Whether the contents of every slot that it makes are visible to proofs.
     ghost tells: { Self → Type 0 };
 
-    /// Whether these are the blocks that it made, by number, in the order in which it made them: true of
-    /// the list of all of them, and of others only as far as it keeps no account of them.
-    ghost made: { Self → List ℕ → Type 0 };
+    /// Whether these are the blocks that it made of the device of this name, by number, in the order in
+    /// which it made them: true of the list of all of them, and of others only as far as it keeps no
+    /// account of them.
+    ghost made: { Self → List ℕ → List ℕ → Type 0 };
 
     /// How many calls failed.
     ghost faults: { Self → ℕ };
@@ -41,7 +42,7 @@ pub trait UntrustedRack {
         ensures size { IfOk result (λ slot. (Self.Slot.shown slot).size ≡ bytes) }
         ensures fresh { IfOk result (λ slot. IsFresh (Self.Slot.shown slot).faults (Self.Slot.shown slot).writes (Self.Slot.shown slot).reads) }
         ensures tells { IfOk result (λ slot. tells self.old → Tells (Self.Slot.shown slot)) }
-        ensures made { HasMade (made self.old) (made self.new) (made_by result number) }
+        ensures made { HasMade (made self.old device.now) (made self.new device.now) (made_by result number) }
         ensures kept { tells self.old → tells self.new }
         ensures cause { HasCause (faults self.old) (faults self.new) result };
 }

@@ -19,7 +19,7 @@ pub fn make_blocks<H: Host, K: Rack>(
 ) -> Result<Vec<K::Slot>, (Vec<K::Slot>, OutsideFault)>
     ensures all { IfOk result (λ blocks. length blocks.items ≡ count) }
     ensures blocks { AreMade K.Slot.shown (K.tells rack.old) count bytes (made_in result) }
-    ensures made { HasMade (K.made rack.old) (K.made rack.new) (range_with_len 0 (length (made_in result))) }
+    ensures made { HasMade (K.made rack.old device.now) (K.made rack.new device.now) (range_with_len 0 (length (made_in result))) }
     ensures kept { K.tells rack.old → K.tells rack.new }
     ensures counts { RackCounts (K.faults rack.old) (K.faults rack.new) result }
 {

@@ -103,7 +103,7 @@ impl<'a> UntrustedRack for FileRack<'a> {
 
     ghost tells = { λ _. ⊥ };
 
-    ghost made = { λ _ _. ⊤ };
+    ghost made = { λ _ _ _. ⊤ };
 
     ghost faults = { λ r. r.faults };
 

@@ -1,5 +1,5 @@
 //! A device in memory of which one read lies.
-ghost use Rattle.std.specs.Prelude.{◌≡◌, []};
+ghost use Rattle.std.specs.Prelude.{◌≡◌, ℕ, List, []};
 
 use crate::{Lie, LyingSlot};
 use ppq_checked::UntrustedRack;
@@ -23,7 +23,7 @@ impl LyingRack {
     /// A device whose block with this number lies in the read after so many others.
     pub fn new(number: u32, before: u64, lie: Lie) -> Self
         ensures tells { ⟦<LyingRack as UntrustedRack>⟧.tells result }
-        ensures made { ⟦<LyingRack as UntrustedRack>⟧.made result [] }
+        ensures made { (device : List ℕ) → ⟦<LyingRack as UntrustedRack>⟧.made result device [] }
         ensures faults { ⟦<LyingRack as UntrustedRack>⟧.faults result ≡ 0 }
     {
         LyingRack {

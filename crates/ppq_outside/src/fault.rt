@@ -7,12 +7,6 @@ use std::alloc::{AllocError, AllocFailed};
 #[derive(Clone, Copy, Debug, PartialEq, Eq)]
 pub struct Failed;
 
-/// The answer of a call of a device or library in memory whose allocation failed.
-///
-/// It says the same as `ppq_record::Memory`. There are two, so that a device or library needs no records.
-#[derive(Clone, Copy, Debug, PartialEq, Eq)]
-pub struct Memory;
-
 /// Why a call of the outside that allocates returned nothing.
 #[derive(Clone, Copy, Debug, PartialEq, Eq)]
 pub enum OutsideFault {
@@ -20,18 +14,6 @@ pub enum OutsideFault {
     Failed,
     /// An allocation of the call failed.
     Memory,
-}
-
-impl From<AllocError> for Memory {
-    fn from(_: AllocError) -> Self {
-        Memory
-    }
-}
-
-impl<T: Drop> From<AllocFailed<T>> for Memory {
-    fn from(_: AllocFailed<T>) -> Self {
-        Memory
-    }
 }
 
 impl From<AllocError> for OutsideFault {

@@ -21,7 +21,7 @@ mod rack;
 mod sink;
 mod slot;
 
-pub use fault::{Failed, Memory, OutsideFault};
+pub use fault::{Failed, OutsideFault};
 pub use gate::{Gate, OpenGate};
 pub use host::Host;
 pub use library::Library;
@@ -29,6 +29,7 @@ pub use memory_library::MemLibrary;
 pub use memory_rack::MemRack;
 pub use memory_sink::MemSink;
 pub use memory_slot::MemSlot;
+pub use ppq_record::Memory;
 pub use rack::Rack;
 pub use sink::Sink;
 pub use slot::Slot;

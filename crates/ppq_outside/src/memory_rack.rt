@@ -149,7 +149,7 @@ impl Rack for MemRack {
 
     ghost tells = { λ r. r.forges ≡ None };
 
-    ghost made = { λ r numbers. r.made ≡ numbers };
+    ghost made = { λ r device numbers. r.made ≡ numbers };
 
     ghost faults = { λ r. r.faults };
 

@@ -14,11 +14,11 @@ pub trait Rack {
     /// Whether every slot that it makes tells its bytes.
     ghost tells: { Self → Type 0 };
 
-    /// Whether these are the blocks that it made, by number, in the order in which it made them: true of
-    /// the list of all of them, and of others only as far as it keeps no account of them. No code can
-    /// ask it, so a caller that is proved for every rack knows it of no list but that which its own
-    /// calls make longer.
-    ghost made: { Self → List ℕ → Type 0 };
+    /// Whether these are the blocks that it made of the device of this name, by number, in the order in
+    /// which it made them: true of the list of all of them, and of others only as far as it keeps no
+    /// account of them. No code can ask it, so a caller that is proved for every rack knows it of no list
+    /// but that which its own calls make longer, and of no device after a call for another one.
+    ghost made: { Self → List ℕ → List ℕ → Type 0 };
 
     /// How many calls failed.
     ghost faults: { Self → ℕ };
@@ -41,7 +41,7 @@ pub trait Rack {
         ensures size { IfOk result (λ slot. (Self.Slot.shown slot).size ≡ bytes) }
         ensures fresh { IfOk result (λ slot. IsFresh (Self.Slot.shown slot).faults (Self.Slot.shown slot).writes (Self.Slot.shown slot).reads) }
         ensures tells { IfOk result (λ slot. tells self.old → Tells (Self.Slot.shown slot)) }
-        ensures made { HasMade (made self.old) (made self.new) (made_by result number) }
+        ensures made { HasMade (made self.old device.now) (made self.new device.now) (made_by result number) }
         ensures kept { tells self.old → tells self.new }
         ensures cause { HasCause (faults self.old) (faults self.new) result };
 }

@@ -2,9 +2,6 @@
 use std::alloc::{AllocError, AllocFailed};
 
 /// The answer of a call whose allocation failed.
-///
-/// The crates over records have this one. `ppq_outside` has one of its own that says the same, so that a
-/// device or library needs no records.
 #[derive(Clone, Copy, Debug, PartialEq, Eq)]
 pub struct Memory;
 
