@@ -1,11 +1,16 @@
 //! Records that are held in a queue over a device file, while others come and go.
 use crate::load::out_of_memory;
 use ppq_checked::{Checked, CheckedRack};
-use ppq_device::{Host, OpenGate, OutsideFault, Pair, Queue, QueueFault, Sizes, make_blocks};
+use ppq_device::{
+    Host, OpenFault, OpenGate, OutsideFault, Pair, Queue, QueueFault, Sizes, make_blocks,
+};
 use ppq_edge::{FileRack, FileSlot};
 use std::alloc::Global;
 use std::io;
 use std::io::ErrorKind;
+
+// A queue of pairs over a device file whose blocks are summed.
+type DeviceQueue = Queue<Checked<FileSlot>, Pair>;
 
 // The sizes of a queue beside its workers and its device.
 #[derive(Clone, Copy)]
@@ -71,7 +76,7 @@ fn sizes_for(shape: Shape, count: u32, workers: u32) -> Option<Sizes> {
 }
 
 // Adds a record.
-fn push<H: Host>(rt: &H, queue: &mut Queue<Checked<FileSlot>, Pair>, item: Pair) -> io::Result<()>
+fn push<H: Host>(rt: &H, queue: &mut DeviceQueue, item: Pair) -> io::Result<()>
 where
     H::Dir: Send,
 {
@@ -82,7 +87,7 @@ where
 }
 
 // Removes the smallest record of a queue that is not empty.
-fn pop<H: Host>(rt: &H, queue: &mut Queue<Checked<FileSlot>, Pair>) -> io::Result<Pair>
+fn pop<H: Host>(rt: &H, queue: &mut DeviceQueue) -> io::Result<Pair>
 where
     H::Dir: Send,
 {
@@ -93,13 +98,8 @@ where
     }
 }
 
-// Adds so many records with keys below 2^40, and gives the generator's number after them.
-fn fill<H: Host>(
-    rt: &H,
-    queue: &mut Queue<Checked<FileSlot>, Pair>,
-    seed: u64,
-    count: u32,
-) -> io::Result<u64>
+// Adds so many records with keys below 2^40, and returns the generator's number after them.
+fn fill<H: Host>(rt: &H, queue: &mut DeviceQueue, seed: u64, count: u32) -> io::Result<u64>
 where
     H::Dir: Send,
 {
@@ -120,12 +120,7 @@ where
 }
 
 // So many times removes the smallest record and adds one whose key is greater by a number below 2^40.
-fn turn_over<H: Host>(
-    rt: &H,
-    queue: &mut Queue<Checked<FileSlot>, Pair>,
-    from: u64,
-    count: u32,
-) -> io::Result<Removed>
+fn turn_over<H: Host>(rt: &H, queue: &mut DeviceQueue, from: u64, count: u32) -> io::Result<Removed>
 where
     H::Dir: Send,
 {
@@ -160,11 +155,7 @@ pub(crate) struct Task {
 }
 
 // Adds the records of a task to a queue, and turns them over once.
-fn fill_and_turn<H: Host>(
-    rt: &H,
-    queue: &mut Queue<Checked<FileSlot>, Pair>,
-    task: Task,
-) -> io::Result<Removed>
+fn fill_and_turn<H: Host>(rt: &H, queue: &mut DeviceQueue, task: Task) -> io::Result<Removed>
 where
     H::Dir: Send,
 {
@@ -180,16 +171,19 @@ fn not_made(fault: OutsideFault) -> io::Error {
     }
 }
 
+// A queue that was not opened, as an error.
+fn not_opened(fault: OpenFault) -> io::Error {
+    match fault {
+        OpenFault::TooSmall { need: _ } => io::Error::from(ErrorKind::InvalidInput),
+        OpenFault::Memory => out_of_memory(),
+    }
+}
+
 // An empty queue over a device file.
-fn open<H: Host>(
-    rt: &H,
-    alloc: Global,
-    device: &str,
-    sizes: Sizes,
-) -> io::Result<Queue<Checked<FileSlot>, Pair>> {
+fn open<H: Host>(rt: &H, alloc: Global, device: &str, sizes: Sizes) -> io::Result<DeviceQueue> {
     let mut rack = CheckedRack::new(FileRack::new());
     match make_blocks::<Pair, _, _>(rt, alloc, &mut rack, device, sizes) {
-        Ok(blocks) => Queue::open(alloc, sizes, blocks).map_err(|_| out_of_memory()),
+        Ok(blocks) => Queue::open(alloc, sizes, blocks).map_err(|refused| not_opened(refused.1)),
         Err(fault) => Err(not_made(fault)),
     }
 }

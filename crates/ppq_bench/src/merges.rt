@@ -1,8 +1,9 @@
-//! Merges of a load.
+//! Merges of a load: checked against a sort, and timed.
 use crate::load::{Load, out_of_memory, room};
 use ppq_queue::{Bench, Listing, Lists, OpenGate, Pair, merge_workers, size_of, sort};
 use std::alloc::Global;
 use std::io;
+use std::io::ErrorKind;
 use std::rt::Clock;
 use std::thread::Threads;
 use std::time::Instant;
@@ -15,7 +16,8 @@ fn bench_for(alloc: Global, load: &Load, workers: u32) -> io::Result<Bench<Pair>
     Bench::new(alloc, workers.max(1), load.lists.len() as u32).map_err(|_| out_of_memory())
 }
 
-// Merges all records of a load; says whether there were so many.
+// Merges all records of a load into `out`. Returns false, with nothing merged, if `out` has no room for
+// just so many records, or the bench was made for fewer runs.
 fn merge_all<H: Threads + Sync>(
     rt: &H,
     load: &Load,
@@ -31,7 +33,7 @@ fn merge_all<H: Threads + Sync>(
     true
 }
 
-// Merges all records of a load by so many workers; says whether there were so many.
+// Merges all records of a load into `out` by so many workers, as `merge_all` does.
 fn merge_by<H: Threads + Sync>(
     rt: &H,
     alloc: Global,
@@ -66,7 +68,8 @@ pub(crate) fn as_sorted<H: Threads + Sync>(
     Ok(is_whole & (out.as_slice() == all.as_slice()))
 }
 
-// The smallest time that a merge of a load takes with a bench, in picoseconds a record.
+// The smallest time that a merge of a load takes with a bench, in picoseconds a record. `InvalidInput` if the
+// load cannot be merged so.
 fn least_time<H: Threads + Sync + Clock>(
     rt: &H,
     load: &Load,
@@ -76,7 +79,9 @@ fn least_time<H: Threads + Sync + Clock>(
     let mut best = u64::MAX;
     for _turn in 0..MERGED / load.size.max(1) {
         let start = Instant::now(rt)?;
-        merge_all(rt, load, bench, out);
+        if !merge_all(rt, load, bench, out) {
+            return Err(io::Error::from(ErrorKind::InvalidInput));
+        }
         let took = start.elapsed(rt)?.as_nanos().min(u128::from(u64::MAX)) as u64;
         best = best.min(took);
     }
