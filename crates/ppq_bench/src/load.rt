@@ -1,4 +1,4 @@
-//! Runs to merge.
+//! Runs of generated pairs, to be merged.
 ghost use Rattle.std.specs.Prelude.{◌<◌, ◌^◌, length};
 
 use ppq_queue::{Pair, sort};
@@ -16,7 +16,7 @@ pub(crate) struct Load {
     ghost few: { length lists.items < 2 ^ 32 },
 }
 
-// The error of a program that found no memory.
+// An allocation that failed, as an error.
 pub(crate) fn out_of_memory() -> io::Error {
     io::Error::from(ErrorKind::OutOfMemory)
 }

@@ -31,7 +31,7 @@ const WORDS: [&str; 14] = [
     "1048576",
 ];
 
-// How much the sink has room for, in bytes: a line.
+// How many bytes the sink has room for: more than the one line that the script prints.
 const ROOM: usize = 4096;
 
 // The arguments as a list.

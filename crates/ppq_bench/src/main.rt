@@ -1,6 +1,6 @@
 //! Times the library's own calls on this machine.
 //!
-//! With no argument it makes small merges and says whether they are those of a sort, and holds some
+//! With no argument it makes small merges and says whether each gives what a sort gives, and holds some
 //! records in a queue by one worker and by four, so that it prints the same on every machine. With the
 //! argument `merge` it times large ones: 8, 64 and 512 runs of pairs from memory, by one worker and by
 //! four. `bench/merge` runs it beside a loser tree in C++ over the same records.
@@ -60,15 +60,16 @@ const SMALL: Shape = Shape {
     memory: 16384,
 };
 
-// How many records a small queue holds, and the number that they come of.
+// How many records a small queue holds.
 const HELD: u32 = 50000;
 
+// The number of the generator that is in front of the first of them.
 const SEED: u64 = 7;
 
 // The device file of a small queue.
 const DEVICE: &str = "ppq_bench.device";
 
-// Makes a small merge of so many runs, and says whether it is that of a sort.
+// Makes a small merge of so many runs, and says whether it gives what a sort gives.
 fn check_merge<H: Threads + Sync>(
     rt: &H,
     alloc: Global,
@@ -80,7 +81,7 @@ fn check_merge<H: Threads + Sync>(
     Ok(if is_sorted { "as sorted" } else { "WRONG" })
 }
 
-// Makes the small merges, and says of each whether it is that of a sort.
+// Makes the small merges, and prints of each whether it gives what a sort gives.
 fn check_merges<H: Threads + Sync + Print>(rt: &H, alloc: Global) -> io::Result<()> {
     for runs in RUNS {
         for workers in WORKERS {
@@ -102,7 +103,7 @@ fn times_of<H: Threads + Sync + Clock>(
     Ok((one, four))
 }
 
-// Times large merges of so many runs, as `times_of` does.
+// The picoseconds a record that merging so many runs takes, by one worker and by four.
 fn time_merges<H: Threads + Sync + Clock>(
     rt: &H,
     alloc: Global,
@@ -125,7 +126,7 @@ fn time<H: Threads + Sync + Clock + Print>(rt: &H, alloc: Global) -> io::Result<
     Ok(())
 }
 
-// The words after the program's name.
+// The arguments.
 fn words_of(rt: &HostRuntime) -> io::Result<Vec<String>> {
     let words = env::args(rt)?.skip(1).collect(rt.alloc());
     words.map_err(|_| out_of_memory())
@@ -167,7 +168,7 @@ where
     Ok(())
 }
 
-// Holds records as the words after `hold` say, and prints what was removed.
+// Holds records as the arguments after `hold` say, and prints what was removed.
 fn hold_as_said<H: Host>(rt: &H, alloc: Global, words: &[String]) -> io::Result<()>
 where
     H::Dir: Send,
@@ -186,7 +187,7 @@ where
     print_removed(rt, hold(rt, alloc, LARGE, task, device)?)
 }
 
-// Prints how long a script takes over a device that keeps what it is given, and over one that does not.
+// Prints how many nanoseconds a script takes over a device that keeps what it is given, and over one that does not.
 fn print_lying<H: Host + Clock>(rt: &H, alloc: Global) -> io::Result<()>
 where
     H::Dir: Send,
@@ -196,7 +197,7 @@ where
     Ok(())
 }
 
-// Prints how long the sums of a record take, and what all of them add up to.
+// Prints how many picoseconds the sums of a record take, and what all of them add up to.
 fn print_sums<H: Clock + Print>(rt: &H, alloc: Global) -> io::Result<()> {
     let (took, all) = picoseconds_of_sums(rt, alloc)?;
     println!(rt; "{took} {all}")?;

@@ -1,4 +1,4 @@
-//! Sums of blocks.
+//! How long the sums of blocks take, by which `ppq_checked` notices other bytes.
 use ppq_checked::sum;
 use std::alloc::Global;
 use std::io;
@@ -8,9 +8,10 @@ use std::time::Instant;
 // The bytes of a block of 4,096 pairs.
 const BLOCK: usize = 65536;
 
-// How many blocks there are, and how many pairs they have in all.
+// How many blocks there are.
 const BLOCKS: usize = 16;
 
+// How many pairs they have in all.
 const RECORDS: u64 = 65536;
 
 // How often the sums of all blocks are taken; the smallest time counts.
