@@ -41,7 +41,7 @@ fn a_last_block_in_part_is_a_block(rt: HostRuntime) {
 }
 
 #[test]
-fn each_range_has_its_two_ends(rt: HostRuntime) {
+fn each_size_has_its_two_ends(rt: HostRuntime) {
     assert!(rt; Sizes::new(1, 2, 1, 0, 0).is_some());
     assert!(rt; Sizes::new(64, 65_536, 64, 268_435_456, 65_536).is_some());
     for (workers, block, heap, memory, blocks) in [

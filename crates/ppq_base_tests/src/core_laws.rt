@@ -20,7 +20,7 @@ fn small(rt: &impl Abort, alloc: Global) -> State<Pair>
 }
 
 // Takes these steps in turn. Each is legal or not.
-fn take(rt: &impl Abort, state: &mut State<Pair>, steps: &[(Event<Pair>, bool)])
+pub(crate) fn take(rt: &impl Abort, state: &mut State<Pair>, steps: &[(Event<Pair>, bool)])
     ensures { IsSameSize state.old state.new }
 {
     'steps: for (event, is_legal) in steps {
@@ -78,6 +78,7 @@ fn slots_are_drawn_in_order(rt: HostRuntime) {
 
 #[test]
 fn a_buffer_is_given_by_who_took_it(rt: HostRuntime) {
+    buffer_laws::<Pair>();
     let mut state = small(&rt, rt.alloc());
     let steps = [
         (Event::Take { pass: 1, buffer: 0 }, true),
@@ -102,6 +103,7 @@ fn a_buffer_is_given_by_who_took_it(rt: HostRuntime) {
 
 #[test]
 fn a_slot_is_stored_once_by_who_drew_it(rt: HostRuntime) {
+    slot_laws::<Pair>();
     let mut state = small(&rt, rt.alloc());
     let steps = [
         (Event::Store { pass: 1, slot: 0 }, false),
@@ -122,6 +124,7 @@ fn push(pass: u32, key: u64) -> (Event<Pair>, bool) {
 
 #[test]
 fn a_push_is_read_back_by_its_own_pass(rt: HostRuntime) {
+    step_laws::<Pair>();
     let mut state = small(&rt, rt.alloc());
     take(&rt, &mut state, &[push(1, 7), push(0, 9), push(1, 3)]);
     assert!(rt; pushed_are(&state, &[pair(9)], &[pair(7), pair(3)]));
@@ -146,11 +149,21 @@ fn numbers_out_of_range_are_illegal(rt: HostRuntime) {
     assert!(rt; pushed_are(&state, &[], &[]));
 }
 
+// Takes four steps, and expects where they lead, whatever their order.
+fn end_so(rt: &impl Abort, alloc: Global, steps: &[(Event<Pair>, bool)]) {
+    let mut state = small(rt, alloc);
+    take(rt, &mut state, steps);
+    let first = Place::Held { pass: 1 };
+    assert!(rt; buffer_is(&state, Place::Held { pass: 0 }));
+    assert!(rt; slots_are(&state, first, Place::Free) & pushed_are(&state, &[pair(5)], &[pair(6)]));
+}
+
 #[test]
-fn the_laws_hold_of_pairs() {
-    buffer_laws::<Pair>();
-    slot_laws::<Pair>();
+fn steps_of_two_passes_end_in_the_same_places_in_either_order(rt: HostRuntime) {
     order_laws::<Pair>();
-    step_laws::<Pair>();
     interleaving_laws::<Pair>();
+    let taken: (Event<Pair>, bool) = (Event::Take { pass: 0, buffer: 0 }, true);
+    let drawn: (Event<Pair>, bool) = (Event::Draw { pass: 1, slot: 0 }, true);
+    end_so(&rt, rt.alloc(), &[taken, drawn, push(0, 5), push(1, 6)]);
+    end_so(&rt, rt.alloc(), &[drawn, taken, push(1, 6), push(0, 5)]);
 }

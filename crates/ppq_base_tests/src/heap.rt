@@ -1,3 +1,4 @@
+//! Insertion heaps of pairs.
 use crate::pairs::pair;
 use ppq_heap::InsertionHeap;
 use ppq_record::Pair;

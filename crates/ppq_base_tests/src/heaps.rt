@@ -1,3 +1,4 @@
+//! The heaps of several workers, of pairs.
 ghost use Rattle.std.specs.Prelude.{◌≡◌, ◌<◌, length};
 
 use crate::pairs::pair;
@@ -6,13 +7,13 @@ use ppq_record::Pair;
 use std::alloc::Global;
 use std::process::Abort;
 
-// Puts a record into a worker's heap, which is taken out for it.
-fn put(heaps: Heaps<Pair>, worker: u32, n: u64) -> Heaps<Pair>
+// Puts the pair with this key into a worker's heap, which is taken out for it and has room.
+fn put(rt: &impl Abort, heaps: Heaps<Pair>, worker: u32, key: u64) -> Heaps<Pair>
     requires { worker < length heaps.heaps }
     ensures { length result.heaps ≡ length heaps.heaps }
 {
     let (mut parts, tree) = heaps.into_parts();
-    let _pushed = parts[worker as usize].try_push(pair(n));
+    assert!(rt; parts[worker as usize].try_push(pair(key)).is_ok());
     Heaps::from_parts(parts, tree)
 }
 
@@ -63,13 +64,14 @@ fn pushes_go_to_the_first_heap_alone(rt: HostRuntime) {
 #[test]
 fn pops_take_the_least_of_all_heaps(rt: HostRuntime) {
     let made = heaps_of(&rt, rt.alloc(), 3, 3);
-    let mut heaps = put(put(put(put(put(made, 0, 7), 1, 9), 2, 5), 1, 2), 0, 2);
+    let two = put(&rt, put(&rt, made, 0, 7), 1, 9);
+    let mut heaps = put(&rt, put(&rt, put(&rt, two, 2, 5), 1, 2), 0, 2);
     assert!(rt; (heaps.len() == 5) & gives(&mut heaps, &[2, 2, 5, 7, 9]));
 }
 
 #[test]
 fn a_push_is_the_least_where_it_is_below_all_heaps(rt: HostRuntime) {
-    let mut heaps = put(heaps_of(&rt, rt.alloc(), 2, 4), 1, 4);
+    let mut heaps = put(&rt, heaps_of(&rt, rt.alloc(), 2, 4), 1, 4);
     for (key, least) in [(6, 4), (1, 1), (9, 1)] {
         takes(&rt, &mut heaps, &[key]);
         assert!(rt; has_least(&heaps, least));
@@ -80,7 +82,8 @@ fn a_push_is_the_least_where_it_is_below_all_heaps(rt: HostRuntime) {
 #[test]
 fn a_share_is_sorted_and_emptied(rt: HostRuntime) {
     let made = heaps_of(&rt, rt.alloc(), 2, 3);
-    let mut heaps = put(put(put(put(made, 1, 6), 1, 1), 1, 3), 0, 4);
+    let two = put(&rt, put(&rt, made, 1, 6), 1, 1);
+    let mut heaps = put(&rt, put(&rt, two, 1, 3), 0, 4);
     heaps.sort_share(1);
     let sorted = [pair(1), pair(3), pair(6)];
     assert!(rt; (heaps.share(1) == sorted.as_slice()) & has_least(&heaps, 1));
@@ -90,7 +93,7 @@ fn a_share_is_sorted_and_emptied(rt: HostRuntime) {
 
 #[test]
 fn parts_that_are_put_together_are_the_heaps(rt: HostRuntime) {
-    let mut heaps = put(heaps_of(&rt, rt.alloc(), 2, 2), 1, 8);
+    let mut heaps = put(&rt, heaps_of(&rt, rt.alloc(), 2, 2), 1, 8);
     takes(&rt, &mut heaps, &[3]);
     let (parts, tree) = heaps.into_parts();
     assert!(rt; parts.len() == 2 && tree.leaves() == 2);

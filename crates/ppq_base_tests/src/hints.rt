@@ -1,3 +1,4 @@
+//! Hints of which array has the next smallest block.
 ghost use Rattle.std.specs.Prelude.{◌≡◌, ◌<◌, length};
 
 use crate::pairs::pair;

@@ -2,8 +2,7 @@
 ghost use Rattle.std.specs.Prelude.{◌≡◌, length};
 
 use ppq_outside::{
-    Gate, Host, Library, MemLibrary, MemRack, MemSink, MemSlot, OpenGate, OutsideFault, Rack, Sink,
-    Slot,
+    Host, Library, MemLibrary, MemRack, MemSink, MemSlot, OutsideFault, Rack, Sink, Slot,
 };
 use std::alloc::Global;
 use std::process::Abort;
@@ -238,11 +237,4 @@ fn a_piece_past_the_room_is_cut_and_fails(rt: HostRuntime) {
     assert!(rt; sink.bytes() == b"abcd".as_slice());
     assert!(rt; puts(&rt, &mut sink, b"", true) & puts(&rt, &mut sink, b"e", false));
     assert!(rt; sink.faults() == 2);
-}
-
-#[test]
-fn every_worker_passes_an_open_gate() {
-    for worker in 0..64 {
-        OpenGate.enter(worker);
-    }
 }

@@ -1,3 +1,4 @@
+//! The records of these tests.
 ghost use Rattle.std.specs.Prelude.{◌≡◌};
 
 use ppq_record::Pair;

@@ -1,8 +1,12 @@
+//! Pools of tiles, by one seat and by several.
 ghost use Rattle.std.specs.Prelude.{◌≡◌, ◌-◌, ◌<◌, ℕ};
 ghost use Rattle.std.specs.Thread.{IsSync};
 ghost use Rattle.ppq_pool.specs.Seats.{IsSeatOf, IsOnly, count_of};
 
+use crate::core_laws::take;
+use ppq_core::{Event, State};
 use ppq_pool::{Pool, PoolSeat, Shaped, looks_are_true, steps_are_events};
+use ppq_record::Pair;
 use std::alloc::Global;
 use std::process::Abort;
 use std::thread::{Threads, join};
@@ -169,8 +173,37 @@ fn four_and_sixty_four_seats_share_three_tiles(rt: HostRuntime) {
     }
 }
 
+// Takes the tile of a pool by one seat, which is not free for the other then, and by the other once it was given
+// back; and gives it back.
+fn taken_by_turns(rt: &impl Abort, alloc: Global) -> (u32, u32) {
+    let (pool, mut seat) = pool_of(rt, alloc, 1);
+    let mut other = pool.split(&mut seat);
+    let (Some((a, x)), None) = (pool.take(&mut seat), pool.take(&mut other)) else {
+        panic!(rt; "it was free once")
+    };
+    pool.give(&mut seat, a, x);
+    let Some((b, y)) = pool.take(&mut other) else {
+        panic!(rt; "it was free again")
+    };
+    pool.give(&mut other, b, y);
+    pool.join(&mut seat, other);
+    let left = pool.close(seat);
+    assert!(rt; are(&left, &[10]));
+    (a, b)
+}
+
 #[test]
-fn the_laws_hold_of_a_pool_of_tiles() {
-    steps_are_events::<Tile, u64>();
+fn what_two_seats_take_and_give_is_legal_and_what_they_found_held_is_not(rt: HostRuntime) {
+    steps_are_events::<Tile, Pair>();
     looks_are_true::<Tile>();
+    let (a, b) = taken_by_turns(&rt, rt.alloc());
+    let mut state = State::<Pair>::new(rt.alloc(), 1, 0, 2).expect(&rt, "memory");
+    let steps = [
+        (Event::Take { pass: 0, buffer: a }, true),
+        (Event::Take { pass: 1, buffer: 0 }, false),
+        (Event::Give { pass: 0, buffer: a }, true),
+        (Event::Take { pass: 1, buffer: b }, true),
+        (Event::Give { pass: 1, buffer: b }, true),
+    ];
+    take(&rt, &mut state, &steps);
 }

@@ -1,8 +1,12 @@
+//! Rows of letters and of numbers, by one seat and by several.
 ghost use Rattle.std.specs.Prelude.{◌≡◌, ◌<◌, ◌≤◌, length};
 ghost use Rattle.std.specs.Thread.{IsSync};
 ghost use Rattle.ppq_row.specs.Seats.{IsSeatOf};
 ghost use Rattle.ppq_table.specs.Sums.{all_shares};
 
+use crate::core_laws::take;
+use ppq_core::{Event, State};
+use ppq_record::Pair;
 use ppq_row::{Row, RowSeat, counter_never_wraps, steps_are_events};
 use std::alloc::Global;
 use std::process::Abort;
@@ -49,6 +53,7 @@ fn an_empty_row_has_nothing_to_draw(rt: HostRuntime) {
 
 #[test]
 fn split_and_join_keep_the_note(rt: HostRuntime) {
+    counter_never_wraps::<char>();
     let (row, mut seat) = row_of(&rt, rt.alloc(), &['a']);
     let mut other = row.split(&mut seat);
     let first = row.draw(&mut other);
@@ -154,7 +159,22 @@ fn any_number_of_seats_draws_each_place_once(rt: HostRuntime) {
 }
 
 #[test]
-fn the_laws_hold_of_a_row_of_letters() {
-    counter_never_wraps::<char>();
-    steps_are_events::<char, u64>();
+fn what_two_seats_draw_is_legal_and_what_they_found_no_more_is_not(rt: HostRuntime) {
+    steps_are_events::<char, Pair>();
+    let (row, mut seat) = row_of(&rt, rt.alloc(), &['a', 'b']);
+    let mut other = row.split(&mut seat);
+    let first = row.draw(&mut other);
+    let second = row.draw(&mut seat);
+    let third = row.draw(&mut other);
+    row.join(&mut seat, other);
+    let left = row.close(seat);
+    assert!(rt; (first == Some((0, 'a'))) & (second == Some((1, 'b'))) & third.is_none());
+    assert!(rt; left.is_empty());
+    let mut state = State::<Pair>::new(rt.alloc(), 0, 2, 2).expect(&rt, "memory");
+    let steps = [
+        (Event::Draw { pass: 1, slot: 0 }, true),
+        (Event::Draw { pass: 0, slot: 1 }, true),
+        (Event::Draw { pass: 1, slot: 2 }, false),
+    ];
+    take(&rt, &mut state, &steps);
 }

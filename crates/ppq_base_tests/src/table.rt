@@ -1,3 +1,4 @@
+//! Items that are laid into a table.
 use ppq_table::{Place, lay, unlay};
 
 #[test]

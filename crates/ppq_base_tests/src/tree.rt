@@ -1,3 +1,4 @@
+//! Trees of minima, of pairs.
 ghost use Rattle.std.specs.Prelude.{◌≡◌, ◌^◌, ◌<◌, length};
 
 use crate::pairs::pair;
@@ -173,30 +174,31 @@ fn prove_two<L: Ledger>(steps: &Steps<L>)
 
 #[test]
 fn a_hundred_random_sets_agree_with_a_scan(rt: HostRuntime) {
-    let leaves: u32 = 13;
-    let mut tree = tree_of(&rt, rt.alloc(), leaves);
+    let mut tree = tree_of(&rt, rt.alloc(), 13);
+    let mut items: [Option<Pair>; 13] = [None; 13];
     let mut seed = 1u64;
     for _step in 0..100 {
         seed = seed
             .wrapping_mul(6364136223846793005)
             .wrapping_add(1442695040888963407);
-        let leaf = (seed >> 40) as u32 % leaves;
+        let leaf = (seed >> 40) as u32 % 13;
         let item = if seed >> 62 == 0 {
             None
         } else {
             Some(pair(seed >> 58))
         };
-        assert!(rt; tree.leaves() == leaves);
+        assert!(rt; tree.leaves() == 13);
         tree.put(leaf, item);
-        assert!(rt; tree.winner() == scanned(&tree));
+        items[leaf as usize] = item;
+        assert!(rt; tree.winner() == scanned(&items));
     }
 }
 
-// The smallest item with the lowest leaf that has it, by a look at each leaf.
-fn scanned(tree: &MinTree<Pair>) -> Option<(u32, Pair)> {
+// The smallest of the items of thirteen leaves with the lowest leaf that has it, by a look at each.
+fn scanned(items: &[Option<Pair>; 13]) -> Option<(u32, Pair)> {
     let mut best: Option<(u32, Pair)> = None;
-    for leaf in 0..tree.leaves() {
-        if let Some(item) = tree.item(leaf) {
+    for leaf in 0..13u32 {
+        if let Some(item) = items[leaf as usize] {
             best = match best {
                 Some(b) if b.1 <= item => Some(b),
                 _ => Some((leaf, item)),

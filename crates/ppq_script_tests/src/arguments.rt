@@ -144,7 +144,7 @@ const BEYOND: &[&str] = &[
 ];
 
 #[test]
-fn each_range_has_its_two_ends(rt: HostRuntime) {
+fn each_number_of_the_arguments_has_its_two_ends(rt: HostRuntime) {
     for (back, sizes) in ENDS {
         let parts = ["run s --device d", back];
         reads_as(&rt, rt.alloc(), &parts, "s", "d", *sizes);
