@@ -63,7 +63,9 @@ fn writes_of(blocks: &[MemSlot]) -> u64 {
 }
 
 #[test]
-fn four_workers_write_each_batch_beside_the_next(rt: HostRuntime) -> Result<(), Fail> {
+fn all_records_come_in_order_after_merges_of_levels_by_four_workers(
+    rt: HostRuntime,
+) -> Result<(), Fail> {
     let mut queue = opened(&rt, rt.alloc(), &mut MemRack::new(), wide())?;
     push_all(&rt, &mut queue);
     pop_all(&rt, &mut queue);
@@ -128,7 +130,7 @@ fn a_refill_reads_the_next_blocks_beside_its_merge(rt: HostRuntime) -> Result<()
 }
 
 #[test]
-fn all_records_come_where_blocks_are_read_beside_merges(rt: HostRuntime) -> Result<(), Fail> {
+fn all_records_come_in_order_after_refills_by_four_workers(rt: HostRuntime) -> Result<(), Fail> {
     let mut queue = opened(&rt, rt.alloc(), &mut MemRack::new(), long())?;
     push_two_runs(&rt, &mut queue);
     'popping: for key in 0..33u64 {

@@ -4,9 +4,10 @@ ghost use Rattle.std.specs.Prelude.{◌<◌};
 use ppq_merge::{Bench, merge_workers, size_of};
 use ppq_outside::{Gate, OpenGate};
 use ppq_record::{Listing, Lists, Pair, sort};
-use ppq_testkit::{PairGate, SoloGate, draw, pair};
+use ppq_testkit::{CrowdGate, PairGate, SoloGate, draw, pair};
 use std::alloc::Global;
 use std::process::Abort;
+use std::sync::atomic::{AtomicU64, Ordering};
 use std::thread::Threads;
 
 // Runs of pairs with these keys.
@@ -160,6 +161,61 @@ fn two_workers_are_on_their_way_at_once(rt: HostRuntime) {
     let many = generated(&rt, alloc, &mut 7, 4, 2000);
     for workers in [2, 3, 5] {
         assert!(rt; all_meet(&rt, alloc, &many, workers));
+    }
+}
+
+// A gate that counts how often each of workers 0 to 7 enters it, in a byte each.
+#[derive(Drop)]
+struct RollGate {
+    entered: AtomicU64,
+}
+
+impl Gate for RollGate {
+    fn enter(&self, worker: u32) {
+        if worker < 8 {
+            self.entered.fetch_add(1 << (8 * worker), Ordering::SeqCst);
+        }
+    }
+}
+
+// Whether each of five workers enters a gate once while so many records are merged, and an open gate gives the same.
+fn enter_once<H: Threads + Sync + Abort>(
+    rt: &H,
+    alloc: Global,
+    lists: &[Vec<Pair>],
+    count: u64,
+) -> bool {
+    let gate = RollGate {
+        entered: AtomicU64::new(0),
+    };
+    let counted = merge_by(rt, alloc, lists, 5, count, &gate);
+    let open = merge_by(rt, alloc, lists, 5, count, &OpenGate);
+    let once = gate.entered.load(Ordering::SeqCst) == 0x1_0101_0101;
+    let same = counted.out.as_slice() == open.out.as_slice();
+    once & same & (counted.cuts.as_slice() == open.cuts.as_slice())
+}
+
+#[test]
+fn each_worker_enters_once_also_without_a_piece(rt: HostRuntime) {
+    let alloc = rt.alloc();
+    let lists = generated(&rt, alloc, &mut 9, 4, 2000);
+    // of four runs a piece has 1,056 records or more: one worker has a piece, three have, and all five
+    for count in [0, 1000, 4000, 8000] {
+        assert!(rt; enter_once(&rt, alloc, &lists, count), "{count}");
+    }
+}
+
+#[test]
+fn all_workers_are_on_their_way_at_once_also_without_a_piece(rt: HostRuntime) {
+    let alloc = rt.alloc();
+    let lists = generated(&rt, alloc, &mut 9, 4, 2000);
+    for count in [1000, 4000] {
+        let gate = CrowdGate::new(5);
+        let made = merge_by(&rt, alloc, &lists, 5, count, &gate);
+        assert!(rt;
+            gate.is_passed() & is_front(&rt, alloc, &lists, &made),
+            "{count}"
+        );
     }
 }
 

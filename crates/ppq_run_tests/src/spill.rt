@@ -314,16 +314,24 @@ fn has_forty<H: Host>(rt: &H, body: &mut Body) -> bool {
     }
 }
 
-// Whether an owner has the slots 5 to 19, as far as their number and their sum tell.
-fn has_fifteen(owner: &mut Owner) -> bool {
-    let mut sum = 0u32;
-    for _slot in 0..15 {
-        let Some(berth) = owner.draw_slot() else {
-            return false;
-        };
-        sum = sum.saturating_add(berth.number());
+// The number of a slot that an owner has, drawn, below 20; 20 if it has none.
+fn drawn(owner: &mut Owner) -> u32
+    ensures { result ≤ 20 }
+{
+    match owner.draw_slot() {
+        Some(berth) => berth.number().min(20),
+        None => 20,
     }
-    (sum == 180) & (owner.free_slots() == 0)
+}
+
+// Whether an owner has just the slots 5 to 19, each once.
+fn has_fifteen(owner: &mut Owner) -> bool {
+    let mut seen = 0u32;
+    for _slot in 0..15 {
+        seen |= 1 << drawn(owner);
+    }
+    // fifteen draws, and the bits 5 to 19
+    (seen == 0xf_ffe0) & (owner.free_slots() == 0)
 }
 
 // How many records the last run of a body has.
