@@ -1,5 +1,5 @@
-//! Each call of the outside fails in turn: 167 calls of blocks, 12 of the library and 8 puts in all, a run each.
-//! Passes go on side by side, so that what they do to which block may differ a little from run to run.
+//! Each call of the outside fails in turn, a run each: 12 calls of the library, 8 puts and some 170 calls of blocks in
+//! all. Passes go on side by side, so that what they do to which block may differ a little from run to run.
 
 use crate::call::{Call, Faults};
 use crate::cases::{CASES, Case, EARLY, Text, text_of};
@@ -136,13 +136,17 @@ fn each_fails<H: Host + Abort>(rt: &H, alloc: Global) -> Result<(), Fail>
 where
     H::Dir: Send,
 {
+    let (mut library, mut puts) = (0u64, 0u64);
     for case in CASES {
         let Tally { cases, reached } = each_block(rt, alloc, case);
-        let library = each_of_library(rt, alloc, case);
-        let puts = each_put(rt, alloc, case);
-        assert!(rt; (reached > 0) & (library > 0) & (puts > 0));
-        println!(rt; "blocks {cases}, reached {reached}, library {library}, sink {puts}")?;
+        println!(rt; "blocks {cases}, reached {reached}")?;
+        assert!(rt; reached > 0);
+        library = library.saturating_add(each_of_library(rt, alloc, case));
+        puts = puts.saturating_add(each_put(rt, alloc, case));
     }
+    // the length and the bytes of five scripts and of the file; the output of the last script, 210,016 bytes, is put by
+    // 64 KiB or a little less, and that of each other one at once
+    assert_eq!(rt; (library, puts), (12, 8));
     Ok(())
 }
 

@@ -173,13 +173,16 @@ where
     all_of_full(rt, one).saturating_add(all_of_full(rt, other))
 }
 
-// Whether two passes accept no more than fits, by turns and on two threads.
+// Whether two passes accept what their heaps hold and no more than fits, by turns and on two threads.
 fn fill_the_device<H: Host + Abort>(rt: &H, alloc: Global) -> bool
 where
     H::Dir: Send,
 {
-    // at most four blocks, two buffers and two heaps
-    (filled(rt, alloc, false) <= 16) & (filled(rt, alloc, true) <= 16)
+    // the first pass takes three blocks, both buffers and its heap, and keeps the last block; the other has its heap
+    let by_turns = filled(rt, alloc, false);
+    // two heaps at least; at most four blocks, two buffers and two heaps
+    let on_threads = filled(rt, alloc, true);
+    (by_turns == 14) & (on_threads >= 4) & (on_threads <= 16)
 }
 
 #[test]

@@ -295,9 +295,10 @@ fn what_is_no_plain_file_is_a_fault_of_the_library(rt: HostRuntime) {
 #[test]
 fn the_streams_take_text(rt: HostRuntime) {
     let mut out = StdSink::out();
-    assert_eq!(rt; out.put(&rt, b""), Ok(()));
+    assert_eq!(rt; out.put(&rt, b"a line\n"), Ok(()));
     assert_eq!(rt; out.faults(), 0);
     let mut errors = StdSink::err();
+    assert_eq!(rt; errors.put(&rt, b"a line\n"), Ok(()));
     assert_eq!(rt; errors.put(&rt, b"\xff"), Err(Failed));
     assert_eq!(rt; errors.faults(), 1);
 }

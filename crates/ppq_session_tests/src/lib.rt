@@ -10,8 +10,6 @@ mod generic;
 #[cfg(test)]
 mod kinds;
 #[cfg(test)]
-mod laws;
-#[cfg(test)]
 mod limit;
 #[cfg(test)]
 mod limited;

@@ -273,15 +273,13 @@ where
 }
 
 #[test]
-fn a_front_reads_beside_its_merges_while_passes_hold_all_buffers(
+fn a_front_gives_in_order_while_passes_want_more_buffers_than_there_are(
     rt: HostRuntime,
 ) -> Result<(), Fail> {
     reads_beside(&rt, rt.alloc(), 0)
 }
 
 #[test]
-fn blocks_that_were_read_ahead_are_there_when_a_session_begins(
-    rt: HostRuntime,
-) -> Result<(), Fail> {
+fn a_front_gives_in_order_after_pops_before_its_session(rt: HostRuntime) -> Result<(), Fail> {
     reads_beside(&rt, rt.alloc(), 3)
 }

@@ -4,8 +4,11 @@ ghost use Rattle.ppq_session.specs.Dealing.{IsGoing};
 
 use crate::bulk::{Adding, Done, in_session};
 use crate::records::{are_keys, are_twins, ascend, popped, queue_of};
+use ppq_array::Berth;
 use ppq_outside::{MemSlot, OpenGate};
-use ppq_session::{Host, Line, Out, Pair, Queue, Session, SessionEnd, Sizes, Slot};
+use ppq_session::{
+    Host, Line, Out, Pair, PoolBuf, Queue, Session, SessionEnd, Sizes, Slot, sessions_are_histories,
+};
 use ppq_testkit::pair;
 use std::alloc::Global;
 use std::process::Abort;
@@ -140,6 +143,37 @@ fn a_session_writes_no_more_blocks_than_its_records_pay_for(rt: HostRuntime) -> 
     // 231 records, which fill a heap of two records 116 times, and a session, with blocks of two records
     let most = (8 * (231 + 4 * (116 + 1)) + 2 * 2 * (2 * 116 + 4)) / 2;
     assert!(rt; (writes > 0) & (reads <= writes) & (writes <= most));
+    Ok(())
+}
+
+// Whether of these slots the first so many, by number, were written once, and the others never.
+fn are_written_once(slots: &[MemSlot], count: u32) -> bool {
+    let mut once = true;
+    for slot in slots {
+        once &= slot.writes() == u64::from(slot.number() < count);
+    }
+    once
+}
+
+// The blocks of a queue after a session of two passes, to which six records each are pushed. No buffer is left for the
+// pool, so each pass stores two heaps, a block each, and the third stays in its heap.
+fn blocks_after<H: Host + Abort>(rt: &H, alloc: Global) -> Result<Vec<MemSlot>, Fail>
+where
+    H::Dir: Send,
+{
+    let sizes = Sizes::new(2, 2, 1, 372, 200).expect(rt, "sizes in range");
+    let queue = queue_of(rt, alloc, sizes, Vec::new(alloc))?;
+    let lines = lines_of(rt, alloc, 12);
+    let (queue, end, done) = in_session(rt, alloc, queue, Adding::Lines, lines.as_slice());
+    assert!(rt; done.taken & (end == SessionEnd::Whole));
+    Ok(queue.close())
+}
+
+#[test]
+fn passes_draw_the_blocks_in_order_and_write_each_once(rt: HostRuntime) -> Result<(), Fail> {
+    sessions_are_histories::<PoolBuf<Pair>, Berth<MemSlot, Pair>, Pair>();
+    let slots = blocks_after(&rt, rt.alloc())?;
+    assert!(rt; (slots.len() == 200) & are_written_once(slots.as_slice(), 4));
     Ok(())
 }
 
