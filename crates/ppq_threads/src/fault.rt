@@ -1,3 +1,4 @@
+//! Why the program stops early.
 use std::alloc::AllocError;
 use std::fmt;
 

@@ -1,3 +1,4 @@
+//! What came out of a queue.
 use ppq_device::Pair;
 use std::fmt;
 
