@@ -4,6 +4,7 @@ use ppq_device::make_blocks;
 use ppq_load::{Queue, load_file, load_generated};
 use ppq_outside::{Host, Library, MemLibrary, MemRack, MemSlot, OpenGate};
 use ppq_record::{Down, Fields, Triple};
+use ppq_testkit::triple;
 use std::alloc::Global;
 use std::fmt::Debug;
 use std::process::Abort;
@@ -44,10 +45,6 @@ where
     }
     assert!(rt; queue.pop(rt, &OpenGate) == Ok(None));
     let _slots = queue.close();
-}
-
-fn triple(time: u64, target: u64, word: u64) -> Triple {
-    Triple { time, target, word }
 }
 
 // A triple in the order in which the greatest comes first.

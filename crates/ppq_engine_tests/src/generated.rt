@@ -5,7 +5,7 @@ use crate::runs::{Outcome, plain};
 use ppq_budget::Sizes;
 use ppq_engine::End;
 use ppq_outside::Host;
-use ppq_testkit::draw;
+use ppq_testkit::{draw, most_written};
 use std::alloc::Global;
 use std::process::Abort;
 use std::test::Fail;
@@ -52,28 +52,6 @@ impl Shape {
             blocks.min(65_536) as u32,
         )
     }
-
-    // How many records there may be in the blocks that are written for so many pushed records and so many sessions:
-    // eight times these records, and an extract buffer for each heap that they fill and each session; and two blocks
-    // for each run, of which a heap that they fill makes two, and a session one for each worker and two more.
-    fn most_written(self, pushed: u64, begun: u64) -> u64 {
-        let block = u64::from(self.block);
-        let workers = u64::from(self.workers);
-        let heap = u64::from(self.heap).saturating_mul(block).max(1);
-        let stores = pushed.div_ceil(heap);
-        let emptied = stores
-            .saturating_add(begun)
-            .saturating_mul(workers)
-            .saturating_mul(block);
-        let runs = workers
-            .saturating_add(2)
-            .saturating_mul(begun)
-            .saturating_add(stores.saturating_mul(2));
-        pushed
-            .saturating_add(emptied)
-            .saturating_mul(8)
-            .saturating_add(runs.saturating_mul(block).saturating_mul(2))
-    }
 }
 
 // Runs the script on a device of so many blocks, and says whether it was done. Then it has printed what the list
@@ -91,7 +69,14 @@ where
         ..
     } = plain(rt, case.alloc, &case.text, shape.over(blocks));
     let written = writes.saturating_mul(u64::from(shape.block));
-    assert!(rt; written <= shape.most_written(case.pushed, case.begun) && reads <= writes);
+    let most = most_written(
+        shape.workers,
+        shape.block,
+        shape.heap,
+        case.pushed,
+        case.begun,
+    );
+    assert!(rt; written <= most && reads <= writes);
     let is_done = end == End::Done;
     assert!(rt; is_done || end == End::NoFreeBlock);
     assert!(rt; case.output.starts_with(&wrote));

@@ -5,7 +5,7 @@ use ppq_budget::Sizes;
 use ppq_outside::{Host, MemRack, MemSlot, OpenGate, Slot};
 use ppq_queue::Queue;
 use ppq_record::Pair;
-use ppq_testkit::{draw, pair};
+use ppq_testkit::{draw, most_written, pair};
 use std::alloc::Global;
 use std::process::Abort;
 
@@ -39,26 +39,13 @@ fn transfers_of(blocks: &[MemSlot]) -> (u64, u64) {
     (writes, reads)
 }
 
-// How many records may be written in blocks after these calls: each push of as many records as a heap has
-// begins a store of one heap, and each store and each session of an extract buffer and of a few runs.
-fn bound(shape: &Shape, calls: &Calls) -> u64 {
-    let (workers, block) = (u64::from(shape.workers), u64::from(shape.block));
-    let stores = calls.pushed.div_ceil(block.max(1));
-    let begun = stores.saturating_add(calls.begun);
-    let of_sessions = workers.saturating_add(2).saturating_mul(calls.begun);
-    let runs = stores.saturating_mul(2).saturating_add(of_sessions);
-    let batches = workers.saturating_mul(block).saturating_mul(begun);
-    let records = calls.pushed.saturating_add(batches).saturating_mul(8);
-    let blocks = block.saturating_mul(runs).saturating_mul(2);
-    records.saturating_add(blocks)
-}
-
 // Closes a queue, and says whether its transfers are within the bound.
 fn closes_within(queue: Queue<MemSlot, Pair>, shape: &Shape, calls: &Calls) -> bool {
     let blocks = queue.close();
     let (writes, reads) = transfers_of(&blocks);
     let written = u64::from(shape.block).saturating_mul(writes);
-    (written <= bound(shape, calls)) & (reads <= writes)
+    let most = most_written(shape.workers, shape.block, 1, calls.pushed, calls.begun);
+    (written <= most) & (reads <= writes)
 }
 
 // Makes a generated call.

@@ -1,37 +1,18 @@
 //! Limit sessions of two workers, with two records a block and one block a heap: of triples, and of records of which
 //! the greatest comes first.
-ghost use Rattle.std.specs.Prelude.{◌≡◌, ◌<◌, false, All, IsTrue, IfOk, map};
+ghost use Rattle.std.specs.Prelude.{◌≡◌, ◌<◌, false, All, IsTrue, IfOk};
 ghost use Rattle.ppq_record.specs.Order.{is_before};
-ghost use Rattle.ppq_outside.specs.MemoryDevice.{slot_shown};
-ghost use Rattle.ppq_session.specs.ppq_queue.Holding.{AreNewSlots};
 ghost use Rattle.ppq_session.specs.Batches.{AreAbove};
 ghost use Rattle.ppq_session.specs.LimitSessions.{AreGoing};
 
 use crate::records::popped;
-use ppq_outside::{MemRack, MemSlot, OpenGate, Rack};
-use ppq_record::{Down, Pair, Record, Triple, record_laws};
+use ppq_outside::{MemRack, MemSlot, OpenGate};
+use ppq_record::{Down, Pair, Record, Triple};
 use ppq_session::{Ask, Host, LimitSession, Line, Queue, Sizes};
-use ppq_testkit::{pair, pushed};
+use ppq_testkit::{blocks_of, pair, pushed, triple};
 use std::alloc::Global;
 use std::process::Abort;
 use std::test::Fail;
-
-// The blocks of a device in memory that a queue of these sizes wants.
-fn blocks_for<H: Host, R: Record>(rt: &H, alloc: Global, sizes: Sizes) -> Result<Vec<MemSlot>, Fail>
-    ensures { IfOk result (λ slots. AreNewSlots sizes R.WIDTH (map slot_shown slots.items)) }
-{
-    record_laws::<R>();
-    let bytes = sizes.block() as usize * R::WIDTH;
-    let mut rack = MemRack::new();
-    let mut slots = Vec::new(alloc);
-    for number in 0..sizes.blocks() {
-        let Ok(slot) = rack.block(rt, alloc, "device", number, bytes) else {
-            return Err(Fail::from("no block"));
-        };
-        slots.push(slot)?;
-    }
-    Ok(slots)
-}
 
 // A queue of two workers to which these records were pushed.
 fn filled<H: Host + Abort, R: Record + Send + Sync>(
@@ -44,7 +25,7 @@ where
     ensures { IfOk result (λ queue. queue.sizes.workers ≡ 2) }
 {
     let sizes = Sizes::new(2, 2, 1, 372, 40).expect(rt, "sizes in range");
-    let slots = blocks_for::<H, R>(rt, alloc, sizes)?;
+    let slots = blocks_of::<H, R>(rt, alloc, &mut MemRack::new(), sizes)?;
     let Ok(queue) = Queue::open(alloc, sizes, slots) else {
         return Err(Fail::from("the queue was not opened"));
     };
@@ -153,11 +134,6 @@ where
 // A line with this record for a pass.
 fn line<R>(pass: u32, record: R) -> Line<R> {
     Line { pass, record }
-}
-
-// The triple of these numbers.
-fn triple(time: u64, target: u64, word: u64) -> Triple {
-    Triple { time, target, word }
 }
 
 // The pair of this key, in the opposite order.

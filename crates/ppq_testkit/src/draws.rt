@@ -1,3 +1,4 @@
+//! Generated numbers.
 ghost use Rattle.std.specs.Prelude.{◌<◌, max};
 
 /// The next number of Knuth's MMIX sequence; its upper half below a bound.

@@ -1,3 +1,4 @@
+//! A gate for two workers.
 use ppq_outside::Gate;
 use std::sync::atomic::{AtomicU64, Ordering};
 

@@ -1,3 +1,4 @@
+//! Queues over a device in memory.
 ghost use Rattle.std.specs.Prelude.{◌≡◌, Some, IfOk};
 
 use crate::blocks_of;
@@ -18,7 +19,7 @@ pub fn opened<H: Host>(
     ensures { IfOk result (λ queue. sizes ≡ Some queue.sizes) }
 {
     let sizes = sizes.ok_or("a number is out of range")?;
-    let slots = blocks_of(rt, alloc, rack, sizes)?;
+    let slots = blocks_of::<H, Pair>(rt, alloc, rack, sizes)?;
     match Queue::open(alloc, sizes, slots) {
         Ok(queue) => Ok(queue),
         Err(_) => Err(Fail::from("the queue was not opened")),

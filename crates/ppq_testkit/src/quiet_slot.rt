@@ -1,3 +1,4 @@
+//! A slot whose contents contracts do not know.
 ghost use Rattle.std.specs.Prelude.{◌≡◌, None};
 
 use ppq_array::Berth;

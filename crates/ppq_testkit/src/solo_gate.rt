@@ -1,3 +1,4 @@
+//! A gate that lets one worker go on alone.
 use ppq_outside::Gate;
 use std::sync::atomic::{AtomicU64, Ordering};
 

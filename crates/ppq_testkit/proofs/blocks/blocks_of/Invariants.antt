@@ -6,5 +6,5 @@ use Rattle.ppq_testkit.proofs.blocks.blocks_of.Given as goal
 abbrev pub invariant-loop-number : goal.invariant-loop-number
 invariant-loop-number g l = record {
   count : length l.slots.items ≡ l.number;
-  fresh : All (IsNewSlot (l.fn.sizes.block * 16)) (map slot_shown l.slots.items);
+  fresh : All (IsNewSlot (l.fn.sizes.block * g.R.Record.WIDTH)) (map slot_shown l.slots.items);
 }
