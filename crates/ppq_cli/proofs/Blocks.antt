@@ -1,7 +1,8 @@
 -- The blocks that come back are those that were made.
 use Rattle.std.proofs.Common.{◌≡◌, ℕ, ◌+◌, ◌≤◌, List, [], ◌∷◌, ◌++◌, length, map, refl, sym, ap, ◌∙◌, subst, arith, eq-eqb, zero-add, append-nil}
-use Rattle.std.specs.Prelude.{◌==◌, cond, sum_by}
+use Rattle.std.specs.Prelude.{◌==◌, cond, sum_by, String}
 use Rattle.std.proofs.Common.{inl, inr}
+use Rattle.std.specs.declared.alloc.Global.{Global}
 use Rattle.std.specs.List.{range_with_len}
 use Rattle.std.specs.List.Sorted.{IsPermutation}
 use Rattle.std.proofs.lemmas.Bool.{cases_eq, ne_eqb}
@@ -11,6 +12,8 @@ use Rattle.std.proofs.lemmas.Simd.{map-map}
 use Rattle.ppq_words.specs.ppq_outside.Shown.{Shown}
 use Rattle.ppq_words.specs.ppq_outside.Made.{HasMade, HasMadeJust}
 use Rattle.ppq_engine.specs.ppq_array.Kept.{weight_at, times_of, SameSlots}
+use Rattle.ppq_cli.specs.RunWords.{reading, OfWords}
+use Rattle.ppq_cli.proofs.Transfers.{of_any}
 
 abbrev is_at : ℕ → ℕ → ℕ
 is_at n x = cond (x == n) 1 0
@@ -88,3 +91,9 @@ made_nothing number slots before none = record {
   same = let P : List ℕ → Type 0 = λ t. IsPermutation t [] in subst P (sym (ap (map number) none)) (IsPermutation-refl []);
   made = λ made had. subst before (sym (append-nil made)) had;
 }
+
+-- of whatever device the arguments name
+pub made_nothing_named :
+    {S : Type 0} (number : S → ℕ) (slots : List S) (made : List ℕ → List ℕ → Type 0) (words : List (String Global)) → slots ≡ []
+    → OfWords words (λ r. HasMadeJust (made r.device) (made r.device) (map number slots))
+made_nothing_named number slots made words none = of_any (reading words) _ (λ r. made_nothing number slots (made r.device) none)

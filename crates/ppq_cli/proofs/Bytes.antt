@@ -104,7 +104,7 @@ module _ {R L K O S : Type 0} (words : Words R) (library : LibraryShows L) (rack
         refused = subst Q (sym is) (refused_refusal words told (library.replied new) r bytes fault refused);
         failed = λ number e. absurd (not_device fault number (sym is ∙ e));
         blocks = record {
-          made = made_nothing (λ s. (shown s).number) ended.blocks.items (rack.made held) none;
+          made = made_nothing (λ s. (shown s).number) ended.blocks.items (rack.made held r.device) none;
           are = no_blocks r.given.numbers.blocks ended.end (map shown ended.blocks.items) not_run (let P : List S → Type 0 = λ s. map shown s ≡ [] in subst P (sym none) refl);
           unfailed = λ e. absurd (not_done fault (sym is ∙ e));
           tells = λ t. t;
@@ -125,7 +125,7 @@ module _ {R L K O S : Type 0} (words : Words R) (library : LibraryShows L) (rack
       (old mid new : L) (old_rack new_rack : K) (old_out new_out : O) (ended : Ended S) (script : Reading R)
       → IsScript words (library.told old) (library.replied mid) bytes r.given.numbers.workers script → LibraryKeeps library.told library.replied IsLength old mid → library.faults mid ≡ library.faults old
       → RunWrites words (rack.tells old_rack) (library.told mid) (sink.told old_out) (sink.told new_out) r script (map shown ended.blocks.items) ended.end
-      → RunBlocks shown (rack.tells old_rack) (rack.tells new_rack) (rack.made old_rack) (rack.made new_rack) r.given.numbers.blocks ended
+      → RunBlocks shown (rack.tells old_rack) (rack.tells new_rack) (rack.made old_rack r.device) (rack.made new_rack r.device) r.given.numbers.blocks ended
       → TransfersWithin (sizes_at words.WIDTH r) (work_of words (sizes_at words.WIDTH r) (command_list script)) (map shown ended.blocks.items)
       → LibraryKeeps library.told library.replied (IsReadInScript script) mid new
       → RunEnds words (library.told mid) (library.replied new) r script (map shown ended.blocks.items) ended.end

@@ -117,10 +117,11 @@ module _
         used_any = λ is. of_words _ (whole_file (UsesDevice least_by shown ended) is (λ script w files are. w.least));
         transfers = of_words _ (transfers.of_file shown ended (library.told old) (library.replied new) r bytes loaded.loaded few);
         transfers_any = of_words _ (inr (bytes, (now_loaded, few)));
-        made = e.blocks.made;
+        made = of_words _ e.blocks.made;
         blocks = of_words _ e.blocks.are;
         unfailed = e.blocks.unfailed;
         none = λ is. absurd (no is);
+        unasked = λ is. absurd (no is);
         rack_tells = e.blocks.tells;
         files = e.keeps.told ∙ kept.told;
         remembers = λ reply had. e.keeps.remembers reply (kept.remembers reply had);

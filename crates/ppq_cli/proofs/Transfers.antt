@@ -50,7 +50,7 @@ few_any words commands sizes slots untouched =
     let all = within_any sizes (work_of words sizes commands) slots untouched in
     record { writes = λ counting. all.writes; read = all.read_any }
 
-of_any : {A : Type 0} (o : Option A) (P : A → Type 0) → ((a : A) → P a) → IfSome o P
+pub of_any : {A : Type 0} (o : Option A) (P : A → Type 0) → ((a : A) → P a) → IfSome o P
 of_any None P holds = tt
 of_any (Some a) P holds = holds a
 

@@ -30,7 +30,7 @@ pub record RunWrites {R : Type 0} (words : Words R) (tells : Type 0) (told : Opt
   pub file : FaultToFile words r.form tells told before now script end
   pub nothing : MayWrite end ⊎ (now ≡ before)
 
--- of a device that has so many blocks, all that the rack made come back, each once, and it goes on telling; where the script was run to its end, no call of a block failed
+-- of a device that has so many blocks, all that the rack made of it come back, each once, and the rack goes on telling; where the script was run to its end, no call of a block failed
 pub record RunBlocks {S : Type 0} (shown : S → Shown) (tell tell_now : Type 0) (had has : List ℕ → Type 0) (most : ℕ) (ended : Ended S) : Type 0 where
   pub made : HasMadeJust had has (map (λ slot. (shown slot).number) ended.blocks.items)
   pub are : AreBlocks most ended.end (map shown ended.blocks.items)
@@ -76,6 +76,6 @@ pub record RunsBytes
   pub transfers : TransfersOf type.words (library.told old_library) (library.replied new_library) r bytes (map shown ended.blocks.items)
   pub refused : RefusalOf type.words (library.told old_library) (library.replied new_library) r bytes ended.end
   pub failed : (number : ℕ) → ended.end ≡ DeviceFault number → HasFailed number (map shown ended.blocks.items)
-  pub blocks : RunBlocks shown (rack.tells old_rack) (rack.tells new_rack) (rack.made old_rack) (rack.made new_rack) r.given.numbers.blocks ended
+  pub blocks : RunBlocks shown (rack.tells old_rack) (rack.tells new_rack) (rack.made old_rack r.device) (rack.made new_rack r.device) r.given.numbers.blocks ended
   pub keeps : LibraryKeeps library.told library.replied (IsInLength (library.replied new_library)) old_library new_library
   pub faults : RunFaults (library.faults old_library) (library.faults new_library) (rack.faults old_rack) (rack.faults new_rack) (sink.faults old_out) (sink.faults new_out) ended.end

@@ -59,7 +59,7 @@ where
     // What is written and when each end comes, by the files that the library tells, or any where the script reads none. All blocks
     // that were made come back, files are only read, and a count of faults rises only with an end that names a fault.
     ensures written { RunWrites R.Fields (K.tells rack.old) (L.told library.old) (O.told out.old) (O.told out.new) (as_reading arguments.now) script.now (map K.Slot.shown result.blocks.items) result.end }
-    ensures blocks { RunBlocks K.Slot.shown (K.tells rack.old) (K.tells rack.new) (K.made rack.old) (K.made rack.new) arguments.now.given.numbers.blocks result }
+    ensures blocks { RunBlocks K.Slot.shown (K.tells rack.old) (K.tells rack.new) (K.made rack.old (as_reading arguments.now).device) (K.made rack.new (as_reading arguments.now).device) arguments.now.given.numbers.blocks result }
     ensures transfers { RunTransfers R.Fields (sizes_at R.WIDTH (as_reading arguments.now)) script.now (map K.Slot.shown result.blocks.items) }
     ensures library { LibraryKeeps L.told L.replied (IsReadInScript script.now) library.old library.new }
     ensures ends { RunEnds R.Fields (L.told library.old) (L.replied library.new) (as_reading arguments.now) script.now (map K.Slot.shown result.blocks.items) result.end }

@@ -27,14 +27,15 @@ use std::alloc::Global;
 /// budget in bytes as many of them count as fit.
 ///
 /// After `Done` the sink took exactly the script's output in the form that the arguments say, which is that of
-/// one multiset, ordered by whole records and as the head says, whatever the sizes; after every other outcome
-/// it took a prefix of it. All blocks that the rack made come back, each once, and after `Done` what the budget
-/// cannot hold was written to them, and no call of a block failed; files are only read, and never past a length
-/// that the library said. Whatever the outcome, few blocks are written for the records that the script pushes,
-/// the heaps that these fill and the sessions that it begins, and no more are read than written, unless twice
-/// these heaps and `workers + 2` times the sessions come to 8^8 or more. Each outcome comes only for its cause,
-/// and `Usage`, `NoScript`, `ScriptTooLong`, `BadLine` and `BudgetTooSmall` if and only if they are due, in
-/// this order, unless an allocation or a read failed; these five make no block. No count of faults falls, and
+/// one multiset, ordered by whole records and as the head says, whatever the sizes; after every other outcome it
+/// took a prefix of it. All blocks that the rack made come back, each once; they are of the device that the
+/// arguments name. After `Done` what the budget cannot hold was written to them, and no call of a block failed;
+/// files are only read, and never past a length that the library said. Whatever the outcome, few blocks are
+/// written for the records that the script pushes, the heaps that these fill and the sessions that it begins,
+/// and no more are read than written, unless twice these heaps and `workers + 2` times the sessions come to 8^8
+/// or more. Each outcome comes only for its cause, and `Usage`, `NoScript`, `ScriptTooLong`, `BadLine` and
+/// `BudgetTooSmall` if and only if they are due, in this order, unless an allocation or a read failed; these
+/// five make no block, and without a reading nothing of the outside is called. No count of faults falls, and
 /// none rises but with the outcome that names it, and the library's with `WriteFault`, before which a read may
 /// have failed; so the same outside can be handed in again. A script that is not refused ends `Done` or
 /// `Memory`, unless the outcome names a fault, if there is room for its load: on the device, or in one heap
@@ -87,10 +88,11 @@ where
     ensures used_any { result.end ≡ Done → OfScript L.told library.old words.now (UsesDevice least_by K.Slot.shown result) }
     ensures transfers { OfScript L.told library.old words.now (TransfersBounded K.Slot.shown result) }
     ensures transfers_any { AreTransfersRight words.now L.told library.old L.replied library.new K.Slot.shown result }
-    ensures made { HasMadeJust (K.made rack.old) (K.made rack.new) (map (λ slot. (K.Slot.shown slot).number) result.blocks.items) }
+    ensures made { OfWords words.now (λ r. HasMadeJust (K.made rack.old r.device) (K.made rack.new r.device) (map (λ slot. (K.Slot.shown slot).number) result.blocks.items)) }
     ensures blocks { OfWords words.now (λ r. AreBlocks r.given.numbers.blocks result.end (map K.Slot.shown result.blocks.items)) }
     ensures unfailed { result.end ≡ Done → All (λ s. s.faults ≡ 0) (map K.Slot.shown result.blocks.items) }
     ensures none { reading words.now ≡ None → result.blocks.items ≡ [] }
+    ensures unasked { reading words.now ≡ None → (library.new ≡ library.old) × ((rack.new ≡ rack.old) × (out.new ≡ out.old)) }
     ensures rack_tells { K.tells rack.old → K.tells rack.new }
     ensures files { L.told library.new ≡ L.told library.old }
     ensures remembers { Remembers (L.replied library.old) (L.replied library.new) }

@@ -12,6 +12,7 @@ pub loop-number-preserved : goal.loop-number-preserved
 loop-number-preserved g c =
     let shown = g.K.Slot.Slot.shown in
     let made = g.K.Rack.made in
+    let device = c.args.device.now in
     let had = c.loop-number.blocks.items in
     let block = c.in-Ok-block.block in
     let items = c.push_reserved.ensures.items in
@@ -23,8 +24,8 @@ loop-number-preserved g c =
       room = c.push_reserved.ensures.capacity ∙ c.loop-number.invariant.room;
       new = subst (AreNew c.args.bytes) (sym all) (new-more c.args.bytes (map shown had) (shown block) c.loop-number.invariant.new number (record { size = c.in-Ok-block.ensures.size; no_fault = c.in-Ok-block.ensures.fresh.no_fault; no_write = c.in-Ok-block.ensures.fresh.no_write; no_read = c.in-Ok-block.ensures.fresh.no_read }));
       made =
-          let next : HasMade (made c.loop-number.rack) (made c.block.new.self) (length had ∷ []) = subst (λ n. HasMade (made c.loop-number.rack) (made c.block.new.self) (n ∷ [])) (sym c.loop-number.invariant.many) c.in-Ok-block.ensures.made in
-          subst (λ n. HasMade (made c.args.rack.now) (made c.block.new.self) (range_with_len 0 n)) (sym long) (made-more (made c.args.rack.now) (made c.loop-number.rack) (made c.block.new.self) (length had) c.loop-number.invariant.made next);
+          let next : HasMade (made c.loop-number.rack device) (made c.block.new.self device) (length had ∷ []) = subst (λ n. HasMade (made c.loop-number.rack device) (made c.block.new.self device) (n ∷ [])) (sym c.loop-number.invariant.many) c.in-Ok-block.ensures.made in
+          subst (λ n. HasMade (made c.args.rack.now device) (made c.block.new.self device) (range_with_len 0 n)) (sym long) (made-more (made c.args.rack.now device) (made c.loop-number.rack device) (made c.block.new.self device) (length had) c.loop-number.invariant.made next);
       tells = λ t. subst AllTell (sym all) (All-push Tells (map shown had) (shown block) (c.loop-number.invariant.tells t) (c.in-Ok-block.ensures.tells (c.loop-number.invariant.kept t)));
       kept = λ t. c.in-Ok-block.ensures.kept (c.loop-number.invariant.kept t);
       stays = c.in-Ok-block.ensures.cause.ok ∙ c.loop-number.invariant.stays;

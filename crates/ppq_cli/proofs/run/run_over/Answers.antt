@@ -33,7 +33,7 @@ returns-then-memory-need-clause-blocks g c =
     let shown = g.K.Slot.Slot.shown in
     let r = c.without_blocks in
     record {
-      made = made_nothing (λ s. (shown s).number) r.result.blocks.items (g.K.Rack.made c.args.rack.now) r.ensures.none;
+      made = made_nothing (λ s. (shown s).number) r.result.blocks.items (g.K.Rack.made c.args.rack.now (as_reading c.args.arguments.now).device) r.ensures.none;
       are = subst (λ (e : End). AreBlocks c.args.arguments.now.given.numbers.blocks e (map shown r.result.blocks.items)) (sym r.ensures.end) (no_blocks c.args.arguments.now.given.numbers.blocks (BudgetTooSmall _) (map shown r.result.blocks.items) (λ run. run) (ap (map shown) r.ensures.none));
       unfailed = λ is. let other = r.ensures.end in absurd (cc);
       tells = λ t. t;
@@ -119,7 +119,7 @@ returns-in-Ok-clause-blocks g c =
     let enough : fixed_of c.for_width-sizes.result ≤ c.for_width-sizes.result.memory = omega (arith, c.fixed-need.ensures, c.memory.ensures.same) in
     let all : length (map shown back) ≡ c.args.arguments.now.given.numbers.blocks = same.length ∙ length-map slots shown ∙ c.in-Ok.ensures.all ∙ c.blocks-2.ensures.same ∙ ap (λ (n : Numbers). n.blocks) sizes in
     record {
-      made = made_just shown back (g.K.Rack.made c.args.rack.now) (g.K.Rack.made c.make_blocks.new.rack) (length slots) numbers (same.length ∙ length-map slots shown) c.in-Ok.ensures.made;
+      made = made_just shown back (g.K.Rack.made c.args.rack.now reading.device) (g.K.Rack.made c.make_blocks.new.rack reading.device) (length slots) numbers (same.length ∙ length-map slots shown) c.in-Ok.ensures.made;
       are = record { numbers = numbers; most = omega (arith, all); all = λ run. all; all_or_none = λ run. inl all; none = λ refused. absurd (run_unrefused c.for_width-sizes.result c.run_script.result.end enough c.run_script.ensures.answer refused) };
       unfailed = c.run_script.ensures.unfailed;
       tells = c.make_blocks.ensures.kept;
@@ -182,7 +182,7 @@ returns-in-Err-clause-blocks g c =
     let most : length back ≤ c.args.arguments.now.given.numbers.blocks = subst (λ (n : ℕ). length back ≤ n) (c.blocks-2.ensures.same ∙ ap (λ (n : Numbers). n.blocks) sizes) made.most in
     let numbers = in_order (map shown back) made.new.numbers in
     record {
-      made = made_just shown back (g.K.Rack.made c.args.rack.now) (g.K.Rack.made c.make_blocks.new.rack) (length back) numbers (length-map back shown) c.in-Err.ensures.made;
+      made = made_just shown back (g.K.Rack.made c.args.rack.now reading.device) (g.K.Rack.made c.make_blocks.new.rack reading.device) (length back) numbers (length-map back shown) c.in-Err.ensures.made;
       are = subst (λ (e : End). AreBlocks c.args.arguments.now.given.numbers.blocks e (map shown back)) (sym c.end_of_making.ensures) (unmade_blocks c.args.arguments.now.given.numbers.blocks (map shown back) c.in-Err.fault numbers (omega (arith, most, length-map back shown)));
       unfailed = λ is. absurd (unmade_not_done c.in-Err.fault (sym c.end_of_making.ensures ∙ is));
       tells = c.make_blocks.ensures.kept;

@@ -3,20 +3,20 @@ use Rattle.std.specs.Prelude.{option_map}
 use Rattle.ppq_words.specs.Reading.{as_reading}
 use Rattle.ppq_cli.specs.Replies.{IsLoadedAs}
 use Rattle.ppq_cli.specs.RunWords.{reading}
-use Rattle.ppq_cli.proofs.Blocks.{made_nothing}
+use Rattle.ppq_cli.proofs.Blocks.{made_nothing_named}
 use Rattle.ppq_cli.proofs.Ends.{unloaded_stays}
 use Rattle.ppq_cli.proofs.Loaded.{of_loaded}
 use Rattle.ppq_cli.proofs.Transfers.{any_script, any_reply}
 use Rattle.ppq_cli.proofs.top_call.run_words.Goals as goal
 
 pub returns-in-Err-clause-made : goal.returns-in-Err-clause-made
-returns-in-Err-clause-made g c = made_nothing (λ s. (g.K.Slot.Slot.shown s).number) _ (g.K.Rack.made c.args.rack.now) c.without_blocks.ensures.none
+returns-in-Err-clause-made g c = made_nothing_named (λ s. (g.K.Slot.Slot.shown s).number) _ (g.K.Rack.made c.args.rack.now) c.args.words.now c.without_blocks.ensures.none
 
 pub returns-in_default-clause-made : goal.returns-in_default-clause-made
-returns-in_default-clause-made g c = made_nothing (λ s. (g.K.Slot.Slot.shown s).number) _ (g.K.Rack.made c.args.rack.now) c.without_blocks-in_default.ensures.none
+returns-in_default-clause-made g c = made_nothing_named (λ s. (g.K.Slot.Slot.shown s).number) _ (g.K.Rack.made c.args.rack.now) c.args.words.now c.without_blocks-in_default.ensures.none
 
 pub returns-in-Err-load-clause-made : goal.returns-in-Err-load-clause-made
-returns-in-Err-load-clause-made g c = made_nothing (λ s. (g.K.Slot.Slot.shown s).number) _ (g.K.Rack.made c.args.rack.now) c.without_blocks-in-Err-load.ensures.none
+returns-in-Err-load-clause-made g c = made_nothing_named (λ s. (g.K.Slot.Slot.shown s).number) _ (g.K.Rack.made c.args.rack.now) c.args.words.now c.without_blocks-in-Err-load.ensures.none
 
 pub returns-in-Err-clause-transfers : goal.returns-in-Err-clause-transfers
 returns-in-Err-clause-transfers g c = any_script g.K.Slot.Slot.shown c.without_blocks.result g.L.Library.told c.args.library.now c.args.words.now c.without_blocks.ensures.none
@@ -61,6 +61,7 @@ returns-in-Ok-load g c =
       blocks = e.blocks;
       unfailed = e.unfailed;
       none = e.none;
+      unasked = e.unasked;
       rack_tells = e.rack_tells;
       files = e.files;
       remembers = e.remembers;

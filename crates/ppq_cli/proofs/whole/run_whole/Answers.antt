@@ -17,6 +17,7 @@ returns g c =
       blocks = e.blocks;
       unfailed = e.unfailed;
       none = e.none;
+      unasked = e.unasked;
       rack_tells = e.rack_tells;
       files = e.files;
       remembers = e.remembers;
