@@ -2,7 +2,7 @@
 use Rattle.std.proofs.Common.{◌≡◌, ℕ, List, [], Option, Some, None, refl, sym, ap, ◌∙◌, subst, inl, inr}
 use Rattle.std.specs.Prelude.{Result, Err, IfErr, IsErrOf, IfSome, map}
 use Rattle.ppq_words.specs.ppq_outside.Shown.{Shown}
-use Rattle.ppq_words.specs.ppq_outside.Told.{Rose}
+use Rattle.ppq_words.specs.ppq_outside.Told.{RepliesOnly, Rose}
 use Rattle.ppq_words.specs.ppq_outside.declared.library.Library.{Ghosts as LibraryShows}
 use Rattle.ppq_words.specs.ppq_outside.declared.rack.Rack.{Ghosts as RackShows}
 use Rattle.ppq_words.specs.ppq_outside.declared.sink.Sink.{Ghosts as SinkShows}
@@ -10,6 +10,7 @@ use Rattle.ppq_words.specs.ppq_script.Words.{Words}
 use Rattle.ppq_words.specs.ppq_script.declared.check.CheckFault.{CheckFault}
 use Rattle.ppq_words.specs.ppq_script.declared.check.CheckFault.TheVariants as check
 use Rattle.ppq_words.specs.ppq_script.Files.{IsLength}
+use Rattle.ppq_words.specs.ppq_script.Checking.{IsKeptLength}
 use Rattle.ppq_words.specs.ppq_script.Reading.{Reading, command_list}
 use Rattle.ppq_words.specs.Reading.{Reading as Arguments, sizes_at}
 use Rattle.ppq_engine.specs.Ends.{NoFault}
@@ -28,7 +29,7 @@ use Rattle.ppq_cli.specs.Transfers.{TransfersWithin}
 use Rattle.ppq_cli.specs.Types.{typed}
 use Rattle.ppq_cli.proofs.Blocks.{made_nothing}
 use Rattle.ppq_cli.proofs.Ends.{unread_not_run, no_blocks, refused_answer, refused_refusal, loaded_run, loaded_answer, loaded_refusal, of_commands}
-use Rattle.ppq_cli.proofs.Extent.{reads_then, reads_script, reads_lengths}
+use Rattle.ppq_cli.proofs.Extent.{lengths_asked, commands_asked}
 use Rattle.ppq_cli.proofs.Given.{script_remembered}
 use Rattle.ppq_cli.proofs.Transfers.{no_slots}
 use Rattle.ppq_cli.proofs.RunOver.{same_count}
@@ -109,7 +110,9 @@ module _ {R L K O S : Type 0} (words : Words R) (library : LibraryShows L) (rack
           unfailed = λ e. absurd (not_done fault (sym is ∙ e));
           tells = λ t. t;
         };
-        keeps = record { told = keeps.told; remembers = keeps.remembers; asks = reads_lengths (library.replied old) (library.replied new) keeps.asks };
+        files = keeps.told;
+        remembers = keeps.remembers;
+        asks = inl ((fault, is), lengths_asked (library.replied old) (library.replied new) r keeps.asks);
         faults = subst F (sym is) (record {
           library = counted (library.faults old) (library.faults new) result fault was counts;
           library_stays = λ read written. count_stays (library.faults old) (library.faults new) result fault was counts read;
@@ -123,7 +126,8 @@ module _ {R L K O S : Type 0} (words : Words R) (library : LibraryShows L) (rack
   -- a script that was run over a device
   pub run_bytes :
       (old mid new : L) (old_rack new_rack : K) (old_out new_out : O) (ended : Ended S) (script : Reading R)
-      → IsScript words (library.told old) (library.replied mid) bytes r.given.numbers.workers script → LibraryKeeps library.told library.replied IsLength old mid → library.faults mid ≡ library.faults old
+      → IsScript words (library.told old) (library.replied mid) bytes r.given.numbers.workers script → LibraryKeeps library.told library.replied IsLength old mid
+      → RepliesOnly (library.replied old) (library.replied mid) (IsKeptLength script) → library.faults mid ≡ library.faults old
       → RunWrites words (rack.tells old_rack) (library.told mid) (sink.told old_out) (sink.told new_out) r script (map shown ended.blocks.items) ended.end
       → RunBlocks shown (rack.tells old_rack) (rack.tells new_rack) (rack.made old_rack r.device) (rack.made new_rack r.device) r.given.numbers.blocks ended
       → TransfersWithin (sizes_at words.WIDTH r) (work_of words (sizes_at words.WIDTH r) (command_list script)) (map shown ended.blocks.items)
@@ -131,7 +135,7 @@ module _ {R L K O S : Type 0} (words : Words R) (library : LibraryShows L) (rack
       → RunEnds words (library.told mid) (library.replied new) r script (map shown ended.blocks.items) ended.end
       → RunFaults (library.faults mid) (library.faults new) (rack.faults old_rack) (rack.faults new_rack) (sink.faults old_out) (sink.faults new_out) ended.end
       → RunsBytes (typed words) library rack sink shown r bytes old new old_rack new_rack old_out new_out ended
-  run_bytes old mid new old_rack new_rack old_out new_out ended script is first same writes blocks few next ends faults =
+  run_bytes old mid new old_rack new_rack old_out new_out ended script is first asked same writes blocks few next ends faults =
       let told = library.told old in
       let replied = library.replied new in
       let before = sink.told old_out in
@@ -152,11 +156,8 @@ module _ {R L K O S : Type 0} (words : Words R) (library : LibraryShows L) (rack
         refused = loaded_refusal words told replied r bytes script ended.end later ended_so.answer ended_so.changed;
         failed = ended_so.failed;
         blocks = blocks;
-        keeps = record {
-          told = next.told ∙ first.told;
-          remembers = λ reply had. next.remembers reply (first.remembers reply had);
-          asks = reads_then (library.replied old) (library.replied mid) replied next.remembers (reads_lengths (library.replied old) (library.replied mid) first.asks)
-              (reads_script words told (library.replied mid) replied bytes r.given.numbers.workers script next.remembers is next.asks);
-        };
+        files = next.told ∙ first.told;
+        remembers = λ reply had. next.remembers reply (first.remembers reply had);
+        asks = inr (script, (later, commands_asked (library.replied old) (library.replied mid) replied r script asked next.asks));
         faults = subst F same faults;
       }

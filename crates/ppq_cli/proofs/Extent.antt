@@ -1,88 +1,70 @@
--- How far the program reads of a file: at most to a length that the library said of it.
-use Rattle.std.proofs.Common.{◌≡◌, ℕ, zero, suc, List, [], ◌∷◌, Option, Some, sym, subst}
-use Rattle.std.specs.Prelude.{slice_get, map}
-use Rattle.std.specs.List.{AllZip}
-use Rattle.ppq_words.specs.ppq_outside.Told.{Reply, OfLength, OfRead, Remembers, RepliesOnly}
+-- Which files the program asks for, and how far it reads them.
+use Rattle.std.proofs.Common.{◌≡◌, ℕ, List, Option, Some, refl, sym, subst, inl, inr}
+use Rattle.std.specs.Prelude.{◌⊎◌, Result, Ok, Err}
+use Rattle.ppq_words.specs.ppq_outside.Told.{Reply, OfLength, OfRead, Remembers, RepliesOnly, IsLengthGiven}
 use Rattle.ppq_words.proofs.ppq_outside.Replies.{replies_wider, replies_then}
 use Rattle.ppq_words.specs.ppq_script.Words.{Words}
-use Rattle.ppq_words.specs.ppq_script.declared.command.Command.{Command}
-use Rattle.ppq_words.specs.ppq_script.declared.command.Command.TheVariants.{Push, Pop, Top, Size, Bulk, Gen, BulkPop, BulkPopLimit, Drain, BulkBegin, BulkPush, BulkEnd, LimitBegin, LimitPush, LimitTop, LimitPop, LimitEnd}
-use Rattle.ppq_words.specs.ppq_script.declared.numbered.Numbered.{Numbered}
-use Rattle.ppq_words.specs.ppq_script.Lines.{names_of, numbered_of}
-use Rattle.ppq_words.specs.ppq_script.Files.{file_in, name_at, IsLength}
-use Rattle.ppq_words.specs.ppq_script.Checking.{IsAskedFile, IsAsked}
+use Rattle.ppq_words.specs.ppq_script.Files.{IsLength}
+use Rattle.ppq_words.specs.ppq_script.Checking.{IsKeptLength}
 use Rattle.ppq_words.specs.ppq_script.Reading.{Reading}
+use Rattle.ppq_words.specs.Reading.{Reading as Arguments}
 use Rattle.ppq_engine.specs.Files.{IsReadInScript}
-use Rattle.ppq_cli.specs.Load.{script_kinds}
-use Rattle.ppq_cli.specs.Replies.{Files, IsInLength, ReadsWithin, IsScript}
+use Rattle.ppq_engine.specs.Reading.{IsReadWithin}
+use Rattle.ppq_engine.specs.declared.end.End.{End}
+use Rattle.ppq_cli.specs.Replies.{Files, IsOn, IsOnFile, AsksOf}
 
 -- a length that was said is not forgotten
-still_in : (before now : Reply → Type 0) → Remembers before now → (reply : Reply) → IsInLength before reply → IsInLength now reply
-still_in before now kept (OfLength name size) is = tt
-still_in before now kept (OfRead name at room given) (said, (reply, within)) = (said, (kept (OfLength name (Some said)) reply, within))
+later_on : (before now : Reply → Type 0) (asked : List ℕ) → Remembers before now → (reply : Reply) → IsOn before asked reply → IsOn now asked reply
+later_on before now asked kept (OfLength name size) on = on
+later_on before now asked kept (OfRead name at room given) (is, (said, (reply, within))) = (is, (said, (kept (OfLength name (Some said)) reply, within)))
 
--- first these calls, then those
-pub reads_then : (before mid now : Reply → Type 0) → Remembers mid now → ReadsWithin before mid → ReadsWithin mid now → ReadsWithin before now
-reads_then before mid now kept first next = replies_then before mid now (IsInLength now) (replies_wider before mid (IsInLength mid) (IsInLength now) (still_in mid now kept) first) next
+-- the length of one file was asked
+length_on : {E : Type 0} (now : Reply → Type 0) (asked : List ℕ) (result : Result (Option ℕ) E) (reply : Reply) → IsLengthGiven asked result reply → IsOn now asked reply
+length_on now asked (Ok size) reply given = let P : Reply → Type 0 = λ x. IsOn now asked x in subst P (sym given) refl
+length_on now asked (Err fault) reply given = absurd given
 
--- a command that reads a file has the length that the library said of it
-asked_file : {R : Type 0} (words : Words R) (replied : Reply → Type 0) (names : List (List ℕ)) (old new : Command R) (file said : ℕ) → IsAskedFile words replied names (file_in old) old new → new ≡ Bulk file said → replied (OfLength (name_at names file) (Some said))
-asked_file words replied names (Push item) new file said is e = cc
-asked_file words replied names Pop new file said is e = cc
-asked_file words replied names Top new file said is e = cc
-asked_file words replied names Size new file said is e = cc
-asked_file words replied names (Bulk f s) new file said (long, (is, (reply, records))) e =
-    let same : f ≡ file = cc in
-    let size : long ≡ said = cc in
-    let P : ℕ → Type 0 = λ n. replied (OfLength (name_at names n) (Some long)) in
-    let Q : ℕ → Type 0 = λ n. replied (OfLength (name_at names file) (Some n)) in
-    subst Q size (subst P same reply)
-asked_file words replied names (Gen seed count) new file said is e = cc
-asked_file words replied names (BulkPop count) new file said is e = cc
-asked_file words replied names (BulkPopLimit limit count) new file said is e = cc
-asked_file words replied names (Drain count) new file said is e = cc
-asked_file words replied names BulkBegin new file said is e = cc
-asked_file words replied names (BulkPush pass item) new file said is e = cc
-asked_file words replied names BulkEnd new file said is e = cc
-asked_file words replied names (LimitBegin limit) new file said is e = cc
-asked_file words replied names (LimitPush pass item) new file said is e = cc
-asked_file words replied names LimitTop new file said is e = cc
-asked_file words replied names LimitPop new file said is e = cc
-asked_file words replied names LimitEnd new file said is e = cc
+pub length_asked :
+    {E : Type 0} (before now : Reply → Type 0) (asked : List ℕ) (result : Result (Option ℕ) E) → RepliesOnly before now (IsLengthGiven asked result) → RepliesOnly before now (IsOn now asked)
+length_asked before now asked result only = replies_wider before now (IsLengthGiven asked result) (IsOn now asked) (length_on now asked result) only
 
-asked_at :
-    {R : Type 0} (words : Words R) (replied : Reply → Type 0) (names : List (List ℕ)) (old new : List (Numbered R)) (i file said : ℕ) → AllZip (IsAsked words replied names) old new → slice_get (map (λ n. n.command) new) i ≡ Some (Bulk file said)
-    → replied (OfLength (name_at names file) (Some said))
-asked_at words replied names [] [] i file said asked e = cc
-asked_at words replied names [] (y ∷ ys) i file said asked e = absurd asked
-asked_at words replied names (x ∷ xs) [] i file said asked e = absurd asked
-asked_at words replied names (x ∷ xs) (y ∷ ys) zero file said (one, rest) e =
-    let here : y.command ≡ Bulk file said = cc in
-    asked_file words replied names x.command y.command file said one.command here
-asked_at words replied names (x ∷ xs) (y ∷ ys) (suc i) file said (one, rest) e = asked_at words replied names xs ys i file said rest e
+-- and then a piece of it was read that ends at or before that length
+piece_on : (now : Reply → Type 0) (asked : List ℕ) (said : ℕ) → now (OfLength asked (Some said)) → (reply : Reply) → IsReadWithin asked said reply → IsOn now asked reply
+piece_on now asked said had (OfLength name size) read = absurd read
+piece_on now asked said had (OfRead name at room given) read =
+    let P : List ℕ → Type 0 = λ n. now (OfLength n (Some said)) in
+    (read.0, (said, (subst P (sym read.0) had, read.1)))
 
-in_script :
-    {R : Type 0} (words : Words R) (told : Option Files) (replied : Reply → Type 0) (bytes : List ℕ) (workers : ℕ) (script : Reading R) → IsScript words told replied bytes workers script
-    → (reply : Reply) → IsReadInScript script reply → IsInLength replied reply
-in_script words told replied bytes workers script is (OfLength asked size) read = tt
-in_script words told replied bytes workers script is (OfRead asked at room given) read =
-    let names = names_of (script_kinds words bytes workers) in
-    let said : replied (OfLength (name_at names read.file) (Some read.said)) = asked_at words replied names (numbered_of 1 (script_kinds words bytes workers)) script.commands read.at read.file read.said is.asked read.here in
-    let P : List (List ℕ) → Type 0 = λ ns. replied (OfLength (name_at ns read.file) (Some read.said)) in
-    let Q : List ℕ → Type 0 = λ n. replied (OfLength n (Some read.said)) in
-    (read.said, (subst Q (sym read.within.0) (subst P (sym is.names) said), read.within.1))
+pub piece_asked :
+    (before mid now : Reply → Type 0) (asked : List ℕ) (said : ℕ) → Remembers mid now → mid (OfLength asked (Some said))
+    → RepliesOnly before mid (IsOn mid asked) → RepliesOnly mid now (IsReadWithin asked said) → RepliesOnly before now (IsOn now asked)
+piece_asked before mid now asked said kept had first next =
+    replies_then before mid now (IsOn now asked) (replies_wider before mid (IsOn mid asked) (IsOn now asked) (later_on mid now asked kept) first)
+    (replies_wider mid now (IsReadWithin asked said) (IsOn now asked) (piece_on now asked said (kept (OfLength asked (Some said)) had)) next)
 
--- the files of a script that was read were read, as far as was said
-pub reads_script :
-    {R : Type 0} (words : Words R) (told : Option Files) (before now : Reply → Type 0) (bytes : List ℕ) (workers : ℕ) (script : Reading R)
-    → Remembers before now → IsScript words told before bytes workers script → RepliesOnly before now (IsReadInScript script) → ReadsWithin before now
-reads_script words told before now bytes workers script kept is only =
-    replies_wider before now (IsReadInScript script) (IsInLength now) (λ reply read. still_in before now kept reply (in_script words told before bytes workers script is reply read)) only
+-- first of one file, and then of others too
+then_others :
+    (before mid now : Reply → Type 0) (asked : List ℕ) (Other : Reply → Type 0) → Remembers mid now → RepliesOnly before mid (IsOn mid asked) → RepliesOnly mid now (λ reply. IsOn now asked reply ⊎ Other reply)
+    → RepliesOnly before now (λ reply. IsOn now asked reply ⊎ Other reply)
+then_others before mid now asked Other kept first next =
+    let kind : Reply → Type 0 = λ reply. IsOn now asked reply ⊎ Other reply in
+    replies_then before mid now kind (replies_wider before mid (IsOn mid asked) kind (λ reply on. inl (later_on mid now asked kept reply on)) first) next
 
--- lengths alone were asked
-in_lengths : (replied : Reply → Type 0) (reply : Reply) → IsLength reply → IsInLength replied reply
-in_lengths replied (OfLength name size) is = tt
-in_lengths replied (OfRead name at room given) is = absurd is
+-- so of a script that was loaded, and then of its files
+pub files_asked :
+    {R : Type 0} (words : Words R) (told : Option Files) (before mid now : Reply → Type 0) (r : Arguments) (bytes : List ℕ) (end : End) → Remembers mid now → RepliesOnly before mid (IsOn mid r.script)
+    → AsksOf words told mid now r bytes end → AsksOf words told before now r bytes end
+files_asked words told before mid now r bytes end kept first (inl (check, next)) = inl (check, then_others before mid now r.script IsLength kept first next)
+files_asked words told before mid now r bytes end kept first (inr (script, (is, next))) = inr (script, (is, then_others before mid now r.script (IsOnFile script) kept first next))
 
-pub reads_lengths : (before now : Reply → Type 0) → RepliesOnly before now IsLength → ReadsWithin before now
-reads_lengths before now only = replies_wider before now IsLength (IsInLength now) (in_lengths now) only
+-- first the lengths that commands keep, and then reads up to these
+pub commands_asked :
+    {R : Type 0} (before mid now : Reply → Type 0) (r : Arguments) (script : Reading R) → RepliesOnly before mid (IsKeptLength script) → RepliesOnly mid now (IsReadInScript script)
+    → RepliesOnly before now (λ reply. IsOn now r.script reply ⊎ IsOnFile script reply)
+commands_asked before mid now r script first next =
+    let kind : Reply → Type 0 = λ reply. IsOn now r.script reply ⊎ IsOnFile script reply in
+    replies_then before mid now kind (replies_wider before mid (IsKeptLength script) kind (λ reply kept. inr (inl kept)) first)
+    (replies_wider mid now (IsReadInScript script) kind (λ reply read. inr (inr read)) next)
+
+-- lengths alone
+pub lengths_asked : (before now : Reply → Type 0) (r : Arguments) → RepliesOnly before now IsLength → RepliesOnly before now (λ reply. IsOn now r.script reply ⊎ IsLength reply)
+lengths_asked before now r only = replies_wider before now IsLength (λ reply. IsOn now r.script reply ⊎ IsLength reply) (λ reply length. inr length) only

@@ -15,12 +15,12 @@ use Rattle.ppq_engine.specs.declared.end.End.{End}
 use Rattle.ppq_engine.specs.declared.end.End.TheVariants.{Done, Usage, NoFreeBlock, FileChanged}
 use Rattle.ppq_engine.specs.declared.end.Ended.{Ended}
 use Rattle.ppq_cli.specs.Device.{IsSurelyRun}
-use Rattle.ppq_cli.specs.Replies.{Files, IsLoadedAs, OfRun, RefusalOf, RunOf, RunIsRight, TransfersOf, WroteNothing, HasRunWhole, HasRunFull, LibraryKeeps, IsInLength}
+use Rattle.ppq_cli.specs.Replies.{Files, IsLoadedAs, OfRun, RefusalOf, RunOf, RunIsRight, TransfersOf, WroteNothing, HasRunWhole, HasRunFull, LibraryKeeps, IsOn, AsksOf}
 use Rattle.ppq_cli.specs.RunWords.{reading, About, Measure, OfWords, OfBytes, OfFile, WritesAll, WritesPart, WritesRoom, UsesDevice, load_by, crest_by, most_by, least_by, refusal_of, refusal_of_bytes, refusal_of_file, IsAnswer, IsTooLarge, Completes, RunsWords}
 use Rattle.ppq_cli.specs.RunOver.{RunsBytes}
 use Rattle.ppq_cli.specs.Types.{type_of}
 use Rattle.ppq_cli.proofs.Ends.{of_commands, of_bytes, answer_of_bytes, named_completed}
-use Rattle.ppq_cli.proofs.Extent.{reads_then}
+use Rattle.ppq_cli.proofs.Extent.{files_asked}
 use Rattle.ppq_cli.proofs.Given.{loaded_remembered}
 use Rattle.ppq_cli.proofs.Transfers as transfers
 
@@ -31,7 +31,7 @@ rose_above before now small rose = omega (arith, small, rose)
 module _
     {L K O S : Type 0} (library : LibraryShows L) (rack : RackShows K S) (sink : SinkShows O) (shown : S → Shown) (words : List (String Global)) (r : Reading) (named : reading words ≡ Some r)
     (old mid new : L) (old_rack new_rack : K) (old_out new_out : O) (ended : Ended S) (bytes : List ℕ)
-    (loaded : IsLoadedAs (library.told old) (library.replied mid) r.script bytes) (kept : LibraryKeeps library.told library.replied (IsInLength (library.replied mid)) old mid)
+    (loaded : IsLoadedAs (library.told old) (library.replied mid) r.script bytes) (kept : LibraryKeeps library.told library.replied (IsOn (library.replied mid) r.script) old mid)
     (same : library.faults mid ≡ library.faults old) (e : RunsBytes (type_of bytes) library rack sink shown r bytes mid new old_rack new_rack old_out new_out ended) where
   of_words : (P : Reading → Type 0) → P r → OfWords words P
   of_words P holds = let Q : Option Reading → Type 0 = λ o. IfSome o P in subst Q (sym named) holds
@@ -80,6 +80,9 @@ module _
   few : TransfersOf (type_of bytes).words (library.told old) (library.replied new) r bytes (map shown ended.blocks.items)
   few = let P : Option Files → Type 0 = λ t. TransfersOf (type_of bytes).words t (library.replied new) r bytes (map shown ended.blocks.items) in subst P kept.told e.transfers
 
+  asks : AsksOf (type_of bytes).words (library.told old) (library.replied mid) (library.replied new) r bytes ended.end
+  asks = let P : Option Files → Type 0 = λ t. AsksOf (type_of bytes).words t (library.replied mid) (library.replied new) r bytes ended.end in subst P kept.told e.asks
+
   -- where a file had changed, the library does not tell
   untold : (line said got : ℕ) → ended.end ≡ FileChanged line said got → library.told old ≡ None
   untold line said got is =
@@ -100,7 +103,7 @@ module _
 
   pub of_loaded : library.faults old < 2 ^ 63 → rack.faults old_rack < 2 ^ 63 → sink.faults old_out < 2 ^ 63 → RunsWords library rack sink shown words old new old_rack new_rack old_out new_out ended
   of_loaded quiet_library quiet_rack quiet_sink =
-      let now_loaded : IsLoadedAs (library.told old) (library.replied new) r.script bytes = loaded_remembered (library.told old) (library.replied mid) (library.replied new) r.script bytes e.keeps.remembers loaded in
+      let now_loaded : IsLoadedAs (library.told old) (library.replied new) r.script bytes = loaded_remembered (library.told old) (library.replied mid) (library.replied new) r.script bytes e.remembers loaded in
       let no : reading words ≡ None → ⊥ = λ is. let other : Some r ≡ None = sym named ∙ is in cc in
       let before : library.faults mid < 2 ^ 63 = omega (arith, same, quiet_library) in
       record {
@@ -123,9 +126,9 @@ module _
         none = λ is. absurd (no is);
         unasked = λ is. absurd (no is);
         rack_tells = e.blocks.tells;
-        files = e.keeps.told ∙ kept.told;
-        remembers = λ reply had. e.keeps.remembers reply (kept.remembers reply had);
-        reads = reads_then (library.replied old) (library.replied mid) (library.replied new) e.keeps.remembers kept.asks e.keeps.asks;
+        files = e.files ∙ kept.told;
+        remembers = λ reply had. e.remembers reply (kept.remembers reply had);
+        reads = of_words _ (inr (bytes, (now_loaded, files_asked (type_of bytes).words (library.told old) (library.replied old) (library.replied mid) (library.replied new) r bytes ended.end e.remembers kept.asks asks)));
         usage = λ is. absurd (not_usage is);
         no_reading = λ is. absurd (no is);
         early = λ is. absurd (no is);

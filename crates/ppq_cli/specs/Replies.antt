@@ -8,13 +8,14 @@ use Rattle.ppq_words.specs.ppq_script.Words.{Words}
 use Rattle.ppq_words.specs.ppq_script.declared.command.Command.{Command}
 use Rattle.ppq_words.specs.ppq_script.declared.command.Command.TheVariants.{Bulk}
 use Rattle.ppq_words.specs.ppq_script.Lines.{numbered_of, names_of, first_bad, first_bad_by}
-use Rattle.ppq_words.specs.ppq_script.Files.{is_usable, IsBadLine}
-use Rattle.ppq_words.specs.ppq_script.Checking.{IsAsked, with_sizes}
+use Rattle.ppq_words.specs.ppq_script.Files.{is_usable, IsBadLine, IsLength}
+use Rattle.ppq_words.specs.ppq_script.Checking.{IsAsked, IsKeptLength, with_sizes}
 use Rattle.ppq_words.specs.ppq_script.declared.check.CheckFault.{CheckFault}
 use Rattle.ppq_words.specs.ppq_script.declared.check.CheckFault.TheVariants as check
 use Rattle.ppq_words.specs.ppq_script.declared.form.Form.{Form}
 use Rattle.ppq_words.specs.ppq_script.Reading.{Reading, command_list}
 use Rattle.ppq_words.specs.Reading.{Reading as Arguments, in_unit, sizes_at}
+use Rattle.ppq_engine.specs.Files.{IsReadInScript}
 use Rattle.ppq_engine.specs.Loads.{most_of, least_of, begins_limit, FitsWritten, IsLoad}
 use Rattle.ppq_engine.specs.Output.{AreFilesOf, given_of, output_of, load_of, crest_of, TakesWithin}
 use Rattle.ppq_engine.specs.Reading.{EndsAt}
@@ -24,7 +25,7 @@ use Rattle.ppq_engine.specs.Work.{work_of}
 use Rattle.ppq_engine.specs.declared.end.End.{End}
 use Rattle.ppq_engine.specs.declared.end.End.TheVariants.{Done, BadLine, Usage, ReadFault, WriteFault, DeviceFault, NoFreeBlock, BudgetTooSmall, Memory, FileChanged, NoDevice, NoScript, ScriptTooLong}
 use Rattle.ppq_cli.specs.Device.{IsSurelyRun}
-use Rattle.ppq_cli.specs.Load.{IsLoaded, script_kinds}
+use Rattle.ppq_cli.specs.Load.{IsLoaded, check_end, script_kinds}
 use Rattle.ppq_cli.specs.Transfers.{TransfersWithin, AreUntouched}
 use Rattle.ppq_cli.specs.Types.{type_of}
 
@@ -48,14 +49,10 @@ pub record IsReplied (replied : Reply → Type 0) (name bytes : List ℕ) : Type
   pub said : replied (OfLength name (Some (length bytes)))
   pub gave : IsGiven replied name bytes
 
--- a reply on a length; or to a read that ends at or before a length that was said of its file
-abbrev pub IsInLength : (Reply → Type 0) → Reply → Type 0
-IsInLength replied (OfLength name size) = ⊤
-IsInLength replied (OfRead name at room given) = (said : ℕ) × (replied (OfLength name (Some said)) × (at + room ≤ said))
-
--- since then only lengths were asked, and bytes at places before a length that was said of their file
-abbrev pub ReadsWithin : (Reply → Type 0) → (Reply → Type 0) → Type 0
-ReadsWithin before now = RepliesOnly before now (IsInLength now)
+-- a reply on this file: on its length, or to a read that ends at or before a length that was said of it
+abbrev pub IsOn : (Reply → Type 0) → List ℕ → Reply → Type 0
+IsOn replied asked (OfLength name size) = name ≡ asked
+IsOn replied asked (OfRead name at room given) = (name ≡ asked) × ((said : ℕ) × (replied (OfLength name (Some said)) × (at + room ≤ said)))
 
 -- What a call leaves of the library: it tells what it told, remembers what it replied, and replied since to nothing but this
 pub record LibraryKeeps {L : Type 0} (files : L → Option (List ℕ → Option (List ℕ))) (replied : L → Reply → Type 0) (kind : Reply → Type 0) (old new : L) : Type 0 where
@@ -151,6 +148,26 @@ OfGood {R} words told replied r bytes P = (script : Reading R) × (IsScript word
 -- and the budget is no less than its fixed part
 abbrev pub OfRun : {R : Type 0} → Words R → Option Files → (Reply → Type 0) → Arguments → List ℕ → (Reading R → Type 0) → Type 0
 OfRun words told replied r bytes P = (fixed_of (sizes_at words.WIDTH r) ≤ (sizes_at words.WIDTH r).memory) × OfGood words told replied r bytes P
+
+-- the end is one that the check of a script's files may come to, where it does not find all of them
+abbrev pub IsOfCheck : End → Type 0
+IsOfCheck end = (fault : CheckFault) × (end ≡ check_end fault)
+
+-- a reply on the file of a command: the length that the command keeps of it, or one to a read that ends at or before that length
+abbrev pub IsOnFile : {R : Type 0} → Reading R → Reply → Type 0
+IsOnFile script reply = IsKeptLength script reply ⊎ IsReadInScript script reply
+
+-- since then it replied on the script's own file, and on the files of the commands; or the check did not find all files, and it replied on
+-- the script's own file, and on lengths of any
+abbrev pub AsksOf : {R : Type 0} → Words R → Option Files → (Reply → Type 0) → (Reply → Type 0) → Arguments → List ℕ → End → Type 0
+AsksOf words told before now r bytes end =
+    (IsOfCheck end × RepliesOnly before now (λ reply. IsOn now r.script reply ⊎ IsLength reply))
+    ⊎ OfGood words told now r bytes (λ script. RepliesOnly before now (λ reply. IsOn now r.script reply ⊎ IsOnFile script reply))
+
+-- since then the library replied on the script's file alone; or it gave the script as some bytes, and so it is with the records that its
+-- head names
+abbrev pub AsksAreRight : Option Files → (Reply → Type 0) → (Reply → Type 0) → Arguments → End → Type 0
+AsksAreRight told before now r end = RepliesOnly before now (IsOn now r.script) ⊎ OfLoaded told now r.script (λ bytes. AsksOf (type_of bytes).words told before now r bytes end)
 
 -- if the end refuses the script, that rests on what the library replied of its files
 abbrev pub RefusalOf : {R : Type 0} → Words R → Option Files → (Reply → Type 0) → Arguments → List ℕ → End → Type 0

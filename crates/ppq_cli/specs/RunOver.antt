@@ -1,7 +1,7 @@
 -- What `run_over` says, of a script that was loaded and is run over a device; and `run_bytes`, of a script's bytes.
 use Rattle.std.specs.Prelude.{◌≡◌, ◌⊎◌, ℕ, ◌≤◌, List, map, Option, IfSome, All}
 use Rattle.ppq_words.specs.ppq_outside.Shown.{Shown}
-use Rattle.ppq_words.specs.ppq_outside.Told.{Reply, Rose}
+use Rattle.ppq_words.specs.ppq_outside.Told.{Reply, Remembers, Rose}
 use Rattle.ppq_words.specs.ppq_outside.Made.{HasMadeJust}
 use Rattle.ppq_words.specs.ppq_outside.declared.library.Library.{Ghosts as LibraryShows}
 use Rattle.ppq_words.specs.ppq_outside.declared.rack.Rack.{Ghosts as RackShows}
@@ -17,7 +17,7 @@ use Rattle.ppq_engine.specs.declared.end.End.{End}
 use Rattle.ppq_engine.specs.declared.end.End.TheVariants.{Done, ReadFault, WriteFault, DeviceFault, NoFreeBlock, Memory, FileChanged, NoDevice}
 use Rattle.ppq_engine.specs.declared.end.Ended.{Ended}
 use Rattle.ppq_cli.specs.Device.{AreBlocks}
-use Rattle.ppq_cli.specs.Replies.{Files, HasRunWhole, HasRunPart, HasRunFull, RanToLoad, FaultToFile, WroteNothing, RunOf, RefusalOf, TransfersOf, LibraryKeeps, IsInLength}
+use Rattle.ppq_cli.specs.Replies.{Files, HasRunWhole, HasRunPart, HasRunFull, RanToLoad, FaultToFile, WroteNothing, RunOf, RefusalOf, TransfersOf, AsksOf}
 use Rattle.ppq_cli.specs.RunWords.{OfBytes, WritesPart, MayWrite, refusal_of_budget, refusal_of_bytes, IsAnswer, IsTriedOrRefusal}
 use Rattle.ppq_cli.specs.Types.{RecordType}
 
@@ -77,5 +77,7 @@ pub record RunsBytes
   pub refused : RefusalOf type.words (library.told old_library) (library.replied new_library) r bytes ended.end
   pub failed : (number : ℕ) → ended.end ≡ DeviceFault number → HasFailed number (map shown ended.blocks.items)
   pub blocks : RunBlocks shown (rack.tells old_rack) (rack.tells new_rack) (rack.made old_rack r.device) (rack.made new_rack r.device) r.given.numbers.blocks ended
-  pub keeps : LibraryKeeps library.told library.replied (IsInLength (library.replied new_library)) old_library new_library
+  pub files : library.told new_library ≡ library.told old_library
+  pub remembers : Remembers (library.replied old_library) (library.replied new_library)
+  pub asks : AsksOf type.words (library.told old_library) (library.replied old_library) (library.replied new_library) r bytes ended.end
   pub faults : RunFaults (library.faults old_library) (library.faults new_library) (rack.faults old_rack) (rack.faults new_rack) (sink.faults old_out) (sink.faults new_out) ended.end

@@ -27,7 +27,7 @@ use Rattle.ppq_engine.specs.Ends.{BeganCommands, NoFault}
 use Rattle.ppq_engine.specs.Work.{work_of}
 use Rattle.ppq_cli.specs.Device.{AreBlocks}
 use Rattle.ppq_cli.specs.Load.{script_kinds}
-use Rattle.ppq_cli.specs.Replies.{Files, need_of, RefusalIsRight, RunIsRight, TransfersAreRight, ReadsWithin}
+use Rattle.ppq_cli.specs.Replies.{Files, need_of, RefusalIsRight, RunIsRight, TransfersAreRight, AsksAreRight}
 use Rattle.ppq_cli.specs.Transfers.{TransfersWithin}
 use Rattle.ppq_cli.specs.Types.{RecordType, type_of}
 
@@ -199,7 +199,7 @@ pub record RunsWords
   pub rack_tells : rack.tells old_rack → rack.tells new_rack
   pub files : library.told new_library ≡ library.told old_library
   pub remembers : Remembers (library.replied old_library) (library.replied new_library)
-  pub reads : ReadsWithin (library.replied old_library) (library.replied new_library)
+  pub reads : OfWords words (λ r. AsksAreRight (library.told old_library) (library.replied old_library) (library.replied new_library) r ended.end)
   pub usage : ended.end ≡ Usage → reading words ≡ None
   pub no_reading : reading words ≡ None → (ended.end ≡ Usage) ⊎ (ended.end ≡ Memory)
   pub early : reading words ≡ None → may_run (texts_of words) ≡ false → ended.end ≡ Usage

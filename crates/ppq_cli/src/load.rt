@@ -3,8 +3,7 @@ ghost use Rattle.std.specs.Prelude.{◌≡◌, ◌≤◌, ◌<◌, length, IfOk,
 ghost use Rattle.ppq_words.specs.ppq_outside.Told.{HasCause};
 ghost use Rattle.ppq_cli.specs.Load.{IsNotLoaded, LoadCounts, load_end};
 ghost use Rattle.ppq_engine.specs.Reading.{IsReadWithin};
-ghost use Rattle.ppq_words.specs.ppq_script.Files.{IsLength};
-ghost use Rattle.ppq_cli.specs.Replies.{GivesMore, IsScriptLength, IsLoadedAs, IsUnloaded, IsInLength, LibraryKeeps};
+ghost use Rattle.ppq_cli.specs.Replies.{GivesMore, IsScriptLength, IsLoadedAs, IsUnloaded, IsOn, LibraryKeeps};
 
 use ppq_engine::End;
 use ppq_words::{Host, Library, OutsideFault};
@@ -70,7 +69,7 @@ fn length_of_script<H: Host, L: Library>(
     ensures length { IfOk result (IsScriptLength (L.replied library.new) name.now) }
     ensures not { IfErr result (IsNotLoaded (L.told library.old) name.now) }
     ensures refused { IfErr result (λ fault. IsUnloaded (L.told library.old) (L.replied library.new) name.now (load_end fault)) }
-    ensures library { LibraryKeeps L.told L.replied IsLength library.old library.new }
+    ensures library { LibraryKeeps L.told L.replied (IsOn (L.replied library.new) name.now) library.old library.new }
     ensures counts { LoadCounts (L.faults library.old) (L.faults library.new) result }
 {
     match library.length(rt, alloc, name)? {
@@ -86,7 +85,7 @@ fn length_of_script<H: Host, L: Library>(
 }
 
 /// The bytes of a script of at most 1,048,576 bytes. Each byte is read once, into its place, and none
-/// past the length that the library said of it.
+/// past the length that the library said of it. No other file is asked for.
 pub fn load<H: Host, L: Library>(
     rt: &H,
     alloc: Global,
@@ -97,7 +96,7 @@ pub fn load<H: Host, L: Library>(
     ensures loaded { IfOk result (λ bytes. IsLoadedAs (L.told library.old) (L.replied library.new) name.now bytes.items) }
     ensures not { IfErr result (IsNotLoaded (L.told library.old) name.now) }
     ensures refused { IfErr result (λ fault. IsUnloaded (L.told library.old) (L.replied library.new) name.now (load_end fault)) }
-    ensures library { LibraryKeeps L.told L.replied (IsInLength (L.replied library.new)) library.old library.new }
+    ensures library { LibraryKeeps L.told L.replied (IsOn (L.replied library.new) name.now) library.old library.new }
     ensures counts { LoadCounts (L.faults library.old) (L.faults library.new) result }
 {
     let size = match length_of_script(rt, alloc, library, name) {

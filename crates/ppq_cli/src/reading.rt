@@ -2,7 +2,9 @@
 ghost use Rattle.std.specs.Prelude.{◌≡◌, ◌≤◌, length, true, IfOk, IfErr};
 ghost use Rattle.ppq_words.specs.ppq_script.Head.{is_typed};
 ghost use Rattle.ppq_words.specs.ppq_script.Lines.{head_of};
+ghost use Rattle.ppq_words.specs.ppq_outside.Told.{RepliesOnly};
 ghost use Rattle.ppq_words.specs.ppq_script.Files.{IsLength};
+ghost use Rattle.ppq_words.specs.ppq_script.Checking.{IsKeptLength};
 ghost use Rattle.ppq_cli.specs.Load.{CheckCounts, check_end};
 ghost use Rattle.ppq_cli.specs.Replies.{IsScript, IsRefused, LibraryKeeps};
 
@@ -11,7 +13,8 @@ use ppq_words::{CheckFault, Fields, Host, Library, Script, check_files, read};
 use std::alloc::Global;
 
 /// Reads a script whole, and asks the length of each file that it names. A script of which some line is
-/// bad, or names a file that cannot be used, is refused with the first such line.
+/// bad, or names a file that cannot be used, is refused with the first such line; after `Ok` no other length
+/// was asked.
 pub fn read_script<R: Fields, H: Host, L: Library>(
     rt: &H,
     alloc: Global,
@@ -24,6 +27,7 @@ pub fn read_script<R: Fields, H: Host, L: Library>(
     ensures script { IfOk result (IsScript R.Fields (L.told library.old) (L.replied library.new) bytes.now workers) }
     ensures refused { IfErr result (IsRefused R.Fields (L.told library.old) (L.replied library.new) bytes.now workers) }
     ensures library { LibraryKeeps L.told L.replied IsLength library.old library.new }
+    ensures asked { IfOk result (λ script. RepliesOnly (L.replied library.old) (L.replied library.new) (IsKeptLength script)) }
     ensures counts { CheckCounts (L.faults library.old) (L.faults library.new) result }
 {
     let Ok(mut script) = read(alloc, bytes, workers) else {

@@ -9,7 +9,7 @@ ghost use Rattle.ppq_engine.specs.Ends.{NoFault};
 ghost use Rattle.ppq_engine.specs.declared.end.End.TheVariants as ends;
 ghost use Rattle.ppq_engine.specs.declared.end.End.TheVariants.{Done, Usage, ReadFault, WriteFault, DeviceFault, NoFreeBlock, NoDevice};
 ghost use Rattle.ppq_cli.specs.Device.{AreBlocks};
-ghost use Rattle.ppq_cli.specs.Replies.{RefusalIsRight, ReadsWithin};
+ghost use Rattle.ppq_cli.specs.Replies.{RefusalIsRight, AsksAreRight};
 ghost use Rattle.ppq_cli.specs.RunWords.{reading, OfWords, OfScript, WritesAll, WritesPart, WritesRoom, MayWrite, IfRan, UsesDevice, TransfersBounded, AreTransfersRight};
 ghost use Rattle.ppq_cli.specs.RunWords.{load_by, crest_by, most_by, least_by, refusal_of, IsAnswer, IsTooLarge, Completes};
 
@@ -96,7 +96,7 @@ where
     ensures rack_tells { K.tells rack.old → K.tells rack.new }
     ensures files { L.told library.new ≡ L.told library.old }
     ensures remembers { Remembers (L.replied library.old) (L.replied library.new) }
-    ensures reads { ReadsWithin (L.replied library.old) (L.replied library.new) }
+    ensures reads { OfWords words.now (λ r. AsksAreRight (L.told library.old) (L.replied library.old) (L.replied library.new) r result.end) }
 
     // When each outcome comes: each has its cause, and a count of faults rises only with the outcome that names it; but a read may have failed before `WriteFault`.
     ensures usage { result.end ≡ Usage → reading words.now ≡ None }

@@ -1,6 +1,6 @@
 use Rattle.std.proofs.Common.{◌≡◌, ◌≤◌, ◌-◌, length, take, Some}
-use Rattle.ppq_words.specs.ppq_outside.Told.{OfLength, Remembers}
-use Rattle.ppq_cli.specs.Replies.{IsGiven, ReadsWithin}
+use Rattle.ppq_words.specs.ppq_outside.Told.{OfLength, Remembers, RepliesOnly}
+use Rattle.ppq_cli.specs.Replies.{IsGiven, IsOn}
 use Rattle.ppq_cli.proofs.load.load.Given as goal
 
 abbrev pub invariant-reading : goal.invariant-reading
@@ -9,7 +9,7 @@ invariant-reading g l = record {
   given : IsGiven (g.L.Library.replied l.library) l.fn.name (take l.got l.bytes.items);
   said : g.L.Library.replied l.library (OfLength l.fn.name (Some l.size));
   remembers : Remembers (g.L.Library.replied l.fn.library) (g.L.Library.replied l.library);
-  reads : ReadsWithin (g.L.Library.replied l.fn.library) (g.L.Library.replied l.library);
+  asks : RepliesOnly (g.L.Library.replied l.fn.library) (g.L.Library.replied l.library) (IsOn (g.L.Library.replied l.library) l.fn.name);
   stays : g.L.Library.faults l.library ≡ g.L.Library.faults l.fn.library;
   long : length l.bytes.items ≡ l.size;
   within : l.got ≤ l.size;

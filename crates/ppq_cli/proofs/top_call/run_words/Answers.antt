@@ -1,12 +1,13 @@
-use Rattle.std.proofs.Common.{◌≡◌, ◌∙◌, Some, ap, sym, subst}
-use Rattle.std.specs.Prelude.{option_map}
-use Rattle.ppq_words.specs.Reading.{as_reading}
-use Rattle.ppq_cli.specs.Replies.{IsLoadedAs}
+use Rattle.std.proofs.Common.{◌≡◌, ◌∙◌, Option, Some, ap, sym, subst, inl}
+use Rattle.std.specs.Prelude.{option_map, IfSome}
+use Rattle.ppq_words.specs.Reading.{Reading, as_reading}
+use Rattle.ppq_words.proofs.ppq_outside.Replies.{no_replies}
+use Rattle.ppq_cli.specs.Replies.{IsLoadedAs, AsksAreRight}
 use Rattle.ppq_cli.specs.RunWords.{reading}
 use Rattle.ppq_cli.proofs.Blocks.{made_nothing_named}
 use Rattle.ppq_cli.proofs.Ends.{unloaded_stays}
 use Rattle.ppq_cli.proofs.Loaded.{of_loaded}
-use Rattle.ppq_cli.proofs.Transfers.{any_script, any_reply}
+use Rattle.ppq_cli.proofs.Transfers.{of_any, any_script, any_reply}
 use Rattle.ppq_cli.proofs.top_call.run_words.Goals as goal
 
 pub returns-in-Err-clause-made : goal.returns-in-Err-clause-made
@@ -35,6 +36,20 @@ returns-in-Err-load-clause-transfers g c = any_script g.K.Slot.Slot.shown c.with
 
 pub returns-in-Err-load-clause-transfers_any : goal.returns-in-Err-load-clause-transfers_any
 returns-in-Err-load-clause-transfers_any g c = any_reply g.K.Slot.Slot.shown c.without_blocks-in-Err-load.result g.L.Library.told c.args.library.now g.L.Library.replied _ c.args.words.now c.without_blocks-in-Err-load.ensures.none
+
+-- what was asked: nothing, or of a script that was not loaded no other file
+pub returns-in-Err-clause-reads : goal.returns-in-Err-clause-reads
+returns-in-Err-clause-reads g c = of_any (reading c.args.words.now) _ (λ r. inl (no_replies (g.L.Library.replied c.args.library.now) _))
+
+pub returns-in_default-clause-reads : goal.returns-in_default-clause-reads
+returns-in_default-clause-reads g c = of_any (reading c.args.words.now) _ (λ r. inl (no_replies (g.L.Library.replied c.args.library.now) _))
+
+pub returns-in-Err-load-clause-reads : goal.returns-in-Err-load-clause-reads
+returns-in-Err-load-clause-reads g c =
+    let r = as_reading c.in-Some.arguments in
+    let named : reading c.args.words.now ≡ Some r = sym c.in-Ok.ensures.reading ∙ ap (option_map as_reading) c.in-Some.is in
+    let P : Option Reading → Type 0 = λ o. IfSome o (λ r. AsksAreRight (g.L.Library.told c.args.library.now) (g.L.Library.replied c.args.library.now) (g.L.Library.replied c.load.new.library) r c.without_blocks-in-Err-load.result.end) in
+    subst P (sym named) (inl c.load.ensures.library.asks)
 
 -- a script that was not loaded: the library's count rose if a read failed
 pub returns-in-Err-load-clause-library_stays : goal.returns-in-Err-load-clause-library_stays
