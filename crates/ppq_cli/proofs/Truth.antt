@@ -1,12 +1,13 @@
 -- Bytes as which a library that tells gave a file are those of the file.
-use Rattle.std.proofs.Common.{◌≡◌, ℕ, ◌+◌, ◌≤◌, List, [], ◌∷◌, ◌++◌, length, take, drop, Option, Some, None, refl, sym, ap, ap₂, ◌∙◌, subst, arith, length-append}
+use Rattle.std.proofs.Common.{◌≡◌, ℕ, ◌+◌, ◌-◌, ◌<◌, ◌≤◌, min, List, [], ◌∷◌, ◌++◌, length, take, drop, Option, Some, None, refl, sym, ap, ap₂, ◌∙◌, subst, arith, length-append, length-take-le}
 use Rattle.std.specs.List.{concat}
 use Rattle.std.proofs.lemmas.List.{take_all, drop-drop}
 use Rattle.std.proofs.Math.Seq.{take-add}
 use Rattle.ppq_words.specs.ppq_outside.Told.{Reply, OfLength, OfRead, length_of, bytes_or_none}
 use Rattle.ppq_words.proofs.ppq_script.Checks.{AreTrue}
+use Rattle.ppq_engine.specs.Reading.{EndsAt}
 use Rattle.ppq_cli.specs.Load.{IsLoaded}
-use Rattle.ppq_cli.specs.Replies.{AreGiven, IsGiven, IsReplied, IsLoadedAs}
+use Rattle.ppq_cli.specs.Replies.{AreGiven, IsGiven, IsReplied, IsLoadedAs, IsCutShort}
 
 -- pieces that reads gave are a part of the file
 pieces_are : (files : List ℕ → Option (List ℕ)) (replied : Reply → Type 0) (name : List ℕ) (at : ℕ) (pieces : List (List ℕ)) → AreTrue (Some files) replied → AreGiven replied name at pieces → concat pieces ≡ take (length (concat pieces)) (drop at (bytes_or_none (files name)))
@@ -36,3 +37,23 @@ loaded_as told replied name bytes size got true short said long all given =
     let P : ℕ → Type 0 = λ n. replied (OfLength name (Some n)) in
     let is : IsReplied replied name bytes = record { said = subst P (sym long) said; gave = subst (IsGiven replied name) (take_all got bytes (omega (arith, long))) given } in
     record { short = omega (arith, long, short); loaded = loaded told replied name bytes true is; given = is }
+
+-- where a read in front of the length that was said gave nothing, the library does not tell
+has_length : (file : Option (List ℕ)) (said : ℕ) → Some said ≡ length_of file → said ≡ length (bytes_or_none file)
+has_length None said is = cc
+has_length (Some bytes) said is = cc
+
+untold : (told : Option (List ℕ → Option (List ℕ))) (replied : Reply → Type 0) (name : List ℕ) (said got : ℕ) → AreTrue told replied → got < said → replied (OfLength name (Some said)) → EndsAt replied name got → told ≡ None
+untold None replied name said got true before length_said end = refl
+untold (Some files) replied name said got true before length_said (room, (some, read)) =
+    let file = bytes_or_none (files name) in
+    let long : said ≡ length file = has_length (files name) said (true (OfLength name (Some said)) length_said) in
+    let none : min room (length file - got) ≡ 0 = (true (OfRead name got room []) read).end refl in
+    absurd (omega (arith, long, none, some, before))
+
+-- so it was cut where reads had given all bytes in front of that one
+pub cut_short :
+    (told : Option (List ℕ → Option (List ℕ))) (replied : Reply → Type 0) (name bytes : List ℕ) (said got : ℕ)
+    → AreTrue told replied → got < said → got ≤ length bytes → replied (OfLength name (Some said)) → IsGiven replied name (take got bytes) → EndsAt replied name got → IsCutShort told replied name 0 said got
+cut_short told replied name bytes said got true before within length_said given end =
+    record { script = refl; before = before; said_is = length_said; reached = (take got bytes, (length-take-le got bytes within, given)); read = end; untold = untold told replied name said got true before length_said end }

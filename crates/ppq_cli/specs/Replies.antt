@@ -85,11 +85,13 @@ OfLoaded told replied name P = (bytes : List ℕ) × (IsLoadedAs told replied na
 abbrev pub IsTooLong : (Reply → Type 0) → List ℕ → Type 0
 IsTooLong replied name = (size : ℕ) × ((1048576 < size) × replied (OfLength name (Some size)))
 
--- the length of this file was said, and a read before it gave nothing; it is the script, and the library does not tell
+-- the length of this file was said, reads gave fewer bytes of it, one behind the other, and a read behind those gave nothing; it is the
+-- script, and the library does not tell
 pub record IsCutShort (told : Option Files) (replied : Reply → Type 0) (name : List ℕ) (line said got : ℕ) : Type 0 where
   pub script : line ≡ 0
   pub before : got < said
-  pub length : replied (OfLength name (Some said))
+  pub said_is : replied (OfLength name (Some said))
+  pub reached : (bytes : List ℕ) × ((length bytes ≡ got) × IsGiven replied name bytes)
   pub read : EndsAt replied name got
   pub untold : told ≡ None
 
