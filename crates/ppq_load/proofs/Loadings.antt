@@ -22,7 +22,7 @@ module _ {R : Type 0} where
 module _ {R : Type 0} where
   pub begin-back : (old new : Holding R) (fault : BeginFault) → IsBeginRefusal old new fault → IsHandedBack old new (begin_fault_of fault)
   begin-back old new begin.Memory refused = refused
-  begin-back old new begin.NoFreeBlock refused = record { bag = refused.bag; size = refused.size; sound = refused.sound }
+  begin-back old new begin.NoFreeBlock refused = refused
   begin-back old new (begin.Device number) refused = refused
 
 module _ {R : Type 0} where

@@ -38,7 +38,7 @@ module _ {R : Type 0} where
 module _ {R : Type 0} where
   -- a session did not begin, and no call of a slot failed
   pub unbegun-part : (records : List R) (queue back : Holding R) (fault : LoadFault) → IsHandedBack queue back fault → back.failed ≡ None → AllTell queue.slots → AddsPart records queue.bag back.bag
-  unbegun-part records queue back (Queue NoFreeBlock) intact sound tells = part-none records queue.bag back.bag (intact.bag tells)
+  unbegun-part records queue back (Queue NoFreeBlock) found sound tells = part-none records queue.bag back.bag (found.bag tells)
   unbegun-part records queue back (Queue (Device number)) met sound tells = let failed = met.kept in absurd (cc)
   unbegun-part records queue back Read never sound tells = absurd never
   unbegun-part records queue back Memory intact sound tells = part-none records queue.bag back.bag (intact.bag tells)

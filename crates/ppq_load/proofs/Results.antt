@@ -12,7 +12,7 @@ use Rattle.ppq_session.specs.ppq_array.declared.store_fault.StoreFault.TheVarian
 use Rattle.ppq_load.specs.declared.fault.LoadFault.{LoadFault}
 use Rattle.ppq_load.specs.declared.fault.LoadFault.TheVariants.{Queue, Read, Memory, Ended}
 use Rattle.ppq_load.specs.Reading.{HasLength}
-use Rattle.ppq_load.specs.Loading.{LoadHolding, InSession, IsLoaded, HasGiven, LoadStopsFor, LoadEndsIn, LoadCountsFrom, IsByLoad, IsByRead, IsHandedBack, IsLeftBy, IsStoppedBy, loaded_of, first_of}
+use Rattle.ppq_load.specs.Loading.{LoadHolding, InSession, IsLoaded, HasGiven, LoadStopsFor, LoadEndsIn, LoadCountsFrom, IsByLoad, IsByRead, IsHandedBack, IsLeftBy, LoadLeaves, loaded_of, first_of}
 use Rattle.ppq_load.proofs.FileRecords.{file-all}
 
 module _ {R : Type 0} where
@@ -86,33 +86,37 @@ on_ok-map (Ok value) P Q f holds = f holds
 on_ok-map (Err fault) P Q f holds = tt
 
 module _ {R : Type 0} where
-  -- what a load that names a failed block says of its queue
-  pub loaded-stopped : {S B : Type 0} (shown : S → Shown) (load : LoadHolding S R) (new : Holding R) (ended : Result B QueueFault) → IfErr ended (IsLeftBy shown load new) → IfErr (loaded_of ended) (IsStoppedBy new)
-  loaded-stopped shown load new (Ok value) left = tt
-  loaded-stopped shown load new (Err NoFreeBlock) left = tt
-  loaded-stopped shown load new (Err (Device number)) left = left.stopped
+  -- what a refused load left, by what the end of its session left
+  pub loaded-left :
+      {S B : Type 0} (shown : S → Shown) (queue : Holding R) (records : List R) (load : LoadHolding S R) (new : Holding R) (ended : Result B QueueFault)
+      → InSession shown queue records load → IfErr ended (IsLeftBy shown load new) → IfErr (loaded_of ended) (LoadLeaves queue new)
+  loaded-left shown queue records load new (Ok value) session left = tt
+  loaded-left shown queue records load new (Err NoFreeBlock) session left = record { sound = left.sound; quiet = left.quiet ∙ session.keeps.quiet refl }
+  loaded-left shown queue records load new (Err (Device number)) session left = left.stopped
 
 module _ {R : Type 0} where
-  read-unstopped : (new : Holding R) (fault : LoadFault) → IsByRead fault → IsStoppedBy new fault
-  read-unstopped new (Queue fault) by = absurd by
-  read-unstopped new Read by = tt
-  read-unstopped new Memory by = tt
-  read-unstopped new (Ended got) by = tt
+  read-left : (queue new : Holding R) (fault : LoadFault) → IsByRead fault → LoadLeaves queue new fault
+  read-left queue new (Queue fault) by = absurd by
+  read-left queue new Read by = tt
+  read-left queue new Memory by = tt
+  read-left queue new (Ended got) by = tt
 
 module _ {R : Type 0} where
-  pub first-stopped :
-      {S A B : Type 0} (shown : S → Shown) (load : LoadHolding S R) (new : Holding R) (read : Result A LoadFault) (ended : Result B QueueFault) → IfErr ended (IsLeftBy shown load new) → IfErr read IsByRead
-      → IfErr (first_of read ended) (IsStoppedBy new)
-  first-stopped shown load new (Ok value) ended left by = loaded-stopped shown load new ended left
-  first-stopped shown load new (Err fault) ended left by = read-unstopped new fault by
+  -- the same where a fault of reading stays the fault
+  pub first-left :
+      {S A B : Type 0} (shown : S → Shown) (queue : Holding R) (records : List R) (load : LoadHolding S R) (new : Holding R) (read : Result A LoadFault) (ended : Result B QueueFault)
+      → InSession shown queue records load → IfErr ended (IsLeftBy shown load new) → IfErr read IsByRead → IfErr (first_of read ended) (LoadLeaves queue new)
+  first-left shown queue records load new (Ok value) ended session left by = loaded-left shown queue records load new ended session left
+  first-left shown queue records load new (Err fault) ended session left by = read-left queue new fault by
 
 module _ {R : Type 0} where
-  pub unbegun-stopped : (queue back : Holding R) (fault : LoadFault) → IsHandedBack queue back fault → IsStoppedBy back fault
-  unbegun-stopped queue back (Queue NoFreeBlock) intact = tt
-  unbegun-stopped queue back (Queue (Device number)) met = record { fault = met.fault; kept = met.kept }
-  unbegun-stopped queue back Read never = tt
-  unbegun-stopped queue back Memory intact = tt
-  unbegun-stopped queue back (Ended got) never = tt
+  -- the session did not begin
+  pub unbegun-left : (queue back : Holding R) (fault : LoadFault) → IsHandedBack queue back fault → LoadLeaves queue back fault
+  unbegun-left queue back (Queue NoFreeBlock) found = record { sound = found.sound; quiet = found.quiet }
+  unbegun-left queue back (Queue (Device number)) met = record { fault = met.fault; kept = met.kept }
+  unbegun-left queue back Read never = tt
+  unbegun-left queue back Memory intact = tt
+  unbegun-left queue back (Ended got) never = tt
 
 module _ {R : Type 0} where
   -- a queue that a block had stopped before comes back as it was

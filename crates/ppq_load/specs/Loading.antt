@@ -4,7 +4,8 @@ use Rattle.ppq_session.specs.ppq_record.Given.{records_from}
 use Rattle.ppq_session.specs.ppq_outside.Shown.{Shown}
 use Rattle.ppq_session.specs.ppq_outside.Told.{Reply, Rose, bytes_or_none}
 use Rattle.ppq_session.specs.ppq_budget.Sizes.{Numbers}
-use Rattle.ppq_session.specs.ppq_queue.Holding.{Holding, HasStopped, MetFault}
+use Rattle.ppq_session.specs.ppq_array.Kept.{AreQuiet}
+use Rattle.ppq_session.specs.ppq_queue.Holding.{Holding, FoundNoBlock, HasStopped, MetFault}
 use Rattle.ppq_session.specs.ppq_array.declared.store_fault.StoreFault.{StoreFault as QueueFault}
 use Rattle.ppq_session.specs.BulkSession.{IsIntact}
 use Rattle.ppq_session.specs.declared.fault.BeginFault.{BeginFault}
@@ -101,21 +102,26 @@ IsByRead Read = ⊤
 IsByRead Memory = ⊤
 IsByRead (Ended got) = ⊤
 
--- a session did not begin: the queue has the records that it had, unless a block failed
+-- a session did not begin: the queue has the records that it had, unless a block failed, and none failed where no block was free
 abbrev pub IsHandedBack : {R : Type 0} → Holding R → Holding R → LoadFault → Type 0
-IsHandedBack old new (Queue queue_fault.NoFreeBlock) = IsIntact old new
+IsHandedBack old new (Queue queue_fault.NoFreeBlock) = FoundNoBlock old new
 IsHandedBack old new (Queue (queue_fault.Device number)) = MetFault number old new
 IsHandedBack old new Read = ⊥
 IsHandedBack old new Memory = IsIntact old new
 IsHandedBack old new (Ended got) = ⊥
 
--- a load that names a failed block left a queue that this block stopped
-abbrev pub IsStoppedBy : {R : Type 0} → Holding R → LoadFault → Type 0
-IsStoppedBy new (Queue queue_fault.NoFreeBlock) = ⊤
-IsStoppedBy new (Queue (queue_fault.Device number)) = HasStopped number new
-IsStoppedBy new Read = ⊤
-IsStoppedBy new Memory = ⊤
-IsStoppedBy new (Ended got) = ⊤
+-- no block was free for a load: no call of a block failed, now or before
+pub record FoundNoRoom {R : Type 0} (old new : Holding R) : Type 0 where
+  pub sound : new.failed ≡ None
+  pub quiet : AreQuiet old.slots new.slots
+
+-- what a refused load left of the queue: where it names a failed block, this block stopped the queue, and where no block was free, none failed
+abbrev pub LoadLeaves : {R : Type 0} → Holding R → Holding R → LoadFault → Type 0
+LoadLeaves old new (Queue queue_fault.NoFreeBlock) = FoundNoRoom old new
+LoadLeaves old new (Queue (queue_fault.Device number)) = HasStopped number new
+LoadLeaves old new Read = ⊤
+LoadLeaves old new Memory = ⊤
+LoadLeaves old new (Ended got) = ⊤
 
 -- the library's count rose where a read failed, and else stayed
 abbrev pub LoadCountsFrom : ℕ → ℕ → LoadFault → Type 0

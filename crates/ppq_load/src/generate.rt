@@ -9,7 +9,7 @@ ghost use Rattle.ppq_session.specs.Dealing.{AddsPart};
 ghost use Rattle.ppq_load.specs.declared.fault.LoadFault.TheVariants.{Queue as ByQueue};
 ghost use Rattle.ppq_load.specs.Given.{generated_by};
 ghost use Rattle.ppq_load.specs.Refusal.{Keeps};
-ghost use Rattle.ppq_load.specs.Loading.{IsByLoad, IsStoppedBy, LoadStopsFor};
+ghost use Rattle.ppq_load.specs.Loading.{IsByLoad, LoadLeaves, LoadStopsFor};
 
 use crate::fault::{LoadFault, loaded};
 use crate::generator::Generator;
@@ -45,7 +45,7 @@ where
     ensures peak { OnOk result.1 (result.0.peak ≡ max queue.peak (queue.size + count)) }
     ensures refused { IfErr result.1 (LoadStopsFor (max queue.peak (queue.size + count)) queue.sizes queue.limited result.0.slots) }
     ensures by_load { IfErr result.1 IsByLoad }
-    ensures stopped { IfErr result.1 (IsStoppedBy result.0) }
+    ensures left { IfErr result.1 (LoadLeaves queue result.0) }
     ensures latched { (number : ℕ) → queue.failed ≡ Some number → result ≡ (session_begun queue, Err (ByQueue (Device number))) }
     ensures kept { Keeps queue result.0 }
     ensures counted { CountsFew count 1 queue result.0 result.1 }

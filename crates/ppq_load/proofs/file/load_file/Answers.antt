@@ -11,12 +11,12 @@ use Rattle.ppq_session.proofs.ppq_queue.Counted.{few-begun, few-more}
 use Rattle.ppq_session.specs.Dealing.{AddsPart}
 use Rattle.ppq_session.specs.ppq_array.declared.store_fault.StoreFault.TheVariants.{Device}
 use Rattle.ppq_load.specs.declared.fault.LoadFault.TheVariants.{Queue}
-use Rattle.ppq_load.specs.Loading.{InSession, HasGiven, IsByRead, IsReadRefusal, IsStoppedBy, LoadEndsIn, LoadCountsFrom, first_of}
+use Rattle.ppq_load.specs.Loading.{InSession, HasGiven, IsByRead, IsReadRefusal, LoadLeaves, LoadEndsIn, LoadCountsFrom, first_of}
 use Rattle.ppq_load.specs.Reading.{IsReadWithin}
 use Rattle.ppq_load.proofs.Counting.{few-to, first-on}
 use Rattle.ppq_load.proofs.Refusals.{stop-later}
 use Rattle.ppq_load.proofs.Parts.{ended-part, unbegun-part, file-part}
-use Rattle.ppq_load.proofs.Results.{LoadSays, first-says, first-err, first-ok, on_err, on_ok, on_ok-map, unread-ends, unread-counts, first-stopped, unbegun-stopped, back-latched}
+use Rattle.ppq_load.proofs.Results.{LoadSays, first-says, first-err, first-ok, on_err, on_ok, on_ok-map, unread-ends, unread-counts, first-left, unbegun-left, back-latched}
 use Rattle.ppq_load.proofs.file.load_file.Given as over
 use Rattle.ppq_load.proofs.file.load_file.Goals.{After-first_fault}
 use Rattle.ppq_load.proofs.file.load_file.Goals as goal
@@ -110,16 +110,18 @@ returns-in-Err-clause-asks g c = no_replies (g.L.Library.replied c.args.library.
 pub returns-in-Err-clause-cause : goal.returns-in-Err-clause-cause
 returns-in-Err-clause-cause g c = unread-counts (g.L.Library.faults c.args.library.now) c.in-Err.fault c.in-Err.ensures.by_load
 
-pub returns-in-Ok-clause-stopped : goal.returns-in-Ok-clause-stopped
-returns-in-Ok-clause-stopped g c =
+pub returns-in-Ok-clause-left : goal.returns-in-Ok-clause-left
+returns-in-Ok-clause-left g c =
+    let q = c.args.queue in
     let told = g.L.Library.told c.args.library.now in
     let read = c.deal_file-read in
     let new = c.end-queue.result.0 in
+    let some = read.ensures.some q c.in-Ok.ensures.session in
     let by_file = IfErr-weaker read.result (IsReadRefusal told (g.L.Library.replied read.new.library) c.args.name.now c.args.said) IsByRead (λ fault refused. refused.by_file) read.ensures.refused in
-    subst (λ r. IfErr r (IsStoppedBy new)) (sym c.first_fault.ensures) (first-stopped g.S.Slot.shown read.new.load new read.result c.end-queue.result.1 c.end-queue.ensures.left by_file)
+    subst (λ r. IfErr r (LoadLeaves q new)) (sym c.first_fault.ensures) (first-left g.S.Slot.shown q some.given.records read.new.load new read.result c.end-queue.result.1 some.given.session c.end-queue.ensures.left by_file)
 
-pub returns-in-Err-clause-stopped : goal.returns-in-Err-clause-stopped
-returns-in-Err-clause-stopped g c = unbegun-stopped c.args.queue c.in-Err.queue c.in-Err.fault c.in-Err.ensures.intact
+pub returns-in-Err-clause-left : goal.returns-in-Err-clause-left
+returns-in-Err-clause-left g c = unbegun-left c.args.queue c.in-Err.queue c.in-Err.fault c.in-Err.ensures.intact
 
 pub returns-in-Ok-clause-latched : goal.returns-in-Ok-clause-latched
 returns-in-Ok-clause-latched g c = λ number failed. let back = c.in-Ok.ensures.latched number failed in absurd (cc)

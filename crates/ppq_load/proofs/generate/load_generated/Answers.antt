@@ -8,24 +8,25 @@ use Rattle.ppq_session.specs.ppq_array.declared.store_fault.StoreFault.TheVarian
 use Rattle.ppq_load.specs.declared.fault.LoadFault.TheVariants.{Queue}
 use Rattle.ppq_session.specs.ppq_queue.Holding.{CountsFew, session_begun}
 use Rattle.ppq_session.proofs.ppq_queue.Counted.{few-begun, few-more}
-use Rattle.ppq_load.specs.Loading.{InSession, IsLoaded, IsByLoad, IsStoppedBy, loaded_of}
+use Rattle.ppq_load.specs.Loading.{InSession, IsLoaded, IsByLoad, LoadLeaves, loaded_of}
 use Rattle.ppq_load.proofs.Counting.{few-to, loaded-on}
 use Rattle.ppq_load.proofs.Generated.{length-generated}
 use Rattle.ppq_load.proofs.Refusals.{stop-later}
 use Rattle.ppq_load.proofs.Parts.{ended-part, unbegun-part}
-use Rattle.ppq_load.proofs.Results.{LoadSays, loaded-says, loaded-by, on_err, loaded-stopped, unbegun-stopped, back-latched}
+use Rattle.ppq_load.proofs.Results.{LoadSays, loaded-says, loaded-by, on_err, loaded-left, unbegun-left, back-latched}
 use Rattle.ppq_load.proofs.generate.load_generated.Given as over
 use Rattle.ppq_load.proofs.generate.load_generated.Goals.{After-end-queue, After-loaded}
 use Rattle.ppq_load.proofs.generate.load_generated.Goals as goal
 
--- the session ended with the generated records
-done : (g : over.Over) (c : After-end-queue g) → IsLoaded c.args.queue (generated_by g.R.Fields.COUNT g.R.Fields.of_fields c.args.seed c.args.count) c.end-queue.result.0 c.end-queue.result.1
-done g c =
-    let maker = c.new.result in
-    let records = generated_by g.R.Fields.COUNT g.R.Fields.of_fields c.args.seed c.args.count in
+-- the generated records were given to the session
+given : (g : over.Over) (c : After-end-queue g) → InSession g.S.Slot.shown c.args.queue (generated_by g.R.Fields.COUNT g.R.Fields.of_fields c.args.seed c.args.count) c.deal-all.new.self
+given g c =
     let of_new = ap (λ m. generated_from_by g.R.Fields.COUNT g.R.Fields.of_fields m.seed m.key m.number m.left) c.new.ensures in
-    let given = subst (λ (rs : List g.row.R.Denot). InSession g.S.Slot.shown c.args.queue rs c.deal-all.new.self) of_new (c.deal-all.ensures.session c.args.queue [] c.in-Ok.ensures.session) in
-    c.end-queue.ensures.loaded c.args.queue records given
+    subst (λ (rs : List g.row.R.Denot). InSession g.S.Slot.shown c.args.queue rs c.deal-all.new.self) of_new (c.deal-all.ensures.session c.args.queue [] c.in-Ok.ensures.session)
+
+-- and it ended with them
+done : (g : over.Over) (c : After-end-queue g) → IsLoaded c.args.queue (generated_by g.R.Fields.COUNT g.R.Fields.of_fields c.args.seed c.args.count) c.end-queue.result.0 c.end-queue.result.1
+done g c = c.end-queue.ensures.loaded c.args.queue (generated_by g.R.Fields.COUNT g.R.Fields.of_fields c.args.seed c.args.count) (given g c)
 
 says :
     (g : over.Over) (c : After-loaded g)
@@ -78,11 +79,16 @@ returns-in-Err-clause-refused g c =
     let q = c.args.queue in
     stop-later q.sizes q.limited q.limited q.peak (max q.peak (q.size + c.args.count)) (omega (arith, c.known.ensures.range.two_records)) (λ same. same) (omega arith) c.in-Err.queue.slots c.in-Err.fault c.in-Err.ensures.refused
 
-pub returns-in-Ok-clause-stopped : goal.returns-in-Ok-clause-stopped
-returns-in-Ok-clause-stopped g c = subst (λ r. IfErr r (IsStoppedBy c.end-queue.result.0)) (sym c.loaded.ensures) (loaded-stopped g.S.Slot.shown c.deal-all.new.self c.end-queue.result.0 c.end-queue.result.1 c.end-queue.ensures.left)
+pub returns-in-Ok-clause-left : goal.returns-in-Ok-clause-left
+returns-in-Ok-clause-left g c =
+    let q = c.args.queue in
+    let records = generated_by g.R.Fields.COUNT g.R.Fields.of_fields c.args.seed c.args.count in
+    let new = c.end-queue.result.0 in
+    subst (λ r. IfErr r (LoadLeaves q new)) (sym c.loaded.ensures)
+    (loaded-left g.S.Slot.shown q records c.deal-all.new.self new c.end-queue.result.1 (given g (goal.at.returns-in-Ok-clause-left g c).After-end-queue) c.end-queue.ensures.left)
 
-pub returns-in-Err-clause-stopped : goal.returns-in-Err-clause-stopped
-returns-in-Err-clause-stopped g c = unbegun-stopped c.args.queue c.in-Err.queue c.in-Err.fault c.in-Err.ensures.intact
+pub returns-in-Err-clause-left : goal.returns-in-Err-clause-left
+returns-in-Err-clause-left g c = unbegun-left c.args.queue c.in-Err.queue c.in-Err.fault c.in-Err.ensures.intact
 
 pub returns-in-Ok-clause-latched : goal.returns-in-Ok-clause-latched
 returns-in-Ok-clause-latched g c = λ number failed. let back = c.in-Ok.ensures.latched number failed in absurd (cc)
