@@ -17,7 +17,7 @@ use Rattle.ppq_engine.specs.Ends.{NoFault}
 use Rattle.ppq_engine.specs.Files.{IsReadInScript}
 use Rattle.ppq_engine.specs.Work.{work_of}
 use Rattle.ppq_engine.specs.declared.end.End.{End}
-use Rattle.ppq_engine.specs.declared.end.End.TheVariants.{Done, ReadFault, WriteFault, DeviceFault, NoDevice}
+use Rattle.ppq_engine.specs.declared.end.End.TheVariants.{Done, ReadFault, WriteFault, DeviceFault, NoFreeBlock, NoDevice}
 use Rattle.ppq_engine.specs.declared.end.Ended.{Ended}
 use Rattle.ppq_engine.proofs.Running.{takes_none}
 use Rattle.ppq_cli.specs.Device.{IsSurelyRun}
@@ -32,7 +32,7 @@ use Rattle.ppq_cli.proofs.Ends.{unread_not_run, no_blocks, refused_answer, refus
 use Rattle.ppq_cli.proofs.Extent.{lengths_asked, commands_asked}
 use Rattle.ppq_cli.proofs.Given.{script_remembered}
 use Rattle.ppq_cli.proofs.Transfers.{no_slots}
-use Rattle.ppq_cli.proofs.RunOver.{same_count}
+use Rattle.ppq_cli.proofs.RunOver.{same_count, of_other}
 
 -- a refusal names no block, no device and no sink
 not_device : (fault : CheckFault) (number : ℕ) → check_end fault ≡ DeviceFault number → ⊥
@@ -44,6 +44,11 @@ not_done : (fault : CheckFault) → check_end fault ≡ Done → ⊥
 not_done (check.BadLine line) is = cc
 not_done check.ReadFault is = cc
 not_done check.Memory is = cc
+
+not_full : (fault : CheckFault) → check_end fault ≡ NoFreeBlock → ⊥
+not_full (check.BadLine line) is = cc
+not_full check.ReadFault is = cc
+not_full check.Memory is = cc
 
 not_rack : (fault : CheckFault) → check_end fault ≡ NoDevice → ⊥
 not_rack (check.BadLine line) is = cc
@@ -107,7 +112,7 @@ module _ {R L K O S : Type 0} (words : Words R) (library : LibraryShows L) (rack
         blocks = record {
           made = made_nothing (λ s. (shown s).number) ended.blocks.items (rack.made held r.device) none;
           are = no_blocks r.given.numbers.blocks ended.end (map shown ended.blocks.items) not_run (let P : List S → Type 0 = λ s. map shown s ≡ [] in subst P (sym none) refl);
-          unfailed = λ e. absurd (not_done fault (sym is ∙ e));
+          unfailed = of_other ended.end (check_end fault) is (not_done fault) (not_full fault);
           tells = λ t. t;
         };
         files = keeps.told;

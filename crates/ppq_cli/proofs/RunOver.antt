@@ -1,5 +1,5 @@
 -- What `run_over` says where no command was run, and how its end follows from the device's and the script's.
-use Rattle.std.proofs.Common.{◌≡◌, inl, inr, ℕ, ◌<◌, ◌≤◌, List, map, length, Option, Some, None, refl, sym, subst, arith}
+use Rattle.std.proofs.Common.{◌≡◌, ◌∙◌, inl, inr, ℕ, ◌<◌, ◌≤◌, List, map, length, Option, Some, None, refl, sym, subst, arith}
 use Rattle.std.specs.Prelude.{◌⊎◌, Bool, true, false, if◌then◌else◌, nat_lt, MatchOption}
 use Rattle.std.specs.List.{range_with_len}
 use Rattle.std.specs.List.Sorted.{IsPermutation}
@@ -124,6 +124,16 @@ made_count sizes before now end same answer = record {
 pub unmade_not_done : (fault : OutsideFault) → make_end fault ≡ Done → ⊥
 unmade_not_done outside.Failed is = cc
 unmade_not_done outside.Memory is = cc
+
+-- nor was no block free for it
+pub unmade_not_full : (fault : OutsideFault) → make_end fault ≡ NoFreeBlock → ⊥
+unmade_not_full outside.Failed is = cc
+unmade_not_full outside.Memory is = cc
+
+-- what is said of these two ends says nothing of another
+pub of_other : {A : Type 0} (end other : End) → end ≡ other → (other ≡ Done → ⊥) → (other ≡ NoFreeBlock → ⊥) → (end ≡ Done) ⊎ (end ≡ NoFreeBlock) → A
+of_other end other is done full (inl e) = absurd (done (sym is ∙ e))
+of_other end other is done full (inr e) = absurd (full (sym is ∙ e))
 
 early_not_run : (fault : OutsideFault) → IsSurelyRun (make_end fault) → ⊥
 early_not_run outside.Failed run = run

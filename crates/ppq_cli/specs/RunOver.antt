@@ -30,11 +30,11 @@ pub record RunWrites {R : Type 0} (words : Words R) (tells : Type 0) (told : Opt
   pub file : FaultToFile words r.form tells told before now script end
   pub nothing : MayWrite end ⊎ (now ≡ before)
 
--- of a device that has so many blocks, all that the rack made of it come back, each once, and the rack goes on telling; where the script was run to its end, no call of a block failed
+-- of a device that has so many blocks, all that the rack made of it come back, each once, and the rack goes on telling; where the script was run to its end, or no block was free, no call of a block failed
 pub record RunBlocks {S : Type 0} (shown : S → Shown) (tell tell_now : Type 0) (had has : List ℕ → Type 0) (most : ℕ) (ended : Ended S) : Type 0 where
   pub made : HasMadeJust had has (map (λ slot. (shown slot).number) ended.blocks.items)
   pub are : AreBlocks most ended.end (map shown ended.blocks.items)
-  pub unfailed : ended.end ≡ Done → All (λ (s : Shown). s.faults ≡ 0) (map shown ended.blocks.items)
+  pub unfailed : (ended.end ≡ Done) ⊎ (ended.end ≡ NoFreeBlock) → All (λ (s : Shown). s.faults ≡ 0) (map shown ended.blocks.items)
   pub tells : tell → tell_now
 
 -- when each end comes

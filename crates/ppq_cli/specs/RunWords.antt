@@ -193,7 +193,7 @@ pub record RunsWords
   pub transfers_any : AreTransfersRight words library.told old_library library.replied new_library shown ended
   pub made : OfWords words (λ r. HasMadeJust (rack.made old_rack r.device) (rack.made new_rack r.device) (map (λ slot. (shown slot).number) ended.blocks.items))
   pub blocks : OfWords words (λ r. AreBlocks r.given.numbers.blocks ended.end (map shown ended.blocks.items))
-  pub unfailed : ended.end ≡ Done → All (λ (s : Shown). s.faults ≡ 0) (map shown ended.blocks.items)
+  pub unfailed : (ended.end ≡ Done) ⊎ (ended.end ≡ NoFreeBlock) → All (λ (s : Shown). s.faults ≡ 0) (map shown ended.blocks.items)
   pub none : reading words ≡ None → ended.blocks.items ≡ []
   pub unasked : reading words ≡ None → (new_library ≡ old_library) × ((new_rack ≡ old_rack) × (new_out ≡ old_out))
   pub rack_tells : rack.tells old_rack → rack.tells new_rack

@@ -56,7 +56,7 @@ use std::alloc::Global;
 /// - `DeviceFault`: the block with that number, which comes back, failed.
 /// - `NoFreeBlock`: the device has fewer blocks than are enough for the load, and the load is above one
 ///   heap or the script begins a limit session; the sink took at least what each prefix of the script
-///   prints for whose load there is room.
+///   prints for whose load there is room, and no call of a block failed.
 /// - `FileChanged`: the library is not visible, said a length, and a read in front of it returned
 ///   nothing. The line is 0 for the script itself.
 /// - `Memory`: an allocation failed. The sink took nothing, or just what the commands in front of a
@@ -90,7 +90,7 @@ where
     ensures transfers_any { AreTransfersRight words.now L.told library.old L.replied library.new K.Slot.shown result }
     ensures made { OfWords words.now (λ r. HasMadeJust (K.made rack.old r.device) (K.made rack.new r.device) (map (λ slot. (K.Slot.shown slot).number) result.blocks.items)) }
     ensures blocks { OfWords words.now (λ r. AreBlocks r.given.numbers.blocks result.end (map K.Slot.shown result.blocks.items)) }
-    ensures unfailed { result.end ≡ Done → All (λ s. s.faults ≡ 0) (map K.Slot.shown result.blocks.items) }
+    ensures unfailed { (result.end ≡ Done) ⊎ (result.end ≡ NoFreeBlock) → All (λ s. s.faults ≡ 0) (map K.Slot.shown result.blocks.items) }
     ensures none { reading words.now ≡ None → result.blocks.items ≡ [] }
     ensures unasked { reading words.now ≡ None → (library.new ≡ library.old) × ((rack.new ≡ rack.old) × (out.new ≡ out.old)) }
     ensures rack_tells { K.tells rack.old → K.tells rack.new }

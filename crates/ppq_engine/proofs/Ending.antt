@@ -3,7 +3,7 @@ use Rattle.std.proofs.Common.{◌≡◌, ℕ, ◌≤◌, List, Bool, Option, Som
 use Rattle.ppq_script.specs.declared.form.Form.{Form}
 use Rattle.ppq_script.specs.ppq_outside.Shown.{Shown, AllTell}
 use Rattle.ppq_script.specs.ppq_outside.Told.{Reply, TakesAll, Rose}
-use Rattle.std.specs.Prelude.{if◌then◌else◌}
+use Rattle.std.specs.Prelude.{◌⊎◌, if◌then◌else◌}
 use Rattle.std.proofs.lemmas.Bool.{le-ltb}
 use Rattle.ppq_script.specs.Words.{Words}
 use Rattle.ppq_load.specs.ppq_budget.Sizes.{Numbers, fixed_of}
@@ -52,6 +52,7 @@ module _ {R : Type 0} (w : Words R) (form : Form) (told : Option (List ℕ → O
         says.2,
         sym (sums (λ s. s.faults)) ∙ says.3,
       )
+  says-later slots later NoFreeBlock sums says = (says.0, says.1, says.2, sym (sums (λ s. s.faults)) ∙ says.3)
   says-later slots later (DeviceFault number) sums says = (omega (arith, says.0, sums (weight_at (λ s. s.faults) number)), says.1)
   says-later slots later _ sums says = says
 
@@ -69,8 +70,9 @@ module _ {R : Type 0} (w : Words R) (form : Form) (told : Option (List ℕ → O
     end-used_any is = (says-is Done is).1
 
     -- no call of a block failed
-    pub end-unfailed : (bytes : ℕ) → All (IsNewSlot bytes) first → end ≡ Done → All (λ (s : Shown). s.faults ≡ 0) later
-    end-unfailed bytes fresh is = none-failed later ((says-is Done is).3 ∙ new-unfailed bytes first fresh)
+    pub end-unfailed : (bytes : ℕ) → All (IsNewSlot bytes) first → (end ≡ Done) ⊎ (end ≡ NoFreeBlock) → All (λ (s : Shown). s.faults ≡ 0) later
+    end-unfailed bytes fresh (inl is) = none-failed later ((says-is Done is).3 ∙ new-unfailed bytes first fresh)
+    end-unfailed bytes fresh (inr is) = none-failed later ((says-is NoFreeBlock is).3 ∙ new-unfailed bytes first fresh)
 
     pub end-within : end ≡ NoFreeBlock → AllTell first → (files : List ℕ → Option (List ℕ)) → AreFilesOf told script files → TakesWithin w form (given_of w files script) before now sizes (command_list script)
     end-within is tells files are = ((says-is NoFreeBlock is).0 tells files are).within

@@ -20,7 +20,7 @@ use Rattle.ppq_load.specs.Refusal.{Keeps, IsRefusedBy}
 use Rattle.ppq_load.proofs.Counting.{few-to}
 use Rattle.ppq_load.proofs.Refusals.{cause-later}
 use Rattle.ppq_load.specs.ppq_session.Asks.{pops_in, left_after}
-use Rattle.ppq_load.specs.Limits.{LimitsHolding, InLimits, AreGoing, IsOver, begun_in}
+use Rattle.ppq_load.specs.Limits.{LimitsHolding, InLimits, AreGoing, IsOver, IsOverBy, begun_in}
 use Rattle.ppq_engine.specs.Calls.{RunsPart, SinkCounts}
 use Rattle.ppq_engine.specs.Files.{IsBySession}
 use Rattle.ppq_engine.specs.Gathers.{Gathers}
@@ -28,7 +28,7 @@ use Rattle.ppq_engine.specs.Loads.{none_go, all_go, size_from}
 use Rattle.ppq_engine.specs.Output.{State, outside, state_from, output_from, given_of}
 use Rattle.ppq_engine.specs.Pushes.{pushed_in}
 use Rattle.ppq_engine.specs.Popping.{IsByLimit}
-use Rattle.ppq_engine.specs.Running.{RefusedAt, PartStops, StopsFor}
+use Rattle.ppq_engine.specs.Running.{RefusedAt, PartStops, StopsFor, StopsQuiet}
 use Rattle.ppq_engine.specs.Limits.{asks_in, answers_of, HasBegun, RunsLines, BreaksOff, session_end}
 use Rattle.ppq_engine.specs.declared.stop.Stop.{Stop}
 use Rattle.ppq_engine.specs.declared.stop.Stop.TheVariants.{Sink, Queue}
@@ -85,7 +85,7 @@ module _ {R : Type 0} (w : Words R) (laws : HasLaws w)
       pub broken : OnErr printed (BreaksOff w shown form body before now had old mid)
       pub going : OnOk ended (AreGoing mid)
       pub over : (given left : List R) (popped : ℕ) → InLimits shown queue limit given left popped mid → IsOver queue given left popped new ended
-      pub unfaulted : ended ≡ Err NoFreeBlock → mid.front.failed ≡ None
+      pub left : IfErr ended (IsOverBy shown mid new)
 
     -- these lines were run, and their answers are gathered
     record LinesRan (new : Holding R) (ended : Result ⊤ QueueFault) (lines : List (Command R)) : Type 0 where
@@ -142,7 +142,7 @@ module _ {R : Type 0} (w : Words R) (laws : HasLaws w)
           let R : ℕ → Type 0 = λ n. IsRefusedBy (max queue.peak n) queue.sizes true new.slots NoFreeBlock in
           subst P same
           (lines-refused w laws form queue.slots before now had has queue.bag queue.size queue.peak queue.sizes true new.slots NoFreeBlock (LimitBegin limit) lines rest (omega (arith, length-append run.lines.rest (LimitEnd ∷ [])))
-          (λ tells given. subst Q (sym (first-output w laws workers limit lines lines_are form given queue.bag)) (it.text (run.unfaulted refl) tells))
+          (λ tells given. subst Q (sym (first-output w laws workers limit lines lines_are form given queue.bag)) (it.text run.left.no_fault.0 tells))
           (subst R (sym (first-size w laws workers limit lines lines_are queue.size)) it.over.refused))
       refused v (Device number) run = record {
         done = 0;
@@ -176,6 +176,13 @@ module _ {R : Type 0} (w : Words R) (laws : HasLaws w)
           let P : List ℕ → Type 0 = λ t. TakesPart before now (had ++ t) in
           subst P (sym (whole-output w laws workers limit body are form given queue.bag)) (run.broken.text queue limit run.begun tells)
 
+      -- where no block was free, no call of a block failed
+      quiet : (printed : Result ⊤ Failed) (ended : Result ⊤ QueueFault) → SessionRan old new printed ended → IfErr (session_end printed ended) (StopsQuiet queue.slots new.slots)
+      quiet (Ok v) (Ok w) run = tt
+      quiet (Ok v) (Err NoFreeBlock) run = run.left.quiet ∙ (run.lines.session queue limit run.begun).keeps.quiet run.left.no_fault.0
+      quiet (Ok v) (Err (Device number)) run = tt
+      quiet (Err failed) ended run = tt
+
       -- what its end keeps
       pub ended-kept : (printed : Result ⊤ Failed) (ended : Result ⊤ QueueFault) → SessionRan old new printed ended → Keeps (begun_in queue) new
       ended-kept (Ok v) ended run = (lines-ran v ended run).over.kept
@@ -200,6 +207,9 @@ module _ {R : Type 0} (w : Words R) (laws : HasLaws w)
 
         pub ended-stopped : IfErr s Stops
         ended-stopped = let P : Result ⊤ Stop → Type 0 = λ x. IfErr x Stops in subst P (sym e) (stopped printed ended run)
+
+        pub ended-quiet : IfErr s (StopsQuiet queue.slots new.slots)
+        ended-quiet = let P : Result ⊤ Stop → Type 0 = λ x. IfErr x (StopsQuiet queue.slots new.slots) in subst P (sym e) (quiet printed ended run)
 
         pub ended-counts_few : CountsFew (length (pushed_in (ended-given printed ended run))) 1 queue new s
         ended-counts_few =

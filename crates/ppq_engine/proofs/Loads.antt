@@ -6,12 +6,13 @@ use Rattle.ppq_script.specs.ppq_outside.Told.{Reply}
 use Rattle.ppq_load.specs.ppq_budget.Sizes.{Numbers}
 use Rattle.ppq_load.specs.ppq_array.Kept.{AreQuiet}
 use Rattle.ppq_load.specs.ppq_queue.Holding.{Holding}
-use Rattle.ppq_load.specs.Loading.{IsByLoad, LoadStopsFor, LoadCountsFrom, LoadEndsIn}
+use Rattle.ppq_load.specs.ppq_array.declared.store_fault.StoreFault.TheVariants.{NoFreeBlock, Device}
+use Rattle.ppq_load.specs.Loading.{IsByLoad, IsHandedBack, LoadLeaves, LoadStopsFor, LoadCountsFrom, LoadEndsIn}
 use Rattle.ppq_load.specs.declared.fault.LoadFault.{LoadFault}
 use Rattle.ppq_load.specs.declared.fault.LoadFault.TheVariants.{Queue, Read, Memory, Ended}
 use Rattle.ppq_engine.specs.Calls.{Adds}
 use Rattle.ppq_engine.specs.Files.{load_stop, load_result, IsByFile, IsBySession, EndsEarly}
-use Rattle.ppq_engine.specs.Running.{StopsFor, LibraryAfter}
+use Rattle.ppq_engine.specs.Running.{StopsFor, StopsQuiet, LibraryAfter}
 use Rattle.ppq_engine.specs.declared.stop.Stop.{Stop}
 
 pub stop-refused : (peak : ℕ) (sizes : Numbers) (limited : Bool) (slots : List Shown) (line said : ℕ) (fault : LoadFault) → LoadStopsFor peak sizes limited slots fault → StopsFor peak sizes limited slots (load_stop line said fault)
@@ -19,6 +20,22 @@ stop-refused peak sizes limited slots line said (Queue fault) h = h
 stop-refused peak sizes limited slots line said Read h = tt
 stop-refused peak sizes limited slots line said Memory h = tt
 stop-refused peak sizes limited slots line said (Ended got) h = tt
+
+module _ {R : Type 0} (old new : Holding R) (line said : ℕ) where
+  -- no call of a block failed where none was free: of a load that was refused, and of a session that did not begin
+  stop-quiet : (fault : LoadFault) → LoadLeaves old new fault → StopsQuiet old.slots new.slots (load_stop line said fault)
+  stop-quiet (Queue NoFreeBlock) h = h.quiet
+  stop-quiet (Queue (Device number)) h = tt
+  stop-quiet Read h = tt
+  stop-quiet Memory h = tt
+  stop-quiet (Ended got) h = tt
+
+  pub back-quiet : (fault : LoadFault) → IsHandedBack old new fault → StopsQuiet old.slots new.slots (load_stop line said fault)
+  back-quiet (Queue NoFreeBlock) h = h.quiet
+  back-quiet (Queue (Device number)) h = tt
+  back-quiet Read h = tt
+  back-quiet Memory h = tt
+  back-quiet (Ended got) h = tt
 
 pub stop-by_session : (line said : ℕ) (fault : LoadFault) → IsByLoad fault → IsBySession (load_stop line said fault)
 stop-by_session line said (Queue fault) h = tt
@@ -72,6 +89,11 @@ module _ {T : Type 0} (line said : ℕ) (r : Result T LoadFault) (s : Result T S
   loaded-refused peak sizes limited slots h =
       let P : Result T Stop → Type 0 = λ x. IfErr x (StopsFor peak sizes limited slots) in
       subst P (sym same) (result-err (LoadStopsFor peak sizes limited slots) (StopsFor peak sizes limited slots) (stop-refused peak sizes limited slots line said) r h)
+
+  pub loaded-quiet : {R : Type 0} (old new : Holding R) → IfErr r (LoadLeaves old new) → IfErr s (StopsQuiet old.slots new.slots)
+  loaded-quiet old new h =
+      let P : Result T Stop → Type 0 = λ x. IfErr x (StopsQuiet old.slots new.slots) in
+      subst P (sym same) (result-err (LoadLeaves old new) (StopsQuiet old.slots new.slots) (stop-quiet old new line said) r h)
 
   pub loaded-by_session : IfErr r IsByLoad → IfErr s IsBySession
   loaded-by_session h = let P : Result T Stop → Type 0 = λ x. IfErr x IsBySession in subst P (sym same) (result-err IsByLoad IsBySession (stop-by_session line said) r h)

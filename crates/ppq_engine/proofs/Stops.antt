@@ -20,7 +20,7 @@ use Rattle.ppq_script.specs.Files.{name_at}
 use Rattle.ppq_engine.specs.Files.{IsByFile, IsBySession, EndsEarly}
 use Rattle.ppq_engine.specs.Loads.{IsLoad, none_go, size_from, most_of, begins_limit}
 use Rattle.ppq_engine.specs.Output.{outside, state_of, output_of, output_from, load_of, given_of, AreFilesOf, TakesAtLeast, TakesWithin}
-use Rattle.ppq_engine.specs.Running.{HasRun, HasSizes, StopsWithin, QueueRefused, IsBeforeFile, IsBeforeLoad, ScriptStopped, RefusedAt, PartStops, IsOfFile, StopsFor, ChangedIn, SinkAfter, LibraryAfter, queue_end}
+use Rattle.ppq_engine.specs.Running.{HasRun, HasSizes, StopsWithin, QueueRefused, IsBeforeFile, IsBeforeLoad, ScriptStopped, RefusedAt, PartStops, IsOfFile, StopsFor, StopsQuiet, ChangedIn, SinkAfter, LibraryAfter, queue_end}
 use Rattle.ppq_engine.specs.Popping.{NotByFile, IsByLimit}
 use Rattle.ppq_engine.specs.Outcome.{EndSays, TakesBeforeFile, TakesBeforeLoad, FaultBeforeFile, PutsStopped, PutsRest}
 use Rattle.ppq_engine.specs.declared.end.End.{End}
@@ -251,13 +251,13 @@ module _ {R : Type 0} (w : Words R) (laws : HasLaws w) (form : Form) (told : Opt
 
   pub says-stopped :
       (stop : Stop) (replied : Reply → Type 0) (slots : List Shown) (sizes : Numbers) (mid now : Option (List ℕ)) (sink sink_mid sink_now library library_now : ℕ) (had : List ℕ) (over : End)
-      → 0 < sizes.block → ScriptStopped w form told script first before mid had sizes slots stop → ChangedIn told replied script stop → SinkAfter sink sink_mid stop → LibraryAfter library library_now stop
+      → 0 < sizes.block → ScriptStopped w form told script first before mid had sizes slots stop → StopsQuiet first slots stop → ChangedIn told replied script stop → SinkAfter sink sink_mid stop → LibraryAfter library library_now stop
       → PutsStopped mid now sink_mid sink_now had over stop
       → EndSays w form told replied script first slots sizes before now sink sink_now library library_now over
-  says-stopped Sink replied slots sizes mid now sink sink_mid sink_now library library_now had over some stopped changed after library_after puts =
+  says-stopped Sink replied slots sizes mid now sink sink_mid sink_now library library_now had over some stopped quiet changed after library_after puts =
       let P : End → Type 0 = λ e. EndSays w form told replied script first slots sizes before now sink sink_now library library_now e in
       subst P (sym puts.1) (omega (arith, puts.2, after))
-  says-stopped (Queue NoFreeBlock) replied slots sizes mid now sink sink_mid sink_now library library_now had over some stopped changed after library_after puts =
+  says-stopped (Queue NoFreeBlock) replied slots sizes mid now sink sink_mid sink_now library library_now had over some stopped quiet changed after library_after puts =
       rest-says replied slots sizes mid now sink sink_mid sink_now library library_now had end.NoFreeBlock over puts after
       (λ took same. (
         λ tells files is.
@@ -273,18 +273,19 @@ module _ {R : Type 0} (w : Words R) (laws : HasLaws w) (form : Form) (told : Opt
             no_room-later sizes (begins_limit last) (begins_limit (command_list script)) (most_of w last) (most_of w (command_list script)) some
             (begins-take_all (stopped.done + 1) (command_list script)) (greatest-take_all w none_go (stopped.done + 1) (command_list script)) stopped.any,
         record { sink_same = same; library_same = library_after },
+        quiet,
       ))
-  says-stopped (Queue (Device number)) replied slots sizes mid now sink sink_mid sink_now library library_now had over some stopped changed after library_after puts =
+  says-stopped (Queue (Device number)) replied slots sizes mid now sink sink_mid sink_now library library_now had over some stopped quiet changed after library_after puts =
       rest-says replied slots sizes mid now sink sink_mid sink_now library library_now had (end.DeviceFault number) over puts after (λ took same. (stopped.any, record { sink_same = same; library_same = library_after }))
-  says-stopped Read replied slots sizes mid now sink sink_mid sink_now library library_now had over some stopped changed after library_after puts =
+  says-stopped Read replied slots sizes mid now sink sink_mid sink_now library library_now had over some stopped quiet changed after library_after puts =
       rest-says replied slots sizes mid now sink sink_mid sink_now library library_now had end.ReadFault over puts after (λ took same. (library_after, same))
-  says-stopped Memory replied slots sizes mid now sink sink_mid sink_now library library_now had over some stopped changed after library_after puts =
+  says-stopped Memory replied slots sizes mid now sink sink_mid sink_now library library_now had over some stopped quiet changed after library_after puts =
       rest-says replied slots sizes mid now sink sink_mid sink_now library library_now had end.Memory over puts after
       (λ took same. (
         before-load mid now had stopped took,
         record { sink_same = same; library_same = library_after },
       ))
-  says-stopped (Changed line said got) replied slots sizes mid now sink sink_mid sink_now library library_now had over some stopped changed after library_after puts =
+  says-stopped (Changed line said got) replied slots sizes mid now sink sink_mid sink_now library library_now had over some stopped quiet changed after library_after puts =
       rest-says replied slots sizes mid now sink sink_mid sink_now library library_now had (end.FileChanged line said got) over puts after (λ took same. (changed, record { sink_same = same; library_same = library_after }))
 
 -- a stop by sink or queue says nothing of files

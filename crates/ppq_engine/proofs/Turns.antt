@@ -18,7 +18,8 @@ use Rattle.ppq_script.specs.Reading.{Reading}
 use Rattle.ppq_load.specs.ppq_queue.Holding.{Holding, CountsFew}
 use Rattle.ppq_load.specs.ppq_array.Kept.{SameSlots}
 use Rattle.ppq_load.specs.ppq_array.declared.store_fault.StoreFault.{StoreFault as QueueFault}
-use Rattle.ppq_load.specs.Loading.{IsLoaded}
+use Rattle.ppq_load.specs.ppq_array.declared.store_fault.StoreFault.TheVariants.{NoFreeBlock, Device}
+use Rattle.ppq_load.specs.Loading.{LoadHolding, InSession, IsLoaded, IsLeftBy}
 use Rattle.ppq_load.specs.Refusal.{Keeps}
 use Rattle.ppq_load.proofs.Counting.{few-to}
 use Rattle.ppq_load.proofs.Refusals.{cause-later}
@@ -30,7 +31,7 @@ use Rattle.ppq_engine.specs.Loads.{none_go, all_go, size_after}
 use Rattle.ppq_engine.specs.Output.{outside, text_of, after, given_of, AreFilesOf}
 use Rattle.ppq_engine.specs.Pushes.{pushed_in}
 use Rattle.ppq_engine.specs.Popping.{IsByLimit}
-use Rattle.ppq_engine.specs.Running.{WroteInPart, PartStops, StopsFor, SinkAfter, LibraryAfter, ChangedIn}
+use Rattle.ppq_engine.specs.Running.{WroteInPart, PartStops, StopsFor, QuietIfFull, StopsQuiet, SinkAfter, LibraryAfter, ChangedIn}
 use Rattle.ppq_engine.specs.Work.{pushes_of, begins_of}
 use Rattle.ppq_engine.specs.declared.stop.Stop.{Stop}
 use Rattle.ppq_engine.specs.declared.stop.Stop.TheVariants.{Queue}
@@ -48,8 +49,8 @@ module _ {R : Type 0} (w : Words R)
   where
     pub turn-goes :
         Keeps old new → CountsFew (pushes_of w c) (begins_of c) old new r → OnOk r (RunsStep w told script old new c) → IfErr r (StopsStep w old new c)
-        → Goes w form told script c (c ∷ []) before now old new had has r
-    turn-goes kept counts runs stops =
+        → IfErr r (StopsQuiet old.slots new.slots) → Goes w form told script c (c ∷ []) before now old new had has r
+    turn-goes kept counts runs stops quiet =
         let text = text_of w form (outside old.bag) c in
         let Text : Type 0 = AllTell old.slots → Gathers before now had text has in
         let Wrote : Stop → Type 0 = λ stop. AllTell old.slots → WroteInPart before now had text has stop in
@@ -72,10 +73,19 @@ module _ {R : Type 0} (w : Words R)
                 wrote = lone-stops w form old.slots before now had has old.bag old.size old.peak old.sizes old.limited new.slots workers c is stop both.1 both.0.refused;
                 of_file = both.0.of_file;
               }) (if-err-both r (StopsStep w old new c) Wrote stops prints.part);
+          quiet = quiet;
           slots = kept.slots;
           sizes = kept.sizes;
           counted = lone-counts w old new r c counts;
         }
+
+-- where a session ended without a free block, no call of a block failed since it began
+pub session-quiet :
+    {S R T : Type 0} (shown : S → Shown) (queue : Holding R) (records : List R) (load : LoadHolding S R) (new : Holding R) (over : Result T QueueFault)
+    → InSession shown queue records load → IfErr over (IsLeftBy shown load new) → IfErr over (QuietIfFull queue.slots new.slots)
+session-quiet shown queue records load new (Ok v) session left = tt
+session-quiet shown queue records load new (Err NoFreeBlock) session left = left.quiet ∙ session.keeps.quiet refl
+session-quiet shown queue records load new (Err (Device number)) session left = tt
 
 -- a bulk session
 module _ {R : Type 0} (w : Words R) (laws : HasLaws w) (script : Reading R) (workers : ℕ) (body : List (Command R)) (are : AreLines w workers InBulk body) (old new : Holding R) (had : List ℕ) where
@@ -97,6 +107,7 @@ module _ {R : Type 0} (w : Words R) (laws : HasLaws w) (script : Reading R) (wor
             kept = Keeps-none old new (bulk_part body) (bulk-begins w workers body are) loaded.kept;
           };
           stopped = tt;
+          quiet = tt;
           slots = loaded.kept.slots;
           sizes = loaded.kept.sizes;
           counted = bulk-counts w old new (Ok v) (length (pushed_in body)) body (omega arith) (few-ok old new loaded.counted);
@@ -106,12 +117,13 @@ module _ {R : Type 0} (w : Words R) (laws : HasLaws w) (script : Reading R) (wor
 
   -- it did not, or did not begin
   pub bulk-stopped :
-      {T E : Type 0} {q : Result T E} (stop : Stop) → IsBySession stop → StopsFor (max old.peak (old.size + length (pushed_in body))) old.sizes old.limited new.slots stop → Keeps old new
+      {T E : Type 0} {q : Result T E} (stop : Stop) → IsBySession stop → StopsFor (max old.peak (old.size + length (pushed_in body))) old.sizes old.limited new.slots stop → StopsQuiet old.slots new.slots stop → Keeps old new
       → (n : ℕ) → n ≤ length (pushed_in body) → CountsFew n 1 old new q → GoesAlone w script BulkBegin (bulk_part body) old new had had (Err stop)
-  bulk-stopped {q = q} stop by why kept n few counts = record {
+  bulk-stopped {q = q} stop by why quiet kept n few counts = record {
     goes = λ form files put. record {
       runs = tt;
       stopped = record { wrote = bulk-stops w laws form old.slots put had old.bag old.size old.peak old.sizes old.limited new.slots workers body are stop by why; of_file = limit_of_file BulkBegin stop tt (session-by_limit stop by) };
+      quiet = quiet;
       slots = kept.slots;
       sizes = kept.sizes;
       counted = bulk-counts w old new (Err stop) n body few (few-to old new q (Err stop) (λ A holds. tt) counts);
@@ -122,21 +134,21 @@ module _ {R : Type 0} (w : Words R) (laws : HasLaws w) (script : Reading R) (wor
   -- what its end answered: where no pass has stopped, all its records were given
   pub bulk-ended :
       (printed : ⊤) (over : Result ⊤ QueueFault) (s : Result ⊤ Stop) → s ≡ session_end (Ok printed) over → OnOk over (IsLoaded old (pushed_in body) new over)
-      → (given : List R) → length given ≤ length (pushed_in body) → 0 < old.sizes.block → IsLoaded old given new over → GoesAlone w script BulkBegin (bulk_part body) old new had had s
-  bulk-ended printed (Ok v) s e all given fewer block loaded = subst (GoesAlone w script BulkBegin (bulk_part body) old new had had) (sym e) (bulk-ran v all)
-  bulk-ended printed (Err fault) s e all given fewer block loaded =
+      → (given : List R) → length given ≤ length (pushed_in body) → 0 < old.sizes.block → IsLoaded old given new over → IfErr over (QuietIfFull old.slots new.slots) → GoesAlone w script BulkBegin (bulk_part body) old new had had s
+  bulk-ended printed (Ok v) s e all given fewer block loaded quiet = subst (GoesAlone w script BulkBegin (bulk_part body) old new had had) (sym e) (bulk-ran v all)
+  bulk-ended printed (Err fault) s e all given fewer block loaded quiet =
       let few = max old.peak (old.size + length given) in
       let most = max old.peak (old.size + length (pushed_in body)) in
       subst (GoesAlone w script BulkBegin (bulk_part body) old new had had) (sym e)
-      (bulk-stopped (Queue fault) tt (cause-later old.sizes old.limited old.limited few most block (λ same. same) (omega (arith, fewer)) new.slots fault loaded.refused) loaded.kept (length given) fewer loaded.counted)
+      (bulk-stopped (Queue fault) tt (cause-later old.sizes old.limited old.limited few most block (λ same. same) (omega (arith, fewer)) new.slots fault loaded.refused) quiet loaded.kept (length given) fewer loaded.counted)
 
 -- a limit session
 pub limit-goes :
     {R : Type 0} (w : Words R) (form : Form) (script : Reading R) (limit : R) (body : List (Command R)) (old new : Holding R) (before now : Option (List ℕ)) (had has : List ℕ) (s : Result ⊤ Stop)
     → OnOk s ((files : Option (List ℕ → Option (List ℕ))) → RunsPart w form files script old new before now had has (limit_part limit body)) → IfErr s IsByLimit
-    → IfErr s (PartStops w form old.slots before now had old.bag old.size old.peak (limit_part limit body) old.sizes true new.slots has) → SameSlots old.slots new.slots → new.sizes ≡ old.sizes
+    → IfErr s (PartStops w form old.slots before now had old.bag old.size old.peak (limit_part limit body) old.sizes true new.slots has) → IfErr s (StopsQuiet old.slots new.slots) → SameSlots old.slots new.slots → new.sizes ≡ old.sizes
     → (n : ℕ) → n ≤ length (pushed_in body) → CountsFew n 1 old new s → (files : Option (List ℕ → Option (List ℕ))) → Goes w form files script (LimitBegin limit) (limit_part limit body) before now old new had has s
-limit-goes w form script limit body old new before now had has s runs by stops slots sizes n few counts files =
+limit-goes w form script limit body old new before now had has s runs by stops quiet slots sizes n few counts files =
     let part = limit_part limit body in
     let Wrote : Bool → Stop → Type 0 = λ l stop. PartStops w form old.slots before now had old.bag old.size old.peak part old.sizes l new.slots has stop in
     record {
@@ -145,6 +157,7 @@ limit-goes w form script limit body old new before now had has s runs by stops s
           IfErr-weaker s (λ stop. IsByLimit stop × Wrote true stop) (StopsPart w form old new before now had has (LimitBegin limit) part)
           (λ stop why. record { wrote = let P : Bool → Type 0 = λ l. Wrote l stop in subst P (sym (or-true old.limited)) why.1; of_file = limit_of_file (LimitBegin limit) stop tt why.0 })
           (if-err-both s IsByLimit (Wrote true) by stops);
+      quiet = quiet;
       slots = slots;
       sizes = sizes;
       counted = limit-counts w old new s n limit body few counts;

@@ -21,27 +21,29 @@ use Rattle.ppq_engine.specs.Loads.{none_go, all_go, size_after, size_from, least
 use Rattle.ppq_engine.specs.Output.{AreFilesOf, TellsLengths, given_of, outside, text_of, after, output_from, state_from, output_of, crest_of}
 use Rattle.ppq_engine.specs.Outcome.{EndSays, FaultBeforeFile}
 use Rattle.ppq_engine.specs.Popping.{NotByFile, IsRound}
-use Rattle.ppq_engine.specs.Running.{IsGathered, WroteInPart, StopsFor, PartStops, behind_part, IsOfFile, ChangedIn, SinkAfter, LibraryAfter}
+use Rattle.ppq_engine.specs.Running.{IsGathered, WroteInPart, StopsFor, QuietIfFull, StopsQuiet, PartStops, behind_part, IsOfFile, ChangedIn, SinkAfter, LibraryAfter}
 use Rattle.ppq_engine.specs.Work.{pushes_of, pushed_by, begun_by}
 use Rattle.ppq_engine.specs.declared.end.End.{End}
 use Rattle.ppq_engine.specs.declared.stop.Stop.{Stop}
 
 -- a call that the machine makes of its queue, whatever it answers: what the queue keeps, that nothing was printed, that the peak is no more
--- than this, that no more than so many records were counted, and why it was refused
+-- than this, that no more than so many records were counted, why it was refused, and that no call of a block failed where none was free
 pub record IsCalled {R T : Type 0} (old new : Holding R) (had has : List ℕ) (most pushes : ℕ) (result : Result T QueueFault) : Type 0 where
   pub kept : Keeps old new
   pub gathered : has ≡ had
   pub peak : new.peak ≤ most
   pub counted : CountsFew pushes 0 old new result
   pub refused : IfErr result (IsRefusedBy new.peak new.sizes new.limited new.slots)
+  pub quiet : IfErr result (QuietIfFull old.slots new.slots)
 
--- a command that calls the queue: what it keeps, that the peak is no more than this, that no more than so many records were counted, and why it
--- stopped; no file stopped it
+-- a command that calls the queue: what it keeps, that the peak is no more than this, that no more than so many records were counted, why it
+-- stopped, and that no call of a block failed where none was free; no file stopped it
 pub record IsLent {R : Type 0} {T : Type 0} (old new : Holding R) (most pushes : ℕ) (result : Result T Stop) : Type 0 where
   pub kept : Keeps old new
   pub peak : new.peak ≤ most
   pub counted : CountsFew pushes 0 old new result
   pub refused : IfErr result (StopsFor new.peak new.sizes new.limited new.slots)
+  pub quiet : IfErr result (StopsQuiet old.slots new.slots)
   pub no_file : IfErr result NotByFile
 
 -- what a queue has after a call that ran to its end: this multiset if its slots tell, at least and at most so many records, and no failed slot
@@ -149,11 +151,12 @@ pub record Lends {R : Type 0} (w : Words R) (form : Form) (before now : Option (
   pub left : OnOk result ((given : ℕ → List R) → Leaves old new (after w given (outside old.bag) command).bag (size_after w all_go old.size command) (size_after w none_go old.size command))
   pub lent : IsLent old new (max old.peak (size_after w none_go old.size command)) (pushes_of w command) result
 
--- commands that run together, of which this is the first, whatever is answered: what they did, or why they stopped; and that the queue counts no
--- more records and sessions than they bring
+-- commands that run together, of which this is the first, whatever is answered: what they did, or why they stopped, and that no call of a block
+-- failed where none was free; and that the queue counts no more records and sessions than they bring
 pub record Goes {R : Type 0} (w : Words R) (form : Form) (files : Option (List ℕ → Option (List ℕ))) (script : Reading R) (first : Command R) (part : List (Command R)) (before now : Option (List ℕ)) (old new : Holding R) (had has : List ℕ) (result : Result ⊤ Stop) : Type 0 where
   pub runs : OnOk result (RunsPart w form files script old new before now had has part)
   pub stopped : IfErr result (StopsPart w form old new before now had has first part)
+  pub quiet : IfErr result (StopsQuiet old.slots new.slots)
   pub slots : SameSlots old.slots new.slots
   pub sizes : new.sizes ≡ old.sizes
   pub counted : CountsFew (pushed_by w part) (begun_by part) old new result

@@ -86,6 +86,7 @@ EndSays w form told replied script first slots sizes before now sink sink_now li
     (AllTell first → (files : List ℕ → Option (List ℕ)) → AreFilesOf told script files → IsFull w form (given_of w files script) script before now sizes)
     × HasNoRoom sizes (begins_limit (command_list script)) (most_of w (command_list script))
     × CountsStay sink sink_now library library_now
+    × AreQuiet first slots
 EndSays w form told replied script first slots sizes before now sink sink_now library library_now (BudgetTooSmall need) = ⊥
 EndSays w form told replied script first slots sizes before now sink sink_now library library_now Memory =
     TakesBeforeLoad w form told script first before now × CountsStay sink sink_now library library_now

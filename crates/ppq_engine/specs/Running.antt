@@ -5,6 +5,7 @@ use Rattle.ppq_script.specs.ppq_record.Bag.{IsSameBag}
 use Rattle.ppq_script.specs.ppq_outside.Shown.{Shown, AllTell}
 use Rattle.ppq_script.specs.ppq_outside.Told.{Reply, TakesAll, TakesPart, Rose}
 use Rattle.ppq_load.specs.ppq_budget.Sizes.{Numbers}
+use Rattle.ppq_load.specs.ppq_array.Kept.{AreQuiet}
 use Rattle.ppq_script.specs.declared.form.Form.{Form}
 use Rattle.ppq_script.specs.declared.command.Command.{Command}
 use Rattle.ppq_script.specs.declared.command.Command.TheVariants.{Push, Pop, Top, Size, Bulk, Gen, BulkPop, BulkPopLimit, Drain, BulkBegin, BulkPush, BulkEnd, LimitBegin, LimitPush, LimitTop, LimitPop, LimitEnd}
@@ -202,6 +203,19 @@ StopsFor peak sizes limited slots (Queue fault) = IsRefusedBy peak sizes limited
 StopsFor peak sizes limited slots Read = ⊤
 StopsFor peak sizes limited slots Memory = ⊤
 StopsFor peak sizes limited slots (Changed line said got) = ⊤
+
+-- where no block was free, no call of a block failed
+abbrev pub QuietIfFull : List Shown → List Shown → QueueFault → Type 0
+QuietIfFull before now NoFreeBlock = AreQuiet before now
+QuietIfFull before now (Device number) = ⊤
+
+-- the same of a stop
+abbrev pub StopsQuiet : List Shown → List Shown → Stop → Type 0
+StopsQuiet before now Sink = ⊤
+StopsQuiet before now (Queue fault) = QuietIfFull before now fault
+StopsQuiet before now Read = ⊤
+StopsQuiet before now Memory = ⊤
+StopsQuiet before now (Changed line said got) = ⊤
 
 -- where a file had changed, it says which
 abbrev pub ChangedIn : {R : Type 0} → Option (List ℕ → Option (List ℕ)) → (Reply → Type 0) → Reading R → Stop → Type 0

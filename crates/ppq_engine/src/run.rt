@@ -10,7 +10,7 @@ ghost use Rattle.ppq_load.specs.Refusal.{HasRoom, HasNoRoom};
 ghost use Rattle.ppq_engine.specs.Calls.{MayRun, RunsAll, EndsRun, SinkCounts, LibraryCounts, LibraryStays};
 ghost use Rattle.ppq_engine.specs.Loads.{most_of, least_of, begins_limit, FitsWritten};
 ghost use Rattle.ppq_engine.specs.Output.{output_of, load_of, crest_of, given_of, AreFilesOf, KeepsLengths, TakesWithin};
-ghost use Rattle.ppq_engine.specs.Running.{ScriptStopped, HasChanged, queue_end, open_end};
+ghost use Rattle.ppq_engine.specs.Running.{ScriptStopped, StopsQuiet, HasChanged, queue_end, open_end};
 ghost use Rattle.ppq_engine.specs.Files.{IsReadInScript};
 ghost use Rattle.ppq_engine.specs.Outcome.{TakesBeforeLoad, FaultBeforeFile, PutsRest, PutsStopped};
 ghost use Rattle.ppq_engine.specs.Work.{IsWithinWork, TransfersFew};
@@ -44,6 +44,7 @@ impl<S: Slot + Send + Sync, R: Fields + Send + Sync> Machine<S, R> {
         requires gathered { self.desk.gathered ≡ [] }
         ensures runs { OnOk result.1 (RunsAll R.Fields world.now.form (L.told library.old) world.now.script.now self.queue result.0.queue (O.told out.old) (O.told out.new) result.0.desk.gathered) }
         ensures stopped { IfErr result.1 (ScriptStopped R.Fields world.now.form (L.told library.old) world.now.script.now self.queue.slots (O.told out.old) (O.told out.new) result.0.desk.gathered self.queue.sizes result.0.queue.slots) }
+        ensures quiet { IfErr result.1 (StopsQuiet self.queue.slots result.0.queue.slots) }
         ensures slots { SameSlots self.queue.slots result.0.queue.slots }
         ensures counted { IsWithinWork R.Fields (command_list world.now.script.now) self.queue.sizes result.0.queue }
         ensures library { LibraryCounts (L.told library.old) (L.told library.new) (L.replied library.old) (L.replied library.new) world.now.script.now (L.faults library.old) (L.faults library.new) result.1 }
@@ -171,8 +172,8 @@ where
 /// number failed. `NoFreeBlock`: a run of records found no free block, which comes only where the
 /// device has fewer blocks than the script's load wants, and that load is above the capacity of one
 /// heap or the script begins a limit session; at least what all commands up to such a load print was
-/// taken. `FileChanged`: the file of the command on that line ended at `got`, before the length `said`
-/// that the script keeps, and the library is not visible to proofs.
+/// taken, and no call of a block failed. `FileChanged`: the file of the command on that line ended at
+/// `got`, before the length `said` that the script keeps, and the library is not visible to proofs.
 /// `BudgetTooSmall` comes if and only if the budget is below its fixed part, unless an allocation failed;
 /// nothing was written then. On `Memory` nothing was written, or what the commands before a `bulk`, `gen`,
 /// `bulk_begin` or `limit_begin` print: such a command allocates for its session. No other end comes.
@@ -229,10 +230,11 @@ where
     ensures complete { fixed_of sizes ≤ sizes.memory → AllTell (map S.shown slots.items) → (files : List ℕ → Option (List ℕ)) → AreFilesOf (L.told library.old) script.now files → HasRoom sizes (begins_limit (command_list script.now)) (load_of R.Fields (given_of R.Fields files script.now) (command_list script.now)) → IsQuiet (O.faults out.old) (O.faults out.new) → IsQuiet (L.faults library.old) (L.faults library.new) → NoneFailed (map S.shown result.blocks.items) → IsCompleted (L.told library.old) result.end }
     ensures complete_any { fixed_of sizes ≤ sizes.memory → HasRoom sizes (begins_limit (command_list script.now)) (most_of R.Fields (command_list script.now)) → IsQuiet (O.faults out.old) (O.faults out.new) → IsQuiet (L.faults library.old) (L.faults library.new) → NoneFailed (map S.shown result.blocks.items) → IsCompleted (L.told library.old) result.end }
 
-    // All blocks come back, each once, and no count of a block falls; after `Done` no call of a block failed. The
-    // device was used: each record above the budget, when the multiset was greatest outside sessions, was written.
+    // All blocks come back, each once, and no count of a block falls; after `Done` and `NoFreeBlock` no call of a block
+    // failed. The device was used: each record above the budget, when the multiset was greatest outside sessions, was
+    // written.
     ensures blocks { SameSlots (map S.shown slots.items) (map S.shown result.blocks.items) }
-    ensures unfailed { result.end ≡ Done → All (λ s. s.faults ≡ 0) (map S.shown result.blocks.items) }
+    ensures unfailed { (result.end ≡ Done) ⊎ (result.end ≡ NoFreeBlock) → All (λ s. s.faults ≡ 0) (map S.shown result.blocks.items) }
     ensures used { result.end ≡ Done → AllTell (map S.shown slots.items) → (files : List ℕ → Option (List ℕ)) → AreFilesOf (L.told library.old) script.now files → FitsWritten (crest_of R.Fields (given_of R.Fields files script.now) (command_list script.now)) sizes (map S.shown result.blocks.items) }
     ensures used_any { result.end ≡ Done → FitsWritten (least_of R.Fields (command_list script.now)) sizes (map S.shown result.blocks.items) }
 

@@ -14,7 +14,6 @@ use Rattle.ppq_session.proofs.Adding.{part-more}
 use Rattle.ppq_load.specs.declared.fault.LoadFault.{LoadFault}
 use Rattle.ppq_load.specs.declared.fault.LoadFault.TheVariants.{Queue, Read, Memory, Ended}
 use Rattle.ppq_load.specs.Loading.{LoadHolding, IsLoaded, IsLeftBy, IsHandedBack, AreRecordsAt}
-use Rattle.ppq_load.specs.Limits.{LimitsHolding, IsOverBy}
 use Rattle.ppq_load.proofs.FileRecords.{from-start, records-add}
 
 module _ {R : Type 0} (records old new : List R) where
@@ -43,11 +42,6 @@ module _ {R : Type 0} where
   unbegun-part records queue back Read never sound tells = absurd never
   unbegun-part records queue back Memory intact sound tells = part-none records queue.bag back.bag (intact.bag tells)
   unbegun-part records queue back (Ended got) never sound tells = absurd never
-
-module _ {R : Type 0} where
-  -- a limit session ended without a free block, so its front met no fault
-  pub over-unfaulted : {S T : Type 0} (shown : S → Shown) (session : LimitsHolding S R) (new : Holding R) (ended : Result T QueueFault) → IfErr ended (IsOverBy shown session new) → ended ≡ Err NoFreeBlock → session.front.failed ≡ None
-  over-unfaulted shown session new ended left is = (subst (λ r. IfErr r (IsOverBy shown session new)) is left).no_fault.0
 
 module _ {R : Type 0} (record_of : List ℕ → R) (width : ℕ) where
   -- the first records of a file were given

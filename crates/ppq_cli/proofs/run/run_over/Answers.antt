@@ -13,10 +13,10 @@ use Rattle.ppq_engine.specs.Ends.{BeganOrRefused, budget_refusal}
 use Rattle.ppq_engine.specs.declared.end.End.{End}
 use Rattle.ppq_engine.specs.declared.end.End.TheVariants.{BudgetTooSmall}
 use Rattle.ppq_cli.specs.RunOver.{RunWrites, RunEnds, RunFaults}
-use Rattle.ppq_cli.specs.Device.{AreBlocks}
+use Rattle.ppq_cli.specs.Device.{AreBlocks, make_end}
 use Rattle.ppq_cli.proofs.Blocks.{returned, in_order, made_just, made_nothing}
 use Rattle.ppq_cli.proofs.Ends.{ran_to_load, fault_to_file, may_write, no_blocks}
-use Rattle.ppq_cli.proofs.RunOver.{wrote_nothing, unmade_wrote, asked_nothing, small_ends, unmade_ends, begun_ends, small_faults, unmade_faults, made_count, unmade_blocks, unmade_not_done, run_unrefused}
+use Rattle.ppq_cli.proofs.RunOver.{wrote_nothing, unmade_wrote, asked_nothing, small_ends, unmade_ends, begun_ends, small_faults, unmade_faults, made_count, unmade_blocks, unmade_not_done, unmade_not_full, of_other, run_unrefused}
 use Rattle.ppq_cli.proofs.Transfers.{new_slots, no_slots, few_any}
 use Rattle.ppq_cli.proofs.run.run_over.Goals as goal
 
@@ -35,7 +35,7 @@ returns-then-memory-need-clause-blocks g c =
     record {
       made = made_nothing (λ s. (shown s).number) r.result.blocks.items (g.K.Rack.made c.args.rack.now (as_reading c.args.arguments.now).device) r.ensures.none;
       are = subst (λ (e : End). AreBlocks c.args.arguments.now.given.numbers.blocks e (map shown r.result.blocks.items)) (sym r.ensures.end) (no_blocks c.args.arguments.now.given.numbers.blocks (BudgetTooSmall _) (map shown r.result.blocks.items) (λ run. run) (ap (map shown) r.ensures.none));
-      unfailed = λ is. let other = r.ensures.end in absurd (cc);
+      unfailed = of_other r.result.end (BudgetTooSmall _) r.ensures.end (λ is. cc) (λ is. cc);
       tells = λ t. t;
     }
 
@@ -184,7 +184,7 @@ returns-in-Err-clause-blocks g c =
     record {
       made = made_just shown back (g.K.Rack.made c.args.rack.now reading.device) (g.K.Rack.made c.make_blocks.new.rack reading.device) (length back) numbers (length-map back shown) c.in-Err.ensures.made;
       are = subst (λ (e : End). AreBlocks c.args.arguments.now.given.numbers.blocks e (map shown back)) (sym c.end_of_making.ensures) (unmade_blocks c.args.arguments.now.given.numbers.blocks (map shown back) c.in-Err.fault numbers (omega (arith, most, length-map back shown)));
-      unfailed = λ is. absurd (unmade_not_done c.in-Err.fault (sym c.end_of_making.ensures ∙ is));
+      unfailed = of_other c.end_of_making.result (make_end c.in-Err.fault) c.end_of_making.ensures (unmade_not_done c.in-Err.fault) (unmade_not_full c.in-Err.fault);
       tells = c.make_blocks.ensures.kept;
     }
 

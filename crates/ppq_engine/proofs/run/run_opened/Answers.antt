@@ -5,7 +5,7 @@ use Rattle.std.specs.Prelude.{OnOk}
 use Rattle.ppq_script.specs.Reading.{command_list}
 use Rattle.ppq_engine.specs.Calls.{RunsAll}
 use Rattle.ppq_engine.specs.Output.{output_of, given_of}
-use Rattle.ppq_engine.specs.Running.{ScriptStopped, ChangedIn, SinkAfter, LibraryAfter}
+use Rattle.ppq_engine.specs.Running.{ScriptStopped, StopsQuiet, ChangedIn, SinkAfter, LibraryAfter}
 use Rattle.ppq_engine.proofs.Counted.{transfers-few}
 use Rattle.ppq_engine.proofs.Libraries.{library-stays}
 use Rattle.ppq_engine.proofs.Results.{at-ok, at-err}
@@ -77,7 +77,7 @@ returns-clause-ends g c = let w = words g.R.PartialEq g.R.PartialOrd g.R.Ord g.R
       part = part-stopped w laws c.args.world.now.form files script queue.slots before stop mid now sink_mid sink_now run.result.0.desk.gathered queue.sizes slots over why puts;
       says =
           says-stopped w laws c.args.world.now.form files script queue.slots before stop replied slots queue.sizes mid now (faults c.args.out.now) sink_mid sink_now (library c.args.library.now) (library run.new.library) run.result.0.desk.gathered over
-          (omega (arith, c.known.ensures.range.two_records)) why (at-err run.result.1 stop (ChangedIn files replied script) c.in-Err.is run.ensures.library.changed) (at-err run.result.1 stop (SinkAfter (faults c.args.out.now) sink_mid) c.in-Err.is run.ensures.sink.cause)
+          (omega (arith, c.known.ensures.range.two_records)) why (at-err run.result.1 stop (StopsQuiet queue.slots slots) c.in-Err.is run.ensures.quiet) (at-err run.result.1 stop (ChangedIn files replied script) c.in-Err.is run.ensures.library.changed) (at-err run.result.1 stop (SinkAfter (faults c.args.out.now) sink_mid) c.in-Err.is run.ensures.sink.cause)
           (at-err run.result.1 stop (LibraryAfter (library c.args.library.now) (library run.new.library)) c.in-Err.is run.ensures.library.cause) puts;
       file = before-stopped w laws c.args.world.now.form files script queue.slots before stop mid now sink_mid sink_now run.result.0.desk.gathered queue.sizes slots over why puts;
     }

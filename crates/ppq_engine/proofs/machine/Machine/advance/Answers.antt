@@ -132,7 +132,7 @@ returns-in_default g c = let w = words g.R.PartialEq g.R.PartialOrd g.R.Ord g.R.
     let is = subst (HasItsLines w old.sizes.workers) c.in-One.is c.requires.turn.lines in
     let Whole : Part g.row.R.Denot → Type 0 = λ p. Goes w c.args.world.now.form files script (first_in p) (commands_in p) (told c.args.out.now) (told c.lend-done.new.out) old new had has r in
     record {
-      goes = subst Whole (sym c.in-One.is) (turn-goes w c.args.world.now.form files script old.sizes.workers k is old new (told c.args.out.now) (told c.lend-done.new.out) had has r a.prints a.lent.kept (few-more (pushes_of w k) 0 (pushes_of w k) (begins_of k) old new r (omega arith) (omega arith) a.lent.counted) ran stops);
+      goes = subst Whole (sym c.in-One.is) (turn-goes w c.args.world.now.form files script old.sizes.workers k is old new (told c.args.out.now) (told c.lend-done.new.out) had has r a.prints a.lent.kept (few-more (pushes_of w k) 0 (pushes_of w k) (begins_of k) old new r (omega arith) (omega arith) a.lent.counted) ran stops a.lent.quiet);
       library = library-unasked files replied script (g.L.Library.faults c.args.library.now) r (IfErr-weaker r NotByFile IsByLimit not-by_limit a.lent.no_file);
       sink = a.counts;
     }

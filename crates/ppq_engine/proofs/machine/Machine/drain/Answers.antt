@@ -7,7 +7,9 @@ use Rattle.ppq_engine.proofs.Popped.{left-begin, round-left, round-taken, round-
 use Rattle.ppq_load.proofs.ppq_queue.Counted.{few-then}
 use Rattle.ppq_load.proofs.ppq_queue.Flushed.{keeps-more}
 use Rattle.ppq_engine.proofs.Counted.{few-none, few-ok, few-err}
-use Rattle.ppq_engine.proofs.Kept.{Keeps-refl}
+use Rattle.ppq_engine.specs.Running.{QuietIfFull}
+use Rattle.ppq_engine.proofs.Kept.{Keeps-refl, quiet-then}
+use Rattle.ppq_engine.proofs.Results.{if-err}
 use Rattle.ppq_engine.proofs.machine.Machine.drain.Goals as goal
 
 pub rounds-init : goal.rounds-init
@@ -33,6 +35,9 @@ returns-in_err-pop_round-clause-called g c = record {
   peak = omega (arith, c.rounds.invariant.peak, c.pop_round.ensures.called.peak);
   counted = few-err c.args.self.now.queue c.pop_round.new.self.queue c.from_residual.result _ c.from_residual.ensures.1 (few-then 0 0 0 0 c.args.self.now.queue c.rounds.self.queue c.pop_round.new.self.queue _ _ c.rounds.invariant.counted c.pop_round.ensures.called.counted);
   refused = search rules;
+  quiet =
+      if-err c.from_residual.result c.in_err-pop_round.field-0.0 (QuietIfFull c.args.self.now.queue.slots c.pop_round.new.self.queue.slots) c.from_residual.ensures.1
+      (quiet-then c.args.self.now.queue.slots c.rounds.self.queue.slots c.pop_round.new.self.queue.slots c.rounds.invariant.quiet c.in_err-pop_round.field-0.0 c.in_err-pop_round.ensures.called.quiet);
 }
 
 pub returns-then-is_empty-clause-summary : goal.returns-then-is_empty-clause-summary
@@ -64,6 +69,7 @@ returns-then-is_empty-clause-called g c = record {
   peak = omega (arith, c.rounds.invariant.peak, c.pop_round.ensures.called.peak);
   counted = few-ok c.args.self.now.queue c.pop_round.new.self.queue (few-then 0 0 0 0 c.args.self.now.queue c.rounds.self.queue c.pop_round.new.self.queue _ _ c.rounds.invariant.counted c.in_ok-pop_round.ensures.called.counted);
   refused = tt;
+  quiet = tt;
 }
 
 pub rounds-preserved : goal.rounds-preserved

@@ -52,7 +52,7 @@ returns-in_err-answer-in_default g c = let w = words g.R.PartialEq g.R.PartialOr
       prints = prints-stop old.queue.slots put put old.desk.gathered text new.desk.gathered r stop is (λ tells. record { part = []; rest = text; all = refl; gathers = gathers-kept a.gathered (gathers-nothing put old.desk.gathered) });
       counts = sink-stop r stop is faults faults (omega arith) refl;
       left = not-ok r (λ x. x ≡ stop) _ is;
-      lent = lent-stop r stop is old.queue old.queue new.queue _ _ (Keeps-refl old.queue) a.kept a.peak a.counted a.refused tt;
+      lent = lent-stop r stop is old.queue old.queue new.queue _ _ (Keeps-refl old.queue) a.kept a.peak a.counted a.refused a.quiet tt;
     }
 
 pub returns-in_err-print-in_default : goal.returns-in_err-print-in_default
@@ -73,7 +73,7 @@ returns-in_err-print-in_default g c = let w = words g.R.PartialEq g.R.PartialOrd
           (λ tells. part_of_more (told c.args.out.now) (told c.print.new.out) old.desk.gathered text (subst P a.gathered c.in_err-print-in_default.ensures.part));
       counts = sink-stop r Sink is (faults c.args.out.now) (faults c.print.new.out) cause.later cause.failed;
       left = not-ok r (λ x. x ≡ Sink) _ is;
-      lent = lent-stop r Sink is old.queue old.queue new.queue _ _ (Keeps-refl old.queue) a.kept a.peak a.counted tt tt;
+      lent = lent-stop r Sink is old.queue old.queue new.queue _ _ (Keeps-refl old.queue) a.kept a.peak a.counted tt tt tt;
     }
 
 pub returns-in_ok-print-in_default : goal.returns-in_ok-print-in_default
@@ -85,5 +85,5 @@ returns-in_ok-print-in_default g c =
       prints = record { text = λ tells. gathers-as a.gathered (ok.text tells) c.in_ok-print-in_default.ensures.ok; part = tt };
       counts = record { later = cause.later; stays = cause.ok; cause = tt };
       left = λ given. let left = ok.left given in record { bag = (left none_go).bag; low = (left all_go).low; high = (left none_go).high; sound = (left none_go).sound; quiet = (left none_go).quiet };
-      lent = record { kept = a.kept; peak = a.peak; counted = few-ok c.args.self.now.queue c.act.new.self.queue ok.called.counted; refused = tt; no_file = tt };
+      lent = record { kept = a.kept; peak = a.peak; counted = few-ok c.args.self.now.queue c.act.new.self.queue ok.called.counted; refused = tt; quiet = tt; no_file = tt };
     }

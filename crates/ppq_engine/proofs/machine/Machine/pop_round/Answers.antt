@@ -43,4 +43,4 @@ returns-in_ok-_end-in-Some-clause-popped g c = let w = words g.R.PartialEq g.R.P
 pub returns-in_ok-_taken-in-None-clause-called : goal.returns-in_ok-_taken-in-None-clause-called
 returns-in_ok-_taken-in-None-clause-called g c =
     let b = c.in_ok-_taken-in-None.ensures.pops in
-    record { kept = b.keeps; gathered = refl; peak = omega (arith, b.peak); counted = few-as c.args.self.now.queue c.bulk_pop.new.self _ b.keeps.sizes b.counted; refused = tt }
+    record { kept = b.keeps; gathered = refl; peak = omega (arith, b.peak); counted = few-as c.args.self.now.queue c.bulk_pop.new.self _ b.keeps.sizes b.counted; refused = tt; quiet = tt }

@@ -10,7 +10,7 @@ use Rattle.ppq_engine.proofs.Popped.{mark-is, gathers-as, gathers-kept, gathers-
 use Rattle.ppq_load.proofs.ppq_queue.Counted.{few-then}
 use Rattle.ppq_load.proofs.ppq_queue.Flushed.{keeps-more}
 use Rattle.ppq_engine.proofs.Counted.{few-ok}
-use Rattle.ppq_engine.proofs.Kept.{Keeps-refl, lent-stop, sink-stop}
+use Rattle.ppq_engine.proofs.Kept.{Keeps-refl, quiet-then, lent-stop, sink-stop}
 use Rattle.ppq_engine.proofs.Results.{not-ok}
 use Rattle.ppq_engine.proofs.machine.Machine.print_limited.Goals as goal
 
@@ -32,7 +32,7 @@ returns-in_err-print_popped g c = let w = words g.R.PartialEq g.R.PartialOrd g.R
           (λ tells. writes-more (told c.args.out.now) (told c.print_popped.new.out) old.desk.gathered lines mark new.desk.gathered stop p.lent.no_file (p.prints.part tells));
       counts = sink-stop r stop is (g.O.Sink.faults c.args.out.now) (g.O.Sink.faults c.print_popped.new.out) p.sink.later p.sink.cause;
       left = not-ok r (λ x. x ≡ stop) _ is;
-      lent = lent-stop r stop is old.queue old.queue new.queue most 0 (Keeps-refl old.queue) p.lent.kept (omega (arith, p.lent.peak)) p.lent.counted p.lent.refused p.lent.no_file;
+      lent = lent-stop r stop is old.queue old.queue new.queue most 0 (Keeps-refl old.queue) p.lent.kept (omega (arith, p.lent.peak)) p.lent.counted p.lent.refused p.lent.quiet p.lent.no_file;
     }
 
 pub returns-in_err-mark : goal.returns-in_err-mark
@@ -55,7 +55,7 @@ returns-in_err-mark g c = let w = words g.R.PartialEq g.R.PartialOrd g.R.Ord g.R
           (λ tells. record { part = lines; rest = mark; all = refl; gathers = gathers-kept m.gathered (p.prints.text tells) });
       counts = sink-stop r stop is (g.O.Sink.faults c.args.out.now) (g.O.Sink.faults c.print_popped.new.out) p.sink.later p.sink.stays;
       left = not-ok r (λ x. x ≡ stop) _ is;
-      lent = lent-stop r stop is old.queue mid.queue new.queue most 0 p.lent.kept m.kept (omega (arith, p.lent.peak, m.peak)) (few-then 0 0 0 0 old.queue mid.queue new.queue _ _ p.lent.counted m.counted) m.refused tt;
+      lent = lent-stop r stop is old.queue mid.queue new.queue most 0 p.lent.kept m.kept (omega (arith, p.lent.peak, m.peak)) (few-then 0 0 0 0 old.queue mid.queue new.queue _ _ p.lent.counted m.counted) m.refused (quiet-then old.queue.slots mid.queue.slots new.queue.slots p.left.quiet c.in_err-mark.field-0.0 m.quiet) tt;
     }
 
 pub returns-in_err-print : goal.returns-in_err-print
@@ -78,7 +78,7 @@ returns-in_err-print g c = let w = words g.R.PartialEq g.R.PartialOrd g.R.Ord g.
           (λ tells. takes-part (told c.args.out.now) (told c.print_popped.new.out) (told c.print.new.out) old.desk.gathered new.desk.gathered lines mark (gathers-kept m.gathered (p.prints.text tells)) c.in_err-print.ensures.part);
       counts = sink-stop r Sink is (g.O.Sink.faults c.args.out.now) (g.O.Sink.faults c.print.new.out) (omega (arith, p.sink.stays, cause.later)) (omega (arith, p.sink.stays, cause.failed));
       left = not-ok r (λ x. x ≡ Sink) _ is;
-      lent = lent-stop r Sink is old.queue mid.queue new.queue most 0 p.lent.kept m.kept (omega (arith, p.lent.peak, m.peak)) (few-then 0 0 0 0 old.queue mid.queue new.queue _ _ p.lent.counted m.counted) tt tt;
+      lent = lent-stop r Sink is old.queue mid.queue new.queue most 0 p.lent.kept m.kept (omega (arith, p.lent.peak, m.peak)) (few-then 0 0 0 0 old.queue mid.queue new.queue _ _ p.lent.counted m.counted) tt tt tt;
     }
 
 pub returns : goal.returns
@@ -102,5 +102,5 @@ returns g c = let w = words g.R.PartialEq g.R.PartialOrd g.R.Ord g.R.Record g.R.
       };
       counts = record { later = omega (arith, p.sink.stays, c.print.ensures.cause.later); stays = c.in_ok-print.ensures.cause.ok ∙ p.sink.stays; cause = tt };
       left = λ given. record { bag = λ tells x. m.left.bag (p.lent.kept.tells tells) x ∙ p.left.bag tells x; low = omega (arith, p.left.low, m.left.low); high = omega (arith, p.left.high, m.left.high); sound = m.left.sound; quiet = m.left.quiet ∙ p.left.quiet };
-      lent = record { kept = keeps-more old.queue mid.queue new.queue p.lent.kept called.kept; peak = omega (arith, p.lent.peak, called.peak); counted = few-ok old.queue new.queue (few-then 0 0 0 0 old.queue mid.queue new.queue _ _ p.lent.counted m.called.counted); refused = tt; no_file = tt };
+      lent = record { kept = keeps-more old.queue mid.queue new.queue p.lent.kept called.kept; peak = omega (arith, p.lent.peak, called.peak); counted = few-ok old.queue new.queue (few-then 0 0 0 0 old.queue mid.queue new.queue _ _ p.lent.counted m.called.counted); refused = tt; quiet = tt; no_file = tt };
     }

@@ -11,7 +11,7 @@ use Rattle.ppq_engine.proofs.Popped.{left-begin, round-left, round-lines, round-
 use Rattle.ppq_load.proofs.ppq_queue.Counted.{few-then}
 use Rattle.ppq_load.proofs.ppq_queue.Flushed.{keeps-more}
 use Rattle.ppq_engine.proofs.Counted.{few-none, few-ok}
-use Rattle.ppq_engine.proofs.Kept.{Keeps-refl, lent-stop}
+use Rattle.ppq_engine.proofs.Kept.{Keeps-refl, quiet-then, lent-stop}
 use Rattle.ppq_engine.proofs.machine.Machine.print_popped.Goals as goal
 
 pub rounds-init : goal.rounds-init
@@ -41,7 +41,8 @@ returns-in_err-pop_round-clause-prints g c = let w = words g.R.PartialEq g.R.Par
 pub returns-in_err-pop_round-clause-lent : goal.returns-in_err-pop_round-clause-lent
 returns-in_err-pop_round-clause-lent g c =
     lent-stop c.from_residual.result (Queue c.in_err-pop_round.field-0.0) c.from_residual.ensures.1 c.args.self.now.queue c.rounds.self.queue c.pop_round.new.self.queue c.args.self.now.queue.peak 0
-    c.rounds.invariant.kept c.pop_round.ensures.called.kept (omega (arith, c.rounds.invariant.peak, c.pop_round.ensures.called.peak)) (few-then 0 0 0 0 c.args.self.now.queue c.rounds.self.queue c.pop_round.new.self.queue _ _ c.rounds.invariant.counted c.pop_round.ensures.called.counted) c.in_err-pop_round.ensures.called.refused tt
+    c.rounds.invariant.kept c.pop_round.ensures.called.kept (omega (arith, c.rounds.invariant.peak, c.pop_round.ensures.called.peak)) (few-then 0 0 0 0 c.args.self.now.queue c.rounds.self.queue c.pop_round.new.self.queue _ _ c.rounds.invariant.counted c.pop_round.ensures.called.counted) c.in_err-pop_round.ensures.called.refused
+    (quiet-then c.args.self.now.queue.slots c.rounds.self.queue.slots c.pop_round.new.self.queue.slots c.rounds.invariant.quiet c.in_err-pop_round.field-0.0 c.in_err-pop_round.ensures.called.quiet) tt
 
 pub returns-then-is_empty-clause-prints : goal.returns-then-is_empty-clause-prints
 returns-then-is_empty-clause-prints g c = let w = words g.R.PartialEq g.R.PartialOrd g.R.Ord g.R.Record g.R.Fields in let laws = laws_of w c.record_laws.ensures.order c.record_laws.ensures.same in
@@ -76,6 +77,7 @@ returns-then-is_empty-clause-lent g c = record {
   peak = omega (arith, c.rounds.invariant.peak, c.pop_round.ensures.called.peak);
   counted = few-ok c.args.self.now.queue c.pop_round.new.self.queue (few-then 0 0 0 0 c.args.self.now.queue c.rounds.self.queue c.pop_round.new.self.queue _ _ c.rounds.invariant.counted c.in_ok-pop_round.ensures.called.counted);
   refused = tt;
+  quiet = tt;
   no_file = tt;
 }
 
@@ -99,7 +101,7 @@ returns-in_err-print_all-clause-prints g c = let w = words g.R.PartialEq g.R.Par
 pub returns-in_err-print_all-clause-lent : goal.returns-in_err-print_all-clause-lent
 returns-in_err-print_all-clause-lent g c =
     lent-stop c.from_residual-in_err-print_all.result Sink c.from_residual-in_err-print_all.ensures.1 c.args.self.now.queue c.rounds.self.queue c.pop_round.new.self.queue c.args.self.now.queue.peak 0
-    c.rounds.invariant.kept c.pop_round.ensures.called.kept (omega (arith, c.rounds.invariant.peak, c.pop_round.ensures.called.peak)) (few-then 0 0 0 0 c.args.self.now.queue c.rounds.self.queue c.pop_round.new.self.queue _ _ c.rounds.invariant.counted c.pop_round.ensures.called.counted) tt tt
+    c.rounds.invariant.kept c.pop_round.ensures.called.kept (omega (arith, c.rounds.invariant.peak, c.pop_round.ensures.called.peak)) (few-then 0 0 0 0 c.args.self.now.queue c.rounds.self.queue c.pop_round.new.self.queue _ _ c.rounds.invariant.counted c.pop_round.ensures.called.counted) tt tt tt
 
 pub rounds-preserved : goal.rounds-preserved
 rounds-preserved g c = let w = words g.R.PartialEq g.R.PartialOrd g.R.Ord g.R.Record g.R.Fields in let laws = laws_of w c.record_laws.ensures.order c.record_laws.ensures.same in

@@ -14,7 +14,7 @@ use Rattle.ppq_engine.specs.Files.{EndsEarly, IsReadInScript}
 use Rattle.ppq_engine.specs.Running.{StopsFor, ChangedIn}
 use Rattle.ppq_engine.specs.declared.stop.Stop.{Stop}
 use Rattle.ppq_engine.proofs.Lengths.{file-bag}
-use Rattle.ppq_engine.proofs.Loads.{loaded-ok, loaded-adds, loaded-refused, loaded-by_file, loaded-ended, loaded-counts}
+use Rattle.ppq_engine.proofs.Loads.{loaded-ok, loaded-adds, loaded-refused, loaded-quiet, loaded-by_file, loaded-ended, loaded-counts}
 use Rattle.ppq_engine.proofs.Results.{on-ok-map, on-ok-both}
 use Rattle.ppq_engine.proofs.Stops.{file_of_file, file_changed}
 use Rattle.ppq_engine.proofs.Turns.{adds-runs, adds-prints, turn-goes}
@@ -59,7 +59,8 @@ returns g c = let w = words g.R.PartialEq g.R.PartialOrd g.R.Ord g.R.Record g.R.
           turn-goes w c.args.world.now.form told script queue.sizes.workers k (record { stands = refl; stays = refl }) queue new put put had had r (adds-prints queue.slots put had [] r refl by) q.ensures.kept (few-to queue new q.result.1 r (loaded-ok line said q.result.1 r same) q.ensures.counted)
           (on-ok-map r (Loaded × Adds') (RunsStep w told script queue new k)
           (λ both. adds-runs w k (λ leaves. refl) (λ tells. file-bag w told script place file said k name queue.bag new.bag here refl c.name-name.ensures (both.0 tells)) both.1) adds)
-          (IfErr-weaker r Why (StopsStep w queue new k) (λ stop why. record { refused = why; of_file = file_of_file g.row.R.Denot file said stop }) refused);
+          (IfErr-weaker r Why (StopsStep w queue new k) (λ stop why. record { refused = why; of_file = file_of_file g.row.R.Denot file said stop }) refused)
+          (loaded-quiet line said q.result.1 r same queue new q.ensures.left);
       by_file = by;
       library = record {
         told = q.ensures.told;

@@ -10,7 +10,7 @@ use Rattle.ppq_engine.specs.Calls.{Adds, RunsStep, StopsStep}
 use Rattle.ppq_engine.specs.Files.{IsByFile, IsBySession}
 use Rattle.ppq_engine.specs.Running.{StopsFor}
 use Rattle.ppq_engine.specs.declared.stop.Stop.{Stop}
-use Rattle.ppq_engine.proofs.Loads.{loaded-ok, loaded-adds, loaded-refused, loaded-by_session}
+use Rattle.ppq_engine.proofs.Loads.{loaded-ok, loaded-adds, loaded-refused, loaded-quiet, loaded-by_session}
 use Rattle.ppq_engine.proofs.Results.{if-err-both, on-ok-map, on-ok-both}
 use Rattle.ppq_engine.proofs.Stops.{session_by_file, session-by_limit, limit_of_file}
 use Rattle.ppq_engine.proofs.Turns.{adds-runs, adds-prints, turn-goes}
@@ -38,6 +38,7 @@ returns g c = let w = words g.R.PartialEq g.R.PartialOrd g.R.Ord g.R.Record g.R.
           turn-goes w form files script queue.sizes.workers k (record { stands = refl; stays = refl }) queue new put put had had r (adds-prints queue.slots put had [] r refl (IfErr-weaker r IsBySession IsByFile session_by_file by)) q.ensures.kept (few-to queue new q.result.1 r (loaded-ok 0 0 q.result.1 r same) q.ensures.counted)
           (on-ok-map r (Loaded × Adds queue new count) (RunsStep w files script queue new k) (λ both. adds-runs w k (λ leaves. refl) (λ tells given are. both.0 tells) both.1) adds)
           (IfErr-weaker r (λ stop. Why stop × IsBySession stop) (StopsStep w queue new k)
-          (λ stop both. record { refused = both.0; of_file = limit_of_file k stop tt (session-by_limit stop both.1) }) why);
+          (λ stop both. record { refused = both.0; of_file = limit_of_file k stop tt (session-by_limit stop both.1) }) why)
+          (loaded-quiet 0 0 q.result.1 r same queue new q.ensures.left);
       by_session = by;
     }

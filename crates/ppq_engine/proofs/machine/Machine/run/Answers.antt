@@ -19,10 +19,10 @@ use Rattle.ppq_script.specs.Sessions.{are_in_place}
 use Rattle.ppq_engine.specs.Calls.{RunsPart, StopsPart}
 use Rattle.ppq_engine.specs.Loads.{FitsWritten, least_of, begins_limit}
 use Rattle.ppq_engine.specs.Output.{AreFilesOf, given_of, output_of, crest_of}
-use Rattle.ppq_engine.specs.Running.{HasRun, HasSizes, IsGathered, PartStops, SinkAfter, behind_part}
+use Rattle.ppq_engine.specs.Running.{HasRun, HasSizes, IsGathered, StopsQuiet, PartStops, SinkAfter, behind_part}
 use Rattle.ppq_engine.proofs.Advancing.{Keeps-none, Keeps-behind}
 use Rattle.ppq_engine.proofs.Counted.{HasCounted, counted-begin, counted-part, counted-stop, counted-all}
-use Rattle.ppq_engine.proofs.Kept.{Keeps-refl}
+use Rattle.ppq_engine.proofs.Kept.{Keeps-refl, stops-then}
 use Rattle.ppq_engine.proofs.Lengths.{has_length}
 use Rattle.ppq_engine.proofs.Libraries.{library-none, library-stays, library-then, library-stop}
 use Rattle.ppq_engine.proofs.Lines.{session_from, session_from-append, part-outside}
@@ -90,6 +90,12 @@ returns-in-Err-clause-stopped g c = let w = words g.R.PartialEq g.R.PartialOrd g
     stopped-part w laws c.args.world.now.form told script c.args.self.queue.slots (sink c.args.out.now) (sink c.commands.out) (sink c.advance-back.new.out) c.commands.machine.desk.gathered c.advance-back.result.0.desk.gathered queue.bag queue.size queue.peak sizes queue.slots queue.slots later queue.limited i p
     is c.requires.block v.kept.tells begun (λ files are. has_length w told script files i (first_in p) is.first c.requires.may.lengths are)
     v.run v.has stop (subst Why v.kept.sizes why.wrote) why.of_file
+
+pub returns-in-Err-clause-quiet : goal.returns-in-Err-clause-quiet
+returns-in-Err-clause-quiet g c =
+    let mid = c.commands.machine.queue.slots in
+    let last = c.advance-back.result.0.queue.slots in
+    stops-then c.args.self.queue.slots mid last c.commands.invariant.quiet c.in-Err.stop (at-err c.advance-back.result.1 c.in-Err.stop (StopsQuiet mid last) c.in-Err.is c.advance-back.ensures.goes.quiet)
 
 pub returns-in-Err-clause-slots : goal.returns-in-Err-clause-slots
 returns-in-Err-clause-slots g c = SameSlots-trans c.args.self.queue.slots c.commands.machine.queue.slots c.advance-back.result.0.queue.slots c.commands.invariant.kept.slots c.advance-back.ensures.goes.slots

@@ -10,17 +10,17 @@ use Rattle.ppq_load.specs.Loading.{IsLoaded}
 use Rattle.ppq_load.proofs.Refusals.{stop-later}
 use Rattle.ppq_engine.specs.Files.{IsBySession}
 use Rattle.ppq_engine.specs.Pushes.{pushed_in}
-use Rattle.ppq_engine.specs.Running.{StopsFor}
+use Rattle.ppq_engine.specs.Running.{StopsFor, StopsQuiet}
 use Rattle.ppq_engine.specs.declared.stop.Stop.{Stop}
 use Rattle.ppq_engine.specs.declared.stop.Stop.TheVariants.{Memory}
 use Rattle.ppq_load.proofs.ppq_queue.Bounds.{batch_some}
 use Rattle.ppq_load.proofs.ppq_queue.Counted.{few-begun, few-more}
 use Rattle.ppq_engine.proofs.Counted.{unrefused, few-none}
 use Rattle.ppq_engine.proofs.Kept.{Keeps-refl}
-use Rattle.ppq_engine.proofs.Loads.{stop-refused, stop-by_session}
+use Rattle.ppq_engine.proofs.Loads.{stop-refused, back-quiet, stop-by_session}
 use Rattle.ppq_engine.proofs.Pushes.{given-some, given-all}
 use Rattle.ppq_engine.proofs.Results.{on-ok-map}
-use Rattle.ppq_engine.proofs.Turns.{bulk-stopped, bulk-ended}
+use Rattle.ppq_engine.proofs.Turns.{session-quiet, bulk-stopped, bulk-ended}
 use Rattle.ppq_engine.proofs.machine.Machine.run_bulk.Goals as goal
 
 pub new-requires : goal.new-requires
@@ -29,7 +29,7 @@ new-requires g c = omega (arith, c.room.ensures, c.args.self.round, batch_some c
 pub returns-in_default : goal.returns-in_default
 returns-in_default g c = let w = words g.R.PartialEq g.R.PartialOrd g.R.Ord g.R.Record g.R.Fields in let laws = laws_of w c.record_laws.ensures.order c.record_laws.ensures.same in
     let queue = c.args.self.queue in
-    bulk-stopped w laws c.args.world.now.script.now queue.sizes.workers (commands_of c.args.lines.now) c.requires.lines queue queue c.args.self.desk.gathered Memory tt tt (Keeps-refl queue) 0 (omega arith) (few-more 0 0 0 1 queue queue unrefused (omega arith) (omega arith) (few-none queue))
+    bulk-stopped w laws c.args.world.now.script.now queue.sizes.workers (commands_of c.args.lines.now) c.requires.lines queue queue c.args.self.desk.gathered Memory tt tt tt (Keeps-refl queue) 0 (omega arith) (few-more 0 0 0 1 queue queue unrefused (omega arith) (omega arith) (few-none queue))
 
 pub push_all-requires-clause-lines : goal.push_all-requires-clause-lines
 push_all-requires-clause-lines g c κs within = let w = words g.R.PartialEq g.R.PartialOrd g.R.Ord g.R.Record g.R.Fields in
@@ -52,11 +52,13 @@ returns-in-Ok-begin g c = let w = words g.R.PartialEq g.R.PartialOrd g.R.Ord g.R
     let gives = c.push_all.ensures in
     let end = c.end-queue in
     let new = end.result.0 in
-    let loaded = end.ensures.loaded queue (pushed_in gives.pushing.given) (gives.pushing.session queue c.in-Ok-begin.ensures.session) in
+    let session = gives.pushing.session queue c.in-Ok-begin.ensures.session in
+    let loaded = end.ensures.loaded queue (pushed_in gives.pushing.given) session in
     let P : List (Command g.row.R.Denot) → Type 0 = λ cs. IsLoaded queue (pushed_in cs) new end.result.1 in
     bulk-ended w laws c.args.world.now.script.now queue.sizes.workers body c.requires.lines queue new c.args.self.desk.gathered _ end.result.1 c.ended.result c.ended.ensures
     (on-ok-map end.result.1 (All IsGoing mid.passes) (P body) (λ going. subst P (given-all shown body begun mid gives going) loaded) end.ensures.all)
     (pushed_in gives.pushing.given) (given-some shown body begun mid gives) (omega (arith, c.known.ensures.range.two_records)) loaded
+    (session-quiet shown queue (pushed_in gives.pushing.given) mid new end.result.1 session end.ensures.left)
 
 pub returns : goal.returns
 returns g c = let w = words g.R.PartialEq g.R.PartialOrd g.R.Ord g.R.Record g.R.Fields in let laws = laws_of w c.record_laws.ensures.order c.record_laws.ensures.same in
@@ -67,5 +69,6 @@ returns g c = let w = words g.R.PartialEq g.R.PartialOrd g.R.Ord g.R.Record g.R.
     let Why : Stop → Type 0 = λ s. StopsFor most queue.sizes queue.limited slots s in
     let refused = stop-later queue.sizes queue.limited queue.limited queue.peak most (omega (arith, c.known.ensures.range.two_records)) (λ same. same) (omega arith) slots c.in-Err.fault c.in-Err.ensures.refused in
     bulk-stopped w laws c.args.world.now.script.now queue.sizes.workers body c.requires.lines queue c.in-Err.queue c.args.self.desk.gathered c.stop_of.result
-    (subst IsBySession (sym c.stop_of.ensures) (stop-by_session 0 0 c.in-Err.fault c.in-Err.ensures.by_load)) (subst Why (sym c.stop_of.ensures) (stop-refused most queue.sizes queue.limited slots 0 0 c.in-Err.fault refused)) c.in-Err.ensures.kept
+    (subst IsBySession (sym c.stop_of.ensures) (stop-by_session 0 0 c.in-Err.fault c.in-Err.ensures.by_load)) (subst Why (sym c.stop_of.ensures) (stop-refused most queue.sizes queue.limited slots 0 0 c.in-Err.fault refused))
+    (subst (StopsQuiet queue.slots slots) (sym c.stop_of.ensures) (back-quiet queue c.in-Err.queue 0 0 c.in-Err.fault c.in-Err.ensures.intact)) c.in-Err.ensures.kept
     0 (omega arith) (few-begun queue c.in-Err.queue unrefused c.in-Err.ensures.kept.sizes c.in-Err.ensures.counted)

@@ -5,18 +5,17 @@ use Rattle.ppq_script.specs.declared.session.Session.TheVariants.{InLimit}
 use Rattle.ppq_script.specs.Parts.{AreLines, limit_part, commands_of}
 use Rattle.ppq_load.specs.ppq_budget.Sizes.{Numbers, batch_of}
 use Rattle.ppq_load.proofs.Counting.{few-to}
-use Rattle.ppq_load.proofs.Parts.{over-unfaulted}
 use Rattle.ppq_load.proofs.ppq_queue.Bounds.{batch_some}
 use Rattle.ppq_load.proofs.ppq_queue.Counted.{few-begun, few-more}
 use Rattle.ppq_load.proofs.ppq_queue.ppq_spill.SameSlots.{SameSlots-refl}
 use Rattle.ppq_engine.specs.Files.{load_stop}
 use Rattle.ppq_engine.specs.Popping.{IsByLimit}
 use Rattle.ppq_engine.specs.Pushes.{pushed_in}
-use Rattle.ppq_engine.specs.Running.{PartStops, SinkAfter}
+use Rattle.ppq_engine.specs.Running.{StopsQuiet, PartStops, SinkAfter}
 use Rattle.ppq_engine.specs.declared.stop.Stop.{Stop}
 use Rattle.ppq_engine.proofs.Counted.{unrefused, few-none}
-use Rattle.ppq_engine.proofs.LimitParts.{SessionRan, ended-runs, ended-stopped, ended-by_limit, ended-kept, ended-given, ended-few, ended-counts_few, ended-counts, begin-stopped}
-use Rattle.ppq_engine.proofs.Loads.{stop-refused, stop-by_session}
+use Rattle.ppq_engine.proofs.LimitParts.{SessionRan, ended-runs, ended-stopped, ended-quiet, ended-by_limit, ended-kept, ended-given, ended-few, ended-counts_few, ended-counts, begin-stopped}
+use Rattle.ppq_engine.proofs.Loads.{stop-refused, back-quiet, stop-by_session}
 use Rattle.ppq_engine.proofs.Popped.{gathers-nothing}
 use Rattle.ppq_engine.proofs.Stops.{file_unput, session_by_file, session-by_limit}
 use Rattle.ppq_engine.proofs.Turns.{limit-goes}
@@ -31,7 +30,7 @@ returns-in_default g c = let w = words g.R.PartialEq g.R.PartialOrd g.R.Ord g.R.
     let told = g.O.Sink.told c.args.out.now in
     let had = c.args.self.desk.gathered in
     record {
-      goes = limit-goes w c.args.world.now.form c.args.world.now.script.now c.args.limit (commands_of c.args.lines.now) queue queue told told had had _ tt tt (λ tells. gathers-nothing told had) (SameSlots-refl queue.slots) refl 0 (omega arith) (few-to queue queue unrefused _ (λ A holds. tt) (few-more 0 0 0 1 queue queue unrefused (omega arith) (omega arith) (few-none queue)));
+      goes = limit-goes w c.args.world.now.form c.args.world.now.script.now c.args.limit (commands_of c.args.lines.now) queue queue told told had had _ tt tt (λ tells. gathers-nothing told had) tt (SameSlots-refl queue.slots) refl 0 (omega arith) (few-to queue queue unrefused _ (λ A holds. tt) (few-more 0 0 0 1 queue queue unrefused (omega arith) (omega arith) (few-none queue)));
       by_limit = tt;
       sink = record { later = omega arith; stays = tt; cause = refl };
     }
@@ -62,7 +61,7 @@ invariant_of-result-in-Ok-begin g c = let w = words g.R.PartialEq g.R.PartialOrd
       broken = c.run_lines-printed.ensures.broken;
       going = end.ensures.all;
       over = λ given left popped il. end.ensures.over queue c.args.limit given left popped il;
-      unfaulted = over-unfaulted g.S.Slot.shown c.run_lines-printed.new.session end.result.0 end.result.1 end.ensures.left;
+      left = end.ensures.left;
     } in
     record { round = c.args.self.round ∙ ap batch_of (sym (ended-kept w laws g.S.Slot.shown c.args.world.now.form queue before now had has c.run_lines-printed.new.session queue.sizes.workers c.args.limit lines c.requires.lines c.in-Ok-begin.session end.result.0 c.run_lines-printed.result end.result.1 run).sizes); piece = c.args.self.piece }
 
@@ -91,14 +90,15 @@ returns-in-Ok-begin g c = let w = words g.R.PartialEq g.R.PartialOrd g.R.Ord g.R
       broken = c.run_lines-printed.ensures.broken;
       going = c.end-queue.ensures.all;
       over = λ given left popped il. c.end-queue.ensures.over queue limit given left popped il;
-      unfaulted = over-unfaulted shown mid new over c.end-queue.ensures.left;
+      left = c.end-queue.ensures.left;
     } in
     let kept = ended-kept w laws shown c.args.world.now.form queue before now had has mid queue.sizes.workers limit lines are old new printed over run in
     let given = ended-given w laws shown c.args.world.now.form queue before now had has mid queue.sizes.workers limit lines are old new printed over run in
     record {
       goes =
           limit-goes w c.args.world.now.form script limit lines queue new before now had has s (ended-runs w laws shown c.args.world.now.form queue before now had has mid queue.sizes.workers limit lines are old new printed over s e run script) (ended-by_limit printed over s e)
-          (ended-stopped w laws shown c.args.world.now.form queue before now had has mid queue.sizes.workers limit lines are old new printed over s e run) kept.slots kept.sizes
+          (ended-stopped w laws shown c.args.world.now.form queue before now had has mid queue.sizes.workers limit lines are old new printed over s e run)
+          (ended-quiet w laws shown c.args.world.now.form queue before now had has mid queue.sizes.workers limit lines are old new printed over s e run) kept.slots kept.sizes
           (length (pushed_in given)) (ended-few w laws shown c.args.world.now.form queue before now had has mid queue.sizes.workers limit lines are old new printed over run)
           (ended-counts_few w laws shown c.args.world.now.form queue before now had has mid queue.sizes.workers limit lines are old new printed over s e run);
       by_limit = ended-by_limit printed over s e;
@@ -120,8 +120,9 @@ returns g c = let w = words g.R.PartialEq g.R.PartialOrd g.R.Ord g.R.Record g.R.
     let Q : Stop → Type 0 = λ s. SinkAfter faults faults s in
     let by_limit = subst IsByLimit same (session-by_limit stop by) in
     let stopped = subst P same (begin-stopped w c.args.world.now.form told had queue new.slots c.args.limit body stop (omega (arith, c.known.ensures.range.two_records)) (stop-refused queue.peak queue.sizes true new.slots 0 0 c.in-Err.fault c.in-Err.ensures.refused) by) in
+    let quiet = subst (StopsQuiet queue.slots new.slots) same (back-quiet queue new 0 0 c.in-Err.fault c.in-Err.ensures.intact) in
     record {
-      goes = limit-goes w c.args.world.now.form c.args.world.now.script.now c.args.limit body queue new told told had had _ tt by_limit stopped c.in-Err.ensures.kept.slots c.in-Err.ensures.kept.sizes
+      goes = limit-goes w c.args.world.now.form c.args.world.now.script.now c.args.limit body queue new told told had had _ tt by_limit stopped quiet c.in-Err.ensures.kept.slots c.in-Err.ensures.kept.sizes
           0 (omega arith) (few-begun queue new _ c.in-Err.ensures.kept.sizes c.in-Err.ensures.counted);
       by_limit = by_limit;
       sink = record { later = omega arith; stays = tt; cause = subst Q same (file_unput faults stop (session_by_file stop by)) };
