@@ -23,12 +23,12 @@ stop-refused peak sizes limited slots line said (Ended got) h = tt
 
 module _ {R : Type 0} (old new : Holding R) (line said : ℕ) where
   -- no call of a block failed where none was free: of a load that was refused, and of a session that did not begin
-  stop-quiet : (fault : LoadFault) → LoadLeaves old new fault → StopsQuiet old.slots new.slots (load_stop line said fault)
-  stop-quiet (Queue NoFreeBlock) h = h.quiet
-  stop-quiet (Queue (Device number)) h = tt
-  stop-quiet Read h = tt
-  stop-quiet Memory h = tt
-  stop-quiet (Ended got) h = tt
+  stop-quiet : (count : ℕ) (fault : LoadFault) → LoadLeaves old new count fault → StopsQuiet old.slots new.slots (load_stop line said fault)
+  stop-quiet count (Queue NoFreeBlock) h = h.quiet
+  stop-quiet count (Queue (Device number)) h = tt
+  stop-quiet count Read h = tt
+  stop-quiet count Memory h = tt
+  stop-quiet count (Ended got) h = tt
 
   pub back-quiet : (fault : LoadFault) → IsHandedBack old new fault → StopsQuiet old.slots new.slots (load_stop line said fault)
   back-quiet (Queue NoFreeBlock) h = h.quiet
@@ -90,10 +90,10 @@ module _ {T : Type 0} (line said : ℕ) (r : Result T LoadFault) (s : Result T S
       let P : Result T Stop → Type 0 = λ x. IfErr x (StopsFor peak sizes limited slots) in
       subst P (sym same) (result-err (LoadStopsFor peak sizes limited slots) (StopsFor peak sizes limited slots) (stop-refused peak sizes limited slots line said) r h)
 
-  pub loaded-quiet : {R : Type 0} (old new : Holding R) → IfErr r (LoadLeaves old new) → IfErr s (StopsQuiet old.slots new.slots)
-  loaded-quiet old new h =
+  pub loaded-quiet : {R : Type 0} (old new : Holding R) (count : ℕ) → IfErr r (LoadLeaves old new count) → IfErr s (StopsQuiet old.slots new.slots)
+  loaded-quiet old new count h =
       let P : Result T Stop → Type 0 = λ x. IfErr x (StopsQuiet old.slots new.slots) in
-      subst P (sym same) (result-err (LoadLeaves old new) (StopsQuiet old.slots new.slots) (stop-quiet old new line said) r h)
+      subst P (sym same) (result-err (LoadLeaves old new count) (StopsQuiet old.slots new.slots) (stop-quiet old new line said count) r h)
 
   pub loaded-by_session : IfErr r IsByLoad → IfErr s IsBySession
   loaded-by_session h = let P : Result T Stop → Type 0 = λ x. IfErr x IsBySession in subst P (sym same) (result-err IsByLoad IsBySession (stop-by_session line said) r h)

@@ -1,5 +1,5 @@
 -- What a load says, by what its session and its reading said.
-use Rattle.std.proofs.Common.{◌≡◌, ℕ, ◌+◌, ◌/◌, List, ◌++◌, length, max, Option, Some, None, refl, ap, ◌∙◌, subst}
+use Rattle.std.proofs.Common.{◌≡◌, ℕ, ◌+◌, ◌/◌, ◌≤◌, List, ◌++◌, length, max, Option, Some, None, refl, ap, ◌∙◌, subst, arith}
 use Rattle.std.specs.Prelude.{Result, Ok, Err, OnOk, OnErr, IfErr}
 use Rattle.ppq_session.specs.ppq_record.Bag.{IsSameBag}
 use Rattle.ppq_load.specs.Given.{records_of}
@@ -86,37 +86,48 @@ on_ok-map (Ok value) P Q f holds = f holds
 on_ok-map (Err fault) P Q f holds = tt
 
 module _ {R : Type 0} where
-  -- what a refused load left, by what the end of its session left
-  pub loaded-left :
-      {S B : Type 0} (shown : S → Shown) (queue : Holding R) (records : List R) (load : LoadHolding S R) (new : Holding R) (ended : Result B QueueFault)
-      → InSession shown queue records load → IfErr ended (IsLeftBy shown load new) → IfErr (loaded_of ended) (LoadLeaves queue new)
-  loaded-left shown queue records load new (Ok value) session left = tt
-  loaded-left shown queue records load new (Err NoFreeBlock) session left = record { sound = left.sound; quiet = left.quiet ∙ session.keeps.quiet refl }
-  loaded-left shown queue records load new (Err (Device number)) session left = left.stopped
+  -- a fault of reading says nothing of the queue but how many records it counts at the most
+  read-left : (queue new : Holding R) (n : ℕ) (fault : LoadFault) → IsByRead fault → new.size ≤ queue.size + n → LoadLeaves queue new n fault
+  read-left queue new n (Queue fault) by most = absurd by
+  read-left queue new n Read by most = most
+  read-left queue new n Memory by most = most
+  read-left queue new n (Ended got) by most = most
 
 module _ {R : Type 0} where
-  read-left : (queue new : Holding R) (fault : LoadFault) → IsByRead fault → LoadLeaves queue new fault
-  read-left queue new (Queue fault) by = absurd by
-  read-left queue new Read by = tt
-  read-left queue new Memory by = tt
-  read-left queue new (Ended got) by = tt
+  -- a session ended to which these records were given, no more than so many
+  module _ {S B : Type 0} (shown : S → Shown) (queue : Holding R) (records : List R) (load : LoadHolding S R) (new : Holding R) (n : ℕ) (few : length records ≤ n) (session : InSession shown queue records load) where
+    -- whatever its end says, the queue counts no more of them
+    ended-most : (ended : Result B QueueFault) → IsLoaded queue records new ended → IfErr ended (IsLeftBy shown load new) → new.size ≤ queue.size + n
+    ended-most (Ok value) loaded left = omega (arith, few, loaded.size)
+    ended-most (Err NoFreeBlock) loaded left = omega (arith, few, left.size, session.keeps.total, session.given.most)
+    ended-most (Err (Device number)) loaded left = omega (arith, few, left.size, session.keeps.total, session.given.most)
 
-module _ {R : Type 0} where
-  -- the same where a fault of reading stays the fault
-  pub first-left :
-      {S A B : Type 0} (shown : S → Shown) (queue : Holding R) (records : List R) (load : LoadHolding S R) (new : Holding R) (read : Result A LoadFault) (ended : Result B QueueFault)
-      → InSession shown queue records load → IfErr ended (IsLeftBy shown load new) → IfErr read IsByRead → IfErr (first_of read ended) (LoadLeaves queue new)
-  first-left shown queue records load new (Ok value) ended session left by = loaded-left shown queue records load new ended session left
-  first-left shown queue records load new (Err fault) ended session left by = read-left queue new fault by
+    -- what a refused load left
+    pub loaded-left : (ended : Result B QueueFault) → IfErr ended (IsLeftBy shown load new) → IfErr (loaded_of ended) (LoadLeaves queue new n)
+    loaded-left (Ok value) left = tt
+    loaded-left (Err NoFreeBlock) left = record {
+      least = omega (arith, left.size, session.keeps.total);
+      most = omega (arith, few, left.size, session.keeps.total, session.given.most);
+      peak = omega (arith, left.size, left.peak, session.keeps.total, session.keeps.peak);
+      sound = left.sound;
+      quiet = left.quiet ∙ session.keeps.quiet refl;
+    }
+    loaded-left (Err (Device number)) left = (left.stopped, omega (arith, few, left.size, session.keeps.total, session.given.most))
+
+    -- the same where a fault of reading stays the fault
+    pub first-left : {A : Type 0} (read : Result A LoadFault) (ended : Result B QueueFault) → IsLoaded queue records new ended → IfErr ended (IsLeftBy shown load new) → IfErr read IsByRead → IfErr (first_of read ended) (LoadLeaves queue new n)
+    first-left (Ok value) ended loaded left by = loaded-left ended left
+    first-left (Err fault) ended loaded left by = read-left queue new n fault by (ended-most ended loaded left)
 
 module _ {R : Type 0} where
   -- the session did not begin
-  pub unbegun-left : (queue back : Holding R) (fault : LoadFault) → IsHandedBack queue back fault → LoadLeaves queue back fault
-  unbegun-left queue back (Queue NoFreeBlock) found = record { sound = found.sound; quiet = found.quiet }
-  unbegun-left queue back (Queue (Device number)) met = record { fault = met.fault; kept = met.kept }
-  unbegun-left queue back Read never = tt
-  unbegun-left queue back Memory intact = tt
-  unbegun-left queue back (Ended got) never = tt
+  pub unbegun-left : (queue back : Holding R) (n : ℕ) (fault : LoadFault) → back.peak ≡ queue.peak → queue.size ≤ queue.peak → IsHandedBack queue back fault → LoadLeaves queue back n fault
+  unbegun-left queue back n (Queue NoFreeBlock) same within found =
+      record { least = omega (arith, found.size); most = omega (arith, found.size); peak = omega (arith, found.size, same, within); sound = found.sound; quiet = found.quiet }
+  unbegun-left queue back n (Queue (Device number)) same within met = (record { fault = met.fault; kept = met.kept }, omega (arith, met.size))
+  unbegun-left queue back n Read same within never = absurd never
+  unbegun-left queue back n Memory same within intact = omega (arith, intact.size)
+  unbegun-left queue back n (Ended got) same within never = absurd never
 
 module _ {R : Type 0} where
   -- a queue that a block had stopped before comes back as it was

@@ -1,5 +1,5 @@
 -- Sessions in which a queue gets many records, by a pass for each worker.
-use Rattle.std.specs.Prelude.{◌^◌, ◌≡◌, ◌<◌, ◌≤◌, ◌↔◌, ◌+◌, ◌*◌, Bool, false, IsTrue, ℕ, List, [], length, drop, All, Any, Option, Some, None, Result, Ok, Err, ⊤}
+use Rattle.std.specs.Prelude.{◌^◌, ◌≡◌, ◌<◌, ◌≤◌, ◌↔◌, ◌+◌, ◌*◌, Bool, false, IsTrue, ℕ, List, [], length, drop, max, All, Any, Option, Some, None, Result, Ok, Err, ⊤}
 use Rattle.ppq_session.specs.ppq_record.Given.{records_from}
 use Rattle.ppq_session.specs.ppq_outside.Shown.{Shown}
 use Rattle.ppq_session.specs.ppq_outside.Told.{Reply, Rose, bytes_or_none}
@@ -110,18 +110,23 @@ IsHandedBack old new Read = ⊥
 IsHandedBack old new Memory = IsIntact old new
 IsHandedBack old new (Ended got) = ⊥
 
--- no block was free for a load: no call of a block failed, now or before
-pub record FoundNoRoom {R : Type 0} (old new : Holding R) : Type 0 where
+-- No block was free for a load of so many records: the queue counts no record less, and no more of them than these; its peak is what it was, or
+-- how many it counts now; and no call of a block failed, now or before
+pub record FoundNoRoom {R : Type 0} (old new : Holding R) (count : ℕ) : Type 0 where
+  pub least : old.size ≤ new.size
+  pub most : new.size ≤ old.size + count
+  pub peak : new.peak ≡ max old.peak new.size
   pub sound : new.failed ≡ None
   pub quiet : AreQuiet old.slots new.slots
 
--- what a refused load left of the queue: where it names a failed block, this block stopped the queue, and where no block was free, none failed
-abbrev pub LoadLeaves : {R : Type 0} → Holding R → Holding R → LoadFault → Type 0
-LoadLeaves old new (Queue queue_fault.NoFreeBlock) = FoundNoRoom old new
-LoadLeaves old new (Queue (queue_fault.Device number)) = HasStopped number new
-LoadLeaves old new Read = ⊤
-LoadLeaves old new Memory = ⊤
-LoadLeaves old new (Ended got) = ⊤
+-- What a refused load of so many records left of the queue, which counts no more of them than these. Where the load names a failed block, this
+-- block stopped the queue
+abbrev pub LoadLeaves : {R : Type 0} → Holding R → Holding R → ℕ → LoadFault → Type 0
+LoadLeaves old new count (Queue queue_fault.NoFreeBlock) = FoundNoRoom old new count
+LoadLeaves old new count (Queue (queue_fault.Device number)) = HasStopped number new × (new.size ≤ old.size + count)
+LoadLeaves old new count Read = new.size ≤ old.size + count
+LoadLeaves old new count Memory = new.size ≤ old.size + count
+LoadLeaves old new count (Ended got) = new.size ≤ old.size + count
 
 -- the library's count rose where a read failed, and else stayed
 abbrev pub LoadCountsFrom : ℕ → ℕ → LoadFault → Type 0

@@ -55,7 +55,7 @@ where
     ensures peak { OnOk result.1 (result.0.peak ≡ max queue.peak (queue.size + said / R.WIDTH)) }
     ensures refused { IfErr result.1 (LoadStopsFor (max queue.peak (queue.size + said / R.WIDTH)) queue.sizes queue.limited result.0.slots) }
     ensures ended { IfErr result.1 (LoadEndsIn (L.told library.old) (L.replied library.new) name.now said) }
-    ensures left { IfErr result.1 (LoadLeaves queue result.0) }
+    ensures left { IfErr result.1 (LoadLeaves queue result.0 (said / R.WIDTH)) }
     ensures latched { (number : ℕ) → queue.failed ≡ Some number → result ≡ (session_begun queue, Err (ByQueue (Device number))) }
     ensures kept { Keeps queue result.0 }
     ensures counted { CountsFew (said / R.WIDTH) 1 queue result.0 result.1 }

@@ -45,7 +45,7 @@ where
     ensures peak { OnOk result.1 (result.0.peak ≡ max queue.peak (queue.size + count)) }
     ensures refused { IfErr result.1 (LoadStopsFor (max queue.peak (queue.size + count)) queue.sizes queue.limited result.0.slots) }
     ensures by_load { IfErr result.1 IsByLoad }
-    ensures left { IfErr result.1 (LoadLeaves queue result.0) }
+    ensures left { IfErr result.1 (LoadLeaves queue result.0 count) }
     ensures latched { (number : ℕ) → queue.failed ≡ Some number → result ≡ (session_begun queue, Err (ByQueue (Device number))) }
     ensures kept { Keeps queue result.0 }
     ensures counted { CountsFew count 1 queue result.0 result.1 }

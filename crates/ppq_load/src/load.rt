@@ -49,6 +49,7 @@ impl<S: Slot + Send + Sync, R: Record + Send + Sync> Load<S, R> {
         ensures refused { IfErr result (λ back. LoadStopsFor queue.peak queue.sizes queue.limited back.0.slots back.1) }
         ensures by_load { IfErr result (λ back. IsByLoad back.1) }
         ensures intact { IfErr result (λ back. IsHandedBack queue back.0 back.1) }
+        ensures peak { IfErr result (λ back. back.0.peak ≡ queue.peak) }
         ensures kept { IfErr result (λ back. Keeps queue back.0) }
         ensures counted { IfErr result (λ back. CountsAs (beginning queue.counts) queue back.0) }
         ensures latched { (number : ℕ) → queue.failed ≡ Some number → result ≡ Err (session_begun queue, load_fault.Queue (Device number)) }

@@ -118,10 +118,12 @@ returns-in-Ok-clause-left g c =
     let new = c.end-queue.result.0 in
     let some = read.ensures.some q c.in-Ok.ensures.session in
     let by_file = IfErr-weaker read.result (IsReadRefusal told (g.L.Library.replied read.new.library) c.args.name.now c.args.said) IsByRead (λ fault refused. refused.by_file) read.ensures.refused in
-    subst (λ r. IfErr r (LoadLeaves q new)) (sym c.first_fault.ensures) (first-left g.S.Slot.shown q some.given.records read.new.load new read.result c.end-queue.result.1 some.given.session c.end-queue.ensures.left by_file)
+    let n = c.args.said / g.R.Record.WIDTH in
+    subst (λ r. IfErr r (LoadLeaves q new n)) (sym c.first_fault.ensures)
+    (first-left g.S.Slot.shown q some.given.records read.new.load new n (omega (arith, some.given.are.length, some.few)) some.given.session read.result c.end-queue.result.1 (c.end-queue.ensures.loaded q some.given.records some.given.session) c.end-queue.ensures.left by_file)
 
 pub returns-in-Err-clause-left : goal.returns-in-Err-clause-left
-returns-in-Err-clause-left g c = unbegun-left c.args.queue c.in-Err.queue c.in-Err.fault c.in-Err.ensures.intact
+returns-in-Err-clause-left g c = unbegun-left c.args.queue c.in-Err.queue (c.args.said / g.R.Record.WIDTH) c.in-Err.fault c.in-Err.ensures.peak c.known.ensures.peak c.in-Err.ensures.intact
 
 pub returns-in-Ok-clause-latched : goal.returns-in-Ok-clause-latched
 returns-in-Ok-clause-latched g c = λ number failed. let back = c.in-Ok.ensures.latched number failed in absurd (cc)

@@ -84,11 +84,12 @@ returns-in-Ok-clause-left g c =
     let q = c.args.queue in
     let records = generated_by g.R.Fields.COUNT g.R.Fields.of_fields c.args.seed c.args.count in
     let new = c.end-queue.result.0 in
-    subst (λ r. IfErr r (LoadLeaves q new)) (sym c.loaded.ensures)
-    (loaded-left g.S.Slot.shown q records c.deal-all.new.self new c.end-queue.result.1 (given g (goal.at.returns-in-Ok-clause-left g c).After-end-queue) c.end-queue.ensures.left)
+    let long = length-generated g.R.Fields.COUNT g.R.Fields.of_fields c.args.seed c.args.seed 0 c.args.count in
+    subst (λ r. IfErr r (LoadLeaves q new c.args.count)) (sym c.loaded.ensures)
+    (loaded-left g.S.Slot.shown q records c.deal-all.new.self new c.args.count (omega (arith, long)) (given g (goal.at.returns-in-Ok-clause-left g c).After-end-queue) c.end-queue.result.1 c.end-queue.ensures.left)
 
 pub returns-in-Err-clause-left : goal.returns-in-Err-clause-left
-returns-in-Err-clause-left g c = unbegun-left c.args.queue c.in-Err.queue c.in-Err.fault c.in-Err.ensures.intact
+returns-in-Err-clause-left g c = unbegun-left c.args.queue c.in-Err.queue c.args.count c.in-Err.fault c.in-Err.ensures.peak c.known.ensures.peak c.in-Err.ensures.intact
 
 pub returns-in-Ok-clause-latched : goal.returns-in-Ok-clause-latched
 returns-in-Ok-clause-latched g c = λ number failed. let back = c.in-Ok.ensures.latched number failed in absurd (cc)

@@ -60,7 +60,7 @@ returns g c = let w = words g.R.PartialEq g.R.PartialOrd g.R.Ord g.R.Record g.R.
           (on-ok-map r (Loaded × Adds') (RunsStep w told script queue new k)
           (λ both. adds-runs w k (λ leaves. refl) (λ tells. file-bag w told script place file said k name queue.bag new.bag here refl c.name-name.ensures (both.0 tells)) both.1) adds)
           (IfErr-weaker r Why (StopsStep w queue new k) (λ stop why. record { refused = why; of_file = file_of_file g.row.R.Denot file said stop }) refused)
-          (loaded-quiet line said q.result.1 r same queue new q.ensures.left);
+          (loaded-quiet line said q.result.1 r same queue new (said / w.WIDTH) q.ensures.left);
       by_file = by;
       library = record {
         told = q.ensures.told;

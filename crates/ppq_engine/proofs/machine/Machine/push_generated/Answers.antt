@@ -39,6 +39,6 @@ returns g c = let w = words g.R.PartialEq g.R.PartialOrd g.R.Ord g.R.Record g.R.
           (on-ok-map r (Loaded × Adds queue new count) (RunsStep w files script queue new k) (λ both. adds-runs w k (λ leaves. refl) (λ tells given are. both.0 tells) both.1) adds)
           (IfErr-weaker r (λ stop. Why stop × IsBySession stop) (StopsStep w queue new k)
           (λ stop both. record { refused = both.0; of_file = limit_of_file k stop tt (session-by_limit stop both.1) }) why)
-          (loaded-quiet 0 0 q.result.1 r same queue new q.ensures.left);
+          (loaded-quiet 0 0 q.result.1 r same queue new count q.ensures.left);
       by_session = by;
     }

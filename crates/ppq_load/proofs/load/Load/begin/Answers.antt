@@ -22,6 +22,9 @@ returns-in-Ok-clause-latched g c = λ number latched. let said = c.in-Ok.ensures
 pub returns-in-Err-clause-latched : goal.returns-in-Err-clause-latched
 returns-in-Err-clause-latched g c = λ number latched. begin-latched (session_begun c.args.queue) c.in-Err.queue c.in-Err.fault c.from.result number c.from.ensures (c.in-Err.ensures.latched number latched)
 
+pub returns-in-Err-clause-peak : goal.returns-in-Err-clause-peak
+returns-in-Err-clause-peak g c = c.in-Err.ensures.refused.peak
+
 pub returns-in-Err-clause-kept : goal.returns-in-Err-clause-kept
 returns-in-Err-clause-kept g c = c.in-Err.ensures.refused.kept
 
