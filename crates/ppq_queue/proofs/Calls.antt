@@ -1,11 +1,11 @@
 -- A queue after a call of its store, whatever was answered.
-use Rattle.std.proofs.Common.{◌≡◌, ℕ, ◌+◌, ◌-◌, ◌<◌, ◌≤◌, List, [], length, min, Bool, true, false, Option, None, Some, refl, sym, ap, ◌∙◌, subst, arith, inl, inr}
-use Rattle.std.specs.Prelude.{◌⊎◌, Result, Ok, Err, OnOk, OnErr, IfErr, IsErrOf, IsErrAnd}
+use Rattle.std.proofs.Common.{◌≡◌, ℕ, ◌+◌, ◌-◌, ◌<◌, ◌≤◌, List, [], ◌++◌, length, min, Bool, true, false, Option, None, Some, refl, sym, ap, ◌∙◌, subst, arith, inl, inr}
+use Rattle.std.specs.Prelude.{◌⊎◌, Result, Ok, Err, OnOk, OnErr, IfErr, IsOk, IsErrOf, IsErrAnd}
 use Rattle.std.specs.declared.cmp.Ordering.{Ordering}
 use Rattle.std.specs.declared.cmp.Ordering.TheVariants.{Equal}
 use Rattle.std.specs.Cmp.{IsTotalOrder}
 use Rattle.ppq_heap.proofs.ppq_record.Fronts.{ranks, no_tie}
-use Rattle.ppq_heap.specs.Heaps.{Shares, items_of}
+use Rattle.ppq_heap.specs.Heaps.{Shares, items_of, share_at}
 use Rattle.ppq_extract.specs.ppq_fetch.Taking.{wanted}
 use Rattle.ppq_extract.proofs.ppq_fetch.Parted.{taken_wanted}
 use Rattle.ppq_extract.specs.ppq_outside.Shown.{Shown, AllTell}
@@ -16,7 +16,7 @@ use Rattle.ppq_extract.specs.ppq_array.declared.store_fault.StoreFault.TheVarian
 use Rattle.ppq_spill.specs.ppq_counts.Account.{IsCounted}
 use Rattle.ppq_spill.specs.ppq_counts.Tally.{Tally, beginning}
 use Rattle.ppq_queue.specs.Paying.{heaps_account}
-use Rattle.ppq_queue.specs.Resting.{IsShort}
+use Rattle.ppq_queue.specs.Resting.{IsShort, runs_bag}
 use Rattle.ppq_queue.specs.State.{IsQueue, IsSound}
 use Rattle.ppq_queue.specs.Stores.{HeapsStay, StoreKept, StoreLeaves, HeapsLeave, MayWork, Holds, Lacks, Refuses, stored, slots_in, whole_bag}
 use Rattle.ppq_queue.specs.Bulk.{TookAll, TakesOut, TookFront, BulkLeaves, left_after}
@@ -26,7 +26,7 @@ use Rattle.ppq_queue.specs.Holding.{Holding, IsAbove, IsRefusal, FoundNoBlock, K
 use Rattle.ppq_queue.specs.declared.store.Store.{Store}
 use Rattle.ppq_queue.proofs.Accounted.{counted-free, counted-later, pays-fewer}
 use Rattle.ppq_queue.proofs.Moves.{ok-map, ok-map2}
-use Rattle.ppq_queue.proofs.Stores.{heaps-same, holds-beside, refused-beside, err-map, err_of, err_is}
+use Rattle.ppq_queue.proofs.Stores.{heaps-same, holds-beside, refused-beside, err-map, err_of, err_is, none_given}
 use Rattle.ppq_queue.proofs.Took.{empty_list}
 use Rattle.ppq_queue.proofs.Ends.{left_is}
 use Rattle.ppq_queue.proofs.Flushed.{fault-kept, queue-moved, short-bounds, sound-counts, device-fault, not_sound, leaves-stopped}
@@ -173,6 +173,32 @@ module _ {S R : Type 0} (shown : S → Shown) (cmp : R → R → Ordering) (reco
     refused-fewer (Ok v) failed refused gone = tt
     refused-fewer (Err e) failed refused gone = (let all : count ≡ less = omega (arith, fewer, ap length gone) in subst (λ k. IsRefusal from (to k failed) e) all refused)
 
+-- a call that was not refused names no slot
+latched_ok : {T : Type 0} (r : Result T StoreFault) (failed : Option ℕ) → IsOk r → latched r failed ≡ failed
+latched_ok (Ok v) failed is = refl
+latched_ok (Err e) failed is = absurd (cc)
+
+-- what a queue shows after records were taken out of its heaps and its extract buffer alone
+taken_easy :
+    {S R T : Type 0} (shown : S → Shown) (record_of : List ℕ → R) (width : ℕ) (x y : Store S R) (h h' : Shares R) (count peak less : ℕ) (limited : Bool) (t : Tally) (r : Result T StoreFault)
+    → IsOk r × (y ≡ record x { extract = y.extract })
+    → IsOk r × (viewed shown record_of width y h' less peak (latched r None) limited t ≡ record (viewed shown record_of width x h count peak None limited t) {
+      bag = items_of h' ++ y.extract.items ++ runs_bag shown record_of width y.body;
+      size = less;
+      in_heap = length (items_of h');
+      in_first = length (share_at h' 0);
+      in_extract = length y.extract.items;
+    })
+taken_easy {S = S} {R = R} shown record_of width x y h h' count peak less limited t r did =
+    let bag = items_of h' ++ y.extract.items ++ runs_bag shown record_of width y.body in
+    let shows : Store S R → Option ℕ → Holding R = λ s f. record (viewed shown record_of width s h' less peak f limited t) { bag = bag; in_extract = length y.extract.items } in
+    (did.0, ap (λ s. shows s (latched r None)) did.1 ∙ ap (λ f. shows (record x { extract = y.extract }) f) (latched_ok r None did.0))
+
+-- where all records of a queue are in heaps, no run has one
+pub ready_store : (heap first runs count : ℕ) → count ≡ heap + first + runs → (0 < first) ⊎ (count ≡ heap) → (0 < first) ⊎ (runs ≡ 0)
+ready_store heap first runs count all (inl more) = inl more
+ready_store heap first runs count all (inr none) = inr (omega (arith, all, none))
+
 -- a list that is emptied after an error
 module _ {T R : Type 0} (was now : Listed R) where
   left-ok : (r : Result T StoreFault) → now ≡ left_after r was → OnOk r (now ≡ was)
@@ -200,6 +226,8 @@ module _ {S R : Type 0} {shown : S → Shown} {cmp : R → R → Ordering} {reco
       record {
         took = tt;
         emptied = ap (λ l. l.items) cleared;
+        easy = λ none. not_sound number (sym is ∙ ap (λ q. q.failed) view ∙ none);
+        crowded = λ err. cc;
         refused = stopped.refused;
         latched = stopped.latched;
         size = omega (arith, ap (λ l. length l.items) cleared);
@@ -258,6 +286,13 @@ module _ {S R : Type 0} {shown : S → Shown} {cmp : R → R → Ordering} {reco
     told y h' less u P p =
         subst (λ q. P q (viewed shown record_of width y h' less peak failed' limited u)) (sym (ap (λ f. viewed shown record_of width x h count peak f limited t) none) ∙ view)
         (subst (λ f. P (viewed shown record_of width x h count peak None limited t) (viewed shown record_of width y h' less peak f limited u)) (sym (late ∙ ap (latched r) none)) p)
+
+    -- a call that did nothing
+    pub untouched : {y : Store S R} → IsOk r × (y ≡ x) → IsOk r × (viewed shown record_of width y h count peak failed' limited t ≡ old)
+    untouched did = (
+      did.0,
+      ap (λ z. viewed shown record_of width z h count peak failed' limited t) did.1 ∙ ap (λ f. viewed shown record_of width x h count peak f limited t) (late ∙ latched_ok r failed did.0) ∙ view,
+    )
 
     -- a call that moved no record out of the queue
     pub called :
@@ -325,6 +360,8 @@ module _ {S R : Type 0} {shown : S → Shown} {cmp : R → R → Ordering} {reco
           told y h' less t (λ a b. BulkLeaves cmp limit most a b given now r) (record {
             took = front-called shown cmp record_of width x y h h' kept heaps count peak limited t t limit most less out fewer r o same sound took;
             emptied = gone;
+            easy = λ unfailed all. taken_easy shown record_of width x y h h' count peak less limited t r (takes.easy (omega (arith, all, sound.counted)));
+            crowded = takes.crowded;
             refused = refused-fewer shown cmp record_of width x y h h' kept heaps count peak limited t t limit most less out fewer r (latched r None) (refused-called shown cmp record_of width x y h h' kept heaps count peak limited t t r was_none sound why refused) gone;
             latched = λ number e. not_sound number (sym e);
             size = fewer;
@@ -343,7 +380,7 @@ bulk-at {cmp = cmp} {limit = limit} {old = old} {new = new} {was = was} {now = n
 module _ {R T U : Type 0} {cmp : R → R → Ordering} {limit : Option R} {most : ℕ} {old new : Holding R} {was now : Listed R} where
   -- a bulk pop that returns more
   pub bulk-answered : {v : T} {w : U} → BulkLeaves cmp limit most old new was now (Ok v) → BulkLeaves cmp limit most old new was now (Ok w)
-  bulk-answered one = record { took = one.took; emptied = tt; refused = tt; latched = λ number e. absurd (let odd = (one.latched number e).0 in cc); size = one.size; list_room = one.list_room; peak = one.peak; counted = one.counted; keeps = one.keeps }
+  bulk-answered one = record { took = one.took; emptied = tt; easy = λ none all. (refl, (one.easy none all).1); crowded = λ err. cc; refused = tt; latched = λ number e. absurd (let odd = (one.latched number e).0 in cc); size = one.size; list_room = one.list_room; peak = one.peak; counted = one.counted; keeps = one.keeps }
 
   -- an error of a bulk pop that is handed on
   pub bulk-given : {r : Result T StoreFault} {e : StoreFault} → IsErrAnd r (λ given. given ≡ e) → BulkLeaves cmp {T = U} limit most old new was now (Err e) → BulkLeaves cmp limit most old new was now r
@@ -352,6 +389,8 @@ module _ {R T U : Type 0} {cmp : R → R → Ordering} {limit : Option R} {most 
       record {
         took = tt;
         emptied = one.emptied;
+        easy = λ none all. absurd (let odd = (one.easy none all).0 in cc);
+        crowded = none_given (err_of T f) e is one.crowded;
         refused = subst (IsRefusal old new) (sym is) one.refused;
         latched = λ number failed. (let same = one.latched number failed in (ap (err_of T) is ∙ err_on e number same.0, same.1));
         size = one.size;

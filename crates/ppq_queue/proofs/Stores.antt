@@ -1,6 +1,6 @@
 -- Calls of a store, one after the other: what stays, and what heaps and store hold together.
-use Rattle.std.proofs.Common.{◌≡◌, ℕ, ◌+◌, ◌<◌, ◌≤◌, List, [], ◌∷◌, ◌++◌, length, Bool, true, false, cond, refl, sym, ap, ◌∙◌, subst, arith, inr, length-append}
-use Rattle.std.specs.Prelude.{◌==◌, count_by, Result, Ok, Err, OnOk, IfErr, IsErrOf, IsErrAnd, ⊤}
+use Rattle.std.proofs.Common.{◌≡◌, ℕ, ◌+◌, ◌<◌, ◌≤◌, List, [], ◌∷◌, ◌++◌, length, Bool, true, false, cond, refl, sym, ap, ◌∙◌, subst, arith, inl, inr, length-append}
+use Rattle.std.specs.Prelude.{◌⊎◌, ◌==◌, count_by, Result, Ok, Err, OnOk, IfErr, IsErrOf, IsErrAnd, ⊤}
 use Rattle.std.specs.declared.cmp.Ordering.{Ordering}
 use Rattle.std.proofs.lemmas.List.Sums.{sum_by-cons, sum_by-append}
 use Rattle.ppq_heap.specs.ppq_record.Order.{Ascends}
@@ -320,6 +320,11 @@ module _ {S R : Type 0} {shown : S → Shown} {cmp : R → R → Ordering} {reco
     leaves-refused {T = T} h {sorted = sorted} {e = e} some most is run =
         leaves-given {U = T} is (record { stays = stays-step x b t x.sources kept no_row same-sources; holds = tt; refused = run-refused h (length sorted) e some most run.refused })
 
+-- a store that is to be refilled is not ready
+pub not_ready : {P : Type 0} (first runs : ℕ) → first ≡ 0 → 0 < runs → (0 < first) ⊎ (runs ≡ 0) → P
+not_ready first runs empty some (inl more) = absurd (omega (arith, empty, more))
+not_ready first runs empty some (inr none) = absurd (omega (arith, some, none))
+
 -- a slot that failed is one of more
 pub failed-right : (number : ℕ) (xs ys : List Shown) → HasFailed number ys → HasFailed number (xs ++ ys)
 failed-right number xs ys failed = omega (arith, failed, sum_by-append (weight_at (λ s. s.faults) number) xs ys)
@@ -329,6 +334,11 @@ module _ {T : Type 0} where
   pub on_given : (P : StoreFault → Type 0) (r : Result T StoreFault) (e : StoreFault) → IsErrAnd r (λ given. given ≡ e) → P e → IfErr r P
   on_given P (Ok v) e is p = tt
   on_given P (Err f) e is p = subst P (sym is) p
+
+  -- what holds where no block was free, of an error that is handed on
+  pub none_given : {U P : Type 0} (r : Result T StoreFault) (e : StoreFault) → IsErrAnd r (λ given. given ≡ e) → (IsErrOf (err_of U e) NoFreeBlock → P) → IsErrOf r NoFreeBlock → P
+  none_given (Ok v) e is why err = absurd is
+  none_given {U = U} (Err f) e is why err = why (ap (err_of U) (sym is ∙ err_is f NoFreeBlock err))
 
   -- what holds on Ok, of an error that is handed on
   pub not_ok : (P : Type 0) (r : Result T StoreFault) (e : StoreFault) → IsErrAnd r (λ given. given ≡ e) → OnOk r P

@@ -54,6 +54,7 @@ module _ {S R : Type 0} (shown : S → Shown) (cmp : R → R → Ordering) (reco
     pub took : TookOut shown cmp record_of width limit most (items_of before) (items_of after) x y now.items
     pub stands : Stands (items_of after) y now.items
     pub few : length y.body.runs.external.items ≤ 64
+    pub easy : count_of x.body ≡ 0 → y ≡ record x { extract = y.extract }
     pub pays : Costs 0 0 (store_account shown x) (store_account shown y)
     pub list_room : now.room ≡ was.room
 
@@ -144,10 +145,10 @@ module _ {S R : Type 0} (shown : S → Shown) {cmp : R → R → Ordering} (o : 
   -- a merge after what was taken so far
   pub gathers-merged :
       {before after after' : Shares R} {x z : Store S R} {v : Held R} {was mid now : Listed R} {more : Bool}
-      → StoreKept shown x z → HeapsStay before after → TookOut shown cmp record_of width limit most (items_of before) (items_of after) x z mid.items → mid.room ≡ was.room → length z.body.runs.external.items ≤ 64 → Costs 0 0 (store_account shown x) (store_account shown z)
+      → StoreKept shown x z → HeapsStay before after → TookOut shown cmp record_of width limit most (items_of before) (items_of after) x z mid.items → mid.room ≡ was.room → length z.body.runs.external.items ≤ 64 → Costs 0 0 (store_account shown x) (store_account shown z) → (count_of x.body ≡ 0 → z ≡ record x { extract = z.extract })
       → (more ≡ true → 0 < count_of z.body) → (more ≡ false → count_of z.body ≡ 0) → MergesTo cmp most more limit after after' z.extract v mid now
       → Gathers shown cmp record_of width limit most before after' x (record z { extract = v }) was now
-  gathers-merged {before = before} {after = after} {after' = after'} {x = x} {z = z} {v = v} {mid = mid} {now = now} {more = more} kept heaps took room few pays some none m =
+  gathers-merged {before = before} {after = after} {after' = after'} {x = x} {z = z} {v = v} {mid = mid} {now = now} {more = more} kept heaps took room few pays easy some none m =
       let moves = m.moves in
       let all = took-merged (items_of before) (items_of after) (items_of after') x z v mid.items now.items more kept took none moves.merged moves.rooms.first m.few in
       record {
@@ -156,6 +157,7 @@ module _ {S R : Type 0} (shown : S → Shown) {cmp : R → R → Ordering} (o : 
         took = all;
         stands = stands-ended (items_of after') (record z { extract = v }) now.items more all.works some none m.ended;
         few = few;
+        easy = λ empty. ap {A = Store S R} (λ s. record s { extract = v }) (easy empty);
         pays = pays;
         list_room = moves.rooms.list ∙ room;
       }
@@ -191,14 +193,19 @@ module _ {S R : Type 0} (shown : S → Shown) {cmp : R → R → Ordering} (o : 
 -- levels were settled before heaps and a store were asked
 pub takes-settled :
     {S R T : Type 0} {shown : S → Shown} {cmp : R → R → Ordering} {record_of : List ℕ → R} {width : ℕ} {limit : Option R} {most : ℕ} {before after : Shares R} {x y z : Store S R} {was now : Listed R} {r : Result T StoreFault}
-    → IsTotalOrder cmp → StoreKept shown x y → Holds shown cmp record_of width [] [] x y → Costs 0 0 (store_account shown x) (store_account shown y) → TakesOut shown cmp record_of width limit most before after y z was now r → TakesOut shown cmp record_of width limit most before after x z was now r
-takes-settled {shown = shown} {cmp = cmp} {record_of = record_of} {width = width} {limit = limit} {most = most} {before = before} {after = after} {x = x} {y = y} {z = z} {now = now} {r = r} o kept holds pays takes =
+    → IsTotalOrder cmp → StoreKept shown x y → Holds shown cmp record_of width [] [] x y → Costs 0 0 (store_account shown x) (store_account shown y) → (count_of x.body ≡ 0 → y ≡ x) → TakesOut shown cmp record_of width limit most before after y z was now r → TakesOut shown cmp record_of width limit most before after x z was now r
+takes-settled {S = S} {R = R} {shown = shown} {cmp = cmp} {record_of = record_of} {width = width} {limit = limit} {most = most} {before = before} {after = after} {x = x} {y = y} {z = z} {now = now} {r = r} o kept holds pays still takes =
     record {
       kept = kept-more kept takes.kept;
       heaps = takes.heaps;
       list_room = takes.list_room;
       took = ok-map r (all-settled shown o record_of width limit most (items_of before) (items_of after) x y z now.items kept holds) takes.took;
       same_heaps = takes.same_heaps;
+      easy = λ none.
+          let same = still none in
+          let two = takes.easy (ap (λ s. count_of s.body) same ∙ none) in
+          (two.0, two.1 ∙ ap {A = Store S R} (λ s. record s { extract = z.extract }) same);
+      crowded = takes.crowded;
       refused = err-map r (λ fault. refused-more shown cmp record_of width [] [] [] x y z fault kept holds) takes.refused;
       pays = pays-then pays takes.pays;
     }

@@ -1,5 +1,5 @@
 -- What a store needs for its calls, what stays after them, and what they say.
-use Rattle.std.specs.Prelude.{◌≡◌, ℕ, ◌+◌, ◌*◌, ◌<◌, ◌≤◌, List, [], ◌++◌, length, Result, OnOk, IfErr, IsErrOf}
+use Rattle.std.specs.Prelude.{◌≡◌, ◌⊎◌, ℕ, ◌+◌, ◌*◌, ◌<◌, ◌≤◌, List, [], ◌++◌, length, Result, OnOk, IfErr, IsOk, IsErrOf}
 use Rattle.std.specs.declared.cmp.Ordering.{Ordering}
 use Rattle.ppq_heap.specs.ppq_record.Order.{Ascends}
 use Rattle.ppq_heap.specs.ppq_record.Bag.{IsSameBag}
@@ -198,9 +198,12 @@ module _ {S R : Type 0} (shown : S → Shown) where
       pub failed : IfErr r (FailsAlone new)
       pub pays : Pays r 0 0 (store_account shown old) (store_account shown new)
 
-    -- what a call leaves that makes a store ready
+    -- what a call leaves that makes a store ready: nothing is done where the extract buffer has a record, or no run has one; and where no block
+    -- was free, a level has more than 8 runs
     pub record MakesReady {T : Type 0} (old new : Store S R) (r : Result T StoreFault) : Type 0 where
       pub kept : StoreKept old new
       pub readied : OnOk r (Readies old new)
+      pub easy : (0 < length old.extract.items) ⊎ (count_of old.body ≡ 0) → IsOk r × (new ≡ old)
+      pub crowded : IsErrOf r NoFreeBlock → 8 < crowd_of new.body.runs.external.items
       pub refused : IfErr r (Refuses [] [] old new)
       pub pays : Pays r 0 0 (store_account shown old) (store_account shown new)

@@ -1,5 +1,5 @@
 //! The queue.
-ghost use Rattle.std.specs.Prelude.{◌≡◌, ◌≤◌, ◌<◌, ◌+◌, ◌*◌, ◌^◌, ◌↔◌, ◌∷◌, [], ℕ, length, map, Some, None, IsNone, IsOk, Err, IsErrOf, IfOk, IfErr, OnOk, max, min, true, false};
+ghost use Rattle.std.specs.Prelude.{◌≡◌, ◌≤◌, ◌<◌, ◌+◌, ◌-◌, ◌*◌, ◌^◌, ◌↔◌, ◌⊎◌, ◌∷◌, [], ℕ, length, map, Some, None, IsNone, IsOk, Err, IsErrOf, IfOk, IfErr, OnOk, max, min, true, false};
 ghost use Rattle.ppq_heap.specs.ppq_record.Bag.{IsSameBag, least};
 ghost use Rattle.ppq_extract.specs.ppq_budget.Sizes.{AreInRange, fixed_of, heap_of, heaps_of, batch_of, pool_of};
 ghost use Rattle.ppq_extract.specs.ppq_outside.Shown.{AllTell};
@@ -214,6 +214,8 @@ impl<S: Slot + Send + Sync, R: Record + Send + Sync> Queue<S, R> {
         ensures leaves { QueueLeaves self.old self.new result }
         ensures counted { CountsAs self.old.counts self.old self.new }
         ensures readied { OnOk result (IsReady self.new) }
+        ensures easy { self.old.failed ≡ None → (0 < self.old.in_extract) ⊎ (self.old.size ≡ self.old.in_heap) → IsOk result × (self.new ≡ self.old) }
+        ensures crowded { IsErrOf result NoFreeBlock → 8 < self.new.crowd }
     {
         if let Some(number) = self.failed {
             return Err(QueueFault::Device { number });
@@ -243,15 +245,18 @@ impl<S: Slot + Send + Sync, R: Record + Send + Sync> Queue<S, R> {
     }
 
     /// The smallest record, left in the queue; none exactly where the queue is empty. It costs one comparison.
-    /// Where the extract buffer is empty and there are runs, it is refilled first.
+    /// Where the extract buffer is empty and there are runs, levels of runs are merged and it is refilled first.
+    /// Only then a block is called: where the extract buffer has a record, or no run has one, nothing is done.
     ///
-    /// `NoFreeBlock` and `Device` come as from `push`.
+    /// `NoFreeBlock` and `Device` come as from `push`; the former only while a level has more than 8 runs.
     pub fn top<H: Host, G: Gate>(&mut self, rt: &H, gate: &G) -> Result<Option<R>, QueueFault>
     where
         H::Dir: Send,
         ensures answer { IfOk result (λ answer. AllTell self.old.slots → answer ≡ least R.Ord.cmp self.old.bag) }
         ensures none { IfOk result (λ answer. IsNone answer ↔ (self.old.size ≡ 0)) }
         ensures same { OnOk result (SameRecords self.old self.new) }
+        ensures easy { self.old.failed ≡ None → (0 < self.old.in_extract) ⊎ (self.old.size ≡ self.old.in_heap) → IsOk result × (self.new ≡ self.old) }
+        ensures crowded { IsErrOf result NoFreeBlock → 8 < self.new.crowd }
         ensures refused { IfErr result (IsRefusal self.old self.new) }
         ensures latched { (number : ℕ) → self.old.failed ≡ Some number → (result ≡ Err (Device number)) × (self.new ≡ self.old) }
         ensures counted { CountsAs self.old.counts self.old self.new }
@@ -263,16 +268,19 @@ impl<S: Slot + Send + Sync, R: Record + Send + Sync> Queue<S, R> {
     }
 
     /// The smallest record, removed; none exactly where the queue is empty. It costs one sift of a heap, or
-    /// a step in the extract buffer. Where the extract buffer is empty and there are runs, it is refilled
-    /// first.
+    /// a step in the extract buffer. Where the extract buffer is empty and there are runs, levels of runs are
+    /// merged and it is refilled first. Only then a block is called: where the extract buffer has a record, or
+    /// no run has one, the record is taken out and nothing else is done.
     ///
-    /// `NoFreeBlock` and `Device` come as from `push`.
+    /// `NoFreeBlock` and `Device` come as from `push`; the former only while a level has more than 8 runs.
     pub fn pop<H: Host, G: Gate>(&mut self, rt: &H, gate: &G) -> Result<Option<R>, QueueFault>
     where
         H::Dir: Send,
         ensures answer { IfOk result (λ answer. AllTell self.old.slots → answer ≡ least R.Ord.cmp self.old.bag) }
         ensures none { IfOk result (λ answer. IsNone answer ↔ (self.old.size ≡ 0)) }
         ensures taken { OnOk result (HasTaken R.Ord.cmp self.old self.new) }
+        ensures easy { self.old.failed ≡ None → (0 < self.old.in_extract) ⊎ (self.old.size ≡ self.old.in_heap) → IsOk result × (self.new ≡ record self.old { bag = self.new.bag; size = self.old.size - 1; in_heap = self.new.in_heap; in_first = self.new.in_first; in_extract = self.new.in_extract }) }
+        ensures crowded { IsErrOf result NoFreeBlock → 8 < self.new.crowd }
         ensures refused { IfErr result (IsRefusal self.old self.new) }
         ensures latched { (number : ℕ) → self.old.failed ≡ Some number → (result ≡ Err (Device number)) × (self.new ≡ self.old) }
         ensures peak { self.new.peak ≡ self.old.peak }
@@ -287,9 +295,10 @@ impl<S: Slot + Send + Sync, R: Record + Send + Sync> Queue<S, R> {
     /// Takes the smallest records out into a list, at most `k` of them and at most as many as it has room for,
     /// in ascending order, and returns how many. What the list had before is gone. A record of a heap costs a
     /// sift there, and one of the extract buffer, which is refilled from all runs while it is empty and more
-    /// is wanted, about a comparison.
+    /// is wanted, about a comparison. Where no run has a record, no block is called.
     ///
-    /// `NoFreeBlock` and `Device` come as from `push`; the list is empty then.
+    /// `NoFreeBlock` and `Device` come as from `push`, the former only while a level has more than 8 runs; the
+    /// list is empty then.
     pub fn bulk_pop<H: Host, G: Gate>(
         &mut self,
         rt: &H,
@@ -315,7 +324,8 @@ impl<S: Slot + Send + Sync, R: Record + Send + Sync> Queue<S, R> {
     /// ended: `All`, if none below `l` is left; `More`, if one is left and `n` were returned; `Round`, if one
     /// is left and the list is full with fewer. The costs are those of `bulk_pop`.
     ///
-    /// `NoFreeBlock` and `Device` come as from `push`; the list is empty then.
+    /// `NoFreeBlock` and `Device` come as from `push`, the former only while a level has more than 8 runs; the
+    /// list is empty then.
     pub fn bulk_pop_limit<H: Host, G: Gate>(
         &mut self,
         rt: &H,

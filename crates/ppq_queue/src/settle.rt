@@ -1,6 +1,7 @@
 //! Levels of runs that are merged until none has more than 8.
-ghost use Rattle.std.specs.Prelude.{◌≡◌, ◌≤◌, ◌<◌, length, OnOk};
+ghost use Rattle.std.specs.Prelude.{◌≡◌, ◌≤◌, ◌<◌, length, IsOk, OnOk};
 ghost use Rattle.ppq_spill.specs.Leveling.{count_level};
+ghost use Rattle.ppq_queue.specs.Resting.{count_of};
 ghost use Rattle.ppq_queue.specs.Stores.{MayWork, LevelLeaves, Settles};
 
 use crate::QueueFault;
@@ -15,7 +16,8 @@ impl<S: Slot + Send + Sync, R: Record + Send + Sync> Store<S, R> {
     where
         H::Dir: Send,
         requires works { MayWork S.shown R.Ord.cmp R.record_of R.WIDTH self.old }
-        ensures { Settles S.shown R.Ord.cmp R.record_of R.WIDTH self.old self.new result }
+        ensures settles { Settles S.shown R.Ord.cmp R.record_of R.WIDTH self.old self.new result }
+        ensures easy { count_of self.old.body ≡ 0 → IsOk result × (self.new ≡ self.old) }
     {
         if !self.has_run() {
             return Ok(());

@@ -1,14 +1,18 @@
-use Rattle.std.proofs.Common.{length, ap, refl, arith}
+use Rattle.std.proofs.Common.{◌≡◌, ◌<◌, ◌∙◌, length, ap, sym, subst, refl, arith}
+use Rattle.std.specs.Prelude.{◌⊎◌}
 use Rattle.ppq_heap.specs.Heaps.{items_of}
 use Rattle.ppq_queue.proofs.Paying.{pays-beside}
 use Rattle.ppq_queue.proofs.Accounted.{counted-free}
 use Rattle.ppq_queue.proofs.Took.{empty_list}
 use Rattle.ppq_queue.proofs.Moves.{ok-map, ok-map2}
-use Rattle.ppq_queue.proofs.Calls.{may_work, stopped, called-beside}
+use Rattle.ppq_queue.specs.Holding.{Holding}
+use Rattle.ppq_queue.specs.Resting.{count_of}
+use Rattle.ppq_queue.proofs.Flushed.{not_sound}
+use Rattle.ppq_queue.proofs.Calls.{may_work, stopped, called-beside, untouched, ready_store}
 use Rattle.ppq_queue.proofs.queue.Queue.ready.Goals as goal
 
 pub returns-in-Some : goal.returns-in-Some
-returns-in-Some g c = record { leaves = stopped c.self.invariant.0 c.self.view_is c.in-Some.is; counted = record { counts = refl; heaps = omega arith }; readied = tt }
+returns-in-Some g c = record { leaves = stopped c.self.invariant.0 c.self.view_is c.in-Some.is; counted = record { counts = refl; heaps = omega arith }; readied = tt; easy = λ none. not_sound c.in-Some.number (sym c.in-Some.is ∙ ap (λ q. q.failed) c.self.view_is ∙ none); crowded = λ err. cc }
 
 pub make_ready-answer-requires-clause-works : goal.make_ready-answer-requires-clause-works
 make_ready-answer-requires-clause-works g c κs within = may_work c.self.invariant.0 c.in_default.is
@@ -34,5 +38,9 @@ returns g c =
     record {
       leaves = left;
       counted = record { counts = ap (λ q. q.counts) view; heaps = omega (arith, ap (λ q. q.in_heap) view) };
+      easy = λ sound ready.
+          let at_hand = subst (λ (q : Holding g.row.R.Denot). (0 < q.in_extract) ⊎ (q.size ≡ q.in_heap)) (sym view) ready in
+          untouched stands none m.result view c.latch.ensures (e.easy (ready_store (length (items_of c.self.inside.heaps)) (length c.self.inside.store.extract.items) (count_of c.self.inside.store.body) c.self.inside.count counted at_hand));
+      crowded = e.crowded;
       readied = ok-map2 m.result (λ d same. record { sound = same.sound; some = λ gone. omega (arith, gone, d.some (empty_list m.new.self.extract.items gone), counted, d.holds.count) }) e.readied left.same;
     }

@@ -17,14 +17,14 @@ pub invariant_of-self : goal.invariant_of-self
 invariant_of-self g c =
     let m = c.settle_some-answer in
     let stands = c.self.invariant.0 in
-    let levels = m.ensures.levels in
+    let levels = m.ensures.settles.levels in
     let paid = counted-free c.in_default.is m.result c.latch.ensures stands.counted (pays-beside (length (items_of c.self.inside.heaps)) levels.pays) in
     ((called-leaves stands c.in_default.is m.result c.self.view_is c.latch.ensures paid levels.leaves).0, c.self.invariant.1)
 
 pub returns : goal.returns
 returns g c =
     let m = c.settle_some-answer in
-    let e = m.ensures in
+    let e = m.ensures.settles in
     let stands = c.self.invariant.0 in
     let view = c.self.view_is in
     let paid = counted-free c.in_default.is m.result c.latch.ensures stands.counted (pays-beside (length (items_of c.self.inside.heaps)) e.levels.pays) in
