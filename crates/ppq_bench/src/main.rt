@@ -40,8 +40,8 @@ const RUNS: [u32; 3] = [8, 64, 512];
 // The numbers of workers.
 const WORKERS: [u32; 2] = [1, 4];
 
-// How many records the small merges have.
-const FEW: u64 = 4096;
+// How many records the small merges have: of 8 and of 64 runs three of four workers have a piece, and of 512 two.
+const FEW: u64 = 24576;
 
 // How many records the timed merges have: 4 and 32 MiB.
 const SIZES: [u64; 2] = [262144, 2097152];

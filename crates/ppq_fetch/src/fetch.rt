@@ -23,10 +23,10 @@ use ppq_merge::Bench;
 /// fewer safe records are at hand than are wanted, the block with the smallest first record is loaded into
 /// an idle buffer, where its run has nothing loaded, or where fewer than `ahead` blocks are loaded beyond
 /// one a run. Then the workers of the bench merge all that is safe at once. With four workers or more the
-/// next blocks of two runs are read beside the merge, on a thread of their own, if no more than `ahead` are
-/// loaded ahead with them; so that there is room for them, two fewer are loaded before it. The slot of a
-/// block that was read goes to the supply, and so do the spent buffers of runs in buffers; those of runs in
-/// blocks are idle again.
+/// next blocks of two runs are read beside a merge of 4,096 records or more, on a thread of their own, if no
+/// more than `ahead` are loaded ahead with them; so that there is room for them, two fewer are loaded before
+/// it. The slot of a block that was read goes to the supply, and so do the spent buffers of runs in buffers;
+/// those of runs in blocks are idle again.
 ///
 /// `places` has a place for each run; what stands in it has no meaning before and after.
 ///

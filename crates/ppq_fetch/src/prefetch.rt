@@ -28,6 +28,10 @@ use ppq_merge::Bench;
 // would be.
 const LEAST_WORKERS: u32 = 4;
 
+// How few records are taken while blocks are read beside them. One worker merges them in some 80
+// microseconds; to start and join the thread that reads takes 15 to 40.
+const LEAST_RECORDS: usize = 4096;
+
 // How many blocks may be loaded ahead before records are taken, where so many may be in all: two fewer
 // where blocks are read beside the taking.
 pub(crate) fn ahead_of_merge(workers: u32, ahead: u32) -> u32
@@ -84,7 +88,7 @@ where
     ensures home { P.home supply.new ≡ P.home supply.old }
 {
     record_laws::<R>();
-    match next_two(&*external, bench, ahead) {
+    match next_two(&*external, bench, ahead, out.len()) {
         None => {
             merge_parts(&*internal, &*external, places, bench, out, crew);
             consume_taken(internal, external, places, idle, supply);
@@ -189,11 +193,12 @@ where
 }
 
 // The runs of the next block and of the next one of any other run, where so many workers read blocks beside
-// a merge, and both may be loaded ahead.
+// a merge of so many records, and both may be loaded ahead.
 fn next_two<S: Slot, R: Record>(
     external: &[ExternalArray<S, R>],
     bench: &mut Bench<R>,
     ahead: u32,
+    count: usize,
 ) -> Option<NextTwo>
     requires hints { AreHints R.record_of R.WIDTH S.shown external.now bench.old.hints }
     requires few { length external.now < 2 ^ 32 }
@@ -201,7 +206,11 @@ fn next_two<S: Slot, R: Record>(
     ensures two { IfSome result (λ two. MayReadTwo external.now ahead two.first two.second) }
     ensures bench { bench.new ≡ bench.old }
 {
-    if bench.workers() < LEAST_WORKERS || ahead < 2 || !has_room_ahead(external, ahead - 1) {
+    if bench.workers() < LEAST_WORKERS
+        || count < LEAST_RECORDS
+        || ahead < 2
+        || !has_room_ahead(external, ahead - 1)
+    {
         return None;
     }
     let Some(first) = bench.least_hint() else {

@@ -1,5 +1,5 @@
 -- The pieces of several workers.
-use Rattle.std.specs.Prelude.{◌≡◌, ℕ, ◌+◌, ◌^◌, ◌<◌, ◌≤◌, Bool, true, List, [], ◌∷◌, ◌++◌, length, get_or, ⊤}
+use Rattle.std.specs.Prelude.{◌≡◌, ℕ, ◌+◌, ◌*◌, ◌/◌, ◌^◌, ◌<◌, ◌≤◌, min, max, Bool, true, List, [], ◌∷◌, ◌++◌, length, get_or, ⊤}
 use Rattle.std.specs.declared.cmp.Ordering.{Ordering}
 use Rattle.ppq_split.specs.ppq_record.Order.{is_before}
 use Rattle.ppq_split.specs.ppq_record.Runs.{all_of}
@@ -83,3 +83,8 @@ module _ {R : Type 0} where
 -- no place falls
 abbrev pub Rises : List ℕ → List ℕ → Type 0
 Rises fs ts = (i : ℕ) → get_or fs i 0 ≤ get_or ts i 0
+
+-- How many of some workers merge so many records of so many runs, where a thread for each of them pays: as many as get 6,144 records each, and 8
+-- for each run; one at least. A piece of 6,144 takes one worker some 120 microseconds; a thread is started and joined in 15 to 40, a cut made in 17
+abbrev pub workers_that_pay : ℕ → ℕ → ℕ → ℕ
+workers_that_pay count runs workers = max 1 (min workers (count / (6144 + 8 * runs)))

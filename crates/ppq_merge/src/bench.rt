@@ -187,10 +187,10 @@ fn merge_by_seats<H: Threads + Sync, R: Record + Send, Q: Listing<R>, G: Gate>(
 /// records of the runs. `Bench::cut` then tells how many records of each run were taken.
 ///
 /// Each worker enters the gate with its number before its piece. The workers have pieces of equal
-/// size, between the cuts at the ranks `j * count / workers`. If few records come of many runs, cuts
-/// and threads would cost more than they save, so fewer workers have pieces, or worker 0 alone has;
-/// the others enter the gate all the same. `out` and the places are the same for every number of
-/// workers.
+/// size, between the cuts at the ranks `j * count / workers`. A piece has at least 6,144 records, and 8
+/// for each run: with fewer, cuts and threads would cost more than they save. So of few records fewer
+/// workers have pieces, or worker 0 alone has; the others enter the gate all the same. `out` and the
+/// places are the same for every number of workers.
 ///
 /// It does not allocate. It takes a time of `count * log2(runs) / workers` matches and one cut for
 /// each worker (see `ppq_split::cut_at`). A thread is started for each worker but one; for workers who

@@ -1,14 +1,14 @@
 //! Which piece each worker merges.
-ghost use Rattle.std.specs.Prelude.{◌≡◌, ◌+◌, ◌*◌, ◌/◌, ◌<◌, ◌≤◌, length, All, true, min, max, replicate};
-ghost use Rattle.ppq_merge.specs.Plan.{HaveRecords, StandsAt, GetsPiece, IsPlanned, Rises};
+ghost use Rattle.std.specs.Prelude.{◌≡◌, ◌*◌, ◌/◌, ◌<◌, ◌≤◌, length, All, true, replicate};
+ghost use Rattle.ppq_merge.specs.Plan.{HaveRecords, StandsAt, GetsPiece, IsPlanned, Rises, workers_that_pay};
 ghost use Rattle.ppq_merge.specs.Seat.{AreSeats, HasRoom, IsSized};
 
 use crate::seat::{Seat, copy_front, copy_used, first_used};
 use ppq_split::{Listing, Record, cut_at};
 
-// How many records a piece has at least, beside those for each run. Starting a thread takes some
-// twenty microseconds, in which one worker merges about so many.
-const LEAST_PIECE: u64 = 1024;
+// How many records a piece has at least, beside those for each run. A worker merges them in some 120
+// microseconds. To start and join a thread takes 15 to 40 of these, and a cut some 17.
+const LEAST_PIECE: u64 = 6144;
 
 // How many records a piece has at least for each run. A cut looks about forty times into each run,
 // which takes as long as the merge of so many records.
@@ -18,7 +18,7 @@ const LEAST_PIECE_OF_A_RUN: u64 = 8;
 // one at least.
 pub(crate) fn active_workers(count: u64, runs: u32, workers: u32) -> u32
     requires { 1 ≤ workers }
-    ensures { result ≡ max 1 (min workers (count / (1024 + 8 * runs))) }
+    ensures { result ≡ workers_that_pay count runs workers }
 {
     let piece = LEAST_PIECE + LEAST_PIECE_OF_A_RUN * u64::from(runs);
     (count / piece).min(u64::from(workers)).max(1) as u32

@@ -1,5 +1,6 @@
 //! Merges with a thread beside: each batch of a level is written while the next one is taken, and of a
-//! refill the next blocks are read while records are taken.
+//! refill the next blocks are read while records are taken. A batch of four blocks, as a refill, has 8,192 records,
+//! since of fewer than 4,096 neither pays.
 use ppq_budget::Sizes;
 use ppq_outside::{Host, MemRack, MemSlot, OpenGate, Slot};
 use ppq_queue::{Queue, QueueFault};
@@ -9,28 +10,30 @@ use std::alloc::Global;
 use std::process::Abort;
 use std::test::Fail;
 
-// Four workers, two records a block, one block a heap, and a budget without a buffer. So each heap of a
-// block goes to a block, the ninth is followed by a merge of 8, and a batch of a merge has four blocks.
+// Four workers, 2,048 records a block, one block a heap, and a budget without a buffer: 100 blocks of records and
+// one record a block. So each heap of a block goes to a block, the ninth is followed by a merge of 8, and a batch
+// of a merge has four blocks.
 fn wide() -> Option<Sizes> {
-    Sizes::new(4, 2, 1, 800, 600)
+    Sizes::new(4, 2048, 1, 205400, 600)
 }
 
-// Pushes the keys from 0 to 479 in a mixed order.
+// Pushes the keys from 0 to 163,839 in a mixed order: 80 heaps, of which 72 are merged into nine runs of the next
+// level, and eight of these into one.
 fn push_all<H: Host + Abort>(rt: &H, queue: &mut Queue<MemSlot, Pair>)
 where
     H::Dir: Send,
 {
-    'pushing: for i in 0..480u64 {
-        assert_eq!(rt; queue.push(rt, pair(i * 7919 % 480), &OpenGate), Ok(()));
+    'pushing: for i in 0..163840u64 {
+        assert_eq!(rt; queue.push(rt, pair(i * 7919 % 163840), &OpenGate), Ok(()));
     }
 }
 
-// Pops the keys from 0 to 479.
+// Pops the keys from 0 to 163,839.
 fn pop_all<H: Host + Abort>(rt: &H, queue: &mut Queue<MemSlot, Pair>)
 where
     H::Dir: Send,
 {
-    'popping: for key in 0..480u64 {
+    'popping: for key in 0..163840u64 {
         assert_eq!(rt; queue.pop(rt, &OpenGate), Ok(Some(pair(key))));
     }
 }
@@ -40,8 +43,8 @@ fn push_on<H: Host + Abort>(rt: &H, queue: &mut Queue<MemSlot, Pair>) -> Option<
 where
     H::Dir: Send,
 {
-    'pushing: for i in 0..480u64 {
-        match queue.push(rt, pair(i * 7919 % 480), &OpenGate) {
+    'pushing: for i in 0..163840u64 {
+        match queue.push(rt, pair(i * 7919 % 163840), &OpenGate) {
             Ok(()) => {}
             Err((_record, QueueFault::Device { number })) => return Some(number),
             Err((_record, QueueFault::NoFreeBlock)) => return None,
@@ -87,19 +90,24 @@ fn of_a_batch_the_first_failed_block_is_named(rt: HostRuntime) -> Result<(), Fai
     Ok(())
 }
 
-// Four workers, two records a block, eight blocks a heap, and a budget without a buffer. So each heap of
-// 16 records goes to eight blocks, and a refill takes eight records.
+// Four workers, 2,048 records a block, eight blocks a heap, and a budget without a buffer: 128 blocks of records
+// and one record a block. So each heap of 16,384 records goes to eight blocks, and a refill takes 8,192 records.
 fn long() -> Option<Sizes> {
-    Sizes::new(4, 2, 8, 856, 600)
+    Sizes::new(4, 2048, 8, 262744, 600)
 }
 
-// Pushes the keys 0, 2 to 30, which go to the blocks 0 to 7, then 1, 3 to 31, which go to 8 to 15, and 32.
+// Pushes the keys 0, 2 to 32,766, which go to the blocks 0 to 7, then 1, 3 to 32,767, which go to 8 to 15, and
+// 32,768.
 fn push_two_runs<H: Host + Abort>(rt: &H, queue: &mut Queue<MemSlot, Pair>)
 where
     H::Dir: Send,
 {
-    'pushing: for i in 0..33u64 {
-        let key = if i < 32 { i * 2 % 32 + i / 16 } else { i };
+    'pushing: for i in 0..32769u64 {
+        let key = if i < 32768 {
+            i * 2 % 32768 + i / 16384
+        } else {
+            i
+        };
         assert_eq!(rt; queue.push(rt, pair(key), &OpenGate), Ok(()));
     }
 }
@@ -121,7 +129,7 @@ fn a_refill_reads_the_next_blocks_beside_its_merge(rt: HostRuntime) -> Result<()
     push_two_runs(&rt, &mut queue);
     assert_eq!(rt; queue.pop(&rt, &OpenGate), Ok(Some(pair(0))));
     let blocks = queue.close();
-    // the keys 0 to 7 are of the blocks 0, 1, 8 and 9
+    // the keys 0 to 8,191 are of the blocks 0, 1, 8 and 9
     assert_eq!(rt; (reads_of(&blocks, 1), reads_of(&blocks, 9)), (1, 1));
     // the next two, and none after them
     assert_eq!(rt; (reads_of(&blocks, 2), reads_of(&blocks, 10)), (1, 1));
@@ -133,7 +141,7 @@ fn a_refill_reads_the_next_blocks_beside_its_merge(rt: HostRuntime) -> Result<()
 fn all_records_come_in_order_after_refills_by_four_workers(rt: HostRuntime) -> Result<(), Fail> {
     let mut queue = opened(&rt, rt.alloc(), &mut MemRack::new(), long())?;
     push_two_runs(&rt, &mut queue);
-    'popping: for key in 0..33u64 {
+    'popping: for key in 0..32769u64 {
         assert_eq!(rt; queue.pop(&rt, &OpenGate), Ok(Some(pair(key))));
     }
     assert_eq!(rt; queue.close().len(), 600);

@@ -5,7 +5,7 @@ ghost use Rattle.std.specs.Prelude.{◌≡◌, Some};
 use ppq_budget::Sizes;
 use ppq_outside::{Host, MemRack, MemSlot, OpenGate, Slot};
 use ppq_queue::{Queue, QueueFault};
-use ppq_record::Pair;
+use ppq_record::{Pair, sort};
 use ppq_testkit::{draw, opened, pair, pushed};
 use std::alloc::Global;
 use std::process::Abort;
@@ -361,14 +361,14 @@ where
     is_same & (queue.size() == 0)
 }
 
-// The sizes of a generated case. With four workers and no buffer in the pool, blocks are read beside each
-// merge of a refill.
+// The sizes of a generated case. With four workers and no buffer in the pool, each run goes to blocks, and two of
+// these are loaded ahead. Of so few records no block is read beside a merge.
 fn sizes_of(case: u64) -> Option<Sizes> {
     match case % 4 {
         0 => small(),
         1 => Sizes::new(1, 4, 2, 512, 180),
         2 => Sizes::new(3, 3, 1, 500, 200),
-        _ => Sizes::new(4, 2, 4, 824, 200),
+        _ => Sizes::new(4, 2, 4, 424, 200),
     }
 }
 
@@ -389,6 +389,89 @@ fn a_thousand_generated_sequences_do_as_a_sorted_list(rt: HostRuntime) {
     for case in 0..1_000u64 {
         assert!(rt; does_as_a_list(&rt, rt.alloc(), case, &mut seed));
     }
+}
+
+// Four workers, 2,048 records a block, two blocks a heap, and a budget without a buffer: 104 blocks of records and
+// one record a block. So each heap of 4,096 records goes to two blocks, and the ninth is followed by a merge of 8. A
+// refill takes 8,192 records, beside which the next blocks are read, and a batch of a merge has as many, beside which
+// the one before is written.
+fn wide() -> Option<Sizes> {
+    Sizes::new(4, 2048, 2, 213192, 200)
+}
+
+// Pushes so many generated records, and puts them into a list, the smallest record last.
+fn push_many<H: Host + Abort>(
+    rt: &H,
+    queue: &mut Queue<MemSlot, Pair>,
+    list: &mut Vec<Pair>,
+    seed: &mut u64,
+    count: u64,
+)
+where
+    H::Dir: Send,
+{
+    for _ in 0..count {
+        let key = draw(seed, 5000);
+        let value = draw(seed, 3);
+        let item = Pair { key, value };
+        fill(rt, queue, &[item]);
+        list.push(item).expect(rt, "memory");
+    }
+    sort(list.as_mut_slice());
+    list.as_mut_slice().reverse();
+}
+
+// Whether so many pops give what a list ends with, the last record first. The list loses it.
+fn pops_many<H: Host>(
+    rt: &H,
+    queue: &mut Queue<MemSlot, Pair>,
+    list: &mut Vec<Pair>,
+    count: u64,
+) -> bool
+where
+    H::Dir: Send,
+{
+    let mut is_same = true;
+    for _ in 0..count {
+        is_same &= pops(rt, queue, list.pop());
+    }
+    is_same & (queue.size() == list.len() as u64)
+}
+
+// Whether eight rounds of pushes and pops, and then pops until queue and list are empty do the same on both.
+fn same_rounds<H: Host + Abort>(
+    rt: &H,
+    queue: &mut Queue<MemSlot, Pair>,
+    list: &mut Vec<Pair>,
+    seed: &mut u64,
+) -> bool
+where
+    H::Dir: Send,
+{
+    let mut is_same = true;
+    for _ in 0..8 {
+        let pushes = draw(seed, 12000);
+        let taken = draw(seed, 8000);
+        push_many(rt, queue, list, seed, pushes);
+        is_same &= pops_many(rt, queue, list, taken);
+    }
+    let rest = list.len() as u64;
+    is_same & pops_many(rt, queue, list, rest) & pops(rt, queue, None) & (queue.size() == 0)
+}
+
+// Whether a queue that reads and writes blocks beside its merges does as a sorted list.
+fn does_as_a_long_list<H: Host + Abort>(rt: &H, alloc: Global) -> bool
+where
+    H::Dir: Send,
+{
+    let mut queue = holding(rt, alloc, MemRack::new(), wide(), &[]);
+    let is_same = same_rounds(rt, &mut queue, &mut Vec::new(alloc), &mut 3);
+    is_same & closes(queue, 200)
+}
+
+#[test]
+fn a_long_generated_sequence_by_four_workers_does_as_a_sorted_list(rt: HostRuntime) {
+    assert!(rt; does_as_a_long_list(&rt, rt.alloc()));
 }
 
 // Whether the storing of a heap with one record goes so, and block 0 comes back so then.

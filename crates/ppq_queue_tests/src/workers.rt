@@ -8,7 +8,7 @@ use ppq_testkit::{PairGate, pair};
 use std::alloc::Global;
 use std::process::Abort;
 
-// Pushes the keys from 0 to 9,900 in a mixed order, and pops the smallest one, each through a gate of its own.
+// Pushes the keys from 0 to 56,700 in a mixed order, and pops the smallest one, each through a gate of its own.
 fn push_and_pop<H: Host + Abort>(
     rt: &H,
     queue: &mut Queue<MemSlot, Pair>,
@@ -18,8 +18,8 @@ fn push_and_pop<H: Host + Abort>(
 where
     H::Dir: Send,
 {
-    'pushing: for i in 0..9901u64 {
-        assert!(rt; queue.push(rt, pair(i * 7919 % 9901), pushes).is_ok());
+    'pushing: for i in 0..56701u64 {
+        assert!(rt; queue.push(rt, pair(i * 7919 % 56701), pushes).is_ok());
     }
     assert!(rt; queue.pop(rt, pop) == Ok(Some(pair(0))));
 }
@@ -34,9 +34,10 @@ fn both_merge<H: Host + Abort>(rt: &H, alloc: Global) -> bool
 where
     H::Dir: Send,
 {
-    // Two workers, and 1,100 records a block, so that a batch of two blocks has a piece for each. With no
-    // buffer in the pool each heap of a block goes to a block, and the ninth is followed by a merge of 8.
-    let sizes = Sizes::new(2, 1100, 1, 86 * 1100 + 100, 100);
+    // Two workers, and 6,300 records a block, so that a batch of two blocks has a piece for each: of eight runs one
+    // of 6,208 records or more. With no buffer in the pool each heap of a block goes to a block, and the ninth is
+    // followed by a merge of 8.
+    let sizes = Sizes::new(2, 6300, 1, 86 * 6300 + 100, 100);
     let mut queue = holding(rt, alloc, MemRack::new(), sizes, &[]);
     let (pushes, pop) = (PairGate::new(), PairGate::new());
     push_and_pop(rt, &mut queue, &pushes, &pop);

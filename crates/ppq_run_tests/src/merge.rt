@@ -149,7 +149,7 @@ fn all_meet<H: Threads + Sync + Abort>(
     lists: &[Vec<Pair>],
     workers: u32,
 ) -> bool {
-    let (half, met) = merge_met(rt, alloc, lists, workers, 4000);
+    let (half, met) = merge_met(rt, alloc, lists, workers, 24000);
     met & is_front(rt, alloc, lists, &half)
 }
 
@@ -158,7 +158,7 @@ fn two_workers_are_on_their_way_at_once(rt: HostRuntime) {
     let alloc = rt.alloc();
     let few = runs(&rt, alloc, &[&[1, 3, 5], &[2, 3, 4]]);
     assert!(rt; two_meet(&rt, alloc, &few));
-    let many = generated(&rt, alloc, &mut 7, 4, 2000);
+    let many = generated(&rt, alloc, &mut 7, 4, 12000);
     for workers in [2, 3, 5] {
         assert!(rt; all_meet(&rt, alloc, &many, workers));
     }
@@ -198,9 +198,9 @@ fn enter_once<H: Threads + Sync + Abort>(
 #[test]
 fn each_worker_enters_once_also_without_a_piece(rt: HostRuntime) {
     let alloc = rt.alloc();
-    let lists = generated(&rt, alloc, &mut 9, 4, 2000);
-    // of four runs a piece has 1,056 records or more: one worker has a piece, three have, and all five
-    for count in [0, 1000, 4000, 8000] {
+    let lists = generated(&rt, alloc, &mut 9, 4, 12000);
+    // of four runs a piece has 6,176 records or more: one worker has a piece, three have, and all five
+    for count in [0, 6000, 24000, 48000] {
         assert!(rt; enter_once(&rt, alloc, &lists, count), "{count}");
     }
 }
@@ -208,8 +208,8 @@ fn each_worker_enters_once_also_without_a_piece(rt: HostRuntime) {
 #[test]
 fn all_workers_are_on_their_way_at_once_also_without_a_piece(rt: HostRuntime) {
     let alloc = rt.alloc();
-    let lists = generated(&rt, alloc, &mut 9, 4, 2000);
-    for count in [1000, 4000] {
+    let lists = generated(&rt, alloc, &mut 9, 4, 12000);
+    for count in [6000, 24000] {
         let gate = CrowdGate::new(5);
         let made = merge_by(&rt, alloc, &lists, 5, count, &gate);
         assert!(rt;
@@ -243,7 +243,7 @@ impl<'a> Listing<Pair> for Watched<'a> {
     }
 }
 
-// Merges 8,000 records by so many workers, of which all but one are held until it has read its share.
+// Merges 48,000 records by so many workers, of which all but one are held until it has read its share.
 fn merge_held<H: Threads + Sync + Abort>(
     rt: &H,
     alloc: Global,
@@ -256,10 +256,10 @@ fn merge_held<H: Threads + Sync + Abort>(
     let runs = Watched { runs: &lists, gate };
     let made = Bench::new(alloc, workers.max(1), 4);
     let mut bench = made.expect(rt, "memory");
-    merge_shown(rt, alloc, &mut bench, &runs, 8000, gate);
+    merge_shown(rt, alloc, &mut bench, &runs, 48000, gate);
 }
 
-// Whether a worker merges its share while the others wait, and each of 8,000 records is read once.
+// Whether a worker merges its share while the others wait, and each of 48,000 records is read once.
 fn merges_its_share<H: Threads + Sync + Abort>(
     rt: &H,
     alloc: Global,
@@ -269,15 +269,15 @@ fn merges_its_share<H: Threads + Sync + Abort>(
 ) -> bool
     requires { 0 < workers }
 {
-    let gate = SoloGate::new(worker, 8000 / u64::from(workers));
+    let gate = SoloGate::new(worker, 48000 / u64::from(workers));
     merge_held(rt, alloc, lists, workers, &gate);
-    gate.is_passed() & (gate.read() == 8000)
+    gate.is_passed() & (gate.read() == 48000)
 }
 
 #[test]
 fn each_worker_merges_its_share_and_each_record_is_read_once(rt: HostRuntime) {
     let alloc = rt.alloc();
-    let lists = generated(&rt, alloc, &mut 5, 4, 2000);
+    let lists = generated(&rt, alloc, &mut 5, 4, 12000);
     for workers in [2, 3, 5] {
         for worker in 0..workers {
             assert!(rt;
@@ -355,7 +355,7 @@ fn one_case<H: Threads + Sync + Abort>(rt: &H, alloc: Global, seed: &mut u64, si
 fn generated_runs_are_merged_as_a_sort_would(rt: HostRuntime) {
     let mut seed = 1;
     for case in 0..2000 {
-        let size = if case < 1800 { 20 } else { 2000 };
+        let size = if case < 1980 { 20 } else { 12000 };
         one_case(&rt, rt.alloc(), &mut seed, size);
     }
 }
@@ -376,7 +376,7 @@ fn gives_what_it_took<H: Threads + Sync + Abort>(
 
 // Generated runs, each with its records from the greatest to the smallest.
 fn falling(rt: &impl Abort, alloc: Global) -> Vec<Vec<Pair>> {
-    let mut many = generated(rt, alloc, &mut 3, 4, 2000);
+    let mut many = generated(rt, alloc, &mut 3, 4, 12000);
     for list in &mut many {
         list.as_mut_slice().reverse();
     }
@@ -392,7 +392,7 @@ fn runs_that_do_not_ascend_give_some_of_their_records(rt: HostRuntime) {
     }
     let many = falling(&rt, alloc);
     for workers in [2, 4] {
-        assert!(rt; gives_what_it_took(&rt, alloc, &many, workers, 5000));
+        assert!(rt; gives_what_it_took(&rt, alloc, &many, workers, 30000));
     }
 }
 

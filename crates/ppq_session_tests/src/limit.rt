@@ -245,30 +245,33 @@ fn a_full_device_begins_no_session(rt: HostRuntime) -> Result<(), Fail> {
     keeps_all(&rt, rt.alloc())
 }
 
-// A session of four workers, whose front reads blocks beside its merges while the passes, which add more than
-// the pool's four buffers hold, add records on threads of their own. So many records were popped before it, and
-// where there were some, blocks are loaded ahead when it begins.
+// A session of four workers, whose front reads blocks beside its merges, of 8,192 records each, while the passes,
+// which add more than the pool's four buffers hold, add records on threads of their own. So many records were
+// popped before it, and where there were some, blocks are loaded ahead when it begins.
 fn reads_beside<H: Host + Abort>(rt: &H, alloc: Global, before: u64) -> Result<(), Fail>
 where
     H::Dir: Send,
 {
-    let sizes = Sizes::new(4, 2, 8, 864, 600).expect(rt, "sizes in range");
+    // four heaps of four blocks, 24 and 72 blocks, the four of the pool, and one record a block
+    let sizes = Sizes::new(4, 2048, 4, 238168, 600).expect(rt, "sizes in range");
     let mut records = Vec::new(alloc);
-    for i in 0..200u64 {
+    for i in 0..102400u64 {
         records
-            .push(pair(i * 77 % 200))
+            .push(pair(i * 77 % 102400))
             .expect(rt, "room for a record");
     }
     let mut queue = queue_of(rt, alloc, sizes, records)?;
     'popping: for key in 0..before {
         assert!(rt; queue.pop(rt, &OpenGate) == Ok(Some(pair(key))));
     }
-    let adds = keys(rt, alloc, 200, 400);
+    let adds = keys(rt, alloc, 102400, 204800);
     let adds = adds.as_slice();
-    let (queue, given, done) = in_session(rt, alloc, queue, pair(150), adds, Giving::Meanwhile);
+    let (queue, given, done) = in_session(rt, alloc, queue, pair(76800), adds, Giving::Meanwhile);
     let kept = popped(rt, alloc, queue);
-    assert!(rt; are_keys(given.as_slice(), before, 150) & are_keys(kept.as_slice(), 150, 400));
-    assert!(rt; (done.end == SessionEnd::Whole) & (done.accepted == 200) & !done.refused);
+    assert!(rt;
+        are_keys(given.as_slice(), before, 76800) & are_keys(kept.as_slice(), 76800, 204800)
+    );
+    assert!(rt; (done.end == SessionEnd::Whole) & (done.accepted == 102400) & !done.refused);
     Ok(())
 }
 

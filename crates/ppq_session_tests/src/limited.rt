@@ -188,13 +188,13 @@ where
     }
 }
 
-// Takes all records out that a front gives, at most 400, to the end of a list. Each is what the front showed.
+// Takes all records out that a front gives, at most 204,800, to the end of a list. Each is what the front showed.
 fn take_all<H: Host + Abort>(rt: &H, front: &mut Front<MemSlot, Pair>, given: &mut Vec<Pair>)
 where
     H::Dir: Send,
     ensures { front.new ≡ record front.old { bag = front.new.bag; slots = front.new.slots; run_buffers = front.new.run_buffers; in_extract = front.new.in_extract; size = front.new.size; popped = front.new.popped; failed = front.new.failed } }
 {
-    'taking: for _ in 0..400 {
+    'taking: for _ in 0..204800 {
         let top = front.top(rt, &OpenGate);
         let first = front.pop(rt, &OpenGate);
         assert!(rt; top == first);

@@ -37,7 +37,7 @@ where
     pushed(rt, queue, records.as_slice())
 }
 
-/// All records of a queue, of which it has at most 400, in the order in which it pops them.
+/// All records of a queue, of which it has at most 204,800, in the order in which it pops them.
 pub fn popped<H: Host + Abort, R: Record + Send + Sync>(
     rt: &H,
     alloc: Global,
@@ -49,7 +49,7 @@ where
     let mut queue = queue;
     let size = queue.size();
     let mut records = Vec::new(alloc);
-    'popping: for _ in 0..401 {
+    'popping: for _ in 0..204801 {
         let Some(record) = queue.pop(rt, &OpenGate).expect(rt, "a pop") else {
             break;
         };

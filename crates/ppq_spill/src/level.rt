@@ -26,9 +26,9 @@ use ppq_fetch::{
 /// As many slots as the 8 have loaded blocks are drawn before the first block is read or written. With
 /// those and with the slots of the blocks that it reads it never wants another one. `workers` blocks are
 /// read ahead, and the workers of the bench merge `workers * block` records at a time, which are then
-/// written: by four workers or more, where there is room for so many jobs, on a thread of its own while
-/// the next ones are merged. Each block of the 8 that is not loaded is read once, and of the blocks that
-/// are written all but the last are full. It does not allocate.
+/// written: by four workers or more, where these are 4,096 records or more and there is room for so many
+/// jobs, on a thread of its own while the next ones are merged. Each block of the 8 that is not loaded is
+/// read once, and of the blocks that are written all but the last are full. It does not allocate.
 ///
 /// `Ok` only if no read and no write failed; a call that fails is not tried again.
 ///
@@ -191,6 +191,7 @@ where
     let slots = making.berths.len();
     if !goes_beside(
         bench.workers(),
+        lanes.batch.len(),
         lanes.jobs.len(),
         lanes.jobs.capacity(),
         slots,

@@ -22,14 +22,19 @@ use ppq_fetch::{
 // blocks a turn a device that makes its caller wait gains, and with one or two it would lose.
 const LEAST_WORKERS: u32 = 4;
 
-// Whether so many workers merge a level with a thread beside them, where there are so many jobs, room for
-// so many, and so many slots in hand, which are counted with those of the jobs.
-pub(crate) fn goes_beside(workers: u32, jobs: usize, room: usize, slots: u32) -> bool
+// How few records such a batch has. One worker takes them in some 160 microseconds; to start and join the
+// thread that writes the batch before takes 15 to 40.
+const LEAST_RECORDS: usize = 4096;
+
+// Whether so many workers merge a level with a thread beside them, where a batch has so many records, there
+// are so many jobs, room for so many, and so many slots in hand, which are counted with those of the jobs.
+pub(crate) fn goes_beside(workers: u32, batch: usize, jobs: usize, room: usize, slots: u32) -> bool
     ensures none { result ≡ true → jobs ≡ 0 }
     ensures room { result ≡ true → workers ≤ room }
     ensures slots { result ≡ true → slots < 2 ^ 32 - 1 }
 {
-    LEAST_WORKERS <= workers && jobs == 0 && (workers as usize) <= room && slots < u32::MAX
+    let pays = LEAST_WORKERS <= workers && LEAST_RECORDS <= batch;
+    pays && jobs == 0 && (workers as usize) <= room && slots < u32::MAX
 }
 
 // Merges 8 arrays into a new one, until nothing is left of them. Each batch is written on a thread of its
