@@ -198,6 +198,52 @@ module _ {X : Type 0} (level size blocks : X → ℕ) where
             read = λ exact. omega (arith, old-stored, stay, most);
           }
 
+  -- Of two eights of a level that were merged side by side, each into blocks of their own, a read or a write failed
+  pub pair-stops :
+      (block writes writes' reads reads' k j : ℕ) → writes' ≤ writes + (k + j) → (l : ℕ) (old one two others : List X) → l ≤ 7 → IsPermutation old (others ++ two ++ one) → length one ≡ 8 → length two ≡ 8 → All (λ x. level x ≡ l) one
+      → All (λ x. level x ≡ l) two → (m m' : ℕ) (new : List X) → k * block < sum_by size one + block → j * block < sum_by size two + block → writes ≤ writes' → reads' ≤ reads + (sum_by blocks one + sum_by blocks two)
+      → Stops 0 0 (account level size blocks block writes reads old m) (account level size blocks block writes' reads' new m')
+  pair-stops block writes writes' reads reads' k j more l old one two others at_most parted eight eight' levels levels' m m' new few few' stay most =
+      let a = sum_by size one in
+      let b = sum_by size two in
+      let owed : tolls level size block old ≡ tolls level size block others + (7 * ((7 - l) * b) + 8 * block) + (7 * ((7 - l) * a) + 8 * block) =
+      omega (
+        arith,
+        tolls-moved level size block old (others ++ two ++ one) parted,
+        tolls-append level size block (others ++ two) one,
+        tolls-append level size block others two,
+        tolls-level level size block l one levels,
+        tolls-level level size block l two levels',
+        ap (λ k. k * block) eight,
+        ap (λ k. k * block) eight',
+      ) in
+      let weight : hefts level size old ≡ hefts level size others + 8 * heft l + 8 * heft l =
+      omega (
+        arith,
+        hefts-moved level size old (others ++ two ++ one) parted,
+        hefts-append level size (others ++ two) one,
+        hefts-append level size others two,
+        hefts-level level size l one levels,
+        hefts-level level size l two levels',
+        ap (λ k. k * heft l) eight,
+        ap (λ k. k * heft l) eight',
+      ) in
+      let stored : blocks_of blocks old ≡ blocks_of blocks others + sum_by blocks two + sum_by blocks one =
+      omega (arith, blocks-moved blocks old (others ++ two ++ one) parted, blocks-append blocks (others ++ two) one, blocks-append blocks others two, blocks-sum blocks one, blocks-sum blocks two) in
+      record {
+        written = λ light.
+            let top : l ≡ 7 → ⊥ = λ e. (omega (arith, light, weight, ap heft e)) in
+            let below : l < 7 = omega (arith, at_most, top) in
+            let up : 7 - l ≡ 1 + (6 - l) = omega (arith, below) in
+            let step : (7 - l) * a ≡ a + (6 - l) * a = ap (λ k. k * a) up ∙ (omega arith) in
+            let step' : (7 - l) * b ≡ b + (6 - l) * b = ap (λ k. k * b) up ∙ (omega arith) in
+            let product : block * writes' ≤ block * (writes + (k + j)) = mul-le-mul_left block more in
+            let sum : block * (writes + (k + j)) ≡ block * writes + block * k + block * j = omega arith in
+            omega (arith, owed, step, step', product, sum, blocks-cost block k a few, blocks-cost block j b few');
+        stay = stay;
+        read = λ exact. omega (arith, stored, stay, most);
+      }
+
   module _ (block writes writes' reads reads' : ℕ) (none : writes' ≡ writes) where
     -- the same runs, in any order, and no block was written or read
     pub same-costs : (m : ℕ) (old new : List X) → IsPermutation old new → reads' ≤ reads → Costs 0 0 (account level size blocks block writes reads old m) (account level size blocks block writes' reads' new m)

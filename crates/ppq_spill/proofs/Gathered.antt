@@ -27,8 +27,9 @@ module _ {S R : Type 0} (level : ℕ) where
 
   -- one more stands before those that were found
   pub one_left :
-      (old now : List (External S R)) (found : ℕ) → IsPermutation old now → 8 ≤ count_level level old → found < 8 → found ≤ length now → All (HasLevel level) (drop (length now - found) now) → 0 < count_level level (take (length now - found) now)
-  one_left old now found moved enough few within levels =
+      (old now : List (External S R)) (count found : ℕ) → IsPermutation old now → count ≤ count_level level old → found < count → found ≤ length now → All (HasLevel level) (drop (length now - found) now)
+      → 0 < count_level level (take (length now - found) now)
+  one_left old now count found moved enough few within levels =
       let n = length now - found in
       omega (
         arith,

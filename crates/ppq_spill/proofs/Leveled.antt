@@ -83,7 +83,7 @@ pub record Placed {S R : Type 0} (shown : S → Shown) (width level : ℕ) (old 
   pub stock_is : now ≡ freed shown t.hand
 
 module _ {S R : Type 0} (shown : S → Shown) where
-  slots_sum : (f : Shown → ℕ) (xs : List (External S R)) → sum_by f (external_slots shown xs) ≡ sum_by (λ (a : External S R). sum_by f (slots_shown shown a.stored)) xs
+  pub slots_sum : (f : Shown → ℕ) (xs : List (External S R)) → sum_by f (external_slots shown xs) ≡ sum_by (λ (a : External S R). sum_by f (slots_shown shown a.stored)) xs
   slots_sum f [] = refl
   slots_sum f (x ∷ xs) =
       ap (sum_by f) (flat_map-cons (λ (a : External S R). slots_shown shown a.stored) x xs)

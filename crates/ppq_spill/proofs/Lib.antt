@@ -1,4 +1,5 @@
 pub use Rattle.ppq_counts.proofs as ppq_counts
+pub mod Among
 pub mod Batches
 pub mod Blocks
 pub mod Idle
@@ -24,12 +25,15 @@ pub mod Leveled
 pub mod Merges
 pub mod Mergings
 pub mod Moving
+pub mod Paired
 pub mod Parts
 pub mod Readies
 pub mod Rounds
 pub mod SameSlots
+pub mod Sides
 pub mod Standing
 pub mod Starts
+pub mod Stopped
 pub mod Storings
 pub mod Taken
 pub mod Telling

@@ -6,6 +6,7 @@ pub mod Grouping
 pub mod Leveling
 pub mod Making
 pub mod Moves
+pub mod Pairing
 pub mod Staging
 pub mod Storing
 pub mod Untold

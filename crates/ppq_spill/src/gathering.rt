@@ -7,17 +7,21 @@ ghost use Rattle.ppq_spill.specs.Leveling.{HasLevel, count_level};
 
 use ppq_fetch::{ExternalArray, Record, Slot};
 
-// Brings 8 arrays of a level to the end of a list, by exchanges. It looks at no array more than 8 times.
-pub(crate) fn gather_level<S: Slot, R: Record>(arrays: &mut Vec<ExternalArray<S, R>>, level: u32)
-    requires { 8 ≤ count_level level arrays.old.items }
+// Brings so many arrays of a level to the end of a list, by exchanges. It looks at no array more often.
+pub(crate) fn gather_level<S: Slot, R: Record>(
+    arrays: &mut Vec<ExternalArray<S, R>>,
+    level: u32,
+    count: usize,
+)
+    requires { count ≤ count_level level arrays.old.items }
     ensures moved { IsPermutation arrays.old.items arrays.new.items }
-    ensures eight { 8 ≤ length arrays.new.items }
-    ensures levels { All (HasLevel level) (drop (length arrays.new.items - 8) arrays.new.items) }
+    ensures enough { count ≤ length arrays.new.items }
+    ensures levels { All (HasLevel level) (drop (length arrays.new.items - count) arrays.new.items) }
     ensures room { vec_capacity arrays.new ≡ vec_capacity arrays.old }
 {
     let all = arrays.len();
     let mut found = 0;
-    while found < 8 {
+    while found < count {
         let place = find_level(arrays.as_slice(), level, all - found);
         found += 1;
         arrays.swap(place, all - found);

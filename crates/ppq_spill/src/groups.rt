@@ -289,7 +289,7 @@ fn give_rest<S: Slot, R: Record>(
 }
 
 // Puts buffers to the idle ones.
-fn put_back<R: Record>(idle: &mut BufList<R>, filled: BufList<R>)
+pub(crate) fn put_back<R: Record>(idle: &mut BufList<R>, filled: BufList<R>)
     requires { length idle.old + length filled < 2 ^ 32 - 1 }
     ensures { idle.new ≡ idle.old ++ filled }
 {

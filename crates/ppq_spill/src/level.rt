@@ -81,7 +81,7 @@ where
     ensures workers { bench.new.workers ≡ bench.old.workers }
     ensures bench { length bench.new.places ≡ length bench.old.places }
 {
-    gather_level(arrays, level);
+    gather_level(arrays, level, 8);
     let Some(berths) = draw_for_last(arrays, supply) else {
         return Err(StoreFault::NoFreeBlock);
     };
@@ -173,7 +173,13 @@ where
 
 // Merges 8 arrays into a new one, until nothing is left of them. Where there are workers enough, a batch
 // is written on a thread of its own while the next one is taken.
-fn merge_arrays<H: Host, S: Slot + Send + Sync, R: Record + Send + Sync, P: Supply<S, R>, G: Gate>(
+pub(crate) fn merge_arrays<
+    H: Host,
+    S: Slot + Send + Sync,
+    R: Record + Send + Sync,
+    P: Supply<S, R>,
+    G: Gate,
+>(
     crew: &Crew<H, G>,
     inputs: &mut [ExternalArray<S, R>],
     making: &mut NewArray<S, R>,

@@ -24,6 +24,7 @@ mod level;
 mod making;
 mod merging;
 mod new_array;
+mod pair;
 mod slots;
 mod store;
 mod turns;
@@ -31,5 +32,6 @@ mod writing;
 
 pub use body::PassBody;
 pub use level::merge_level;
+pub use pair::merge_pair;
 pub use ppq_counts::Counts;
 pub use store::{store_buffers, store_sorted};

@@ -7,7 +7,7 @@ use Rattle.ppq_spill.proofs.gathering.gather_level.Goals as goal
 pub find_level-place-requires-clause-some : goal.find_level-place-requires-clause-some
 find_level-place-requires-clause-some g c =
     let i = c.loop-found.invariant in
-    let left = one_left c.args.level c.args.arrays.now.items c.loop-found.arrays.items c.loop-found.found i.moved c.requires c.loop-found-test.true i.within i.levels in
+    let left = one_left c.args.level c.args.arrays.now.items c.loop-found.arrays.items c.args.count c.loop-found.found i.moved c.requires c.loop-found-test.true i.within i.levels in
     subst (λ n. 0 < count_level c.args.level (take (n - c.loop-found.found) c.as_slice.result.now)) (sym i.long) (subst (λ xs. 0 < count_level c.args.level (take (length c.loop-found.arrays.items - c.loop-found.found) xs)) (sym c.as_slice.ensures.value) left)
 
 pub loop-found-preserved : goal.loop-found-preserved

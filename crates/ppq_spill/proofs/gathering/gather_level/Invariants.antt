@@ -7,7 +7,7 @@ abbrev pub invariant-loop-found : goal.invariant-loop-found
 invariant-loop-found g l =
     record {
       moved : IsPermutation l.fn.arrays.items l.arrays.items;
-      few : l.found ≤ 8;
+      few : l.found ≤ l.count;
       long : l.all ≡ length l.arrays.items;
       within : l.found ≤ length l.arrays.items;
       levels : All (HasLevel l.level) (drop (length l.arrays.items - l.found) l.arrays.items);
@@ -15,4 +15,4 @@ invariant-loop-found g l =
     }
 
 abbrev pub decreases-loop-found : goal.decreases-loop-found
-decreases-loop-found g l = 8 - l.found
+decreases-loop-found g l = l.count - l.found
