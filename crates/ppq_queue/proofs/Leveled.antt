@@ -21,7 +21,7 @@ use Rattle.ppq_extract.specs.ppq_array.Kept.{Kept, SameSlots, all_writes}
 use Rattle.ppq_extract.specs.ppq_array.Holdings.{internal_items, internal_buffers, external_buffers, external_slots, ArrayHasSize}
 use Rattle.ppq_extract.proofs.ppq_array.Noted.{all_left, all_right}
 use Rattle.ppq_extract.specs.ppq_fetch.Fetching.{IsFitting, fronts_in, one_if_some}
-use Rattle.ppq_spill.specs.Leveling.{MayLevel, AreOneSize, LanesStay, LevelCalls, LevelTells, LevelMerged, NoneForLevel, HasLevel, count_level, records_count, held_in}
+use Rattle.ppq_spill.specs.Leveling.{MayLevel, AreOneSize, LanesStay, LevelTells, LevelMerged, NoneForLevel, HasLevel, count_level, records_count, held_in, arrays_before, arrays_after}
 use Rattle.ppq_extract.specs.ppq_array.declared.berth.DeviceBlock.{DeviceBlock}
 use Rattle.ppq_extract.specs.ppq_lane.declared.lanes.Lanes.{Lanes}
 use Rattle.ppq_spill.specs.declared.body.PassBody.{PassBody}
@@ -34,13 +34,13 @@ use Rattle.ppq_queue.proofs.Slots.{no_row_more, kept-sums, sum-stored, slots-no_
 module _ {S R : Type 0} (shown : S → Shown) where
   -- what a merge keeps, whatever it answers
   pub kept-leveled :
-      (a b : PassBody S R) (s t : Stock) (level : ℕ)
+      (a b : PassBody S R) (s t : Stock)
       → Kept s t (held_in shown a.runs.external.items a.lanes) (held_in shown b.runs.external.items b.lanes) → LevelTells shown a.runs.external.items b.runs.external.items s t
-      → LevelCalls shown level a.runs.external.items b.runs.external.items s t → LanesStay a.lanes b.lanes → a.lanes.jobs.items ≡ [] → b.runs.internal ≡ a.runs.internal → b.tree ≡ a.tree
+      → all_writes (arrays_before shown a.runs.external.items s t) ≤ all_writes (arrays_after shown b.runs.external.items s t) → LanesStay a.lanes b.lanes → a.lanes.jobs.items ≡ [] → b.runs.internal ≡ a.runs.internal → b.tree ≡ a.tree
       → vec_capacity b.runs.external ≡ vec_capacity a.runs.external
       → length t.kept + t.slot_room ≡ length s.kept + s.slot_room → t.sure_buffers + t.buffer_room ≡ s.sure_buffers + s.buffer_room → s.drawn ≡ [] → t.drawn ≡ []
       → BodyKept shown a b s t
-  kept-leveled a b s t level ks tells calls lanes none int tree ext_room home_slots home_buffers no_row no_row' =
+  kept-leveled a b s t ks tells stay lanes none int tree ext_room home_slots home_buffers no_row no_row' =
       let ea = external_slots shown a.runs.external.items in
       let eb = external_slots shown b.runs.external.items in
       let before : slots_of shown a s ++ t.drawn ≡ slots_of shown a s = no_row_more (slots_of shown a s) t.drawn no_row' in
@@ -53,7 +53,7 @@ module _ {S R : Type 0} (shown : S → Shown) where
           (λ tell. subst AllTell short' (tells.0 (subst AllTell (sym short) tell))),
           (λ tell. subst AllTell short (tells.1 (subst AllTell (sym short') tell))),
         );
-        writes = omega (arith, calls.calls.stay, ap all_writes short, ap all_writes short');
+        writes = omega (arith, stay, ap all_writes short, ap all_writes short');
         held = omega (arith, ks.buffers, ap (λ v. internal_buffers v.items) int);
         all_slots = home_slots;
         all_buffers = home_buffers;

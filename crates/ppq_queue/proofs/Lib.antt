@@ -29,4 +29,5 @@ pub mod Flushed
 pub mod Calls
 pub mod Merging
 pub mod Took
+pub mod Twice
 pub mod Ends

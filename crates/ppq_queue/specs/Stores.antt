@@ -7,6 +7,7 @@ use Rattle.ppq_heap.specs.Heaps.{Shares, items_of, share_at}
 use Rattle.ppq_extract.specs.ppq_outside.Shown.{Shown, AllTell}
 use Rattle.ppq_extract.specs.ppq_budget.Sizes.{Numbers, AreInRange, fixed_of, batch_of, pool_of}
 use Rattle.ppq_extract.specs.ppq_array.Supply.{Stock}
+use Rattle.ppq_extract.specs.ppq_array.Holdings.{external_buffers}
 use Rattle.ppq_extract.specs.ppq_array.Kept.{HasFailed, AreQuiet}
 use Rattle.ppq_extract.specs.ppq_array.declared.store_fault.StoreFault.{StoreFault}
 use Rattle.ppq_extract.specs.ppq_array.declared.store_fault.StoreFault.TheVariants.{NoFreeBlock, Device}
@@ -41,6 +42,15 @@ module _ {S R : Type 0} where
   pub record IsHalfIdle (store : Store S R) : Type 0 where
     pub few : length store.body.runs.external.items ≤ 64
     pub idle : pool_of store.sizes ≤ 2 * store.supply.sure_buffers
+
+  -- two merges of a level may be made side by side: both are due, nothing is loaded, there is a worker for each, and what the second needs
+  pub record MayMergeTwo (level : ℕ) (store : Store S R) : Type 0 where
+    pub more : 16 < count_level level store.body.runs.external.items
+    pub workers : 1 < store.sizes.workers
+    pub none_loaded : external_buffers store.body.runs.external.items ≡ 0
+    pub one : store.sources.second.workers ≡ 1
+    pub places : 8 ≤ length store.sources.second.places
+    pub batch : length store.sources.batch.items ≡ store.sizes.block
 
   -- how many records the extract buffer and the runs have
   abbrev pub stored : Store S R → ℕ

@@ -1,14 +1,15 @@
 //! Levels of runs that are merged until none has more than 8.
-ghost use Rattle.std.specs.Prelude.{◌≡◌, ◌≤◌, ◌<◌, length, IsOk, OnOk};
+ghost use Rattle.std.specs.Prelude.{◌≡◌, ◌^◌, ◌≤◌, ◌<◌, length, IsOk, OnOk, true};
+ghost use Rattle.ppq_extract.specs.ppq_array.Holdings.{external_buffers};
 ghost use Rattle.ppq_spill.specs.Leveling.{count_level};
 ghost use Rattle.ppq_queue.specs.Resting.{count_of};
-ghost use Rattle.ppq_queue.specs.Stores.{MayWork, LevelLeaves, Settles};
+ghost use Rattle.ppq_queue.specs.Stores.{MayWork, MayMergeTwo, LevelLeaves, Settles};
 
 use crate::QueueFault;
 use crate::store::Store;
-use ppq_extract::{ExternalArray, Gate, Host, Slot};
+use ppq_extract::{ExternalArray, Gate, Host, Slot, Sources};
 use ppq_heap::Record;
-use ppq_spill::merge_level;
+use ppq_spill::{merge_level, merge_pair};
 
 impl<S: Slot + Send + Sync, R: Record + Send + Sync> Store<S, R> {
     // Merges levels of runs, if there is a run.
@@ -54,9 +55,80 @@ impl<S: Slot + Send + Sync, R: Record + Send + Sync> Store<S, R> {
         ensures level { OnOk result (count_level level self.new.body.runs.external.items ≤ 8) }
     {
         while count_at(&self.body.runs.external, level) > 8 {
-            self.merge_once(rt, level, gate)?;
+            self.merge_some(rt, level, gate)?;
         }
         Ok(())
+    }
+
+    // Merges runs of a level: 16 of them where two merges can be made side by side, and else 8.
+    fn merge_some<H: Host, G: Gate>(
+        &mut self,
+        rt: &H,
+        level: u32,
+        gate: &G,
+    ) -> Result<(), QueueFault>
+    where
+        H::Dir: Send,
+        requires works { MayWork S.shown R.Ord.cmp R.record_of R.WIDTH self.old }
+        requires level { level ≤ 7 }
+        requires more { 8 < count_level level self.old.body.runs.external.items }
+        ensures leaves { LevelLeaves S.shown R.Ord.cmp R.record_of R.WIDTH level self.old self.new result }
+        ensures fewer { OnOk result (length self.new.body.runs.external.items < length self.old.body.runs.external.items) }
+    {
+        if self.may_pair(level) {
+            return self.merge_twice(rt, level, gate);
+        }
+        self.merge_once(rt, level, gate)
+    }
+
+    // Whether two merges of a level can be made side by side: both are due, no block is loaded, there is a
+    // worker for each, and the second has a bench and a batch.
+    fn may_pair(&self, level: u32) -> bool
+        requires works { MayWork S.shown R.Ord.cmp R.record_of R.WIDTH self.now }
+        ensures { result ≡ true → MayMergeTwo level self.now }
+    {
+        let arrays = self.body.runs.external.as_slice();
+        let two = self.sizes.workers() > 1 && count_at(arrays, level) > 16;
+        let idle = two && count_loaded(arrays) == 0;
+        let Sources { second, batch, .. } = &self.sources;
+        let able = second.workers() == 1 && second.runs() >= 8;
+        idle && able && batch.len() == self.sizes.block() as usize
+    }
+
+    // Merges 16 runs of a level, 8 beside 8.
+    fn merge_twice<H: Host, G: Gate>(
+        &mut self,
+        rt: &H,
+        level: u32,
+        gate: &G,
+    ) -> Result<(), QueueFault>
+    where
+        H::Dir: Send,
+        requires works { MayWork S.shown R.Ord.cmp R.record_of R.WIDTH self.old }
+        requires level { level ≤ 7 }
+        requires pair { MayMergeTwo level self.old }
+        ensures leaves { LevelLeaves S.shown R.Ord.cmp R.record_of R.WIDTH level self.old self.new result }
+        ensures fewer { OnOk result (length self.new.body.runs.external.items < length self.old.body.runs.external.items) }
+    {
+        let Sources {
+            bench,
+            second,
+            batch,
+            ..
+        } = &mut self.sources;
+        let answer = merge_pair(
+            rt,
+            &mut self.body.runs.external,
+            level,
+            &mut self.supply,
+            &mut self.body.lanes,
+            bench,
+            second,
+            batch,
+            gate,
+        );
+        let _free = self.supply.free_slots();
+        answer
     }
 
     // Merges 8 runs of a level.
@@ -97,6 +169,18 @@ fn count_at<S: Slot, R: Record>(arrays: &[ExternalArray<S, R>], level: u32) -> u
         if array.level() == level {
             count += 1;
         }
+    }
+    count
+}
+
+// How many buffers hold loaded blocks of runs.
+fn count_loaded<S: Slot, R: Record>(arrays: &[ExternalArray<S, R>]) -> u64
+    requires { external_buffers arrays.now < 2 ^ 32 }
+    ensures { result ≡ external_buffers arrays.now }
+{
+    let mut count: u64 = 0;
+    for array in arrays {
+        count += u64::from(array.buffers());
     }
     count
 }

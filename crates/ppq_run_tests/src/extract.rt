@@ -83,6 +83,8 @@ fn three_runs<H: Host + Abort>(rt: &H, alloc: Global, broken: bool) -> World
         sources: Sources {
             bench: Bench::new(alloc, 2, 3).expect(rt, "memory"),
             places: vec![in alloc; 0; 3].expect(rt, "memory"),
+            second: Bench::new(alloc, 1, 8).expect(rt, "memory"),
+            batch: Vec::new(alloc),
         },
         owner: OwnerLists::new(2, 1, 2),
     }

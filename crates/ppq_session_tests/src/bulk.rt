@@ -4,7 +4,7 @@ ghost use Rattle.ppq_session.specs.ppq_pass.Passed.{IsOf};
 ghost use Rattle.ppq_session.specs.BulkSession.{keys_of};
 
 use crate::threads::push_hundreds;
-use ppq_outside::{MemSlot, OpenGate};
+use ppq_outside::{Gate, MemSlot, OpenGate};
 use ppq_session::{
     Full, Host, Line, Pair, Pass, Queue, QueueFault, SessionEnd, Shared, are_going, bulk_begin,
     bulk_end, push_lines,
@@ -51,12 +51,29 @@ where
     requires { All (λ line. line.pass < 2) lines.now }
     ensures { result.0.sizes ≡ queue.sizes }
 {
+    ended_by(rt, alloc, queue, adding, lines, &OpenGate)
+}
+
+/// The same, where the workers of the session's end enter this gate.
+pub fn ended_by<H: Host + Abort, G: Gate>(
+    rt: &H,
+    alloc: Global,
+    queue: Queue<MemSlot, Pair>,
+    adding: Adding,
+    lines: &[Line<Pair>],
+    gate: &G,
+) -> (Queue<MemSlot, Pair>, SessionEnd, Done)
+where
+    H::Dir: Send,
+    requires { All (λ line. line.pass < 2) lines.now }
+    ensures { result.0.sizes ≡ queue.sizes }
+{
     let (bulk, shared, mut passes) = match bulk_begin(rt, alloc, queue, &OpenGate) {
         Ok(begun) => begun,
         Err(_) => panic!(rt; "no session began"),
     };
     let done = add(rt, &shared, adding, lines, passes.as_mut_slice());
-    let (queue, end) = bulk_end(rt, bulk, shared, passes, &OpenGate);
+    let (queue, end) = bulk_end(rt, bulk, shared, passes, gate);
     (queue, end, done)
 }
 

@@ -4,6 +4,7 @@ ghost use Rattle.std.specs.Prelude.{◌≡◌, IfOk};
 
 use crate::bulk::{Adding, Done as BulkDone, in_session as in_bulk};
 use crate::limited::{Added, Done, Giving, in_session};
+use crate::session::lines_of;
 use ppq_outside::{MemRack, MemSlot, OpenGate};
 use ppq_session::{Host, Pair, Queue, QueueFault, SessionEnd, Sizes};
 use ppq_testkit::{opened, pair, pushed};
@@ -91,4 +92,27 @@ where
 #[test]
 fn of_a_front_and_a_pass_that_met_a_fault_the_pass_is_named(rt: HostRuntime) -> Result<(), Fail> {
     front_and_pass(&rt, rt.alloc())
+}
+
+// Two passes store 98 runs of a block, and then three of these blocks cannot be read. At least one of them is read
+// while levels are merged, by two merges at once.
+fn merges_in_vain<H: Host + Abort>(rt: &H, alloc: Global) -> Result<(), Fail>
+where
+    H::Dir: Send,
+{
+    let mut rack = MemRack::failing(vec![in alloc; (30, 2), (31, 2), (32, 2)]?, Vec::new(alloc));
+    let queue = opened(rt, alloc, &mut rack, Sizes::new(2, 2, 1, 472, 300))?;
+    let lines = lines_of(rt, alloc, 200);
+    let (queue, end, done) = in_bulk(rt, alloc, queue, Adding::Lines, lines.as_slice());
+    let named = match end {
+        SessionEnd::Stopped(QueueFault::Device { number }) => (30..33).contains(&number),
+        _ => false,
+    };
+    assert!(rt; named & done.taken & (queue.size() == 200) & (queue.close().len() == 300));
+    Ok(())
+}
+
+#[test]
+fn a_block_that_fails_while_a_level_is_merged_twice_is_named(rt: HostRuntime) -> Result<(), Fail> {
+    merges_in_vain(&rt, rt.alloc())
 }

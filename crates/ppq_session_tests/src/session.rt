@@ -2,14 +2,14 @@
 ghost use Rattle.std.specs.Prelude.{◌≡◌, ◌<◌, All, IfOk};
 ghost use Rattle.ppq_session.specs.Dealing.{IsGoing};
 
-use crate::bulk::{Adding, Done, in_session};
+use crate::bulk::{Adding, Done, ended_by, in_session};
 use crate::records::{are_keys, are_twins, ascend, popped, queue_of};
 use ppq_array::Berth;
 use ppq_outside::{MemSlot, OpenGate};
 use ppq_session::{
     Host, Line, Out, Pair, PoolBuf, Queue, Session, SessionEnd, Sizes, Slot, sessions_are_histories,
 };
-use ppq_testkit::pair;
+use ppq_testkit::{CrowdGate, pair};
 use std::alloc::Global;
 use std::process::Abort;
 use std::test::Fail;
@@ -25,8 +25,8 @@ fn falling<H: Abort>(rt: &H, alloc: Global, count: u64) -> Vec<Pair> {
     records
 }
 
-// So many lines for two passes by turns, with the keys from 0 on, the last one first.
-fn lines_of<H: Abort>(rt: &H, alloc: Global, count: u64) -> Vec<Line<Pair>>
+/// So many lines for two passes by turns, with the keys from 0 on, the last one first.
+pub fn lines_of<H: Abort>(rt: &H, alloc: Global, count: u64) -> Vec<Line<Pair>>
     ensures { All (λ line. line.pass < 2) result.items }
 {
     let mut lines = Vec::new(alloc);
@@ -175,6 +175,27 @@ fn passes_draw_the_blocks_in_order_and_write_each_once(rt: HostRuntime) -> Resul
     let slots = blocks_after(&rt, rt.alloc())?;
     assert!(rt; (slots.len() == 200) & are_written_once(slots.as_slice(), 4));
     Ok(())
+}
+
+// A session whose two passes store 98 runs of a block, since no buffer is left for the pool. At its end the gate holds
+// each worker until three have entered, and a merge of a level alone has two.
+fn merges_two_at_once<H: Host + Abort>(rt: &H, alloc: Global) -> Result<(), Fail>
+where
+    H::Dir: Send,
+{
+    let sizes = Sizes::new(2, 2, 1, 472, 300).expect(rt, "sizes in range");
+    let queue = queue_of(rt, alloc, sizes, Vec::new(alloc))?;
+    let lines = lines_of(rt, alloc, 200);
+    let gate = CrowdGate::new(3);
+    let (queue, end, done) = ended_by(rt, alloc, queue, Adding::Lines, lines.as_slice(), &gate);
+    assert!(rt; done.taken & (end == SessionEnd::Whole) & gate.is_passed());
+    assert!(rt; are_keys(popped(rt, alloc, queue).as_slice(), 0, 200));
+    Ok(())
+}
+
+#[test]
+fn the_end_of_a_session_merges_a_level_twice_at_once(rt: HostRuntime) -> Result<(), Fail> {
+    merges_two_at_once(&rt, rt.alloc())
 }
 
 // A session refuses some of its lines, and the queue has the records of all others then.

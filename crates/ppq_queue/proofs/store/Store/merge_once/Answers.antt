@@ -47,7 +47,7 @@ returns g c =
     let t = m.new.supply in
     let src = record x.sources { bench = m.new.bench } in
     let no_row = c.free_slots-free.ensures.no_row in
-    let kept = kept-leveled shown a b s t level e.kept e.tells e.calls e.lanes rest.no_job refl refl e.rooms (ap (λ h. h.0) home) (ap (λ h. h.1) home) works.runs.no_row no_row in
+    let kept = kept-leveled shown a b s t e.kept e.tells e.calls.calls.stay e.lanes rest.no_job refl refl e.rooms (ap (λ h. h.0) home) (ap (λ h. h.1) home) works.runs.no_row no_row in
     let some = count_some shown width s.block a.runs.internal.items a.runs.external.items rest.internal rest.external in
     let rests : SourcesRest x.sources src = record { workers = e.workers; bench = e.bench; places = refl } in
     let holds = ok-map2 m.result

@@ -1,7 +1,7 @@
 use Rattle.std.proofs.Common.{◌≡◌, ◌++◌, length, take, drop, sym, ap, ◌∙◌, subst, arith}
 use Rattle.std.proofs.lemmas.List.{take-append-le, take_all}
 use Rattle.ppq_session.specs.BulkSession.{AreOf, keys_of}
-use Rattle.ppq_session_tests.proofs.bulk.in_session.Goals as goal
+use Rattle.ppq_session_tests.proofs.bulk.ended_by.Goals as goal
 
 -- the passes that were lent are back in their places
 pub bulk_end-queue-requires-clause-of : goal.bulk_end-queue-requires-clause-of
