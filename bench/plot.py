@@ -34,15 +34,13 @@ def measured(lines):
 def points(lines):
     """For each program the nanoseconds a record by the millions of records."""
     found, rows = {name: {} for name in COLOURS}, set()
-    for line in lines:
-        cells = [cell.strip() for cell in line.split("|")[1:-1]]
-        if len(cells) != 11:
-            continue
+    heads, _, *body = [[cell.strip() for cell in line.split("|")[1:-1]] for line in lines if line.startswith("|")]
+    for cells in body:
         if (row := (cells[0], cells[1])) in rows:
             sys.exit(f"bench/plot.py: two rows of {row[1]} for {row[0]}")
         rows.add(row)
         if cells[0].endswith("M drained") and cells[1] in found:
-            found[cells[1]][int(cells[0].split("M")[0])] = float(cells[4])
+            found[cells[1]][int(cells[0].split("M")[0])] = float(cells[heads.index("ns")])
     return {name: times for name, times in found.items() if times}
 
 

@@ -1,14 +1,21 @@
 //! Times the library's own calls on this machine.
 //!
-//! With no argument it makes small merges and says whether each gives what a sort gives, and holds some
-//! records in a queue by one worker and by four, so that it prints the same on every machine. With the
+//! With no argument it makes small merges and says whether each gives what a sort gives, and executes the loads
+//! below with some records by one worker and by four, so that it prints the same on every machine. With the
 //! argument `merge` it times large ones: 8, 64 and 512 runs of pairs from memory, by one worker and by
 //! four. `bench/merge` runs it beside a loser tree in C++ over the same records.
 //!
-//! With the arguments `hold SEED COUNT WORKERS DEVICE` it holds so many records in a queue over a device
-//! file, and COUNT times removes the smallest and adds one with a greater key. It prints the count, the first
-//! and the last of what was removed and the sum of the keys, and no time: `bench/device` runs it beside
-//! other queues.
+//! With the arguments `LOAD SEED COUNT WORKERS DEVICE` it executes a load over a device file. It prints the
+//! count, the first and the last of what was removed and the sum of the keys, and no time: `bench/device` runs it
+//! beside other queues. The loads are
+//!
+//! - `hold`: so many records are held, and COUNT times the smallest is removed and one with a greater key is
+//!   added. With the argument `longest` after these a further line says how many microseconds the longest push or
+//!   pop took;
+//! - `fill`: the records of `gen SEED COUNT` are added in a bulk session, by threads of the program's own, and
+//!   then all are removed by bulk pops;
+//! - `below`: they are added so; in a limit session those with keys below 2^63 are removed, while threads add for
+//!   each of them one whose key is greater by 2^63; and then all are removed, one by one.
 //!
 //! With the argument `lying` it executes `gen 7 4000000` and `drain 4000000` over a device in memory, and over
 //! one that gives back other bytes than it was given, and prints how many nanoseconds each took. With the
@@ -16,23 +23,33 @@
 //! and what they add up to. `bench/lying` runs both.
 #![tactic(auto)]
 
+mod device;
 mod held;
 mod load;
 mod lying;
 mod merges;
+mod removed;
+mod sessions;
 mod sums;
+mod task;
+mod watch;
 
-use held::{Removed, Shape, Task, hold};
+use device::Shape;
+use held::hold;
 use load::{Load, out_of_memory};
 use lying::honest_and_lying;
 use merges::{as_sorted, picoseconds};
 use ppq_device::Host;
+use removed::Removed;
+use sessions::{fill_and_drain, take_below_and_drain};
 use std::alloc::Global;
 use std::io::ErrorKind;
 use std::rt::Clock;
 use std::thread::Threads;
 use std::{env, io};
 use sums::picoseconds_of_sums;
+use task::Task;
+use watch::Watch;
 
 // The numbers of runs.
 const RUNS: [u32; 3] = [8, 64, 512];
@@ -60,8 +77,8 @@ const SMALL: Shape = Shape {
     memory: 16384,
 };
 
-// How many records a small queue holds.
-const HELD: u32 = 50000;
+// How many records a small load has.
+const SOME: u32 = 50000;
 
 // The number of the generator that is in front of the first of them.
 const SEED: u64 = 7;
@@ -151,40 +168,85 @@ fn print_removed<R: Print>(rt: &R, removed: Removed) -> io::Result<()> {
     Ok(())
 }
 
-// Makes the small merges and holds the records, and prints of both what is the same on every machine.
-fn check<H: Host>(rt: &H, alloc: Global) -> io::Result<()>
+// Executes each load with some records, and prints what was removed.
+fn check_loads<H: Host + Clock>(rt: &H, alloc: Global, workers: u32) -> io::Result<()>
+where
+    H::Dir: Send,
+{
+    let task = Task {
+        seed: SEED,
+        count: SOME,
+        workers,
+    };
+    let held = hold(rt, alloc, SMALL, task, DEVICE, &mut Watch::new(false))?;
+    print_removed(rt, held)?;
+    print_removed(rt, fill_and_drain(rt, alloc, SMALL, task, DEVICE)?)?;
+    print_removed(rt, take_below_and_drain(rt, alloc, SMALL, task, DEVICE)?)
+}
+
+// Makes the small merges and executes the small loads, and prints of both what is the same on every machine.
+fn check<H: Host + Clock>(rt: &H, alloc: Global) -> io::Result<()>
 where
     H::Dir: Send,
 {
     check_merges(rt, alloc)?;
     for workers in WORKERS {
-        let task = Task {
-            seed: SEED,
-            count: HELD,
-            workers,
-        };
-        print_removed(rt, hold(rt, alloc, SMALL, task, DEVICE)?)?;
+        check_loads(rt, alloc, workers)?;
     }
     Ok(())
 }
 
-// Holds records as the arguments after `hold` say, and prints what was removed.
-fn hold_as_said<H: Host>(rt: &H, alloc: Global, words: &[String]) -> io::Result<()>
-where
-    H::Dir: Send,
-{
-    let [seed, count, workers, device] = words else {
-        return Err(bad_argument());
-    };
+// A load of so many records of a seed by so many workers, as these arguments say.
+fn task_of(seed: &str, count: &str, workers: &str) -> io::Result<Task> {
     let seed = seed.parse().map_err(|_| bad_argument())?;
     let count = count.parse().map_err(|_| bad_argument())?;
     let workers = workers.parse().map_err(|_| bad_argument())?;
-    let task = Task {
+    Ok(Task {
         seed,
         count,
         workers,
+    })
+}
+
+// Executes a load as these arguments say, and prints what was removed, and how long the longest call took, if any was
+// timed.
+fn execute<H: Host + Clock>(
+    rt: &H,
+    alloc: Global,
+    words: &[String],
+    watch: &mut Watch,
+) -> io::Result<()>
+where
+    H::Dir: Send,
+{
+    let [load, seed, count, workers, device] = words else {
+        return Err(bad_argument());
     };
-    print_removed(rt, hold(rt, alloc, LARGE, task, device)?)
+    let task = task_of(seed, count, workers)?;
+    let removed = match load.as_str() {
+        "hold" => hold(rt, alloc, LARGE, task, device, watch)?,
+        "fill" => fill_and_drain(rt, alloc, LARGE, task, device)?,
+        "below" => take_below_and_drain(rt, alloc, LARGE, task, device)?,
+        _ => return Err(bad_argument()),
+    };
+    print_removed(rt, removed)?;
+    if let Some(longest) = watch.longest() {
+        println!(rt; "longest {longest}")?;
+    }
+    Ok(())
+}
+
+// Executes a load as the arguments say, with a watch that is on if the last one is `longest`.
+fn execute_as_said<H: Host + Clock>(rt: &H, alloc: Global, words: &[String]) -> io::Result<()>
+where
+    H::Dir: Send,
+{
+    match words.split_last() {
+        Some((last, words)) if last.as_str() == "longest" => {
+            execute(rt, alloc, words, &mut Watch::new(true))
+        }
+        _ => execute(rt, alloc, words, &mut Watch::new(false)),
+    }
 }
 
 // Prints how many nanoseconds a script takes over a device that keeps what it is given, and over one that does not.
@@ -209,9 +271,8 @@ fn main(rt: HostRuntime) -> io::Result<()> {
     match words.first() {
         None => check(&rt, rt.alloc()),
         Some(word) if word.as_str() == "merge" => time(&rt, rt.alloc()),
-        Some(word) if word.as_str() == "hold" => hold_as_said(&rt, rt.alloc(), &words[1..]),
         Some(word) if word.as_str() == "lying" => print_lying(&rt, rt.alloc()),
         Some(word) if word.as_str() == "sum" => print_sums(&rt, rt.alloc()),
-        Some(_) => Err(bad_argument()),
+        Some(_) => execute_as_said(&rt, rt.alloc(), &words),
     }
 }
