@@ -14,6 +14,15 @@ fn heap_of(rt: &impl Abort, alloc: Global, room: u32, keys: &[u64]) -> Insertion
     heap
 }
 
+// Whether the heap takes the pairs with these keys behind its own.
+fn appends(heap: &mut InsertionHeap<Pair>, keys: &[u64]) -> bool {
+    let mut has_room = true;
+    for key in keys {
+        has_room &= heap.try_append(pair(*key)).is_ok();
+    }
+    has_room
+}
+
 // Whether pops give the pairs with these keys in turn, and then none.
 fn gives(heap: &mut InsertionHeap<Pair>, keys: &[u64]) -> bool {
     let mut is_same = true;
@@ -46,6 +55,27 @@ fn a_sorted_heap_gives_its_front_away_and_is_used_on(rt: HostRuntime) {
     assert!(rt; heap.len() == 5);
     heap.take_front(2);
     assert!(rt; heap.try_push(pair(5)).is_ok() & gives(&mut heap, &[3, 4, 5, 6]));
+}
+
+#[test]
+fn appended_records_are_popped_in_order(rt: HostRuntime) {
+    let mut heap = heap_of(&rt, rt.alloc(), 5, &[4, 6]);
+    assert!(rt; appends(&mut heap, &[5, 2]) & (heap.min() == Some(pair(2))));
+    assert!(rt; heap.as_slice() == [pair(4), pair(6), pair(5), pair(2)].as_slice());
+    assert!(rt; heap.pop() == Some(pair(2)));
+    assert!(rt; appends(&mut heap, &[3]) & heap.try_push(pair(1)).is_ok());
+    assert!(rt; heap.try_append(pair(7)) == Err(pair(7)));
+    assert!(rt; gives(&mut heap, &[1, 3, 4, 5, 6]));
+}
+
+#[test]
+fn a_heap_is_filled_by_appends_and_sorted(rt: HostRuntime) {
+    let mut heap = heap_of(&rt, rt.alloc(), 4, &[]);
+    assert!(rt; appends(&mut heap, &[3, 1, 4, 1]) & refuses(&mut heap, 5));
+    heap.sort_in_place();
+    assert!(rt; heap.as_slice() == [pair(1), pair(1), pair(3), pair(4)].as_slice());
+    heap.take_front(1);
+    assert!(rt; appends(&mut heap, &[0]) & gives(&mut heap, &[0, 1, 3, 4]));
 }
 
 #[test]

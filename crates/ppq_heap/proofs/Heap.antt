@@ -1,14 +1,17 @@
 -- The order of a binary heap: how a hole moves through it, and that its root is the smallest.
-use Rattle.std.proofs.Common.{◌≡◌, ◌≢◌, ℕ, zero, suc, ◌+◌, ◌-◌, ◌/◌, ◌<◌, ◌≤◌, Bool, true, cond, List, [], ◌∷◌, ◌++◌, length, get_or, set, take, drop, Some, None, refl, sym, ap, ap₂, subst, inl, inr, ◌∙◌, arith}
-use Rattle.std.specs.Prelude.{count_by, slice_get}
+use Rattle.std.proofs.Common.{◌≡◌, ◌≢◌, ℕ, zero, suc, ◌+◌, ◌-◌, ◌/◌, ◌<◌, ◌≤◌, Bool, true, cond, List, [], ◌∷◌, ◌++◌, length, get_or, set, take, drop, Option, Some, None, false, ◌↔◌, refl, sym, ap, ap₂, subst, inl, inr, ◌∙◌, arith}
+use Rattle.std.specs.Prelude.{count_by, slice_get, IsNone}
 use Rattle.std.specs.List.{AllByRecursion as Each}
-use Rattle.std.specs.Cmp.{IsStrictWeakOrder}
+use Rattle.std.specs.Cmp.{IsStrictWeakOrder, IsTotalOrder}
+use Rattle.std.specs.declared.cmp.Ordering.{Ordering}
+use Rattle.std.specs.declared.cmp.Ordering.TheVariants.{Equal}
 use Rattle.std.proofs.lemmas.Bool.{cases_lt, cases_eq}
-use Rattle.std.proofs.lemmas.List.{get_or_read, get_or-set_same, get_or-set_other, length-set, length-append, get_or_append_left}
+use Rattle.std.proofs.lemmas.List.{get_or_read, get_or-set_same, get_or-set_other, length-set, length-append, get_or_append_left, get_or-take, length-take, length-take-le, take_at, take-append-drop}
 use Rattle.std.proofs.lemmas.List.Sums.{sum_by-set}
 use Rattle.ppq_tree.specs.ppq_record.Order.{Le, Rising, in_order, put_in_order}
-use Rattle.ppq_tree.specs.ppq_record.Bag.{IsSameBag, first_of}
-use Rattle.ppq_tree.proofs.ppq_record.Order.{Le-trans, Le-refl, front_is, IsSameBag-append_comm}
+use Rattle.ppq_tree.specs.ppq_record.Bag.{IsSameBag, first_of, least}
+use Rattle.ppq_tree.proofs.ppq_record.Order.{Le-trans, Le-refl, front_is, IsSameBag-length, IsSameBag-append}
+use Rattle.ppq_tree.proofs.ppq_record.Fronts.{ascending-same_bag}
 use Rattle.ppq_heap.specs.Heap.{IsMinHeap, IsHeapRound}
 
 -- of what stays in a multiset
@@ -26,16 +29,6 @@ module _ {X : Type 0} where
       let one = count_by-set p (set xs a v) b r r (omega arith) in
       let same : ◌≡◌ {A = ℕ} (cond (p (get_or (set xs a v) b r)) 1 0) (cond (p v) 1 0) = ap (λ x. cond (p x) 1 0) there in
       omega (arith, one, same, count_by-set p xs a v r la, count_by-set p xs a r r la)
-
-  set_pushed : (xs : List X) (r : X) → set (xs ++ r ∷ []) (length xs) r ≡ xs ++ r ∷ []
-  set_pushed [] r = refl
-  set_pushed (x ∷ xs) r = ap (λ l. x ∷ l) (set_pushed xs r)
-
-  -- a record behind the others, and then written there again
-  pub pushed_bag : (xs ys : List X) (place : ℕ) (r : X) → ys ≡ xs ++ r ∷ [] → length xs ≡ place → IsSameBag (set ys place r) (r ∷ xs)
-  pushed_bag xs ys place r e f p =
-      let same : set ys place r ≡ xs ++ r ∷ [] = (λ i. set (e i) (sym f i) r) ∙ set_pushed xs r in
-      ap (count_by p) same ∙ IsSameBag-append_comm xs (r ∷ []) p
 
 -- r is not after what is right below the hole
 abbrev pub NotAfterBelow : {X : Type 0} → (X → X → Bool) → List X → ℕ → X → Type 0
@@ -57,13 +50,15 @@ module _ {X : Type 0} (lt : X → X → Bool) where
   unfolding IsMinHeap
   heap_of_few xs l k d z m = absurd (omega arith)
 
-  pub heap_pushed : (xs : List X) (r : X) → IsMinHeap lt xs → IsHeapRound lt (xs ++ r ∷ []) (length xs)
+  -- the last record stands behind a heap
+  pub heap_but_last : (xs : List X) (place : ℕ) → length xs ≡ place + 1 → IsMinHeap lt (take place xs) → IsHeapRound lt xs place
   unfolding IsMinHeap
-  heap_pushed xs r h =
-      let long = length-append xs (r ∷ []) in
+  heap_but_last xs place whole h =
+      let long = length-take place xs in
       record {
         others = λ k d z l n _.
-            le_of _ _ _ _ (get_or_append_left xs (r ∷ []) d ((k - 1) / 2) (omega arith)) (get_or_append_left xs (r ∷ []) d k (omega arith)) (h k d z (omega arith));
+            let m : k < place = omega arith in
+            le_of _ _ _ _ (sym (get_or-take place xs ((k - 1) / 2) d (omega arith))) (sym (get_or-take place xs k d m)) (h k d z (omega arith));
         across = λ k d z l e _. absurd (omega arith);
       }
 
@@ -72,6 +67,9 @@ module _ {X : Type 0} (lt : X → X → Bool) where
   heap_without_last xs ys h k d z l =
       let long = length-append xs ys in
       le_of _ _ _ _ (sym (get_or_append_left xs ys d ((k - 1) / 2) (omega arith))) (sym (get_or_append_left xs ys d k l)) (h k d z (omega arith))
+
+  pub heap_taken : (n : ℕ) (xs : List X) → IsMinHeap lt xs → IsMinHeap lt (take n xs)
+  heap_taken n xs h = heap_without_last (take n xs) (drop n xs) (subst (IsMinHeap lt) (sym (take-append-drop n xs)) h)
 
   pub heap_round_root : (xs : List X) → IsMinHeap lt xs → IsHeapRound lt xs 0
   unfolding IsMinHeap
@@ -108,6 +106,17 @@ module _ {X : Type 0} (lt : X → X → Bool) where
   -- so is what follows its first records
   pub heap_dropped : (n : ℕ) (xs : List X) → Rising lt xs → IsMinHeap lt (drop n xs)
   heap_dropped n xs r = heap_rising (drop n xs) (Rising-drop n xs r)
+
+-- the first n records were put into another order: the others are behind them as they were
+module _ {X : Type 0} (xs ys : List X) (n : ℕ) (long : n ≤ length xs) (same : IsSameBag ys (take n xs)) where
+  front-length : length ys ≡ n
+  front-length = IsSameBag-length ys (take n xs) same ∙ length-take-le n xs long
+
+  pub take-front : take n (ys ++ drop n xs) ≡ ys
+  take-front = take_at ys (drop n xs) n front-length
+
+  pub bag-front : IsSameBag (ys ++ drop n xs) xs
+  bag-front p = IsSameBag-append ys (take n xs) (drop n xs) (drop n xs) same (λ q. refl) p ∙ ap (count_by p) (take-append-drop n xs)
 
 module _ {X : Type 0} (lt : X → X → Bool) (o : IsStrictWeakOrder lt) where
   -- the hole rises: its parent p, with the record v, comes down into it
@@ -224,3 +233,36 @@ module _ {X : Type 0} (lt : X → X → Bool) where
   pub least_of_none : (xs : List X) → xs ≡ [] → None ≡ first_of (take 1 (in_order lt xs))
   unfolding in_order
   least_of_none xs e = sym (ap (λ l. first_of (take 1 (in_order lt l))) e)
+
+-- there is none only of no records
+module _ {X : Type 0} (lt : X → X → Bool) where
+  has_least : (x : X) (xs : List X) → None ≡ first_of (take 1 (put_in_order lt x xs)) → ⊥
+  unfolding put_in_order
+  has_least x [] e = absurd (cc)
+  has_least x (y ∷ xs) e = chosen (lt y x) e
+    where
+      chosen : (b : Bool) → None ≡ first_of (take 1 (cond b (y ∷ put_in_order lt x xs) (x ∷ y ∷ xs))) → ⊥
+      chosen true h = absurd (cc)
+      chosen false h = absurd (cc)
+
+  pub none_is_least : (xs : List X) (r : Option X) → r ≡ first_of (take 1 (in_order lt xs)) → IsNone r ↔ (xs ≡ [])
+  unfolding in_order
+  none_is_least [] None e = (λ _. refl, λ _. refl)
+  none_is_least [] (Some r) e = absurd (cc)
+  none_is_least (x ∷ xs) None e = absurd (has_least x (in_order lt xs) e)
+  none_is_least (x ∷ xs) (Some r) e = (λ h. absurd (cc), λ h. absurd (cc))
+
+-- one multiset in two orders
+module _ {X : Type 0} (xs ys : List X) (bag : IsSameBag xs ys) where
+  pub none-same_bag : xs ≡ [] → ys ≡ []
+  none-same_bag e = nothing ys (sym (IsSameBag-length xs ys bag) ∙ ap length e)
+    where
+      nothing : (l : List X) → length l ≡ 0 → l ≡ []
+      nothing [] h = refl
+      nothing (x ∷ l) h = absurd (omega arith)
+
+  pub some-same_bag : 0 < length xs → ys ≢ []
+  some-same_bag l e = let long = IsSameBag-length xs ys bag in let none : length ys ≡ 0 = ap length e in omega arith
+
+  pub least-same_bag : {cmp : X → X → Ordering} → IsTotalOrder cmp → ((x y : X) → cmp x y ≡ Equal → x ≡ y) → least cmp xs ≡ least cmp ys
+  least-same_bag o same = ap (λ l. first_of (take 1 l)) (ascending-same_bag o same xs ys bag)

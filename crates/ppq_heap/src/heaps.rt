@@ -180,7 +180,7 @@ impl<R: Record> Heaps<R> {
 
     /// Puts heaps together, at least one, all with the same room, with a tree of as many leaves, which get
     /// the heaps' smallest records anew. It takes no memory and costs a match on each level of the tree for
-    /// each heap.
+    /// each heap, and one comparison for each record that was appended to a heap and is not in its place yet.
     pub fn from_parts(heaps: Vec<InsertionHeap<R>>, tree: MinTree<R>) -> Self
         requires some { 0 < length heaps.items }
         requires caps { All (λ heap. heap.cap ≡ cap_of heaps.items) heaps.items }

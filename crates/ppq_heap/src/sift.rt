@@ -4,7 +4,7 @@
 //! that a step writes one place and not two. The way down goes to a leaf without a look at the
 //! record that is to be put, which then rises: about one comparison a level, as std's `BinaryHeap`
 //! does it.
-ghost use Rattle.std.specs.Prelude.{◌≡◌, ◌≤◌, ◌<◌, ◌+◌, ◌-◌, ◌*◌, ◌/◌, ◌∷◌, Some, length, slice_get, slice_set};
+ghost use Rattle.std.specs.Prelude.{◌≡◌, ◌≤◌, ◌<◌, ◌+◌, ◌-◌, ◌*◌, ◌/◌, ◌∷◌, Some, length, slice_get, slice_set, take};
 ghost use Rattle.ppq_tree.specs.ppq_record.Order.{is_before};
 ghost use Rattle.ppq_tree.specs.ppq_record.Bag.{IsSameBag};
 ghost use Rattle.ppq_heap.specs.Heap.{IsMinHeap, IsHeapRound, IsLesserChild};
@@ -32,6 +32,32 @@ pub(crate) fn rise<R: Record>(items: &mut [R], from: usize, item: R)
         hole = parent;
     }
     items[hole] = item;
+}
+
+// Puts the last record into its place in the heap of the others.
+#[inline]
+fn rise_last<R: Record>(items: &mut [R])
+    requires some { 0 < length items.old }
+    requires heap { IsMinHeap (is_before R.Ord.cmp) (take (length items.old - 1) items.old) }
+    ensures heap { IsMinHeap (is_before R.Ord.cmp) items.new }
+    ensures bag { IsSameBag items.new items.old }
+{
+    let place = items.len() - 1;
+    let item = items[place];
+    rise(items, place, item);
+}
+
+// Puts each record behind a heap into its place in it, so that all of them are a heap.
+#[inline]
+pub(crate) fn rise_all<R: Record>(items: &mut [R], heaped: usize)
+    requires within { heaped ≤ length items.old }
+    requires heap { IsMinHeap (is_before R.Ord.cmp) (take heaped items.old) }
+    ensures heap { IsMinHeap (is_before R.Ord.cmp) items.new }
+    ensures bag { IsSameBag items.new items.old }
+{
+    for place in heaped..items.len() {
+        rise_last(&mut items[..place + 1]);
+    }
 }
 
 // Sinks the hole at the root of a heap to a leaf, whose place it gives. At each level the lesser

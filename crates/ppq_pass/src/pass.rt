@@ -20,7 +20,7 @@ use std::marker::Model;
 
 /// A pass of a session: what one worker adds records to, beside the others and with no lock.
 ///
-/// A record goes into the heap, until that holds `H` records. Then the heap is sorted and stored as a
+/// A record is appended to the heap, until that holds `H` records. Then the heap is sorted and stored as a
 /// run, in buffers of the shared pool if there are enough, and else together with all runs in buffers
 /// in slots of the stash and the shared row. No call takes memory.
 ///
@@ -115,7 +115,7 @@ impl<S: Slot, R: Record> Pass<S, R> {
     }
 
     /// Adds a record, if the heap has room. `Full` comes exactly where the heap holds `H` records, and
-    /// nothing has changed then. It costs one sift, and touches nothing that is shared.
+    /// nothing has changed then. It makes no comparison, and touches nothing that is shared.
     #[inline]
     pub fn try_push(&mut self, r: R) -> Result<(), Full>
         ensures full { IsErr result ↔ (self.old.in_heap ≡ heap_of self.old.key.sizes) }
@@ -123,7 +123,7 @@ impl<S: Slot, R: Record> Pass<S, R> {
         ensures one { OnOk result (self.new ≡ with_one self.old self.new.bag) }
         ensures same { OnErr result (self.new ≡ self.old) }
     {
-        match self.heap.try_push(r) {
+        match self.heap.try_append(r) {
             Ok(()) => {
                 self.accepted += 1;
                 Ok(())
@@ -134,7 +134,7 @@ impl<S: Slot, R: Record> Pass<S, R> {
 }
 
 impl<S: Slot + Send, R: Record + Send> Pass<S, R> {
-    /// Adds a record. Where the heap has room it costs one sift, and touches nothing that is shared.
+    /// Adds a record. Where the heap has room it makes no comparison, and touches nothing that is shared.
     /// Where the heap is full, it is sorted first and stored as a run: `h` takes of buffers, or else a draw
     /// and a write for each block of the heap and of all runs in buffers. The heap has one record then.
     ///
@@ -214,7 +214,7 @@ impl<S: Slot + Send, R: Record + Send> Pass<S, R> {
             Ok(()) => {
                 self.heap.clear();
                 // The heap was emptied, so no record comes back.
-                let _ = self.heap.try_push(r);
+                let _ = self.heap.try_append(r);
                 self.accepted += 1;
                 Ok(())
             }

@@ -55,7 +55,7 @@ impl<S: Slot, R: Record> LimitPass<S, R> {
     }
 
     /// Adds a record that is not below the limit, if the heap has room. `Full` is returned if and only if
-    /// the heap holds `H` records, and nothing has changed then. It costs one sift, and touches nothing
+    /// the heap holds `H` records, and nothing has changed then. It makes no comparison, and touches nothing
     /// that is shared.
     #[inline]
     pub fn try_push(&mut self, r: R) -> Result<(), Full>
@@ -71,7 +71,7 @@ impl<S: Slot, R: Record> LimitPass<S, R> {
 }
 
 impl<S: Slot + Send, R: Record + Send> LimitPass<S, R> {
-    /// Adds a record that is not below the limit. Where the heap has room it costs one sift, and touches
+    /// Adds a record that is not below the limit. Where the heap has room it makes no comparison, and touches
     /// nothing that is shared. Where the heap is full, it is sorted first and stored as a run: `h` takes of
     /// buffers, or else a draw and a write for each block of the heap and of all runs in buffers.
     ///

@@ -8,7 +8,7 @@ use Rattle.ppq_pass.proofs.PassOpened.{on_ok, matched, has_room}
 use Rattle.ppq_pass.proofs.PassReady.{AtStore, at_store}
 use Rattle.ppq_pass.proofs.PassPut.{some, of_session, has_store_room, all_ascend, may_count, push_keeps, put_holds, put_after, none_holds, found_none, fault_holds, met_fault}
 use Rattle.ppq_pass.proofs.pass.Pass.store_and_put.Given as given
-use Rattle.ppq_pass.proofs.pass.Pass.store_and_put.Goals.{After-as_slice, After-try_push}
+use Rattle.ppq_pass.proofs.pass.Pass.store_and_put.Goals.{After-as_slice, After-try_append}
 use Rattle.ppq_pass.proofs.pass.Pass.store_and_put.Goals as goal
 
 pub unreachable-requires : goal.unreachable-requires
@@ -41,11 +41,11 @@ pub store_run-parts-requires-clause-ascend : goal.store_run-parts-requires-claus
 store_run-parts-requires-clause-ascend g c κs within = all_ascend (at g c)
 
 -- the emptied heap took the record
-added : (g : given.Over) (c : After-try_push g) → AtStore g.S.Slot.shown g.R.Ord.cmp g.R.Record.record_of g.R.Record.WIDTH c.self.inside.sizes c.self.inside.heap c.self.inside.body c.in-Some.parts c.self.inside.begun c.self.inside.accepted c.self.inside.refused c.self.inside.failed c.self.inside.stores c.args.self.now c.args.shared.now c.as_slice.result.now → IsSameBag c.try_push.new.self.items (c.args.r ∷ [])
+added : (g : given.Over) (c : After-try_append g) → AtStore g.S.Slot.shown g.R.Ord.cmp g.R.Record.record_of g.R.Record.WIDTH c.self.inside.sizes c.self.inside.heap c.self.inside.body c.in-Some.parts c.self.inside.begun c.self.inside.accepted c.self.inside.refused c.self.inside.failed c.self.inside.stores c.args.self.now c.args.shared.now c.as_slice.result.now → IsSameBag c.try_append.new.self.items (c.args.r ∷ [])
 added g c at =
     let cap : c.clear.new.self.cap ≡ heap_of c.self.inside.sizes = c.clear.ensures.cap ∙ c.sort_in_place.ensures.cap ∙ at.is.cap in
-    subst (λ l. IsSameBag c.try_push.new.self.items (c.args.r ∷ l)) c.clear.ensures.items
-    (has_room c.try_push.result c.clear.new.self.cap c.args.r c.clear.new.self.items c.try_push.new.self.items (omega (arith, ap length c.clear.ensures.items, cap, (heap_small c.self.inside.sizes at.is.range).0)) c.try_push.ensures.full.0 c.try_push.ensures.added)
+    subst (λ l. IsSameBag c.try_append.new.self.items (c.args.r ∷ l)) c.clear.ensures.items
+    (has_room c.try_append.result c.clear.new.self.cap c.args.r c.clear.new.self.items c.try_append.new.self.items (omega (arith, ap length c.clear.ensures.items, cap, (heap_small c.self.inside.sizes at.is.range).0)) c.try_append.ensures.full.0 c.try_append.ensures.added)
 
 pub overflow_add-self : goal.overflow_add-self
 overflow_add-self g c = omega (arith, may_count (at g (goal.at.overflow_add-self g c).After-as_slice))
@@ -54,7 +54,7 @@ pub invariant_of-self : goal.invariant_of-self
 invariant_of-self g c =
     let at = at g (goal.at.invariant_of-self g c).After-as_slice in
     let m = c.store_run-parts in
-    put_holds at m.ensures.kept m.ensures.counted c.saturating_add-self-inside.ensures c.args.r c.try_push.new.self (c.try_push.ensures.cap ∙ c.clear.ensures.cap ∙ c.sort_in_place.ensures.cap) (added g (goal.at.invariant_of-self g c).After-try_push at) c.in-Ok.field-0 c.in-Ok.is (on_ok m.result.1 c.in-Ok.field-0 c.in-Ok.is m.ensures.stored)
+    put_holds at m.ensures.kept m.ensures.counted c.saturating_add-self-inside.ensures c.args.r c.try_append.new.self (c.try_append.ensures.cap ∙ c.clear.ensures.cap ∙ c.sort_in_place.ensures.cap) (added g (goal.at.invariant_of-self g c).After-try_append at) c.in-Ok.field-0 c.in-Ok.is (on_ok m.result.1 c.in-Ok.field-0 c.in-Ok.is m.ensures.stored)
 
 pub invariant_of-self-in-Err-NoFreeBlock : goal.invariant_of-self-in-Err-NoFreeBlock
 invariant_of-self-in-Err-NoFreeBlock g c =
@@ -78,12 +78,12 @@ pub returns-in-Ok-clause-put : goal.returns-in-Ok-clause-put
 returns-in-Ok-clause-put g c =
     let at = at g (goal.at.returns-in-Ok-clause-put g c).After-as_slice in
     let m = c.store_run-parts in
-    put_after at m.ensures.kept m.ensures.counted c.saturating_add-self-inside.ensures c.args.r c.try_push.new.self (c.try_push.ensures.cap ∙ c.clear.ensures.cap ∙ c.sort_in_place.ensures.cap) (added g (goal.at.returns-in-Ok-clause-put g c).After-try_push at) c.in-Ok.field-0 c.in-Ok.is (on_ok m.result.1 c.in-Ok.field-0 c.in-Ok.is m.ensures.stored)
+    put_after at m.ensures.kept m.ensures.counted c.saturating_add-self-inside.ensures c.args.r c.try_append.new.self (c.try_append.ensures.cap ∙ c.clear.ensures.cap ∙ c.sort_in_place.ensures.cap) (added g (goal.at.returns-in-Ok-clause-put g c).After-try_append at) c.in-Ok.field-0 c.in-Ok.is (on_ok m.result.1 c.in-Ok.field-0 c.in-Ok.is m.ensures.stored)
 
 pub returns-in-Ok-clause-stays : goal.returns-in-Ok-clause-stays
 returns-in-Ok-clause-stays g c =
     let s = c.self.inside in
-    push_keeps (at g (goal.at.returns-in-Ok-clause-stays g c).After-as_slice) c.store_run-parts.ensures.kept c.store_run-parts.ensures.counted c.saturating_add-self-inside.ensures c.try_push.new.self (s.accepted + 1) s.refused s.failed
+    push_keeps (at g (goal.at.returns-in-Ok-clause-stays g c).After-as_slice) c.store_run-parts.ensures.kept c.store_run-parts.ensures.counted c.saturating_add-self-inside.ensures c.try_append.new.self (s.accepted + 1) s.refused s.failed
 
 pub returns-in-Err-NoFreeBlock-clause-refused : goal.returns-in-Err-NoFreeBlock-clause-refused
 returns-in-Err-NoFreeBlock-clause-refused g c =
