@@ -1,18 +1,12 @@
 -- The records that are left after the first of them.
-use Rattle.std.proofs.Common.{◌≡◌, ℕ, zero, suc, ◌+◌, ◌-◌, ◌<◌, List, [], ◌∷◌, take, drop, refl, ap, ◌∙◌, arith}
+use Rattle.std.proofs.Common.{◌≡◌, ℕ, ◌+◌, ◌-◌, ◌<◌, ◌≤◌, List, take, drop, sym, ap, ◌∙◌, arith}
+use Rattle.std.proofs.lemmas.List.{drop-drop, drop-take}
 
-after_first : {X : Type 0} (n : ℕ) (xs : List X) → take n (drop 1 xs) ≡ drop 1 (take (suc n) xs)
-after_first zero [] = refl
-after_first (suc n) [] = refl
-after_first n (x ∷ xs) = refl
-
-next : {X : Type 0} (i : ℕ) (xs : List X) → drop (suc i) xs ≡ drop 1 (drop i xs)
-next zero xs = refl
-next (suc i) [] = refl
-next (suc i) (x ∷ xs) = next i xs
+pub skipped : {X : Type 0} (n from to : ℕ) (xs : List X) → from + n ≤ to → take (to - (from + n)) (drop (from + n) xs) ≡ drop n (take (to - from) (drop from xs))
+skipped n from to xs h =
+    let m = to - (from + n) in
+    let width : n + m ≡ to - from = omega arith in
+    ap (take m) (sym (drop-drop n from xs)) ∙ (sym (drop-take n m (drop from xs)) ∙ ap (λ k. drop n (take k (drop from xs))) width)
 
 pub popped : {X : Type 0} (from to : ℕ) (xs : List X) → from < to → take (to - (from + 1)) (drop (from + 1) xs) ≡ drop 1 (take (to - from) (drop from xs))
-popped from to xs h =
-    let one : from + 1 ≡ suc from = omega arith in
-    let n : suc (to - (from + 1)) ≡ to - from = omega arith in
-    ap (λ i. take (to - (from + 1)) (drop i xs)) one ∙ (ap (take (to - (from + 1))) (next from xs) ∙ (after_first (to - (from + 1)) (drop from xs) ∙ ap (λ k. drop 1 (take k (drop from xs))) n))
+popped from to xs h = skipped 1 from to xs (omega arith)

@@ -97,6 +97,15 @@ impl<R: Record> Extract<R> {
         }
     }
 
+    /// Takes the first `n` records out, in constant time.
+    #[inline]
+    pub fn skip(&mut self, n: usize)
+        requires { n ≤ length self.old.items }
+        ensures { self.new ≡ held (drop n self.old.items) self.old.room }
+    {
+        self.from += n;
+    }
+
     /// All records that are left, in order.
     #[inline]
     pub fn rest(&self) -> &[R]

@@ -1,10 +1,11 @@
 -- Merging heaps and an extract buffer into a list, one record after the other.
-use Rattle.std.proofs.Common.{◌≡◌, Bool, true, false, cond, not, List, [], ◌∷◌, ◌++◌, length, drop, Option, Some, None, refl, sym, ap, ◌∙◌, subst, inl, inr, arith, length-append, Ordering}
+use Rattle.std.proofs.Common.{◌≡◌, Bool, true, false, cond, not, List, [], ◌∷◌, ◌++◌, ℕ, length, take, drop, Option, Some, None, refl, sym, ap, ◌∙◌, subst, inl, inr, arith, length-append, Ordering}
 use Rattle.std.specs.Prelude.{IfSome}
 use Rattle.std.specs.declared.cmp.Ordering.TheVariants.{Equal}
 use Rattle.std.specs.List.{AllByRecursion as Each}
 use Rattle.std.specs.Cmp.{IsTotalOrder}
 use Rattle.std.proofs.lemmas.Bool.{cases_Bool}
+use Rattle.std.proofs.lemmas.List.{append-nil, append_assoc, take-append-drop}
 use Rattle.ppq_heap.specs.ppq_record.Order.{is_before, Le, Ascends}
 use Rattle.ppq_heap.specs.ppq_record.Bag.{IsSameBag, first_of, least}
 use Rattle.ppq_heap.proofs.ppq_record.Order.{Each-same_bag, Each-weaker, Each-append, Each-append_right, IsSameBag-length, Le-trans, count_by-cons, count_by-append}
@@ -12,9 +13,9 @@ use Rattle.ppq_heap.proofs.ppq_record.Fronts.{ranks}
 use Rattle.ppq_extract.specs.ppq_fetch.Taking.{NoneAfter, IsTaken, AllBelow, NoneBelow}
 use Rattle.ppq_extract.proofs.ppq_fetch.Parted.{taken_more}
 use Rattle.ppq_queue.specs.Choice.{goes_first}
-use Rattle.ppq_extract.specs.Extracted.{Held}
+use Rattle.ppq_extract.specs.Extracted.{Held, held}
 use Rattle.ppq_heap.specs.Heaps.{Shares, items_of}
-use Rattle.ppq_queue.specs.Bulk.{kept_below, Merged, Moves, MovesNext, Exhausted}
+use Rattle.ppq_queue.specs.Bulk.{kept_below, GoesOut, CopiesFirst, Merged, Moves, MovesNext, Exhausted}
 use Rattle.ppq_queue.specs.Stores.{HeapsStay}
 use Rattle.ppq_queue.specs.Out.{Listed, listed}
 use Rattle.ppq_queue.proofs.Stores.{heaps-same, heaps-more}
@@ -61,27 +62,28 @@ module _ {R : Type 0} {cmp : R → R → Ordering} (o : IsTotalOrder cmp) where
   le_runs x (y ∷ ys) runs none each after = le_all x y runs each.0 after.0
 
 module _ {R : Type 0} {cmp : R → R → Ordering} {more : Bool} {limit : Option R} where
+  merged-same : {h e out : List R} → Merged cmp more limit h h e e out out
+  merged-same = record { count = refl; fewer = omega arith; ascends = λ u. u; order = λ runs n. n; taken = λ bag runs w u n t. t; under = λ u. u }
+
+  merged-then : {h h' h'' e e' e'' out out' out'' : List R} → Merged cmp more limit h h' e e' out out' → Merged cmp more limit h' h'' e' e'' out' out'' → Merged cmp more limit h h'' e e'' out out''
+  merged-then a b =
+      record {
+        count = omega (arith, a.count, b.count);
+        fewer = omega (arith, a.fewer, b.fewer);
+        ascends = λ u. b.ascends (a.ascends u);
+        order = λ runs n. b.order runs (a.order runs n);
+        taken = λ bag runs w u n t. b.taken bag runs w (a.ascends u) (a.order runs n) (a.taken bag runs w u n t);
+        under = λ u. b.under (a.under u);
+      }
+
   -- nothing was taken
   pub moves-same : {h : Shares R} {e : Held R} {out : Listed R} → Moves cmp more limit h h e e out out
-  moves-same = record {
-    merged = record { count = refl; fewer = omega arith; ascends = λ u. u; order = λ runs n. n; taken = λ bag runs w u n t. t; under = λ u. u };
-    heaps = heaps-same;
-    rooms = record { first = refl; list = refl };
-  }
+  moves-same = record { merged = merged-same; heaps = heaps-same; rooms = record { first = refl; list = refl } }
 
   pub moves-then : {h h' h'' : Shares R} {e e' e'' : Held R} {out out' out'' : Listed R} → Moves cmp more limit h h' e e' out out' → Moves cmp more limit h' h'' e' e'' out' out'' → Moves cmp more limit h h'' e e'' out out''
   moves-then one two =
-      let a = one.merged in
-      let b = two.merged in
       record {
-        merged = record {
-          count = omega (arith, a.count, b.count);
-          fewer = omega (arith, a.fewer, b.fewer);
-          ascends = λ u. b.ascends (a.ascends u);
-          order = λ runs n. b.order runs (a.order runs n);
-          taken = λ bag runs w u n t. b.taken bag runs w (a.ascends u) (a.order runs n) (a.taken bag runs w u n t);
-          under = λ u. b.under (a.under u);
-        };
+        merged = merged-then one.merged two.merged;
         heaps = heaps-more one.heaps two.heaps;
         rooms = record { first = two.rooms.first ∙ one.rooms.first; list = two.rooms.list ∙ one.rooms.list };
       }
@@ -201,6 +203,28 @@ module _ {R : Type 0} {cmp : R → R → Ordering} (o : IsTotalOrder cmp) (same 
   extract_moved h (y ∷ ys) out one next is first kept =
       let keep = kept_is cmp limit y next kept in
       subst (λ (x : R). Merged cmp more limit h h (y ∷ ys) ys out (out ++ x ∷ [])) keep.0 (move_extract y h ys out (extract_le y h one is first) keep.1)
+
+  -- the first records of the extract buffer went, each before the heaps' smallest one
+  run_merged : (h xs e out : List R) (one : Option R) → one ≡ least cmp h → Each (GoesOut cmp one limit) xs → Merged cmp more limit h h (xs ++ e) e out (out ++ xs)
+  run_merged h [] e out one is each = subst (λ (l : List R). Merged cmp more limit h h e e out l) (sym (append-nil out)) merged-same
+  run_merged h (y ∷ ys) e out one is each =
+      let first = move_extract y h (ys ++ e) out (extract_le y h one is each.0.0) each.0.1 in
+      let rest = run_merged h ys e (out ++ y ∷ []) one is each.1 in
+      subst (λ (l : List R). Merged cmp more limit h h (y ∷ ys ++ e) e out l) (append_assoc out (y ∷ []) ys) (merged-then first rest)
+
+  pub run_moved :
+      (most count : ℕ) (one : Option R) {h : Shares R} (e : Held R) {e' : Held R} (out : Listed R) {out' : Listed R}
+      → one ≡ least cmp (items_of h) → CopiesFirst cmp most count one limit e.items out out' → e' ≡ held (drop count e.items) e.room → Moves cmp more limit h h e e' out out'
+  run_moved most count one {h} e {e'} out {out'} is copied left =
+      let all = take-append-drop count e.items in
+      let merged = run_merged (items_of h) (take count e.items) (drop count e.items) out.items one is copied.first in
+      let whole = subst (λ (l : List R). Merged cmp more limit (items_of h) (items_of h) l (drop count e.items) out.items (out.items ++ take count e.items)) all merged in
+      let list = subst (λ (l : Listed R). Merged cmp more limit (items_of h) (items_of h) e.items (drop count e.items) out.items l.items) (sym copied.list) whole in
+      record {
+        merged = subst (λ (l : Held R). Merged cmp more limit (items_of h) (items_of h) e.items l.items out.items out'.items) (sym left) list;
+        heaps = heaps-same;
+        rooms = record { first = ap (λ l. l.room) left; list = ap (λ l. l.room) copied.list };
+      }
 
   -- the heaps' smallest record is the smallest of all, and it is not below the limit
   pub heap_ended :

@@ -1,6 +1,7 @@
 -- Taking many records out of a queue at once.
-use Rattle.std.specs.Prelude.{◌≡◌, ◌⊎◌, ℕ, ◌+◌, ◌-◌, ◌<◌, ◌≤◌, Bool, true, false, cond, List, [], ◌++◌, length, min, Option, Some, None, Result, Ok, Err, OnOk, OnErr, IfErr, IsOk, IsErrOf}
+use Rattle.std.specs.Prelude.{◌≡◌, ◌⊎◌, ℕ, ◌+◌, ◌-◌, ◌<◌, ◌≤◌, Bool, true, false, cond, List, [], ◌∷◌, ◌++◌, length, take, min, Option, Some, None, Result, Ok, Err, OnOk, OnErr, IfErr, IsOk, IsErrOf}
 use Rattle.std.specs.declared.cmp.Ordering.{Ordering}
+use Rattle.std.specs.List.{AllByRecursion as Each}
 use Rattle.ppq_heap.specs.ppq_record.Order.{is_before, Ascends}
 use Rattle.ppq_heap.specs.ppq_record.Bag.{IsSameBag, front, without_front, size_below}
 use Rattle.ppq_extract.specs.ppq_outside.Shown.{Shown, AllTell}
@@ -11,6 +12,7 @@ use Rattle.ppq_heap.specs.Heaps.{Shares, items_of}
 use Rattle.ppq_extract.specs.ppq_fetch.Taking.{wanted, NoneAfter, IsTaken, AllBelow, NoneBelow}
 use Rattle.ppq_extract.specs.Extracted.{Held}
 use Rattle.ppq_spill.specs.Costing.{Pays}
+use Rattle.ppq_queue.specs.Choice.{goes_first}
 use Rattle.ppq_queue.specs.Out.{Listed, listed}
 use Rattle.ppq_queue.specs.Paying.{store_account}
 use Rattle.ppq_queue.specs.Holding.{Holding, Keeps, IsRefusal, NamesAgain, CountsAs}
@@ -83,6 +85,25 @@ module _ {R : Type 0} (cmp : R → R → Ordering) where
     pub moves : Moves more limit before after extract extract' out out'
     pub one : answer ≡ true → length out'.items ≡ length out.items + 1
     pub none : answer ≡ false → length out'.items ≡ length out.items
+    pub ended : answer ≡ false → Exhausted more limit (items_of after) extract'.items
+
+  -- a record of an extract buffer goes before the smallest one of heaps, and it is below the limit
+  abbrev pub GoesOut : (latest limit : Option R) → R → Type 0
+  GoesOut latest limit x = (goes_first cmp latest (Some x) ≡ false) × AllBelow cmp limit (x ∷ [])
+
+  -- the first records of a list, so many, all of which go out, were copied to the end of another, at most so many in it
+  pub record CopiesFirst (most count : ℕ) (latest limit : Option R) (rest : List R) (out out' : Listed R) : Type 0 where
+    pub within : count ≤ length rest
+    pub few : length out'.items ≤ most
+    pub first : Each (GoesOut latest limit) (take count rest)
+    pub list : out' ≡ listed (out.items ++ take count rest) out.room
+
+  -- The smallest records of heaps and an extract buffer went to the end of a list, at most so many in it, and the answer says whether one did; if none
+  -- did, nothing that is wanted is left
+  pub record MovesSome (most : ℕ) (more : Bool) (limit : Option R) (before after : Shares R) (extract extract' : Held R) (out out' : Listed R) (answer : Bool) : Type 0 where
+    pub moves : Moves more limit before after extract extract' out out'
+    pub few : length out'.items ≤ most
+    pub some : answer ≡ true → length out.items < length out'.items
     pub ended : answer ≡ false → Exhausted more limit (items_of after) extract'.items
 
   -- the list is full; or the extract buffer wants a refill; or nothing that is wanted is left

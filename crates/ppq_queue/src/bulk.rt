@@ -3,7 +3,7 @@
 ghost use Rattle.std.specs.Prelude.{◌≡◌, ◌≤◌, ◌<◌, ◌⊎◌, true, false, [], length, Some, None};
 ghost use Rattle.ppq_queue.specs.Resting.{count_of};
 ghost use Rattle.ppq_queue.specs.Stores.{MayWork, MayAdd};
-ghost use Rattle.ppq_queue.specs.Bulk.{MayFill, MovesNext, MergesTo, TakesOut};
+ghost use Rattle.ppq_queue.specs.Bulk.{MayFill, GoesOut, CopiesFirst, MovesNext, MovesSome, MergesTo, TakesOut};
 ghost use Rattle.ppq_queue.specs.Bulk as spec;
 
 use crate::choice::goes_first;
@@ -119,7 +119,7 @@ fn merge<R: Record>(
 {
     record_laws::<R>();
     'moving: while goes_on(extract, more, most, out) {
-        if !move_next(heaps, extract, more, limit, out) {
+        if !move_some(heaps, extract, more, limit, most, out) {
             return;
         }
     }
@@ -134,6 +134,69 @@ fn goes_on<R: Record>(extract: &Extract<R>, more: bool, most: u32, out: &Out<R>)
     ensures ended { result ≡ false → (most ≤ length out.now.items) ⊎ ((extract.now.items ≡ []) × (more ≡ true)) }
 {
     out.len() < most && !(more && extract.is_empty())
+}
+
+// Moves the smallest record of heaps and an extract buffer to the end of a list, and with it all that the
+// extract buffer has before the next one of the heaps. It says whether it moved any: `false` exactly where no
+// record is below the limit.
+fn move_some<R: Record>(
+    heaps: &mut Heaps<R>,
+    extract: &mut Extract<R>,
+    more: bool,
+    limit: Option<R>,
+    most: u32,
+    out: &mut Out<R>,
+) -> bool
+    requires most { most ≤ out.old.room }
+    requires room { length out.old.items < most }
+    requires whole { extract.old.items ≡ [] → more ≡ false }
+    ensures { MovesSome R.Ord.cmp most more limit heaps.old heaps.new extract.old extract.new out.old out.new result }
+{
+    record_laws::<R>();
+    if !move_next(heaps, extract, more, limit, out) {
+        return false;
+    }
+    let count = copy_first(extract.rest(), heaps.min(), limit, most, out);
+    extract.skip(count);
+    true
+}
+
+// Copies the first records that go out to the end of a list, until it has so many. It says how many.
+fn copy_first<R: Record>(
+    rest: &[R],
+    latest: Option<R>,
+    limit: Option<R>,
+    most: u32,
+    out: &mut Out<R>,
+) -> usize
+    requires most { most ≤ out.old.room }
+    requires few { length out.old.items ≤ most }
+    ensures { CopiesFirst R.Ord.cmp most result latest limit rest.now out.old out.new }
+{
+    let mut count = 0;
+    'copying: while count < rest.len() && out.len() < most {
+        let next = rest[count];
+        if !goes_out(next, latest, limit) {
+            break;
+        }
+        out.push(next);
+        count += 1;
+    }
+    count
+}
+
+// Whether a record of an extract buffer goes before the smallest one of heaps, and is below the limit.
+#[inline]
+fn goes_out<R: Record>(next: R, latest: Option<R>, limit: Option<R>) -> bool
+    ensures { result ≡ true → GoesOut R.Ord.cmp latest limit next }
+{
+    if goes_first(latest, Some(next)) {
+        return false;
+    }
+    match limit {
+        None => true,
+        Some(limit) => next.is_less(&limit),
+    }
 }
 
 // Moves the smallest record of heaps and an extract buffer to the end of a list, and says whether it did:

@@ -1,4 +1,4 @@
-use Rattle.std.proofs.Common.{length, arith, inr}
+use Rattle.std.proofs.Common.{length, inr}
 use Rattle.ppq_queue.proofs.Merging.{moves-same, moves-then}
 use Rattle.ppq_queue.proofs.Took.{merge_ended}
 use Rattle.ppq_queue.proofs.bulk.merge.Goals as goal
@@ -9,15 +9,14 @@ moving-init g c = record { moves = moves-same; few = c.requires.few }
 pub moving-preserved : goal.moving-preserved
 moving-preserved g c =
     let i = c.moving.invariant in
-    let e = c.move_next.ensures in
-    record { moves = moves-then i.moves e.moves; few = omega (arith, e.one c.if-not-move_next.false, c.goes_on.ensures.some c.moving-test.true) }
+    let e = c.move_some.ensures in
+    record { moves = moves-then i.moves e.moves; few = e.few }
 
-pub returns-then-not-move_next : goal.returns-then-not-move_next
-returns-then-not-move_next g c =
+pub returns-then-not-move_some : goal.returns-then-not-move_some
+returns-then-not-move_some g c =
     let i = c.moving.invariant in
-    let e = c.move_next.ensures in
-    let no = c.if-not-move_next.true in
-    record { moves = moves-then i.moves e.moves; few = omega (arith, e.none no, i.few); ended = inr (inr (e.ended no)) }
+    let e = c.move_some.ensures in
+    record { moves = moves-then i.moves e.moves; few = e.few; ended = inr (inr (e.ended c.if-not-move_some.true)) }
 
 pub returns : goal.returns
 returns g c =
