@@ -11,6 +11,9 @@ SEED = 7
 MILLION = 1_000_000
 BLOCK = 4096
 HEAP = 8
+# The workers, the block and the heap of rows: those that all loads have, and those that suit the number of workers.
+USUAL = {"ppq, 1": (1, BLOCK, HEAP), "ppq, 4": (4, BLOCK, HEAP)}
+SUITED = {"ppq, 1, heap 32": (1, BLOCK, 32), "ppq, 4, block 8192": (4, 8192, 6)}
 MEMORY = 1_048_576  # records of 16 bytes: 16 MiB
 STXXL_PACKAGES = ["libstxxl-dev", "libstxxl1v5"]
 
@@ -25,6 +28,11 @@ def words(program, script, device, load, workers, block=BLOCK, heap=HEAP, memory
     sizes = {"blocks": room(load, block, workers), "workers": workers, "block": block, "heap": heap, "memory": memory}
     named = [word for name, size in sizes.items() for word in (f"--{name}", str(size))]
     return [program, "run", script, "--device", device, *named]
+
+
+def called(calls, load, count, workers, block=BLOCK, heap=HEAP):
+    """The command that executes a load of crates/ppq_bench."""
+    return [calls, load, *map(str, (SEED, count, workers, block, heap)), "device"]
 
 
 def without_notes(output):

@@ -12,6 +12,7 @@ COLOURS = {
     "external sort": "#56b4e9",
     "ppq, 1": "#009e73",
     "ppq, 4": "#0072b2",
+    "ppq, 4, block 8192": "#cc79a7",
 }
 NAMES = {"ppq, 1": "ppq, 1 worker", "ppq, 4": "ppq, 4 workers", "external sort": "external sort (no queue)"}
 LEFT, RIGHT, TOP, BOTTOM, WIDTH, HEIGHT = 64, 190, 52, 48, 720, 400

@@ -5,9 +5,9 @@
 //! argument `merge` it times large ones: 8, 64 and 512 runs of pairs from memory, by one worker and by
 //! four. `bench/merge` runs it beside a loser tree in C++ over the same records.
 //!
-//! With the arguments `LOAD SEED COUNT WORKERS DEVICE` it executes a load over a device file. It prints the
-//! count, the first and the last of what was removed and the sum of the keys, and no time: `bench/device` runs it
-//! beside other queues. The loads are
+//! With the arguments `LOAD SEED COUNT WORKERS BLOCK HEAP DEVICE` it executes a load over a device file, by a queue
+//! with so many workers, records in a block and blocks in a heap. It prints the count, the first and the last of
+//! what was removed and the sum of the keys, and no time: `bench/device` runs it beside other queues. The loads are
 //!
 //! - `hold`: so many records are held, and COUNT times the smallest is removed and one with a greater key is
 //!   added. With the argument `longest` after these a further line says how many microseconds the longest push or
@@ -63,12 +63,8 @@ const FEW: u64 = 24576;
 // How many records the timed merges have: 4 and 32 MiB.
 const SIZES: [u64; 2] = [262144, 2097152];
 
-// A queue whose budget is 16 MiB.
-const LARGE: Shape = Shape {
-    block: 4096,
-    heap: 8,
-    memory: 1048576,
-};
+// The budget of a large queue in records: 16 MiB.
+const MEMORY: u64 = 1048576;
 
 // A queue that is used up by few records.
 const SMALL: Shape = Shape {
@@ -208,6 +204,17 @@ fn task_of(seed: &str, count: &str, workers: &str) -> io::Result<Task> {
     })
 }
 
+// A large queue with so many records in a block and blocks in a heap, as these arguments say.
+fn shape_of(block: &str, heap: &str) -> io::Result<Shape> {
+    let block = block.parse().map_err(|_| bad_argument())?;
+    let heap = heap.parse().map_err(|_| bad_argument())?;
+    Ok(Shape {
+        block,
+        heap,
+        memory: MEMORY,
+    })
+}
+
 // Executes a load as these arguments say, and prints what was removed, and how long the longest call took, if any was
 // timed.
 fn execute<H: Host + Clock>(
@@ -219,14 +226,15 @@ fn execute<H: Host + Clock>(
 where
     H::Dir: Send,
 {
-    let [load, seed, count, workers, device] = words else {
+    let [load, seed, count, workers, block, heap, device] = words else {
         return Err(bad_argument());
     };
     let task = task_of(seed, count, workers)?;
+    let large = shape_of(block, heap)?;
     let removed = match load.as_str() {
-        "hold" => hold(rt, alloc, LARGE, task, device, watch)?,
-        "fill" => fill_and_drain(rt, alloc, LARGE, task, device)?,
-        "below" => take_below_and_drain(rt, alloc, LARGE, task, device)?,
+        "hold" => hold(rt, alloc, large, task, device, watch)?,
+        "fill" => fill_and_drain(rt, alloc, large, task, device)?,
+        "below" => take_below_and_drain(rt, alloc, large, task, device)?,
         _ => return Err(bad_argument()),
     };
     print_removed(rt, removed)?;
