@@ -10,9 +10,13 @@ use crate::berth::Berth;
 use crate::berth_list::BerthList;
 use crate::internal_array::InternalArray;
 use ppq_block::{BlockBuf, Record, record_laws};
-use ppq_outside::Slot;
+use ppq_outside::{Host, Slot};
 use std::marker::Model;
 use std::snapshot::Snapshot;
+
+// How many blocks of a run its device is told of ahead. Two are as good as eight: while one is merged the next one
+// comes.
+const AHEAD: u32 = 2;
 
 /// A run in blocks, seen as one list of records: those that are loaded into buffers, those of the blocks
 /// that were lifted to be read, and those of the blocks that are stored, each with its slot, its first
@@ -35,6 +39,8 @@ pub struct ExternalArray<S: Slot, R: Record> {
     lifted: u32,
     // how many records there are
     len: u64,
+    // how many of the first stored blocks their device reads by itself
+    coming: u32,
 }
 
 impl<S: Slot, R: Record> Model for ExternalArray<S, R> {
@@ -64,6 +70,7 @@ impl<S: Slot, R: Record> ExternalArray<S, R> {
             accepted: 0,
             lifted: 0,
             len: 0,
+            coming: 0,
         }
     }
 
@@ -123,6 +130,34 @@ impl<S: Slot, R: Record> ExternalArray<S, R> {
             Some(block) => block.minimum,
             None => None,
         }
+    }
+
+    /// Tells the device that the first two of the stored blocks are read soon, of each of them once. Returns
+    /// whether the device reads the first one by itself, or there is none. It is no block transfer.
+    pub fn announce<H: Host>(&mut self, rt: &H) -> bool
+        ensures same { self.new ≡ self.old }
+    {
+        for _block in self.coming..AHEAD {
+            if !self.announce_next(rt) {
+                break;
+            }
+        }
+        self.coming > 0 || self.stored.is_empty()
+    }
+
+    // Tells the device of the first stored block that it does not read by itself. Returns whether it does from now
+    // on.
+    fn announce_next<H: Host>(&mut self, rt: &H) -> bool
+        ensures same { self.new ≡ self.old }
+    {
+        let Some(block) = self.stored.near(self.coming) else {
+            return false;
+        };
+        let comes = block.slot.expect(rt);
+        if comes {
+            self.coming = self.coming.saturating_add(1);
+        }
+        comes
     }
 
     /// How many records are loaded.
@@ -216,6 +251,7 @@ impl<S: Slot, R: Record> ExternalArray<S, R> {
         }
         let berth = self.stored.pop_front().unwrap();
         self.lifted += 1;
+        self.coming = self.coming.saturating_sub(1);
         let count = berth.count();
         (berth, count)
     }

@@ -26,7 +26,10 @@ pub use external_array::ExternalArray;
 pub use internal_array::InternalArray;
 pub use owner_lists::OwnerLists;
 pub use ppq_block::{BlockBuf, BufList, Listing, Memory, Record, record_laws};
-pub use ppq_outside::{Gate, Host, Library, OpenGate, OutsideFault, Rack, Slot};
+pub use ppq_outside::{
+    Gate, Host, LEAST_GROUP, LEAST_RECORDS_BESIDE, LEAST_WORKERS_BESIDE, Library, MOST_GROUP,
+    OpenGate, OutsideFault, Rack, Slot,
+};
 pub use runs::Runs;
 pub use store_fault::StoreFault;
 pub use supply::{Supply, free_slot, give_buffer};

@@ -1,6 +1,7 @@
 -- The sizes of a queue, and what its parts take of the budget. All amounts are records, but where the
 -- comment says blocks.
 use Rattle.std.specs.Prelude.{ℕ, ◌+◌, ◌-◌, ◌*◌, ◌/◌, ◌≤◌, ◌≡◌, min}
+use Rattle.ppq_budget.specs.Levels.{fan, most_runs}
 
 -- the five numbers from which a queue's sizes follow
 pub record Numbers : Type 0 where
@@ -48,9 +49,9 @@ lanes_of n = 2 * batch_of n
 abbrev pub deal_of : Numbers → ℕ
 deal_of n = batch_of n
 
--- a loaded block for each of 64 external arrays, and one for each of 8 merge inputs
+-- a loaded block for each run in blocks, and one for each input of a merge
 abbrev pub fronts_and_inputs_of : Numbers → ℕ
-fronts_and_inputs_of n = (64 + 8) * n.block
+fronts_and_inputs_of n = (most_runs + fan) * n.block
 
 -- a block that is read ahead for each worker
 abbrev pub prefetch_of : Numbers → ℕ
@@ -59,6 +60,11 @@ prefetch_of n = batch_of n
 -- the first record of each block of the device
 abbrev pub minima_of : Numbers → ℕ
 minima_of n = n.blocks
+
+-- how many buffers loaded blocks, lanes and blocks that are read ahead have: one for each run and for each input of a merge, and three for
+-- each worker
+abbrev pub lane_buffers : Numbers → ℕ
+lane_buffers n = 72 + 3 * n.workers
 
 -- the part of the budget that a queue takes whatever it holds
 abbrev pub fixed_of : Numbers → ℕ

@@ -1,8 +1,8 @@
 //! The five numbers from which a queue's sizes follow.
 ghost use Rattle.std.specs.Prelude.{◌≡◌, ℕ, ◌+◌, ◌-◌, ◌*◌, ◌^◌, ◌<◌, ◌≤◌, ◌↔◌, IsSome, IsErr, IfSome, IfOk, IfErr};
-ghost use Rattle.ppq_budget.specs.Sizes.{Numbers, numbers, AreInRange, heap_of, batch_of, fixed_of, blocks_for, room_of, pool_of, ArePartsOfFixed};
+ghost use Rattle.ppq_budget.specs.Sizes.{Numbers, numbers, AreInRange, heap_of, batch_of, fixed_of, lane_buffers, blocks_for, room_of, pool_of, ArePartsOfFixed};
 
-use crate::TooSmall;
+use crate::{FAN, MOST_RUNS, TooSmall};
 use std::marker::Model;
 
 /// The sizes of a queue. Each number is in its range.
@@ -122,13 +122,23 @@ impl Sizes {
         self.workers * self.block
     }
 
+    /// How many buffers a queue has for loaded blocks, for lanes and for blocks that are read ahead: one for each run
+    /// in blocks and for each input of a merge, and three for each worker.
+    #[inline]
+    pub fn lane_buffers(&self) -> u32
+        ensures same { result ≡ lane_buffers self.now }
+        ensures range { AreInRange self.now }
+    {
+        MOST_RUNS + FAN + 3 * self.workers
+    }
+
     /// How many records of the budget a queue takes whatever it holds: its heaps, its buffers of fixed
     /// size and the first record of each device block. `fixed_parts` tells the parts.
     pub fn fixed(&self) -> u64
         ensures { result ≡ fixed_of self.now }
     {
         let workers = u64::from(self.workers);
-        let buffers = workers * u64::from(self.heap) + 6 * workers + 72;
+        let buffers = workers * u64::from(self.heap) + 6 * workers + u64::from(MOST_RUNS + FAN);
         u64::from(self.block) * buffers + u64::from(self.blocks)
     }
 
@@ -167,7 +177,7 @@ impl Sizes {
         requires { load ≤ 2 ^ 56 }
         ensures { result ≡ room_of self.now load }
     {
-        2 * self.blocks_for(load) + 72 + 4 * u64::from(self.workers)
+        2 * self.blocks_for(load) + u64::from(MOST_RUNS + FAN) + 4 * u64::from(self.workers)
     }
 }
 

@@ -138,4 +138,8 @@ impl<S: UntrustedSlot> Slot for Checked<S> {
         self.reads = self.reads.saturating_add(1);
         Ok(())
     }
+
+    fn expect<H: Host>(&self, rt: &H) -> bool {
+        self.inside.expect(rt)
+    }
 }

@@ -37,6 +37,10 @@ impl UntrustedSlot for MemSlot {
     fn read<H: Host>(&mut self, rt: &H, into: &mut [u8]) -> Result<(), Failed> {
         Slot::read(self, rt, into)
     }
+
+    fn expect<H: Host>(&self, rt: &H) -> bool {
+        Slot::expect(self, rt)
+    }
 }
 
 impl UntrustedRack for MemRack {

@@ -50,4 +50,8 @@ pub trait UntrustedSlot: Drop {
         requires { length into.old ≡ (shown self.old).size }
         ensures shown { IsUntrustedRead result into.new (shown self.old) (shown self.new) }
         ensures honest { honest self.old → IsRead result into.new (shown self.old) (shown self.new) };
+
+    /// Tells the device that this block is read soon: no block transfer, and nothing that contracts see. Returns
+    /// whether the device reads it by itself from now on, as for a [`Slot`](ppq_outside::Slot).
+    fn expect<H: Host>(&self, rt: &H) -> bool;
 }

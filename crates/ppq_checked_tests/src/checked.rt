@@ -56,6 +56,10 @@ impl UntrustedSlot for Lies {
         }
         answer
     }
+
+    fn expect<H: Host>(&self, _rt: &H) -> bool {
+        false
+    }
 }
 
 // A block of the device with this number.

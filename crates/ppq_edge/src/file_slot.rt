@@ -6,6 +6,7 @@ use ppq_checked::UntrustedSlot;
 use ppq_outside::{Failed, Host};
 use std::alloc::Global;
 use std::fs::File;
+use std::os::fd::AsRawFd;
 use std::os::unix::fs::FileExt;
 use std::sync::Arc;
 
@@ -56,6 +57,20 @@ impl FileSlot {
         ensures { result ≡ min (self.now.number * self.now.size) (2 ^ 64 - 1) }
     {
         u64::from(self.number).saturating_mul(self.size as u64)
+    }
+
+    // Tells the system that the block is read soon, so that it reads it beside. What it answers is not looked at,
+    // since no read depends on it. A block past the largest offset is not announced.
+    fn announce(&self) {
+        let (Ok(from), Ok(size)) = (i64::try_from(self.offset()), i64::try_from(self.size)) else {
+            return;
+        };
+        let _answer = libc::posix_fadvise(
+            self.file.as_raw_fd(),
+            from,
+            size,
+            libc::POSIX_FADV_WILLNEED,
+        );
     }
 
     // Counts a failed call.
@@ -115,5 +130,11 @@ impl UntrustedSlot for FileSlot {
             }
             Err(_) => Err(self.fault()),
         }
+    }
+
+    /// A system call. The system reads an announced block by itself.
+    fn expect<H: Host>(&self, _rt: &H) -> bool {
+        self.announce();
+        true
     }
 }

@@ -11,9 +11,11 @@ mod file_rack;
 mod file_slot;
 mod named_files;
 mod std_sink;
+mod std_source;
 
 pub use dir_library::DirLibrary;
 pub use file_rack::FileRack;
 pub use file_slot::FileSlot;
 pub use named_files::NamedFiles;
 pub use std_sink::StdSink;
+pub use std_source::StdSource;

@@ -8,7 +8,7 @@ use Rattle.ppq_array.specs.ppq_record.Order.{is_before, Le}
 use Rattle.ppq_array.specs.ppq_outside.Shown.{Shown}
 use Rattle.ppq_array.specs.declared.berth.DeviceBlock.{DeviceBlock}
 use Rattle.ppq_array.specs.External.{External, next_of, IsLabelled}
-use Rattle.ppq_merge.specs.Bench.{Cuts}
+use Rattle.ppq_fetch.specs.Bench.{Marks}
 use Rattle.ppq_merge.specs.ppq_tree.Tree.{IsLeastLeaf, HasNoItems}
 use Rattle.ppq_array.specs.Holdings.{external_buffers}
 use Rattle.ppq_fetch.specs.Beside.{HasStored, MayReadTwo}
@@ -61,10 +61,10 @@ module _ {A : Type 0} where
 
 -- a bench of which a hint was taken out and put back
 pub restored :
-    {R : Type 0} (b b1 b2 : Cuts R) (p : ℕ) (m : R) → get_or b.hints p None ≡ Some m → b1 ≡ record b { hints = b1.hints } → b1.hints ≡ slice_set b.hints p None → b2 ≡ record b1 { hints = b2.hints } → b2.hints ≡ slice_set b1.hints p (Some m) → b2 ≡ b
+    {R : Type 0} (b b1 b2 : Marks R) (p : ℕ) (m : R) → get_or b.hints p None ≡ Some m → b1 ≡ record b { hints = b1.hints } → b1.hints ≡ slice_set b.hints p None → b2 ≡ record b1 { hints = b2.hints } → b2.hints ≡ slice_set b1.hints p (Some m) → b2 ≡ b
 restored {R} b b1 b2 p m here r1 h1 r2 h2 =
     let hints : b2.hints ≡ b.hints = h2 ∙ (ap (λ hs. slice_set hs p (Some m)) h1 ∙ put_back b.hints p m here) in
-    r2 ∙ (ap (λ hs. record b1 { hints = hs }) hints ∙ ap (λ (x : Cuts R). record x { hints = b.hints }) r1)
+    r2 ∙ (ap (λ hs. record b1 { hints = hs }) hints ∙ ap (λ (x : Marks R). record x { hints = b.hints }) r1)
 
 not_after : {R : Type 0} (cmp : R → R → Ordering) (u : R) (m : Option R) → ((y : R) → m ≡ Some y → Le (is_before cmp) u y) → NotAfter cmp u m
 not_after cmp u None h = tt

@@ -14,7 +14,7 @@ use Rattle.ppq_array.specs.Supply.{Stock, GetsSlot}
 use Rattle.ppq_array.specs.Owner.{HasBlock, HasSize}
 use Rattle.ppq_array.specs.Holdings.{internal_buffers, external_buffers, RunHasBlock}
 use Rattle.ppq_merge.specs.ppq_split.Cut.{AreWithin, total}
-use Rattle.ppq_merge.specs.Bench.{Cuts}
+use Rattle.ppq_fetch.specs.Bench.{Marks}
 use Rattle.ppq_merge.specs.Parts.{before}
 use Rattle.ppq_fetch.specs.Parts.{firsts, rests}
 use Rattle.ppq_fetch.specs.Fetching.{one_if_some, count_in, fronts_in, IsFitting, loaded_lists}
@@ -32,7 +32,7 @@ module _ {R : Type 0} where
     pub least : Each (Ascends cmp) (firsts bounds lists) → out ≡ front cmp (all_of (firsts bounds lists)) (length out)
 
   -- the lists that a merge writes over have the lengths that they had, and the bench its workers
-  pub record SameRoom (xs ys : List R) (ps qs : List ℕ) (before now : Cuts R) : Type 0 where
+  pub record SameRoom (xs ys : List R) (ps qs : List ℕ) (before now : Marks R) : Type 0 where
     pub out : length ys ≡ length xs
     pub places : length qs ≡ length ps
     pub bench : length now.places ≡ length before.places
@@ -75,7 +75,7 @@ module _ {S R : Type 0} where
     pub few : length (buffers_of a.loaded) < 2 ^ 32 - 1
 
   -- the places say which records may be merged, as many as there are to be, and the numbers fit
-  pub record MayMergeParts (internal : List (Run R)) (external : List (External S R)) (places : List ℕ) (bench : Cuts R) (wanted : ℕ) : Type 0 where
+  pub record MayMergeParts (internal : List (Run R)) (external : List (External S R)) (places : List ℕ) (bench : Marks R) (wanted : ℕ) : Type 0 where
     pub few_runs : length internal + length external < 2 ^ 32
     pub few_records : count_in internal external < 2 ^ 64
     pub within : AreWithin places (loaded_lists internal external)

@@ -4,8 +4,9 @@ ghost use Rattle.ppq_array.specs.ppq_record.Bag.{front};
 ghost use Rattle.ppq_fetch.specs.Taking.{wanted};
 ghost use Rattle.ppq_fetch.specs.Fetching.{state, source_items, AreSources, MayFetch, Fetched, FetchFailed, SourcesTell, RunsRise, count_in};
 
+use crate::bench::Bench;
 use crate::crew::Crew;
-use crate::hint::tell_all;
+use crate::hint::{announce_all, tell_all};
 use crate::load::load_block;
 use crate::plan::plan_turn;
 use crate::prefetch::{ahead_of_merge, take_turn};
@@ -14,7 +15,6 @@ use ppq_array::{
     BufList, ExternalArray, Gate, Host, InternalArray, Record, Slot, StoreFault, Supply,
     record_laws,
 };
-use ppq_merge::Bench;
 
 /// Takes the smallest records of all runs, as many as `out` has room for, or all there are; with a limit
 /// only those below it. They stand at the beginning of `out` in ascending order, and it gives how many.
@@ -22,7 +22,10 @@ use ppq_merge::Bench;
 /// A loaded record is safe where it is not after the first record of any block that is not loaded. While
 /// fewer safe records are at hand than are wanted, the block with the smallest first record is loaded into
 /// an idle buffer, where its run has nothing loaded, or where fewer than `ahead` blocks are loaded beyond
-/// one a run. Then the workers of the bench merge all that is safe at once. With four workers or more the
+/// one a run. Then the workers of the bench merge all that is safe at once.
+///
+/// The device is told of the first two blocks of each run that are not loaded, at the beginning and where a block
+/// of the run is loaded. If it does not read them by itself, then with four workers or more the
 /// next blocks of two runs are read beside a merge of 4,096 records or more, on a thread of their own, if no
 /// more than `ahead` are loaded ahead with them; so that there is room for them, two fewer are loaded before
 /// it. The slot of a block that was read goes to the supply, and so do the spent buffers of runs in buffers;
@@ -78,9 +81,10 @@ where
 {
     record_laws::<R>();
     straighten(internal);
-    tell_all(&*external, bench);
+    let by_itself = announce_all(rt, external);
+    tell_all(&*external, bench, by_itself);
     let crew = Crew { rt, gate };
-    let most = ahead_of_merge(bench.workers(), ahead);
+    let most = ahead_of_merge(bench, ahead);
     let mut to = 0;
     while to < out.len() {
         let room = (out.len() - to) as u64;

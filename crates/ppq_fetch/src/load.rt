@@ -23,13 +23,15 @@ pub(crate) fn load_block<H: Host, S: Slot, R: Record, P: Supply<S, R>>(
     ensures home { P.home supply.new ≡ P.home supply.old }
 {
     record_laws::<R>();
-    let mut job = lift_block(array, idle);
+    let mut job = lift_block(rt, array, idle);
     run_job(rt, &mut job);
     land_block(job, array, idle, supply)
 }
 
-// Lifts the next block of a run into a job that reads it into the first idle buffer.
-pub(crate) fn lift_block<S: Slot, R: Record>(
+// Lifts the next block of a run into a job that reads it into the first idle buffer, and tells the device of
+// those behind it.
+pub(crate) fn lift_block<H: Host, S: Slot, R: Record>(
+    rt: &H,
     array: &mut ExternalArray<S, R>,
     idle: &mut BufList<R>,
 ) -> Job<Berth<S, R>, R>
@@ -38,6 +40,7 @@ pub(crate) fn lift_block<S: Slot, R: Record>(
     ensures lifted { BlockLifted R.record_of R.WIDTH S.shown array.old array.new idle.old idle.new result }
 {
     let (slot, count) = array.lift();
+    let _by_itself = array.announce(rt);
     let buf = idle.pop_front().unwrap();
     Job {
         slot,

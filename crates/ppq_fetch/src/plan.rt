@@ -3,11 +3,11 @@ ghost use Rattle.std.specs.Prelude.{◌≡◌, ◌<◌, length};
 ghost use Rattle.ppq_fetch.specs.Hints.{AreHints};
 ghost use Rattle.ppq_fetch.specs.Plan.{MayPlan, IsPlan};
 
+use crate::bench::Bench;
 use crate::edge::{Edge, choose_edge};
 use crate::mark::mark_runs;
 use crate::turn::{Turn, choose, first_of, next_block};
 use ppq_array::{ExternalArray, InternalArray, Record, Slot, record_laws};
-use ppq_merge::Bench;
 
 // Says what is to be done next, and marks how many loaded records of each run are safe.
 pub(crate) fn plan_turn<S: Slot, R: Record>(

@@ -10,34 +10,24 @@ ghost use Rattle.ppq_fetch.specs.Plan.{TakesPart};
 ghost use Rattle.ppq_fetch.specs.Beside.{MayReadTwo};
 ghost use Rattle.ppq_fetch.specs.Hints.{AreHints, NextsBut};
 
+use crate::bench::Bench;
 use crate::crew::Crew;
 use crate::hint::tell_two;
 use crate::load::{land_block, lift_block};
 use crate::take::{consume_taken, merge_parts};
 use crate::turn::has_room_ahead;
 use ppq_array::{
-    Berth, BufList, ExternalArray, Gate, Host, InternalArray, Record, Slot, Supply, record_laws,
+    Berth, BufList, ExternalArray, Gate, Host, InternalArray, LEAST_RECORDS_BESIDE,
+    LEAST_WORKERS_BESIDE, Record, Slot, Supply, record_laws,
 };
 use ppq_lane::{Job, overlap_mut};
-use ppq_merge::Bench;
-
-// How few workers take records while blocks are read beside them. A turn that reads two blocks beside its
-// merge starts and joins one thread more, which costs as much as one or two reads of blocks that the
-// system has in memory, and there is one merge more for about every second batch. So with four workers or
-// more, whose batches have four blocks or more, nothing is lost where no call waits; with fewer something
-// would be.
-const LEAST_WORKERS: u32 = 4;
-
-// How few records are taken while blocks are read beside them. One worker merges them in some 80
-// microseconds; to start and join the thread that reads takes 15 to 40.
-const LEAST_RECORDS: usize = 4096;
 
 // How many blocks may be loaded ahead before records are taken, where so many may be in all: two fewer
 // where blocks are read beside the taking.
-pub(crate) fn ahead_of_merge(workers: u32, ahead: u32) -> u32
+pub(crate) fn ahead_of_merge<R: Record>(bench: &Bench<R>, ahead: u32) -> u32
     ensures { result ≤ ahead }
 {
-    if workers < LEAST_WORKERS || ahead < LEAST_WORKERS {
+    if !bench.reads_beside() || ahead < LEAST_WORKERS_BESIDE {
         return ahead;
     }
     ahead - 2
@@ -134,8 +124,8 @@ where
     ensures home { P.home supply.new ≡ P.home supply.old }
 {
     record_laws::<R>();
-    let one = lift_block(&mut external[two.first], idle);
-    let other = lift_block(&mut external[two.second], idle);
+    let one = lift_block(crew.rt, &mut external[two.first], idle);
+    let other = lift_block(crew.rt, &mut external[two.second], idle);
     let mut jobs = [one, other];
     merge_beside(
         &mut jobs, &*internal, &*external, places, bench, below, out, crew,
@@ -192,8 +182,8 @@ where
     overlap_mut(crew.rt, jobs, &mut merge);
 }
 
-// The runs of the next block and of the next one of any other run, where so many workers read blocks beside
-// a merge of so many records, and both may be loaded ahead.
+// The runs of the next block and of the next one of any other run, where blocks are read beside a merge of so
+// many records, and both may be loaded ahead.
 fn next_two<S: Slot, R: Record>(
     external: &[ExternalArray<S, R>],
     bench: &mut Bench<R>,
@@ -206,8 +196,8 @@ fn next_two<S: Slot, R: Record>(
     ensures two { IfSome result (λ two. MayReadTwo external.now ahead two.first two.second) }
     ensures bench { bench.new ≡ bench.old }
 {
-    if bench.workers() < LEAST_WORKERS
-        || count < LEAST_RECORDS
+    if !bench.reads_beside()
+        || count < LEAST_RECORDS_BESIDE
         || ahead < 2
         || !has_room_ahead(external, ahead - 1)
     {

@@ -13,12 +13,12 @@ ghost use Rattle.ppq_merge.specs.Parts.{before, places_for};
 ghost use Rattle.ppq_fetch.specs.Steps.{SameRoom, MayMergeParts, BuffersGiven, RunConsumed, RunsConsumed, ArrayConsumed, ArraysConsumed, AllConsumed, MergesSafe};
 ghost use Rattle.ppq_fetch.specs.Fetching.{loaded_lists};
 
+use crate::bench::Bench;
 use crate::crew::Crew;
 use crate::loaded::{Loaded, SafeParts};
 use ppq_array::{
     BufList, ExternalArray, Gate, InternalArray, Listing, Record, Slot, Supply, give_buffer,
 };
-use ppq_merge::{Bench, merge_workers};
 use std::thread::Threads;
 
 // Merges the smallest of the safe records; `places` say which are safe, and become the places up to which
@@ -37,31 +37,8 @@ pub(crate) fn merge_parts<H: Threads + Sync, S: Slot + Sync, R: Record + Send + 
     ensures merged { MergesSafe R.Ord.cmp places.old (loaded_lists internal.now external.now) places.new out.new }
 {
     let parts = SafeParts::new(internal, external, places);
-    merge_shown(crew.rt, &parts, bench, out, crew.gate);
+    bench.merge(crew.rt, &parts, out, crew.gate);
     copy_cuts(bench, places);
-}
-
-// Merges the smallest of the records that are shown.
-fn merge_shown<
-    'a,
-    H: Threads + Sync,
-    R: Record + Send + Sync,
-    I: Loaded<R> + Sync,
-    E: Loaded<R> + Sync,
-    G: Gate,
->(rt: &H, parts: &SafeParts<'a, R, I, E>, bench: &mut Bench<R>, out: &mut [R], gate: &G)
-    requires count { length out.old ≤ length (all_of (⟦<SafeParts<'a, R, I, E> as Listing<R>>⟧.lists parts.now)) }
-    requires room { length (all_of (⟦<SafeParts<'a, R, I, E> as Listing<R>>⟧.lists parts.now)) < 2 ^ 64 }
-    requires bench { length (⟦<SafeParts<'a, R, I, E> as Listing<R>>⟧.lists parts.now) ≤ length bench.old.places }
-    ensures length { length out.new ≡ length out.old }
-    ensures workers { bench.new.workers ≡ bench.old.workers }
-    ensures bench { length bench.new.places ≡ length bench.old.places }
-    ensures hints { bench.new.hints ≡ bench.old.hints }
-    ensures within { AreWithin (places_for (⟦<SafeParts<'a, R, I, E> as Listing<R>>⟧.lists parts.now) bench.new.places) (⟦<SafeParts<'a, R, I, E> as Listing<R>>⟧.lists parts.now) }
-    ensures bag { IsSameBag out.new (before (places_for (⟦<SafeParts<'a, R, I, E> as Listing<R>>⟧.lists parts.now) bench.new.places) (⟦<SafeParts<'a, R, I, E> as Listing<R>>⟧.lists parts.now)) }
-    ensures front { Each (Ascends R.Ord.cmp) (⟦<SafeParts<'a, R, I, E> as Listing<R>>⟧.lists parts.now) → out.new ≡ front R.Ord.cmp (all_of (⟦<SafeParts<'a, R, I, E> as Listing<R>>⟧.lists parts.now)) (length out.old) }
-{
-    merge_workers(rt, bench, parts, out.len() as u64, out, gate);
 }
 
 // Copies the places up to which the last merge took the runs' records.

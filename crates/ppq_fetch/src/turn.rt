@@ -6,9 +6,9 @@ ghost use Rattle.ppq_fetch.specs.Edges.{edge_of};
 ghost use Rattle.ppq_fetch.specs.Hints.{AreHints};
 ghost use Rattle.ppq_fetch.specs.Turns.{IsNext, IsTurn, minimum_of, rest_turn};
 
+use crate::bench::Bench;
 use crate::edge::Edge;
 use ppq_array::{ExternalArray, Record, Slot};
-use ppq_merge::Bench;
 
 // The first block of a run that is not loaded.
 #[derive(Clone, Copy)]

@@ -92,4 +92,8 @@ impl UntrustedSlot for LyingSlot {
         }
         answer
     }
+
+    fn expect<H: Host>(&self, _rt: &H) -> bool {
+        false
+    }
 }

@@ -1,5 +1,5 @@
 pub use Rattle.ppq_split.specs as ppq_split
-pub use Rattle.ppq_hints.specs.ppq_tree as ppq_tree
+pub use Rattle.ppq_tree.specs as ppq_tree
 pub mod Bench
 pub mod Heads
 pub mod Merged

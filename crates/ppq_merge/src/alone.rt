@@ -10,9 +10,9 @@ use crate::idle::{enter_all, enter_in_turn, has_no_bytes};
 use crate::merge::merge_front;
 use crate::seat::Seat;
 use crate::team::Team;
-use ppq_hints::MinTree;
 use ppq_outside::Gate;
 use ppq_split::{Listing, Record, record_laws};
+use ppq_tree::MinTree;
 use std::thread::{Threads, join_mut};
 
 // Writes the end of each run.

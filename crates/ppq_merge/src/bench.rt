@@ -1,6 +1,5 @@
 //! The bench of the workers, and merging by all of them.
-ghost use Rattle.std.specs.Prelude.{◌≡◌, ◌↔◌, ◌≤◌, ◌<◌, ◌^◌, ℕ, None, All, length, get_or, slice_set, replicate, IfOk, IfSome, IsNone};
-ghost use Rattle.ppq_hints.specs.ppq_tree.Tree.{HasNoItems, IsLeastLeaf};
+ghost use Rattle.std.specs.Prelude.{◌≡◌, ◌≤◌, ◌<◌, ◌^◌, ℕ, All, length, get_or, replicate, IfOk};
 ghost use Rattle.ppq_split.specs.ppq_record.Bag.{IsSameBag, front};
 ghost use Rattle.ppq_split.specs.ppq_record.Runs.{all_of};
 ghost use Rattle.ppq_split.specs.Cut.{AllAscend, AreWithin, IsCut, total};
@@ -14,25 +13,22 @@ use crate::crew::merge_cut;
 use crate::plan::active_workers;
 use crate::seat::{Seat, zeros};
 use crate::team::Team;
-use ppq_hints::Hints;
 use ppq_outside::Gate;
 use ppq_split::{Listing, Memory, Record};
 use std::alloc::Global;
 use std::marker::Model;
 use std::thread::Threads;
 
-/// The trees and places of the workers, for a number of runs, and hints of which run has the next block.
+/// The trees and places of the workers, for a number of runs.
 ///
-/// Contracts see `workers`, their number, `places`, a place for each run, up to which the last merge took
-/// the run's records, and `hints`: of each run that was told of, the minimum of its next block, or none.
+/// Contracts see `workers`, their number, and `places`, a place for each run, up to which the last merge took
+/// the run's records.
 #[derive(Drop)]
 pub struct Bench<R: Record> {
     // A seat for each worker.
     seats: Vec<Seat<R>>,
     // Up to where the last merge took each run's records.
     places: Vec<u64>,
-    // The next block of each run; there is room for as many runs.
-    hints: Hints<R>,
 }
 
 impl<R: Record> Model for Bench<R> {
@@ -40,11 +36,11 @@ impl<R: Record> Model for Bench<R> {
     ghost use Rattle.ppq_merge.specs.Bench.{Cuts};
     ghost use Rattle.ppq_merge.specs.Seat.{IsSized};
 
-    ghost Value = { Cuts R };
+    ghost Value = { Cuts };
 
-    ghost view = { λ b. record { places = b.places.items; workers = length b.seats.items; hints = b.hints.items } };
+    ghost view = { λ b. record { places = b.places.items; workers = length b.seats.items } };
 
-    ghost invariant = { λ b. (0 < length b.seats.items) × (length b.seats.items < 2 ^ 32) × (length b.places.items < 2 ^ 32) × All (IsSized (length b.places.items)) b.seats.items × (b.hints.room ≡ length b.places.items) };
+    ghost invariant = { λ b. (0 < length b.seats.items) × (length b.seats.items < 2 ^ 32) × (length b.places.items < 2 ^ 32) × All (IsSized (length b.places.items)) b.seats.items };
 }
 
 // Seats for so many workers.
@@ -61,7 +57,7 @@ fn seats_for<R: Record>(alloc: Global, workers: u32, runs: u32) -> Result<Vec<Se
 }
 
 impl<R: Record> Bench<R> {
-    /// A bench for so many workers and at most so many runs. It allocates a place and a hint for each run, and
+    /// A bench for so many workers and at most so many runs. It allocates a place for each run, and
     /// for each worker and run a leaf of a tree and two places, beside a hundred cells or so for each worker
     /// that keep what it writes apart; no other call allocates.
     pub fn new(alloc: Global, workers: u32, runs: u32) -> Result<Self, Memory>
@@ -71,12 +67,7 @@ impl<R: Record> Bench<R> {
     {
         let seats = seats_for(alloc, workers, runs)?;
         let places = zeros(alloc, runs as usize)?;
-        let hints = Hints::new(alloc, runs)?;
-        Ok(Bench {
-            seats,
-            places,
-            hints,
-        })
+        Ok(Bench { seats, places })
     }
 
     /// For how many runs it was made.
@@ -103,36 +94,6 @@ impl<R: Record> Bench<R> {
         ensures { result ≡ get_or self.now.places run 0 }
     {
         self.places[run as usize]
-    }
-
-    /// Makes the hints those of so many runs, none of which has a block.
-    pub fn clear_hints(&mut self, runs: u32)
-        requires { runs ≤ length self.old.places }
-        ensures hints { self.new.hints ≡ replicate runs None }
-        ensures rest { self.new ≡ record self.old { hints = self.new.hints } }
-    {
-        self.hints.clear(runs);
-    }
-
-    /// Tells of a run what the minimum of its next block is, or that it has none.
-    #[inline]
-    pub fn hint(&mut self, run: u32, next: Option<R>)
-        requires { run < length self.old.hints }
-        ensures hints { self.new.hints ≡ slice_set self.old.hints run next }
-        ensures rest { self.new ≡ record self.old { hints = self.new.hints } }
-    {
-        self.hints.advance(run, next);
-    }
-
-    /// The run whose next block has the smallest minimum, with that minimum, the lowest run among equals.
-    /// `None` if and only if no run has a block.
-    #[inline]
-    pub fn least_hint(&self) -> Option<(u32, R)>
-        ensures some { IfSome result (λ next. IsLeastLeaf R.Ord.cmp self.now.hints next.0 next.1) }
-        ensures run { IfSome result (λ next. next.0 < length self.now.hints) }
-        ensures none { IsNone result ↔ HasNoItems self.now.hints }
-    {
-        self.hints.least()
     }
 }
 
@@ -209,7 +170,6 @@ pub fn merge_workers<H: Threads + Sync, R: Record + Send, Q: Listing<R>, G: Gate
     requires runs { length (Q.lists runs.now) ≤ length bench.old.places }
     ensures workers { bench.new.workers ≡ bench.old.workers }
     ensures size { length bench.new.places ≡ length bench.old.places }
-    ensures hints { bench.new.hints ≡ bench.old.hints }
     ensures within { AreWithin (places_for (Q.lists runs.now) bench.new.places) (Q.lists runs.now) }
     ensures adds_up { total (places_for (Q.lists runs.now) bench.new.places) ≡ count }
     ensures rest { (run : ℕ) → length (Q.lists runs.now) ≤ run → get_or bench.new.places run 0 ≡ 0 }
@@ -218,10 +178,6 @@ pub fn merge_workers<H: Threads + Sync, R: Record + Send, Q: Listing<R>, G: Gate
     ensures front { AllAscend R.Ord.cmp (Q.lists runs.now) → out.new ≡ front R.Ord.cmp (all_of (Q.lists runs.now)) count }
 {
     let team = Team { rt, runs, gate };
-    let Bench {
-        seats,
-        places,
-        hints: _,
-    } = bench;
+    let Bench { seats, places } = bench;
     merge_by_seats(&team, seats.as_mut_slice(), places.as_mut_slice(), out);
 }

@@ -2,8 +2,8 @@
 ghost use Rattle.ppq_merge.specs.Heads.{heads};
 ghost use Rattle.ppq_merge.specs.Parts.{AreParts, AreParts-prop};
 
-use ppq_hints::Heads;
 use ppq_split::{Listing, Record};
+use ppq_tree::Heads;
 use std::marker::PhantomData;
 
 // The next record of each run between its two places, shown to a tree.

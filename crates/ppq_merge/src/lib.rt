@@ -21,5 +21,5 @@ mod team;
 
 pub use bench::{Bench, merge_workers};
 pub use merge::merge_into;
-pub use ppq_hints::MinTree;
 pub use ppq_split::size_of;
+pub use ppq_tree::MinTree;

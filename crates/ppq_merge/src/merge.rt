@@ -5,8 +5,8 @@ ghost use Rattle.ppq_merge.specs.Heads.{heads, IsMerging, IsNext, LeadsToCut};
 ghost use Rattle.ppq_merge.specs.Parts.{AreParts, IsMerge, size_between, between};
 
 use crate::fronts::Fronts;
-use ppq_hints::{Heads, MinTree};
 use ppq_split::{Listing, Record, record_laws};
+use ppq_tree::{Heads, MinTree};
 use std::marker::PhantomData;
 
 // Takes the smallest record that is left, that of the lowest run among equals.

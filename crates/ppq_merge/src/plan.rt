@@ -4,15 +4,8 @@ ghost use Rattle.ppq_merge.specs.Plan.{HaveRecords, StandsAt, GetsPiece, IsPlann
 ghost use Rattle.ppq_merge.specs.Seat.{AreSeats, HasRoom, IsSized};
 
 use crate::seat::{Seat, copy_front, copy_used, first_used};
+use ppq_outside::{LEAST_PIECE, LEAST_PIECE_OF_A_RUN};
 use ppq_split::{Listing, Record, cut_at};
-
-// How many records a piece has at least, beside those for each run. A worker merges them in some 120
-// microseconds. To start and join a thread takes 15 to 40 of these, and a cut some 17.
-const LEAST_PIECE: u64 = 6144;
-
-// How many records a piece has at least for each run. A cut looks about forty times into each run,
-// which takes as long as the merge of so many records.
-const LEAST_PIECE_OF_A_RUN: u64 = 8;
 
 // How many of the workers get a piece: so many that each piece pays for its cut and its thread, and
 // one at least.

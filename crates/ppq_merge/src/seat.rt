@@ -4,8 +4,8 @@ ghost use Rattle.ppq_merge.specs.Parts.{IsMerge, LieBetween, places_for};
 ghost use Rattle.ppq_merge.specs.Seat.{IsSized, HasRoom, KeepsSize, from_of, to_of, used};
 
 use crate::merge::merge_into;
-use ppq_hints::MinTree;
 use ppq_split::{Listing, Memory, Record};
+use ppq_tree::MinTree;
 use std::alloc::Global;
 
 // A worker's places and tree. Of the places and leaves as many are used as there are runs.

@@ -80,6 +80,20 @@ abbrev pub TakesPart : Option (List ℕ) → Option (List ℕ) → List ℕ → 
 TakesPart None new piece = new ≡ None
 TakesPart (Some had) new piece = (n : ℕ) × (n ≤ length piece) × (new ≡ Some (had ++ take n piece))
 
+-- where the source tells what is to come, this piece came first, and the rest is to come
+abbrev pub GivesPiece : Option (List ℕ) → Option (List ℕ) → List ℕ → Type 0
+GivesPiece None new piece = new ≡ None
+GivesPiece (Some coming) new piece = (rest : List ℕ) × (coming ≡ piece ++ rest) × (new ≡ Some rest)
+
+-- these bytes and then this piece were given, if these were before
+abbrev pub GivesBehind : (List ℕ → Type 0) → (List ℕ → Type 0) → List ℕ → Type 0
+GivesBehind before now piece = (had : List ℕ) → before had → now (had ++ piece)
+
+-- where the source tells, nothing is to come
+abbrev pub NoneComes : Option (List ℕ) → Type 0
+NoneComes None = ⊤
+NoneComes (Some coming) = coming ≡ []
+
 -- the count went up by one where the call answered Ok, and stands still at its type's end; it did not fall
 pub record Counts {T E : Type 0} (result : Result T E) (before now : ℕ) : Type 0 where
   pub later : before ≤ now

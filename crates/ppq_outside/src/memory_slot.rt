@@ -1,5 +1,5 @@
 //! A block in memory.
-ghost use Rattle.std.specs.Prelude.{◌≡◌, ◌≤◌, length, IfOk, OnOk, OnErr, not, is_ok, IsTrue};
+ghost use Rattle.std.specs.Prelude.{◌≡◌, ◌≤◌, length, IfOk, OnOk, OnErr, not, is_ok, IsTrue, false};
 ghost use Rattle.ppq_outside.specs.Told.{Rose};
 
 use crate::forged::{forge, seed_of};
@@ -143,5 +143,12 @@ impl Slot for MemSlot {
         }
         self.reads = self.reads.saturating_add(1);
         Ok(())
+    }
+
+    /// Memory reads nothing by itself.
+    fn expect<H: Host>(&self, _rt: &H) -> bool
+        ensures { result ≡ false }
+    {
+        false
     }
 }

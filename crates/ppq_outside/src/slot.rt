@@ -44,4 +44,10 @@ pub trait Slot: Drop {
     fn read<H: Host>(&mut self, rt: &H, into: &mut [u8]) -> Result<(), Failed>
         requires { length into.old ≡ (shown self.old).size }
         ensures { IsRead result into.new (shown self.old) (shown self.new) };
+
+    /// Tells the device that this block is read soon. It is no block transfer, and nothing that contracts see
+    /// changes. Returns whether the device reads the block by itself from now on: a file of the system does;
+    /// memory does not need to. Whoever waits for blocks looks at the answer to see whether a thread of its own
+    /// would gain time; no result depends on it.
+    fn expect<H: Host>(&self, rt: &H) -> bool;
 }

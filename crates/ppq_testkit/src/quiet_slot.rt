@@ -78,6 +78,10 @@ impl Slot for QuietSlot {
         self.reads = self.reads.saturating_add(1);
         Ok(())
     }
+
+    fn expect<H: Host>(&self, _rt: &H) -> bool {
+        false
+    }
 }
 
 /// The slot with this number, in a box.

@@ -1,4 +1,4 @@
-use Rattle.std.proofs.Common.{◌≡◌, ◌+◌, ◌-◌, ◌≤◌, ℕ, List, [], ◌++◌, length, take, drop, slice_set, Err, IsErrOf, inl, inr, refl, sym, ap, ◌∙◌, subst, arith, length-take, length-drop, length-append}
+use Rattle.std.proofs.Common.{◌≡◌, ◌+◌, ◌-◌, ◌≤◌, ℕ, List, [], ◌++◌, length, take, drop, slice_set, Err, IsErrOf, inl, inr, refl, sym, ap, ap₂, ◌∙◌, subst, arith, length-take, length-drop, length-append}
 use Rattle.std.proofs.lemmas.List.{get_or-set_same}
 use Rattle.std.proofs.lemmas.Option.{slice_get_within}
 use Rattle.std.proofs.lemmas.Slice.{take-put_mid}
@@ -6,7 +6,7 @@ use Rattle.ppq_array.proofs.ppq_record.Fronts.{ranks, no_tie}
 use Rattle.ppq_fetch.specs.Fetching.{state, MayFetch, Fetched, FetchFailed}
 use Rattle.ppq_array.specs.declared.store_fault.StoreFault.{StoreFault}
 use Rattle.ppq_array.specs.External.{External, next_of}
-use Rattle.ppq_merge.specs.Bench.{Cuts}
+use Rattle.ppq_fetch.specs.Bench.{Marks}
 use Rattle.ppq_fetch.proofs.Hints.{hints_on, nexts-set}
 use Rattle.ppq_fetch.proofs.Loads.{loaded_turn, lost_turn}
 use Rattle.ppq_fetch.proofs.Waiting.{takes_all}
@@ -29,17 +29,18 @@ pub loop-to-init : goal.loop-to-init
 loop-to-init g c =
     let stock = g.P.Supply.stock c.args.supply.now in
     let old = state c.args.internal.now c.args.external.now c.args.idle.now stock in
-    let e = c.straighten.ensures in
+    let now = state c.straighten.new.internal c.announce_all-by_itself.new.external c.args.idle.now stock in
+    let e : old ≡ now = ap₂ (λ xs ys. state xs ys c.args.idle.now stock) (sym c.straighten.ensures) (sym c.announce_all-by_itself.ensures) in
     record {
       within = omega arith;
       out = refl;
-      fetched = subst (λ xs. Fetched g.R.Ord.cmp g.R.Record.record_of g.R.Record.WIDTH g.S.Slot.shown c.args.below old (state xs c.args.external.now c.args.idle.now stock) []) (sym e)
+      fetched = subst (λ s. Fetched g.R.Ord.cmp g.R.Record.record_of g.R.Record.WIDTH g.S.Slot.shown c.args.below old s []) e
           (Fetched-none g.R.Ord.cmp (ranks c.record_laws.ensures.order) g.R.Record.record_of g.R.Record.WIDTH g.S.Slot.shown c.args.below old);
-      may = subst (λ xs. MayFetch g.S.Slot.shown g.R.Record.WIDTH c.args.ahead (state xs c.args.external.now c.args.idle.now stock)) (sym e) c.requires.may;
+      may = subst (MayFetch g.S.Slot.shown g.R.Record.WIDTH c.args.ahead) e c.requires.may;
       hints = c.tell_all.ensures.hints;
       places = refl;
-      bench = ap (λ (b : Cuts g.row.R.Denot). length b.places) c.tell_all.ensures.rest;
-      workers = ap (λ (b : Cuts g.row.R.Denot). b.workers) c.tell_all.ensures.rest;
+      bench = ap (λ (b : Marks g.row.R.Denot). length b.places) c.tell_all.ensures.rest;
+      workers = ap (λ (b : Marks g.row.R.Denot). b.workers) c.tell_all.ensures.rest;
       home = refl;
     }
 
@@ -74,8 +75,8 @@ loop-to-preserved-in-None g c =
       hints = hints_on g.R.Record.record_of g.R.Record.WIDTH g.S.Slot.shown l.external (slice_set l.external p k.array) l.bench.hints c.hint.new.self.hints i.hints turn.fetched.parts.went_on
           (c.hint.ensures.hints ∙ (ap (λ m. slice_set l.bench.hints p m) (c.next_to_lift.ensures.minimum ∙ ap (λ (a : External g.row.S.Denot g.row.R.Denot). next_of a.stored) (get_or-set_same l.external p k.array c.index-external-place-in-None.result (slice_get_within l.external p load.array load.here))) ∙ nexts-set l.external l.bench.hints p k.array i.hints.nexts));
       places = c.plan_turn-turn.ensures.places ∙ i.places;
-      bench = ap (λ (b : Cuts g.row.R.Denot). length b.places) c.hint.ensures.rest ∙ i.bench;
-      workers = ap (λ (b : Cuts g.row.R.Denot). b.workers) c.hint.ensures.rest ∙ i.workers;
+      bench = ap (λ (b : Marks g.row.R.Denot). length b.places) c.hint.ensures.rest ∙ i.bench;
+      workers = ap (λ (b : Marks g.row.R.Denot). b.workers) c.hint.ensures.rest ∙ i.workers;
       home = c.load_block.ensures.home ∙ i.home;
     }
 

@@ -3,7 +3,7 @@ use Rattle.std.specs.List.{AllByRecursion as Each}
 use Rattle.std.proofs.lemmas.Grind.{take_at_read}
 use Rattle.ppq_array.proofs.ppq_record.Order.{Each-append}
 use Rattle.ppq_array.specs.External.{External, IsLabelled}
-use Rattle.ppq_merge.specs.Bench.{Cuts}
+use Rattle.ppq_fetch.specs.Bench.{Marks}
 use Rattle.ppq_fetch.proofs.Hints.{tell_more}
 use Rattle.ppq_fetch.proofs.hint.tell_all.Goals as goal
 
@@ -19,5 +19,5 @@ loop-run-preserved g c =
       long = ap length c.hint.ensures.hints ∙ (length-set l.bench.hints l.run c.next_to_lift.result ∙ i.long);
       told = ap (take (l.run + 1)) c.hint.ensures.hints ∙ (tell_more xs l.bench.hints l.run a c.next_to_lift.result (omega (arith, i.long, c.loop-run-test.true)) cut c.next_to_lift.ensures.minimum i.told);
       labelled = subst (λ ys. Each P ys) (sym cut) (Each-append P (take l.run xs) (a ∷ []) i.labelled (c.next_to_lift.ensures.labelled, tt));
-      rest = c.hint.ensures.rest ∙ ap (λ (b : Cuts g.row.R.Denot). record b { hints = c.hint.new.self.hints }) i.rest;
+      rest = c.hint.ensures.rest ∙ ap (λ (b : Marks g.row.R.Denot). record b { hints = c.hint.new.self.hints }) i.rest;
     }

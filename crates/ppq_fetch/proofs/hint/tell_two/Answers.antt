@@ -1,5 +1,5 @@
 use Rattle.std.proofs.Common.{length, slice_set, ap, ap₂, ◌∙◌, arith, length-set}
-use Rattle.ppq_merge.specs.Bench.{Cuts}
+use Rattle.ppq_fetch.specs.Bench.{Marks}
 use Rattle.ppq_fetch.proofs.Hints.{next_index}
 use Rattle.ppq_fetch.proofs.hint.tell_two.Goals as goal
 
@@ -14,4 +14,4 @@ returns g c =
     let other = c.next_to_lift-2.ensures.minimum ∙ next_index xs a.second c.index-external-second.result c.requires.second c.index-external-second.is in
     let here = ap (λ m. slice_set a.bench.now.hints a.first m) one in
     let hints = c.hint-2.ensures.hints ∙ (ap₂ (λ hs m. slice_set hs a.second m) (c.hint.ensures.hints ∙ here) other) in
-    c.hint-2.ensures.rest ∙ (ap₂ (λ (b : Cuts g.row.R.Denot) hs. record b { hints = hs }) c.hint.ensures.rest hints)
+    c.hint-2.ensures.rest ∙ (ap₂ (λ (b : Marks g.row.R.Denot) hs. record b { hints = hs }) c.hint.ensures.rest hints)

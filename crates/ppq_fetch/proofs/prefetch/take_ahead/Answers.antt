@@ -15,7 +15,7 @@ use Rattle.ppq_fetch.proofs.Beside.{two_idle, second_stored, lift_as, none_there
 use Rattle.ppq_fetch.proofs.prefetch.take_ahead.Goals as goal
 
 pub lift_block-one-requires-clause-idle : goal.lift_block-one-requires-clause-idle
-lift_block-one-requires-clause-idle g c =
+lift_block-one-requires-clause-idle g c κs within =
     let a = c.args in
     omega (arith, two_idle g.S.Slot.shown g.R.Record.WIDTH a.ahead a.two.first a.two.second (state a.internal.now a.external.now a.idle.now (g.P.Supply.stock a.supply.now)) c.requires.may.sources c.requires.two)
 
@@ -26,12 +26,12 @@ pub offset_bounds-external-two-2 : goal.offset_bounds-external-two-2
 offset_bounds-external-two-2 g c = omega (arith, stored_within c.args.external.now c.args.two.second c.requires.two.other, c.requires.may.sources.few_runs)
 
 pub lift_block-other-requires-clause-stored : goal.lift_block-other-requires-clause-stored
-lift_block-other-requires-clause-stored g c =
+lift_block-other-requires-clause-stored g c κs within =
     let a = c.args in
     second_stored a.external.now a.two.first a.two.second c.lift_block-one.new.array c.index-external-two-2.result c.requires.two.apart c.requires.two.other
 
 pub lift_block-other-requires-clause-idle : goal.lift_block-other-requires-clause-idle
-lift_block-other-requires-clause-idle g c =
+lift_block-other-requires-clause-idle g c κs within =
     let a = c.args in
     omega (arith, ap length c.lift_block-one.ensures.lifted.taken, two_idle g.S.Slot.shown g.R.Record.WIDTH a.ahead a.two.first a.two.second (state a.internal.now a.external.now a.idle.now (g.P.Supply.stock a.supply.now)) c.requires.may.sources c.requires.two)
 

@@ -13,24 +13,24 @@ use Rattle.ppq_fetch.proofs.Listings.{first_total, firsts_length, within_length,
 use Rattle.ppq_fetch.proofs.Marking.{total_within}
 use Rattle.ppq_fetch.proofs.take.merge_parts.Goals as goal
 
-pub merge_shown-requires-clause-count : goal.merge_shown-requires-clause-count
-merge_shown-requires-clause-count g c κs within =
+pub merge-requires-clause-count : goal.merge-requires-clause-count
+merge-requires-clause-count g c κs within =
     let qs = loaded_lists c.args.internal.now c.args.external.now in
     omega (arith, ap (λ xs. length (all_of xs)) c.new-parts.ensures, first_total c.args.places.now qs c.requires.may.within, c.requires.may.count)
 
-pub merge_shown-requires-clause-room : goal.merge_shown-requires-clause-room
-merge_shown-requires-clause-room g c κs within =
+pub merge-requires-clause-room : goal.merge-requires-clause-room
+merge-requires-clause-room g c κs within =
     let qs = loaded_lists c.args.internal.now c.args.external.now in
     omega (arith, ap (λ xs. length (all_of xs)) c.new-parts.ensures, first_total c.args.places.now qs c.requires.may.within, total_within c.args.places.now qs c.requires.may.within, loaded_long c.args.internal.now c.args.external.now, c.requires.may.few_records)
 
-pub merge_shown-requires-clause-bench : goal.merge_shown-requires-clause-bench
-merge_shown-requires-clause-bench g c κs within =
+pub merge-requires-clause-bench : goal.merge-requires-clause-bench
+merge-requires-clause-bench g c κs within =
     let qs = loaded_lists c.args.internal.now c.args.external.now in
     omega (arith, ap length c.new-parts.ensures, firsts_length c.args.places.now qs c.requires.may.within, long_lists items_of loaded_of c.args.internal.now c.args.external.now, c.requires.may.bench_room)
 
 pub copy_cuts-requires-clause-long : goal.copy_cuts-requires-clause-long
 copy_cuts-requires-clause-long g c =
-    omega (arith, within_length c.args.places.now (loaded_lists c.args.internal.now c.args.external.now) c.requires.may.within, long_lists items_of loaded_of c.args.internal.now c.args.external.now, c.requires.may.bench_room, c.merge_shown.ensures.bench)
+    omega (arith, within_length c.args.places.now (loaded_lists c.args.internal.now c.args.external.now) c.requires.may.within, long_lists items_of loaded_of c.args.internal.now c.args.external.now, c.requires.may.bench_room, c.merge.ensures.bench)
 
 pub copy_cuts-requires-clause-few : goal.copy_cuts-requires-clause-few
 copy_cuts-requires-clause-few g c = omega (arith, within_length c.args.places.now (loaded_lists c.args.internal.now c.args.external.now) c.requires.may.within, long_lists items_of loaded_of c.args.internal.now c.args.external.now, c.requires.may.few_runs)
@@ -38,21 +38,21 @@ copy_cuts-requires-clause-few g c = omega (arith, within_length c.args.places.no
 pub returns-clause-merged : goal.returns-clause-merged
 returns-clause-merged g c =
     let fs = firsts c.args.places.now (loaded_lists c.args.internal.now c.args.external.now) in
-    let b = c.merge_shown.new.bench.places in
-    let out = c.merge_shown.new.out in
+    let b = c.merge.new.self.places in
+    let out = c.merge.new.out in
     let qs = loaded_lists c.args.internal.now c.args.external.now in
     let e = ap (λ k. take k b) (firsts_length c.args.places.now qs c.requires.may.within ∙ sym (within_length c.args.places.now qs c.requires.may.within)) ∙ sym c.copy_cuts.ensures in
-    let least = subst (λ xs. Each (Ascends g.R.Ord.cmp) xs → out ≡ front g.R.Ord.cmp (all_of xs) (length c.args.out.now)) c.new-parts.ensures c.merge_shown.ensures.front in
+    let least = subst (λ xs. Each (Ascends g.R.Ord.cmp) xs → out ≡ front g.R.Ord.cmp (all_of xs) (length c.args.out.now)) c.new-parts.ensures c.merge.ensures.front in
     record {
-      within = subst (λ ps. AreWithin ps fs) e (subst (λ xs. AreWithin (take (length xs) b) xs) c.new-parts.ensures c.merge_shown.ensures.within);
-      bag = subst (λ ps. IsSameBag out (before ps fs)) e (subst (λ xs. IsSameBag out (before (take (length xs) b) xs)) c.new-parts.ensures c.merge_shown.ensures.bag);
-      least = λ up. least up ∙ ap (front g.R.Ord.cmp (all_of fs)) (sym c.merge_shown.ensures.length);
+      within = subst (λ ps. AreWithin ps fs) e (subst (λ xs. AreWithin (take (length xs) b) xs) c.new-parts.ensures c.merge.ensures.within);
+      bag = subst (λ ps. IsSameBag out (before ps fs)) e (subst (λ xs. IsSameBag out (before (take (length xs) b) xs)) c.new-parts.ensures c.merge.ensures.bag);
+      least = λ up. least up ∙ ap (front g.R.Ord.cmp (all_of fs)) (sym c.merge.ensures.length);
     }
 
 pub returns-clause-room : goal.returns-clause-room
 returns-clause-room g c = record {
-  out = c.merge_shown.ensures.length;
-  places = omega (arith, ap length c.copy_cuts.ensures, length-take (length c.args.places.now) c.merge_shown.new.bench.places, c.merge_shown.ensures.bench, c.requires.may.bench_room, within_length c.args.places.now (loaded_lists c.args.internal.now c.args.external.now) c.requires.may.within, long_lists items_of loaded_of c.args.internal.now c.args.external.now);
-  bench = c.merge_shown.ensures.bench;
-  workers = c.merge_shown.ensures.workers;
+  out = c.merge.ensures.length;
+  places = omega (arith, ap length c.copy_cuts.ensures, length-take (length c.args.places.now) c.merge.new.self.places, c.merge.ensures.bench, c.requires.may.bench_room, within_length c.args.places.now (loaded_lists c.args.internal.now c.args.external.now) c.requires.may.within, long_lists items_of loaded_of c.args.internal.now c.args.external.now);
+  bench = c.merge.ensures.bench;
+  workers = c.merge.ensures.workers;
 }

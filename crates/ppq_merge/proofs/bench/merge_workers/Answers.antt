@@ -15,7 +15,6 @@ pub returns : goal.returns
 returns g c = record {
   workers = grind (arith, common_steps);
   size = grind (arith, common_steps);
-  hints = grind (arith, common_steps);
   within = grind (arith, common_steps);
   adds_up = grind (arith, common_steps);
   rest = grind (arith, common_steps);

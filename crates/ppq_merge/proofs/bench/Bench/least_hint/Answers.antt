@@ -1,7 +1,0 @@
-use Rattle.std.proofs.Common.{◌↔◌, IsNone, ap, subst}
-use Rattle.ppq_hints.specs.ppq_tree.Tree.{HasNoItems}
-use Rattle.ppq_merge.specs.Bench.{Cuts}
-use Rattle.ppq_merge.proofs.bench.Bench.least_hint.Goals as goal
-
-pub returns-clause-none : goal.returns-clause-none
-returns-clause-none g c = subst (λ hs. IsNone c.least.result ↔ HasNoItems hs) (ap (λ (b : Cuts g.row.R.Denot). b.hints) c.self.view_is) c.least.ensures.none
