@@ -2,7 +2,8 @@
 ghost use Rattle.std.specs.Prelude.{◌≡◌, length};
 
 use ppq_outside::{
-    Host, Library, MemLibrary, MemRack, MemSink, MemSlot, OutsideFault, Rack, Sink, Slot,
+    Failed, Host, Library, MemLibrary, MemRack, MemSink, MemSlot, MemSource, OutsideFault, Rack,
+    Sink, Slot, Source,
 };
 use std::alloc::Global;
 use std::process::Abort;
@@ -237,4 +238,51 @@ fn a_piece_past_the_room_is_cut_and_fails(rt: HostRuntime) {
     assert!(rt; sink.bytes() == b"abcd".as_slice());
     assert!(rt; puts(&rt, &mut sink, b"", true) & puts(&rt, &mut sink, b"e", false));
     assert!(rt; sink.faults() == 2);
+}
+
+// What a source gives, into room for so many bytes: their number, and the room afterwards.
+fn next<H: Host, I: Source>(
+    rt: &H,
+    source: &mut I,
+    room: usize,
+) -> (Result<usize, Failed>, [u8; 4]) {
+    let mut into = [b'-'; 4];
+    let answer = source.get(rt, &mut into[..room.min(4)]);
+    (answer, into)
+}
+
+#[test]
+fn a_source_gives_pieces_in_order_and_then_nothing(rt: HostRuntime) {
+    let alloc = rt.alloc();
+    let bytes = vec![in alloc; b'a', b'b', b'c', b'd', b'e'].expect(&rt, "memory");
+    let mut source = MemSource::new(bytes, 3, Vec::new(alloc));
+    assert!(rt; next(&rt, &mut source, 4) == (Ok(3), *b"abc-"));
+    assert!(rt; next(&rt, &mut source, 1) == (Ok(1), *b"d---"));
+    assert!(rt; next(&rt, &mut source, 0) == (Ok(0), *b"----"));
+    assert!(rt; next(&rt, &mut source, 4) == (Ok(1), *b"e---"));
+    assert!(rt; next(&rt, &mut source, 4) == (Ok(0), *b"----"));
+    assert!(rt; source.faults() == 0);
+}
+
+#[test]
+fn a_planned_call_of_a_source_fails_and_loses_nothing(rt: HostRuntime) {
+    let alloc = rt.alloc();
+    let bytes = vec![in alloc; b'a', b'b'].expect(&rt, "memory");
+    let plan = vec![in alloc; 2].expect(&rt, "memory");
+    let mut source = MemSource::new(bytes, 0, plan);
+    assert!(rt; next(&rt, &mut source, 4) == (Ok(1), *b"a---"));
+    assert!(rt; next(&rt, &mut source, 4) == (Err(Failed), *b"----"));
+    assert!(rt; next(&rt, &mut source, 4) == (Ok(1), *b"b---"));
+    assert!(rt; next(&rt, &mut source, 4) == (Ok(0), *b"----"));
+    assert!(rt; source.faults() == 1);
+}
+
+#[test]
+fn a_block_in_memory_reads_nothing_by_itself(rt: HostRuntime) {
+    let mut rack = MemRack::new();
+    let slot = rack
+        .block(&rt, rt.alloc(), "ppq.device", 0, 2)
+        .expect(&rt, "a block");
+    assert!(rt; !slot.expect(&rt));
+    assert!(rt; (slot.reads() == 0) & (slot.faults() == 0));
 }

@@ -1,7 +1,7 @@
 //! Runs of generated pairs, to be merged.
 ghost use Rattle.std.specs.Prelude.{◌<◌, ◌^◌, length};
 
-use ppq_queue::{Pair, sort};
+use ppq_tree::{Pair, sort};
 use std::alloc::Global;
 use std::io;
 use std::io::ErrorKind;

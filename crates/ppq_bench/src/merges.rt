@@ -1,6 +1,8 @@
 //! Merges of a load: checked against a sort, and timed.
 use crate::load::{Load, out_of_memory, room};
-use ppq_queue::{Bench, Listing, Lists, OpenGate, Pair, merge_workers, size_of, sort};
+use ppq_device::OpenGate;
+use ppq_merge::{Bench, merge_workers, size_of};
+use ppq_tree::{Listing, Lists, Pair, sort};
 use std::alloc::Global;
 use std::io;
 use std::io::ErrorKind;

@@ -10,10 +10,10 @@ mod sources;
 mod taking;
 
 pub use extract::Extract;
-pub use ppq_budget::Sizes;
+pub use ppq_budget::{FAN, LEVELS, MOST_RUNS, Sizes};
 pub use ppq_fetch::{
     Bench, Berth, BerthList, BlockBuf, BufList, ExternalArray, Gate, Host, InternalArray, Job,
-    Lanes, Library, OpenGate, OutsideFault, OwnerLists, Rack, Runs, Slot, StoreFault, Supply,
-    free_slot, give_buffer, merge_workers, size_of,
+    Lanes, Library, MOST_GROUP, OpenGate, OutsideFault, OwnerLists, Rack, Runs, Slot, StoreFault,
+    Supply, free_slot, give_buffer, size_of,
 };
 pub use sources::Sources;

@@ -3,7 +3,7 @@ ghost use Rattle.std.specs.Prelude.{◌≡◌, ◌+◌, ◌≤◌, IfOk, length}
 ghost use Rattle.ppq_budget.specs.Sizes.{fixed_of, pool_of};
 ghost use Rattle.ppq_extract.specs.Extracted.{ServesFor};
 
-use ppq_budget::Sizes;
+use ppq_budget::{FAN, MOST_RUNS, Sizes};
 use ppq_fetch::{Bench, Memory, Record, record_laws};
 use std::alloc::Global;
 
@@ -31,12 +31,12 @@ impl<R: Record> Sources<R> {
     {
         record_laws::<R>();
         let runs = match sizes.pool() {
-            Ok(pool) => pool + 65,
+            Ok(pool) => pool + MOST_RUNS + 1,
             Err(_) => unreachable!(),
         };
         let bench = Bench::new(alloc, sizes.workers(), runs)?;
         let places = vec![in alloc; 0; runs as usize]?;
-        let second = Bench::new(alloc, 1, 8)?;
+        let second = Bench::new(alloc, 1, FAN)?;
         let zeros = vec![in alloc; 0; R::WIDTH]?;
         let batch = vec![in alloc; R::take(&zeros); sizes.block() as usize]?;
         Ok(Sources {

@@ -162,13 +162,13 @@ module _ {S R : Type 0} {shown : S → Shown} {cmp : R → R → Ordering} {reco
               }
 
         -- a call of the slot with this number failed
-        module _ (number : ℕ) (device : answer ≡ Err (Device number)) (fault : HasFailed number (slots_of shown b q)) where
-          pub fault_holds : IsPassing shown cmp record_of width n heap' b (Some q) begun accepted refused (Some number) stores'
-          fault_holds = (
+        module _ (number : ℕ) (device : answer ≡ Err (Device number)) (fault : HasFailed number (slots_of shown b q)) (late : Option ℕ) (is_late : Some number ≡ late) where
+          pub fault_holds : IsPassing shown cmp record_of width n heap' b (Some q) begun accepted refused late stores'
+          fault_holds = subst (λ f. IsPassing shown cmp record_of width n heap' b (Some q) begun accepted refused f stores') is_late (
             passed_stored at.is at.row at.pool kept heap' refused (Some number) cap (omega (arith, all)) (λ r. kept.dry (at.is.ended r)) (λ k h. (subst (λ j. HasFailed j (slots_of shown b q)) (Some-injective number k h) fault, all)),
             (λ h. absurd (not_both (Some number) number h refl)),
             with_stores accepted (Some number) heap' (counted-failed shown n heap body p begun accepted stores failed at.counted b q at.is.block at.none (drawn_more kept) (length sorted) same_long heap' answer pays number device (Some number) (λ h. not_both (Some number) number h refl)),
           )
 
-          pub met_fault : MetFault number v (holding_of shown record_of width n heap' b q begun accepted refused (Some number) stores')
-          met_fault = record { kept = refl; fault = fault; accepted = ap (λ v. v.accepted) at.view; refused = ap (λ v. v.refused) at.view; in_heap = omega (arith, all, at.full, ap (λ v. v.in_heap) at.view) }
+          pub met_fault : MetFault number v (holding_of shown record_of width n heap' b q begun accepted refused late stores')
+          met_fault = subst (λ f. MetFault number v (holding_of shown record_of width n heap' b q begun accepted refused f stores')) is_late record { kept = refl; fault = fault; accepted = ap (λ v. v.accepted) at.view; refused = ap (λ v. v.refused) at.view; in_heap = omega (arith, all, at.full, ap (λ v. v.in_heap) at.view) }

@@ -141,7 +141,7 @@ module _ (S R : RattleType) (slot : Slot.Ghosts S.Denot) (of : Record.Ghosts R.D
     array_sends : IsSend an_array
     array_sends =
         view_send _ _ _ _ _ (struct_sends (external_array.the_type S R slot of ord eq le)
-        (u32_sends, (run_sends, (berth_list_sends, (snapshot_sends a_list, (u32_sends, (u32_sends, (u64_sends, tt))))))))
+        (u32_sends, (run_sends, (berth_list_sends, (snapshot_sends a_list, (u32_sends, (u32_sends, (u64_sends, (u32_sends, tt)))))))))
 
     -- the body of a pass
     runs_send : IsSend (Runs.the_field S R slot of ord eq le).row

@@ -36,5 +36,5 @@ pub use ppq_pool::{
     steps_are_events as buffer_steps_are_events,
 };
 pub use ppq_row::{Row, RowSeat, steps_are_events as slot_steps_are_events};
-pub use ppq_spill::PassBody;
+pub use ppq_spill::{PassBody, latch};
 pub use shared::{PoolBuf, Shared};

@@ -15,7 +15,7 @@ use ppq_extract::{Berth, BerthList, Host, Sizes, Slot, StoreFault};
 use ppq_heap::InsertionHeap;
 use ppq_pool::{PoolSeat, Record, record_laws};
 use ppq_row::RowSeat;
-use ppq_spill::PassBody;
+use ppq_spill::{PassBody, latch};
 use std::marker::Model;
 
 /// A pass of a session: what one worker adds records to, beside the others and with no lock.
@@ -223,7 +223,7 @@ impl<S: Slot + Send, R: Record + Send> Pass<S, R> {
                 Err(StoreFault::NoFreeBlock)
             }
             Err(StoreFault::Device { number }) => {
-                self.failed = Some(number);
+                latch(&mut self.failed, answer);
                 Err(StoreFault::Device { number })
             }
         }

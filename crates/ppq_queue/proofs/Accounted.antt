@@ -8,7 +8,7 @@ use Rattle.ppq_spill.proofs.ppq_counts.Counted.{counted-costs, counted-stops, ac
 use Rattle.ppq_extract.specs.ppq_array.declared.store_fault.StoreFault.{StoreFault}
 use Rattle.ppq_extract.specs.ppq_array.declared.store_fault.StoreFault.TheVariants.{NoFreeBlock, Device}
 use Rattle.ppq_spill.specs.Costing.{Pays}
-use Rattle.ppq_queue.specs.Holding.{latched}
+use Rattle.ppq_spill.specs.Latched.{latched}
 use Rattle.ppq_queue.proofs.Flushed.{not_sound}
 
 -- records of heaps that may have left

@@ -7,14 +7,14 @@ use Rattle.ppq_extract.proofs.ppq_array.Noted.{all_left}
 use Rattle.std.proofs.Math.Nat.{add-mul, mul_comm, mul_assoc, mul-le-mul_right, div-mul-le_self, lt_of_mul-lt-mul_right}
 use Rattle.std.specs.declared.cmp.Ordering.{Ordering}
 use Rattle.ppq_extract.specs.ppq_outside.Shown.{Shown, Tells, AllTell}
-use Rattle.ppq_extract.specs.ppq_budget.Sizes.{Numbers, AreInRange, fixed_of, heaps_of, batch_of, pool_of, blocks_for, room_of}
+use Rattle.ppq_extract.specs.ppq_budget.Sizes.{Numbers, AreInRange, fixed_of, heaps_of, batch_of, pool_of, blocks_for, room_of, lane_buffers}
 use Rattle.ppq_extract.specs.ppq_array.Supply.{Stock}
 use Rattle.ppq_extract.specs.ppq_array.External.{records_in}
 use Rattle.ppq_extract.specs.ppq_array.Holdings.{internal_items, internal_buffers, external_buffers, external_slots}
 use Rattle.ppq_extract.specs.ppq_fetch.Fetching.{blocks_in}
 use Rattle.ppq_spill.specs.Body.{job_slots}
 use Rattle.ppq_spill.specs.declared.body.PassBody.{PassBody}
-use Rattle.ppq_queue.specs.Resting.{AtRest, runs_bag, lane_buffers, count_of, slots_of, odd_in, IsShort}
+use Rattle.ppq_queue.specs.Resting.{AtRest, runs_bag, count_of, slots_of, odd_in, IsShort}
 use Rattle.ppq_queue.proofs.Amounts.{arrays_length, runs_some, runs_fit, internal_count, stored_slots, arrays_fit, arrays_written}
 use Rattle.ppq_queue.proofs.Odd.{arrays_full, runs_most}
 

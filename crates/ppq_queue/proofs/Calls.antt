@@ -22,7 +22,8 @@ use Rattle.ppq_queue.specs.Stores.{HeapsStay, StoreKept, StoreLeaves, HeapsLeave
 use Rattle.ppq_queue.specs.Bulk.{TookAll, TakesOut, TookFront, BulkLeaves, left_after}
 use Rattle.ppq_queue.specs.Out.{Listed, listed}
 use Rattle.ppq_queue.specs.Handed.{viewed, QueueStands}
-use Rattle.ppq_queue.specs.Holding.{Holding, IsAbove, IsRefusal, FoundNoBlock, Keeps, SameRecords, QueueLeaves, latched}
+use Rattle.ppq_queue.specs.Holding.{Holding, IsAbove, IsRefusal, FoundNoBlock, Keeps, SameRecords, QueueLeaves}
+use Rattle.ppq_spill.specs.Latched.{latched}
 use Rattle.ppq_queue.specs.declared.store.Store.{Store}
 use Rattle.ppq_queue.proofs.Accounted.{counted-free, counted-later, pays-fewer}
 use Rattle.ppq_queue.proofs.Moves.{ok-map, ok-map2}

@@ -2,13 +2,13 @@
 use Rattle.std.specs.Prelude.{◌≡◌, ℕ, ◌+◌, ◌≤◌, Bool, List, [], ◌++◌, length, Option, None, vec_capacity}
 use Rattle.std.specs.declared.cmp.Ordering.{Ordering}
 use Rattle.ppq_extract.specs.ppq_outside.Shown.{Shown}
-use Rattle.ppq_extract.specs.ppq_budget.Sizes.{pool_of}
+use Rattle.ppq_extract.specs.ppq_budget.Sizes.{pool_of, lane_buffers}
 use Rattle.ppq_heap.specs.Heaps.{Shares, items_of, share_at}
 use Rattle.ppq_spill.specs.ppq_counts.Account.{IsCounted}
 use Rattle.ppq_spill.specs.ppq_counts.Tally.{Tally}
 use Rattle.ppq_queue.specs.Holding.{Holding}
 use Rattle.ppq_queue.specs.Paying.{whole_account, heaps_account}
-use Rattle.ppq_queue.specs.Resting.{slots_of, runs_bag, lane_buffers, crowd_of}
+use Rattle.ppq_queue.specs.Resting.{slots_of, runs_bag, crowd_of}
 use Rattle.ppq_queue.specs.State.{IsQueue, IsSound}
 use Rattle.ppq_queue.specs.declared.store.Store.{Store}
 use Rattle.ppq_queue.specs.declared.queue_parts.QueueParts.{QueueParts}

@@ -64,12 +64,6 @@ abbrev pub NamesNeed : Numbers → OpenFault → Type 0
 NamesNeed sizes (TooSmall need) = (sizes.memory < fixed_of sizes) × (need ≡ fixed_of sizes)
 NamesNeed sizes Memory = ⊤
 
--- the number of the block that failed, after an answer
-abbrev pub latched : {T : Type 0} → Result T StoreFault → Option ℕ → Option ℕ
-latched (Ok value) failed = failed
-latched (Err NoFreeBlock) failed = failed
-latched (Err (Device number)) failed = Some number
-
 module _ {R : Type 0} where
   -- the queue with one record more in its first heap, and with these records; no slot and no run has changed
   abbrev pub with_one : Holding R → List R → Holding R

@@ -4,7 +4,7 @@ use Rattle.std.specs.declared.cmp.Ordering.{Ordering}
 use Rattle.ppq_heap.specs.ppq_record.Order.{Ascends}
 use Rattle.ppq_heap.specs.ppq_record.Bag.{IsSameBag}
 use Rattle.ppq_extract.specs.ppq_outside.Shown.{Shown, AllTell}
-use Rattle.ppq_extract.specs.ppq_budget.Sizes.{Numbers, pool_of}
+use Rattle.ppq_extract.specs.ppq_budget.Sizes.{Numbers, pool_of, lane_buffers}
 use Rattle.ppq_extract.specs.ppq_array.declared.berth.DeviceBlock.{DeviceBlock}
 use Rattle.ppq_extract.specs.ppq_array.Run.{Run, items_of, buffers_of}
 use Rattle.ppq_extract.specs.ppq_array.External.{External, size_of, records_in, IsPacked}
@@ -17,10 +17,6 @@ use Rattle.ppq_extract.specs.ppq_fetch.Taking.{NoneAfter}
 use Rattle.ppq_spill.specs.Body.{body_slots, held_by}
 use Rattle.ppq_spill.specs.Leveling.{count_level}
 use Rattle.ppq_spill.specs.declared.body.PassBody.{PassBody}
-
--- how many buffers the lanes of a queue have: fronts of runs, inputs of merges, and three for each worker
-abbrev pub lane_buffers : Numbers → ℕ
-lane_buffers n = 72 + 3 * n.workers
 
 -- so few slots are free that a merge of a level or a store of so many records may want more
 abbrev pub IsShort : Numbers → ℕ → ℕ → Type 0

@@ -3,7 +3,7 @@ use Rattle.std.specs.Prelude.{◌≡◌, ℕ, ◌+◌, ◌*◌, ◌<◌, ◌≤�
 use Rattle.std.specs.declared.cmp.Ordering.{Ordering}
 use Rattle.ppq_heap.specs.ppq_record.Order.{Ascends}
 use Rattle.ppq_extract.specs.ppq_outside.Shown.{Shown, AllTell}
-use Rattle.ppq_extract.specs.ppq_budget.Sizes.{Numbers, AreInRange, fixed_of, heap_of, heaps_of, batch_of, pool_of}
+use Rattle.ppq_extract.specs.ppq_budget.Sizes.{Numbers, AreInRange, fixed_of, heap_of, heaps_of, batch_of, pool_of, lane_buffers}
 use Rattle.ppq_heap.specs.Heaps.{Shares, items_of}
 use Rattle.ppq_extract.specs.ppq_block.Block.{holding}
 use Rattle.ppq_extract.specs.ppq_array.Supply.{Stock}
@@ -15,7 +15,7 @@ use Rattle.ppq_extract.specs.declared.sources.Sources.{Sources}
 use Rattle.ppq_spill.specs.Body.{held_by}
 use Rattle.ppq_spill.specs.declared.body.PassBody.{PassBody}
 use Rattle.ppq_queue.specs.Holding.{IsAbove}
-use Rattle.ppq_queue.specs.Resting.{slots_of, lane_buffers, AtRest, runs_bag, count_of}
+use Rattle.ppq_queue.specs.Resting.{slots_of, AtRest, runs_bag, count_of}
 use Rattle.ppq_queue.specs.declared.parts.Parts.{Parts}
 
 module _ {S R : Type 0} (shown : S → Shown) where

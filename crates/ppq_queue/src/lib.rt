@@ -15,7 +15,6 @@ mod choice;
 mod fault;
 mod flush;
 mod heaps;
-mod latch;
 mod limit_end;
 mod out;
 mod parts;
@@ -32,9 +31,9 @@ pub use out::Out;
 pub use ppq_extract::{
     Bench, Berth, BerthList, BlockBuf, BufList, ExternalArray, Extract, Gate, Host, InternalArray,
     Lanes, Library, OpenGate, OutsideFault, OwnerLists, Rack, Runs, Sizes, Slot, Sources,
-    StoreFault, StoreFault as QueueFault, Supply, free_slot, give_buffer, merge_workers, size_of,
+    StoreFault, StoreFault as QueueFault, Supply, free_slot, give_buffer, size_of,
 };
 pub use ppq_heap::{Heaps, InsertionHeap, Listing, Lists, MinTree, Pair, Record, sort};
-pub use ppq_spill::{Counts, PassBody, store_sorted};
+pub use ppq_spill::{Counts, PassBody, latch, store_sorted};
 pub use queue::Queue;
 pub use queue_parts::QueueParts;

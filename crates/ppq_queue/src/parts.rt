@@ -5,7 +5,7 @@ ghost use Rattle.ppq_queue.specs.State.{AreNewParts, IsBareBody};
 
 use crate::berths::make_buffers;
 use crate::store::Store;
-use ppq_extract::{Extract, Lanes, OwnerLists, Runs, Sizes, Slot, Sources};
+use ppq_extract::{Extract, Lanes, MOST_GROUP, MOST_RUNS, OwnerLists, Runs, Sizes, Slot, Sources};
 use ppq_heap::{Heaps, Memory, MinTree, Record};
 use ppq_spill::PassBody;
 use std::alloc::Global;
@@ -54,11 +54,11 @@ fn new_body<S: Slot, R: Record>(
     ensures { IfOk result (IsBareBody sizes.now buffers) }
 {
     let workers = sizes.workers();
-    let runs = Runs::new(alloc, buffers + 1, sizes.blocks() + 66)?;
+    let runs = Runs::new(alloc, buffers + 1, sizes.blocks() + MOST_RUNS + 2)?;
     let lanes = Lanes::new(
         alloc,
-        72 + 3 * workers,
-        36 + 3 * workers,
+        sizes.lane_buffers(),
+        MOST_GROUP + 3 * workers,
         sizes.block(),
         sizes.batch(),
     )?;

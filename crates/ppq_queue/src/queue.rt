@@ -14,14 +14,13 @@ ghost use Rattle.ppq_queue.specs.Holding.{resident_of, with_one, IsAbove, NamesN
 use crate::berths::{berth_slots, give_back};
 use crate::bulk::{empty_on_error, keep_below};
 use crate::choice::{first_of_two, take_first};
-use crate::latch::latch;
 use crate::parts::Parts;
 use crate::store::Store;
 use crate::wanted::Wanted;
 use crate::{LimitEnd, OpenFault, Out, QueueFault, QueueParts};
 use ppq_extract::{Gate, Host, Sizes, Slot, Supply};
 use ppq_heap::{Heaps, Record, record_laws};
-use ppq_spill::Counts;
+use ppq_spill::{Counts, latch};
 use std::alloc::Global;
 use std::marker::Model;
 
@@ -571,7 +570,7 @@ impl<S: Slot + Send + Sync, R: Record + Send + Sync> Queue<S, R> {
             return 0
         };
         let block = u64::from(self.store.sizes.block());
-        let lanes = 72 + 3 * u64::from(self.store.sizes.workers());
+        let lanes = u64::from(self.store.sizes.lane_buffers());
         let buffers = (lanes + u64::from(pool)) * block;
         let used = u64::from(self.store.sizes.blocks()) - u64::from(self.store.supply.free_slots());
         let batches = 2 * u64::from(self.store.sizes.batch());

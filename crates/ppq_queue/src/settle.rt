@@ -7,9 +7,12 @@ ghost use Rattle.ppq_queue.specs.Stores.{MayWork, MayMergeTwo, LevelLeaves, Sett
 
 use crate::QueueFault;
 use crate::store::Store;
-use ppq_extract::{ExternalArray, Gate, Host, Slot, Sources};
+use ppq_extract::{ExternalArray, FAN, Gate, Host, LEVELS, Slot, Sources};
 use ppq_heap::Record;
 use ppq_spill::{merge_level, merge_pair};
+
+// How many runs a settled level has at most.
+const FULL: u64 = FAN as u64;
 
 impl<S: Slot + Send + Sync, R: Record + Send + Sync> Store<S, R> {
     // Merges levels of runs, if there is a run.
@@ -34,7 +37,7 @@ impl<S: Slot + Send + Sync, R: Record + Send + Sync> Store<S, R> {
         requires works { MayWork S.shown R.Ord.cmp R.record_of R.WIDTH self.old }
         ensures { Settles S.shown R.Ord.cmp R.record_of R.WIDTH self.old self.new result }
     {
-        for level in 0..8 {
+        for level in 0..LEVELS {
             self.settle_level(rt, level, gate)?;
         }
         Ok(())
@@ -54,7 +57,7 @@ impl<S: Slot + Send + Sync, R: Record + Send + Sync> Store<S, R> {
         ensures leaves { LevelLeaves S.shown R.Ord.cmp R.record_of R.WIDTH level self.old self.new result }
         ensures level { OnOk result (count_level level self.new.body.runs.external.items ≤ 8) }
     {
-        while count_at(&self.body.runs.external, level) > 8 {
+        while count_at(&self.body.runs.external, level) > FULL {
             self.merge_some(rt, level, gate)?;
         }
         Ok(())
@@ -88,10 +91,10 @@ impl<S: Slot + Send + Sync, R: Record + Send + Sync> Store<S, R> {
         ensures { result ≡ true → MayMergeTwo level self.now }
     {
         let arrays = self.body.runs.external.as_slice();
-        let two = self.sizes.workers() > 1 && count_at(arrays, level) > 16;
+        let two = self.sizes.workers() > 1 && count_at(arrays, level) > 2 * FULL;
         let idle = two && count_loaded(arrays) == 0;
         let Sources { second, batch, .. } = &self.sources;
-        let able = second.workers() == 1 && second.runs() >= 8;
+        let able = second.workers() == 1 && second.runs() >= FAN;
         idle && able && batch.len() == self.sizes.block() as usize
     }
 

@@ -92,13 +92,16 @@ fn of_a_batch_the_first_failed_block_is_named(rt: HostRuntime) -> Result<(), Fai
 
 // Four workers, 2,048 records a block, eight blocks a heap, and a budget without a buffer: 128 blocks of records
 // and one record a block. So each heap of 16,384 records goes to eight blocks, and a refill takes 8,192 records.
-fn long() -> Option<Sizes> {
+pub(crate) fn long() -> Option<Sizes> {
     Sizes::new(4, 2048, 8, 262744, 600)
 }
 
 // Pushes the keys 0, 2 to 32,766, which go to the blocks 0 to 7, then 1, 3 to 32,767, which go to 8 to 15, and
 // 32,768.
-fn push_two_runs<H: Host + Abort>(rt: &H, queue: &mut Queue<MemSlot, Pair>)
+pub(crate) fn push_two_runs<H: Host + Abort, S: Slot + Send + Sync>(
+    rt: &H,
+    queue: &mut Queue<S, Pair>,
+)
 where
     H::Dir: Send,
 {

@@ -8,6 +8,8 @@ mod bulk;
 #[cfg(test)]
 mod queue;
 #[cfg(test)]
+mod told;
+#[cfg(test)]
 mod transfers;
 #[cfg(test)]
 mod workers;

@@ -52,6 +52,10 @@ impl Slot for GoneSlot {
         self.faults = self.faults.saturating_add(1);
         Err(Failed)
     }
+
+    fn expect<H: Host>(&self, _rt: &H) -> bool {
+        false
+    }
 }
 
 // A slot in whose write worker 0 enters a gate. It keeps nothing.
@@ -96,6 +100,10 @@ impl<'a> Slot for MeetSlot<'a> {
     fn read<H: Host>(&mut self, _rt: &H, _into: &mut [u8]) -> Result<(), Failed> {
         self.faults = self.faults.saturating_add(1);
         Err(Failed)
+    }
+
+    fn expect<H: Host>(&self, _rt: &H) -> bool {
+        false
     }
 }
 

@@ -1,7 +1,7 @@
 //! Device, library and streams over real files in the working folder.
 use ppq_checked::{UntrustedRack, UntrustedSlot};
-use ppq_edge::{DirLibrary, FileRack, FileSlot, NamedFiles, StdSink};
-use ppq_outside::{Failed, Host, Library, OutsideFault, Sink};
+use ppq_edge::{DirLibrary, FileRack, FileSlot, NamedFiles, StdSink, StdSource};
+use ppq_outside::{Failed, Host, Library, OutsideFault, Sink, Source};
 use std::alloc::Global;
 use std::fs::{self, File, Permissions};
 use std::os::unix::fs::{FileExt, PermissionsExt, symlink};
@@ -301,4 +301,34 @@ fn the_streams_take_text(rt: HostRuntime) {
     assert_eq!(rt; errors.put(&rt, b"a line\n"), Ok(()));
     assert_eq!(rt; errors.put(&rt, b"\xff"), Err(Failed));
     assert_eq!(rt; errors.faults(), 1);
+}
+
+#[test]
+fn a_reader_is_a_source(rt: HostRuntime) {
+    write_file(&rt, "source", b"abc");
+    let mut source = StdSource::new(File::open(&rt, "source").expect(&rt, "a file"));
+    let mut into = [b'-'; 2];
+    assert_eq!(rt; (source.get(&rt, &mut into), into), (Ok(2), *b"ab"));
+    assert_eq!(rt; (source.get(&rt, &mut into), into), (Ok(1), *b"cb"));
+    assert_eq!(rt; source.get(&rt, &mut into), Ok(0));
+    assert_eq!(rt; source.faults(), 0);
+}
+
+#[test]
+fn a_folder_is_a_source_that_fails(rt: HostRuntime) {
+    let mut source = StdSource::new(File::open(&rt, ".").expect(&rt, "a folder"));
+    let mut into = [0; 2];
+    assert_eq!(rt; source.get(&rt, &mut into), Err(Failed));
+    assert_eq!(rt; source.faults(), 1);
+}
+
+#[test]
+fn a_block_of_a_file_reads_by_itself_what_is_expected(rt: HostRuntime) {
+    let mut rack = FileRack::new();
+    let mut block = block_of(&rt, rt.alloc(), &mut rack, "expected.device", 0);
+    takes(&rt, &mut block, [5, 6, 7, 8], true);
+    assert!(rt; block.expect(&rt));
+    gives(&rt, &mut block, Ok([5, 6, 7, 8]));
+    counts(&rt, &block, 1, 1, 0);
+    remove_file(&rt, "expected.device");
 }

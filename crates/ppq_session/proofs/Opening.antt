@@ -9,7 +9,7 @@ use Rattle.std.proofs.lemmas.List.Elements.{All-map, All-tail}
 use Rattle.atomic_table.specs.Seated.{TableId}
 use Rattle.ppq_pass.proofs.ppq_record.Order.{IsSameBag-trans, IsSameBag-append, IsSameBag-append_comm}
 use Rattle.ppq_pass.specs.ppq_outside.Shown.{Shown, AllTell, Tells}
-use Rattle.ppq_pass.specs.ppq_budget.Sizes.{pool_of}
+use Rattle.ppq_pass.specs.ppq_budget.Sizes.{pool_of, lane_buffers}
 use Rattle.ppq_pass.specs.ppq_block.Block.{Block}
 use Rattle.ppq_pass.specs.ppq_tree.Tree.{Leaves}
 use Rattle.ppq_pass.specs.ppq_heap.Heap.{Contents}
@@ -30,7 +30,7 @@ use Rattle.ppq_pass.specs.ppq_pool.Seats.{count_of as pool_count}
 use Rattle.ppq_pass.specs.Passed.{PassKey, PassHolding}
 use Rattle.ppq_pass.specs.declared.shared.PoolBuf.{PoolBuf}
 use Rattle.ppq_pass.specs.declared.shared.Shared.{Shared}
-use Rattle.ppq_queue.specs.Resting.{AtRest, IsRestingRun, IsRestingArray, slots_of, runs_bag, count_of, lane_buffers, odd_in}
+use Rattle.ppq_queue.specs.Resting.{AtRest, IsRestingRun, IsRestingArray, slots_of, runs_bag, count_of, odd_in}
 use Rattle.ppq_queue.specs.State.{IsSound}
 use Rattle.ppq_queue.specs.declared.queue_parts.QueueParts.{QueueParts}
 use Rattle.ppq_session.specs.BulkSession.{BulkHolding, AreOf, keys_of, bag_of, pass_key}

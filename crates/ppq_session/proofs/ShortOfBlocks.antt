@@ -8,7 +8,7 @@ use Rattle.std.proofs.lemmas.List.Sums.{sum_by-cons}
 use Rattle.std.proofs.lemmas.List.Elements.{All-nil, All-head, All-tail, All-cons, All-map}
 use Rattle.std.proofs.lemmas.List.Concat.{flat_map-cons}
 use Rattle.ppq_pass.specs.ppq_outside.Shown.{Shown}
-use Rattle.ppq_pass.specs.ppq_budget.Sizes.{Numbers, AreInRange, heap_of, blocks_for, room_of, heaps_of, pool_of}
+use Rattle.ppq_pass.specs.ppq_budget.Sizes.{Numbers, AreInRange, heap_of, blocks_for, room_of, heaps_of, pool_of, lane_buffers}
 use Rattle.ppq_pass.specs.ppq_array.External.{External}
 use Rattle.ppq_pass.specs.ppq_array.Owner.{slots_shown}
 use Rattle.ppq_pass.specs.ppq_array.Holdings.{external_slots, internal_buffers, external_buffers}
@@ -17,7 +17,7 @@ use Rattle.ppq_pass.specs.ppq_spill.Body.{body_slots, job_slots}
 use Rattle.ppq_pass.proofs.ppq_spill.Keeping.{slots_long}
 use Rattle.ppq_pass.specs.Passed.{PassHolding, slots_of as pass_slots}
 use Rattle.ppq_pass.specs.PassState.{IsPassArray}
-use Rattle.ppq_queue.specs.Resting.{odd_of, odd_in, slots_of, lane_buffers}
+use Rattle.ppq_queue.specs.Resting.{odd_of, odd_in, slots_of}
 use Rattle.ppq_queue.proofs.Amounts.{stored_slots, internal_count, runs_fit, arrays_fit}
 use Rattle.ppq_queue.proofs.Odd.{arrays_full}
 use Rattle.ppq_session.specs.Apart.{IsApart, IsSoundApart, apart_slots, in_runs}

@@ -5,7 +5,7 @@ use Rattle.std.specs.Global.{Global}
 use Rattle.std.specs.declared.cmp.Ordering.{Ordering}
 use Rattle.ppq_pass.specs.ppq_record.Order.{Ascends}
 use Rattle.ppq_pass.specs.ppq_outside.Shown.{Shown, AllTell}
-use Rattle.ppq_pass.specs.ppq_budget.Sizes.{Numbers, AreInRange, fixed_of, batch_of, pool_of}
+use Rattle.ppq_pass.specs.ppq_budget.Sizes.{Numbers, AreInRange, fixed_of, batch_of, pool_of, lane_buffers}
 use Rattle.ppq_pass.specs.ppq_table.Sums.{all_shares}
 use Rattle.ppq_pass.specs.ppq_tree.Tree.{Leaves}
 use Rattle.ppq_pass.specs.ppq_heap.Heap.{Contents}
@@ -27,7 +27,7 @@ use Rattle.ppq_pass.specs.declared.shared.PoolBuf.{PoolBuf}
 use Rattle.ppq_pass.specs.declared.shared.Shared.{Shared}
 use Rattle.ppq_session.specs.Bringing.{BroughtAll}
 use Rattle.ppq_queue.specs.Holding.{IsAbove}
-use Rattle.ppq_queue.specs.Resting.{IsRestingRun, IsRestingArray, AllRise, runs_bag, count_of, lane_buffers, odd_in, slots_of}
+use Rattle.ppq_queue.specs.Resting.{IsRestingRun, IsRestingArray, AllRise, runs_bag, count_of, odd_in, slots_of}
 use Rattle.ppq_session.specs.Ends.{Staying}
 use Rattle.ppq_session.specs.declared.brought.Brought.{Brought}
 use Rattle.ppq_session.specs.declared.parts.BulkParts.{BulkParts}

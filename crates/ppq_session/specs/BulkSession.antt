@@ -3,14 +3,13 @@ use Rattle.std.specs.Prelude.{◌≡◌, ℕ, ◌+◌, ◌*◌, Bool, false, Lis
 use Rattle.atomic_table.specs.Seated.{TableId}
 use Rattle.ppq_pass.specs.ppq_record.Bag.{IsSameBag}
 use Rattle.ppq_pass.specs.ppq_outside.Shown.{Shown, AllTell}
-use Rattle.ppq_pass.specs.ppq_budget.Sizes.{Numbers, pool_of}
+use Rattle.ppq_pass.specs.ppq_budget.Sizes.{Numbers, pool_of, lane_buffers}
 use Rattle.ppq_pass.specs.ppq_counts.Tally.{Tally}
 use Rattle.ppq_pass.specs.ppq_array.declared.berth.DeviceBlock.{DeviceBlock}
 use Rattle.ppq_pass.specs.ppq_pool.Seats.{count_of}
 use Rattle.ppq_pass.specs.Passed.{PassKey, PassHolding}
 use Rattle.ppq_pass.specs.declared.shared.Shared.{Shared}
 use Rattle.ppq_queue.specs.Holding.{Holding, FoundNoBlock, MetFault}
-use Rattle.ppq_queue.specs.Resting.{lane_buffers}
 use Rattle.ppq_session.specs.declared.fault.BeginFault.{BeginFault}
 use Rattle.ppq_session.specs.declared.fault.BeginFault.TheVariants.{Memory, NoFreeBlock as NoBlockAtBegin, Device as DeviceAtBegin}
 use Rattle.ppq_session.specs.declared.fault.SessionEnd.{SessionEnd}

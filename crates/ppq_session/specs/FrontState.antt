@@ -6,7 +6,7 @@ use Rattle.ppq_pass.specs.ppq_record.Bag.{IsSameBag}
 use Rattle.ppq_pass.specs.ppq_array.declared.store_fault.StoreFault.{StoreFault as QueueFault}
 use Rattle.ppq_pass.specs.ppq_array.declared.store_fault.StoreFault.TheVariants.{NoFreeBlock, Device}
 use Rattle.ppq_pass.specs.ppq_outside.Shown.{Shown, AllTell}
-use Rattle.ppq_pass.specs.ppq_budget.Sizes.{Numbers, pool_of}
+use Rattle.ppq_pass.specs.ppq_budget.Sizes.{Numbers, pool_of, lane_buffers}
 use Rattle.ppq_pass.specs.ppq_block.Block.{Block, holding}
 use Rattle.ppq_pass.specs.ppq_array.declared.berth.DeviceBlock.{DeviceBlock}
 use Rattle.ppq_pass.specs.ppq_array.Supply.{Stock}
@@ -17,7 +17,7 @@ use Rattle.ppq_pass.specs.ppq_fetch.Taking.{NoneAfter, AllBelow, NoneBelow}
 use Rattle.ppq_pass.specs.ppq_pool.Seats.{count_of as pool_count}
 use Rattle.ppq_pass.specs.ppq_spill.Body.{held_by}
 use Rattle.ppq_pass.specs.ppq_spill.declared.body.PassBody.{PassBody}
-use Rattle.ppq_queue.specs.Resting.{AtRest, BodyKept, runs_bag, count_of, lane_buffers}
+use Rattle.ppq_queue.specs.Resting.{AtRest, BodyKept, runs_bag, count_of}
 use Rattle.ppq_session.specs.declared.parts.BulkParts.{BulkParts}
 use Rattle.ppq_session.specs.Apart.{IsOut, IsApart, IsCountedApart, apart_slots}
 use Rattle.ppq_session.specs.Emptied.{emptied}

@@ -3,7 +3,7 @@ use Rattle.std.specs.Prelude.{◌≡◌, ◌⊎◌, ℕ, ◌+◌, ◌-◌, ◌*�
 use Rattle.std.specs.Option.{option_or}
 use Rattle.std.specs.declared.cmp.Ordering.{Ordering}
 use Rattle.ppq_pass.specs.ppq_outside.Shown.{Shown, AllTell}
-use Rattle.ppq_pass.specs.ppq_budget.Sizes.{AreInRange, fixed_of, heap_of, batch_of, pool_of}
+use Rattle.ppq_pass.specs.ppq_budget.Sizes.{AreInRange, fixed_of, heap_of, batch_of, pool_of, lane_buffers}
 use Rattle.ppq_pass.specs.ppq_heap.Heap.{Contents}
 use Rattle.ppq_pass.specs.ppq_heap.Heaps.{items_in}
 use Rattle.ppq_pass.specs.ppq_array.Owner.{HasBlock, slots_shown}
@@ -20,7 +20,7 @@ use Rattle.ppq_pass.specs.ppq_spill.declared.body.PassBody.{PassBody}
 use Rattle.ppq_pass.specs.Passed.{slots_of as pass_slots}
 use Rattle.ppq_pass.specs.PassState.{drawn_of}
 use Rattle.ppq_queue.specs.Slots.{SameSums, with_slots}
-use Rattle.ppq_queue.specs.Resting.{IsRestingRun, IsRestingArray, AllRise, runs_bag, count_of, lane_buffers, odd_in, slots_of}
+use Rattle.ppq_queue.specs.Resting.{IsRestingRun, IsRestingArray, AllRise, runs_bag, count_of, odd_in, slots_of}
 use Rattle.ppq_pass.specs.ppq_record.Order.{Ascends}
 use Rattle.ppq_pass.specs.ppq_fetch.Taking.{NoneAfter}
 use Rattle.ppq_pass.specs.ppq_record.Bag.{IsSameBag}

@@ -13,7 +13,7 @@ ghost use Rattle.ppq_session.specs.State.{IsAllInRuns};
 
 use crate::parts::BulkParts;
 use crate::refill::refill_front;
-use ppq_pass::{Gate, Host, QueueFault, Record, Slot, record_laws};
+use ppq_pass::{Gate, Host, QueueFault, Record, Slot, latch, record_laws};
 use std::marker::Model;
 
 /// What the owner of a queue keeps while a limit session is on: all records that the queue had, in runs,
@@ -134,7 +134,7 @@ impl<S: Slot + Send + Sync, R: Record + Send + Sync> Front<S, R> {
             Ok(()) => Ok(()),
             Err(QueueFault::NoFreeBlock) => Err(QueueFault::NoFreeBlock),
             Err(QueueFault::Device { number }) => {
-                self.failed = Some(number);
+                latch(&mut self.failed, answer);
                 Err(QueueFault::Device { number })
             }
         }

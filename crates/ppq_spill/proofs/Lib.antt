@@ -21,6 +21,7 @@ pub mod Heads
 pub mod InBlocks
 pub mod Jobs
 pub mod Keeping
+pub mod Latching
 pub mod Leveled
 pub mod Merges
 pub mod Mergings

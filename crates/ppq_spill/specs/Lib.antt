@@ -3,6 +3,7 @@ pub mod Body
 pub mod Choosing
 pub mod Costing
 pub mod Grouping
+pub mod Latched
 pub mod Leveling
 pub mod Making
 pub mod Moves

@@ -11,19 +11,10 @@ use crate::merging::{merge_least, write_heads};
 use crate::new_array::NewArray;
 use crate::writing::write_runs;
 use ppq_fetch::{
-    Berth, BerthList, BufList, ExternalArray, Host, Job, JobKind, Record, Slot, overlap_mut,
-    record_laws, run_jobs,
+    Berth, BerthList, BufList, ExternalArray, Host, Job, JobKind, LEAST_GROUP, MOST_GROUP, Record,
+    Slot, overlap_mut, record_laws, run_jobs,
 };
 use std::mem::replace;
-
-// How few blocks a group has. The start of a thread and its join cost as much as one or two block writes
-// into memory that the machine writes out later, and many times that where all processors have work; so
-// smaller groups are written by the calling thread.
-const LEAST_GROUP: u32 = 8;
-
-// How many blocks a group has at most. Larger ones gain nothing: the first group is merged while nothing
-// is written.
-const MOST_GROUP: u32 = 36;
 
 // Merges all runs in buffers of a body and a sorted list into blocks, and writes them to the slots of a
 // new array, as `write_runs` does. Where buffers and jobs have room for groups that are large enough, a

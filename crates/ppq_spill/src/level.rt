@@ -15,10 +15,14 @@ use crate::making::write_batch;
 use crate::new_array::NewArray;
 use crate::slots::{draw_slots, free_slots};
 use crate::turns::{goes_beside, merge_beside};
+use ppq_budget::{FAN, LEVELS};
 use ppq_fetch::{
     Bench, Berth, BerthList, Crew, ExternalArray, Gate, Host, InternalArray, Lanes, Record, Slot,
     StoreFault, Supply, record_laws, take_least,
 };
+
+// How many arrays are merged into one.
+pub(crate) const TAKEN: usize = FAN as usize;
 
 /// Merges 8 arrays of a level into one of the next level, and of level 7 into one of level 7. The new
 /// array stands after the others, with nothing loaded. Where the 8 ascend, so does the new one.
@@ -81,11 +85,11 @@ where
     ensures workers { bench.new.workers ≡ bench.old.workers }
     ensures bench { length bench.new.places ≡ length bench.old.places }
 {
-    gather_level(arrays, level, 8);
+    gather_level(arrays, level, TAKEN);
     let Some(berths) = draw_for_last(arrays, supply) else {
         return Err(StoreFault::NoFreeBlock);
     };
-    let made = ExternalArray::empty((level + 1).min(7));
+    let made = ExternalArray::empty((level + 1).min(LEVELS - 1));
     let making = NewArray { made, berths };
     match merge_last(&Crew { rt, gate }, arrays, making, supply, lanes, bench) {
         Ok(()) => Ok(()),
@@ -106,7 +110,7 @@ fn draw_for_last<S: Slot, R: Record, P: Supply<S, R>>(
     ensures few { IfNone result (FoundFewSlots (external_buffers (last_eight arrays.now.items)) (P.stock supply.old) (P.stock supply.new)) }
     ensures home { P.home supply.new ≡ P.home supply.old }
 {
-    let first = arrays.len() - 8;
+    let first = arrays.len() - TAKEN;
     let need = count_buffers(&arrays[first..]);
     draw_slots(supply, need)
 }
@@ -130,7 +134,7 @@ where
     ensures rooms { vec_capacity arrays.new ≡ vec_capacity arrays.old }
     ensures tools { SameTools lanes.old lanes.new bench.old.workers bench.new.workers (length bench.old.places) (length bench.new.places) }
 {
-    let first = arrays.len() - 8;
+    let first = arrays.len() - TAKEN;
     let mut making = making;
     match merge_behind(crew, arrays, &mut making, supply, lanes, bench) {
         Ok(()) => {
@@ -167,7 +171,7 @@ where
     ensures home { P.home supply.new ≡ P.home supply.old }
     ensures tools { SameTools lanes.old lanes.new bench.old.workers bench.new.workers (length bench.old.places) (length bench.new.places) }
 {
-    let first = arrays.len() - 8;
+    let first = arrays.len() - TAKEN;
     merge_arrays(crew, &mut arrays[first..], making, supply, lanes, bench)
 }
 
@@ -299,7 +303,7 @@ where
     ensures tools { SameTools lanes.old lanes.new bench.old.workers bench.new.workers (length bench.old.places) (length bench.new.places) }
 {
     let mut internal: [InternalArray<R>; 0] = [];
-    let mut places = [0; 8];
+    let mut places = [0; TAKEN];
     let ahead = bench.workers();
     take_least(
         crew.rt,

@@ -18,6 +18,7 @@
 
 mod body;
 mod buffers;
+mod failure;
 mod gathering;
 mod groups;
 mod level;
@@ -31,6 +32,7 @@ mod turns;
 mod writing;
 
 pub use body::PassBody;
+pub use failure::latch;
 pub use level::merge_level;
 pub use pair::merge_pair;
 pub use ppq_counts::Counts;

@@ -7,9 +7,10 @@ ghost use Rattle.ppq_spill.specs.Pairing.{MayPair, PairEnds, last_part, part_bef
 
 use crate::gathering::gather_level;
 use crate::groups::put_back;
-use crate::level::merge_arrays;
+use crate::level::{TAKEN, merge_arrays};
 use crate::new_array::NewArray;
 use crate::slots::free_slots;
+use ppq_budget::{FAN, LEVELS};
 use ppq_fetch::{
     Bench, Berth, BerthList, BufList, Crew, ExternalArray, Gate, Host, Lanes, OwnerLists, Record,
     Slot, StoreFault, Supply, free_slot,
@@ -17,8 +18,8 @@ use ppq_fetch::{
 use std::mem::replace;
 use std::thread::join_mut;
 
-// How many buffers the second merge gets: two for its worker, and one for each of its 8 arrays.
-const LENT: u32 = 10;
+// How many buffers the second merge gets: two for its worker, and one for each of its arrays.
+const LENT: u32 = FAN + 2;
 
 /// Merges 16 arrays of a level into two of the next level, and of level 7 into two of level 7: 8 of them by
 /// the workers of the bench, and the other 8 meanwhile on a thread of their own, by the one worker of another
@@ -70,9 +71,9 @@ where
     ensures other { (other.new.workers ≡ other.old.workers) × (length other.new.places ≡ length other.old.places) }
     ensures batch { length batch.new.items ≡ length batch.old.items }
 {
-    gather_level(arrays, level, 16);
+    gather_level(arrays, level, 2 * TAKEN);
     let block = lanes.idle.at(0).block();
-    let next = (level + 1).min(7);
+    let next = (level + 1).min(LEVELS - 1);
     let mut first = NewArray {
         made: ExternalArray::empty(next),
         berths: BerthList::empty(),
@@ -171,7 +172,7 @@ where
     ensures tools { SameTools lanes.old lanes.new bench.old.workers bench.new.workers (length bench.old.places) (length bench.new.places) }
     ensures other_tools { SameTools lent.old lent.new other.old.workers other.new.workers (length other.old.places) (length other.new.places) }
 {
-    let start = arrays.len() - 16;
+    let start = arrays.len() - 2 * TAKEN;
     merge_halves(
         crew,
         &mut arrays[start..],
@@ -212,7 +213,7 @@ where
     ensures tools { SameTools lanes.old lanes.new bench.old.workers bench.new.workers (length bench.old.places) (length bench.new.places) }
     ensures other_tools { SameTools lent.old lent.new other.old.workers other.new.workers (length other.old.places) (length other.new.places) }
 {
-    let (low, high) = sixteen.split_at_mut(8);
+    let (low, high) = sixteen.split_at_mut(TAKEN);
     let below: Option<R> = None;
     merge_both(
         high, first, supply, lanes, bench, low, second, aside, lent, other, &below, crew,
@@ -358,7 +359,7 @@ fn end_pair<S: Slot, R: Record, P: Supply<S, R>>(
     free_slots(supply, berths);
     let ended = end_of_both(one, two);
     if ended.is_ok() {
-        let start = arrays.len() - 16;
+        let start = arrays.len() - 2 * TAKEN;
         arrays.truncate(start);
     }
     arrays.push_reserved(low);

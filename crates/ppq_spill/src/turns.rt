@@ -12,19 +12,10 @@ use crate::level::{see_emptied, take_batch};
 use crate::making::next_slot;
 use crate::new_array::NewArray;
 use ppq_fetch::{
-    Bench, Berth, BerthList, BufList, Crew, ExternalArray, Gate, Host, Job, JobKind, Lanes, Record,
-    Slot, StoreFault, Supply, free_slot, overlap_mut, record_laws,
+    Bench, Berth, BerthList, BufList, Crew, ExternalArray, Gate, Host, Job, JobKind,
+    LEAST_RECORDS_BESIDE, LEAST_WORKERS_BESIDE, Lanes, Record, Slot, StoreFault, Supply, free_slot,
+    overlap_mut, record_laws,
 };
-
-// How few workers write a batch beside the taking of the next one. A batch has room for a block for each
-// worker, so the groups of a level are smaller than those of a store. A turn starts and joins one thread,
-// which costs as much as one or two block writes into memory that the machine writes out later: with four
-// blocks a turn a device that makes its caller wait gains, and with one or two it would lose.
-const LEAST_WORKERS: u32 = 4;
-
-// How few records such a batch has. One worker takes them in some 160 microseconds; to start and join the
-// thread that writes the batch before takes 15 to 40.
-const LEAST_RECORDS: usize = 4096;
 
 // Whether so many workers merge a level with a thread beside them, where a batch has so many records, there
 // are so many jobs, room for so many, and so many slots in hand, which are counted with those of the jobs.
@@ -33,7 +24,7 @@ pub(crate) fn goes_beside(workers: u32, batch: usize, jobs: usize, room: usize, 
     ensures room { result ≡ true → workers ≤ room }
     ensures slots { result ≡ true → slots < 2 ^ 32 - 1 }
 {
-    let pays = LEAST_WORKERS <= workers && LEAST_RECORDS <= batch;
+    let pays = LEAST_WORKERS_BESIDE <= workers && LEAST_RECORDS_BESIDE <= batch;
     pays && jobs == 0 && (workers as usize) <= room && slots < u32::MAX
 }
 

@@ -1,8 +1,10 @@
+use Rattle.std.specs.Prelude.{⊤}
 use Rattle.std.proofs.Common.{◌≡◌, ◌∷◌, ◌+◌, [], length, Some, None, true, sym, ap, ◌∙◌, subst, arith}
 use Rattle.ppq_pool.specs.ppq_record.Bag.{IsSameBag}
 use Rattle.ppq_extract.specs.ppq_budget.Sizes.{heap_of}
 use Rattle.ppq_extract.specs.ppq_array.declared.store_fault.StoreFault.TheVariants.{NoFreeBlock, Device}
 use Rattle.ppq_pass.specs.PassState.{IsPassing}
+use Rattle.ppq_spill.proofs.Latching.{latched_device}
 use Rattle.ppq_pass.proofs.PassKeeps.{heap_small}
 use Rattle.ppq_pass.proofs.PassOpened.{on_ok, matched, has_room}
 use Rattle.ppq_pass.proofs.PassReady.{AtStore, at_store}
@@ -72,7 +74,8 @@ invariant_of-self-in-Err-Device g c =
     let e = c.in-Err-Device in
     let fault : e.field-0 ≡ Device e.number = rw e.is at e.field-0-is in
     let is = matched m.result.1 e.field-0 (Device e.number) e.is fault in
-    fault_holds at m.ensures.kept m.ensures.counted c.saturating_add-self-inside.ensures c.sort_in_place.new.self c.sort_in_place.ensures.cap (sym c.as_slice.ensures) e.number is (m.ensures.device e.number is)
+    let late = latched_device ⊤ c.self.inside.failed c.latch.new.failed m.result.1 e.field-0 e.number c.latch.ensures e.is fault in
+    fault_holds at m.ensures.kept m.ensures.counted c.saturating_add-self-inside.ensures c.sort_in_place.new.self c.sort_in_place.ensures.cap (sym c.as_slice.ensures) e.number is (m.ensures.device e.number is) c.latch.new.failed late
 
 pub returns-in-Ok-clause-put : goal.returns-in-Ok-clause-put
 returns-in-Ok-clause-put g c =
@@ -106,9 +109,10 @@ returns-in-Err-Device-clause-refused g c =
     let e = c.in-Err-Device in
     let fault : e.field-0 ≡ Device e.number = rw e.is at e.field-0-is in
     let is = matched m.result.1 e.field-0 (Device e.number) e.is fault in
-    met_fault at m.ensures.kept m.ensures.counted c.saturating_add-self-inside.ensures c.sort_in_place.new.self c.sort_in_place.ensures.cap (sym c.as_slice.ensures) e.number is (m.ensures.device e.number is)
+    let late = latched_device ⊤ c.self.inside.failed c.latch.new.failed m.result.1 e.field-0 e.number c.latch.ensures e.is fault in
+    met_fault at m.ensures.kept m.ensures.counted c.saturating_add-self-inside.ensures c.sort_in_place.new.self c.sort_in_place.ensures.cap (sym c.as_slice.ensures) e.number is (m.ensures.device e.number is) c.latch.new.failed late
 
 pub returns-in-Err-Device-clause-stays : goal.returns-in-Err-Device-clause-stays
 returns-in-Err-Device-clause-stays g c =
     let s = c.self.inside in
-    push_keeps (at g (goal.at.returns-in-Err-Device-clause-stays g c).After-as_slice) c.store_run-parts.ensures.kept c.store_run-parts.ensures.counted c.saturating_add-self-inside.ensures c.sort_in_place.new.self s.accepted s.refused (Some c.in-Err-Device.number)
+    push_keeps (at g (goal.at.returns-in-Err-Device-clause-stays g c).After-as_slice) c.store_run-parts.ensures.kept c.store_run-parts.ensures.counted c.saturating_add-self-inside.ensures c.sort_in_place.new.self s.accepted s.refused c.latch.new.failed

@@ -6,6 +6,7 @@ use Rattle.ppq_pass.specs.ppq_outside.Shown.{AllTell}
 use Rattle.ppq_pass.specs.ppq_array.Kept.{HasFailed, AreQuiet}
 use Rattle.ppq_pass.specs.ppq_counts.Account.{Stops}
 use Rattle.ppq_pass.specs.ppq_spill.Costing.{Pays}
+use Rattle.ppq_pass.proofs.ppq_spill.Latching.{latched_device}
 use Rattle.ppq_session.specs.Apart.{apart_slots, apart_account}
 use Rattle.ppq_session.specs.FrontState.{IsRefillRefusal}
 use Rattle.ppq_session.proofs.Moved.{tallied-ready, is-ready, refill-keeps}
@@ -63,7 +64,7 @@ pub returns-in-Err-Device-clause-kept : goal.returns-in-Err-Device-clause-kept
 returns-in-Err-Device-clause-kept g c =
     let s = c.self.inside in
     let stays = c.refill_front-answer.ensures.stays in
-    refill-keeps g.S.Slot.shown g.R.Record.record_of g.R.Record.WIDTH s.parts c.refill_front-answer.new.q stays.rest stays.kept s.limit s.popped s.failed (Some c.in-Err-Device.number) c.args.self.now c.self.view_is
+    refill-keeps g.S.Slot.shown g.R.Record.record_of g.R.Record.WIDTH s.parts c.refill_front-answer.new.q stays.rest stays.kept s.limit s.popped s.failed c.latch.new.failed c.args.self.now c.self.view_is
 
 -- what it wrote
 stopped : (g : given.Over) (c : goal.After-self-1 g) → Stops 0 0 (apart_account g.S.Slot.shown c.self.inside.parts) (apart_account g.S.Slot.shown c.refill_front-answer.new.q)
@@ -83,23 +84,32 @@ fault g c =
     let fault_is : arm.field-0 ≡ Device arm.number = search rules in
     subst (IsRefillRefusal slots) fault_is (subst (λ r. IfErr r (IsRefillRefusal slots)) arm.is c.refill_front-answer.ensures.failed)
 
+-- the number that is kept
+late : (g : given.Over) (c : goal.After-self-1 g) → Some c.in-Err-Device.number ≡ c.latch.new.failed
+late g c =
+    let arm = c.in-Err-Device in
+    let fault_is : arm.field-0 ≡ Device arm.number = search rules in
+    latched_device ⊤ c.self.inside.failed c.latch.new.failed c.refill_front-answer.result arm.field-0 arm.number c.latch.ensures arm.is fault_is
+
 pub invariant_of-self-in-Err-Device : goal.invariant_of-self-in-Err-Device
 invariant_of-self-in-Err-Device g c =
     let s = c.self.inside in
     let m = c.refill_front-answer in
     let number = c.in-Err-Device.number in
-    let failed = fault g c in (
+    let now = c.latch.new.failed in
+    let failed = fault g c in
+    let is = late g c in (
       m.ensures.stays.out,
-      tallied-ready g.S.Slot.shown g.R.Record.record_of g.R.Record.WIDTH s.parts m.new.q m.ensures.stays.rest m.ensures.stays.kept s.popped s.failed (Some number) c.self.invariant.1
+      tallied-ready g.S.Slot.shown g.R.Record.record_of g.R.Record.WIDTH s.parts m.new.q m.ensures.stays.rest m.ensures.stays.kept s.popped s.failed now c.self.invariant.1
           (λ k e. (let same : number ≡ k = cc in subst (λ (n : ℕ). HasFailed n (apart_slots g.S.Slot.shown m.new.q)) same failed))
-          (paid-failed g.S.Slot.shown s.parts m.new.q (ap (λ p. p.sizes) m.ensures.stays.rest) (ap (λ p. p.counts) m.ensures.stays.rest) s.failed (Some number) c.in_default.is c.self.invariant.1.paid
-          (λ none. (let odd : ◌≡◌ {A = Option ℕ} (Some number) None = none in cc))
+          (paid-failed g.S.Slot.shown s.parts m.new.q (ap (λ p. p.sizes) m.ensures.stays.rest) (ap (λ p. p.counts) m.ensures.stays.rest) s.failed now c.in_default.is c.self.invariant.1.paid
+          (λ none. (let odd : ◌≡◌ {A = Option ℕ} (Some number) None = is ∙ none in cc))
           (stopped g c)),
-      (λ none. absurd (let odd : ◌≡◌ {A = Option ℕ} (Some number) None = none in cc)),
+      (λ none. absurd (let odd : ◌≡◌ {A = Option ℕ} (Some number) None = is ∙ none in cc)),
     )
 
 pub returns-in-Err-Device-clause-refused : goal.returns-in-Err-Device-clause-refused
-returns-in-Err-Device-clause-refused g c = record { fault = fault g c; kept = refl; size = ap (λ f. f.size) (returns-in-Err-Device-clause-kept g c).rest; popped = ap (λ f. f.popped) (returns-in-Err-Device-clause-kept g c).rest }
+returns-in-Err-Device-clause-refused g c = record { fault = fault g c; kept = sym (late g c); size = ap (λ f. f.size) (returns-in-Err-Device-clause-kept g c).rest; popped = ap (λ f. f.popped) (returns-in-Err-Device-clause-kept g c).rest }
 
 pub returns-in-Some-clause-refused : goal.returns-in-Some-clause-refused
 returns-in-Some-clause-refused g c =
