@@ -67,7 +67,7 @@ returns-in-Err-Device-clause-kept g c =
     refill-keeps g.S.Slot.shown g.R.Record.record_of g.R.Record.WIDTH s.parts c.refill_front-answer.new.q stays.rest stays.kept s.limit s.popped s.failed c.latch.new.failed c.args.self.now c.self.view_is
 
 -- what it wrote
-stopped : (g : given.Over) (c : goal.After-self-1 g) → Stops 0 0 (apart_account g.S.Slot.shown c.self.inside.parts) (apart_account g.S.Slot.shown c.refill_front-answer.new.q)
+stopped : (g : given.Over) (c : goal.After-latch g) → Stops 0 0 (apart_account g.S.Slot.shown c.self.inside.parts) (apart_account g.S.Slot.shown c.refill_front-answer.new.q)
 stopped g c =
     let arm = c.in-Err-Device in
     let old = apart_account g.S.Slot.shown c.self.inside.parts in
@@ -77,7 +77,7 @@ stopped g c =
     (subst (λ (f : QueueFault). Pays {T = ⊤} (Err f) 0 0 old new) fault_is said).pays
 
 -- the call that failed
-fault : (g : given.Over) (c : goal.After-self-1 g) → HasFailed c.in-Err-Device.number (apart_slots g.S.Slot.shown c.refill_front-answer.new.q)
+fault : (g : given.Over) (c : goal.After-latch g) → HasFailed c.in-Err-Device.number (apart_slots g.S.Slot.shown c.refill_front-answer.new.q)
 fault g c =
     let arm = c.in-Err-Device in
     let slots = apart_slots g.S.Slot.shown c.refill_front-answer.new.q in
@@ -85,7 +85,7 @@ fault g c =
     subst (IsRefillRefusal slots) fault_is (subst (λ r. IfErr r (IsRefillRefusal slots)) arm.is c.refill_front-answer.ensures.failed)
 
 -- the number that is kept
-late : (g : given.Over) (c : goal.After-self-1 g) → Some c.in-Err-Device.number ≡ c.latch.new.failed
+late : (g : given.Over) (c : goal.After-latch g) → Some c.in-Err-Device.number ≡ c.latch.new.failed
 late g c =
     let arm = c.in-Err-Device in
     let fault_is : arm.field-0 ≡ Device arm.number = search rules in
