@@ -1,11 +1,10 @@
 pub use Rattle.ppq_script.proofs.ppq_outside as ppq_outside
 pub use Rattle.ppq_script.proofs as ppq_script
-mod Arguments
-mod Cuts
+mod Found
 mod Law
 mod Names
 mod Parse
-mod ReadWords
+mod Parts
 mod Rows
 mod Spelled
-mod StrayWords
+mod Told

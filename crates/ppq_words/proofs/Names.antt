@@ -1,10 +1,10 @@
 -- Names of options.
-use Rattle.std.proofs.Common.{◌≡◌, ℕ, Bool, true, false, not, cond, ◌&&◌, ◌==◌, refl, ap, ap₂, List, [], ◌∷◌, ◌++◌, Option, Some, None, bytes_eq, subst, inl, inr}
-use Rattle.std.specs.List.{list_any, list_all, AllByRecursion as Each}
-use Rattle.std.proofs.lemmas.Bool.{or_cases, and_parts, not-true}
+use Rattle.std.proofs.Common.{◌≡◌, ℕ, zero, suc, ◌<◌, Bool, true, not, cond, ◌&&◌, ◌==◌, refl, sym, ap, ap₂, arith, List, [], ◌∷◌, ◌++◌, length, Option, Some, None, bytes_eq, Contains, slice_index_or, subst, inl, inr}
+use Rattle.std.specs.List.{list_all, AllByRecursion as Each}
+use Rattle.std.proofs.lemmas.Bool.{or_cases, or_left, or_right, and_parts, not-true, eqb-true}
 use Rattle.std.proofs.lemmas.Slice.Eq.{bytes_eq-Decides}
-use Rattle.ppq_words.specs.Uses.{Text, is_option, begins_with_hyphen, before_equals, after_equals}
-use Rattle.ppq_words.specs.Reading.{option_names}
+use Rattle.ppq_words.specs.Uses.{Text, is_option, before_equals, after_equals}
+use Rattle.ppq_words.specs.Usage.{has_no_equals, is_option_name}
 
 -- a word of two hyphens and something
 abbrev pub IsLong : Text → Type 0
@@ -13,75 +13,79 @@ IsLong word = (x : ℕ) × (xs : Text) × (word ≡ 45 ∷ 45 ∷ x ∷ xs)
 -- a name of an option: something stands behind the hyphens, and no `=`
 pub record IsOptionName (name : Text) : Type 0 where
   pub long : IsLong name
-  pub hyphen : begins_with_hyphen name ≡ true
   pub before : before_equals name ≡ name
   pub after : after_equals name ≡ None
-  pub hyphen_at : (v : Text) → begins_with_hyphen (name ++ 61 ∷ v) ≡ true
   pub before_at : (v : Text) → before_equals (name ++ 61 ∷ v) ≡ name
   pub after_at : (v : Text) → after_equals (name ++ 61 ∷ v) ≡ Some v
 
 abbrev pub AreNames : List Text → Type 0
-AreNames names = Each (λ n. IsOptionName (45 ∷ 45 ∷ n)) names
+AreNames options = Each IsOptionName options
 
--- an option has a name
-pub is_name : (ns : List Text) (name : Text) → AreNames ns → is_option ns name ≡ true → IsOptionName name
-is_name [] name all e = cc
-is_name (n ∷ ns) name all e = elim (or_cases (bytes_eq (45 ∷ 45 ∷ n) name) (list_any (λ m. bytes_eq (45 ∷ 45 ∷ m) name) ns) e) [
-  | inl here ↦ subst IsOptionName ((bytes_eq-Decides (45 ∷ 45 ∷ n) name).0 here) all.0
-  | inr there ↦ is_name ns name all.1 there
+-- ---- the test for an option
+
+pub contained : (os : List Text) (name : Text) → is_option os name ≡ true → Contains os name
+contained [] name e = cc
+contained (o ∷ os) name e = elim (or_cases (bytes_eq o name) (is_option os name) e) [
+  | inl here ↦ (0, omega arith, (bytes_eq-Decides o name).0 here)
+  | inr there ↦ let r = contained os name there in (suc r.0, omega (arith, r.1), r.2)
 ]
 
--- ---- the names of the options
+option_at : (os : List Text) (name : Text) (k : ℕ) → k < length os → slice_index_or os k name ≡ name → is_option os name ≡ true
+option_at [] name k h e = absurd (omega (arith, h))
+option_at (o ∷ os) name zero h e = or_left (bytes_eq o name) (is_option os name) ((bytes_eq-Decides o name).1 e)
+option_at (o ∷ os) name (suc k) h e = or_right (bytes_eq o name) (is_option os name) (option_at os name k (omega (arith, h)) e)
 
--- no byte is `=`
-abbrev has_no_equals : Text → Bool
-has_no_equals [] = true
-has_no_equals (b ∷ bs) = not (b == 61) && has_no_equals bs
+pub is_among : (os : List Text) (name : Text) → Contains os name → is_option os name ≡ true
+is_among os name h = option_at os name h.0 h.1 h.2
 
-abbrev can_be_name : Text → Bool
-can_be_name [] = false
-can_be_name (b ∷ bs) = has_no_equals (b ∷ bs)
+-- what holds of all options holds of one
+pub among : (os : List Text) (name : Text) (P : Text → Type 0) → is_option os name ≡ true → Each P os → P name
+among [] name P e each = cc
+among (o ∷ os) name P e each = elim (or_cases (bytes_eq o name) (is_option os name) e) [
+  | inl here ↦ subst P ((bytes_eq-Decides o name).0 here) each.0
+  | inr there ↦ among os name P there each.1
+]
 
-before_whole : (n : Text) → has_no_equals n ≡ true → before_equals n ≡ n
-before_whole [] e = refl
-before_whole (b ∷ bs) e =
+-- ---- names that pass the test
+
+whole : (n : Text) → has_no_equals n ≡ true → (before_equals n ≡ n) × (after_equals n ≡ None)
+whole [] e = (refl, refl)
+whole (b ∷ bs) e =
     let parts = and_parts (not (b == 61)) (has_no_equals bs) e in
-    ap₂ (λ (t : Bool) (z : Text). cond t [] (b ∷ z)) (not-true (b == 61) parts.0) (before_whole bs parts.1)
+    let other = not-true (b == 61) parts.0 in
+    let rest = whole bs parts.1 in
+    (ap₂ (λ (t : Bool) (z : Text). cond t [] (b ∷ z)) other rest.0, ap₂ (λ (t : Bool) (z : Option Text). cond t (Some bs) z) other rest.1)
 
-after_none : (n : Text) → has_no_equals n ≡ true → after_equals n ≡ None
-after_none [] e = refl
-after_none (b ∷ bs) e =
+cut : (n v : Text) → has_no_equals n ≡ true → (before_equals (n ++ 61 ∷ v) ≡ n) × (after_equals (n ++ 61 ∷ v) ≡ Some v)
+cut [] v e = (refl, refl)
+cut (b ∷ bs) v e =
     let parts = and_parts (not (b == 61)) (has_no_equals bs) e in
-    ap₂ (λ (t : Bool) (z : Option Text). cond t (Some bs) z) (not-true (b == 61) parts.0) (after_none bs parts.1)
+    let other = not-true (b == 61) parts.0 in
+    let rest = cut bs v parts.1 in
+    (ap₂ (λ (t : Bool) (z : Text). cond t [] (b ∷ z)) other rest.0, ap₂ (λ (t : Bool) (z : Option Text). cond t (Some (bs ++ 61 ∷ v)) z) other rest.1)
 
-before_joined : (n v : Text) → has_no_equals n ≡ true → before_equals (n ++ 61 ∷ v) ≡ n
-before_joined [] v e = refl
-before_joined (b ∷ bs) v e =
-    let parts = and_parts (not (b == 61)) (has_no_equals bs) e in
-    ap₂ (λ (t : Bool) (z : Text). cond t [] (b ∷ z)) (not-true (b == 61) parts.0) (before_joined bs v parts.1)
-
-after_joined : (n v : Text) → has_no_equals n ≡ true → after_equals (n ++ 61 ∷ v) ≡ Some v
-after_joined [] v e = refl
-after_joined (b ∷ bs) v e =
-    let parts = and_parts (not (b == 61)) (has_no_equals bs) e in
-    ap₂ (λ (t : Bool) (z : Option Text). cond t (Some (bs ++ 61 ∷ v)) z) (not-true (b == 61) parts.0) (after_joined bs v parts.1)
-
-name_from : (n : Text) → can_be_name n ≡ true → IsOptionName (45 ∷ 45 ∷ n)
-name_from [] e = cc
-name_from (b ∷ bs) e = record {
+name_from : (b : ℕ) (bs : Text) → has_no_equals (b ∷ bs) ≡ true → IsOptionName (45 ∷ 45 ∷ b ∷ bs)
+name_from b bs e = record {
   long = (b, bs, refl);
-  hyphen = refl;
-  before = ap (λ (z : Text). 45 ∷ 45 ∷ z) (before_whole (b ∷ bs) e);
-  after = after_none (b ∷ bs) e;
-  hyphen_at = λ v. refl;
-  before_at = λ v. ap (λ (z : Text). 45 ∷ 45 ∷ z) (before_joined (b ∷ bs) v e);
-  after_at = λ v. after_joined (b ∷ bs) v e;
+  before = ap (λ (z : Text). 45 ∷ 45 ∷ z) (whole (b ∷ bs) e).0;
+  after = (whole (b ∷ bs) e).1;
+  before_at = λ v. ap (λ (z : Text). 45 ∷ 45 ∷ z) (cut (b ∷ bs) v e).0;
+  after_at = λ v. (cut (b ∷ bs) v e).1;
 }
 
-names_from : (ns : List Text) → list_all can_be_name ns ≡ true → AreNames ns
-names_from [] e = tt
-names_from (n ∷ ns) e = let parts = and_parts (can_be_name n) (list_all can_be_name ns) e in (name_from n parts.0, names_from ns parts.1)
+-- the hyphens, and what stands behind them
+pub hyphens : (x y b : ℕ) (bs : Text) → is_option_name (x ∷ y ∷ b ∷ bs) ≡ true → (x ∷ y ∷ b ∷ bs ≡ 45 ∷ 45 ∷ b ∷ bs) × (has_no_equals (b ∷ bs) ≡ true)
+hyphens x y b bs e =
+    let one = and_parts (x == 45) (y == 45 && has_no_equals (b ∷ bs)) e in
+    let two = and_parts (y == 45) (has_no_equals (b ∷ bs)) one.1 in
+    (ap₂ (λ (p q : ℕ). p ∷ q ∷ b ∷ bs) (eqb-true x 45 one.0) (eqb-true y 45 two.0), two.1)
 
--- the eight options
-pub names_are : AreNames option_names
-names_are = names_from option_names refl
+option_name : (o : Text) → is_option_name o ≡ true → IsOptionName o
+option_name [] e = cc
+option_name (x ∷ []) e = cc
+option_name (x ∷ y ∷ []) e = cc
+option_name (x ∷ y ∷ b ∷ bs) e = let h = hyphens x y b bs e in subst IsOptionName (sym h.0) (name_from b bs h.1)
+
+pub names_from : (os : List Text) → list_all is_option_name os ≡ true → AreNames os
+names_from [] e = tt
+names_from (o ∷ os) e = let parts = and_parts (is_option_name o) (list_all is_option_name os) e in (option_name o parts.0, names_from os parts.1)

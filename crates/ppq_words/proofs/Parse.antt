@@ -1,65 +1,68 @@
 -- What a parse makes of the words: the values under names that `uses_of` gives, each name once.
-use Rattle.std.proofs.Common.{◌≡◌, ◌∙◌, ℕ, Bool, true, false, not, cond, ◌&&◌, ◌||◌, ◌==◌, refl, sym, ap, ap₂, List, [], ◌∷◌, ◌++◌, map, nat_lt, Option, Some, None, codes, bytes_eq, ◌⊎◌, inl, inr, subst}
+use Rattle.std.proofs.Common.{◌≡◌, ◌∙◌, ℕ, Bool, true, false, not, cond, ◌&&◌, ◌||◌, ◌==◌, refl, sym, ap, ap₂, List, [], ◌∷◌, ◌++◌, map, nat_lt, Option, Some, None, bytes_eq, ◌⊎◌, inl, inr, subst}
 use Rattle.std.specs.List.{list_any, find, fold, before_first}
 use Rattle.std.specs.Option.{is_some, option_and_then, option_map_or}
+use Rattle.std.proofs.Math.Bool.{or-false}
 use Rattle.std.proofs.lemmas.Bool.{and_right, or_parts, or_right, or_left, eqb-true}
 use Rattle.std.proofs.lemmas.Slice.Eq.{bytes_eq-Decides}
 use Rattle.clap.specs.Lexer.{long_of, long_of_rest, short_of, short_of_rest, strip_byte}
 use Rattle.clap.specs.Kinds.{Kinds, or_else, check_kinds}
 use Rattle.clap.specs.Walk.{Rule, Text, Row, Held, Waiting, Walk, Step, has_long, arg_by_long, arg_by_id, has_row, settled, used_by_id, walked, walk_from, nothing_held, idle, option, long_met, after_flag, after_step, option_word, short_or_plain, long_or_other, trailing, next, pushed, is_pending, takes_several, first_of, with_default, rows_after, arg_by_index, to_positional}
-use Rattle.clap.specs.Simple.{App, Shape, new_rule, new_shape, filled, with_index, built, matches_of, names_of, entered}
+use Rattle.clap.specs.Simple.{App, Shape, new_rule, new_shape, filled, filled_from, with_index, built, matches_of, names_of, entered}
 use Rattle.clap.specs.Takes.{is_given}
 use Rattle.clap.specs.Faults.{walk_fault, turn_fault, settle_fault, use_fault, long_fault, step_fault, bundle_fault, flag_word_fault, positional_fault, stray_fault, fault_of, built_fault, level_fault, entered_fault, defaults_fault}
 use Rattle.clap.specs.declared.error.kind.ErrorKind.TheVariants as kind
-use Rattle.ppq_words.specs.Command.{option_rule}
+use Rattle.ppq_words.specs.Command.{option_rule, command_app}
 use Rattle.ppq_words.specs.Uses.{Use, alone, is_option, before_equals, after_equals, begins_with_hyphen, uses_of, with_use, option_use, names_differ, value_under}
 use Rattle.ppq_words.specs.Strays.{is_stray, has_stray_value}
-use Rattle.ppq_words.proofs.Rows.{row, add, add_uses, set_row, set_missing, has_row-append, before_is, after_is, clean, clean-or_else, settled_once, no_default, or_true, or_else-nil, or_else-parts, clean-nil, some_parts, then_parts, differ_parts, row_of_use, uses_parts, add_all-rows, first_under}
+use Rattle.ppq_words.proofs.Rows.{row, add, add_uses, set_row, set_missing, has_row-append, before_is, after_is, clean, clean-or_else, settled_once, no_default, or_true, or_else-nil, or_else-parts, clean-nil, some_parts, then_parts, row_of_use, uses_parts, add_all-rows, first_under}
 
-module _ (names : List Text) where
-  -- an option as the program makes it, and as it is built
-  abbrev option_as : Text → Rule
-  option_as name = option_rule (45 ∷ 45 ∷ name) name
+-- a name as an option
+abbrev pub hyphened : Text → Text
+hyphened name = 45 ∷ 45 ∷ name
 
-  abbrev pub built_option : Text → Rule
-  built_option name = filled (option_as name)
+-- an option as it is built
+abbrev pub built_option : Text → Rule
+built_option name = filled (option_rule (hyphened name))
 
-  abbrev pub built_script : Rule
-  built_script = with_index 1 (filled (new_rule alone))
+-- the word that stands alone, as it is built
+abbrev pub built_script : Rule
+built_script = with_index 1 (filled (new_rule alone))
+
+module _ (command : Text) (names : List Text) where
+  abbrev pub options : List Text
+  options = map hyphened names
 
   abbrev pub rules : List Rule
   rules = built_script ∷ map built_option names
 
   abbrev pub shape : Shape
-  shape = record (new_shape (codes "run")) { rules = rules; disable_help_flag = true; disable_help_subcommand = true; is_built = true }
+  shape = record (new_shape command) { rules = rules; disable_help_flag = true; disable_help_subcommand = true; is_built = true }
 
   abbrev pub built_app : App
   built_app = record { top = shape; subs = [] }
 
   abbrev is_known : Text → Bool
-  is_known word = is_option names word
+  is_known word = is_option options word
 
   -- a name among some, or none
-  long_step : (n name : Text) (b rest : Bool) (o : Option Rule) → (b ≡ true → n ≡ name) → o ≡ cond rest (Some (built_option name)) None
-      → cond (b || false) (Some (built_option n)) o ≡ cond (b || rest) (Some (built_option name)) None
-  long_step n name true rest o same e = ap (λ (m : Text). Some (built_option m)) (same refl)
-  long_step n name false rest o same e = e
+  among_step : (n name : Text) (b rest : Bool) (o : Option Rule) → (b ≡ true → n ≡ name) → o ≡ cond rest (Some (built_option name)) None
+      → cond b (Some (built_option n)) o ≡ cond (b || rest) (Some (built_option name)) None
+  among_step n name true rest o same e = ap (λ (m : Text). Some (built_option m)) (same refl)
+  among_step n name false rest o same e = e
 
-  long_among : (ns : List Text) (name : Text) → find (λ a. not (is_some a.index) && has_long a name) (map built_option ns) ≡ cond (list_any (λ n. bytes_eq n name) ns) (Some (built_option name)) None
+  id_among : (ns : List Text) (name : Text) → find (λ a. bytes_eq a.id (45 ∷ 45 ∷ name)) (map built_option ns) ≡ cond (is_option (map hyphened ns) (hyphened name)) (Some (built_option name)) None
+  id_among [] name = refl
+  id_among (n ∷ ns) name = among_step n name (bytes_eq n name) (is_option (map hyphened ns) (hyphened name)) _ (λ e. (bytes_eq-Decides n name).0 e) (id_among ns name)
+
+  long_among : (ns : List Text) (name : Text) → find (λ a. not (is_some a.index) && has_long a name) (map built_option ns) ≡ cond (is_option (map hyphened ns) (hyphened name)) (Some (built_option name)) None
   long_among [] name = refl
-  long_among (n ∷ ns) name = long_step n name (bytes_eq n name) (list_any (λ m. bytes_eq m name) ns) _ (λ e. (bytes_eq-Decides n name).0 e) (long_among ns name)
+  long_among (n ∷ ns) name =
+      ap (λ (b : Bool). cond b (Some (built_option n)) (find (λ a. not (is_some a.index) && has_long a name) (map built_option ns))) (or-false (bytes_eq n name))
+      ∙ among_step n name (bytes_eq n name) (is_option (map hyphened ns) (hyphened name)) _ (λ e. (bytes_eq-Decides n name).0 e) (long_among ns name)
 
   pub by_long : (name : Text) → arg_by_long rules name ≡ cond (is_known (45 ∷ 45 ∷ name)) (Some (built_option name)) None
   by_long name = long_among names name
-
-  id_step : (n name : Text) (b rest : Bool) (o : Option Rule) → (b ≡ true → n ≡ name) → o ≡ cond rest (Some (built_option name)) None
-      → cond b (Some (built_option n)) o ≡ cond (b || rest) (Some (built_option name)) None
-  id_step n name true rest o same e = ap (λ (m : Text). Some (built_option m)) (same refl)
-  id_step n name false rest o same e = e
-
-  id_among : (ns : List Text) (name : Text) → find (λ a. bytes_eq a.id (45 ∷ 45 ∷ name)) (map built_option ns) ≡ cond (list_any (λ n. bytes_eq n name) ns) (Some (built_option name)) None
-  id_among [] name = refl
-  id_among (n ∷ ns) name = id_step n name (bytes_eq n name) (list_any (λ m. bytes_eq m name) ns) _ (λ e. (bytes_eq-Decides n name).0 e) (id_among ns name)
 
   pub by_id : (name : Text) → is_known (45 ∷ 45 ∷ name) ≡ true → arg_by_id rules (45 ∷ 45 ∷ name) ≡ Some (built_option name)
   by_id name known = id_among names name ∙ ap (λ b. cond b (Some (built_option name)) None) known
@@ -184,11 +187,11 @@ module _ (names : List Text) where
 
   abbrev Idle : List Text → Type 0
   Idle words = (rows : List Row) (p : Option (Text × List Text)) (position : ℕ) → HasPlace position (settles (held rows p)) → list_any is_stray words ≡ false
-      → run_rows (at rows p idle position) words ≡ option_and_then (add_uses (uses_of names None words)) (settles (held rows p))
+      → run_rows (at rows p idle position) words ≡ option_and_then (add_uses (uses_of options None words)) (settles (held rows p))
 
   abbrev Waits : List Text → Type 0
   Waits words = (rows : List Row) (name : Text) (position : ℕ) → is_known (45 ∷ 45 ∷ name) ≡ true → HasPlace position (Some rows) → list_any is_stray words ≡ false
-      → run_rows (at rows (Some (45 ∷ 45 ∷ name, [])) (option (45 ∷ 45 ∷ name)) position) words ≡ add_uses (uses_of names (Some (45 ∷ 45 ∷ name)) words) rows
+      → run_rows (at rows (Some (45 ∷ 45 ∷ name, [])) (option (45 ∷ 45 ∷ name)) position) words ≡ add_uses (uses_of options (Some (45 ∷ 45 ∷ name)) words) rows
 
   -- a word that begins with `-` and is handed on
   two_hyphens : (t stray : Bool) → cond t stray true ≡ false → (t ≡ true) × (stray ≡ false)
@@ -255,31 +258,31 @@ module _ (names : List Text) where
   script_met (k ∷ ks) v rows o rest e ih = refl
 
   idle_first : (word : Text) (words : List Text) → Idle words → (rows : List Row) (p : Option (Text × List Text)) → list_any is_stray words ≡ false → begins_with_hyphen word ≡ false
-      → short_next (at rows p idle 1) word words None ≡ option_and_then (add_uses (with_use alone word (uses_of names None words))) (settles (held rows p))
+      → short_next (at rows p idle 1) word words None ≡ option_and_then (add_uses (with_use alone word (uses_of options None words))) (settles (held rows p))
   idle_first word words ih rows p few plain =
       let h = held rows p in
       let rs : List Row = (settled rules h).rows in
       let first_at : Bool → Option (List Row) = λ b. cond (clean (cond b [] (settle_fault rules false h)))
       (run_rows (record { held = pushed alone word (cond b h (settled rules h)); waiting = idle; position = 2; is_trailing = false; stopped = None }) words) None in
       let is_first : short_next (at rows p idle 1) word words None ≡ first_at false = ap first_at (and_right (is_pending built_script p) (takes_several built_script) refl) in
-      is_first ∙ script_met (settle_fault rules false h) word rs (uses_of names None words) (run_rows (at rs (Some (alone, word ∷ [])) idle 2) words) plain
+      is_first ∙ script_met (settle_fault rules false h) word rs (uses_of options None words) (run_rows (at rs (Some (alone, word ∷ [])) idle 2) words) plain
       (λ ok. ih rs (Some (alone, word ∷ [])) 2 (inr (refl, λ (zs : List Row) (is : settles (held rs (Some (alone, word ∷ []))) ≡ Some zs). added_there alone word rs zs (sym (settles_script word rs) ∙ is))) few
-      ∙ ap (option_and_then (add_uses (uses_of names None words))) (settles_script word rs))
+      ∙ ap (option_and_then (add_uses (uses_of options None words))) (settles_script word rs))
 
   no_positional : (ns : List Text) (i : ℕ) → arg_by_index (map built_option ns) i ≡ None
   no_positional [] i = refl
   no_positional (n ∷ ns) i = no_positional ns i
 
   idle_second : (word : Text) (words : List Text) (rows : List Row) (p : Option (Text × List Text)) → ((rs : List Row) → settles (held rows p) ≡ Some rs → has_row alone rs ≡ true) → begins_with_hyphen word ≡ false
-      → short_next (at rows p idle 2) word words None ≡ option_and_then (add_uses (with_use alone word (uses_of names None words))) (settles (held rows p))
+      → short_next (at rows p idle 2) word words None ≡ option_and_then (add_uses (with_use alone word (uses_of options None words))) (settles (held rows p))
   idle_second word words rows p there plain =
       let second_at : Option Rule → Option (List Row) = λ o. cond (clean (option_map_or (λ a. positional_fault rules false a (held rows p)) o (stray_fault shape))) (run_rows (to_positional rules o word (at rows p idle 2) (held rows p)) words) None in
       let is_second : short_next (at rows p idle 2) word words None ≡ None = ap second_at (no_positional names 2) in
       is_second ∙ go (settles (held rows p)) refl
     where
-      go : (o : Option (List Row)) → settles (held rows p) ≡ o → None ≡ option_and_then (add_uses (with_use alone word (uses_of names None words))) o
+      go : (o : Option (List Row)) → settles (held rows p) ≡ o → None ≡ option_and_then (add_uses (with_use alone word (uses_of options None words))) o
       go None e = refl
-      go (Some rs) e = sym (use_again alone word (uses_of names None words) rs plain (there rs e))
+      go (Some rs) e = sym (use_again alone word (uses_of options None words) rs plain (there rs e))
 
   plain_next : (w : Walk) (word : Text) (words : List Text) → begins_with_hyphen word ≡ false → word_next w word words (bytes_eq word (45 ∷ 45 ∷ [])) (long_of word) ≡ short_next w word words None
   plain_next w word words plain =
@@ -288,7 +291,7 @@ module _ (names : List Text) where
 
   idle_plain : (word : Text) (words : List Text) → Idle words → (rows : List Row) (p : Option (Text × List Text)) (position : ℕ) → HasPlace position (settles (held rows p)) → list_any is_stray words ≡ false
       → begins_with_hyphen word ≡ false
-      → run_rows (at rows p idle position) (word ∷ words) ≡ option_and_then (add_uses (with_use alone word (uses_of names None words))) (settles (held rows p))
+      → run_rows (at rows p idle position) (word ∷ words) ≡ option_and_then (add_uses (with_use alone word (uses_of options None words))) (settles (held rows p))
   idle_plain word words ih rows p position place few plain =
       idle_next rows p position word words ∙ (plain_next (at rows p idle position) word words plain ∙ elim place [
         | inl one ↦ ap (λ (k : ℕ). short_next (at rows p idle k) word words None) one ∙ idle_first word words ih rows p few plain
@@ -298,21 +301,21 @@ module _ (names : List Text) where
   idle_option : (word name : Text) (words : List Text) → Idle words → Waits words → (rows : List Row) (p : Option (Text × List Text)) (position : ℕ) → HasPlace position (settles (held rows p)) → list_any is_stray words ≡ false
       → (known : Bool) (vo : Option Text) → is_known (45 ∷ 45 ∷ name) ≡ known → has_stray_value vo ≡ false
       → long_next (at rows p idle position) word words (cond known (Some (built_option name)) None) vo
-      ≡ option_and_then (add_uses (cond known (option_use (45 ∷ 45 ∷ name) vo (uses_of names None words) (uses_of names (Some (45 ∷ 45 ∷ name)) words)) None)) (settles (held rows p))
+      ≡ option_and_then (add_uses (cond known (option_use (45 ∷ 45 ∷ name) vo (uses_of options None words) (uses_of options (Some (45 ∷ 45 ∷ name)) words)) None)) (settles (held rows p))
   idle_option word name words idles waits rows p position place few false vo is tidy = sym (nothing_then (settles (held rows p)))
   idle_option word name words idles waits rows p position place few true (Some v) is tidy =
       let h = held rows p in
       let rs : List Row = (settled rules h).rows in
       let id : Text = 45 ∷ 45 ∷ name in
-      value_met (settle_fault rules false h) id v rs (uses_of names None words) (λ (zs : List Row). run_rows (at zs None idle position) words) tidy
+      value_met (settle_fault rules false h) id v rs (uses_of options None words) (λ (zs : List Row). run_rows (at zs None idle position) words) tidy
       (λ ok none.
       let set = set_missing id v rs none in
       idles (set_row id v rs) None position (place_set position id v rs (set_row id v rs) (place_settled position (settle_fault rules false h) rs place ok) set) few
-      ∙ ap (add_uses (uses_of names None words)) set)
+      ∙ ap (add_uses (uses_of options None words)) set)
   idle_option word name words idles waits rows p position place few true None is tidy =
       let h = held rows p in
       let rs : List Row = (settled rules h).rows in
-      waiting_met (settle_fault rules false h) rs (uses_of names (Some (45 ∷ 45 ∷ name)) words) (run_rows (at rs (Some (45 ∷ 45 ∷ name, [])) (option (45 ∷ 45 ∷ name)) position) words)
+      waiting_met (settle_fault rules false h) rs (uses_of options (Some (45 ∷ 45 ∷ name)) words) (run_rows (at rs (Some (45 ∷ 45 ∷ name, [])) (option (45 ∷ 45 ∷ name)) position) words)
       (λ ok. waits rs name position is (place_settled position (settle_fault rules false h) rs place ok) few)
 
   long_is : (xs : List ℕ) → arg_by_long rules (before_first (λ y. y == 61) xs) ≡ cond (is_known (45 ∷ 45 ∷ before_equals xs)) (Some (built_option (before_equals xs))) None
@@ -320,7 +323,7 @@ module _ (names : List Text) where
 
   idle_long : (x : ℕ) (xs : List ℕ) (words : List Text) → Idle words → Waits words → (rows : List Row) (p : Option (Text × List Text)) (position : ℕ) → HasPlace position (settles (held rows p)) → list_any is_stray words ≡ false
       → has_stray_value (after_equals (x ∷ xs)) ≡ false
-      → run_rows (at rows p idle position) ((45 ∷ 45 ∷ x ∷ xs) ∷ words) ≡ option_and_then (add_uses (uses_of names None ((45 ∷ 45 ∷ x ∷ xs) ∷ words))) (settles (held rows p))
+      → run_rows (at rows p idle position) ((45 ∷ 45 ∷ x ∷ xs) ∷ words) ≡ option_and_then (add_uses (uses_of options None ((45 ∷ 45 ∷ x ∷ xs) ∷ words))) (settles (held rows p))
   idle_long x xs words idles waits rows p position place few tidy =
       idle_next rows p position (45 ∷ 45 ∷ x ∷ xs) words
       ∙ (ap₂ (long_next (at rows p idle position) (45 ∷ 45 ∷ x ∷ xs) words) (long_is (x ∷ xs)) (after_is (x ∷ xs))
@@ -328,7 +331,7 @@ module _ (names : List Text) where
 
   waits_plain : (word : Text) (words : List Text) → Idle words → (rows : List Row) (name : Text) (position : ℕ) → is_known (45 ∷ 45 ∷ name) ≡ true → HasPlace position (Some rows) → list_any is_stray words ≡ false
       → begins_with_hyphen word ≡ false
-      → run_rows (at rows (Some (45 ∷ 45 ∷ name, [])) (option (45 ∷ 45 ∷ name)) position) (word ∷ words) ≡ add_uses (with_use (45 ∷ 45 ∷ name) word (uses_of names None words)) rows
+      → run_rows (at rows (Some (45 ∷ 45 ∷ name, [])) (option (45 ∷ 45 ∷ name)) position) (word ∷ words) ≡ add_uses (with_use (45 ∷ 45 ∷ name) word (uses_of options None words)) rows
   waits_plain word words ih rows name position known place few plain =
       let id : Text = 45 ∷ 45 ∷ name in
       let h = held rows (Some (id, [])) in
@@ -339,7 +342,7 @@ module _ (names : List Text) where
       let one = settles_one name word rows known in
       waiting_next rows (Some (id, [])) id position word words ∙ (plain_next w word words plain ∙ (counted
       ∙ (ih rows (Some (id, word ∷ [])) position (place_added position id word rows (settles (held rows (Some (id, word ∷ [])))) one place) few
-      ∙ (ap (option_and_then (add_uses (uses_of names None words))) one ∙ sym (use_step id word (uses_of names None words) rows plain)))))
+      ∙ (ap (option_and_then (add_uses (uses_of options None words))) one ∙ sym (use_step id word (uses_of options None words) rows plain)))))
 
   still_faulty : (a b : Kinds) (rest : Option (List Row)) → clean a ≡ false → cond (clean (or_else (or_else a b) [])) rest None ≡ None
   still_faulty [] b rest e = cc
@@ -372,15 +375,15 @@ module _ (names : List Text) where
       go (begins_with_hyphen word) refl parts.0 parts.1
     where
       go : (b : Bool) → begins_with_hyphen word ≡ b → is_stray word ≡ false → list_any is_stray words ≡ false
-          → run_rows (at rows p idle position) (word ∷ words) ≡ option_and_then (add_uses (uses_of names None (word ∷ words))) (settles (held rows p))
+          → run_rows (at rows p idle position) (word ∷ words) ≡ option_and_then (add_uses (uses_of options None (word ∷ words))) (settles (held rows p))
       go true e tidy rest =
           let as_long = hyphen_word word e tidy in
-          subst (λ (z : Text). run_rows (at rows p idle position) (z ∷ words) ≡ option_and_then (add_uses (uses_of names None (z ∷ words))) (settles (held rows p))) (sym as_long.2)
+          subst (λ (z : Text). run_rows (at rows p idle position) (z ∷ words) ≡ option_and_then (add_uses (uses_of options None (z ∷ words))) (settles (held rows p))) (sym as_long.2)
           (idle_long as_long.0 as_long.1 words idles waits rows p position place rest as_long.3)
       go false e tidy rest =
           idle_plain word words idles rows p position place rest e
-          ∙ sym (ap (λ (b : Bool). option_and_then (add_uses (cond b (cond (is_known (before_equals word)) (option_use (before_equals word) (after_equals word) (uses_of names None words) (uses_of names (Some (before_equals word)) words)) None)
-          (with_use alone word (uses_of names None words)))) (settles (held rows p))) e)
+          ∙ sym (ap (λ (b : Bool). option_and_then (add_uses (cond b (cond (is_known (before_equals word)) (option_use (before_equals word) (after_equals word) (uses_of options None words) (uses_of options (Some (before_equals word)) words)) None)
+          (with_use alone word (uses_of options None words)))) (settles (held rows p))) e)
 
   -- a value that begins with `-` is none
   no_use : (id v : Text) (o : Option (List Use)) → begins_with_hyphen v ≡ true → with_use id v o ≡ None
@@ -393,12 +396,12 @@ module _ (names : List Text) where
       go (begins_with_hyphen word) refl parts.0 parts.1
     where
       go : (b : Bool) → begins_with_hyphen word ≡ b → is_stray word ≡ false → list_any is_stray words ≡ false
-          → run_rows (at rows (Some (45 ∷ 45 ∷ name, [])) (option (45 ∷ 45 ∷ name)) position) (word ∷ words) ≡ add_uses (uses_of names (Some (45 ∷ 45 ∷ name)) (word ∷ words)) rows
+          → run_rows (at rows (Some (45 ∷ 45 ∷ name, [])) (option (45 ∷ 45 ∷ name)) position) (word ∷ words) ≡ add_uses (uses_of options (Some (45 ∷ 45 ∷ name)) (word ∷ words)) rows
       go true e tidy rest =
           let as_long = hyphen_word word e tidy in
           ap (λ (z : Text). run_rows (at rows (Some (45 ∷ 45 ∷ name, [])) (option (45 ∷ 45 ∷ name)) position) (z ∷ words)) as_long.2
           ∙ (waits_long as_long.0 as_long.1 words rows name position known
-          ∙ sym (ap (λ (o : Option (List Use)). add_uses o rows) (no_use (45 ∷ 45 ∷ name) word (uses_of names None words) e)))
+          ∙ sym (ap (λ (o : Option (List Use)). add_uses o rows) (no_use (45 ∷ 45 ∷ name) word (uses_of options None words) e)))
       go false e tidy rest = waits_plain word words idles rows name position known place rest e
 
   both : (words : List Text) → Idle words × Waits words
@@ -413,7 +416,7 @@ module _ (names : List Text) where
   both (word ∷ words) = let ih = both words in (idle_word word words ih.0 ih.1, waits_word word words ih.0)
 
   -- the rows of a parse are the values under names
-  pub rows_are : (words : List Text) → list_any is_stray words ≡ false → run_rows (walk_from nothing_held) words ≡ add_uses (uses_of names None words) []
+  pub rows_are : (words : List Text) → list_any is_stray words ≡ false → run_rows (walk_from nothing_held) words ≡ add_uses (uses_of options None words) []
   rows_are words few = (both words).0 [] None 1 (inl refl) few
 
   -- ---- what stands behind the walk
@@ -454,52 +457,58 @@ module _ (names : List Text) where
   abbrev end_of : List Text → Walk
   end_of words = fold (walked rules []) (walk_from nothing_held) words
 
-  -- a command that is built as these options, whose first word is its name
-  pub record IsCommand (a : App) : Type 0 where
-    pub is_built : built a ≡ built_app
-    pub is_named : a.top.no_binary_name ≡ false
+  -- the command, and what building makes of it
+  abbrev pub app : App
+  app = command_app (record { word = command; options = options })
 
-  fault_is : (a : App) → IsCommand a → (first : Text) (words : List Text)
-      → fault_of a (first ∷ words) ≡ or_else (walk_fault shape [] (walk_from nothing_held) words) (settle_fault rules false (end_of words).held)
-  fault_is a is first words =
+  options_filled : (i : ℕ) (ns : List Text) → filled_from i (map option_rule (map hyphened ns)) ≡ map built_option ns
+  options_filled i [] = refl
+  options_filled i (n ∷ ns) = ap (λ (z : List Rule). built_option n ∷ z) (options_filled i ns)
+
+  pub is_built : built app ≡ built_app
+  is_built = ap (λ (z : List Rule). record built_app { top = record shape { rules = built_script ∷ z } }) (options_filled 2 names)
+
+  fault_is : (first : Text) (words : List Text)
+      → fault_of app (first ∷ words) ≡ or_else (walk_fault shape [] (walk_from nothing_held) words) (settle_fault rules false (end_of words).held)
+  fault_is first words =
       let rows : List Row = (settled rules (end_of words).held).rows in
       let faults = walk_fault shape [] (walk_from nothing_held) words in
-      ap₂ (λ (b : App) (t : Bool). built_fault b nothing_held (cond t (first ∷ words) words)) is.is_built is.is_named
+      ap (λ (b : App). built_fault b nothing_held words) is_built
       ∙ (ap₂ (λ (e : Option (Text × List Row)) (f : Kinds). level_fault shape [] nothing_held words (is_some e) f) (entered_none (end_of words).stopped) (entered_faultless (end_of words).stopped)
       ∙ (ap₂ (λ (d : Kinds) (b : Bool). or_else faults (or_else (settle_fault rules false (end_of words).held) (or_else d (check_kinds false false b)))) (all_faultless rows) (none_missing names (fold with_default rows rules))
       ∙ ap (or_else faults) (or_else-nil (settle_fault rules false (end_of words).held))))
 
-  matches_is : (a : App) → IsCommand a → (first : Text) (words : List Text) → matches_of a (first ∷ words) ≡ (settled rules (end_of words).held).rows
-  matches_is a is first words =
-      ap₂ (λ (b : App) (t : Bool). rows_after b.top.rules (names_of b) (cond t (first ∷ words) words)) is.is_built is.is_named
+  matches_is : (first : Text) (words : List Text) → matches_of app (first ∷ words) ≡ (settled rules (end_of words).held).rows
+  matches_is first words =
+      ap (λ (b : App). rows_after b.top.rules (names_of b) words) is_built
       ∙ all_finished (settled rules (end_of words).held).rows
 
   -- a parse without a fault has the rows of the words
-  rows_parsed : (a : App) → IsCommand a → (first : Text) (words : List Text) → list_any is_stray words ≡ false → fault_of a (first ∷ words) ≡ [] → add_uses (uses_of names None words) [] ≡ Some (matches_of a (first ∷ words))
-  rows_parsed a is first words few e =
-      let parts = or_else-parts (walk_fault shape [] (walk_from nothing_held) words) (settle_fault rules false (end_of words).held) (sym (fault_is a is first words) ∙ e) in
+  rows_parsed : (first : Text) (words : List Text) → list_any is_stray words ≡ false → fault_of app (first ∷ words) ≡ [] → add_uses (uses_of options None words) [] ≡ Some (matches_of app (first ∷ words))
+  rows_parsed first words few e =
+      let parts = or_else-parts (walk_fault shape [] (walk_from nothing_held) words) (settle_fault rules false (end_of words).held) (sym (fault_is first words) ∙ e) in
       sym (rows_are words few) ∙ (run_rows-is (walk_from nothing_held) words
       ∙ (ap₂ (λ (x y : Kinds). cond (clean x) (cond (clean y) (Some (settled rules (end_of words).held).rows) None) None) parts.0 parts.1
-      ∙ ap (λ (z : List Row). Some z) (sym (matches_is a is first words))))
+      ∙ ap (λ (z : List Row). Some z) (sym (matches_is first words))))
 
   -- words that have rows are parsed without a fault
-  parsed_rows : (a : App) → IsCommand a → (first : Text) (words : List Text) (rows : List Row) → list_any is_stray words ≡ false → add_uses (uses_of names None words) [] ≡ Some rows → fault_of a (first ∷ words) ≡ []
-  parsed_rows a is first words rows few e =
+  parsed_rows : (first : Text) (words : List Text) (rows : List Row) → list_any is_stray words ≡ false → add_uses (uses_of options None words) [] ≡ Some rows → fault_of app (first ∷ words) ≡ []
+  parsed_rows first words rows few e =
       let walk_ok = then_parts (clean (walk_fault shape [] (walk_from nothing_held) words)) (settles (end_of words).held) rows (sym (run_rows-is (walk_from nothing_held) words) ∙ (rows_are words few ∙ e)) in
       let end_ok = some_parts (clean (settle_fault rules false (end_of words).held)) (settled rules (end_of words).held).rows rows walk_ok.1 in
-      fault_is a is first words ∙ ap₂ or_else (clean-nil (walk_fault shape [] (walk_from nothing_held) words) walk_ok.0) (clean-nil (settle_fault rules false (end_of words).held) end_ok.0)
+      fault_is first words ∙ ap₂ or_else (clean-nil (walk_fault shape [] (walk_from nothing_held) words) walk_ok.0) (clean-nil (settle_fault rules false (end_of words).held) end_ok.0)
 
   -- a parse without a fault: each name stands at most once, and the matches have its value
-  pub parse_ok : (a : App) → IsCommand a → (first : Text) (words : List Text) → list_any is_stray words ≡ false → fault_of a (first ∷ words) ≡ []
-      → (us : List Use) × (uses_of names None words ≡ Some us) × (names_differ us ≡ true) × ((id : Text) → first_of id (matches_of a (first ∷ words)) ≡ value_under id us)
-  parse_ok a is first words few e =
-      let rows = matches_of a (first ∷ words) in
-      let parts = uses_parts (uses_of names None words) rows (rows_parsed a is first words few e) in
-      let differ = differ_parts (names_differ parts.0) (map row_of_use parts.0) rows (sym (add_all-rows parts.0) ∙ parts.2) in
+  pub parse_ok : (first : Text) (words : List Text) → list_any is_stray words ≡ false → fault_of app (first ∷ words) ≡ []
+      → (us : List Use) × (uses_of options None words ≡ Some us) × (names_differ us ≡ true) × ((id : Text) → first_of id (matches_of app (first ∷ words)) ≡ value_under id us)
+  parse_ok first words few e =
+      let rows = matches_of app (first ∷ words) in
+      let parts = uses_parts (uses_of options None words) rows (rows_parsed first words few e) in
+      let differ = some_parts (names_differ parts.0) (map row_of_use parts.0) rows (sym (add_all-rows parts.0) ∙ parts.2) in
       (parts.0, parts.1, differ.0, λ id. ap (first_of id) (sym differ.1) ∙ first_under id parts.0)
 
   -- words each name of which stands at most once are parsed without a fault
-  pub parse_uses : (a : App) → IsCommand a → (first : Text) (words : List Text) (us : List Use) → list_any is_stray words ≡ false → uses_of names None words ≡ Some us → names_differ us ≡ true → fault_of a (first ∷ words) ≡ []
-  parse_uses a is first words us few e differ =
-      parsed_rows a is first words (map row_of_use us) few
+  pub parse_uses : (first : Text) (words : List Text) (us : List Use) → list_any is_stray words ≡ false → uses_of options None words ≡ Some us → names_differ us ≡ true → fault_of app (first ∷ words) ≡ []
+  parse_uses first words us few e differ =
+      parsed_rows first words (map row_of_use us) few
       (ap (λ (o : Option (List Use)). add_uses o []) e ∙ (add_all-rows us ∙ ap (λ (b : Bool). cond b (Some (map row_of_use us)) None) differ))

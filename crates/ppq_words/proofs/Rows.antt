@@ -3,7 +3,9 @@ use Rattle.std.proofs.Common.{◌≡◌, ◌∙◌, ℕ, Bool, true, false, not,
 use Rattle.std.specs.List.{before_first, after_first, position_or_len, list_any, list_all, find}
 use Rattle.std.specs.Option.{option_and_then}
 use Rattle.std.specs.Prelude.{slice_get}
+use Rattle.std.proofs.Math.Bool.{and-true}
 use Rattle.std.proofs.lemmas.Bool.{or_parts, and_right}
+use Rattle.std.proofs.lemmas.Bool.Decides.{nat_tests}
 use Rattle.clap.specs.Lexer.{has_byte}
 use Rattle.clap.specs.Kinds.{Kinds, or_else}
 use Rattle.clap.specs.Walk.{Text, Row, at_row, has_row, with_values, without, more_values, first_of}
@@ -45,11 +47,7 @@ set_missing id v rows e =
 
 pub has_row-append : (id : Text) (xs ys : List Row) → has_row id (xs ++ ys) ≡ (has_row id xs || has_row id ys)
 has_row-append id [] ys = refl
-has_row-append id (x ∷ xs) ys = go (bytes_eq x.id id) (has_row-append id xs ys)
-  where
-    go : (b : Bool) → has_row id (xs ++ ys) ≡ (has_row id xs || has_row id ys) → (b || has_row id (xs ++ ys)) ≡ ((b || has_row id xs) || has_row id ys)
-    go true e = refl
-    go false e = e
+has_row-append id (x ∷ xs) ys = grind (arith, nat_tests, has_row-append id xs ys)
 
 -- ---- names and values in a word
 
@@ -115,17 +113,13 @@ pub clean-nil : (a : Kinds) → clean a ≡ true → a ≡ []
 clean-nil [] e = refl
 clean-nil (k ∷ ks) e = cc
 
-pub some_parts : (b : Bool) (xs rows : List Row) → cond b (Some xs) None ≡ Some rows → (b ≡ true) × (xs ≡ rows)
-some_parts true xs rows e = (refl, cc)
-some_parts false xs rows e = cc
+pub some_parts : {A : Type 0} (b : Bool) (x y : A) → cond b (Some x) None ≡ Some y → (b ≡ true) × (x ≡ y)
+some_parts true x y e = (refl, cc)
+some_parts false x y e = cc
 
-pub differ_parts : (b : Bool) (xs rows : List Row) → cond b (Some xs) None ≡ Some rows → (b ≡ true) × (xs ≡ rows)
-differ_parts true xs rows e = (refl, cc)
-differ_parts false xs rows e = cc
-
-pub then_parts : (b : Bool) (o : Option (List Row)) (rows : List Row) → cond b o None ≡ Some rows → (b ≡ true) × (o ≡ Some rows)
-then_parts true o rows e = (refl, e)
-then_parts false o rows e = cc
+pub then_parts : {A : Type 0} (b : Bool) (o : Option A) (y : A) → cond b o None ≡ Some y → (b ≡ true) × (o ≡ Some y)
+then_parts true o y e = (refl, e)
+then_parts false o y e = cc
 
 -- ---- rows and values under names
 
@@ -150,11 +144,7 @@ abbrev are_new : List Row → List Use → Bool
 are_new rows us = list_all (λ u. not (has_row u.0 rows)) us
 
 shuffle : (h b a l : Bool) → (not (h || (b || false)) && (not a && l)) ≡ (not (b || a) && (not h && l))
-shuffle true true a l = refl
-shuffle true false true l = refl
-shuffle true false false l = refl
-shuffle false true a l = refl
-shuffle false false a l = refl
+shuffle h b a l = grind (arith, nat_tests)
 
 new_after : (u : Use) (us : List Use) (rows : List Row) → are_new (rows ++ row_of_use u ∷ []) us ≡ (not (list_any (λ v. bytes_eq u.0 v.0) us) && are_new rows us)
 new_after u [] rows = refl
@@ -163,10 +153,7 @@ new_after u (v ∷ us) rows =
     ∙ shuffle (has_row v.0 rows) (bytes_eq u.0 v.0) (list_any (λ w. bytes_eq u.0 w.0) us) (are_new rows us)
 
 regroup : (n a l : Bool) → (n && (not a && l)) ≡ ((not a && n) && l)
-regroup true true l = refl
-regroup true false l = refl
-regroup false true l = refl
-regroup false false l = refl
+regroup n a l = grind (arith, nat_tests)
 
 add_all-new : (us : List Use) (rows : List Row) → add_all us rows ≡ cond (names_differ us && are_new rows us) (Some (rows ++ map row_of_use us)) None
 add_all-new [] rows = ap (λ (z : List Row). Some z) (sym (append-nil rows))
@@ -188,8 +175,4 @@ all_new (u ∷ us) = all_new us
 -- the rows of uses, where no name stands twice
 pub add_all-rows : (us : List Use) → add_all us [] ≡ cond (names_differ us) (Some (map row_of_use us)) None
 add_all-rows us =
-    add_all-new us [] ∙ ap (λ (t : Bool). cond t (Some (map row_of_use us)) None) (ap (λ (t : Bool). names_differ us && t) (all_new us) ∙ and_true (names_differ us))
-  where
-    and_true : (b : Bool) → (b && true) ≡ b
-    and_true true = refl
-    and_true false = refl
+    add_all-new us [] ∙ ap (λ (t : Bool). cond t (Some (map row_of_use us)) None) (ap (λ (t : Bool). names_differ us && t) (all_new us) ∙ and-true (names_differ us))

@@ -7,4 +7,5 @@ pub mod Given
 pub mod Meaning
 pub mod Reading
 pub mod Strays
+pub mod Usage
 pub mod Uses

@@ -1,5 +1,5 @@
 -- What the words of the command line mean to a reader: a relation above the definition that computes.
-use Rattle.std.specs.Prelude.{◌≡◌, ◌⊎◌, ℕ, ⊤, ◌≤◌, length, bytes_eq, if◌then◌else◌, false, List, [], ◌∷◌, ◌++◌, map, flat_map, codes, Contains}
+use Rattle.std.specs.Prelude.{◌≡◌, ◌⊎◌, ℕ, ⊤, ◌≤◌, length, bytes_eq, if◌then◌else◌, false, List, [], ◌∷◌, ◌++◌, flat_map, codes, Contains}
 use Rattle.std.specs.List.{AllByRecursion as Each}
 use Rattle.ppq_script.specs.Meaning.{Spells}
 use Rattle.ppq_script.specs.declared.form.Form.{Form}
@@ -8,7 +8,7 @@ use Rattle.ppq_words.specs.declared.budget_unit.BudgetUnit.{BudgetUnit}
 use Rattle.ppq_words.specs.declared.budget_unit.BudgetUnit.TheVariants as unit
 use Rattle.ppq_words.specs.Uses.{Text, begins_with_hyphen}
 use Rattle.ppq_words.specs.Given.{AreGivenInRange}
-use Rattle.ppq_words.specs.Reading.{Reading, option_names}
+use Rattle.ppq_words.specs.Reading.{Reading, run_usage}
 
 -- the script's name, or an option with its value: in the next word, as `--heap 1`, or after `=`, as `--heap=1`
 pub data Argument : Type 0 where
@@ -22,15 +22,11 @@ spelled_as (bare value) = value ∷ []
 spelled_as (apart name value) = name ∷ value ∷ []
 spelled_as (joined name value) = (name ++ codes "=" ++ value) ∷ []
 
--- `--device`, `--blocks`, `--workers`, `--block`, `--heap`, `--memory`, `--memory-bytes`, `--form`
-abbrev pub options : List Text
-options = map (λ n. codes "--" ++ n) option_names
-
 -- an option's name is one of these
-abbrev pub IsNamed : Argument → Type 0
-IsNamed (bare value) = ⊤
-IsNamed (apart name value) = Contains options name
-IsNamed (joined name value) = Contains options name
+abbrev pub IsNamed : List Text → Argument → Type 0
+IsNamed options (bare value) = ⊤
+IsNamed options (apart name value) = Contains options name
+IsNamed options (joined name value) = Contains options name
 
 -- its value
 abbrev pub value_in : Argument → Text
@@ -86,7 +82,7 @@ HasForm arguments form.Bytes = values_of (codes "--form") arguments ≡ codes "b
 pub record Reads (words : List Text) (r : Reading) : Type 0 where
   pub arguments : List Argument
   pub spelled : words ≡ codes "run" ∷ flat_map spelled_as arguments
-  pub named : Each IsNamed arguments
+  pub named : Each (IsNamed run_usage.options) arguments
   pub plain : Each (λ a. IsPlain (value_in a)) arguments
   pub script : scripts_in arguments ≡ r.script ∷ []
   pub some_script : 1 ≤ length r.script

@@ -9,11 +9,15 @@ use Rattle.ppq_words.specs.declared.budget_unit.BudgetUnit.{BudgetUnit}
 use Rattle.ppq_words.specs.declared.budget_unit.BudgetUnit.TheVariants as unit
 use Rattle.ppq_words.specs.declared.run_arguments.RunArguments.{RunArguments}
 use Rattle.ppq_words.specs.Given.{Given, given_as, largest}
-use Rattle.ppq_words.specs.Uses.{Text, Use, alone, uses_of, names_differ, value_under}
+use Rattle.ppq_words.specs.Uses.{Text, alone}
+use Rattle.ppq_words.specs.Usage.{Usage, values_in}
 
--- the names of the options, without their hyphens
-abbrev pub option_names : List Text
-option_names = codes "device" ∷ codes "blocks" ∷ codes "workers" ∷ codes "block" ∷ codes "heap" ∷ codes "memory" ∷ codes "memory-bytes" ∷ codes "form" ∷ []
+-- the command `run`, with its eight options
+abbrev pub run_usage : Usage
+run_usage = record {
+  word = codes "run";
+  options = codes "--device" ∷ codes "--blocks" ∷ codes "--workers" ∷ codes "--block" ∷ codes "--heap" ∷ codes "--memory" ∷ codes "--memory-bytes" ∷ codes "--form" ∷ [];
+}
 
 -- the script's name, the device's name, the five numbers as they are given, and the form of the output
 pub record Reading : Type 0 where
@@ -95,11 +99,6 @@ reading_by value =
     (given_of (number_in (value (codes "--blocks"))) (number_in (value (codes "--workers"))) (number_in (value (codes "--block"))) (number_in (value (codes "--heap"))) (budget_of (value (codes "--memory")) (value (codes "--memory-bytes"))))
     (form_of (value (codes "--form")))
 
--- the reading of values under names of which none stands twice
-abbrev pub reading_of_uses : List Use → Option Reading
-reading_of_uses uses = if names_differ uses then reading_by (λ name. value_under name uses) else None
-
 -- the reading of the words, where they have one
 abbrev pub reading_of : List Text → Option Reading
-reading_of [] = None
-reading_of (first ∷ words) = if bytes_eq first (codes "run") then option_and_then reading_of_uses (uses_of option_names None words) else None
+reading_of words = option_and_then reading_by (values_in run_usage words)

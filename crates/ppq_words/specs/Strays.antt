@@ -1,7 +1,8 @@
 -- The words that the program refuses before the parse.
-use Rattle.std.specs.Prelude.{Bool, true, false, not, ◌&&◌, ◌==◌, List, [], ◌∷◌, Option, Some, None, if◌then◌else◌, codes, bytes_eq}
+use Rattle.std.specs.Prelude.{Bool, true, false, not, ◌&&◌, ◌==◌, List, [], ◌∷◌, Option, Some, None, if◌then◌else◌, bytes_eq}
 use Rattle.std.specs.List.{list_any}
 use Rattle.ppq_words.specs.Uses.{Text, begins_with_hyphen, after_equals}
+use Rattle.ppq_words.specs.Reading.{run_usage}
 
 -- the value in the word begins with `-`
 abbrev pub has_stray_value : Option Text → Bool
@@ -23,7 +24,11 @@ abbrev pub is_stray : Text → Bool
 is_stray [] = false
 is_stray (b ∷ bs) = if b == 45 then is_stray_option bs else false
 
--- the words go on to the parse: the first is `run`, and no other is stray
+-- the words go on to the parse: the first is the command's, and no other is stray
+abbrev pub may_parse : Text → List Text → Bool
+may_parse word [] = false
+may_parse word (first ∷ words) = bytes_eq first word && not (list_any is_stray words)
+
+-- the same of the command `run`
 abbrev pub may_run : List Text → Bool
-may_run [] = false
-may_run (first ∷ words) = bytes_eq first (codes "run") && not (list_any is_stray words)
+may_run = may_parse run_usage.word

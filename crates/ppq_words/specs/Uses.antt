@@ -37,19 +37,19 @@ abbrev pub option_use : Text → Option Text → Option (List Use) → Option (L
 option_use name (Some value) behind waiting = with_use name value behind
 option_use name None behind waiting = waiting
 
--- `--` and one of the names
+-- one of the options
 abbrev pub is_option : List Text → Text → Bool
-is_option names word = list_any (λ n. bytes_eq (45 ∷ 45 ∷ n) word) names
+is_option options word = list_any (λ o. bytes_eq o word) options
 
 -- the values of the words, each under its name; `waiting` is an option whose value is the next word
 abbrev pub uses_of : List Text → Option Text → List Text → Option (List Use)
-uses_of names None [] = Some []
-uses_of names (Some name) [] = None
-uses_of names (Some name) (word ∷ words) = with_use name word (uses_of names None words)
-uses_of names None (word ∷ words) =
+uses_of options None [] = Some []
+uses_of options (Some name) [] = None
+uses_of options (Some name) (word ∷ words) = with_use name word (uses_of options None words)
+uses_of options None (word ∷ words) =
     if begins_with_hyphen word
-    then (if is_option names (before_equals word) then option_use (before_equals word) (after_equals word) (uses_of names None words) (uses_of names (Some (before_equals word)) words) else None)
-    else with_use alone word (uses_of names None words)
+    then (if is_option options (before_equals word) then option_use (before_equals word) (after_equals word) (uses_of options None words) (uses_of options (Some (before_equals word)) words) else None)
+    else with_use alone word (uses_of options None words)
 
 -- no name stands twice
 abbrev pub names_differ : List Use → Bool

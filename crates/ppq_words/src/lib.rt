@@ -3,16 +3,19 @@
 //! `run SCRIPT --device FILE --blocks D --workers P --block B --heap H (--memory M | --memory-bytes N)
 //! [--form text|bytes]`: the word `run` and, in any order, the script's name and the options, none
 //! twice. An option's value is the next word (`--heap 1`), or follows `=` in the same word
-//! (`--heap=1`). There is no help and no version option. The crate looks for `run` and for stray hyphens first, `clap` then splits the words into
-//! names and values, and the crate reads the numbers by the grammar of scripts.
+//! (`--heap=1`). There is no help and no version option.
+//!
+//! A command is a description (`Usage`): its word, and its options. The crate looks for the word and
+//! for stray hyphens first, then `clap` splits the words into names and values, and then the crate
+//! reads the values: what must stand, what excludes what, and numbers by the grammar of scripts.
 #![tactic(auto)]
 
 mod budget_unit;
-mod command;
 mod given_sizes;
 mod laws;
 mod run_arguments;
 mod strays;
+mod usage;
 mod values;
 mod words;
 

@@ -2,7 +2,7 @@
 ghost use Rattle.std.specs.Prelude.{◌≡◌};
 ghost use Rattle.std.specs.List.{list_any};
 ghost use Rattle.ppq_words.specs.Uses.{begins_with_hyphen, after_equals};
-ghost use Rattle.ppq_words.specs.Strays.{has_stray_value, is_stray, may_run};
+ghost use Rattle.ppq_words.specs.Strays.{has_stray_value, is_stray, may_parse};
 ghost use Rattle.ppq_words.specs.Reading.{texts_of};
 
 // Whether a text begins with `-`.
@@ -42,13 +42,13 @@ fn has_stray(words: &[String]) -> bool
     words.iter().any(|word| is_stray(word.as_str()))
 }
 
-// Whether the words go on to the parse: the first is `run`, and no other is stray. Does not
-// allocate.
-pub(crate) fn may_run(words: &[String]) -> bool
-    ensures { result ≡ may_run (texts_of words.now) }
+// Whether the words go on to the parse: the first is the command's word, and no other is stray. Does
+// not allocate.
+pub(crate) fn may_parse(word: &str, words: &[String]) -> bool
+    ensures { result ≡ may_parse word.now (texts_of words.now) }
 {
     match words.split_first() {
-        Some((first, rest)) => first.as_str() == "run" && !has_stray(rest),
+        Some((first, rest)) => first.as_str() == word && !has_stray(rest),
         None => false,
     }
 }

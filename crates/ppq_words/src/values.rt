@@ -1,8 +1,7 @@
 //! What the values of a parse say.
 ghost use Rattle.std.specs.Prelude.{◌≡◌, Some, option_map, option_and_then, codes};
 ghost use Rattle.clap.specs.Words.{first_value, found_of};
-ghost use Rattle.ppq_words.specs.Given.{given_as};
-ghost use Rattle.ppq_words.specs.Reading.{as_reading, not_empty, number_in, budget_of, given_of, in_range, form_of, reading_by};
+ghost use Rattle.ppq_words.specs.Reading.{as_reading, not_empty, number_in, budget_of, given_of, form_of, reading_by};
 
 use crate::{BudgetUnit, GivenSizes, RunArguments};
 use clap::ArgMatches;
@@ -21,23 +20,6 @@ fn number_under(matches: &ArgMatches<'_>, id: &str) -> Option<u64>
     ensures { result ≡ number_in (first_value (found_of matches.now) id.now) }
 {
     number(matches.get_str(id)?.as_bytes())
-}
-
-// The sizes of these numbers, with a budget in its unit, where each is in its range.
-fn given_in(
-    workers: u64,
-    block: u64,
-    heap: u64,
-    budget: (u64, BudgetUnit),
-    blocks: u64,
-) -> Option<GivenSizes>
-    ensures { result ≡ in_range (given_as workers block heap budget blocks) }
-{
-    let workers = u32::try_from(workers).ok()?;
-    let block = u32::try_from(block).ok()?;
-    let heap = u32::try_from(heap).ok()?;
-    let blocks = u32::try_from(blocks).ok()?;
-    GivenSizes::new(workers, block, heap, budget, blocks)
 }
 
 // The budget and its unit, where it is given in just one.
@@ -67,7 +49,7 @@ fn form_of(matches: &ArgMatches<'_>) -> Option<Form>
     }
 }
 
-// The sizes that the values say, with this budget in its unit.
+// The sizes that the values say, with this budget in its unit, where each number is in its range.
 fn given_of(matches: &ArgMatches<'_>, budget: (u64, BudgetUnit)) -> Option<GivenSizes>
     ensures { let value = first_value (found_of matches.now) in
         result ≡ given_of (number_in (value (codes "--blocks"))) (number_in (value (codes "--workers"))) (number_in (value (codes "--block"))) (number_in (value (codes "--heap"))) (Some budget) }
@@ -76,7 +58,11 @@ fn given_of(matches: &ArgMatches<'_>, budget: (u64, BudgetUnit)) -> Option<Given
     let workers = number_under(matches, "--workers")?;
     let block = number_under(matches, "--block")?;
     let heap = number_under(matches, "--heap")?;
-    given_in(workers, block, heap, budget, blocks)
+    let workers = u32::try_from(workers).ok()?;
+    let block = u32::try_from(block).ok()?;
+    let heap = u32::try_from(heap).ok()?;
+    let blocks = u32::try_from(blocks).ok()?;
+    GivenSizes::new(workers, block, heap, budget, blocks)
 }
 
 // What the values of a parse say, where none is missing, no name is empty, each number is spelled and

@@ -4,10 +4,8 @@ ghost use Rattle.ppq_words.specs.Strays.{may_run};
 ghost use Rattle.ppq_words.specs.Reading.{as_reading, texts_of, reading_of};
 
 use crate::RunArguments;
-use crate::command::command;
-use crate::strays::may_run;
+use crate::usage::RUN;
 use crate::values::arguments_of;
-use clap::error::ErrorKind;
 use ppq_script::Memory;
 use std::alloc::Global;
 
@@ -25,15 +23,9 @@ pub fn read_words<'a>(
     // Words that are refused before the parse do not fail for memory.
     ensures early { may_run (texts_of words.now) ≡ false → IsOk result }
 {
-    if !may_run(words) {
-        return Ok(None);
-    }
-    let command = command(alloc)?;
-    match command.try_get_matches_from(words) {
-        Ok(matches) => Ok(arguments_of(&matches)),
-        Err(error) => match error.kind() {
-            ErrorKind::OutOfMemory => Err(Memory),
-            _ => Ok(None),
-        },
+    match RUN.parse(alloc, words) {
+        Ok(Some(matches)) => Ok(arguments_of(&matches)),
+        Ok(None) => Ok(None),
+        Err(error) => Err(error),
     }
 }

@@ -2,7 +2,7 @@ use Rattle.std.proofs.Common.{◌∙◌, rules, string_bytes, tests}
 use Rattle.std.proofs.lemmas.Iterator.{YieldsList-from_slice}
 use Rattle.std.proofs.lemmas.Iterator.Search.{any_from_yields_List}
 use Rattle.ppq_words.specs.Strays.{is_stray}
-use Rattle.ppq_words.proofs.ReadWords.{list_any-texts}
+use Rattle.ppq_words.proofs.Found.{list_any-texts}
 use Rattle.ppq_words.proofs.strays.has_stray.Goals as goal
 
 pub returns : goal.returns
