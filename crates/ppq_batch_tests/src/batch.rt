@@ -3,11 +3,11 @@
 ghost use Rattle.std.specs.Prelude.{◌≡◌, ◌<◌, false, All, IsTrue};
 ghost use Rattle.ppq_record.specs.Order.{is_before};
 ghost use Rattle.ppq_load.specs.ppq_session.Batches.{AreAbove};
-ghost use Rattle.ppq_load.specs.Limits.{AreGoing};
+ghost use Rattle.ppq_load.specs.ppq_session.LimitSessions.{AreGoing};
 
 use crate::queues::{filled, pairs, popped};
 use ppq_budget::Sizes;
-use ppq_load::{Ask, Limits, Line, Queue, QueueFault};
+use ppq_load::{Ask, LimitSession, Line, Queue, QueueFault};
 use ppq_outside::{Gate, Host, MemRack, MemSlot, OpenGate};
 use ppq_record::{Pair, Record};
 use ppq_testkit::{CrowdGate, PairGate, pair};
@@ -88,7 +88,7 @@ fn begun<H: Host + Abort>(
     alloc: Global,
     queue: Queue<MemSlot, Pair>,
     limit: Pair,
-) -> Limits<MemSlot, Pair>
+) -> LimitSession<MemSlot, Pair>
 where
     H::Dir: Send,
     requires { queue.sizes.workers ≡ 2 }
@@ -96,7 +96,7 @@ where
     ensures limit { result.front.limit ≡ limit }
     ensures going { AreGoing result }
 {
-    match Limits::begin(rt, alloc, queue, limit, &OpenGate) {
+    match LimitSession::begin(rt, alloc, queue, limit, &OpenGate) {
         Ok(session) => session,
         Err(_) => panic!(rt; "no session began"),
     }
@@ -106,7 +106,7 @@ where
 fn ran<H: Host + Abort, G: Gate>(
     rt: &H,
     alloc: Global,
-    session: &mut Limits<MemSlot, Pair>,
+    session: &mut LimitSession<MemSlot, Pair>,
     limit: Pair,
     batch: Batch<'_>,
     gate: &G,
@@ -131,7 +131,7 @@ where
 fn both<H: Host + Abort, G: Gate>(
     rt: &H,
     alloc: Global,
-    session: &mut Limits<MemSlot, Pair>,
+    session: &mut LimitSession<MemSlot, Pair>,
     limit: Pair,
     batches: [Batch<'_>; 2],
     gate: &G,

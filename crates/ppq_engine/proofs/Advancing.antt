@@ -15,7 +15,7 @@ use Rattle.ppq_script.specs.declared.session.Session.TheVariants.{Outside, InBul
 use Rattle.ppq_script.specs.Parts.{IsLine, AreLines, bulk_part, limit_part}
 use Rattle.ppq_load.specs.ppq_queue.Holding.{Holding}
 use Rattle.ppq_load.specs.ppq_array.declared.store_fault.StoreFault.{StoreFault as QueueFault}
-use Rattle.ppq_load.specs.Limits.{begun_in}
+use Rattle.ppq_load.specs.ppq_session.LimitSessions.{begun_in}
 use Rattle.ppq_load.specs.Refusal.{Keeps, IsRefusedBy}
 use Rattle.ppq_load.proofs.ppq_queue.ppq_spill.SameSlots.{SameSlots-trans}
 use Rattle.ppq_engine.specs.Files.{IsBySession}

@@ -19,7 +19,7 @@ use Rattle.ppq_engine.specs.Output.{AreFilesOf, given_of, output_of, load_of, cr
 use Rattle.ppq_engine.specs.Outcome.{EndSays, TakesBeforeLoad}
 use Rattle.ppq_engine.specs.Ends.{budget_refusal, BeganOrRefused, IsQuiet, NoneFailed, IsCompleted}
 use Rattle.ppq_engine.specs.declared.end.End.{End}
-use Rattle.ppq_engine.specs.declared.end.End.TheVariants.{Done, BadLine, Usage, ReadFault, WriteFault, DeviceFault, NoFreeBlock, BudgetTooSmall, Memory, FileChanged, NoDevice, NoScript, ScriptTooLong}
+use Rattle.ppq_engine.specs.declared.end.End.TheVariants.{Done, ReadFault, WriteFault, DeviceFault, NoFreeBlock, BudgetTooSmall, Memory, FileChanged}
 use Rattle.ppq_engine.proofs.Sizes.{fits-more}
 use Rattle.ppq_engine.proofs.Slots.{new-unfailed, none-failed}
 
@@ -114,14 +114,14 @@ module _ {R : Type 0} (w : Words R) (form : Form) (told : Option (List ℕ → O
 
   -- of an open queue an end has one of the causes that come after the beginning
   began : (slots : List Shown) (end : End) → Says slots end → BeganOrRefused None end
-  began slots (BadLine line) says = absurd says
-  began slots Usage says = absurd says
-  began slots (BudgetTooSmall need) says = absurd says
+  began slots Done says = inl tt
+  began slots ReadFault says = inl tt
+  began slots WriteFault says = inl tt
+  began slots (DeviceFault number) says = inl tt
+  began slots NoFreeBlock says = inl tt
   began slots Memory says = inr refl
-  began slots NoDevice says = absurd says
-  began slots NoScript says = absurd says
-  began slots ScriptTooLong says = absurd says
-  began slots _ says = inl tt
+  began slots (FileChanged line said got) says = inl tt
+  began slots _ says = absurd says
 
   pub says-began : (slots : List Shown) (end : End) → Says slots end → fixed_of sizes ≤ sizes.memory → BeganOrRefused (budget_refusal sizes) end
   says-began slots end says enough =

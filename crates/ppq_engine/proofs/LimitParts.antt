@@ -20,7 +20,7 @@ use Rattle.ppq_load.specs.Refusal.{Keeps, IsRefusedBy}
 use Rattle.ppq_load.proofs.Counting.{few-to}
 use Rattle.ppq_load.proofs.Refusals.{cause-later}
 use Rattle.ppq_load.specs.ppq_session.Asks.{pops_in, left_after}
-use Rattle.ppq_load.specs.Limits.{LimitsHolding, InLimits, AreGoing, IsOver, IsOverBy, begun_in}
+use Rattle.ppq_load.specs.ppq_session.LimitSessions.{LimitSessionHolding, InLimits, AreGoing, IsOver, IsOverBy, begun_in}
 use Rattle.ppq_engine.specs.Calls.{RunsPart, SinkCounts}
 use Rattle.ppq_engine.specs.Files.{IsBySession}
 use Rattle.ppq_engine.specs.Gathers.{Gathers}
@@ -29,7 +29,7 @@ use Rattle.ppq_engine.specs.Output.{State, outside, state_from, output_from, giv
 use Rattle.ppq_engine.specs.Pushes.{pushed_in}
 use Rattle.ppq_engine.specs.Popping.{IsByLimit}
 use Rattle.ppq_engine.specs.Running.{RefusedAt, PartStops, StopsFor, StopsQuiet}
-use Rattle.ppq_engine.specs.Limits.{asks_in, answers_of, HasBegun, RunsLines, BreaksOff, session_end}
+use Rattle.ppq_engine.specs.Limits.{asks_in, answers_of, HasJustBegun, RunsLines, BreaksOff, session_end}
 use Rattle.ppq_engine.specs.declared.stop.Stop.{Stop}
 use Rattle.ppq_engine.specs.declared.stop.Stop.TheVariants.{Sink, Queue}
 use Rattle.ppq_engine.proofs.Advancing.{Keeps-begun, lines-refused}
@@ -72,15 +72,15 @@ pushed-first : {R : Type 0} (lines rest body : List (Command R)) → body ≡ li
 pushed-first {R} lines rest body all = omega (arith, ap (λ (cs : List (Command R)). length (pushed_in cs)) all, ap length (pushed-append lines rest), length-append (pushed_in lines) (pushed_in rest))
 
 module _ {R : Type 0} (w : Words R) (laws : HasLaws w)
-    {S : Type 0} (shown : S → Shown) (form : Form) (queue : Holding R) (before now : Option (List ℕ)) (had has : List ℕ) (mid : LimitsHolding S R)
+    {S : Type 0} (shown : S → Shown) (form : Form) (queue : Holding R) (before now : Option (List ℕ)) (had has : List ℕ) (mid : LimitSessionHolding S R)
     (workers : ℕ) (limit : R) (body : List (Command R)) (are : AreLines w workers (InLimit limit) body)
   where
     abbrev part : List (Command R)
     part = limit_part limit body
 
     -- how the session ended
-    pub record SessionRan (old : LimitsHolding S R) (new : Holding R) (printed : Result ⊤ Failed) (ended : Result ⊤ QueueFault) : Type 0 where
-      pub begun : HasBegun w shown queue limit old
+    pub record SessionRan (old : LimitSessionHolding S R) (new : Holding R) (printed : Result ⊤ Failed) (ended : Result ⊤ QueueFault) : Type 0 where
+      pub begun : HasJustBegun w shown queue limit old
       pub lines : OnOk printed (RunsLines w shown form body before now had has old mid)
       pub broken : OnErr printed (BreaksOff w shown form body before now had old mid)
       pub going : OnOk ended (AreGoing mid)
@@ -92,7 +92,7 @@ module _ {R : Type 0} (w : Words R) (laws : HasLaws w)
       over : IsOver queue (pushed_in lines) (left_after w.cmp limit queue.bag (asks_in lines)) (pops_in (asks_in lines)) new ended
       text : mid.front.failed ≡ None → AllTell queue.slots → Gathers before now had (answers_of w form limit queue.bag lines) has
 
-    module _ (old : LimitsHolding S R) (new : Holding R) where
+    module _ (old : LimitSessionHolding S R) (new : Holding R) where
       lines-ran : (v : ⊤) (ended : Result ⊤ QueueFault) (run : SessionRan old new (Ok v) ended) → LinesRan new ended run.lines.lines
       lines-ran v ended run = let lines = run.lines.lines in record {
         over = run.over (pushed_in lines) (left_after w.cmp limit queue.bag (asks_in lines)) (pops_in (asks_in lines)) (run.lines.session queue limit run.begun);

@@ -14,11 +14,11 @@ use Rattle.ppq_load.specs.ppq_session.declared.line.Line.{Line}
 use Rattle.ppq_load.specs.ppq_session.Dealing.{IsGoing, HasEnded, records_in}
 use Rattle.ppq_load.specs.ppq_session.declared.ask.Ask.{Ask}
 use Rattle.ppq_load.specs.ppq_session.Asks.{pops_in, left_after, answers_to}
-use Rattle.ppq_load.specs.Limits.{LimitsHolding, InLimits, AreGoing, HasStopped}
+use Rattle.ppq_load.specs.ppq_session.LimitSessions.{LimitSessionHolding, InLimits, AreGoing, HasStopped}
 use Rattle.ppq_engine.specs.Gathers.{Gathers}
 use Rattle.ppq_engine.specs.Output.{limited_text}
 use Rattle.ppq_engine.specs.Pushes.{lines_in, pushed_in}
-use Rattle.ppq_engine.specs.Limits.{ask_by, asks_in, answers_text, answers_of, HasDone, HasBegun, RunsBatch, RunsLines, BreaksOff}
+use Rattle.ppq_engine.specs.Limits.{ask_by, asks_in, answers_text, answers_of, HasDone, HasJustBegun, RunsBatch, RunsLines, BreaksOff}
 use Rattle.ppq_engine.proofs.Asked.{pops_in-append, left_after-append, answers_to-append, length-answers_to}
 use Rattle.ppq_engine.proofs.Popped.{gathers-more, gathers-nothing}
 use Rattle.ppq_engine.proofs.Pushes.{pushed-append}
@@ -29,7 +29,7 @@ going-not_ended pass going (inl refused) = let a = going.unrefused in cc
 going-not_ended pass going (inr failed) = let a = going.sound in let b = failed.1 in cc
 
 -- nor has a session stopped that goes on
-pub going-not_stopped : {R : Type 0} {S : Type 0} (session : LimitsHolding S R) → AreGoing session → HasStopped session → ⊥
+pub going-not_stopped : {R : Type 0} {S : Type 0} (session : LimitSessionHolding S R) → AreGoing session → HasStopped session → ⊥
 going-not_stopped {R} {S} session going (inl any) =
     let P : PassHolding S R → Type 0 = λ p. IsGoing p in
     going-not_ended any.1 (subst P any.3 (going.passes any.0 any.1 any.2)) any.4
@@ -52,7 +52,7 @@ sink-part before mid now had between text more rest first took =
 
 -- lines were run behind others
 pub done-more :
-    {R : Type 0} {S : Type 0} (w : Words R) (shown : S → Shown) (queue : Holding R) (limit : R) (cs ds : List (Command R)) (lines : List (Line R)) (asks : List Ask) (new : LimitsHolding S R) → lines ≡ lines_in ds → asks ≡ asks_in ds
+    {R : Type 0} {S : Type 0} (w : Words R) (shown : S → Shown) (queue : Holding R) (limit : R) (cs ds : List (Command R)) (lines : List (Line R)) (asks : List Ask) (new : LimitSessionHolding S R) → lines ≡ lines_in ds → asks ≡ asks_in ds
     → InLimits shown queue limit (pushed_in cs ++ records_in lines) (left_after w.cmp limit (left_after w.cmp limit queue.bag (asks_in cs)) asks) (pops_in (asks_in cs) + pops_in asks) new → HasDone w shown queue limit (cs ++ ds) new
 done-more {R} w shown queue limit cs ds lines asks new lines_are asks_are all =
     let left = left_after w.cmp limit queue.bag (asks_in cs) in
@@ -66,14 +66,14 @@ done-more {R} w shown queue limit cs ds lines asks new lines_are asks_are all =
     let R : ℕ → Type 0 = λ n. InLimits shown queue limit (pushed_in (cs ++ ds)) (left_after w.cmp limit queue.bag (asks_in (cs ++ ds))) n new in
     subst R popped (subst Q left_is (subst P given all))
 
-module _ {R : Type 0} (w : Words R) {S : Type 0} (shown : S → Shown) (form : Form) (whole : List (Command R)) (before : Option (List ℕ)) (had : List ℕ) (old : LimitsHolding S R) where
+module _ {R : Type 0} (w : Words R) {S : Type 0} (shown : S → Shown) (form : Form) (whole : List (Command R)) (before : Option (List ℕ)) (had : List ℕ) (old : LimitSessionHolding S R) where
   -- of the lines these are left, and all answers of the others are gathered
-  pub record IsGoingOn (rest : List (Command R)) (now : Option (List ℕ)) (has : List ℕ) (new : LimitsHolding S R) : Type 0 where
+  pub record IsGoingOn (rest : List (Command R)) (now : Option (List ℕ)) (has : List ℕ) (new : LimitSessionHolding S R) : Type 0 where
     pub done : List (Command R)
     pub all : whole ≡ done ++ rest
     pub going : AreGoing new
-    pub session : (queue : Holding R) (limit : R) → HasBegun w shown queue limit old → HasDone w shown queue limit done new
-    pub text : (queue : Holding R) (limit : R) → HasBegun w shown queue limit old → AllTell queue.slots → Gathers before now had (answers_of w form limit queue.bag done) has
+    pub session : (queue : Holding R) (limit : R) → HasJustBegun w shown queue limit old → HasDone w shown queue limit done new
+    pub text : (queue : Holding R) (limit : R) → HasJustBegun w shown queue limit old → AllTell queue.slots → Gathers before now had (answers_of w form limit queue.bag done) has
 
   pub going-begin : AreGoing old → IsGoingOn whole before had old
   going-begin going = record {
@@ -85,7 +85,7 @@ module _ {R : Type 0} (w : Words R) {S : Type 0} (shown : S → Shown) (form : F
   }
 
   -- all lines were run
-  pub runs-all : (now : Option (List ℕ)) (has : List ℕ) (new : LimitsHolding S R) → IsGoingOn [] now has new → RunsLines w shown form whole before now had has old new
+  pub runs-all : (now : Option (List ℕ)) (has : List ℕ) (new : LimitSessionHolding S R) → IsGoingOn [] now has new → RunsLines w shown form whole before now had has old new
   runs-all now has new on = record {
     lines = on.done;
     rest = [];
@@ -98,7 +98,7 @@ module _ {R : Type 0} (w : Words R) {S : Type 0} (shown : S → Shown) (form : F
 
   -- a batch more was run
   module _
-      (rest first behind : List (Command R)) (mid_told now : Option (List ℕ)) (mid_has has : List ℕ) (mid new : LimitsHolding S R) (answers : List (Option R))
+      (rest first behind : List (Command R)) (mid_told now : Option (List ℕ)) (mid_has has : List ℕ) (mid new : LimitSessionHolding S R) (answers : List (Option R))
       (on : IsGoingOn rest mid_told mid_has mid) (cut : rest ≡ first ++ behind) (ran : RunsBatch w shown first answers mid new)
     where
       abbrev cs : List (Command R)
@@ -107,12 +107,12 @@ module _ {R : Type 0} (w : Words R) {S : Type 0} (shown : S → Shown) (form : F
       all_to : whole ≡ (cs ++ first) ++ behind
       all_to = on.all ∙ ap (λ (xs : List (Command R)). cs ++ xs) cut ∙ sym (append_assoc cs first behind)
 
-      session_to : (queue : Holding R) (limit : R) → HasBegun w shown queue limit old → HasDone w shown queue limit (cs ++ first) new
+      session_to : (queue : Holding R) (limit : R) → HasJustBegun w shown queue limit old → HasDone w shown queue limit (cs ++ first) new
       session_to queue limit begun = ran.session queue limit cs (on.session queue limit begun)
 
       -- the text of the answers of the batch, and of those that are missing
       answered_to :
-          (queue : Holding R) (limit : R) → HasBegun w shown queue limit old → AllTell queue.slots
+          (queue : Holding R) (limit : R) → HasJustBegun w shown queue limit old → AllTell queue.slots
           → (missing : List (Option R)) × (answers_of w form limit queue.bag (cs ++ first) ≡ answers_of w form limit queue.bag cs ++ (answers_text w form answers ++ answers_text w form missing))
       answered_to queue limit begun tells =
           let all = answers_to w.cmp limit (left_after w.cmp limit queue.bag (asks_in cs)) (asks_in first) in
@@ -125,7 +125,7 @@ module _ {R : Type 0} (w : Words R) {S : Type 0} (shown : S → Shown) (form : F
 
       -- all of them unless a call of a slot failed
       answered_all :
-          (queue : Holding R) (limit : R) → HasBegun w shown queue limit old → AllTell queue.slots → new.front.failed ≡ None
+          (queue : Holding R) (limit : R) → HasJustBegun w shown queue limit old → AllTell queue.slots → new.front.failed ≡ None
           → answers_of w form limit queue.bag (cs ++ first) ≡ answers_of w form limit queue.bag cs ++ answers_text w form answers
       answered_all queue limit begun tells sound =
           let left = left_after w.cmp limit queue.bag (asks_in cs) in
@@ -135,10 +135,10 @@ module _ {R : Type 0} (w : Words R) {S : Type 0} (shown : S → Shown) (form : F
           answers-append w form limit queue.bag cs first ∙ ap (λ (xs : List (Option R)). answers_of w form limit queue.bag cs ++ answers_text w form xs) (sym are)
 
       module _ (printed : Gathers mid_told now mid_has (answers_text w form answers) has) where
-        gathered : (queue : Holding R) (limit : R) → HasBegun w shown queue limit old → AllTell queue.slots → Gathers before now had (answers_of w form limit queue.bag cs ++ answers_text w form answers) has
+        gathered : (queue : Holding R) (limit : R) → HasJustBegun w shown queue limit old → AllTell queue.slots → Gathers before now had (answers_of w form limit queue.bag cs ++ answers_text w form answers) has
         gathered queue limit begun tells = gathers-more before mid_told now had mid_has has (answers_of w form limit queue.bag cs) (answers_text w form answers) (on.text queue limit begun tells) printed
 
-        gathered_all : new.front.failed ≡ None → (queue : Holding R) (limit : R) → HasBegun w shown queue limit old → AllTell queue.slots → Gathers before now had (answers_of w form limit queue.bag (cs ++ first)) has
+        gathered_all : new.front.failed ≡ None → (queue : Holding R) (limit : R) → HasJustBegun w shown queue limit old → AllTell queue.slots → Gathers before now had (answers_of w form limit queue.bag (cs ++ first)) has
         gathered_all sound queue limit begun tells =
             let P : List ℕ → Type 0 = λ t. Gathers before now had t has in
             subst P (sym (answered_all queue limit begun tells sound)) (gathered queue limit begun tells)

@@ -1,21 +1,28 @@
 -- What a load answers, as an answer of the engine.
-use Rattle.std.proofs.Common.{◌≡◌, ℕ, ◌+◌, Bool, List, Option, None, max, refl, sym, subst, arith}
+use Rattle.std.proofs.Common.{◌≡◌, ℕ, ◌+◌, ◌<◌, ◌≤◌, Bool, List, Option, None, max, refl, sym, ◌∙◌, subst, arith}
 use Rattle.std.specs.Prelude.{Result, Ok, Err, IfErr, OnOk}
 use Rattle.ppq_script.specs.ppq_outside.Shown.{Shown}
 use Rattle.ppq_script.specs.ppq_outside.Told.{Reply}
 use Rattle.ppq_load.specs.ppq_budget.Sizes.{Numbers}
 use Rattle.ppq_load.specs.ppq_array.Kept.{AreQuiet}
-use Rattle.ppq_load.specs.ppq_queue.Holding.{Holding}
+use Rattle.ppq_load.specs.ppq_queue.Holding.{Holding, CountsAs}
 use Rattle.ppq_load.specs.ppq_array.declared.store_fault.StoreFault.TheVariants.{NoFreeBlock, Device}
-use Rattle.ppq_load.specs.Loading.{IsByLoad, IsHandedBack, LoadLeaves, LoadStopsFor, LoadCountsFrom, LoadEndsIn}
+use Rattle.ppq_load.specs.ppq_counts.Tally.{beginning}
+use Rattle.ppq_load.specs.ppq_session.Sessions.{IsUnbegun}
+use Rattle.ppq_load.specs.ppq_session.declared.fault.BeginFault.{BeginFault}
+use Rattle.ppq_load.specs.ppq_session.declared.fault.BeginFault.TheVariants as begin
+use Rattle.ppq_load.specs.Loading.{IsByLoad, IsHandedBack, LoadLeaves, LoadStopsFor, LoadCountsFrom, LoadEndsIn, begin_fault_of}
+use Rattle.ppq_load.specs.Refusal.{Keeps}
+use Rattle.ppq_load.proofs.Loadings.{IsUnbegunLoad, unbegun}
+use Rattle.ppq_load.proofs.Refusals.{stop-later}
 use Rattle.ppq_load.specs.declared.fault.LoadFault.{LoadFault}
 use Rattle.ppq_load.specs.declared.fault.LoadFault.TheVariants.{Queue, Read, Memory, Ended}
 use Rattle.ppq_engine.specs.Calls.{Adds}
-use Rattle.ppq_engine.specs.Files.{load_stop, load_result, IsByFile, IsBySession, EndsEarly}
+use Rattle.ppq_engine.specs.Files.{begin_stop, load_stop, load_result, IsByFile, IsBySession, EndsEarly}
 use Rattle.ppq_engine.specs.Running.{StopsFor, StopsQuiet, LibraryAfter}
 use Rattle.ppq_engine.specs.declared.stop.Stop.{Stop}
 
-pub stop-refused : (peak : ℕ) (sizes : Numbers) (limited : Bool) (slots : List Shown) (line said : ℕ) (fault : LoadFault) → LoadStopsFor peak sizes limited slots fault → StopsFor peak sizes limited slots (load_stop line said fault)
+stop-refused : (peak : ℕ) (sizes : Numbers) (limited : Bool) (slots : List Shown) (line said : ℕ) (fault : LoadFault) → LoadStopsFor peak sizes limited slots fault → StopsFor peak sizes limited slots (load_stop line said fault)
 stop-refused peak sizes limited slots line said (Queue fault) h = h
 stop-refused peak sizes limited slots line said Read h = tt
 stop-refused peak sizes limited slots line said Memory h = tt
@@ -30,14 +37,14 @@ module _ {R : Type 0} (old new : Holding R) (line said : ℕ) where
   stop-quiet count Memory h = tt
   stop-quiet count (Ended got) h = tt
 
-  pub back-quiet : (fault : LoadFault) → IsHandedBack old new fault → StopsQuiet old.slots new.slots (load_stop line said fault)
+  back-quiet : (fault : LoadFault) → IsHandedBack old new fault → StopsQuiet old.slots new.slots (load_stop line said fault)
   back-quiet (Queue NoFreeBlock) h = h.quiet
   back-quiet (Queue (Device number)) h = tt
   back-quiet Read h = tt
   back-quiet Memory h = tt
   back-quiet (Ended got) h = tt
 
-pub stop-by_session : (line said : ℕ) (fault : LoadFault) → IsByLoad fault → IsBySession (load_stop line said fault)
+stop-by_session : (line said : ℕ) (fault : LoadFault) → IsByLoad fault → IsBySession (load_stop line said fault)
 stop-by_session line said (Queue fault) h = tt
 stop-by_session line said Read h = absurd h
 stop-by_session line said Memory h = tt
@@ -60,6 +67,35 @@ stop-counts before now line said (Queue fault) h = h
 stop-counts before now line said Read h = h
 stop-counts before now line said Memory h = h
 stop-counts before now line said (Ended got) h = h
+
+-- why a session did not begin, as a stop, is that of a load
+begin-is : (fault : BeginFault) → begin_stop fault ≡ load_stop 0 0 (begin_fault_of fault)
+begin-is begin.Memory = refl
+begin-is begin.NoFreeBlock = refl
+begin-is (begin.Device number) = refl
+
+-- a session did not begin, and left this queue, with this stop
+pub record IsUnbegunStop {R : Type 0} (old begun new : Holding R) (most : ℕ) (stop : Stop) : Type 0 where
+  pub by_session : IsBySession stop
+  pub refused : StopsFor most old.sizes begun.limited new.slots stop
+  pub quiet : StopsQuiet old.slots new.slots stop
+  pub kept : Keeps begun new
+  pub counted : CountsAs (beginning old.counts) old new
+
+pub unbegun-stop :
+    {R : Type 0} (old begun new : Holding R) (most : ℕ) (fault : BeginFault) (stop : Stop) → begun.sizes ≡ old.sizes → 0 < old.sizes.block → old.peak ≤ most → stop ≡ begin_stop fault → IsUnbegun old begun new fault
+    → IsUnbegunStop old begun new most stop
+unbegun-stop {R} old begun new most fault stop same some more is back =
+    let load = begin_fault_of fault in
+    let was : IsUnbegunLoad old begun new load = unbegun old begun new fault load same refl back in
+    let made : IsUnbegunStop old begun new most (load_stop 0 0 load) = record {
+      by_session = stop-by_session 0 0 load was.by_load;
+      refused = stop-refused most old.sizes begun.limited new.slots 0 0 load (stop-later old.sizes begun.limited begun.limited old.peak most some (λ e. e) more new.slots load was.refused);
+      quiet = back-quiet old new 0 0 load was.intact;
+      kept = was.kept;
+      counted = was.counted;
+    } in
+    subst (λ (s : Stop). IsUnbegunStop old begun new most s) (sym (is ∙ begin-is fault)) made
 
 -- a load's answer, and the engine's
 module _ {T : Type 0} (line said : ℕ) (r : Result T LoadFault) (s : Result T Stop) (same : s ≡ load_result line said r) where

@@ -16,7 +16,7 @@ use Rattle.ppq_script.specs.Sessions.{is_in_bulk, is_at_limit, may_stand}
 use Rattle.ppq_load.specs.ppq_queue.Holding.{Holding}
 use Rattle.ppq_load.specs.ppq_session.declared.line.Line.{Line}
 use Rattle.ppq_load.specs.ppq_session.Dealing.{IsGoing, records_in}
-use Rattle.ppq_load.specs.Loading.{LoadHolding, InSession}
+use Rattle.ppq_load.specs.Loading.{SessionHolding, InSession}
 use Rattle.ppq_engine.specs.Pushes.{line_by, lines_in, pushed_in, IsPushing, GivesLines}
 
 -- a list that is not empty has an item
@@ -62,12 +62,12 @@ module _ {R : Type 0} (w : Words R) (workers : ℕ) (session : Session R) where
   lines-named [] are = All-nil Names
   lines-named (c ∷ cs) are = All-append Names (line_by c) (lines_in cs) (line-named c are.0.stands) (lines-named cs are.1)
 
-module _ {R : Type 0} {S : Type 0} (shown : S → Shown) (lines : List (Command R)) (old : LoadHolding S R) where
+module _ {R : Type 0} {S : Type 0} (shown : S → Shown) (lines : List (Command R)) (old : SessionHolding S R) where
   pub pushing-begin : IsPushing shown lines lines old old
   pushing-begin = record { given = []; all = refl; session = λ queue s. s }
 
   -- a batch more was given
-  pub pushing-more : (rest first behind : List (Command R)) (given : List (Line R)) (mid new : LoadHolding S R) → IsPushing shown lines rest old mid → rest ≡ first ++ behind → given ≡ lines_in first
+  pub pushing-more : (rest first behind : List (Command R)) (given : List (Line R)) (mid new : SessionHolding S R) → IsPushing shown lines rest old mid → rest ≡ first ++ behind → given ≡ lines_in first
       → ((queue : Holding R) (records : List R) → InSession shown queue records mid → InSession shown queue (records ++ records_in given) new) → IsPushing shown lines behind old new
   pushing-more rest first behind given mid new p e is more = record {
     given = p.given ++ first;
@@ -80,10 +80,10 @@ module _ {R : Type 0} {S : Type 0} (shown : S → Shown) (lines : List (Command 
   }
 
   -- what the passes of a session that was ended had been given: all, where no pass has stopped
-  pub given-some : (new : LoadHolding S R) (g : GivesLines shown lines old new) → length (pushed_in g.pushing.given) ≤ length (pushed_in lines)
+  pub given-some : (new : SessionHolding S R) (g : GivesLines shown lines old new) → length (pushed_in g.pushing.given) ≤ length (pushed_in lines)
   given-some new g =
       let given = g.pushing.given in
       omega (arith, ap (λ (cs : List (Command R)). length (pushed_in cs)) g.pushing.all, ap (λ (xs : List R). length xs) (pushed-append given g.rest), length-append (pushed_in given) (pushed_in g.rest))
 
-  pub given-all : (new : LoadHolding S R) (g : GivesLines shown lines old new) → All IsGoing new.passes → g.pushing.given ≡ lines
+  pub given-all : (new : SessionHolding S R) (g : GivesLines shown lines old new) → All IsGoing new.passes → g.pushing.given ≡ lines
   given-all new g going = sym (g.pushing.all ∙ ap (λ (cs : List (Command R)). g.pushing.given ++ cs) (g.whole going) ∙ append-nil g.pushing.given)

@@ -1,30 +1,17 @@
--- Fields as text and as bytes, one field after the other.
-use Rattle.std.proofs.Common.{◌≡◌, ℕ, ◌+◌, ◌*◌, ◌<◌, ◌≤◌, List, [], ◌∷◌, ◌++◌, length, take, Some, sym, ap, ◌∙◌, arith, append_assoc, append-nil, length-append}
-use Rattle.std.specs.Prelude.{codes, decimal, flat_map, slice_get}
+-- Fields of a record, one after the other, and frames.
+use Rattle.std.proofs.Common.{◌≡◌, ℕ, ◌+◌, ◌*◌, ◌<◌, List, [], ◌∷◌, ◌++◌, length, take, set, Some, sym, ap, ◌∙◌, arith, append_assoc, append-nil, length-append}
+use Rattle.std.specs.Prelude.{flat_map, slice_get}
 use Rattle.std.specs.Int.{w32, w64, to_be_bytes}
-use Rattle.std.proofs.lemmas.List.{length-take}
+use Rattle.std.proofs.lemmas.List.{take_more_set}
 use Rattle.std.proofs.lemmas.List.Concat.{flat_map-append}
-use Rattle.ppq_engine.specs.Output.{fields_text, frame}
+use Rattle.ppq_engine.specs.Output.{frame}
 use Rattle.ppq_engine.proofs.Running.{take-next}
 
--- a field behind others
-abbrev behind : ℕ → List ℕ
-behind field = codes " " ++ decimal field
+-- the first fields in a list of numbers, and one more
+pub numbers-next : (numbers fields : List ℕ) (i field : ℕ) → i < length numbers → i < length fields → take i numbers ≡ take i fields → slice_get fields i ≡ Some field → take (i + 1) (set numbers i field) ≡ take (i + 1) fields
+numbers-next numbers fields i field room within had here = take_more_set numbers i field room ∙ ap (λ (t : List ℕ). t ++ field ∷ []) had ∙ sym (take-next fields i field within here)
 
-push_text : (fields : List ℕ) (field : ℕ) → 0 < length fields → fields_text (fields ++ field ∷ []) ≡ fields_text fields ++ behind field
-push_text [] field some = absurd (omega (arith, some))
-push_text (first ∷ fields) field some =
-    ap (λ (t : List ℕ). decimal first ++ t) (flat_map-append behind fields (field ∷ []) ∙ ap (λ (t : List ℕ). flat_map behind fields ++ t) (append-nil (behind field)))
-    ∙ sym (append_assoc (decimal first) (flat_map behind fields) (behind field))
-
--- the first field
-pub text-first : (fields : List ℕ) (field : ℕ) → 0 < length fields → slice_get fields 0 ≡ Some field → fields_text (take 1 fields) ≡ decimal field
-text-first fields field some here = ap fields_text (take-next fields 0 field some here) ∙ append-nil (decimal field)
-
--- one field more
-pub text-next : (fields : List ℕ) (i field : ℕ) → 1 ≤ i → i < length fields → slice_get fields i ≡ Some field → fields_text (take (i + 1) fields) ≡ fields_text (take i fields) ++ (codes " " ++ decimal field)
-text-next fields i field some within here = ap fields_text (take-next fields i field within here) ∙ push_text (take i fields) field (omega (arith, some, within, length-take i fields))
-
+-- the bytes of one field more
 pub bytes-next : (fields : List ℕ) (i field : ℕ) → i < length fields → slice_get fields i ≡ Some field → flat_map (to_be_bytes w64) (take (i + 1) fields) ≡ flat_map (to_be_bytes w64) (take i fields) ++ to_be_bytes w64 field
 bytes-next fields i field within here =
     ap (flat_map (to_be_bytes w64)) (take-next fields i field within here) ∙ flat_map-append (to_be_bytes w64) (take i fields) (field ∷ []) ∙ ap (λ (t : List ℕ). flat_map (to_be_bytes w64) (take i fields) ++ t) (append-nil (to_be_bytes w64 field))

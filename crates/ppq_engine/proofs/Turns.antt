@@ -19,7 +19,7 @@ use Rattle.ppq_load.specs.ppq_queue.Holding.{Holding, CountsFew}
 use Rattle.ppq_load.specs.ppq_array.Kept.{SameSlots}
 use Rattle.ppq_load.specs.ppq_array.declared.store_fault.StoreFault.{StoreFault as QueueFault}
 use Rattle.ppq_load.specs.ppq_array.declared.store_fault.StoreFault.TheVariants.{NoFreeBlock, Device}
-use Rattle.ppq_load.specs.Loading.{LoadHolding, InSession, IsLoaded, IsLeftBy}
+use Rattle.ppq_load.specs.Loading.{SessionHolding, InSession, IsLoaded, IsLeftBy}
 use Rattle.ppq_load.specs.Refusal.{Keeps}
 use Rattle.ppq_load.proofs.Counting.{few-to}
 use Rattle.ppq_load.proofs.Refusals.{cause-later}
@@ -81,7 +81,7 @@ module _ {R : Type 0} (w : Words R)
 
 -- where a session ended without a free block, no call of a block failed since it began
 pub session-quiet :
-    {S R T : Type 0} (shown : S → Shown) (queue : Holding R) (records : List R) (load : LoadHolding S R) (new : Holding R) (over : Result T QueueFault)
+    {S R T : Type 0} (shown : S → Shown) (queue : Holding R) (records : List R) (load : SessionHolding S R) (new : Holding R) (over : Result T QueueFault)
     → InSession shown queue records load → IfErr over (IsLeftBy shown load new) → IfErr over (QuietIfFull queue.slots new.slots)
 session-quiet shown queue records load new (Ok v) session left = tt
 session-quiet shown queue records load new (Err NoFreeBlock) session left = left.quiet ∙ session.keeps.quiet refl

@@ -1,9 +1,9 @@
 -- What one call of the engine did to the queue, the sink and the library.
-use Rattle.std.specs.Prelude.{◌≡◌, ◌≤◌, ◌<◌, ◌+◌, ◌-◌, ◌++◌, ◌||◌, ℕ, false, length, List, [], max, slice_get, Option, Some, None, Result, OnOk, OnErr, IfErr, IsTrue, ⊤}
+use Rattle.std.specs.Prelude.{◌≡◌, ◌≤◌, ◌<◌, ◌+◌, ◌-◌, ◌||◌, ℕ, false, length, List, [], max, slice_get, Option, Some, None, Result, OnOk, IfErr, IsTrue, ⊤}
 use Rattle.ppq_script.specs.Words.{Words}
 use Rattle.ppq_script.specs.ppq_record.Bag.{IsSameBag}
 use Rattle.ppq_script.specs.ppq_outside.Shown.{Shown, AllTell}
-use Rattle.ppq_script.specs.ppq_outside.Told.{Reply, Remembers, RepliesOnly, TakesPart, HasOneCause}
+use Rattle.ppq_script.specs.ppq_outside.Told.{Reply, Remembers, RepliesOnly, TakesPart}
 use Rattle.ppq_load.specs.ppq_array.Kept.{SameSlots, AreQuiet}
 use Rattle.ppq_script.specs.declared.form.Form.{Form}
 use Rattle.ppq_script.specs.declared.command.Command.{Command}
@@ -69,12 +69,6 @@ pub record Adds {R : Type 0} (old new : Holding R) (count : ℕ) : Type 0 where
   pub sound : new.failed ≡ None
   pub quiet : AreQuiet old.slots new.slots
   pub peak : new.peak ≤ max old.peak (old.size + count)
-
--- a text was gathered behind what was gathered before; or the sink failed, and took a part of both
-pub record GathersAll {T E : Type 0} (before now : Option (List ℕ)) (sink sink_now : ℕ) (had whole has : List ℕ) (result : Result T E) : Type 0 where
-  pub text : OnOk result (Gathers before now had whole has)
-  pub part : OnErr result (TakesPart before now (had ++ whole))
-  pub cause : HasOneCause sink sink_now result
 
 -- a command printed this text, or a part of it if it stopped, as far as the slots tell
 pub record Prints {T : Type 0} (first : List Shown) (before now : Option (List ℕ)) (had whole has : List ℕ) (result : Result T Stop) : Type 0 where

@@ -4,8 +4,11 @@ use Rattle.ppq_script.specs.ppq_outside.Told.{Reply}
 use Rattle.ppq_script.specs.declared.command.Command.TheVariants.{Bulk}
 use Rattle.ppq_script.specs.Files.{name_at}
 use Rattle.ppq_script.specs.Reading.{Reading, command_list}
-use Rattle.ppq_load.specs.Reading.{IsReadWithin}
-use Rattle.ppq_load.specs.Loading.{HasEndedEarly}
+use Rattle.ppq_load.specs.ppq_files.Reading.{IsReadWithin}
+use Rattle.ppq_load.specs.ppq_files.Filling.{HasEndedEarly}
+use Rattle.ppq_load.specs.ppq_array.declared.store_fault.StoreFault.TheVariants as queue_fault
+use Rattle.ppq_load.specs.ppq_session.declared.fault.BeginFault.{BeginFault}
+use Rattle.ppq_load.specs.ppq_session.declared.fault.BeginFault.TheVariants as begin
 use Rattle.ppq_load.specs.declared.fault.LoadFault.{LoadFault}
 use Rattle.ppq_load.specs.declared.fault.LoadFault.TheVariants as load
 use Rattle.ppq_engine.specs.declared.stop.Stop.{Stop}
@@ -30,6 +33,12 @@ load_stop line said (load.Ended got) = stop.Changed line said got
 abbrev pub load_result : {T : Type 0} → ℕ → ℕ → Result T LoadFault → Result T Stop
 load_result line said (Ok value) = Ok value
 load_result line said (Err fault) = Err (load_stop line said fault)
+
+-- why a session did not begin, as a stop
+abbrev pub begin_stop : BeginFault → Stop
+begin_stop begin.Memory = stop.Memory
+begin_stop begin.NoFreeBlock = stop.Queue queue_fault.NoFreeBlock
+begin_stop (begin.Device number) = stop.Queue (queue_fault.Device number)
 
 -- it was not the sink that stopped
 abbrev pub IsByFile : Stop → Type 0

@@ -1,8 +1,8 @@
--- The text of an answer in each form, and output that is gathered before it is put.
-use Rattle.std.specs.Prelude.{◌≡◌, ℕ, List, [], ◌++◌, length, Option, None}
+-- The text of an answer in each form, and what is known of drained records.
+use Rattle.std.specs.Prelude.{◌≡◌, ℕ, List, [], length, None}
 use Rattle.ppq_script.specs.Words.{Words}
 use Rattle.ppq_script.specs.ppq_record.Bag.{first_of}
-use Rattle.ppq_script.specs.ppq_outside.Told.{TakesAll}
+pub use Rattle.ppq_text.specs.Gathering.{Gathers}
 use Rattle.ppq_script.specs.declared.form.Form.{Form}
 use Rattle.ppq_engine.specs.Output.{record_text, empty_text, size_text, all_text, more_text, limited_text, drained_text, last_of, first_sum}
 use Rattle.ppq_engine.specs.declared.answer.Answer.{Answer}
@@ -26,9 +26,3 @@ pub record IsSummary {R : Type 0} (w : Words R) (items : List R) (drained : Drai
   pub first : drained.first ≡ first_of items
   pub last : drained.last ≡ last_of items
   pub sum : drained.sum ≡ first_sum w items
-
--- what was gathered and a text behind it are what the sink took and then what is gathered now
-pub record Gathers (before now : Option (List ℕ)) (had text has : List ℕ) : Type 0 where
-  pub put : List ℕ
-  pub took : TakesAll before now put
-  pub kept : had ++ text ≡ put ++ has

@@ -3,7 +3,9 @@ pub use Rattle.ppq_load.specs.ppq_counts as ppq_counts
 pub use Rattle.ppq_load.specs as ppq_load
 pub use Rattle.ppq_load.specs.ppq_queue as ppq_queue
 pub use Rattle.ppq_script.specs as ppq_script
-pub use Rattle.ppq_load.specs.Reading as Reading
+pub use Rattle.ppq_load.specs.ppq_files.Reading as Reading
+pub use Rattle.ppq_load.specs.ppq_files as ppq_files
+pub use Rattle.ppq_text.specs as ppq_text
 pub use Rattle.ppq_load.specs.Refusal as Refusal
 pub mod Calls
 pub mod Deferred

@@ -12,7 +12,7 @@ use Rattle.ppq_load.specs.ppq_array.declared.store_fault.StoreFault.{StoreFault 
 use Rattle.ppq_load.specs.ppq_session.declared.ask.Ask.{Ask}
 use Rattle.ppq_load.specs.ppq_session.declared.ask.Ask.TheVariants as ask
 use Rattle.ppq_load.specs.ppq_session.Asks.{answers_to, left_after, pops_in}
-use Rattle.ppq_load.specs.Limits.{LimitsHolding, InLimits, AreGoing}
+use Rattle.ppq_load.specs.ppq_session.LimitSessions.{LimitSessionHolding, InLimits, AreGoing}
 use Rattle.ppq_engine.specs.Gathers.{Gathers}
 use Rattle.ppq_engine.specs.Output.{limited_text}
 use Rattle.ppq_engine.specs.Pushes.{pushed_in}
@@ -54,15 +54,15 @@ answers_of w form limit bag lines = answers_text w form (answers_to w.cmp limit 
 
 module _ {R : Type 0} (w : Words R) {S : Type 0} (shown : S → Shown) where
   -- of a session with this limit, of this queue, these lines were run
-  abbrev pub HasDone : Holding R → R → List (Command R) → LimitsHolding S R → Type 0
+  abbrev pub HasDone : Holding R → R → List (Command R) → LimitSessionHolding S R → Type 0
   HasDone queue limit lines session = InLimits shown queue limit (pushed_in lines) (left_after w.cmp limit queue.bag (asks_in lines)) (pops_in (asks_in lines)) session
 
   -- it has just begun
-  abbrev pub HasBegun : Holding R → R → LimitsHolding S R → Type 0
-  HasBegun queue limit session = HasDone queue limit [] session
+  abbrev pub HasJustBegun : Holding R → R → LimitSessionHolding S R → Type 0
+  HasJustBegun queue limit session = HasDone queue limit [] session
 
   -- a batch of lines more was run, and its asks were answered, all of them unless a call of a slot of the front failed
-  pub record RunsBatch (lines : List (Command R)) (answers : List (Option R)) (old new : LimitsHolding S R) : Type 0 where
+  pub record RunsBatch (lines : List (Command R)) (answers : List (Option R)) (old new : LimitSessionHolding S R) : Type 0 where
     pub session : (queue : Holding R) (limit : R) (done : List (Command R)) → HasDone queue limit done old → HasDone queue limit (done ++ lines) new
     pub answers_are :
         (queue : Holding R) (limit : R) (done : List (Command R)) → HasDone queue limit done old → AllTell queue.slots
@@ -72,22 +72,22 @@ module _ {R : Type 0} (w : Words R) {S : Type 0} (shown : S → Shown) where
     pub limit_is : new.front.limit ≡ old.front.limit
 
   -- Of the lines of a session all were run or the first, and the answers are gathered, all of them unless a call of a slot of the front failed
-  pub record RunsLines (form : Form) (whole : List (Command R)) (before now : Option (List ℕ)) (had has : List ℕ) (old new : LimitsHolding S R) : Type 0 where
+  pub record RunsLines (form : Form) (whole : List (Command R)) (before now : Option (List ℕ)) (had has : List ℕ) (old new : LimitSessionHolding S R) : Type 0 where
     pub lines : List (Command R)
     pub rest : List (Command R)
     pub all : whole ≡ lines ++ rest
-    pub session : (queue : Holding R) (limit : R) → HasBegun queue limit old → HasDone queue limit lines new
-    pub part : (queue : Holding R) (limit : R) → HasBegun queue limit old → AllTell queue.slots → GathersPart before now had (answers_of w form limit queue.bag lines) has
-    pub text : new.front.failed ≡ None → (queue : Holding R) (limit : R) → HasBegun queue limit old → AllTell queue.slots → Gathers before now had (answers_of w form limit queue.bag lines) has
+    pub session : (queue : Holding R) (limit : R) → HasJustBegun queue limit old → HasDone queue limit lines new
+    pub part : (queue : Holding R) (limit : R) → HasJustBegun queue limit old → AllTell queue.slots → GathersPart before now had (answers_of w form limit queue.bag lines) has
+    pub text : new.front.failed ≡ None → (queue : Holding R) (limit : R) → HasJustBegun queue limit old → AllTell queue.slots → Gathers before now had (answers_of w form limit queue.bag lines) has
     pub end : AreGoing new → rest ≡ []
 
   -- the sink failed when these lines of them were run: it took a part of the answers
-  pub record BreaksOff (form : Form) (whole : List (Command R)) (before now : Option (List ℕ)) (had : List ℕ) (old new : LimitsHolding S R) : Type 0 where
+  pub record BreaksOff (form : Form) (whole : List (Command R)) (before now : Option (List ℕ)) (had : List ℕ) (old new : LimitSessionHolding S R) : Type 0 where
     pub lines : List (Command R)
     pub rest : List (Command R)
     pub all : whole ≡ lines ++ rest
-    pub session : (queue : Holding R) (limit : R) → HasBegun queue limit old → HasDone queue limit lines new
-    pub text : (queue : Holding R) (limit : R) → HasBegun queue limit old → AllTell queue.slots → TakesPart before now (had ++ answers_of w form limit queue.bag whole)
+    pub session : (queue : Holding R) (limit : R) → HasJustBegun queue limit old → HasDone queue limit lines new
+    pub text : (queue : Holding R) (limit : R) → HasJustBegun queue limit old → AllTell queue.slots → TakesPart before now (had ++ answers_of w form limit queue.bag whole)
 
 -- how a session ended, by what was printed and what its end answered
 abbrev pub session_end : Result ⊤ Failed → Result ⊤ QueueFault → Result ⊤ Stop

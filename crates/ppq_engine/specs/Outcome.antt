@@ -1,5 +1,5 @@
 -- What the end of a run says of its output, its blocks and its faults.
-use Rattle.std.specs.Prelude.{◌≡◌, ◌⊎◌, ⊤, ℕ, List, take, slice_get, Option, Some}
+use Rattle.std.specs.Prelude.{◌≡◌, ◌⊎◌, ℕ, List, take, slice_get, Option, Some}
 use Rattle.ppq_script.specs.Words.{Words}
 use Rattle.ppq_script.specs.ppq_outside.Shown.{Shown, AllTell}
 use Rattle.ppq_script.specs.ppq_outside.Told.{Reply, TakesAll, TakesPart, Rose}
@@ -13,8 +13,9 @@ use Rattle.ppq_load.specs.Refusal.{HasNoRoom}
 use Rattle.ppq_engine.specs.Loads.{IsLoad, most_of, least_of, begins_limit, FitsWritten}
 use Rattle.ppq_engine.specs.Output.{AreFilesOf, given_of, output_of, load_of, crest_of, TakesWithin}
 use Rattle.ppq_engine.specs.Running.{HasChanged, queue_end}
+use Rattle.ppq_engine.specs.Ends.{class_of, IfFile}
 use Rattle.ppq_engine.specs.declared.end.End.{End}
-use Rattle.ppq_engine.specs.declared.end.End.TheVariants.{Done, BadLine, Usage, ReadFault, WriteFault, DeviceFault, NoFreeBlock, BudgetTooSmall, Memory, FileChanged, NoDevice, NoScript, ScriptTooLong}
+use Rattle.ppq_engine.specs.declared.end.End.TheVariants.{Done, ReadFault, WriteFault, DeviceFault, NoFreeBlock, Memory, FileChanged}
 use Rattle.ppq_engine.specs.declared.stop.Stop.{Stop}
 use Rattle.ppq_engine.specs.declared.stop.Stop.TheVariants as stop
 
@@ -40,19 +41,7 @@ pub record TakesBeforeLoad {R : Type 0} (w : Words R) (form : Form) (told : Opti
 
 -- where a file could not be read, or had changed, the sink took the output of the commands before one that reads a file
 abbrev pub FaultBeforeFile : {R : Type 0} → Words R → Form → Option (List ℕ → Option (List ℕ)) → Reading R → List Shown → Option (List ℕ) → Option (List ℕ) → End → Type 0
-FaultBeforeFile w form told script first before now Done = ⊤
-FaultBeforeFile w form told script first before now (BadLine line) = ⊤
-FaultBeforeFile w form told script first before now Usage = ⊤
-FaultBeforeFile w form told script first before now ReadFault = TakesBeforeFile w form told script first before now
-FaultBeforeFile w form told script first before now WriteFault = ⊤
-FaultBeforeFile w form told script first before now (DeviceFault number) = ⊤
-FaultBeforeFile w form told script first before now NoFreeBlock = ⊤
-FaultBeforeFile w form told script first before now (BudgetTooSmall need) = ⊤
-FaultBeforeFile w form told script first before now Memory = ⊤
-FaultBeforeFile w form told script first before now (FileChanged line said got) = TakesBeforeFile w form told script first before now
-FaultBeforeFile w form told script first before now NoDevice = ⊤
-FaultBeforeFile w form told script first before now NoScript = ⊤
-FaultBeforeFile w form told script first before now ScriptTooLong = ⊤
+FaultBeforeFile w form told script first before now end = IfFile (class_of end) (TakesBeforeFile w form told script first before now)
 
 -- the sink took all output, and the greatest multiset fits into the budget and what was written
 pub record IsWhole {R : Type 0} (w : Words R) (form : Form) (given : ℕ → List R) (script : Reading R) (before now : Option (List ℕ)) (sizes : Numbers) (slots : List Shown) : Type 0 where
@@ -77,8 +66,6 @@ EndSays w form told replied script first slots sizes before now sink sink_now li
     × FitsWritten (least_of w (command_list script)) sizes slots
     × CountsStay sink sink_now library library_now
     × AreQuiet first slots
-EndSays w form told replied script first slots sizes before now sink sink_now library library_now (BadLine line) = ⊥
-EndSays w form told replied script first slots sizes before now sink sink_now library library_now Usage = ⊥
 EndSays w form told replied script first slots sizes before now sink sink_now library library_now ReadFault = Rose library library_now × (sink_now ≡ sink)
 EndSays w form told replied script first slots sizes before now sink sink_now library library_now WriteFault = Rose sink sink_now
 EndSays w form told replied script first slots sizes before now sink sink_now library library_now (DeviceFault number) = HasFailed number slots × CountsStay sink sink_now library library_now
@@ -87,14 +74,11 @@ EndSays w form told replied script first slots sizes before now sink sink_now li
     × HasNoRoom sizes (begins_limit (command_list script)) (most_of w (command_list script))
     × CountsStay sink sink_now library library_now
     × AreQuiet first slots
-EndSays w form told replied script first slots sizes before now sink sink_now library library_now (BudgetTooSmall need) = ⊥
 EndSays w form told replied script first slots sizes before now sink sink_now library library_now Memory =
     TakesBeforeLoad w form told script first before now × CountsStay sink sink_now library library_now
 EndSays w form told replied script first slots sizes before now sink sink_now library library_now (FileChanged line said got) =
     HasChanged told replied script line said got × CountsStay sink sink_now library library_now
-EndSays w form told replied script first slots sizes before now sink sink_now library library_now NoDevice = ⊥
-EndSays w form told replied script first slots sizes before now sink sink_now library library_now NoScript = ⊥
-EndSays w form told replied script first slots sizes before now sink sink_now library library_now ScriptTooLong = ⊥
+EndSays w form told replied script first slots sizes before now sink sink_now library library_now _ = ⊥
 
 -- what was gathered was put: all of it, and the end is that of the stop; or a part, and the sink failed
 abbrev pub PutsRest : Option (List ℕ) → Option (List ℕ) → ℕ → ℕ → List ℕ → End → End → Type 0

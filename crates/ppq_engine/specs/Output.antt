@@ -16,6 +16,7 @@ use Rattle.ppq_script.specs.Sessions.{is_outside}
 use Rattle.ppq_script.specs.Reading.{Reading, command_list}
 use Rattle.ppq_script.specs.Files.{name_at}
 use Rattle.ppq_load.specs.Refusal.{HasRoom}
+use Rattle.ppq_text.specs.Gathering.{numbers_text}
 use Rattle.ppq_engine.specs.Loads.{begins_limit}
 
 -- a frame: how many bytes follow, in four bytes with the highest first, and these bytes
@@ -29,8 +30,7 @@ written Bytes line bytes = frame bytes
 
 -- fields in decimal, parted by one space
 abbrev pub fields_text : List ℕ → List ℕ
-fields_text [] = []
-fields_text (field ∷ fields) = decimal field ++ flat_map (λ next. codes " " ++ decimal next) fields
+fields_text fields = numbers_text fields
 
 -- a record: its fields, or its bytes
 abbrev pub record_text : {R : Type 0} → Words R → Form → R → List ℕ

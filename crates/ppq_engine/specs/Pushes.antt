@@ -6,7 +6,7 @@ use Rattle.ppq_script.specs.declared.command.Command.TheVariants.{Push, Pop, Top
 use Rattle.ppq_load.specs.ppq_queue.Holding.{Holding}
 use Rattle.ppq_load.specs.ppq_session.declared.line.Line.{Line}
 use Rattle.ppq_load.specs.ppq_session.Dealing.{IsGoing, records_in}
-use Rattle.ppq_load.specs.Loading.{LoadHolding, InSession}
+use Rattle.ppq_load.specs.Loading.{SessionHolding, InSession}
 
 -- the line of a pass that a command of a session is
 abbrev pub line_by : {R : Type 0} → Command R → List (Line R)
@@ -37,13 +37,13 @@ abbrev pub pushed_in : {R : Type 0} → List (Command R) → List R
 pushed_in commands = records_in (lines_in commands)
 
 -- of the lines of a bulk session these are left, and the records of the others were given to its passes
-pub record IsPushing {R : Type 0} {S : Type 0} (shown : S → Shown) (lines rest : List (Command R)) (old new : LoadHolding S R) : Type 0 where
+pub record IsPushing {R : Type 0} {S : Type 0} (shown : S → Shown) (lines rest : List (Command R)) (old new : SessionHolding S R) : Type 0 where
   pub given : List (Command R)
   pub all : lines ≡ given ++ rest
   pub session : (queue : Holding R) → InSession shown queue [] old → InSession shown queue (pushed_in given) new
 
 -- the records of the first lines were given to them, and those of all if no pass stopped
-pub record GivesLines {R : Type 0} {S : Type 0} (shown : S → Shown) (lines : List (Command R)) (old new : LoadHolding S R) : Type 0 where
+pub record GivesLines {R : Type 0} {S : Type 0} (shown : S → Shown) (lines : List (Command R)) (old new : SessionHolding S R) : Type 0 where
   pub rest : List (Command R)
   pub pushing : IsPushing shown lines rest old new
   pub whole : All IsGoing new.passes → rest ≡ []

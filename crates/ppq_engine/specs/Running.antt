@@ -11,7 +11,7 @@ use Rattle.ppq_script.specs.declared.command.Command.{Command}
 use Rattle.ppq_script.specs.declared.command.Command.TheVariants.{Push, Pop, Top, Size, Bulk, Gen, BulkPop, BulkPopLimit, Drain, BulkBegin, BulkPush, BulkEnd, LimitBegin, LimitPush, LimitTop, LimitPop, LimitEnd}
 use Rattle.ppq_script.specs.Files.{name_at}
 use Rattle.ppq_script.specs.Reading.{Reading, command_list, line_list}
-use Rattle.ppq_load.specs.Reading.{EndsAt}
+use Rattle.ppq_load.specs.ppq_files.Reading.{EndsAt}
 use Rattle.ppq_load.specs.Refusal.{IsRefusedBy}
 use Rattle.ppq_engine.specs.Loads.{IsLoad, none_go, all_go, size_from, most_of, least_of, begins_limit, FitsWritten}
 use Rattle.ppq_engine.specs.Output.{AreFilesOf, given_of, outside, output_of, output_from, state_of, bag_of, load_of, crest_of}

@@ -2,17 +2,18 @@
 ghost use Rattle.std.specs.Prelude.{◌≡◌, ◌≤◌, ◌<◌, ◌+◌, ◌++◌, false, length, IsTrue, vec_len, vec_capacity, IfOk};
 ghost use Rattle.ppq_script.specs.Parts.{AreLines, commands_of};
 ghost use Rattle.ppq_script.specs.declared.session.Session.TheVariants.{InLimit};
-ghost use Rattle.ppq_load.specs.Limits.{AreGoing, HasStopped};
-ghost use Rattle.ppq_engine.specs.Calls.{GathersAll};
+ghost use Rattle.ppq_load.specs.ppq_session.LimitSessions.{AreGoing, HasStopped};
+ghost use Rattle.ppq_text.specs.Gathering.{GathersAll};
 ghost use Rattle.ppq_engine.specs.Limits.{ask_by, asks_in, answers_text, RunsBatch};
 
 use crate::Answer;
 use crate::collected::Collected;
-use crate::gathered::Gathered;
 use crate::items::item_at;
-use ppq_load::{Ask, Limits};
+use crate::print::print;
+use ppq_load::{Ask, LimitSession};
 use ppq_record::record_laws;
 use ppq_script::{Command, Failed, Fields, Form, Gate, Host, Memory, Numbered, Sink, Slot};
+use ppq_text::{Gathered, OnHeap};
 use std::alloc::Global;
 
 // The first of these lines, at most so many, and those after them.
@@ -92,7 +93,7 @@ impl<R: Fields + Send + Sync> Batch<R> {
     pub fn run<H: Host, S: Slot + Send + Sync, G: Gate>(
         &mut self,
         rt: &H,
-        session: &mut Limits<S, R>,
+        session: &mut LimitSession<S, R>,
         lines: &[Numbered<R>],
         gate: &G,
     ) -> bool
@@ -117,13 +118,14 @@ impl<R: Fields + Send + Sync> Batch<R> {
         &self,
         rt: &H,
         form: Form,
-        gathered: &mut Gathered,
+        gathered: &mut Gathered<OnHeap>,
         out: &mut O,
     ) -> Result<(), Failed>
         ensures { GathersAll (O.told out.old) (O.told out.new) (O.faults out.old) (O.faults out.new) gathered.old (answers_text R.Fields form self.now.answers.items) gathered.new result }
     {
         for i in 0..self.answers.len() {
-            gathered.print(rt, form, Answer::limited(item_at(&self.answers, i)), out)?;
+            let answer = Answer::limited(item_at(&self.answers, i));
+            print(rt, form, answer, gathered, out)?;
         }
         Ok(())
     }

@@ -2,10 +2,10 @@
 ghost use Rattle.std.specs.Prelude.{◌≡◌, ◌≤◌, [], length, IfOk};
 ghost use Rattle.ppq_load.specs.ppq_budget.Sizes.{batch_of};
 
-use crate::gathered::Gathered;
 use ppq_load::{Out, Sizes};
 use ppq_record::record_laws;
 use ppq_script::{Fields, Memory};
+use ppq_text::{Gathered, OnHeap};
 use std::alloc::Global;
 
 // What commands work with beside the queue. The memory for all of it is allocated once.
@@ -14,7 +14,7 @@ pub struct Desk<R: Fields> {
     // The records of a round of a pop.
     pub list: Out<R>,
     // What was printed and not yet put.
-    pub gathered: Gathered,
+    pub gathered: Gathered<OnHeap>,
     // A piece of a file.
     pub room: Vec<u8>,
 }
@@ -27,7 +27,7 @@ impl<R: Fields> Desk<R> {
         ensures room { IfOk result (λ desk. R.WIDTH ≤ length desk.room.items) }
     {
         record_laws::<R>();
-        let gathered = Gathered::new(alloc)?;
+        let gathered = Gathered::new(OnHeap::new(alloc)?);
         let list = Out::new(alloc, sizes)?;
         let bytes = sizes.batch() as usize * R::WIDTH;
         let room = vec![in alloc; 0u8; bytes]?;

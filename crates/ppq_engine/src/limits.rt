@@ -4,30 +4,29 @@ ghost use Rattle.ppq_script.specs.ppq_outside.Told.{HasOneCause};
 ghost use Rattle.ppq_script.specs.Parts.{AreLines, limit_part, commands_of};
 ghost use Rattle.ppq_script.specs.declared.command.Command.TheVariants.{LimitBegin};
 ghost use Rattle.ppq_script.specs.declared.session.Session.TheVariants.{InLimit};
-ghost use Rattle.ppq_load.specs.Limits.{AreGoing};
+ghost use Rattle.ppq_load.specs.ppq_session.LimitSessions.{AreGoing};
 ghost use Rattle.ppq_engine.specs.Calls.{Goes, SinkCounts};
 ghost use Rattle.ppq_engine.specs.Limits.{RunsLines, BreaksOff};
 ghost use Rattle.ppq_engine.specs.Popping.{IsByLimit};
 
 use crate::batch::{Batch, cut};
-use crate::gathered::Gathered;
-use crate::load::stop_of;
 use crate::machine::Machine;
 use crate::session::ended;
 use crate::stop::Stop;
 use crate::world::World;
-use ppq_load::Limits;
+use ppq_load::LimitSession;
 use ppq_record::record_laws;
 use ppq_script::{Failed, Fields, Gate, Host, Numbered, Sink, Slot};
+use ppq_text::{Gathered, OnHeap};
 
 // Runs lines of a session in batches, and prints what each batch answered, up to the first batch in which
 // a pass or the front stopped.
 fn run_lines<H: Host, S: Slot + Send + Sync, R: Fields + Send + Sync, O: Sink, G: Gate>(
     world: &World<'_, H, G, R>,
-    session: &mut Limits<S, R>,
+    session: &mut LimitSession<S, R>,
     lines: &[Numbered<R>],
     batch: &mut Batch<R>,
-    gathered: &mut Gathered,
+    gathered: &mut Gathered<OnHeap>,
     out: &mut O,
 ) -> Result<(), Failed>
 where
@@ -75,7 +74,7 @@ impl<S: Slot + Send + Sync, R: Fields + Send + Sync> Machine<S, R> {
         let Ok(mut batch) = Batch::new(world.alloc, desk.list.room()) else {
             return (Machine { queue, desk }, Err(Stop::Memory));
         };
-        match Limits::begin(world.rt, world.alloc, queue, limit, world.gate) {
+        match LimitSession::begin(world.rt, world.alloc, queue, limit, world.gate) {
             Ok(mut session) => {
                 let mut desk = desk;
                 let gathered = &mut desk.gathered;
@@ -83,7 +82,7 @@ impl<S: Slot + Send + Sync, R: Fields + Send + Sync> Machine<S, R> {
                 let (queue, over) = session.end(world.rt, world.gate);
                 (Machine { queue, desk }, ended(printed, over))
             }
-            Err((queue, fault)) => (Machine { queue, desk }, Err(stop_of(fault, 0, 0))),
+            Err((queue, fault)) => (Machine { queue, desk }, Err(Stop::from(fault))),
         }
     }
 }

@@ -13,7 +13,7 @@ use ppq_load::{LoadFault, load_file, load_generated};
 use ppq_script::{Fields, Gate, Host, Library, Slot};
 
 // A fault of a load, for the command on this line, whose file has so many bytes.
-pub fn stop_of(fault: LoadFault, line: u32, said: u64) -> Stop
+fn stop_of(fault: LoadFault, line: u32, said: u64) -> Stop
     ensures { result ≡ load_stop line said fault }
 {
     match fault {

@@ -5,18 +5,20 @@ ghost use Rattle.ppq_script.specs.ppq_outside.Shown.{AllTell};
 ghost use Rattle.ppq_script.specs.declared.command.Command.TheVariants.{BulkPopLimit};
 ghost use Rattle.ppq_engine.specs.Output.{records_text};
 ghost use Rattle.ppq_engine.specs.Gathers.{answer_text, IsSummary};
-ghost use Rattle.ppq_engine.specs.Calls.{IsCalled, IsLent, Leaves, Lends, PopsRound, GathersAll, Prints, SinkCounts};
+ghost use Rattle.ppq_engine.specs.Calls.{IsCalled, IsLent, Leaves, Lends, PopsRound, Prints, SinkCounts};
+ghost use Rattle.ppq_text.specs.Gathering.{GathersAll};
 ghost use Rattle.ppq_engine.specs.Popping.{next_of, popped_count, left_at_most, left_mark};
 
-use crate::gathered::Gathered;
 use crate::items::item_at;
 use crate::machine::Machine;
+use crate::print::print;
 use crate::stop::Stop;
 use crate::world::World;
 use crate::{Answer, Drained};
 use ppq_load::QueueFault;
 use ppq_record::record_laws;
 use ppq_script::{Failed, Fields, Form, Gate, Host, Sink, Slot};
+use ppq_text::{Gathered, OnHeap};
 
 // What was drained, and then these records.
 fn add_all<R: Fields>(before: Drained<R>, items: &[R]) -> Drained<R>
@@ -36,14 +38,14 @@ fn print_all<H: Host, R: Fields, O: Sink>(
     rt: &H,
     form: Form,
     items: &[R],
-    gathered: &mut Gathered,
+    gathered: &mut Gathered<OnHeap>,
     out: &mut O,
 ) -> Result<(), Failed>
     ensures { GathersAll (O.told out.old) (O.told out.new) (O.faults out.old) (O.faults out.new) gathered.old (records_text R.Fields form items.now) gathered.new result }
 {
     for i in 0..items.len() {
         let item = item_at(items, i);
-        gathered.print(rt, form, Answer::Record { item }, out)?;
+        print(rt, form, Answer::Record { item }, gathered, out)?;
     }
     Ok(())
 }
@@ -186,7 +188,8 @@ impl<S: Slot + Send + Sync, R: Fields + Send + Sync> Machine<S, R> {
         record_laws::<R>();
         self.print_popped(world, Some(limit), count, out)?;
         let mark = self.mark_of(world, limit)?;
-        self.desk.gathered.print(world.rt, world.form, mark, out)?;
+        let gathered = &mut self.desk.gathered;
+        print(world.rt, world.form, mark, gathered, out)?;
         Ok(())
     }
 }

@@ -18,7 +18,6 @@ ghost use Rattle.ppq_engine.specs.Ends.{budget_refusal, BeganOrRefused, IsComple
 ghost use Rattle.ppq_engine.specs.declared.end.End.TheVariants.{Done, ReadFault, WriteFault, DeviceFault, NoFreeBlock, BudgetTooSmall, Memory, FileChanged};
 
 use crate::desk::Desk;
-use crate::gathered::Gathered;
 use crate::machine::Machine;
 use crate::stop::Stop;
 use crate::world::World;
@@ -26,6 +25,7 @@ use crate::{End, Ended};
 use ppq_load::{OpenFault, Queue, QueueFault, Sizes};
 use ppq_record::record_laws;
 use ppq_script::{Failed, Fields, Form, Gate, Host, Library, Script, Sink, Slot};
+use ppq_text::{Gathered, OnHeap};
 use std::alloc::Global;
 
 impl<S: Slot + Send + Sync, R: Fields + Send + Sync> Machine<S, R> {
@@ -92,7 +92,7 @@ fn unopened(fault: OpenFault) -> End
 }
 
 // Puts what was gathered, before this end.
-fn put_rest<H: Host, O: Sink>(rt: &H, end: End, gathered: &mut Gathered, out: &mut O) -> End
+fn put_rest<H: Host, O: Sink>(rt: &H, end: End, gathered: &mut Gathered<OnHeap>, out: &mut O) -> End
     ensures puts { PutsRest (O.told out.old) (O.told out.new) (O.faults out.old) (O.faults out.new) gathered.old end result }
     ensures later { O.faults out.old ≤ O.faults out.new }
 {
@@ -103,7 +103,12 @@ fn put_rest<H: Host, O: Sink>(rt: &H, end: End, gathered: &mut Gathered, out: &m
 }
 
 // Puts what was gathered before the commands stopped, unless it was the sink that stopped them.
-fn put_stopped<H: Host, O: Sink>(rt: &H, stop: Stop, gathered: &mut Gathered, out: &mut O) -> End
+fn put_stopped<H: Host, O: Sink>(
+    rt: &H,
+    stop: Stop,
+    gathered: &mut Gathered<OnHeap>,
+    out: &mut O,
+) -> End
     ensures puts { PutsStopped (O.told out.old) (O.told out.new) (O.faults out.old) (O.faults out.new) gathered.old result stop }
     ensures later { O.faults out.old ≤ O.faults out.new }
 {

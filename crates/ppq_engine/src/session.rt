@@ -10,32 +10,31 @@ ghost use Rattle.ppq_engine.specs.Pushes.{GivesLines};
 
 use crate::batch::cut;
 use crate::collected::Collected;
-use crate::load::stop_of;
 use crate::machine::Machine;
 use crate::stop::Stop;
 use crate::world::World;
-use ppq_load::{Load, QueueFault};
+use ppq_load::{QueueFault, Session};
 use ppq_record::record_laws;
 use ppq_script::{Failed, Fields, Gate, Host, Numbered, Slot};
 
 // Gives the records of lines to the passes, in batches, until one stops.
 fn push_all<H: Host, S: Slot + Send + Sync, R: Fields + Send + Sync, G: Gate>(
     world: &World<'_, H, G, R>,
-    load: &mut Load<S, R>,
+    session: &mut Session<S, R>,
     lines: &[Numbered<R>],
     batch: &mut Collected<R>,
 )
 where
     H::Dir: Send,
-    requires lines { AreLines R.Fields load.old.bulk.sizes.workers InBulk (commands_of lines.now) }
-    requires going { All IsGoing load.old.passes }
-    ensures { GivesLines S.shown (commands_of lines.now) load.old load.new }
+    requires lines { AreLines R.Fields session.old.bulk.sizes.workers InBulk (commands_of lines.now) }
+    requires going { All IsGoing session.old.passes }
+    ensures { GivesLines S.shown (commands_of lines.now) session.old session.new }
 {
     let mut rest = lines;
     'batches: while !rest.is_empty() {
         let (first, behind) = cut(rest, batch.most);
         batch.fill(first);
-        if !load.push(world.rt, batch.items.as_slice(), world.gate) {
+        if !session.push(world.rt, batch.items.as_slice(), world.gate) {
             return;
         }
         rest = behind;
@@ -72,13 +71,13 @@ impl<S: Slot + Send + Sync, R: Fields + Send + Sync> Machine<S, R> {
         let Ok(mut batch) = Collected::new(world.alloc, desk.list.room()) else {
             return (Machine { queue, desk }, Err(Stop::Memory));
         };
-        match Load::begin(world.rt, world.alloc, queue, world.gate) {
-            Ok(mut load) => {
-                push_all(world, &mut load, lines, &mut batch);
-                let (queue, over) = load.end(world.rt, world.gate);
+        match Session::begin(world.rt, world.alloc, queue, world.gate) {
+            Ok(mut session) => {
+                push_all(world, &mut session, lines, &mut batch);
+                let (queue, over) = session.end(world.rt, world.gate);
                 (Machine { queue, desk }, ended(Ok(()), over))
             }
-            Err((queue, fault)) => (Machine { queue, desk }, Err(stop_of(fault, 0, 0))),
+            Err((queue, fault)) => (Machine { queue, desk }, Err(Stop::from(fault))),
         }
     }
 }

@@ -11,6 +11,7 @@ ghost use Rattle.ppq_engine.specs.Work.{pushes_of};
 
 use crate::Answer;
 use crate::machine::Machine;
+use crate::print::print;
 use crate::stop::Stop;
 use crate::world::World;
 use ppq_load::QueueFault;
@@ -83,7 +84,8 @@ impl<S: Slot + Send + Sync, R: Fields + Send + Sync> Machine<S, R> {
             }
             _ => {
                 let answer = self.act(world, command)?;
-                self.desk.gathered.print(world.rt, world.form, answer, out)?;
+                let gathered = &mut self.desk.gathered;
+                print(world.rt, world.form, answer, gathered, out)?;
                 Ok(())
             }
         }

@@ -1,5 +1,5 @@
 //! Why commands did not all run.
-use ppq_load::QueueFault;
+use ppq_load::{BeginFault, QueueFault};
 use ppq_script::Failed;
 
 // Why the commands of a script did not all run.
@@ -36,5 +36,24 @@ impl From<QueueFault> for Stop {
 
     fn from(fault: QueueFault) -> Stop {
         Stop::Queue { fault }
+    }
+}
+
+impl From<BeginFault> for Stop {
+    ghost use Rattle.std.specs.Prelude.{◌≡◌};
+    ghost use Rattle.ppq_engine.specs.Files.{begin_stop};
+
+    ghost from_gives = { λ fault given. given ≡ begin_stop fault };
+
+    fn from(fault: BeginFault) -> Stop {
+        match fault {
+            BeginFault::Memory => Stop::Memory,
+            BeginFault::NoFreeBlock => Stop::Queue {
+                fault: QueueFault::NoFreeBlock,
+            },
+            BeginFault::Device { number } => Stop::Queue {
+                fault: QueueFault::Device { number },
+            },
+        }
     }
 }

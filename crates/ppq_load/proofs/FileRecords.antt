@@ -11,7 +11,10 @@ use Rattle.ppq_session.specs.ppq_outside.Told.{bytes_or_none}
 use Rattle.ppq_session.proofs.ppq_block.Blocks.{length-records_from, records_from-take}
 use Rattle.ppq_session.specs.ppq_queue.Holding.{Holding}
 use Rattle.ppq_session.specs.Dealing.{HasEnded}
-use Rattle.ppq_load.specs.Loading.{LoadHolding, InSession, AreRecordsAt, HasGiven, told_bytes}
+use Rattle.ppq_load.specs.Loading.{SessionHolding, InSession, AreRecordsAt, HasGiven, told_bytes}
+use Rattle.ppq_session.specs.ppq_outside.Told.{Reply}
+use Rattle.ppq_files.specs.Pieces.{PieceState, IsNextPiece}
+use Rattle.ppq_load.proofs.Pieces.{whole-piece}
 use Rattle.ppq_session.proofs.Sessions.{session-rest}
 
 module _ {R : Type 0} (record_of : List ℕ → R) (width : ℕ) where
@@ -65,12 +68,12 @@ module _ {R : Type 0} (record_of : List ℕ → R) (width : ℕ) where
 
     module _ {S : Type 0} (shown : S → Shown) (queue : Holding R) where
       -- nothing was given yet
-      pub given-none : (load : LoadHolding S R) → InSession shown queue [] load → HasGiven record_of width shown queue told name 0 load
+      pub given-none : (load : SessionHolding S R) → InSession shown queue [] load → HasGiven record_of width shown queue told name 0 load
       given-none load s = record { records = []; are = record { length = refl; are = λ files is. refl }; session = s }
 
       -- a piece more was given
       pub given-more :
-          (from count : ℕ) (more : List R) (old new : LoadHolding S R) → AreRecordsAt record_of width told name from count more
+          (from count : ℕ) (more : List R) (old new : SessionHolding S R) → AreRecordsAt record_of width told name from count more
           → ((records : List R) → InSession shown queue records old → InSession shown queue (records ++ more) new)
           → HasGiven record_of width shown queue told name from old → HasGiven record_of width shown queue told name (from + count) new
       given-more from count more old new are step had = record {
@@ -79,8 +82,20 @@ module _ {R : Type 0} (record_of : List ℕ → R) (width : ℕ) where
         session = step had.records had.session;
       }
 
+      -- the next piece was read and dealt
+      pub given-next :
+          (replied : Reply → Type 0) (was is_now : PieceState) (piece : List ℕ) (bytes : ℕ) (old new : SessionHolding S R) → 1 ≤ width → was.name ≡ name → IsNextPiece width told replied was piece bytes is_now
+          → ((records : List R) → InSession shown queue records old → InSession shown queue (records ++ records_of record_of width piece) new)
+          → HasGiven record_of width shown queue told name was.from old → HasGiven record_of width shown queue told name is_now.from new
+      given-next replied was is_now piece bytes old new some named next step had =
+          let long : length piece ≡ next.count * width = next.long ∙ next.bytes_are in
+          let Read : List ℕ → Type 0 = λ n. (files : List ℕ → Option (List ℕ)) → told ≡ Some files → piece ≡ take (length piece) (drop (was.from * width) (bytes_or_none (files n))) in
+          let more = records_of record_of width piece in
+          let are = piece-are was.from next.count piece more long (whole-piece record_of width piece next.count some long) (subst Read named next.are) in
+          subst (λ k. HasGiven record_of width shown queue told name k new) (sym (ap (λ (p : PieceState). p.from) next.new_is)) (given-more was.from next.count more old new are step had)
+
       -- a pass stopped: the session was given what it had, and the rest
-      pub given-stopped : (from count : ℕ) (load : LoadHolding S R) → from ≤ count → Any HasEnded load.passes → HasGiven record_of width shown queue told name from load → HasGiven record_of width shown queue told name count load
+      pub given-stopped : (from count : ℕ) (load : SessionHolding S R) → from ≤ count → Any HasEnded load.passes → HasGiven record_of width shown queue told name from load → HasGiven record_of width shown queue told name count load
       given-stopped from count load less ended had =
           let rest = records_from record_of width (count - from) (drop (from * width) (told_bytes told name)) in
           let all : from + (count - from) ≡ count = omega arith in

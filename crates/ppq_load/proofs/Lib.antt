@@ -11,4 +11,3 @@ pub mod Reading
 pub mod Refusals
 pub mod Results
 pub mod Strides
-pub mod Widths

@@ -1,15 +1,26 @@
 -- Why a session did not begin, as a fault of a load.
-use Rattle.std.proofs.Common.{◌≡◌, Bool, ℕ, ap, ap₂, ◌∙◌, subst}
+use Rattle.std.proofs.Common.{◌≡◌, Bool, ℕ, sym, ap, ap₂, ◌∙◌, subst}
 use Rattle.std.specs.Prelude.{Result, Err}
-use Rattle.ppq_session.specs.ppq_queue.Holding.{Holding}
+use Rattle.ppq_session.specs.ppq_queue.ppq_counts.Tally.{beginning}
+use Rattle.ppq_session.specs.ppq_queue.Holding.{Holding, CountsAs}
 use Rattle.ppq_session.specs.ppq_array.declared.store_fault.StoreFault.TheVariants.{Device}
 use Rattle.ppq_session.specs.BulkSession.{IsBeginRefusal}
+use Rattle.ppq_session.specs.Sessions.{IsUnbegun}
 use Rattle.ppq_session.specs.declared.fault.BeginFault.{BeginFault}
 use Rattle.ppq_session.specs.declared.fault.BeginFault.TheVariants as begin
-use Rattle.ppq_load.specs.Refusal.{HasNoRoom}
+use Rattle.ppq_load.specs.Refusal.{Keeps, HasNoRoom}
 use Rattle.ppq_load.specs.declared.fault.LoadFault.{LoadFault}
 use Rattle.ppq_load.specs.declared.fault.LoadFault.TheVariants.{Queue}
 use Rattle.ppq_load.specs.Loading.{IsByLoad, IsHandedBack, LoadStopsFor, begin_fault_of}
+
+-- a session did not begin, and left this queue, which keeps what a queue keeps in which it was begun
+pub record IsUnbegunLoad {R : Type 0} (old begun new : Holding R) (fault : LoadFault) : Type 0 where
+  pub refused : LoadStopsFor old.peak old.sizes begun.limited new.slots fault
+  pub by_load : IsByLoad fault
+  pub intact : IsHandedBack old new fault
+  pub peak : new.peak ≡ old.peak
+  pub kept : Keeps begun new
+  pub counted : CountsAs (beginning old.counts) old new
 
 module _ {R : Type 0} where
   -- why a session did not begin
@@ -40,3 +51,17 @@ pub begin-by : (fault : BeginFault) → IsByLoad (begin_fault_of fault)
 begin-by begin.Memory = tt
 begin-by begin.NoFreeBlock = tt
 begin-by (begin.Device number) = tt
+
+module _ {R : Type 0} where
+  -- all of that
+  pub unbegun : (old begun new : Holding R) (fault : BeginFault) (given : LoadFault) → begun.sizes ≡ old.sizes → given ≡ begin_fault_of fault → IsUnbegun old begun new fault → IsUnbegunLoad old begun new given
+  unbegun old begun new fault given same is back =
+      let made : IsUnbegunLoad old begun new (begin_fault_of fault) = record {
+        refused = begin-refused old new begun.limited fault back.why (back.kept.sizes ∙ same) back.peak back.kept.limited;
+        by_load = begin-by fault;
+        intact = begin-back old new fault back.why;
+        peak = back.peak;
+        kept = back.kept;
+        counted = back.counted;
+      } in
+      subst (λ (f : LoadFault). IsUnbegunLoad old begun new f) (sym is) made

@@ -13,7 +13,7 @@ use Rattle.ppq_session.specs.Dealing.{AddsPart}
 use Rattle.ppq_session.proofs.Adding.{part-more}
 use Rattle.ppq_load.specs.declared.fault.LoadFault.{LoadFault}
 use Rattle.ppq_load.specs.declared.fault.LoadFault.TheVariants.{Queue, Read, Memory, Ended}
-use Rattle.ppq_load.specs.Loading.{LoadHolding, IsLoaded, IsLeftBy, IsHandedBack, AreRecordsAt}
+use Rattle.ppq_load.specs.Loading.{SessionHolding, IsLoaded, IsLeftBy, IsHandedBack, AreRecordsAt}
 use Rattle.ppq_load.proofs.FileRecords.{from-start, records-add}
 
 module _ {R : Type 0} (records old new : List R) where
@@ -28,7 +28,7 @@ module _ {R : Type 0} (records old new : List R) where
 module _ {R : Type 0} where
   -- a session ended to which these records were given, and no call of a slot failed
   pub ended-part :
-      {S B : Type 0} (shown : S → Shown) (session : LoadHolding S R) (queue new : Holding R) (records : List R) (ended : Result B QueueFault) → IsLoaded queue records new ended → IfErr ended (IsLeftBy shown session new)
+      {S B : Type 0} (shown : S → Shown) (session : SessionHolding S R) (queue new : Holding R) (records : List R) (ended : Result B QueueFault) → IsLoaded queue records new ended → IfErr ended (IsLeftBy shown session new)
       → new.failed ≡ None → AllTell queue.slots → AddsPart records queue.bag new.bag
   ended-part shown session queue new records (Ok value) loaded left sound tells = part-all records queue.bag new.bag (loaded.bag tells)
   ended-part shown session queue new records (Err NoFreeBlock) loaded left sound tells = loaded.part refl tells

@@ -4,7 +4,7 @@ use Rattle.std.proofs.lemmas.List.{drop-drop}
 use Rattle.std.proofs.Math.Nat.{suc-mul, add-mul, mul-div_cancel, add-div_right, div-eq_of_lt}
 use Rattle.ppq_record.specs.Given.{records_from}
 use Rattle.ppq_load.specs.Given.{records_of}
-use Rattle.ppq_load.proofs.Widths.{fit}
+use Rattle.ppq_files.proofs.Widths.{fit}
 use Rattle.ppq_session.proofs.Adding.{drop_within}
 use Rattle.ppq_session.proofs.ppq_block.Blocks.{length-records_from, records_from-take}
 

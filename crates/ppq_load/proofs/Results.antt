@@ -11,8 +11,8 @@ use Rattle.ppq_session.specs.ppq_array.declared.store_fault.StoreFault.{StoreFau
 use Rattle.ppq_session.specs.ppq_array.declared.store_fault.StoreFault.TheVariants.{NoFreeBlock, Device}
 use Rattle.ppq_load.specs.declared.fault.LoadFault.{LoadFault}
 use Rattle.ppq_load.specs.declared.fault.LoadFault.TheVariants.{Queue, Read, Memory, Ended}
-use Rattle.ppq_load.specs.Reading.{HasLength}
-use Rattle.ppq_load.specs.Loading.{LoadHolding, InSession, IsLoaded, HasGiven, LoadStopsFor, LoadEndsIn, LoadCountsFrom, IsByLoad, IsByRead, IsHandedBack, IsLeftBy, LoadLeaves, loaded_of, first_of}
+use Rattle.ppq_files.specs.Reading.{HasLength}
+use Rattle.ppq_load.specs.Loading.{SessionHolding, InSession, IsLoaded, HasGiven, LoadStopsFor, LoadEndsIn, LoadCountsFrom, IsByLoad, IsByRead, IsHandedBack, IsLeftBy, LoadLeaves, loaded_of, first_of}
 use Rattle.ppq_load.proofs.FileRecords.{file-all}
 
 module _ {R : Type 0} where
@@ -63,7 +63,7 @@ first-ok (Err fault) ended P holds = tt
 module _ {R : Type 0} (record_of : List ℕ → R) (width : ℕ) where
   -- the session of a file ended, to which all its records were given unless reading it was refused
   pub first-says :
-      {S A B : Type 0} (shown : S → Shown) (told : Option (List ℕ → Option (List ℕ))) (name : List ℕ) (said : ℕ) (load : LoadHolding S R) (queue new : Holding R) (ended : Result B QueueFault)
+      {S A B : Type 0} (shown : S → Shown) (told : Option (List ℕ → Option (List ℕ))) (name : List ℕ) (said : ℕ) (load : SessionHolding S R) (queue new : Holding R) (ended : Result B QueueFault)
       → ((records : List R) → InSession shown queue records load → IsLoaded queue records new ended) → HasLength told name said
       → (read : Result A LoadFault) → OnOk read (HasGiven record_of width shown queue told name (said / width) load) → IfErr read IsByRead
       → LoadSays (AllTell queue.slots → (files : List ℕ → Option (List ℕ)) → told ≡ Some files → IsSameBag new.bag (records_of record_of width (bytes_or_none (files name)) ++ queue.bag)) queue new (said / width) (first_of read ended)
@@ -95,7 +95,7 @@ module _ {R : Type 0} where
 
 module _ {R : Type 0} where
   -- a session ended to which these records were given, no more than so many
-  module _ {S B : Type 0} (shown : S → Shown) (queue : Holding R) (records : List R) (load : LoadHolding S R) (new : Holding R) (n : ℕ) (few : length records ≤ n) (session : InSession shown queue records load) where
+  module _ {S B : Type 0} (shown : S → Shown) (queue : Holding R) (records : List R) (load : SessionHolding S R) (new : Holding R) (n : ℕ) (few : length records ≤ n) (session : InSession shown queue records load) where
     -- whatever its end says, the queue counts no more of them
     ended-most : (ended : Result B QueueFault) → IsLoaded queue records new ended → IfErr ended (IsLeftBy shown load new) → new.size ≤ queue.size + n
     ended-most (Ok value) loaded left = omega (arith, few, loaded.size)

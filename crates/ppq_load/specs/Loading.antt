@@ -1,5 +1,5 @@
 -- Sessions in which a queue gets many records, by a pass for each worker.
-use Rattle.std.specs.Prelude.{◌^◌, ◌≡◌, ◌<◌, ◌≤◌, ◌↔◌, ◌+◌, ◌*◌, Bool, false, IsTrue, ℕ, List, [], length, drop, max, All, Any, Option, Some, None, Result, Ok, Err, ⊤}
+use Rattle.std.specs.Prelude.{◌≡◌, ◌≤◌, ◌+◌, ◌*◌, ◌/◌, Bool, ℕ, List, [], length, drop, max, Option, Some, None, Result, Ok, Err, OnOk, IfErr, ⊤}
 use Rattle.ppq_session.specs.ppq_record.Given.{records_from}
 use Rattle.ppq_session.specs.ppq_outside.Shown.{Shown}
 use Rattle.ppq_session.specs.ppq_outside.Told.{Reply, Rose, bytes_or_none}
@@ -11,19 +11,13 @@ use Rattle.ppq_session.specs.BulkSession.{IsIntact}
 use Rattle.ppq_session.specs.declared.fault.BeginFault.{BeginFault}
 use Rattle.ppq_session.specs.declared.fault.BeginFault.TheVariants as begin
 use Rattle.ppq_session.specs.ppq_array.declared.store_fault.StoreFault.TheVariants as queue_fault
-use Rattle.ppq_session.specs.Dealing.{IsGoing, HasEnded}
-use Rattle.ppq_session.specs.Sessions.{SessionHolding}
-pub use Rattle.ppq_session.specs.Sessions.{InSession, IsLoaded, IsLeftBy}
-use Rattle.ppq_load.specs.Reading.{EndsAt}
+pub use Rattle.ppq_session.specs.Sessions.{SessionHolding, InSession, IsLoaded, IsLeftBy}
 use Rattle.ppq_load.specs.Refusal.{IsRefusedBy}
 use Rattle.ppq_load.specs.declared.fault.LoadFault.{LoadFault}
 use Rattle.ppq_load.specs.declared.fault.LoadFault.TheVariants.{Queue, Read, Memory, Ended}
-use Rattle.ppq_load.specs.declared.fill.FileFault.{FileFault}
-use Rattle.ppq_load.specs.declared.fill.FileFault.TheVariants as file
-
--- What contracts see of an open session: what its owner keeps, and the passes, in the order of their workers
-abbrev pub LoadHolding : Type 0 → Type 0 → Type 0
-LoadHolding S R = SessionHolding S R
+use Rattle.ppq_files.specs.declared.fault.FileFault.{FileFault}
+use Rattle.ppq_files.specs.declared.fault.FileFault.TheVariants as file
+use Rattle.ppq_files.specs.Filling.{HasEndedEarly}
 
 -- the bytes of a file as far as the library tells, and none of one that does not tell
 abbrev pub told_bytes : Option (List ℕ → Option (List ℕ)) → List ℕ → List ℕ
@@ -36,28 +30,16 @@ pub record AreRecordsAt {R : Type 0} (record_of : List ℕ → R) (width : ℕ) 
   pub are : (files : List ℕ → Option (List ℕ)) → told ≡ Some files → records ≡ records_from record_of width count (drop (from * width) (bytes_or_none (files name)))
 
 -- the first so many records of a file were given to the passes of a session
-pub record HasGiven {S R : Type 0} (record_of : List ℕ → R) (width : ℕ) (shown : S → Shown) (queue : Holding R) (told : Option (List ℕ → Option (List ℕ))) (name : List ℕ) (count : ℕ) (load : LoadHolding S R) : Type 0 where
+pub record HasGiven {S R : Type 0} (record_of : List ℕ → R) (width : ℕ) (shown : S → Shown) (queue : Holding R) (told : Option (List ℕ → Option (List ℕ))) (name : List ℕ) (count : ℕ) (load : SessionHolding S R) : Type 0 where
   pub records : List R
   pub are : AreRecordsAt record_of width told name 0 count records
   pub session : InSession shown queue records load
 
 -- some of the first records of a file were given to the passes of a session, and no more than so many
-pub record HasGivenSome {S R : Type 0} (record_of : List ℕ → R) (width : ℕ) (shown : S → Shown) (queue : Holding R) (told : Option (List ℕ → Option (List ℕ))) (name : List ℕ) (most : ℕ) (load : LoadHolding S R) : Type 0 where
+pub record HasGivenSome {S R : Type 0} (record_of : List ℕ → R) (width : ℕ) (shown : S → Shown) (queue : Holding R) (told : Option (List ℕ → Option (List ℕ))) (name : List ℕ) (most : ℕ) (load : SessionHolding S R) : Type 0 where
   pub count : ℕ
   pub few : count ≤ most
   pub given : HasGiven record_of width shown queue told name count load
-
--- So many records of a file, behind the first `from`: they fill a piece of so many bytes, and lie within the bytes that the library said,
--- which are few enough for a load
-pub record IsPart (width said from count bytes : ℕ) : Type 0 where
-  pub length : bytes ≡ count * width
-  pub within : (from + count) * width ≤ said
-  pub fits : said ≤ 2 ^ 63
-
--- Records were dealt to the passes of a session: it is said whether each pass goes on, and where not, one ended
-pub record HasDealt {S R : Type 0} (new : LoadHolding S R) (is_all : Bool) : Type 0 where
-  pub all : IsTrue is_all ↔ All IsGoing new.passes
-  pub stopped : is_all ≡ false → Any HasEnded new.passes
 
 -- why a session did not begin, as a fault of a load
 abbrev pub begin_fault_of : BeginFault → LoadFault
@@ -135,12 +117,6 @@ LoadCountsFrom before now Read = Rose before now
 LoadCountsFrom before now Memory = now ≡ before
 LoadCountsFrom before now (Ended got) = now ≡ before
 
--- a file ended at this place, before the length that was said; the library does not tell
-pub record HasEndedEarly (told : Option (List ℕ → Option (List ℕ))) (replied : Reply → Type 0) (name : List ℕ) (said got : ℕ) : Type 0 where
-  pub before : got < said
-  pub read : EndsAt replied name got
-  pub untold : told ≡ None
-
 -- where a file ended, it says so of it
 abbrev pub LoadEndsIn : Option (List ℕ → Option (List ℕ)) → (Reply → Type 0) → List ℕ → ℕ → LoadFault → Type 0
 LoadEndsIn told replied name said (Queue fault) = ⊤
@@ -152,3 +128,12 @@ LoadEndsIn told replied name said (Ended got) = HasEndedEarly told replied name 
 pub record IsReadRefusal (told : Option (List ℕ → Option (List ℕ))) (replied : Reply → Type 0) (name : List ℕ) (said : ℕ) (fault : LoadFault) : Type 0 where
   pub by_file : IsByRead fault
   pub ended : LoadEndsIn told replied name said fault
+
+-- A file was read and dealt to the passes of a session that has just begun: all its records where the result is Ok, or where a pass stopped; and
+-- else some of its first ones, and reading says why
+pub record DealsFile
+    {S R T : Type 0} (record_of : List ℕ → R) (width : ℕ) (shown : S → Shown) (told : Option (List ℕ → Option (List ℕ))) (replied : Reply → Type 0) (name : List ℕ) (said : ℕ)
+    (old new : SessionHolding S R) (result : Result T LoadFault) : Type 0 where
+  pub given : OnOk result ((queue : Holding R) → InSession shown queue [] old → HasGiven record_of width shown queue told name (said / width) new)
+  pub some : (queue : Holding R) → InSession shown queue [] old → HasGivenSome record_of width shown queue told name (said / width) new
+  pub refused : IfErr result (IsReadRefusal told replied name said)

@@ -2,7 +2,7 @@
 ghost use Rattle.std.specs.Prelude.{◌≡◌};
 ghost use Rattle.ppq_load.specs.Loading.{loaded_of};
 
-use crate::fill::FileFault;
+use ppq_files::FileFault;
 use ppq_session::{BeginFault, QueueFault};
 
 /// Why records were not loaded.

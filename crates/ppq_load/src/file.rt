@@ -9,19 +9,15 @@ ghost use Rattle.ppq_session.specs.ppq_array.Kept.{AreQuiet};
 ghost use Rattle.ppq_session.specs.ppq_array.declared.store_fault.StoreFault.TheVariants.{Device};
 ghost use Rattle.ppq_session.specs.Dealing.{IsGoing, AddsPart};
 ghost use Rattle.ppq_load.specs.declared.fault.LoadFault.TheVariants.{Queue as ByQueue};
-ghost use Rattle.ppq_load.specs.Reading.{IsReadWithin, ReadsFile, CountsBy, HasLength};
+ghost use Rattle.ppq_files.specs.Reading.{IsReadWithin, ReadsFile, CountsBy, HasLength};
 ghost use Rattle.ppq_load.specs.Refusal.{Keeps};
-ghost use Rattle.ppq_load.specs.Loading.{InSession, HasGiven, HasGivenSome, HasDealt, IsPart, IsReadRefusal, LoadLeaves, LoadStopsFor, LoadCountsFrom, LoadEndsIn, first_of};
+ghost use Rattle.ppq_load.specs.Loading.{DealsFile, LoadLeaves, LoadStopsFor, LoadCountsFrom, LoadEndsIn, first_of};
 
-use crate::context::Context;
 use crate::fault::{LoadFault, loaded};
-use crate::fill::fill;
-use crate::load::Load;
-use crate::part::Part;
 use crate::piece::Piece;
-use crate::source::Source;
+use ppq_files::{Context, Library, Pieces};
 use ppq_record::record_laws;
-use ppq_session::{Gate, Host, Library, Queue, QueueFault, Record, Slot};
+use ppq_session::{Gate, Host, Queue, QueueFault, Record, Session, Slot};
 use std::alloc::Global;
 
 /// Adds the records of a file of `said` bytes in a session. The file is read by pieces of as many records as
@@ -67,15 +63,15 @@ where
     ensures cause { IfErr result.1 (LoadCountsFrom (L.faults library.old) (L.faults library.new)) }
 {
     queue.known();
-    match Load::begin(rt, alloc, queue, gate) {
-        Ok(mut load) => {
+    match Session::begin(rt, alloc, queue, gate) {
+        Ok(mut session) => {
             let context = Context { rt, alloc };
-            let source = Source { name, said };
-            let read = deal_file(&context, library, source, room, &mut load, gate);
-            let (queue, ended) = load.end(rt, gate);
+            let mut pieces = Pieces::new(name, said);
+            let read = deal_file(&context, library, &mut pieces, room, &mut session, gate);
+            let (queue, ended) = session.end(rt, gate);
             (queue, first_fault(read, ended))
         }
-        Err((queue, fault)) => (queue, Err(fault)),
+        Err((queue, fault)) => (queue, Err(LoadFault::from(fault))),
     }
 }
 
@@ -91,77 +87,32 @@ fn first_fault(read: Result<(), LoadFault>, ended: Result<(), QueueFault>) -> Re
 fn deal_file<H: Host, S: Slot + Send + Sync, R: Record + Send + Sync, L: Library, G: Gate>(
     context: &Context<H>,
     library: &mut L,
-    source: Source,
+    pieces: &mut Pieces<'_>,
     room: &mut [u8],
-    load: &mut Load<S, R>,
+    session: &mut Session<S, R>,
     gate: &G,
 ) -> Result<(), LoadFault>
 where
     H::Dir: Send,
-    requires going { All IsGoing load.old.passes }
+    requires going { All IsGoing session.old.passes }
     requires room { R.WIDTH ≤ length room.old }
-    requires fits { source.said ≤ 4294967296 * R.WIDTH }
-    requires long { HasLength (L.told library.old) source.name.now source.said }
-    ensures given { OnOk result ((queue : Holding R) → InSession S.shown queue [] load.old → HasGiven R.record_of R.WIDTH S.shown queue (L.told library.old) source.entry.name.now (source.entry.said / R.WIDTH) load.new) }
-    ensures some { (queue : Holding R) → InSession S.shown queue [] load.old → HasGivenSome R.record_of R.WIDTH S.shown queue (L.told library.old) source.entry.name.now (source.entry.said / R.WIDTH) load.new }
-    ensures refused { IfErr result (IsReadRefusal (L.told library.old) (L.replied library.new) source.entry.name.now source.entry.said) }
-    ensures reads { ReadsFile L.told L.replied source.entry.name.now source.entry.said library.old library.new }
+    requires unread { pieces.old.from ≡ 0 }
+    requires fits { pieces.old.said ≤ 4294967296 * R.WIDTH }
+    requires long { HasLength (L.told library.old) pieces.old.name pieces.old.said }
+    ensures deals { DealsFile R.record_of R.WIDTH S.shown (L.told library.old) (L.replied library.new) pieces.old.name pieces.old.said session.old session.new result }
+    ensures reads { ReadsFile L.told L.replied pieces.old.name pieces.old.said library.old library.new }
     ensures counts { CountsBy LoadCountsFrom (L.faults library.old) (L.faults library.new) result }
 {
-    let Source { name, said } = source;
     record_laws::<R>();
-    let width = R::WIDTH;
-    let records = said / width as u64;
-    let most = (room.len() / width) as u64;
-    let mut from = 0;
-    'pieces: while from < records {
-        let count = most.min(records - from);
-        let piece = &mut room[..count as usize * width];
-        let part = Part {
-            name,
-            said,
-            from,
-            count,
-        };
-        if !deal_piece(context, library, part, piece, load, gate)? {
-            return Ok(());
+    'pieces: while !pieces.is_over::<R>() {
+        match pieces.next::<R, H, L>(context, library, room) {
+            Ok(bytes) => {
+                if !session.deal(context.rt, &Piece::new(&room[..bytes]), gate) {
+                    return Ok(());
+                }
+            }
+            Err(fault) => return Err(LoadFault::from(fault)),
         }
-        from += count;
     }
     Ok(())
-}
-
-// Reads some records of a file into `piece`, which has room for just these, and deals them to the passes of
-// a session. Whether all were added.
-fn deal_piece<H: Host, S: Slot + Send + Sync, R: Record + Send + Sync, L: Library, G: Gate>(
-    context: &Context<H>,
-    library: &mut L,
-    part: Part,
-    piece: &mut [u8],
-    load: &mut Load<S, R>,
-    gate: &G,
-) -> Result<bool, LoadFault>
-where
-    H::Dir: Send,
-    requires going { All IsGoing load.old.passes }
-    requires part { IsPart R.WIDTH part.said part.from part.count (length piece.old) }
-    requires long { HasLength (L.told library.old) part.name.now part.said }
-    ensures given { IfOk result (λ all. (queue : Holding R) → HasGiven R.record_of R.WIDTH S.shown queue (L.told library.old) part.entry.name.now part.entry.from load.old → HasGiven R.record_of R.WIDTH S.shown queue (L.told library.old) part.entry.name.now (part.entry.from + part.entry.count) load.new) }
-    ensures dealt { IfOk result (HasDealt load.new) }
-    ensures same { IfErr result (λ fault. load.new ≡ load.old) }
-    ensures refused { IfErr result (IsReadRefusal (L.told library.old) (L.replied library.new) part.entry.name.now part.entry.said) }
-    ensures reads { ReadsFile L.told L.replied part.entry.name.now part.entry.said library.old library.new }
-    ensures counts { CountsBy LoadCountsFrom (L.faults library.old) (L.faults library.new) result }
-{
-    record_laws::<R>();
-    if let Err(fault) = fill(
-        context,
-        library,
-        part.name,
-        part.from * R::WIDTH as u64,
-        piece,
-    ) {
-        return Err(LoadFault::from(fault));
-    }
-    Ok(load.deal(context.rt, &Piece::new(piece), gate))
 }

@@ -13,9 +13,8 @@ ghost use Rattle.ppq_load.specs.Loading.{IsByLoad, LoadLeaves, LoadStopsFor};
 
 use crate::fault::{LoadFault, loaded};
 use crate::generator::Generator;
-use crate::load::Load;
 use ppq_record::Fields;
-use ppq_session::{Gate, Host, Queue, Slot};
+use ppq_session::{Gate, Host, Queue, Session, Slot};
 use std::alloc::Global;
 
 /// Adds so many generated records in a session: each pass gets an equal part of them, which its worker makes on
@@ -51,12 +50,12 @@ where
     ensures counted { CountsFew count 1 queue result.0 result.1 }
 {
     queue.known();
-    match Load::begin(rt, alloc, queue, gate) {
-        Ok(mut load) => {
-            let _all = load.deal(rt, &Generator::new(seed, count), gate);
-            let (queue, ended) = load.end(rt, gate);
+    match Session::begin(rt, alloc, queue, gate) {
+        Ok(mut session) => {
+            let _all = session.deal(rt, &Generator::new(seed, count), gate);
+            let (queue, ended) = session.end(rt, gate);
             (queue, loaded(ended))
         }
-        Err((queue, fault)) => (queue, Err(fault)),
+        Err((queue, fault)) => (queue, Err(LoadFault::from(fault))),
     }
 }

@@ -1,6 +1,5 @@
 //! A device that reads by itself each block that it is told of: it is told of each block once, two blocks of a run
 //! before they are read, and no thread reads beside a merge.
-ghost use Rattle.std.specs.Prelude.{⊥};
 
 use crate::beside::{long, push_two_runs};
 use ppq_device::make_blocks;

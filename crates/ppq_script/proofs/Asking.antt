@@ -6,21 +6,11 @@ use Rattle.std.proofs.lemmas.List.Quantifiers.{Any-push}
 use Rattle.std.specs.List.{Any}
 use Rattle.std.specs.Prelude.{Result, Ok, Err, OnOk, IfErr, IsErrOf}
 use Rattle.ppq_outside.specs.Told.{Reply, RepliesOnly, Rose}
-use Rattle.ppq_outside.proofs.Replies.{no_replies, replies_wider, replies_then}
-use Rattle.ppq_script.specs.Files.{IsLength}
+use Rattle.ppq_outside.proofs.Replies.{replies_wider, replies_then}
 use Rattle.ppq_script.specs.declared.numbered.Numbered.{Numbered}
 use Rattle.ppq_script.specs.declared.check.CheckFault.{CheckFault}
 use Rattle.ppq_script.specs.declared.check.CheckFault.TheVariants.{BadLine, ReadFault, Memory}
-use Rattle.ppq_script.specs.Checking.{AsksLengths, CountsFaults, IsKeptBy, IsKeptAmong, StaysUnlessRead}
-
-pub asks_nothing : (replied : Reply → Type 0) → AsksLengths replied replied
-asks_nothing replied = record { remembers = λ reply h. h; asks = no_replies replied IsLength }
-
-pub asks_then : (before mid now : Reply → Type 0) → AsksLengths before mid → AsksLengths mid now → AsksLengths before now
-asks_then before mid now first next = record {
-  remembers = λ reply h. next.remembers reply (first.remembers reply h);
-  asks = replies_then before mid now IsLength first.asks next.asks;
-}
+use Rattle.ppq_script.specs.Checking.{CountsFaults, IsKeptBy, IsKeptAmong, StaysUnlessRead}
 
 -- what one of a list has, one of a longer list has
 Any-more : {X : Type 0} (P : X → Type 0) (xs : List X) (y : X) → Any P xs → Any P (xs ++ y ∷ [])

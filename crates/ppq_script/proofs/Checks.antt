@@ -4,7 +4,8 @@ use Rattle.std.specs.Prelude.{⊤, unwrap_or, Result, Ok, Err, IsOk, OnOk, IfErr
 use Rattle.std.specs.List.{AllZip}
 use Rattle.std.proofs.lemmas.Bool.{le-leb, eq-eqb}
 use Rattle.std.proofs.lemmas.List.Elements.{AllZip-get_or, length_all_zip}
-use Rattle.ppq_outside.specs.Told.{Reply, OfLength, Remembers, TellsReply, length_of, bytes_or_none}
+use Rattle.ppq_outside.specs.Told.{Reply, OfLength, Remembers, length_of, bytes_or_none}
+pub use Rattle.ppq_files.proofs.Truth.{AreTrue}
 use Rattle.ppq_script.specs.declared.command.Command.{Command}
 use Rattle.ppq_script.specs.declared.command.Command.TheVariants.{Push, Pop, Top, Size, Bulk, Gen, BulkPop, BulkPopLimit, Drain, BulkBegin, BulkPush, BulkEnd, LimitBegin, LimitPush, LimitTop, LimitPop, LimitEnd}
 use Rattle.ppq_script.specs.declared.numbered.Numbered.{Numbered}
@@ -30,10 +31,6 @@ AllZip-set R (x ∷ xs) (y ∷ ys) (suc i) d z h changed = (h.0, AllZip-set R xs
 -- a fact of one list goes over to the other
 All-AllZip : {X : Type 0} (P Q : X → Type 0) (R : X → X → Type 0) (xs ys : List X) → ((x y : X) → R x y → P x → Q y) → AllZip R xs ys → All P xs → All Q ys
 All-AllZip P Q R xs ys step h all = λ k d below. let long = length_all_zip R xs ys h in step (get_or xs k d) (get_or ys k d) (AllZip-get_or R xs ys k d d h (omega (arith, below, long))) (all k d (omega (arith, below, long)))
-
--- the replies are true of what the library tells
-abbrev pub AreTrue : Option (List ℕ → Option (List ℕ)) → (Reply → Type 0) → Type 0
-AreTrue told replied = (reply : Reply) → replied reply → TellsReply told reply
 
 module _ {R : Type 0} (words : Words R) where
   same_file : (c : Command R) → IsSameFile (file_in c) c c

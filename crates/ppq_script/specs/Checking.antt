@@ -1,22 +1,23 @@
 -- What checking a script's files answers, and what it makes of the script.
 use Rattle.std.specs.Prelude.{◌≡◌, ◌⊎◌, ℕ, ◌≤◌, Bool, ⊤, List, Option, Some, None, Result, Ok, Err, IsOk, IsErrOf, IsSomeAnd, MatchOption, map, length}
 use Rattle.std.specs.List.{AllZip, Any}
-use Rattle.ppq_outside.specs.Told.{Reply, OfLength, Remembers, RepliesOnly, Rose, bytes_or_none}
-use Rattle.ppq_outside.specs.declared.fault.OutsideFault.{OutsideFault}
-use Rattle.ppq_outside.specs.declared.fault.OutsideFault.TheVariants as outside
+use Rattle.ppq_outside.specs.Told.{Reply, OfLength, Rose, bytes_or_none}
+use Rattle.ppq_files.specs.declared.length.LengthFault.{LengthFault}
+use Rattle.ppq_files.specs.declared.length.LengthFault.TheVariants as length
 use Rattle.ppq_script.specs.declared.command.Command.{Command}
 use Rattle.ppq_script.specs.declared.command.Command.TheVariants.{Bulk}
 use Rattle.ppq_script.specs.declared.numbered.Numbered.{Numbered}
 use Rattle.ppq_script.specs.declared.check.CheckFault.{CheckFault}
 use Rattle.ppq_script.specs.declared.check.CheckFault.TheVariants.{BadLine, ReadFault, Memory}
-use Rattle.ppq_script.specs.Files.{file_in, name_at, IsRecordLength, bad_among, IsBadAmong, IsLength, IsNotFound, NoFile}
+use Rattle.ppq_script.specs.Files.{file_in, name_at, IsRecordLength, bad_among, IsBadAmong, NoFile}
 use Rattle.ppq_script.specs.Reading.{Reading}
 use Rattle.ppq_script.specs.Words.{Words}
 
--- a library's fault as a fault of checking
-abbrev pub check_fault_of : OutsideFault → CheckFault
-check_fault_of outside.Failed = ReadFault
-check_fault_of outside.Memory = Memory
+-- why there is no length of a file, as a fault of checking the command on a line
+abbrev pub check_refusal : ℕ → LengthFault → CheckFault
+check_refusal line length.Failed = ReadFault
+check_refusal line length.Memory = Memory
+check_refusal line length.NoRecords = BadLine line
 
 -- the first bad line of a script, by which files can be used
 abbrev pub bad_of : {R : Type 0} → (List ℕ → Bool) → Reading R → Option ℕ
@@ -32,13 +33,7 @@ CheckRefusalIsRight words replied script (BadLine line) = IsBadAmong words repli
 CheckRefusalIsRight words replied script ReadFault = ⊤
 CheckRefusalIsRight words replied script Memory = ⊤
 
--- what a refusal by a name says: the library replied of it, and the fault names this line
-abbrev pub NameRefusalIsRight : {R : Type 0} → Words R → (Reply → Type 0) → List ℕ → ℕ → CheckFault → Type 0
-NameRefusalIsRight words replied name here (BadLine line) = (here ≡ line) × IsNotFound words replied name
-NameRefusalIsRight words replied name here ReadFault = ⊤
-NameRefusalIsRight words replied name here Memory = ⊤
-
--- by a command, which names a file
+-- what a refusal by a command says, which names a file: the library replied of it, and the fault names its line
 abbrev pub ItemRefusalIsRight : {R : Type 0} → Words R → (Reply → Type 0) → List (List ℕ) → Numbered R → CheckFault → Type 0
 ItemRefusalIsRight words replied names item (BadLine line) = (item.line ≡ line) × NoFile words replied names (file_in item.command)
 ItemRefusalIsRight words replied names item ReadFault = ⊤
@@ -100,11 +95,6 @@ IsKeptAmong names items reply = Any (IsKeptBy names reply) items
 -- the same of a script's commands
 abbrev pub IsKeptLength : {R : Type 0} → Reading R → Reply → Type 0
 IsKeptLength script reply = IsKeptAmong script.names script.commands reply
-
--- what the library replied it has replied, and it replied nothing more but lengths of files
-pub record AsksLengths (before now : Reply → Type 0) : Type 0 where
-  pub remembers : Remembers before now
-  pub asks : RepliesOnly before now IsLength
 
 -- the count of faults rose where a call failed, and else it stayed
 abbrev pub RisesByRead : ℕ → ℕ → CheckFault → Type 0

@@ -1,6 +1,8 @@
 -- The files that commands name: which can be used, and what is asked of them.
-use Rattle.std.specs.Prelude.{◌≡◌, ◌⊎◌, ⊤, ℕ, ◌+◌, ◌*◌, ◌<◌, ◌≤◌, ◌%◌, Bool, true, false, ◌&&◌, ◌==◌, nat_le, List, [], ◌∷◌, Option, Some, None, IfSome, get_or, if◌then◌else◌}
-use Rattle.ppq_outside.specs.Told.{Reply, OfLength, OfRead, length_of}
+use Rattle.std.specs.Prelude.{◌≡◌, ◌⊎◌, ⊤, ℕ, ◌+◌, ◌<◌, Bool, true, List, [], ◌∷◌, Option, Some, None, IfSome, get_or, if◌then◌else◌}
+use Rattle.ppq_outside.specs.Told.{Reply, OfLength, length_of}
+use Rattle.ppq_files.specs.Lengths as lengths
+pub use Rattle.ppq_files.specs.Lengths.{IsLength}
 use Rattle.ppq_script.specs.declared.command.Command.{Command}
 use Rattle.ppq_script.specs.declared.command.Command.TheVariants.{Push, Pop, Top, Size, Bulk, Gen, BulkPop, BulkPopLimit, Drain, BulkBegin, BulkPush, BulkEnd, LimitBegin, LimitPush, LimitTop, LimitPop, LimitEnd}
 use Rattle.ppq_script.specs.declared.numbered.Numbered.{Numbered}
@@ -9,15 +11,14 @@ use Rattle.ppq_script.specs.Words.{Words}
 
 -- the length of a record file: whole records, at most 2^32 of them
 abbrev pub IsRecordLength : {R : Type 0} → Words R → ℕ → Type 0
-IsRecordLength words length = (length % words.WIDTH ≡ 0) × (length ≤ 4294967296 * words.WIDTH)
+IsRecordLength words length = lengths.IsRecordLength words.WIDTH length
 
 abbrev pub is_record_length : {R : Type 0} → Words R → ℕ → Bool
-is_record_length words length = (length % words.WIDTH == 0) && nat_le length (4294967296 * words.WIDTH)
+is_record_length words length = lengths.is_record_length words.WIDTH length
 
 -- a file of this length, or none, can be used
 abbrev pub is_record_file : {R : Type 0} → Words R → Option ℕ → Bool
-is_record_file words None = false
-is_record_file words (Some length) = is_record_length words length
+is_record_file words size = lengths.is_record_file words.WIDTH size
 
 -- the file of this name can be used
 abbrev pub is_usable : {R : Type 0} → Words R → (List ℕ → Option (List ℕ)) → List ℕ → Bool
@@ -65,17 +66,12 @@ abbrev pub bad_among : {R : Type 0} → (List ℕ → Bool) → List (List ℕ) 
 bad_among usable names [] bad = bad
 bad_among usable names (item ∷ items) bad = if usable_file usable names (file_in item.command) then bad_among usable names items bad else Some item.line
 
--- a reply on the length of some file
-abbrev pub IsLength : Reply → Type 0
-IsLength (OfLength name size) = ⊤
-IsLength (OfRead name at room given) = ⊥
-
 -- the library replied of this name a length of a record file, and another reply
 abbrev pub IsFound : {R : Type 0} → Words R → (Reply → Type 0) → List ℕ → Type 0
 IsFound words replied name = (length : ℕ) × (replied (OfLength name (Some length)) × IsRecordLength words length)
 
 abbrev pub IsNotFound : {R : Type 0} → Words R → (Reply → Type 0) → List ℕ → Type 0
-IsNotFound words replied name = (size : Option ℕ) × (replied (OfLength name size) × (is_record_file words size ≡ false))
+IsNotFound words replied name = lengths.HasNoRecords words.WIDTH replied name
 
 -- the same of the file of a command, if it names one
 abbrev pub FoundFile : {R : Type 0} → Words R → (Reply → Type 0) → List (List ℕ) → Option (ℕ × ℕ) → Type 0

@@ -1,3 +1,4 @@
+pub use Rattle.ppq_files.specs as ppq_files
 pub use Rattle.ppq_outside.specs as ppq_outside
 pub use Rattle.ppq_record.specs as ppq_record
 pub mod Checking

@@ -1,14 +1,16 @@
 //! Looks for the files that a script names.
-ghost use Rattle.std.specs.Prelude.{◌≡◌, ◌≤◌, None, Some, length, map, string_bytes, is_ok, All, IfOk, OnOk, OnErr, IfErr, IfSome, IsErrOf};
+ghost use Rattle.std.specs.Prelude.{◌≡◌, ◌≤◌, None, length, map, string_bytes, is_ok, All, OnOk, OnErr, IfErr, IfSome, IsErrOf};
 ghost use Rattle.std.specs.List.{AllZip};
-ghost use Rattle.ppq_outside.specs.Told.{Rose, OfLength, Remembers, RepliesOnly};
-ghost use Rattle.ppq_script.specs.Files.{IsRecordLength, is_record_length, is_usable, IsLength, NamesFile};
-ghost use Rattle.ppq_script.specs.Checking.{bad_of, IsCheckAnswer, CheckRefusalIsRight, CommandsRefusalIsRight, ItemRefusalIsRight, NameRefusalIsRight, IsSameItem, IsAsked, IsSameScript, with_sizes, StaysUnlessRead, IsKeptBy, IsKeptAmong, IsKeptLength, AsksLengths, CountsFaults};
+ghost use Rattle.ppq_outside.specs.Told.{Rose, Remembers, RepliesOnly};
+ghost use Rattle.ppq_files.specs.Reading.{LibraryKeeps};
+ghost use Rattle.ppq_script.specs.Files.{is_usable, IsLength, NamesFile};
+ghost use Rattle.ppq_script.specs.Checking.{bad_of, IsCheckAnswer, CheckRefusalIsRight, CommandsRefusalIsRight, ItemRefusalIsRight, IsSameItem, IsAsked, IsSameScript, with_sizes, StaysUnlessRead, IsKeptBy, IsKeptAmong, IsKeptLength, CountsFaults, check_refusal};
 ghost use Rattle.ppq_script.specs.declared.check.CheckFault.TheVariants.{ReadFault};
 
 use crate::{Command, Numbered, Script};
-use ppq_outside::{Host, Library, OutsideFault};
-use ppq_record::{Fields, record_laws};
+use ppq_files::{Context, LengthFault, record_length};
+use ppq_outside::{Host, Library};
+use ppq_record::Fields;
 use std::alloc::Global;
 
 /// Why a script's files were not all found.
@@ -22,16 +24,14 @@ pub enum CheckFault {
     Memory,
 }
 
-impl From<OutsideFault> for CheckFault {
-    ghost use Rattle.ppq_script.specs.Checking.{check_fault_of};
-
-    ghost from_gives = { λ fault given. given ≡ check_fault_of fault };
-
-    fn from(fault: OutsideFault) -> CheckFault {
-        match fault {
-            OutsideFault::Failed => CheckFault::ReadFault,
-            OutsideFault::Memory => CheckFault::Memory,
-        }
+// Why there is no length of the file that the command on this line names.
+fn refused(fault: LengthFault, line: u32) -> CheckFault
+    ensures { result ≡ check_refusal line fault }
+{
+    match fault {
+        LengthFault::Failed => CheckFault::ReadFault,
+        LengthFault::Memory => CheckFault::Memory,
+        LengthFault::NoRecords => CheckFault::BadLine { line },
     }
 }
 
@@ -83,8 +83,7 @@ pub(crate) fn ask_all<H: Host, L: Library, R: Fields>(
     ensures asked { OnOk result (AllZip (IsAsked R.Fields (L.replied library.new) (map string_bytes names.now)) commands.old commands.new) }
     ensures same { AllZip IsSameItem commands.old commands.new }
     ensures refused { IfErr result (CommandsRefusalIsRight R.Fields (L.replied library.new) (map string_bytes names.now) commands.old) }
-    ensures told { L.told library.new ≡ L.told library.old }
-    ensures replied { AsksLengths (L.replied library.old) (L.replied library.new) }
+    ensures library { LibraryKeeps L.told L.replied IsLength library.old library.new }
     ensures once { OnOk result (RepliesOnly (L.replied library.old) (L.replied library.new) (IsKeptAmong (map string_bytes names.now) commands.new)) }
     ensures faults { CountsFaults (L.faults library.old) (L.faults library.new) result }
 {
@@ -109,55 +108,19 @@ fn ask<H: Host, L: Library, R: Fields>(
     ensures asked { OnOk result (IsAsked R.Fields (L.replied library.new) (map string_bytes names.now) item.old item.new) }
     ensures same { OnErr result (item.new ≡ item.old) }
     ensures refused { IfErr result (ItemRefusalIsRight R.Fields (L.replied library.new) (map string_bytes names.now) item.old) }
-    ensures told { L.told library.new ≡ L.told library.old }
-    ensures replied { AsksLengths (L.replied library.old) (L.replied library.new) }
+    ensures library { LibraryKeeps L.told L.replied IsLength library.old library.new }
     ensures once { OnOk result (RepliesOnly (L.replied library.old) (L.replied library.new) (λ reply. IsKeptBy (map string_bytes names.now) reply item.new)) }
     ensures faults { CountsFaults (L.faults library.old) (L.faults library.new) result }
 {
     let Command::Bulk { file, .. } = item.command else {
         return Ok(());
     };
-    match record_length::<H, L, R>(rt, alloc, names[file as usize].as_str(), item.line, library) {
+    let context = Context { rt, alloc };
+    match record_length::<R, H, L>(&context, library, names[file as usize].as_str()) {
         Ok(length) => {
             item.command = Command::Bulk { file, length };
             Ok(())
         }
-        Err(fault) => Err(fault),
+        Err(fault) => Err(refused(fault, item.line)),
     }
-}
-
-// The length of a record file; the fault names this line where there is no such file.
-fn record_length<H: Host, L: Library, R: Fields>(
-    rt: &H,
-    alloc: Global,
-    name: &str,
-    line: u32,
-    library: &mut L,
-) -> Result<u64, CheckFault>
-    ensures found { IfOk result (λ length. L.replied library.new (OfLength name.now (Some length)) × IsRecordLength R.Fields length) }
-    ensures refused { IfErr result (NameRefusalIsRight R.Fields (L.replied library.new) name.now line) }
-    ensures told { L.told library.new ≡ L.told library.old }
-    ensures replied { AsksLengths (L.replied library.old) (L.replied library.new) }
-    ensures once { IfOk result (λ length. RepliesOnly (L.replied library.old) (L.replied library.new) (λ reply. reply ≡ OfLength name.now (Some length))) }
-    ensures faults { CountsFaults (L.faults library.old) (L.faults library.new) result }
-{
-    match library.length(rt, alloc, name)? {
-        None => Err(CheckFault::BadLine { line }),
-        Some(length) => {
-            if is_of_records::<R>(length) {
-                Ok(length)
-            } else {
-                Err(CheckFault::BadLine { line })
-            }
-        }
-    }
-}
-
-// Whether a file of so many bytes is whole records, and at most 2^32 of them.
-fn is_of_records<R: Fields>(length: u64) -> bool
-    ensures { result ≡ is_record_length R.Fields length }
-{
-    record_laws::<R>();
-    let width = R::WIDTH as u64;
-    length % width == 0 && length <= 4_294_967_296 * width
 }

@@ -1,13 +1,14 @@
 //! A script as a list of commands.
 ghost use Rattle.std.specs.Prelude.{◌≡◌, ◌+◌, ◌<◌, ◌≤◌, true, false, IsTrue, is_ok, OnOk, IfErr, length, drop, map, string_bytes, None, Some, All, slice_get, nat_eq};
-ghost use Rattle.ppq_script.specs.Files.{NamesFile, HasRecords, name_at};
+ghost use Rattle.ppq_script.specs.Files.{NamesFile, HasRecords, IsLength, name_at};
 ghost use Rattle.std.specs.List.{AllZip};
 ghost use Rattle.ppq_script.specs.Parts.{IsPartAt, commands_in, first_in};
 ghost use Rattle.ppq_script.specs.Reading.{IsReady};
 ghost use Rattle.ppq_script.specs.Sessions.{are_in_place};
 ghost use Rattle.ppq_script.specs.declared.session.Session.TheVariants.{Outside};
-ghost use Rattle.ppq_script.specs.Checking.{CheckRefusalIsRight, IsAsked, IsKeptLength, IsSameScript, AsksLengths, CountsFaults};
+ghost use Rattle.ppq_script.specs.Checking.{CheckRefusalIsRight, IsAsked, IsKeptLength, IsSameScript, CountsFaults};
 ghost use Rattle.ppq_outside.specs.Told.{RepliesOnly};
+ghost use Rattle.ppq_files.specs.Reading.{LibraryKeeps};
 
 use crate::check::ask_all;
 use crate::part::session_lines;
@@ -174,8 +175,7 @@ impl<R: Fields> Script<R> {
         ensures checked { self.new.checked ≡ is_ok result }
         ensures good { OnOk result (self.old.bad ≡ None) }
         ensures same { IsSameScript self.old self.new }
-        ensures told { L.told library.new ≡ L.told library.old }
-        ensures replied { AsksLengths (L.replied library.old) (L.replied library.new) }
+        ensures library { LibraryKeeps L.told L.replied IsLength library.old library.new }
         ensures once { OnOk result (RepliesOnly (L.replied library.old) (L.replied library.new) (IsKeptLength self.new)) }
         ensures faults { CountsFaults (L.faults library.old) (L.faults library.new) result }
     {

@@ -25,10 +25,10 @@ pub loop-i-preserved : goal.loop-i-preserved
 loop-i-preserved g c = let w = words g.R.PartialEq g.R.PartialOrd g.R.Ord g.R.Record g.R.Fields in
     let told = g.O.Sink.told in
     let items = c.args.items.now in
-    let P : List ℕ → Type 0 = λ t. Gathers (told c.args.out.now) (told c.print.new.out) c.args.gathered.now t c.print.new.self in
+    let P : List ℕ → Type 0 = λ t. Gathers (told c.args.out.now) (told c.print.new.out) c.args.gathered.now t c.print.new.gathered in
     record {
       text =
           subst P (sym (ap (records_text w c.args.form) (take-next items c.loop-i.i c.item_at-item.result (omega arith) c.item_at-item.ensures) ∙ lines-more w c.args.form (take c.loop-i.i items) c.item_at-item.result))
-          (gathers-more (told c.args.out.now) (told c.loop-i.out) (told c.print.new.out) c.args.gathered.now c.loop-i.gathered c.print.new.self (records_text w c.args.form (take c.loop-i.i items)) (record_text w c.args.form c.item_at-item.result) c.loop-i.invariant.text c.in_ok-print.ensures.ok);
+          (gathers-more (told c.args.out.now) (told c.loop-i.out) (told c.print.new.out) c.args.gathered.now c.loop-i.gathered c.print.new.gathered (records_text w c.args.form (take c.loop-i.i items)) (record_text w c.args.form c.item_at-item.result) c.loop-i.invariant.text c.in_ok-print.ensures.ok);
       stays = c.in_ok-print.ensures.cause.ok ∙ c.loop-i.invariant.stays;
     }

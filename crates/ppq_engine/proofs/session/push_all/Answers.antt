@@ -11,11 +11,11 @@ use Rattle.ppq_engine.proofs.Pushes.{some_left, lines-split, lines-named, pushin
 use Rattle.ppq_engine.proofs.session.push_all.Goals as goal
 
 pub batches-init : goal.batches-init
-batches-init g c = record { pushing = pushing-begin g.S.Slot.shown (commands_of c.args.lines.now) c.args.load.now; lines = c.requires.lines; going = c.requires.going }
+batches-init g c = record { pushing = pushing-begin g.S.Slot.shown (commands_of c.args.lines.now) c.args.session.now; lines = c.requires.lines; going = c.requires.going }
 
 pub push-requires-clause-named : goal.push-requires-clause-named
 push-requires-clause-named g c κs within = let w = words g.R.PartialEq g.R.PartialOrd g.R.Ord g.R.Record g.R.Fields in
-    let workers = c.batches.load.bulk.sizes.workers in
+    let workers = c.batches.session.bulk.sizes.workers in
     let first = commands_of c.cut.result.0.now in
     let P : List (Line g.row.R.Denot) → Type 0 = λ ls. All (λ (l : Line g.row.R.Denot). l.pass < workers) ls in
     let are = lines-split w workers InBulk first (commands_of c.cut.result.1.now) (commands_of c.batches.rest.now) c.cut.ensures.all c.batches.invariant.lines in
@@ -25,7 +25,7 @@ pub returns-then-not-push : goal.returns-then-not-push
 returns-then-not-push g c = record {
   rest = commands_of c.cut.result.1.now;
   pushing =
-      pushing-more g.S.Slot.shown (commands_of c.args.lines.now) c.args.load.now (commands_of c.batches.rest.now) (commands_of c.cut.result.0.now) (commands_of c.cut.result.1.now) c.as_slice.result.now c.batches.load c.push.new.self
+      pushing-more g.S.Slot.shown (commands_of c.args.lines.now) c.args.session.now (commands_of c.batches.rest.now) (commands_of c.cut.result.0.now) (commands_of c.cut.result.1.now) c.as_slice.result.now c.batches.session c.push.new.self
       c.batches.invariant.pushing c.cut.ensures.all (c.as_slice.ensures.value ∙ c.fill.ensures.lines) c.push.ensures.session;
   whole = λ going. let a = c.push.ensures.all.1 going in let b = c.if-not-push.true in cc;
 }
@@ -41,14 +41,14 @@ batches-preserved g c = let w = words g.R.PartialEq g.R.PartialOrd g.R.Ord g.R.R
     let P : BulkHolding g.row.S.Denot g.row.R.Denot → Type 0 = λ b. AreLines w b.sizes.workers InBulk behind in
     record {
       pushing =
-          pushing-more g.S.Slot.shown (commands_of c.args.lines.now) c.args.load.now rest first behind c.as_slice.result.now c.batches.load c.push.new.self
+          pushing-more g.S.Slot.shown (commands_of c.args.lines.now) c.args.session.now rest first behind c.as_slice.result.now c.batches.session c.push.new.self
           c.batches.invariant.pushing c.cut.ensures.all (c.as_slice.ensures.value ∙ c.fill.ensures.lines) c.push.ensures.session;
-      lines = subst P (sym c.push.ensures.bulk) (lines-split w c.batches.load.bulk.sizes.workers InBulk first behind rest c.cut.ensures.all c.batches.invariant.lines).1;
+      lines = subst P (sym c.push.ensures.bulk) (lines-split w c.batches.session.bulk.sizes.workers InBulk first behind rest c.cut.ensures.all c.batches.invariant.lines).1;
       going = c.push.ensures.all.0 c.if-not-push.false;
     }
 
 pub returns : goal.returns
 returns g c =
     let none : c.batches.rest.now ≡ [] = nil_from_length c.batches.rest.now (search rules) in
-    let P : List (Numbered g.row.R.Denot) → Type 0 = λ ls. IsPushing g.S.Slot.shown (commands_of c.args.lines.now) (commands_of ls) c.args.load.now c.batches.load in
+    let P : List (Numbered g.row.R.Denot) → Type 0 = λ ls. IsPushing g.S.Slot.shown (commands_of c.args.lines.now) (commands_of ls) c.args.session.now c.batches.session in
     record { rest = []; pushing = subst P none c.batches.invariant.pushing; whole = λ going. refl }

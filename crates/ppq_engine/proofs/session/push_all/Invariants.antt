@@ -9,9 +9,9 @@ use Rattle.ppq_engine.proofs.session.push_all.Given as goal
 abbrev pub invariant-batches : goal.invariant-batches
 invariant-batches g l = let w = words g.R.PartialEq g.R.PartialOrd g.R.Ord g.R.Record g.R.Fields in
     record {
-      pushing : IsPushing g.S.Slot.shown (commands_of l.lines) (commands_of l.rest) l.fn.load l.load;
-      lines : AreLines w l.load.bulk.sizes.workers InBulk (commands_of l.rest);
-      going : All IsGoing l.load.passes;
+      pushing : IsPushing g.S.Slot.shown (commands_of l.lines) (commands_of l.rest) l.fn.session l.session;
+      lines : AreLines w l.session.bulk.sizes.workers InBulk (commands_of l.rest);
+      going : All IsGoing l.session.passes;
     }
 
 abbrev pub decreases-batches : goal.decreases-batches

@@ -1,5 +1,5 @@
-use Rattle.std.proofs.Common.{◌≡◌, ◌+◌, ◌++◌, List, [], None, max, sym, ap, subst, arith}
-use Rattle.std.specs.Prelude.{IfErr}
+use Rattle.std.proofs.Common.{◌≡◌, ◌+◌, ◌++◌, List, [], None, max, refl, sym, ap, subst, arith}
+use Rattle.std.specs.Prelude.{IfErr, ⊤}
 use Rattle.ppq_session.specs.ppq_record.Bag.{IsSameBag}
 use Rattle.ppq_load.specs.Given.{generated_by, generated_from_by}
 use Rattle.ppq_session.specs.ppq_outside.Shown.{AllTell}
@@ -12,6 +12,7 @@ use Rattle.ppq_load.specs.Loading.{InSession, IsLoaded, IsByLoad, LoadLeaves, lo
 use Rattle.ppq_load.proofs.Counting.{few-to, loaded-on}
 use Rattle.ppq_load.proofs.Generated.{length-generated}
 use Rattle.ppq_load.proofs.Refusals.{stop-later}
+use Rattle.ppq_load.proofs.Loadings.{unbegun, begin-latched}
 use Rattle.ppq_load.proofs.Parts.{ended-part, unbegun-part}
 use Rattle.ppq_load.proofs.Results.{LoadSays, loaded-says, loaded-by, on_err, loaded-left, unbegun-left, back-latched}
 use Rattle.ppq_load.proofs.generate.load_generated.Given as over
@@ -60,7 +61,9 @@ returns-in-Ok-clause-part g c =
     (ended-part g.S.Slot.shown c.deal-all.new.self q new records c.end-queue.result.1 ended c.end-queue.ensures.left)
 
 pub returns-in-Err-clause-part : goal.returns-in-Err-clause-part
-returns-in-Err-clause-part g c = unbegun-part (generated_by g.R.Fields.COUNT g.R.Fields.of_fields c.args.seed c.args.count) c.args.queue c.in-Err.queue c.in-Err.fault c.in-Err.ensures.intact
+returns-in-Err-clause-part g c =
+    let back = unbegun c.args.queue c.args.queue c.in-Err.queue c.in-Err.fault c.from.result refl c.from.ensures c.in-Err.ensures.refused in
+    unbegun-part (generated_by g.R.Fields.COUNT g.R.Fields.of_fields c.args.seed c.args.count) c.args.queue c.in-Err.queue c.from.result back.intact
 
 pub returns-in-Ok-clause-peak : goal.returns-in-Ok-clause-peak
 returns-in-Ok-clause-peak g c = (says g (goal.at.returns-in-Ok-clause-peak g c).After-loaded).peak
@@ -76,8 +79,9 @@ returns-in-Ok-clause-kept g c = (done g (goal.at.returns-in-Ok-clause-kept g c).
 
 pub returns-in-Err-clause-refused : goal.returns-in-Err-clause-refused
 returns-in-Err-clause-refused g c =
+    let back = unbegun c.args.queue c.args.queue c.in-Err.queue c.in-Err.fault c.from.result refl c.from.ensures c.in-Err.ensures.refused in
     let q = c.args.queue in
-    stop-later q.sizes q.limited q.limited q.peak (max q.peak (q.size + c.args.count)) (omega (arith, c.known.ensures.range.two_records)) (λ same. same) (omega arith) c.in-Err.queue.slots c.in-Err.fault c.in-Err.ensures.refused
+    stop-later q.sizes q.limited q.limited q.peak (max q.peak (q.size + c.args.count)) (omega (arith, c.known.ensures.range.two_records)) (λ same. same) (omega arith) c.in-Err.queue.slots c.from.result back.refused
 
 pub returns-in-Ok-clause-left : goal.returns-in-Ok-clause-left
 returns-in-Ok-clause-left g c =
@@ -89,13 +93,16 @@ returns-in-Ok-clause-left g c =
     (loaded-left g.S.Slot.shown q records c.deal-all.new.self new c.args.count (omega (arith, long)) (given g (goal.at.returns-in-Ok-clause-left g c).After-end-queue) c.end-queue.result.1 c.end-queue.ensures.left)
 
 pub returns-in-Err-clause-left : goal.returns-in-Err-clause-left
-returns-in-Err-clause-left g c = unbegun-left c.args.queue c.in-Err.queue c.args.count c.in-Err.fault c.in-Err.ensures.peak c.known.ensures.peak c.in-Err.ensures.intact
+returns-in-Err-clause-left g c =
+    let back = unbegun c.args.queue c.args.queue c.in-Err.queue c.in-Err.fault c.from.result refl c.from.ensures c.in-Err.ensures.refused in
+    unbegun-left c.args.queue c.in-Err.queue c.args.count c.from.result back.peak c.known.ensures.peak back.intact
 
 pub returns-in-Ok-clause-latched : goal.returns-in-Ok-clause-latched
 returns-in-Ok-clause-latched g c = λ number failed. let back = c.in-Ok.ensures.latched number failed in absurd (cc)
 
 pub returns-in-Err-clause-latched : goal.returns-in-Err-clause-latched
-returns-in-Err-clause-latched g c = λ number failed. back-latched (session_begun c.args.queue) c.in-Err.queue c.in-Err.fault (Queue (Device number)) (c.in-Err.ensures.latched number failed)
+returns-in-Err-clause-latched g c = λ number failed.
+    back-latched (session_begun c.args.queue) c.in-Err.queue c.from.result (Queue (Device number)) (begin-latched {B = ⊤} (session_begun c.args.queue) c.in-Err.queue c.in-Err.fault c.from.result number c.from.ensures (c.in-Err.ensures.latched number failed))
 
 pub returns-in-Ok-clause-counted : goal.returns-in-Ok-clause-counted
 returns-in-Ok-clause-counted g c =
@@ -108,6 +115,7 @@ returns-in-Ok-clause-counted g c =
 
 pub returns-in-Err-clause-counted : goal.returns-in-Err-clause-counted
 returns-in-Err-clause-counted g c =
+    let back = unbegun c.args.queue c.args.queue c.in-Err.queue c.in-Err.fault c.from.result refl c.from.ensures c.in-Err.ensures.refused in
     let q = c.args.queue in
     let new = c.in-Err.queue in
-    few-more 0 1 c.args.count 1 q new _ (omega arith) (omega arith) (few-begun q new _ c.in-Err.ensures.kept.sizes c.in-Err.ensures.counted)
+    few-more 0 1 c.args.count 1 q new _ (omega arith) (omega arith) (few-begun q new _ back.kept.sizes back.counted)

@@ -7,13 +7,13 @@ use Rattle.ppq_script.proofs.check.check_files.Goals as goal
 pub returns-clause-answer : goal.returns-clause-answer
 returns-clause-answer g c =
     let replied = g.L.Library.replied c.ask_lengths.new.library in
-    let sure : AreTrue (g.L.Library.told c.args.library.now) replied = subst (λ t. AreTrue t replied) c.ask_lengths.ensures.told (g.met.L.Library.truth c.ask_lengths.new.library) in
+    let sure : AreTrue (g.L.Library.told c.args.library.now) replied = subst (λ t. AreTrue t replied) c.ask_lengths.ensures.library.told (g.met.L.Library.truth c.ask_lengths.new.library) in
     check_answer (words g.R.PartialEq g.R.PartialOrd g.R.Ord g.R.Record g.R.Fields) (g.L.Library.told c.args.library.now) replied c.args.script.now c.ask_lengths.new.self c.ask_lengths.result sure c.ask_lengths.ensures.asked c.ask_lengths.ensures.good c.ask_lengths.ensures.refused
 
 pub returns-clause-lengths : goal.returns-clause-lengths
 returns-clause-lengths g c =
     let replied = g.L.Library.replied c.ask_lengths.new.library in
-    let sure : AreTrue (g.L.Library.told c.args.library.now) replied = subst (λ t. AreTrue t replied) c.ask_lengths.ensures.told (g.met.L.Library.truth c.ask_lengths.new.library) in
+    let sure : AreTrue (g.L.Library.told c.args.library.now) replied = subst (λ t. AreTrue t replied) c.ask_lengths.ensures.library.told (g.met.L.Library.truth c.ask_lengths.new.library) in
     check_lengths (words g.R.PartialEq g.R.PartialOrd g.R.Ord g.R.Record g.R.Fields) (g.L.Library.told c.args.library.now) replied c.args.script.now c.ask_lengths.new.self c.ask_lengths.result sure c.ask_lengths.ensures.asked
 
 pub returns-clause-read : goal.returns-clause-read

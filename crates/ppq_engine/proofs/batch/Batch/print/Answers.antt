@@ -49,10 +49,10 @@ loop-i-preserved g c = let w = words g.R.PartialEq g.R.PartialOrd g.R.Ord g.R.Re
     let Q : List (Option g.row.R.Denot) → Type 0 = λ xs. slice_get xs i ≡ Some answer in
     let same : c.deref.result.now ≡ answers = c.deref.ensures.value in
     let here : slice_get answers i ≡ Some answer = subst Q same c.item_at.ensures in
-    let P : List ℕ → Type 0 = λ t. Gathers (told c.args.out.now) (told c.print.new.out) c.args.gathered.now t c.print.new.self in
+    let P : List ℕ → Type 0 = λ t. Gathers (told c.args.out.now) (told c.print.new.out) c.args.gathered.now t c.print.new.gathered in
     record {
       text =
-          subst P (ap (λ (t : List ℕ). text ++ t) (c.limited.ensures c.args.form) ∙ sym (text-more w c.args.form answers i answer (omega (arith, ap (λ (xs : List (Option g.row.R.Denot)). length xs) same)) here))
-          (gathers-more (told c.args.out.now) (told c.loop-i.out) (told c.print.new.out) c.args.gathered.now c.loop-i.gathered c.print.new.self text (answer_text w c.args.form c.limited.result) c.loop-i.invariant.text c.in_ok-print.ensures.ok);
+          subst P (ap (λ (t : List ℕ). text ++ t) (c.limited-answer.ensures c.args.form) ∙ sym (text-more w c.args.form answers i answer (omega (arith, ap (λ (xs : List (Option g.row.R.Denot)). length xs) same)) here))
+          (gathers-more (told c.args.out.now) (told c.loop-i.out) (told c.print.new.out) c.args.gathered.now c.loop-i.gathered c.print.new.gathered text (answer_text w c.args.form c.limited-answer.result) c.loop-i.invariant.text c.in_ok-print.ensures.ok);
       stays = c.in_ok-print.ensures.cause.ok ∙ c.loop-i.invariant.stays;
     }

@@ -69,7 +69,7 @@ returns-in_err-print-in_default g c = let w = words g.R.PartialEq g.R.PartialOrd
     let P : List ℕ → Type 0 = λ had. TakesPart (told c.args.out.now) (told c.print.new.out) had in
     record {
       prints =
-          prints-stop old.queue.slots (told c.args.out.now) (told c.print.new.out) old.desk.gathered text c.print.new.self r Sink is
+          prints-stop old.queue.slots (told c.args.out.now) (told c.print.new.out) old.desk.gathered text c.print.new.gathered r Sink is
           (λ tells. part_of_more (told c.args.out.now) (told c.print.new.out) old.desk.gathered text (subst P a.gathered c.in_err-print-in_default.ensures.part));
       counts = sink-stop r Sink is (faults c.args.out.now) (faults c.print.new.out) cause.later cause.failed;
       left = not-ok r (λ x. x ≡ Sink) _ is;

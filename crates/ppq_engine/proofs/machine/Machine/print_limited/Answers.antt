@@ -74,7 +74,7 @@ returns-in_err-print g c = let w = words g.R.PartialEq g.R.PartialOrd g.R.Ord g.
     let cause = c.in_err-print.ensures.cause in
     record {
       prints =
-          prints-stop old.queue.slots (told c.args.out.now) (told c.print.new.out) old.desk.gathered (lines ++ mark) c.print.new.self r Sink is
+          prints-stop old.queue.slots (told c.args.out.now) (told c.print.new.out) old.desk.gathered (lines ++ mark) c.print.new.gathered r Sink is
           (λ tells. takes-part (told c.args.out.now) (told c.print_popped.new.out) (told c.print.new.out) old.desk.gathered new.desk.gathered lines mark (gathers-kept m.gathered (p.prints.text tells)) c.in_err-print.ensures.part);
       counts = sink-stop r Sink is (g.O.Sink.faults c.args.out.now) (g.O.Sink.faults c.print.new.out) (omega (arith, p.sink.stays, cause.later)) (omega (arith, p.sink.stays, cause.failed));
       left = not-ok r (λ x. x ≡ Sink) _ is;
@@ -97,7 +97,7 @@ returns g c = let w = words g.R.PartialEq g.R.PartialOrd g.R.Ord g.R.Record g.R.
         text =
             λ tells.
             let is = m.text (p.lent.kept.tells tells) ∙ mark-is w laws c.args.world.now.form mid.queue.bag old.queue.bag c.args.limit c.args.count (p.left.bag tells) in
-            gathers-more (told c.args.out.now) (told c.print_popped.new.out) (told c.print.new.out) old.desk.gathered mid.desk.gathered c.print.new.self lines mark (p.prints.text tells) (gathers-as called.gathered is c.in_ok-print.ensures.ok);
+            gathers-more (told c.args.out.now) (told c.print_popped.new.out) (told c.print.new.out) old.desk.gathered mid.desk.gathered c.print.new.gathered lines mark (p.prints.text tells) (gathers-as called.gathered is c.in_ok-print.ensures.ok);
         part = tt;
       };
       counts = record { later = omega (arith, p.sink.stays, c.print.ensures.cause.later); stays = c.in_ok-print.ensures.cause.ok ∙ p.sink.stays; cause = tt };

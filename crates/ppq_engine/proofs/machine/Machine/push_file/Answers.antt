@@ -7,7 +7,7 @@ use Rattle.ppq_script.specs.ppq_outside.Shown.{AllTell}
 use Rattle.ppq_script.specs.ppq_outside.Told.{bytes_or_none}
 use Rattle.ppq_script.proofs.ppq_outside.Replies.{replies_wider}
 use Rattle.ppq_script.specs.declared.command.Command.TheVariants.{Bulk}
-use Rattle.ppq_load.specs.Reading.{IsReadWithin}
+use Rattle.ppq_load.specs.ppq_files.Reading.{IsReadWithin}
 use Rattle.ppq_load.proofs.Counting.{few-to}
 use Rattle.ppq_engine.specs.Calls.{Adds, RunsStep, StopsStep}
 use Rattle.ppq_engine.specs.Files.{EndsEarly, IsReadInScript}

@@ -1,4 +1,4 @@
-use Rattle.std.proofs.Common.{◌+◌, List, All, length, max, sym, ap, ◌∙◌, subst, arith}
+use Rattle.std.proofs.Common.{◌+◌, List, All, length, max, refl, sym, ap, ◌∙◌, subst, arith}
 use Rattle.ppq_engine.proofs.Orders.{laws_of}
 use Rattle.ppq_script.specs.Words.{words}
 use Rattle.ppq_script.specs.declared.command.Command.{Command}
@@ -7,17 +7,13 @@ use Rattle.ppq_script.specs.Parts.{AreLines, commands_of}
 use Rattle.ppq_load.specs.ppq_budget.Sizes.{Numbers, batch_of}
 use Rattle.ppq_load.specs.ppq_session.Dealing.{IsGoing}
 use Rattle.ppq_load.specs.Loading.{IsLoaded}
-use Rattle.ppq_load.proofs.Refusals.{stop-later}
-use Rattle.ppq_engine.specs.Files.{IsBySession}
 use Rattle.ppq_engine.specs.Pushes.{pushed_in}
-use Rattle.ppq_engine.specs.Running.{StopsFor, StopsQuiet}
-use Rattle.ppq_engine.specs.declared.stop.Stop.{Stop}
 use Rattle.ppq_engine.specs.declared.stop.Stop.TheVariants.{Memory}
 use Rattle.ppq_load.proofs.ppq_queue.Bounds.{batch_some}
 use Rattle.ppq_load.proofs.ppq_queue.Counted.{few-begun, few-more}
 use Rattle.ppq_engine.proofs.Counted.{unrefused, few-none}
 use Rattle.ppq_engine.proofs.Kept.{Keeps-refl}
-use Rattle.ppq_engine.proofs.Loads.{stop-refused, back-quiet, stop-by_session}
+use Rattle.ppq_engine.proofs.Loads.{unbegun-stop}
 use Rattle.ppq_engine.proofs.Pushes.{given-some, given-all}
 use Rattle.ppq_engine.proofs.Results.{on-ok-map}
 use Rattle.ppq_engine.proofs.Turns.{session-quiet, bulk-stopped, bulk-ended}
@@ -47,8 +43,8 @@ returns-in-Ok-begin g c = let w = words g.R.PartialEq g.R.PartialOrd g.R.Ord g.R
     let shown = g.S.Slot.shown in
     let queue = c.args.self.queue in
     let body = commands_of c.args.lines.now in
-    let begun = c.in-Ok-begin.load in
-    let mid = c.push_all.new.load in
+    let begun = c.in-Ok-begin.session in
+    let mid = c.push_all.new.session in
     let gives = c.push_all.ensures in
     let end = c.end-queue in
     let new = end.result.0 in
@@ -63,12 +59,8 @@ returns-in-Ok-begin g c = let w = words g.R.PartialEq g.R.PartialOrd g.R.Ord g.R
 pub returns : goal.returns
 returns g c = let w = words g.R.PartialEq g.R.PartialOrd g.R.Ord g.R.Record g.R.Fields in let laws = laws_of w c.record_laws.ensures.order c.record_laws.ensures.same in
     let queue = c.args.self.queue in
-    let slots = c.in-Err.queue.slots in
     let body = commands_of c.args.lines.now in
     let most = max queue.peak (queue.size + length (pushed_in body)) in
-    let Why : Stop → Type 0 = λ s. StopsFor most queue.sizes queue.limited slots s in
-    let refused = stop-later queue.sizes queue.limited queue.limited queue.peak most (omega (arith, c.known.ensures.range.two_records)) (λ same. same) (omega arith) slots c.in-Err.fault c.in-Err.ensures.refused in
-    bulk-stopped w laws c.args.world.now.script.now queue.sizes.workers body c.requires.lines queue c.in-Err.queue c.args.self.desk.gathered c.stop_of.result
-    (subst IsBySession (sym c.stop_of.ensures) (stop-by_session 0 0 c.in-Err.fault c.in-Err.ensures.by_load)) (subst Why (sym c.stop_of.ensures) (stop-refused most queue.sizes queue.limited slots 0 0 c.in-Err.fault refused))
-    (subst (StopsQuiet queue.slots slots) (sym c.stop_of.ensures) (back-quiet queue c.in-Err.queue 0 0 c.in-Err.fault c.in-Err.ensures.intact)) c.in-Err.ensures.kept
-    0 (omega arith) (few-begun queue c.in-Err.queue unrefused c.in-Err.ensures.kept.sizes c.in-Err.ensures.counted)
+    let back = unbegun-stop queue queue c.in-Err.queue most c.in-Err.fault c.from.result refl (omega (arith, c.known.ensures.range.two_records)) (omega arith) c.from.ensures c.in-Err.ensures.refused in
+    bulk-stopped w laws c.args.world.now.script.now queue.sizes.workers body c.requires.lines queue c.in-Err.queue c.args.self.desk.gathered c.from.result back.by_session back.refused back.quiet back.kept
+    0 (omega arith) (few-begun queue c.in-Err.queue unrefused back.kept.sizes back.counted)

@@ -1,21 +1,18 @@
-use Rattle.std.proofs.Common.{true, length, refl, sym, ap, ◌∙◌, subst, arith}
+use Rattle.std.proofs.Common.{◌<◌, length, refl, sym, ap, ◌∙◌, subst, arith}
 use Rattle.ppq_engine.proofs.Orders.{laws_of}
 use Rattle.ppq_script.specs.Words.{words}
 use Rattle.ppq_script.specs.declared.session.Session.TheVariants.{InLimit}
-use Rattle.ppq_script.specs.Parts.{AreLines, limit_part, commands_of}
+use Rattle.ppq_script.specs.Parts.{AreLines, commands_of}
 use Rattle.ppq_load.specs.ppq_budget.Sizes.{Numbers, batch_of}
+use Rattle.ppq_load.specs.ppq_session.LimitSessions.{begun_in}
 use Rattle.ppq_load.proofs.Counting.{few-to}
 use Rattle.ppq_load.proofs.ppq_queue.Bounds.{batch_some}
 use Rattle.ppq_load.proofs.ppq_queue.Counted.{few-begun, few-more}
 use Rattle.ppq_load.proofs.ppq_queue.ppq_spill.SameSlots.{SameSlots-refl}
-use Rattle.ppq_engine.specs.Files.{load_stop}
-use Rattle.ppq_engine.specs.Popping.{IsByLimit}
 use Rattle.ppq_engine.specs.Pushes.{pushed_in}
-use Rattle.ppq_engine.specs.Running.{StopsQuiet, PartStops, SinkAfter}
-use Rattle.ppq_engine.specs.declared.stop.Stop.{Stop}
 use Rattle.ppq_engine.proofs.Counted.{unrefused, few-none}
 use Rattle.ppq_engine.proofs.LimitParts.{SessionRan, ended-runs, ended-stopped, ended-quiet, ended-by_limit, ended-kept, ended-given, ended-few, ended-counts_few, ended-counts, begin-stopped}
-use Rattle.ppq_engine.proofs.Loads.{stop-refused, back-quiet, stop-by_session}
+use Rattle.ppq_engine.proofs.Loads.{unbegun-stop}
 use Rattle.ppq_engine.proofs.Popped.{gathers-nothing}
 use Rattle.ppq_engine.proofs.Stops.{file_unput, session_by_file, session-by_limit}
 use Rattle.ppq_engine.proofs.Turns.{limit-goes}
@@ -113,17 +110,14 @@ returns g c = let w = words g.R.PartialEq g.R.PartialOrd g.R.Ord g.R.Record g.R.
     let queue = c.args.self.queue in
     let new = c.in-Err.queue in
     let body = commands_of c.args.lines.now in
-    let stop = load_stop 0 0 c.in-Err.fault in
-    let same = sym c.stop_of.ensures in
-    let by = stop-by_session 0 0 c.in-Err.fault c.in-Err.ensures.by_load in
-    let P : Stop → Type 0 = λ s. PartStops w c.args.world.now.form queue.slots told told had queue.bag queue.size queue.peak (limit_part c.args.limit body) queue.sizes true new.slots had s in
-    let Q : Stop → Type 0 = λ s. SinkAfter faults faults s in
-    let by_limit = subst IsByLimit same (session-by_limit stop by) in
-    let stopped = subst P same (begin-stopped w c.args.world.now.form told had queue new.slots c.args.limit body stop (omega (arith, c.known.ensures.range.two_records)) (stop-refused queue.peak queue.sizes true new.slots 0 0 c.in-Err.fault c.in-Err.ensures.refused) by) in
-    let quiet = subst (StopsQuiet queue.slots new.slots) same (back-quiet queue new 0 0 c.in-Err.fault c.in-Err.ensures.intact) in
+    let stop = c.from.result in
+    let some : 0 < queue.sizes.block = omega (arith, c.known.ensures.range.two_records) in
+    let back = unbegun-stop queue (begun_in queue) new queue.peak c.in-Err.fault stop refl some (omega arith) c.from.ensures c.in-Err.ensures.refused in
+    let by_limit = session-by_limit stop back.by_session in
+    let stopped = begin-stopped w c.args.world.now.form told had queue new.slots c.args.limit body stop some back.refused back.by_session in
     record {
-      goes = limit-goes w c.args.world.now.form c.args.world.now.script.now c.args.limit body queue new told told had had _ tt by_limit stopped quiet c.in-Err.ensures.kept.slots c.in-Err.ensures.kept.sizes
-          0 (omega arith) (few-begun queue new _ c.in-Err.ensures.kept.sizes c.in-Err.ensures.counted);
+      goes = limit-goes w c.args.world.now.form c.args.world.now.script.now c.args.limit body queue new told told had had _ tt by_limit stopped back.quiet back.kept.slots back.kept.sizes
+          0 (omega arith) (few-begun queue new _ back.kept.sizes back.counted);
       by_limit = by_limit;
-      sink = record { later = omega arith; stays = tt; cause = subst Q same (file_unput faults stop (session_by_file stop by)) };
+      sink = record { later = omega arith; stays = tt; cause = file_unput faults stop (session_by_file stop back.by_session) };
     }

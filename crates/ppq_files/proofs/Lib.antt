@@ -1,0 +1,4 @@
+pub mod Asked
+pub mod Given
+pub mod Truth
+pub mod Widths
